@@ -1,0 +1,27 @@
+//! The types that every crate of the linker shares, the readers of little-endian fields, and the
+//! rule by which a reference finds a definition within one object.
+#![tactic(auto)]
+
+mod fault;
+mod field;
+mod linking;
+mod name;
+mod number;
+mod object;
+mod parts;
+mod sequence;
+
+pub use fault::{DlFault, NotAccepted, ReadFault, Shown};
+pub use field::{field16, field32, field64};
+pub use linking::{Added, Calls, Choice, File, Files, Loaded, Role, State, TlsPlace, Want};
+pub use name::Name;
+pub use number::{GrantNo, HartId, NsId, Serial};
+pub use object::{
+    Kind, ObjFlags, Object, Places, Reloc, Relocs, Segment, Segments, Span, Symbol, Symbols,
+    TlsSeg, Verdef, Verdefs, Verneed, Verneeds,
+};
+pub use parts::{
+    DynParts, GnuPart, HashTable, Head, Header, Headers, Ints, Longs, Shorts, SysvPart, Tag, Tags,
+    Versions,
+};
+pub use sequence::{Bytes, Names, Sequence, Serials};
