@@ -1,1 +1,4 @@
 pub mod Field
+pub mod Pick
+pub mod Symbol
+pub mod Version

@@ -5,23 +5,27 @@
 mod fault;
 mod field;
 mod linking;
+mod matching;
 mod name;
 mod number;
 mod object;
 mod parts;
 mod sequence;
+mod symbols;
 
 pub use fault::{DlFault, NotAccepted, ReadFault, Shown};
 pub use field::{field16, field32, field64};
 pub use linking::{Added, Calls, Choice, File, Files, Loaded, Role, State, TlsPlace, Want};
+pub use matching::pick;
 pub use name::Name;
 pub use number::{GrantNo, HartId, NsId, Serial};
 pub use object::{
-    Kind, ObjFlags, Object, Places, Reloc, Relocs, Segment, Segments, Span, Symbol, Symbols,
-    TlsSeg, Verdef, Verdefs, Verneed, Verneeds,
+    Kind, ObjFlags, Object, Places, Reloc, Relocs, Segment, Segments, Span, Symbol, TlsSeg, Verdef,
+    Verdefs, Verneed, Verneeds,
 };
 pub use parts::{
     DynParts, GnuPart, HashTable, Head, Header, Headers, Ints, Longs, Shorts, SysvPart, Tag, Tags,
     Versions,
 };
 pub use sequence::{Bytes, Names, Sequence, Serials};
+pub use symbols::Symbols;

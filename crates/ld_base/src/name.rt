@@ -1,6 +1,7 @@
 //! Names: of objects, of symbols and of versions.
 
-ghost use Rattle.std.specs.Prelude.{◌≡◌, [], IfOk, IsTrue, ◌↔◌};
+ghost use Rattle.std.specs.Prelude.{◌≡◌, IfOk};
+ghost use Rattle.std.specs.Str.{bytes_eq};
 
 use std::alloc::{AllocError, Global};
 use std::marker::Model;
@@ -37,7 +38,7 @@ impl Name {
 
     /// Whether the name is spelled so.
     pub fn is(&self, bytes: &[u8]) -> bool
-        ensures { IsTrue result ↔ (self.now ≡ bytes.now) }
+        ensures { result ≡ bytes_eq self.now bytes.now }
     {
         self.as_bytes() == bytes
     }

@@ -1,6 +1,6 @@
 //! What a linked object holds, as its reader gives it.
 
-use crate::{Bytes, Name, Names, Sequence};
+use crate::{Bytes, Name, Names, Sequence, Symbols};
 
 /// Whether an object stands at its own addresses (ET_EXEC) or anywhere (ET_DYN).
 #[derive(Clone, Copy, Debug, PartialEq, Eq)]
@@ -87,8 +87,6 @@ pub struct Verneed {
 
 /// Segments, in ascending order of address.
 pub type Segments = Sequence<Segment>;
-/// Symbols, by index; the first is the null symbol.
-pub type Symbols = Sequence<Symbol>;
 /// Relocations, in file order.
 pub type Relocs = Sequence<Reloc>;
 /// Versions that are defined, in file order.

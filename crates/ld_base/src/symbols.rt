@@ -1,0 +1,68 @@
+//! Symbol tables.
+
+ghost use Rattle.std.specs.Prelude.{◌≡◌, [], ◌∷◌, ◌++◌, ◌+◌, ◌<◌, ◌^◌, ◌==◌, length, OnOk, OnErr};
+
+use crate::{Sequence, Symbol};
+use std::alloc::{AllocError, Global};
+use std::marker::Model;
+
+/// Symbols, by index; the first is the null symbol. There are fewer than 2^32, so that each has an
+/// index.
+#[derive(Debug, Drop)]
+pub struct Symbols {
+    items: Sequence<Symbol>,
+}
+
+impl Model for Symbols {
+    ghost use Rattle.std.specs.Prelude.{List, length, ◌<◌, ◌^◌};
+    ghost use Rattle.ld_base.specs.declared.object.Symbol.{Symbol};
+
+    ghost Value = { List Symbol };
+
+    ghost view = { λ s. s.items };
+
+    ghost invariant = { λ s. length s.items < 2 ^ 32 };
+}
+
+impl Symbols {
+    /// No symbol, which takes no memory yet.
+    pub fn new(alloc: Global) -> Self
+        ensures { result ≡ [] }
+    {
+        Symbols {
+            items: Sequence::new(alloc),
+        }
+    }
+
+    /// How many symbols there are.
+    pub fn len(&self) -> u32
+        ensures len { result ≡ length self.now }
+        ensures few { length self.now < 2 ^ 32 }
+    {
+        self.items.len() as u32
+    }
+
+    /// Whether there is no symbol.
+    pub fn is_empty(&self) -> bool
+        ensures { result ≡ (length self.now == 0) }
+    {
+        self.items.is_empty()
+    }
+
+    /// The symbols as a slice.
+    pub fn as_slice(&self) -> &[Symbol]
+        ensures value { result.now ≡ self.now }
+        ensures few { length self.now < 2 ^ 32 }
+    {
+        self.items.as_slice()
+    }
+
+    /// Puts a symbol at the end.
+    pub fn push(&mut self, symbol: Symbol) -> Result<(), AllocError>
+        requires { length self.old + 1 < 2 ^ 32 }
+        ensures ok { OnOk result (self.new ≡ self.old ++ symbol ∷ []) }
+        ensures err { OnErr result (self.new ≡ self.old) }
+    {
+        self.items.push(symbol)
+    }
+}
