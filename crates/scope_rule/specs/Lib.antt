@@ -1,0 +1,5 @@
+pub mod Breadth
+pub mod Choose
+pub mod Linker
+pub mod Loading
+pub mod Scope
