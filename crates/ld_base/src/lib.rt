@@ -12,6 +12,7 @@ mod object;
 mod parts;
 mod sequence;
 mod symbols;
+mod text;
 
 pub use fault::{DlFault, NotAccepted, ReadFault, Shown};
 pub use field::{field16, field32, field64};
