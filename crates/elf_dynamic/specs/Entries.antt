@@ -1,5 +1,6 @@
 -- Tables whose entries may fail to be read.
-use Rattle.std.specs.Prelude.{ℕ, zero, suc, List, [], ◌∷◌, ◌++◌, Result, Ok, Err}
+use Rattle.std.specs.Prelude.{◌≡◌, ℕ, zero, suc, ◌<◌, List, [], ◌∷◌, ◌++◌, length, Some, Result, Ok, Err}
+use Rattle.std.specs.List.{slice_get}
 
 -- a step, and what follows it unless it fails
 infixl 10 ◌>>=◌
@@ -14,3 +15,8 @@ entries_of entry (suc n) = do
   front ← entries_of entry n
   last ← entry n
   Ok (front ++ last ∷ [])
+
+-- these are n entries, and R holds of each with its index
+pub record AreEntries {X : Type 0} (R : ℕ → X → Type 0) (n : ℕ) (xs : List X) : Type 0 where
+  pub count : length xs ≡ n
+  pub each : (i : ℕ) (x : X) → slice_get xs i ≡ Some x → R i x

@@ -2,7 +2,7 @@
 use Rattle.std.specs.Prelude.{ℕ, ◌+◌, ◌/◌, Bool, ◌==◌, List, length, reverse, map, filter, find, count_by, Option, option_map}
 use Rattle.ld_base.specs.Field.{field}
 use Rattle.ld_base.specs.declared.parts.Tag.{Tag}
-use Rattle.elf_dynamic.specs.Before.{before}
+use Rattle.elf_dynamic.specs.Before.{before, StandsBefore}
 use Rattle.elf_head.specs.Table.{table}
 use Rattle.elf_dynamic.specs.declared.tag.TheConstants.{DT_NULL}
 
@@ -21,6 +21,10 @@ has_tag tag t = t.tag == tag
 -- the entries before the first DT_NULL, which ends the table; none where nothing ends it
 unfoldable pub tags_of : List ℕ → Option (List Tag)
 tags_of bytes = before (has_tag DT_NULL) (all_tags bytes)
+
+-- the same as a relation: these entries stand before a DT_NULL, and none of them is one
+abbrev pub EndsAtNull : List ℕ → List Tag → Type 0
+EndsAtNull bytes tags = StandsBefore (has_tag DT_NULL) tags (all_tags bytes)
 
 -- the values of the entries of a tag, in order
 unfoldable pub values_of : List Tag → ℕ → List ℕ

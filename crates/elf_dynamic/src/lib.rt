@@ -1,11 +1,13 @@
 //! The dynamic table of an ELF file, and the tables that it names.
 #![tactic(auto)]
 
+mod law;
 mod reloc;
 mod string;
 mod symbol;
 mod tag;
 
+pub use law::one_reading;
 pub use reloc::{R_RISCV_JUMP_SLOT, RELOC_SIZE, read_relocs};
 pub use string::{STRING_LIMIT, read_name, read_names, string_at};
 pub use symbol::{SYMBOL_SIZE, read_symbols};
