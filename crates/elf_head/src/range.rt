@@ -28,7 +28,7 @@ pub fn file_bytes<'a>(bytes: &'a [u8], head: &Head, start: u64, size: u64) -> Op
 pub(crate) fn is_readable(headers: &[Header], start: u64, size: u64) -> bool
     ensures { result ≡ readable headers.now start size }
 {
-    size == 0 || headers.iter().any(|header| covers(header, start, size))
+    size == 0 || covering(headers, start, size).is_some()
 }
 
 /// The first mapped segment that has the range in its bytes of the file.

@@ -16,6 +16,7 @@ use std::alloc::Global;
 /// The most bytes of a file.
 const MAX_FILE: usize = 8 << 20;
 
+#[tactic(auto, using(crate::proofs::Verdicts::broken_by_header, crate::proofs::Verdicts::broken_by_file, crate::proofs::Verdicts::not_broken, crate::proofs::Verdicts::refused_verdict, crate::proofs::Verdicts::accepted_verdict, crate::proofs::Verdicts::table_held), unfolding(crate::specs::Rules::head_of))]
 /// Reads the ELF header and the program headers of a file.
 ///
 /// # Errors

@@ -45,6 +45,7 @@ struct Passed {
 
 impl Passed {
     /// No header.
+    #[tactic(auto, unfolding(crate::specs::Segments::is_misplaced))]
     fn new() -> Self
         ensures { IsPassed [] result }
     {
@@ -67,6 +68,7 @@ impl Passed {
         }
     }
 
+    #[tactic(auto, using(crate::proofs::Limits::limit_of_shape))]
     fn and_load(self, header: &Header, file_size: u64) -> Option<Self>
         ensures { result ≡ (if header.now.memsz == 0 then Some self else if is_misshapen file_size header.now || reaches self.last_page header.now then None else Some (record self { last_page = Some (last_page header.now) })) }
     {

@@ -1,0 +1,6 @@
+pub mod Finding
+pub mod Least
+pub mod Limits
+pub mod Passing
+pub mod Placing
+pub mod Verdicts
