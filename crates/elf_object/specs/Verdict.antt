@@ -70,6 +70,34 @@ slots_of bytes head tags count = do
   table ← part_at bytes head (value_of tags DT_JMPREL) (value_of tags DT_PLTRELSZ)
   passing (list_all (is_slot count)) (relocs_of table)
 
+-- the object with these parts, and nothing else
+abbrev pub object_of : List ℕ → Head → Header → List Tag → List (List ℕ) → List Symbol → List Reloc → Object
+object_of bytes head dynamic tags needed symbols slots = record {
+  kind = head.kind;
+  entry = head.entry;
+  soname = None;
+  needed = needed;
+  segments = segments_of bytes head.headers;
+  symbols = symbols;
+  first_exported = 1;
+  has_versym = false;
+  verdefs = [];
+  verneeds = [];
+  relocs = [];
+  plt_relocs = slots;
+  pltgot = last_of tags DT_PLTGOT;
+  preinit = None;
+  init = None;
+  init_array = None;
+  fini = None;
+  fini_array = None;
+  tls = None;
+  relro = relro_of head.headers;
+  flags = record { symbolic = false; bind_now = false; nodelete = false };
+  relr = [];
+  dynamic = dynamic.vaddr;
+}
+
 -- the object of a file with this head
 unfoldable pub form_of : List ℕ → Head → Result Object NotAccepted
 form_of bytes head = do
@@ -79,31 +107,7 @@ form_of bytes head = do
   needed ← needed_of strings tags
   symbols ← form_symbols bytes head tags strings
   slots ← slots_of bytes head tags (length symbols)
-  Ok (record {
-    kind = head.kind;
-    entry = head.entry;
-    soname = None;
-    needed = needed;
-    segments = segments_of bytes head.headers;
-    symbols = symbols;
-    first_exported = 1;
-    has_versym = false;
-    verdefs = [];
-    verneeds = [];
-    relocs = [];
-    plt_relocs = slots;
-    pltgot = last_of tags DT_PLTGOT;
-    preinit = None;
-    init = None;
-    init_array = None;
-    fini = None;
-    fini_array = None;
-    tls = None;
-    relro = relro_of head.headers;
-    flags = record { symbolic = false; bind_now = false; nodelete = false };
-    relr = [];
-    dynamic = dynamic.vaddr;
-  })
+  Ok (object_of bytes head dynamic tags needed symbols slots)
 
 -- every fault past the head is that of a form that isn't read
 abbrev pub as_not_read : {X : Type 0} → Result X NotAccepted → Result X NotAccepted

@@ -1,7 +1,8 @@
 //! Reading an object.
 
-ghost use Rattle.std.specs.Prelude.{◌≡◌, ◌==◌, Ok, IfOk, None, find};
+ghost use Rattle.std.specs.Prelude.{◌≡◌, ◌==◌, Ok, IfOk, None, find, length};
 ghost use Rattle.std.specs.List.{list_any};
+ghost use Rattle.std.specs.Option.{option_copied};
 ghost use Rattle.std.specs.Result.{result_map_both};
 ghost use Rattle.elf_head.specs.Gives.{Gives};
 ghost use Rattle.elf_head.specs.Rules.{head_verdict};
@@ -31,7 +32,8 @@ const NOT_READ: NotAccepted = NotAccepted {
 #[tactic(auto, unfolding(crate::specs::Verdict::part_at))]
 fn part_at<'a>(bytes: &'a [u8], head: &Head, start: u64, size: u64) -> Result<&'a [u8], ReadFault>
     requires { head_verdict bytes.now ≡ Ok head.now }
-    ensures { Gives (result_map_both (λ part. part.now) (λ fault. fault) result) (part_at bytes.now head.now start size) }
+    ensures found { Gives (result_map_both (λ part. part.now) (λ fault. fault) result) (part_at bytes.now head.now start size) }
+    ensures size { IfOk result (λ part. length part.now ≡ size) }
 {
     file_bytes(bytes, head, start, size).ok_or(ReadFault::NotAccepted(NOT_READ))
 }
@@ -44,7 +46,7 @@ fn dynamic_of(headers: &[Header]) -> Result<Header, ReadFault>
     if has_tls(headers) {
         return Err(ReadFault::NotAccepted(NOT_READ));
     }
-    find_dynamic(headers).ok_or(ReadFault::NotAccepted(NOT_READ))
+    find_dynamic(headers).copied().ok_or(ReadFault::NotAccepted(NOT_READ))
 }
 
 fn has_tls(headers: &[Header]) -> bool
@@ -53,10 +55,10 @@ fn has_tls(headers: &[Header]) -> bool
     headers.iter().any(|header| header.kind == PT_TLS)
 }
 
-fn find_dynamic(headers: &[Header]) -> Option<Header>
-    ensures { result ≡ find (is_kind PT_DYNAMIC) headers.now }
+fn find_dynamic(headers: &[Header]) -> Option<&Header>
+    ensures { option_copied result ≡ find (is_kind PT_DYNAMIC) headers.now }
 {
-    headers.iter().find(|header| header.kind == PT_DYNAMIC).copied()
+    headers.iter().find(|header| header.kind == PT_DYNAMIC)
 }
 
 /// The entries of the dynamic table.
@@ -165,11 +167,15 @@ fn read_form(alloc: Global, bytes: &[u8], head: &Head) -> Result<Object, ReadFau
     })
 }
 
-/// Every fault past the head is that of a form that isn't read.
-fn as_not_read<T>(outcome: Result<T, ReadFault>) -> Result<T, ReadFault> {
-    match outcome {
+/// The object of a file with this head, where every fault is that of a form that isn't read.
+fn read_rest(alloc: Global, bytes: &[u8], head: &Head) -> Result<Object, ReadFault>
+    requires { head_verdict bytes.now ≡ Ok head.now }
+    ensures { Gives result (as_not_read (form_of bytes.now head.now)) }
+{
+    match read_form(alloc, bytes, head) {
+        Ok(object) => Ok(object),
         Err(ReadFault::NotAccepted(_)) => Err(ReadFault::NotAccepted(NOT_READ)),
-        outcome => outcome,
+        Err(ReadFault::Memory) => Err(ReadFault::Memory),
     }
 }
 
@@ -185,7 +191,7 @@ pub fn read_object(alloc: Global, bytes: &[u8], program: bool) -> Result<(Object
     ensures table { IfOk result (λ read. read.1 ≡ record { gnu = None; sysv = None }) }
 {
     let head = read_head(alloc, bytes)?;
-    let object = as_not_read(read_form(alloc, bytes, &head))?;
+    let object = read_rest(alloc, bytes, &head)?;
     let table = HashTable {
         gnu: None,
         sysv: None,
