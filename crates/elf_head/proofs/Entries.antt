@@ -24,8 +24,9 @@ pub get-table : {X : Type 0} (at : ℕ → X) (start size n i : ℕ) → i < n �
 get-table at start size zero i within = absurd (omega arith)
 get-table at start size (suc n) i within =
     elim (eq-or-lt_of_le (at_most i n within)) [
-      inl same ↦ rw same (ap (slice_get (table at start size (suc n))) (sym (length-table at start size n)) ∙ get-push (table at start size n) (at (start + size * n)))
-    | inr below ↦ get-front (table at start size n) (at (start + size * n) ∷ []) i (rw length-table below) ∙ get-table at start size n i below ]
+      | inl same ↦ rw same (ap (slice_get (table at start size (suc n))) (sym (length-table at start size n)) ∙ get-push (table at start size n) (at (start + size * n)))
+      | inr below ↦ get-front (table at start size n) (at (start + size * n) ∷ []) i (rw length-table below) ∙ get-table at start size n i below
+    ]
 
 -- two lists with the same elements are one
 pub same_elements : {X : Type 0} (xs ys : List X) → length xs ≡ length ys → ((i : ℕ) → i < length ys → slice_get xs i ≡ slice_get ys i) → xs ≡ ys

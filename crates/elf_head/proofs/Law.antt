@@ -32,8 +32,9 @@ pub first_bad : (size : ℕ) (headers : List Header) (k : ℕ) → IsFirstBad si
 unfolding bad_segment
 first_bad size headers k first =
     elim first.bad [
-      inl bad ↦ rw (least_found (is_bad_at size headers) k (length headers) (least_all (is_bad_at size headers) k first.before) bad (bad_within size headers k bad))
-    | inr ends ↦ rw (least_all (is_bad_at size headers) (length headers) (λ j below. first.before j (rw ends.0 below)), ends.1, ends.0) ]
+      | inl bad ↦ rw (least_found (is_bad_at size headers) k (length headers) (least_all (is_bad_at size headers) k first.before) bad (bad_within size headers k bad))
+      | inr ends ↦ rw (least_all (is_bad_at size headers) (length headers) (λ j below. first.before j (rw ends.0 below)), ends.1, ends.0)
+    ]
 
 bad_first : (size : ℕ) (headers : List Header) (k : ℕ) (first : Option ℕ) (loaded : Bool) → least_below (is_bad_at size headers) (length headers) ≡ first → list_any is_loaded headers ≡ loaded
     → option_or first (if loaded then None else Some (length headers)) ≡ Some k → IsFirstBad size headers k
@@ -82,8 +83,9 @@ break_of_number bytes (suc (suc (suc (suc (suc (suc (suc (suc (suc i))))))))) nu
 kind_is : (bytes : List ℕ) → is_not_linked bytes ≡ false → ((field 2 bytes 16 ≡ 2) × (kind_of bytes ≡ Exec)) ⊎ ((field 2 bytes 16 ≡ 3) × (kind_of bytes ≡ Dyn))
 kind_is bytes linked =
     elim (cases_eq (field 2 bytes 16) 2) [
-      inl exec ↦ inl (exec, rw exec)
-    | inr other ↦ (let dyn : field 2 bytes 16 ≡ 3 = grind arith in inr (dyn, rw dyn)) ]
+      | inl exec ↦ inl (exec, rw exec)
+      | inr other ↦ (let dyn : field 2 bytes 16 ≡ 3 = grind arith in inr (dyn, rw dyn))
+    ]
 
 -- a kind that agrees with the bytes is theirs
 same_kind : (bytes : List ℕ) (kind : Kind) → ((field 2 bytes 16 ≡ 2) × (kind ≡ Exec)) ⊎ ((field 2 bytes 16 ≡ 3) × (kind ≡ Dyn)) → kind ≡ kind_of bytes
@@ -100,7 +102,8 @@ spelled bytes head ok =
       kind = kind_is bytes linked;
       entry = refl;
       count = length-table (header_at bytes) (table_start bytes) 56 (header_count bytes);
-      headers = λ i below. get-table (header_at bytes) (table_start bytes) 56 (header_count bytes) i below })
+      headers = λ i below. get-table (header_at bytes) (table_start bytes) 56 (header_count bytes) i below;
+    })
 
 same_headers : (bytes : List ℕ) (head : Head) → SpellsHead bytes head → head.headers ≡ headers_of bytes
 unfolding headers_of
@@ -129,7 +132,8 @@ breaks_first bytes fault broken =
     let rule : suc at.0 ≡ fault.rule = omega (arith, at.1) in
     record {
       broken = subst (λ n. Breaks bytes n fault.number) rule (break_of_number bytes at.0 fault.number at.2);
-      kept = λ other number below breaks. (let place = number_of_break bytes other number breaks in at.3 place.0 number (omega (arith, place.1, at.1)) place.2) }
+      kept = λ other number below breaks. (let place = number_of_break bytes other number breaks in at.3 place.0 number (omega (arith, place.1, at.1)) place.2);
+    }
 
 first_broken_is : (bytes : List ℕ) (fault : NotAccepted) → BreaksFirst bytes fault → head_broken bytes ≡ Some fault
 unfolding head_broken

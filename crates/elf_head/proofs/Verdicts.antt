@@ -102,3 +102,6 @@ table_held bytes none =
     let long : is_too_short bytes ≡ false = test_kept 1 (header_rules bytes) 0 (is_too_short bytes) none refl in
     let held : has_bad_program_headers bytes ≡ false = test_kept 1 (header_rules bytes) 6 (has_bad_program_headers bytes) none refl in
     (grind arith, grind arith)
+
+-- what a reader knows of a verdict from the rules that it tried
+pub ruleset verdicts = (broken_by_header, broken_by_file, not_broken, refused_verdict, accepted_verdict, table_held)

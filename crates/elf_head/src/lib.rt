@@ -25,6 +25,8 @@ mod program_headers;
 mod range;
 mod reader;
 mod segments;
+#[cfg(test)]
+mod tests;
 mod verdict;
 
 pub use program_headers::{PT_DYNAMIC, PT_GNU_RELRO, PT_LOAD, PT_TLS};
