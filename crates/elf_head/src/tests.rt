@@ -1,6 +1,6 @@
 //! Whether the rules are those of the formats: files laid out field by field.
 
-use crate::{PT_DYNAMIC, PT_LOAD, PT_TLS, file_bytes, one_verdict, read_head};
+use crate::{PT_DYNAMIC, PT_LOAD, PT_TLS, bytes_from, file_bytes, one_verdict, read_head};
 use ld_base::{Kind, NotAccepted, ReadFault};
 use std::alloc::{AllocError, Global};
 use std::test::Fail;
@@ -252,5 +252,7 @@ fn gives_the_head_and_its_bytes(rt: HostRuntime) -> Result<(), Fail> {
     }
     let last: &[u8] = &[0x5a];
     assert_eq!(rt; file_bytes(&bytes, &head, 0x1_27ff, 1), Some(last));
+    assert_eq!(rt; bytes_from(&bytes, &head, 0x1_27ff), last);
+    assert_eq!(rt; bytes_from(&bytes, &head, 0x1_2800).len(), 0);
     Ok(())
 }
