@@ -1,4 +1,6 @@
+pub mod Entries
 pub mod Finding
+pub mod Law
 pub mod Least
 pub mod Limits
 pub mod Passing

@@ -23,10 +23,11 @@ pub passed_more : (before : List Header) (h : Header) (p q : Passed) → IsPasse
     → IsPassed (before ++ h ∷ []) q
 unfolding is_misplaced
 passed_more before h p q old loaded misplaced dynamic tls = record {
-    loaded = any_push is_loaded before h ∙ ap (λ b. b || is_loaded h) old.loaded ∙ sym loaded;
-    misplaced = λ g. any_push (λ e. is_loaded e && nat_le (first_page g) (last_page e)) before h ∙ ap (λ b. b || (is_loaded h && nat_le (first_page g) (last_page h))) (old.misplaced g) ∙ sym (misplaced g);
-    dynamic = any_push (λ e. e.kind == 2) before h ∙ ap (λ b. b || h.kind == 2) old.dynamic ∙ sym dynamic;
-    tls = any_push (λ e. e.kind == 7) before h ∙ ap (λ b. b || h.kind == 7) old.tls ∙ sym tls }
+  loaded = any_push is_loaded before h ∙ ap (λ b. b || is_loaded h) old.loaded ∙ sym loaded;
+  misplaced = λ g. any_push (λ e. is_loaded e && nat_le (first_page g) (last_page e)) before h ∙ ap (λ b. b || (is_loaded h && nat_le (first_page g) (last_page h))) (old.misplaced g) ∙ sym (misplaced g);
+  dynamic = any_push (λ e. e.kind == 2) before h ∙ ap (λ b. b || h.kind == 2) old.dynamic ∙ sym dynamic;
+  tls = any_push (λ e. e.kind == 7) before h ∙ ap (λ b. b || h.kind == 7) old.tls ∙ sym tls;
+}
 
 -- the header of an index is judged by those before it
 pub bad_at : (size : ℕ) (headers : List Header) (i : ℕ) (d : Header) → i < length headers → is_bad_at size headers i ≡ is_bad size headers (take i headers) (get_or headers i d)
@@ -72,10 +73,12 @@ judged_load size headers before h p kind old =
     chosen (Judges size headers before h) (h.memsz == 0) (Some p) _
     (λ none. (grind (arith, bad), passed_more before h p p old (grind arith) (λ g. grind arith) (grind arith) (grind arith)))
     (λ some. chosen (Judges size headers before h) (is_misshapen size h || reaches p.last_page h) None _
-        (λ refused. grind (arith, bad, placed))
-        (λ fine. (grind (arith, bad, placed),
-            passed_more before h p (record p { last_page = Some (last_page h) }) old (grind arith)
-            (λ g. grind (arith, reaches_more p.last_page h g (grind arith) (grind arith))) (grind arith) (grind arith))))
+    (λ refused. grind (arith, bad, placed))
+    (λ fine. (
+      grind (arith, bad, placed),
+      passed_more before h p (record p { last_page = Some (last_page h) }) old (grind arith)
+          (λ g. grind (arith, reaches_more p.last_page h g (grind arith) (grind arith))) (grind arith) (grind arith),
+    )))
 
 pub judged_dynamic : (size : ℕ) (headers before : List Header) (h : Header) (p : Passed) → h.kind ≡ 2 → IsPassed before p
     → Judges size headers before h (if p.has_dynamic then None else Some (record p { has_dynamic = true }))
@@ -84,8 +87,10 @@ judged_dynamic size headers before h p kind old =
     let seen = old.dynamic in
     chosen (Judges size headers before h) p.has_dynamic None _
     (λ refused. grind (arith, bad, seen))
-    (λ fine. (grind (arith, bad, seen),
-        passed_more before h p (record p { has_dynamic = true }) old (grind arith) (λ g. grind arith) (grind arith) (grind arith)))
+    (λ fine. (
+      grind (arith, bad, seen),
+      passed_more before h p (record p { has_dynamic = true }) old (grind arith) (λ g. grind arith) (grind arith) (grind arith),
+    ))
 
 pub judged_tls : (size : ℕ) (headers before : List Header) (h : Header) (p : Passed) → h.kind ≡ 7 → IsPassed before p
     → Judges size headers before h (if p.has_tls || is_bad_storage size headers h then None else Some (record p { has_tls = true }))
@@ -94,8 +99,10 @@ judged_tls size headers before h p kind old =
     let seen = old.tls in
     chosen (Judges size headers before h) (p.has_tls || is_bad_storage size headers h) None _
     (λ refused. grind (arith, bad, seen))
-    (λ fine. (grind (arith, bad, seen),
-        passed_more before h p (record p { has_tls = true }) old (grind arith) (λ g. grind arith) (grind arith) (grind arith)))
+    (λ fine. (
+      grind (arith, bad, seen),
+      passed_more before h p (record p { has_tls = true }) old (grind arith) (λ g. grind arith) (grind arith) (grind arith),
+    ))
 
 pub judged_other : (size : ℕ) (headers before : List Header) (h : Header) (p : Passed) → (h.kind ≡ 1 → ⊥) → (h.kind ≡ 2 → ⊥) → (h.kind ≡ 7 → ⊥) → IsPassed before p → Judges size headers before h (Some p)
 judged_other size headers before h p load dynamic tls old =

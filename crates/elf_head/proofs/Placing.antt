@@ -1,18 +1,18 @@
 -- Where the bytes of a readable range stand in a file that is accepted.
-use Rattle.std.proofs.Common.{◌≡◌, ◌∙◌, sym, ℕ, ◌+◌, ◌≤◌, ◌<◌, ◌^◌, Bool, true, false, List, length, take, arith, ap, subst, ◌++◌, refl}
+use Rattle.std.proofs.Common.{◌≡◌, ◌∙◌, sym, ℕ, ◌+◌, ◌≤◌, ◌<◌, ◌^◌, Bool, true, false, List, length, take, arith, ap, subst, ◌++◌, refl, Bor}
 use Rattle.std.specs.Prelude.{Option, Some, None, Ok, find, is_some, slice_range, ◌==◌, ◌-◌, [], ◌∷◌}
 use Rattle.std.specs.List.{slice_get, position_or_len}
-use Rattle.std.specs.Option.{option_or}
+use Rattle.std.specs.Option.{option_copied, option_map_or, option_or}
 use Rattle.std.proofs.lemmas.List.Folds.{find_at}
 use Rattle.std.proofs.lemmas.Option.{slice_get_within}
 use Rattle.ld_base.specs.declared.parts.Head.{Head}
 use Rattle.ld_base.specs.declared.parts.Header.{Header}
-use Rattle.elf_head.proofs.Finding.{find_passes, some_find}
+use Rattle.elf_head.proofs.Finding.{find_passes, found_none, found_some, some_find}
 use Rattle.elf_head.proofs.Least.{least_none}
 use Rattle.elf_head.proofs.Verdicts.{none_at, verdict_ok}
 use Rattle.elf_head.specs.Header.{headers_of, is_loaded}
 use Rattle.elf_head.specs.Least.{least_below}
-use Rattle.elf_head.specs.Readable.{covers, file_bytes, file_offset, readable}
+use Rattle.elf_head.specs.Readable.{bytes_from, covers, file_bytes, file_offset, readable}
 use Rattle.elf_head.specs.Rules.{head_broken, head_of, head_verdict, header_rules, file_rules}
 use Rattle.elf_head.specs.Segments.{bad_segment, is_bad, is_bad_at, is_misshapen}
 
@@ -67,22 +67,18 @@ has_range bytes head start count h ok found some =
     let ends : start + count ≤ h.vaddr + h.filesz = grind arith in
     record { begins = begins; ends = ends; held = bytes_of_shape (length bytes) h shape (omega arith) }
 
--- what the bytes of a range are, as the search of the segments went
-pub bytes_of_none : (bytes : List ℕ) (headers : List Header) (start : ℕ) → file_bytes bytes headers start 0 ≡ Some []
-unfolding file_bytes file_offset
-bytes_of_none bytes headers start = refl
-
-pub bytes_missing : (bytes : List ℕ) (headers : List Header) (start size : ℕ) → (size ≡ 0 → ⊥) → find (covers start size) headers ≡ None → file_bytes bytes headers start size ≡ None
-unfolding file_bytes file_offset
-bytes_missing bytes headers start size some none = let no : (size == 0) ≡ false = grind arith in rw (no, none)
-
-pub bytes_found : (bytes : List ℕ) (headers : List Header) (start size : ℕ) (h : Header) → (size ≡ 0 → ⊥) → find (covers start size) headers ≡ Some h
-    → file_bytes bytes headers start size ≡ Some (slice_range bytes (h.offset + (start - h.vaddr)) (h.offset + (start - h.vaddr) + size))
-unfolding file_bytes file_offset
-bytes_found bytes headers start size h some found = let no : (size == 0) ≡ false = grind arith in rw (no, found)
+-- the same of the segment that a search lent
+pub range_found : (bytes : List ℕ) (head : Head) (start count : ℕ) (headers : List Header) (found : Option (Bor Header)) (x : Bor Header)
+    → head_verdict bytes ≡ Ok head → option_copied found ≡ find (covers start count) headers → headers ≡ head.headers → found ≡ Some x → 0 < count
+    → HasRange (length bytes) start count x.now
+range_found bytes head start count headers found x ok same list is some =
+    has_range bytes head start count x.now ok (found_some (covers start count) head.headers headers found x same list is) some
 
 -- readable as the search of the segments went
 pub readable_is : (headers : List Header) (start size : ℕ) (found : Option Header) → find (covers start size) headers ≡ found → (size ≡ 0 → ⊥) → readable headers start size ≡ is_some found
 readable_is headers start size found search some =
     let no : (size == 0) ≡ false = grind arith in
     rw no (sym (some_find (covers start size) headers) ∙ ap is_some search)
+
+-- what a reader knows of a range from the search of its segment
+pub ruleset found = (range_found, found_some, found_none, readable_is)

@@ -16,12 +16,12 @@ use std::alloc::Global;
 /// The most bytes of a file.
 const MAX_FILE: usize = 8 << 20;
 
-#[tactic(auto, using(crate::proofs::Verdicts::broken_by_header, crate::proofs::Verdicts::broken_by_file, crate::proofs::Verdicts::not_broken, crate::proofs::Verdicts::refused_verdict, crate::proofs::Verdicts::accepted_verdict, crate::proofs::Verdicts::table_held), unfolding(crate::specs::Rules::head_of))]
 /// Reads the ELF header and the program headers of a file.
 ///
 /// # Errors
 ///
-/// The first of the rules 1 to 9 that the file breaks, or want of memory.
+/// The first of the rules 1 to 9 that the file breaks, with its number, or want of memory.
+#[tactic(auto, using(crate::proofs::Verdicts::verdicts), unfolding(crate::specs::Rules::head_of))]
 pub fn read_head(alloc: Global, bytes: &[u8]) -> Result<Head, ReadFault>
     ensures accepted { IfOk result (λ head. (head_broken bytes.now ≡ None) × (head ≡ head_of bytes.now)) }
     ensures refused { (broken : NotAccepted) → result ≡ Err (ReadFault.NotAccepted broken) → head_broken bytes.now ≡ Some broken }

@@ -28,9 +28,10 @@ pub(crate) fn bad_segment(headers: &[Header], file_size: u64) -> Option<usize>
             None => return Some(index),
         }
     }
-    match passed.last_page {
-        Some(_) => None,
-        None => Some(headers.len()),
+    if passed.last_page.is_some() {
+        None
+    } else {
+        Some(headers.len())
     }
 }
 
@@ -68,9 +69,13 @@ impl Passed {
         }
     }
 
+    /// With a segment to be mapped, which is passed over where it takes no memory. As the segments
+    /// before it stand in ascending order, it has only to begin above the last of them.
     #[tactic(auto, using(crate::proofs::Limits::limit_of_shape))]
     fn and_load(self, header: &Header, file_size: u64) -> Option<Self>
-        ensures { result ≡ (if header.now.memsz == 0 then Some self else if is_misshapen file_size header.now || reaches self.last_page header.now then None else Some (record self { last_page = Some (last_page header.now) })) }
+        ensures { result ≡ (if header.now.memsz == 0 then Some self
+            else if is_misshapen file_size header.now || reaches self.last_page header.now then None
+            else Some (record self { last_page = Some (last_page header.now) })) }
     {
         if header.memsz == 0 {
             return Some(self);
@@ -87,6 +92,7 @@ impl Passed {
         })
     }
 
+    /// With a dynamic table, which has to be the only one.
     fn and_dynamic(self) -> Option<Self>
         ensures { result ≡ (if self.has_dynamic then None else Some (record self { has_dynamic = true })) }
     {
@@ -99,8 +105,10 @@ impl Passed {
         })
     }
 
+    /// With a segment of thread-local storage, which has to be the only one.
     fn and_tls(self, header: &Header, headers: &[Header], file_size: u64) -> Option<Self>
-        ensures { result ≡ (if self.has_tls || is_bad_storage file_size headers.now header.now then None else Some (record self { has_tls = true })) }
+        ensures { result ≡ (if self.has_tls || is_bad_storage file_size headers.now header.now then None
+            else Some (record self { has_tls = true })) }
     {
         if self.has_tls || is_bad_storage(header, headers, file_size) {
             return None;

@@ -24,4 +24,5 @@ loop-index-preserved c =
     let judged = c.in-Some.ensures (take index headers) c.loop-index.invariant.passed in
     record {
       passed = subst (λ (before : List Header). IsPassed before c.in-Some.next) (sym (take_more headers index _ c.loop-index-test.true)) judged.1;
-      none = least_kept (is_bad_at c.args.file_size headers) index c.loop-index.invariant.none (bad_at c.args.file_size headers index _ c.loop-index-test.true ∙ judged.0) }
+      none = least_kept (is_bad_at c.args.file_size headers) index c.loop-index.invariant.none (bad_at c.args.file_size headers index _ c.loop-index-test.true ∙ judged.0);
+    }

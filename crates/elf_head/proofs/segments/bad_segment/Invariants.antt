@@ -9,4 +9,5 @@ use Rattle.elf_head.proofs.segments.bad_segment.Given as goal
 abbrev pub invariant-loop-index : goal.invariant-loop-index
 invariant-loop-index l = record {
   passed : IsPassed (take l.index l.headers) l.passed;
-  none : least_below (is_bad_at l.file_size l.headers) l.index ≡ None }
+  none : least_below (is_bad_at l.file_size l.headers) l.index ≡ None;
+}
