@@ -46,8 +46,8 @@ stands_from-before p [] front e = absurd cc
 stands_from-before p (x ∷ xs) front e =
     elim (cases_Bool (p x)) [
       | inl marked ↦
-        let nil : [] ≡ front = some_is [] front (sym (before-cons_mark p x xs marked) ∙ e) in
-        rw (← nil) (record { mark = x; rest = xs; parts = refl; marked = marked; unmarked = λ k d lt. absurd (omega arith) })
+          let nil : [] ≡ front = some_is [] front (sym (before-cons_mark p x xs marked) ∙ e) in
+          rw (← nil) (record { mark = x; rest = xs; parts = refl; marked = marked; unmarked = λ k d lt. absurd (omega arith) })
       | inr unmarked ↦ stands_after p x xs front unmarked (stands_from-before p xs) (before p xs) refl (sym (before-cons p x xs unmarked) ∙ e)
     ]
 
@@ -131,7 +131,7 @@ entries_from-read {X} {E} entry (suc n) xs e =
       each = λ i x at. elim (slice_get-snoc front last i x at) [
         | inl before ↦ are.each i x before
         | inr (end, is) ↦ rw (end, are.count, ← is) l.1
-      ]
+      ];
     })
 
 slice_get-end : {X : Type 0} (xs front : List X) (last : X) (n : ℕ) → xs ≡ front ++ last ∷ [] → length front ≡ n → slice_get xs n ≡ Some last

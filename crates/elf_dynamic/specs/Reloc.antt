@@ -11,7 +11,8 @@ reloc_at bytes at = record {
   place = field 8 bytes at;
   kind = field 8 bytes (at + 8) % 2 ^ 32;
   symbol = field 8 bytes (at + 8) / 2 ^ 32;
-  addend = cast_signed w64 (field 8 bytes (at + 16)) }
+  addend = cast_signed w64 (field 8 bytes (at + 16));
+}
 
 -- the whole entries of the table's bytes
 unfoldable pub relocs_of : List ℕ → List Reloc

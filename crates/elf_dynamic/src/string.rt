@@ -49,7 +49,10 @@ pub fn read_name(alloc: Global, strings: &[u8], offset: u64) -> Result<Name, Rea
 {
     match string_at(strings, offset) {
         Some(bytes) => Ok(Name::new(alloc, bytes)?),
-        None => Err(ReadFault::NotAccepted(NotAccepted { rule: 12, number: offset })),
+        None => Err(ReadFault::NotAccepted(NotAccepted {
+            rule: 12,
+            number: offset,
+        })),
     }
 }
 

@@ -32,7 +32,12 @@ fn symbol_at(alloc: Global, bytes: &[u8], strings: &[u8], at: usize) -> Result<S
 /// The first symbols of a table, in order, each with its name (rule 12, numbered by the offset of
 /// the first name that can't be read) and with version 0.
 #[tactic(auto, unfolding(crate::specs::Symbol::symbols_of))]
-pub fn read_symbols(alloc: Global, bytes: &[u8], strings: &[u8], count: u32) -> Result<Symbols, ReadFault>
+pub fn read_symbols(
+    alloc: Global,
+    bytes: &[u8],
+    strings: &[u8],
+    count: u32,
+) -> Result<Symbols, ReadFault>
     requires { 24 * count ≤ length bytes.now }
     ensures { Gives result (symbols_of bytes.now strings.now count) }
 {

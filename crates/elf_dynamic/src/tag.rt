@@ -7,42 +7,79 @@ use ld_base::{Tag, Tags, field64};
 use std::alloc::{AllocError, Global};
 
 pub const DT_NULL: u64 = 0;
+
 pub const DT_NEEDED: u64 = 1;
+
 pub const DT_PLTRELSZ: u64 = 2;
+
 pub const DT_PLTGOT: u64 = 3;
+
 pub const DT_HASH: u64 = 4;
+
 pub const DT_STRTAB: u64 = 5;
+
 pub const DT_SYMTAB: u64 = 6;
+
 pub const DT_RELA: u64 = 7;
+
 pub const DT_RELASZ: u64 = 8;
+
 pub const DT_RELAENT: u64 = 9;
+
 pub const DT_STRSZ: u64 = 10;
+
 pub const DT_SYMENT: u64 = 11;
+
 pub const DT_INIT: u64 = 12;
+
 pub const DT_FINI: u64 = 13;
+
 pub const DT_SONAME: u64 = 14;
+
 pub const DT_SYMBOLIC: u64 = 16;
+
 pub const DT_REL: u64 = 17;
+
 pub const DT_PLTREL: u64 = 20;
+
 pub const DT_TEXTREL: u64 = 22;
+
 pub const DT_JMPREL: u64 = 23;
+
 pub const DT_BIND_NOW: u64 = 24;
+
 pub const DT_INIT_ARRAY: u64 = 25;
+
 pub const DT_FINI_ARRAY: u64 = 26;
+
 pub const DT_INIT_ARRAYSZ: u64 = 27;
+
 pub const DT_FINI_ARRAYSZ: u64 = 28;
+
 pub const DT_FLAGS: u64 = 30;
+
 pub const DT_PREINIT_ARRAY: u64 = 32;
+
 pub const DT_PREINIT_ARRAYSZ: u64 = 33;
+
 pub const DT_RELRSZ: u64 = 35;
+
 pub const DT_RELR: u64 = 36;
+
 pub const DT_RELRENT: u64 = 37;
+
 pub const DT_GNU_HASH: u64 = 0x6fff_fef5;
+
 pub const DT_VERSYM: u64 = 0x6fff_fff0;
+
 pub const DT_FLAGS_1: u64 = 0x6fff_fffb;
+
 pub const DT_VERDEF: u64 = 0x6fff_fffc;
+
 pub const DT_VERDEFNUM: u64 = 0x6fff_fffd;
+
 pub const DT_VERNEED: u64 = 0x6fff_fffe;
+
 pub const DT_VERNEEDNUM: u64 = 0x6fff_ffff;
 
 /// The bytes of one entry.
@@ -112,7 +149,10 @@ pub fn values_of(alloc: Global, tags: &[Tag], tag: u64) -> Result<Vec<u64>, Allo
 pub fn last_of(tags: &[Tag], tag: u64) -> Option<u64>
     ensures { result ≡ last_of tags.now tag }
 {
-    tags.iter().rev().find(|entry| entry.tag == tag).map(|entry| entry.value)
+    tags.iter()
+        .rev()
+        .find(|entry| entry.tag == tag)
+        .map(|entry| entry.value)
 }
 
 /// How many entries are of a tag.

@@ -5,9 +5,16 @@ use Rattle.std.specs.Option.{ok_or}
 use Rattle.std.specs.List.{list_all, list_any}
 use Rattle.std.proofs.lemmas.Bool.{cases_Bool}
 use Rattle.ld_base.specs.declared.fault.NotAccepted.{NotAccepted}
+use Rattle.ld_base.specs.declared.object.Kind.{Kind}
+use Rattle.ld_base.specs.declared.object.ObjFlags.{ObjFlags}
 use Rattle.ld_base.specs.declared.object.Object.{Object}
 use Rattle.ld_base.specs.declared.object.Reloc.{Reloc}
+use Rattle.ld_base.specs.declared.object.Segment.{Segment}
+use Rattle.ld_base.specs.declared.object.Span.{Span}
 use Rattle.ld_base.specs.declared.object.Symbol.{Symbol}
+use Rattle.ld_base.specs.declared.object.TlsSeg.{TlsSeg}
+use Rattle.ld_base.specs.declared.object.Verdef.{Verdef}
+use Rattle.ld_base.specs.declared.object.Verneed.{Verneed}
 use Rattle.ld_base.specs.declared.parts.Head.{Head}
 use Rattle.ld_base.specs.declared.parts.Header.{Header}
 use Rattle.ld_base.specs.declared.parts.Tag.{Tag}
@@ -199,7 +206,11 @@ form_spells r bytes head o accepted e =
       slots = slots.stands;
     } in
     let say : Say bytes parts (object_of bytes head d.0 t.0 n.0 y.0 p.0) = record {
-      kind = refl; entry = refl; segments = refl; relro = refl; dynamic = refl;
+      kind = refl;
+      entry = refl;
+      segments = refl;
+      relro = refl;
+      dynamic = refl;
       needed = (r.names s.0 (values_of t.0 DT_NEEDED) n.0).0 needed.0;
       plain_names = needed.1;
       symbols = (r.symbols symbols.table s.0 (symbol_count symbols.counts) y.0).0 symbols.read;
@@ -208,7 +219,19 @@ form_spells r bytes head o accepted e =
       plt_relocs = sym slots.read;
       slots = slots.fit;
       pltgot = refl;
-      soname = refl; has_versym = refl; verdefs = refl; verneeds = refl; relocs = refl; relr = refl; preinit = refl; init = refl; init_array = refl; fini = refl; fini_array = refl; tls = refl; flags = refl;
+      soname = refl;
+      has_versym = refl;
+      verdefs = refl;
+      verneeds = refl;
+      relocs = refl;
+      relr = refl;
+      preinit = refl;
+      init = refl;
+      init_array = refl;
+      fini = refl;
+      fini_array = refl;
+      tls = refl;
+      flags = refl;
     } in
     record { parts = parts; stand = stand; say = subst (Say bytes parts) is say }
 
@@ -218,9 +241,15 @@ verdict_spells r bytes o e =
     let h = bind_ok (head_verdict bytes) _ o e in
     form_spells r bytes h.0 o h.1 (accepted_form (form_of bytes h.0) o h.2)
 
+-- a record with the fields of an object is that object
+same_object : (o : Object) (kind : Kind) (entry : ℕ) (soname : Option (List ℕ)) (segments : List Segment) (first_exported : ℕ) (has_versym : Bool) (verdefs : List Verdef) (verneeds : List Verneed) (relocs : List Reloc) (pltgot : Option ℕ) (preinit : Option Span) (init : Option ℕ) (init_array : Option Span) (fini : Option ℕ) (fini_array : Option Span) (tls : Option TlsSeg) (relro : Option Span) (flags : ObjFlags) (relr : List ℕ) (dynamic : ℕ)
+    → o.kind ≡ kind → o.entry ≡ entry → o.soname ≡ soname → o.segments ≡ segments → o.first_exported ≡ first_exported → o.has_versym ≡ has_versym → o.verdefs ≡ verdefs → o.verneeds ≡ verneeds → o.relocs ≡ relocs → o.pltgot ≡ pltgot → o.preinit ≡ preinit → o.init ≡ init → o.init_array ≡ init_array → o.fini ≡ fini → o.fini_array ≡ fini_array → o.tls ≡ tls → o.relro ≡ relro → o.flags ≡ flags → o.relr ≡ relr → o.dynamic ≡ dynamic
+    → (let made : Object = record { kind = kind; entry = entry; soname = soname; needed = o.needed; segments = segments; symbols = o.symbols; first_exported = first_exported; has_versym = has_versym; verdefs = verdefs; verneeds = verneeds; relocs = relocs; plt_relocs = o.plt_relocs; pltgot = pltgot; preinit = preinit; init = init; init_array = init_array; fini = fini; fini_array = fini_array; tls = tls; relro = relro; flags = flags; relr = relr; dynamic = dynamic } in made) ≡ o
+same_object o kind entry soname segments first_exported has_versym verdefs verneeds relocs pltgot preinit init init_array fini fini_array tls relro flags relr dynamic e0 e1 e2 e3 e4 e5 e6 e7 e8 e9 e10 e11 e12 e13 e14 e15 e16 e17 e18 e19 = rw (← e0, ← e1, ← e2, ← e3, ← e4, ← e5, ← e6, ← e7, ← e8, ← e9, ← e10, ← e11, ← e12, ← e13, ← e14, ← e15, ← e16, ← e17, ← e18, ← e19) refl
+
 -- an object has the fields that are said of it, and no other
 said : (bytes : List ℕ) (p : Parts) (o : Object) → Say bytes p o → object_of bytes p.head p.dynamic p.tags o.needed o.symbols o.plt_relocs ≡ o
-said bytes p o s = ?
+said bytes p o s = same_object o _ _ _ _ _ _ _ _ _ _ _ _ _ _ _ _ _ _ _ _ s.kind s.entry s.soname s.segments s.first_exported s.has_versym s.verdefs s.verneeds s.relocs s.pltgot s.preinit s.init s.init_array s.fini s.fini_array s.tls s.relro s.flags s.relr s.dynamic
 
 pub spells_verdict : Readings → (bytes : List ℕ) (o : Object) → Spells bytes o → object_verdict bytes ≡ Ok o
 unfolding object_verdict form_of

@@ -46,7 +46,9 @@ fn dynamic_of(headers: &[Header]) -> Result<Header, ReadFault>
     if has_tls(headers) {
         return Err(ReadFault::NotAccepted(NOT_READ));
     }
-    find_dynamic(headers).copied().ok_or(ReadFault::NotAccepted(NOT_READ))
+    find_dynamic(headers)
+        .copied()
+        .ok_or(ReadFault::NotAccepted(NOT_READ))
 }
 
 fn has_tls(headers: &[Header]) -> bool
@@ -63,7 +65,12 @@ fn find_dynamic(headers: &[Header]) -> Option<&Header>
 
 /// The entries of the dynamic table.
 #[tactic(auto, unfolding(crate::specs::Verdict::form_tags))]
-fn read_form_tags(alloc: Global, bytes: &[u8], head: &Head, dynamic: &Header) -> Result<Tags, ReadFault>
+fn read_form_tags(
+    alloc: Global,
+    bytes: &[u8],
+    head: &Head,
+    dynamic: &Header,
+) -> Result<Tags, ReadFault>
     requires { head_verdict bytes.now ≡ Ok head.now }
     ensures { Gives result (form_tags bytes.now head.now dynamic.now) }
 {
@@ -101,7 +108,12 @@ fn read_form_symbols(
 {
     let counts = part_at(bytes, head, value_of(tags, DT_HASH), 8)?;
     let count = field32(counts, 4);
-    let table = part_at(bytes, head, value_of(tags, DT_SYMTAB), SYMBOL_SIZE * u64::from(count))?;
+    let table = part_at(
+        bytes,
+        head,
+        value_of(tags, DT_SYMTAB),
+        SYMBOL_SIZE * u64::from(count),
+    )?;
     let symbols = read_symbols(alloc, table, strings, count)?;
     if !are_plain_symbols(symbols.as_slice()) {
         return Err(ReadFault::NotAccepted(NOT_READ));
@@ -111,11 +123,22 @@ fn read_form_symbols(
 
 /// The slots, for so many symbols.
 #[tactic(auto, unfolding(crate::specs::Verdict::slots_of))]
-fn read_slots(alloc: Global, bytes: &[u8], head: &Head, tags: &[Tag], count: u32) -> Result<Relocs, ReadFault>
+fn read_slots(
+    alloc: Global,
+    bytes: &[u8],
+    head: &Head,
+    tags: &[Tag],
+    count: u32,
+) -> Result<Relocs, ReadFault>
     requires { head_verdict bytes.now ≡ Ok head.now }
     ensures { Gives result (slots_of bytes.now head.now tags.now count) }
 {
-    let table = part_at(bytes, head, value_of(tags, DT_JMPREL), value_of(tags, DT_PLTRELSZ))?;
+    let table = part_at(
+        bytes,
+        head,
+        value_of(tags, DT_JMPREL),
+        value_of(tags, DT_PLTRELSZ),
+    )?;
     let relocs = read_relocs(alloc, table)?;
     if !are_slots(relocs.as_slice(), count) {
         return Err(ReadFault::NotAccepted(NOT_READ));
@@ -132,7 +155,12 @@ fn read_form(alloc: Global, bytes: &[u8], head: &Head) -> Result<Object, ReadFau
     let dynamic = dynamic_of(head.headers.as_slice())?;
     let tags = read_form_tags(alloc, bytes, head, &dynamic)?;
     let tags = tags.as_slice();
-    let strings = part_at(bytes, head, value_of(tags, DT_STRTAB), value_of(tags, DT_STRSZ))?;
+    let strings = part_at(
+        bytes,
+        head,
+        value_of(tags, DT_STRTAB),
+        value_of(tags, DT_STRSZ),
+    )?;
     let needed = read_needed(alloc, strings, tags)?;
     let symbols = read_form_symbols(alloc, bytes, head, tags, strings)?;
     let plt_relocs = read_slots(alloc, bytes, head, tags, symbols.len())?;
@@ -186,7 +214,11 @@ fn read_rest(alloc: Global, bytes: &[u8], head: &Head) -> Result<Object, ReadFau
 /// The first of the rules 1 to 9 that the file breaks; rule 20 with number 2 where it breaks none of
 /// them and isn't of the form that is read; or want of memory.
 #[tactic(auto, unfolding(crate::specs::Verdict::object_verdict))]
-pub fn read_object(alloc: Global, bytes: &[u8], program: bool) -> Result<(Object, HashTable), ReadFault>
+pub fn read_object(
+    alloc: Global,
+    bytes: &[u8],
+    program: bool,
+) -> Result<(Object, HashTable), ReadFault>
     ensures object { Gives (result_map_both (λ read. read.0) (λ fault. fault) result) (object_verdict bytes.now) }
     ensures table { IfOk result (λ read. read.1 ≡ record { gnu = None; sysv = None }) }
 {

@@ -54,7 +54,11 @@ fn push_segment(
 
 /// The segments that are mapped, in order.
 #[tactic(auto, unfolding(crate::specs::Segments::segments_of))]
-pub(crate) fn read_segments(alloc: Global, bytes: &[u8], head: &Head) -> Result<Segments, AllocError>
+pub(crate) fn read_segments(
+    alloc: Global,
+    bytes: &[u8],
+    head: &Head,
+) -> Result<Segments, AllocError>
     requires { head_verdict bytes.now ≡ Ok head.now }
     ensures { IfOk result (λ segments. segments ≡ segments_of bytes.now head.now.headers) }
 {

@@ -43,9 +43,10 @@ unfolding names_at
 returns-clause-names c strings offsets names =
     let entry = λ (i : ℕ). name_at strings (slice_index offsets i) in
     let R = λ (i : ℕ) (name : List ℕ). entry i ≡ Ok name in
-    let S = λ (i : ℕ) (name : List ℕ). IsStringAt strings (slice_index offsets i) name in
-    (λ e. entries_map R S (length offsets) names (λ i name. is_name strings (slice_index offsets i) name) (entries_from-read entry (length offsets) names e),
-      λ are. read_from-entries entry (length offsets) names (entries_map S R (length offsets) names (λ i name. name_is strings (slice_index offsets i) name) are))
+    let S = λ (i : ℕ) (name : List ℕ). IsStringAt strings (slice_index offsets i) name in (
+      λ e. entries_map R S (length offsets) names (λ i name. is_name strings (slice_index offsets i) name) (entries_from-read entry (length offsets) names e),
+      λ are. read_from-entries entry (length offsets) names (entries_map S R (length offsets) names (λ i name. name_is strings (slice_index offsets i) name) are),
+    )
 
 is_symbol : (bytes strings : List ℕ) (at : ℕ) (s : Symbol) → symbol_at bytes strings at ≡ Ok s → IsSymbolAt bytes strings at s
 unfolding symbol_at
@@ -65,6 +66,7 @@ unfolding symbols_of
 returns-clause-symbols c bytes strings n symbols =
     let entry = λ (i : ℕ). symbol_at bytes strings (24 * i) in
     let R = λ (i : ℕ) (s : Symbol). entry i ≡ Ok s in
-    let S = λ (i : ℕ) (s : Symbol). IsSymbolAt bytes strings (24 * i) s in
-    (λ e. entries_map R S n symbols (λ i s. is_symbol bytes strings (24 * i) s) (entries_from-read entry n symbols e),
-      λ are. read_from-entries entry n symbols (entries_map S R n symbols (λ i s. symbol_is bytes strings (24 * i) s) are))
+    let S = λ (i : ℕ) (s : Symbol). IsSymbolAt bytes strings (24 * i) s in (
+      λ e. entries_map R S n symbols (λ i s. is_symbol bytes strings (24 * i) s) (entries_from-read entry n symbols e),
+      λ are. read_from-entries entry n symbols (entries_map S R n symbols (λ i s. symbol_is bytes strings (24 * i) s) are),
+    )

@@ -7,4 +7,5 @@ use Rattle.elf_dynamic.proofs.symbol.read_symbols.Given as goal
 abbrev pub invariant-loop-index : goal.invariant-loop-index
 invariant-loop-index l = record {
   read : entries_of (λ i. symbol_at l.bytes l.strings (24 * i)) l.index ≡ Ok l.symbols;
-  len : length l.symbols ≡ l.index }
+  len : length l.symbols ≡ l.index;
+}
