@@ -64,8 +64,10 @@ impl<R: Files + Clone + Drop + Send> Library for FolderLibrary<R> {
     fn read(&mut self, path: &[u8]) -> Result<Vec<u8>, ReadError>
         ensures bound { IfOk result (λ bytes. vec_len bytes ≤ READ_LIMIT) }
         ensures text { ¬ (IsUtf8 path.now) → IsErrOf result ReadError.Missing }
-        ensures faults { CountsIf (IsErrOf result ReadError.Failed) self.old.faults self.new.faults }
-        ensures misses { CountsIf (IsErrOf result ReadError.Missing) self.old.misses self.new.misses }
+        ensures faults { CountsIf (IsErrOf result ReadError.Failed)
+            self.old.faults self.new.faults }
+        ensures misses { CountsIf (IsErrOf result ReadError.Missing)
+            self.old.misses self.new.misses }
     {
         let answer = read_file(&self.rt, self.alloc, path);
         match answer {
