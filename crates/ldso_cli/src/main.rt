@@ -1,0 +1,6 @@
+//! The linker's command.
+#![tactic(auto)]
+
+mod words;
+
+fn main() {}
