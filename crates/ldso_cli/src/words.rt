@@ -95,10 +95,7 @@ fn preload_of(alloc: Global, value: Option<&Name>) -> Result<Option<Names>, Allo
 
 /// An option and its value where the words begin with them, and the other words; none where the
 /// value has a dash.
-fn value_first<'a>(
-    option: &[u8],
-    words: &'a [Name],
-) -> Option<(Option<&'a Name>, &'a [Name])>
+fn value_first<'a>(option: &[u8], words: &'a [Name]) -> Option<(Option<&'a Name>, &'a [Name])>
     ensures { option_map (λ first. (option_copied first.0, first.1.now)) result ≡ value_first option.now words.now }
 {
     match words {
