@@ -1,3 +1,4 @@
 pub mod Find
 pub mod Hearing
 pub mod Reading
+pub mod Taking

@@ -10,7 +10,7 @@ ghost use Rattle.scope_rule.specs.declared.namespace.Namespace.{Namespace};
 ghost use Rattle.elf_object.specs.Verdict.{read_verdict};
 ghost use Rattle.load_order.specs.Answer.{Answers};
 ghost use Rattle.load_order.specs.Files.{as_read, is_program};
-ghost use Rattle.load_order.specs.Heard.{Heard, HeardAt, Learns, fault_in};
+ghost use Rattle.load_order.specs.Heard.{Heard, HeardAt, IsQuiet, Learns, fault_in};
 ghost use Rattle.load_order.specs.Part.{load_of, source_of};
 
 use crate::ask::{LoadAsk, LoadFault};
@@ -26,7 +26,8 @@ const LAST_SERIAL: u64 = 1 << 62;
 
 /// Whether a hart may use an object that it found, and its serial then.
 fn use_of(alloc: Global, hart: HartId, object: &Loaded) -> Result<Serial, LoadFault>
-    ensures { Answers (λ s. s) result (use_of hart object.now) }
+    ensures gives { Answers (λ s. s) result (use_of hart object.now) }
+    ensures quiet { IsQuiet (fault_in result) }
 {
     match object.state {
         State::Initialising(other) if other != hart => {
@@ -188,4 +189,26 @@ fn add_object(
             Ok(Some(serial))
         }
     }
+}
+
+/// The serial of the object at a path: one that is there, or else a new one.
+pub(crate) fn take_path<L: Library>(
+    alloc: Global,
+    ns: &Namespace,
+    ask: &LoadAsk,
+    library: &mut L,
+    progress: &mut Progress,
+    path: &[u8],
+) -> Result<Option<Serial>, LoadFault>
+    ensures learns { Learns ask.now (source_of L.files L.faults L.misses library.old) progress.old (source_of L.files L.faults L.misses library.new) progress.new (fault_in result) }
+    ensures gives { (reading : List ℕ → Reading) → Heard reading progress.new → HeardAt reading (fault_in result) →
+        Answers (λ serial. (progress.new.added, serial)) result (take_found (load_of ask.now ns.now reading) progress.old.added (find_path reading (ns.now.objects ++ progress.old.added) path.now)) }
+{
+    if let Some(object) = known_by_path(ns, progress, path) {
+        return use_of(alloc, ask.hart, object).map(Some);
+    }
+    if progress.has_missed(path) {
+        return Ok(None);
+    }
+    read_path(alloc, ask, library, progress, path)
 }
