@@ -1,17 +1,121 @@
-use Rattle.std.specs.Prelude.{◌≡◌, ℕ, Bool, List, None, Result, Ok, Err}
+-- The verdict on a file: the object that it is, or the rule that it breaks.
+use Rattle.std.specs.Prelude.{ℕ, ◌*◌, Bool, true, false, ◌&&◌, not, List, [], length, find, Option, None, Result, Ok, Err, if◌then◌else◌}
+use Rattle.std.specs.Option.{ok_or}
+use Rattle.std.specs.List.{list_all, list_any}
 use Rattle.ld_base.specs.declared.fault.NotAccepted.{NotAccepted}
-use Rattle.ld_base.specs.declared.fault.ReadFault.{ReadFault}
-use Rattle.ld_base.specs.declared.fault.ReadFault.TheVariants as faults
 use Rattle.ld_base.specs.declared.object.Object.{Object}
-use Rattle.ld_base.specs.declared.parts.HashTable.{HashTable}
+use Rattle.ld_base.specs.declared.object.Reloc.{Reloc}
+use Rattle.ld_base.specs.declared.object.Symbol.{Symbol}
+use Rattle.ld_base.specs.declared.parts.Head.{Head}
+use Rattle.ld_base.specs.declared.parts.Header.{Header}
+use Rattle.ld_base.specs.declared.parts.Tag.{Tag}
+use Rattle.elf_head.specs.Readable.{file_bytes}
+use Rattle.elf_head.specs.Rules.{head_verdict}
+use Rattle.elf_head.specs.declared.program_headers.TheConstants.{PT_DYNAMIC, PT_TLS}
+use Rattle.elf_dynamic.specs.Entries.{◌>>=◌}
+use Rattle.elf_dynamic.specs.Name.{names_at}
+use Rattle.elf_dynamic.specs.Reloc.{relocs_of}
+use Rattle.elf_dynamic.specs.Symbol.{symbols_of}
+use Rattle.elf_dynamic.specs.Tag.{tags_of, last_of, values_of}
+use Rattle.elf_dynamic.specs.declared.symbol.TheConstants.{SYMBOL_SIZE}
+use Rattle.elf_dynamic.specs.declared.tag.TheConstants.{DT_HASH, DT_STRTAB, DT_STRSZ, DT_SYMTAB, DT_JMPREL, DT_PLTRELSZ, DT_NEEDED, DT_PLTGOT}
+use Rattle.elf_object.specs.Form.{value_of, is_form, is_plain_name, is_plain_symbol, is_slot}
+use Rattle.elf_object.specs.Parts.{symbol_count}
+use Rattle.elf_object.specs.Segments.{is_kind, segments_of, relro_of}
 
-abbrev pub Faults : {X : Type 0} → ReadFault → Result X NotAccepted → Type 0
-Faults (faults.NotAccepted broken) meant = meant ≡ Err broken
-Faults faults.Memory meant = Unit {0}
+-- rule 20: an object of a form that isn't read
+abbrev pub not_read : NotAccepted
+not_read = record { rule = 20; number = 2 }
 
-abbrev pub Gives : {X : Type 0} → Result X ReadFault → Result X NotAccepted → Type 0
-Gives (Ok x) meant = meant ≡ Ok x
-Gives (Err fault) meant = Faults fault meant
+-- what has to be there
+abbrev pub wanted : {X : Type 0} → Option X → Result X NotAccepted
+wanted found = ok_or found not_read
 
-unfoldable pub read_verdict : List ℕ → Bool → Result (Object × HashTable) NotAccepted
-read_verdict bytes program = Err (record { rule = 20; number = 2 })
+-- a value that has to pass a test
+abbrev pub passing : {X : Type 0} → (X → Bool) → X → Result X NotAccepted
+passing test x = if test x then Ok x else Err not_read
+
+-- the bytes of the file at so many addresses from start on
+unfoldable pub part_at : List ℕ → Head → ℕ → ℕ → Result (List ℕ) NotAccepted
+part_at bytes head start size = wanted (file_bytes bytes head.headers start size)
+
+-- the header of the dynamic table, in a file without thread-local storage
+unfoldable pub dynamic_of : List Header → Result Header NotAccepted
+dynamic_of headers = if list_any (is_kind PT_TLS) headers then Err not_read else wanted (find (is_kind PT_DYNAMIC) headers)
+
+-- the entries of the dynamic table
+unfoldable pub form_tags : List ℕ → Head → Header → Result (List Tag) NotAccepted
+form_tags bytes head dynamic = do
+  table ← part_at bytes head dynamic.vaddr dynamic.filesz
+  tags ← wanted (tags_of table)
+  passing is_form tags
+
+-- the names of the needed objects
+unfoldable pub needed_of : List ℕ → List Tag → Result (List (List ℕ)) NotAccepted
+needed_of strings tags = do
+  names ← names_at strings (values_of tags DT_NEEDED)
+  passing (list_all is_plain_name) names
+
+-- the symbols, of which the hash table tells the number
+unfoldable pub form_symbols : List ℕ → Head → List Tag → List ℕ → Result (List Symbol) NotAccepted
+form_symbols bytes head tags strings = do
+  counts ← part_at bytes head (value_of tags DT_HASH) 8
+  table ← part_at bytes head (value_of tags DT_SYMTAB) (SYMBOL_SIZE * symbol_count counts)
+  symbols ← symbols_of table strings (symbol_count counts)
+  passing (list_all is_plain_symbol) symbols
+
+-- the slots, for so many symbols
+unfoldable pub slots_of : List ℕ → Head → List Tag → ℕ → Result (List Reloc) NotAccepted
+slots_of bytes head tags count = do
+  table ← part_at bytes head (value_of tags DT_JMPREL) (value_of tags DT_PLTRELSZ)
+  passing (list_all (is_slot count)) (relocs_of table)
+
+-- the object with these parts, and nothing else
+abbrev pub object_of : List ℕ → Head → Header → List Tag → List (List ℕ) → List Symbol → List Reloc → Object
+object_of bytes head dynamic tags needed symbols slots = record {
+  kind = head.kind;
+  entry = head.entry;
+  soname = None;
+  needed = needed;
+  segments = segments_of bytes head.headers;
+  symbols = symbols;
+  first_exported = 1;
+  has_versym = false;
+  verdefs = [];
+  verneeds = [];
+  relocs = [];
+  plt_relocs = slots;
+  pltgot = last_of tags DT_PLTGOT;
+  preinit = None;
+  init = None;
+  init_array = None;
+  fini = None;
+  fini_array = None;
+  tls = None;
+  relro = relro_of head.headers;
+  flags = record { symbolic = false; bind_now = false; nodelete = false };
+  relr = [];
+  dynamic = dynamic.vaddr;
+}
+
+-- the object of a file with this head
+unfoldable pub form_of : List ℕ → Head → Result Object NotAccepted
+form_of bytes head = do
+  dynamic ← dynamic_of head.headers
+  tags ← form_tags bytes head dynamic
+  strings ← part_at bytes head (value_of tags DT_STRTAB) (value_of tags DT_STRSZ)
+  needed ← needed_of strings tags
+  symbols ← form_symbols bytes head tags strings
+  slots ← slots_of bytes head tags (length symbols)
+  Ok (object_of bytes head dynamic tags needed symbols slots)
+
+-- every fault past the head is that of a form that isn't read
+abbrev pub as_not_read : {X : Type 0} → Result X NotAccepted → Result X NotAccepted
+as_not_read (Ok x) = Ok x
+as_not_read (Err fault) = Err not_read
+
+-- the object that the file is, or the rule that it breaks
+unfoldable pub object_verdict : List ℕ → Result Object NotAccepted
+object_verdict bytes = do
+  head ← head_verdict bytes
+  as_not_read (form_of bytes head)

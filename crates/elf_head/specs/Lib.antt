@@ -1,0 +1,10 @@
+pub mod Broken
+pub mod Gives
+pub mod Header
+pub mod Least
+pub mod Passed
+pub mod Readable
+pub mod Rules
+pub mod Segments
+pub mod Table
+pub mod Verdict

@@ -1,0 +1,36 @@
+//! The head of an ELF file: its ELF header and its program headers.
+//!
+//! [`read_head`] reads both from the bytes of a file. It answers the head exactly where the file
+//! breaks none of these rules, and else the first that it breaks, with a number: for rule 8 the
+//! index of the program header, for the others 0.
+//!
+//! 1. The file has the 64 bytes of an ELF header.
+//! 2. It begins with the magic number.
+//! 3. It is a little-endian file of class 64, of version 1.
+//! 4. It is for RISC-V.
+//! 5. It is linked: an executable or a shared object.
+//! 6. It needs no compressed code, no floating-point registers and no reduced register file.
+//! 7. Its table of program headers lies in the file, with 1 to 128 entries of 56 bytes.
+//! 8. Its segments can be mapped: each fits its memory, the file, the first 4 GiB of addresses and
+//!    its alignment; mapped segments stand in ascending order, on pages of their own, and there is
+//!    one; there is at most one dynamic table and one segment of thread-local storage, whose
+//!    initial bytes belong to a mapped segment and whose memory and alignment are at most 1 MiB.
+//! 9. The file has at most 8 MiB.
+//!
+//! [`file_bytes`] gives the bytes of the file that stand for a range of addresses, and [`bytes_from`]
+//! those from an address to the end of its segment.
+#![tactic(auto)]
+
+mod elf_header;
+mod program_headers;
+mod range;
+mod reader;
+mod segments;
+#[cfg(test)]
+mod tests;
+mod verdict;
+
+pub use program_headers::{PT_DYNAMIC, PT_GNU_RELRO, PT_LOAD, PT_TLS};
+pub use range::{bytes_from, file_bytes};
+pub use reader::read_head;
+pub use verdict::one_verdict;
