@@ -17,7 +17,7 @@ use Rattle.load_order.specs.declared.ask.LoadFault.TheVariants as faults
 use Rattle.load_order.specs.declared.progress.Progress.{Progress}
 use Rattle.load_order.specs.Answer.{Answers}
 use Rattle.load_order.specs.Files.{reading_of}
-use Rattle.load_order.specs.Heard.{Heard, HeardAt, HeardOver, Learns, IsQuiet, reading_until, fault_in}
+use Rattle.load_order.specs.Heard.{Heard, HeardAt, HeardOver, Learns, IsQuiet, Counted, reading_until, fault_in}
 use Rattle.load_order.specs.Part.{Source, load_of}
 use Rattle.load_order.proofs.Find.{find_either}
 use Rattle.load_order.proofs.Reading.{IsNew}
@@ -28,6 +28,26 @@ quiet_over ask s p None q over = over
 quiet_over ask s p (Some (faults.Refused (dl.ReadFault path))) q over = absurd q
 quiet_over ask s p (Some (faults.Refused (dl.NotAccepted path broken))) q over = absurd q
 quiet_over ask s p (Some fault) q over = record { files = over.files; are = over.are; heard = over.heard; stopped = tt }
+
+quiet_counted : (s : Source) (fault : Option LoadFault) → IsQuiet fault → Counted s s fault
+quiet_counted s None q = tt
+quiet_counted s (Some (faults.Refused (dl.ReadFault path))) q = absurd q
+quiet_counted s (Some fault) q = search rules
+
+pub finds_known : (reading : List ℕ → Reading) (objects : List Loaded) (p : List ℕ) (o : Loaded) → with_path objects p ≡ Some o → find_path reading objects p ≡ known o
+unfolding find_path
+finds_known reading objects p o e = rw (find_path, e) refl
+
+pub learns_quiet : (ask : LoadAsk) (s : Source) (p : Progress) (fault : Option LoadFault) → IsQuiet fault → Learns ask s p s p fault
+learns_quiet ask s p fault quiet = record {
+  files = refl;
+  faults = omega arith;
+  misses = omega arith;
+  missed = inl refl;
+  stands = λ reading heard. heard;
+  over = λ over. quiet_over ask s p fault quiet over;
+  counted = quiet_counted s fault quiet;
+}
 
 option_or_none : {X : Type 0} (a b : Option X) → option_or a b ≡ None → b ≡ None
 option_or_none None b e = e
@@ -49,8 +69,8 @@ missed_reads reading p (m ∷ rest) h all =
 pub gives_missed : (load : Load) (progress : Progress) (objects : List Loaded) (p : List ℕ) → with_path objects p ≡ None → list_any (λ m. bytes_eq m p) progress.missed ≡ true → Heard load.reading progress
     → take_found load progress.added (find_path load.reading objects p) ≡ Ok (progress.added, None)
 unfolding take_found find_path
-gives_missed load progress objects p none missed heard = rw (none, missed_reads load.reading p progress.missed missed heard.missed) refl
+gives_missed load progress objects p none missed heard = rw (find_path, none, missed_reads load.reading p progress.missed missed heard.missed) refl
 
 pub finds_by_reading : (reading : List ℕ → Reading) (objects : List Loaded) (p : List ℕ) → with_path objects p ≡ None → find_path reading objects p ≡ found_by_reading p (reading p)
 unfolding find_path
-finds_by_reading reading objects p none = rw none refl
+finds_by_reading reading objects p none = rw (find_path, none) refl

@@ -4,12 +4,11 @@ ghost use Rattle.std.specs.Prelude.{◌≡◌, ◌≢◌, ◌<◌, ◌^◌, ◌+
 ghost use Rattle.std.specs.List.{list_any, find};
 ghost use Rattle.std.specs.Str.{bytes_eq};
 ghost use Rattle.std.specs.Option.{option_copied};
-ghost use Rattle.scope_rule.specs.Finding.{Reading, has_soname, has_path, with_soname, with_path, is_path, find_path, find_paths, find_opened, found_by_reading};
+ghost use Rattle.scope_rule.specs.Finding.{Reading, known, has_soname, has_path, with_soname, with_path, is_path, find_path, find_paths, find_opened, found_by_reading};
 ghost use Rattle.scope_rule.specs.Order.{use_of, take_found, objects_with};
 ghost use Rattle.scope_rule.specs.declared.namespace.Namespace.{Namespace};
-ghost use Rattle.elf_object.specs.Verdict.{read_verdict};
 ghost use Rattle.load_order.specs.Answer.{Answers};
-ghost use Rattle.load_order.specs.Files.{as_read, is_program};
+ghost use Rattle.load_order.specs.Files.{bytes_as_read, is_program};
 ghost use Rattle.load_order.specs.Heard.{Heard, HeardAt, IsQuiet, Learns, fault_in};
 ghost use Rattle.load_order.specs.Part.{load_of, source_of};
 
@@ -159,7 +158,7 @@ fn add_object(
     bytes: &[u8],
 ) -> Result<Option<Serial>, LoadFault>
     ensures gives { (ns : Namespace) (reading : List ℕ → Reading) →
-        Answers (λ serial. (progress.new.added, serial)) result (take_found (load_of ask.now ns reading) progress.old.added (found_by_reading path.now (as_read (read_verdict bytes.now (is_program ask.now path.now))))) }
+        Answers (λ serial. (progress.new.added, serial)) result (take_found (load_of ask.now ns reading) progress.old.added (found_by_reading path.now (bytes_as_read (is_program ask.now path.now) bytes.now))) }
     ensures missed { progress.new.missed ≡ progress.old.missed }
     ensures err { OnErr result (progress.new.added ≡ progress.old.added) }
 {
@@ -191,8 +190,25 @@ fn add_object(
     }
 }
 
+/// The serial of an object that is there, where a hart may use it.
+#[tactic(auto, unfolding(scope_rule::specs::Order::take_found))]
+fn take_known(
+    alloc: Global,
+    ask: &LoadAsk,
+    progress: &Progress,
+    object: &Loaded,
+) -> Result<Option<Serial>, LoadFault>
+    ensures gives { (ns : Namespace) (reading : List ℕ → Reading) →
+        Answers (λ serial. (progress.now.added, serial)) result (take_found (load_of ask.now ns reading) progress.now.added (known object.now)) }
+    ensures quiet { IsQuiet (fault_in result) }
+{
+    let _ = progress;
+    let serial = use_of(alloc, ask.hart, object)?;
+    Ok(Some(serial))
+}
+
 /// The serial of the object at a path: one that is there, or else a new one.
-pub(crate) fn take_path<L: Library>(
+fn take_path<L: Library>(
     alloc: Global,
     ns: &Namespace,
     ask: &LoadAsk,
@@ -205,7 +221,7 @@ pub(crate) fn take_path<L: Library>(
         Answers (λ serial. (progress.new.added, serial)) result (take_found (load_of ask.now ns.now reading) progress.old.added (find_path reading (ns.now.objects ++ progress.old.added) path.now)) }
 {
     if let Some(object) = known_by_path(ns, progress, path) {
-        return use_of(alloc, ask.hart, object).map(Some);
+        return take_known(alloc, ask, progress, object);
     }
     if progress.has_missed(path) {
         return Ok(None);
