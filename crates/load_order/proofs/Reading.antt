@@ -153,14 +153,17 @@ learns_refused ask before after old new p bytes broken stays tells is_new verdic
   counted = tt;
 }
 
-abbrev done : {A : Type 0} → A → Result A Stop
+abbrev pub done : {A : Type 0} → A → Result A Stop
 done x = Ok x
 
-taken_is : {A : Type 0} (x y : A) → done x ≡ done y → x ≡ y
+pub taken_is : {A : Type 0} (x y : A) → done x ≡ done y → x ≡ y
 taken_is x y e = cc
 
-added_is : (a b : List Loaded) (s t : Option ℕ) → done {A = List Loaded × Option ℕ} (a, s) ≡ done (b, t) → b ≡ a
+pub added_is : (a b : List Loaded) (s t : Option ℕ) → done {A = List Loaded × Option ℕ} (a, s) ≡ done (b, t) → b ≡ a
 added_is a b s t e = sym (ap (λ (q : List Loaded × Option ℕ). q.0) (taken_is (a, s) (b, t) e))
+
+pub serial_is : (a b : List Loaded) (s t : Option ℕ) → done {A = List Loaded × Option ℕ} (a, s) ≡ done (b, t) → s ≡ t
+serial_is a b s t e = ap (λ (q : List Loaded × Option ℕ). q.1) (taken_is (a, s) (b, t) e)
 
 -- what a new object's record has of what was read
 learns_taken : (ask : LoadAsk) (load : Load) (before after : Source) (old new : Progress) (p bytes : List ℕ) (read : Result Object NotAccepted) (r : Result (Option ℕ) LoadFault) → Stays before after → TellsAt before p (Some bytes) → IsNew old p

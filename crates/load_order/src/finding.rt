@@ -4,8 +4,8 @@ ghost use Rattle.std.specs.Prelude.{◌≡◌, ◌≢◌, ◌<◌, ◌^◌, ◌+
 ghost use Rattle.std.specs.List.{list_any, find};
 ghost use Rattle.std.specs.Str.{bytes_eq};
 ghost use Rattle.std.specs.Option.{option_copied};
-ghost use Rattle.scope_rule.specs.Finding.{Reading, known, has_soname, has_path, with_soname, with_path, is_path, find_path, find_paths, find_opened, found_by_reading};
-ghost use Rattle.scope_rule.specs.Order.{use_of, take_found, objects_with};
+ghost use Rattle.scope_rule.specs.Finding.{Reading, known, has_soname, has_path, with_soname, with_path, is_path, in_folders, find_path, find_paths, find_opened, find_needed, found_by_reading};
+ghost use Rattle.scope_rule.specs.Order.{use_of, take_found, take_name, must_lead};
 ghost use Rattle.scope_rule.specs.declared.namespace.Namespace.{Namespace};
 ghost use Rattle.load_order.specs.Answer.{Answers};
 ghost use Rattle.load_order.specs.Files.{bytes_as_read, is_program};
@@ -20,6 +20,8 @@ use library_source::{Library, ReadError};
 use scope_rule::Namespace;
 use std::alloc::{AllocError, Global};
 
+/// The name of the linker's own object.
+const LINKER_NAME: &[u8] = b"ldso.so.1";
 /// Serials stay below this number.
 const LAST_SERIAL: u64 = 1 << 62;
 
@@ -227,4 +229,138 @@ fn take_path<L: Library>(
         return Ok(None);
     }
     read_path(alloc, ask, library, progress, path)
+}
+
+/// Whether a name is a path.
+fn is_path(name: &[u8]) -> bool
+    ensures { result ≡ is_path name.now }
+{
+    name.contains(&b'/')
+}
+
+/// The path of a name in a folder.
+fn path_in(alloc: Global, folder: &[u8], name: &[u8]) -> Result<Name, AllocError>
+    ensures { IfOk result (λ path. path ≡ (folder.now ++ 47 ∷ []) ++ name.now) }
+{
+    let mut path = Vec::from_slice(alloc, folder)?;
+    path.push(b'/')?;
+    path.extend_from_slice(name)?;
+    Ok(Name::from(path))
+}
+
+/// The serial of the object with this name in a folder.
+fn take_in_folder<L: Library>(
+    alloc: Global,
+    ns: &Namespace,
+    ask: &LoadAsk,
+    library: &mut L,
+    progress: &mut Progress,
+    folder: &Name,
+    name: &[u8],
+) -> Result<Option<Serial>, LoadFault>
+    ensures learns { Learns ask.now (source_of L.files L.faults L.misses library.old) progress.old (source_of L.files L.faults L.misses library.new) progress.new (fault_in result) }
+    ensures gives { (reading : List ℕ → Reading) → Heard reading progress.new → HeardAt reading (fault_in result) →
+        Answers (λ serial. (progress.new.added, serial)) result (take_found (load_of ask.now ns.now reading) progress.old.added (find_path reading (ns.now.objects ++ progress.old.added) ((folder.now ++ 47 ∷ []) ++ name.now))) }
+{
+    let path = path_in(alloc, folder.as_bytes(), name)?;
+    take_path(alloc, ns, ask, library, progress, path.as_bytes())
+}
+
+/// The serial of the object with this name in the first of the folders that has one.
+fn take_in_folders<L: Library>(
+    alloc: Global,
+    ns: &Namespace,
+    ask: &LoadAsk,
+    library: &mut L,
+    progress: &mut Progress,
+    folders: &[Name],
+    name: &[u8],
+) -> Result<Option<Serial>, LoadFault>
+    ensures learns { Learns ask.now (source_of L.files L.faults L.misses library.old) progress.old (source_of L.files L.faults L.misses library.new) progress.new (fault_in result) }
+    ensures gives { (reading : List ℕ → Reading) → Heard reading progress.new → HeardAt reading (fault_in result) →
+        Answers (λ serial. (progress.new.added, serial)) result (take_found (load_of ask.now ns.now reading) progress.old.added (find_paths reading (ns.now.objects ++ progress.old.added) (in_folders folders.now name.now))) }
+{
+    for folder in folders {
+        let found = take_in_folder(alloc, ns, ask, library, progress, folder, name)?;
+        if let Some(serial) = found {
+            return Ok(Some(serial));
+        }
+    }
+    Ok(None)
+}
+
+/// The serial of the object that a name leads to, as dlopen takes it.
+#[tactic(auto, unfolding(scope_rule::specs::Finding::find_opened))]
+pub(crate) fn take_opened<L: Library>(
+    alloc: Global,
+    ns: &Namespace,
+    ask: &LoadAsk,
+    library: &mut L,
+    progress: &mut Progress,
+    name: &[u8],
+) -> Result<Option<Serial>, LoadFault>
+    ensures learns { Learns ask.now (source_of L.files L.faults L.misses library.old) progress.old (source_of L.files L.faults L.misses library.new) progress.new (fault_in result) }
+    ensures gives { (reading : List ℕ → Reading) → Heard reading progress.new → HeardAt reading (fault_in result) →
+        Answers (λ serial. (progress.new.added, serial)) result (take_found (load_of ask.now ns.now reading) progress.old.added (find_opened reading (ns.now.objects ++ progress.old.added) ask.now.folders name.now)) }
+{
+    if is_path(name) {
+        return take_path(alloc, ns, ask, library, progress, name);
+    }
+    if let Some(object) = known_by_soname(ns, progress, name) {
+        return take_known(alloc, ask, progress, object);
+    }
+    let folders = ask.folders.as_slice();
+    take_in_folders(alloc, ns, ask, library, progress, folders, name)
+}
+
+/// The serial of the object that a name leads to, as an object needs it.
+#[tactic(auto, unfolding(scope_rule::specs::Order::take_found))]
+fn take_needed<L: Library>(
+    alloc: Global,
+    ns: &Namespace,
+    ask: &LoadAsk,
+    library: &mut L,
+    progress: &mut Progress,
+    name: &[u8],
+) -> Result<Option<Serial>, LoadFault>
+    ensures learns { Learns ask.now (source_of L.files L.faults L.misses library.old) progress.old (source_of L.files L.faults L.misses library.new) progress.new (fault_in result) }
+    ensures gives { (reading : List ℕ → Reading) → Heard reading progress.new → HeardAt reading (fault_in result) →
+        Answers (λ serial. (progress.new.added, serial)) result (take_found (load_of ask.now ns.now reading) progress.old.added (find_needed reading (ns.now.objects ++ progress.old.added) ask.now.folders name.now)) }
+{
+    if name == LINKER_NAME {
+        return Ok(Some(Serial::LINKER));
+    }
+    take_opened(alloc, ns, ask, library, progress, name)
+}
+
+/// A name that leads nowhere stops the load.
+fn must_lead(alloc: Global, name: &[u8], found: Option<Serial>) -> Result<Serial, LoadFault>
+    ensures gives { (added : List Loaded) → Answers (λ serial. (added, serial)) result (must_lead name.now (added, found)) }
+    ensures quiet { IsQuiet (fault_in result) }
+{
+    match found {
+        Some(serial) => Ok(serial),
+        None => {
+            let name = Name::new(alloc, name)?;
+            Err(LoadFault::Refused(DlFault::MissingLibrary(name)))
+        }
+    }
+}
+
+/// The serial of the object that an object's name leads to.
+#[tactic(auto, unfolding(scope_rule::specs::Order::take_name))]
+pub(crate) fn take_name<L: Library>(
+    alloc: Global,
+    ns: &Namespace,
+    ask: &LoadAsk,
+    library: &mut L,
+    progress: &mut Progress,
+    name: &[u8],
+) -> Result<Serial, LoadFault>
+    ensures learns { Learns ask.now (source_of L.files L.faults L.misses library.old) progress.old (source_of L.files L.faults L.misses library.new) progress.new (fault_in result) }
+    ensures gives { (reading : List ℕ → Reading) → Heard reading progress.new → HeardAt reading (fault_in result) →
+        Answers (λ serial. (progress.new.added, serial)) result (take_name (load_of ask.now ns.now reading) progress.old.added name.now) }
+{
+    let found = take_needed(alloc, ns, ask, library, progress, name)?;
+    must_lead(alloc, name, found)
 }
