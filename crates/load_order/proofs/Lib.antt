@@ -1,0 +1,5 @@
+pub mod Find
+pub mod Hearing
+pub mod Reading
+pub mod Searching
+pub mod Taking

@@ -1,0 +1,4 @@
+pub mod Answer
+pub mod Files
+pub mod Heard
+pub mod Part
