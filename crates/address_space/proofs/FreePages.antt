@@ -1,14 +1,14 @@
 -- Marks, and the list of free pages that they stand for.
-use Rattle.std.proofs.Common.{◌≡◌, ℕ, ◌+◌, ◌-◌, ◌*◌, ◌/◌, ◌%◌, ◌<◌, ◌≤◌, Bool, true, false, not, ◌&&◌, ◌||◌, cond, leb, ltb, List, [], ◌∷◌, ◌++◌, map, get_or, length, zero, suc, arith, refl, sym, subst, ap, ◌∙◌, ◌⊎◌, inl, inr, ⊎_elim}
+use Rattle.std.proofs.Common.{◌≡◌, ℕ, ◌+◌, ◌-◌, ◌*◌, ◌/◌, ◌%◌, ◌<◌, ◌≤◌, Bool, true, false, not, ◌&&◌, ◌||◌, cond, List, [], ◌∷◌, map, get_or, length, zero, suc, arith, refl, sym, subst, ap, ◌∙◌, ◌⊎◌, inl, inr, ⊎_elim}
 use Rattle.std.specs.Prelude.{nat_eq, Contains}
 use Rattle.std.specs.List.{All, filter, list_any, range_with_len}
 use Rattle.std.proofs.lemmas.List.FromFn.{length-map-range_with_len, get_or-map-range_with_len}
 use Rattle.std.proofs.lemmas.List.Elements.{All-contains, All-contains_itself, All-filter, All-tail, All-head, filter_passes, Contains-append_right}
 use Rattle.std.proofs.lemmas.List.Folds.{list_any_at}
-use Rattle.std.proofs.lemmas.Bool.{cases_lt, eqb-true, eq-eqb, lt-ltb, le-ltb, le-leb, lt-leb, and_left, and_right, and_from, or_right}
+use Rattle.std.proofs.lemmas.Bool.{cases_lt, eqb-true, eq-eqb, lt-ltb, le-ltb, le-leb, lt-leb, and_left, and_right, and_from, or_right, both_ways}
 use Rattle.std.proofs.Math.Bool.{and-true, or-false}
 use Rattle.std.proofs.lemmas.Map.Views.{any-filter_same}
-use Rattle.address_space.specs.Pages.{AllFree, Fits, IsFirstFit, guest_pages, is_within, page_at, page_size, together_with, without}
+use Rattle.address_space.specs.Pages.{AllFree, AllInUse, Fits, IsFirstFit, IsGuestRange, guest_pages, is_within, page_at, page_size, together_with, without}
 use Rattle.address_space.specs.Marks.{AllMarked, FitsAt, MarksAs, is_marked, marked_pages}
 use Rattle.address_space.proofs.Scan.{marked_within}
 
@@ -155,7 +155,7 @@ IsFirstFit-marked marks pages align start some short fits least = record {
 pub AllFree-guest : (marks : List Bool) (address pages : ℕ) → AllFree (marked_pages marks) address pages → AllFree guest_pages address pages
 AllFree-guest marks address pages free k h =
     All-contains (Contains guest_pages) (marked_pages marks) _
-        (All-filter (is_marked marks) (Contains guest_pages) guest_pages (All-contains_itself guest_pages)) (free k h)
+    (All-filter (is_marked marks) (Contains guest_pages) guest_pages (All-contains_itself guest_pages)) (free k h)
 
 -- the numbers of a range of pages that may be given away
 pub range_numbers : (address pages : ℕ) → 0 < pages → AllFree guest_pages address pages → (k : ℕ) × (address ≡ page_at k) × (k + pages ≤ 2047)
@@ -166,6 +166,26 @@ range_numbers address pages some all =
     let there = last.2 in
     let small = last.1 in
     (first.0, omega arith, omega arith)
+
+pub IsGuestRange-all : (address pages : ℕ) → 0 < pages → AllFree guest_pages address pages → IsGuestRange address pages
+IsGuestRange-all address pages some all =
+    let range = range_numbers address pages some all in
+    let here = range.1 in
+    let short = range.2 in
+    record { aligned = omega arith; low = omega arith; high = omega arith }
+
+-- pages that may be given away are in use once they are taken from the free ones
+pub AllInUse-without : (free : List ℕ) (address pages : ℕ) → AllFree guest_pages address pages → AllInUse (without free address pages) address pages
+AllInUse-without free address pages all k h =
+    let page = address + page_size * k in
+    let within : is_within address pages page ≡ true =
+    and_from _ _ (le-leb address page (omega arith)) (lt-ltb page (address + page_size * pages) (omega arith)) in (
+      all k h,
+      λ there.
+          both_ways (not (is_within address pages page)) (ap not within)
+          (All-contains (λ p. not (is_within address pages p) ≡ true) (without free address pages) page
+          (filter_passes (λ p. not (is_within address pages p)) free) there),
+    )
 
 -- so many pages from an address on are those from a place on
 abbrev pub IsPlaceOf : ℕ → ℕ → ℕ → Type 0
@@ -217,9 +237,9 @@ each_page : (P : ℕ → Type 0) (address pages start : ℕ) → IsPlaceOf addre
 each_page P address pages start place outside inside = all_guest P (λ k small. ⊎_elim
     (λ (before : k < start). outside k small (within_before address pages start k place before) (inl before))
     (λ (low : start ≤ k). ⊎_elim
-        (λ (high : k < start + pages). inside k small (within_range address pages start k place low high) low high)
-        (λ (behind : start + pages ≤ k). outside k small (within_behind address pages start k place behind) (inr behind))
-        (cases_lt k (start + pages)))
+    (λ (high : k < start + pages). inside k small (within_range address pages start k place low high) low high)
+    (λ (behind : start + pages ≤ k). outside k small (within_behind address pages start k place behind) (inr behind))
+    (cases_lt k (start + pages)))
     (cases_lt k start))
 
 unchanged : (old new : List Bool) (start pages : ℕ) (value : Bool) → MarksAs old start pages value new →
@@ -232,13 +252,13 @@ pub marked_pages-without : (old new : List Bool) (address pages start : ℕ) →
     MarksAs old start pages false new → marked_pages new ≡ without (marked_pages old) address pages
 marked_pages-without old new address pages start place marks =
     filter_agree_on (is_marked new) (λ p. is_marked old p && not (is_within address pages p)) guest_pages
-        (each_page (λ p. is_marked new p ≡ (is_marked old p && not (is_within address pages p))) address pages start place
-            (λ k small out where'.
-                unchanged old new start pages false marks k where' ∙ sym (and-true (is_marked old (page_at k)))
-                ∙ ap (λ b. is_marked old (page_at k) && not b) (sym out))
-            (λ k small in' low high.
-                is_marked_at new k ∙ marks.inside k low high
-                ∙ sym (and_right (is_marked old (page_at k)) (not (is_within address pages (page_at k))) (ap not in'))))
+    (each_page (λ p. is_marked new p ≡ (is_marked old p && not (is_within address pages p))) address pages start place
+    (λ k small out where'.
+    unchanged old new start pages false marks k where' ∙ sym (and-true (is_marked old (page_at k)))
+    ∙ ap (λ b. is_marked old (page_at k) && not b) (sym out))
+    (λ k small in' low high.
+    is_marked_at new k ∙ marks.inside k low high
+    ∙ sym (and_right (is_marked old (page_at k)) (not (is_within address pages (page_at k))) (ap not in'))))
     ∙ sym (filter-filter (λ p. not (is_within address pages p)) (is_marked old) guest_pages)
 
 -- a page is listed as free exactly where it is marked
@@ -246,9 +266,9 @@ listed_at : (marks : List Bool) (k : ℕ) → k < 2047 → list_any (nat_eq (pag
 listed_at marks k small =
     let there = guest_page k small in
     let listed : list_any (nat_eq (page_at k)) guest_pages ≡ true =
-        list_any_at (nat_eq (page_at k)) guest_pages there.0 (page_at k) there.1 (eq-eqb (page_at k) _ (sym there.2)) in
+    list_any_at (nat_eq (page_at k)) guest_pages there.0 (page_at k) there.1 (eq-eqb (page_at k) _ (sym there.2)) in
     any-filter_same (nat_eq (page_at k)) (is_marked marks) (is_marked marks (page_at k))
-        (λ p e. ap (is_marked marks) (sym (eqb-true (page_at k) p e))) guest_pages
+    (λ p e. ap (is_marked marks) (sym (eqb-true (page_at k) p e))) guest_pages
     ∙ ap (λ b. is_marked marks (page_at k) && b) listed
     ∙ and-true (is_marked marks (page_at k))
 
@@ -258,10 +278,19 @@ pub marked_pages-together_with : (old new : List Bool) (address pages start : �
 marked_pages-together_with old new address pages start place marks =
     let listed : ℕ → Bool = λ p. list_any (nat_eq p) (marked_pages old) in
     filter_agree_on (is_marked new) (λ p. listed p || is_within address pages p) guest_pages
-        (each_page (λ p. is_marked new p ≡ (listed p || is_within address pages p)) address pages start place
-            (λ k small out where'.
-                unchanged old new start pages true marks k where' ∙ sym (listed_at old k small)
-                ∙ sym (or-false (listed (page_at k))) ∙ ap (λ b. listed (page_at k) || b) (sym out))
-            (λ k small in' low high.
-                is_marked_at new k ∙ marks.inside k low high
-                ∙ sym (or_right (listed (page_at k)) (is_within address pages (page_at k)) in')))
+    (each_page (λ p. is_marked new p ≡ (listed p || is_within address pages p)) address pages start place
+    (λ k small out where'.
+    unchanged old new start pages true marks k where' ∙ sym (listed_at old k small)
+    ∙ sym (or-false (listed (page_at k))) ∙ ap (λ b. listed (page_at k) || b) (sym out))
+    (λ k small in' low high.
+    is_marked_at new k ∙ marks.inside k low high
+    ∙ sym (or_right (listed (page_at k)) (is_within address pages (page_at k)) in')))
+
+-- where a range of marks was set and is cleared, its pages are in use
+pub AllInUse-cleared : (old new : List Bool) (address pages start : ℕ) → IsPlaceOf address pages start → start + pages ≤ 2047 →
+    AllMarked old start pages → MarksAs old start pages false new → AllInUse (marked_pages new) address pages
+AllInUse-cleared old new address pages start place short marked marks =
+    subst (λ (free : List ℕ). AllInUse free address pages)
+    (sym (marked_pages-without old new address pages start place marks))
+    (AllInUse-without (marked_pages old) address pages
+    (AllFree-guest old address pages (AllFree-marked old address pages start place short marked)))

@@ -27,6 +27,12 @@ abbrev pub AllInUse : List ℕ → ℕ → ℕ → Type 0
 AllInUse free address pages =
     (k : ℕ) → k < pages → Contains guest_pages (address + page_size * k) × ¬ (Contains free (address + page_size * k))
 
+-- so many pages from an address on lie in guest memory, before the linker's own
+pub record IsGuestRange (address pages : ℕ) : Type 0 where
+  pub aligned : address % page_size ≡ 0
+  pub low : page_at 0 ≤ address
+  pub high : address + page_size * pages ≤ page_at 2047
+
 -- so many pages may be given away at this address, which has to be a multiple of align
 pub record Fits (free : List ℕ) (pages align address : ℕ) : Type 0 where
   pub aligned : address % align ≡ 0

@@ -1,7 +1,7 @@
 //! The free pages.
 
 ghost use Rattle.std.specs.Prelude.{◌≡◌, ℕ, ◌+◌, ◌*◌, ◌/◌, ◌<◌, ◌≤◌, Bool, length, IsSome, IfSome, IfNone, IfOk, IfErr, OnOk, OnErr, IsTrue, ◌↔◌};
-ghost use Rattle.address_space.specs.Pages.{AllFree, AllInUse, Fits, IsFirstFit, guest_pages, page_at, together_with, without};
+ghost use Rattle.address_space.specs.Pages.{AllFree, AllInUse, Fits, IsFirstFit, IsGuestRange, guest_pages, page_at, together_with, without};
 ghost use Rattle.address_space.specs.Marks.{AllMarked, FitsAt, MarksAs, marked_pages};
 
 use std::marker::Model;
@@ -54,6 +54,8 @@ impl Regions {
         requires align { 0 < align }
         ensures fit { IfOk result (IsFirstFit self.old pages align) }
         ensures taken { IfOk result (λ address. self.new ≡ without self.old address pages) }
+        ensures in_use { IfOk result (λ address. AllInUse self.new address pages) }
+        ensures inside { IfOk result (λ address. IsGuestRange address pages) }
         ensures full { OnErr result ((address : ℕ) → ¬ (Fits self.old pages align address)) }
         ensures asked { IfErr result (λ e. e.0 ≡ pages) }
         ensures err { OnErr result (self.new ≡ self.old) }
@@ -69,6 +71,8 @@ impl Regions {
     pub fn reserve_at(&mut self, address: u64, pages: u64) -> Result<(), NoRoom>
         ensures free { OnOk result (AllFree self.old address pages) }
         ensures taken { OnOk result (self.new ≡ without self.old address pages) }
+        ensures in_use { OnOk result (AllInUse self.new address pages) }
+        ensures inside { OnOk result (0 < pages → IsGuestRange address pages) }
         ensures full { OnErr result (¬ (AllFree self.old address pages)) }
         ensures asked { IfErr result (λ e. e.0 ≡ pages) }
         ensures err { OnErr result (self.new ≡ self.old) }
@@ -97,8 +101,8 @@ impl Regions {
     }
 }
 
-/// The place of the page at an address, where it and the pages behind it, so many in all, may be
-/// given away. No pages are anywhere.
+/// The place of the page at an address, where it and those behind it, so many in all, may be given
+/// away. No pages have their place anywhere.
 fn place_of(address: u64, pages: u64) -> Option<usize>
     ensures place { IfSome result (λ start. 0 < pages → address ≡ page_at start) }
     ensures within { IfSome result (λ start. start + pages ≤ PAGES) }
@@ -118,8 +122,7 @@ fn place_of(address: u64, pages: u64) -> Option<usize>
     }
 }
 
-/// The place of the page at an address, where it and the pages behind it, so many in all, are
-/// marked.
+/// The place of the page at an address, where it and those behind it, so many in all, are marked.
 fn free_place(marks: &[bool], address: u64, pages: u64) -> Option<usize>
     requires { length marks.now ≡ PAGES }
     ensures place { IfSome result (λ start. 0 < pages → address ≡ page_at start) }

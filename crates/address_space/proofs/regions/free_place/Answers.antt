@@ -9,4 +9,4 @@ returns-in_default-clause-none c = λ free.
 pub returns-else-all_marked-clause-none : goal.returns-else-all_marked-clause-none
 returns-else-all_marked-clause-none c = λ free.
     false≢true (c.if-all_marked.ensures.1
-        (AllMarked-free c.args.marks.now c.args.address c.args.pages c.in-Some.start c.in-Some.ensures.place free))
+    (AllMarked-free c.args.marks.now c.args.address c.args.pages c.in-Some.start c.in-Some.ensures.place free))

@@ -13,4 +13,4 @@ pub returns : goal.returns
 returns c =
     let place = rw c.unwrap-start.ensures at c.place_of.ensures.place in
     rw (← c.self.view_is)
-        (marked_pages-together_with c.self.inside.free c.mark.new.marks c.args.address c.args.pages c.unwrap-start.result place c.mark.ensures)
+    (marked_pages-together_with c.self.inside.free c.mark.new.marks c.args.address c.args.pages c.unwrap-start.result place c.mark.ensures)
