@@ -24,8 +24,8 @@ AllFree free address pages = (k : ℕ) → k < pages → Contains free (address 
 
 -- so many pages from an address on are all in use, though they may be given away
 abbrev pub AllInUse : List ℕ → ℕ → ℕ → Type 0
-AllInUse free address pages =
-    (k : ℕ) → k < pages → Contains guest_pages (address + page_size * k) × ¬ (Contains free (address + page_size * k))
+AllInUse free address pages = (k : ℕ) → k < pages →
+    Contains guest_pages (address + page_size * k) × ¬ (Contains free (address + page_size * k))
 
 -- so many pages from an address on lie in guest memory, before the linker's own
 pub record IsGuestRange (address pages : ℕ) : Type 0 where

@@ -1,6 +1,6 @@
 //! The free pages.
 
-ghost use Rattle.std.specs.Prelude.{◌≡◌, ℕ, ◌+◌, ◌*◌, ◌/◌, ◌<◌, ◌≤◌, Bool, length, IsSome, IfSome, IfNone, IfOk, IfErr, OnOk, OnErr, IsTrue, ◌↔◌};
+ghost use Rattle.std.specs.Prelude.{◌≡◌, ◌↔◌, ℕ, ◌+◌, ◌<◌, ◌≤◌, length, IsTrue, IfSome, IfNone, IfOk, IfErr, OnOk, OnErr};
 ghost use Rattle.address_space.specs.Pages.{AllFree, AllInUse, Fits, IsFirstFit, IsGuestRange, guest_pages, page_at, together_with, without};
 ghost use Rattle.address_space.specs.Marks.{AllMarked, FitsAt, MarksAs, marked_pages};
 
@@ -47,8 +47,8 @@ impl Regions {
         }
     }
 
-    /// Gives away so many pages at the least address that has room for them and is a multiple of
-    /// `align`, which is a power of two and at least a page.
+    /// Gives away so many pages at the least address that is a multiple of `align` and has room for
+    /// them. The error keeps the number of pages.
     pub fn reserve(&mut self, pages: u64, align: u64) -> Result<u64, NoRoom>
         requires some { 0 < pages }
         requires align { 0 < align }
@@ -67,7 +67,8 @@ impl Regions {
         Ok(page_address(start))
     }
 
-    /// Gives away so many pages from an address on.
+    /// Gives away so many pages from an address on, which have to be free. The error keeps the
+    /// number of pages.
     pub fn reserve_at(&mut self, address: u64, pages: u64) -> Result<(), NoRoom>
         ensures free { OnOk result (AllFree self.old address pages) }
         ensures taken { OnOk result (self.new ≡ without self.old address pages) }
