@@ -17,3 +17,6 @@ pub use choosing::{choose, choose_reloc, want_of};
 pub use linker_object::linker_symbol;
 pub use namespace::{Namespace, OpenRec, Opens};
 pub use scoping::scope;
+
+#[cfg(test)]
+mod tests;
