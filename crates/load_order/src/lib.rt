@@ -3,6 +3,8 @@
 
 mod ask;
 mod finding;
+mod plan;
 mod progress;
 
 pub use ask::{LoadAsk, LoadFault, LoadPlan};
+pub use plan::plan_load;
