@@ -3,6 +3,7 @@
 
 mod ask;
 mod finding;
+mod ordering;
 mod progress;
 
 pub use ask::{LoadAsk, LoadFault, LoadPlan};
