@@ -1,6 +1,8 @@
 pub mod Find
 pub mod Hearing
+pub mod Longer
 pub mod Next
+pub mod Noting
 pub mod Reading
 pub mod Searching
 pub mod Taking

@@ -2,12 +2,12 @@
 use Rattle.std.proofs.Common.{◌≡◌, ◌<◌, ◌≤◌, ◌+◌, ℕ, suc, List, [], ◌∷◌, ◌++◌, length, get_or, drop, drop-cons, add-one, Option, Some, None, Result, Ok, Err, refl, sym, ap, subst, ◌∙◌, arith, append_assoc, append-nil}
 use Rattle.ld_base.specs.declared.linking.Loaded.{Loaded}
 use Rattle.scope_rule.specs.Finding.{Reading}
-use Rattle.scope_rule.specs.Order.{Load, Stop, refuses, waits, take_name, take_names, ◌>>=◌}
+use Rattle.scope_rule.specs.Order.{Load, Stop, Brings, Stops, refuses, waits, take_name, take_names, turn_of, added_after, ◌>>=◌}
 use Rattle.load_order.specs.declared.ask.LoadAsk.{LoadAsk}
 use Rattle.load_order.specs.declared.ask.LoadFault.{LoadFault}
 use Rattle.load_order.specs.declared.ask.LoadFault.TheVariants as faults
 use Rattle.load_order.specs.declared.progress.Progress.{Progress}
-use Rattle.load_order.specs.Answer.{Answers, Ends}
+use Rattle.load_order.specs.Answer.{Answers, Ends, StopsFor}
 use Rattle.load_order.specs.Heard.{Heard, HeardAt, Learns, fault_in}
 use Rattle.load_order.specs.Part.{Source}
 use Rattle.load_order.proofs.Hearing.{learns_then}
@@ -41,7 +41,7 @@ names_next : (load : Load) (added new : List Loaded) (name : List ℕ) (serial :
     → after found (take_names load added (name ∷ more)) ≡ after (found ++ serial ∷ []) (take_names load new more)
 names_next load added new name serial more found e = rw e (after_one found serial (take_names load new more))
 
-names_end : {A B : Type 0} (load : Load) (fault : LoadFault) (first : Result A Stop) (f : A → Result B Stop) → Ends fault first → Ends fault (first >>= f)
+pub names_end : {A B : Type 0} (load : Load) (fault : LoadFault) (first : Result A Stop) (f : A → Result B Stop) → Ends fault first → Ends fault (first >>= f)
 names_end load (faults.Refused fault) first f e = rw e refl
 names_end load (faults.Wait shown) first f e = rw e refl
 names_end load faults.Memory first f e = tt
@@ -87,3 +87,27 @@ pub named_end : {ask : LoadAsk} {load : (List ℕ → Reading) → Load} {s0 s1 
     → take_names (load reading) p0.added whole ≡ Ok (p1.added, found)
 named_end {ask} {load} {s0} {s1} {p0} {p1} {whole} {found} i le named reading heard =
     rw (named.comes reading heard, drop_none whole i le, append-nil) refl
+
+-- ---- turns
+
+-- a load part way: its new objects after so many turns
+pub record Turned (ask : LoadAsk) (load : (List ℕ → Reading) → Load) (before : Source) (old : Progress) (now : Source) (new : Progress) (turns : ℕ) : Type 0 where
+  pub learns : Learns ask before old now new None
+  pub come : (reading : List ℕ → Reading) → Heard reading new → added_after (load reading) turns ≡ Ok new.added
+
+pub turned_step : {ask : LoadAsk} {load : (List ℕ → Reading) → Load} {s0 s1 s2 : Source} {p0 p1 p2 : Progress} (turns : ℕ) → Turned ask load s0 p0 s1 p1 turns → Learns ask s1 p1 s2 p2 None
+    → ((reading : List ℕ → Reading) → Heard reading p2 → turn_of (load reading) turns p1.added ≡ Ok p2.added) → Turned ask load s0 p0 s2 p2 (turns + 1)
+unfolding added_after
+turned_step {ask} {load} {s0} {s1} {s2} {p0} {p1} {p2} turns turned learns gives = record {
+  learns = learns_then ask s0 p0 s1 p1 s2 p2 None turned.learns learns;
+  come = λ reading heard. rw (add-one, turned.come reading (learns.stands reading heard)) (gives reading heard);
+}
+
+after_stop : (load : Load) (turns : ℕ) (added : List Loaded) (stop : Stop) → added_after load turns ≡ Ok added → turn_of load turns added ≡ Err stop → Stops load stop
+unfolding added_after
+after_stop load turns added stop come stops = record { turns = suc turns; is = rw come stops }
+
+pub turned_stop : (load : Load) (turns : ℕ) (added : List Loaded) (fault : LoadFault) → added_after load turns ≡ Ok added → Ends fault (turn_of load turns added) → StopsFor load fault
+turned_stop load turns added (faults.Refused fault) come ends = after_stop load turns added (refuses fault) come ends
+turned_stop load turns added (faults.Wait shown) come ends = after_stop load turns added (waits shown) come ends
+turned_stop load turns added faults.Memory come ends = tt
