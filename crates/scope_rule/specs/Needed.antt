@@ -3,6 +3,7 @@ use Rattle.std.specs.Prelude.{ℕ, ◌+◌, ◌/◌, ◌%◌, ◌-◌, Bool, tru
 use Rattle.std.specs.List.{slice_get, list_any}
 use Rattle.std.specs.Str.{bytes_eq}
 use Rattle.ld_base.specs.Version.{is_base}
+use Rattle.scope_rule.specs.Loading.{with_serial}
 use Rattle.ld_base.specs.declared.fault.DlFault.{DlFault}
 use Rattle.ld_base.specs.declared.fault.DlFault.TheVariants as faults
 use Rattle.ld_base.specs.declared.linking.Loaded.{Loaded}
@@ -28,7 +29,7 @@ provider o file = elim (position (λ name. bytes_eq name file) o.object.needed) 
 abbrev pub lacks_version : List Loaded → Loaded → Verneed → Bool
 lacks_version objects o v =
     not (is_weak_need v) && elim (provider o v.file) [
-      Some serial ↦ elim (find (λ d. d.serial == serial) objects) [ Some d ↦ not (defines_version d.object v.name) | None ↦ false ]
+      Some serial ↦ elim (with_serial objects serial) [ Some d ↦ not (defines_version d.object v.name) | None ↦ false ]
     | None ↦ false
     ]
 
