@@ -107,3 +107,34 @@ fn of_objects(alloc: Global, ns: &Namespace, now: bool) -> Result<Answer, AllocE
         }),
     }
 }
+
+/// Loads the program with all that it needs, and gives the definition of each slot, or the one
+/// refusal that stops it.
+pub(crate) fn bind<L: Library>(
+    alloc: Global,
+    command: Bind,
+    library: &mut L,
+) -> Result<Answer, AllocError>
+    ensures source { SourceStays (source_of L.files L.faults L.misses library.old) (source_of L.files L.faults L.misses library.new) }
+    ensures ends { IfOk result (λ answer. BindEndsOver (source_of L.files L.faults L.misses library.old) command answer.cause (string_bytes answer.text)) }
+    ensures counts { IfOk result (λ answer. Counted command (source_of L.files L.faults L.misses library.old) (source_of L.files L.faults L.misses library.new) answer.cause) }
+{
+    one_object();
+    let now = command.now;
+    let ask = ask_of(alloc, command);
+    let ns = nothing_loaded(alloc);
+    match plan_load(alloc, &ns, &ask, library) {
+        Err(LoadFault::Memory) => Err(AllocError),
+        Err(LoadFault::Refused(fault)) => refused(alloc, fault),
+        Err(LoadFault::Wait(_)) => unreachable!(),
+        Ok(plan) => {
+            let LoadPlan {
+                root: _,
+                added,
+                breadth,
+            } = plan;
+            let ns = namespace_of(alloc, added, breadth)?;
+            of_objects(alloc, &ns, now)
+        }
+    }
+}

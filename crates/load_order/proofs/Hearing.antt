@@ -195,6 +195,7 @@ learns_then ask s0 p0 s1 p1 s2 p2 fault first second = record {
   files = second.files ∙ first.files;
   faults = omega (arith, first.faults, second.faults);
   misses = omega (arith, first.misses, second.misses);
+  grows = omega (arith, first.grows, second.grows);
   missed = missed_then p0.missed p1.missed p2.missed s0.misses s1.misses s2.misses first.misses second.misses first.missed second.missed;
   stands = λ reading heard. first.stands reading (second.stands reading heard);
   over = λ over. second.over (first.over over);

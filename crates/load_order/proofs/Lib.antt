@@ -1,5 +1,9 @@
 pub mod Find
 pub mod Hearing
+pub mod Longer
+pub mod Next
+pub mod Noting
 pub mod Reading
 pub mod Searching
 pub mod Taking
+pub mod Turning

@@ -1,5 +1,5 @@
 -- One read of a load.
-use Rattle.std.proofs.Common.{◌≡◌, ◌≢◌, ◌≤◌, ◌+◌, ◌⊎◌, inl, inr, ℕ, Bool, true, false, List, [], ◌∷◌, ◌++◌, length, Option, Some, None, Result, Ok, Err, refl, sym, ap, subst, ◌∙◌, arith, rules}
+use Rattle.std.proofs.Common.{◌≡◌, ◌≢◌, ◌≤◌, ◌+◌, ◌⊎◌, inl, inr, ℕ, Bool, true, false, List, [], ◌∷◌, ◌++◌, length, length-append, Option, Some, None, Result, Ok, Err, refl, sym, ap, subst, ◌∙◌, arith, rules}
 use Rattle.std.specs.Prelude.{MatchOption, OnErr, IfSome}
 use Rattle.std.specs.Result.{IsErrOf}
 use Rattle.std.specs.Global.{Vec}
@@ -45,6 +45,12 @@ pub record IsNew (progress : Progress) (p : List ℕ) : Type 0 where
 files_stay : (before after : Source) (files : List File) → after.files ≡ before.files → AreFiles before files → AreFiles after files
 files_stay before after files e are = subst (λ (told : Option (List File)). MatchOption told (Unit {0}) (λ all. files ≡ all)) (sym e) are
 
+same_length : (old new : List Loaded) → new ≡ old → length old ≤ length new
+same_length old new e = rw e (omega arith)
+
+one_longer : (old new : List Loaded) (x : Loaded) → new ≡ old ++ x ∷ [] → length old ≤ length new
+one_longer old new x e = rw e (omega (arith, length-append {A = Loaded}))
+
 -- ---- no file
 
 pub learns_miss : (ask : LoadAsk) (before after : Source) (old new : Progress) (p : List ℕ) → Stays before after → Rises before.misses after.misses → TellsAt before p None → IsNew old p
@@ -54,6 +60,7 @@ learns_miss ask before after old new p stays rises tells is_new added missed = r
   files = stays.files;
   faults = stays.faults;
   misses = stays.misses;
+  grows = same_length old.added new.added added;
   missed = inr rises;
   stands = λ reading heard. (miss_heard reading old new p added missed heard).0;
   over = λ over.
@@ -83,6 +90,7 @@ learns_failed ask before after old p stays rises is_new = record {
   files = stays.files;
   faults = stays.faults;
   misses = stays.misses;
+  grows = omega arith;
   missed = inl refl;
   stands = λ reading heard. heard;
   over = λ over. record {
@@ -102,6 +110,7 @@ learns_nothing ask before after old new stays added missed = record {
   files = stays.files;
   faults = stays.faults;
   misses = stays.misses;
+  grows = same_length old.added new.added added;
   missed = inl missed;
   stands = λ reading heard. record { objects = rw (← added) heard.objects; missed = rw (← missed) heard.missed };
   over = λ over. record {
@@ -120,6 +129,7 @@ learns_object ask before after old new p bytes x stays tells is_new path verdict
   files = stays.files;
   faults = stays.faults;
   misses = stays.misses;
+  grows = one_longer old.added new.added x added;
   missed = inl missed;
   stands = λ reading heard. (object_heard reading old new x added missed heard).0;
   over = λ over.
@@ -140,6 +150,7 @@ learns_refused ask before after old new p bytes broken stays tells is_new verdic
   files = stays.files;
   faults = stays.faults;
   misses = stays.misses;
+  grows = same_length old.added new.added added;
   missed = inl missed;
   stands = λ reading heard. record { objects = rw (← added) heard.objects; missed = rw (← missed) heard.missed };
   over = λ over.

@@ -1,6 +1,5 @@
 -- A name searched in one folder after another.
 use Rattle.std.proofs.Common.{◌≡◌, ◌≢◌, ◌<◌, ◌≤◌, ℕ, suc, List, [], ◌∷◌, ◌++◌, ◌+◌, length, get_or, drop, drop-cons, add-one, Option, Some, None, Result, Ok, Err, refl, sym, ap, subst, ◌∙◌, arith}
-use Rattle.std.proofs.lemmas.Grind.{common_steps}
 use Rattle.ld_base.specs.declared.fault.DlFault.{DlFault}
 use Rattle.ld_base.specs.declared.linking.Loaded.{Loaded}
 use Rattle.scope_rule.specs.Finding.{Reading, Found, linker, known, fresh, nowhere, unreadable, refused, in_folders, find_path, find_paths, or_else}
@@ -13,6 +12,7 @@ use Rattle.load_order.specs.Answer.{Answers, Ends}
 use Rattle.load_order.specs.Heard.{Heard, HeardAt, Learns, fault_in}
 use Rattle.load_order.specs.Part.{Source}
 use Rattle.load_order.proofs.Hearing.{learns_then}
+use Rattle.load_order.proofs.Next.{IsNext, drop_next, drop_none}
 use Rattle.load_order.proofs.Reading.{added_is, serial_is}
 
 -- what a search comes to, and what the rest of it comes to
@@ -39,9 +39,6 @@ used_leads added new (Err stop) e = absurd cc
 
 some_none : (n : ℕ) → Some n ≡ None → ⊥
 some_none n e = absurd cc
-
-drop_next : {X : Type 0} (xs : List X) (i : ℕ) (x : X) → i < length xs → x ≡ get_or xs i x → drop i xs ≡ x ∷ drop (i + 1) xs
-drop_next xs i x lt e = rw add-one (drop-cons xs i x lt ∙ ap (λ y. y ∷ drop (suc i) xs) (sym e))
 
 -- only what leads nowhere gives no serial
 nowhere_gives : (load : Load) (added new : List Loaded) (found : Found) → take_found load added found ≡ Ok (new, None) → (found ≡ nowhere) × (new ≡ added)
@@ -119,16 +116,11 @@ in_each there folders name added = λ reading. find_paths reading (there ++ adde
 abbrev pub in_one : List Loaded → List ℕ → List ℕ → List Loaded → Search
 in_one there folder name added = λ reading. find_path reading (there ++ added) ((folder ++ 47 ∷ []) ++ name)
 
--- the folder that comes next
-pub record IsNext (folders : List (List ℕ)) (i : ℕ) (folder : List ℕ) : Type 0 where
-  pub within : i < length folders
-  pub at : folder ≡ get_or folders i folder
-
 past_next : {ask : LoadAsk} {s0 s1 : Source} {p0 p1 : Progress} {whole : Search} (there : List Loaded) (folders : List (List ℕ)) (name : List ℕ) (i : ℕ) (folder : List ℕ)
     → IsNext folders i folder → Past ask s0 p0 s1 p1 whole (in_each there (drop i folders) name p0.added)
     → Past ask s0 p0 s1 p1 whole (λ reading. or_else (in_one there folder name p0.added reading) (in_each there (drop (i + 1) folders) name p0.added reading))
 past_next {ask} {s0} {s1} {p0} {p1} {whole} there folders name i folder next past =
-    subst (λ (rest : List (List ℕ)). Past ask s0 p0 s1 p1 whole (in_each there rest name p0.added)) (drop_next folders i folder next.within next.at) past
+    subst (λ (rest : List (List ℕ)). Past ask s0 p0 s1 p1 whole (in_each there rest name p0.added)) (drop_next folders i folder next) past
 
 pub folder_missed : {ask : LoadAsk} {s0 s1 s2 : Source} {p0 p1 p2 : Progress} {whole : Search} (load : (List ℕ → Reading) → Load) (there : List Loaded) (folders : List (List ℕ)) (name : List ℕ) (i : ℕ) (folder : List ℕ)
     → IsNext folders i folder → Past ask s0 p0 s1 p1 whole (in_each there (drop i folders) name p0.added) → Learns ask s1 p1 s2 p2 None
@@ -143,9 +135,6 @@ pub folder_found : {ask : LoadAsk} {s0 s1 : Source} {p0 p1 : Progress} {whole : 
     → Answers (λ serial. (new, serial)) r (take_found load p0.added (whole reading))
 folder_found {ask} {s0} {s1} {p0} {p1} {whole} load new there folders name i folder r some next past reading heard answers =
     past_found (in_each there (drop (i + 1) folders) name p0.added) load new (in_one there folder name) r some (past_next there folders name i folder next past) reading heard answers
-
-drop_none : {X : Type 0} (xs : List X) (i : ℕ) → length xs ≤ i → drop i xs ≡ []
-drop_none xs i le = grind (arith, common_steps)
 
 pub folders_end : {ask : LoadAsk} {s0 s1 : Source} {p0 p1 : Progress} {whole : Search} (load : Load) (there : List Loaded) (folders : List (List ℕ)) (name : List ℕ) (i : ℕ)
     → length folders ≤ i → Past ask s0 p0 s1 p1 whole (in_each there (drop i folders) name p0.added) → (reading : List ℕ → Reading) → Heard reading p1

@@ -43,6 +43,7 @@ learns_quiet ask s p fault quiet = record {
   files = refl;
   faults = omega arith;
   misses = omega arith;
+  grows = omega arith;
   missed = inl refl;
   stands = λ reading heard. heard;
   over = λ over. quiet_over ask s p fault quiet over;

@@ -1,5 +1,5 @@
 -- What a load has heard of its library so far.
-use Rattle.std.specs.Prelude.{◌≡◌, ◌≢◌, ◌≤◌, ◌⊎◌, ℕ, Bool, List, [], ◌∷◌, Option, Some, None, Result, Ok, Err, MatchOption, if◌then◌else◌}
+use Rattle.std.specs.Prelude.{◌≡◌, ◌≢◌, ◌≤◌, ◌⊎◌, ℕ, Bool, List, [], ◌∷◌, length, Option, Some, None, Result, Ok, Err, MatchOption, if◌then◌else◌}
 use Rattle.std.specs.List.{AllByRecursion}
 use Rattle.std.specs.Str.{bytes_eq}
 use Rattle.ld_base.specs.declared.fault.DlFault.{DlFault}
@@ -55,12 +55,13 @@ abbrev pub Counted : Source → Source → Option LoadFault → Type 0
 Counted before after (Some (faults.Refused (dl.ReadFault path))) = Rises before.faults after.faults
 Counted before after _ = Unit {0}
 
--- what a part of a load leaves: the source's files stay and its counts never fall, what was heard before still
--- stands, a path is missed only where the source missed it, and what was heard is what some files give
+-- what a part of a load leaves: the source's files stay and its counts never fall, no new object goes, what was heard
+-- before still stands, a path is missed only where the source missed it, and what was heard is what some files give
 pub record Learns (ask : LoadAsk) (before : Source) (old : Progress) (after : Source) (new : Progress) (fault : Option LoadFault) : Type 0 where
   pub files : after.files ≡ before.files
   pub faults : before.faults ≤ after.faults
   pub misses : before.misses ≤ after.misses
+  pub grows : length old.added ≤ length new.added
   pub missed : (new.missed ≡ old.missed) ⊎ Rises before.misses after.misses
   pub stands : (reading : List ℕ → Reading) → Heard reading new → Heard reading old
   pub over : HeardOver ask before old None → HeardOver ask after new fault

@@ -210,7 +210,7 @@ fn take_known(
 }
 
 /// The serial of the object at a path: one that is there, or else a new one.
-fn take_path<L: Library>(
+pub(crate) fn take_path<L: Library>(
     alloc: Global,
     ns: &Namespace,
     ask: &LoadAsk,
@@ -334,7 +334,7 @@ fn take_needed<L: Library>(
 }
 
 /// A name that leads nowhere stops the load.
-fn must_lead(alloc: Global, name: &[u8], found: Option<Serial>) -> Result<Serial, LoadFault>
+pub(crate) fn must_lead(alloc: Global, name: &[u8], found: Option<Serial>) -> Result<Serial, LoadFault>
     ensures gives { (added : List Loaded) → Answers (λ serial. (added, serial)) result (must_lead name.now (added, found)) }
     ensures quiet { IsQuiet (fault_in result) }
 {
@@ -355,12 +355,13 @@ pub(crate) fn take_name<L: Library>(
     ask: &LoadAsk,
     library: &mut L,
     progress: &mut Progress,
-    name: &[u8],
+    name: &Name,
 ) -> Result<Serial, LoadFault>
     ensures learns { Learns ask.now (source_of L.files L.faults L.misses library.old) progress.old (source_of L.files L.faults L.misses library.new) progress.new (fault_in result) }
     ensures gives { (reading : List ℕ → Reading) → Heard reading progress.new → HeardAt reading (fault_in result) →
         Answers (λ serial. (progress.new.added, serial)) result (take_name (load_of ask.now ns.now reading) progress.old.added name.now) }
 {
+    let name = name.as_bytes();
     let found = take_needed(alloc, ns, ask, library, progress, name)?;
     must_lead(alloc, name, found)
 }

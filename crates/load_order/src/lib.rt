@@ -3,6 +3,7 @@
 
 mod ask;
 mod finding;
+mod ordering;
 mod plan;
 mod progress;
 

@@ -95,10 +95,13 @@ turn_of load index added =
       | None ↦ Ok added
     ]
 
--- the root: a program's name is a path; another's is found as dlopen finds it
+-- what the name that is asked for leads to: a program's is a path; another's is found as dlopen finds it
+abbrev pub find_root : Load → Found
+find_root load = if load.program then find_path load.reading load.there load.name else find_opened load.reading load.there load.folders load.name
+
+-- the root, with the new objects so far
 unfoldable pub root_of : Load → Result (List Loaded × ℕ) Stop
-root_of load =
-    take_found load [] (if load.program then find_path load.reading load.there load.name else find_opened load.reading load.there load.folders load.name) >>= must_lead load.name
+root_of load = take_found load [] (find_root load) >>= must_lead load.name
 
 -- the new objects after so many turns, one turn an object, in the order in which they came
 unfoldable pub added_after : Load → ℕ → Result (List Loaded) Stop
