@@ -4,21 +4,16 @@ use Rattle.ld_base.specs.declared.fault.DlFault.{DlFault}
 use Rattle.ld_base.specs.declared.linking.File.{File}
 use Rattle.ld_base.specs.declared.linking.Loaded.{Loaded}
 use Rattle.scope_rule.specs.Breadth.{breadth}
-use Rattle.scope_rule.specs.Needed.{missing_version}
-use Rattle.scope_rule.specs.Order.{Load, Brings, Stops, refuses}
+use Rattle.scope_rule.specs.Order.{Brings}
 use Rattle.scope_rule.specs.declared.namespace.Namespace.{Namespace}
-use Rattle.load_order.specs.Files.{reading_of}
-use Rattle.load_order.specs.Heard.{AreFiles, reading_until}
-use Rattle.load_order.specs.Part.{Source, load_of}
+use Rattle.load_order.specs.Plan.{load_over, version_fault, IsRefused}
 use Rattle.load_order.specs.declared.ask.LoadAsk.{LoadAsk}
-use Rattle.load_order.specs.declared.ask.LoadFault.TheVariants as faults
 use Rattle.ldso_cli.specs.declared.outcome.Cause.{Cause}
 use Rattle.ldso_cli.specs.declared.outcome.Cause.TheVariants as causes
 use Rattle.ldso_cli.specs.declared.words.Bind.{Bind}
 use Rattle.ldso_cli.specs.Lines.{bound_text}
 use Rattle.ldso_cli.specs.Refusal.{first_refusal}
 use Rattle.ldso_cli.specs.Status.{refused_text, usage_text}
-use Rattle.ldso_cli.specs.Words.{reads}
 
 -- the program is asked for by hart 0, and is object 1
 abbrev pub ask_of : Bind → LoadAsk
@@ -36,17 +31,16 @@ ask_of bind = record {
 abbrev pub nothing_loaded : Namespace
 nothing_loaded = record { id = 0; objects = []; global = []; opens = [] }
 
--- the namespace of a program's objects: all that the program leads to is global, by its one opening
-abbrev pub program_namespace : List Loaded → List ℕ → Namespace
-program_namespace objects global = record { id = 0; objects = objects; global = global; opens = record { root = 1; count = 1 } ∷ [] }
+-- a program's objects, before anything of them is global
+abbrev pub unopened : List Loaded → Namespace
+unopened objects = record { id = 0; objects = objects; global = []; opens = [] }
+
+-- the namespace of a program's objects: its one opening makes all global that the program leads to
+abbrev pub opened : List Loaded → List ℕ → Namespace
+opened objects global = record { id = 0; objects = objects; global = global; opens = record { root = 1; count = 1 } ∷ [] }
 
 abbrev pub namespace_of : List Loaded → Namespace
-namespace_of objects = program_namespace objects (breadth (record { id = 0; objects = objects; global = []; opens = [] }) 1)
-
--- the load of a bind over files, up to the read that fails where its fault is one
-abbrev pub load_over : List File → Bind → Option DlFault → Load
-load_over files bind None = load_of (ask_of bind) nothing_loaded (reading_of files (ask_of bind))
-load_over files bind (Some fault) = load_of (ask_of bind) nothing_loaded (reading_until files (ask_of bind) (Some (faults.Refused fault)))
+namespace_of objects = opened objects (breadth (unopened objects) 1)
 
 -- the cause and the text of a namespace whose objects are all there: a reference is refused, or each slot has its line
 abbrev pub ObjectsEnd : Namespace → Bool → Cause → List ℕ → Type 0
@@ -56,36 +50,25 @@ ObjectsEnd ns now causes.Usage text = ⊥
 ObjectsEnd ns now causes.WriteFault text = ⊥
 ObjectsEnd ns now causes.Memory text = ⊥
 
--- the program and its libraries are all there, with the versions that they need, and no reference is refused
-pub record IsBound (files : List File) (bind : Bind) (objects : List Loaded) : Type 0 where
-  pub brings : Brings (load_over files bind None) objects
-  pub versions : missing_version objects objects ≡ None
-  pub references : first_refusal (namespace_of objects) bind.now objects ≡ None
+-- the program and all that it needs are there, with the versions that they need, and that is how they end
+pub record IsLoaded (bind : Bind) (cause : Cause) (text : List ℕ) (files : List File) : Type 0 where
+  pub objects : List Loaded
+  pub brings : Brings (load_over (ask_of bind) nothing_loaded files) objects
+  pub versions : version_fault nothing_loaded objects ≡ None
+  pub ends : ObjectsEnd (namespace_of objects) bind.now cause text
 
--- a needed version, or else a reference, is refused of objects that are all there
-pub record IsRefusedOf (files : List File) (bind : Bind) (fault : DlFault) (objects : List Loaded) : Type 0 where
-  pub brings : Brings (load_over files bind None) objects
-  pub is : (missing_version objects objects ≡ Some fault) ⊎ ((missing_version objects objects ≡ None) × (first_refusal (namespace_of objects) bind.now objects ≡ Some fault))
+-- something that they need isn't there
+pub record IsNotLoaded (bind : Bind) (cause : Cause) (text : List ℕ) (files : List File) : Type 0 where
+  pub fault : DlFault
+  pub is : IsRefused (ask_of bind) nothing_loaded fault files
+  pub cause_is : cause ≡ causes.Refused fault
+  pub text_is : text ≡ refused_text fault
 
--- bind is refused for this: its load stops, or what it brings is refused
-abbrev pub IsRefused : List File → Bind → DlFault → Type 0
-IsRefused files bind fault = Stops (load_over files bind (Some fault)) (refuses fault) ⊎ ((objects : List Loaded) × IsRefusedOf files bind fault objects)
+-- how bind ends over files, and what it writes
+abbrev pub BindEnds : Bind → Cause → List ℕ → List File → Type 0
+BindEnds bind cause text files = IsLoaded bind cause text files ⊎ IsNotLoaded bind cause text files
 
--- the cause with which bind ends over files, and what it writes
-abbrev pub BindEnds : List File → Bind → Cause → List ℕ → Type 0
-BindEnds files bind causes.Done text = (objects : List Loaded) × IsBound files bind objects × (text ≡ bound_text (namespace_of objects))
-BindEnds files bind (causes.Refused fault) text = IsRefused files bind fault × (text ≡ refused_text fault)
-BindEnds files bind causes.Usage text = ⊥
-BindEnds files bind causes.WriteFault text = ⊥
-BindEnds files bind causes.Memory text = ⊥
-
--- the cause with which the words end over files, and what is written: bind's, or usage where they are no command
-abbrev pub WordsEnd : List File → Option Bind → Cause → List ℕ → Type 0
-WordsEnd files None cause text = (cause ≡ causes.Usage) × (text ≡ usage_text)
-WordsEnd files (Some bind) cause text = BindEnds files bind cause text
-
--- the command's own cause and text: over the files that its library tells, or else over some files
-pub record Ends (source : Source) (words : List (List ℕ)) (cause : Cause) (text : List ℕ) : Type 0 where
-  pub files : List File
-  pub are : AreFiles source files
-  pub end : WordsEnd files (reads words) cause text
+-- how the words end over files, and what is written: as bind does, or as a usage where they are no command
+abbrev pub CommandEnds : Option Bind → Cause → List ℕ → List File → Type 0
+CommandEnds None cause text files = (cause ≡ causes.Usage) × (text ≡ usage_text)
+CommandEnds (Some bind) cause text files = BindEnds bind cause text files

@@ -1,21 +1,21 @@
 //! `bind`: the definition of each slot of a program and its libraries.
 
-ghost use Rattle.std.specs.Prelude.{◌≡◌, IfOk, true, None, List, ℕ};
-ghost use Rattle.ld_base.specs.declared.linking.File.{File};
-ghost use Rattle.ld_base.specs.declared.linking.Loaded.{Loaded};
-ghost use Rattle.load_order.specs.Heard.{AreFiles};
-ghost use Rattle.load_order.specs.Plan.{IsPlan};
+ghost use Rattle.std.specs.Prelude.{◌≡◌, ◌≤◌, ◌⊎◌, ℕ, List, IfOk, IfSome, true};
 ghost use Rattle.std.specs.List.{AllByRecursion};
 ghost use Rattle.std.specs.String.{string_bytes};
-ghost use Rattle.load_order.specs.Part.{source_of};
-ghost use Rattle.ldso_cli.specs.Bind.{BindEnds, Ends, IsBound, ask_of, nothing_loaded, namespace_of, program_namespace, ObjectsEnd};
+ghost use Rattle.ld_base.specs.declared.fault.DlFault.TheVariants.{MissingLibrary, ReadFault};
+ghost use Rattle.library_source.specs.Count.{Rises};
+ghost use Rattle.load_order.specs.Plan.{Over};
 ghost use Rattle.scope_rule.specs.Relocation.{names_symbols};
+ghost use Rattle.ldso_cli.specs.Bind.{BindEnds, ObjectsEnd, ask_of, nothing_loaded, opened};
 ghost use Rattle.ldso_cli.specs.Status.{refused_text, status_of_fault};
+ghost use Rattle.ldso_cli.specs.declared.outcome.Cause.TheVariants.{Refused};
 
 use crate::lines::bound_text;
 use crate::outcome::{Cause, status_of_fault};
 use crate::refusal::first_refusal;
 use crate::words::Bind;
+use elf_object::one_object;
 use ld_base::{Added, DlFault, HartId, NsId, Serial, Serials};
 use library_source::Library;
 use load_order::{LoadAsk, LoadFault, LoadPlan, plan_load};
@@ -32,7 +32,7 @@ pub(crate) struct Answer {
 /// The answer of a refusal.
 #[tactic(auto, unfolding(crate::specs::Status::refused_text))]
 fn refused(alloc: Global, fault: DlFault) -> Result<Answer, AllocError>
-    ensures cause { IfOk result (λ answer. answer.cause ≡ Cause.Refused fault) }
+    ensures cause { IfOk result (λ answer. answer.cause ≡ Refused fault) }
     ensures text { IfOk result (λ answer. string_bytes answer.text ≡ refused_text fault) }
 {
     let status = status_of_fault(&fault);
@@ -77,9 +77,9 @@ fn nothing_loaded(alloc: Global) -> Namespace
     }
 }
 
-/// The namespace of a program's objects.
-fn namespace_of(alloc: Global, objects: Added, global: Serials) -> Result<Namespace, AllocError>
-    ensures { IfOk result (λ ns. ns ≡ program_namespace objects global) }
+/// The namespace of a program's objects, all global that the program leads to.
+fn opened(alloc: Global, objects: Added, global: Serials) -> Result<Namespace, AllocError>
+    ensures { IfOk result (λ ns. ns ≡ opened objects global) }
 {
     let mut opens = Opens::new(alloc);
     opens.push(OpenRec {
@@ -115,9 +115,16 @@ pub(crate) fn bind<L: Library>(
     command: Bind,
     library: &mut L,
 ) -> Result<Answer, AllocError>
-    ensures source { SourceStays (source_of L.files L.faults L.misses library.old) (source_of L.files L.faults L.misses library.new) }
-    ensures ends { IfOk result (λ answer. BindEndsOver (source_of L.files L.faults L.misses library.old) command answer.cause (string_bytes answer.text)) }
-    ensures counts { IfOk result (λ answer. Counted command (source_of L.files L.faults L.misses library.old) (source_of L.files L.faults L.misses library.new) answer.cause) }
+    // Over the library's files where it tells them, and over some files where it doesn't.
+    ensures ends { IfOk result (λ answer. Over (L.files library.old) (BindEnds command answer.cause (string_bytes answer.text))) }
+
+    // No fault of the library is invented.
+    ensures read_fault { IfOk result (λ answer. (path : List ℕ) → answer.cause ≡ Refused (ReadFault path) → Rises (L.faults library.old) (L.faults library.new)) }
+
+    // What the library is left as.
+    ensures files { L.files library.new ≡ L.files library.old }
+    ensures faults { L.faults library.old ≤ L.faults library.new }
+    ensures misses { L.misses library.old ≤ L.misses library.new }
 {
     one_object();
     let now = command.now;
@@ -133,7 +140,7 @@ pub(crate) fn bind<L: Library>(
                 added,
                 breadth,
             } = plan;
-            let ns = namespace_of(alloc, added, breadth)?;
+            let ns = opened(alloc, added, breadth)?;
             of_objects(alloc, &ns, now)
         }
     }

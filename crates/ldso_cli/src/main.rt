@@ -16,11 +16,12 @@ pub use top::ldso;
 
 use library_source::{FolderLibrary, IoSink};
 use std::alloc::{AllocError, Global};
+use std::rt::Env;
 use std::process::ExitCode;
 use std::{env, io};
 
 /// The words after the program's name.
-fn words_of<R: Env>(rt: &R, alloc: Global) -> io::Result<Vec<String>> {
+fn words_of<R: Env + Alloc<A = Global>>(rt: &R, alloc: Global) -> io::Result<Vec<String>> {
     let mut words = Vec::new(alloc);
     for word in env::args(rt)?.skip(1) {
         words.push(word)?;
@@ -36,3 +37,6 @@ fn main(rt: HostRuntime) -> io::Result<ExitCode> {
     let (outcome, _library) = ldso(&rt, alloc, words, library, &mut out);
     Ok(ExitCode::from(outcome.status))
 }
+
+#[cfg(test)]
+mod tests;

@@ -53,6 +53,7 @@ const HEAD: [(usize, usize, u64); 23] = [
 ];
 
 /// A file part way: where its next string, symbol, slot and dynamic entry go.
+#[derive(Drop)]
 struct Layout {
     bytes: Vec<u8>,
     string: usize,
