@@ -7,7 +7,8 @@ use Rattle.load_order.specs.declared.ask.LoadAsk.{LoadAsk}
 use Rattle.load_order.specs.declared.ask.LoadFault.{LoadFault}
 use Rattle.load_order.specs.declared.ask.LoadFault.TheVariants as faults
 use Rattle.load_order.specs.declared.progress.Progress.{Progress}
-use Rattle.load_order.specs.Answer.{Answers, Ends, StopsFor}
+use Rattle.load_order.specs.Answer.{Answers, Ends}
+use Rattle.load_order.specs.Plan.{StopsFor}
 use Rattle.load_order.specs.Heard.{Heard, HeardAt, Learns, fault_in}
 use Rattle.load_order.specs.Part.{Source}
 use Rattle.load_order.proofs.Hearing.{learns_then}

@@ -2,3 +2,4 @@ pub mod Answer
 pub mod Files
 pub mod Heard
 pub mod Part
+pub mod Plan

@@ -4,6 +4,9 @@
 mod ask;
 mod finding;
 mod ordering;
+mod plan;
 mod progress;
+mod versions;
 
 pub use ask::{LoadAsk, LoadFault, LoadPlan};
+pub use plan::plan_load;

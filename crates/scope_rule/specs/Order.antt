@@ -103,6 +103,10 @@ find_root load = if load.program then find_path load.reading load.there load.nam
 unfoldable pub root_of : Load → Result (List Loaded × ℕ) Stop
 root_of load = take_found load [] (find_root load) >>= must_lead load.name
 
+-- the root has this serial
+abbrev pub IsRoot : Load → ℕ → Type 0
+IsRoot load serial = (added : List Loaded) × (root_of load ≡ Ok (added, serial))
+
 -- the new objects after so many turns, one turn an object, in the order in which they came
 unfoldable pub added_after : Load → ℕ → Result (List Loaded) Stop
 added_after load zero = root_of load >>= λ root. Ok root.0

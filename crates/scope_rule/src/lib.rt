@@ -12,7 +12,7 @@ mod linker_object;
 mod namespace;
 mod scoping;
 
-pub use breadth_first::breadth;
+pub use breadth_first::{breadth, breadth_with};
 pub use choosing::choose;
 pub use linker_object::linker_symbol;
 pub use namespace::{Namespace, OpenRec, Opens};
