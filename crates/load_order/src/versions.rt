@@ -1,6 +1,7 @@
 //! Whether the versions that new objects need are there.
 
 ghost use Rattle.std.specs.Prelude.{◌≡◌, ◌<◌, ◌++◌, length, position, IfOk, IfSome};
+ghost use Rattle.std.specs.List.{list_any};
 ghost use Rattle.std.specs.Str.{bytes_eq};
 ghost use Rattle.std.specs.Option.{option_copied};
 ghost use Rattle.scope_rule.specs.Needed.{is_weak_need, defines, defines_version, provider, lacks_version, first_lack, missing_version};
@@ -23,15 +24,18 @@ fn defines(verdef: &Verdef, version: &[u8]) -> bool
     verdef.flags % 2 != 1 && verdef.name.is(version)
 }
 
+/// Whether one of the entries defines a version.
+fn any_defines(verdefs: &[Verdef], version: &[u8]) -> bool
+    ensures { result ≡ list_any (defines version.now) verdefs.now }
+{
+    verdefs.iter().any(|verdef| defines(verdef, version))
+}
+
 /// Whether an object defines a version. One without definitions of versions defines every one.
 fn defines_version(object: &Object, version: &[u8]) -> bool
     ensures { result ≡ defines_version object.now version.now }
 {
-    if object.verdefs.is_empty() {
-        return true;
-    }
-    let verdefs = object.verdefs.as_slice();
-    verdefs.iter().any(|verdef| defines(verdef, version))
+    object.verdefs.is_empty() || any_defines(object.verdefs.as_slice(), version)
 }
 
 /// The place of a file among the names that an object needs.
