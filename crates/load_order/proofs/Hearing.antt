@@ -107,7 +107,7 @@ overridden files p (Some bytes) = record {
 -- the files of a load that reads one more path: there they have what was read
 pub record Reads (ask : LoadAsk) (source : Source) (progress : Progress) (p : List ℕ) (want : Option (List ℕ)) : Type 0 where
   pub files : List File
-  pub are : AreFiles source files
+  pub are : AreFiles source.files files
   pub at : file_at files p ≡ want
   pub heard : Heard (reading_of files ask) progress
 

@@ -42,8 +42,8 @@ pub record IsNew (progress : Progress) (p : List ℕ) : Type 0 where
   pub known : with_path progress.added p ≡ None
   pub missed : list_any (λ m. bytes_eq m p) progress.missed ≡ false
 
-files_stay : (before after : Source) (files : List File) → after.files ≡ before.files → AreFiles before files → AreFiles after files
-files_stay before after files e are = subst (λ (told : Option (List File)). MatchOption told (Unit {0}) (λ all. files ≡ all)) (sym e) are
+files_stay : (before after : Source) (files : List File) → after.files ≡ before.files → AreFiles before.files files → AreFiles after.files files
+files_stay before after files e are = subst (λ (told : Option (List File)). AreFiles told files) (sym e) are
 
 same_length : (old new : List Loaded) → new ≡ old → length old ≤ length new
 same_length old new e = rw e (omega arith)

@@ -2,12 +2,13 @@
 use Rattle.std.proofs.Common.{◌≡◌, ◌<◌, ◌≤◌, ◌+◌, ℕ, suc, List, [], ◌∷◌, ◌++◌, length, get_or, drop, drop-cons, add-one, Option, Some, None, Result, Ok, Err, refl, sym, ap, subst, ◌∙◌, arith, append_assoc, append-nil}
 use Rattle.ld_base.specs.declared.linking.Loaded.{Loaded}
 use Rattle.scope_rule.specs.Finding.{Reading}
-use Rattle.scope_rule.specs.Order.{Load, Stop, Brings, Stops, refuses, waits, take_name, take_names, turn_of, added_after, ◌>>=◌}
+use Rattle.scope_rule.specs.Order.{Load, Stop, Stops, refuses, waits, take_name, take_names, turn_of, root_of, added_after, ◌>>=◌}
 use Rattle.load_order.specs.declared.ask.LoadAsk.{LoadAsk}
 use Rattle.load_order.specs.declared.ask.LoadFault.{LoadFault}
 use Rattle.load_order.specs.declared.ask.LoadFault.TheVariants as faults
 use Rattle.load_order.specs.declared.progress.Progress.{Progress}
-use Rattle.load_order.specs.Answer.{Answers, Ends, StopsFor}
+use Rattle.load_order.specs.Answer.{Answers, Ends}
+use Rattle.load_order.specs.Plan.{StopsFor}
 use Rattle.load_order.specs.Heard.{Heard, HeardAt, Learns, fault_in}
 use Rattle.load_order.specs.Part.{Source}
 use Rattle.load_order.proofs.Hearing.{learns_then}
@@ -111,3 +112,18 @@ pub turned_stop : (load : Load) (turns : ℕ) (added : List Loaded) (fault : Loa
 turned_stop load turns added (faults.Refused fault) come ends = after_stop load turns added (refuses fault) come ends
 turned_stop load turns added (faults.Wait shown) come ends = after_stop load turns added (waits shown) come ends
 turned_stop load turns added faults.Memory come ends = tt
+
+-- ---- the root
+
+pub root_starts : (load : Load) (added : List Loaded) (root : ℕ) → root_of load ≡ Ok (added, root) → added_after load 0 ≡ Ok added
+unfolding added_after
+root_starts load added root e = rw e refl
+
+root_ends : (load : Load) (stop : Stop) → root_of load ≡ Err stop → Stops load stop
+unfolding added_after
+root_ends load stop e = record { turns = 0; is = rw e refl }
+
+pub root_stops : (load : Load) (fault : LoadFault) → Ends fault (root_of load) → StopsFor load fault
+root_stops load (faults.Refused fault) e = root_ends load (refuses fault) e
+root_stops load (faults.Wait shown) e = root_ends load (waits shown) e
+root_stops load faults.Memory e = tt

@@ -1,6 +1,6 @@
 -- What a part of a load answers, beside what its definition gives.
 use Rattle.std.specs.Prelude.{◌≡◌, Result, Ok, Err}
-use Rattle.scope_rule.specs.Order.{Load, Stop, Stops, refuses, waits}
+use Rattle.scope_rule.specs.Order.{Stop, refuses, waits}
 use Rattle.load_order.specs.declared.ask.LoadFault.{LoadFault}
 use Rattle.load_order.specs.declared.ask.LoadFault.TheVariants as faults
 
@@ -14,9 +14,3 @@ Ends faults.Memory meant = Unit {0}
 abbrev pub Answers : {X Y : Type 0} → (X → Y) → Result X LoadFault → Result Y Stop → Type 0
 Answers view (Ok x) meant = meant ≡ Ok (view x)
 Answers view (Err fault) meant = Ends fault meant
-
--- the load stops for this fault; want of memory says nothing of it
-abbrev pub StopsFor : Load → LoadFault → Type 0
-StopsFor load (faults.Refused fault) = Stops load (refuses fault)
-StopsFor load (faults.Wait shown) = Stops load (waits shown)
-StopsFor load faults.Memory = Unit {0}

@@ -39,14 +39,14 @@ abbrev pub reading_until : List File → LoadAsk → Option LoadFault → List �
 reading_until files ask (Some (faults.Refused (dl.ReadFault path))) = failing path (reading_of files ask)
 reading_until files ask _ = reading_of files ask
 
--- these are the files of the source, where it tells them
-abbrev pub AreFiles : Source → List File → Type 0
-AreFiles source files = MatchOption source.files (Unit {0}) (λ told. files ≡ told)
+-- these are the files that were told, where they were
+abbrev pub AreFiles : Option (List File) → List File → Type 0
+AreFiles told files = MatchOption told (Unit {0}) (λ all. files ≡ all)
 
 -- what was heard is what some files give; the source's own where it tells them
 pub record HeardOver (ask : LoadAsk) (source : Source) (progress : Progress) (fault : Option LoadFault) : Type 0 where
   pub files : List File
-  pub are : AreFiles source files
+  pub are : AreFiles source.files files
   pub heard : Heard (reading_until files ask fault) progress
   pub stopped : HeardAt (reading_until files ask fault) fault
 

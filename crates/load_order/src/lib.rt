@@ -6,6 +6,7 @@ mod finding;
 mod ordering;
 mod plan;
 mod progress;
+mod versions;
 
 pub use ask::{LoadAsk, LoadFault, LoadPlan};
 pub use plan::plan_load;

@@ -4,9 +4,10 @@ ghost use Rattle.std.specs.Prelude.{◌≡◌, ◌<◌, ◌++◌, [], ℕ, List,
 ghost use Rattle.scope_rule.specs.Finding.{Reading};
 ghost use Rattle.scope_rule.specs.Order.{Brings, added_after, find_root, names_of, root_of, take_found, take_names, turn_of};
 ghost use Rattle.scope_rule.specs.declared.namespace.Namespace.{Namespace};
-ghost use Rattle.load_order.specs.Answer.{Answers, StopsFor};
+ghost use Rattle.load_order.specs.Answer.{Answers};
 ghost use Rattle.load_order.specs.Heard.{Heard, HeardAt, Learns, fault_in};
 ghost use Rattle.load_order.specs.Part.{load_of, source_of};
+ghost use Rattle.load_order.specs.Plan.{StopsFor};
 
 use crate::ask::{LoadAsk, LoadFault};
 use crate::finding::{must_lead, take_name, take_opened, take_path};

@@ -7,15 +7,20 @@ use Rattle.ld_base.specs.declared.fault.DlFault.{DlFault}
 use Rattle.ld_base.specs.declared.fault.DlFault.TheVariants as faults
 use Rattle.ld_base.specs.declared.linking.Loaded.{Loaded}
 use Rattle.ld_base.specs.declared.object.Object.{Object}
+use Rattle.ld_base.specs.declared.object.Verdef.{Verdef}
 use Rattle.ld_base.specs.declared.object.Verneed.{Verneed}
 
 -- VER_FLG_WEAK: it may be missing
 abbrev pub is_weak_need : Verneed → Bool
 is_weak_need v = v.flags / 2 % 2 == 1
 
+-- an entry defines a version; that of the base names the object itself
+abbrev pub defines : List ℕ → Verdef → Bool
+defines version d = not (is_base d) && bytes_eq d.name version
+
 -- an object defines a version; one without definitions of versions defines every one
 abbrev pub defines_version : Object → List ℕ → Bool
-defines_version o version = length o.verdefs == 0 || list_any (λ d. not (is_base d) && bytes_eq d.name version) o.verdefs
+defines_version o version = length o.verdefs == 0 || list_any (defines version) o.verdefs
 
 -- the object that the first of the needed names found that is the file; found ends with what those names found
 abbrev pub provider : Loaded → List ℕ → Option ℕ
