@@ -7,3 +7,4 @@ pub mod Reading
 pub mod Searching
 pub mod Taking
 pub mod Turning
+pub mod Unfound
