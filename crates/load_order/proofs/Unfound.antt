@@ -35,11 +35,11 @@ reads_nowhere path (unaccepted broken) e = absurd cc
 reads_nowhere path absent e = refl
 reads_nowhere path failed e = absurd cc
 
-path_nowhere : (reading : List ℕ → Reading) (objects : List Loaded) (path : List ℕ) → find_path reading objects path ≡ nowhere → reading path ≡ absent
+path_nowhere : (reading : List ℕ → Reading) (objects : List Loaded) (path : List ℕ) → find_path reading objects path ≡ nowhere → (with_path objects path ≡ None) × (reading path ≡ absent)
 unfolding find_path
 path_nowhere reading objects path =
-    elim (with_path objects path) as (λ (w : Option Loaded). (elim w as (λ x. Found) [ Some o ↦ known o | None ↦ found_by_reading path (reading path) ]) ≡ nowhere → reading path ≡ absent)
-    [ Some o ↦ (λ e. absurd cc) | None ↦ (λ e. reads_nowhere path (reading path) e) ]
+    elim (with_path objects path) as (λ (w : Option Loaded). (elim w as (λ x. Found) [ Some o ↦ known o | None ↦ found_by_reading path (reading path) ]) ≡ nowhere → (w ≡ None) × (reading path ≡ absent))
+    [ Some o ↦ (λ e. absurd cc) | None ↦ (λ e. (refl, reads_nowhere path (reading path) e)) ]
 
 both_nowhere : (found other : Found) → or_else found other ≡ nowhere → (found ≡ nowhere) × (other ≡ nowhere)
 both_nowhere nowhere other e = (refl, e)
@@ -56,7 +56,7 @@ paths_nowhere : (reading : List ℕ → Reading) (objects : List Loaded) (paths 
 paths_nowhere reading objects [] e = tt
 paths_nowhere reading objects (path ∷ paths) e =
     let both = both_nowhere (find_path reading objects path) (find_paths reading objects paths) e in
-    (path_nowhere reading objects path both.0, paths_nowhere reading objects paths both.1)
+    ((path_nowhere reading objects path both.0).1, paths_nowhere reading objects paths both.1)
 
 soname_nowhere : (w : Option Loaded) (rest : Found) → (elim w as (λ x. Found) [ Some o ↦ known o | None ↦ rest ]) ≡ nowhere → rest ≡ nowhere
 soname_nowhere (Some o) rest e = absurd cc
@@ -163,7 +163,7 @@ has_root load (suc turns) added e =
     let w = went (added_after load turns) (turn_of load turns) added e in
     has_root load turns w.mid w.first
 
-path_or_opened : (load : Load) → find_root load ≡ nowhere → ((load.program ≡ true) × (load.reading load.name ≡ absent)) ⊎ ((load.program ≡ false) × NoneThere load.reading (candidates load.folders load.name))
+path_or_opened : (load : Load) → find_root load ≡ nowhere → ((load.program ≡ true) × ((with_path load.there load.name ≡ None) × (load.reading load.name ≡ absent))) ⊎ ((load.program ≡ false) × NoneThere load.reading (candidates load.folders load.name))
 path_or_opened load e =
     elim (cases_Bool load.program) [
       | inl h ↦ inl (h, path_nowhere load.reading load.there load.name (rw h at e))
@@ -177,7 +177,7 @@ root_missing load wanted e =
     let P : List ℕ → Type 0 = λ n. IsMissing load n in
     subst P no.1 (
       elim (path_or_opened load no.0) [
-        | inl h ↦ inl (record { program = h.0; named = refl; absent = h.1 })
+        | inl h ↦ inl (record { program = h.0; named = refl; new = h.1.0; absent = h.1.1 })
         | inr h ↦ inr (record { absent = h.1; program = λ p. absurd (let d : true ≡ false = sym p ∙ h.0 in cc) })
       ])
 
@@ -196,3 +196,11 @@ after_missing load (suc turns) wanted e =
 
 pub stops_missing : (load : Load) (name : List ℕ) → Stops load (refuses (dl.MissingLibrary name)) → IsMissing load name
 stops_missing load name stops = after_missing load stops.turns name stops.is
+
+-- a program whose path can't be read isn't the root
+pub unreadable_no_root : (load : Load) (root : ℕ) → load.program ≡ true → with_path load.there load.name ≡ None → load.reading load.name ≡ failed → IsRoot load root → ⊥
+unfolding root_of take_found find_path
+unreadable_no_root load root program new fails is_root =
+    let e : root_of load ≡ Err (refuses (dl.ReadFault load.name)) = rw (root_of, program, find_path, new, fails) refl in
+    let d : done {A = List Loaded × ℕ} (is_root.0, root) ≡ Err (refuses (dl.ReadFault load.name)) = sym is_root.1 ∙ e in
+    absurd cc
