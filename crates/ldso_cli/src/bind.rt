@@ -131,9 +131,9 @@ pub(crate) fn bind<L: Library>(
     let ask = ask_of(alloc, command);
     let ns = nothing_loaded(alloc);
     match plan_load(alloc, &ns, &ask, library) {
-        Err(LoadFault::Memory) => Err(AllocError),
         Err(LoadFault::Refused(fault)) => refused(alloc, fault),
-        Err(LoadFault::Wait(_)) => unreachable!(),
+        // No other hart is there to wait for.
+        Err(LoadFault::Memory | LoadFault::Wait(_)) => Err(AllocError),
         Ok(plan) => {
             let LoadPlan {
                 root: _,

@@ -2,9 +2,6 @@
 
 ghost use Rattle.std.specs.Prelude.{◌≡◌, ◌≤◌, map, IfOk};
 ghost use Rattle.std.specs.String.{string_bytes};
-ghost use Rattle.load_order.specs.Part.{source_of};
-ghost use Rattle.ldso_cli.specs.Bind.{Ends};
-ghost use Rattle.ldso_cli.specs.Words.{reads};
 
 use crate::bind::{Answer, bind};
 use crate::outcome::{Cause, Outcome};

@@ -3,7 +3,9 @@ pub mod Hearing
 pub mod Longer
 pub mod Next
 pub mod Noting
+pub mod Planning
 pub mod Reading
 pub mod Searching
 pub mod Taking
 pub mod Turning
+pub mod Unfound

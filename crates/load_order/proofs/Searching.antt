@@ -41,7 +41,7 @@ some_none : (n : ℕ) → Some n ≡ None → ⊥
 some_none n e = absurd cc
 
 -- only what leads nowhere gives no serial
-nowhere_gives : (load : Load) (added new : List Loaded) (found : Found) → take_found load added found ≡ Ok (new, None) → (found ≡ nowhere) × (new ≡ added)
+pub nowhere_gives : (load : Load) (added new : List Loaded) (found : Found) → take_found load added found ≡ Ok (new, None) → (found ≡ nowhere) × (new ≡ added)
 unfolding take_found
 nowhere_gives load added new nowhere e = (refl, added_is added new None None e)
 nowhere_gives load added new linker e = let d : Some 0 ≡ None = serial_is added new (Some 0) None e in absurd (some_none 0 d)

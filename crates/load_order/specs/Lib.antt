@@ -1,5 +1,6 @@
 pub mod Answer
 pub mod Files
 pub mod Heard
+pub mod Missing
 pub mod Part
 pub mod Plan

@@ -3,10 +3,12 @@
 
 mod ask;
 mod finding;
+mod law;
 mod ordering;
 mod plan;
 mod progress;
 mod versions;
 
 pub use ask::{LoadAsk, LoadFault, LoadPlan};
+pub use law::missing_library;
 pub use plan::plan_load;

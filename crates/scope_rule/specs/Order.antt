@@ -35,12 +35,13 @@ abbrev pub ◌>>=◌ : {A B : Type 0} → Result A Stop → (A → Result B Stop
 (Err e) >>= f = Err e
 
 -- whether a hart may use an object that it found: not while another starts or closes it, nor while it closes it itself
+abbrev pub use_in : ℕ → Loaded → State → Result ℕ Stop
+use_in hart o (states.Initialising h) = if h == hart then Ok o.serial else Err (waits (shown.Initialising o.serial))
+use_in hart o states.Ready = Ok o.serial
+use_in hart o (states.Dying h) = if h == hart then Err (refuses (faults.ClosingHere o.path)) else Err (waits (shown.Closing o.serial))
+
 abbrev pub use_of : ℕ → Loaded → Result ℕ Stop
-use_of hart o = elim o.state [
-  | states.Initialising h ↦ if h == hart then Ok o.serial else Err (waits (shown.Initialising o.serial))
-  | states.Ready ↦ Ok o.serial
-  | states.Dying h ↦ if h == hart then Err (refuses (faults.ClosingHere o.path)) else Err (waits (shown.Closing o.serial))
-]
+use_of hart o = use_in hart o o.state
 
 -- a new object, not placed yet
 abbrev pub arrival : Load → ℕ → List ℕ → Object → HashTable → Loaded
@@ -91,8 +92,8 @@ names_of load index o = (if load.program && index == 0 then load.preload else []
 unfoldable pub turn_of : Load → ℕ → List Loaded → Result (List Loaded) Stop
 turn_of load index added =
     elim (slice_get added index) [
-      | Some o ↦ take_names load added (names_of load index o) >>= λ taken. Ok (slice_set taken.0 index (record o { found = taken.1 }))
-      | None ↦ Ok added
+      Some o ↦ take_names load added (names_of load index o) >>= λ taken. Ok (slice_set taken.0 index (record o { found = taken.1 }))
+    | None ↦ Ok added
     ]
 
 -- what the name that is asked for leads to: a program's is a path; another's is found as dlopen finds it
