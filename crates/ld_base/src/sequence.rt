@@ -94,4 +94,12 @@ impl<T: Copy> Sequence<T> {
         let items = Vec::from_slice(alloc, items)?;
         Ok(Sequence { items })
     }
+
+    /// Puts these elements at the end.
+    pub fn extend_from_slice(&mut self, items: &[T]) -> Result<(), AllocError>
+        ensures ok { OnOk result (self.new ≡ self.old ++ items.now) }
+        ensures err { OnErr result (self.new ≡ self.old) }
+    {
+        self.items.extend_from_slice(items)
+    }
 }

@@ -1,0 +1,12 @@
+use Rattle.std.proofs.Common.{◌≤◌, length}
+use Rattle.library_source.specs.Writing.{TakesBefore}
+use Rattle.library_source.proofs.sink.put_all.Given as goal
+
+abbrev pub invariant-loop-rest : goal.invariant-loop-rest
+invariant-loop-rest g l = record {
+  front : TakesBefore l.rest (g.K.Sink.taken l.fn.out) l.bytes (g.K.Sink.taken l.out);
+  faults : g.K.Sink.faults l.fn.out ≤ g.K.Sink.faults l.out;
+}
+
+abbrev pub decreases-loop-rest : goal.decreases-loop-rest
+decreases-loop-rest g l = length l.rest

@@ -1,0 +1,5 @@
+pub mod Count
+pub mod Files
+pub mod Folder
+pub mod Memory
+pub mod Writing

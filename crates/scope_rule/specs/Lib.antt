@@ -1,0 +1,9 @@
+pub mod Breadth
+pub mod Choose
+pub mod Finding
+pub mod Linker
+pub mod Loading
+pub mod Needed
+pub mod Order
+pub mod Relocation
+pub mod Scope

@@ -1,0 +1,169 @@
+//! Which definition a reference is bound to.
+
+ghost use Rattle.std.specs.Prelude.{◌≡◌, ◌<◌, ◌==◌, not, filter, length, IsSome, IfSome, IfOk};
+ghost use Rattle.std.specs.Option.{option_copied};
+ghost use Rattle.ld_base.specs.Pick.{pick_of};
+ghost use Rattle.scope_rule.specs.Loading.{object_of};
+ghost use Rattle.scope_rule.specs.Choose.{pick_at, first_with, want_of, is_own, choice_of, searched, choose_for, choose_of};
+ghost use Rattle.scope_rule.specs.Relocation.{choice_at};
+
+use crate::linker_object::linker_symbol;
+use crate::namespace::Namespace;
+use crate::scoping::scope;
+use ld_base::{Choice, Loaded, Name, Object, Reloc, Serial, Serials, Symbol, Want, pick};
+use std::alloc::{AllocError, Global};
+
+const R_RISCV_NONE: u32 = 0;
+
+const R_RISCV_RELATIVE: u32 = 3;
+
+const R_RISCV_COPY: u32 = 4;
+
+/// What an object of the namespace, or the linker's own, has for a name and a version.
+#[tactic(auto, unfolding(crate::specs::Choose::pick_at))]
+fn pick_at(ns: &Namespace, name: &[u8], want: &Want, serial: Serial) -> Option<u32>
+    ensures { result ≡ pick_at ns.now name.now want.now serial }
+{
+    if serial == Serial::LINKER {
+        return linker_symbol(name);
+    }
+    match ns.object(serial) {
+        Some(loaded) => pick(&loaded.object, name, want),
+        None => None,
+    }
+}
+
+/// The first object of the list that has a definition, with its symbol.
+fn first_with(ns: &Namespace, name: &[u8], want: &Want, scope: &[Serial]) -> Option<(Serial, u32)>
+    ensures { result ≡ first_with (pick_at ns.now name.now want.now) scope.now }
+{
+    for serial in scope {
+        if let Some(index) = pick_at(ns, name, want, *serial) {
+            return Some((*serial, index));
+        }
+    }
+    None
+}
+
+/// The version that a relocation against a symbol asks for: the name of the symbol's index where
+/// that is 2 or more (Drepper, "ELF Symbol Versioning").
+pub fn want_of(alloc: Global, object: &Object, symbol: &Symbol) -> Result<Want, AllocError>
+    ensures { IfOk result (λ w. w ≡ want_of object.now symbol.now) }
+{
+    if symbol.version_index() < 2 {
+        return Ok(Want::Plain);
+    }
+    match object.version_name(symbol.version_index()) {
+        Some(name) => Ok(Want::Version(Name::new(alloc, name.as_bytes())?)),
+        None => Ok(Want::Plain),
+    }
+}
+
+/// Whether no other object may define the symbol.
+fn is_own(symbol: &Symbol) -> bool
+    ensures { result ≡ is_own symbol.now }
+{
+    symbol.is_local() || (symbol.is_defined() && symbol.other % 4 != 0)
+}
+
+/// What a search gives for a symbol.
+fn choice_of(symbol: &Symbol, found: Option<(Serial, u32)>) -> Choice
+    ensures { result ≡ choice_of symbol.now found }
+{
+    match found {
+        Some((serial, index)) => Choice::Def(serial, index),
+        None if symbol.is_weak() => Choice::WeakZero,
+        None => Choice::Missing,
+    }
+}
+
+/// Where a reference is searched: a COPY's isn't searched in the object that has it.
+fn searched(
+    alloc: Global,
+    ns: &Namespace,
+    owner: &Loaded,
+    copy: bool,
+) -> Result<Serials, AllocError>
+    ensures { IfOk result (λ s. s ≡ searched ns.now owner.now copy) }
+{
+    let scope = scope(alloc, ns, owner)?;
+    if !copy {
+        return Ok(scope);
+    }
+    let others: Vec<Serial> = scope
+        .as_slice()
+        .iter()
+        .copied()
+        .filter(|serial| *serial != owner.serial)
+        .collect(alloc)?;
+    Ok(Serials::from(others))
+}
+
+/// The same as [`choose`], of an object and its symbol at an index.
+#[tactic(auto, unfolding(crate::specs::Choose::choose_for))]
+fn choose_for(
+    alloc: Global,
+    ns: &Namespace,
+    owner: &Loaded,
+    index: u32,
+    symbol: &Symbol,
+    copy: bool,
+) -> Result<Choice, AllocError>
+    ensures { IfOk result (λ c. c ≡ choose_for ns.now owner.now index symbol.now copy) }
+{
+    if !copy && is_own(symbol) {
+        return Ok(Choice::Def(owner.serial, index));
+    }
+    let want = want_of(alloc, &owner.object, symbol)?;
+    let scope = searched(alloc, ns, owner, copy)?;
+    let found = first_with(ns, symbol.name.as_bytes(), &want, scope.as_slice());
+    Ok(choice_of(symbol, found))
+}
+
+/// The definition that a relocation of `owner` against its symbol of this index is bound to
+/// (gABI, "Symbol Table" and "Shared Object Dependencies"; psABI, COPY). `copy` says that the
+/// relocation is a COPY: its own object is then left out of the search.
+pub fn choose(
+    alloc: Global,
+    ns: &Namespace,
+    owner: Serial,
+    symbol: u32,
+    copy: bool,
+) -> Result<Choice, AllocError>
+    requires owner_is_there { IsSome (object_of ns.now owner) }
+    requires symbol_is_there { IfSome (object_of ns.now owner) (λ o. symbol < length o.object.symbols) }
+    ensures { IfOk result (λ c. c ≡ choose_of ns.now owner symbol copy) }
+{
+    let loaded = ns.object(owner).unwrap();
+    let entry = &loaded.object.symbols.as_slice()[symbol as usize];
+    choose_for(alloc, ns, loaded, symbol, entry, copy)
+}
+
+/// The choice of a relocation of `owner` when the object is loaded (psABI, "Relocations"). One of no
+/// symbol (NONE, RELATIVE) makes no search, and the null symbol is the object's own.
+#[tactic(auto, unfolding(crate::specs::Relocation::choice_at))]
+pub fn choose_reloc(
+    alloc: Global,
+    ns: &Namespace,
+    owner: &Loaded,
+    reloc: &Reloc,
+) -> Result<Choice, AllocError>
+    requires symbol_is_there { reloc.now.symbol < length owner.now.object.symbols }
+    ensures { IfOk result (λ c. c ≡ choice_at ns.now owner.now reloc.now) }
+{
+    if reloc.kind == R_RISCV_NONE || reloc.kind == R_RISCV_RELATIVE {
+        return Ok(Choice::WeakZero);
+    }
+    if reloc.symbol == 0 {
+        return Ok(Choice::Def(owner.serial, 0));
+    }
+    let symbol = &owner.object.symbols.as_slice()[reloc.symbol as usize];
+    choose_for(
+        alloc,
+        ns,
+        owner,
+        reloc.symbol,
+        symbol,
+        reloc.kind == R_RISCV_COPY,
+    )
+}
