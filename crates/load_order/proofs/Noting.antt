@@ -1,21 +1,19 @@
 -- What the names of an object found, noted in its record.
-use Rattle.std.proofs.Common.{◌≡◌, ◌<◌, ◌≤◌, ℕ, zero, suc, List, [], ◌∷◌, length, get_or, Option, Some, None, Result, Ok, Err, refl, sym, ap, subst, ◌∙◌, arith, inl, inr}
+use Rattle.std.proofs.Common.{◌≡◌, ◌<◌, ℕ, zero, suc, List, [], ◌∷◌, length, get_or, Option, Some, None, Ok, refl, sym, ap, subst, ◌∙◌, arith, inl, inr}
 use Rattle.std.specs.Prelude.{IfSome, slice_set}
 use Rattle.std.specs.List.{AllByRecursion, slice_get}
 use Rattle.std.proofs.lemmas.Option.{slice_get_cases, slice_get_read}
 use Rattle.std.proofs.Math.ListN.{length-set}
 use Rattle.ld_base.specs.declared.linking.Loaded.{Loaded}
 use Rattle.scope_rule.specs.Finding.{Reading, here}
-use Rattle.scope_rule.specs.Order.{Load, Stop, names_of, take_names, turn_of, ◌>>=◌}
+use Rattle.scope_rule.specs.Order.{Load, names_of, take_names, turn_of}
 use Rattle.load_order.specs.declared.ask.LoadAsk.{LoadAsk}
 use Rattle.load_order.specs.declared.ask.LoadFault.{LoadFault}
-use Rattle.load_order.specs.declared.ask.LoadFault.TheVariants as faults
 use Rattle.load_order.specs.declared.progress.Progress.{Progress}
 use Rattle.load_order.specs.Answer.{Ends}
 use Rattle.load_order.specs.Heard.{Heard, Learns}
 use Rattle.load_order.specs.Part.{Source}
-use Rattle.load_order.proofs.Hearing.{learns_then}
-use Rattle.load_order.proofs.Longer.{Longer, longer_get, names_longer}
+use Rattle.load_order.proofs.Longer.{longer_get, names_longer}
 use Rattle.load_order.proofs.Turning.{names_end}
 
 -- an object with what its names found

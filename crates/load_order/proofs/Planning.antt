@@ -1,5 +1,5 @@
 -- What a whole load comes to, from what its parts heard.
-use Rattle.std.proofs.Common.{◌≡◌, ◌≢◌, ◌⊎◌, inl, inr, ℕ, Bool, true, false, cond, List, [], ◌∷◌, ◌++◌, Option, Some, None, Result, Ok, Err, refl, sym, ap, subst, ◌∙◌}
+use Rattle.std.proofs.Common.{◌≡◌, ◌⊎◌, inl, inr, ℕ, true, false, cond, List, [], ◌∷◌, ◌++◌, Option, Some, None, Result, Ok, Err, refl, sym, subst, ◌∙◌}
 use Rattle.std.specs.Prelude.{IsTrue, IfOk, IfErr, if◌then◌else◌}
 use Rattle.std.specs.List.{AllByRecursion}
 use Rattle.std.proofs.lemmas.Bool.{cases_Bool}
@@ -14,7 +14,7 @@ use Rattle.ld_base.specs.declared.object.Verneed.{Verneed}
 use Rattle.library_source.specs.Count.{Rises}
 use Rattle.scope_rule.specs.Finding.{Reading, here, absent, failed, with_path, candidates}
 use Rattle.scope_rule.specs.Needed.{first_lack, missing_version}
-use Rattle.scope_rule.specs.Order.{Load, Brings, Stops, IsRoot, refuses, waits}
+use Rattle.scope_rule.specs.Order.{Brings, IsRoot}
 use Rattle.scope_rule.specs.declared.namespace.Namespace.{Namespace}
 use Rattle.load_order.specs.declared.ask.LoadAsk.{LoadAsk}
 use Rattle.load_order.specs.declared.ask.LoadFault.{LoadFault}
@@ -23,9 +23,9 @@ use Rattle.load_order.specs.declared.ask.LoadPlan.{LoadPlan}
 use Rattle.load_order.specs.declared.progress.Progress.{Progress}
 use Rattle.load_order.specs.Files.{reading_of}
 use Rattle.load_order.specs.Heard.{Heard, HeardAt, HeardOver, Learns, AreFiles, Counted, reading_until}
-use Rattle.load_order.specs.Missing.{NoProgram, NoLibrary, IsMissing}
+use Rattle.load_order.specs.Missing.{NoLibrary, IsMissing}
 use Rattle.load_order.specs.Part.{Source, load_of}
-use Rattle.load_order.specs.Plan.{Over, IsPlan, IsRefused, HasToWait, HasNoPath, Lacks, Completes, Incomplete, StopsFor, load_until, load_over, version_fault}
+use Rattle.load_order.specs.Plan.{Over, IsPlan, IsRefused, HasToWait, HasNoPath, Completes, Incomplete, StopsFor, version_fault}
 use Rattle.load_order.proofs.Unfound.{stops_missing, unreadable_no_root}
 
 -- a load at its start

@@ -1,6 +1,5 @@
 -- A name searched in one folder after another.
-use Rattle.std.proofs.Common.{◌≡◌, ◌≢◌, ◌<◌, ◌≤◌, ℕ, suc, List, [], ◌∷◌, ◌++◌, ◌+◌, length, get_or, drop, drop-cons, add-one, Option, Some, None, Result, Ok, Err, refl, sym, ap, subst, ◌∙◌, arith}
-use Rattle.ld_base.specs.declared.fault.DlFault.{DlFault}
+use Rattle.std.proofs.Common.{◌≡◌, ◌≢◌, ◌≤◌, ℕ, List, [], ◌∷◌, ◌++◌, ◌+◌, length, drop, Option, Some, None, Result, Ok, Err, refl, sym, ap, subst, ◌∙◌}
 use Rattle.ld_base.specs.declared.linking.Loaded.{Loaded}
 use Rattle.scope_rule.specs.Finding.{Reading, Found, linker, known, fresh, nowhere, unreadable, refused, in_folders, find_path, find_paths, or_else}
 use Rattle.scope_rule.specs.Order.{Load, Stop, refuses, waits, arrival, use_of, take_found, ◌>>=◌}
@@ -9,7 +8,7 @@ use Rattle.load_order.specs.declared.ask.LoadFault.{LoadFault}
 use Rattle.load_order.specs.declared.ask.LoadFault.TheVariants as faults
 use Rattle.load_order.specs.declared.progress.Progress.{Progress}
 use Rattle.load_order.specs.Answer.{Answers, Ends}
-use Rattle.load_order.specs.Heard.{Heard, HeardAt, Learns, fault_in}
+use Rattle.load_order.specs.Heard.{Heard, Learns}
 use Rattle.load_order.specs.Part.{Source}
 use Rattle.load_order.proofs.Hearing.{learns_then}
 use Rattle.load_order.proofs.Next.{IsNext, drop_next, drop_none}

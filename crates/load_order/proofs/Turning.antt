@@ -1,5 +1,5 @@
 -- The names of an object one after another, and the objects one after another.
-use Rattle.std.proofs.Common.{◌≡◌, ◌<◌, ◌≤◌, ◌+◌, ℕ, suc, List, [], ◌∷◌, ◌++◌, length, get_or, drop, drop-cons, add-one, Option, Some, None, Result, Ok, Err, refl, sym, ap, subst, ◌∙◌, arith, append_assoc, append-nil}
+use Rattle.std.proofs.Common.{◌≡◌, ◌≤◌, ◌+◌, ℕ, suc, List, [], ◌∷◌, ◌++◌, length, drop, add-one, Option, None, Result, Ok, Err, refl, sym, ap, subst, ◌∙◌, append_assoc, append-nil}
 use Rattle.ld_base.specs.declared.linking.Loaded.{Loaded}
 use Rattle.scope_rule.specs.Finding.{Reading}
 use Rattle.scope_rule.specs.Order.{Load, Stop, Stops, refuses, waits, take_name, take_names, turn_of, root_of, added_after, ◌>>=◌}
@@ -7,9 +7,9 @@ use Rattle.load_order.specs.declared.ask.LoadAsk.{LoadAsk}
 use Rattle.load_order.specs.declared.ask.LoadFault.{LoadFault}
 use Rattle.load_order.specs.declared.ask.LoadFault.TheVariants as faults
 use Rattle.load_order.specs.declared.progress.Progress.{Progress}
-use Rattle.load_order.specs.Answer.{Answers, Ends}
+use Rattle.load_order.specs.Answer.{Ends}
 use Rattle.load_order.specs.Plan.{StopsFor}
-use Rattle.load_order.specs.Heard.{Heard, HeardAt, Learns, fault_in}
+use Rattle.load_order.specs.Heard.{Heard, Learns}
 use Rattle.load_order.specs.Part.{Source}
 use Rattle.load_order.proofs.Hearing.{learns_then}
 use Rattle.load_order.proofs.Reading.{done}

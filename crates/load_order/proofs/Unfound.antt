@@ -1,6 +1,6 @@
 -- A load stops for a missing library only where no path of its name has a file.
-use Rattle.std.proofs.Common.{◌≡◌, ◌≢◌, ◌==◌, ◌⊎◌, inl, inr, ℕ, zero, suc, Bool, true, false, cond, List, [], ◌∷◌, ◌++◌, Option, Some, None, Result, Ok, Err, refl, sym, ap, subst, ◌∙◌}
-use Rattle.std.specs.Prelude.{IsTrue, slice_set}
+use Rattle.std.proofs.Common.{◌≡◌, ◌≢◌, ◌==◌, ◌⊎◌, inl, inr, ℕ, zero, suc, true, false, cond, List, [], ◌∷◌, ◌++◌, Option, Some, None, Result, Ok, Err, refl, sym, ap, subst, ◌∙◌}
+use Rattle.std.specs.Prelude.{slice_set}
 use Rattle.std.specs.List.{AllByRecursion, slice_get}
 use Rattle.std.specs.Str.{bytes_eq}
 use Rattle.std.proofs.lemmas.Bool.{cases_Bool}
@@ -11,8 +11,8 @@ use Rattle.ld_base.specs.declared.linking.State.{State}
 use Rattle.ld_base.specs.declared.linking.State.TheVariants as states
 use Rattle.scope_rule.specs.Finding.{Reading, Found, here, unaccepted, absent, failed, linker, known, fresh, nowhere, unreadable, refused, linker_name, is_path, candidates, with_path, with_soname, or_else, found_by_reading, find_path, find_paths, find_opened, find_needed}
 use Rattle.scope_rule.specs.Order.{Load, Stop, Stops, IsRoot, refuses, waits, use_in, use_of, take_found, take_name, take_names, must_lead, names_of, turn_of, find_root, root_of, added_after, ◌>>=◌}
-use Rattle.load_order.specs.Missing.{NoProgram, NoLibrary, IsMissing}
-use Rattle.load_order.proofs.Longer.{Went, went}
+use Rattle.load_order.specs.Missing.{IsMissing}
+use Rattle.load_order.proofs.Longer.{went}
 use Rattle.load_order.proofs.Reading.{done}
 use Rattle.load_order.proofs.Searching.{nowhere_gives}
 

@@ -1,4 +1,4 @@
-use Rattle.std.proofs.Common.{◌≡◌, Some, None, Ok, Err}
+use Rattle.std.proofs.Common.{Some, Ok, Err}
 use Rattle.std.proofs.lemmas.Result.{err_from_is_err_and}
 use Rattle.load_order.specs.Part.{load_of}
 use Rattle.load_order.proofs.Searching.{past_learns, folder_missed, folder_found, folders_end}

@@ -1,8 +1,7 @@
-use Rattle.std.proofs.Common.{Some}
 use Rattle.std.proofs.lemmas.Result.{err_from_is_err_and}
 use Rattle.load_order.proofs.Hearing.{learns_then}
 use Rattle.load_order.proofs.Taking.{learns_quiet}
-use Rattle.load_order.proofs.Turning.{named_learns, named_step, named_stop, named_end}
+use Rattle.load_order.proofs.Turning.{named_learns, named_step, named_stop}
 use Rattle.load_order.proofs.ordering.take_names.Goals as goal
 
 pub returns-in_err-serial-clause-learns : goal.returns-in_err-serial-clause-learns
