@@ -88,9 +88,9 @@ without_elsewhere p [] q ne = refl
 without_elsewhere p (f ∷ files) q ne =
     elim (cases_Bool (bytes_eq f.path p)) [
       | inl e ↦
-        let same : f.path ≡ p = (bytes_eq-Decides f.path p).0 e in
-        let other : bytes_eq f.path q ≡ false = rw same (differs p q (λ d. ne (sym d))) in
-        rw (e, other) (without_elsewhere p files q ne)
+          let same : f.path ≡ p = (bytes_eq-Decides f.path p).0 e in
+          let other : bytes_eq f.path q ≡ false = rw same (differs p q (λ d. ne (sym d))) in
+          rw (e, other) (without_elsewhere p files q ne)
       | inr e ↦ rw e (file_past f (without p files) files q (without_elsewhere p files q ne))
     ]
 

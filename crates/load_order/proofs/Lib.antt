@@ -3,6 +3,7 @@ pub mod Hearing
 pub mod Longer
 pub mod Next
 pub mod Noting
+pub mod Numbered
 pub mod Outcome
 pub mod Planning
 pub mod Reading

@@ -143,11 +143,15 @@ pub ended_refused : (ask : LoadAsk) (ns : Namespace) (before after : Source) (pr
     → Learns ask before start after progress None → Went ask ns progress root → IfErr r (λ fault. Incomplete ns progress.added fault) → Over before.files (IsRefused ask ns refusal)
 ended_refused ask ns before after progress root r refusal e learns went h =
     let all = hears_all ask before after progress None learns in
-    record { files = all.files; are = all.are; holds = inr (record {
-      added = progress.added;
-      brings = (went (reading_of all.files ask) all.heard tt).0;
-      lacks = incomplete ns progress.added r refusal e h;
-    }) }
+    record {
+      files = all.files;
+      are = all.are;
+      holds = inr (record {
+        added = progress.added;
+        brings = (went (reading_of all.files ask) all.heard tt).0;
+        lacks = incomplete ns progress.added r refusal e h;
+      });
+    }
 
 pub ended_waits : (ns : Namespace) (added : List Loaded) (r : Result LoadPlan LoadFault) (shown : Shown) → r ≡ Err (faults.Wait shown) → IfErr r (λ fault. Incomplete ns added fault) → ⊥
 ended_waits ns added r shown e h =
@@ -201,11 +205,11 @@ only_absent [] reading h path e = absurd cc
 only_absent (o ∷ rest) reading h path e =
     elim (cases_Bool (bytes_eq o.path path)) [
       | inl same ↦
-        let there : o.path ≡ path = (bytes_eq-Decides o.path path).0 same in
-        let P : List ℕ → Type 0 = λ p. reading p ≡ here o.object o.table in
-        let has : reading path ≡ here o.object o.table = subst P there h.0 in
-        let none : reading path ≡ absent = rw same at e in
-        absurd (here_absent (reading path) o has none)
+          let there : o.path ≡ path = (bytes_eq-Decides o.path path).0 same in
+          let P : List ℕ → Type 0 = λ p. reading p ≡ here o.object o.table in
+          let has : reading path ≡ here o.object o.table = subst P there h.0 in
+          let none : reading path ≡ absent = rw same at e in
+          absurd (here_absent (reading path) o has none)
       | inr other ↦ only_absent rest reading h.1 path (rw other at e)
     ]
 
@@ -214,9 +218,9 @@ only_fails [] reading h path e = refl
 only_fails (o ∷ rest) reading h path e =
     elim (cases_Bool (bytes_eq o.path path)) [
       | inl same ↦
-        let there : o.path ≡ path = (bytes_eq-Decides o.path path).0 same in
-        let P : List ℕ → Type 0 = λ p. reading p ≡ here o.object o.table in
-        absurd (here_absent (reading path) o (subst P there h.0) e)
+          let there : o.path ≡ path = (bytes_eq-Decides o.path path).0 same in
+          let P : List ℕ → Type 0 = λ p. reading p ≡ here o.object o.table in
+          absurd (here_absent (reading path) o (subst P there h.0) e)
       | inr other ↦ rw other (only_fails rest reading h.1 path e)
     ]
 

@@ -63,13 +63,13 @@ learns_miss ask before after old new p stays rises tells is_new added missed = r
   missed = inr rises;
   stands = λ reading heard. (miss_heard reading old new p added missed heard).0;
   over = λ over.
-    let reads = reads_more ask before old p None tells is_new.known is_new.missed over in
-    record {
-      files = reads.files;
-      are = files_stay before after reads.files stays.files reads.are;
-      heard = heard_miss (reading_of reads.files ask) old new p added missed reads.heard (rw reads.at refl);
-      stopped = tt;
-    };
+      let reads = reads_more ask before old p None tells is_new.known is_new.missed over in
+      record {
+        files = reads.files;
+        are = files_stay before after reads.files stays.files reads.are;
+        heard = heard_miss (reading_of reads.files ask) old new p added missed reads.heard (rw reads.at refl);
+        stopped = tt;
+      };
   counted = tt;
 }
 
@@ -132,13 +132,13 @@ learns_object ask before after old new p bytes x stays tells is_new path verdict
   missed = inl missed;
   stands = λ reading heard. (object_heard reading old new x added missed heard).0;
   over = λ over.
-    let reads = reads_more ask before old p (Some bytes) tells is_new.known is_new.missed over in
-    record {
-      files = reads.files;
-      are = files_stay before after reads.files stays.files reads.are;
-      heard = heard_object (reading_of reads.files ask) old new x added missed reads.heard (rw (path, reads.at) verdict);
-      stopped = tt;
-    };
+      let reads = reads_more ask before old p (Some bytes) tells is_new.known is_new.missed over in
+      record {
+        files = reads.files;
+        are = files_stay before after reads.files stays.files reads.are;
+        heard = heard_object (reading_of reads.files ask) old new x added missed reads.heard (rw (path, reads.at) verdict);
+        stopped = tt;
+      };
   counted = tt;
 }
 
@@ -153,13 +153,13 @@ learns_refused ask before after old new p bytes broken stays tells is_new verdic
   missed = inl missed;
   stands = λ reading heard. record { objects = rw (← added) heard.objects; missed = rw (← missed) heard.missed };
   over = λ over.
-    let reads = reads_more ask before old p (Some bytes) tells is_new.known is_new.missed over in
-    record {
-      files = reads.files;
-      are = files_stay before after reads.files stays.files reads.are;
-      heard = record { objects = rw added reads.heard.objects; missed = rw missed reads.heard.missed };
-      stopped = rw reads.at verdict;
-    };
+      let reads = reads_more ask before old p (Some bytes) tells is_new.known is_new.missed over in
+      record {
+        files = reads.files;
+        are = files_stay before after reads.files stays.files reads.are;
+        heard = record { objects = rw added reads.heard.objects; missed = rw missed reads.heard.missed };
+        stopped = rw reads.at verdict;
+      };
   counted = tt;
 }
 

@@ -73,7 +73,7 @@ pub named_step : {ask : LoadAsk} {load : (List ℕ → Reading) → Load} {s0 s1
 named_step {ask} {load} {s0} {s1} {s2} {p0} {p1} {p2} {whole} {found} i name serial next named learns gives = record {
   learns = named_learns named learns;
   comes = λ reading heard. (named_next i name next named).comes reading (learns.stands reading heard)
-    ∙ names_next (load reading) p1.added p2.added name serial (drop (i + 1) whole) found (gives reading heard);
+      ∙ names_next (load reading) p1.added p2.added name serial (drop (i + 1) whole) found (gives reading heard);
 }
 
 pub named_stop : {ask : LoadAsk} {load : (List ℕ → Reading) → Load} {s0 s1 : Source} {p0 p1 : Progress} {whole : List (List ℕ)} {found : List ℕ} (i : ℕ) (name : List ℕ) (fault : LoadFault)
