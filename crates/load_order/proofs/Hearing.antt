@@ -1,13 +1,11 @@
 -- What a load has heard, from one read to the next.
-use Rattle.std.proofs.Common.{◌≡◌, ◌≢◌, ◌≤◌, ◌<◌, ◌⊎◌, inl, inr, ℕ, Bool, true, false, not, cond, List, [], ◌∷◌, ◌++◌, Option, Some, None, Result, Ok, Err, refl, sym, ap, subst, ◌∙◌, arith, rules}
+use Rattle.std.proofs.Common.{◌≡◌, ◌≢◌, ◌≤◌, ◌⊎◌, inl, inr, ℕ, true, false, not, cond, List, [], ◌∷◌, ◌++◌, Option, Some, None, refl, sym, ap, ◌∙◌, arith, rules}
 use Rattle.std.specs.Prelude.{MatchOption}
 use Rattle.std.specs.List.{AllByRecursion, find, list_any, filter}
 use Rattle.std.specs.Option.{option_map}
 use Rattle.std.specs.Str.{bytes_eq}
 use Rattle.std.proofs.lemmas.Bool.{cases_Bool, false_from_ne_true}
 use Rattle.std.proofs.lemmas.Slice.Eq.{bytes_eq-Decides}
-use Rattle.std.proofs.lemmas.Grind.{common_steps}
-use Rattle.ld_base.specs.declared.fault.DlFault.{DlFault}
 use Rattle.ld_base.specs.declared.fault.DlFault.TheVariants as dl
 use Rattle.ld_base.specs.declared.linking.File.{File}
 use Rattle.ld_base.specs.declared.linking.Loaded.{Loaded}
@@ -19,7 +17,7 @@ use Rattle.load_order.specs.declared.ask.LoadFault.{LoadFault}
 use Rattle.load_order.specs.declared.ask.LoadFault.TheVariants as faults
 use Rattle.load_order.specs.declared.progress.Progress.{Progress}
 use Rattle.load_order.specs.Files.{reading_of}
-use Rattle.load_order.specs.Heard.{Heard, HeardAt, HeardOver, Learns, AreFiles, Counted, IsQuiet, reading_until, failing}
+use Rattle.load_order.specs.Heard.{Heard, HeardOver, Learns, AreFiles, Counted}
 use Rattle.load_order.specs.Part.{Source}
 
 -- two texts that differ, as the test says it
@@ -90,9 +88,9 @@ without_elsewhere p [] q ne = refl
 without_elsewhere p (f ∷ files) q ne =
     elim (cases_Bool (bytes_eq f.path p)) [
       | inl e ↦
-        let same : f.path ≡ p = (bytes_eq-Decides f.path p).0 e in
-        let other : bytes_eq f.path q ≡ false = rw same (differs p q (λ d. ne (sym d))) in
-        rw (e, other) (without_elsewhere p files q ne)
+          let same : f.path ≡ p = (bytes_eq-Decides f.path p).0 e in
+          let other : bytes_eq f.path q ≡ false = rw same (differs p q (λ d. ne (sym d))) in
+          rw (e, other) (without_elsewhere p files q ne)
       | inr e ↦ rw e (file_past f (without p files) files q (without_elsewhere p files q ne))
     ]
 

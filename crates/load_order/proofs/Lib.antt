@@ -3,6 +3,8 @@ pub mod Hearing
 pub mod Longer
 pub mod Next
 pub mod Noting
+pub mod Numbered
+pub mod Outcome
 pub mod Planning
 pub mod Reading
 pub mod Searching

@@ -1,10 +1,10 @@
 -- A load's new objects only grow in number.
-use Rattle.std.proofs.Common.{◌≡◌, ◌<◌, ◌+◌, ℕ, List, [], ◌∷◌, ◌++◌, length, get_or, Option, Some, None, Result, Ok, Err, refl, sym, ap, ◌∙◌, arith, append-nil, append_assoc, length-append}
+use Rattle.std.proofs.Common.{◌≡◌, ◌<◌, ◌+◌, ℕ, List, [], ◌∷◌, ◌++◌, length, Option, Some, None, Result, Ok, Err, refl, sym, ap, ◌∙◌, arith, append-nil, append_assoc, length-append}
 use Rattle.std.specs.List.{slice_get}
 use Rattle.std.proofs.lemmas.Option.{slice_get-get_or, slice_get_within, get_or_from_slice_get}
 use Rattle.std.proofs.lemmas.List.{get_or_append_left}
 use Rattle.ld_base.specs.declared.linking.Loaded.{Loaded}
-use Rattle.scope_rule.specs.Finding.{Reading, Found, linker, known, fresh, nowhere, unreadable, refused, find_needed}
+use Rattle.scope_rule.specs.Finding.{Found, linker, known, fresh, nowhere, unreadable, refused, find_needed}
 use Rattle.scope_rule.specs.Order.{Load, Stop, arrival, use_of, take_found, take_name, take_names, must_lead, ◌>>=◌}
 use Rattle.load_order.proofs.Reading.{done, taken_is, added_is}
 

@@ -1,5 +1,5 @@
 -- What the names of an object found, noted in its record.
-use Rattle.std.proofs.Common.{◌≡◌, ◌<◌, ◌≤◌, ℕ, zero, suc, List, [], ◌∷◌, length, get_or, Option, Some, None, Result, Ok, Err, refl, sym, ap, subst, ◌∙◌, arith, inl, inr}
+use Rattle.std.proofs.Common.{◌≡◌, ◌<◌, ℕ, zero, suc, List, [], ◌∷◌, length, get_or, Option, Some, None, Result, Ok, refl, sym, ap, subst, ◌∙◌, arith, inl, inr, ◌⊎◌}
 use Rattle.std.specs.Prelude.{IfSome, slice_set}
 use Rattle.std.specs.List.{AllByRecursion, slice_get}
 use Rattle.std.proofs.lemmas.Option.{slice_get_cases, slice_get_read}
@@ -9,13 +9,11 @@ use Rattle.scope_rule.specs.Finding.{Reading, here}
 use Rattle.scope_rule.specs.Order.{Load, Stop, names_of, take_names, turn_of, ◌>>=◌}
 use Rattle.load_order.specs.declared.ask.LoadAsk.{LoadAsk}
 use Rattle.load_order.specs.declared.ask.LoadFault.{LoadFault}
-use Rattle.load_order.specs.declared.ask.LoadFault.TheVariants as faults
 use Rattle.load_order.specs.declared.progress.Progress.{Progress}
 use Rattle.load_order.specs.Answer.{Ends}
 use Rattle.load_order.specs.Heard.{Heard, Learns}
 use Rattle.load_order.specs.Part.{Source}
-use Rattle.load_order.proofs.Hearing.{learns_then}
-use Rattle.load_order.proofs.Longer.{Longer, longer_get, names_longer}
+use Rattle.load_order.proofs.Longer.{went, longer_get, names_longer}
 use Rattle.load_order.proofs.Turning.{names_end}
 
 -- an object with what its names found
@@ -105,3 +103,27 @@ unfolding turn_of
 turn_stops load i added o names fault lt at are ends =
     let here_now : slice_get added i ≡ Some o = slice_get_read added (length added) i o refl lt at in
     rw (turn_of, here_now, ← are) (names_end load fault (take_names load added names) _ ends)
+
+-- what a turn did
+pub record HadTurn (load : Load) (i : ℕ) (added new : List Loaded) : Type 0 where
+  pub object : Loaded
+  pub at : slice_get added i ≡ Some object
+  pub mid : List Loaded
+  pub found : List ℕ
+  pub taken : take_names load added (names_of load i object) ≡ Ok (mid, found)
+  pub is : new ≡ slice_set mid i (noted object found)
+
+abbrev turned : List Loaded → Result (List Loaded) Stop
+turned added = Ok added
+
+-- a turn is an object's, or nothing changes
+pub turn_is : (load : Load) (i : ℕ) (added new : List Loaded) → turn_of load i added ≡ Ok new → (new ≡ added) ⊎ HadTurn load i added new
+unfolding turn_of
+turn_is load i added new e =
+    elim (slice_get_cases added i).1 [
+      | inr h ↦ inl (let none : slice_get added i ≡ None = h.1 in let same : turned added ≡ turned new = rw (turn_of, none) at e in cc)
+      | inl h ↦
+          let at : slice_get added i ≡ Some h.0 = h.2 in
+          let w = went (take_names load added (names_of load i h.0)) (λ taken. turned (slice_set taken.0 i (noted h.0 taken.1))) new (rw (turn_of, at) at e) in
+          inr (record { object = h.0; at = at; mid = w.mid.0; found = w.mid.1; taken = w.first; is = let same : turned (slice_set w.mid.0 i (noted h.0 w.mid.1)) ≡ turned new = w.second in cc })
+    ]

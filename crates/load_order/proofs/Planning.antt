@@ -1,5 +1,5 @@
 -- What a whole load comes to, from what its parts heard.
-use Rattle.std.proofs.Common.{◌≡◌, ◌≢◌, ◌⊎◌, inl, inr, ℕ, Bool, true, false, cond, List, [], ◌∷◌, ◌++◌, Option, Some, None, Result, Ok, Err, refl, sym, ap, subst, ◌∙◌}
+use Rattle.std.proofs.Common.{◌≡◌, ◌⊎◌, inl, inr, ℕ, true, false, cond, List, [], ◌∷◌, ◌++◌, Option, Some, None, Result, Ok, Err, refl, sym, subst, ◌∙◌}
 use Rattle.std.specs.Prelude.{IsTrue, IfOk, IfErr, if◌then◌else◌}
 use Rattle.std.specs.List.{AllByRecursion}
 use Rattle.std.proofs.lemmas.Bool.{cases_Bool}
@@ -14,7 +14,7 @@ use Rattle.ld_base.specs.declared.object.Verneed.{Verneed}
 use Rattle.library_source.specs.Count.{Rises}
 use Rattle.scope_rule.specs.Finding.{Reading, here, absent, failed, with_path, candidates}
 use Rattle.scope_rule.specs.Needed.{first_lack, missing_version}
-use Rattle.scope_rule.specs.Order.{Load, Brings, Stops, IsRoot, refuses, waits}
+use Rattle.scope_rule.specs.Order.{Brings, IsRoot}
 use Rattle.scope_rule.specs.declared.namespace.Namespace.{Namespace}
 use Rattle.load_order.specs.declared.ask.LoadAsk.{LoadAsk}
 use Rattle.load_order.specs.declared.ask.LoadFault.{LoadFault}
@@ -23,9 +23,9 @@ use Rattle.load_order.specs.declared.ask.LoadPlan.{LoadPlan}
 use Rattle.load_order.specs.declared.progress.Progress.{Progress}
 use Rattle.load_order.specs.Files.{reading_of}
 use Rattle.load_order.specs.Heard.{Heard, HeardAt, HeardOver, Learns, AreFiles, Counted, reading_until}
-use Rattle.load_order.specs.Missing.{NoProgram, NoLibrary, IsMissing}
+use Rattle.load_order.specs.Missing.{NoLibrary, IsMissing}
 use Rattle.load_order.specs.Part.{Source, load_of}
-use Rattle.load_order.specs.Plan.{Over, IsPlan, IsRefused, HasToWait, HasNoPath, Lacks, Completes, Incomplete, StopsFor, load_until, load_over, version_fault}
+use Rattle.load_order.specs.Plan.{Over, IsPlan, IsRefused, HasToWait, HasNoPath, Completes, Incomplete, StopsFor, version_fault}
 use Rattle.load_order.proofs.Unfound.{stops_missing, unreadable_no_root}
 
 -- a load at its start
@@ -143,11 +143,15 @@ pub ended_refused : (ask : LoadAsk) (ns : Namespace) (before after : Source) (pr
     → Learns ask before start after progress None → Went ask ns progress root → IfErr r (λ fault. Incomplete ns progress.added fault) → Over before.files (IsRefused ask ns refusal)
 ended_refused ask ns before after progress root r refusal e learns went h =
     let all = hears_all ask before after progress None learns in
-    record { files = all.files; are = all.are; holds = inr (record {
-      added = progress.added;
-      brings = (went (reading_of all.files ask) all.heard tt).0;
-      lacks = incomplete ns progress.added r refusal e h;
-    }) }
+    record {
+      files = all.files;
+      are = all.are;
+      holds = inr (record {
+        added = progress.added;
+        brings = (went (reading_of all.files ask) all.heard tt).0;
+        lacks = incomplete ns progress.added r refusal e h;
+      });
+    }
 
 pub ended_waits : (ns : Namespace) (added : List Loaded) (r : Result LoadPlan LoadFault) (shown : Shown) → r ≡ Err (faults.Wait shown) → IfErr r (λ fault. Incomplete ns added fault) → ⊥
 ended_waits ns added r shown e h =
@@ -201,11 +205,11 @@ only_absent [] reading h path e = absurd cc
 only_absent (o ∷ rest) reading h path e =
     elim (cases_Bool (bytes_eq o.path path)) [
       | inl same ↦
-        let there : o.path ≡ path = (bytes_eq-Decides o.path path).0 same in
-        let P : List ℕ → Type 0 = λ p. reading p ≡ here o.object o.table in
-        let has : reading path ≡ here o.object o.table = subst P there h.0 in
-        let none : reading path ≡ absent = rw same at e in
-        absurd (here_absent (reading path) o has none)
+          let there : o.path ≡ path = (bytes_eq-Decides o.path path).0 same in
+          let P : List ℕ → Type 0 = λ p. reading p ≡ here o.object o.table in
+          let has : reading path ≡ here o.object o.table = subst P there h.0 in
+          let none : reading path ≡ absent = rw same at e in
+          absurd (here_absent (reading path) o has none)
       | inr other ↦ only_absent rest reading h.1 path (rw other at e)
     ]
 
@@ -214,9 +218,9 @@ only_fails [] reading h path e = refl
 only_fails (o ∷ rest) reading h path e =
     elim (cases_Bool (bytes_eq o.path path)) [
       | inl same ↦
-        let there : o.path ≡ path = (bytes_eq-Decides o.path path).0 same in
-        let P : List ℕ → Type 0 = λ p. reading p ≡ here o.object o.table in
-        absurd (here_absent (reading path) o (subst P there h.0) e)
+          let there : o.path ≡ path = (bytes_eq-Decides o.path path).0 same in
+          let P : List ℕ → Type 0 = λ p. reading p ≡ here o.object o.table in
+          absurd (here_absent (reading path) o (subst P there h.0) e)
       | inr other ↦ rw other (only_fails rest reading h.1 path e)
     ]
 

@@ -1,12 +1,12 @@
 -- One read of a load.
-use Rattle.std.proofs.Common.{◌≡◌, ◌≢◌, ◌≤◌, ◌+◌, ◌⊎◌, inl, inr, ℕ, Bool, true, false, List, [], ◌∷◌, ◌++◌, length, length-append, Option, Some, None, Result, Ok, Err, refl, sym, ap, subst, ◌∙◌, arith, rules}
+use Rattle.std.proofs.Common.{◌≡◌, ◌≤◌, ◌+◌, inl, inr, ℕ, true, false, List, [], ◌∷◌, ◌++◌, length, length-append, Option, Some, None, Result, Ok, Err, refl, sym, ap, subst, ◌∙◌, arith}
 use Rattle.std.specs.Prelude.{MatchOption, OnErr, IfSome}
 use Rattle.std.specs.Result.{IsErrOf}
 use Rattle.std.specs.Global.{Vec}
 use Rattle.library_source.specs.declared.library.ReadError.{ReadError}
 use Rattle.library_source.specs.declared.library.ReadError.TheVariants.{Missing}
 use Rattle.scope_rule.specs.declared.namespace.Namespace.{Namespace}
-use Rattle.std.specs.List.{AllByRecursion, list_any}
+use Rattle.std.specs.List.{list_any}
 use Rattle.std.specs.Str.{bytes_eq}
 use Rattle.std.proofs.lemmas.Slice.Eq.{bytes_eq-Decides}
 use Rattle.ld_base.specs.declared.fault.DlFault.{DlFault}
@@ -15,21 +15,20 @@ use Rattle.ld_base.specs.declared.fault.NotAccepted.{NotAccepted}
 use Rattle.ld_base.specs.declared.linking.File.{File}
 use Rattle.ld_base.specs.declared.linking.Loaded.{Loaded}
 use Rattle.ld_base.specs.declared.object.Object.{Object}
-use Rattle.ld_base.specs.declared.parts.HashTable.{HashTable}
 use Rattle.elf_object.specs.Verdict.{object_verdict}
 use Rattle.library_source.specs.Count.{Rises}
 use Rattle.library_source.specs.Files.{file_at}
-use Rattle.scope_rule.specs.Finding.{Reading, here, unaccepted, absent, failed, with_path, found_by_reading}
-use Rattle.scope_rule.specs.Order.{Load, Stop, refuses, waits, arrival, take_found}
+use Rattle.scope_rule.specs.Finding.{Reading, here, unaccepted, failed, with_path, found_by_reading}
+use Rattle.scope_rule.specs.Order.{Load, Stop, arrival, take_found}
 use Rattle.load_order.specs.declared.ask.LoadAsk.{LoadAsk}
 use Rattle.load_order.specs.declared.ask.LoadFault.{LoadFault}
 use Rattle.load_order.specs.declared.ask.LoadFault.TheVariants as faults
 use Rattle.load_order.specs.declared.progress.Progress.{Progress}
 use Rattle.load_order.specs.Answer.{Answers}
 use Rattle.load_order.specs.Files.{as_read, no_table, reading_of}
-use Rattle.load_order.specs.Heard.{Heard, HeardAt, HeardOver, Learns, AreFiles, Counted, fault_in, failing}
+use Rattle.load_order.specs.Heard.{Heard, HeardAt, Learns, AreFiles, fault_in, failing}
 use Rattle.load_order.specs.Part.{Source}
-use Rattle.load_order.proofs.Hearing.{TellsAt, Reads, reads_more, heard_object, heard_miss, object_heard, miss_heard, heard_stands, differs}
+use Rattle.load_order.proofs.Hearing.{TellsAt, reads_more, heard_object, heard_miss, object_heard, miss_heard, heard_stands, differs}
 
 -- the source's files stay, and its counts never fall
 pub record Stays (before after : Source) : Type 0 where
@@ -64,13 +63,13 @@ learns_miss ask before after old new p stays rises tells is_new added missed = r
   missed = inr rises;
   stands = λ reading heard. (miss_heard reading old new p added missed heard).0;
   over = λ over.
-    let reads = reads_more ask before old p None tells is_new.known is_new.missed over in
-    record {
-      files = reads.files;
-      are = files_stay before after reads.files stays.files reads.are;
-      heard = heard_miss (reading_of reads.files ask) old new p added missed reads.heard (rw reads.at refl);
-      stopped = tt;
-    };
+      let reads = reads_more ask before old p None tells is_new.known is_new.missed over in
+      record {
+        files = reads.files;
+        are = files_stay before after reads.files stays.files reads.are;
+        heard = heard_miss (reading_of reads.files ask) old new p added missed reads.heard (rw reads.at refl);
+        stopped = tt;
+      };
   counted = tt;
 }
 
@@ -133,13 +132,13 @@ learns_object ask before after old new p bytes x stays tells is_new path verdict
   missed = inl missed;
   stands = λ reading heard. (object_heard reading old new x added missed heard).0;
   over = λ over.
-    let reads = reads_more ask before old p (Some bytes) tells is_new.known is_new.missed over in
-    record {
-      files = reads.files;
-      are = files_stay before after reads.files stays.files reads.are;
-      heard = heard_object (reading_of reads.files ask) old new x added missed reads.heard (rw (path, reads.at) verdict);
-      stopped = tt;
-    };
+      let reads = reads_more ask before old p (Some bytes) tells is_new.known is_new.missed over in
+      record {
+        files = reads.files;
+        are = files_stay before after reads.files stays.files reads.are;
+        heard = heard_object (reading_of reads.files ask) old new x added missed reads.heard (rw (path, reads.at) verdict);
+        stopped = tt;
+      };
   counted = tt;
 }
 
@@ -154,13 +153,13 @@ learns_refused ask before after old new p bytes broken stays tells is_new verdic
   missed = inl missed;
   stands = λ reading heard. record { objects = rw (← added) heard.objects; missed = rw (← missed) heard.missed };
   over = λ over.
-    let reads = reads_more ask before old p (Some bytes) tells is_new.known is_new.missed over in
-    record {
-      files = reads.files;
-      are = files_stay before after reads.files stays.files reads.are;
-      heard = record { objects = rw added reads.heard.objects; missed = rw missed reads.heard.missed };
-      stopped = rw reads.at verdict;
-    };
+      let reads = reads_more ask before old p (Some bytes) tells is_new.known is_new.missed over in
+      record {
+        files = reads.files;
+        are = files_stay before after reads.files stays.files reads.are;
+        heard = record { objects = rw added reads.heard.objects; missed = rw missed reads.heard.missed };
+        stopped = rw reads.at verdict;
+      };
   counted = tt;
 }
 

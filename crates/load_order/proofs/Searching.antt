@@ -1,6 +1,5 @@
 -- A name searched in one folder after another.
-use Rattle.std.proofs.Common.{◌≡◌, ◌≢◌, ◌<◌, ◌≤◌, ℕ, suc, List, [], ◌∷◌, ◌++◌, ◌+◌, length, get_or, drop, drop-cons, add-one, Option, Some, None, Result, Ok, Err, refl, sym, ap, subst, ◌∙◌, arith}
-use Rattle.ld_base.specs.declared.fault.DlFault.{DlFault}
+use Rattle.std.proofs.Common.{◌≡◌, ◌≢◌, ◌≤◌, ℕ, List, [], ◌∷◌, ◌++◌, ◌+◌, length, drop, Option, Some, None, Result, Ok, Err, refl, sym, ap, subst, ◌∙◌}
 use Rattle.ld_base.specs.declared.linking.Loaded.{Loaded}
 use Rattle.scope_rule.specs.Finding.{Reading, Found, linker, known, fresh, nowhere, unreadable, refused, in_folders, find_path, find_paths, or_else}
 use Rattle.scope_rule.specs.Order.{Load, Stop, refuses, waits, arrival, use_of, take_found, ◌>>=◌}
@@ -9,7 +8,7 @@ use Rattle.load_order.specs.declared.ask.LoadFault.{LoadFault}
 use Rattle.load_order.specs.declared.ask.LoadFault.TheVariants as faults
 use Rattle.load_order.specs.declared.progress.Progress.{Progress}
 use Rattle.load_order.specs.Answer.{Answers, Ends}
-use Rattle.load_order.specs.Heard.{Heard, HeardAt, Learns, fault_in}
+use Rattle.load_order.specs.Heard.{Heard, Learns}
 use Rattle.load_order.specs.Part.{Source}
 use Rattle.load_order.proofs.Hearing.{learns_then}
 use Rattle.load_order.proofs.Next.{IsNext, drop_next, drop_none}
@@ -80,8 +79,8 @@ pub past_step : {ask : LoadAsk} {s0 s1 s2 : Source} {p0 p1 p2 : Progress} {whole
     → Past ask s0 p0 s2 p2 whole rest
 past_step {ask} {s0} {s1} {s2} {p0} {p1} {p2} {whole} rest load one past learns gives =
     let leads : (reading : List ℕ → Reading) → Heard reading p2 → (one p0.added reading ≡ nowhere) × (p2.added ≡ p0.added) = λ reading heard.
-      nowhere_gives (load reading) p0.added p2.added (one p0.added reading)
-        (subst (λ (added : List Loaded). take_found (load reading) added (one added reading) ≡ Ok (p2.added, None)) (past.same reading (learns.stands reading heard)) (gives reading heard)) in
+    nowhere_gives (load reading) p0.added p2.added (one p0.added reading)
+    (subst (λ (added : List Loaded). take_found (load reading) added (one added reading) ≡ Ok (p2.added, None)) (past.same reading (learns.stands reading heard)) (gives reading heard)) in
     record {
       learns = learns_then ask s0 p0 s1 p1 s2 p2 None past.learns learns;
       same = λ reading heard. (leads reading heard).1;
@@ -105,7 +104,7 @@ pub past_found : {ask : LoadAsk} {s0 s1 : Source} {p0 p1 : Progress} {whole : Se
 past_found {ask} {s0} {s1} {p0} {p1} {whole} rest load new one r some past reading heard answers =
     rw (past.decides reading heard)
     (answers_lead load p0.added new (one p0.added reading) (rest reading) r some
-      (subst (λ (added : List Loaded). Answers (λ serial. (new, serial)) r (take_found load added (one added reading))) (past.same reading heard) answers))
+    (subst (λ (added : List Loaded). Answers (λ serial. (new, serial)) r (take_found load added (one added reading))) (past.same reading heard) answers))
 
 -- ---- folders
 

@@ -1,6 +1,5 @@
 -- What a path, a name and an object's names come to in a load.
-use Rattle.std.proofs.Common.{◌≡◌, ◌≢◌, ◌≤◌, ◌⊎◌, inl, inr, ℕ, Bool, true, false, List, [], ◌∷◌, ◌++◌, Option, Some, None, Result, Ok, Err, refl, sym, ap, subst, ◌∙◌, arith, rules}
-use Rattle.std.specs.Prelude.{MatchOption, IfSome}
+use Rattle.std.proofs.Common.{◌≡◌, inl, inr, ℕ, true, List, [], ◌∷◌, ◌++◌, Option, Some, None, Ok, refl, sym, subst, ◌∙◌, arith, rules}
 use Rattle.std.specs.List.{AllByRecursion, list_any}
 use Rattle.std.specs.Option.{option_or}
 use Rattle.std.specs.Str.{bytes_eq}
@@ -8,19 +7,15 @@ use Rattle.std.proofs.lemmas.Bool.{cases_Bool}
 use Rattle.std.proofs.lemmas.Slice.Eq.{bytes_eq-Decides}
 use Rattle.ld_base.specs.declared.fault.DlFault.TheVariants as dl
 use Rattle.ld_base.specs.declared.linking.Loaded.{Loaded}
-use Rattle.library_source.specs.Files.{file_at}
-use Rattle.scope_rule.specs.Finding.{Reading, Found, known, nowhere, absent, has_path, with_path, find_path, found_by_reading}
-use Rattle.scope_rule.specs.Order.{Load, Stop, use_of, take_found}
+use Rattle.scope_rule.specs.Finding.{Reading, known, absent, has_path, with_path, find_path, found_by_reading}
+use Rattle.scope_rule.specs.Order.{Load, take_found}
 use Rattle.load_order.specs.declared.ask.LoadAsk.{LoadAsk}
 use Rattle.load_order.specs.declared.ask.LoadFault.{LoadFault}
 use Rattle.load_order.specs.declared.ask.LoadFault.TheVariants as faults
 use Rattle.load_order.specs.declared.progress.Progress.{Progress}
-use Rattle.load_order.specs.Answer.{Answers}
-use Rattle.load_order.specs.Files.{reading_of}
-use Rattle.load_order.specs.Heard.{Heard, HeardAt, HeardOver, Learns, IsQuiet, Counted, reading_until, fault_in}
-use Rattle.load_order.specs.Part.{Source, load_of}
+use Rattle.load_order.specs.Heard.{Heard, HeardOver, Learns, IsQuiet, Counted}
+use Rattle.load_order.specs.Part.{Source}
 use Rattle.load_order.proofs.Find.{find_either}
-use Rattle.load_order.proofs.Reading.{IsNew}
 
 -- a part that reads nothing learns nothing
 pub quiet_over : (ask : LoadAsk) (s : Source) (p : Progress) (fault : Option LoadFault) → IsQuiet fault → HeardOver ask s p None → HeardOver ask s p fault

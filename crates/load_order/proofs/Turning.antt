@@ -1,5 +1,5 @@
 -- The names of an object one after another, and the objects one after another.
-use Rattle.std.proofs.Common.{◌≡◌, ◌<◌, ◌≤◌, ◌+◌, ℕ, suc, List, [], ◌∷◌, ◌++◌, length, get_or, drop, drop-cons, add-one, Option, Some, None, Result, Ok, Err, refl, sym, ap, subst, ◌∙◌, arith, append_assoc, append-nil}
+use Rattle.std.proofs.Common.{◌≡◌, ◌≤◌, ◌+◌, ℕ, suc, List, [], ◌∷◌, ◌++◌, length, drop, add-one, Option, None, Result, Ok, Err, refl, sym, ap, subst, ◌∙◌, append_assoc, append-nil}
 use Rattle.ld_base.specs.declared.linking.Loaded.{Loaded}
 use Rattle.scope_rule.specs.Finding.{Reading}
 use Rattle.scope_rule.specs.Order.{Load, Stop, Stops, refuses, waits, take_name, take_names, turn_of, root_of, added_after, ◌>>=◌}
@@ -7,9 +7,9 @@ use Rattle.load_order.specs.declared.ask.LoadAsk.{LoadAsk}
 use Rattle.load_order.specs.declared.ask.LoadFault.{LoadFault}
 use Rattle.load_order.specs.declared.ask.LoadFault.TheVariants as faults
 use Rattle.load_order.specs.declared.progress.Progress.{Progress}
-use Rattle.load_order.specs.Answer.{Answers, Ends}
+use Rattle.load_order.specs.Answer.{Ends}
 use Rattle.load_order.specs.Plan.{StopsFor}
-use Rattle.load_order.specs.Heard.{Heard, HeardAt, Learns, fault_in}
+use Rattle.load_order.specs.Heard.{Heard, Learns}
 use Rattle.load_order.specs.Part.{Source}
 use Rattle.load_order.proofs.Hearing.{learns_then}
 use Rattle.load_order.proofs.Reading.{done}
@@ -73,7 +73,7 @@ pub named_step : {ask : LoadAsk} {load : (List ℕ → Reading) → Load} {s0 s1
 named_step {ask} {load} {s0} {s1} {s2} {p0} {p1} {p2} {whole} {found} i name serial next named learns gives = record {
   learns = named_learns named learns;
   comes = λ reading heard. (named_next i name next named).comes reading (learns.stands reading heard)
-    ∙ names_next (load reading) p1.added p2.added name serial (drop (i + 1) whole) found (gives reading heard);
+      ∙ names_next (load reading) p1.added p2.added name serial (drop (i + 1) whole) found (gives reading heard);
 }
 
 pub named_stop : {ask : LoadAsk} {load : (List ℕ → Reading) → Load} {s0 s1 : Source} {p0 p1 : Progress} {whole : List (List ℕ)} {found : List ℕ} (i : ℕ) (name : List ℕ) (fault : LoadFault)

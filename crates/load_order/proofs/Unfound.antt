@@ -1,6 +1,6 @@
 -- A load stops for a missing library only where no path of its name has a file.
-use Rattle.std.proofs.Common.{◌≡◌, ◌≢◌, ◌==◌, ◌⊎◌, inl, inr, ℕ, zero, suc, Bool, true, false, cond, List, [], ◌∷◌, ◌++◌, Option, Some, None, Result, Ok, Err, refl, sym, ap, subst, ◌∙◌}
-use Rattle.std.specs.Prelude.{IsTrue, slice_set}
+use Rattle.std.proofs.Common.{◌≡◌, ◌≢◌, ◌==◌, ◌⊎◌, inl, inr, ℕ, zero, suc, true, false, cond, List, [], ◌∷◌, ◌++◌, Option, Some, None, Result, Ok, Err, refl, sym, ap, subst, ◌∙◌}
+use Rattle.std.specs.Prelude.{slice_set}
 use Rattle.std.specs.List.{AllByRecursion, slice_get}
 use Rattle.std.specs.Str.{bytes_eq}
 use Rattle.std.proofs.lemmas.Bool.{cases_Bool}
@@ -11,8 +11,8 @@ use Rattle.ld_base.specs.declared.linking.State.{State}
 use Rattle.ld_base.specs.declared.linking.State.TheVariants as states
 use Rattle.scope_rule.specs.Finding.{Reading, Found, here, unaccepted, absent, failed, linker, known, fresh, nowhere, unreadable, refused, linker_name, is_path, candidates, with_path, with_soname, or_else, found_by_reading, find_path, find_paths, find_opened, find_needed}
 use Rattle.scope_rule.specs.Order.{Load, Stop, Stops, IsRoot, refuses, waits, use_in, use_of, take_found, take_name, take_names, must_lead, names_of, turn_of, find_root, root_of, added_after, ◌>>=◌}
-use Rattle.load_order.specs.Missing.{NoProgram, NoLibrary, IsMissing}
-use Rattle.load_order.proofs.Longer.{Went, went}
+use Rattle.load_order.specs.Missing.{IsMissing}
+use Rattle.load_order.proofs.Longer.{went}
 use Rattle.load_order.proofs.Reading.{done}
 use Rattle.load_order.proofs.Searching.{nowhere_gives}
 
@@ -132,24 +132,24 @@ names_missing load added (name ∷ names) wanted e =
     elim (stopped (take_name load added name) (λ first. take_names load first.0 names >>= λ others. done {A = List Loaded × List ℕ} (others.0, first.1 ∷ others.1)) (missing wanted) e) [
       | inl h ↦ name_missing load added name wanted h
       | inr h ↦
-        elim (stopped (take_names load h.0.0 names) (λ others. done {A = List Loaded × List ℕ} (others.0, h.0.1 ∷ others.1)) (missing wanted) h.2) [
-          | inl k ↦ names_missing load h.0.0 names wanted k
-          | inr k ↦ absurd (let d : done {A = List Loaded × List ℕ} (k.0.0, h.0.1 ∷ k.0.1) ≡ Err (missing wanted) = k.2 in cc)
-        ]
+          elim (stopped (take_names load h.0.0 names) (λ others. done {A = List Loaded × List ℕ} (others.0, h.0.1 ∷ others.1)) (missing wanted) h.2) [
+            | inl k ↦ names_missing load h.0.0 names wanted k
+            | inr k ↦ absurd (let d : done {A = List Loaded × List ℕ} (k.0.0, h.0.1 ∷ k.0.1) ≡ Err (missing wanted) = k.2 in cc)
+          ]
     ]
 
 turn_missing : (load : Load) (i : ℕ) (added : List Loaded) (wanted : List ℕ) → turn_of load i added ≡ Err (missing wanted) → NoneThere load.reading (candidates load.folders wanted)
 unfolding turn_of
 turn_missing load i added wanted =
     elim (slice_get added i) as (λ (w : Option Loaded). (elim w as (λ x. Result (List Loaded) Stop) [
-        Some o ↦ take_names load added (names_of load i o) >>= λ taken. Ok (slice_set taken.0 i (record o { found = taken.1 }))
+      | Some o ↦ take_names load added (names_of load i o) >>= λ taken. Ok (slice_set taken.0 i (record o { found = taken.1 }))
       | None ↦ Ok added
-      ]) ≡ Err (missing wanted) → NoneThere load.reading (candidates load.folders wanted)) [
+    ]) ≡ Err (missing wanted) → NoneThere load.reading (candidates load.folders wanted)) [
       | Some o ↦ (λ e.
-        elim (stopped (take_names load added (names_of load i o)) (λ taken. done {A = List Loaded} (slice_set taken.0 i (record o { found = taken.1 }))) (missing wanted) e) [
-          | inl h ↦ names_missing load added (names_of load i o) wanted h
-          | inr h ↦ absurd (let d : done {A = List Loaded} (slice_set h.0.0 i (record o { found = h.0.1 })) ≡ Err (missing wanted) = h.2 in cc)
-        ])
+          elim (stopped (take_names load added (names_of load i o)) (λ taken. done {A = List Loaded} (slice_set taken.0 i (record o { found = taken.1 }))) (missing wanted) e) [
+            | inl h ↦ names_missing load added (names_of load i o) wanted h
+            | inr h ↦ absurd (let d : done {A = List Loaded} (slice_set h.0.0 i (record o { found = h.0.1 })) ≡ Err (missing wanted) = h.2 in cc)
+          ])
       | None ↦ (λ e. absurd cc)
     ]
 
@@ -176,10 +176,10 @@ root_missing load wanted e =
     let no = taken_no load [] (find_root load) load.name wanted e in
     let P : List ℕ → Type 0 = λ n. IsMissing load n in
     subst P no.1 (
-      elim (path_or_opened load no.0) [
-        | inl h ↦ inl (record { program = h.0; named = refl; new = h.1.0; absent = h.1.1 })
-        | inr h ↦ inr (record { absent = h.1; program = λ p. absurd (let d : true ≡ false = sym p ∙ h.0 in cc) })
-      ])
+    elim (path_or_opened load no.0) [
+      | inl h ↦ inl (record { program = h.0; named = refl; new = h.1.0; absent = h.1.1 })
+      | inr h ↦ inr (record { absent = h.1; program = λ p. absurd (let d : true ≡ false = sym p ∙ h.0 in cc) })
+    ])
 
 after_missing : (load : Load) (turns : ℕ) (wanted : List ℕ) → added_after load turns ≡ Err (missing wanted) → IsMissing load wanted
 unfolding added_after

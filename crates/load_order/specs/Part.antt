@@ -1,12 +1,10 @@
 -- A load part way, and the definitions at what is asked.
 use Rattle.std.specs.Prelude.{ℕ, List, Option}
 use Rattle.ld_base.specs.declared.linking.File.{File}
-use Rattle.ld_base.specs.declared.linking.Loaded.{Loaded}
 use Rattle.scope_rule.specs.Finding.{Reading}
 use Rattle.scope_rule.specs.Order.{Load}
 use Rattle.scope_rule.specs.declared.namespace.Namespace.{Namespace}
 use Rattle.load_order.specs.declared.ask.LoadAsk.{LoadAsk}
-use Rattle.load_order.specs.declared.progress.Progress.{Progress}
 
 -- the load that is asked for in a namespace, where reading paths gives this
 abbrev pub load_of : LoadAsk → Namespace → (List ℕ → Reading) → Load

@@ -78,11 +78,7 @@ fn with_path<'a>(objects: &'a [Loaded], path: &[u8]) -> Option<&'a Loaded>
 
 /// The object with this path, of those that were there and the new ones.
 #[tactic(auto, using(crate::proofs::Find::find_either))]
-fn known_by_path<'a>(
-    ns: &'a Namespace,
-    progress: &'a Progress,
-    path: &[u8],
-) -> Option<&'a Loaded>
+fn known_by_path<'a>(ns: &'a Namespace, progress: &'a Progress, path: &[u8]) -> Option<&'a Loaded>
     ensures { option_copied result ≡ with_path (ns.now.objects ++ progress.now.added) path.now }
 {
     match with_path(ns.objects.as_slice(), path) {
@@ -93,11 +89,7 @@ fn known_by_path<'a>(
 
 /// The object that names itself so, of those that were there and the new ones.
 #[tactic(auto, using(crate::proofs::Find::find_either))]
-fn known_by_soname<'a>(
-    ns: &'a Namespace,
-    progress: &'a Progress,
-    name: &[u8],
-) -> Option<&'a Loaded>
+fn known_by_soname<'a>(ns: &'a Namespace, progress: &'a Progress, name: &[u8]) -> Option<&'a Loaded>
     ensures { option_copied result ≡ with_soname (ns.now.objects ++ progress.now.added) name.now }
 {
     match with_soname(ns.objects.as_slice(), name) {
@@ -139,10 +131,7 @@ fn read_path<L: Library>(
 fn next_serial(ask: &LoadAsk, progress: &Progress) -> Option<Serial>
     ensures { IfSome result (λ serial. serial ≡ ask.now.next + length progress.now.added) }
 {
-    let number = ask
-        .next
-        .number()
-        .checked_add(progress.added.len() as u64)?;
+    let number = ask.next.number().checked_add(progress.added.len() as u64)?;
     if number < LAST_SERIAL {
         Some(Serial::new(number))
     } else {
@@ -334,7 +323,11 @@ fn take_needed<L: Library>(
 }
 
 /// A name that leads nowhere stops the load.
-pub(crate) fn must_lead(alloc: Global, name: &[u8], found: Option<Serial>) -> Result<Serial, LoadFault>
+pub(crate) fn must_lead(
+    alloc: Global,
+    name: &[u8],
+    found: Option<Serial>,
+) -> Result<Serial, LoadFault>
     ensures gives { (added : List Loaded) → Answers (λ serial. (added, serial)) result (must_lead name.now (added, found)) }
     ensures quiet { IsQuiet (fault_in result) }
 {

@@ -43,7 +43,11 @@ fn place_of(object: &Object, file: &[u8]) -> Option<usize>
     ensures place { result ≡ position (λ name. bytes_eq name file.now) object.now.needed }
     ensures within { IfSome result (λ place. place < length object.now.needed) }
 {
-    object.needed.as_slice().iter().position(|name| name.is(file))
+    object
+        .needed
+        .as_slice()
+        .iter()
+        .position(|name| name.is(file))
 }
 
 /// The object that the first of an object's needed names that is the file found.

@@ -1,5 +1,5 @@
 -- Breadth-first order, a level at a time.
-use Rattle.std.proofs.Common.{◌≡◌, Bool, ℕ, zero, suc, ◌+◌, ◌<◌, ◌≤◌, List, [], ◌∷◌, ◌++◌, length, take, drop, get_or, refl, sym, ap, ◌∙◌, append_assoc, arith, add-one, drop-cons}
+use Rattle.std.proofs.Common.{◌≡◌, Bool, ℕ, zero, suc, ◌+◌, ◌<◌, ◌≤◌, List, [], ◌∷◌, ◌++◌, length, take, drop, get_or, refl, sym, ap, ◌∙◌, arith, add-one, drop-cons}
 use Rattle.std.proofs.Math.Seq.{take-length}
 use Rattle.std.specs.List.{find, flat_map}
 use Rattle.std.specs.Option.{option_or}
@@ -9,7 +9,7 @@ use Rattle.std.proofs.lemmas.Grind.{flat_map-append, common_steps}
 use Rattle.scope_rule.specs.declared.namespace.Namespace.{Namespace}
 use Rattle.scope_rule.specs.Loading.{found_of, with_added}
 use Rattle.scope_rule.specs.Breadth.{level, levels, extend, breadth, without, first_kept}
-use Rattle.scope_rule.proofs.Extend.{extend-append, extend_seen, extend_nothing, extended_front, extended_length}
+use Rattle.scope_rule.proofs.Extend.{extend-append, extend_seen, extend_nothing, extended_front}
 
 -- one entry of a level
 pub entry_step : (f : ℕ → List ℕ) (order s total : List ℕ) (i end x : ℕ) → i < end → end ≡ length s → end ≤ length order → take end order ≡ s → x ≡ get_or order i x

@@ -2,7 +2,6 @@
 use Rattle.std.specs.Prelude.{ℕ, Bool, false, ◌==◌, if◌then◌else◌, List, [], ◌++◌, Option, Some, None}
 use Rattle.std.specs.List.{find}
 use Rattle.ld_base.specs.declared.linking.Loaded.{Loaded}
-use Rattle.ld_base.specs.declared.linking.State.{State}
 use Rattle.ld_base.specs.declared.linking.State.TheVariants.{Dying}
 use Rattle.scope_rule.specs.declared.namespace.Namespace.{Namespace}
 

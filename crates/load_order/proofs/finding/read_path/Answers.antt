@@ -1,7 +1,5 @@
-use Rattle.std.proofs.Common.{◌≡◌, List, ℕ, Some, None, Err, refl, ap}
-use Rattle.library_source.specs.Files.{file_at}
-use Rattle.scope_rule.specs.Finding.{Reading, absent}
-use Rattle.scope_rule.specs.declared.namespace.Namespace.{Namespace}
+use Rattle.std.proofs.Common.{Err, refl, ap}
+use Rattle.scope_rule.specs.Finding.{absent}
 use Rattle.load_order.specs.Part.{load_of}
 use Rattle.load_order.proofs.Reading.{learns_miss, gives_miss, learns_failed, learns_added, gives_added, tells_absent, tells_found, nothing_there}
 use Rattle.load_order.proofs.finding.read_path.Goals as goal

@@ -1,4 +1,3 @@
-use Rattle.std.proofs.Common.{Some}
 use Rattle.std.proofs.lemmas.Result.{err_from_is_err_and}
 use Rattle.load_order.specs.Part.{load_of}
 use Rattle.load_order.proofs.Hearing.{learns_then}
@@ -14,8 +13,8 @@ pub returns-in_err-take_turn-clause-gives : goal.returns-in_err-take_turn-clause
 returns-in_err-take_turn-clause-gives g c =
     let p = err_from_is_err_and c.from_residual.result c.from_residual.ensures.1 in
     rw (p.1, p.2) (λ reading heard stopped.
-      turned_stop (load_of c.args.ask.now c.args.ns.now reading) c.loop-index.index c.loop-index.progress.added c.in_err-take_turn.field-0.0
-      (c.loop-index.invariant.come reading (c.in_err-take_turn.ensures.learns.stands reading heard)) (c.in_err-take_turn.ensures.gives reading heard stopped))
+    turned_stop (load_of c.args.ask.now c.args.ns.now reading) c.loop-index.index c.loop-index.progress.added c.in_err-take_turn.field-0.0
+    (c.loop-index.invariant.come reading (c.in_err-take_turn.ensures.learns.stands reading heard)) (c.in_err-take_turn.ensures.gives reading heard stopped))
 
 pub loop-index-preserved : goal.loop-index-preserved
 loop-index-preserved g c =

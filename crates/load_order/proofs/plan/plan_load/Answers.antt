@@ -6,19 +6,19 @@ pub returns-in_err-root-clause-refused : goal.returns-in_err-root-clause-refused
 returns-in_err-root-clause-refused g c = λ fault is.
     let p = err_from_is_err_and c.from_residual.result c.from_residual.ensures.1 in
     halted_refused c.args.ask.now c.args.ns.now _ _ _ c.in_err-root.field-0.0 fault (thrown c.from_residual.result p.0 _ _ p.1 p.2 is)
-      (rw c.new-progress.ensures at c.in_err-root.ensures.learns) c.in_err-root.ensures.gives
+    (rw c.new-progress.ensures at c.in_err-root.ensures.learns) c.in_err-root.ensures.gives
 
 pub returns-in_err-root-clause-waits : goal.returns-in_err-root-clause-waits
 returns-in_err-root-clause-waits g c = λ shown is.
     let p = err_from_is_err_and c.from_residual.result c.from_residual.ensures.1 in
     halted_waits c.args.ask.now c.args.ns.now _ _ _ c.in_err-root.field-0.0 shown (thrown c.from_residual.result p.0 _ _ p.1 p.2 is)
-      (rw c.new-progress.ensures at c.in_err-root.ensures.learns) c.in_err-root.ensures.gives
+    (rw c.new-progress.ensures at c.in_err-root.ensures.learns) c.in_err-root.ensures.gives
 
 pub returns-in_err-root-clause-missing : goal.returns-in_err-root-clause-missing
 returns-in_err-root-clause-missing g c = λ name is.
     let p = err_from_is_err_and c.from_residual.result c.from_residual.ensures.1 in
     halted_missing c.args.ask.now c.args.ns.now _ _ _ c.in_err-root.field-0.0 name (thrown c.from_residual.result p.0 _ _ p.1 p.2 is)
-      (rw c.new-progress.ensures at c.in_err-root.ensures.learns) c.in_err-root.ensures.gives
+    (rw c.new-progress.ensures at c.in_err-root.ensures.learns) c.in_err-root.ensures.gives
 
 pub returns-clause-plan : goal.returns-clause-plan
 returns-clause-plan g c =

@@ -1,4 +1,3 @@
-use Rattle.std.proofs.Common.{◌≡◌, Ok}
 use Rattle.std.proofs.lemmas.Result.{err_from_is_err_and}
 use Rattle.load_order.specs.Part.{load_of}
 use Rattle.load_order.proofs.Hearing.{learns_then}

@@ -1,4 +1,4 @@
-use Rattle.std.proofs.Common.{◌≡◌, ◌++◌, List, ℕ, get_or, arith}
+use Rattle.std.proofs.Common.{◌≡◌, ℕ, get_or, arith}
 use Rattle.scope_rule.specs.Loading.{found_of, with_added}
 use Rattle.scope_rule.specs.Breadth.{extend}
 use Rattle.scope_rule.proofs.Extend.{extended_front, extended_length}

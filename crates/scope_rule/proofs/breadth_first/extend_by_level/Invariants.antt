@@ -1,4 +1,4 @@
-use Rattle.std.proofs.Common.{◌≡◌, ◌≤◌, ◌++◌, length, drop, take, List, ℕ}
+use Rattle.std.proofs.Common.{◌≡◌, ◌≤◌, length, drop, take}
 use Rattle.std.specs.Prelude.{flat_map}
 use Rattle.scope_rule.specs.Loading.{found_of, with_added}
 use Rattle.scope_rule.specs.Breadth.{extend}
