@@ -1,0 +1,4 @@
+pub mod Joining
+pub mod Low
+pub mod Marks
+pub mod Reading
