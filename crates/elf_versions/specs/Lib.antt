@@ -2,6 +2,7 @@ pub mod Index
 pub mod Linked
 pub mod Record
 pub mod Source
+pub mod Spells
 pub mod Verdef
 pub mod Verdict
 pub mod Verneed

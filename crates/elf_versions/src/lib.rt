@@ -14,10 +14,12 @@
 #![tactic(auto)]
 
 mod index;
+mod law;
 mod reader;
 mod records;
 mod verdef;
 mod verneed;
 mod versym;
 
+pub use law::one_verdict;
 pub use reader::read_versions;
