@@ -1,11 +1,9 @@
 -- Every fault of a table is that the table isn't well formed.
-use Rattle.std.proofs.Common.{◌≡◌, ◌∙◌, sym, ap, ℕ, zero, suc, ◌+◌, ◌*◌, ◌%◌, Bool, true, false, cond, List, [], ◌∷◌, ◌++◌, Option, Some, None, Result, Ok, Err, refl}
+use Rattle.std.proofs.Common.{◌≡◌, ap, ℕ, zero, suc, ◌+◌, ◌*◌, Bool, true, false, cond, List, [], ◌∷◌, ◌++◌, Option, Some, None, Result, Ok, Err, refl}
 use Rattle.std.specs.Prelude.{◌==◌, nat_le}
 use Rattle.std.specs.Option.{ok_or, option_map_or}
 use Rattle.ld_base.specs.Field.{field}
 use Rattle.ld_base.specs.declared.fault.NotAccepted.{NotAccepted}
-use Rattle.ld_base.specs.declared.object.Verdef.{Verdef}
-use Rattle.ld_base.specs.declared.object.Verneed.{Verneed}
 use Rattle.ld_base.specs.declared.parts.Tag.{Tag}
 use Rattle.elf_head.specs.Readable.{file_bytes}
 use Rattle.elf_head.specs.Table.{table}
@@ -14,7 +12,7 @@ use Rattle.elf_dynamic.specs.Name.{string_at}
 use Rattle.elf_dynamic.specs.Tag.{last_of}
 use Rattle.elf_dynamic.specs.TagNumbers.{dt_versym, dt_verdef, dt_verdefnum, dt_verneed, dt_verneednum}
 use Rattle.elf_versions.specs.declared.verneed.Need.{Need}
-use Rattle.elf_versions.specs.Linked.{linked, is_linked, place}
+use Rattle.elf_versions.specs.Linked.{is_linked, place}
 use Rattle.elf_versions.specs.Record.{bad_table, distance, named, passing, record_at, value_of}
 use Rattle.elf_versions.specs.Source.{Source}
 use Rattle.elf_versions.specs.Verdef.{is_verdef, verdef_at, verdefs_from, verdefs_of}

@@ -1,8 +1,8 @@
 -- The verdict on version tables and the relations that say what it means.
-use Rattle.std.proofs.Common.{◌≡◌, ◌↔◌, ◌⊎◌, ◌∙◌, sym, ap, subst, ℕ, suc, ◌+◌, ◌*◌, ◌%◌, ◌<◌, ◌≤◌, Bool, true, false, cond, not, ◌&&◌, ◌||◌, List, [], ◌∷◌, ◌++◌, length, Option, Some, None, Result, Ok, Err, refl, arith, inl, inr}
-use Rattle.std.specs.Prelude.{◌==◌, nat_lt, nat_le, is_some, sum_by, if◌then◌else◌}
-use Rattle.std.specs.Option.{ok_or, option_map_or}
-use Rattle.std.proofs.lemmas.Bool.{cases_Bool, and_parts, and_from, lt-ltb, ltb-true, leb-true, le-leb, eqb-true, eq-eqb}
+use Rattle.std.proofs.Common.{◌≡◌, ◌↔◌, ◌⊎◌, sym, ℕ, ◌+◌, ◌*◌, ◌%◌, ◌<◌, ◌≤◌, Bool, true, false, cond, ◌&&◌, List, [], ◌∷◌, ◌++◌, Option, Some, None, Result, Ok, Err, refl, inl, inr}
+use Rattle.std.specs.Prelude.{◌==◌, nat_lt, nat_le, sum_by}
+use Rattle.std.specs.Option.{option_map_or}
+use Rattle.std.proofs.lemmas.Bool.{and_parts, and_from, lt-ltb, ltb-true, leb-true, le-leb, eqb-true, eq-eqb}
 use Rattle.ld_base.specs.Field.{field}
 use Rattle.ld_base.specs.declared.fault.NotAccepted.{NotAccepted}
 use Rattle.ld_base.specs.declared.object.Verdef.{Verdef}
@@ -10,14 +10,14 @@ use Rattle.ld_base.specs.declared.object.Verneed.{Verneed}
 use Rattle.ld_base.specs.declared.parts.Tag.{Tag}
 use Rattle.elf_head.specs.Readable.{file_bytes}
 use Rattle.elf_head.specs.Table.{table}
-use Rattle.elf_dynamic.specs.Entries.{◌>>=◌, entries_of, AreEntries}
+use Rattle.elf_dynamic.specs.Entries.{◌>>=◌}
 use Rattle.elf_dynamic.specs.Name.{string_at, IsStringAt}
 use Rattle.elf_dynamic.specs.Tag.{last_of}
 use Rattle.elf_dynamic.specs.TagNumbers.{dt_versym, dt_verdef, dt_verdefnum, dt_verneed, dt_verneednum}
 use Rattle.elf_dynamic.proofs.Laws.{bind_ok, entries_from-read, read_from-entries, entries_map, some_from-ok_or, ok_or-some, ok_is}
 use Rattle.elf_versions.specs.declared.verneed.Need.{Need}
 use Rattle.elf_versions.specs.Linked.{linked, is_linked, place}
-use Rattle.elf_versions.specs.Record.{bad_table, distance, named, passing, record_at, value_of, wanted}
+use Rattle.elf_versions.specs.Record.{bad_table, distance, named, passing, record_at, value_of}
 use Rattle.elf_versions.specs.Source.{Source}
 use Rattle.elf_versions.specs.Spells.{AreLinked, AreNeeded, AreVerdefs, AreVerneeds, AreVersions, IsNeedAt, IsVerdefAt, IsVernauxAt, IsVersym, StandsAt}
 use Rattle.elf_versions.specs.Spells.AreVersions.{no_more, and_then}
@@ -116,8 +116,8 @@ verdef_read : Strings → (src : Source) (is_last : Bool) (at : ℕ) (d : Verdef
 unfolding verdef_at
 verdef_read strings src is_last at d is =
     let test : is_verdef is_last is.verdef ≡ true = and_from (field 2 is.verdef 0 == 1 && nat_lt 0 (field 2 is.verdef 6)) (is_linked is_last (field 4 is.verdef 16))
-        (and_from (field 2 is.verdef 0 == 1) (nat_lt 0 (field 2 is.verdef 6)) (eq-eqb (field 2 is.verdef 0) 1 is.version) (lt-ltb 0 (field 2 is.verdef 6) is.counts))
-        (leads_on is_last (field 4 is.verdef 16) is.leads) in
+    (and_from (field 2 is.verdef 0 == 1) (nat_lt 0 (field 2 is.verdef 6)) (eq-eqb (field 2 is.verdef 0) 1 is.version) (lt-ltb 0 (field 2 is.verdef 6) is.counts))
+    (leads_on is_last (field 4 is.verdef 16) is.leads) in
     let made : (let m : Verdef = record { index = field 2 is.verdef 4; flags = field 2 is.verdef 2; name = d.name } in m) ≡ d = rw (← is.index, ← is.flags) refl in
     rw (stands_read src 20 at is.verdef is.stands, passes src.tag (is_verdef is_last) is.verdef test, stands_read src 8 (at + field 4 is.verdef 12) is.verdaux is.names, is_named strings src (field 4 is.verdaux 0) d.name is.name, made) refl
 
@@ -150,8 +150,8 @@ need_read : Strings → (src : Source) (is_last : Bool) (at : ℕ) (need : Need)
 unfolding need_at
 need_read strings src is_last at need is =
     let test : is_verneed is_last is.verneed ≡ true = and_from (field 2 is.verneed 0 == 1 && nat_lt 0 (field 2 is.verneed 2)) (is_linked is_last (field 4 is.verneed 12))
-        (and_from (field 2 is.verneed 0 == 1) (nat_lt 0 (field 2 is.verneed 2)) (eq-eqb (field 2 is.verneed 0) 1 is.version) (lt-ltb 0 (field 2 is.verneed 2) is.counts))
-        (leads_on is_last (field 4 is.verneed 12) is.leads) in
+    (and_from (field 2 is.verneed 0 == 1) (nat_lt 0 (field 2 is.verneed 2)) (eq-eqb (field 2 is.verneed 0) 1 is.version) (lt-ltb 0 (field 2 is.verneed 2) is.counts))
+    (leads_on is_last (field 4 is.verneed 12) is.leads) in
     let made : (let m : Need = record { file = need.file; versions = at + field 4 is.verneed 8; count = field 2 is.verneed 2 } in m) ≡ need = rw (← is.versions, ← is.count) refl in
     rw (stands_read src 16 at is.verneed is.stands, passes src.tag (is_verneed is_last) is.verneed test, is_named strings src (field 4 is.verneed 4) need.file is.file, made) refl
 

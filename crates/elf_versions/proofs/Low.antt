@@ -1,6 +1,6 @@
 -- A range of addresses that the file has bytes for lies in the first 4 GiB.
-use Rattle.std.proofs.Common.{◌≡◌, ◌∙◌, sym, ap, ℕ, suc, ◌+◌, ◌≤◌, ◌<◌, ◌^◌, Bool, true, false, List, [], ◌∷◌, ◌++◌, length, take, refl, arith, inl, inr}
-use Rattle.std.specs.Prelude.{Option, Some, None, Ok, ◌==◌, IsTrue}
+use Rattle.std.proofs.Common.{◌≡◌, ap, ℕ, suc, ◌+◌, ◌≤◌, ◌<◌, ◌^◌, Bool, true, false, List, [], ◌∷◌, ◌++◌, length, take, refl, arith, inl, inr}
+use Rattle.std.specs.Prelude.{Option, Some, None, Ok, IsTrue}
 use Rattle.std.specs.List.{slice_get, list_any}
 use Rattle.std.specs.Option.{option_or}
 use Rattle.std.proofs.lemmas.Bool.{cases_Bool}

@@ -1,14 +1,12 @@
 -- The verdict on all version tables, and the relations that say what it means.
-use Rattle.std.proofs.Common.{◌≡◌, ◌↔◌, ◌⊎◌, ◌∙◌, sym, ap, subst, ℕ, suc, ◌+◌, ◌<◌, ◌≤◌, Bool, true, false, cond, List, [], ◌∷◌, length, get_or, Option, Some, None, Result, Ok, Err, refl, arith, inl, inr}
-use Rattle.std.specs.Prelude.{position, is_some, nat_lt}
+use Rattle.std.proofs.Common.{◌≡◌, ◌↔◌, ◌⊎◌, ℕ, ◌<◌, ◌≤◌, Bool, true, false, cond, List, length, get_or, Option, Some, None, Result, Ok, Err, refl, arith, inl, inr}
+use Rattle.std.specs.Prelude.{is_some, nat_lt}
 use Rattle.std.specs.Option.{option_map_or}
-use Rattle.std.specs.List.{position_or_len, slice_get}
+use Rattle.std.specs.List.{position_or_len}
 use Rattle.std.proofs.lemmas.Bool.{cases_order, ltb-true, ltb-false}
 use Rattle.std.proofs.lemmas.List.Sums.{fails_before_first, passes_at_first}
 use Rattle.std.proofs.lemmas.Option.{cond_some, get_or_from_slice_get, slice_get-get_or, slice_get_within}
 use Rattle.ld_base.specs.declared.fault.NotAccepted.{NotAccepted}
-use Rattle.ld_base.specs.declared.object.Verdef.{Verdef}
-use Rattle.ld_base.specs.declared.object.Verneed.{Verneed}
 use Rattle.ld_base.specs.declared.parts.DynParts.{DynParts}
 use Rattle.ld_base.specs.declared.parts.Head.{Head}
 use Rattle.ld_base.specs.declared.parts.Versions.{Versions}
@@ -19,7 +17,6 @@ use Rattle.elf_dynamic.specs.TagNumbers.{dt_versym, dt_verdef, dt_verneed}
 use Rattle.elf_versions.proofs.Faults.{fails_with, verdefs_fail, verneeds_fail, versym_fails}
 use Rattle.elf_versions.proofs.Laws.{Strings, verdefs_are, verdefs_read, verneeds_are, verneeds_read, versym_is, versym_read}
 use Rattle.elf_versions.specs.Index.{indexes_of, is_unknown, unknown_index}
-use Rattle.elf_versions.specs.Record.{bad_table}
 use Rattle.elf_versions.specs.Spells.{BreaksFirst, IsUnknownAt, Say, SpellsVersions}
 use Rattle.elf_versions.specs.Spells.BreaksFirst.{bad_versym, bad_verdefs, bad_verneeds, unknown}
 use Rattle.elf_versions.specs.Verdef.{verdefs_of}
@@ -127,14 +124,14 @@ module _ (strings : Strings) (bytes : List ℕ) (head : Head) (parts : DynParts)
   pub accepted : (v : Versions) → (versions_verdict bytes head parts ≡ Ok v) ↔ SpellsVersions bytes head parts v
   unfolding versions_verdict with_indexes
   accepted v = (
-      λ e.
+    λ e.
         let t = bind_ok (tables_of bytes head.headers parts.tags (length parts.symbols)) _ v e in
         let w = with_ok t.0 v (unknown_index t.0) t.2 in
         let read : tables_of bytes head.headers parts.tags (length parts.symbols) ≡ Ok v = rw (← w.0) t.1 in
         let none : unknown_index v ≡ None = rw (← w.0) w.1 in
         record { say = says v read; known = known_from v none },
-      λ s. rw (said v s.say, known_is v (unknown_index v) refl s.known) refl,
-    )
+    λ s. rw (said v s.say, known_is v (unknown_index v) refl s.known) refl,
+  )
 
   refused_from : (fault : NotAccepted) → versions_verdict bytes head parts ≡ Err fault → BreaksFirst bytes head parts fault
   unfolding versions_verdict with_indexes tables_of
@@ -168,12 +165,17 @@ module _ (strings : Strings) (bytes : List ℕ) (head : Head) (parts : DynParts)
       rw (fails_with dt_versym (versym_of src parts.tags (length parts.symbols)) (versym_fails src parts.tags (length parts.symbols)) (λ x is. never x (versym_is src parts.tags (length parts.symbols) x is))) refl
   refused_is fault (bad_verdefs entries versym never) =
       let src = source_of bytes head.headers parts.tags in
-      rw (versym_read (src dt_versym) parts.tags (length parts.symbols) entries versym,
-      fails_with dt_verdef (verdefs_of (src dt_verdef) parts.tags) (verdefs_fail (src dt_verdef) parts.tags) (λ x is. never x (verdefs_are strings (src dt_verdef) parts.tags x is))) refl
+      rw (
+        versym_read (src dt_versym) parts.tags (length parts.symbols) entries versym,
+        fails_with dt_verdef (verdefs_of (src dt_verdef) parts.tags) (verdefs_fail (src dt_verdef) parts.tags) (λ x is. never x (verdefs_are strings (src dt_verdef) parts.tags x is)),
+      ) refl
   refused_is fault (bad_verneeds entries versym ds verdefs never) =
       let src = source_of bytes head.headers parts.tags in
-      rw (versym_read (src dt_versym) parts.tags (length parts.symbols) entries versym, verdefs_read strings (src dt_verdef) parts.tags ds verdefs,
-      fails_with dt_verneed (verneeds_of (src dt_verneed) parts.tags) (verneeds_fail (src dt_verneed) parts.tags) (λ x is. never x (verneeds_are strings (src dt_verneed) parts.tags x is))) refl
+      rw (
+        versym_read (src dt_versym) parts.tags (length parts.symbols) entries versym,
+        verdefs_read strings (src dt_verdef) parts.tags ds verdefs,
+        fails_with dt_verneed (verneeds_of (src dt_verneed) parts.tags) (verneeds_fail (src dt_verneed) parts.tags) (λ x is. never x (verneeds_are strings (src dt_verneed) parts.tags x is)),
+      ) refl
   refused_is fault (unknown v say symbol here before) =
       rw (said v say, first_is v symbol (unknown_index v) refl (record { here = here; before = before })) refl
 

@@ -1,5 +1,5 @@
 -- Records of a version table, and the strings that they name.
-use Rattle.std.specs.Prelude.{ℕ, ◌+◌, Bool, if◌then◌else◌, List, Option, Result, Ok, Err, unwrap_or}
+use Rattle.std.specs.Prelude.{ℕ, Bool, if◌then◌else◌, List, Option, Result, Ok, Err, unwrap_or}
 use Rattle.std.specs.Option.{ok_or, option_map_or}
 use Rattle.ld_base.specs.Field.{field}
 use Rattle.ld_base.specs.declared.fault.NotAccepted.{NotAccepted}

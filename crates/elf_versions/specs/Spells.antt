@@ -1,6 +1,6 @@
 -- What it is for version tables to say something, and to break a rule: as relations.
-use Rattle.std.specs.Prelude.{◌≡◌, ◌⊎◌, ℕ, ◌+◌, ◌*◌, ◌%◌, ◌==◌, ◌<◌, ◌≤◌, Bool, true, false, IsTrue, not, is_some, List, [], ◌∷◌, ◌++◌, length, sum_by, Some, None, slice_index}
-use Rattle.std.specs.List.{AllPass, slice_get}
+use Rattle.std.specs.Prelude.{◌≡◌, ◌⊎◌, ℕ, ◌+◌, ◌*◌, ◌%◌, ◌==◌, ◌<◌, ◌≤◌, Bool, false, IsTrue, is_some, List, [], ◌∷◌, ◌++◌, length, sum_by, Some, None}
+use Rattle.std.specs.List.{slice_get}
 use Rattle.ld_base.specs.Field.{field}
 use Rattle.ld_base.specs.declared.fault.NotAccepted.{NotAccepted}
 use Rattle.ld_base.specs.declared.object.Verdef.{Verdef}
@@ -48,7 +48,7 @@ abbrev pub AreVerdefs : Source → List Tag → List Verdef → Type 0
 AreVerdefs src tags ds =
     ((last_of tags dt_verdef ≡ None) × (ds ≡ []))
     ⊎ ((start : ℕ) × (last_of tags dt_verdef ≡ Some start) × (value_of tags dt_verdefnum ≤ 32768)
-      × AreLinked (IsVerdefAt src) (distance src 20 16) start (value_of tags dt_verdefnum) ds)
+    × AreLinked (IsVerdefAt src) (distance src 20 16) start (value_of tags dt_verdefnum) ds)
 
 -- the Verneed at an address
 pub record IsNeedAt (src : Source) (is_last : Bool) (at : ℕ) (need : Need) : Type 0 where
@@ -75,7 +75,7 @@ pub record IsVernauxAt (src : Source) (file : List ℕ) (is_last : Bool) (at : �
 pub data AreVersions (src : Source) : List Need → List Verneed → Type 0 where
   no_more : AreVersions src [] []
   and_then : (need : Need) (needs : List Need) (first rest : List Verneed) → AreLinked (IsVernauxAt src need.file) (distance src 16 12) need.versions need.count first
-    → AreVersions src needs rest → AreVersions src (need ∷ needs) (first ++ rest)
+      → AreVersions src needs rest → AreVersions src (need ∷ needs) (first ++ rest)
 
 -- the versions that so many records from a start on need
 pub record AreNeeded (src : Source) (start count : ℕ) (ns : List Verneed) : Type 0 where
@@ -89,14 +89,14 @@ abbrev pub AreVerneeds : Source → List Tag → List Verneed → Type 0
 AreVerneeds src tags ns =
     ((last_of tags dt_verneed ≡ None) × (ns ≡ []))
     ⊎ ((start : ℕ) × (last_of tags dt_verneed ≡ Some start) × (value_of tags dt_verneednum ≤ 32768)
-      × AreNeeded src start (value_of tags dt_verneednum) ns)
+    × AreNeeded src start (value_of tags dt_verneednum) ns)
 
 -- the version indexes of so many symbols: none, or those of the table
 abbrev pub IsVersym : Source → List Tag → ℕ → List ℕ → Type 0
 IsVersym src tags count entries =
     ((last_of tags dt_versym ≡ None) × (entries ≡ []))
     ⊎ ((start : ℕ) × (part : List ℕ) × (last_of tags dt_versym ≡ Some start) × StandsAt src (2 * count) start part
-      × (entries ≡ table (field 2 part) 0 2 count))
+    × (entries ≡ table (field 2 part) 0 2 count))
 
 -- what the tables of an object say
 pub record Say (bytes : List ℕ) (head : Head) (parts : DynParts) (v : Versions) : Type 0 where
@@ -118,8 +118,8 @@ pub record SpellsVersions (bytes : List ℕ) (head : Head) (parts : DynParts) (v
 pub data BreaksFirst (bytes : List ℕ) (head : Head) (parts : DynParts) : NotAccepted → Type 0 where
   bad_versym : ((entries : List ℕ) → IsVersym (source_of bytes head.headers parts.tags dt_versym) parts.tags (length parts.symbols) entries → ⊥) → BreaksFirst bytes head parts (bad_table dt_versym)
   bad_verdefs : (entries : List ℕ) → IsVersym (source_of bytes head.headers parts.tags dt_versym) parts.tags (length parts.symbols) entries
-    → ((ds : List Verdef) → AreVerdefs (source_of bytes head.headers parts.tags dt_verdef) parts.tags ds → ⊥) → BreaksFirst bytes head parts (bad_table dt_verdef)
+      → ((ds : List Verdef) → AreVerdefs (source_of bytes head.headers parts.tags dt_verdef) parts.tags ds → ⊥) → BreaksFirst bytes head parts (bad_table dt_verdef)
   bad_verneeds : (entries : List ℕ) → IsVersym (source_of bytes head.headers parts.tags dt_versym) parts.tags (length parts.symbols) entries
-    → (ds : List Verdef) → AreVerdefs (source_of bytes head.headers parts.tags dt_verdef) parts.tags ds
-    → ((ns : List Verneed) → AreVerneeds (source_of bytes head.headers parts.tags dt_verneed) parts.tags ns → ⊥) → BreaksFirst bytes head parts (bad_table dt_verneed)
+      → (ds : List Verdef) → AreVerdefs (source_of bytes head.headers parts.tags dt_verdef) parts.tags ds
+      → ((ns : List Verneed) → AreVerneeds (source_of bytes head.headers parts.tags dt_verneed) parts.tags ns → ⊥) → BreaksFirst bytes head parts (bad_table dt_verneed)
   unknown : (v : Versions) → Say bytes head parts v → (symbol : ℕ) → IsUnknownAt v symbol → ((before : ℕ) → before < symbol → IsUnknownAt v before → ⊥) → BreaksFirst bytes head parts (bad_index symbol)

@@ -1,5 +1,5 @@
 -- What the version tables of an object say, or the rule that they break.
-use Rattle.std.specs.Prelude.{ℕ, List, [], length, is_some, Option, Some, None, unwrap_or, Result, Ok, Err}
+use Rattle.std.specs.Prelude.{ℕ, List, [], length, is_some, unwrap_or, Result, Ok, Err}
 use Rattle.std.specs.Option.{option_map_or}
 use Rattle.ld_base.specs.declared.fault.NotAccepted.{NotAccepted}
 use Rattle.ld_base.specs.declared.parts.DynParts.{DynParts}

@@ -54,13 +54,14 @@ fn first_unmarked(marks: &[bool], versym: &[u16]) -> Option<usize>
 
 /// The first symbol whose version index isn't there.
 #[tactic(auto, unfolding(crate::specs::Index::unknown_index))]
-pub(crate) fn unknown_index(
-    alloc: Global,
-    versions: &Versions,
-) -> Result<Option<usize>, AllocError>
+pub(crate) fn unknown_index(alloc: Global, versions: &Versions) -> Result<Option<usize>, AllocError>
     ensures { IfOk result (λ symbol. symbol ≡ unknown_index versions.now) }
 {
-    let indexes = indexes_of(alloc, versions.verdefs.as_slice(), versions.verneeds.as_slice())?;
+    let indexes = indexes_of(
+        alloc,
+        versions.verdefs.as_slice(),
+        versions.verneeds.as_slice(),
+    )?;
     let marks = marks_of(alloc, &indexes, SHORTS)?;
     Ok(first_unmarked(&marks, versions.versym.as_slice()))
 }

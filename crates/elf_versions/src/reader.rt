@@ -41,7 +41,12 @@ fn read_tables(
     ensures { Gives result (tables_of bytes.now head.now.headers tags.now count) }
 {
     let strings = strings_of(bytes, head, tags);
-    let versym = read_versym(alloc, &Records::new(bytes, head, strings, DT_VERSYM), tags, count)?;
+    let versym = read_versym(
+        alloc,
+        &Records::new(bytes, head, strings, DT_VERSYM),
+        tags,
+        count,
+    )?;
     let verdefs = read_verdefs(alloc, &Records::new(bytes, head, strings, DT_VERDEF), tags)?;
     let verneeds = read_verneeds(alloc, &Records::new(bytes, head, strings, DT_VERNEED), tags)?;
     Ok(Versions {

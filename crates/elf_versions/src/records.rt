@@ -33,10 +33,10 @@ impl<'a> Model for Records<'a> {
     ghost Value = { Source };
 
     ghost view = { λ r. record {
-        bytes = r.bytes.now;
-        headers = r.head.now.headers;
-        strings = r.strings.now;
-        tag = r.tag;
+      bytes = r.bytes.now;
+      headers = r.head.now.headers;
+      strings = r.strings.now;
+      tag = r.tag;
     } };
 
     ghost invariant = { λ r. head_verdict r.bytes.now ≡ Ok r.head.now };

@@ -106,11 +106,7 @@ fn vernaux_at(
 
 /// The versions that are needed of one file.
 #[tactic(auto, unfolding(crate::specs::Verneed::versions_of))]
-fn versions_of(
-    alloc: Global,
-    records: &Records,
-    need: &Need,
-) -> Result<Vec<Verneed>, ReadFault>
+fn versions_of(alloc: Global, records: &Records, need: &Need) -> Result<Vec<Verneed>, ReadFault>
     ensures { Gives (result_map_both (λ verneeds. verneeds.items) (λ fault. fault) result) (versions_of records.now need.now) }
 {
     let mut verneeds = Vec::new(alloc);

@@ -1,4 +1,4 @@
-use Rattle.std.proofs.Common.{◌≡◌, Ok, ◌+◌, ◌==◌, length}
+use Rattle.std.proofs.Common.{◌≡◌, Ok, ◌+◌, ◌==◌}
 use Rattle.elf_dynamic.specs.Entries.{entries_of}
 use Rattle.elf_versions.specs.Linked.{place}
 use Rattle.elf_versions.specs.Record.{distance}
