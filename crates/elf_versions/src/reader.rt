@@ -1,0 +1,90 @@
+//! Reading the versions of an object.
+
+ghost use Rattle.std.specs.Prelude.{◌≡◌, Ok, length};
+ghost use Rattle.elf_head.specs.Gives.{Gives};
+ghost use Rattle.elf_head.specs.Rules.{head_verdict};
+ghost use Rattle.elf_versions.specs.Verdict.{strings_of, tables_of, versions_verdict};
+
+use crate::index::unknown_index;
+use crate::records::{Records, value_of};
+use crate::verdef::read_verdefs;
+use crate::verneed::read_verneeds;
+use crate::versym::read_versym;
+use elf_dynamic::{DT_STRSZ, DT_STRTAB, DT_VERDEF, DT_VERNEED, DT_VERSYM, last_of};
+use elf_head::file_bytes;
+use ld_base::{DynParts, Head, NotAccepted, ReadFault, Tag, Versions};
+use std::alloc::Global;
+
+/// The string table.
+#[tactic(auto, unfolding(crate::specs::Verdict::strings_of))]
+fn strings_of<'a>(bytes: &'a [u8], head: &Head, tags: &[Tag]) -> &'a [u8]
+    requires { head_verdict bytes.now ≡ Ok head.now }
+    ensures { result.now ≡ strings_of bytes.now head.now.headers tags.now }
+{
+    let start = value_of(tags, DT_STRTAB);
+    match file_bytes(bytes, head, start, value_of(tags, DT_STRSZ)) {
+        Some(strings) => strings,
+        None => &[],
+    }
+}
+
+/// What the tables say, for so many symbols (rule 17).
+#[tactic(auto, unfolding(crate::specs::Verdict::tables_of))]
+fn read_tables(
+    alloc: Global,
+    bytes: &[u8],
+    head: &Head,
+    tags: &[Tag],
+    count: u32,
+) -> Result<Versions, ReadFault>
+    requires { head_verdict bytes.now ≡ Ok head.now }
+    ensures { Gives result (tables_of bytes.now head.now.headers tags.now count) }
+{
+    let strings = strings_of(bytes, head, tags);
+    let versym = read_versym(
+        alloc,
+        &Records::new(bytes, head, strings, DT_VERSYM),
+        tags,
+        count,
+    )?;
+    let verdefs = read_verdefs(alloc, &Records::new(bytes, head, strings, DT_VERDEF), tags)?;
+    let verneeds = read_verneeds(alloc, &Records::new(bytes, head, strings, DT_VERNEED), tags)?;
+    Ok(Versions {
+        has_versym: last_of(tags, DT_VERSYM).is_some(),
+        versym,
+        verdefs,
+        verneeds,
+    })
+}
+
+/// Reads the versions that an object defines, those that it needs, and the version index of each of
+/// its symbols.
+///
+/// # Errors
+///
+/// The first of the rules 17 and 18 that the tables break, with its number, or want of memory.
+#[tactic(auto, unfolding(crate::specs::Verdict::versions_verdict, crate::specs::Verdict::with_indexes))]
+pub fn read_versions(
+    alloc: Global,
+    bytes: &[u8],
+    head: &Head,
+    parts: &DynParts,
+) -> Result<Versions, ReadFault>
+    requires { head_verdict bytes.now ≡ Ok head.now }
+    ensures { Gives result (versions_verdict bytes.now head.now parts.now) }
+{
+    let versions = read_tables(
+        alloc,
+        bytes,
+        head,
+        parts.tags.as_slice(),
+        parts.symbols.len(),
+    )?;
+    match unknown_index(alloc, &versions)? {
+        Some(symbol) => Err(ReadFault::NotAccepted(NotAccepted {
+            rule: 18,
+            number: symbol as u64,
+        })),
+        None => Ok(versions),
+    }
+}
