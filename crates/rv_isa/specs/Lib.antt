@@ -1,0 +1,4 @@
+pub mod Encoding
+pub mod Opcodes
+pub mod Reading
+pub mod Word
