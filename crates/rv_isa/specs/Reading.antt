@@ -19,24 +19,39 @@ use Rattle.rv_isa.specs.declared.instr.Instr.TheVariants.{Lui, Auipc, Jal, Jalr,
 use Rattle.rv_isa.specs.Opcodes.{Upper, Number, Shift, branch_code, load_code, store_code, imm_code, reg_code, amo_code}
 use Rattle.rv_isa.specs.Word.{bits, joined, signed}
 
--- the mnemonic with a code, of those of a form
+-- the mnemonics of a form, and the one with a code
+abbrev pub branch_ops : List BranchOp
+branch_ops = Beq ∷ Bne ∷ Blt ∷ Bge ∷ Bltu ∷ Bgeu ∷ []
+
 abbrev pub branch_of : ℕ → Option BranchOp
-branch_of code = find (λ op. branch_code op == code) (Beq ∷ Bne ∷ Blt ∷ Bge ∷ Bltu ∷ Bgeu ∷ [])
+branch_of code = find (λ op. branch_code op == code) branch_ops
+
+abbrev pub load_ops : List LoadOp
+load_ops = Lb ∷ Lh ∷ Lw ∷ Ld ∷ Lbu ∷ Lhu ∷ Lwu ∷ []
 
 abbrev pub load_of : ℕ → Option LoadOp
-load_of code = find (λ op. load_code op == code) (Lb ∷ Lh ∷ Lw ∷ Ld ∷ Lbu ∷ Lhu ∷ Lwu ∷ [])
+load_of code = find (λ op. load_code op == code) load_ops
+
+abbrev pub store_ops : List StoreOp
+store_ops = Sb ∷ Sh ∷ Sw ∷ Sd ∷ []
 
 abbrev pub store_of : ℕ → Option StoreOp
-store_of code = find (λ op. store_code op == code) (Sb ∷ Sh ∷ Sw ∷ Sd ∷ [])
+store_of code = find (λ op. store_code op == code) store_ops
+
+abbrev pub amo_ops : List AmoOp
+amo_ops = AmoAdd ∷ Swap ∷ AmoXor ∷ AmoOr ∷ AmoAnd ∷ Min ∷ Max ∷ Minu ∷ Maxu ∷ []
 
 abbrev pub amo_of : ℕ → Option AmoOp
-amo_of code = find (λ op. amo_code op == code) (AmoAdd ∷ Swap ∷ AmoXor ∷ AmoOr ∷ AmoAnd ∷ Min ∷ Max ∷ Minu ∷ Maxu ∷ [])
+amo_of code = find (λ op. amo_code op == code) amo_ops
 
 abbrev pub has_reg_code : ℕ → ℕ → ℕ → RegOp → Bool
 has_reg_code opcode funct7 funct3 op = let code = reg_code op in (code.0 == opcode) && ((code.1 == funct7) && (code.2 == funct3))
 
+abbrev pub reg_ops : List RegOp
+reg_ops = Add ∷ Sll ∷ Slt ∷ Sltu ∷ Xor ∷ Srl ∷ Or ∷ And ∷ Sub ∷ Sra ∷ Mul ∷ Mulh ∷ Mulhsu ∷ Mulhu ∷ Div ∷ Divu ∷ Rem ∷ Remu ∷ Addw ∷ Sllw ∷ Srlw ∷ Subw ∷ Sraw ∷ Mulw ∷ Divw ∷ Divuw ∷ Remw ∷ Remuw ∷ []
+
 abbrev pub reg_of : ℕ → ℕ → ℕ → Option RegOp
-reg_of opcode funct7 funct3 = find (has_reg_code opcode funct7 funct3) (Add ∷ Sll ∷ Slt ∷ Sltu ∷ Xor ∷ Srl ∷ Or ∷ And ∷ Sub ∷ Sra ∷ Mul ∷ Mulh ∷ Mulhsu ∷ Mulhu ∷ Div ∷ Divu ∷ Rem ∷ Remu ∷ Addw ∷ Sllw ∷ Srlw ∷ Subw ∷ Sraw ∷ Mulw ∷ Divw ∷ Divuw ∷ Remw ∷ Remuw ∷ [])
+reg_of opcode funct7 funct3 = find (has_reg_code opcode funct7 funct3) reg_ops
 
 -- the immediates of the forms (section 2.3, "Immediate Encoding Variants")
 unfoldable pub i_number : ℕ → ℤ
@@ -66,8 +81,11 @@ number_of (Shift width constant) word = pos (bits 20 width word)
 abbrev pub has_imm_code : ℕ → ℕ → ℕ → ImmOp → Bool
 has_imm_code opcode funct3 word op = let code = imm_code op in (code.0 == opcode) && ((code.1 == funct3) && is_upper code.2 word)
 
+abbrev pub imm_ops : List ImmOp
+imm_ops = Addi ∷ Slti ∷ Sltiu ∷ Xori ∷ Ori ∷ Andi ∷ Slli ∷ Srli ∷ Srai ∷ Addiw ∷ Slliw ∷ Srliw ∷ Sraiw ∷ []
+
 abbrev pub imm_of : ℕ → ℕ → ℕ → Option ImmOp
-imm_of opcode funct3 word = find (has_imm_code opcode funct3 word) (Addi ∷ Slti ∷ Sltiu ∷ Xori ∷ Ori ∷ Andi ∷ Slli ∷ Srli ∷ Srai ∷ Addiw ∷ Slliw ∷ Srliw ∷ Sraiw ∷ [])
+imm_of opcode funct3 word = find (has_imm_code opcode funct3 word) imm_ops
 
 -- the size of an atomic access with this funct3
 abbrev pub size_of : ℕ → Option ℕ
