@@ -14,13 +14,14 @@ use Rattle.rv_isa.specs.declared.operation.RegOp.{RegOp}
 use Rattle.rv_isa.specs.declared.operation.RegOp.TheVariants.{Addw, Sllw, Srlw, Subw, Sraw, Mulw, Divw, Divuw, Remw, Remuw}
 use Rattle.rv_isa.specs.declared.instr.Instr.{Instr}
 use Rattle.rv_isa.specs.declared.instr.Instr.TheVariants.{Lui, Auipc, Jal, Jalr, Branch, Load, Store, Imm, Op, Amo, Lr, Sc, Fence, Ecall, Ebreak}
-use Rattle.rv_isa.specs.Word.{bits, joined, part}
+use Rattle.rv_isa.specs.Word.{bits, joined, HasFields, part}
 use Rattle.rv_isa.specs.Opcodes.{Upper, Number, Shift, branch_code, load_code, store_code, imm_code, reg_code, amo_code}
-use Rattle.rv_isa.specs.Encoding.{fields_of, word_of, upper_fields, size_code, FitsUpper, IsAtomicSize, IsInstr, HasForm, HasRegisters}
+use Rattle.rv_isa.specs.Laws.{WordsHaveFields, DecodingInverts, OneDecoding}
+use Rattle.rv_isa.specs.Encoding.{Decodes, fields_of, word_of, upper_fields, size_code, FitsUpper, IsAtomicSize, IsInstr, HasForm, HasRegisters}
 use Rattle.rv_isa.specs.Reading.{branch_of, load_of, store_of, amo_of, reg_of, imm_of, is_upper, number_of, size_of, atomic_of, with_opcode, instr_of, imm_ops, reg_ops, has_imm_code, has_reg_code, i_number, s_number, b_number, u_number, j_number}
 use Rattle.std.proofs.lemmas.Bool.Decides.{nat_tests}
 use Rattle.rv_isa.proofs.Options.{if_keeps, map_keeps, and_then_keeps, found_passes, and_both}
-use Rattle.rv_isa.proofs.Rows.{Fit, Reads, bits-below, bits-zero, reads-joined, joined-reads}
+use Rattle.rv_isa.proofs.Rows.{Fit, bits-below, bits-zero, reads-joined, joined-reads}
 use Rattle.rv_isa.proofs.Codes.{HasUpper, branch_of-code, load_of-code, store_of-code, amo_of-code, reg_of-code, imm_of-code, code-branch_of, code-load_of, code-store_of, code-amo_of, branch_code-below, load_code-below, store_code-below, amo_code-below, reg_code-below}
 use Rattle.rv_isa.proofs.Numbers.{i_number-is, s_number-is, b_number-is, u_number-is, j_number-is, upper-is, i_number-within, i_number-part, s_number-within, s_number-parts, b_number-within, b_number-parts, j_number-within, j_number-parts, u_number-within, u_number-parts}
 
@@ -64,7 +65,7 @@ fields-fit Ecall h = (lit< tt, tt)
 fields-fit Ebreak h = (lit< tt, tt)
 
 -- a word that is an instruction's has the instruction's fields
-reads : (instr : Instr) (word : ℕ) → IsInstr instr → word_of instr ≡ word → Reads 0 (fields_of instr) word
+reads : (instr : Instr) (word : ℕ) → IsInstr instr → word_of instr ≡ word → HasFields 0 (fields_of instr) word
 reads instr word h e = reads-joined (fields_of instr) 0 word (fields-fit instr h) (div-one word ∙ sym e)
 
 -- ---- an instruction's word reads as the instruction
@@ -148,14 +149,16 @@ instr_of-word (Imm op rd rs1 n) word h e =
     let upper = upper-is code.2 word n h.0 r.1.1.1.1 in
     let found = imm_of-code op word r.1.1.0 upper.0 in
     elim (imm-opcode op) [
-      inl o ↦ rw (r.0, o, rw o at found, r.1.0, r.1.1.1.0, upper.1) refl
-    | inr o ↦ rw (r.0, o, rw o at found, r.1.0, r.1.1.1.0, upper.1) refl ]
+      | inl o ↦ rw (r.0, o, rw o at found, r.1.0, r.1.1.1.0, upper.1) refl
+      | inr o ↦ rw (r.0, o, rw o at found, r.1.0, r.1.1.1.0, upper.1) refl
+    ]
 instr_of-word (Op op rd rs1 rs2) word h e =
     let r = reads (Op op rd rs1 rs2) word h e in
     let found = reg_of-code op in
     elim (reg-opcode op) [
-      inl o ↦ rw (r.0, o, r.1.1.1.1.1.0, r.1.1.0, rw o at found, r.1.0, r.1.1.1.0, r.1.1.1.1.0) refl
-    | inr o ↦ rw (r.0, o, r.1.1.1.1.1.0, r.1.1.0, rw o at found, r.1.0, r.1.1.1.0, r.1.1.1.1.0) refl ]
+      | inl o ↦ rw (r.0, o, r.1.1.1.1.1.0, r.1.1.0, rw o at found, r.1.0, r.1.1.1.0, r.1.1.1.1.0) refl
+      | inr o ↦ rw (r.0, o, r.1.1.1.1.1.0, r.1.1.0, rw o at found, r.1.0, r.1.1.1.0, r.1.1.1.1.0) refl
+    ]
 instr_of-word (Amo op size rd rs1 rs2 aq rl) word h e =
     let r = reads (Amo op size rd rs1 rs2 aq rl) word h e in
     rw (r.0, r.1.1.0, size_of-code size h.0) (amo-is op size rd rs1 rs2 aq rl word h e)
@@ -177,7 +180,7 @@ instr_of-word Ebreak word h e = subst (λ w. instr_of w ≡ Some Ebreak) e (unfo
 abbrev pub IsOf : ℕ → Instr → Type 0
 IsOf word instr = IsInstr instr × (word_of instr ≡ word)
 
-built : (instr : Instr) (word : ℕ) → HasForm instr → HasRegisters instr → Reads 0 (fields_of instr) word → IsOf word instr
+built : (instr : Instr) (word : ℕ) → HasForm instr → HasRegisters instr → HasFields 0 (fields_of instr) word → IsOf word instr
 built instr word form registers r = ((form, registers), joined-reads (fields_of instr) 0 word r ∙ div-one word)
 
 top : (word : ℕ) → word < 2 ^ 32 → word / 2 ^ 32 ≡ 0
@@ -189,11 +192,11 @@ flag-reads low word = let below = bits-below low 1 word in grind (arith, nat_tes
 size-reads : (funct3 size : ℕ) → size_of funct3 ≡ Some size → IsAtomicSize size × (funct3 ≡ size_code size)
 size-reads funct3 size e =
     if_keeps (λ x. x ≡ Some size → IsAtomicSize size × (funct3 ≡ size_code size)) (funct3 == 2) _ _
-      (λ t some. let four : size ≡ 4 = cc in (inl four, eqb-true _ _ t ∙ ap size_code (sym four)))
-      (if_keeps (λ x. x ≡ Some size → IsAtomicSize size × (funct3 ≡ size_code size)) (funct3 == 3) _ _
-        (λ t some. let eight : size ≡ 8 = cc in (inr eight, eqb-true _ _ t ∙ ap size_code (sym eight)))
-        (λ none. cc))
-      e
+    (λ t some. let four : size ≡ 4 = cc in (inl four, eqb-true _ _ t ∙ ap size_code (sym four)))
+    (if_keeps (λ x. x ≡ Some size → IsAtomicSize size × (funct3 ≡ size_code size)) (funct3 == 3) _ _
+    (λ t some. let eight : size ≡ 8 = cc in (inr eight, eqb-true _ _ t ∙ ap size_code (sym eight)))
+    (λ none. cc))
+    e
 
 atomic-is : (word size : ℕ) → word < 2 ^ 32 → bits 0 7 word ≡ 0x2f → IsAtomicSize size → bits 12 3 word ≡ size_code size → IfSome (atomic_of word size) (IsOf word)
 unfolding atomic_of
@@ -208,12 +211,12 @@ atomic-is word size below o sized code =
     let r3 = bits-below 20 5 word in
     let end = top word below in
     if_keeps (λ x. IfSome x (IsOf word)) (bits 27 5 word == 2) _ _
-      (λ e. if_keeps (λ x. IfSome x (IsOf word)) (rs2 == 0) _ _
-        (λ z. built (Lr size rd rs1 aq rl) word sized (r1, r2) (o, (refl, (code, (refl, (eqb-true _ _ z, (flag-reads 25 word, (flag-reads 26 word, (eqb-true _ _ e, end)))))))))
-        tt)
-      (if_keeps (λ x. IfSome x (IsOf word)) (bits 27 5 word == 3) _ _
-        (λ e. built (Sc size rd rs1 rs2 aq rl) word sized (r1, r2, r3) (o, (refl, (code, (refl, (refl, (flag-reads 25 word, (flag-reads 26 word, (eqb-true _ _ e, end)))))))))
-        (map_keeps (IsOf word) (λ op. Amo op size rd rs1 rs2 aq rl) (amo_of (bits 27 5 word)) (λ op found. built (Amo op size rd rs1 rs2 aq rl) word sized (r1, r2, r3) (o, (refl, (code, (refl, (refl, (flag-reads 25 word, (flag-reads 26 word, (code-amo_of _ op found, end)))))))))))
+    (λ e. if_keeps (λ x. IfSome x (IsOf word)) (rs2 == 0) _ _
+    (λ z. built (Lr size rd rs1 aq rl) word sized (r1, r2) (o, (refl, (code, (refl, (eqb-true _ _ z, (flag-reads 25 word, (flag-reads 26 word, (eqb-true _ _ e, end)))))))))
+    tt)
+    (if_keeps (λ x. IfSome x (IsOf word)) (bits 27 5 word == 3) _ _
+    (λ e. built (Sc size rd rs1 rs2 aq rl) word sized (r1, r2, r3) (o, (refl, (code, (refl, (refl, (flag-reads 25 word, (flag-reads 26 word, (eqb-true _ _ e, end)))))))))
+    (map_keeps (IsOf word) (λ op. Amo op size rd rs1 rs2 aq rl) (amo_of (bits 27 5 word)) (λ op found. built (Amo op size rd rs1 rs2 aq rl) word sized (r1, r2, r3) (o, (refl, (code, (refl, (refl, (flag-reads 25 word, (flag-reads 26 word, (code-amo_of _ op found, end)))))))))))
 
 -- an upper immediate that a word holds: the widths of its fields are twelve together
 abbrev IsTwelve : Upper → Type 0
@@ -229,7 +232,7 @@ imm-twelve Srliw = refl
 imm-twelve Sraiw = refl
 imm-twelve _ = tt
 
-upper-reads : (upper : Upper) (word : ℕ) → word < 2 ^ 32 → IsTwelve upper → is_upper upper word ≡ true → FitsUpper upper (number_of upper word) × Reads 20 (upper_fields upper (number_of upper word)) word
+upper-reads : (upper : Upper) (word : ℕ) → word < 2 ^ 32 → IsTwelve upper → is_upper upper word ≡ true → FitsUpper upper (number_of upper word) × HasFields 20 (upper_fields upper (number_of upper word)) word
 upper-reads Number word below sum e = (i_number-within word, (i_number-part word, top word below))
 upper-reads (Shift width constant) word below sum e =
     let fits = bits-below 20 width word in
@@ -239,20 +242,20 @@ upper-reads (Shift width constant) word below sum e =
 imm-is : (opcode : ℕ) (word : ℕ) → word < 2 ^ 32 → bits 0 7 word ≡ opcode → IfSome (option_map (λ op. let code = imm_code op in Imm op (bits 7 5 word) (bits 15 5 word) (number_of code.2 word)) (imm_of opcode (bits 12 3 word) word)) (IsOf word)
 imm-is opcode word below o =
     map_keeps (IsOf word) (λ op. let code = imm_code op in Imm op (bits 7 5 word) (bits 15 5 word) (number_of code.2 word)) (imm_of opcode (bits 12 3 word) word) (λ op found.
-      let code = imm_code op in
-      let test = and_both _ _ (found_passes (has_imm_code opcode (bits 12 3 word) word) imm_ops op found) in
-      let rest = and_both _ _ test.1 in
-      let upper = upper-reads code.2 word below (imm-twelve op) rest.1 in
-      built (Imm op (bits 7 5 word) (bits 15 5 word) (number_of code.2 word)) word upper.0 (bits-below 7 5 word, bits-below 15 5 word)
-        (o ∙ sym (eqb-true _ _ test.0), (refl, (sym (eqb-true _ _ rest.0), (refl, upper.1)))))
+    let code = imm_code op in
+    let test = and_both _ _ (found_passes (has_imm_code opcode (bits 12 3 word) word) imm_ops op found) in
+    let rest = and_both _ _ test.1 in
+    let upper = upper-reads code.2 word below (imm-twelve op) rest.1 in
+    built (Imm op (bits 7 5 word) (bits 15 5 word) (number_of code.2 word)) word upper.0 (bits-below 7 5 word, bits-below 15 5 word)
+    (o ∙ sym (eqb-true _ _ test.0), (refl, (sym (eqb-true _ _ rest.0), (refl, upper.1)))))
 
 reg-is : (opcode : ℕ) (word : ℕ) → word < 2 ^ 32 → bits 0 7 word ≡ opcode → IfSome (option_map (λ op. Op op (bits 7 5 word) (bits 15 5 word) (bits 20 5 word)) (reg_of opcode (bits 25 7 word) (bits 12 3 word))) (IsOf word)
 reg-is opcode word below o =
     map_keeps (IsOf word) (λ op. Op op (bits 7 5 word) (bits 15 5 word) (bits 20 5 word)) (reg_of opcode (bits 25 7 word) (bits 12 3 word)) (λ op found.
-      let test = and_both _ _ (found_passes (has_reg_code opcode (bits 25 7 word) (bits 12 3 word)) reg_ops op found) in
-      let rest = and_both _ _ test.1 in
-      built (Op op (bits 7 5 word) (bits 15 5 word) (bits 20 5 word)) word tt (bits-below 7 5 word, bits-below 15 5 word, bits-below 20 5 word)
-        (o ∙ sym (eqb-true _ _ test.0), (refl, (sym (eqb-true _ _ rest.1), (refl, (refl, (sym (eqb-true _ _ rest.0), top word below)))))))
+    let test = and_both _ _ (found_passes (has_reg_code opcode (bits 25 7 word) (bits 12 3 word)) reg_ops op found) in
+    let rest = and_both _ _ test.1 in
+    built (Op op (bits 7 5 word) (bits 15 5 word) (bits 20 5 word)) word tt (bits-below 7 5 word, bits-below 15 5 word, bits-below 20 5 word)
+    (o ∙ sym (eqb-true _ _ test.0), (refl, (sym (eqb-true _ _ rest.1), (refl, (refl, (sym (eqb-true _ _ rest.0), top word below)))))))
 
 pub word-instr_of : (word : ℕ) → word < 2 ^ 32 → IfSome (instr_of word) (IsOf word)
 unfolding with_opcode
@@ -285,3 +288,25 @@ word-instr_of word below =
     (if_keeps P (bits 0 7 word == 0x6f) _ _ (λ o. built (Jal rd (j_number word)) word (j_number-within word, j.0) r1 (is 0x6f o, (refl, (j.3, (j.2, (j.1, (j.4, end)))))))
     (if_keeps P (bits 0 7 word == 0x73) _ _ (λ o. if_keeps P (word == 0x00000073) _ _ (λ e. ((tt, tt), sym (eqb-true _ _ e))) (if_keeps P (word == 0x00100073) _ _ (λ e. ((tt, tt), sym (eqb-true _ _ e))) tt))
     tt)))))))))))))
+
+-- ---- laws
+
+pub words_have_fields_lem : WordsHaveFields
+words_have_fields_lem instr word h = (λ e. reads instr word h e, λ r. joined-reads (fields_of instr) 0 word r ∙ div-one word)
+
+pub one_decoding : OneDecoding
+one_decoding word None None h g = refl
+one_decoding word None (Some j) h g = absurd (h j g.0 g.1)
+one_decoding word (Some i) None h g = absurd (g i h.0 h.1)
+one_decoding word (Some i) (Some j) h g = sym (instr_of-word i word h.0 h.1) ∙ instr_of-word j word g.0 g.1
+
+pub decoding_inverts : DecodingInverts
+decoding_inverts instr decoded h d = one_decoding (word_of instr) decoded (Some instr) d (h, refl)
+
+decodes_from : (word : ℕ) (decoded : Option Instr) → instr_of word ≡ decoded → IfSome decoded (IsOf word) → Decodes word decoded
+decodes_from word None e h = λ instr is same. let some : instr_of word ≡ Some instr = instr_of-word instr word is same in cc
+decodes_from word (Some instr) e h = h
+
+-- what the reading of a word gives is what the word decodes to
+pub decodes : (word : ℕ) (decoded : Option Instr) → word < 2 ^ 32 → decoded ≡ instr_of word → Decodes word decoded
+decodes word decoded below e = decodes_from word decoded (sym e) (subst (λ o. IfSome o (IsOf word)) (sym e) (word-instr_of word below))

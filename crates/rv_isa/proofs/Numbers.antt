@@ -7,11 +7,11 @@ use Rattle.std.proofs.lemmas.Bool.{eq-eqb, eqb-true}
 use Rattle.std.proofs.lemmas.Bool.Decides.{nat_tests}
 use Rattle.std.proofs.lemmas.Int.{ints, to_z-of_z, of_z-to_z}
 use Rattle.std.proofs.lemmas.Nat.{pow_below}
-use Rattle.rv_isa.specs.Word.{bits, joined, part, signed}
+use Rattle.rv_isa.specs.Word.{bits, joined, HasFields, part, signed}
 use Rattle.rv_isa.specs.Opcodes.{Upper, Number, Shift}
 use Rattle.rv_isa.specs.Encoding.{IsWithin, IsDistance, IsUpper, FitsUpper, upper_fields}
 use Rattle.rv_isa.specs.Reading.{i_number, s_number, b_number, u_number, j_number, is_upper, number_of}
-use Rattle.rv_isa.proofs.Rows.{Fit, Reads, bits-below, bits-zero, bits-mod, reads-joined, joined-reads, joined-cut, joined-below}
+use Rattle.rv_isa.proofs.Rows.{Fit, bits-below, bits-zero, bits-mod, reads-joined, joined-reads, joined-cut, joined-below}
 use Rattle.rv_isa.proofs.Signs.{signed-12, low_12, within_12, signed-13, low_13, within_13, signed-21, low_21, within_21, low_32, within_32}
 use Rattle.rv_isa.proofs.Codes.{HasUpper}
 
@@ -49,7 +49,7 @@ shift_number word width (pos m) low high e =
 shift_number word width (negsuc m) low high e = absurd (grind (arith, ints, nat_tests))
 
 -- the upper twelve bits of a word with these fields
-pub upper-is : (upper : Upper) (word : ℕ) (n : ℤ) → FitsUpper upper n → Reads 20 (upper_fields upper n) word → HasUpper upper word × (number_of upper word ≡ n)
+pub upper-is : (upper : Upper) (word : ℕ) (n : ℤ) → FitsUpper upper n → HasFields 20 (upper_fields upper n) word → HasUpper upper word × (number_of upper word ≡ n)
 upper-is Number word n h r = (tt, i_number-is word n h r.0)
 upper-is (Shift width constant) word n h r = (r.1.0, shift_number word width n h.0 h.1 r.0)
 

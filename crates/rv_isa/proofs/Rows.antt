@@ -3,17 +3,12 @@ use Rattle.std.proofs.Common.{◌≡◌, ℕ, zero, ◌+◌, ◌-◌, ◌*◌, �
 use Rattle.std.proofs.Math.Nat.{div-one, mod-one}
 use Rattle.std.proofs.Math.Pow.{mod-mod-pow}
 use Rattle.std.proofs.lemmas.Nat.{shr-shr, shr_split, shr_high, mod_low, field_of, pow_pos, mod_below, mod-pow-add, mul-add-lt, pow-add}
-use Rattle.rv_isa.specs.Word.{bits, joined}
+use Rattle.rv_isa.specs.Word.{bits, joined, HasFields}
 
 -- each value fits its width
 abbrev pub Fit : List (ℕ × ℕ) → Type 0
 Fit [] = Unit {0}
 Fit (field ∷ fields) = (field.1 < 2 ^ field.0) × Fit fields
-
--- from a bit on, a word has these fields, and nothing above them
-abbrev pub Reads : ℕ → List (ℕ × ℕ) → ℕ → Type 0
-Reads low [] word = word / 2 ^ low ≡ 0
-Reads low (field ∷ fields) word = (bits low field.0 word ≡ field.1) × Reads (low + field.0) fields word
 
 pub bits-below : (low width word : ℕ) → bits low width word < 2 ^ width
 unfolding bits
@@ -35,14 +30,15 @@ first_field high width value h = ap (λ n. n % 2 ^ width) (omega arith) ∙ mod_
 other_fields : (high width value : ℕ) → value < 2 ^ width → (value + 2 ^ width * high) / 2 ^ width ≡ high
 other_fields high width value h = ap (λ n. n / 2 ^ width) (omega arith) ∙ shr_high high width value h
 
-pub reads-joined : (fields : List (ℕ × ℕ)) (low word : ℕ) → Fit fields → word / 2 ^ low ≡ joined fields → Reads low fields word
+pub reads-joined : (fields : List (ℕ × ℕ)) (low word : ℕ) → Fit fields → word / 2 ^ low ≡ joined fields → HasFields low fields word
 unfolding bits
 reads-joined [] low word fit e = e
-reads-joined (field ∷ fields) low word fit e =
-    (ap (λ n. n % 2 ^ field.0) e ∙ first_field (joined fields) field.0 field.1 fit.0,
-     reads-joined fields (low + field.0) word fit.1 (sym (shr-shr word low field.0) ∙ ap (λ n. n / 2 ^ field.0) e ∙ other_fields (joined fields) field.0 field.1 fit.0))
+reads-joined (field ∷ fields) low word fit e = (
+  ap (λ n. n % 2 ^ field.0) e ∙ first_field (joined fields) field.0 field.1 fit.0,
+  reads-joined fields (low + field.0) word fit.1 (sym (shr-shr word low field.0) ∙ ap (λ n. n / 2 ^ field.0) e ∙ other_fields (joined fields) field.0 field.1 fit.0),
+)
 
-pub joined-reads : (fields : List (ℕ × ℕ)) (low word : ℕ) → Reads low fields word → joined fields ≡ word / 2 ^ low
+pub joined-reads : (fields : List (ℕ × ℕ)) (low word : ℕ) → HasFields low fields word → joined fields ≡ word / 2 ^ low
 unfolding bits
 joined-reads [] low word h = sym h
 joined-reads (field ∷ fields) low word h =

@@ -94,39 +94,39 @@ size_of funct3 = if funct3 == 2 then Some 4 else (if funct3 == 3 then Some 8 els
 -- the instruction of a word with the opcode of an atomic access, once its size is known
 unfoldable pub atomic_of : ℕ → ℕ → Option Instr
 atomic_of word size =
-  let rd = bits 7 5 word in
-  let rs1 = bits 15 5 word in
-  let rs2 = bits 20 5 word in
-  let aq = bits 26 1 word == 1 in
-  let rl = bits 25 1 word == 1 in
-  let funct5 = bits 27 5 word in
-  if funct5 == 2 then (if rs2 == 0 then Some (Lr size rd rs1 aq rl) else None)
-  else (if funct5 == 3 then Some (Sc size rd rs1 rs2 aq rl)
-  else option_map (λ op. Amo op size rd rs1 rs2 aq rl) (amo_of funct5))
+    let rd = bits 7 5 word in
+    let rs1 = bits 15 5 word in
+    let rs2 = bits 20 5 word in
+    let aq = bits 26 1 word == 1 in
+    let rl = bits 25 1 word == 1 in
+    let funct5 = bits 27 5 word in
+    if funct5 == 2 then (if rs2 == 0 then Some (Lr size rd rs1 aq rl) else None)
+    else (if funct5 == 3 then Some (Sc size rd rs1 rs2 aq rl)
+    else option_map (λ op. Amo op size rd rs1 rs2 aq rl) (amo_of funct5))
 
 -- the instruction of a word with this opcode
 unfoldable pub with_opcode : ℕ → ℕ → Option Instr
 with_opcode opcode word =
-  let rd = bits 7 5 word in
-  let funct3 = bits 12 3 word in
-  let rs1 = bits 15 5 word in
-  let rs2 = bits 20 5 word in
-  let funct7 = bits 25 7 word in
-  if opcode == 0x03 then option_map (λ op. Load op rd rs1 (i_number word)) (load_of funct3)
-  else (if opcode == 0x0f then (if funct3 == 0 then Some (Fence word) else None)
-  else (if opcode == 0x13 then option_map (λ op. let code = imm_code op in Imm op rd rs1 (number_of code.2 word)) (imm_of 0x13 funct3 word)
-  else (if opcode == 0x17 then Some (Auipc rd (u_number word))
-  else (if opcode == 0x1b then option_map (λ op. let code = imm_code op in Imm op rd rs1 (number_of code.2 word)) (imm_of 0x1b funct3 word)
-  else (if opcode == 0x23 then option_map (λ op. Store op rs1 rs2 (s_number word)) (store_of funct3)
-  else (if opcode == 0x2f then option_and_then (atomic_of word) (size_of funct3)
-  else (if opcode == 0x33 then option_map (λ op. Op op rd rs1 rs2) (reg_of 0x33 funct7 funct3)
-  else (if opcode == 0x37 then Some (Lui rd (u_number word))
-  else (if opcode == 0x3b then option_map (λ op. Op op rd rs1 rs2) (reg_of 0x3b funct7 funct3)
-  else (if opcode == 0x63 then option_map (λ op. Branch op rs1 rs2 (b_number word)) (branch_of funct3)
-  else (if opcode == 0x67 then (if funct3 == 0 then Some (Jalr rd rs1 (i_number word)) else None)
-  else (if opcode == 0x6f then Some (Jal rd (j_number word))
-  else (if opcode == 0x73 then (if word == 0x00000073 then Some Ecall else (if word == 0x00100073 then Some Ebreak else None))
-  else None)))))))))))))
+    let rd = bits 7 5 word in
+    let funct3 = bits 12 3 word in
+    let rs1 = bits 15 5 word in
+    let rs2 = bits 20 5 word in
+    let funct7 = bits 25 7 word in
+    if opcode == 0x03 then option_map (λ op. Load op rd rs1 (i_number word)) (load_of funct3)
+    else (if opcode == 0x0f then (if funct3 == 0 then Some (Fence word) else None)
+    else (if opcode == 0x13 then option_map (λ op. let code = imm_code op in Imm op rd rs1 (number_of code.2 word)) (imm_of 0x13 funct3 word)
+    else (if opcode == 0x17 then Some (Auipc rd (u_number word))
+    else (if opcode == 0x1b then option_map (λ op. let code = imm_code op in Imm op rd rs1 (number_of code.2 word)) (imm_of 0x1b funct3 word)
+    else (if opcode == 0x23 then option_map (λ op. Store op rs1 rs2 (s_number word)) (store_of funct3)
+    else (if opcode == 0x2f then option_and_then (atomic_of word) (size_of funct3)
+    else (if opcode == 0x33 then option_map (λ op. Op op rd rs1 rs2) (reg_of 0x33 funct7 funct3)
+    else (if opcode == 0x37 then Some (Lui rd (u_number word))
+    else (if opcode == 0x3b then option_map (λ op. Op op rd rs1 rs2) (reg_of 0x3b funct7 funct3)
+    else (if opcode == 0x63 then option_map (λ op. Branch op rs1 rs2 (b_number word)) (branch_of funct3)
+    else (if opcode == 0x67 then (if funct3 == 0 then Some (Jalr rd rs1 (i_number word)) else None)
+    else (if opcode == 0x6f then Some (Jal rd (j_number word))
+    else (if opcode == 0x73 then (if word == 0x00000073 then Some Ecall else (if word == 0x00100073 then Some Ebreak else None))
+    else None)))))))))))))
 
 -- the instruction of a word
 abbrev pub instr_of : ℕ → Option Instr

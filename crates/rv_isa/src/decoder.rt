@@ -265,21 +265,54 @@ fn by_opcode(opcode: u32, word: u32) -> Option<Instr>
     ensures { result ≡ with_opcode opcode word }
 {
     match opcode {
-        0x03 => load_op(funct3(word)).map(|op| Instr::Load(op, rd(word), rs1(word), i_number(word))),
+        0x03 => load_op(funct3(word)).map(|op| Instr::Load(
+            op,
+            rd(word),
+            rs1(word),
+            i_number(word),
+        )),
         0x0f if funct3(word) == 0 => Some(Instr::Fence(word)),
         0x13 => imm_op(word).map(|op| Instr::Imm(op, rd(word), rs1(word), number(op, word))),
         0x17 => Some(Instr::Auipc(rd(word), u_number(word))),
         0x1b => imm_word_op(word).map(|op| Instr::Imm(op, rd(word), rs1(word), number(op, word))),
-        0x23 => store_op(funct3(word)).map(|op| Instr::Store(op, rs1(word), rs2(word), s_number(word))),
+        0x23 => store_op(funct3(word)).map(|op| Instr::Store(
+            op,
+            rs1(word),
+            rs2(word),
+            s_number(word),
+        )),
         0x2f => access_size(funct3(word)).and_then(|size| atomic(word, size)),
-        0x33 => reg_op(funct7(word), funct3(word)).map(|op| Instr::Op(op, rd(word), rs1(word), rs2(word))),
+        0x33 => reg_op(funct7(word), funct3(word)).map(|op| Instr::Op(
+            op,
+            rd(word),
+            rs1(word),
+            rs2(word),
+        )),
         0x37 => Some(Instr::Lui(rd(word), u_number(word))),
-        0x3b => reg_word_op(funct7(word), funct3(word)).map(|op| Instr::Op(op, rd(word), rs1(word), rs2(word))),
-        0x63 => branch_op(funct3(word)).map(|op| Instr::Branch(op, rs1(word), rs2(word), b_number(word))),
+        0x3b => reg_word_op(funct7(word), funct3(word)).map(|op| Instr::Op(
+            op,
+            rd(word),
+            rs1(word),
+            rs2(word),
+        )),
+        0x63 => branch_op(funct3(word)).map(|op| Instr::Branch(
+            op,
+            rs1(word),
+            rs2(word),
+            b_number(word),
+        )),
         0x67 if funct3(word) == 0 => Some(Instr::Jalr(rd(word), rs1(word), i_number(word))),
         0x6f => Some(Instr::Jal(rd(word), j_number(word))),
         0x73 if word == 0x0000_0073 => Some(Instr::Ecall),
         0x73 if word == 0x0010_0073 => Some(Instr::Ebreak),
         _ => None,
     }
+}
+
+/// The instruction of a word, or None where the word is that of no instruction.
+#[tactic(auto, using(crate::proofs::Inverse::decodes))]
+pub fn decode(word: u32) -> Option<Instr>
+    ensures { Decodes word result }
+{
+    by_opcode(field(word, 0, 7), word)
 }

@@ -69,7 +69,10 @@ pub fn b_number(word: u32) -> i32
     ensures { result ≡ b_number word }
 {
     let low = (field(word, 8, 4) << 1) + (field(word, 25, 6) << 5);
-    signed(low + (field(word, 7, 1) << 11) + (field(word, 31, 1) << 12), 13)
+    signed(
+        low + (field(word, 7, 1) << 11) + (field(word, 31, 1) << 12),
+        13,
+    )
 }
 
 /// The immediate of a U-form word.
@@ -88,5 +91,8 @@ pub fn j_number(word: u32) -> i32
     ensures { result ≡ j_number word }
 {
     let low = (field(word, 21, 10) << 1) + (field(word, 20, 1) << 11);
-    signed(low + (field(word, 12, 8) << 12) + (field(word, 31, 1) << 20), 21)
+    signed(
+        low + (field(word, 12, 8) << 12) + (field(word, 31, 1) << 20),
+        21,
+    )
 }
