@@ -1,6 +1,6 @@
 -- What the integer instructions compute, on registers of 64 bits (Unprivileged ISA 20191213,
 -- sections 2.4, 5.2, 7.1, 7.2 and 8.4).
-use Rattle.std.specs.Prelude.{ℕ, ◌+◌, ◌-◌, ◌*◌, ◌/◌, ◌%◌, ◌^◌, negsuc, bit_and, bit_or, bit_xor, int_lt, int_div, int_rem, nat_lt, ◌==◌, if◌then◌else◌}
+use Rattle.std.specs.Prelude.{ℕ, ◌+◌, ◌-◌, ◌*◌, ◌/◌, ◌%◌, ◌^◌, ℤ, negsuc, bit_and, bit_or, bit_xor, int_lt, int_div, int_rem, nat_lt, ◌==◌, if◌then◌else◌}
 use Rattle.std.specs.Int.{Width, w32, w64, w128, cast_signed, cast_unsigned, from_bool, int_shr}
 use Rattle.rv_isa.specs.declared.operation.RegOp.{RegOp}
 use Rattle.rv_isa.specs.declared.operation.RegOp.TheVariants.{Add, Sll, Slt, Sltu, Xor, Srl, Or, And, Sub, Sra, Mul, Mulh, Mulhsu, Mulhu, Div, Divu, Rem, Remu, Addw, Sllw, Srlw, Subw, Sraw, Mulw, Divw, Divuw, Remw, Remuw}
@@ -92,6 +92,10 @@ with_registers Addiw = Addw
 with_registers Slliw = Sllw
 with_registers Srliw = Srlw
 with_registers Sraiw = Sraw
+
+-- what arithmetic with a register and an immediate puts into rd
+abbrev pub imm_result : ImmOp → ℕ → ℤ → ℕ
+imm_result op a number = reg_result (with_registers op) a (cast_unsigned w64 number)
 
 -- the size of an atomic access, as a width
 abbrev pub width_of : ℕ → Width

@@ -1,8 +1,9 @@
 //! What the integer instructions compute.
 
-ghost use Rattle.std.specs.Prelude.{◌≡◌, ◌*◌};
+ghost use Rattle.std.specs.Prelude.{◌≡◌, ◌*◌, ◌<◌, ◌^◌};
 ghost use Rattle.std.specs.Int.{w32, w64, w128, cast_signed, cast_unsigned};
-ghost use Rattle.rv_hart.specs.Arithmetic.{widened, upper_half, word_result, low_word, quotient, remainder, unsigned_quotient, unsigned_remainder, reg_result, with_registers};
+ghost use Rattle.rv_hart.specs.Arithmetic.{widened, upper_half, word_result, low_word, quotient, remainder, unsigned_quotient, unsigned_remainder, reg_result, with_registers, imm_result, combined};
+ghost use Rattle.rv_isa.specs.Encoding.{IsAtomicSize};
 
 use rv_isa::{AmoOp, ImmOp, RegOp};
 
@@ -138,5 +139,83 @@ pub fn reg_result(op: RegOp, a: u64, b: u64) -> u64
         RegOp::Divuw => extended(unsigned_word_quotient(low_word(a), low_word(b))),
         RegOp::Remw => extended(word_remainder(low_word(a), low_word(b))),
         RegOp::Remuw => extended(unsigned_word_remainder(low_word(a), low_word(b))),
+    }
+}
+
+fn with_registers(op: ImmOp) -> RegOp
+    ensures { result ≡ with_registers op }
+{
+    match op {
+        ImmOp::Addi => RegOp::Add,
+        ImmOp::Slti => RegOp::Slt,
+        ImmOp::Sltiu => RegOp::Sltu,
+        ImmOp::Xori => RegOp::Xor,
+        ImmOp::Ori => RegOp::Or,
+        ImmOp::Andi => RegOp::And,
+        ImmOp::Slli => RegOp::Sll,
+        ImmOp::Srli => RegOp::Srl,
+        ImmOp::Srai => RegOp::Sra,
+        ImmOp::Addiw => RegOp::Addw,
+        ImmOp::Slliw => RegOp::Sllw,
+        ImmOp::Srliw => RegOp::Srlw,
+        ImmOp::Sraiw => RegOp::Sraw,
+    }
+}
+
+/// What arithmetic with a register and an immediate puts into rd.
+#[inline]
+pub fn imm_result(op: ImmOp, a: u64, number: i32) -> u64
+    ensures { result ≡ imm_result op a number }
+{
+    reg_result(with_registers(op), a, i64::from(number).cast_unsigned())
+}
+
+fn combined_double(op: AmoOp, old: u64, value: u64) -> u64
+    ensures { result ≡ combined op 8 old value }
+{
+    match op {
+        AmoOp::Add => old.wrapping_add(value),
+        AmoOp::Swap => value,
+        AmoOp::Xor => old ^ value,
+        AmoOp::Or => old | value,
+        AmoOp::And => old & value,
+        AmoOp::Min if value.cast_signed() < old.cast_signed() => value,
+        AmoOp::Max if old.cast_signed() < value.cast_signed() => value,
+        AmoOp::Min | AmoOp::Max => old,
+        AmoOp::Minu => value.min(old),
+        AmoOp::Maxu => old.max(value),
+    }
+}
+
+fn combined_word(op: AmoOp, old: u32, value: u32) -> u32
+    ensures { result ≡ combined op 4 old value }
+{
+    match op {
+        AmoOp::Add => old.wrapping_add(value),
+        AmoOp::Swap => value,
+        AmoOp::Xor => old ^ value,
+        AmoOp::Or => old | value,
+        AmoOp::And => old & value,
+        AmoOp::Min if value.cast_signed() < old.cast_signed() => value,
+        AmoOp::Max if old.cast_signed() < value.cast_signed() => value,
+        AmoOp::Min | AmoOp::Max => old,
+        AmoOp::Minu => value.min(old),
+        AmoOp::Maxu => old.max(value),
+    }
+}
+
+/// What an atomic memory operation stores, from the old value and the register's, both of `size`
+/// bytes.
+pub fn combined(op: AmoOp, size: u8, old: u64, value: u64) -> u64
+    requires size { IsAtomicSize size }
+    requires old { old < 2 ^ (8 * size) }
+    requires value { value < 2 ^ (8 * size) }
+    ensures value { result ≡ combined op size old value }
+    ensures bound { result < 2 ^ (8 * size) }
+{
+    if size == 4 {
+        u64::from(combined_word(op, old as u32, value as u32))
+    } else {
+        combined_double(op, old, value)
     }
 }
