@@ -28,3 +28,10 @@ next pc = (pc + 4) % 2 ^ 64
 -- what an instruction leaves that puts a value into a register and goes on
 abbrev pub result_in : Registers → ℕ → ℕ → Registers
 result_in registers register value = record { pc = next registers.pc; x = written registers.x register value; held = registers.held }
+
+-- what an instruction leaves that goes on alone, and what a jump leaves
+abbrev pub passed : Registers → Registers
+passed r = record { pc = next r.pc; x = r.x; held = r.held }
+
+abbrev pub jumped : Registers → ℕ → ℕ → Registers
+jumped r rd target = record { pc = target; x = written r.x rd (next r.pc); held = r.held }

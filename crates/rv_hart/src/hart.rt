@@ -24,7 +24,7 @@ pub struct Hart {
 
 impl Hart {
     ghost use Rattle.std.specs.Prelude.{None};
-    ghost use Rattle.rv_hart.specs.Registers.{registers_of, starting, written, result_in};
+    ghost use Rattle.rv_hart.specs.Registers.{registers_of, starting, written, result_in, passed, jumped};
 
     /// Where a return from a hart's first function leads: the address that ends a hart.
     pub const END: u64 = 0x80_f090;
@@ -59,5 +59,21 @@ impl Hart {
             self.x[usize::from(register.number())] = value;
         }
         self.pc = self.pc.wrapping_add(4);
+    }
+
+    // Goes on after an instruction that puts nothing into a register.
+    pub(crate) fn pass(&mut self)
+        ensures { registers_of self.new ≡ passed (registers_of self.old) }
+    {
+        self.pc = self.pc.wrapping_add(4);
+    }
+
+    // Goes on at a target, with the address of the next instruction in a register.
+    pub(crate) fn jump(&mut self, register: Reg, target: u64)
+        ensures { registers_of self.new ≡ jumped (registers_of self.old) register target }
+    {
+        let next = self.pc.wrapping_add(4);
+        self.finish(register, next);
+        self.pc = target;
     }
 }
