@@ -159,10 +159,6 @@ after_action r (Some instr) answer = after r instr answer
 
 -- ---- actions and answers
 
--- an access is of 1, 2, 4 or 8 bytes, an atomic one of 4 or 8
-abbrev pub IsSize : ℕ → Type 0
-IsSize size = (size ≡ 1) ⊎ ((size ≡ 2) ⊎ ((size ≡ 4) ⊎ (size ≡ 8)))
-
 -- an action is what the hart does with some word: its instruction, if any, is one of RV64IMA, and
 -- its access is the instruction's
 pub record IsPlanned (r : Registers) (action : Action) : Type 0 where

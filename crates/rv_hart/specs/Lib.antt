@@ -1,3 +1,5 @@
 pub mod Arithmetic
+pub mod Buses
 pub mod Instructions
 pub mod Registers
+pub mod Trail

@@ -3,14 +3,18 @@
 
 mod action;
 mod arithmetic;
+mod bus;
 mod completion;
 mod hart;
 mod planning;
+mod stepping;
 
 
 pub use action::{Access, Action, Answer};
 pub use arithmetic::combined;
+pub use bus::{Bus, BusFault, Item};
 pub use completion::complete;
 pub use hart::{Hart, Held};
 pub use planning::plan;
+pub use stepping::Stop;
 

@@ -2,8 +2,9 @@
 
 ghost use Rattle.std.specs.Prelude.{◌≡◌, ◌<◌, ◌%◌, ◌^◌, ◌*◌, ℕ, ℤ, Bool, IsTrue};
 ghost use Rattle.rv_isa.specs.Encoding.{Decodes, HasForm, IsAtomicSize};
+ghost use Rattle.rv_hart.specs.Buses.{IsSize};
 ghost use Rattle.rv_hart.specs.Registers.{registers_of};
-ghost use Rattle.rv_hart.specs.Instructions.{IsSize, offset_by, jalr_target, is_taken, load_size, store_size, low_bytes, jump_access, sc_access, access_of, access_for, IsPlanned};
+ghost use Rattle.rv_hart.specs.Instructions.{offset_by, jalr_target, is_taken, load_size, store_size, low_bytes, jump_access, sc_access, access_of, access_for, IsPlanned};
 
 use crate::{Access, Action, Hart, Held};
 use rv_isa::{BranchOp, Instr, LoadOp, StoreOp, decode};
