@@ -10,13 +10,14 @@ use Rattle.rv_isa.specs.declared.operation.StoreOp.{StoreOp}
 use Rattle.rv_isa.specs.declared.operation.StoreOp.TheVariants.{Sb, Sh, Sw, Sd}
 use Rattle.rv_isa.specs.declared.instr.Instr.{Instr}
 use Rattle.rv_isa.specs.declared.instr.Instr.TheVariants.{Lui, Auipc, Jal, Jalr, Branch, Load, Store, Imm, Op, Amo as AmoInstr, Lr, Sc, Fence, Ecall as EcallInstr, Ebreak}
-use Rattle.rv_isa.specs.Encoding.{IsInstr}
+use Rattle.rv_isa.specs.Encoding.{IsInstr, IsAtomicSize}
 use Rattle.rv_hart.specs.declared.hart.Held.{Held}
 use Rattle.rv_hart.specs.declared.action.Access.{Access}
 use Rattle.rv_hart.specs.declared.action.Access.TheVariants.{Nothing, Read, Write, Amo, Reserve, Conditional, Ecall, Break, Bad, Misaligned}
 use Rattle.rv_hart.specs.declared.action.Action.{Action}
 use Rattle.rv_hart.specs.declared.action.Answer.{Answer}
 use Rattle.rv_hart.specs.declared.action.Answer.TheVariants.{Nothing as NoAnswer, Value, Held as HeldAnswer, Stored}
+use Rattle.rv_hart.specs.Buses.{IsSize}
 use Rattle.rv_hart.specs.Arithmetic.{reg_result, imm_result}
 use Rattle.rv_hart.specs.Registers.{Registers, written, next, result_in, passed, jumped}
 
@@ -190,3 +191,12 @@ IsOfKind Ecall answer = answer ≡ NoAnswer
 IsOfKind Break answer = ⊥
 IsOfKind Bad answer = ⊥
 IsOfKind (Misaligned address) answer = ⊥
+
+-- the sizes and the values of an access are those that a bus takes
+abbrev pub IsSized : Access → Type 0
+IsSized (Read address size) = IsSize size
+IsSized (Write address size value) = IsSize size × (value < 2 ^ (8 * size))
+IsSized (Amo address size op value) = IsAtomicSize size × (value < 2 ^ (8 * size))
+IsSized (Reserve address size) = IsAtomicSize size
+IsSized (Conditional address size value version) = IsAtomicSize size × (value < 2 ^ (8 * size))
+IsSized _ = Unit {0}

@@ -1,6 +1,6 @@
 -- What it is that a hart followed the instructions: the calls of a bus, one after another, each the
 -- one that the hart's registers ask for.
-use Rattle.std.specs.Prelude.{◌≡◌, ℕ, List, [], ◌∷◌, ◌++◌, Option, Some, None, Result, Ok, Err}
+use Rattle.std.specs.Prelude.{◌≡◌, ℕ, List, [], ◌∷◌, ◌++◌, Option, Some, None, Result, Ok, Err, Bool, IfOk, ◌<◌, ◌*◌, ◌^◌}
 use Rattle.ld_base.specs.declared.fault.Shown.{Shown}
 use Rattle.rv_isa.specs.declared.instr.Instr.{Instr}
 use Rattle.rv_isa.specs.Encoding.{Decodes}
@@ -14,6 +14,7 @@ use Rattle.rv_hart.specs.declared.bus.Item.{Item}
 use Rattle.rv_hart.specs.declared.bus.Item.TheVariants.{Fetch, Read as ReadItem, Write as WriteItem, Amo as AmoItem, Reserve as ReserveItem, Conditional as ConditionalItem}
 use Rattle.rv_hart.specs.declared.stepping.Stop.{Stop}
 use Rattle.rv_hart.specs.declared.stepping.Stop.TheVariants.{Ecall as EcallStop, Break as BreakStop, Bad as BadStop, Misaligned as MisalignedStop, Refused}
+use Rattle.rv_hart.specs.Buses.{HasValue}
 use Rattle.rv_hart.specs.Registers.{Registers}
 use Rattle.rv_hart.specs.Instructions.{access_for, after_action}
 
@@ -88,6 +89,24 @@ place_after r (Err stop) = Stopped r stop
 abbrev pub Chain : {B : Type 0} → (B → Item → B → Type 0) → B → List Item → B → Type 0
 Chain does bus [] end = bus ≡ end
 Chain {B} does bus (item ∷ items) end = (between : B) × does bus item between × Chain does between items end
+
+-- what a call of the bus answered, as what it gives the hart or as why the hart stops
+abbrev pub answered : {T : Type 0} → ℕ → (T → Answer) → Result T BusFault → Result Answer Stop
+answered address kind (Ok found) = Ok (kind found)
+answered address kind (Err fault) = Err (Refused address fault)
+
+-- an access was made by the one call that it asks for, or by none, and gave this
+abbrev pub Performs : {B : Type 0} → (B → Item → B → Type 0) → B → B → ℕ → Access → Result Answer Stop → Type 0
+Performs does bus bus' word Nothing result = (bus' ≡ bus) × (result ≡ Ok NoAnswer)
+Performs does bus bus' word (Read address size) result = (answer : Result ℕ BusFault) × HasValue size answer × does bus (ReadItem address size answer) bus' × (result ≡ answered address Value answer)
+Performs does bus bus' word (Write address size value) result = (answer : Result Unit BusFault) × does bus (WriteItem address size value answer) bus' × (result ≡ answered address (λ _. NoAnswer) answer)
+Performs does bus bus' word (Amo address size op value) result = (answer : Result ℕ BusFault) × HasValue size answer × does bus (AmoItem address size op value answer) bus' × (result ≡ answered address Value answer)
+Performs does bus bus' word (Reserve address size) result = (answer : Result (ℕ × ℕ) BusFault) × IfOk answer (λ found. found.0 < 2 ^ (8 * size)) × does bus (ReserveItem address size answer) bus' × (result ≡ answered address (λ found. Held found.0 found.1) answer)
+Performs does bus bus' word (Conditional address size value version) result = (answer : Result Bool BusFault) × does bus (ConditionalItem address size value version answer) bus' × (result ≡ answered address Stored answer)
+Performs does bus bus' word Ecall result = (bus' ≡ bus) × (result ≡ Err EcallStop)
+Performs does bus bus' word Break result = (bus' ≡ bus) × (result ≡ Err BreakStop)
+Performs does bus bus' word Bad result = (bus' ≡ bus) × (result ≡ Err (BadStop word))
+Performs does bus bus' word (Misaligned address) result = (bus' ≡ bus) × (result ≡ Err (MisalignedStop address))
 
 -- one step of a hart over a bus: the calls that the bus did are those of the step, which leaves the
 -- hart's registers and the step's result

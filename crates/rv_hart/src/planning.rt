@@ -4,7 +4,7 @@ ghost use Rattle.std.specs.Prelude.{◌≡◌, ◌<◌, ◌%◌, ◌^◌, ◌*�
 ghost use Rattle.rv_isa.specs.Encoding.{Decodes, HasForm, IsAtomicSize};
 ghost use Rattle.rv_hart.specs.Buses.{IsSize};
 ghost use Rattle.rv_hart.specs.Registers.{registers_of};
-ghost use Rattle.rv_hart.specs.Instructions.{offset_by, jalr_target, is_taken, load_size, store_size, low_bytes, jump_access, sc_access, access_of, access_for, IsPlanned};
+ghost use Rattle.rv_hart.specs.Instructions.{offset_by, jalr_target, is_taken, load_size, store_size, low_bytes, jump_access, sc_access, access_of, access_for, IsPlanned, IsSized};
 
 use crate::{Access, Action, Hart, Held};
 use rv_isa::{BranchOp, Instr, LoadOp, StoreOp, decode};
@@ -90,8 +90,10 @@ fn jump_access(target: u64) -> Access
 }
 
 fn sc_access(held: Option<Held>, address: u64, size: u8, value: u64) -> Access
-    requires { IsAtomicSize size }
-    ensures { result ≡ sc_access held address size value }
+    requires size { IsAtomicSize size }
+    requires value { value < 2 ^ (8 * size) }
+    ensures value { result ≡ sc_access held address size value }
+    ensures sized { IsSized result }
 {
     if address % u64::from(size) != 0 {
         return Access::Misaligned(address);
@@ -106,7 +108,8 @@ fn sc_access(held: Option<Held>, address: u64, size: u8, value: u64) -> Access
 
 fn access_of(hart: &Hart, instr: &Instr) -> Access
     requires { HasForm instr.now }
-    ensures { result ≡ access_of (registers_of hart.now) instr.now }
+    ensures value { result ≡ access_of (registers_of hart.now) instr.now }
+    ensures sized { IsSized result }
 {
     match instr {
         Instr::Jal(_, offset) => jump_access(offset_by(hart.pc, *offset)),
@@ -141,6 +144,7 @@ fn access_of(hart: &Hart, instr: &Instr) -> Access
 pub fn plan(hart: &Hart, word: u32) -> Action
     ensures instr { Decodes word result.instr }
     ensures planned { IsPlanned (registers_of hart.now) result }
+    ensures sized { IsSized result.access }
 {
     let instr = decode(word);
     let access = match &instr {
