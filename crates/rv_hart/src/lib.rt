@@ -16,5 +16,5 @@ pub use bus::{Bus, BusFault, Item};
 pub use completion::complete;
 pub use hart::{Hart, Held};
 pub use planning::plan;
-pub use stepping::Stop;
+pub use stepping::{Stop, step};
 

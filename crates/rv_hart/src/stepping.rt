@@ -57,3 +57,20 @@ fn perform<B: Bus>(bus: &mut B, access: Access, word: u32) -> Result<Answer, Sto
         Access::Misaligned(address) => Err(Stop::Misaligned(address)),
     }
 }
+
+/// One step of a hart: it fetches a word, makes the one access that the word asks for, and goes
+/// on. A hart that stops is as before the step.
+pub fn step<B: Bus>(hart: &mut Hart, bus: &mut B) -> Result<(), Stop>
+    ensures followed { Steps B.does bus.old bus.new (registers_of hart.old) (registers_of hart.new) result }
+    ensures stopped { OnErr result (hart.new ≡ hart.old) }
+{
+    let pc = hart.pc;
+    let word = match bus.fetch(pc) {
+        Ok(word) => word,
+        Err(fault) => return Err(Stop::Refused(pc, fault)),
+    };
+    let action = plan(hart, word);
+    let answer = perform(bus, action.access, word)?;
+    complete(hart, action, answer);
+    Ok(())
+}
