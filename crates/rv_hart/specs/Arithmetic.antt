@@ -9,6 +9,10 @@ use Rattle.rv_isa.specs.declared.operation.AmoOp.TheVariants.{Add as AmoAdd, Swa
 use Rattle.rv_isa.specs.declared.operation.ImmOp.{ImmOp}
 use Rattle.rv_isa.specs.declared.operation.ImmOp.TheVariants.{Addi, Slti, Sltiu, Xori, Ori, Andi, Slli, Srli, Srai, Addiw, Slliw, Srliw, Sraiw}
 
+-- the lowest bytes of a register
+abbrev pub low_bytes : ℕ → ℕ → ℕ
+low_bytes size value = value % 2 ^ (8 * size)
+
 -- the low half of a register, and the register whose low half is this, sign-extended
 abbrev pub low_word : ℕ → ℕ
 low_word a = a % 2 ^ 32

@@ -18,7 +18,7 @@ use Rattle.rv_hart.specs.declared.action.Action.{Action}
 use Rattle.rv_hart.specs.declared.action.Answer.{Answer}
 use Rattle.rv_hart.specs.declared.action.Answer.TheVariants.{Nothing as NoAnswer, Value, Held as HeldAnswer, Stored}
 use Rattle.rv_hart.specs.Buses.{IsSize}
-use Rattle.rv_hart.specs.Arithmetic.{reg_result, imm_result}
+use Rattle.rv_hart.specs.Arithmetic.{low_bytes, reg_result, imm_result}
 use Rattle.rv_hart.specs.Registers.{Registers, written, next, result_in, passed, jumped}
 
 -- ---- the parts of instructions
@@ -63,10 +63,6 @@ store_size Sb = 1
 store_size Sh = 2
 store_size Sw = 4
 store_size Sd = 8
-
--- the lowest bytes of a register
-abbrev pub low_bytes : ℕ → ℕ → ℕ
-low_bytes size value = value % 2 ^ (8 * size)
 
 -- what an atomic access puts into rd, of the bytes that it found
 abbrev pub atomic_loaded : ℕ → ℕ → ℕ

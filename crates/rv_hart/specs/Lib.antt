@@ -1,5 +1,6 @@
 pub mod Arithmetic
 pub mod Buses
+pub mod Doublewords
 pub mod Instructions
 pub mod Registers
 pub mod Trail

@@ -2,10 +2,25 @@
 
 ghost use Rattle.std.specs.Prelude.{◌≡◌, ◌*◌, ◌<◌, ◌^◌};
 ghost use Rattle.std.specs.Int.{w32, w64, w128, cast_signed, cast_unsigned};
-ghost use Rattle.rv_hart.specs.Arithmetic.{widened, upper_half, word_result, low_word, quotient, remainder, unsigned_quotient, unsigned_remainder, reg_result, with_registers, imm_result, combined};
+ghost use Rattle.rv_hart.specs.Arithmetic.{low_bytes, widened, upper_half, word_result, low_word, quotient, remainder, unsigned_quotient, unsigned_remainder, reg_result, with_registers, imm_result, combined};
+ghost use Rattle.rv_hart.specs.Buses.{IsSize};
 ghost use Rattle.rv_isa.specs.Encoding.{IsAtomicSize};
 
 use rv_isa::{AmoOp, ImmOp, RegOp};
+
+/// The lowest `size` bytes of a register.
+pub(crate) fn low_bytes(size: u8, value: u64) -> u64
+    requires { IsSize size }
+    ensures value { result ≡ low_bytes size value }
+    ensures bound { result < 2 ^ (8 * size) }
+{
+    match size {
+        1 => value & 0xff,
+        2 => value & 0xffff,
+        4 => value & 0xffff_ffff,
+        _ => value,
+    }
+}
 
 // The low half of a register.
 fn low_word(a: u64) -> u32

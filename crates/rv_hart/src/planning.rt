@@ -4,8 +4,9 @@ ghost use Rattle.std.specs.Prelude.{◌≡◌, ◌<◌, ◌%◌, ◌^◌, ◌*�
 ghost use Rattle.rv_isa.specs.Encoding.{Decodes, HasForm, IsAtomicSize};
 ghost use Rattle.rv_hart.specs.Buses.{IsSize};
 ghost use Rattle.rv_hart.specs.Registers.{registers_of};
-ghost use Rattle.rv_hart.specs.Instructions.{offset_by, jalr_target, is_taken, load_size, store_size, low_bytes, jump_access, sc_access, access_of, access_for, IsPlanned, IsSized};
+ghost use Rattle.rv_hart.specs.Instructions.{offset_by, jalr_target, is_taken, load_size, store_size, jump_access, sc_access, access_of, access_for, IsPlanned, IsSized};
 
+use crate::arithmetic::low_bytes;
 use crate::{Access, Action, Hart, Held};
 use rv_isa::{BranchOp, Instr, LoadOp, StoreOp, decode};
 
@@ -62,20 +63,6 @@ fn store_size(op: StoreOp) -> u8
         StoreOp::Sh => 2,
         StoreOp::Sw => 4,
         StoreOp::Sd => 8,
-    }
-}
-
-// The lowest bytes of a register.
-fn low_bytes(size: u8, value: u64) -> u64
-    requires { IsSize size }
-    ensures value { result ≡ low_bytes size value }
-    ensures bound { result < 2 ^ (8 * size) }
-{
-    match size {
-        1 => value & 0xff,
-        2 => value & 0xffff,
-        4 => value & 0xffff_ffff,
-        _ => value,
     }
 }
 

@@ -1,6 +1,6 @@
 use Rattle.std.proofs.Common.{rules}
 use Rattle.std.proofs.lemmas.Nat.{and_mask}
-use Rattle.rv_hart.proofs.planning.low_bytes.Goals as goal
+use Rattle.rv_hart.proofs.arithmetic.low_bytes.Goals as goal
 
 pub returns-in-1-clause-value : goal.returns-in-1-clause-value
 returns-in-1-clause-value c = rw c.in-1.is (and_mask c.args.value 8)
