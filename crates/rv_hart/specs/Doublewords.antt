@@ -1,6 +1,7 @@
 -- A doubleword of memory, its lanes, and what each call of a bus does to it.
-use Rattle.std.specs.Prelude.{◌≡◌, ℕ, ◌+◌, ◌-◌, ◌*◌, ◌/◌, ◌%◌, ◌^◌, List, [], ◌∷◌, Bool, true, false, Result, Ok, Err, ◌==◌, if◌then◌else◌}
+use Rattle.std.specs.Prelude.{◌≡◌, ℕ, ◌+◌, ◌-◌, ◌*◌, ◌/◌, ◌%◌, ◌^◌, List, [], ◌∷◌, Bool, true, false, Option, Some, None, Result, Ok, Err, slice_index_or, slice_set, ◌==◌, if◌then◌else◌}
 use Rattle.ld_base.specs.declared.linking.Role.{Role}
+use Rattle.ld_base.specs.declared.linking.Role.TheVariants.{None as NoRole}
 use Rattle.rv_isa.specs.Word.{bits, joined}
 use Rattle.rv_hart.specs.declared.bus.BusFault.{BusFault}
 use Rattle.rv_hart.specs.declared.bus.BusFault.TheVariants.{Role as RoleFault, Misaligned}
@@ -25,9 +26,18 @@ with_lane word address size value =
   let width = 8 * size in
   joined ((low, bits 0 low word) ∷ (width, value) ∷ (64 - (low + width), word / 2 ^ (low + width)) ∷ [])
 
--- an answer where the address is aligned and the role allows it
+-- why a call may not do what it asks, where it may not: its address isn't aligned, or the role
+-- doesn't allow it
+abbrev pub refusal : Bool → ℕ → ℕ → Role → Option BusFault
+refusal allowed address size role = if address % size == 0 then (if allowed then None else Some (RoleFault role)) else Some Misaligned
+
+-- an answer, or why there is none
+abbrev pub answer_or : {T : Type 0} → Option BusFault → T → Result T BusFault
+answer_or None value = Ok value
+answer_or (Some fault) value = Err fault
+
 abbrev pub checked : {T : Type 0} → (Role → Bool) → ℕ → ℕ → Role → T → Result T BusFault
-checked may address size role value = if address % size == 0 then (if may role then Ok value else Err (RoleFault role)) else Err Misaligned
+checked may address size role value = answer_or (refusal (may role) address size role) value
 
 -- a store raises the version
 abbrev pub stored : Doubleword → ℕ → ℕ → ℕ → Doubleword
@@ -50,3 +60,20 @@ DoesAt word (Write address size value answer) word' = (answer ≡ checked may_wr
 DoesAt word (Amo address size op value answer) word' = (answer ≡ checked may_write address size word.role (lane word.value address size)) × (word' ≡ if_ok answer (stored word address size (combined op size (lane word.value address size) value)) word)
 DoesAt word (Reserve address size answer) word' = (answer ≡ checked may_read address size word.role (lane word.value address size, word.version)) × (word' ≡ word)
 DoesAt word (Conditional address size value version answer) word' = (answer ≡ checked may_write address size word.role (word.version == version)) × (word' ≡ if_stored answer (stored word address size value) word)
+
+-- a doubleword that isn't there
+abbrev pub nowhere : Doubleword
+nowhere = record { value = 0; role = NoRole; version = 0 }
+
+-- the address of a call
+abbrev pub address_of : Item → ℕ
+address_of (Fetch address answer) = address
+address_of (Read address size answer) = address
+address_of (Write address size value answer) = address
+address_of (Amo address size op value answer) = address
+address_of (Reserve address size answer) = address
+address_of (Conditional address size value version answer) = address
+
+-- what a call does to doublewords that lie side by side from address 0 on
+abbrev pub DoesIn : List Doubleword → Item → List Doubleword → Type 0
+DoesIn words item words' = let at = address_of item / 8 in (word' : Doubleword) × DoesAt (slice_index_or words at nowhere) item word' × (words' ≡ slice_set words at word')
