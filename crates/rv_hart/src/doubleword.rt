@@ -81,6 +81,13 @@ fn refusal(allowed: bool, address: u64, size: u8, role: Role) -> Option<BusFault
 }
 
 impl Doubleword {
+    /// A doubleword that isn't there.
+    pub const NOWHERE: Doubleword = Doubleword {
+        value: 0,
+        role: Role::None,
+        version: 0,
+    };
+
     /// The instruction's word at an address.
     pub fn fetch(&self, address: u64) -> Result<u32, BusFault>
         ensures did { DoesAt self.now (Item.Fetch address result) self.now }

@@ -20,3 +20,6 @@ pub use hart::{Hart, Held};
 pub use planning::plan;
 pub use stepping::{Stop, step};
 
+
+#[cfg(test)]
+mod tests;
