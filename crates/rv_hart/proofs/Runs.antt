@@ -37,21 +37,31 @@ alone does bus mid bus' r word decoded access result given fetched decodes asked
 pub performed : {B : Type 0} (does : B → Item → B → Type 0) (bus mid bus' : B) (r : Registers) (word : ℕ) (decoded : Option Instr) (access : Access) (result : Result Answer Stop) →
     does bus (Fetch r.pc (Ok word)) mid → Decodes word decoded → access ≡ access_for r decoded → Performs does mid bus' word access result → StepsTo does bus bus' r (end_of r decoded result)
 performed does bus mid bus' r word decoded Nothing result fetched decodes asked h = alone does bus mid bus' r word decoded Nothing result (Ok NoAnswer) fetched decodes asked h refl
-performed does bus mid bus' r word decoded (Read address size) result fetched decodes asked (answer, value, did, gave) =
-    (Fetch r.pc (Ok word) ∷ ReadItem address size answer ∷ [], (mid, fetched, (bus', did, refl)),
-     (decoded, (refl, (decoded, decodes, ap (place_for r word decoded) asked)), (sym asked, ap (end_of r decoded) gave ∙ end-concluded r decoded address Value answer)))
-performed does bus mid bus' r word decoded (Write address size value) result fetched decodes asked (answer, did, gave) =
-    (Fetch r.pc (Ok word) ∷ WriteItem address size value answer ∷ [], (mid, fetched, (bus', did, refl)),
-     (decoded, (refl, (decoded, decodes, ap (place_for r word decoded) asked)), (sym asked, ap (end_of r decoded) gave ∙ end-concluded r decoded address (λ _. NoAnswer) answer)))
-performed does bus mid bus' r word decoded (Amo address size op value) result fetched decodes asked (answer, found, did, gave) =
-    (Fetch r.pc (Ok word) ∷ AmoItem address size op value answer ∷ [], (mid, fetched, (bus', did, refl)),
-     (decoded, (refl, (decoded, decodes, ap (place_for r word decoded) asked)), (sym asked, ap (end_of r decoded) gave ∙ end-concluded r decoded address Value answer)))
-performed does bus mid bus' r word decoded (Reserve address size) result fetched decodes asked (answer, found, did, gave) =
-    (Fetch r.pc (Ok word) ∷ ReserveItem address size answer ∷ [], (mid, fetched, (bus', did, refl)),
-     (decoded, (refl, (decoded, decodes, ap (place_for r word decoded) asked)), (sym asked, ap (end_of r decoded) gave ∙ end-concluded r decoded address (λ found. Held found.0 found.1) answer)))
-performed does bus mid bus' r word decoded (Conditional address size value version) result fetched decodes asked (answer, did, gave) =
-    (Fetch r.pc (Ok word) ∷ ConditionalItem address size value version answer ∷ [], (mid, fetched, (bus', did, refl)),
-     (decoded, (refl, (decoded, decodes, ap (place_for r word decoded) asked)), (sym asked, ap (end_of r decoded) gave ∙ end-concluded r decoded address Stored answer)))
+performed does bus mid bus' r word decoded (Read address size) result fetched decodes asked (answer, value, did, gave) = (
+  Fetch r.pc (Ok word) ∷ ReadItem address size answer ∷ [],
+  (mid, fetched, (bus', did, refl)),
+  (decoded, (refl, (decoded, decodes, ap (place_for r word decoded) asked)), (sym asked, ap (end_of r decoded) gave ∙ end-concluded r decoded address Value answer)),
+)
+performed does bus mid bus' r word decoded (Write address size value) result fetched decodes asked (answer, did, gave) = (
+  Fetch r.pc (Ok word) ∷ WriteItem address size value answer ∷ [],
+  (mid, fetched, (bus', did, refl)),
+  (decoded, (refl, (decoded, decodes, ap (place_for r word decoded) asked)), (sym asked, ap (end_of r decoded) gave ∙ end-concluded r decoded address (λ _. NoAnswer) answer)),
+)
+performed does bus mid bus' r word decoded (Amo address size op value) result fetched decodes asked (answer, found, did, gave) = (
+  Fetch r.pc (Ok word) ∷ AmoItem address size op value answer ∷ [],
+  (mid, fetched, (bus', did, refl)),
+  (decoded, (refl, (decoded, decodes, ap (place_for r word decoded) asked)), (sym asked, ap (end_of r decoded) gave ∙ end-concluded r decoded address Value answer)),
+)
+performed does bus mid bus' r word decoded (Reserve address size) result fetched decodes asked (answer, found, did, gave) = (
+  Fetch r.pc (Ok word) ∷ ReserveItem address size answer ∷ [],
+  (mid, fetched, (bus', did, refl)),
+  (decoded, (refl, (decoded, decodes, ap (place_for r word decoded) asked)), (sym asked, ap (end_of r decoded) gave ∙ end-concluded r decoded address (λ found. Held found.0 found.1) answer)),
+)
+performed does bus mid bus' r word decoded (Conditional address size value version) result fetched decodes asked (answer, did, gave) = (
+  Fetch r.pc (Ok word) ∷ ConditionalItem address size value version answer ∷ [],
+  (mid, fetched, (bus', did, refl)),
+  (decoded, (refl, (decoded, decodes, ap (place_for r word decoded) asked)), (sym asked, ap (end_of r decoded) gave ∙ end-concluded r decoded address Stored answer)),
+)
 performed does bus mid bus' r word decoded Ecall result fetched decodes asked h = alone does bus mid bus' r word decoded Ecall result (Err EcallStop) fetched decodes asked h refl
 performed does bus mid bus' r word decoded Break result fetched decodes asked h = alone does bus mid bus' r word decoded Break result (Err BreakStop) fetched decodes asked h refl
 performed does bus mid bus' r word decoded Bad result fetched decodes asked h = alone does bus mid bus' r word decoded Bad result (Err (BadStop word)) fetched decodes asked h refl
@@ -60,15 +70,15 @@ performed does bus mid bus' r word decoded (Misaligned address) result fetched d
 -- a step that gets through its instruction
 pub stepped : {B T : Type 0} (does : B → Item → B → Type 0) (bus bus' : B) (r r' : Registers) (decoded : Option Instr) (answer : Answer) (value : T) → StepsTo does bus bus' r (end_of r decoded (Ok answer)) → r' ≡ after_action r decoded answer → Steps does bus bus' r r' (Ok value)
 stepped does bus bus' r r' decoded answer value (items, chain, step) left = record {
-    items = items;
-    chain = chain;
-    step = subst (λ x. IsStep r items (Ready x)) (sym left) step;
-  }
+  items = items;
+  chain = chain;
+  step = subst (λ x. IsStep r items (Ready x)) (sym left) step;
+}
 
 -- a step whose hart stops
 pub stopped : {B T : Type 0} (does : B → Item → B → Type 0) (bus bus' : B) (r : Registers) (decoded : Option Instr) (stop : Stop) (result : Result T Stop) → StepsTo does bus bus' r (end_of r decoded (Err stop)) → result ≡ Err stop → Steps does bus bus' r r result
 stopped does bus bus' r decoded stop result (items, chain, step) gave = record {
-    items = items;
-    chain = chain;
-    step = subst (λ x. IsStep r items (place_after r x)) (sym gave) step;
-  }
+  items = items;
+  chain = chain;
+  step = subst (λ x. IsStep r items (place_after r x)) (sym gave) step;
+}

@@ -22,9 +22,9 @@ lane word address size = bits (low_bit address) (8 * size) word
 -- the doubleword with other bytes at an address: what is below them, they, and what is above them
 unfoldable pub with_lane : ℕ → ℕ → ℕ → ℕ → ℕ
 with_lane word address size value =
-  let low = low_bit address in
-  let width = 8 * size in
-  joined ((low, bits 0 low word) ∷ (width, value) ∷ (64 - (low + width), word / 2 ^ (low + width)) ∷ [])
+    let low = low_bit address in
+    let width = 8 * size in
+    joined ((low, bits 0 low word) ∷ (width, value) ∷ (64 - (low + width), word / 2 ^ (low + width)) ∷ [])
 
 -- why a call may not do what it asks, where it may not: its address isn't aligned, or the role
 -- doesn't allow it

@@ -89,9 +89,9 @@ jump_access target = if target % 4 == 0 then Nothing else Misaligned target
 
 abbrev pub sc_access : Option Held → ℕ → ℕ → ℕ → Access
 sc_access held address size value =
-  if address % size == 0
-  then (if is_held held address size then Conditional address size value (held_version held) else Nothing)
-  else Misaligned address
+    if address % size == 0
+    then (if is_held held address size then Conditional address size value (held_version held) else Nothing)
+    else Misaligned address
 
 abbrev pub access_of : Registers → Instr → Access
 access_of r (Lui rd number) = Nothing

@@ -62,7 +62,9 @@ fn quotient(a: u64, b: u64) -> u64
     if b == 0 {
         u64::MAX
     } else {
-        a.cast_signed().wrapping_div(b.cast_signed()).cast_unsigned()
+        a.cast_signed()
+            .wrapping_div(b.cast_signed())
+            .cast_unsigned()
     }
 }
 
@@ -72,7 +74,9 @@ fn remainder(a: u64, b: u64) -> u64
     if b == 0 {
         a
     } else {
-        a.cast_signed().wrapping_rem(b.cast_signed()).cast_unsigned()
+        a.cast_signed()
+            .wrapping_rem(b.cast_signed())
+            .cast_unsigned()
     }
 }
 
@@ -94,7 +98,9 @@ fn word_quotient(a: u32, b: u32) -> u32
     if b == 0 {
         u32::MAX
     } else {
-        a.cast_signed().wrapping_div(b.cast_signed()).cast_unsigned()
+        a.cast_signed()
+            .wrapping_div(b.cast_signed())
+            .cast_unsigned()
     }
 }
 
@@ -104,7 +110,9 @@ fn word_remainder(a: u32, b: u32) -> u32
     if b == 0 {
         a
     } else {
-        a.cast_signed().wrapping_rem(b.cast_signed()).cast_unsigned()
+        a.cast_signed()
+            .wrapping_rem(b.cast_signed())
+            .cast_unsigned()
     }
 }
 

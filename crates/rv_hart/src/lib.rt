@@ -10,7 +10,6 @@ mod hart;
 mod planning;
 mod stepping;
 
-
 pub use action::{Access, Action, Answer};
 pub use arithmetic::combined;
 pub use bus::{Bus, BusFault, Item};
@@ -19,7 +18,6 @@ pub use doubleword::{Doubleword, lane, with_lane};
 pub use hart::{Hart, Held};
 pub use planning::plan;
 pub use stepping::{Stop, step};
-
 
 #[cfg(test)]
 mod tests;

@@ -101,9 +101,8 @@ fn access_of(hart: &Hart, instr: &Instr) -> Access
     match instr {
         Instr::Jal(_, offset) => jump_access(offset_by(hart.pc, *offset)),
         Instr::Jalr(_, rs1, offset) => jump_access(jalr_target(hart.value(*rs1), *offset)),
-        Instr::Branch(op, rs1, rs2, offset) if is_taken(*op, hart.value(*rs1), hart.value(*rs2)) => {
-            jump_access(offset_by(hart.pc, *offset))
-        }
+        Instr::Branch(op, rs1, rs2, offset) if is_taken(*op, hart.value(*rs1), hart.value(*rs2)) =>
+            { jump_access(offset_by(hart.pc, *offset)) }
         Instr::Load(op, _, rs1, offset) => {
             Access::Read(offset_by(hart.value(*rs1), *offset), load_size(*op))
         }
@@ -113,7 +112,12 @@ fn access_of(hart: &Hart, instr: &Instr) -> Access
             Access::Write(offset_by(hart.value(*rs1), *offset), size, value)
         }
         Instr::Amo(op, size, _, rs1, rs2, _, _) => {
-            Access::Amo(hart.value(*rs1), *size, *op, low_bytes(*size, hart.value(*rs2)))
+            Access::Amo(
+                hart.value(*rs1),
+                *size,
+                *op,
+                low_bytes(*size, hart.value(*rs2)),
+            )
         }
         Instr::Lr(size, _, rs1, _, _) => Access::Reserve(hart.value(*rs1), *size),
         Instr::Sc(size, _, rs1, rs2, _, _) => {

@@ -95,7 +95,13 @@ impl Bus for Script {
         version: u64,
     ) -> Result<bool, BusFault> {
         if address % u64::from(size) != 0 {
-            self.record(Item::Conditional(address, size, value, version, Err(BusFault::Misaligned)));
+            self.record(Item::Conditional(
+                address,
+                size,
+                value,
+                version,
+                Err(BusFault::Misaligned),
+            ));
             return Err(BusFault::Misaligned);
         }
         let answer = self.answer() == 0;

@@ -7,10 +7,10 @@ use Rattle.rv_hart.proofs.stepping.step.Goals as goal
 
 pub returns-in-Err-clause-followed : goal.returns-in-Err-clause-followed
 returns-in-Err-clause-followed g c = record {
-    items = Fetch c.args.hart.now.pc (Err c.in-Err.fault) ∷ [];
-    chain = (c.fetch.new.self, c.in-Err.ensures.did, refl);
-    step = (refl, refl);
-  }
+  items = Fetch c.args.hart.now.pc (Err c.in-Err.fault) ∷ [];
+  chain = (c.fetch.new.self, c.in-Err.ensures.did, refl);
+  step = (refl, refl);
+}
 
 pub returns-in_err-answer-clause-followed : goal.returns-in_err-answer-clause-followed
 returns-in_err-answer-clause-followed g c =
