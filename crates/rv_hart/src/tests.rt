@@ -136,13 +136,14 @@ fn atomics_on_plain_memory(rt: HostRuntime) -> Result<(), Fail> {
     .to_vec(rt.alloc())?;
     let mut memory = Plain { words };
     let mut hart = Hart::new(0, 0x100, 0x200, 3);
-    assert_eq!(rt; hart.x[1], Hart::END);
-    assert_eq!(rt; (hart.x[2], hart.x[4], hart.x[10]), (0x100, 0x200, 3));
+    let start = (hart.x[1], hart.x[2], hart.x[4], hart.x[10]);
+    assert_eq!(rt; start, (Hart::END, 0x100, 0x200, 3));
     hart.x[11] = 0xffff_ffff;
     hart.x[12] = 16;
 
     assert_eq!(rt; step(&mut hart, &mut memory), Ok(()));
-    assert_eq!(rt; hart.x[10], 1);
+    let found = hart.x[10];
+    assert_eq!(rt; found, 1);
     assert_eq!(rt; memory.read(16, 8), Ok(0xffff_ffff_0000_0000));
 
     // Another hart's store of the same value makes the SC fail.
@@ -173,17 +174,13 @@ fn atomics_on_plain_memory(rt: HostRuntime) -> Result<(), Fail> {
 #[test]
 fn a_value_that_changes_between_two_reads(rt: HostRuntime) {
     // ld a0, 0(a2); ld a1, 0(a2)
-    let nothing = Item::Fetch(0, Err(BusFault::Misaligned));
-    let mut bus = Script {
-        answers: [0x0006_3503, 5, 0x0006_3583, 7],
-        calls: [nothing, nothing, nothing, nothing],
-        count: 0,
-    };
+    let mut bus = Script::new([0x0006_3503, 5, 0x0006_3583, 7]);
     let mut hart = Hart::new(0, 0, 0, 0);
     assert_eq!(rt; step(&mut hart, &mut bus), Ok(()));
     assert_eq!(rt; step(&mut hart, &mut bus), Ok(()));
     assert_eq!(rt; (hart.x[10], hart.x[11]), (5, 7));
-    assert_eq!(rt; bus.calls[3], Item::Read(0, 8, Ok(7)));
+    let last = bus.calls[3];
+    assert_eq!(rt; last, Item::Read(0, 8, Ok(7)));
 }
 
 #[test]
@@ -200,12 +197,7 @@ fn stops(rt: HostRuntime) {
         (0, 0, Stop::Bad(0)),
     ];
     for (word, a2, expected) in rows {
-        let nothing = Item::Fetch(0, Err(BusFault::Misaligned));
-        let mut bus = Script {
-            answers: [word, 0, 0, 0],
-            calls: [nothing, nothing, nothing, nothing],
-            count: 0,
-        };
+        let mut bus = Script::new([word, 0, 0, 0]);
         let mut hart = Hart::new(0, 0, 0, 0);
         hart.x[12] = a2;
         assert_eq!(rt; step(&mut hart, &mut bus), Err(expected));

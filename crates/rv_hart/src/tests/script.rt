@@ -17,6 +17,19 @@ pub struct Script {
 }
 
 impl Script {
+    pub fn new(answers: [u64; ROOM]) -> Self {
+        Script {
+            answers,
+            calls: [
+                Item::Read(0, 8, Ok(0)),
+                Item::Read(0, 8, Ok(0)),
+                Item::Read(0, 8, Ok(0)),
+                Item::Read(0, 8, Ok(0)),
+            ],
+            count: 0,
+        }
+    }
+
     fn answer(&self) -> u64 {
         if self.count < ROOM {
             self.answers[self.count]
