@@ -1,6 +1,6 @@
 -- Each mnemonic is the one with its code.
-use Rattle.std.proofs.Common.{◌≡◌, ℕ, ◌+◌, ◌-◌, ◌^◌, ◌<◌, List, [], ◌∷◌, Bool, true, false, Option, Some, None, cond, refl, sym, ap, ◌∙◌, arith, lit<}
-use Rattle.std.specs.Prelude.{find, ◌==◌}
+use Rattle.std.proofs.Common.{◌≡◌, ℕ, ◌+◌, ◌-◌, ◌^◌, ◌<◌, Some, refl, sym, lit<}
+use Rattle.std.specs.Prelude.{◌==◌}
 use Rattle.rv_isa.specs.declared.operation.BranchOp.{BranchOp}
 use Rattle.rv_isa.specs.declared.operation.BranchOp.TheVariants.{Beq}
 use Rattle.rv_isa.specs.declared.operation.LoadOp.{LoadOp}
@@ -16,7 +16,7 @@ use Rattle.rv_isa.specs.declared.operation.AmoOp.TheVariants.{Swap}
 use Rattle.rv_isa.specs.Opcodes.{Upper, Number, Shift, branch_code, load_code, store_code, imm_code, reg_code, amo_code}
 use Rattle.std.proofs.lemmas.Bool.{eqb-true}
 use Rattle.rv_isa.proofs.Options.{found_passes}
-use Rattle.rv_isa.specs.Reading.{branch_ops, load_ops, store_ops, amo_ops, branch_of, load_of, store_of, amo_of, reg_of, imm_of, is_upper}
+use Rattle.rv_isa.specs.Reading.{branch_ops, load_ops, store_ops, amo_ops, branch_of, load_of, store_of, amo_of, reg_of, imm_of}
 use Rattle.rv_isa.specs.Word.{bits}
 
 pub branch_of-code : (op : BranchOp) → branch_of (branch_code op) ≡ Some op

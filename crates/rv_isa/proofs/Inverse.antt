@@ -1,11 +1,11 @@
 -- `instr_of` is the inverse of `word_of`.
-use Rattle.std.proofs.Common.{◌≡◌, ◌⊎◌, inl, inr, ℕ, ◌+◌, ◌-◌, ◌*◌, ◌/◌, ◌%◌, ◌^◌, ◌<◌, ◌≤◌, List, [], ◌∷◌, ℤ, pos, ◌≤ℤ◌, ◌<ℤ◌, Bool, true, false, Option, Some, None, cond, refl, sym, ap, subst, ◌∙◌, arith, lit<}
+use Rattle.std.proofs.Common.{◌≡◌, ◌⊎◌, inl, inr, ℕ, ◌+◌, ◌-◌, ◌/◌, ◌^◌, ◌<◌, ℤ, Bool, true, false, Option, Some, None, refl, sym, ap, subst, ◌∙◌, arith, lit<}
 use Rattle.std.specs.Prelude.{IfSome, ◌==◌}
-use Rattle.std.specs.Int.{w32, cast_unsigned, from_bool}
+use Rattle.std.specs.Int.{from_bool}
 use Rattle.std.proofs.Math.Nat.{div-one, mod-eq_of_lt}
 use Rattle.std.proofs.lemmas.Int.{ints}
 use Rattle.std.specs.Option.{option_map}
-use Rattle.std.proofs.lemmas.Bool.{eq-eqb, eqb-true}
+use Rattle.std.proofs.lemmas.Bool.{eqb-true}
 use Rattle.rv_isa.specs.declared.operation.AmoOp.{AmoOp}
 use Rattle.rv_isa.specs.declared.operation.AmoOp.TheVariants.{Swap}
 use Rattle.rv_isa.specs.declared.operation.ImmOp.{ImmOp}
@@ -14,15 +14,15 @@ use Rattle.rv_isa.specs.declared.operation.RegOp.{RegOp}
 use Rattle.rv_isa.specs.declared.operation.RegOp.TheVariants.{Addw, Sllw, Srlw, Subw, Sraw, Mulw, Divw, Divuw, Remw, Remuw}
 use Rattle.rv_isa.specs.declared.instr.Instr.{Instr}
 use Rattle.rv_isa.specs.declared.instr.Instr.TheVariants.{Lui, Auipc, Jal, Jalr, Branch, Load, Store, Imm, Op, Amo, Lr, Sc, Fence, Ecall, Ebreak}
-use Rattle.rv_isa.specs.Word.{bits, joined, HasFields, part}
-use Rattle.rv_isa.specs.Opcodes.{Upper, Number, Shift, branch_code, load_code, store_code, imm_code, reg_code, amo_code}
+use Rattle.rv_isa.specs.Word.{bits, HasFields}
+use Rattle.rv_isa.specs.Opcodes.{Upper, Number, Shift, imm_code, reg_code, amo_code}
 use Rattle.rv_isa.specs.Laws.{WordsHaveFields, DecodingInverts, OneDecoding}
 use Rattle.rv_isa.specs.Encoding.{Decodes, fields_of, word_of, upper_fields, size_code, FitsUpper, IsAtomicSize, IsInstr, HasForm, HasRegisters}
 use Rattle.rv_isa.specs.Reading.{branch_of, load_of, store_of, amo_of, reg_of, imm_of, is_upper, number_of, size_of, atomic_of, with_opcode, instr_of, imm_ops, reg_ops, has_imm_code, has_reg_code, i_number, s_number, b_number, u_number, j_number}
 use Rattle.std.proofs.lemmas.Bool.Decides.{nat_tests}
 use Rattle.rv_isa.proofs.Options.{if_keeps, map_keeps, and_then_keeps, found_passes, and_both}
 use Rattle.rv_isa.proofs.Rows.{Fit, bits-below, bits-zero, reads-joined, joined-reads}
-use Rattle.rv_isa.proofs.Codes.{HasUpper, branch_of-code, load_of-code, store_of-code, amo_of-code, reg_of-code, imm_of-code, code-branch_of, code-load_of, code-store_of, code-amo_of, branch_code-below, load_code-below, store_code-below, amo_code-below, reg_code-below}
+use Rattle.rv_isa.proofs.Codes.{branch_of-code, load_of-code, store_of-code, amo_of-code, reg_of-code, imm_of-code, code-branch_of, code-load_of, code-store_of, code-amo_of, branch_code-below, load_code-below, store_code-below, amo_code-below, reg_code-below}
 use Rattle.rv_isa.proofs.Numbers.{i_number-is, s_number-is, b_number-is, u_number-is, j_number-is, upper-is, i_number-within, i_number-part, s_number-within, s_number-parts, b_number-within, b_number-parts, j_number-within, j_number-parts, u_number-within, u_number-parts}
 
 -- ---- each field fits its width

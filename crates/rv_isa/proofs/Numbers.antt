@@ -1,17 +1,14 @@
 -- The immediates that a word holds, and their parts.
-use Rattle.std.proofs.Common.{◌≡◌, ℕ, ◌+◌, ◌-◌, ◌*◌, ◌/◌, ◌%◌, ◌^◌, ◌<◌, ◌≤◌, List, [], ◌∷◌, ℤ, pos, negsuc, ◌≤ℤ◌, ◌<ℤ◌, Bool, true, refl, sym, ap, ◌∙◌, arith, lit<}
+use Rattle.std.proofs.Common.{◌≡◌, ℕ, ◌+◌, ◌/◌, ◌%◌, ◌^◌, ◌<◌, List, [], ◌∷◌, ℤ, pos, negsuc, ◌≤ℤ◌, ◌<ℤ◌, refl, sym, ap, ◌∙◌, arith, lit<}
 use Rattle.std.specs.Int.{w32, cast_unsigned, cast_signed}
-use Rattle.std.specs.Prelude.{FitsSigned}
 use Rattle.std.proofs.Math.Nat.{div-one, mod-eq_of_lt}
-use Rattle.std.proofs.lemmas.Bool.{eq-eqb, eqb-true}
 use Rattle.std.proofs.lemmas.Bool.Decides.{nat_tests}
-use Rattle.std.proofs.lemmas.Int.{ints, to_z-of_z, of_z-to_z}
-use Rattle.std.proofs.lemmas.Nat.{pow_below}
+use Rattle.std.proofs.lemmas.Int.{ints}
 use Rattle.rv_isa.specs.Word.{bits, joined, HasFields, part, signed}
 use Rattle.rv_isa.specs.Opcodes.{Upper, Number, Shift}
 use Rattle.rv_isa.specs.Encoding.{IsWithin, IsDistance, IsUpper, FitsUpper, upper_fields}
-use Rattle.rv_isa.specs.Reading.{i_number, s_number, b_number, u_number, j_number, is_upper, number_of}
-use Rattle.rv_isa.proofs.Rows.{Fit, bits-below, bits-zero, bits-mod, reads-joined, joined-reads, joined-cut, joined-below}
+use Rattle.rv_isa.specs.Reading.{i_number, s_number, b_number, u_number, j_number, number_of}
+use Rattle.rv_isa.proofs.Rows.{Fit, bits-below, bits-zero, bits-mod, reads-joined, joined-cut, joined-below}
 use Rattle.rv_isa.proofs.Signs.{signed-12, low_12, within_12, signed-13, low_13, within_13, signed-21, low_21, within_21, low_32, within_32}
 use Rattle.rv_isa.proofs.Codes.{HasUpper}
 

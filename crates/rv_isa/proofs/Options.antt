@@ -1,5 +1,5 @@
 -- Tests and look-ups that end in a value or in nothing.
-use Rattle.std.proofs.Common.{◌≡◌, ℕ, List, [], ◌∷◌, Bool, true, false, ◌&&◌, Option, Some, None, cond, refl, sym, ap, ◌∙◌}
+use Rattle.std.proofs.Common.{◌≡◌, List, [], ◌∷◌, Bool, true, false, ◌&&◌, Option, Some, None, cond, refl, sym, ap, ◌∙◌}
 use Rattle.std.specs.Prelude.{find, IfSome}
 use Rattle.std.specs.Option.{option_map, option_and_then}
 

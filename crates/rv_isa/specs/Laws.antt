@@ -1,5 +1,5 @@
 -- What the table is good for: laws over all instructions and words.
-use Rattle.std.specs.Prelude.{◌≡◌, ◌↔◌, ℕ, ◌<◌, ◌^◌, Option, Some}
+use Rattle.std.specs.Prelude.{◌≡◌, ◌↔◌, ℕ, Option, Some}
 use Rattle.rv_isa.specs.declared.instr.Instr.{Instr}
 use Rattle.rv_isa.specs.Word.{HasFields}
 use Rattle.rv_isa.specs.Encoding.{fields_of, word_of, IsInstr, Decodes}

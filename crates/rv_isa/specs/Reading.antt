@@ -104,25 +104,39 @@ atomic_of word size =
     else (if funct5 == 3 then Some (Sc size rd rs1 rs2 aq rl)
     else option_map (λ op. Amo op size rd rs1 rs2 aq rl) (amo_of funct5))
 
+-- the instruction of a word with the opcode of its form
+abbrev pub load_of_word : ℕ → Option Instr
+load_of_word word = option_map (λ op. Load op (bits 7 5 word) (bits 15 5 word) (i_number word)) (load_of (bits 12 3 word))
+
+abbrev pub store_of_word : ℕ → Option Instr
+store_of_word word = option_map (λ op. Store op (bits 15 5 word) (bits 20 5 word) (s_number word)) (store_of (bits 12 3 word))
+
+abbrev pub branch_of_word : ℕ → Option Instr
+branch_of_word word = option_map (λ op. Branch op (bits 15 5 word) (bits 20 5 word) (b_number word)) (branch_of (bits 12 3 word))
+
+abbrev pub imm_of_word : ℕ → ℕ → Option Instr
+imm_of_word opcode word = option_map (λ op. let code = imm_code op in Imm op (bits 7 5 word) (bits 15 5 word) (number_of code.2 word)) (imm_of opcode (bits 12 3 word) word)
+
+abbrev pub reg_of_word : ℕ → ℕ → Option Instr
+reg_of_word opcode word = option_map (λ op. Op op (bits 7 5 word) (bits 15 5 word) (bits 20 5 word)) (reg_of opcode (bits 25 7 word) (bits 12 3 word))
+
 -- the instruction of a word with this opcode
 unfoldable pub with_opcode : ℕ → ℕ → Option Instr
 with_opcode opcode word =
     let rd = bits 7 5 word in
-    let funct3 = bits 12 3 word in
     let rs1 = bits 15 5 word in
-    let rs2 = bits 20 5 word in
-    let funct7 = bits 25 7 word in
-    if opcode == 0x03 then option_map (λ op. Load op rd rs1 (i_number word)) (load_of funct3)
+    let funct3 = bits 12 3 word in
+    if opcode == 0x03 then load_of_word word
     else (if opcode == 0x0f then (if funct3 == 0 then Some (Fence word) else None)
-    else (if opcode == 0x13 then option_map (λ op. let code = imm_code op in Imm op rd rs1 (number_of code.2 word)) (imm_of 0x13 funct3 word)
+    else (if opcode == 0x13 then imm_of_word 0x13 word
     else (if opcode == 0x17 then Some (Auipc rd (u_number word))
-    else (if opcode == 0x1b then option_map (λ op. let code = imm_code op in Imm op rd rs1 (number_of code.2 word)) (imm_of 0x1b funct3 word)
-    else (if opcode == 0x23 then option_map (λ op. Store op rs1 rs2 (s_number word)) (store_of funct3)
+    else (if opcode == 0x1b then imm_of_word 0x1b word
+    else (if opcode == 0x23 then store_of_word word
     else (if opcode == 0x2f then option_and_then (atomic_of word) (size_of funct3)
-    else (if opcode == 0x33 then option_map (λ op. Op op rd rs1 rs2) (reg_of 0x33 funct7 funct3)
+    else (if opcode == 0x33 then reg_of_word 0x33 word
     else (if opcode == 0x37 then Some (Lui rd (u_number word))
-    else (if opcode == 0x3b then option_map (λ op. Op op rd rs1 rs2) (reg_of 0x3b funct7 funct3)
-    else (if opcode == 0x63 then option_map (λ op. Branch op rs1 rs2 (b_number word)) (branch_of funct3)
+    else (if opcode == 0x3b then reg_of_word 0x3b word
+    else (if opcode == 0x63 then branch_of_word word
     else (if opcode == 0x67 then (if funct3 == 0 then Some (Jalr rd rs1 (i_number word)) else None)
     else (if opcode == 0x6f then Some (Jal rd (j_number word))
     else (if opcode == 0x73 then (if word == 0x00000073 then Some Ecall else (if word == 0x00100073 then Some Ebreak else None))

@@ -5,7 +5,7 @@ ghost use Rattle.std.specs.Option.{option_map};
 ghost use Rattle.rv_isa.specs.Word.{bits};
 ghost use Rattle.rv_isa.specs.Opcodes.{imm_code};
 ghost use Rattle.rv_isa.specs.Encoding.{Decodes};
-ghost use Rattle.rv_isa.specs.Reading.{branch_of, load_of, store_of, amo_of, reg_of, imm_of, number_of, size_of, atomic_of, with_opcode, instr_of};
+ghost use Rattle.rv_isa.specs.Reading.{branch_of, load_of, store_of, amo_of, reg_of, imm_of, number_of, size_of, atomic_of, load_of_word, store_of_word, branch_of_word, imm_of_word, reg_of_word, with_opcode};
 
 use crate::field::{b_number, field, i_number, j_number, register, s_number, u_number};
 use crate::{AmoOp, BranchOp, ImmOp, Instr, LoadOp, Reg, RegOp, StoreOp};
@@ -260,47 +260,66 @@ fn atomic(word: u32, size: u8) -> Option<Instr>
     }
 }
 
+fn load(word: u32) -> Option<Instr>
+    ensures { result ≡ load_of_word word }
+{
+    load_op(funct3(word)).map(|op| Instr::Load(op, rd(word), rs1(word), i_number(word)))
+}
+
+fn store(word: u32) -> Option<Instr>
+    ensures { result ≡ store_of_word word }
+{
+    store_op(funct3(word)).map(|op| Instr::Store(op, rs1(word), rs2(word), s_number(word)))
+}
+
+fn branch(word: u32) -> Option<Instr>
+    ensures { result ≡ branch_of_word word }
+{
+    branch_op(funct3(word)).map(|op| Instr::Branch(op, rs1(word), rs2(word), b_number(word)))
+}
+
+fn immediate(word: u32) -> Option<Instr>
+    ensures { result ≡ imm_of_word 0x13 word }
+{
+    imm_op(word).map(|op| Instr::Imm(op, rd(word), rs1(word), number(op, word)))
+}
+
+fn word_immediate(word: u32) -> Option<Instr>
+    ensures { result ≡ imm_of_word 0x1b word }
+{
+    imm_word_op(word).map(|op| Instr::Imm(op, rd(word), rs1(word), number(op, word)))
+}
+
+fn registers(word: u32) -> Option<Instr>
+    ensures { result ≡ reg_of_word 0x33 word }
+{
+    let op = reg_op(funct7(word), funct3(word));
+    op.map(|op| Instr::Op(op, rd(word), rs1(word), rs2(word)))
+}
+
+fn word_registers(word: u32) -> Option<Instr>
+    ensures { result ≡ reg_of_word 0x3b word }
+{
+    let op = reg_word_op(funct7(word), funct3(word));
+    op.map(|op| Instr::Op(op, rd(word), rs1(word), rs2(word)))
+}
+
 #[tactic(auto, unfolding(crate::specs::Reading::with_opcode))]
 fn by_opcode(opcode: u32, word: u32) -> Option<Instr>
     ensures { result ≡ with_opcode opcode word }
 {
     match opcode {
-        0x03 => load_op(funct3(word)).map(|op| Instr::Load(
-            op,
-            rd(word),
-            rs1(word),
-            i_number(word),
-        )),
+        0x03 => load(word),
         0x0f if funct3(word) == 0 => Some(Instr::Fence(word)),
-        0x13 => imm_op(word).map(|op| Instr::Imm(op, rd(word), rs1(word), number(op, word))),
+        0x13 => immediate(word),
         0x17 => Some(Instr::Auipc(rd(word), u_number(word))),
-        0x1b => imm_word_op(word).map(|op| Instr::Imm(op, rd(word), rs1(word), number(op, word))),
-        0x23 => store_op(funct3(word)).map(|op| Instr::Store(
-            op,
-            rs1(word),
-            rs2(word),
-            s_number(word),
-        )),
+        0x1b => word_immediate(word),
+        0x23 => store(word),
         0x2f => access_size(funct3(word)).and_then(|size| atomic(word, size)),
-        0x33 => reg_op(funct7(word), funct3(word)).map(|op| Instr::Op(
-            op,
-            rd(word),
-            rs1(word),
-            rs2(word),
-        )),
+        0x33 => registers(word),
         0x37 => Some(Instr::Lui(rd(word), u_number(word))),
-        0x3b => reg_word_op(funct7(word), funct3(word)).map(|op| Instr::Op(
-            op,
-            rd(word),
-            rs1(word),
-            rs2(word),
-        )),
-        0x63 => branch_op(funct3(word)).map(|op| Instr::Branch(
-            op,
-            rs1(word),
-            rs2(word),
-            b_number(word),
-        )),
+        0x3b => word_registers(word),
+        0x63 => branch(word),
         0x67 if funct3(word) == 0 => Some(Instr::Jalr(rd(word), rs1(word), i_number(word))),
         0x6f => Some(Instr::Jal(rd(word), j_number(word))),
         0x73 if word == 0x0000_0073 => Some(Instr::Ecall),

@@ -1,6 +1,6 @@
-use Rattle.std.proofs.Common.{◌≡◌, ℕ, ◌*◌, ◌%◌, ◌^◌, ◌<◌, arith}
+use Rattle.std.proofs.Common.{◌≡◌, ◌*◌, ◌%◌, ◌^◌, ◌<◌, arith}
 use Rattle.std.proofs.lemmas.Int.{ints}
-use Rattle.std.proofs.lemmas.Nat.{one_shl, pow_below, pow_pos}
+use Rattle.std.proofs.lemmas.Nat.{one_shl, pow_below}
 use Rattle.rv_isa.proofs.field.signed.Goals as goal
 
 pub overflow_sub-result : goal.overflow_sub-result
