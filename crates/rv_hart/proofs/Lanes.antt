@@ -1,5 +1,5 @@
 -- Bytes of a doubleword, replaced.
-use Rattle.std.proofs.Common.{◌≡◌, ℕ, ◌+◌, ◌-◌, ◌*◌, ◌/◌, ◌%◌, ◌^◌, ◌<◌, ◌≤◌, List, [], ◌∷◌, bit_and, bit_or, inl, inr, refl, sym, ap, subst, ◌∙◌, arith}
+use Rattle.std.proofs.Common.{◌≡◌, ℕ, ◌+◌, ◌-◌, ◌*◌, ◌/◌, ◌%◌, ◌^◌, ◌<◌, ◌≤◌, [], ◌∷◌, bit_and, bit_or, inl, inr, subst, arith}
 use Rattle.std.proofs.Math.Nat.{div-one}
 use Rattle.std.proofs.lemmas.Nat.{shl_whole, shr_below, or_shifted, and_mask, mul-add-lt, pow-add, shr-shr, mod_below, pow_pos}
 use Rattle.rv_hart.specs.Buses.{IsSize}

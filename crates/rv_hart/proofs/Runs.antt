@@ -1,8 +1,7 @@
 -- A fetch and the access that its word asks for make a step.
-use Rattle.std.proofs.Common.{◌≡◌, ℕ, List, [], ◌∷◌, Option, Some, None, Result, Ok, Err, refl, sym, ap, subst, ◌∙◌}
-use Rattle.std.specs.Prelude.{IfSome, OnErr}
+use Rattle.std.proofs.Common.{◌≡◌, ℕ, List, [], ◌∷◌, Option, Result, Ok, Err, refl, sym, ap, subst, ◌∙◌}
 use Rattle.rv_isa.specs.declared.instr.Instr.{Instr}
-use Rattle.rv_isa.specs.Encoding.{Decodes, IsInstr}
+use Rattle.rv_isa.specs.Encoding.{Decodes}
 use Rattle.rv_hart.specs.declared.action.Access.{Access}
 use Rattle.rv_hart.specs.declared.action.Access.TheVariants.{Nothing, Read, Write, Amo, Reserve, Conditional, Ecall, Break, Bad, Misaligned}
 use Rattle.rv_hart.specs.declared.action.Answer.{Answer}
@@ -11,10 +10,10 @@ use Rattle.rv_hart.specs.declared.bus.BusFault.{BusFault}
 use Rattle.rv_hart.specs.declared.bus.Item.{Item}
 use Rattle.rv_hart.specs.declared.bus.Item.TheVariants.{Fetch, Read as ReadItem, Write as WriteItem, Amo as AmoItem, Reserve as ReserveItem, Conditional as ConditionalItem}
 use Rattle.rv_hart.specs.declared.stepping.Stop.{Stop}
-use Rattle.rv_hart.specs.declared.stepping.Stop.TheVariants.{Ecall as EcallStop, Break as BreakStop, Bad as BadStop, Misaligned as MisalignedStop, Refused}
+use Rattle.rv_hart.specs.declared.stepping.Stop.TheVariants.{Ecall as EcallStop, Break as BreakStop, Bad as BadStop, Misaligned as MisalignedStop}
 use Rattle.rv_hart.specs.Registers.{Registers}
 use Rattle.rv_hart.specs.Instructions.{access_for, after_action}
-use Rattle.rv_hart.specs.Trail.{Place, Ready, Accessing, Stopped, place_for, concluded, answered, IsStep, Chain, Steps, Performs, place_after}
+use Rattle.rv_hart.specs.Trail.{Place, Ready, Stopped, place_for, concluded, answered, IsStep, Chain, Steps, Performs, place_after}
 
 -- where the answer of an access leads
 abbrev end_of : Registers → Option Instr → Result Answer Stop → Place

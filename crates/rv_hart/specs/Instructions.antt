@@ -1,6 +1,6 @@
 -- What each instruction does to a hart, and the access that it makes (Unprivileged ISA 20191213,
 -- chapters 2, 5, 7 and 8).
-use Rattle.std.specs.Prelude.{◌≡◌, ◌⊎◌, ℕ, ◌+◌, ◌-◌, ◌*◌, ◌/◌, ◌%◌, ◌^◌, ◌<◌, Bool, true, false, not, ◌&&◌, List, Option, Some, None, ℤ, slice_index, int_lt, nat_lt, ◌==◌, if◌then◌else◌, IfSome}
+use Rattle.std.specs.Prelude.{◌≡◌, ℕ, ◌+◌, ◌*◌, ◌/◌, ◌%◌, ◌^◌, ◌<◌, Bool, true, false, not, ◌&&◌, Option, Some, None, ℤ, slice_index, int_lt, nat_lt, ◌==◌, if◌then◌else◌, IfSome}
 use Rattle.std.specs.Int.{w8, w16, w32, w64, cast_signed, cast_unsigned}
 use Rattle.rv_isa.specs.declared.operation.BranchOp.{BranchOp}
 use Rattle.rv_isa.specs.declared.operation.BranchOp.TheVariants.{Beq, Bne, Blt, Bge, Bltu, Bgeu}

@@ -1,7 +1,6 @@
 -- What it is that a hart followed the instructions: the calls of a bus, one after another, each the
 -- one that the hart's registers ask for.
-use Rattle.std.specs.Prelude.{◌≡◌, ℕ, List, [], ◌∷◌, ◌++◌, Option, Some, None, Result, Ok, Err, Bool, IfOk, ◌<◌, ◌*◌, ◌^◌}
-use Rattle.ld_base.specs.declared.fault.Shown.{Shown}
+use Rattle.std.specs.Prelude.{◌≡◌, ℕ, List, [], ◌∷◌, Option, Result, Ok, Err, Bool, IfOk, ◌<◌, ◌*◌, ◌^◌}
 use Rattle.rv_isa.specs.declared.instr.Instr.{Instr}
 use Rattle.rv_isa.specs.Encoding.{Decodes}
 use Rattle.rv_hart.specs.declared.action.Access.{Access}

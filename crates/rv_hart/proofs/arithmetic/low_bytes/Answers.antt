@@ -1,4 +1,3 @@
-use Rattle.std.proofs.Common.{rules}
 use Rattle.std.proofs.lemmas.Nat.{and_mask}
 use Rattle.rv_hart.proofs.arithmetic.low_bytes.Goals as goal
 

@@ -1,4 +1,4 @@
-use Rattle.std.proofs.Common.{List, [], ◌∷◌, Ok, Err, refl, ◌∙◌, ap}
+use Rattle.std.proofs.Common.{[], ◌∷◌, Ok, Err, refl, ◌∙◌, ap}
 use Rattle.std.proofs.lemmas.Result.{err_from_is_err_and}
 use Rattle.rv_hart.specs.declared.bus.Item.TheVariants.{Fetch}
 use Rattle.rv_hart.specs.Registers.{registers_of}
