@@ -14,7 +14,7 @@ pub enum BusFault {
     Again(Shown),
 }
 
-/// A call of a bus: what it was asked and what it answered.
+/// A call of a bus: what it was asked, in the order of the call's parameters, and what it answered.
 #[derive(Clone, Copy, Debug, PartialEq, Eq)]
 pub enum Item {
     Fetch(u64, Result<u32, BusFault>),

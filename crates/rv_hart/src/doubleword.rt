@@ -15,7 +15,7 @@ use rv_isa::AmoOp;
 pub struct Doubleword {
     pub value: u64,
     pub role: Role,
-    /// How many stores there were.
+    /// It rises with each store, and with each mapping and unmapping.
     pub version: u64,
 }
 
@@ -177,7 +177,8 @@ impl Doubleword {
     ) -> Result<bool, BusFault>
         requires size { IsAtomicSize size }
         requires value { value < 2 ^ (8 * size) }
-        ensures did { DoesAt self.old (Item.Conditional address size value version result) self.new }
+        ensures did { let call = Item.Conditional address size value version result
+            in DoesAt self.old call self.new }
         ensures permits { Permits may_write address size result }
     {
         if let Some(fault) = refusal(may_write(self.role), address, size, self.role) {

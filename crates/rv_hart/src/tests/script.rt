@@ -39,7 +39,8 @@ impl Script {
     }
 
     fn record(&mut self, item: Item)
-        ensures { self.old.count < 4 → take self.new.count self.new.calls ≡ take self.old.count self.old.calls ++ item ∷ [] }
+        ensures { self.old.count < ROOM → take self.new.count self.new.calls
+            ≡ take self.old.count self.old.calls ++ item ∷ [] }
     {
         if self.count < ROOM {
             self.calls[self.count] = item;
@@ -49,7 +50,10 @@ impl Script {
 }
 
 impl Bus for Script {
-    ghost does = { λ before item after. before.count < 4 → take after.count after.calls ≡ take before.count before.calls ++ item ∷ [] };
+    ghost use Rattle.rv_hart.specs.declared.tests.script.TheConstants.{ROOM};
+
+    ghost does = { λ before item after. before.count < ROOM
+        → take after.count after.calls ≡ take before.count before.calls ++ item ∷ [] };
 
     fn fetch(&mut self, address: u64) -> Result<u32, BusFault> {
         if address % 4 != 0 {
