@@ -1,6 +1,6 @@
 #!/bin/sh
 # Times steps of a hart over a plain memory, as Rattle builds them, against the same sources as plain
-# Rust: contracts and ghost items taken out, built by rustc -O. Run by hand: bench/steps.sh [MILLIONS]
+# Rust: contracts and ghost items taken out, built by rustc. Run by hand: bench/steps.sh [MILLIONS]
 set -eu
 millions=${1:-100}
 top=$(cd "$(dirname "$0")/.." && pwd)
@@ -21,23 +21,23 @@ done
     echo 'bench: ld_base rv_isa rv_hart'
 } > "$work/repo/crates.txt"
 
-# A loop of five instructions: ld a0, 64(x0); add a0, a0, t0; sd a0, 64(x0); addi t0, t0, -1;
-# bnez t0, .-16; then ebreak.
+# A loop of five instructions: ld a0, 64(x0); add a0, a0, sp; sd a0, 64(x0); addi sp, sp, -1;
+# bnez sp, .-16.
 cat > "$work/main" <<'MAIN'
-fn run(memory: &mut Plain, rounds: u64) -> (u64, u64) {
-    let mut hart = Hart::new(0, 0, 0, 0);
-    hart.x[5] = rounds;
-    let mut count = 0;
-    for _ in 0..5 * rounds {
+fn run(memory: &mut Plain, steps: u64) -> (u64, u64) {
+    let mut hart = Hart::new(0, steps, 0, 0);
+    let mut count: u64 = 0;
+    for _ in 0..steps {
         match step(&mut hart, memory) {
-            Ok(()) => count += 1,
+            Ok(()) => count = count.wrapping_add(1),
             Err(_) => break,
         }
     }
-    (count, hart.x[10])
+    let sum = hart.x[10];
+    (count, sum)
 }
 MAIN
-words='0x0055_0533_0400_3503 0xfff2_8293_04a0_3023 0x0010_0073_fe02_98e3'
+words='0x0025_0533_0400_3503 0xfff1_0113_04a0_3023 0x0010_0073_fe01_18e3'
 
 plain="$top/crates/rv_hart/src/tests/plain.rt"
 {
@@ -47,7 +47,7 @@ plain="$top/crates/rv_hart/src/tests/plain.rt"
     echo 'use rv_hart::{Bus, BusFault, Doubleword, Hart, step};'
     echo 'use rv_isa::AmoOp;'
     sed -n '/^#\[derive(Drop)\]/,$p' "$plain"
-    sed 's/^fn run/#[tactic(auto)]\nfn run/; s/count += 1/count = count.wrapping_add(1)/; s/0\.\.5 \* rounds/0..rounds/' "$work/main"
+    cat "$work/main"
     echo 'fn word(value: u64, role: Role) -> Doubleword { Doubleword { value, role, version: 0 } }'
     echo 'fn main(rt: HostRuntime) -> std::io::Result<()> {'
     echo '    let words = ['
@@ -115,8 +115,8 @@ mod rv_hart;
 STRIP
 
 (cd "$work/repo/crates/bench" && rt run > "$work/rattle.log" 2>&1) || { tail -20 "$work/rattle.log"; exit 1; }
-rustc --edition 2024 -O -o "$work/plain" "$work/rust/main.rs"
-seconds() { python3 -c 'import subprocess, sys, time; t = time.time(); print(subprocess.run(sys.argv[1], capture_output=True, text=True, check=True).stdout.strip()); print(time.time() - t)' "$1"; }
+rustc --edition 2024 -C opt-level=3 -C codegen-units=1 -C target-cpu=x86-64-v2 -o "$work/plain" "$work/rust/main.rs"
+seconds() { python3 -c 'import os, subprocess, sys; print(subprocess.run(sys.argv[1], capture_output=True, text=True, check=True).stdout.strip()); print(os.times().children_user)' "$1"; }
 for round in 1 2 3; do
     ours=$(seconds "$work/repo/crates/bench/out/bench")
     rust=$(seconds "$work/plain")
