@@ -29,8 +29,7 @@ pub enum Item {
 /// what memory holds between two calls, since other harts may change it then.
 ///
 /// Addresses are bytes. A size is 1, 2, 4 or 8 bytes, that of an access in one step 4 or 8, and
-/// values are numbers of so many bytes. A call that answers a fault changes nothing that a hart
-/// could read.
+/// values are numbers of so many bytes.
 pub trait Bus {
     ghost use Rattle.std.specs.Prelude.{◌<◌, ◌*◌, ◌^◌, IfOk};
     ghost use Rattle.rv_isa.specs.Encoding.{IsAtomicSize};
