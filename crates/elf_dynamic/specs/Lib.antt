@@ -4,3 +4,4 @@ pub mod Name
 pub mod Reloc
 pub mod Symbol
 pub mod Tag
+pub mod TagNumbers

@@ -1,19 +1,18 @@
 -- Strings of a string table (gABI, "String Table").
-use Rattle.std.specs.Prelude.{◌≡◌, ℕ, ◌<◌, ◌==◌, List, length, take, drop, slice_index, Option, Result}
+use Rattle.std.specs.Prelude.{ℕ, ◌<◌, ◌==◌, List, length, take, drop, slice_index, Option, Result}
 use Rattle.std.specs.Option.{ok_or}
 use Rattle.ld_base.specs.declared.fault.NotAccepted.{NotAccepted}
 use Rattle.elf_dynamic.specs.Before.{before, StandsBefore}
 use Rattle.elf_dynamic.specs.Entries.{entries_of, AreEntries}
-use Rattle.elf_dynamic.specs.declared.string.TheConstants.{STRING_LIMIT}
 
--- the string at an offset: the bytes before the first zero byte, which is one of the STRING_LIMIT bytes from there on
+-- the string at an offset: the bytes before the first zero byte, which is one of the 4,096 bytes from there on
 unfoldable pub string_at : List ℕ → ℕ → Option (List ℕ)
-string_at strings offset = before (λ b. b == 0) (take STRING_LIMIT (drop offset strings))
+string_at strings offset = before (λ b. b == 0) (take 4096 (drop offset strings))
 
 -- the same as a relation: from the offset on stands the string, which has no zero byte, then a zero byte
 pub record IsStringAt (strings : List ℕ) (offset : ℕ) (name : List ℕ) : Type 0 where
   pub ended : StandsBefore (λ b. b == 0) name (drop offset strings)
-  pub short : length name < STRING_LIMIT
+  pub short : length name < 4096
 
 -- rule 12, which a string breaks that isn't there, has no end or is too long
 abbrev pub bad_string : ℕ → NotAccepted

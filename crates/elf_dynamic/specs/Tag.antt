@@ -4,7 +4,7 @@ use Rattle.ld_base.specs.Field.{field}
 use Rattle.ld_base.specs.declared.parts.Tag.{Tag}
 use Rattle.elf_dynamic.specs.Before.{before, StandsBefore}
 use Rattle.elf_head.specs.Table.{table}
-use Rattle.elf_dynamic.specs.declared.tag.TheConstants.{DT_NULL}
+use Rattle.elf_dynamic.specs.TagNumbers.{dt_null}
 
 -- d_tag and d_un of the entry at a place
 unfoldable pub tag_at : List ℕ → ℕ → Tag
@@ -20,11 +20,11 @@ has_tag tag t = t.tag == tag
 
 -- the entries before the first DT_NULL, which ends the table; none where nothing ends it
 unfoldable pub tags_of : List ℕ → Option (List Tag)
-tags_of bytes = before (has_tag DT_NULL) (all_tags bytes)
+tags_of bytes = before (has_tag dt_null) (all_tags bytes)
 
 -- the same as a relation: these entries stand before a DT_NULL, and none of them is one
 abbrev pub EndsAtNull : List ℕ → List Tag → Type 0
-EndsAtNull bytes tags = StandsBefore (has_tag DT_NULL) tags (all_tags bytes)
+EndsAtNull bytes tags = StandsBefore (has_tag dt_null) tags (all_tags bytes)
 
 -- the values of the entries of a tag, in order
 unfoldable pub values_of : List Tag → ℕ → List ℕ

@@ -1,4 +1,19 @@
-//! The dynamic table of an ELF file, and the tables that it names.
+//! The dynamic table of an ELF file, and the tables that it names: the blocks of which a reader of
+//! linked objects is made. Each takes the bytes of its table, so whoever calls it finds them first.
+//!
+//! - [`read_tags`] gives the entries of a dynamic table before its first NULL; [`values_of`],
+//!   [`last_of`] and [`count_of`] ask them for a tag.
+//! - [`string_at`] gives the string at an offset of a string table, if one of at most 4,095 bytes
+//!   stands there. [`read_name`] and [`read_names`] read strings that have to be there.
+//! - [`read_symbols`] gives the first symbols of a symbol table, each with its name.
+//! - [`read_relocs`] gives the relocations of a table.
+//!
+//! What each gives is exactly what its definition in `specs/` says of the bytes, unless memory runs
+//! out. Where a string isn't there, the answer is rule 12 with the offset of the first such string.
+//! No reading takes more steps than its table has bytes, or, for names, 4,096 more a name.
+//!
+//! [`one_reading`] says the same as relations: a list is what a table is read as exactly where each
+//! entry stands at its own place.
 #![tactic(auto)]
 
 mod law;
@@ -19,3 +34,6 @@ pub use tag::{
     DT_SYMENT, DT_SYMTAB, DT_TEXTREL, DT_VERDEF, DT_VERDEFNUM, DT_VERNEED, DT_VERNEEDNUM,
     DT_VERSYM, count_of, last_of, read_tags, values_of,
 };
+
+#[cfg(test)]
+mod tests;

@@ -20,7 +20,7 @@ fn first_zero(bytes: &[u8]) -> Option<usize>
 
 /// The bytes among which the string at an offset and its zero byte have to be.
 fn window(strings: &[u8], offset: u64) -> &[u8]
-    ensures { result.now ≡ take STRING_LIMIT (drop offset strings.now) }
+    ensures { result.now ≡ take 4096 (drop offset strings.now) }
 {
     if offset >= strings.len() as u64 {
         return &[];

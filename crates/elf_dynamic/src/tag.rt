@@ -2,6 +2,7 @@
 
 ghost use Rattle.std.specs.Prelude.{◌≡◌, ◌+◌, ◌≤◌, length, position, IfOk};
 ghost use Rattle.elf_dynamic.specs.Tag.{has_tag, tag_at, all_tags, tags_of, values_of, last_of, count_of};
+ghost use Rattle.elf_dynamic.specs.TagNumbers.{dt_null};
 
 use ld_base::{Tag, Tags, field64};
 use std::alloc::{AllocError, Global};
@@ -112,7 +113,7 @@ fn all_tags(alloc: Global, bytes: &[u8]) -> Result<Vec<Tag>, AllocError>
 
 /// The index of the first NULL entry.
 fn first_null(tags: &[Tag]) -> Option<usize>
-    ensures { result ≡ position (has_tag DT_NULL) tags.now }
+    ensures { result ≡ position (has_tag dt_null) tags.now }
 {
     tags.iter().position(|entry| entry.tag == DT_NULL)
 }

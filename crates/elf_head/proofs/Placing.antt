@@ -1,8 +1,8 @@
 -- Where the bytes of a readable range stand in a file that is accepted.
-use Rattle.std.proofs.Common.{◌≡◌, ◌∙◌, sym, ℕ, ◌+◌, ◌≤◌, ◌<◌, ◌^◌, Bool, true, false, List, length, take, arith, ap, subst, ◌++◌, refl, Bor}
-use Rattle.std.specs.Prelude.{Option, Some, None, Ok, find, is_some, slice_range, ◌==◌, ◌-◌, [], ◌∷◌}
+use Rattle.std.proofs.Common.{◌≡◌, ◌∙◌, sym, ℕ, ◌+◌, ◌≤◌, ◌<◌, true, false, List, length, take, arith, ap, ◌++◌, refl, Bor}
+use Rattle.std.specs.Prelude.{Option, Some, None, Ok, find, is_some, ◌==◌}
 use Rattle.std.specs.List.{slice_get, position_or_len}
-use Rattle.std.specs.Option.{option_copied, option_map_or, option_or}
+use Rattle.std.specs.Option.{option_copied, option_or}
 use Rattle.std.proofs.lemmas.List.Folds.{find_at}
 use Rattle.std.proofs.lemmas.Option.{slice_get_within}
 use Rattle.ld_base.specs.declared.parts.Head.{Head}
@@ -11,8 +11,7 @@ use Rattle.elf_head.proofs.Finding.{find_passes, found_none, found_some, some_fi
 use Rattle.elf_head.proofs.Least.{least_none}
 use Rattle.elf_head.proofs.Verdicts.{none_at, verdict_ok}
 use Rattle.elf_head.specs.Header.{headers_of, is_loaded}
-use Rattle.elf_head.specs.Least.{least_below}
-use Rattle.elf_head.specs.Readable.{bytes_from, covers, file_bytes, file_offset, readable}
+use Rattle.elf_head.specs.Readable.{covers, readable}
 use Rattle.elf_head.specs.Rules.{head_broken, head_of, head_verdict, header_rules, file_rules}
 use Rattle.elf_head.specs.Segments.{bad_segment, is_bad, is_bad_at, is_misshapen}
 

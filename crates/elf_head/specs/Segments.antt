@@ -1,6 +1,6 @@
 -- What a linker asks of program headers (gABI, "Program Header" and "Program Loading").
 -- Each test here is true where a header breaks the rule that it is named after.
-use Rattle.std.specs.Prelude.{ℕ, ◌+◌, ◌-◌, ◌/◌, ◌%◌, ◌^◌, Bool, false, not, ◌&&◌, ◌||◌, ◌==◌, nat_lt, nat_le, Option, None, Some, if◌then◌else◌, List, length, take}
+use Rattle.std.specs.Prelude.{ℕ, ◌+◌, ◌-◌, ◌/◌, ◌%◌, Bool, false, not, ◌&&◌, ◌||◌, ◌==◌, nat_lt, nat_le, Option, None, Some, if◌then◌else◌, List, length, take}
 use Rattle.std.specs.Option.{option_or, option_map_or}
 use Rattle.std.specs.List.{list_any, slice_get}
 use Rattle.std.specs.Int.{is_power_of_two}
@@ -24,8 +24,8 @@ abbrev pub passes_limit : Header → Bool
 passes_limit h = nat_lt ADDRESS_LIMIT (h.vaddr + h.memsz)
 
 -- an alignment that is no power of two; 0 asks for none
-abbrev pub is_odd_align : Header → Bool
-is_odd_align h = nat_lt 0 h.align && not (is_power_of_two h.align)
+abbrev pub has_bad_align : Header → Bool
+has_bad_align h = nat_lt 0 h.align && not (is_power_of_two h.align)
 
 -- an address and a place in the file that differ modulo the alignment
 abbrev pub is_incongruent : Header → Bool
@@ -33,7 +33,7 @@ is_incongruent h = nat_lt 1 h.align && not (h.vaddr % h.align == h.offset % h.al
 
 -- what is asked of a segment by itself, in a file of this size
 unfoldable pub is_misshapen : ℕ → Header → Bool
-is_misshapen size h = is_overfull h || passes_end size h || passes_limit h || is_odd_align h || is_incongruent h
+is_misshapen size h = is_overfull h || passes_end size h || passes_limit h || has_bad_align h || is_incongruent h
 
 -- the pages of a segment that takes memory
 abbrev pub first_page : Header → ℕ

@@ -9,23 +9,23 @@ use ld_base::{Kind, NotAccepted, field16, field32, field64};
 
 /// The bytes of an ELF header.
 const HEADER_SIZE: usize = 64;
-
+/// The first bytes of an ELF file.
 const MAGIC: [u8; 4] = [0x7f, b'E', b'L', b'F'];
-
+/// Words of 64 bits.
 const ELFCLASS64: u8 = 2;
-
+/// The lowest byte first.
 const ELFDATA2LSB: u8 = 1;
-
+/// The only version of the format.
 const EV_CURRENT: u8 = 1;
-
+/// RISC-V.
 const EM_RISCV: u16 = 243;
-
+/// A program at its own addresses.
 const ET_EXEC: u16 = 2;
-
+/// A shared object, or a program that may stand anywhere.
 const ET_DYN: u16 = 3;
 /// EF_RISCV_RVC, the two bits of the float ABI, and EF_RISCV_RVE.
 const EXTENSIONS: u32 = 0xf;
-
+/// The most program headers.
 const MAX_ENTRIES: usize = 128;
 
 /// The first of the rules 1 to 7 that the bytes break.

@@ -80,10 +80,10 @@ impl Passed {
         if header.memsz == 0 {
             return Some(self);
         }
-        let is_below = self
+        let is_misplaced = self
             .last_page
             .is_some_and(|page| first_page(header) <= page);
-        if is_misshapen(header, file_size) || is_below {
+        if is_misplaced || is_misshapen(header, file_size) {
             return None;
         }
         Some(Passed {

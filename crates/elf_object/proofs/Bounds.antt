@@ -1,6 +1,6 @@
 -- A file whose head breaks no rule has the bytes of its segments.
-use Rattle.std.proofs.Common.{◌≡◌, ℕ, zero, suc, ◌+◌, ◌<◌, ◌≤◌, Bool, true, false, cond, List, [], ◌∷◌, ◌++◌, length, take, drop, get_or, map, Option, Some, None, Result, Ok, Err, refl, sym, ◌∙◌, ap, subst, arith, inl, inr, ◌⊎◌}
-use Rattle.std.specs.Prelude.{◌&&◌, ◌||◌, nat_lt, filter, if◌then◌else◌}
+use Rattle.std.proofs.Common.{◌≡◌, ℕ, zero, suc, ◌+◌, ◌<◌, ◌≤◌, Bool, true, false, cond, List, [], ◌∷◌, ◌++◌, length, take, get_or, Option, Some, None, Ok, Err, refl, sym, ap, arith, inl, inr}
+use Rattle.std.specs.Prelude.{◌&&◌, ◌||◌, nat_lt}
 use Rattle.std.specs.Option.{option_or, option_map_or}
 use Rattle.std.specs.List.{slice_get, list_any}
 use Rattle.std.proofs.lemmas.Option.{slice_get_within, slice_get-get_or}
@@ -12,7 +12,7 @@ use Rattle.elf_head.specs.Broken.{first_broken}
 use Rattle.elf_head.specs.Header.{is_loaded, headers_of}
 use Rattle.elf_head.specs.Least.{least_below}
 use Rattle.elf_head.specs.Rules.{header_rules, file_rules, head_broken, head_of, head_verdict}
-use Rattle.elf_head.specs.Segments.{is_overfull, passes_end, passes_limit, is_odd_align, is_incongruent, is_misshapen, is_misplaced, is_bad_load, is_bad_dynamic, is_bad_tls, is_bad, is_bad_at, bad_segment}
+use Rattle.elf_head.specs.Segments.{is_overfull, passes_end, passes_limit, has_bad_align, is_incongruent, is_misshapen, is_misplaced, is_bad_load, is_bad_dynamic, is_bad_tls, is_bad, is_bad_at, bad_segment}
 
 -- where no rule is broken, each of them is kept
 kept_at : (rule : ℕ) (numbers : List (Option ℕ)) (i : ℕ) (number : Option ℕ) → first_broken rule numbers ≡ None → slice_get numbers i ≡ Some number → number ≡ None
@@ -72,8 +72,8 @@ unfolding is_bad is_misshapen
 held size headers before h good loaded some =
     let load = (both_false (is_bad_load size before h) (is_bad_dynamic before h) (both_false (is_bad_load size before h || is_bad_dynamic before h) (is_bad_tls size headers before h) good).0).0 in
     let shape = (both_false (is_misshapen size h) (is_misplaced before h) (and_false (is_loaded h) (is_misshapen size h || is_misplaced before h) loaded load)).0 in
-    let first = both_false (is_overfull h || passes_end size h || passes_limit h || is_odd_align h) (is_incongruent h) shape in
-    let second = both_false (is_overfull h || passes_end size h || passes_limit h) (is_odd_align h) first.0 in
+    let first = both_false (is_overfull h || passes_end size h || passes_limit h || has_bad_align h) (is_incongruent h) shape in
+    let second = both_false (is_overfull h || passes_end size h || passes_limit h) (has_bad_align h) first.0 in
     let third = both_false (is_overfull h || passes_end size h) (passes_limit h) second.0 in
     let end = (both_false (is_overfull h) (passes_end size h) third.0).1 in
     ltb-false size (h.offset + h.filesz) (and_false (nat_lt 0 h.filesz) (nat_lt size (h.offset + h.filesz)) (lt-ltb 0 h.filesz some) end)

@@ -1,9 +1,7 @@
 -- The verdict on a file and the relation that spells an object say the same.
-use Rattle.std.proofs.Common.{◌≡◌, ◌↔◌, ℕ, ◌*◌, Bool, true, false, cond, List, [], length, Option, Some, None, Result, Ok, Err, refl, sym, ◌∙◌, ap, subst, arith, inl, inr}
-use Rattle.std.specs.Prelude.{find, IsTrue}
-use Rattle.std.specs.Option.{ok_or}
+use Rattle.std.proofs.Common.{◌≡◌, ◌↔◌, ℕ, ◌*◌, Bool, true, false, cond, List, length, Option, Some, None, Result, Ok, Err, refl, sym, ◌∙◌, ap, subst}
+use Rattle.std.specs.Prelude.{find}
 use Rattle.std.specs.List.{list_all, list_any}
-use Rattle.std.proofs.lemmas.Bool.{cases_Bool}
 use Rattle.ld_base.specs.declared.fault.NotAccepted.{NotAccepted}
 use Rattle.ld_base.specs.declared.object.Kind.{Kind}
 use Rattle.ld_base.specs.declared.object.ObjFlags.{ObjFlags}
@@ -26,14 +24,14 @@ use Rattle.elf_dynamic.specs.Entries.{◌>>=◌}
 use Rattle.elf_dynamic.specs.Name.{names_at, AreNames}
 use Rattle.elf_dynamic.specs.Reloc.{relocs_of}
 use Rattle.elf_dynamic.specs.Symbol.{symbols_of, AreSymbols}
-use Rattle.elf_dynamic.specs.Tag.{tags_of, last_of, values_of, EndsAtNull}
-use Rattle.elf_dynamic.specs.declared.symbol.TheConstants.{SYMBOL_SIZE}
-use Rattle.elf_dynamic.specs.declared.tag.TheConstants.{DT_HASH, DT_STRTAB, DT_STRSZ, DT_SYMTAB, DT_JMPREL, DT_PLTRELSZ, DT_NEEDED, DT_PLTGOT}
+use Rattle.elf_dynamic.specs.Tag.{tags_of, values_of, EndsAtNull}
+use Rattle.elf_dynamic.specs.TagNumbers.{dt_hash, dt_strtab, dt_strsz, dt_symtab, dt_jmprel, dt_pltrelsz, dt_needed}
+use Rattle.elf_object.specs.declared.reader.Tables.{Tables}
 use Rattle.elf_object.specs.Form.{value_of, is_form, is_plain_name, is_plain_symbol, is_slot}
 use Rattle.elf_object.specs.Parts.{Parts, StandIn, symbol_count}
 use Rattle.elf_object.specs.Segments.{is_kind}
 use Rattle.elf_object.specs.Spells.{Say, Spells}
-use Rattle.elf_object.specs.Verdict.{not_read, wanted, passing, part_at, dynamic_of, form_tags, needed_of, form_symbols, slots_of, object_of, form_of, as_not_read, object_verdict}
+use Rattle.elf_object.specs.Verdict.{not_read, wanted, passing, part_at, dynamic_of, form_tags, needed_of, form_symbols, slots_of, tables_of, object_of, form_of, as_not_read, object_verdict}
 
 -- ---- steps
 
@@ -108,61 +106,61 @@ tags_are : (bytes : List ℕ) (head : Head) (dynamic : Header) (table : List ℕ
 unfolding form_tags
 tags_are bytes head dynamic table tags stands ends form = rw (part_is bytes head dynamic.vaddr dynamic.filesz table stands, ends, form) refl
 
-needed_found : (strings : List ℕ) (tags : List Tag) (names : List (List ℕ)) → needed_of strings tags ≡ Ok names → (names_at strings (values_of tags DT_NEEDED) ≡ Ok names) × (list_all is_plain_name names ≡ true)
+needed_found : (strings : List ℕ) (tags : List Tag) (names : List (List ℕ)) → needed_of strings tags ≡ Ok names → (names_at strings (values_of tags dt_needed) ≡ Ok names) × (list_all is_plain_name names ≡ true)
 unfolding needed_of
-needed_found strings tags names e = then_passed (names_at strings (values_of tags DT_NEEDED)) (list_all is_plain_name) names e
+needed_found strings tags names e = then_passed (names_at strings (values_of tags dt_needed)) (list_all is_plain_name) names e
 
-needed_are : (strings : List ℕ) (tags : List Tag) (names : List (List ℕ)) → names_at strings (values_of tags DT_NEEDED) ≡ Ok names → list_all is_plain_name names ≡ true → needed_of strings tags ≡ Ok names
+needed_are : (strings : List ℕ) (tags : List Tag) (names : List (List ℕ)) → names_at strings (values_of tags dt_needed) ≡ Ok names → list_all is_plain_name names ≡ true → needed_of strings tags ≡ Ok names
 unfolding needed_of
 needed_are strings tags names read plain = rw (read, plain) refl
 
 record Symbolled (bytes : List ℕ) (head : Head) (tags : List Tag) (strings : List ℕ) (symbols : List Symbol) : Type 0 where
   counts : List ℕ
   table : List ℕ
-  counted : file_bytes bytes head.headers (value_of tags DT_HASH) 8 ≡ Some counts
-  stands : file_bytes bytes head.headers (value_of tags DT_SYMTAB) (SYMBOL_SIZE * symbol_count counts) ≡ Some table
+  counted : file_bytes bytes head.headers (value_of tags dt_hash) 8 ≡ Some counts
+  stands : file_bytes bytes head.headers (value_of tags dt_symtab) (24 * symbol_count counts) ≡ Some table
   read : symbols_of table strings (symbol_count counts) ≡ Ok symbols
   plain : list_all is_plain_symbol symbols ≡ true
 
 symbols_found : (bytes : List ℕ) (head : Head) (tags : List Tag) (strings : List ℕ) (symbols : List Symbol) → form_symbols bytes head tags strings ≡ Ok symbols → Symbolled bytes head tags strings symbols
 unfolding form_symbols
 symbols_found bytes head tags strings symbols e =
-    let n = bind_ok (part_at bytes head (value_of tags DT_HASH) 8) _ symbols e in
-    let t = bind_ok (part_at bytes head (value_of tags DT_SYMTAB) (SYMBOL_SIZE * symbol_count n.0)) _ symbols n.2 in
+    let n = bind_ok (part_at bytes head (value_of tags dt_hash) 8) _ symbols e in
+    let t = bind_ok (part_at bytes head (value_of tags dt_symtab) (24 * symbol_count n.0)) _ symbols n.2 in
     let p = then_passed (symbols_of t.0 strings (symbol_count n.0)) (list_all is_plain_symbol) symbols t.2 in
     record {
       counts = n.0;
       table = t.0;
-      counted = part_found bytes head (value_of tags DT_HASH) 8 n.0 n.1;
-      stands = part_found bytes head (value_of tags DT_SYMTAB) (SYMBOL_SIZE * symbol_count n.0) t.0 t.1;
+      counted = part_found bytes head (value_of tags dt_hash) 8 n.0 n.1;
+      stands = part_found bytes head (value_of tags dt_symtab) (24 * symbol_count n.0) t.0 t.1;
       read = p.0;
       plain = p.1;
     }
 
-symbols_are : (bytes : List ℕ) (head : Head) (tags : List Tag) (strings counts table : List ℕ) (symbols : List Symbol) → file_bytes bytes head.headers (value_of tags DT_HASH) 8 ≡ Some counts
-    → file_bytes bytes head.headers (value_of tags DT_SYMTAB) (SYMBOL_SIZE * symbol_count counts) ≡ Some table → symbols_of table strings (symbol_count counts) ≡ Ok symbols → list_all is_plain_symbol symbols ≡ true → form_symbols bytes head tags strings ≡ Ok symbols
+symbols_are : (bytes : List ℕ) (head : Head) (tags : List Tag) (strings counts table : List ℕ) (symbols : List Symbol) → file_bytes bytes head.headers (value_of tags dt_hash) 8 ≡ Some counts
+    → file_bytes bytes head.headers (value_of tags dt_symtab) (24 * symbol_count counts) ≡ Some table → symbols_of table strings (symbol_count counts) ≡ Ok symbols → list_all is_plain_symbol symbols ≡ true → form_symbols bytes head tags strings ≡ Ok symbols
 unfolding form_symbols
 symbols_are bytes head tags strings counts table symbols counted stands read plain =
-    rw (part_is bytes head (value_of tags DT_HASH) 8 counts counted, part_is bytes head (value_of tags DT_SYMTAB) (SYMBOL_SIZE * symbol_count counts) table stands, read, plain) refl
+    rw (part_is bytes head (value_of tags dt_hash) 8 counts counted, part_is bytes head (value_of tags dt_symtab) (24 * symbol_count counts) table stands, read, plain) refl
 
 record Slotted (bytes : List ℕ) (head : Head) (tags : List Tag) (count : ℕ) (slots : List Reloc) : Type 0 where
   table : List ℕ
-  stands : file_bytes bytes head.headers (value_of tags DT_JMPREL) (value_of tags DT_PLTRELSZ) ≡ Some table
+  stands : file_bytes bytes head.headers (value_of tags dt_jmprel) (value_of tags dt_pltrelsz) ≡ Some table
   read : relocs_of table ≡ slots
   fit : list_all (is_slot count) slots ≡ true
 
 slots_found : (bytes : List ℕ) (head : Head) (tags : List Tag) (count : ℕ) (slots : List Reloc) → slots_of bytes head tags count ≡ Ok slots → Slotted bytes head tags count slots
 unfolding slots_of
 slots_found bytes head tags count slots e =
-    let t = bind_ok (part_at bytes head (value_of tags DT_JMPREL) (value_of tags DT_PLTRELSZ)) _ slots e in
+    let t = bind_ok (part_at bytes head (value_of tags dt_jmprel) (value_of tags dt_pltrelsz)) _ slots e in
     let p = passed (list_all (is_slot count)) (relocs_of t.0) slots t.2 in
-    record { table = t.0; stands = part_found bytes head (value_of tags DT_JMPREL) (value_of tags DT_PLTRELSZ) t.0 t.1; read = p.0; fit = p.1 }
+    record { table = t.0; stands = part_found bytes head (value_of tags dt_jmprel) (value_of tags dt_pltrelsz) t.0 t.1; read = p.0; fit = p.1 }
 
-slots_are : (bytes : List ℕ) (head : Head) (tags : List Tag) (count : ℕ) (table : List ℕ) (slots : List Reloc) → file_bytes bytes head.headers (value_of tags DT_JMPREL) (value_of tags DT_PLTRELSZ) ≡ Some table
+slots_are : (bytes : List ℕ) (head : Head) (tags : List Tag) (count : ℕ) (table : List ℕ) (slots : List Reloc) → file_bytes bytes head.headers (value_of tags dt_jmprel) (value_of tags dt_pltrelsz) ≡ Some table
     → relocs_of table ≡ slots → list_all (is_slot count) slots ≡ true → slots_of bytes head tags count ≡ Ok slots
 unfolding slots_of
 slots_are bytes head tags count table slots stands read fit =
-    rw (part_is bytes head (value_of tags DT_JMPREL) (value_of tags DT_PLTRELSZ) table stands, read) (passes (list_all (is_slot count)) slots fit)
+    rw (part_is bytes head (value_of tags dt_jmprel) (value_of tags dt_pltrelsz) table stands, read) (passes (list_all (is_slot count)) slots fit)
 
 -- ---- the whole
 
@@ -177,22 +175,55 @@ accepted_form : (r : Result Object NotAccepted) (o : Object) → as_not_read r �
 accepted_form (Ok x) o e = e
 accepted_form (Err d) o e = absurd cc
 
+-- the parts that the tables are read from
+record Tabled (bytes : List ℕ) (head : Head) (tags : List Tag) (tables : Tables) : Type 0 where
+  strings : List ℕ
+  stands : file_bytes bytes head.headers (value_of tags dt_strtab) (value_of tags dt_strsz) ≡ Some strings
+  needed : names_at strings (values_of tags dt_needed) ≡ Ok tables.needed
+  plain : list_all is_plain_name tables.needed ≡ true
+  symbols : Symbolled bytes head tags strings tables.symbols
+  slots : Slotted bytes head tags (length tables.symbols) tables.plt_relocs
+
+tables_found : (bytes : List ℕ) (head : Head) (tags : List Tag) (tables : Tables) → tables_of bytes head tags ≡ Ok tables → Tabled bytes head tags tables
+unfolding tables_of
+tables_found bytes head tags tables e =
+    let s = bind_ok (part_at bytes head (value_of tags dt_strtab) (value_of tags dt_strsz)) _ tables e in
+    let n = bind_ok (needed_of s.0 tags) _ tables s.2 in
+    let y = bind_ok (form_symbols bytes head tags s.0) _ tables n.2 in
+    let p = bind_ok (slots_of bytes head tags (length y.0)) _ tables y.2 in
+    let made : Tables = record { needed = n.0; symbols = y.0; plt_relocs = p.0 } in
+    let needed = needed_found s.0 tags n.0 n.1 in
+    let whole : Tabled bytes head tags made = record {
+      strings = s.0;
+      stands = part_found bytes head (value_of tags dt_strtab) (value_of tags dt_strsz) s.0 s.1;
+      needed = needed.0;
+      plain = needed.1;
+      symbols = symbols_found bytes head tags s.0 y.0 y.1;
+      slots = slots_found bytes head tags (length y.0) p.0 p.1;
+    } in
+    subst (Tabled bytes head tags) (ok_is made tables p.2) whole
+
 form_spells : Readings → (bytes : List ℕ) (head : Head) (o : Object) → head_verdict bytes ≡ Ok head → form_of bytes head ≡ Ok o → Spells bytes o
 unfolding form_of
 form_spells r bytes head o accepted e =
     let d = bind_ok (dynamic_of head.headers) _ o e in
     let t = bind_ok (form_tags bytes head d.0) _ o d.2 in
-    let s = bind_ok (part_at bytes head (value_of t.0 DT_STRTAB) (value_of t.0 DT_STRSZ)) _ o t.2 in
-    let n = bind_ok (needed_of s.0 t.0) _ o s.2 in
-    let y = bind_ok (form_symbols bytes head t.0 s.0) _ o n.2 in
-    let p = bind_ok (slots_of bytes head t.0 (length y.0)) _ o y.2 in
-    let is : object_of bytes head d.0 t.0 n.0 y.0 p.0 ≡ o = ok_is (object_of bytes head d.0 t.0 n.0 y.0 p.0) o p.2 in
+    let b = bind_ok (tables_of bytes head t.0) _ o t.2 in
+    let made = object_of bytes head d.0 t.0 b.0 in
     let dynamic = dynamic_found head.headers d.0 d.1 in
     let tags = tags_found bytes head d.0 t.0 t.1 in
-    let needed = needed_found s.0 t.0 n.0 n.1 in
-    let symbols = symbols_found bytes head t.0 s.0 y.0 y.1 in
-    let slots = slots_found bytes head t.0 (length y.0) p.0 p.1 in
-    let parts : Parts = record { head = head; dynamic = d.0; table = tags.table; tags = t.0; strings = s.0; counts = symbols.counts; symbols = symbols.table; slots = slots.table } in
+    let tables = tables_found bytes head t.0 b.0 b.1 in
+    let symbols = tables.symbols in
+    let parts : Parts = record {
+      head = head;
+      dynamic = d.0;
+      table = tags.table;
+      tags = t.0;
+      strings = tables.strings;
+      counts = symbols.counts;
+      symbols = symbols.table;
+      slots = tables.slots.table;
+    } in
     let stand : StandIn bytes parts = record {
       head = (r.head bytes head).0 accepted;
       dynamic = dynamic.0;
@@ -200,24 +231,24 @@ form_spells r bytes head o accepted e =
       table = tags.stands;
       tags = (r.tags tags.table t.0).0 tags.ends;
       form = tags.form;
-      strings = part_found bytes head (value_of t.0 DT_STRTAB) (value_of t.0 DT_STRSZ) s.0 s.1;
+      strings = tables.stands;
       counts = symbols.counted;
       symbols = symbols.stands;
-      slots = slots.stands;
+      slots = tables.slots.stands;
     } in
-    let say : Say bytes parts (object_of bytes head d.0 t.0 n.0 y.0 p.0) = record {
+    let say : Say bytes parts made = record {
       kind = refl;
       entry = refl;
       segments = refl;
       relro = refl;
       dynamic = refl;
-      needed = (r.names s.0 (values_of t.0 DT_NEEDED) n.0).0 needed.0;
-      plain_names = needed.1;
-      symbols = (r.symbols symbols.table s.0 (symbol_count symbols.counts) y.0).0 symbols.read;
+      needed = (r.names tables.strings (values_of t.0 dt_needed) b.0.needed).0 tables.needed;
+      plain_names = tables.plain;
+      symbols = (r.symbols symbols.table tables.strings (symbol_count symbols.counts) b.0.symbols).0 symbols.read;
       plain_symbols = symbols.plain;
       first_exported = refl;
-      plt_relocs = sym slots.read;
-      slots = slots.fit;
+      plt_relocs = sym tables.slots.read;
+      slots = tables.slots.fit;
       pltgot = refl;
       soname = refl;
       has_versym = refl;
@@ -233,7 +264,7 @@ form_spells r bytes head o accepted e =
       tls = refl;
       flags = refl;
     } in
-    record { parts = parts; stand = stand; say = subst (Say bytes parts) is say }
+    record { parts = parts; stand = stand; say = subst (Say bytes parts) (ok_is made o b.2) say }
 
 pub verdict_spells : Readings → (bytes : List ℕ) (o : Object) → object_verdict bytes ≡ Ok o → Spells bytes o
 unfolding object_verdict
@@ -247,12 +278,16 @@ same_object : (o : Object) (kind : Kind) (entry : ℕ) (soname : Option (List �
     → (let made : Object = record { kind = kind; entry = entry; soname = soname; needed = o.needed; segments = segments; symbols = o.symbols; first_exported = first_exported; has_versym = has_versym; verdefs = verdefs; verneeds = verneeds; relocs = relocs; plt_relocs = o.plt_relocs; pltgot = pltgot; preinit = preinit; init = init; init_array = init_array; fini = fini; fini_array = fini_array; tls = tls; relro = relro; flags = flags; relr = relr; dynamic = dynamic } in made) ≡ o
 same_object o kind entry soname segments first_exported has_versym verdefs verneeds relocs pltgot preinit init init_array fini fini_array tls relro flags relr dynamic e0 e1 e2 e3 e4 e5 e6 e7 e8 e9 e10 e11 e12 e13 e14 e15 e16 e17 e18 e19 = rw (← e0, ← e1, ← e2, ← e3, ← e4, ← e5, ← e6, ← e7, ← e8, ← e9, ← e10, ← e11, ← e12, ← e13, ← e14, ← e15, ← e16, ← e17, ← e18, ← e19) refl
 
+-- the tables that an object was read from
+abbrev tables_in : Object → Tables
+tables_in o = record { needed = o.needed; symbols = o.symbols; plt_relocs = o.plt_relocs }
+
 -- an object has the fields that are said of it, and no other
-said : (bytes : List ℕ) (p : Parts) (o : Object) → Say bytes p o → object_of bytes p.head p.dynamic p.tags o.needed o.symbols o.plt_relocs ≡ o
+said : (bytes : List ℕ) (p : Parts) (o : Object) → Say bytes p o → object_of bytes p.head p.dynamic p.tags (tables_in o) ≡ o
 said bytes p o s = same_object o _ _ _ _ _ _ _ _ _ _ _ _ _ _ _ _ _ _ _ _ s.kind s.entry s.soname s.segments s.first_exported s.has_versym s.verdefs s.verneeds s.relocs s.pltgot s.preinit s.init s.init_array s.fini s.fini_array s.tls s.relro s.flags s.relr s.dynamic
 
 pub spells_verdict : Readings → (bytes : List ℕ) (o : Object) → Spells bytes o → object_verdict bytes ≡ Ok o
-unfolding object_verdict form_of
+unfolding object_verdict form_of tables_of
 spells_verdict r bytes o s =
     let p = s.parts in
     let say = s.say in
@@ -260,8 +295,8 @@ spells_verdict r bytes o s =
     let head = (r.head bytes p.head).1 stand.head in
     let dynamic = dynamic_is p.head.headers p.dynamic stand.dynamic stand.no_tls in
     let tags = tags_are bytes p.head p.dynamic p.table p.tags stand.table ((r.tags p.table p.tags).1 stand.tags) stand.form in
-    let strings = part_is bytes p.head (value_of p.tags DT_STRTAB) (value_of p.tags DT_STRSZ) p.strings stand.strings in
-    let needed = needed_are p.strings p.tags o.needed ((r.names p.strings (values_of p.tags DT_NEEDED) o.needed).1 say.needed) say.plain_names in
+    let strings = part_is bytes p.head (value_of p.tags dt_strtab) (value_of p.tags dt_strsz) p.strings stand.strings in
+    let needed = needed_are p.strings p.tags o.needed ((r.names p.strings (values_of p.tags dt_needed) o.needed).1 say.needed) say.plain_names in
     let symbols = symbols_are bytes p.head p.tags p.strings p.counts p.symbols o.symbols stand.counts stand.symbols ((r.symbols p.symbols p.strings (symbol_count p.counts) o.symbols).1 say.symbols) say.plain_symbols in
     let slots = slots_are bytes p.head p.tags (length o.symbols) p.slots o.plt_relocs stand.slots (sym say.plt_relocs) say.slots in
     rw (head, dynamic, tags, strings, needed, symbols, slots) (ap done (said bytes p o say))

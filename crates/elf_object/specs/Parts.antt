@@ -9,8 +9,7 @@ use Rattle.elf_head.specs.Readable.{file_bytes}
 use Rattle.elf_head.specs.Verdict.{SpellsHead}
 use Rattle.elf_head.specs.declared.program_headers.TheConstants.{PT_DYNAMIC, PT_TLS}
 use Rattle.elf_dynamic.specs.Tag.{EndsAtNull}
-use Rattle.elf_dynamic.specs.declared.tag.TheConstants.{DT_HASH, DT_STRTAB, DT_STRSZ, DT_SYMTAB, DT_JMPREL, DT_PLTRELSZ}
-use Rattle.elf_dynamic.specs.declared.symbol.TheConstants.{SYMBOL_SIZE}
+use Rattle.elf_dynamic.specs.TagNumbers.{dt_hash, dt_strtab, dt_strsz, dt_symtab, dt_jmprel, dt_pltrelsz}
 use Rattle.elf_object.specs.Form.{value_of, is_form}
 use Rattle.elf_object.specs.Segments.{is_kind}
 
@@ -33,7 +32,7 @@ pub record Parts : Type 0 where
 abbrev pub symbol_count : List ℕ → ℕ
 symbol_count counts = field 4 counts 4
 
--- each part stands where the parts before it say
+-- each part stands where the parts before it say; the rules of the head allow no second dynamic table
 pub record StandIn (bytes : List ℕ) (p : Parts) : Type 0 where
   pub head : SpellsHead bytes p.head
   pub dynamic : find (is_kind PT_DYNAMIC) p.head.headers ≡ Some p.dynamic
@@ -41,7 +40,7 @@ pub record StandIn (bytes : List ℕ) (p : Parts) : Type 0 where
   pub table : file_bytes bytes p.head.headers p.dynamic.vaddr p.dynamic.filesz ≡ Some p.table
   pub tags : EndsAtNull p.table p.tags
   pub form : IsTrue (is_form p.tags)
-  pub strings : file_bytes bytes p.head.headers (value_of p.tags DT_STRTAB) (value_of p.tags DT_STRSZ) ≡ Some p.strings
-  pub counts : file_bytes bytes p.head.headers (value_of p.tags DT_HASH) 8 ≡ Some p.counts
-  pub symbols : file_bytes bytes p.head.headers (value_of p.tags DT_SYMTAB) (SYMBOL_SIZE * symbol_count p.counts) ≡ Some p.symbols
-  pub slots : file_bytes bytes p.head.headers (value_of p.tags DT_JMPREL) (value_of p.tags DT_PLTRELSZ) ≡ Some p.slots
+  pub strings : file_bytes bytes p.head.headers (value_of p.tags dt_strtab) (value_of p.tags dt_strsz) ≡ Some p.strings
+  pub counts : file_bytes bytes p.head.headers (value_of p.tags dt_hash) 8 ≡ Some p.counts
+  pub symbols : file_bytes bytes p.head.headers (value_of p.tags dt_symtab) (24 * symbol_count p.counts) ≡ Some p.symbols
+  pub slots : file_bytes bytes p.head.headers (value_of p.tags dt_jmprel) (value_of p.tags dt_pltrelsz) ≡ Some p.slots

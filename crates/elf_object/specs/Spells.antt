@@ -6,7 +6,7 @@ use Rattle.elf_dynamic.specs.Name.{AreNames}
 use Rattle.elf_dynamic.specs.Reloc.{relocs_of}
 use Rattle.elf_dynamic.specs.Symbol.{AreSymbols}
 use Rattle.elf_dynamic.specs.Tag.{last_of, values_of}
-use Rattle.elf_dynamic.specs.declared.tag.TheConstants.{DT_NEEDED, DT_PLTGOT}
+use Rattle.elf_dynamic.specs.TagNumbers.{dt_needed, dt_pltgot}
 use Rattle.elf_object.specs.Form.{is_plain_name, is_plain_symbol, is_slot}
 use Rattle.elf_object.specs.Parts.{Parts, StandIn, symbol_count}
 use Rattle.elf_object.specs.Segments.{segments_of, relro_of}
@@ -19,7 +19,7 @@ pub record Say (bytes : List ℕ) (p : Parts) (o : Object) : Type 0 where
   pub relro : o.relro ≡ relro_of p.head.headers
   pub dynamic : o.dynamic ≡ p.dynamic.vaddr
   -- the i-th name is the string at the offset of the i-th DT_NEEDED, and no path
-  pub needed : AreNames p.strings (values_of p.tags DT_NEEDED) o.needed
+  pub needed : AreNames p.strings (values_of p.tags dt_needed) o.needed
   pub plain_names : IsTrue (list_all is_plain_name o.needed)
   -- the i-th symbol is the one at its place
   pub symbols : AreSymbols p.symbols p.strings (symbol_count p.counts) o.symbols
@@ -28,7 +28,7 @@ pub record Say (bytes : List ℕ) (p : Parts) (o : Object) : Type 0 where
   -- the relocations of DT_JMPREL are slots for these symbols
   pub plt_relocs : o.plt_relocs ≡ relocs_of p.slots
   pub slots : IsTrue (list_all (is_slot (length o.symbols)) o.plt_relocs)
-  pub pltgot : o.pltgot ≡ last_of p.tags DT_PLTGOT
+  pub pltgot : o.pltgot ≡ last_of p.tags dt_pltgot
   -- nothing else is there
   pub soname : o.soname ≡ None
   pub has_versym : o.has_versym ≡ false

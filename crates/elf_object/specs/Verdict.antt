@@ -1,8 +1,10 @@
 -- The verdict on a file: the object that it is, or the rule that it breaks.
-use Rattle.std.specs.Prelude.{ℕ, ◌*◌, Bool, true, false, ◌&&◌, not, List, [], length, find, Option, None, Result, Ok, Err, if◌then◌else◌}
+use Rattle.std.specs.Prelude.{ℕ, ◌*◌, Bool, false, List, [], length, find, Option, None, Result, Ok, Err, if◌then◌else◌}
 use Rattle.std.specs.Option.{ok_or}
 use Rattle.std.specs.List.{list_all, list_any}
 use Rattle.ld_base.specs.declared.fault.NotAccepted.{NotAccepted}
+use Rattle.ld_base.specs.declared.fault.ReadFault.{ReadFault}
+use Rattle.ld_base.specs.declared.fault.ReadFault.TheVariants as faults
 use Rattle.ld_base.specs.declared.object.Object.{Object}
 use Rattle.ld_base.specs.declared.object.Reloc.{Reloc}
 use Rattle.ld_base.specs.declared.object.Symbol.{Symbol}
@@ -17,8 +19,8 @@ use Rattle.elf_dynamic.specs.Name.{names_at}
 use Rattle.elf_dynamic.specs.Reloc.{relocs_of}
 use Rattle.elf_dynamic.specs.Symbol.{symbols_of}
 use Rattle.elf_dynamic.specs.Tag.{tags_of, last_of, values_of}
-use Rattle.elf_dynamic.specs.declared.symbol.TheConstants.{SYMBOL_SIZE}
-use Rattle.elf_dynamic.specs.declared.tag.TheConstants.{DT_HASH, DT_STRTAB, DT_STRSZ, DT_SYMTAB, DT_JMPREL, DT_PLTRELSZ, DT_NEEDED, DT_PLTGOT}
+use Rattle.elf_dynamic.specs.TagNumbers.{dt_hash, dt_strtab, dt_strsz, dt_symtab, dt_jmprel, dt_pltrelsz, dt_needed, dt_pltgot}
+use Rattle.elf_object.specs.declared.reader.Tables.{Tables}
 use Rattle.elf_object.specs.Form.{value_of, is_form, is_plain_name, is_plain_symbol, is_slot}
 use Rattle.elf_object.specs.Parts.{symbol_count}
 use Rattle.elf_object.specs.Segments.{is_kind, segments_of, relro_of}
@@ -53,39 +55,48 @@ form_tags bytes head dynamic = do
 -- the names of the needed objects
 unfoldable pub needed_of : List ℕ → List Tag → Result (List (List ℕ)) NotAccepted
 needed_of strings tags = do
-  names ← names_at strings (values_of tags DT_NEEDED)
+  names ← names_at strings (values_of tags dt_needed)
   passing (list_all is_plain_name) names
 
 -- the symbols, of which the hash table tells the number
 unfoldable pub form_symbols : List ℕ → Head → List Tag → List ℕ → Result (List Symbol) NotAccepted
 form_symbols bytes head tags strings = do
-  counts ← part_at bytes head (value_of tags DT_HASH) 8
-  table ← part_at bytes head (value_of tags DT_SYMTAB) (SYMBOL_SIZE * symbol_count counts)
+  counts ← part_at bytes head (value_of tags dt_hash) 8
+  table ← part_at bytes head (value_of tags dt_symtab) (24 * symbol_count counts)
   symbols ← symbols_of table strings (symbol_count counts)
   passing (list_all is_plain_symbol) symbols
 
 -- the slots, for so many symbols
 unfoldable pub slots_of : List ℕ → Head → List Tag → ℕ → Result (List Reloc) NotAccepted
 slots_of bytes head tags count = do
-  table ← part_at bytes head (value_of tags DT_JMPREL) (value_of tags DT_PLTRELSZ)
+  table ← part_at bytes head (value_of tags dt_jmprel) (value_of tags dt_pltrelsz)
   passing (list_all (is_slot count)) (relocs_of table)
 
--- the object with these parts, and nothing else
-abbrev pub object_of : List ℕ → Head → Header → List Tag → List (List ℕ) → List Symbol → List Reloc → Object
-object_of bytes head dynamic tags needed symbols slots = record {
+-- what the tables hold that the tags name
+unfoldable pub tables_of : List ℕ → Head → List Tag → Result Tables NotAccepted
+tables_of bytes head tags = do
+  strings ← part_at bytes head (value_of tags dt_strtab) (value_of tags dt_strsz)
+  needed ← needed_of strings tags
+  symbols ← form_symbols bytes head tags strings
+  slots ← slots_of bytes head tags (length symbols)
+  Ok (record { needed = needed; symbols = symbols; plt_relocs = slots })
+
+-- the object with these tables, and nothing else
+abbrev pub object_of : List ℕ → Head → Header → List Tag → Tables → Object
+object_of bytes head dynamic tags tables = record {
   kind = head.kind;
   entry = head.entry;
   soname = None;
-  needed = needed;
+  needed = tables.needed;
   segments = segments_of bytes head.headers;
-  symbols = symbols;
+  symbols = tables.symbols;
   first_exported = 1;
   has_versym = false;
   verdefs = [];
   verneeds = [];
   relocs = [];
-  plt_relocs = slots;
-  pltgot = last_of tags DT_PLTGOT;
+  plt_relocs = tables.plt_relocs;
+  pltgot = last_of tags dt_pltgot;
   preinit = None;
   init = None;
   init_array = None;
@@ -103,16 +114,18 @@ unfoldable pub form_of : List ℕ → Head → Result Object NotAccepted
 form_of bytes head = do
   dynamic ← dynamic_of head.headers
   tags ← form_tags bytes head dynamic
-  strings ← part_at bytes head (value_of tags DT_STRTAB) (value_of tags DT_STRSZ)
-  needed ← needed_of strings tags
-  symbols ← form_symbols bytes head tags strings
-  slots ← slots_of bytes head tags (length symbols)
-  Ok (object_of bytes head dynamic tags needed symbols slots)
+  tables ← tables_of bytes head tags
+  Ok (object_of bytes head dynamic tags tables)
 
 -- every fault past the head is that of a form that isn't read
 abbrev pub as_not_read : {X : Type 0} → Result X NotAccepted → Result X NotAccepted
 as_not_read (Ok x) = Ok x
 as_not_read (Err fault) = Err not_read
+
+-- the same of a fault that a reader tells
+abbrev pub fault_past_head : ReadFault → ReadFault
+fault_past_head (faults.NotAccepted broken) = faults.NotAccepted not_read
+fault_past_head faults.Memory = faults.Memory
 
 -- the object that the file is, or the rule that it breaks
 unfoldable pub object_verdict : List ℕ → Result Object NotAccepted

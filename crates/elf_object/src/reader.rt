@@ -6,8 +6,9 @@ ghost use Rattle.std.specs.Option.{option_copied};
 ghost use Rattle.std.specs.Result.{result_map_both};
 ghost use Rattle.elf_head.specs.Gives.{Gives};
 ghost use Rattle.elf_head.specs.Rules.{head_verdict};
+ghost use Rattle.elf_object.specs.Form.{value_of};
 ghost use Rattle.elf_object.specs.Segments.{is_kind};
-ghost use Rattle.elf_object.specs.Verdict.{part_at, dynamic_of, form_tags, needed_of, form_symbols, slots_of, form_of, as_not_read, object_verdict};
+ghost use Rattle.elf_object.specs.Verdict.{part_at, dynamic_of, form_tags, needed_of, form_symbols, slots_of, tables_of, form_of, fault_past_head, object_verdict};
 
 use crate::form::{are_plain_names, are_plain_symbols, are_slots, is_form, value_of};
 use crate::segment::{read_segments, relro_of};
@@ -23,10 +24,24 @@ use ld_base::{
 use std::alloc::Global;
 
 /// Rule 20: an object of a form that isn't read.
-const NOT_READ: NotAccepted = NotAccepted {
+const NOT_READ: ReadFault = ReadFault::NotAccepted(NotAccepted {
     rule: 20,
     number: 2,
+});
+/// No mark of the dynamic table.
+const NO_FLAGS: ObjFlags = ObjFlags {
+    symbolic: false,
+    bind_now: false,
+    nodelete: false,
 };
+
+/// What the tables of an object hold.
+#[derive(Drop)]
+struct Tables {
+    needed: Names,
+    symbols: Symbols,
+    plt_relocs: Relocs,
+}
 
 /// The bytes of the file at so many addresses from a start on.
 #[tactic(auto, unfolding(crate::specs::Verdict::part_at))]
@@ -35,7 +50,21 @@ fn part_at<'a>(bytes: &'a [u8], head: &Head, start: u64, size: u64) -> Result<&'
     ensures found { Gives (result_map_both (λ part. part.now) (λ fault. fault) result) (part_at bytes.now head.now start size) }
     ensures size { IfOk result (λ part. length part.now ≡ size) }
 {
-    file_bytes(bytes, head, start, size).ok_or(ReadFault::NotAccepted(NOT_READ))
+    file_bytes(bytes, head, start, size).ok_or(NOT_READ)
+}
+
+/// The table that two tags name, by its address and its size.
+fn table_at<'a>(
+    bytes: &'a [u8],
+    head: &Head,
+    tags: &[Tag],
+    address: u64,
+    size: u64,
+) -> Result<&'a [u8], ReadFault>
+    requires { head_verdict bytes.now ≡ Ok head.now }
+    ensures { Gives (result_map_both (λ part. part.now) (λ fault. fault) result) (part_at bytes.now head.now (value_of tags.now address) (value_of tags.now size)) }
+{
+    part_at(bytes, head, value_of(tags, address), value_of(tags, size))
 }
 
 /// The header of the dynamic table, in a file without thread-local storage.
@@ -44,11 +73,9 @@ fn dynamic_of(headers: &[Header]) -> Result<Header, ReadFault>
     ensures { Gives result (dynamic_of headers.now) }
 {
     if has_tls(headers) {
-        return Err(ReadFault::NotAccepted(NOT_READ));
+        return Err(NOT_READ);
     }
-    find_dynamic(headers)
-        .copied()
-        .ok_or(ReadFault::NotAccepted(NOT_READ))
+    find_dynamic(headers).copied().ok_or(NOT_READ)
 }
 
 fn has_tls(headers: &[Header]) -> bool
@@ -77,7 +104,7 @@ fn read_form_tags(
     let table = part_at(bytes, head, dynamic.vaddr, dynamic.filesz)?;
     match read_tags(alloc, table)? {
         Some(tags) if is_form(tags.as_slice()) => Ok(tags),
-        _ => Err(ReadFault::NotAccepted(NOT_READ)),
+        _ => Err(NOT_READ),
     }
 }
 
@@ -89,7 +116,7 @@ fn read_needed(alloc: Global, strings: &[u8], tags: &[Tag]) -> Result<Names, Rea
     let offsets = values_of(alloc, tags, DT_NEEDED)?;
     let names = read_names(alloc, strings, &offsets)?;
     if !are_plain_names(names.as_slice()) {
-        return Err(ReadFault::NotAccepted(NOT_READ));
+        return Err(NOT_READ);
     }
     Ok(names)
 }
@@ -108,15 +135,11 @@ fn read_form_symbols(
 {
     let counts = part_at(bytes, head, value_of(tags, DT_HASH), 8)?;
     let count = field32(counts, 4);
-    let table = part_at(
-        bytes,
-        head,
-        value_of(tags, DT_SYMTAB),
-        SYMBOL_SIZE * u64::from(count),
-    )?;
+    let size = SYMBOL_SIZE * u64::from(count);
+    let table = part_at(bytes, head, value_of(tags, DT_SYMTAB), size)?;
     let symbols = read_symbols(alloc, table, strings, count)?;
     if !are_plain_symbols(symbols.as_slice()) {
-        return Err(ReadFault::NotAccepted(NOT_READ));
+        return Err(NOT_READ);
     }
     Ok(symbols)
 }
@@ -133,17 +156,29 @@ fn read_slots(
     requires { head_verdict bytes.now ≡ Ok head.now }
     ensures { Gives result (slots_of bytes.now head.now tags.now count) }
 {
-    let table = part_at(
-        bytes,
-        head,
-        value_of(tags, DT_JMPREL),
-        value_of(tags, DT_PLTRELSZ),
-    )?;
+    let table = table_at(bytes, head, tags, DT_JMPREL, DT_PLTRELSZ)?;
     let relocs = read_relocs(alloc, table)?;
     if !are_slots(relocs.as_slice(), count) {
-        return Err(ReadFault::NotAccepted(NOT_READ));
+        return Err(NOT_READ);
     }
     Ok(relocs)
+}
+
+/// What the tables hold that the tags name.
+#[tactic(auto, unfolding(crate::specs::Verdict::tables_of))]
+fn read_tables(alloc: Global, bytes: &[u8], head: &Head, tags: &[Tag]) -> Result<Tables, ReadFault>
+    requires { head_verdict bytes.now ≡ Ok head.now }
+    ensures { Gives result (tables_of bytes.now head.now tags.now) }
+{
+    let strings = table_at(bytes, head, tags, DT_STRTAB, DT_STRSZ)?;
+    let needed = read_needed(alloc, strings, tags)?;
+    let symbols = read_form_symbols(alloc, bytes, head, tags, strings)?;
+    let plt_relocs = read_slots(alloc, bytes, head, tags, symbols.len())?;
+    Ok(Tables {
+        needed,
+        symbols,
+        plt_relocs,
+    })
 }
 
 /// The object of a file with this head.
@@ -154,30 +189,21 @@ fn read_form(alloc: Global, bytes: &[u8], head: &Head) -> Result<Object, ReadFau
 {
     let dynamic = dynamic_of(head.headers.as_slice())?;
     let tags = read_form_tags(alloc, bytes, head, &dynamic)?;
-    let tags = tags.as_slice();
-    let strings = part_at(
-        bytes,
-        head,
-        value_of(tags, DT_STRTAB),
-        value_of(tags, DT_STRSZ),
-    )?;
-    let needed = read_needed(alloc, strings, tags)?;
-    let symbols = read_form_symbols(alloc, bytes, head, tags, strings)?;
-    let plt_relocs = read_slots(alloc, bytes, head, tags, symbols.len())?;
+    let tables = read_tables(alloc, bytes, head, tags.as_slice())?;
     Ok(Object {
         kind: head.kind,
         entry: head.entry,
         soname: None,
-        needed,
+        needed: tables.needed,
         segments: read_segments(alloc, bytes, head)?,
-        symbols,
+        symbols: tables.symbols,
         first_exported: 1,
         has_versym: false,
         verdefs: Verdefs::new(alloc),
         verneeds: Verneeds::new(alloc),
         relocs: Relocs::new(alloc),
-        plt_relocs,
-        pltgot: last_of(tags, DT_PLTGOT),
+        plt_relocs: tables.plt_relocs,
+        pltgot: last_of(tags.as_slice(), DT_PLTGOT),
         preinit: None,
         init: None,
         init_array: None,
@@ -185,29 +211,24 @@ fn read_form(alloc: Global, bytes: &[u8], head: &Head) -> Result<Object, ReadFau
         fini_array: None,
         tls: None,
         relro: relro_of(head.headers.as_slice()),
-        flags: ObjFlags {
-            symbolic: false,
-            bind_now: false,
-            nodelete: false,
-        },
+        flags: NO_FLAGS,
         relr: Places::new(alloc),
         dynamic: dynamic.vaddr,
     })
 }
 
-/// The object of a file with this head, where every fault is that of a form that isn't read.
-fn read_rest(alloc: Global, bytes: &[u8], head: &Head) -> Result<Object, ReadFault>
-    requires { head_verdict bytes.now ≡ Ok head.now }
-    ensures { Gives result (as_not_read (form_of bytes.now head.now)) }
+/// Every fault past the head is that of a form that isn't read.
+fn as_not_read(fault: ReadFault) -> ReadFault
+    ensures { result ≡ fault_past_head fault }
 {
-    match read_form(alloc, bytes, head) {
-        Ok(object) => Ok(object),
-        Err(ReadFault::NotAccepted(_)) => Err(ReadFault::NotAccepted(NOT_READ)),
-        Err(ReadFault::Memory) => Err(ReadFault::Memory),
+    match fault {
+        ReadFault::NotAccepted(_) => NOT_READ,
+        ReadFault::Memory => ReadFault::Memory,
     }
 }
 
-/// Reads the object that a file is.
+/// Reads the object that a file is. Whether it is the program makes no difference to an object of
+/// this form. The hash table of the answer has no parts.
 ///
 /// # Errors
 ///
@@ -223,7 +244,7 @@ pub fn read_object(
     ensures table { IfOk result (λ read. read.1 ≡ record { gnu = None; sysv = None }) }
 {
     let head = read_head(alloc, bytes)?;
-    let object = read_rest(alloc, bytes, &head)?;
+    let object = read_form(alloc, bytes, &head).map_err(as_not_read)?;
     let table = HashTable {
         gnu: None,
         sysv: None,

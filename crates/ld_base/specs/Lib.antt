@@ -1,4 +1,6 @@
+pub mod FaultText
 pub mod Field
 pub mod Pick
 pub mod Symbol
+pub mod Text
 pub mod Version

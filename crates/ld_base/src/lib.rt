@@ -12,6 +12,7 @@ mod object;
 mod parts;
 mod sequence;
 mod symbols;
+mod text;
 
 pub use fault::{DlFault, NotAccepted, ReadFault, Shown};
 pub use field::{field16, field32, field64};
@@ -29,3 +30,6 @@ pub use parts::{
 };
 pub use sequence::{Bytes, Names, Sequence, Serials};
 pub use symbols::Symbols;
+
+#[cfg(test)]
+mod tests;

@@ -5,8 +5,8 @@ use Rattle.library_source.specs.Count.{one_more}
 use Rattle.library_source.specs.declared.sink.WriteError.{WriteError}
 use Rattle.library_source.specs.declared.sink.WriteError.TheVariants.{Failed, Memory}
 
--- what a library in memory holds: its files, the numbers of the calls that fail, and how often it was
--- called, failed and missed a path
+-- what a library in memory holds: its files, the numbers of the calls that fail, and how often
+-- it was called, failed and missed a path
 pub record LibraryState : Type 0 where
   pub files : List File
   pub fail : List ℕ
@@ -14,8 +14,8 @@ pub record LibraryState : Type 0 where
   pub faults : ℕ
   pub misses : ℕ
 
--- what a sink in memory holds: the bytes it took, the numbers of the calls that fail, and how often it
--- was called and failed
+-- what a sink in memory holds: the bytes that it took, the numbers of the calls that fail, and how
+-- often it was called and failed
 pub record SinkState : Type 0 where
   pub bytes : List ℕ
   pub fail : List ℕ
@@ -26,7 +26,8 @@ pub record SinkState : Type 0 where
 abbrev pub IsToFail : SinkState → Type 0
 IsToFail sink = Contains sink.fail (one_more sink.calls)
 
--- one write to a sink in memory: it fails where it is to, else it takes the whole piece or finds no memory
+-- one write to a sink in memory: it fails where it is to, and else takes the whole piece or finds
+-- no memory
 abbrev pub WritesInMemory : SinkState → List ℕ → Result ℕ WriteError → SinkState → Type 0
 WritesInMemory old piece (Ok n) new =
     ¬ (IsToFail old) × (n ≡ length piece)

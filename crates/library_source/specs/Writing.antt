@@ -5,7 +5,8 @@ use Rattle.library_source.specs.declared.sink.WriteError.{WriteError}
 use Rattle.library_source.specs.declared.sink.WriteError.TheVariants.{Memory}
 
 -- of the bytes, the front before this rest was taken
-pub record TakesBefore (rest : List ℕ) (old : Option (List ℕ)) (bytes : List ℕ) (new : Option (List ℕ)) : Type 0 where
+pub record TakesBefore (rest : List ℕ) (old : Option (List ℕ)) (bytes : List ℕ) (new : Option (List ℕ))
+    : Type 0 where
   pub front : List ℕ
   pub whole : bytes ≡ front ++ rest
   pub taken : new ≡ append_known old front
@@ -17,4 +18,5 @@ TakesFront old bytes new = (rest : List ℕ) × TakesBefore rest old bytes new
 -- the sink's own write of what was left of the bytes found no memory
 abbrev pub RanOut : {K : Type 0} → (K → List ℕ → Result ℕ WriteError → K → Type 0) → List ℕ → K → Type 0
 RanOut {K} writes bytes new =
-    (before : K) × (front : List ℕ) × (rest : List ℕ) × (bytes ≡ front ++ rest) × writes before rest (Err Memory) new
+    (before : K) × (front : List ℕ) × (rest : List ℕ)
+    × (bytes ≡ front ++ rest) × writes before rest (Err Memory) new

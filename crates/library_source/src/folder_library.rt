@@ -1,9 +1,10 @@
 //! A library over the files of the system.
 
-ghost use Rattle.std.specs.Prelude.{◌≡◌, ◌≤◌, take, vec_len, IfOk, IfSome};
+ghost use Rattle.std.specs.Prelude.{◌≡◌, ◌<◌, ◌≤◌, length, vec_len, IfOk};
 ghost use Rattle.std.specs.Result.{IsErrOf};
 ghost use Rattle.std.specs.Str.{IsUtf8};
 ghost use Rattle.std.specs.IoError.{error_kind};
+ghost use Rattle.std.specs.Io.KnownBytes.{Consumes, IsAtEnd, ReadConsumes};
 ghost use Rattle.library_source.specs.Count.{CountsIf};
 ghost use Rattle.library_source.specs.Folder.{read_error};
 
@@ -16,6 +17,9 @@ use std::rt::Files;
 
 /// How many bytes of a file are read at most: one more than the longest file that is accepted has.
 pub const READ_LIMIT: usize = 8 * 1024 * 1024 + 1;
+
+/// How many bytes are asked for at a time.
+const PIECE: usize = 64 * 1024;
 
 /// The files of the system. A path that isn't UTF-8 names none of them.
 #[derive(Drop)]
@@ -60,8 +64,10 @@ impl<R: Files + Clone + Drop + Send> Library for FolderLibrary<R> {
     fn read(&mut self, path: &[u8]) -> Result<Vec<u8>, ReadError>
         ensures bound { IfOk result (λ bytes. vec_len bytes ≤ READ_LIMIT) }
         ensures text { ¬ (IsUtf8 path.now) → IsErrOf result ReadError.Missing }
-        ensures faults { CountsIf (IsErrOf result ReadError.Failed) self.old.faults self.new.faults }
-        ensures misses { CountsIf (IsErrOf result ReadError.Missing) self.old.misses self.new.misses }
+        ensures faults { CountsIf (IsErrOf result ReadError.Failed)
+            self.old.faults self.new.faults }
+        ensures misses { CountsIf (IsErrOf result ReadError.Missing)
+            self.old.misses self.new.misses }
     {
         let answer = read_file(&self.rt, self.alloc, path);
         match answer {
@@ -93,19 +99,43 @@ fn read_file<R: Files>(rt: &R, alloc: Global, path: &[u8]) -> Result<Vec<u8>, Re
     let Ok(path) = str::from_utf8(path) else {
         return Err(ReadError::Missing);
     };
-    let file = fs::open(rt, path)?;
-    Ok(read_front(alloc, file)?)
+    let mut file = fs::open(rt, path)?;
+    Ok(read_front(alloc, &mut file)?)
 }
 
-/// The bytes that a reader gives, but no more of them than are wanted.
-fn read_front<F: Read + Drop>(alloc: Global, file: F) -> io::Result<Vec<u8>>
+/// The bytes that a reader gives, up to the limit: all of them where they are fewer.
+fn read_front<F: Read>(alloc: Global, file: &mut F) -> io::Result<Vec<u8>>
     ensures bound { IfOk result (λ bytes. vec_len bytes ≤ READ_LIMIT) }
-    ensures front { IfOk result (λ bytes.
-        IfSome (F.remaining file) (λ all. bytes.items ≡ take READ_LIMIT all)) }
+
+    // No more was read than these bytes, and there are no more where they are short of the limit.
+    ensures taken { IfOk result (λ bytes.
+        Consumes (F.remaining file.old) (F.remaining file.new) bytes.items) }
+    ensures whole { IfOk result (λ bytes.
+        vec_len bytes < READ_LIMIT → IsAtEnd (F.remaining file.new)) }
 {
     let mut bytes = Vec::new(alloc);
-    file.take(READ_LIMIT as u64).read_to_end(&mut bytes)?;
-    // `take` gives no more, which its contract doesn't say of a reader of unknown bytes.
-    bytes.truncate(READ_LIMIT);
+    let mut piece = [0u8; PIECE];
+    while bytes.len() < READ_LIMIT {
+        let most = PIECE.min(READ_LIMIT - bytes.len());
+        let count = read_once(file, &mut piece[..most])?;
+        if count == 0 {
+            return Ok(bytes);
+        }
+        bytes.extend_from_slice(&piece[..count])?;
+    }
     Ok(bytes)
+}
+
+/// One read of a reader, which is made again where a signal has interrupted it.
+fn read_once<F: Read>(file: &mut F, piece: &mut [u8]) -> io::Result<usize>
+    ensures bound { IfOk result (λ n. n ≤ length piece.new) }
+    ensures bytes { ReadConsumes (F.remaining file.old) (F.remaining file.new) result piece.new }
+{
+    for _ in 0..u64::MAX {
+        match file.read(piece) {
+            Err(error) if error.kind() == ErrorKind::Interrupted => {}
+            answer => return answer,
+        }
+    }
+    Err(ErrorKind::Interrupted.into())
 }

@@ -1,8 +1,7 @@
 //! What reads files.
 
-ghost use Rattle.std.specs.Prelude.{◌≡◌, ◌≤◌, ℕ, List, IfOk, IfSome};
+ghost use Rattle.std.specs.Prelude.{◌≡◌, ◌≤◌, ℕ, List, Option, IfOk, IfSome};
 ghost use Rattle.std.specs.Result.{IsErrOf};
-ghost use Rattle.std.specs.Prelude.{Option};
 ghost use Rattle.ld_base.specs.declared.linking.File.{File};
 ghost use Rattle.library_source.specs.Count.{Rises};
 ghost use Rattle.library_source.specs.Files.{file_at};
@@ -50,8 +49,10 @@ pub trait Library {
         ensures misses { misses self.old ≤ misses self.new }
 
         // No answer is invented.
-        ensures failed { IsErrOf result ReadError.Failed → Rises (faults self.old) (faults self.new) }
-        ensures missing { IsErrOf result ReadError.Missing → Rises (misses self.old) (misses self.new) }
+        ensures failed { IsErrOf result ReadError.Failed
+            → Rises (faults self.old) (faults self.new) }
+        ensures missing { IsErrOf result ReadError.Missing
+            → Rises (misses self.old) (misses self.new) }
 
         // Where the files are told, the answer is theirs.
         ensures found { IfSome (files self.old) (λ all.

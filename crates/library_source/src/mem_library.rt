@@ -27,13 +27,20 @@ impl Model for MemLibrary {
 
     ghost Value = { LibraryState };
 
-    ghost view = { λ m. record { files = m.files; fail = m.fail; calls = m.calls; faults = m.faults; misses = m.misses } };
+    ghost view = { λ m. record {
+      files = m.files;
+      fail = m.fail;
+      calls = m.calls;
+      faults = m.faults;
+      misses = m.misses;
+    } };
 }
 
 impl MemLibrary {
     /// A library of these files, whose reads of these numbers fail. The first read has number 1.
     pub fn new(alloc: Global, files: Files, fail: Calls) -> Self
-        ensures { result ≡ record { files = files; fail = fail; calls = 0; faults = 0; misses = 0 } }
+        ensures { result
+            ≡ record { files = files; fail = fail; calls = 0; faults = 0; misses = 0 } }
     {
         MemLibrary {
             alloc,
@@ -75,13 +82,16 @@ impl Library for MemLibrary {
         ensures absent { IsErrOf result ReadError.Missing → file_at self.old.files path.now ≡ None }
 
         // It fails at the listed calls, and at no other.
-        ensures fails { IsErrOf result ReadError.Failed ↔ Contains self.old.fail (one_more self.old.calls) }
+        ensures fails { IsErrOf result ReadError.Failed
+            ↔ Contains self.old.fail (one_more self.old.calls) }
         ensures list { self.new.fail ≡ self.old.fail }
         ensures calls { self.new.calls ≡ one_more self.old.calls }
 
         // Each count rises at its own answer alone.
-        ensures faults { CountsIf (IsErrOf result ReadError.Failed) self.old.faults self.new.faults }
-        ensures misses { CountsIf (IsErrOf result ReadError.Missing) self.old.misses self.new.misses }
+        ensures faults { CountsIf (IsErrOf result ReadError.Failed)
+            self.old.faults self.new.faults }
+        ensures misses { CountsIf (IsErrOf result ReadError.Missing)
+            self.old.misses self.new.misses }
     {
         self.calls = self.calls.saturating_add(1);
         if self.fail.as_slice().contains(&self.calls) {

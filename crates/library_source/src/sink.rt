@@ -1,10 +1,8 @@
 //! What takes bytes, and how all of a text is written to it.
 
-ghost use Rattle.std.specs.Prelude.{◌≡◌, ◌<◌, ◌≤◌, ◌++◌, ℕ, List, length, take, IfOk, OnOk, OnErr};
+ghost use Rattle.std.specs.Prelude.{◌≡◌, ◌<◌, ◌≤◌, ◌++◌, ℕ, List, Option, Result, length, take, IfOk, OnOk, OnErr};
 ghost use Rattle.std.specs.Result.{IsErrOf};
 ghost use Rattle.std.specs.Io.KnownBytes.{append_known};
-ghost use Rattle.std.specs.Prelude.{Option};
-ghost use Rattle.std.specs.Prelude.{Result};
 ghost use Rattle.library_source.specs.Count.{Rises};
 ghost use Rattle.library_source.specs.Writing.{RanOut, TakesFront};
 ghost use Rattle.library_source.specs.declared.sink.WriteError.{WriteError};
@@ -49,12 +47,15 @@ pub trait Sink {
 
         // What it took is what it says.
         ensures bound { IfOk result (λ n. n ≤ length piece.now) }
-        ensures takes { IfOk result (λ n. taken self.new ≡ append_known (taken self.old) (take n piece.now)) }
+        ensures takes { IfOk result (λ n.
+            taken self.new ≡ append_known (taken self.old) (take n piece.now)) }
         ensures refuses { OnErr result (taken self.new ≡ taken self.old) }
 
         // No failure is invented, and to take nothing is one.
-        ensures failed { IsErrOf result WriteError.Failed → Rises (faults self.old) (faults self.new) }
-        ensures stuck { result ≡ Ok 0 → 0 < length piece.now → Rises (faults self.old) (faults self.new) };
+        ensures failed { IsErrOf result WriteError.Failed
+            → Rises (faults self.old) (faults self.new) }
+        ensures stuck { result ≡ Ok 0 → 0 < length piece.now
+            → Rises (faults self.old) (faults self.new) };
 }
 
 /// Writes all of the bytes, in as many pieces as the sink takes them.
@@ -64,7 +65,8 @@ pub fn put_all<K: Sink>(out: &mut K, bytes: &[u8]) -> Result<(), WriteError>
     ensures faults { K.faults out.old ≤ K.faults out.new }
 
     // No failure is invented, and the want of memory is the sink's own.
-    ensures failed { IsErrOf result WriteError.Failed → Rises (K.faults out.old) (K.faults out.new) }
+    ensures failed { IsErrOf result WriteError.Failed
+        → Rises (K.faults out.old) (K.faults out.new) }
     ensures memory { IsErrOf result WriteError.Memory → RanOut K.writes bytes.now out.new }
 {
     let mut rest = bytes;

@@ -5,4 +5,5 @@ pub mod Linker
 pub mod Loading
 pub mod Needed
 pub mod Order
+pub mod Relocation
 pub mod Scope

@@ -26,16 +26,16 @@ defines_version o version = length o.verdefs == 0 || list_any (defines version) 
 -- the object that the first of the needed names found that is the file; found ends with what those names found
 abbrev pub provider : Loaded → List ℕ → Option ℕ
 provider o file = elim (position (λ name. bytes_eq name file) o.object.needed) [
-    Some k ↦ slice_get o.found ((length o.found) - (length o.object.needed) + k)
+  | Some k ↦ slice_get o.found ((length o.found) - (length o.object.needed) + k)
   | None ↦ None
-  ]
+]
 
 -- the needed version isn't there: it isn't weak, the file is one of the needed names, and the object found for it doesn't define it
 abbrev pub lacks_version : List Loaded → Loaded → Verneed → Bool
 lacks_version objects o v =
     not (is_weak_need v) && elim (provider o v.file) [
-      Some serial ↦ elim (with_serial objects serial) [ Some d ↦ not (defines_version d.object v.name) | None ↦ false ]
-    | None ↦ false
+      | Some serial ↦ elim (with_serial objects serial) [ Some d ↦ not (defines_version d.object v.name) | None ↦ false ]
+      | None ↦ false
     ]
 
 -- the first version that an object needs and that isn't there

@@ -5,12 +5,19 @@ ghost use Rattle.std.specs.Option.{option_copied};
 ghost use Rattle.ld_base.specs.Pick.{pick_of};
 ghost use Rattle.scope_rule.specs.Loading.{object_of};
 ghost use Rattle.scope_rule.specs.Choose.{pick_at, first_with, want_of, is_own, choice_of, searched, choose_for, choose_of};
+ghost use Rattle.scope_rule.specs.Relocation.{choice_at};
 
 use crate::linker_object::linker_symbol;
 use crate::namespace::Namespace;
 use crate::scoping::scope;
-use ld_base::{Choice, Loaded, Name, Object, Serial, Serials, Symbol, Want, pick};
+use ld_base::{Choice, Loaded, Name, Object, Reloc, Serial, Serials, Symbol, Want, pick};
 use std::alloc::{AllocError, Global};
+
+const R_RISCV_NONE: u32 = 0;
+
+const R_RISCV_RELATIVE: u32 = 3;
+
+const R_RISCV_COPY: u32 = 4;
 
 /// What an object of the namespace, or the linker's own, has for a name and a version.
 #[tactic(auto, unfolding(crate::specs::Choose::pick_at))]
@@ -38,8 +45,9 @@ fn first_with(ns: &Namespace, name: &[u8], want: &Want, scope: &[Serial]) -> Opt
     None
 }
 
-/// The version that a relocation against a symbol asks for.
-fn want_of(alloc: Global, object: &Object, symbol: &Symbol) -> Result<Want, AllocError>
+/// The version that a relocation against a symbol asks for: the name of the symbol's index where
+/// that is 2 or more (Drepper, "ELF Symbol Versioning").
+pub fn want_of(alloc: Global, object: &Object, symbol: &Symbol) -> Result<Want, AllocError>
     ensures { IfOk result (λ w. w ≡ want_of object.now symbol.now) }
 {
     if symbol.version_index() < 2 {
@@ -129,4 +137,33 @@ pub fn choose(
     let loaded = ns.object(owner).unwrap();
     let entry = &loaded.object.symbols.as_slice()[symbol as usize];
     choose_for(alloc, ns, loaded, symbol, entry, copy)
+}
+
+/// The choice of a relocation of `owner` when the object is loaded (psABI, "Relocations"). One of no
+/// symbol (NONE, RELATIVE) makes no search, and the null symbol is the object's own.
+#[tactic(auto, unfolding(crate::specs::Relocation::choice_at))]
+pub fn choose_reloc(
+    alloc: Global,
+    ns: &Namespace,
+    owner: &Loaded,
+    reloc: &Reloc,
+) -> Result<Choice, AllocError>
+    requires symbol_is_there { reloc.now.symbol < length owner.now.object.symbols }
+    ensures { IfOk result (λ c. c ≡ choice_at ns.now owner.now reloc.now) }
+{
+    if reloc.kind == R_RISCV_NONE || reloc.kind == R_RISCV_RELATIVE {
+        return Ok(Choice::WeakZero);
+    }
+    if reloc.symbol == 0 {
+        return Ok(Choice::Def(owner.serial, 0));
+    }
+    let symbol = &owner.object.symbols.as_slice()[reloc.symbol as usize];
+    choose_for(
+        alloc,
+        ns,
+        owner,
+        reloc.symbol,
+        symbol,
+        reloc.kind == R_RISCV_COPY,
+    )
 }

@@ -1,10 +1,9 @@
-use Rattle.std.proofs.Common.{◌≡◌, refl, ℕ, ◌*◌, ◌+◌, List, length, take, drop, Some, Ok}
+use Rattle.std.proofs.Common.{◌≡◌, refl, ℕ, ◌*◌, List, length, take, drop, Some, Ok}
 use Rattle.std.specs.Prelude.{◌==◌, slice_index}
 use Rattle.ld_base.specs.Field.{field}
 use Rattle.ld_base.specs.declared.fault.NotAccepted.{NotAccepted}
 use Rattle.ld_base.specs.declared.object.Symbol.{Symbol}
-use Rattle.elf_dynamic.specs.declared.string.TheConstants.{STRING_LIMIT}
-use Rattle.elf_dynamic.specs.declared.tag.TheConstants.{DT_NULL}
+use Rattle.elf_dynamic.specs.TagNumbers.{dt_null}
 use Rattle.elf_dynamic.specs.Tag.{has_tag, all_tags, tags_of}
 use Rattle.elf_dynamic.specs.Name.{bad_string, string_at, name_at, names_at, IsStringAt}
 use Rattle.elf_dynamic.specs.Symbol.{symbol_named, symbol_at, symbols_of, IsSymbolAt}
@@ -14,18 +13,18 @@ use Rattle.elf_dynamic.proofs.law.one_reading.Goals as goal
 pub returns-clause-tags : goal.returns-clause-tags
 unfolding tags_of
 returns-clause-tags c bytes tags =
-    (stands_from-before (has_tag DT_NULL) (all_tags bytes) tags, before_from-stands (has_tag DT_NULL) (all_tags bytes) tags)
+    (stands_from-before (has_tag dt_null) (all_tags bytes) tags, before_from-stands (has_tag dt_null) (all_tags bytes) tags)
 
 is_string : (strings : List ℕ) (offset : ℕ) (name : List ℕ) → string_at strings offset ≡ Some name → IsStringAt strings offset name
 unfolding string_at
 is_string strings offset name e =
-    let s = stands_within (λ b. b == 0) STRING_LIMIT (drop offset strings) name (stands_from-before (λ b. b == 0) (take STRING_LIMIT (drop offset strings)) name e) in
+    let s = stands_within (λ b. b == 0) 4096 (drop offset strings) name (stands_from-before (λ b. b == 0) (take 4096 (drop offset strings)) name e) in
     record { ended = s.0; short = s.1 }
 
 string_is : (strings : List ℕ) (offset : ℕ) (name : List ℕ) → IsStringAt strings offset name → string_at strings offset ≡ Some name
 unfolding string_at
 string_is strings offset name s =
-    before_from-stands (λ b. b == 0) (take STRING_LIMIT (drop offset strings)) name (stands_take (λ b. b == 0) STRING_LIMIT (drop offset strings) name s.ended s.short)
+    before_from-stands (λ b. b == 0) (take 4096 (drop offset strings)) name (stands_take (λ b. b == 0) 4096 (drop offset strings) name s.ended s.short)
 
 pub returns-clause-string : goal.returns-clause-string
 returns-clause-string c strings name offset = (is_string strings offset name, string_is strings offset name)

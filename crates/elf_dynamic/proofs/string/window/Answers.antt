@@ -1,6 +1,5 @@
-use Rattle.std.proofs.Common.{◌≡◌, ℕ, ◌-◌, ◌≤◌, List, length, take, drop, min, length-drop, arith}
+use Rattle.std.proofs.Common.{◌≡◌, ℕ, ◌-◌, List, length, take, drop, min, length-drop, arith}
 use Rattle.std.proofs.lemmas.List.{take_all, take_min}
-use Rattle.elf_dynamic.specs.declared.string.TheConstants.{STRING_LIMIT}
 use Rattle.elf_dynamic.proofs.string.window.Goals as goal
 
 -- a slice that is cut where it is too long
@@ -10,4 +9,4 @@ cut n limit offset xs e =
     rw (e, whole) (take_min limit (drop offset xs))
 
 pub returns : goal.returns
-returns c = cut c.min.result STRING_LIMIT c.args.offset c.args.strings.now c.min.ensures
+returns c = cut c.min.result 4096 c.args.offset c.args.strings.now c.min.ensures

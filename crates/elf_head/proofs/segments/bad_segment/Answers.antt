@@ -1,10 +1,9 @@
-use Rattle.std.proofs.Common.{◌≡◌, ℕ, ◌<◌, ◌∙◌, sym, ap, length, take, true, subst, arith}
-use Rattle.std.specs.Prelude.{Some, List}
+use Rattle.std.proofs.Common.{◌≡◌, ◌∙◌, sym, length, take, true, subst}
+use Rattle.std.specs.Prelude.{List}
 use Rattle.std.proofs.lemmas.List.{take_more}
 use Rattle.ld_base.specs.declared.parts.Header.{Header}
 use Rattle.elf_head.proofs.Least.{least_found, least_kept}
 use Rattle.elf_head.proofs.Passing.{bad_at}
-use Rattle.elf_head.specs.Least.{least_below}
 use Rattle.elf_head.specs.Passed.{IsPassed}
 use Rattle.elf_head.specs.Segments.{bad_segment, is_bad_at}
 use Rattle.elf_head.proofs.segments.bad_segment.Goals as goal

@@ -1,4 +1,4 @@
-use Rattle.std.proofs.Common.{◌≡◌, length, take}
+use Rattle.std.proofs.Common.{◌≡◌, take}
 use Rattle.std.specs.Prelude.{None}
 use Rattle.elf_head.specs.Least.{least_below}
 use Rattle.elf_head.specs.Passed.{IsPassed}

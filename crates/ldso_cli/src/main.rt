@@ -1,0 +1,8 @@
+//! The linker's command.
+#![tactic(auto)]
+
+mod lines;
+mod refusal;
+mod words;
+
+fn main() {}
