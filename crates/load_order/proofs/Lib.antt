@@ -1,5 +1,6 @@
 pub mod Find
 pub mod Hearing
+pub mod Led
 pub mod Longer
 pub mod Next
 pub mod Noting

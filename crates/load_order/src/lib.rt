@@ -10,5 +10,5 @@ mod progress;
 mod versions;
 
 pub use ask::{LoadAsk, LoadFault, LoadPlan};
-pub use law::{missing_library, one_outcome, serials_follow};
+pub use law::{found_by_name, missing_library, one_outcome, serials_follow};
 pub use plan::plan_load;

@@ -92,8 +92,8 @@ names_of load index o = (if load.program && index == 0 then load.preload else []
 unfoldable pub turn_of : Load → ℕ → List Loaded → Result (List Loaded) Stop
 turn_of load index added =
     elim (slice_get added index) [
-      Some o ↦ take_names load added (names_of load index o) >>= λ taken. Ok (slice_set taken.0 index (record o { found = taken.1 }))
-    | None ↦ Ok added
+      | Some o ↦ take_names load added (names_of load index o) >>= λ taken. Ok (slice_set taken.0 index (record o { found = taken.1 }))
+      | None ↦ Ok added
     ]
 
 -- what the name that is asked for leads to: a program's is a path; another's is found as dlopen finds it

@@ -29,5 +29,5 @@ pub returns : goal.returns
 returns c =
     let ns = with_added c.args.ns.now c.args.added.now in
     let many : length ns.objects ≡ length c.as_slice.result.now + length c.args.added.now =
-      length-append c.args.ns.now.objects c.args.added.now ∙ ap (λ (xs : List Loaded). length xs + length c.args.added.now) (sym c.as_slice.ensures) in
+    length-append c.args.ns.now.objects c.args.added.now ∙ ap (λ (xs : List Loaded). length xs + length c.args.added.now) (sym c.as_slice.ensures) in
     is_breadth ns c.args.root c.loop.counter c.loop.order (omega arith) (omega arith) c.loop.invariant.kept
