@@ -11,14 +11,13 @@ mod refusal;
 mod top;
 mod words;
 
-pub use outcome::{Cause, Outcome};
-pub use top::ldso;
-
 use library_source::{FolderLibrary, IoSink};
+pub use outcome::{Cause, Outcome};
 use std::alloc::{AllocError, Global};
-use std::rt::Env;
 use std::process::ExitCode;
+use std::rt::Env;
 use std::{env, io};
+pub use top::ldso;
 
 /// The words after the program's name.
 fn words_of<R: Env + Alloc<A = Global>>(rt: &R, alloc: Global) -> io::Result<Vec<String>> {
