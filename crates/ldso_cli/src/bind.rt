@@ -31,7 +31,7 @@ pub(crate) struct Answer {
 
 /// The answer of a refusal.
 #[tactic(auto, unfolding(crate::specs::Status::refused_text))]
-fn refused(alloc: Global, fault: DlFault) -> Result<Answer, AllocError>
+pub(crate) fn refused(alloc: Global, fault: DlFault) -> Result<Answer, AllocError>
     ensures cause { IfOk result (λ answer. answer.cause ≡ Refused fault) }
     ensures text { IfOk result (λ answer. string_bytes answer.text ≡ refused_text fault) }
 {
