@@ -49,9 +49,9 @@ front_get added new i o longer lt e =
     elim (slice_get_cases added i).1 [
       | inr h ↦ absurd (omega (arith, h.0))
       | inl h ↦
-        let there : slice_get added i ≡ Some h.0 = h.2 in
-        let same : h.0 ≡ o = some_same h.0 o (sym (longer_get added new i h.0 longer there) ∙ e) in
-        let P : Loaded → Type 0 = λ q. slice_get added i ≡ Some q in subst P same there
+          let there : slice_get added i ≡ Some h.0 = h.2 in
+          let same : h.0 ≡ o = some_same h.0 o (sym (longer_get added new i h.0 longer there) ∙ e) in
+          let P : Loaded → Type 0 = λ q. slice_get added i ≡ Some q in subst P same there
     ]
 
 push_get : (xs : List Loaded) (x : Loaded) (i : ℕ) (o : Loaded) → length xs ≤ i → slice_get (xs ++ x ∷ []) i ≡ Some o → x ≡ o
@@ -117,18 +117,18 @@ names_named load added new [] found e i o le at =
 names_named load added new (name ∷ names) found e i o le at =
     let w = went (take_name load added name) (λ first. take_names load first.0 names >>= λ others. done {A = List Loaded × List ℕ} (others.0, first.1 ∷ others.1)) (new, found) e in
     let v = went (take_names load w.mid.0 names) (λ others. done {A = List Loaded × List ℕ} (others.0, w.mid.1 ∷ others.1)) (new, found) w.second in
-    let both : (v.mid.0, w.mid.1 ∷ v.mid.1) ≡ (new, found) = taken_is (v.mid.0, w.mid.1 ∷ v.mid.1) (new, found) v.second in
+    let both = taken_is {A = List Loaded × List ℕ} (v.mid.0, w.mid.1 ∷ v.mid.1) (new, found) v.second in
     let at' : slice_get v.mid.0 i ≡ Some o = rw (ap (λ (q : List Loaded × List ℕ). q.0) both) at in
     let all : w.mid.1 ∷ v.mid.1 ≡ found = ap (λ (q : List Loaded × List ℕ). q.1) both in
     let P : List ℕ → Type 0 = λ xs. Contains xs o.serial in
     subst P all (
-      elim (cases_Bool (nat_lt i (length w.mid.0))) [
-        | inr h ↦ Contains-append_right (w.mid.1 ∷ []) v.mid.1 o.serial (names_named load w.mid.0 v.mid.0 names v.mid.1 v.first i o (grind (arith, h)) at')
-        | inl h ↦
+    elim (cases_Bool (nat_lt i (length w.mid.0))) [
+      | inr h ↦ Contains-append_right (w.mid.1 ∷ []) v.mid.1 o.serial (names_named load w.mid.0 v.mid.0 names v.mid.1 v.first i o (grind (arith, h)) at')
+      | inl h ↦
           let lt : i < length w.mid.0 = grind (arith, h) in
           let here : slice_get w.mid.0 i ≡ Some o = front_get w.mid.0 v.mid.0 i o (names_longer load w.mid.0 v.mid.0 names v.mid.1 v.first) lt at' in
           Contains-append_left (w.mid.1 ∷ []) v.mid.1 o.serial (first_named added w.mid.0 w.mid.1 i o le here (taken_adds load added w.mid.0 name w.mid.1 (find_needed load.reading (load.there ++ added) load.folders name) w.first))
-      ])
+    ])
 
 -- ---- turns
 
@@ -189,18 +189,22 @@ turn_led : (root turns : ℕ) (load : Load) (added new : List Loaded) → HadTur
 turn_led root turns load added new had all =
     let longer : Longer added had.mid = names_longer load added had.mid (names_of load turns had.object) had.found had.taken in
     let at : slice_get had.mid turns ≡ Some had.object = longer_get added had.mid turns had.object longer had.at in
-    record { each = λ i o here.
-      let w : Was had.mid i o = was had.mid turns i had.object o had.found at (rw (← had.is) here) in
-      elim (cases_Bool (nat_lt i (length added))) [
-        | inl h ↦ old_led root turns load added new had i o w (grind (arith, h)) all
-        | inr h ↦ inr (new_led root turns load added new had i o w (grind (arith, h)))
-      ] }
+    record {
+      each = λ i o here.
+          let w : Was had.mid i o = was had.mid turns i had.object o had.found at (rw (← had.is) here) in
+          elim (cases_Bool (nat_lt i (length added))) [
+            | inl h ↦ old_led root turns load added new had i o w (grind (arith, h)) all
+            | inr h ↦ inr (new_led root turns load added new had i o w (grind (arith, h)))
+          ];
+    }
 
 root_led : (root : ℕ) (added : List Loaded) → (added ≡ []) ⊎ Led [] added root → AllLed root zero added
 root_led root added (inl none) = record { each = λ i o at. absurd (let d : None ≡ Some o = rw none at at in cc) }
-root_led root added (inr led) = record { each = λ i o at.
-  let same : led.object ≡ o = push_get [] led.object i o (omega arith) (rw led.is at at) in
-  inl (ap (λ (q : Loaded). q.serial) (sym same) ∙ led.found) }
+root_led root added (inr led) = record {
+  each = λ i o at.
+      let same : led.object ≡ o = push_get [] led.object i o (omega arith) (rw led.is at at) in
+      inl (ap (λ (q : Loaded). q.serial) (sym same) ∙ led.found);
+}
 
 same_root : (load : Load) (added : List Loaded) (root first : ℕ) → IsRoot load root → root_of load ≡ Ok (added, first) → first ≡ root
 same_root load added root first is e =

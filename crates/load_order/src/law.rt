@@ -24,8 +24,7 @@ pub fn serials_follow()
 pub fn found_by_name()
     ensures { (load : Load) (added : List Loaded) (root : ℕ) → Brings load added → IsRoot load root →
         (i : ℕ) (o : Loaded) → slice_get added i ≡ Some o → (o.serial ≡ root) ⊎ IsNamed added i o }
-{
-}
+{}
 
 /// A load stops for a missing library only where no path that its name may have has a file.
 pub fn missing_library()
