@@ -117,7 +117,7 @@ names_named load added new [] found e i o le at =
 names_named load added new (name ∷ names) found e i o le at =
     let w = went (take_name load added name) (λ first. take_names load first.0 names >>= λ others. done {A = List Loaded × List ℕ} (others.0, first.1 ∷ others.1)) (new, found) e in
     let v = went (take_names load w.mid.0 names) (λ others. done {A = List Loaded × List ℕ} (others.0, w.mid.1 ∷ others.1)) (new, found) w.second in
-    let both : (v.mid.0, w.mid.1 ∷ v.mid.1) ≡ (new, found) = taken_is (v.mid.0, w.mid.1 ∷ v.mid.1) (new, found) v.second in
+    let both = taken_is {A = List Loaded × List ℕ} (v.mid.0, w.mid.1 ∷ v.mid.1) (new, found) v.second in
     let at' : slice_get v.mid.0 i ≡ Some o = rw (ap (λ (q : List Loaded × List ℕ). q.0) both) at in
     let all : w.mid.1 ∷ v.mid.1 ≡ found = ap (λ (q : List Loaded × List ℕ). q.1) both in
     let P : List ℕ → Type 0 = λ xs. Contains xs o.serial in

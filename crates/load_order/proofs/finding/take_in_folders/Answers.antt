@@ -7,7 +7,7 @@ use Rattle.load_order.proofs.finding.take_in_folders.Goals as goal
 pub returns-in_err-found-clause-learns : goal.returns-in_err-found-clause-learns
 returns-in_err-found-clause-learns g c =
     let p = err_from_is_err_and c.from_residual.result c.from_residual.ensures.1 in
-    rw (p.1, p.2) (past_learns c.loop-folder.invariant c.in_err-found.ensures.learns)
+    rw (p.1, p.2) (past_learns {fault = Some c.in_err-found.field-0.0} c.loop-folder.invariant c.in_err-found.ensures.learns)
 
 pub returns-in_err-found-clause-gives : goal.returns-in_err-found-clause-gives
 returns-in_err-found-clause-gives g c =

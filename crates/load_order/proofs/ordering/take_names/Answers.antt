@@ -7,7 +7,7 @@ use Rattle.load_order.proofs.ordering.take_names.Goals as goal
 pub returns-in_err-serial-clause-learns : goal.returns-in_err-serial-clause-learns
 returns-in_err-serial-clause-learns g c =
     let p = err_from_is_err_and c.from_residual.result c.from_residual.ensures.1 in
-    rw (p.1, p.2) (named_learns c.loop-name.invariant c.in_err-serial.ensures.learns)
+    rw (p.1, p.2) (named_learns {fault = Some c.in_err-serial.field-0.0} c.loop-name.invariant c.in_err-serial.ensures.learns)
 
 pub returns-in_err-serial-clause-gives : goal.returns-in_err-serial-clause-gives
 returns-in_err-serial-clause-gives g c =
