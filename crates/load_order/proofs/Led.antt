@@ -1,5 +1,5 @@
 -- Every new object but the root was found by a name of one before it.
-use Rattle.std.proofs.Common.{◌≡◌, ◌≢◌, ◌<◌, ◌≤◌, ◌+◌, ◌⊎◌, inl, inr, ℕ, zero, suc, true, false, List, [], ◌∷◌, ◌++◌, length, length-append, Option, Some, None, Result, Ok, Err, refl, sym, ap, subst, ◌∙◌, arith}
+use Rattle.std.proofs.Common.{◌≡◌, ◌≢◌, ◌<◌, ◌≤◌, ◌+◌, ◌⊎◌, inl, inr, ℕ, zero, suc, List, [], ◌∷◌, ◌++◌, length, Option, Some, None, Ok, refl, sym, ap, subst, ◌∙◌, arith}
 use Rattle.std.specs.Prelude.{Contains, nat_lt, slice_set}
 use Rattle.std.specs.List.{slice_get}
 use Rattle.std.proofs.lemmas.Bool.{cases_Bool}
@@ -7,9 +7,9 @@ use Rattle.std.proofs.lemmas.Option.{slice_get_past, slice_get_within, slice_get
 use Rattle.std.proofs.lemmas.List.Elements.{Contains-append_left, Contains-append_right}
 use Rattle.ld_base.specs.declared.linking.Loaded.{Loaded}
 use Rattle.scope_rule.specs.Finding.{Found, linker, known, fresh, nowhere, unreadable, refused, find_needed}
-use Rattle.scope_rule.specs.Order.{Load, Stop, Brings, IsRoot, arrival, use_of, take_found, find_root, must_lead, take_name, take_names, names_of, turn_of, root_of, added_after, ◌>>=◌}
+use Rattle.scope_rule.specs.Order.{Load, Brings, IsRoot, arrival, use_of, take_found, find_root, must_lead, take_name, take_names, names_of, turn_of, root_of, added_after, ◌>>=◌}
 use Rattle.load_order.specs.Led.{IsNamed}
-use Rattle.load_order.proofs.Longer.{Longer, went, known_longer, longer_get, longer_same, name_longer, names_longer}
+use Rattle.load_order.proofs.Longer.{Longer, went, known_longer, longer_get, names_longer}
 use Rattle.load_order.proofs.Noting.{noted, HadTurn, turn_is}
 use Rattle.load_order.proofs.Reading.{done, added_is, serial_is, taken_is}
 

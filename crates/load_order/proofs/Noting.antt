@@ -6,7 +6,7 @@ use Rattle.std.proofs.lemmas.Option.{slice_get_cases, slice_get_read}
 use Rattle.std.proofs.Math.ListN.{length-set}
 use Rattle.ld_base.specs.declared.linking.Loaded.{Loaded}
 use Rattle.scope_rule.specs.Finding.{Reading, here}
-use Rattle.scope_rule.specs.Order.{Load, Stop, names_of, take_names, turn_of, ◌>>=◌}
+use Rattle.scope_rule.specs.Order.{Load, Stop, names_of, take_names, turn_of}
 use Rattle.load_order.specs.declared.ask.LoadAsk.{LoadAsk}
 use Rattle.load_order.specs.declared.ask.LoadFault.{LoadFault}
 use Rattle.load_order.specs.declared.progress.Progress.{Progress}

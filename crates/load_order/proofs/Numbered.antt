@@ -1,14 +1,14 @@
 -- The serials of a load's new objects follow one another.
-use Rattle.std.proofs.Common.{◌≡◌, ◌<◌, ◌+◌, ℕ, zero, suc, List, [], ◌∷◌, ◌++◌, length, length-append, get_or, Option, Some, None, Result, Ok, Err, refl, inl, inr, sym, ap, subst, ◌∙◌, arith, add-zero, add-one}
+use Rattle.std.proofs.Common.{◌≡◌, ◌+◌, ℕ, zero, suc, List, [], ◌∷◌, ◌++◌, length, length-append, get_or, Option, Some, None, Ok, refl, inl, inr, sym, ap, subst, ◌∙◌, arith, add-zero, add-one}
 use Rattle.std.specs.Prelude.{map, slice_set}
 use Rattle.std.specs.List.{range_with_len, slice_get}
 use Rattle.std.proofs.Math.ListN.{length-set}
 use Rattle.std.proofs.Math.Seq.{map-set_same}
 use Rattle.std.proofs.lemmas.List.{map-append}
-use Rattle.std.proofs.lemmas.Option.{get_or_from_slice_get, slice_get_cases}
+use Rattle.std.proofs.lemmas.Option.{get_or_from_slice_get}
 use Rattle.ld_base.specs.declared.linking.Loaded.{Loaded}
 use Rattle.scope_rule.specs.Finding.{Found, linker, known, fresh, nowhere, unreadable, refused, find_needed}
-use Rattle.scope_rule.specs.Order.{Load, Stop, Brings, arrival, use_of, take_found, find_root, must_lead, take_name, take_names, names_of, turn_of, root_of, added_after, ◌>>=◌}
+use Rattle.scope_rule.specs.Order.{Load, Brings, arrival, use_of, take_found, find_root, must_lead, take_name, take_names, names_of, turn_of, root_of, added_after, ◌>>=◌}
 use Rattle.load_order.proofs.Longer.{went, known_longer, must_lead_same, longer_get, names_longer}
 use Rattle.load_order.proofs.Noting.{noted, turn_is}
 use Rattle.load_order.proofs.Reading.{done, added_is, taken_is}

@@ -1,11 +1,11 @@
 -- A load comes to one thing, however many turns are counted.
-use Rattle.std.proofs.Common.{◌≡◌, ◌≤◌, ◌+◌, ◌-◌, ◌⊎◌, inl, inr, ℕ, zero, suc, true, false, List, length, Option, None, Result, Ok, Err, refl, sym, ap, ◌∙◌, arith, add-suc, add-zero}
+use Rattle.std.proofs.Common.{◌≡◌, ◌≤◌, ◌+◌, ◌-◌, ◌⊎◌, inl, inr, ℕ, zero, suc, List, length, None, Result, Ok, Err, refl, sym, ap, ◌∙◌, arith, add-suc, add-zero}
 use Rattle.std.specs.Prelude.{nat_le}
 use Rattle.std.specs.List.{slice_get}
 use Rattle.std.proofs.lemmas.Bool.{cases_Bool}
 use Rattle.std.proofs.lemmas.Option.{slice_get_past}
 use Rattle.ld_base.specs.declared.linking.Loaded.{Loaded}
-use Rattle.scope_rule.specs.Order.{Load, Stop, Brings, Stops, turn_of, added_after, ◌>>=◌}
+use Rattle.scope_rule.specs.Order.{Load, Stop, Brings, Stops, turn_of, added_after}
 
 -- one of two counts is the other and some more
 record Ahead (a b : ℕ) : Type 0 where

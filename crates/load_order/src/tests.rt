@@ -1,6 +1,5 @@
 //! Whether loads come to what the rules give: files laid out in a few words each.
 
-use crate::versions::missing_version;
 use crate::{LoadAsk, LoadFault, LoadPlan, plan_load};
 use elf_object::read_object;
 use ld_base::*;
@@ -189,88 +188,81 @@ fn ask(alloc: Global, name: &str, program: bool, preload: &str) -> Result<LoadAs
     })
 }
 
-/// A program's files and preload names, and what loading it comes to.
-const PROGRAMS: [(&str, &str, &str); 12] = [
-    ("prog", "", "prog\n 1\n"),
+/// What a load over these files comes to, of which the reads of these numbers fail.
+fn load(
+    alloc: Global,
+    ns: &Namespace,
+    ask: &LoadAsk,
+    text: &str,
+    fail: &[u64],
+) -> Result<Vec<u8>, AllocError> {
+    let files = files(alloc, text)?;
+    let fail = Calls::from_slice(alloc, fail)?;
+    let mut library = MemLibrary::new(alloc, files, fail);
+    outcome(alloc, &plan_load(alloc, ns, ask, &mut library))
+}
+
+/// A program's files and preload names, the number of the read that fails, and what loading it comes
+/// to.
+const PROGRAMS: [(&str, &str, u64, &str); 14] = [
+    ("prog", "", 0, "prog\n 1\n"),
     // A diamond: each object once, breadth-first.
     (
         "prog a b\nlib/a c\nlib/b c d\nlib/c\nlib/d",
         "",
+        0,
         "prog 2 3\nlib/a 4\nlib/b 4 5\nlib/c\nlib/d\n 1 2 3 4 5\n",
     ),
     // Circles, one of them of one library.
     (
         "prog a\nlib/a a b\nlib/b a",
         "",
+        0,
         "prog 2\nlib/a 2 3\nlib/b 2\n 1 2 3\n",
     ),
     // The first folder that has it; the program's path isn't a path of its name.
     (
         "prog a b\nlib/b prog\nalt/a\nalt/b\nlib/prog",
         "",
+        0,
         "prog 2 3\nalt/a\nlib/b 4\nlib/prog\n 1 2 3 4\n",
     ),
     // Preload names come before the program's own, and belong to it alone.
     (
         "prog a\nlib/a\nlib/p a\nlib/q",
         "q p",
+        0,
         "prog 2 3 4\nlib/q\nlib/p 4\nlib/a\n 1 2 3 4\n",
     ),
     // The linker's own object, which is in no list but that of what was found.
     (
         "prog ldso.so.1 a\nlib/a ldso.so.1\nlib/ldso.so.1",
         "",
+        0,
         "prog 0 2\nlib/a 0\n 1 2\n",
     ),
-    // A name twice.
-    ("prog a a\nlib/a", "", "prog 2 2\nlib/a\n 1 2\n"),
     // Names that lead nowhere: the first breadth-first.
-    ("lib/prog", "", "missing prog"),
-    ("prog a b\nlib/a c\nlib/b d", "", "missing c"),
-    ("prog a b\nlib/a c", "", "missing b"),
-    ("prog\nlib/a", "z", "missing z"),
+    ("lib/prog", "", 0, "missing prog"),
+    ("prog a b\nlib/a c\nlib/b d", "", 0, "missing c"),
+    ("prog a b\nlib/a c", "", 0, "missing b"),
+    ("prog\nlib/a", "z", 0, "missing z"),
     // A file that isn't accepted, for a name that is no plain name.
-    ("prog a\nlib/a x/y\nalt/a", "", "broken lib/a"),
+    ("prog a\nlib/a x/y\nalt/a", "", 0, "broken lib/a"),
+    // A failed read comes before what the load would meet later.
+    ("prog a b", "", 3, "unread alt/a"),
+    // No path is read twice: the sixth is that of `c` in the second folder.
+    ("prog a b\nalt/a\nlib/b a c d", "", 6, "unread alt/c"),
+    ("prog a b\nalt/a\nlib/b a c d", "", 7, "missing c"),
 ];
 
 #[test]
 fn loads_programs_in_order(rt: HostRuntime) -> Result<(), Fail> {
     let alloc = rt.alloc();
     let ns = namespace(alloc, Added::new(alloc));
-    for (text, preload, expected) in PROGRAMS {
+    for (text, preload, fail, expected) in PROGRAMS {
         let ask = ask(alloc, "prog", true, preload)?;
-        let mut library = MemLibrary::new(alloc, files(alloc, text)?, Calls::new(alloc));
-        let result = plan_load(alloc, &ns, &ask, &mut library);
-        let told = outcome(alloc, &result)?;
+        let told = load(alloc, &ns, &ask, text, &[fail])?;
         assert_eq!(rt; told.as_slice(), expected.as_bytes(), "{text}");
-    }
-    Ok(())
-}
-
-/// Which read fails, and what the load of a program comes to that needs `a` and `b`, and `a` is in
-/// the second folder.
-const READS: [(u64, &str); 6] = [
-    (1, "unread prog"),
-    (2, "unread lib/a"),
-    (3, "unread alt/a"),
-    (4, "unread lib/b"),
-    // No path is read twice: `b` needs `c`, which is nowhere, and `a`, which is known.
-    (6, "unread alt/c"),
-    (7, "missing c"),
-];
-
-#[test]
-fn a_failed_read_comes_first(rt: HostRuntime) -> Result<(), Fail> {
-    let alloc = rt.alloc();
-    let ns = namespace(alloc, Added::new(alloc));
-    for (number, expected) in READS {
-        let ask = ask(alloc, "prog", true, "")?;
-        let text = "prog a b\nalt/a\nlib/b a c d\nlib/d";
-        let fail = Calls::from_slice(alloc, &[number])?;
-        let mut library = MemLibrary::new(alloc, files(alloc, text)?, fail);
-        let result = plan_load(alloc, &ns, &ask, &mut library);
-        let told = outcome(alloc, &result)?;
-        assert_eq!(rt; told.as_slice(), expected.as_bytes(), "read {number}");
     }
     Ok(())
 }
@@ -304,17 +296,21 @@ fn there(
 fn objects_there(alloc: Global) -> Result<Added, Fail> {
     let (own, other) = (HartId::new(0), HartId::new(1));
     let mut objects = Added::new(alloc);
-    objects.push(there(alloc, 1, "lib/a", "s", State::Ready)?)?;
-    objects.push(there(alloc, 2, "lib/b", "s", State::Ready)?)?;
-    objects.push(there(alloc, 3, "lib/i", "", State::Initialising(other))?)?;
-    objects.push(there(alloc, 4, "lib/n", "", State::Initialising(own))?)?;
-    objects.push(there(alloc, 5, "lib/d", "", State::Dying(other))?)?;
-    objects.push(there(alloc, 6, "lib/m", "", State::Dying(own))?)?;
+    for (serial, path, soname, state) in [
+        (1, "lib/a", "s", State::Ready),
+        (2, "lib/b", "s", State::Ready),
+        (3, "lib/i", "", State::Initialising(other)),
+        (4, "lib/n", "", State::Initialising(own)),
+        (5, "lib/d", "", State::Dying(other)),
+        (6, "lib/m", "", State::Dying(own)),
+    ] {
+        objects.push(there(alloc, serial, path, soname, state)?)?;
+    }
     Ok(objects)
 }
 
 /// A name that is opened among those objects, and what it comes to.
-const OPENED: [(&str, &str); 13] = [
+const OPENED: [(&str, &str); 12] = [
     // Its own name comes before its path, and the first in load order before another.
     ("s", " 1\n"),
     ("lib/s", "lib/s\n 7\n"),
@@ -329,7 +325,6 @@ const OPENED: [(&str, &str); 13] = [
     ("y", "wait closing"),
     // The linker's own object has no name of its own here.
     ("ldso.so.1", "lib/ldso.so.1 0\n 7\n"),
-    ("none", "missing none"),
     ("", "missing "),
 ];
 
@@ -337,63 +332,12 @@ const OPENED: [(&str, &str); 13] = [
 fn finds_what_is_there(rt: HostRuntime) -> Result<(), Fail> {
     let alloc = rt.alloc();
     let ns = namespace(alloc, objects_there(alloc)?);
+    let files = "lib/s\nlib/x s x\nlib/y n d none\nlib/ldso.so.1 ldso.so.1";
     for (name, expected) in OPENED {
         let mut ask = ask(alloc, name, false, "none")?;
         ask.next = Serial::new(7);
-        let text = "lib/s\nlib/x s x\nlib/y n d none\nlib/ldso.so.1 ldso.so.1";
-        let mut library = MemLibrary::new(alloc, files(alloc, text)?, Calls::new(alloc));
-        let load = plan_load(alloc, &ns, &ask, &mut library);
-        let told = outcome(alloc, &load)?;
+        let told = load(alloc, &ns, &ask, files, &[])?;
         assert_eq!(rt; told.as_slice(), expected.as_bytes(), "{name}");
-    }
-    Ok(())
-}
-
-/// A version that an object needs, its flags and its file; whether it is there where file `a`
-/// defines `V1` and has the base `a`.
-const VERSIONS: [(&str, u16, &str, bool); 5] = [
-    ("V1", 0, "a", true),
-    ("V2", 0, "a", false),
-    ("V2", 2, "a", true),
-    ("a", 0, "a", false),
-    ("V2", 0, "b", true),
-];
-
-fn defines(alloc: Global, object: &mut Object, name: &str, flags: u16) -> Result<(), AllocError> {
-    let name = Name::new(alloc, name.as_bytes())?;
-    let index = 2;
-    object.verdefs.push(Verdef { index, flags, name })
-}
-
-/// Its first name is a preload name, and so doesn't count.
-fn needs(alloc: Global, name: &str, flags: u16, file: &str) -> Result<Loaded, Fail> {
-    let mut object = there(alloc, 7, "prog", "", State::Ready)?;
-    object.object.needed = names(alloc, "a")?;
-    object.found = Serials::from_slice(alloc, &[Serial::new(2), Serial::new(1)])?;
-    object.object.verneeds.push(Verneed {
-        index: 3,
-        flags,
-        file: Name::new(alloc, file.as_bytes())?,
-        name: Name::new(alloc, name.as_bytes())?,
-    })?;
-    Ok(object)
-}
-
-#[test]
-fn needed_versions_are_there(rt: HostRuntime) -> Result<(), Fail> {
-    let alloc = rt.alloc();
-    for (name, flags, file, is_there) in VERSIONS {
-        let mut objects = Added::new(alloc);
-        let mut definer = there(alloc, 1, "lib/a", "", State::Ready)?;
-        defines(alloc, &mut definer.object, "a", 1)?;
-        defines(alloc, &mut definer.object, "V1", 0)?;
-        objects.push(definer)?;
-        objects.push(there(alloc, 2, "lib/p", "", State::Ready)?)?;
-        let ns = namespace(alloc, objects);
-        let mut added = Added::new(alloc);
-        added.push(needs(alloc, name, flags, file)?)?;
-        let fault = missing_version(alloc, &ns, added.as_slice())?;
-        assert_eq!(rt; fault.is_none(), is_there, "{name} of {file}");
     }
     Ok(())
 }

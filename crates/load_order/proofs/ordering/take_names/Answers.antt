@@ -1,3 +1,4 @@
+use Rattle.std.proofs.Common.{Some, None}
 use Rattle.std.proofs.lemmas.Result.{err_from_is_err_and}
 use Rattle.load_order.proofs.Hearing.{learns_then}
 use Rattle.load_order.proofs.Taking.{learns_quiet}
@@ -19,7 +20,7 @@ returns-in_err-serial-clause-gives g c =
 pub returns-in_err-push-clause-learns : goal.returns-in_err-push-clause-learns
 returns-in_err-push-clause-learns g c =
     let p = err_from_is_err_and c.from_residual-in_err-push.result c.from_residual-in_err-push.ensures.1 in
-    rw (p.1, p.2) (learns_then _ _ _ _ _ _ _ _ (named_learns c.loop-name.invariant c.in_ok-serial.ensures.learns) (learns_quiet _ _ _ _ tt))
+    rw (p.1, p.2) (learns_then _ _ _ _ _ _ _ _ (named_learns {fault = None} c.loop-name.invariant c.in_ok-serial.ensures.learns) (learns_quiet _ _ _ _ tt))
 
 pub loop-name-preserved : goal.loop-name-preserved
 loop-name-preserved g c =
