@@ -1,0 +1,4 @@
+pub mod Among
+pub mod Missed
+pub mod Reaching
+pub mod Trips

@@ -1,0 +1,7 @@
+pub mod Follow
+pub mod Gnu
+pub mod Hash
+pub mod Reached
+pub mod Sysv
+pub mod Verdict
+pub mod Words
