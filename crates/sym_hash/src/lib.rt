@@ -16,6 +16,8 @@ mod gnu;
 mod hash;
 mod lookup;
 mod sysv;
+#[cfg(test)]
+mod tests;
 mod words;
 
 pub use hash::{gnu_hash, sysv_hash};
