@@ -1,8 +1,8 @@
 -- What is among the links of a walk that ends.
-use Rattle.std.proofs.Common.{◌≡◌, ◌≢◌, ◌∙◌, sym, ap, ℕ, zero, suc, ◌+◌, ◌-◌, ◌%◌, ◌^◌, ◌<◌, ◌≤◌, Bool, true, false, cond, List, [], ◌∷◌, length, refl, arith, inl, inr}
-use Rattle.std.specs.Prelude.{◌==◌, ◌&&◌, ◌||◌, not, nat_lt, nat_le, slice_index}
-use Rattle.std.proofs.lemmas.Bool.{and_from, cases_Bool, cases_eq, cases_lt, eq-eqb, eqb-true, le-leb, le-ltb, lt-leb, lt-ltb, ne_eqb, not_from_false}
-use Rattle.sym_hash.proofs.Trips.{follow-add, follow_stays, followed-add, followed_few, followed_none}
+use Rattle.std.proofs.Common.{◌≡◌, ◌≢◌, ◌∙◌, sym, ap, ℕ, zero, suc, ◌<◌, ◌≤◌, true, false, List, length, refl, arith, inl, inr}
+use Rattle.std.specs.Prelude.{◌==◌, slice_index}
+use Rattle.std.proofs.lemmas.Bool.{cases_eq, cases_lt, eq-eqb, le-ltb, lt-ltb, ne_eqb}
+use Rattle.sym_hash.proofs.Trips.{follow_stays}
 use Rattle.sym_hash.specs.Follow.{follow, followed, leads_on, step}
 use Rattle.sym_hash.specs.Sysv.{ends_within, is_among}
 

@@ -1,9 +1,9 @@
 -- Whether the symbols of a System V table are reached.
-use Rattle.std.proofs.Common.{◌≡◌, ◌≢◌, ◌∙◌, sym, ap, ℕ, zero, suc, ◌+◌, ◌-◌, ◌*◌, ◌/◌, ◌%◌, ◌^◌, ◌<◌, ◌≤◌, Bool, true, false, cond, List, [], ◌∷◌, length, map, refl, arith, inl, inr}
-use Rattle.std.specs.Prelude.{Option, Some, None, ◌==◌, ◌&&◌, not, nat_lt, nat_le, slice_index, unwrap_or, option_map, if◌then◌else◌}
+use Rattle.std.proofs.Common.{◌≡◌, ◌≢◌, ◌∙◌, sym, ap, ℕ, zero, suc, ◌+◌, ◌-◌, ◌%◌, ◌^◌, ◌<◌, ◌≤◌, Bool, true, false, List, [], ◌∷◌, length, map, refl, arith, inl, inr}
+use Rattle.std.specs.Prelude.{Option, Some, None, ◌==◌, ◌&&◌, not, nat_le, slice_index, if◌then◌else◌}
 use Rattle.std.specs.List.{list_all, slice_get}
 use Rattle.std.specs.Option.{option_or}
-use Rattle.std.proofs.lemmas.Bool.{and_from, and_parts, cases_Bool, cases_eq, cases_lt, eq-eqb, eqb-false, eqb-true, le-leb, lt-leb, ne_eqb, not-true, not_from_false}
+use Rattle.std.proofs.lemmas.Bool.{and_from, and_parts, cases_lt, eq-eqb, eqb-false, eqb-true, le-leb, lt-leb, ne_eqb, not-true}
 use Rattle.std.proofs.lemmas.List.{length-map}
 use Rattle.std.proofs.lemmas.Option.{slice_get-map, slice_get_past}
 use Rattle.ld_base.specs.declared.object.Symbol.{Symbol}
@@ -11,7 +11,7 @@ use Rattle.ld_base.specs.declared.parts.SysvPart.{SysvPart}
 use Rattle.sym_hash.proofs.Among.{ComesTo, among_from, among_is, ends_is}
 use Rattle.sym_hash.proofs.Missed.{same_missed}
 use Rattle.sym_hash.proofs.Trips.{follow-add, follow_stays, followed-add, followed_few, followed_none, outside}
-use Rattle.sym_hash.specs.Follow.{AreTrips, arrives, follow, followed, leads_on, start_to, trip, trip_from}
+use Rattle.sym_hash.specs.Follow.{AreTrips, arrives, follow, followed, start_to, trip, trip_from}
 use Rattle.sym_hash.specs.Hash.{sysv_hash}
 use Rattle.sym_hash.specs.Sysv.{ends_within, is_among, sysv_bucket, sysv_reaches, sysv_walks_end}
 use Rattle.sym_hash.specs.Verdict.{first_missed}

@@ -1,7 +1,6 @@
 -- Following links, many at once.
-use Rattle.std.proofs.Common.{◌≡◌, ◌∙◌, sym, ap, ℕ, zero, suc, ◌+◌, ◌*◌, ◌/◌, ◌%◌, ◌^◌, ◌<◌, ◌≤◌, Bool, true, false, cond, min, List, [], ◌∷◌, length, map, get_or, refl, arith, inl, inr, add-one, zero-add}
-use Rattle.std.specs.Prelude.{Option, Some, None, ◌==◌, ◌&&◌, not, nat_lt, slice_index, option_map}
-use Rattle.std.specs.Option.{option_map_or}
+use Rattle.std.proofs.Common.{◌≡◌, ◌∙◌, sym, ap, ℕ, zero, suc, ◌+◌, ◌*◌, ◌/◌, ◌%◌, ◌^◌, ◌<◌, ◌≤◌, Bool, true, false, cond, min, List, [], ◌∷◌, length, map, refl, arith, inl, inr, add-one, zero-add}
+use Rattle.std.specs.Prelude.{Some, None}
 use Rattle.std.specs.List.{slice_get}
 use Rattle.std.proofs.Math.Nat.{two-pow-succ}
 use Rattle.std.proofs.Math.Pow.{pow_mono, pow_pos}
@@ -18,7 +17,7 @@ follow-add chain zero k at = rw zero-add refl
 follow-add chain (suc m) k at = let more : suc m + k ≡ suc (m + k) = omega arith in rw more (follow-add chain m k (step chain at))
 
 pub followed-add : (chain : List ℕ) (m k at : ℕ) → followed chain (m + k) at ≡ followed chain m at + followed chain k (follow chain m at)
-followed-add chain zero k at = rw (zero-add, zero-add) refl
+followed-add chain zero k at = rw (zero-add k, zero-add (followed chain k at)) refl
 followed-add chain (suc m) k at =
     let more : suc m + k ≡ suc (m + k) = omega arith in
     rw more (let rest = followed-add chain m k (step chain at) in omega arith)

@@ -1,5 +1,5 @@
 -- Following many links of a System V chain at once, and counting them.
-use Rattle.std.specs.Prelude.{◌≡◌, ◌<◌, ◌*◌, Some, unwrap_or, ℕ, zero, suc, ◌+◌, ◌-◌, ◌/◌, ◌%◌, ◌^◌, ◌==◌, ◌&&◌, Bool, not, nat_lt, nat_le, min, if◌then◌else◌, List, length, slice_index}
+use Rattle.std.specs.Prelude.{◌≡◌, ◌<◌, Some, unwrap_or, ℕ, zero, suc, ◌+◌, ◌-◌, ◌/◌, ◌%◌, ◌^◌, ◌==◌, ◌&&◌, Bool, not, nat_lt, nat_le, min, if◌then◌else◌, List, length, slice_index}
 use Rattle.std.specs.List.{slice_get}
 use Rattle.std.specs.Option.{option_map_or}
 use Rattle.sym_hash.specs.declared.follow.Start.{Start}

@@ -1,3 +1,4 @@
+pub mod Breaks
 pub mod Follow
 pub mod Gnu
 pub mod Hash

@@ -1,6 +1,6 @@
 -- The words of hash tables in a file (gABI, "Hash Table").
-use Rattle.std.specs.Prelude.{ℕ, ◌+◌, ◌-◌, ◌*◌, ◌/◌, ◌==◌, nat_lt, nat_le, max, if◌then◌else◌, List, [], length, drop, take, fold, position, Option, Some, None, Result, Ok, option_map, option_and_then}
-use Rattle.std.specs.Option.{option_map_or, ok_or}
+use Rattle.std.specs.Prelude.{ℕ, ◌+◌, ◌-◌, ◌*◌, ◌/◌, ◌==◌, nat_lt, nat_le, max, if◌then◌else◌, List, [], length, drop, take, fold, position, Option, Some, None, Result, Ok, option_map}
+use Rattle.std.specs.Option.{ok_or}
 use Rattle.ld_base.specs.Field.{field}
 use Rattle.ld_base.specs.declared.fault.NotAccepted.{NotAccepted}
 use Rattle.ld_base.specs.declared.parts.GnuPart.{GnuPart}

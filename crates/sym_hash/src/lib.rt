@@ -14,6 +14,7 @@
 mod follow;
 mod gnu;
 mod hash;
+mod law;
 mod lookup;
 mod sysv;
 #[cfg(test)]
@@ -21,4 +22,5 @@ mod tests;
 mod words;
 
 pub use hash::{gnu_hash, sysv_hash};
+pub use law::one_verdict;
 pub use lookup::Lookup;

@@ -1,6 +1,6 @@
 //! Whether the rule is that of the formats: tables laid out word by word.
 
-use crate::{Lookup, gnu_hash, sysv_hash};
+use crate::{Lookup, gnu_hash, one_verdict, sysv_hash};
 use elf_dynamic::{DT_GNU_HASH, DT_HASH};
 use elf_head::read_head;
 use ld_base::{
@@ -302,6 +302,7 @@ fn hashes_names(rt: HostRuntime) {
 
 #[test]
 fn judges_tables(rt: HostRuntime) -> Result<(), Fail> {
+    one_verdict();
     for (index, Case(changes, number)) in GNU_CASES.iter().enumerate() {
         let told = verdict(rt.alloc(), *changes, &[SYSV_TAG, GNU_TAG], 2)?;
         assert_eq!(rt; told, *number, "GNU table {index}");

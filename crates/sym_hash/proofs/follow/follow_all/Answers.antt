@@ -1,7 +1,7 @@
 use Rattle.std.proofs.Common.{◌≡◌, ◌∙◌, ap, map, arith}
 use Rattle.std.proofs.lemmas.Result.{IfOk-weaker}
 use Rattle.sym_hash.specs.declared.follow.Walk.{Walk}
-use Rattle.sym_hash.proofs.Trips.{all_bits, begin, carry, double, walked}
+use Rattle.sym_hash.proofs.Trips.{all_bits, carry, double, walked}
 use Rattle.sym_hash.proofs.follow.follow_all.Goals as goal
 
 pub loop-bit-preserved : goal.loop-bit-preserved

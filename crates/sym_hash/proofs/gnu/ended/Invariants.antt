@@ -1,4 +1,4 @@
-use Rattle.std.proofs.Common.{◌≡◌, ℕ, ◌≤◌, take, drop, nat_lt}
+use Rattle.std.proofs.Common.{◌≡◌, ℕ, take, drop, nat_lt}
 use Rattle.std.specs.List.{list_any}
 use Rattle.sym_hash.specs.Gnu.{is_end}
 use Rattle.sym_hash.proofs.gnu.ended.Given as goal

@@ -1,4 +1,4 @@
-use Rattle.std.proofs.Common.{◌≡◌, ◌∙◌, sym, ap, length}
+use Rattle.std.proofs.Common.{◌≡◌, ◌∙◌, sym, length}
 use Rattle.sym_hash.specs.Follow.{AreTrips}
 use Rattle.sym_hash.specs.Sysv.{sysv_reaches, sysv_walks_end}
 use Rattle.sym_hash.specs.Verdict.{first_missed}
