@@ -1,12 +1,11 @@
 -- What a reading says, as a relation.
-use Rattle.std.proofs.Common.{◌≡◌, ◌↔◌, ℕ, zero, suc, ◌+◌, ◌-◌, ◌<◌, ◌≤◌, Bool, true, false, not, cond, ltb, List, [], ◌∷◌, ◌++◌, length, take, drop, get_or, Option, Some, None, Result, Ok, Err, refl, sym, ◌∙◌, ap, subst, ◌⊎◌, add-one, append_assoc, arith, inl, inr, length-append}
-use Rattle.std.specs.Prelude.{position, IsTrue, option_map}
+use Rattle.std.proofs.Common.{◌≡◌, ℕ, zero, suc, ◌+◌, ◌-◌, ◌<◌, Bool, true, false, not, List, [], ◌∷◌, ◌++◌, length, take, drop, Option, Some, None, Result, Ok, Err, refl, sym, ◌∙◌, ap, ◌⊎◌, append_assoc, arith, inl, inr, length-append}
+use Rattle.std.specs.Prelude.{option_map}
 use Rattle.std.specs.Option.{ok_or}
 use Rattle.std.specs.List.{slice_get, AllPass, position_or_len}
 use Rattle.std.proofs.Math.Seq.{take-append-add}
 use Rattle.std.proofs.lemmas.Bool.{cases_Bool, cases_lt, lt-ltb, le-ltb}
 use Rattle.std.proofs.lemmas.List.{take-append-drop, length-take, nil_from_length}
-use Rattle.std.proofs.lemmas.Option.{slice_get_within}
 use Rattle.elf_dynamic.specs.Before.{before, StandsBefore}
 use Rattle.elf_dynamic.specs.Entries.{◌>>=◌, entries_of, AreEntries}
 

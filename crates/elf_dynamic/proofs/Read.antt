@@ -5,7 +5,7 @@ use Rattle.ld_base.specs.declared.fault.NotAccepted.{NotAccepted}
 use Rattle.ld_base.specs.declared.fault.ReadFault.{ReadFault}
 use Rattle.ld_base.specs.declared.fault.ReadFault.TheVariants as faults
 use Rattle.elf_head.specs.Gives.{Faults}
-use Rattle.elf_dynamic.specs.Entries.{◌>>=◌, entries_of}
+use Rattle.elf_dynamic.specs.Entries.{entries_of}
 
 -- one entry more
 pub entries_more : {X E : Type 0} (entry : ℕ → Result X E) (i : ℕ) (xs : List X) (x : X) → entries_of entry i ≡ Ok xs → entry i ≡ Ok x → entries_of entry (i + 1) ≡ Ok (xs ++ x ∷ [])

@@ -1,5 +1,5 @@
 -- What stands before a mark in a list.
-use Rattle.std.specs.Prelude.{◌≡◌, Bool, true, not, List, ◌∷◌, ◌++◌, Option, option_map, position, take, IsTrue}
+use Rattle.std.specs.Prelude.{◌≡◌, Bool, not, List, ◌∷◌, ◌++◌, Option, option_map, position, take, IsTrue}
 use Rattle.std.specs.List.{AllPass}
 
 -- the elements before the first that passes; none where none passes

@@ -1,5 +1,5 @@
 -- Strings of a string table (gABI, "String Table").
-use Rattle.std.specs.Prelude.{◌≡◌, ℕ, ◌<◌, ◌==◌, List, length, take, drop, slice_index, Option, Result}
+use Rattle.std.specs.Prelude.{ℕ, ◌<◌, ◌==◌, List, length, take, drop, slice_index, Option, Result}
 use Rattle.std.specs.Option.{ok_or}
 use Rattle.ld_base.specs.declared.fault.NotAccepted.{NotAccepted}
 use Rattle.elf_dynamic.specs.Before.{before, StandsBefore}

@@ -4,7 +4,7 @@ use crate::{
     DT_NEEDED, DT_RELA, count_of, last_of, one_reading, read_name, read_names, read_relocs,
     read_symbols, read_tags, string_at, values_of,
 };
-use ld_base::{NotAccepted, ReadFault, Reloc, Tag};
+use ld_base::{NotAccepted, ReadFault, Reloc, Symbol, Symbols, Tag};
 use std::test::Fail;
 
 /// Two whole entries, and no NULL before the bytes end.
@@ -97,32 +97,29 @@ fn bounds_a_string(rt: HostRuntime) -> Result<(), Fail> {
     Ok(())
 }
 
+fn is_symbol(symbol: &Symbol, name: &[u8], [info, other, shndx, value, size]: [u64; 5]) -> bool {
+    symbol.name.is(name)
+        && u64::from(symbol.info) == info
+        && u64::from(symbol.other) == other
+        && u64::from(symbol.shndx) == shndx
+        && symbol.value == value
+        && symbol.size == size
+        && symbol.version == 0
+}
+
+fn has_symbols(symbols: &Symbols) -> bool {
+    match symbols.as_slice() {
+        [f, o] => {
+            is_symbol(f, b"f", [0x12, 3, 0x107, 0x10, 0x20])
+                && is_symbol(o, b"o", [0x22, 0, 0xfff1, 0x0102_0304_0506_0708, 1 << 63])
+        }
+        _ => false,
+    }
+}
+
 #[test]
 fn reads_each_field_at_its_place(rt: HostRuntime) -> Result<(), Fail> {
-    let symbols = read_symbols(rt.alloc(), &SYMBOLS, &STRINGS, 2)?;
-    let want = [
-        (b"f".as_slice(), 0x12, 3, 0x107, 0x10, 0x20),
-        (
-            b"o".as_slice(),
-            0x22,
-            0,
-            0xfff1,
-            0x0102_0304_0506_0708,
-            1 << 63,
-        ),
-    ];
-    assert_eq!(rt; symbols.len(), 2);
-    for (symbol, (name, info, other, shndx, value, size)) in symbols.as_slice().iter().zip(want) {
-        assert_eq!(rt; symbol.name.as_bytes(), name);
-        assert_eq!(rt;
-            (symbol.info, symbol.other, symbol.shndx),
-            (info, other, shndx)
-        );
-        assert_eq!(rt;
-            (symbol.value, symbol.size, symbol.version),
-            (value, size, 0)
-        );
-    }
+    assert!(rt; has_symbols(&read_symbols(rt.alloc(), &SYMBOLS, &STRINGS, 2)?));
     let relocs = read_relocs(rt.alloc(), &RELOCS)?;
     let want = [
         Reloc {

@@ -1,9 +1,7 @@
 -- The verdict on a file and the relation that spells an object say the same.
-use Rattle.std.proofs.Common.{◌≡◌, ◌↔◌, ℕ, ◌*◌, Bool, true, false, cond, List, [], length, Option, Some, None, Result, Ok, Err, refl, sym, ◌∙◌, ap, subst, arith, inl, inr}
-use Rattle.std.specs.Prelude.{find, IsTrue}
-use Rattle.std.specs.Option.{ok_or}
+use Rattle.std.proofs.Common.{◌≡◌, ◌↔◌, ℕ, ◌*◌, Bool, true, false, cond, List, length, Option, Some, None, Result, Ok, Err, refl, sym, ◌∙◌, ap, subst}
+use Rattle.std.specs.Prelude.{find}
 use Rattle.std.specs.List.{list_all, list_any}
-use Rattle.std.proofs.lemmas.Bool.{cases_Bool}
 use Rattle.ld_base.specs.declared.fault.NotAccepted.{NotAccepted}
 use Rattle.ld_base.specs.declared.object.Kind.{Kind}
 use Rattle.ld_base.specs.declared.object.ObjFlags.{ObjFlags}
@@ -26,8 +24,8 @@ use Rattle.elf_dynamic.specs.Entries.{◌>>=◌}
 use Rattle.elf_dynamic.specs.Name.{names_at, AreNames}
 use Rattle.elf_dynamic.specs.Reloc.{relocs_of}
 use Rattle.elf_dynamic.specs.Symbol.{symbols_of, AreSymbols}
-use Rattle.elf_dynamic.specs.Tag.{tags_of, last_of, values_of, EndsAtNull}
-use Rattle.elf_dynamic.specs.TagNumbers.{dt_hash, dt_strtab, dt_strsz, dt_symtab, dt_jmprel, dt_pltrelsz, dt_needed, dt_pltgot}
+use Rattle.elf_dynamic.specs.Tag.{tags_of, values_of, EndsAtNull}
+use Rattle.elf_dynamic.specs.TagNumbers.{dt_hash, dt_strtab, dt_strsz, dt_symtab, dt_jmprel, dt_pltrelsz, dt_needed}
 use Rattle.elf_object.specs.declared.reader.Tables.{Tables}
 use Rattle.elf_object.specs.Form.{value_of, is_form, is_plain_name, is_plain_symbol, is_slot}
 use Rattle.elf_object.specs.Parts.{Parts, StandIn, symbol_count}

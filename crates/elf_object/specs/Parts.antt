@@ -32,7 +32,7 @@ pub record Parts : Type 0 where
 abbrev pub symbol_count : List ℕ → ℕ
 symbol_count counts = field 4 counts 4
 
--- each part stands where the parts before it say
+-- each part stands where the parts before it say; the rules of the head allow no second dynamic table
 pub record StandIn (bytes : List ℕ) (p : Parts) : Type 0 where
   pub head : SpellsHead bytes p.head
   pub dynamic : find (is_kind PT_DYNAMIC) p.head.headers ≡ Some p.dynamic

@@ -18,14 +18,14 @@ pub record Say (bytes : List ℕ) (p : Parts) (o : Object) : Type 0 where
   pub segments : o.segments ≡ segments_of bytes p.head.headers
   pub relro : o.relro ≡ relro_of p.head.headers
   pub dynamic : o.dynamic ≡ p.dynamic.vaddr
-  -- the i-th name is the string at the offset of the i-th dt_needed, and no path
+  -- the i-th name is the string at the offset of the i-th DT_NEEDED, and no path
   pub needed : AreNames p.strings (values_of p.tags dt_needed) o.needed
   pub plain_names : IsTrue (list_all is_plain_name o.needed)
   -- the i-th symbol is the one at its place
   pub symbols : AreSymbols p.symbols p.strings (symbol_count p.counts) o.symbols
   pub plain_symbols : IsTrue (list_all is_plain_symbol o.symbols)
   pub first_exported : o.first_exported ≡ 1
-  -- the relocations of dt_jmprel are slots for these symbols
+  -- the relocations of DT_JMPREL are slots for these symbols
   pub plt_relocs : o.plt_relocs ≡ relocs_of p.slots
   pub slots : IsTrue (list_all (is_slot (length o.symbols)) o.plt_relocs)
   pub pltgot : o.pltgot ≡ last_of p.tags dt_pltgot

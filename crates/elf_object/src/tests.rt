@@ -2,7 +2,7 @@
 
 use crate::{one_object, read_object};
 use elf_head::{PT_DYNAMIC, PT_GNU_RELRO, PT_LOAD, PT_TLS};
-use ld_base::{Kind, NotAccepted, ReadFault, Reloc, Span};
+use ld_base::{Kind, NotAccepted, Object, ReadFault, Reloc, Segment, Span, Symbol};
 use std::alloc::{AllocError, Global};
 use std::test::Fail;
 
@@ -258,53 +258,52 @@ fn refuses_every_other_form(rt: HostRuntime) -> Result<(), Fail> {
     Ok(())
 }
 
-#[test]
-fn reads_each_field_at_its_place(rt: HostRuntime) -> Result<(), Fail> {
-    one_object();
-    let bytes = file(rt.alloc())?;
-    let (object, table) = read_object(rt.alloc(), &bytes, true)?;
-    assert_eq!(rt; object.kind, Kind::Dyn);
-    assert_eq!(rt; object.entry, 0x300);
-    assert!(rt; object.soname.is_none());
-    assert_eq!(rt; object.needed.len(), 2);
-    for (name, text) in object.needed.as_slice().iter().zip([b"a.so", b"b.so"]) {
-        assert_eq!(rt; name.as_bytes(), text.as_slice());
+fn has_names(object: &Object) -> bool {
+    match object.needed.as_slice() {
+        [first, second] => first.is(b"a.so") && second.is(b"b.so"),
+        _ => false,
     }
-    let segments = [(0, 0x480, 5, 0x400), (0x1000, 0x1800, 6, 0x200)];
-    assert_eq!(rt; object.segments.len(), 2);
-    for (segment, want) in object.segments.as_slice().iter().zip(segments) {
-        let got = (
-            segment.vaddr,
-            segment.memsz,
-            segment.flags,
-            segment.bytes.len(),
-        );
-        assert_eq!(rt; got, want);
-        assert_eq!(rt; segment.align, 0x1000);
+}
+
+fn is_segment(segment: &Segment, flags: u32, [vaddr, memsz, filesz]: [u64; 3]) -> bool {
+    segment.flags == flags
+        && segment.align == 0x1000
+        && segment.vaddr == vaddr
+        && segment.memsz == memsz
+        && segment.bytes.len() as u64 == filesz
+}
+
+fn has_segments(object: &Object) -> bool {
+    match object.segments.as_slice() {
+        [code, data] => {
+            is_segment(code, 5, [0, 0x480, 0x400]) && is_segment(data, 6, [0x1000, 0x1800, 0x200])
+        }
+        _ => false,
     }
-    let symbols = [
-        (b"".as_slice(), 0, 0, 0, 0, 0),
-        (b"f".as_slice(), 0x12, 0, 0, 0, 0),
-        (b"g".as_slice(), 0x22, 3, 7, 0x310, 0x20),
-    ];
-    assert_eq!(rt; object.symbols.len(), 3);
-    for (symbol, (name, info, other, shndx, value, size)) in object
-        .symbols
-        .as_slice()
-        .iter()
-        .zip(symbols)
-    {
-        assert_eq!(rt; symbol.name.as_bytes(), name);
-        assert_eq!(rt;
-            (symbol.info, symbol.other, symbol.shndx),
-            (info, other, shndx)
-        );
-        assert_eq!(rt;
-            (symbol.value, symbol.size, symbol.version),
-            (value, size, 0)
-        );
+}
+
+fn is_symbol(symbol: &Symbol, name: &[u8], [info, other, shndx, value, size]: [u64; 5]) -> bool {
+    symbol.name.is(name)
+        && u64::from(symbol.info) == info
+        && u64::from(symbol.other) == other
+        && u64::from(symbol.shndx) == shndx
+        && symbol.value == value
+        && symbol.size == size
+        && symbol.version == 0
+}
+
+fn has_symbols(object: &Object) -> bool {
+    match object.symbols.as_slice() {
+        [null, f, g] => {
+            is_symbol(null, b"", [0; 5])
+                && is_symbol(f, b"f", [0x12, 0, 0, 0, 0])
+                && is_symbol(g, b"g", [0x22, 3, 7, 0x310, 0x20])
+        }
+        _ => false,
     }
-    assert_eq!(rt; object.first_exported, 1);
+}
+
+fn has_slots(object: &Object) -> bool {
     let slots = [
         Reloc {
             place: 0x1190,
@@ -319,16 +318,23 @@ fn reads_each_field_at_its_place(rt: HostRuntime) -> Result<(), Fail> {
             addend: 9,
         },
     ];
-    assert_eq!(rt; object.plt_relocs.as_slice(), slots.as_slice());
-    assert_eq!(rt; object.pltgot, Some(0x1180));
-    assert_eq!(rt;
-        object.relro,
-        Some(Span {
-            start: 0x1000,
-            size: 0x180
-        })
-    );
-    assert_eq!(rt; object.dynamic, 0x1000);
+    object.plt_relocs.as_slice() == slots.as_slice()
+}
+
+#[test]
+fn reads_each_field_at_its_place(rt: HostRuntime) -> Result<(), Fail> {
+    one_object();
+    let bytes = file(rt.alloc())?;
+    let (object, table) = read_object(rt.alloc(), &bytes, true)?;
+    assert_eq!(rt; (object.kind, object.entry), (Kind::Dyn, 0x300));
+    assert!(rt; has_names(&object) && has_segments(&object));
+    assert!(rt; has_symbols(&object) && has_slots(&object));
+    assert_eq!(rt; (object.pltgot, object.dynamic), (Some(0x1180), 0x1000));
+    let relro = Span {
+        start: 0x1000,
+        size: 0x180,
+    };
+    assert_eq!(rt; object.relro, Some(relro));
     assert!(rt; table.gnu.is_none() && table.sysv.is_none());
     Ok(())
 }

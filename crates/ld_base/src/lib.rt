@@ -30,3 +30,6 @@ pub use parts::{
 };
 pub use sequence::{Bytes, Names, Sequence, Serials};
 pub use symbols::Symbols;
+
+#[cfg(test)]
+mod tests;

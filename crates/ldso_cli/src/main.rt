@@ -1,6 +1,41 @@
-//! The linker's command.
+//! The command `ldso`: which definition each procedure linkage slot of a program gets.
+//!
+//! [`ldso`] is the whole of it, over any library of files and any sink of bytes; `main` calls it over
+//! the files of the system and standard output, and ends with its status.
 #![tactic(auto)]
 
+mod bind;
+mod lines;
+mod outcome;
+mod refusal;
+mod top;
 mod words;
 
-fn main() {}
+use library_source::{FolderLibrary, IoSink};
+pub use outcome::{Cause, Outcome};
+use std::alloc::{AllocError, Global};
+use std::process::ExitCode;
+use std::rt::Env;
+use std::{env, io};
+pub use top::ldso;
+
+/// The words after the program's name.
+fn words_of<R: Env + Alloc<A = Global>>(rt: &R, alloc: Global) -> io::Result<Vec<String>> {
+    let mut words = Vec::new(alloc);
+    for word in env::args(rt)?.skip(1) {
+        words.push(word)?;
+    }
+    Ok(words)
+}
+
+fn main(rt: HostRuntime) -> io::Result<ExitCode> {
+    let alloc = rt.alloc();
+    let words = words_of(&rt, alloc)?;
+    let library = FolderLibrary::new(rt.clone()?, alloc);
+    let mut out = IoSink::new(io::writer(&rt));
+    let (outcome, _library) = ldso(&rt, alloc, words, library, &mut out);
+    Ok(ExitCode::from(outcome.status))
+}
+
+#[cfg(test)]
+mod tests;

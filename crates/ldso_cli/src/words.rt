@@ -1,8 +1,8 @@
 //! The words of the command line.
 
-ghost use Rattle.std.specs.Prelude.{◌≡◌, ◌&&◌, IfOk, nat_lt, nat_le, length, map};
-ghost use Rattle.std.specs.List.{list_all};
-ghost use Rattle.ldso_cli.specs.Words.{has_dash, is_option, parts_of, are_parts};
+ghost use Rattle.std.specs.Prelude.{◌≡◌, IfOk, map, option_map};
+ghost use Rattle.ldso_cli.specs.Words.{has_dash, is_option, parts_of, none_is_empty, are_parts, are_short, folders_of, preload_of, value_first, flag_first, only_word, read_bind, reads};
+ghost use Rattle.std.specs.Option.{option_copied};
 
 use ld_base::{Name, Names};
 use std::alloc::{AllocError, Global};
@@ -39,18 +39,146 @@ fn parts_of(alloc: Global, value: &[u8]) -> Result<Names, AllocError>
     Ok(names)
 }
 
-/// Whether there are 1 to 16 parts, none empty and none longer than so many bytes.
-fn are_parts(parts: &[Name], most: usize) -> bool
-    ensures { result ≡ are_parts most parts.now }
+fn none_is_empty(parts: &[Name]) -> bool
+    ensures { result ≡ none_is_empty parts.now }
 {
-    parts.len() <= 16 && all_within(parts, most)
+    parts.iter().all(|part| !part.as_bytes().is_empty())
 }
 
-fn all_within(parts: &[Name], most: usize) -> bool
-    ensures { result ≡ list_all (λ part. nat_lt 0 (length part) && nat_le (length part) most) parts.now }
+/// Whether there are 1 to 16 parts, none of them empty.
+fn are_parts(parts: &[Name]) -> bool
+    ensures { result ≡ are_parts parts.now }
 {
-    parts.iter().all(|part| {
-        let length = part.as_bytes().len();
-        0 < length && length <= most
-    })
+    parts.len() <= 16 && none_is_empty(parts)
+}
+
+/// Whether no part is longer than a folder's path may be.
+fn are_short(parts: &[Name]) -> bool
+    ensures { result ≡ are_short parts.now }
+{
+    parts.iter().all(|part| part.as_bytes().len() <= 1000)
+}
+
+/// The folders of `--lib`, none where it doesn't stand.
+fn folders_of(alloc: Global, value: Option<&Name>) -> Result<Option<Names>, AllocError>
+    ensures { IfOk result (λ folders. folders ≡ folders_of (option_copied value.entry)) }
+{
+    match value {
+        None => Ok(Some(Names::new(alloc))),
+        Some(value) => {
+            let parts = parts_of(alloc, value.as_bytes())?;
+            if are_parts(parts.as_slice()) && are_short(parts.as_slice()) {
+                Ok(Some(parts))
+            } else {
+                Ok(None)
+            }
+        }
+    }
+}
+
+/// The names of `--preload`, none where it doesn't stand.
+fn preload_of(alloc: Global, value: Option<&Name>) -> Result<Option<Names>, AllocError>
+    ensures { IfOk result (λ names. names ≡ preload_of (option_copied value.entry)) }
+{
+    match value {
+        None => Ok(Some(Names::new(alloc))),
+        Some(value) => {
+            let parts = parts_of(alloc, value.as_bytes())?;
+            if are_parts(parts.as_slice()) {
+                Ok(Some(parts))
+            } else {
+                Ok(None)
+            }
+        }
+    }
+}
+
+/// An option and its value where the words begin with them, and the other words; none where the
+/// value has a dash.
+fn value_first<'a>(option: &[u8], words: &'a [Name]) -> Option<(Option<&'a Name>, &'a [Name])>
+    ensures { option_map (λ first. (option_copied first.0, first.1.now)) result ≡ value_first option.now words.now }
+{
+    match words {
+        [word, value, rest @ ..] if word.is(option) => {
+            if has_dash(value.as_bytes()) {
+                None
+            } else {
+                Some((Some(value), rest))
+            }
+        }
+        _ => Some((None, words)),
+    }
+}
+
+/// Whether the words begin with a flag, and the other words.
+fn flag_first<'a>(flag: &[u8], words: &'a [Name]) -> (bool, &'a [Name])
+    ensures { (result.0, result.1.now) ≡ flag_first flag.now words.now }
+{
+    match words {
+        [word, rest @ ..] if word.is(flag) => (true, rest),
+        _ => (false, words),
+    }
+}
+
+/// The one word that is left, which is no option.
+fn only_word(words: &[Name]) -> Option<&Name>
+    ensures { option_copied result ≡ only_word words.now }
+{
+    match words {
+        [word] if !is_option(word.as_bytes()) => Some(word),
+        _ => None,
+    }
+}
+
+/// What is asked of `bind`.
+#[derive(Debug, Drop)]
+pub struct Bind {
+    /// Where libraries are searched, in order.
+    pub folders: Names,
+    /// What is loaded before the program's own libraries.
+    pub preload: Names,
+    /// Whether every slot has to have a definition.
+    pub now: bool,
+    /// The program's path.
+    pub program: Name,
+}
+
+#[tactic(auto, unfolding(crate::specs::Words::read_bind))]
+fn read_bind(alloc: Global, words: &[Name]) -> Result<Option<Bind>, AllocError>
+    ensures { IfOk result (λ bind. bind ≡ read_bind words.now) }
+{
+    let Some((lib, words)) = value_first(b"--lib", words) else {
+        return Ok(None);
+    };
+    let Some(folders) = folders_of(alloc, lib)? else {
+        return Ok(None);
+    };
+    let Some((names, words)) = value_first(b"--preload", words) else {
+        return Ok(None);
+    };
+    let Some(preload) = preload_of(alloc, names)? else {
+        return Ok(None);
+    };
+    let (now, words) = flag_first(b"--now", words);
+    let Some(program) = only_word(words) else {
+        return Ok(None);
+    };
+    let program = Name::new(alloc, program.as_bytes())?;
+    Ok(Some(Bind {
+        folders,
+        preload,
+        now,
+        program,
+    }))
+}
+
+/// The command that the words are, if they are one.
+#[tactic(auto, unfolding(crate::specs::Words::reads))]
+pub fn reads(alloc: Global, words: &[Name]) -> Result<Option<Bind>, AllocError>
+    ensures { IfOk result (λ bind. bind ≡ reads words.now) }
+{
+    match words {
+        [word, words @ ..] if word.is(b"bind") => read_bind(alloc, words),
+        _ => Ok(None),
+    }
 }

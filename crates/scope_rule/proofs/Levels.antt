@@ -1,13 +1,15 @@
 -- Breadth-first order, a level at a time.
-use Rattle.std.proofs.Common.{◌≡◌, ℕ, zero, suc, ◌+◌, ◌<◌, ◌≤◌, List, [], ◌∷◌, ◌++◌, length, take, drop, get_or, refl, sym, ap, ◌∙◌, append_assoc, arith, add-one, drop-cons}
+use Rattle.std.proofs.Common.{◌≡◌, Bool, ℕ, zero, suc, ◌+◌, ◌<◌, ◌≤◌, List, [], ◌∷◌, ◌++◌, length, take, drop, get_or, refl, sym, ap, ◌∙◌, arith, add-one, drop-cons}
 use Rattle.std.proofs.Math.Seq.{take-length}
-use Rattle.std.specs.List.{flat_map}
-use Rattle.std.proofs.lemmas.List.{take-append-drop}
+use Rattle.std.specs.List.{find, flat_map}
+use Rattle.std.specs.Option.{option_or}
+use Rattle.std.proofs.lemmas.List.Folds.{find-append}
+use Rattle.std.proofs.lemmas.List.{append-nil, take-append-drop}
 use Rattle.std.proofs.lemmas.Grind.{flat_map-append, common_steps}
 use Rattle.scope_rule.specs.declared.namespace.Namespace.{Namespace}
-use Rattle.scope_rule.specs.Loading.{found_of}
+use Rattle.scope_rule.specs.Loading.{found_of, with_added}
 use Rattle.scope_rule.specs.Breadth.{level, levels, extend, breadth, without, first_kept}
-use Rattle.scope_rule.proofs.Extend.{extend-append, extend_seen, extend_nothing, extended_front, extended_length}
+use Rattle.scope_rule.proofs.Extend.{extend-append, extend_seen, extend_nothing, extended_front}
 
 -- one entry of a level
 pub entry_step : (f : ℕ → List ℕ) (order s total : List ℕ) (i end x : ℕ) → i < end → end ≡ length s → end ≤ length order → take end order ≡ s → x ≡ get_or order i x
@@ -56,3 +58,10 @@ unfolding breadth
 is_breadth ns root n order low high kept =
     let e : n ≡ length ns.objects = omega arith in
     kept ∙ extend_nothing (levels ns root n) ∙ ap (λ (k : ℕ). without 0 (first_kept (levels ns root k))) e
+
+-- a search of two lists
+pub find_either : {X : Type 0} (p : X → Bool) → (xs ys : List X) → find p (xs ++ ys) ≡ option_or (find p xs) (find p ys)
+find_either p xs ys = find-append p xs ys
+
+pub nothing_added : (ns : Namespace) (root : ℕ) → breadth (with_added ns []) root ≡ breadth ns root
+nothing_added ns root = rw append-nil refl

@@ -46,9 +46,13 @@ with_path objects path = find (has_path path) objects
 abbrev pub is_path : List ℕ → Bool
 is_path name = list_any (λ c. c == 47) name
 
+-- the paths of a name in folders, in order
+abbrev pub in_folders : List (List ℕ) → List ℕ → List (List ℕ)
+in_folders folders name = map (λ folder. (folder ++ 47 ∷ []) ++ name) folders
+
 -- the paths that a name may have, in order
 abbrev pub candidates : List (List ℕ) → List ℕ → List (List ℕ)
-candidates folders name = if is_path name then name ∷ [] else map (λ folder. (folder ++ 47 ∷ []) ++ name) folders
+candidates folders name = if is_path name then name ∷ [] else in_folders folders name
 
 -- what reading a path leads to
 abbrev pub found_by_reading : List ℕ → Reading → Found
@@ -61,10 +65,15 @@ found_by_reading path failed = unreadable path
 unfoldable pub find_path : (List ℕ → Reading) → List Loaded → List ℕ → Found
 find_path reading objects path = elim (with_path objects path) [ Some o ↦ known o | None ↦ found_by_reading path (reading path) ]
 
+-- the first of two, where it leads anywhere
+abbrev pub or_else : Found → Found → Found
+or_else nowhere other = other
+or_else found other = found
+
 -- the first of the paths that leads anywhere
 abbrev pub find_paths : (List ℕ → Reading) → List Loaded → List (List ℕ) → Found
 find_paths reading objects [] = nowhere
-find_paths reading objects (path ∷ paths) = elim (find_path reading objects path) as (λ f. Found) [ nowhere ↦ find_paths reading objects paths | linker ↦ linker | known o ↦ known o | fresh p o t ↦ fresh p o t | unreadable p ↦ unreadable p | refused p n ↦ refused p n ]
+find_paths reading objects (path ∷ paths) = or_else (find_path reading objects path) (find_paths reading objects paths)
 
 -- what a name that dlopen was called with leads to: by the objects' own names where it is no path, else by its candidates
 unfoldable pub find_opened : (List ℕ → Reading) → List Loaded → List (List ℕ) → List ℕ → Found

@@ -1,14 +1,21 @@
 -- The objects of a namespace, by their serials.
-use Rattle.std.specs.Prelude.{ℕ, Bool, false, ◌==◌, if◌then◌else◌, List, [], Option, Some, None}
+use Rattle.std.specs.Prelude.{ℕ, Bool, false, ◌==◌, if◌then◌else◌, List, [], ◌++◌, Option, Some, None}
 use Rattle.std.specs.List.{find}
 use Rattle.ld_base.specs.declared.linking.Loaded.{Loaded}
-use Rattle.ld_base.specs.declared.linking.State.{State}
 use Rattle.ld_base.specs.declared.linking.State.TheVariants.{Dying}
 use Rattle.scope_rule.specs.declared.namespace.Namespace.{Namespace}
 
--- the object with a serial
+-- the namespace with new objects after its own
+abbrev pub with_added : Namespace → List Loaded → Namespace
+with_added ns added = record ns { objects = ns.objects ++ added }
+
+-- the first object with a serial
+abbrev pub with_serial : List Loaded → ℕ → Option Loaded
+with_serial objects serial = find (λ o. o.serial == serial) objects
+
+-- the object of the namespace with a serial
 abbrev pub object_of : Namespace → ℕ → Option Loaded
-object_of ns serial = find (λ o. o.serial == serial) ns.objects
+object_of ns serial = with_serial ns.objects serial
 
 -- the objects that an object's names found; the linker's own object, 0, has no names
 abbrev pub found_of : Namespace → ℕ → List ℕ

@@ -35,12 +35,13 @@ abbrev pub ◌>>=◌ : {A B : Type 0} → Result A Stop → (A → Result B Stop
 (Err e) >>= f = Err e
 
 -- whether a hart may use an object that it found: not while another starts or closes it, nor while it closes it itself
+abbrev pub use_in : ℕ → Loaded → State → Result ℕ Stop
+use_in hart o (states.Initialising h) = if h == hart then Ok o.serial else Err (waits (shown.Initialising o.serial))
+use_in hart o states.Ready = Ok o.serial
+use_in hart o (states.Dying h) = if h == hart then Err (refuses (faults.ClosingHere o.path)) else Err (waits (shown.Closing o.serial))
+
 abbrev pub use_of : ℕ → Loaded → Result ℕ Stop
-use_of hart o = elim o.state [
-    states.Initialising h ↦ if h == hart then Ok o.serial else Err (waits (shown.Initialising o.serial))
-  | states.Ready ↦ Ok o.serial
-  | states.Dying h ↦ if h == hart then Err (refuses (faults.ClosingHere o.path)) else Err (waits (shown.Closing o.serial))
-  ]
+use_of hart o = use_in hart o o.state
 
 -- a new object, not placed yet
 abbrev pub arrival : Load → ℕ → List ℕ → Object → HashTable → Loaded
@@ -91,14 +92,21 @@ names_of load index o = (if load.program && index == 0 then load.preload else []
 unfoldable pub turn_of : Load → ℕ → List Loaded → Result (List Loaded) Stop
 turn_of load index added =
     elim (slice_get added index) [
-      Some o ↦ take_names load added (names_of load index o) >>= λ taken. Ok (slice_set taken.0 index (record o { found = taken.1 }))
-    | None ↦ Ok added
+      | Some o ↦ take_names load added (names_of load index o) >>= λ taken. Ok (slice_set taken.0 index (record o { found = taken.1 }))
+      | None ↦ Ok added
     ]
 
--- the root: a program's name is a path; another's is found as dlopen finds it
+-- what the name that is asked for leads to: a program's is a path; another's is found as dlopen finds it
+abbrev pub find_root : Load → Found
+find_root load = if load.program then find_path load.reading load.there load.name else find_opened load.reading load.there load.folders load.name
+
+-- the root, with the new objects so far
 unfoldable pub root_of : Load → Result (List Loaded × ℕ) Stop
-root_of load =
-    take_found load [] (if load.program then find_path load.reading load.there load.name else find_opened load.reading load.there load.folders load.name) >>= must_lead load.name
+root_of load = take_found load [] (find_root load) >>= must_lead load.name
+
+-- the root has this serial
+abbrev pub IsRoot : Load → ℕ → Type 0
+IsRoot load serial = (added : List Loaded) × (root_of load ≡ Ok (added, serial))
 
 -- the new objects after so many turns, one turn an object, in the order in which they came
 unfoldable pub added_after : Load → ℕ → Result (List Loaded) Stop

@@ -14,7 +14,9 @@ use ld_base::{Choice, Loaded, Name, Object, Reloc, Serial, Serials, Symbol, Want
 use std::alloc::{AllocError, Global};
 
 const R_RISCV_NONE: u32 = 0;
+
 const R_RISCV_RELATIVE: u32 = 3;
+
 const R_RISCV_COPY: u32 = 4;
 
 /// What an object of the namespace, or the linker's own, has for a name and a version.

@@ -12,8 +12,11 @@ mod linker_object;
 mod namespace;
 mod scoping;
 
-pub use breadth_first::breadth;
+pub use breadth_first::{breadth, breadth_with};
 pub use choosing::{choose, choose_reloc, want_of};
 pub use linker_object::linker_symbol;
 pub use namespace::{Namespace, OpenRec, Opens};
 pub use scoping::scope;
+
+#[cfg(test)]
+mod tests;

@@ -1,4 +1,4 @@
-use Rattle.std.proofs.Common.{◌≡◌, refl, ℕ, ◌*◌, ◌+◌, List, length, take, drop, Some, Ok}
+use Rattle.std.proofs.Common.{◌≡◌, refl, ℕ, ◌*◌, List, length, take, drop, Some, Ok}
 use Rattle.std.specs.Prelude.{◌==◌, slice_index}
 use Rattle.ld_base.specs.Field.{field}
 use Rattle.ld_base.specs.declared.fault.NotAccepted.{NotAccepted}

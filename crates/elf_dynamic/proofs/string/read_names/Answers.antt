@@ -1,8 +1,7 @@
-use Rattle.std.proofs.Common.{◌≡◌}
 use Rattle.std.proofs.lemmas.Result.{err_from_is_err_and}
 use Rattle.std.specs.Prelude.{slice_index, length}
 use Rattle.elf_dynamic.specs.Name.{name_at, names_at}
-use Rattle.elf_dynamic.proofs.Read.{entries_more, entries_fault}
+use Rattle.elf_dynamic.proofs.Read.{entries_fault}
 use Rattle.elf_dynamic.proofs.string.read_names.Goals as goal
 
 pub returns-in_err-read_name : goal.returns-in_err-read_name

@@ -1,4 +1,4 @@
-use Rattle.std.proofs.Common.{◌≡◌, ℕ, ◌-◌, ◌≤◌, List, length, take, drop, min, length-drop, arith}
+use Rattle.std.proofs.Common.{◌≡◌, ℕ, ◌-◌, List, length, take, drop, min, length-drop, arith}
 use Rattle.std.proofs.lemmas.List.{take_all, take_min}
 use Rattle.elf_dynamic.proofs.string.window.Goals as goal
 

@@ -1,4 +1,4 @@
-use Rattle.std.proofs.Common.{◌≡◌, ◌*◌}
+use Rattle.std.proofs.Common.{◌*◌}
 use Rattle.std.proofs.lemmas.Result.{err_from_is_err_and}
 use Rattle.elf_dynamic.specs.Symbol.{symbol_at, symbols_of}
 use Rattle.elf_dynamic.proofs.Read.{entries_fault}

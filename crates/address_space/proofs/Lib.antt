@@ -1,0 +1,2 @@
+mod FreePages
+mod Scan

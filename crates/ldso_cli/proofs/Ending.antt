@@ -1,0 +1,193 @@
+-- How bind ends.
+use Rattle.std.proofs.Common.{◌≡◌, ◌≢◌, ◌<◌, ◌+◌, ℕ, Bool, true, false, not, ◌&&◌, ◌==◌, List, [], ◌∷◌, ◌++◌, length, Option, Some, None, Result, Ok, Err, refl, sym, ap, subst, ◌∙◌, inl, inr, cond, arith, rules}
+use Rattle.std.specs.Prelude.{◌↔◌, nat_lt, IfOk}
+use Rattle.std.specs.String.{string_bytes}
+use Rattle.std.specs.declared.alloc.AllocError.{AllocError}
+use Rattle.ldso_cli.specs.declared.bind.Answer.{Answer}
+use Rattle.std.specs.List.{AllByRecursion, list_all, slice_get}
+use Rattle.std.specs.Option.{option_or, option_map}
+use Rattle.std.proofs.lemmas.Bool.{cases_Bool}
+use Rattle.ld_base.specs.declared.fault.DlFault.{DlFault}
+use Rattle.ld_base.specs.declared.fault.DlFault.TheVariants as dl
+use Rattle.ld_base.specs.declared.fault.NotAccepted.{NotAccepted}
+use Rattle.ld_base.specs.declared.linking.File.{File}
+use Rattle.ld_base.specs.declared.linking.Loaded.{Loaded}
+use Rattle.ld_base.specs.declared.object.Object.{Object}
+use Rattle.ld_base.specs.declared.object.Reloc.{Reloc}
+use Rattle.ld_base.specs.declared.object.Symbol.{Symbol}
+use Rattle.ld_base.specs.declared.parts.HashTable.{HashTable}
+use Rattle.elf_object.specs.Form.{is_slot}
+use Rattle.elf_object.specs.Spells.{Spells}
+use Rattle.elf_object.specs.Verdict.{object_verdict}
+use Rattle.library_source.specs.Files.{file_at}
+use Rattle.load_order.specs.Files.{reading_of, as_read, file_as_read}
+use Rattle.load_order.specs.Heard.{AreFiles}
+use Rattle.load_order.specs.Plan.{Over, IsPlan, IsRefused, load_over}
+use Rattle.load_order.specs.declared.ask.LoadAsk.{LoadAsk}
+use Rattle.load_order.specs.declared.ask.LoadPlan.{LoadPlan}
+use Rattle.scope_rule.specs.Breadth.{breadth}
+use Rattle.scope_rule.specs.Finding.{Reading, here, unaccepted, absent, failed, find_path, found_by_reading}
+use Rattle.scope_rule.specs.Loading.{with_added}
+use Rattle.scope_rule.specs.Order.{Load, Stop, IsRoot, arrival, root_of, take_found, must_lead, ◌>>=◌}
+use Rattle.scope_rule.specs.Relocation.{choice_at, names_symbols}
+use Rattle.scope_rule.specs.declared.namespace.Namespace.{Namespace}
+use Rattle.ldso_cli.specs.declared.outcome.Cause.{Cause}
+use Rattle.ldso_cli.specs.declared.outcome.Cause.TheVariants as causes
+use Rattle.ldso_cli.specs.declared.words.Bind.{Bind}
+use Rattle.ldso_cli.specs.Bind.{BindEnds, IsLoaded, IsNotLoaded, ObjectsEnd, ask_of, nothing_loaded, unopened, opened, namespace_of}
+use Rattle.ldso_cli.specs.Refusal.{is_missing, missing_symbol, refusal_at, first_missing, refusal_of, first_refusal}
+use Rattle.ldso_cli.specs.Status.{refused_text}
+
+-- ---- a load that is refused
+
+pub refused_ends : (told : Option (List File)) (bind : Bind) (fault : DlFault) (text : List ℕ) → text ≡ refused_text fault → Over told (IsRefused (ask_of bind) nothing_loaded fault) → Over told (BindEnds bind (causes.Refused fault) text)
+refused_ends told bind fault text written over = record {
+  files = over.files;
+  are = over.are;
+  holds = inr (record { fault = fault; is = over.holds; cause_is = refl; text_is = written });
+}
+
+-- ---- the program is object 1
+
+abbrev made : List Loaded × ℕ → Result (List Loaded × ℕ) Stop
+made x = Ok x
+
+value_is : (x y : List Loaded × ℕ) → made x ≡ made y → x ≡ y
+value_is x y e = cc
+
+second_is : (a b : List Loaded) (s t : ℕ) → made (a, s) ≡ made (b, t) → s ≡ t
+second_is a b s t e = ap (λ (q : List Loaded × ℕ). q.1) (value_is (a, s) (b, t) e)
+
+first_serial : (load : Load) (path : List ℕ) (reading : Reading) (added : List Loaded) (serial : ℕ) → (take_found load [] (found_by_reading path reading) >>= must_lead load.name) ≡ Ok (added, serial) → serial ≡ load.next
+unfolding take_found
+first_serial load path (here o table) added serial e =
+    let p : load.next + 0 ≡ serial = second_is (arrival load (load.next + 0) path o table ∷ []) added (load.next + 0) serial e in
+    sym p ∙ omega arith
+first_serial load path (unaccepted broken) added serial e = absurd cc
+first_serial load path absent added serial e = absurd cc
+first_serial load path failed added serial e = absurd cc
+
+pub root_is_first : (bind : Bind) (files : List File) (root : ℕ) → IsRoot (load_over (ask_of bind) nothing_loaded files) root → root ≡ 1
+unfolding root_of find_path
+root_is_first bind files root is = first_serial (load_over (ask_of bind) nothing_loaded files) bind.program (reading_of files (ask_of bind) bind.program) is.0 root is.1
+
+and_first : (a b : Bool) → (a && b) ≡ true → a ≡ true
+and_first true b h = refl
+and_first false b h = absurd cc
+
+and_second : (a b : Bool) → (a && b) ≡ true → b ≡ true
+and_second true b h = h
+and_second false b h = absurd cc
+
+-- ---- each relocation of a spelled object names one of its symbols
+
+slot_names : (count : ℕ) (r : Reloc) → is_slot count r ≡ true → nat_lt r.symbol count ≡ true
+slot_names count r h = and_second ((r.kind == 5) && not (r.symbol == 0)) (nat_lt r.symbol count) h
+
+slots_name : (count : ℕ) (slots : List Reloc) → list_all (is_slot count) slots ≡ true → list_all (λ r. nat_lt r.symbol count) slots ≡ true
+slots_name count [] h = refl
+slots_name count (r ∷ rest) h =
+    let here = slot_names count r (and_first (is_slot count r) (list_all (is_slot count) rest) h) in
+    rw (here, slots_name count rest (and_second (is_slot count r) (list_all (is_slot count) rest) h)) refl
+
+pub spelled_names : (bytes : List ℕ) (o : Object) → Spells bytes o → names_symbols o ≡ true
+spelled_names bytes o spells =
+    let slots : list_all (is_slot (length o.symbols)) o.plt_relocs ≡ true = spells.say.slots in
+    rw spells.say.relocs (slots_name (length o.symbols) o.plt_relocs slots)
+
+-- what is known of verdicts
+abbrev pub Law : Type 0
+Law = (bytes : List ℕ) (o : Object) → (object_verdict bytes ≡ Ok o) ↔ Spells bytes o
+
+verdict_names : (law : Law) (bytes : List ℕ) (verdict : Result Object NotAccepted) (o : Object) (table : HashTable) → object_verdict bytes ≡ verdict → as_read verdict ≡ here o table → names_symbols o ≡ true
+verdict_names law bytes (Ok one) o table is e =
+    let same : one ≡ o = cc in
+    subst (λ (x : Object). names_symbols x ≡ true) same (spelled_names bytes one ((law bytes one).0 is))
+verdict_names law bytes (Err broken) o table is e = absurd cc
+
+file_names : (law : Law) (ask : LoadAsk) (path : List ℕ) (file : Option (List ℕ)) (o : Object) (table : HashTable) → file_as_read ask path file ≡ here o table → names_symbols o ≡ true
+file_names law ask path None o table e = absurd cc
+file_names law ask path (Some bytes) o table e = verdict_names law bytes (object_verdict bytes) o table refl e
+
+pub read_names : (law : Law) (files : List File) (ask : LoadAsk) (added : List Loaded) → AllByRecursion (λ o. reading_of files ask o.path ≡ here o.object o.table) added → AllByRecursion (λ o. names_symbols o.object ≡ true) added
+unfolding reading_of
+read_names law files ask [] h = tt
+read_names law files ask (o ∷ rest) h = (file_names law ask o.path (file_at files o.path) o.object o.table h.0, read_names law files ask rest h.1)
+
+-- ---- a reference that is refused is no failed read
+
+abbrev IsNoRead : Option DlFault → Type 0
+IsNoRead fault = (path : List ℕ) → fault ≡ Some (dl.ReadFault path) → ⊥
+
+either_no_read : (a b : Option DlFault) → IsNoRead a → IsNoRead b → IsNoRead (option_or a b)
+either_no_read None b h k = k
+either_no_read (Some f) b h k = h
+
+symbol_no_read : (o : Loaded) (symbol : Option Symbol) → IsNoRead (option_map (missing_symbol o) symbol)
+symbol_no_read o None path e = absurd cc
+symbol_no_read o (Some s) path e = absurd cc
+
+reloc_no_read : (ns : Namespace) (o : Loaded) (r : Reloc) → IsNoRead (refusal_at ns o r)
+unfolding refusal_at
+reloc_no_read ns o r =
+    elim (is_missing (choice_at ns o r)) as (λ v. IsNoRead (cond v (option_map (missing_symbol o) (slice_get o.object.symbols r.symbol)) None))
+    [ true ↦ symbol_no_read o (slice_get o.object.symbols r.symbol) | false ↦ λ path e. absurd cc ]
+
+relocs_no_read : (ns : Namespace) (o : Loaded) (relocs : List Reloc) → IsNoRead (first_missing ns o relocs)
+relocs_no_read ns o [] = λ path e. absurd cc
+relocs_no_read ns o (r ∷ rest) = either_no_read (refusal_at ns o r) (first_missing ns o rest) (reloc_no_read ns o r) (relocs_no_read ns o rest)
+
+slots_no_read : (ns : Namespace) (now : Bool) (o : Loaded) → IsNoRead (cond now (first_missing ns o o.object.plt_relocs) None)
+slots_no_read ns true o = relocs_no_read ns o o.object.plt_relocs
+slots_no_read ns false o = λ path e. absurd cc
+
+objects_no_read : (ns : Namespace) (now : Bool) (objects : List Loaded) → IsNoRead (first_refusal ns now objects)
+objects_no_read ns now [] = λ path e. absurd cc
+objects_no_read ns now (o ∷ rest) =
+    either_no_read (refusal_of ns now o) (first_refusal ns now rest)
+    (either_no_read (first_missing ns o o.object.relocs) (cond now (first_missing ns o o.object.plt_relocs) None) (relocs_no_read ns o o.object.relocs) (slots_no_read ns now o))
+    (objects_no_read ns now rest)
+
+pub ends_no_read : (ns : Namespace) (now : Bool) (cause : Cause) (text path : List ℕ) → ObjectsEnd ns now cause text → cause ≡ causes.Refused (dl.ReadFault path) → ⊥
+ends_no_read ns now cause text path ends e =
+    let P : Cause → Type 0 = λ c. ObjectsEnd ns now c text in
+    objects_no_read ns now ns.objects path (subst P e ends).0
+
+-- ---- a load that brings objects
+
+pub loaded_ends : (told : Option (List File)) (bind : Bind) (plan : LoadPlan) (cause : Cause) (text : List ℕ) → Over told (IsPlan (ask_of bind) nothing_loaded plan) → ObjectsEnd (opened plan.added plan.breadth) bind.now cause text → Over told (BindEnds bind cause text)
+loaded_ends told bind plan cause text over ends =
+    let one : plan.root ≡ 1 = root_is_first bind over.files plan.root over.holds.root in
+    let breadth_is : plan.breadth ≡ breadth (unopened plan.added) 1 = over.holds.breadth ∙ ap (breadth (unopened plan.added)) one in
+    let P : List ℕ → Type 0 = λ global. ObjectsEnd (opened plan.added global) bind.now cause text in
+    record {
+      files = over.files;
+      are = over.are;
+      holds = inl (record {
+        objects = plan.added;
+        brings = over.holds.added;
+        versions = over.holds.versions;
+        ends = subst P breadth_is ends;
+      });
+    }
+
+-- ---- what bind answers
+
+pub refused_answers : (told : Option (List File)) (bind : Bind) (fault : DlFault) (r : Result Answer AllocError) → IfOk r (λ answer. answer.cause ≡ causes.Refused fault) → IfOk r (λ answer. string_bytes answer.text ≡ refused_text fault)
+    → Over told (IsRefused (ask_of bind) nothing_loaded fault) → IfOk r (λ answer. Over told (BindEnds bind answer.cause (string_bytes answer.text)))
+refused_answers told bind fault (Err e) cause text over = tt
+refused_answers told bind fault (Ok answer) cause text over =
+    let P : Cause → Type 0 = λ c. Over told (BindEnds bind c (string_bytes answer.text)) in
+    subst P (sym cause) (refused_ends told bind fault (string_bytes answer.text) text over)
+
+pub loaded_answers : (told : Option (List File)) (bind : Bind) (plan : LoadPlan) (ns : Namespace) (r : Result Answer AllocError) → ns ≡ opened plan.added plan.breadth → Over told (IsPlan (ask_of bind) nothing_loaded plan)
+    → IfOk r (λ answer. ObjectsEnd ns bind.now answer.cause (string_bytes answer.text)) → IfOk r (λ answer. Over told (BindEnds bind answer.cause (string_bytes answer.text)))
+loaded_answers told bind plan ns (Err e) same over ends = tt
+loaded_answers told bind plan ns (Ok answer) same over ends =
+    let P : Namespace → Type 0 = λ n. ObjectsEnd n bind.now answer.cause (string_bytes answer.text) in
+    loaded_ends told bind plan answer.cause (string_bytes answer.text) over (subst P same ends)
+
+pub loaded_counts : (ns : Namespace) (now : Bool) (r : Result Answer AllocError) (Q : Type 0) → IfOk r (λ answer. ObjectsEnd ns now answer.cause (string_bytes answer.text))
+    → IfOk r (λ answer. (path : List ℕ) → answer.cause ≡ causes.Refused (dl.ReadFault path) → Q)
+loaded_counts ns now (Err e) Q ends = tt
+loaded_counts ns now (Ok answer) Q ends = λ path e. absurd (ends_no_read ns now answer.cause (string_bytes answer.text) path ends e)

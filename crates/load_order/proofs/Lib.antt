@@ -1,0 +1,14 @@
+pub mod Find
+pub mod Hearing
+pub mod Led
+pub mod Longer
+pub mod Next
+pub mod Noting
+pub mod Numbered
+pub mod Outcome
+pub mod Planning
+pub mod Reading
+pub mod Searching
+pub mod Taking
+pub mod Turning
+pub mod Unfound

@@ -1,0 +1,59 @@
+-- Trails, from place to place.
+use Rattle.std.proofs.Common.{◌≡◌, ℕ, [], ◌∷◌, Option, Result, Ok, Err, refl, sym, ap, subst, ◌∙◌}
+use Rattle.rv_isa.specs.declared.instr.Instr.{Instr}
+use Rattle.rv_isa.specs.Laws.{OneDecoding}
+use Rattle.rv_hart.specs.declared.bus.BusFault.{BusFault}
+use Rattle.rv_hart.specs.declared.bus.BusFault.TheVariants.{Again}
+use Rattle.rv_hart.specs.declared.bus.Item.{Item}
+use Rattle.rv_hart.specs.declared.bus.Item.TheVariants.{Fetch, Read, Write, Amo, Reserve, Conditional}
+use Rattle.rv_hart.specs.declared.stepping.Stop.{Stop}
+use Rattle.rv_hart.specs.declared.stepping.Stop.TheVariants.{Refused}
+use Rattle.rv_hart.specs.Registers.{Registers}
+use Rattle.rv_hart.specs.Instructions.{access_for}
+use Rattle.rv_hart.specs.Trail.{Place, Ready, Accessing, Stopped, place_for, Fetched, Begins, Ends, Resumes, Advances, Follows}
+use Rattle.rv_hart.specs.Laws.{OneEnd, StepFollows, FollowsJoin}
+
+fetched_once : OneDecoding → (r : Registers) (answer : Result ℕ BusFault) (one other : Place) → Fetched r answer one → Fetched r answer other → one ≡ other
+fetched_once unique r (Ok word) one other h g =
+    h.2 ∙ ap (λ d. place_for r word d (access_for r d)) (unique word h.0 g.0 h.1 g.1) ∙ sym g.2
+fetched_once unique r (Err fault) one other h g = h ∙ sym g
+
+begins_once : OneDecoding → (r : Registers) (item : Item) (one other : Place) → Begins r item one → Begins r item other → one ≡ other
+begins_once unique r (Fetch address answer) one other h g = fetched_once unique r answer one other h.1 g.1
+begins_once unique r (Read address size answer) one other h g = absurd h
+begins_once unique r (Write address size value answer) one other h g = absurd h
+begins_once unique r (Amo address size op value answer) one other h g = absurd h
+begins_once unique r (Reserve address size answer) one other h g = absurd h
+begins_once unique r (Conditional address size value version answer) one other h g = absurd h
+
+ends_once : (r : Registers) (decoded : Option Instr) (item : Item) (one other : Place) → Ends r decoded item one → Ends r decoded item other → one ≡ other
+ends_once r decoded (Fetch address answer) one other h g = absurd h
+ends_once r decoded (Read address size answer) one other h g = h.1 ∙ sym g.1
+ends_once r decoded (Write address size value answer) one other h g = h.1 ∙ sym g.1
+ends_once r decoded (Amo address size op value answer) one other h g = h.1 ∙ sym g.1
+ends_once r decoded (Reserve address size answer) one other h g = h.1 ∙ sym g.1
+ends_once r decoded (Conditional address size value version answer) one other h g = h.1 ∙ sym g.1
+
+resumes_once : OneDecoding → (r : Registers) (stop : Stop) (item : Item) (one other : Place) → Resumes r stop item one → Resumes r stop item other → one ≡ other
+resumes_once unique r (Refused address (Again shown)) item one other h g = begins_once unique r item one other h g
+resumes_once unique r _ item one other h g = absurd h
+
+advances_once : OneDecoding → (start : Place) (item : Item) (one other : Place) → Advances start item one → Advances start item other → one ≡ other
+advances_once unique (Ready r) item one other h g = begins_once unique r item one other h g
+advances_once unique (Accessing r decoded) item one other h g = ends_once r decoded item one other h g
+advances_once unique (Stopped r stop) item one other h g = resumes_once unique r stop item one other h g
+
+pub one_end : OneDecoding → OneEnd
+one_end unique start [] one other h g = sym h ∙ g
+one_end unique start (item ∷ items) one other (a, ha, fa) (b, hb, fb) =
+    one_end unique b items one other (subst (λ p. Follows p items one) (advances_once unique start item a b ha hb) fa) fb
+
+pub step_follows : StepFollows
+step_follows r [] end h = absurd h
+step_follows r (fetch ∷ []) end h = (end, h, refl)
+step_follows r (fetch ∷ (access ∷ [])) end h = (Accessing r h.0, h.1, (end, h.2, refl))
+step_follows r (fetch ∷ (access ∷ (more ∷ rest))) end h = absurd h
+
+pub follows_join : FollowsJoin
+follows_join start between end [] more h g = subst (λ p. Follows p more end) (sym h) g
+follows_join start between end (item ∷ items) more (place, advance, rest) g = (place, advance, follows_join place between end items more rest g)

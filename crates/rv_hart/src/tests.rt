@@ -1,0 +1,206 @@
+//! One hart over a memory that holds what was stored, and over a list of answers.
+
+mod plain;
+mod script;
+
+use self::plain::Plain;
+use self::script::Script;
+use crate::arithmetic::reg_result;
+use crate::{Bus, BusFault, Doubleword, Hart, Held, Item, Stop, step};
+use ld_base::Role;
+use rv_isa::RegOp;
+use std::test::Fail;
+
+// Results of qemu-riscv64 7.2.
+#[test]
+fn arithmetic_of_qemu(rt: HostRuntime) {
+    let rows = [
+        (RegOp::Add, 0xffff_ffff_ffff_ffff, 2, 1),
+        (RegOp::Sub, 1, 3, 0xffff_ffff_ffff_fffe),
+        (RegOp::Sll, 3, 0x41, 6),
+        (RegOp::Srl, 0x8000_0000_0000_0000, 0x7f, 1),
+        (
+            RegOp::Sra,
+            0x8000_0000_0000_0000,
+            0x3f,
+            0xffff_ffff_ffff_ffff,
+        ),
+        (RegOp::Slt, 0xffff_ffff_ffff_ffff, 0, 1),
+        (RegOp::Slt, 0, 0xffff_ffff_ffff_ffff, 0),
+        (RegOp::Sltu, 0xffff_ffff_ffff_ffff, 0, 0),
+        (RegOp::Sltu, 0, 0xffff_ffff_ffff_ffff, 1),
+        (
+            RegOp::Xor,
+            0xff00_ff00_ff00_ff00,
+            0xff0_0ff0_0ff0_0ff0,
+            0xf0f0_f0f0_f0f0_f0f0,
+        ),
+        (RegOp::Or, 0xf0, 15, 0xff),
+        (RegOp::And, 0xff, 0xf0f, 15),
+        (RegOp::Mul, 0x8000_0000_0000_0003, 5, 0x8000_0000_0000_000f),
+        (RegOp::Mulh, 0xffff_ffff_ffff_ffff, 0xffff_ffff_ffff_ffff, 0),
+        (
+            RegOp::Mulh,
+            0x8000_0000_0000_0000,
+            0x8000_0000_0000_0000,
+            0x4000_0000_0000_0000,
+        ),
+        (RegOp::Mulh, 0xffff_ffff_ffff_fffe, 3, 0xffff_ffff_ffff_ffff),
+        (
+            RegOp::Mulhsu,
+            0xffff_ffff_ffff_ffff,
+            0xffff_ffff_ffff_ffff,
+            0xffff_ffff_ffff_ffff,
+        ),
+        (RegOp::Mulhsu, 5, 0xffff_ffff_ffff_ffff, 4),
+        (
+            RegOp::Mulhu,
+            0xffff_ffff_ffff_ffff,
+            0xffff_ffff_ffff_ffff,
+            0xffff_ffff_ffff_fffe,
+        ),
+        (RegOp::Div, 7, 0xffff_ffff_ffff_fffe, 0xffff_ffff_ffff_fffd),
+        (RegOp::Div, 7, 0, 0xffff_ffff_ffff_ffff),
+        (
+            RegOp::Div,
+            0x8000_0000_0000_0000,
+            0xffff_ffff_ffff_ffff,
+            0x8000_0000_0000_0000,
+        ),
+        (RegOp::Divu, 0xffff_ffff_ffff_fff9, 2, 0x7fff_ffff_ffff_fffc),
+        (RegOp::Divu, 7, 0, 0xffff_ffff_ffff_ffff),
+        (RegOp::Rem, 0xffff_ffff_ffff_fff9, 2, 0xffff_ffff_ffff_ffff),
+        (RegOp::Rem, 7, 0, 7),
+        (RegOp::Rem, 0x8000_0000_0000_0000, 0xffff_ffff_ffff_ffff, 0),
+        (RegOp::Remu, 0xffff_ffff_ffff_fff9, 4, 1),
+        (RegOp::Remu, 7, 0, 7),
+        (RegOp::Addw, 0x7fff_ffff, 1, 0xffff_ffff_8000_0000),
+        (RegOp::Addw, 0xffff_ffff_0000_0001, 1, 2),
+        (RegOp::Subw, 0, 1, 0xffff_ffff_ffff_ffff),
+        (RegOp::Subw, 0x1_8000_0000, 1, 0x7fff_ffff),
+        (RegOp::Sllw, 1, 0x3f, 0xffff_ffff_8000_0000),
+        (RegOp::Sllw, 0x4000_0000, 0x21, 0xffff_ffff_8000_0000),
+        (RegOp::Srlw, 0xffff_ffff_8000_0000, 0x1f, 1),
+        (
+            RegOp::Srlw,
+            0xffff_ffff_8000_0000,
+            0x20,
+            0xffff_ffff_8000_0000,
+        ),
+        (RegOp::Sraw, 0x8000_0000, 0x1f, 0xffff_ffff_ffff_ffff),
+        (RegOp::Sraw, 0x1_f000_0000, 0x24, 0xffff_ffff_ff00_0000),
+        (RegOp::Mulw, 0x1_0000, 0x8000, 0xffff_ffff_8000_0000),
+        (
+            RegOp::Divw,
+            0x8000_0000,
+            0xffff_ffff_ffff_ffff,
+            0xffff_ffff_8000_0000,
+        ),
+        (RegOp::Divw, 0x1_0000_0007, 0, 0xffff_ffff_ffff_ffff),
+        (RegOp::Divw, 0xffff_ffff_ffff_fff7, 2, 0xffff_ffff_ffff_fffc),
+        (RegOp::Divuw, 0x8000_0000, 1, 0xffff_ffff_8000_0000),
+        (RegOp::Divuw, 7, 0, 0xffff_ffff_ffff_ffff),
+        (RegOp::Remw, 0x8000_0000, 0xffff_ffff_ffff_ffff, 0),
+        (RegOp::Remw, 0xffff_ffff_ffff_fff7, 2, 0xffff_ffff_ffff_ffff),
+        (RegOp::Remw, 0x1_8000_0001, 0, 0xffff_ffff_8000_0001),
+        (RegOp::Remuw, 0xffff_fff9, 4, 1),
+        (
+            RegOp::Remuw,
+            0x1_8000_0001,
+            0x1_0000_0000,
+            0xffff_ffff_8000_0001,
+        ),
+    ];
+    for (op, a, b, expected) in rows {
+        assert_eq!(rt; reg_result(op, a, b), expected, "{op:?} {a:#x} {b:#x}");
+    }
+}
+
+fn doubleword(value: u64, role: Role) -> Doubleword {
+    Doubleword {
+        value,
+        role,
+        version: 0,
+    }
+}
+
+#[test]
+fn atomics_on_plain_memory(rt: HostRuntime) -> Result<(), Fail> {
+    // amoadd.w a0, a1, (a2); lr.d t0, (a2); sc.d t1, a1, (a2); sd a1, 8(a2)
+    let words = [
+        doubleword(0x1006_32af_00b6_252f, Role::Rx),
+        doubleword(0x00b6_3423_18b6_332f, Role::Rx),
+        doubleword(0xffff_ffff_0000_0001, Role::Rw),
+        doubleword(0, Role::Slot),
+    ]
+    .to_vec(rt.alloc())?;
+    let mut memory = Plain { words };
+    let mut hart = Hart::new(0, 0x100, 0x200, 3);
+    let start = (hart.x[1], hart.x[2], hart.x[4], hart.x[10]);
+    assert_eq!(rt; start, (Hart::END, 0x100, 0x200, 3));
+    hart.x[11] = 0xffff_ffff;
+    hart.x[12] = 16;
+
+    assert_eq!(rt; step(&mut hart, &mut memory), Ok(()));
+    let found = hart.x[10];
+    assert_eq!(rt; found, 1);
+    assert_eq!(rt; memory.read(16, 8), Ok(0xffff_ffff_0000_0000));
+
+    // Another hart's store of the same value makes the SC fail.
+    assert_eq!(rt; step(&mut hart, &mut memory), Ok(()));
+    assert_eq!(rt; memory.write(16, 8, 0xffff_ffff_0000_0000), Ok(()));
+    assert_eq!(rt; step(&mut hart, &mut memory), Ok(()));
+    assert_eq!(rt; (hart.x[6], hart.pc, hart.held), (1, 12, None));
+    assert_eq!(rt; memory.read(16, 8), Ok(0xffff_ffff_0000_0000));
+
+    hart.pc = 4;
+    assert_eq!(rt; step(&mut hart, &mut memory), Ok(()));
+    let held = Held {
+        address: 16,
+        size: 8,
+        version: 2,
+    };
+    assert_eq!(rt; hart.held, Some(held));
+    assert_eq!(rt; step(&mut hart, &mut memory), Ok(()));
+    assert_eq!(rt; (hart.x[5], hart.x[6]), (0xffff_ffff_0000_0000, 0));
+    assert_eq!(rt; memory.read(16, 8), Ok(0xffff_ffff));
+
+    let refused = Stop::Refused(24, BusFault::Role(Role::Slot));
+    assert_eq!(rt; step(&mut hart, &mut memory), Err(refused));
+    assert_eq!(rt; hart.pc, 12);
+    Ok(())
+}
+
+#[test]
+fn a_value_that_changes_between_two_reads(rt: HostRuntime) {
+    // ld a0, 0(a2); ld a1, 0(a2)
+    let mut bus = Script::new([0x0006_3503, 5, 0x0006_3583, 7]);
+    let mut hart = Hart::new(0, 0, 0, 0);
+    assert_eq!(rt; step(&mut hart, &mut bus), Ok(()));
+    assert_eq!(rt; step(&mut hart, &mut bus), Ok(()));
+    assert_eq!(rt; (hart.x[10], hart.x[11]), (5, 7));
+    let last = bus.calls[3];
+    assert_eq!(rt; last, Item::Read(0, 8, Ok(7)));
+}
+
+#[test]
+fn stops(rt: HostRuntime) {
+    // The word, a2, and why the hart stops: jal ra, .+6; jalr ra, 2(a2); beq x0, x0, .+6; ecall;
+    // ebreak; sc.w t1, a1, (a2); a word of zeros.
+    let rows = [
+        (0x0060_00ef, 0, Stop::Misaligned(6)),
+        (0x0026_00e7, 4, Stop::Misaligned(6)),
+        (0x0000_0363, 0, Stop::Misaligned(6)),
+        (0x0000_0073, 0, Stop::Ecall),
+        (0x0010_0073, 0, Stop::Break),
+        (0x18b6_232f, 2, Stop::Misaligned(2)),
+        (0, 0, Stop::Bad(0)),
+    ];
+    for (word, a2, expected) in rows {
+        let mut bus = Script::new([word, 0, 0, 0]);
+        let mut hart = Hart::new(0, 0, 0, 0);
+        hart.x[12] = a2;
+        assert_eq!(rt; step(&mut hart, &mut bus), Err(expected));
+        assert_eq!(rt; (hart.pc, hart.x[1]), (0, Hart::END));
+    }
+}

@@ -1,0 +1,149 @@
+use super::*;
+use ld_base::*;
+use std::alloc::{AllocError, Global};
+use std::test::Fail;
+
+/// An object that exports or needs the function `f`, as its symbol 1.
+fn object(alloc: Global, defines: bool) -> Result<Object, AllocError> {
+    let mut symbols = Symbols::new(alloc);
+    for shndx in [0, u16::from(defines)] {
+        let symbol = Symbol {
+            name: Name::new(alloc, b"f")?,
+            info: 0x12,
+            other: 0,
+            shndx,
+            value: 0x1000,
+            size: 4,
+            version: 0,
+        };
+        if symbols.len() < 9 {
+            symbols.push(symbol)?;
+        }
+    }
+    Ok(Object {
+        kind: Kind::Dyn,
+        entry: 0,
+        soname: None,
+        needed: Names::new(alloc),
+        segments: Segments::new(alloc),
+        symbols,
+        first_exported: 1,
+        has_versym: false,
+        verdefs: Verdefs::new(alloc),
+        verneeds: Verneeds::new(alloc),
+        relocs: Relocs::new(alloc),
+        plt_relocs: Relocs::new(alloc),
+        pltgot: None,
+        preinit: None,
+        init: None,
+        init_array: None,
+        fini: None,
+        fini_array: None,
+        tls: None,
+        relro: None,
+        flags: ObjFlags {
+            symbolic: false,
+            bind_now: false,
+            nodelete: false,
+        },
+        relr: Places::new(alloc),
+        dynamic: 0,
+    })
+}
+
+fn loaded(
+    alloc: Global,
+    serial: u64,
+    defines: bool,
+    deep: bool,
+    found: &[u64],
+) -> Result<Loaded, AllocError> {
+    let mut serials = Serials::new(alloc);
+    for number in found {
+        serials.push(Serial::new(*number))?;
+    }
+    Ok(Loaded {
+        serial: Serial::new(serial),
+        path: Name::new(alloc, b"path")?,
+        object: object(alloc, defines)?,
+        table: HashTable {
+            gnu: None,
+            sysv: None,
+        },
+        base: 0,
+        state: State::Ready,
+        module: None,
+        deep,
+        found: serials,
+    })
+}
+
+/// A namespace whose first object is the program, which was opened globally.
+fn namespace(alloc: Global, objects: Added) -> Result<Namespace, AllocError> {
+    let mut ns = Namespace {
+        id: NsId::BASE,
+        objects,
+        global: Serials::new(alloc),
+        opens: Opens::new(alloc),
+    };
+    ns.global = breadth(alloc, &ns, Serial::new(1))?;
+    ns.opens.push(OpenRec {
+        root: Serial::new(1),
+        count: 1,
+    })?;
+    Ok(ns)
+}
+
+#[test]
+fn searches_breadth_first(rt: HostRuntime) -> Result<(), Fail> {
+    let alloc = rt.alloc();
+    let mut objects = Added::new(alloc);
+    objects.push(loaded(alloc, 1, false, false, &[2, 3])?)?;
+    objects.push(loaded(alloc, 2, false, false, &[4])?)?;
+    objects.push(loaded(alloc, 3, true, false, &[5])?)?;
+    objects.push(loaded(alloc, 4, true, false, &[])?)?;
+    objects.push(loaded(alloc, 5, false, false, &[])?)?;
+    let ns = namespace(alloc, objects)?;
+    let order = [1, 2, 3, 4, 5].map(Serial::new);
+    assert_eq!(rt; ns.global.as_slice(), order.as_slice());
+    let program = ns.object(Serial::new(1)).ok_or("the program")?;
+    let reloc = Reloc {
+        place: 0,
+        kind: 5,
+        symbol: 1,
+        addend: 0,
+    };
+    if program.object.symbols.len() == 2 {
+        let choice = choose_reloc(alloc, &ns, program, &reloc)?;
+        assert_eq!(rt; choice, Choice::Def(Serial::new(3), 1));
+    }
+    Ok(())
+}
+
+#[test]
+fn deep_objects_search_their_own_first(rt: HostRuntime) -> Result<(), Fail> {
+    let alloc = rt.alloc();
+    for (deep, expected) in [(false, 1), (true, 2)] {
+        let mut objects = Added::new(alloc);
+        objects.push(loaded(alloc, 1, true, false, &[])?)?;
+        objects.push(loaded(alloc, 2, true, deep, &[])?)?;
+        let ns = namespace(alloc, objects)?;
+        let library = ns.object(Serial::new(2)).ok_or("the library")?;
+        assert_eq!(rt; library.object.symbols.len(), 2);
+        let choice = choose(alloc, &ns, Serial::new(2), 1, false)?;
+        assert_eq!(rt; choice, Choice::Def(Serial::new(expected), 1));
+    }
+    Ok(())
+}
+
+#[test]
+fn the_linker_has_seven_functions(rt: HostRuntime) {
+    for (name, symbol) in [
+        (b"dlopen".as_slice(), Some(1)),
+        (b"dlerror".as_slice(), Some(6)),
+        (b"__tls_get_addr".as_slice(), Some(7)),
+        (b"dlnext".as_slice(), None),
+    ] {
+        assert_eq!(rt; linker_symbol(name), symbol);
+    }
+}
