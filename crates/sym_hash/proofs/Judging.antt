@@ -1,0 +1,255 @@
+-- The verdict on hash tables and the relations that say what it means.
+use Rattle.std.proofs.Common.{◌≡◌, ◌↔◌, ◌⊎◌, ◌∙◌, sym, ap, ℕ, suc, ◌<◌, ◌≤◌, Bool, true, false, List, [], ◌∷◌, length, get_or, refl, arith, inl, inr}
+use Rattle.std.specs.Prelude.{Option, Some, None, Result, Ok, Err, Contains, IsTrue, ◌&&◌, not, nat_le, if◌then◌else◌}
+use Rattle.std.specs.Option.{option_map_or, option_or}
+use Rattle.std.specs.List.{list_all, slice_get}
+use Rattle.std.proofs.lemmas.Bool.{and_from, and_parts, cases_Bool, le-leb, leb-true, not-true}
+use Rattle.std.proofs.lemmas.List.Folds.{list_all_at}
+use Rattle.std.proofs.lemmas.Option.{slice_get_within}
+use Rattle.ld_base.specs.Symbol.{is_visible_definition}
+use Rattle.ld_base.specs.declared.fault.NotAccepted.{NotAccepted}
+use Rattle.ld_base.specs.declared.object.Symbol.{Symbol}
+use Rattle.ld_base.specs.declared.parts.DynParts.{DynParts}
+use Rattle.ld_base.specs.declared.parts.GnuPart.{GnuPart}
+use Rattle.ld_base.specs.declared.parts.HashTable.{HashTable}
+use Rattle.ld_base.specs.declared.parts.Head.{Head}
+use Rattle.ld_base.specs.declared.parts.SysvPart.{SysvPart}
+use Rattle.elf_head.proofs.Least.{least_all, least_at, least_found, least_none}
+use Rattle.elf_dynamic.proofs.Laws.{bind_ok}
+use Rattle.elf_dynamic.specs.Entries.{◌>>=◌}
+use Rattle.sym_hash.proofs.Chains.{gnu_from, gnu_is, walk_from, walk_is}
+use Rattle.sym_hash.proofs.Links.{ends_leads, leads_end, sysv_from, sysv_is}
+use Rattle.sym_hash.specs.Breaks.{BreaksHash, IsMissedAt}
+use Rattle.sym_hash.specs.Breaks.BreaksHash.{no_words, no_end, not_reached}
+use Rattle.sym_hash.specs.Gnu.{gnu_walks_end, walk_ends}
+use Rattle.sym_hash.specs.Reached.{IsTableFor, Reached, WalksEnd}
+use Rattle.sym_hash.specs.Sysv.{ends_within, sysv_walks_end}
+use Rattle.sym_hash.specs.Verdict.{first_missed, hash_verdict, is_missed, reaches, unmet, walks_end}
+use Rattle.sym_hash.specs.Words.{bad_hash, table_words}
+
+-- ---- all of a list
+
+all_each : (p : ℕ → Bool) (xs : List ℕ) (x : ℕ) → list_all p xs ≡ true → Contains xs x → p x ≡ true
+all_each p xs x all has =
+    elim (cases_Bool (p (get_or xs has.0 x))) [
+      | inl on ↦ ap p (sym has.2) ∙ on
+      | inr off ↦ (let none = list_all_at p xs has.0 x has.1 off in cc)
+    ]
+
+all_of : (p : ℕ → Bool) (xs : List ℕ) → ((x : ℕ) → Contains xs x → p x ≡ true) → list_all p xs ≡ true
+all_of p [] each = refl
+all_of p (x ∷ xs) each = and_from (p x) (list_all p xs) (each x (0, omega arith, refl)) (all_of p xs (λ y has. let below = has.1 in each y (suc has.0, omega arith, has.2)))
+
+-- ---- a table
+
+-- the parts of a table
+abbrev table_of : Option GnuPart → Option SysvPart → HashTable
+table_of gnu sysv = record { gnu = gnu; sysv = sysv }
+
+reached_from : (gnu : Option GnuPart) (sysv : Option SysvPart) (name : List ℕ) (i : ℕ) → reaches (table_of gnu sysv) name i ≡ true → Reached (table_of gnu sysv) name i
+reached_from (Some g) sysv name i e = gnu_from g name i e
+reached_from None (Some s) name i e = sysv_from s name i e
+reached_from None None name i e = cc
+
+reached_is : (gnu : Option GnuPart) (sysv : Option SysvPart) (name : List ℕ) (i : ℕ) → Reached (table_of gnu sysv) name i → reaches (table_of gnu sysv) name i ≡ true
+reached_is (Some g) sysv name i r = gnu_is g name i r
+reached_is None (Some s) name i r = sysv_is s name i r
+reached_is None None name i r = absurd r
+
+gnu_walks : (g : GnuPart) (count : ℕ) → gnu_walks_end g count ≡ true → (bucket : ℕ) → Contains g.buckets bucket → walk_ends g count bucket ≡ true
+unfolding gnu_walks_end
+gnu_walks g count all bucket has = all_each (walk_ends g count) g.buckets bucket all has
+
+gnu_all : (g : GnuPart) (count : ℕ) → ((bucket : ℕ) → Contains g.buckets bucket → walk_ends g count bucket ≡ true) → gnu_walks_end g count ≡ true
+unfolding gnu_walks_end
+gnu_all g count each = all_of (walk_ends g count) g.buckets each
+
+sysv_walks : (s : SysvPart) → sysv_walks_end s ≡ true → (bucket : ℕ) → Contains s.buckets bucket → ends_within s.chain (length s.chain) bucket ≡ true
+unfolding sysv_walks_end
+sysv_walks s all bucket has = all_each (ends_within s.chain (length s.chain)) s.buckets bucket all has
+
+sysv_all : (s : SysvPart) → ((bucket : ℕ) → Contains s.buckets bucket → ends_within s.chain (length s.chain) bucket ≡ true) → sysv_walks_end s ≡ true
+unfolding sysv_walks_end
+sysv_all s each = all_of (ends_within s.chain (length s.chain)) s.buckets each
+
+walks_from : (gnu : Option GnuPart) (sysv : Option SysvPart) (count : ℕ) → walks_end (table_of gnu sysv) count ≡ true → WalksEnd (table_of gnu sysv) count
+walks_from (Some g) sysv count e = λ bucket has some. walk_from g count bucket (gnu_walks g count e bucket has) some
+walks_from None (Some s) count e = λ bucket has. ends_leads s.chain (length s.chain) bucket (sysv_walks s e bucket has)
+walks_from None None count e = tt
+
+walks_are : (gnu : Option GnuPart) (sysv : Option SysvPart) (count : ℕ) → WalksEnd (table_of gnu sysv) count → walks_end (table_of gnu sysv) count ≡ true
+walks_are (Some g) sysv count ends = gnu_all g count (λ bucket has. walk_is g count bucket (ends bucket has))
+walks_are None (Some s) count ends = sysv_all s (λ bucket has. let e = ends bucket has in leads_end s.chain (length s.chain) bucket e.0 0 e.2 refl e.1)
+walks_are None None count ends = refl
+
+-- ---- a symbol that is missed
+
+missed_from : (t : HashTable) (symbols : List Symbol) (first i : ℕ) → is_missed (reaches t) symbols first i ≡ true → IsMissedAt t symbols first i
+missed_from t symbols first i e =
+    let parts = and_parts (nat_le first i) _ e in
+    let s = by_symbol t i (slice_get symbols i) parts.1 in
+    record { symbol = s.0; exported = leb-true first i parts.0; stands = s.1; visible = s.2; missed = λ r. (let is = reached_is t.gnu t.sysv s.0.name i r in let not_is = s.3 in cc) }
+  where
+    by_symbol : (t : HashTable) (i : ℕ) (found : Option Symbol) → option_map_or (λ (s : Symbol). is_visible_definition s && not (reaches t s.name i)) found false ≡ true
+        → (s : Symbol) × (found ≡ Some s) × IsTrue (is_visible_definition s) × (reaches t s.name i ≡ false)
+    by_symbol t i None e = cc
+    by_symbol t i (Some s) e = let parts = and_parts (is_visible_definition s) (not (reaches t s.name i)) e in (s, refl, parts.0, not-true (reaches t s.name i) parts.1)
+
+missed_is : (t : HashTable) (symbols : List Symbol) (first i : ℕ) → IsMissedAt t symbols first i → is_missed (reaches t) symbols first i ≡ true
+missed_is t symbols first i m =
+    elim (cases_Bool (reaches t m.symbol.name i)) [
+      | inl found ↦ absurd (m.missed (reached_from t.gnu t.sysv m.symbol.name i found))
+      | inr lost ↦ rw (le-leb first i m.exported, m.stands, m.visible, lost) refl
+    ]
+
+pub missed_within : (t : HashTable) (symbols : List Symbol) (first i : ℕ) → IsMissedAt t symbols first i → i < length symbols
+missed_within t symbols first i m = slice_get_within symbols i m.symbol m.stands
+
+-- ---- the verdict
+
+-- the first symbol that is missed
+pub record IsFirst (t : HashTable) (symbols : List Symbol) (first i : ℕ) : Type 0 where
+  pub here : IsMissedAt t symbols first i
+  pub before : (j : ℕ) → j < i → IsMissedAt t symbols first j → ⊥
+
+first_from : (t : HashTable) (symbols : List Symbol) (first i : ℕ) → first_missed (reaches t) symbols first ≡ Some i → IsFirst t symbols first i
+unfolding first_missed
+first_from t symbols first i found =
+    let least = least_at (is_missed (reaches t) symbols first) (length symbols) i found in
+    record {
+      here = missed_from t symbols first i least.passes;
+      before = λ j below m. (let off = least.before j below in let on = missed_is t symbols first j m in cc);
+    }
+
+first_is : (t : HashTable) (symbols : List Symbol) (first i : ℕ) → IsFirst t symbols first i → first_missed (reaches t) symbols first ≡ Some i
+unfolding first_missed
+first_is t symbols first i f =
+    let test = is_missed (reaches t) symbols first in
+    let none = least_all test i (λ j below. off (test j) (λ on. f.before j below (missed_from t symbols first j on))) in
+    least_found test i (length symbols) none (missed_is t symbols first i f.here) (missed_within t symbols first i f.here)
+  where
+    off : (b : Bool) → (b ≡ true → ⊥) → b ≡ false
+    off true never = absurd (never refl)
+    off false never = refl
+
+none_from : (t : HashTable) (symbols : List Symbol) (first : ℕ) → first_missed (reaches t) symbols first ≡ None → (i : ℕ) → IsMissedAt t symbols first i → ⊥
+unfolding first_missed
+none_from t symbols first none i m =
+    let off = least_none (is_missed (reaches t) symbols first) (length symbols) i none (missed_within t symbols first i m) in
+    let on = missed_is t symbols first i m in
+    both off on
+  where
+    both : {b : Bool} → b ≡ false → b ≡ true → ⊥
+    both off on = cc
+
+none_is : (t : HashTable) (symbols : List Symbol) (first : ℕ) (found : Option ℕ) → first_missed (reaches t) symbols first ≡ found → ((i : ℕ) → IsMissedAt t symbols first i → ⊥) → found ≡ None
+none_is t symbols first None is never = refl
+none_is t symbols first (Some i) is never = absurd (never i (first_from t symbols first i is).here)
+
+-- each exported definition is reached, where none is missed
+reached_all : (t : HashTable) (symbols : List Symbol) (first : ℕ) → ((i : ℕ) → IsMissedAt t symbols first i → ⊥) → (i : ℕ) (s : Symbol) → first ≤ i → slice_get symbols i ≡ Some s → IsTrue (is_visible_definition s) → Reached t s.name i
+reached_all t symbols first never i s from at visible =
+    elim (cases_Bool (reaches t s.name i)) [
+      | inl found ↦ reached_from t.gnu t.sysv s.name i found
+      | inr lost ↦ absurd (never i (record { symbol = s; exported = from; stands = at; visible = visible; missed = λ r. lost_reached t s.name i lost r }))
+    ]
+  where
+    lost_reached : (t : HashTable) (name : List ℕ) (i : ℕ) → reaches t name i ≡ false → Reached t name i → ⊥
+    lost_reached t name i lost r = let on = reached_is t.gnu t.sysv name i r in cc
+
+never_missed : (t : HashTable) (symbols : List Symbol) (first : ℕ) → IsTableFor t symbols first → (i : ℕ) → IsMissedAt t symbols first i → ⊥
+never_missed t symbols first is i m = m.missed (is.reached i m.symbol m.exported m.stands m.visible)
+
+-- what is unmet
+unmet_parts : (ends : Bool) (missed : Option ℕ) → option_or (if ends then None else Some 0) missed ≡ None → (ends ≡ true) × (missed ≡ None)
+unmet_parts true missed e = (refl, e)
+unmet_parts false missed e = cc
+
+unmet_number : (ends : Bool) (missed : Option ℕ) (number : ℕ) → option_or (if ends then None else Some 0) missed ≡ Some number → ((ends ≡ false) × (number ≡ 0)) ⊎ ((ends ≡ true) × (missed ≡ Some number))
+unmet_number true missed number e = inr (refl, e)
+unmet_number false missed number e = inl (refl, cc)
+
+verdict_ok : (t : HashTable) (found : Option ℕ) (other : HashTable) → option_map_or (λ number. Err (bad_hash number)) found (Ok t) ≡ Ok other → (found ≡ None) × (t ≡ other)
+verdict_ok t None other e = (refl, cc)
+verdict_ok t (Some number) other e = cc
+
+verdict_err : (t : HashTable) (found : Option ℕ) (fault : NotAccepted) → option_map_or (λ number. Err (bad_hash number)) found (Ok t) ≡ Err fault → (number : ℕ) × (found ≡ Some number) × (bad_hash number ≡ fault)
+verdict_err t None fault e = cc
+verdict_err t (Some number) fault e = (number, refl, cc)
+
+bind_err : {A B : Type 0} (r : Result A NotAccepted) (f : A → Result B NotAccepted) (e : NotAccepted) → (r >>= f) ≡ Err e → (r ≡ Err e) ⊎ ((x : A) × (r ≡ Ok x) × (f x ≡ Err e))
+bind_err (Ok x) f e err = inr (x, refl, err)
+bind_err (Err d) f e err = inl cc
+
+table_from : (t : HashTable) (symbols : List Symbol) (first : ℕ) → unmet t symbols first ≡ None → IsTableFor t symbols first
+unfolding unmet
+table_from t symbols first e =
+    let u = unmet_parts (walks_end t (length symbols)) (first_missed (reaches t) symbols first) e in
+    record { ends = walks_from t.gnu t.sysv (length symbols) u.0; reached = reached_all t symbols first (none_from t symbols first u.1) }
+
+table_is : (t : HashTable) (symbols : List Symbol) (first : ℕ) → IsTableFor t symbols first → unmet t symbols first ≡ None
+unfolding unmet
+table_is t symbols first is =
+    let ends = walks_are t.gnu t.sysv (length symbols) is.ends in
+    let none = none_is t symbols first (first_missed (reaches t) symbols first) refl (never_missed t symbols first is) in
+    rw (ends, none) refl
+
+unmet_from : (bytes : List ℕ) (head : Head) (parts : DynParts) (t : HashTable) (number : ℕ) → table_words bytes head.headers parts.tags ≡ Ok t → unmet t parts.symbols parts.first_exported ≡ Some number → BreaksHash bytes head parts (bad_hash number)
+unfolding unmet
+unmet_from bytes head parts t number words e =
+    elim (unmet_number (walks_end t (length parts.symbols)) (first_missed (reaches t) parts.symbols parts.first_exported) number e) [
+      | inl walk ↦ rw walk.1 (no_end t words (λ ends. (let is = walks_are t.gnu t.sysv (length parts.symbols) ends in let off = walk.0 in cc)))
+      | inr symbol ↦
+          let f = first_from t parts.symbols parts.first_exported number symbol.1 in
+          not_reached t words (walks_from t.gnu t.sysv (length parts.symbols) symbol.0) number f.here f.before
+    ]
+
+unmet_walk : (t : HashTable) (symbols : List Symbol) (first : ℕ) → (WalksEnd t (length symbols) → ⊥) → unmet t symbols first ≡ Some 0
+unfolding unmet
+unmet_walk t symbols first never =
+    elim (cases_Bool (walks_end t (length symbols))) [
+      | inl ends ↦ absurd (never (walks_from t.gnu t.sysv (length symbols) ends))
+      | inr off ↦ rw off refl
+    ]
+
+unmet_symbol : (t : HashTable) (symbols : List Symbol) (first i : ℕ) → WalksEnd t (length symbols) → IsFirst t symbols first i → unmet t symbols first ≡ Some i
+unfolding unmet
+unmet_symbol t symbols first i ends f = rw (walks_are t.gnu t.sysv (length symbols) ends, first_is t symbols first i f) refl
+
+module _ (bytes : List ℕ) (head : Head) (parts : DynParts) where
+  pub accepted : (t : HashTable) → (hash_verdict bytes head parts ≡ Ok t) ↔ ((table_words bytes head.headers parts.tags ≡ Ok t) × IsTableFor t parts.symbols parts.first_exported)
+  unfolding hash_verdict
+  accepted t = (
+    λ e.
+        let b = bind_ok (table_words bytes head.headers parts.tags) _ t e in
+        let v = verdict_ok b.0 (unmet b.0 parts.symbols parts.first_exported) t b.2 in
+        (rw (← v.1) b.1, rw (← v.1) (table_from b.0 parts.symbols parts.first_exported v.0)),
+    λ s. rw (s.0, table_is t parts.symbols parts.first_exported s.1) refl,
+  )
+
+  refused_from : (fault : NotAccepted) → hash_verdict bytes head parts ≡ Err fault → BreaksHash bytes head parts fault
+  unfolding hash_verdict
+  refused_from fault e =
+      elim (bind_err (table_words bytes head.headers parts.tags) _ fault e) [
+        | inl none ↦ no_words fault none
+        | inr there ↦
+            let v = verdict_err there.0 (unmet there.0 parts.symbols parts.first_exported) fault there.2 in
+            rw (← v.2) (unmet_from bytes head parts there.0 v.0 there.1 v.1)
+      ]
+
+  refused_is : (fault : NotAccepted) → BreaksHash bytes head parts fault → hash_verdict bytes head parts ≡ Err fault
+  unfolding hash_verdict
+  refused_is fault (no_words other none) = rw none refl
+  refused_is fault (no_end t words never) = rw (words, unmet_walk t parts.symbols parts.first_exported never) refl
+  refused_is fault (not_reached t words ends i here before) = rw (words, unmet_symbol t parts.symbols parts.first_exported i ends (record { here = here; before = before })) refl
+
+  pub refused : (fault : NotAccepted) → (hash_verdict bytes head parts ≡ Err fault) ↔ BreaksHash bytes head parts fault
+  refused fault = (refused_from fault, refused_is fault)
+
+-- ---- the versions of symbols
+
+pub same_table : (t : HashTable) (symbols others : List Symbol) (first : ℕ) → length others ≡ length symbols → ((i : ℕ) (s : Symbol) → slice_get others i ≡ Some s → slice_get symbols i ≡ Some (record s { version = 0 })) → IsTableFor t symbols first → IsTableFor t others first
+same_table t symbols others first len same is = record {
+  ends = rw len is.ends;
+  reached = λ i s from at visible. is.reached i (record s { version = 0 }) from (same i s at) visible;
+}

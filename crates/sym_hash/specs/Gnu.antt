@@ -1,0 +1,54 @@
+-- GNU hash tables: buckets, chains and the bloom filter.
+use Rattle.std.specs.Prelude.{◌≡◌, ℕ, ◌-◌, ◌/◌, ◌%◌, ◌^◌, ◌==◌, ◌&&◌, ◌||◌, Bool, false, not, nat_lt, nat_le, List, length, take, drop, slice_index}
+use Rattle.std.specs.List.{list_any, list_all, slice_get}
+use Rattle.std.specs.Option.{option_map_or}
+use Rattle.ld_base.specs.declared.parts.GnuPart.{GnuPart}
+use Rattle.sym_hash.specs.Hash.{gnu_hash}
+
+-- a chain word that marks the end of its chain
+abbrev pub is_end : ℕ → Bool
+is_end word = word % 2 == 1
+
+-- some chain word marks an end, from that of one symbol on and before that of another
+abbrev pub ends_between : GnuPart → ℕ → ℕ → Bool
+ends_between g first past = list_any is_end (drop (first - g.symoffset) (take (past - g.symoffset) g.chain))
+
+-- the walk from a bucket ends inside so many symbols; that from an empty bucket has nowhere to go
+abbrev pub walk_ends : GnuPart → ℕ → ℕ → Bool
+walk_ends g count bucket = bucket == 0 || (nat_le g.symoffset bucket && ends_between g bucket count)
+
+-- every walk ends inside so many symbols
+unfoldable pub gnu_walks_end : GnuPart → ℕ → Bool
+gnu_walks_end g count = list_all (walk_ends g count) g.buckets
+
+-- the bit of a word
+abbrev pub has_bit : ℕ → ℕ → Bool
+has_bit word bit = word / 2 ^ bit % 2 == 1
+
+-- the word of the bloom filter for a hash
+abbrev pub bloom_word : GnuPart → ℕ → ℕ
+bloom_word g hash = slice_index g.bloom (hash / 64 % length g.bloom)
+
+-- the bloom filter has both bits of the hash
+unfoldable pub in_bloom : GnuPart → ℕ → Bool
+in_bloom g hash = has_bit (bloom_word g hash) (hash % 64) && has_bit (bloom_word g hash) (hash / 2 ^ g.shift % 64)
+
+-- the bucket of a hash, 0 where there is none
+abbrev pub gnu_bucket : GnuPart → ℕ → ℕ
+gnu_bucket g hash = slice_index g.buckets (hash % length g.buckets)
+
+-- the walk from a bucket comes to the symbol
+abbrev pub walk_reaches : GnuPart → ℕ → ℕ → Bool
+walk_reaches g bucket i = nat_lt 0 bucket && nat_le g.symoffset bucket && nat_le bucket i && not (ends_between g bucket i)
+
+-- the chain word of the symbol is the hash, but for the bit that marks the end
+abbrev pub has_word : GnuPart → ℕ → ℕ → Bool
+has_word g hash i = option_map_or (λ word. word / 2 == hash / 2) (slice_get g.chain (i - g.symoffset)) false
+
+-- the symbol is found under a name
+unfoldable pub gnu_reaches : GnuPart → List ℕ → ℕ → Bool
+gnu_reaches g name i = in_bloom g (gnu_hash name) && walk_reaches g (gnu_bucket g (gnu_hash name)) i && has_word g (gnu_hash name) i
+
+-- how the ends stand before a symbol: from each chain word on there is one, of those before the symbol, where the word is below a number
+abbrev pub EndsBelow : GnuPart → ℕ → ℕ → Type 0
+EndsBelow g past ended = (k : ℕ) → list_any is_end (drop k (take (past - g.symoffset) g.chain)) ≡ nat_lt k ended

@@ -1,0 +1,8 @@
+pub mod Breaks
+pub mod Follow
+pub mod Gnu
+pub mod Hash
+pub mod Reached
+pub mod Sysv
+pub mod Verdict
+pub mod Words

@@ -1,0 +1,186 @@
+//! GNU hash tables.
+
+ghost use Rattle.std.specs.Prelude.{◌≡◌, ℕ, ◌+◌, ◌-◌, ◌*◌, ◌/◌, ◌%◌, ◌^◌, ◌<◌, ◌≤◌, ◌==◌, ◌&&◌, ◌||◌, None, Some, if◌then◌else◌, not, nat_le, nat_lt, length, take, drop, slice_index};
+ghost use Rattle.std.specs.List.{list_all, list_any};
+ghost use Rattle.std.specs.Option.{option_or};
+ghost use Rattle.ld_base.specs.Symbol.{is_visible_definition};
+ghost use Rattle.sym_hash.specs.Gnu.{EndsBelow, gnu_reaches, gnu_walks_end, has_bit, has_word, in_bloom, is_end, walk_reaches};
+ghost use Rattle.sym_hash.specs.Verdict.{first_missed};
+
+use crate::hash::gnu_hash;
+use ld_base::{GnuPart, Symbol};
+
+/// Whether a chain word marks the end of its chain.
+fn is_end(word: u32) -> bool
+    ensures { result ≡ is_end word }
+{
+    word % 2 == 1
+}
+
+/// One more than the place of the last word that marks an end, 0 where none does.
+fn ended(words: &[u32]) -> usize
+    ensures { (k : ℕ) → list_any is_end (drop k words.now) ≡ nat_lt k result }
+{
+    let mut ended = 0;
+    for (index, word) in words.iter().enumerate() {
+        ended = if is_end(*word) { index + 1 } else { ended };
+    }
+    ended
+}
+
+/// The words of those symbols that are below a number.
+fn words_below(gnu: &GnuPart, past: usize) -> &[u32]
+    ensures { result.now ≡ take (past - gnu.now.symoffset) gnu.now.chain }
+{
+    let words = gnu.chain.as_slice();
+    &words[..words.len().min(past.saturating_sub(gnu.symoffset as usize))]
+}
+
+/// Whether the walk from a bucket ends, if it begins before the last end.
+fn walk_ends(symoffset: u32, ended: usize, bucket: u32) -> bool
+    ensures { result ≡ (bucket == 0 || (nat_le symoffset bucket && nat_lt (bucket - symoffset) ended)) }
+{
+    bucket == 0 || (bucket >= symoffset && ((bucket - symoffset) as usize) < ended)
+}
+
+fn all_end(buckets: &[u32], symoffset: u32, ended: usize) -> bool
+    ensures { result ≡ list_all (λ b. b == 0 || (nat_le symoffset b && nat_lt (b - symoffset) ended)) buckets.now }
+{
+    buckets
+        .iter()
+        .all(|bucket| walk_ends(symoffset, ended, *bucket))
+}
+
+/// Whether every walk ends inside so many symbols.
+#[tactic(auto, unfolding(crate::specs::Gnu::gnu_walks_end))]
+fn walks_end(gnu: &GnuPart, count: usize) -> bool
+    ensures { result ≡ gnu_walks_end gnu.now count }
+{
+    let ended = ended(words_below(gnu, count));
+    all_end(gnu.buckets.as_slice(), gnu.symoffset, ended)
+}
+
+/// Whether a word has a bit.
+fn has_bit(word: u64, bit: u32) -> bool
+    requires { bit < 64 }
+    ensures { result ≡ has_bit word bit }
+{
+    (word >> bit) % 2 == 1
+}
+
+/// The hash without its lowest bits.
+fn shifted(hash: u32, shift: u32) -> u32
+    ensures { result ≡ hash / 2 ^ shift }
+{
+    if shift < u32::BITS { hash >> shift } else { 0 }
+}
+
+/// The word at a place modulo the number of words, 0 where there is none.
+fn bloom_word(bloom: &[u64], place: u32) -> u64
+    ensures { result ≡ slice_index bloom.now (place % length bloom.now) }
+{
+    if bloom.is_empty() {
+        0
+    } else {
+        bloom[place as usize % bloom.len()]
+    }
+}
+
+/// Whether the bloom filter has both bits of the hash.
+#[tactic(auto, unfolding(crate::specs::Gnu::in_bloom))]
+fn in_bloom(gnu: &GnuPart, hash: u32) -> bool
+    ensures { result ≡ in_bloom gnu.now hash }
+{
+    let word = bloom_word(gnu.bloom.as_slice(), hash / 64);
+    has_bit(word, hash % 64) && has_bit(word, shifted(hash, gnu.shift) % 64)
+}
+
+/// The bucket of a hash, 0 where there is none.
+pub(crate) fn bucket_of(buckets: &[u32], hash: u32) -> u32
+    ensures { result ≡ slice_index buckets.now (hash % length buckets.now) }
+{
+    if buckets.is_empty() {
+        0
+    } else {
+        buckets[hash as usize % buckets.len()]
+    }
+}
+
+/// Whether the walk from a bucket comes to the symbol: no end stands between the two.
+fn walk_reaches(gnu: &GnuPart, bucket: u32, index: usize, ended: usize) -> bool
+    ensures { EndsBelow gnu.now index ended → result ≡ walk_reaches gnu.now bucket index }
+{
+    bucket > 0
+        && bucket >= gnu.symoffset
+        && bucket as usize <= index
+        && (bucket - gnu.symoffset) as usize >= ended
+}
+
+/// Whether the chain word of the symbol is the hash, but for its lowest bit.
+fn has_word(gnu: &GnuPart, hash: u32, index: usize) -> bool
+    ensures { result ≡ has_word gnu.now hash index }
+{
+    let words = gnu.chain.as_slice();
+    let place = index.saturating_sub(gnu.symoffset as usize);
+    place < words.len() && words[place] / 2 == hash / 2
+}
+
+/// Whether the symbol is found under a name.
+#[tactic(auto, unfolding(crate::specs::Gnu::gnu_reaches))]
+fn reaches(gnu: &GnuPart, name: &[u8], index: usize, ended: usize) -> bool
+    ensures { EndsBelow gnu.now index ended → result ≡ gnu_reaches gnu.now name.now index }
+{
+    let hash = gnu_hash(name);
+    let bucket = bucket_of(gnu.buckets.as_slice(), hash);
+    in_bloom(gnu, hash) && walk_reaches(gnu, bucket, index, ended) && has_word(gnu, hash, index)
+}
+
+/// Whether the symbol is an exported definition that isn't found.
+fn is_missed(gnu: &GnuPart, symbol: &Symbol, first: u32, index: usize, ended: usize) -> bool
+    ensures { EndsBelow gnu.now index ended
+        → result ≡ (nat_le first index && (is_visible_definition symbol.now && not (gnu_reaches gnu.now symbol.now.name index))) }
+{
+    index >= first as usize
+        && symbol.is_visible_definition()
+        && !reaches(gnu, symbol.name.as_bytes(), index, ended)
+}
+
+/// How the ends stand behind the word of a symbol.
+fn ended_after(gnu: &GnuPart, index: usize, ended: usize) -> usize
+    requires { index < 2 ^ 63 }
+    ensures { EndsBelow gnu.now index ended → EndsBelow gnu.now (index + 1) result }
+{
+    let words = gnu.chain.as_slice();
+    let symoffset = gnu.symoffset as usize;
+    if index >= symoffset && index - symoffset < words.len() && is_end(words[index - symoffset]) {
+        index - symoffset + 1
+    } else {
+        ended
+    }
+}
+
+/// The first exported definition that isn't found under its name.
+#[tactic(auto, unfolding(crate::specs::Verdict::first_missed))]
+fn first_missed(gnu: &GnuPart, symbols: &[Symbol], first: u32) -> Option<usize>
+    ensures { result ≡ first_missed (gnu_reaches gnu.now) symbols.now first }
+{
+    let mut ended = 0;
+    for (index, symbol) in symbols.iter().enumerate() {
+        if is_missed(gnu, symbol, first, index, ended) {
+            return Some(index);
+        }
+        ended = ended_after(gnu, index, ended);
+    }
+    None
+}
+
+/// What breaks rule 19.
+pub(crate) fn unmet(gnu: &GnuPart, symbols: &[Symbol], first: u32) -> Option<usize>
+    ensures { result ≡ option_or (if gnu_walks_end gnu.now (length symbols.now) then None else Some 0) (first_missed (gnu_reaches gnu.now) symbols.now first) }
+{
+    if walks_end(gnu, symbols.len()) {
+        first_missed(gnu, symbols, first)
+    } else {
+        Some(0)
+    }
+}
