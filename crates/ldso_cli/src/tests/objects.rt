@@ -1,15 +1,6 @@
 //! Small objects for the tests, laid out field by field (gABI, ELF-64).
 
-use ld_base::Bytes;
 use std::alloc::{AllocError, Global};
-
-/// What an object needs, calls and defines. Each function that it calls has a slot.
-#[derive(Clone, Copy)]
-pub struct Source<'a> {
-    pub needed: &'a [&'a str],
-    pub calls: &'a [&'a str],
-    pub defines: &'a [&'a str],
-}
 
 const SIZE: usize = 0x600;
 
@@ -73,10 +64,11 @@ impl Layout {
         }
     }
 
-    /// Puts a string, and gives its offset in the string table.
-    fn put_string(&mut self, text: &str) -> u64 {
+    /// Puts the name in a word, which is behind its first letter, and gives its offset in the string
+    /// table.
+    fn put_string(&mut self, word: &str) -> u64 {
         let start = self.string;
-        for byte in text.bytes() {
+        for byte in word.bytes().skip(1) {
             self.put(self.string, 1, u64::from(byte));
             self.string = self.string.saturating_add(1);
         }
@@ -91,8 +83,8 @@ impl Layout {
     }
 
     /// Puts a global function, defined where its section isn't 0.
-    fn put_symbol(&mut self, name: &str, section: u64) {
-        let name = self.put_string(name);
+    fn put_symbol(&mut self, word: &str, section: u64) {
+        let name = self.put_string(word);
         self.put(self.symbol, 4, name);
         self.put(self.symbol.saturating_add(4), 1, 0x12);
         self.put(self.symbol.saturating_add(6), 2, section);
@@ -100,13 +92,31 @@ impl Layout {
         self.symbol = self.symbol.saturating_add(24);
     }
 
-    /// Puts the slot of a symbol.
-    fn put_slot(&mut self, index: usize) {
+    /// Puts the slot of the next symbol.
+    fn put_slot(&mut self) {
+        let index = self.symbol.saturating_sub(SYMBOLS) / 24;
         let place = GOT.saturating_add(index.saturating_mul(8));
         self.put(self.slot, 8, place as u64);
         self.put(self.slot.saturating_add(8), 4, 5);
         self.put(self.slot.saturating_add(12), 4, index as u64);
         self.slot = self.slot.saturating_add(24);
+    }
+
+    /// Puts what a word says: `+` and a library that is needed, `?` and a function that is called
+    /// through a slot, `=` and one that is defined.
+    fn put_word(&mut self, word: &str) {
+        match word.as_bytes().first() {
+            Some(b'+') => {
+                let offset = self.put_string(word);
+                self.put_entry(1, offset);
+            }
+            Some(b'?') => {
+                self.put_slot();
+                self.put_symbol(word, 0);
+            }
+            Some(b'=') => self.put_symbol(word, 1),
+            _ => {}
+        }
     }
 
     /// Puts the entries that every object has, and those of the slots where there are any.
@@ -128,8 +138,8 @@ impl Layout {
     }
 }
 
-/// The file of an object.
-pub fn object(alloc: Global, source: Source) -> Result<Bytes, AllocError> {
+/// The bytes of an object that has what the words of this line say.
+pub fn object(alloc: Global, line: &str) -> Result<Vec<u8>, AllocError> {
     let mut layout = Layout {
         bytes: vec![in alloc; 0; SIZE]?,
         string: STRINGS + 1,
@@ -140,18 +150,10 @@ pub fn object(alloc: Global, source: Source) -> Result<Bytes, AllocError> {
     for (at, width, value) in HEAD {
         layout.put(at, width, value);
     }
-    for name in source.needed {
-        let offset = layout.put_string(name);
-        layout.put_entry(1, offset);
-    }
-    for (place, name) in source.calls.iter().enumerate() {
-        layout.put_symbol(name, 0);
-        layout.put_slot(place.saturating_add(1));
-    }
-    for name in source.defines {
-        layout.put_symbol(name, 1);
+    for word in line.split(' ') {
+        layout.put_word(word);
     }
     layout.put_tables();
     let Layout { bytes, .. } = layout;
-    Ok(Bytes::from(bytes))
+    Ok(bytes)
 }
