@@ -1,7 +1,14 @@
 pub mod Before
 pub mod Entries
+pub mod HashWords
+pub mod Memory
 pub mod Name
+pub mod Named
+pub mod Relr
 pub mod Reloc
+pub mod Rules
 pub mod Symbol
+pub mod Tables
 pub mod Tag
 pub mod TagNumbers
+pub mod Verdict

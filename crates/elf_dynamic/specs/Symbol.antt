@@ -6,6 +6,10 @@ use Rattle.ld_base.specs.declared.object.Symbol.{Symbol}
 use Rattle.elf_dynamic.specs.Name.{name_at, IsStringAt}
 use Rattle.elf_dynamic.specs.Entries.{◌>>=◌, entries_of, AreEntries}
 
+-- the offset of its name in the string table (st_name)
+abbrev pub symbol_name : List ℕ → ℕ → ℕ
+symbol_name bytes at = field 4 bytes at
+
 -- a symbol of this name, its other fields at their places; its version isn't here
 abbrev pub symbol_named : List ℕ → ℕ → List ℕ → Symbol
 symbol_named bytes at name = record {
@@ -21,7 +25,7 @@ symbol_named bytes at name = record {
 -- the symbol at a place, its name from the string table
 unfoldable pub symbol_at : List ℕ → List ℕ → ℕ → Result Symbol NotAccepted
 symbol_at bytes strings at = do
-  name ← name_at strings (field 4 bytes at)
+  name ← name_at strings (symbol_name bytes at)
   Ok (symbol_named bytes at name)
 
 -- the first n symbols, or the first name that can't be read

@@ -17,12 +17,14 @@
 #![tactic(auto)]
 
 mod law;
+mod reader;
 mod reloc;
 mod string;
 mod symbol;
 mod tag;
 
-pub use law::one_reading;
+pub use law::{one_reading, one_verdict};
+pub use reader::read_dynamic;
 pub use reloc::{R_RISCV_JUMP_SLOT, RELOC_SIZE, read_relocs};
 pub use string::{STRING_LIMIT, read_name, read_names, string_at};
 pub use symbol::{SYMBOL_SIZE, read_symbols};

@@ -1,0 +1,38 @@
+-- Packed relative relocations (gABI, "Relocation": DT_RELR). Each word names places, by itself or by its bits.
+use Rattle.std.specs.Prelude.{ℕ, suc, ◌+◌, ◌-◌, ◌*◌, ◌/◌, ◌%◌, ◌^◌, ◌==◌, Bool, false, if◌then◌else◌, List, [], ◌∷◌, ◌++◌, length, map, filter, fold}
+use Rattle.std.specs.List.{range_with_len}
+use Rattle.ld_base.specs.Field.{field}
+use Rattle.elf_head.specs.Table.{table}
+
+-- the 64-bit words of the table's bytes
+abbrev pub relr_words : List ℕ → List ℕ
+relr_words bytes = table (field 8 bytes) 0 8 (length bytes / 8)
+
+-- the bits from 1 to 63 that a word has
+abbrev pub bits_of : ℕ → List ℕ
+bits_of word = filter (λ i. word / 2 ^ i % 2 == 1) (range_with_len 1 63)
+
+-- the places that words name, and the place from which the next word's bits count
+pub record Named : Type 0 where
+  pub places : List ℕ
+  pub next : ℕ
+
+-- an even word names the place equal to it, and an odd one a doubleword for each of its bits, of which the first is the next one
+abbrev pub name_more : Named → ℕ → Named
+name_more named word =
+    if word % 2 == 0
+    then record { places = named.places ++ word ∷ []; next = word + 8 }
+    else record { places = named.places ++ map (λ i. named.next + 8 * (i - 1)) (bits_of word); next = named.next + 504 }
+
+-- what these words name
+unfoldable pub named_by_words : List ℕ → Named
+named_by_words words = fold name_more (record { places = []; next = 0 }) words
+
+-- the places that a table names, in order
+abbrev pub relr_places : List ℕ → List ℕ
+relr_places bytes = (named_by_words (relr_words bytes)).places
+
+-- the first word has to name a place by itself
+abbrev pub begins_odd : List ℕ → Bool
+begins_odd [] = false
+begins_odd (word ∷ words) = word % 2 == 1
