@@ -16,18 +16,23 @@
 //! entry stands at its own place.
 #![tactic(auto)]
 
+mod hash_words;
 mod law;
 mod reader;
 mod reloc;
 mod string;
 mod symbol;
+mod table_rules;
+mod tables;
 mod tag;
 
+pub use hash_words::read_hash_words;
 pub use law::{one_reading, one_verdict};
 pub use reader::read_dynamic;
 pub use reloc::{R_RISCV_JUMP_SLOT, RELOC_SIZE, read_relocs};
 pub use string::{STRING_LIMIT, read_name, read_names, string_at};
 pub use symbol::{SYMBOL_SIZE, read_symbols};
+pub use tables::value_of;
 pub use tag::{
     DT_BIND_NOW, DT_FINI, DT_FINI_ARRAY, DT_FINI_ARRAYSZ, DT_FLAGS, DT_FLAGS_1, DT_GNU_HASH,
     DT_HASH, DT_INIT, DT_INIT_ARRAY, DT_INIT_ARRAYSZ, DT_JMPREL, DT_NEEDED, DT_NULL, DT_PLTGOT,

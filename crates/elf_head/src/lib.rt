@@ -17,8 +17,8 @@
 //!    initial bytes belong to a mapped segment and whose memory and alignment are at most 1 MiB.
 //! 9. The file has at most 8 MiB.
 //!
-//! [`file_bytes`] gives the bytes of the file that stand for a range of addresses, and [`bytes_from`]
-//! those from an address to the end of its segment.
+//! [`file_bytes`] gives the bytes of the file that stand for a range of addresses, where there are
+//! such ([`is_readable`]), and [`bytes_from`] those from an address to the end of its segment.
 #![tactic(auto)]
 
 mod elf_header;
@@ -31,6 +31,6 @@ mod tests;
 mod verdict;
 
 pub use program_headers::{PT_DYNAMIC, PT_GNU_RELRO, PT_LOAD, PT_TLS};
-pub use range::{bytes_from, file_bytes};
+pub use range::{bytes_from, file_bytes, is_readable};
 pub use reader::read_head;
 pub use verdict::one_verdict;

@@ -41,8 +41,9 @@ pub fn bytes_from<'a>(bytes: &'a [u8], head: &Head, start: u64) -> &'a [u8]
     }
 }
 
-/// Whether the range has bytes in the file.
-pub(crate) fn is_readable(headers: &[Header], start: u64, size: u64) -> bool
+/// Whether so many addresses from a start on have bytes in the file, those of one mapped segment. A
+/// range of no addresses is readable anywhere.
+pub fn is_readable(headers: &[Header], start: u64, size: u64) -> bool
     ensures { result ≡ readable headers.now start size }
 {
     size == 0 || covering(headers, start, size).is_some()

@@ -1,0 +1,187 @@
+//! Where the tables of an object stand, and what they say (gABI, "Dynamic Section").
+
+ghost use Rattle.std.specs.Prelude.{◌≡◌, ◌==◌, ◌+◌, ◌*◌, ◌≤◌, ◌<◌, ◌^◌, Ok, IfOk, IfSome, find, fold, length, max, option_map};
+ghost use Rattle.std.specs.Option.{option_copied, option_and_then, option_map_or};
+ghost use Rattle.elf_head.specs.Rules.{head_verdict};
+ghost use Rattle.elf_head.specs.declared.program_headers.TheConstants.{PT_DYNAMIC};
+ghost use Rattle.ld_base.specs.declared.object.Reloc.{Reloc};
+ghost use Rattle.elf_dynamic.specs.Tables.{bytes_in, dynamic_tags, flags_of, first_exported, has, has_flag, is_tail, less_tail, named_count, plt_span, rela_span, span_of, symbol_count, value_of};
+
+use crate::tag::{
+    DT_BIND_NOW, DT_FLAGS, DT_FLAGS_1, DT_JMPREL, DT_PLTRELSZ, DT_RELA, DT_RELASZ, DT_SYMBOLIC,
+    last_of, read_tags,
+};
+use elf_head::{PT_DYNAMIC, file_bytes};
+use ld_base::{HashTable, Head, Header, ObjFlags, Reloc, Span, Tag, Tags};
+use std::alloc::{AllocError, Global};
+
+/// DF_SYMBOLIC, DF_TEXTREL and DF_BIND_NOW of DT_FLAGS.
+const DF_SYMBOLIC: u64 = 2;
+pub(crate) const DF_TEXTREL: u64 = 4;
+const DF_BIND_NOW: u64 = 8;
+/// DF_1_NOW and DF_1_NODELETE of DT_FLAGS_1.
+const DF_1_NOW: u64 = 1;
+const DF_1_NODELETE: u64 = 8;
+
+/// The value of a tag, 0 where it doesn't stand.
+pub fn value_of(tags: &[Tag], tag: u64) -> u64
+    ensures { result ≡ value_of tags.now tag }
+{
+    last_of(tags, tag).unwrap_or(0)
+}
+
+/// Whether a tag stands.
+pub(crate) fn has(tags: &[Tag], tag: u64) -> bool
+    ensures { result ≡ has tags.now tag }
+{
+    last_of(tags, tag).is_some()
+}
+
+/// Whether the value of a tag has a flag, which is one bit.
+pub(crate) fn has_flag(tags: &[Tag], tag: u64, flag: u64) -> bool
+    requires { 0 < flag }
+    ensures { result ≡ has_flag tags.now tag flag }
+{
+    value_of(tags, tag) / flag % 2 == 1
+}
+
+/// The header of the dynamic table.
+fn dynamic_header(headers: &[Header]) -> Option<&Header>
+    ensures { option_copied result ≡ find (λ h. h.kind == PT_DYNAMIC) headers.now }
+{
+    headers.iter().find(|header| header.kind == PT_DYNAMIC)
+}
+
+/// The entries of the dynamic table, where it is in the file and ends.
+#[tactic(auto, unfolding(crate::specs::Tables::dynamic_tags))]
+pub(crate) fn dynamic_tags(
+    alloc: Global,
+    bytes: &[u8],
+    head: &Head,
+) -> Result<Option<Tags>, AllocError>
+    requires { head_verdict bytes.now ≡ Ok head.now }
+    ensures { IfOk result (λ tags. tags ≡ dynamic_tags bytes.now head.now.headers) }
+{
+    let Some(header) = dynamic_header(head.headers.as_slice()) else {
+        return Ok(None);
+    };
+    match file_bytes(bytes, head, header.vaddr, header.filesz) {
+        Some(table) => read_tags(alloc, table),
+        None => Ok(None),
+    }
+}
+
+/// The range that two tags name, by its address and its size. A range of no bytes counts as not
+/// there.
+#[tactic(auto, unfolding(crate::specs::Tables::span_of))]
+pub(crate) fn span_of(tags: &[Tag], address: u64, size: u64) -> Option<Span>
+    ensures { result ≡ span_of tags.now address size }
+{
+    let start = last_of(tags, address)?;
+    let size = value_of(tags, size);
+    if size == 0 {
+        return None;
+    }
+    Some(Span { start, size })
+}
+
+/// The bytes of a range, none where they aren't in the file.
+pub(crate) fn bytes_in<'a>(bytes: &'a [u8], head: &Head, span: Option<Span>) -> &'a [u8]
+    requires { head_verdict bytes.now ≡ Ok head.now }
+    ensures { result.now ≡ bytes_in bytes.now head.now.headers span }
+{
+    let Some(span) = span else {
+        return &[];
+    };
+    match file_bytes(bytes, head, span.start, span.size) {
+        Some(part) => part,
+        None => &[],
+    }
+}
+
+/// Whether one table is the tail of another.
+fn is_tail(plt: Span, rela: Span) -> bool
+    ensures { result ≡ is_tail plt rela }
+{
+    rela.start <= plt.start
+        && plt.start - rela.start <= rela.size
+        && rela.size - (plt.start - rela.start) == plt.size
+}
+
+/// Where the relocations of the slots stand.
+pub(crate) fn plt_span(tags: &[Tag]) -> Option<Span>
+    ensures { result ≡ plt_span tags.now }
+{
+    span_of(tags, DT_JMPREL, DT_PLTRELSZ)
+}
+
+/// Where the other relocations stand, less those of the slots where those are their tail, as GNU ld
+/// lays them out for RISC-V.
+#[tactic(auto, unfolding(crate::specs::Tables::rela_span))]
+pub(crate) fn rela_span(tags: &[Tag]) -> Option<Span>
+    ensures { result ≡ rela_span tags.now }
+{
+    let rela = span_of(tags, DT_RELA, DT_RELASZ)?;
+    match plt_span(tags) {
+        Some(plt) if is_tail(plt, rela) => Some(Span {
+            start: rela.start,
+            size: plt.start - rela.start,
+        }),
+        _ => Some(rela),
+    }
+}
+
+/// One more than the greatest symbol that a relocation names, or so much from below.
+fn named_count(relocs: &[Reloc], least: u64) -> u64
+    requires { least < 2 ^ 33 }
+    ensures count { result ≡ fold (λ n (r : Reloc). max n (r.symbol + 1)) least relocs.now }
+    ensures few { result < 2 ^ 33 }
+{
+    let mut count = least;
+    for reloc in relocs {
+        count = count.max(u64::from(reloc.symbol) + 1);
+    }
+    count
+}
+
+/// How many symbols the hash tables and the relocations tell of.
+#[tactic(auto, unfolding(crate::specs::Tables::symbol_count))]
+pub(crate) fn symbol_count(words: &HashTable, relocs: &[Reloc], slots: &[Reloc]) -> u64
+    requires few { IfSome words.now.sysv (λ s. length s.chain < 2 ^ 32) }
+    requires short { IfSome words.now.gnu (λ g. length g.chain < 2 ^ 32) }
+    ensures count { result ≡ symbol_count words.now relocs.now slots.now }
+    ensures few { result < 2 ^ 33 }
+{
+    if let Some(sysv) = &words.sysv {
+        return sysv.chain.len() as u64;
+    }
+    let named = named_count(slots, named_count(relocs, 0));
+    match &words.gnu {
+        Some(gnu) => named.max(u64::from(gnu.symoffset) + gnu.chain.len() as u64),
+        None => named,
+    }
+}
+
+/// The least symbol that a hash table may lead to.
+pub(crate) fn first_exported(words: &HashTable) -> u32
+    ensures { result ≡ first_exported words.now }
+{
+    match &words.gnu {
+        Some(gnu) => gnu.symoffset,
+        None => 1,
+    }
+}
+
+/// The marks of the dynamic table that change how an object is linked.
+#[tactic(auto, unfolding(crate::specs::Tables::flags_of))]
+pub(crate) fn flags_of(tags: &[Tag]) -> ObjFlags
+    ensures { result ≡ flags_of tags.now }
+{
+    ObjFlags {
+        symbolic: has(tags, DT_SYMBOLIC) || has_flag(tags, DT_FLAGS, DF_SYMBOLIC),
+        bind_now: has(tags, DT_BIND_NOW)
+            || has_flag(tags, DT_FLAGS, DF_BIND_NOW)
+            || has_flag(tags, DT_FLAGS_1, DF_1_NOW),
+        nodelete: has_flag(tags, DT_FLAGS_1, DF_1_NODELETE),
+    }
+}
