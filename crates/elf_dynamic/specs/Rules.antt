@@ -97,9 +97,9 @@ abbrev pub first_bad : List (ℕ × Bool) → Option ℕ
 first_bad [] = None
 first_bad (table ∷ tables) = if table.1 then Some table.0 else first_bad tables
 
--- the first tag whose table is bad, in ascending order of tags; the symbols themselves come last
-unfoldable pub bad_table : List Header → List Tag → HashTable → ℕ → Option ℕ
-bad_table headers tags words count = first_bad (
+-- the tables, in ascending order of their tags
+abbrev pub table_checks : List Header → List Tag → HashTable → List (ℕ × Bool)
+table_checks headers tags words =
     (dt_hash, has_bad_hash words tags)
     ∷ (dt_strtab, has_bad_strings headers tags)
     ∷ (dt_symtab, has_bad_symbols tags)
@@ -112,8 +112,11 @@ bad_table headers tags words count = first_bad (
     ∷ (dt_gnu_hash, has_bad_gnu_hash words tags)
     ∷ (dt_verdef, lacks_count tags dt_verdef dt_verdefnum)
     ∷ (dt_verneed, lacks_count tags dt_verneed dt_verneednum)
-    ∷ (dt_symtab, lacks_symbols headers tags count)
-    ∷ [])
+    ∷ []
+
+-- the first tag whose table is bad; the symbols themselves, of which there are so many, come last
+unfoldable pub bad_table : List Header → List Tag → HashTable → ℕ → Option ℕ
+bad_table headers tags words count = first_bad (table_checks headers tags words ++ (dt_symtab, lacks_symbols headers tags count) ∷ [])
 
 -- ---- rule 12: the strings
 
@@ -121,7 +124,7 @@ bad_table headers tags words count = first_bad (
 abbrev pub name_offsets : List Tag → List ℕ
 name_offsets [] = []
 name_offsets (t ∷ tags) =
-    if has_tag dt_needed t || (has_tag dt_soname t && not (has tags dt_soname)) then t.value ∷ name_offsets tags else name_offsets tags
+    if has_tag dt_needed t || (has_tag dt_soname t && not (list_any (has_tag dt_soname) tags)) then t.value ∷ name_offsets tags else name_offsets tags
 
 -- no string of at most 4,095 bytes stands at the offset
 abbrev pub lacks_string : List ℕ → ℕ → Bool

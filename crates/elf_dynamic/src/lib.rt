@@ -21,6 +21,7 @@ mod law;
 mod reader;
 mod reloc;
 mod string;
+mod string_rules;
 mod symbol;
 mod table_rules;
 mod tables;

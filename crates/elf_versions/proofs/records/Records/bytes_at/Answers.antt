@@ -1,6 +1,6 @@
 use Rattle.std.proofs.Common.{ap}
 use Rattle.std.specs.Prelude.{is_some}
-use Rattle.elf_versions.proofs.Low.{low}
+use Rattle.elf_head.proofs.Low.{low}
 use Rattle.elf_versions.proofs.records.Records.bytes_at.Goals as goal
 
 pub returns-in-Some-clause-low : goal.returns-in-Some-clause-low
