@@ -3,11 +3,8 @@ use Rattle.std.specs.Prelude.{◌≡◌, ℕ, ◌-◌, ◌/◌, ◌%◌, ◌^◌
 use Rattle.std.specs.List.{list_any, list_all, slice_get}
 use Rattle.std.specs.Option.{option_map_or}
 use Rattle.ld_base.specs.declared.parts.GnuPart.{GnuPart}
+pub use Rattle.elf_dynamic.specs.HashWords.{is_end}
 use Rattle.sym_hash.specs.Hash.{gnu_hash}
-
--- a chain word that marks the end of its chain
-abbrev pub is_end : ℕ → Bool
-is_end word = word % 2 == 1
 
 -- some chain word marks an end, from that of one symbol on and before that of another
 abbrev pub ends_between : GnuPart → ℕ → ℕ → Bool

@@ -1,137 +1,14 @@
-//! Reading the words of hash tables (gABI, "Hash Table").
+//! The words of the hash tables of an object.
 
-ghost use Rattle.std.specs.Prelude.{◌≡◌, ◌+◌, ◌*◌, ◌≤◌, ◌<◌, ◌^◌, Ok, IfOk, IfSome, length, fold, max, position};
-ghost use Rattle.std.specs.Result.{result_map_both};
+ghost use Rattle.std.specs.Prelude.{◌≡◌, ◌<◌, ◌^◌, Ok, IfOk, IfSome, length};
 ghost use Rattle.elf_head.specs.Gives.{Gives};
 ghost use Rattle.elf_head.specs.Rules.{head_verdict};
-ghost use Rattle.elf_dynamic.specs.Tag.{last_of};
-ghost use Rattle.elf_dynamic.specs.TagNumbers.{dt_gnu_hash, dt_hash};
 ghost use Rattle.ld_base.specs.declared.fault.ReadFault.TheVariants as faults;
-ghost use Rattle.sym_hash.specs.Gnu.{is_end};
-ghost use Rattle.sym_hash.specs.Words.{bad_hash, chain_words, gnu_chain, gnu_words, ints, longs, part_of, sysv_words, table_words, chain_at};
+ghost use Rattle.sym_hash.specs.Words.{bad_hash, lacks_words, table_words};
 
-use elf_dynamic::{DT_GNU_HASH, DT_HASH, last_of};
-use elf_head::bytes_from;
-use ld_base::{
-    GnuPart, HashTable, Head, Ints, Longs, NotAccepted, ReadFault, SysvPart, Tag, field32, field64,
-};
-use std::alloc::{AllocError, Global};
-
-/// So many 32-bit words from a place on.
-fn read_ints(alloc: Global, bytes: &[u8], at: usize, count: usize) -> Result<Ints, AllocError>
-    requires { at + 4 * count ≤ length bytes.now }
-    ensures words { IfOk result (λ words. words ≡ ints bytes.now at count) }
-    ensures count { IfOk result (λ words. length words ≡ count) }
-{
-    let mut words = Vec::with_capacity(alloc, count)?;
-    for index in 0..count {
-        words.push(field32(bytes, at + 4 * index))?;
-    }
-    Ok(Ints::from(words))
-}
-
-/// So many 64-bit words from a place on.
-fn read_longs(alloc: Global, bytes: &[u8], at: usize, count: usize) -> Result<Longs, AllocError>
-    requires { at + 8 * count ≤ length bytes.now }
-    ensures { IfOk result (λ words. words ≡ longs bytes.now at count) }
-{
-    let mut words = Vec::with_capacity(alloc, count)?;
-    for index in 0..count {
-        words.push(field64(bytes, at + 8 * index))?;
-    }
-    Ok(Longs::from(words))
-}
-
-/// The words of a System V hash table, from the bytes at its address on.
-#[tactic(auto, unfolding(crate::specs::Words::sysv_words))]
-fn sysv_words(alloc: Global, bytes: &[u8]) -> Result<Option<SysvPart>, AllocError>
-    ensures words { IfOk result (λ part. part ≡ sysv_words bytes.now) }
-    ensures few { IfOk result (λ part. IfSome part (λ s. length s.chain < 2 ^ 32)) }
-{
-    if bytes.len() < 8 {
-        return Ok(None);
-    }
-    let buckets = field32(bytes, 0) as usize;
-    let chain = field32(bytes, 4) as usize;
-    if bytes.len() < 8 + 4 * buckets + 4 * chain {
-        return Ok(None);
-    }
-    Ok(Some(SysvPart {
-        buckets: read_ints(alloc, bytes, 8, buckets)?,
-        chain: read_ints(alloc, bytes, 8 + 4 * buckets, chain)?,
-    }))
-}
-
-/// The place of the first word that marks an end.
-fn first_end(words: &[u32]) -> Option<usize>
-    ensures { result ≡ position is_end words.now }
-{
-    words.iter().position(|word| *word % 2 == 1)
-}
-
-/// The greatest of these, 0 where there is none.
-fn greatest(buckets: &[u32]) -> u32
-    ensures { result ≡ fold max 0 buckets.now }
-{
-    buckets.iter().fold(0, |most, bucket| most.max(*bucket))
-}
-
-/// The chain words from that of the first symbol to the end of the chain that the greatest bucket
-/// begins.
-fn chain_words(
-    alloc: Global,
-    symoffset: u32,
-    greatest: u32,
-    words: &[u32],
-) -> Result<Option<Ints>, AllocError>
-    ensures { IfOk result (λ chain. chain ≡ chain_words symoffset greatest words.now) }
-{
-    if greatest == 0 {
-        return Ok(Some(Ints::new(alloc)));
-    }
-    if greatest < symoffset {
-        return Ok(None);
-    }
-    let first = (greatest - symoffset) as usize;
-    if first > words.len() {
-        return Ok(None);
-    }
-    match first_end(&words[first..]) {
-        Some(place) => Ok(Some(Ints::from_slice(alloc, &words[..first + place + 1])?)),
-        None => Ok(None),
-    }
-}
-
-/// The words of a GNU hash table, from the bytes at its address on.
-#[tactic(auto, unfolding(crate::specs::Words::gnu_words, crate::specs::Words::gnu_chain))]
-fn gnu_words(alloc: Global, bytes: &[u8]) -> Result<Option<GnuPart>, AllocError>
-    ensures { IfOk result (λ part. part ≡ gnu_words bytes.now) }
-{
-    if bytes.len() < 16 {
-        return Ok(None);
-    }
-    let count = field32(bytes, 0) as usize;
-    let symoffset = field32(bytes, 4);
-    let bloom = field32(bytes, 8) as usize;
-    let buckets_at = 16 + 8 * bloom;
-    let chain_at = buckets_at + 4 * count;
-    if bytes.len() < chain_at {
-        return Ok(None);
-    }
-    let buckets = read_ints(alloc, bytes, buckets_at, count)?;
-    let words = read_ints(alloc, bytes, chain_at, (bytes.len() - chain_at) / 4)?;
-    let greatest = greatest(buckets.as_slice());
-    let Some(chain) = chain_words(alloc, symoffset, greatest, words.as_slice())? else {
-        return Ok(None);
-    };
-    Ok(Some(GnuPart {
-        symoffset,
-        shift: field32(bytes, 12),
-        bloom: read_longs(alloc, bytes, 16, bloom)?,
-        buckets,
-        chain,
-    }))
-}
+use elf_dynamic::{DT_GNU_HASH, DT_HASH, last_of, read_hash_words};
+use ld_base::{HashTable, Head, NotAccepted, ReadFault, Tag};
+use std::alloc::Global;
 
 /// The fault of a table that breaks rule 19 with a number.
 pub(crate) fn bad_hash(number: u64) -> ReadFault
@@ -140,46 +17,15 @@ pub(crate) fn bad_hash(number: u64) -> ReadFault
     ReadFault::NotAccepted(NotAccepted { rule: 19, number })
 }
 
-/// The words of the GNU hash table, where there is one.
-fn gnu_part(
-    alloc: Global,
-    bytes: &[u8],
-    head: &Head,
-    tags: &[Tag],
-) -> Result<Option<GnuPart>, ReadFault>
-    requires { head_verdict bytes.now ≡ Ok head.now }
-    ensures { Gives result (part_of gnu_words bytes.now head.now.headers (last_of tags.now dt_gnu_hash)) }
+/// Whether a table that is named isn't in the file.
+fn lacks_words(table: &HashTable, tags: &[Tag]) -> bool
+    ensures { result ≡ lacks_words table.now tags.now }
 {
-    let Some(start) = last_of(tags, DT_GNU_HASH) else {
-        return Ok(None);
-    };
-    match gnu_words(alloc, bytes_from(bytes, head, start))? {
-        Some(part) => Ok(Some(part)),
-        None => Err(bad_hash(0)),
-    }
+    (last_of(tags, DT_GNU_HASH).is_some() && table.gnu.is_none())
+        || (last_of(tags, DT_HASH).is_some() && table.sysv.is_none())
 }
 
-/// The words of the System V hash table, where there is one.
-fn sysv_part(
-    alloc: Global,
-    bytes: &[u8],
-    head: &Head,
-    tags: &[Tag],
-) -> Result<Option<SysvPart>, ReadFault>
-    requires { head_verdict bytes.now ≡ Ok head.now }
-    ensures words { Gives result (part_of sysv_words bytes.now head.now.headers (last_of tags.now dt_hash)) }
-    ensures few { IfOk result (λ part. IfSome part (λ s. length s.chain < 2 ^ 32)) }
-{
-    let Some(start) = last_of(tags, DT_HASH) else {
-        return Ok(None);
-    };
-    match sysv_words(alloc, bytes_from(bytes, head, start))? {
-        Some(part) => Ok(Some(part)),
-        None => Err(bad_hash(0)),
-    }
-}
-
-/// The words of the hash tables.
+/// The words of the hash tables, which have to be there.
 #[tactic(auto, unfolding(crate::specs::Words::table_words))]
 pub(crate) fn table_words(
     alloc: Global,
@@ -191,8 +37,9 @@ pub(crate) fn table_words(
     ensures words { Gives result (table_words bytes.now head.now.headers tags.now) }
     ensures few { IfOk result (λ t. IfSome t.sysv (λ s. length s.chain < 2 ^ 32)) }
 {
-    Ok(HashTable {
-        gnu: gnu_part(alloc, bytes, head, tags)?,
-        sysv: sysv_part(alloc, bytes, head, tags)?,
-    })
+    let table = read_hash_words(alloc, bytes, head, tags)?;
+    if lacks_words(&table, tags) {
+        return Err(bad_hash(0));
+    }
+    Ok(table)
 }
