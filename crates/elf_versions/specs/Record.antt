@@ -1,12 +1,11 @@
 -- Records of a version table, and the strings that they name.
-use Rattle.std.specs.Prelude.{ℕ, Bool, if◌then◌else◌, List, Option, Result, Ok, Err, unwrap_or}
+use Rattle.std.specs.Prelude.{ℕ, Bool, if◌then◌else◌, List, Option, Result, Ok, Err}
 use Rattle.std.specs.Option.{ok_or, option_map_or}
 use Rattle.ld_base.specs.Field.{field}
 use Rattle.ld_base.specs.declared.fault.NotAccepted.{NotAccepted}
-use Rattle.ld_base.specs.declared.parts.Tag.{Tag}
 use Rattle.elf_head.specs.Readable.{file_bytes}
 use Rattle.elf_dynamic.specs.Name.{string_at}
-use Rattle.elf_dynamic.specs.Tag.{last_of}
+pub use Rattle.elf_dynamic.specs.Tables.{value_of}
 use Rattle.elf_versions.specs.Source.{Source}
 
 -- rule 17, which the table of this tag breaks
@@ -32,7 +31,3 @@ named src offset = wanted src.tag (string_at src.strings offset)
 -- how far after the record of this size at an address the next one stands, which the field at an offset tells
 unfoldable pub distance : Source → ℕ → ℕ → ℕ → ℕ
 distance src size offset at = option_map_or (λ r. field 4 r offset) (file_bytes src.bytes src.headers at size) 0
-
--- the value of a tag, 0 where it doesn't stand
-abbrev pub value_of : List Tag → ℕ → ℕ
-value_of tags tag = unwrap_or (last_of tags tag) 0

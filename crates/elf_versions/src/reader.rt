@@ -6,11 +6,11 @@ ghost use Rattle.elf_head.specs.Rules.{head_verdict};
 ghost use Rattle.elf_versions.specs.Verdict.{strings_of, tables_of, versions_verdict};
 
 use crate::index::unknown_index;
-use crate::records::{Records, value_of};
+use crate::records::Records;
 use crate::verdef::read_verdefs;
 use crate::verneed::read_verneeds;
 use crate::versym::read_versym;
-use elf_dynamic::{DT_STRSZ, DT_STRTAB, DT_VERDEF, DT_VERNEED, DT_VERSYM, last_of};
+use elf_dynamic::{DT_STRSZ, DT_STRTAB, DT_VERDEF, DT_VERNEED, DT_VERSYM, last_of, value_of};
 use elf_head::file_bytes;
 use ld_base::{DynParts, Head, NotAccepted, ReadFault, Tag, Versions};
 use std::alloc::Global;

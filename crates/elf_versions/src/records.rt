@@ -5,11 +5,11 @@ ghost use Rattle.std.specs.Result.{result_map_both};
 ghost use Rattle.elf_head.specs.Gives.{Gives};
 ghost use Rattle.elf_head.specs.Rules.{head_verdict};
 ghost use Rattle.ld_base.specs.declared.fault.ReadFault.TheVariants as faults;
-ghost use Rattle.elf_versions.specs.Record.{bad_table, named, record_at, value_of};
+ghost use Rattle.elf_versions.specs.Record.{bad_table, named, record_at};
 
-use elf_dynamic::{last_of, string_at};
+use elf_dynamic::string_at;
 use elf_head::file_bytes;
-use ld_base::{Head, Name, NotAccepted, ReadFault, Tag};
+use ld_base::{Head, Name, NotAccepted, ReadFault};
 use std::alloc::Global;
 use std::marker::Model;
 
@@ -89,11 +89,4 @@ impl<'a> Records<'a> {
             None => Err(self.fault()),
         }
     }
-}
-
-/// The value of a tag, 0 where it doesn't stand.
-pub(crate) fn value_of(tags: &[Tag], tag: u64) -> u64
-    ensures { result ≡ value_of tags.now tag }
-{
-    last_of(tags, tag).unwrap_or(0)
 }

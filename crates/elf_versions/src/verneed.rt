@@ -7,8 +7,8 @@ ghost use Rattle.elf_versions.specs.Linked.{is_linked};
 ghost use Rattle.elf_versions.specs.Record.{distance};
 ghost use Rattle.elf_versions.specs.Verneed.{is_verneed, need_at, needs_from, vernaux_at, versions_of, versions_of_all, verneeds_from, verneeds_of};
 
-use crate::records::{MAX_RECORDS, Records, value_of};
-use elf_dynamic::{DT_VERNEED, DT_VERNEEDNUM, last_of};
+use crate::records::{MAX_RECORDS, Records};
+use elf_dynamic::{DT_VERNEED, DT_VERNEEDNUM, last_of, value_of};
 use ld_base::{Name, ReadFault, Tag, Verneed, Verneeds, field16, field32};
 use std::alloc::Global;
 
