@@ -1,0 +1,31 @@
+#!/bin/sh
+# Times `ldso dump` of large objects against `readelf -aW` of the same files, both written to a file,
+# and says how much memory it took. Run by hand: bench/reader.sh. It needs python3, GNU time, and
+# readelf for RISC-V (Debian: time, binutils-riscv64-linux-gnu).
+set -eu
+top=$(cd "$(dirname "$0")/.." && pwd)
+program=$top/crates/ldso_cli/out/ldso_cli
+work=$(mktemp -d)
+trap 'rm -rf "$work"' EXIT
+python3 "$top/bench/objects.py" "$work"
+
+seconds() {
+    best=
+    for _ in 1 2 3; do
+        /usr/bin/time -f '%e %M' -o "$work/time" "$@" > "$work/out" 2> /dev/null || true
+        now=$(tail -n 1 "$work/time")
+        best=$(printf '%s\n%s\n' "$best" "$now" | grep . | sort -n | head -n 1)
+    done
+    echo "$best"
+}
+
+printf '%-14s %8s %8s %8s %8s  %s\n' object dump readelf ratio MiB end
+for object in "$work"/*.so; do
+    name=$(basename "$object" .so)
+    dump=$(cd "$work" && seconds "$program" dump "$name.so")
+    end=$(tail -n 1 "$work/out")
+    other=$(seconds riscv64-linux-gnu-readelf -aW "$object")
+    echo "$name $dump $other" | awk -v end="$end" '{
+        printf "%-14s %8.2f %8.2f %8.2f %8d  %s\n", $1, $2, $4, $2 / ($4 > 0 ? $4 : 0.01), $3 / 1024, end
+    }'
+done
