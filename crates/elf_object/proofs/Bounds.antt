@@ -25,11 +25,11 @@ both_none : {X : Type 0} (o p : Option X) → option_or o p ≡ None → (o ≡ 
 both_none None p e = (refl, e)
 both_none (Some x) p e = absurd cc
 
-not_taken : {X : Type 0} (b : Bool) (x : X) → cond b (Some x) None ≡ None → b ≡ false
+pub not_taken : {X : Type 0} (b : Bool) (x : X) → cond b (Some x) None ≡ None → b ≡ false
 not_taken true x e = absurd cc
 not_taken false x e = refl
 
-both_false : (a b : Bool) → (a || b) ≡ false → (a ≡ false) × (b ≡ false)
+pub both_false : (a b : Bool) → (a || b) ≡ false → (a ≡ false) × (b ≡ false)
 both_false true b e = absurd cc
 both_false false b e = (refl, e)
 

@@ -1,2 +1,4 @@
 pub mod Bounds
 pub mod Laws
+pub mod Named
+pub mod Versioned

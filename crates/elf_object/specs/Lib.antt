@@ -1,5 +1,4 @@
-pub mod Form
-pub mod Parts
+pub mod Object
 pub mod Segments
 pub mod Spells
 pub mod Verdict

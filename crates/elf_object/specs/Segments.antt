@@ -1,10 +1,11 @@
 -- Segments of an object (gABI, "Program Header" and "Program Loading").
-use Rattle.std.specs.Prelude.{ℕ, ◌+◌, Bool, ◌==◌, List, map, filter, find, reverse, slice_range, Option, option_map}
+use Rattle.std.specs.Prelude.{ℕ, ◌+◌, Bool, ◌==◌, List, map, filter, find, reverse, slice_range, Option, option_map, unwrap_or}
 use Rattle.ld_base.specs.declared.object.Segment.{Segment}
 use Rattle.ld_base.specs.declared.object.Span.{Span}
+use Rattle.ld_base.specs.declared.object.TlsSeg.{TlsSeg}
 use Rattle.ld_base.specs.declared.parts.Header.{Header}
 use Rattle.elf_head.specs.Header.{is_loaded}
-use Rattle.elf_head.specs.declared.program_headers.TheConstants.{PT_GNU_RELRO}
+use Rattle.elf_head.specs.declared.program_headers.TheConstants.{PT_DYNAMIC, PT_GNU_RELRO, PT_TLS}
 
 -- the segment of a header, with its bytes of the file
 unfoldable pub segment_at : List ℕ → Header → Segment
@@ -27,3 +28,11 @@ is_kind kind h = h.kind == kind
 -- the range that is read-only once it is relocated: the last one that is named
 unfoldable pub relro_of : List Header → Option Span
 relro_of headers = option_map (λ h. record { start = h.vaddr; size = h.memsz }) (find (is_kind PT_GNU_RELRO) (reverse headers))
+
+-- the segment from which each thread's block is made; the rules of the head allow no second one
+unfoldable pub tls_of : List Header → Option TlsSeg
+tls_of headers = option_map (λ h. record { vaddr = h.vaddr; filesz = h.filesz; memsz = h.memsz; align = h.align }) (find (is_kind PT_TLS) headers)
+
+-- the address of the dynamic table; the rules of the head allow no second one, and those of its table ask for one
+unfoldable pub dynamic_of : List Header → ℕ
+dynamic_of headers = unwrap_or (option_map (λ h. h.vaddr) (find (is_kind PT_DYNAMIC) headers)) 0

@@ -1,18 +1,27 @@
 //! What it is to be an object.
 
-ghost use Rattle.std.specs.Prelude.{◌≡◌, ◌↔◌, ℕ, Ok, List};
+ghost use Rattle.std.specs.Prelude.{◌≡◌, ◌↔◌, ℕ, Bool, Ok, Err, List, IsTrue};
+ghost use Rattle.ld_base.specs.declared.fault.NotAccepted.{NotAccepted};
 ghost use Rattle.ld_base.specs.declared.object.Object.{Object};
-ghost use Rattle.elf_object.specs.Spells.{Spells};
+ghost use Rattle.ld_base.specs.declared.parts.HashTable.{HashTable};
+ghost use Rattle.sym_hash.specs.Reached.{IsTableOf};
+ghost use Rattle.elf_object.specs.Object.{names_own_symbols};
+ghost use Rattle.elf_object.specs.Spells.{Broken, Spells};
 ghost use Rattle.elf_object.specs.Verdict.{object_verdict};
 
-use elf_dynamic::one_reading;
-use elf_head::one_verdict;
-
-/// A file is an object exactly where its parts say one, and then at most one.
+/// A file has one verdict: it is an object exactly where its parts say one, and then at most one; or
+/// one part of it breaks a rule first. An object's hash tables are its own, and each of its
+/// relocations names one of its symbols.
 pub fn one_object()
-    ensures verdict { (bytes : List ℕ) (object : Object) → (object_verdict bytes ≡ Ok object) ↔ Spells bytes object }
-    ensures one { (bytes : List ℕ) (first second : Object) → Spells bytes first → Spells bytes second → first ≡ second }
+    ensures verdict { (bytes : List ℕ) (program : Bool) (object : Object)
+        → ((table : HashTable) × (object_verdict bytes program ≡ Ok (object, table))) ↔ Spells bytes program object }
+    ensures one { (bytes : List ℕ) (program : Bool) (first second : Object) → Spells bytes program first → Spells bytes program second → first ≡ second }
+    ensures refused { (bytes : List ℕ) (program : Bool) (fault : NotAccepted) → (object_verdict bytes program ≡ Err fault) ↔ Broken bytes program fault }
+    ensures table { (bytes : List ℕ) (program : Bool) (object : Object) (table : HashTable) → object_verdict bytes program ≡ Ok (object, table) → IsTableOf table object }
+    ensures names { (bytes : List ℕ) (program : Bool) (object : Object) (table : HashTable) → object_verdict bytes program ≡ Ok (object, table) → IsTrue (names_own_symbols object) }
 {
-    one_verdict();
-    one_reading();
+    elf_head::one_verdict();
+    elf_dynamic::one_verdict();
+    elf_versions::one_verdict();
+    sym_hash::one_verdict();
 }

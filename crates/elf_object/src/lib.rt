@@ -1,27 +1,26 @@
 //! Linked objects, read from the bytes of a file (gABI, psABI).
 //!
-//! [`read_object`] answers the object that a file is, or the rule that it breaks. It answers the
-//! first of the rules 1 to 9 of a head that the file breaks, with its number. A file that breaks none
-//! of them is an object where it has this form, and else breaks rule 20 with number 2:
+//! [`read_object`] answers the object that a file is, and its hash tables, exactly where the file
+//! breaks no rule, and else the first rule that it breaks, with a number. It joins the readers of a
+//! file's parts, each of which asks rules of its own:
 //!
-//! 1. It has a dynamic table, which is readable and ends in a NULL, and no thread-local storage.
-//! 2. Of the tags that a linker minds the table has, once each, those of the hash table, of the
-//!    strings and of the symbols (HASH, STRTAB, STRSZ, SYMTAB, SYMENT); those of the slots (JMPREL,
-//!    PLTRELSZ, PLTREL, PLTGOT) once each or not at all; any number of NEEDED; and no other. The
-//!    entries have the sizes of ELF64, and the slots are relocations with addends.
-//! 3. The tables lie in the bytes of the file, and so do the two counts of the hash table, of which
-//!    the second is the number of symbols.
-//! 4. Each needed name is a string of the string table without a slash, and each symbol's name is a
-//!    string of it. A string has at most 4,095 bytes.
-//! 5. Each symbol is LOCAL, GLOBAL or WEAK, and defines no thread-local storage.
-//! 6. Each relocation of JMPREL is a JUMP_SLOT of a symbol, the null symbol apart.
+//! - `elf_head` reads the ELF header and the program headers (rules 1 to 9): the kind, the entry, the
+//!   segments, the segment of thread-local storage, the range that is read-only once it is relocated
+//!   (the last one that is named), and where the dynamic table stands.
+//! - `elf_dynamic` reads the dynamic table and the tables that it names (rules 10 to 16): the names,
+//!   the symbols, the relocations, the slots, and what runs at the start and at the end.
+//! - `elf_versions` reads the version tables (rules 17 and 18): the versions that are defined and
+//!   needed, and the version index of each symbol, 0 where there is no such table.
+//! - `sym_hash` reads the hash tables (rule 19).
 //!
-//! The answer is exactly the verdict of `specs/Verdict.antt`, unless memory runs out, and
-//! [`one_object`] says what that is: a file is an object where each field of the record stands in the
-//! bytes at its place (`Spells`), and then no other record is spelled by it.
+//! The program may have what no other object may: copy relocations, and addresses of its own.
+//!
+//! [`one_object`] says what the verdict means: a file is an object where each part of it breaks no
+//! rule and says its fields of the record (`Spells`), and then no other record is spelled by it; it
+//! is refused where a part breaks a rule and the parts before it break none (`Broken`). An object's
+//! hash tables lead to all that it exports, and each of its relocations names one of its symbols.
 #![tactic(auto)]
 
-mod form;
 mod law;
 mod reader;
 mod segment;

@@ -3,10 +3,10 @@
 ghost use Rattle.std.specs.Prelude.{◌≡◌, ◌++◌, ◌+◌, ◌≤◌, ◌<◌, ◌∷◌, [], Ok, OnOk, OnErr, IfOk, length, if◌then◌else◌, IsTrue};
 ghost use Rattle.elf_head.specs.Header.{is_loaded};
 ghost use Rattle.elf_head.specs.Rules.{head_verdict};
-ghost use Rattle.elf_object.specs.Segments.{segment_at, segments_of, relro_of};
+ghost use Rattle.elf_object.specs.Segments.{dynamic_of, relro_of, segment_at, segments_of, tls_of};
 
-use elf_head::{PT_GNU_RELRO, PT_LOAD};
-use ld_base::{Bytes, Head, Header, Segment, Segments, Span};
+use elf_head::{PT_DYNAMIC, PT_GNU_RELRO, PT_LOAD, PT_TLS};
+use ld_base::{Bytes, Head, Header, Segment, Segments, Span, TlsSeg};
 use std::alloc::{AllocError, Global};
 
 /// Whether the header's segment is mapped.
@@ -82,4 +82,32 @@ pub(crate) fn relro_of(headers: &[Header]) -> Option<Span>
             start: header.vaddr,
             size: header.memsz,
         })
+}
+
+/// The segment from which each thread's block is made.
+#[tactic(auto, unfolding(crate::specs::Segments::tls_of))]
+pub(crate) fn tls_of(headers: &[Header]) -> Option<TlsSeg>
+    ensures { result ≡ tls_of headers.now }
+{
+    headers
+        .iter()
+        .find(|header| header.kind == PT_TLS)
+        .map(|header| TlsSeg {
+            vaddr: header.vaddr,
+            filesz: header.filesz,
+            memsz: header.memsz,
+            align: header.align,
+        })
+}
+
+/// The address of the dynamic table.
+#[tactic(auto, unfolding(crate::specs::Segments::dynamic_of))]
+pub(crate) fn dynamic_of(headers: &[Header]) -> u64
+    ensures { result ≡ dynamic_of headers.now }
+{
+    headers
+        .iter()
+        .find(|header| header.kind == PT_DYNAMIC)
+        .map(|header| header.vaddr)
+        .unwrap_or(0)
 }

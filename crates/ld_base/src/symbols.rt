@@ -65,4 +65,13 @@ impl Symbols {
     {
         self.items.push(symbol)
     }
+
+    /// The symbols as a vector.
+    pub fn into_vec(self) -> Vec<Symbol>
+        ensures value { result.items ≡ self }
+        ensures few { length self < 2 ^ 32 }
+    {
+        let Symbols { items } = self;
+        items.into_vec()
+    }
 }

@@ -1,16 +1,31 @@
-use Rattle.elf_object.proofs.Laws.{Readings, verdict_spells, spells_verdict, one_spelled}
+use Rattle.elf_object.proofs.Laws.{Readings, verdict_spells, spells_verdict, one_spelled, refused_from, refused_is, table_of_read, names_of_read}
 use Rattle.elf_object.proofs.law.one_object.Goals as goal
 
-readings : goal.After-one_reading → Readings
+readings : goal.After-one_verdict-4 → Readings
 readings c = record {
   head = c.one_verdict.ensures.accepted;
-  tags = c.one_reading.ensures.tags;
-  names = c.one_reading.ensures.names;
-  symbols = c.one_reading.ensures.symbols;
+  bad_head = c.one_verdict.ensures.refused;
+  parts = c.one_verdict-2.ensures.accepted;
+  bad_parts = c.one_verdict-2.ensures.refused;
+  versions = c.one_verdict-3.ensures.accepted;
+  bad_versions = c.one_verdict-3.ensures.refused;
+  table = c.one_verdict-4.ensures.accepted;
+  bad_table = c.one_verdict-4.ensures.refused;
+  same_table = c.one_verdict-4.ensures.versions;
 }
 
 pub returns-clause-verdict : goal.returns-clause-verdict
-returns-clause-verdict c bytes object = (verdict_spells (readings c) bytes object, spells_verdict (readings c) bytes object)
+returns-clause-verdict c bytes program object =
+    (λ (table, e). verdict_spells (readings c) bytes program object table e, spells_verdict (readings c) bytes program object)
 
 pub returns-clause-one : goal.returns-clause-one
-returns-clause-one c bytes first second = one_spelled (readings c) bytes first second
+returns-clause-one c = one_spelled (readings c)
+
+pub returns-clause-refused : goal.returns-clause-refused
+returns-clause-refused c bytes program fault = (refused_from (readings c) bytes program fault, refused_is (readings c) bytes program fault)
+
+pub returns-clause-table : goal.returns-clause-table
+returns-clause-table c = table_of_read (readings c)
+
+pub returns-clause-names : goal.returns-clause-names
+returns-clause-names c = names_of_read (readings c)

@@ -1,0 +1,60 @@
+-- Symbols with their versions.
+use Rattle.std.proofs.Common.{◌≡◌, ℕ, zero, suc, ◌+◌, ◌*◌, ◌<◌, List, [], ◌∷◌, length, map, Some, refl, ◌∙◌, ap, sym, subst, arith, add-zero}
+use Rattle.std.specs.List.{enumerate_from, slice_get}
+use Rattle.std.proofs.lemmas.List.{length-map}
+use Rattle.std.proofs.lemmas.List.FromFn.{length-enumerate_from}
+use Rattle.std.proofs.lemmas.Option.{slice_get_within}
+use Rattle.ld_base.specs.declared.object.Symbol.{Symbol}
+use Rattle.ld_base.specs.declared.parts.DynParts.{DynParts}
+use Rattle.ld_base.specs.declared.parts.Head.{Head}
+use Rattle.elf_head.proofs.Entries.{get-table, length-table}
+use Rattle.elf_dynamic.specs.Symbol.{symbol_name, symbol_named}
+use Rattle.elf_dynamic.specs.Tables.{parts_in, string_in, symbols_in}
+use Rattle.elf_object.specs.Object.{with_version, with_versions}
+
+some_is : {X : Type 0} {x y : X} → Some x ≡ Some y → x ≡ y
+some_is e = cc
+
+-- as many as there are symbols
+pub length-versions : (symbols : List Symbol) (versym : List ℕ) → length (with_versions symbols versym) ≡ length symbols
+unfolding with_versions
+length-versions symbols versym = length-map (enumerate_from 0 symbols) (with_version versym) ∙ length-enumerate_from 0 symbols
+
+-- the symbol of an index is that of the index, but for its version
+versioned_from : (n : ℕ) (symbols : List Symbol) (versym : List ℕ) (i : ℕ) (s : Symbol) → slice_get (map (with_version versym) (enumerate_from n symbols)) i ≡ Some s
+    → (t : Symbol) × (slice_get symbols i ≡ Some t) × (with_version versym (n + i, t) ≡ s)
+versioned_from n [] versym i s e = absurd cc
+versioned_from n (t ∷ rest) versym zero s e = (t, refl, ap (λ k. with_version versym (k, t)) (add-zero n) ∙ some_is e)
+versioned_from n (t ∷ rest) versym (suc i) s e =
+    let found = versioned_from (n + 1) rest versym i s e in
+    let at : n + suc i ≡ n + 1 + i = omega arith in
+    (found.0, found.1, ap (λ k. with_version versym (k, found.0)) at ∙ found.2)
+
+-- a symbol that has version 0 is the one that has another, with version 0
+unversioned : (t s : Symbol) (version : ℕ) → (let v : Symbol = record t { version = version } in v) ≡ s → t.version ≡ 0 → t ≡ (let v : Symbol = record s { version = 0 } in v)
+unversioned t s version e none =
+    let own : t ≡ (let v : Symbol = record t { version = 0 } in v) = ap (λ n. let v : Symbol = record t { version = n } in v) none in
+    own ∙ ap (λ (x : Symbol). let v : Symbol = record x { version = 0 } in v) e
+
+-- without their versions they are the symbols, where those have none
+pub but_versions : (symbols : List Symbol) (versym : List ℕ) → ((i : ℕ) (t : Symbol) → slice_get symbols i ≡ Some t → t.version ≡ 0)
+    → (i : ℕ) (s : Symbol) → slice_get (with_versions symbols versym) i ≡ Some s → slice_get symbols i ≡ Some (record s { version = 0 })
+unfolding with_versions
+but_versions symbols versym none i s e =
+    let found = versioned_from 0 symbols versym i s e in
+    found.1 ∙ ap Some (unversioned found.0 s _ found.2 (none i found.0 found.1))
+
+-- no symbol of a table has a version
+table_unversioned : (part strings : List ℕ) (count i : ℕ) (s : Symbol) → slice_get (symbols_in part strings count) i ≡ Some s → s.version ≡ 0
+unfolding symbols_in
+table_unversioned part strings count i s e =
+    let at : ℕ → Symbol = λ place. symbol_named part place (string_in strings (symbol_name part place)) in
+    let all = slice_get_within (symbols_in part strings count) i s e in
+    let within : i < count = omega (arith, length-table at 0 24 count) in
+    let is : at (0 + 24 * i) ≡ s = some_is (sym (get-table at 0 24 count i within) ∙ e) in
+    ap (λ (x : Symbol). x.version) (sym is)
+
+pub parts_unversioned : (bytes : List ℕ) (head : Head) (parts : DynParts) → parts ≡ parts_in bytes head.headers parts.tags
+    → (i : ℕ) (s : Symbol) → slice_get parts.symbols i ≡ Some s → s.version ≡ 0
+unfolding parts_in
+parts_unversioned bytes head parts say i s e = table_unversioned _ _ _ i s (subst (λ (p : DynParts). slice_get p.symbols i ≡ Some s) say e)
