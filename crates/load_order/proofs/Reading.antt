@@ -15,6 +15,7 @@ use Rattle.ld_base.specs.declared.fault.NotAccepted.{NotAccepted}
 use Rattle.ld_base.specs.declared.linking.File.{File}
 use Rattle.ld_base.specs.declared.linking.Loaded.{Loaded}
 use Rattle.ld_base.specs.declared.object.Object.{Object}
+use Rattle.ld_base.specs.declared.parts.HashTable.{HashTable}
 use Rattle.elf_object.specs.Verdict.{object_verdict}
 use Rattle.library_source.specs.Count.{Rises}
 use Rattle.library_source.specs.Files.{file_at}
@@ -25,7 +26,7 @@ use Rattle.load_order.specs.declared.ask.LoadFault.{LoadFault}
 use Rattle.load_order.specs.declared.ask.LoadFault.TheVariants as faults
 use Rattle.load_order.specs.declared.progress.Progress.{Progress}
 use Rattle.load_order.specs.Answer.{Answers}
-use Rattle.load_order.specs.Files.{as_read, no_table, reading_of}
+use Rattle.load_order.specs.Files.{as_read, is_program, reading_of}
 use Rattle.load_order.specs.Heard.{Heard, HeardAt, Learns, AreFiles, fault_in, failing}
 use Rattle.load_order.specs.Part.{Source}
 use Rattle.load_order.proofs.Hearing.{TellsAt, reads_more, heard_object, heard_miss, object_heard, miss_heard, heard_stands, differs}
@@ -122,7 +123,7 @@ learns_nothing ask before after old new stays added missed = record {
 }
 
 learns_object : (ask : LoadAsk) (before after : Source) (old new : Progress) (p bytes : List ℕ) (x : Loaded) → Stays before after → TellsAt before p (Some bytes) → IsNew old p → x.path ≡ p
-    → as_read (object_verdict bytes) ≡ here x.object x.table → new.added ≡ old.added ++ x ∷ [] → new.missed ≡ old.missed → Learns ask before old after new None
+    → as_read (object_verdict bytes (is_program ask p)) ≡ here x.object x.table → new.added ≡ old.added ++ x ∷ [] → new.missed ≡ old.missed → Learns ask before old after new None
 unfolding reading_of
 learns_object ask before after old new p bytes x stays tells is_new path verdict added missed = record {
   files = stays.files;
@@ -143,7 +144,7 @@ learns_object ask before after old new p bytes x stays tells is_new path verdict
 }
 
 learns_refused : (ask : LoadAsk) (before after : Source) (old new : Progress) (p bytes : List ℕ) (broken : NotAccepted) → Stays before after → TellsAt before p (Some bytes) → IsNew old p
-    → as_read (object_verdict bytes) ≡ unaccepted broken → new.added ≡ old.added → new.missed ≡ old.missed → Learns ask before old after new (Some (faults.Refused (dl.NotAccepted p broken)))
+    → as_read (object_verdict bytes (is_program ask p)) ≡ unaccepted broken → new.added ≡ old.added → new.missed ≡ old.missed → Learns ask before old after new (Some (faults.Refused (dl.NotAccepted p broken)))
 unfolding reading_of
 learns_refused ask before after old new p bytes broken stays tells is_new verdict added missed = record {
   files = stays.files;
@@ -176,12 +177,12 @@ pub serial_is : (a b : List Loaded) (s t : Option ℕ) → done {A = List Loaded
 serial_is a b s t e = ap (λ (q : List Loaded × Option ℕ). q.1) (taken_is (a, s) (b, t) e)
 
 -- what a new object's record has of what was read
-learns_taken : (ask : LoadAsk) (load : Load) (before after : Source) (old new : Progress) (p bytes : List ℕ) (read : Result Object NotAccepted) (r : Result (Option ℕ) LoadFault) → Stays before after → TellsAt before p (Some bytes) → IsNew old p
-    → object_verdict bytes ≡ read → new.missed ≡ old.missed → OnErr r (new.added ≡ old.added)
+learns_taken : (ask : LoadAsk) (load : Load) (before after : Source) (old new : Progress) (p bytes : List ℕ) (read : Result (Object × HashTable) NotAccepted) (r : Result (Option ℕ) LoadFault) → Stays before after → TellsAt before p (Some bytes) → IsNew old p
+    → object_verdict bytes (is_program ask p) ≡ read → new.missed ≡ old.missed → OnErr r (new.added ≡ old.added)
     → Answers (λ serial. (new.added, serial)) r (take_found load old.added (found_by_reading p (as_read read))) → Learns ask before old after new (fault_in r)
 unfolding take_found
 learns_taken ask load before after old new p bytes (Ok o) (Ok serial) stays tells is_new verdict missed err answers =
-    learns_object ask before after old new p bytes (arrival load (load.next + length old.added) p o no_table) stays tells is_new refl (ap as_read verdict) (added_is _ new.added _ serial answers) missed
+    learns_object ask before after old new p bytes (arrival load (load.next + length old.added) p o.0 o.1) stays tells is_new refl (ap as_read verdict) (added_is _ new.added _ serial answers) missed
 learns_taken ask load before after old new p bytes (Ok o) (Err (faults.Refused fault)) stays tells is_new verdict missed err answers = absurd cc
 learns_taken ask load before after old new p bytes (Ok o) (Err (faults.Wait shown)) stays tells is_new verdict missed err answers = absurd cc
 learns_taken ask load before after old new p bytes (Err broken) (Ok serial) stays tells is_new verdict missed err answers = absurd cc
@@ -193,16 +194,16 @@ learns_taken ask load before after old new p bytes read (Err faults.Memory) stay
 
 pub learns_added : (ask : LoadAsk) (load : Load) (before after : Source) (old new : Progress) (p bytes : List ℕ) (r : Result (Option ℕ) LoadFault) → Stays before after → TellsAt before p (Some bytes) → IsNew old p
     → new.missed ≡ old.missed → OnErr r (new.added ≡ old.added)
-    → Answers (λ serial. (new.added, serial)) r (take_found load old.added (found_by_reading p (as_read (object_verdict bytes)))) → Learns ask before old after new (fault_in r)
+    → Answers (λ serial. (new.added, serial)) r (take_found load old.added (found_by_reading p (as_read (object_verdict bytes (is_program ask p))))) → Learns ask before old after new (fault_in r)
 learns_added ask load before after old new p bytes r stays tells is_new missed err answers =
-    learns_taken ask load before after old new p bytes (object_verdict bytes) r stays tells is_new refl missed err answers
+    learns_taken ask load before after old new p bytes (object_verdict bytes (is_program ask p)) r stays tells is_new refl missed err answers
 
-gives_taken : (load : Load) (old new : Progress) (p : List ℕ) (read : Result Object NotAccepted) (r : Result (Option ℕ) LoadFault) (reading : List ℕ → Reading) → new.missed ≡ old.missed → OnErr r (new.added ≡ old.added)
+gives_taken : (load : Load) (old new : Progress) (p : List ℕ) (read : Result (Object × HashTable) NotAccepted) (r : Result (Option ℕ) LoadFault) (reading : List ℕ → Reading) → new.missed ≡ old.missed → OnErr r (new.added ≡ old.added)
     → Answers (λ serial. (new.added, serial)) r (take_found load old.added (found_by_reading p (as_read read))) → Heard reading new → HeardAt reading (fault_in r)
     → Answers (λ serial. (new.added, serial)) r (take_found load old.added (found_by_reading p (reading p)))
 unfolding take_found
 gives_taken load old new p (Ok o) (Ok serial) reading missed err answers heard stopped =
-    let x : Loaded = arrival load (load.next + length old.added) p o no_table in
+    let x : Loaded = arrival load (load.next + length old.added) p o.0 o.1 in
     rw (object_heard reading old new x (added_is _ new.added _ serial answers) missed heard).1 answers
 gives_taken load old new p (Ok o) (Err (faults.Refused fault)) reading missed err answers heard stopped = absurd cc
 gives_taken load old new p (Ok o) (Err (faults.Wait shown)) reading missed err answers heard stopped = absurd cc
@@ -214,7 +215,7 @@ gives_taken load old new p (Err broken) (Err (faults.Refused fault)) reading mis
 gives_taken load old new p (Err broken) (Err (faults.Wait shown)) reading missed err answers heard stopped = absurd cc
 gives_taken load old new p read (Err faults.Memory) reading missed err answers heard stopped = tt
 
-pub gives_added : (load : Load) (old new : Progress) (p : List ℕ) (read : Result Object NotAccepted) (r : Result (Option ℕ) LoadFault) (reading : List ℕ → Reading) → new.missed ≡ old.missed → OnErr r (new.added ≡ old.added)
+pub gives_added : (load : Load) (old new : Progress) (p : List ℕ) (read : Result (Object × HashTable) NotAccepted) (r : Result (Option ℕ) LoadFault) (reading : List ℕ → Reading) → new.missed ≡ old.missed → OnErr r (new.added ≡ old.added)
     → Answers (λ serial. (new.added, serial)) r (take_found load old.added (found_by_reading p (as_read read))) → Heard reading new → HeardAt reading (fault_in r)
     → Answers (λ serial. (new.added, serial)) r (take_found load old.added (found_by_reading p (reading p)))
 gives_added = gives_taken

@@ -14,18 +14,14 @@ use Rattle.load_order.specs.declared.ask.LoadAsk.{LoadAsk}
 abbrev pub is_program : LoadAsk → List ℕ → Bool
 is_program ask path = ask.program && bytes_eq ask.name path
 
--- a hash table without parts
-abbrev pub no_table : HashTable
-no_table = record { gnu = None; sysv = None }
-
--- an object with its hash table, or why bytes aren't one
-abbrev pub as_read : Result Object NotAccepted → Reading
-as_read (Ok o) = here o no_table
+-- an object with its hash tables, or why bytes aren't one
+abbrev pub as_read : Result (Object × HashTable) NotAccepted → Reading
+as_read (Ok read) = here read.0 read.1
 as_read (Err broken) = unaccepted broken
 
--- what bytes are, as the program's or as another object's: both are read alike
+-- what bytes are, as the program's or as another object's
 abbrev pub bytes_as_read : Bool → List ℕ → Reading
-bytes_as_read program bytes = as_read (object_verdict bytes)
+bytes_as_read program bytes = as_read (object_verdict bytes program)
 
 -- what the file at a path is
 abbrev pub file_as_read : LoadAsk → List ℕ → Option (List ℕ) → Reading
