@@ -1,3 +1,4 @@
 pub mod Laws
+pub mod Overlaps
 pub mod Read
 pub mod Verdicts

@@ -17,6 +17,7 @@
 #![tactic(auto)]
 
 mod law;
+mod overlap;
 mod reader;
 mod reloc;
 mod string;
