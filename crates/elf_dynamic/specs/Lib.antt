@@ -4,6 +4,7 @@ pub mod HashWords
 pub mod Memory
 pub mod Name
 pub mod Named
+pub mod Naming
 pub mod Relr
 pub mod Reloc
 pub mod Rules
