@@ -1,4 +1,5 @@
 pub mod Before
+pub mod Ends
 pub mod Entries
 pub mod HashWords
 pub mod Memory

@@ -152,13 +152,19 @@ fn reads_each_field_at_its_place(rt: HostRuntime) -> Result<(), Fail> {
 
 #[test]
 fn finds_ranges_with_bytes_in_common(rt: HostRuntime) -> Result<(), Fail> {
-    let firsts = [(0, None), (5, None), (6, Some(5))];
-    for (length, want) in firsts {
-        assert_eq!(rt;
-            first_named_before(rt.alloc(), &RANGES[..length])?,
-            want,
-            "of {length}"
-        );
+    let inner = Span { start: 9, size: 2 };
+    let outer = Span { start: 7, size: 18 };
+    let firsts: [(&[Span], Option<usize>); 7] = [
+        (&[], None),
+        (&RANGES[..5], None),
+        (&RANGES, Some(5)),
+        (&RANGES[3..], Some(2)),
+        (&[inner, inner, inner], Some(1)),
+        (&[RANGES[0], RANGES[3], inner], Some(2)),
+        (&[RANGES[3], inner, RANGES[2], outer], Some(3)),
+    ];
+    for (ranges, want) in firsts {
+        assert_eq!(rt; first_named_before(rt.alloc(), ranges)?, want);
     }
     let naming = Naming::new(rt.alloc(), &RANGES)?;
     let times = [
