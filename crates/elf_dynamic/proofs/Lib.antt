@@ -1,6 +1,9 @@
+pub mod Counting
+pub mod Ends
 pub mod Laws
 pub mod Limits
+pub mod Overlaps
 pub mod Read
-pub mod Verdicts
-pub mod Strings
 pub mod Readable
+pub mod Strings
+pub mod Verdicts

@@ -1,9 +1,11 @@
 pub mod Before
+pub mod Ends
 pub mod Entries
 pub mod HashWords
 pub mod Memory
 pub mod Name
 pub mod Named
+pub mod Naming
 pub mod Relr
 pub mod Reloc
 pub mod Rules

@@ -18,6 +18,7 @@
 
 mod hash_words;
 mod law;
+mod overlap;
 mod reader;
 mod reloc;
 mod string;

@@ -1,10 +1,11 @@
 //! Whether tables are laid out as the formats say.
 
+use crate::overlap::{Naming, first_named_before};
 use crate::{
     DT_NEEDED, DT_RELA, count_of, last_of, one_reading, read_name, read_names, read_relocs,
     read_symbols, read_tags, string_at, values_of,
 };
-use ld_base::{NotAccepted, ReadFault, Reloc, Symbol, Symbols, Tag};
+use ld_base::{NotAccepted, ReadFault, Reloc, Span, Symbol, Symbols, Tag};
 use std::test::Fail;
 
 /// Two whole entries, and no NULL before the bytes end.
@@ -32,6 +33,16 @@ const RELOCS: [u8; 50] = *b"\
     \x90\x11\0\0\0\0\0\0\x05\0\0\0\x02\0\0\0\xf8\xff\xff\xff\xff\xff\xff\xff\
     \x98\x11\0\0\0\0\0\0\x02\0\0\x01\0\0\0\x01\x09\0\0\0\0\0\0\0\
     \0\0";
+
+/// 8 to 15, 0 to 7, nothing, 16 to 23, nothing, and 23 once more.
+const RANGES: [Span; 6] = [
+    Span { start: 8, size: 8 },
+    Span { start: 0, size: 8 },
+    Span { start: 20, size: 0 },
+    Span { start: 16, size: 8 },
+    Span { start: 4, size: 0 },
+    Span { start: 23, size: 1 },
+];
 
 #[test]
 fn reads_tags_up_to_the_first_null(rt: HostRuntime) -> Result<(), Fail> {
@@ -136,5 +147,36 @@ fn reads_each_field_at_its_place(rt: HostRuntime) -> Result<(), Fail> {
         },
     ];
     assert_eq!(rt; relocs.as_slice(), want.as_slice());
+    Ok(())
+}
+
+#[test]
+fn finds_ranges_with_bytes_in_common(rt: HostRuntime) -> Result<(), Fail> {
+    let inner = Span { start: 9, size: 2 };
+    let outer = Span { start: 7, size: 18 };
+    let firsts: [(&[Span], Option<usize>); 7] = [
+        (&[], None),
+        (&RANGES[..5], None),
+        (&RANGES, Some(5)),
+        (&RANGES[3..], Some(2)),
+        (&[inner, inner, inner], Some(1)),
+        (&[RANGES[0], RANGES[3], inner], Some(2)),
+        (&[RANGES[3], inner, RANGES[2], outer], Some(3)),
+    ];
+    for (ranges, want) in firsts {
+        assert_eq!(rt; first_named_before(rt.alloc(), ranges)?, want);
+    }
+    let naming = Naming::new(rt.alloc(), &RANGES)?;
+    let times = [
+        (0, 8, 1),
+        (7, 2, 2),
+        (20, 0, 0),
+        (22, 2, 2),
+        (24, 8, 0),
+        (0, 24, 4),
+    ];
+    for (start, size, want) in times {
+        assert_eq!(rt; naming.times(Span { start, size }), want, "at {start}");
+    }
     Ok(())
 }
