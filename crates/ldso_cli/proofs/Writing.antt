@@ -9,7 +9,6 @@ use Rattle.ld_base.specs.declared.linking.File.{File}
 use Rattle.load_order.specs.Plan.{Over}
 use Rattle.ldso_cli.specs.Bind.{BindEnds}
 use Rattle.ldso_cli.specs.Command.{CommandEnds, Ends, IsWrittenBy}
-use Rattle.ldso_cli.specs.Dump.{DumpEnds}
 use Rattle.ldso_cli.specs.Status.{usage_text}
 use Rattle.ldso_cli.specs.Words.{reads}
 use Rattle.ldso_cli.specs.declared.bind.Answer.{Answer}
@@ -46,14 +45,6 @@ pub bind_ends : (told : Option (List File)) (rs : Option Command) (bind : Bind) 
     → IfOk r (λ answer. Over told (CommandEnds rs answer.cause (string_bytes answer.text)))
 bind_ends told rs bind (Err e) is over = tt
 bind_ends told rs bind (Ok answer) is over = bind_over told rs bind answer.cause (string_bytes answer.text) is over
-
-dump_over : (told : Option (List File)) (rs : Option Command) (path : List ℕ) (cause : Cause) (text : List ℕ) → rs ≡ Some (commands.Dump path) → Over told (DumpEnds path cause text) → Over told (CommandEnds rs cause text)
-dump_over told rs path cause text e over = let P : Option Command → Type 0 = λ r. Over told (CommandEnds r cause text) in subst P (sym e) over
-
-pub dump_ends : (told : Option (List File)) (rs : Option Command) (path : List ℕ) (r : Result Answer AllocError) → rs ≡ Some (commands.Dump path) → IfOk r (λ answer. Over told (DumpEnds path answer.cause (string_bytes answer.text)))
-    → IfOk r (λ answer. Over told (CommandEnds rs answer.cause (string_bytes answer.text)))
-dump_ends told rs path (Err e) is over = tt
-dump_ends told rs path (Ok answer) is over = dump_over told rs path answer.cause (string_bytes answer.text) is over
 
 -- ---- the sink's causes are no command's own
 
