@@ -1,3 +1,5 @@
-pub mod Slots
+pub mod Dumping
 pub mod Ending
+pub mod Numbered
+pub mod Slots
 pub mod Writing

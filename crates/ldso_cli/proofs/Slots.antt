@@ -1,17 +1,16 @@
 -- The lines of slots, one after another.
-use Rattle.std.proofs.Common.{◌≡◌, ℕ, suc, ◌+◌, ◌<◌, Bool, true, false, ◌&&◌, List, [], ◌∷◌, ◌++◌, length, get_or, drop, Some, refl, sym, ap, subst, ◌∙◌, append_assoc, add-one, drop-cons, arith, nat_lt}
-use Rattle.std.specs.List.{flat_map, enumerate_from, AllByRecursion, list_all, slice_get}
+use Rattle.std.proofs.Common.{◌≡◌, ℕ, ◌+◌, ◌<◌, Bool, true, false, ◌&&◌, List, [], ◌∷◌, ◌++◌, length, get_or, drop, Some, refl, sym, ap, subst, ◌∙◌, nat_lt}
+use Rattle.std.specs.List.{flat_map, enumerate_from, list_all, slice_get}
 use Rattle.std.proofs.lemmas.Bool.{ltb-true}
-use Rattle.std.proofs.lemmas.Grind.{common_steps}
 use Rattle.std.proofs.lemmas.Option.{slice_get-get_or}
 use Rattle.std.specs.Prelude.{pos}
 use Rattle.ld_base.specs.declared.linking.Loaded.{Loaded}
 use Rattle.ld_base.specs.declared.object.Reloc.{Reloc}
 use Rattle.ld_base.specs.declared.object.Symbol.{Symbol}
-use Rattle.scope_rule.specs.Relocation.{names_symbols}
 use Rattle.scope_rule.specs.declared.namespace.Namespace.{Namespace}
 use Rattle.ldso_cli.specs.Named.{AreNamed}
 use Rattle.ldso_cli.specs.Lines.{numbered_line, slot_line}
+use Rattle.ldso_cli.proofs.Numbered.{parts_at, line_step}
 
 and_both : (a b : Bool) → (a && b) ≡ true → (a ≡ true) × (b ≡ true)
 and_both true b h = (refl, h)
@@ -33,9 +32,6 @@ named_first count (x ∷ xs) ys h =
     let both = and_both (nat_lt x.symbol count) (list_all (λ r. nat_lt r.symbol count) (xs ++ ys)) h in
     (ltb-true x.symbol count both.0, named_first count xs ys both.1)
 
-parts_at : {X : Type 0} (xs : List X) (n : ℕ) (d : X) → n < length xs → drop n xs ≡ get_or xs n d ∷ drop (n + 1) xs
-parts_at xs n d lt = rw (add-one, drop-cons xs n d) refl
-
 line_is : (ns : Namespace) (o : Loaded) (n : ℕ) (r : Reloc) (s : Symbol) → slice_get o.object.symbols r.symbol ≡ Some s → numbered_line ns o (n, r) ≡ slot_line ns o n r s
 line_is ns o n r s there = rw (there, numbered_line) refl
 
@@ -44,11 +40,8 @@ pub slot_step : (ns : Namespace) (o : Loaded) (old new total : List ℕ) (n : �
     → new ≡ old ++ slot_line ns o n (get_or slots n d) s → old ++ flat_map (numbered_line ns o) (enumerate_from n (drop n slots)) ≡ total
     → new ++ flat_map (numbered_line ns o) (enumerate_from (n + 1) (drop (n + 1) slots)) ≡ total
 slot_step ns o old new total n slots d s lt there written so_far =
-    let r : Reloc = get_or slots n d in
-    let rest : List ℕ = flat_map (numbered_line ns o) (enumerate_from (n + 1) (drop (n + 1) slots)) in
-    let all : flat_map (numbered_line ns o) (enumerate_from n (drop n slots)) ≡ slot_line ns o n r s ++ rest =
-    ap (λ (xs : List Reloc). flat_map (numbered_line ns o) (enumerate_from n xs)) (parts_at slots n d lt) ∙ ap (λ (line : List ℕ). line ++ rest) (line_is ns o n r s there) in
-    ap (λ (text : List ℕ). text ++ rest) written ∙ append_assoc old (slot_line ns o n r s) rest ∙ ap (λ (text : List ℕ). old ++ text) (sym all) ∙ so_far
+    let same : slot_line ns o n (get_or slots n d) s ≡ numbered_line ns o (n, get_or slots n d) = sym (line_is ns o n (get_or slots n d) s there) in
+    line_step (numbered_line ns o) old new total n n slots d lt (written ∙ ap (λ (line : List ℕ). old ++ line) same) so_far
 
 pub named_rest : (count n : ℕ) (slots : List Reloc) (d : Reloc) → n < length slots → AreNamed count (drop n slots) → AreNamed count (drop (n + 1) slots)
 named_rest count n slots d lt h = let all = subst (λ (xs : List Reloc). AreNamed count xs) (parts_at slots n d lt) h in all.1

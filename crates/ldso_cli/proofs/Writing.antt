@@ -1,21 +1,23 @@
 -- How the command ends, once its answer is written.
-use Rattle.std.proofs.Common.{◌≡◌, ◌≤◌, ◌⊎◌, inl, inr, ℕ, List, [], Option, Some, None, Result, Ok, Err, refl, sym, ap, subst, ◌∙◌}
+use Rattle.std.proofs.Common.{◌≡◌, inl, inr, ℕ, List, [], Option, Some, None, Result, Ok, Err, refl, sym, subst, ◌∙◌}
 use Rattle.std.specs.Prelude.{IfOk, MatchResult}
 use Rattle.std.specs.String.{string_bytes}
 use Rattle.std.specs.Io.KnownBytes.{append_known}
 use Rattle.std.specs.declared.alloc.AllocError.{AllocError}
 use Rattle.ld_base.specs.declared.fault.DlFault.TheVariants as dl
 use Rattle.ld_base.specs.declared.linking.File.{File}
-use Rattle.library_source.specs.Writing.{TakesFront}
-use Rattle.load_order.specs.Heard.{AreFiles}
 use Rattle.load_order.specs.Plan.{Over}
-use Rattle.ldso_cli.specs.Bind.{BindEnds, CommandEnds, Ends, IsWritten, IsCutShort, IsWrittenBy, IsLoaded, IsNotLoaded}
+use Rattle.ldso_cli.specs.Bind.{BindEnds}
+use Rattle.ldso_cli.specs.Command.{CommandEnds, Ends, IsWrittenBy}
 use Rattle.ldso_cli.specs.Status.{usage_text}
 use Rattle.ldso_cli.specs.Words.{reads}
 use Rattle.ldso_cli.specs.declared.bind.Answer.{Answer}
 use Rattle.ldso_cli.specs.declared.outcome.Cause.{Cause}
 use Rattle.ldso_cli.specs.declared.outcome.Cause.TheVariants as causes
 use Rattle.ldso_cli.specs.declared.words.Bind.{Bind}
+use Rattle.ldso_cli.specs.declared.words.Command.{Command}
+use Rattle.ldso_cli.specs.declared.words.Command.TheVariants as commands
+use Rattle.ldso_cli.proofs.Dumping.{dump_no_write_fault, dump_no_memory}
 
 -- ---- words that are no command
 
@@ -23,11 +25,11 @@ over_any : {P : List File → Type 0} (told : Option (List File)) → ((files : 
 over_any None h = record { files = []; are = tt; holds = h [] }
 over_any (Some files) h = record { files = files; are = refl; holds = h files }
 
-usage_over : (told : Option (List File)) (rs : Option Bind) (cause : Cause) (text : List ℕ) → rs ≡ None → cause ≡ causes.Usage → text ≡ usage_text → Over told (CommandEnds rs cause text)
+usage_over : (told : Option (List File)) (rs : Option Command) (cause : Cause) (text : List ℕ) → rs ≡ None → cause ≡ causes.Usage → text ≡ usage_text → Over told (CommandEnds rs cause text)
 usage_over told None cause text none c t = over_any told (λ files. (c, t))
-usage_over told (Some bind) cause text none c t = absurd cc
+usage_over told (Some command) cause text none c t = absurd cc
 
-pub usage_ends : (told : Option (List File)) (rs : Option Bind) (r : Result Answer AllocError) → rs ≡ None → IfOk r (λ answer. answer.cause ≡ causes.Usage) → IfOk r (λ answer. string_bytes answer.text ≡ usage_text)
+pub usage_ends : (told : Option (List File)) (rs : Option Command) (r : Result Answer AllocError) → rs ≡ None → IfOk r (λ answer. answer.cause ≡ causes.Usage) → IfOk r (λ answer. string_bytes answer.text ≡ usage_text)
     → IfOk r (λ answer. Over told (CommandEnds rs answer.cause (string_bytes answer.text)))
 usage_ends told rs (Err e) none c t = tt
 usage_ends told rs (Ok answer) none c t = usage_over told rs answer.cause (string_bytes answer.text) none c t
@@ -36,25 +38,27 @@ pub usage_counts : (r : Result Answer AllocError) (Q : Type 0) → IfOk r (λ an
 usage_counts (Err e) Q c = tt
 usage_counts (Ok answer) Q c = λ path e. absurd cc
 
-bind_over : (told : Option (List File)) (rs : Option Bind) (bind : Bind) (cause : Cause) (text : List ℕ) → rs ≡ Some bind → Over told (BindEnds bind cause text) → Over told (CommandEnds rs cause text)
-bind_over told rs bind cause text e over = let P : Option Bind → Type 0 = λ r. Over told (CommandEnds r cause text) in subst P (sym e) over
+bind_over : (told : Option (List File)) (rs : Option Command) (bind : Bind) (cause : Cause) (text : List ℕ) → rs ≡ Some (commands.Bind bind) → Over told (BindEnds bind cause text) → Over told (CommandEnds rs cause text)
+bind_over told rs bind cause text e over = let P : Option Command → Type 0 = λ r. Over told (CommandEnds r cause text) in subst P (sym e) over
 
-pub bind_ends : (told : Option (List File)) (rs : Option Bind) (bind : Bind) (r : Result Answer AllocError) → rs ≡ Some bind → IfOk r (λ answer. Over told (BindEnds bind answer.cause (string_bytes answer.text)))
+pub bind_ends : (told : Option (List File)) (rs : Option Command) (bind : Bind) (r : Result Answer AllocError) → rs ≡ Some (commands.Bind bind) → IfOk r (λ answer. Over told (BindEnds bind answer.cause (string_bytes answer.text)))
     → IfOk r (λ answer. Over told (CommandEnds rs answer.cause (string_bytes answer.text)))
 bind_ends told rs bind (Err e) is over = tt
 bind_ends told rs bind (Ok answer) is over = bind_over told rs bind answer.cause (string_bytes answer.text) is over
 
 -- ---- the sink's causes are no command's own
 
-not_write_fault : (rs : Option Bind) (text : List ℕ) (files : List File) → CommandEnds rs causes.WriteFault text files → ⊥
+not_write_fault : (rs : Option Command) (text : List ℕ) (files : List File) → CommandEnds rs causes.WriteFault text files → ⊥
 not_write_fault None text files ends = absurd (let e = ends.0 in cc)
-not_write_fault (Some bind) text files (inl loaded) = loaded.ends
-not_write_fault (Some bind) text files (inr refused) = absurd (let e = refused.cause_is in cc)
+not_write_fault (Some (commands.Bind bind)) text files (inl loaded) = loaded.ends
+not_write_fault (Some (commands.Bind bind)) text files (inr refused) = absurd (let e = refused.cause_is in cc)
+not_write_fault (Some (commands.Dump path)) text files ends = dump_no_write_fault path text files ends
 
-not_memory : (rs : Option Bind) (text : List ℕ) (files : List File) → CommandEnds rs causes.Memory text files → ⊥
+not_memory : (rs : Option Command) (text : List ℕ) (files : List File) → CommandEnds rs causes.Memory text files → ⊥
 not_memory None text files ends = absurd (let e = ends.0 in cc)
-not_memory (Some bind) text files (inl loaded) = loaded.ends
-not_memory (Some bind) text files (inr refused) = absurd (let e = refused.cause_is in cc)
+not_memory (Some (commands.Bind bind)) text files (inl loaded) = loaded.ends
+not_memory (Some (commands.Bind bind)) text files (inr refused) = absurd (let e = refused.cause_is in cc)
+not_memory (Some (commands.Dump path)) text files ends = dump_no_memory path text files ends
 
 whole : (told : Option (List File)) (words : List (List ℕ)) (own : Cause) (text : List ℕ) (old new : Option (List ℕ)) → Over told (CommandEnds (reads words) own text) → new ≡ append_known old text → Ends told words own old new
 whole told words causes.WriteFault text old new over taken = absurd (not_write_fault (reads words) text over.files over.holds)
@@ -78,7 +82,7 @@ ends_answered told words (Ok answer) cause old new failed over written = ends_wr
 
 -- ---- counts
 
-failed_written : (rs : Option Bind) (told : Option (List File)) (own cause : Cause) (text : List ℕ) (old new : Option (List ℕ)) (failed : Type 0) → Over told (CommandEnds rs own text) → IsWrittenBy own text cause old new failed → cause ≡ causes.WriteFault → failed
+failed_written : (rs : Option Command) (told : Option (List File)) (own cause : Cause) (text : List ℕ) (old new : Option (List ℕ)) (failed : Type 0) → Over told (CommandEnds rs own text) → IsWrittenBy own text cause old new failed → cause ≡ causes.WriteFault → failed
 failed_written rs told own cause text old new failed over (inl all) is =
     let e : own ≡ causes.WriteFault = sym all.0 ∙ is in
     let P : Cause → Type 0 = λ c. CommandEnds rs c text over.files in

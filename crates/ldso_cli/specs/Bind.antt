@@ -1,22 +1,19 @@
 -- What bind comes to.
-use Rattle.std.specs.Prelude.{◌≡◌, ◌⊎◌, ℕ, Bool, List, [], ◌∷◌, Option, Some, None}
+use Rattle.std.specs.Prelude.{◌≡◌, ◌⊎◌, ℕ, Bool, List, [], ◌∷◌, Some, None}
 use Rattle.ld_base.specs.declared.fault.DlFault.{DlFault}
 use Rattle.ld_base.specs.declared.linking.File.{File}
 use Rattle.ld_base.specs.declared.linking.Loaded.{Loaded}
 use Rattle.scope_rule.specs.Breadth.{breadth}
 use Rattle.scope_rule.specs.Order.{Brings}
 use Rattle.scope_rule.specs.declared.namespace.Namespace.{Namespace}
-use Rattle.std.specs.Io.KnownBytes.{append_known}
-use Rattle.library_source.specs.Writing.{TakesFront}
-use Rattle.load_order.specs.Plan.{Over, load_over, version_fault, IsRefused}
+use Rattle.load_order.specs.Plan.{load_over, version_fault, IsRefused}
 use Rattle.load_order.specs.declared.ask.LoadAsk.{LoadAsk}
 use Rattle.ldso_cli.specs.declared.outcome.Cause.{Cause}
 use Rattle.ldso_cli.specs.declared.outcome.Cause.TheVariants as causes
 use Rattle.ldso_cli.specs.declared.words.Bind.{Bind}
 use Rattle.ldso_cli.specs.Lines.{bound_text}
 use Rattle.ldso_cli.specs.Refusal.{first_refusal}
-use Rattle.ldso_cli.specs.Status.{refused_text, usage_text}
-use Rattle.ldso_cli.specs.Words.{reads}
+use Rattle.ldso_cli.specs.Status.{refused_text}
 
 -- the program is asked for by hart 0, and is object 1
 abbrev pub ask_of : Bind → LoadAsk
@@ -70,34 +67,3 @@ pub record IsNotLoaded (bind : Bind) (cause : Cause) (text : List ℕ) (files : 
 -- how bind ends over files, and what it writes
 abbrev pub BindEnds : Bind → Cause → List ℕ → List File → Type 0
 BindEnds bind cause text files = IsLoaded bind cause text files ⊎ IsNotLoaded bind cause text files
-
--- how the words end over files, and what is written: as bind does, or as a usage where they are no command
-abbrev pub CommandEnds : Option Bind → Cause → List ℕ → List File → Type 0
-CommandEnds None cause text files = (cause ≡ causes.Usage) × (text ≡ usage_text)
-CommandEnds (Some bind) cause text files = BindEnds bind cause text files
-
--- a cause and a text were written: all of the text, and that is the cause; or a front of it, where the sink failed, which it
--- counts, or found no memory
-abbrev pub IsWrittenBy : Cause → List ℕ → Cause → Option (List ℕ) → Option (List ℕ) → Type 0 → Type 0
-IsWrittenBy own text cause old new failed =
-    ((cause ≡ own) × (new ≡ append_known old text)) ⊎ ((((cause ≡ causes.WriteFault) × failed) ⊎ (cause ≡ causes.Memory)) × TakesFront old text new)
-
--- the command's own end over the files of its library: its cause, and its text, which is written whole
-pub record IsWritten (told : Option (List File)) (words : List (List ℕ)) (cause : Cause) (old new : Option (List ℕ)) : Type 0 where
-  pub text : List ℕ
-  pub own : Over told (CommandEnds (reads words) cause text)
-  pub taken : new ≡ append_known old text
-
--- the command's own end, of whose text only a front is written
-pub record IsCutShort (told : Option (List File)) (words : List (List ℕ)) (old new : Option (List ℕ)) : Type 0 where
-  pub cause : Cause
-  pub text : List ℕ
-  pub own : Over told (CommandEnds (reads words) cause text)
-  pub taken : TakesFront old text new
-
--- how the command ends, and what its sink took: all of its text, or after a failed write a front of it;
--- without memory a front of it, or nothing
-abbrev pub Ends : Option (List File) → List (List ℕ) → Cause → Option (List ℕ) → Option (List ℕ) → Type 0
-Ends told words causes.WriteFault old new = IsCutShort told words old new
-Ends told words causes.Memory old new = (new ≡ old) ⊎ IsCutShort told words old new
-Ends told words cause old new = IsWritten told words cause old new

@@ -1,4 +1,7 @@
 pub mod Bind
+pub mod Command
+pub mod Dump
+pub mod DumpLines
 pub mod Lines
 pub mod Named
 pub mod Refusal

@@ -1,9 +1,11 @@
 -- How the words of the command line are read.
 use Rattle.std.specs.Prelude.{ℕ, Bool, true, false, not, ◌&&◌, ◌==◌, nat_lt, nat_le, if◌then◌else◌, List, [], ◌∷◌, length, Option, Some, None, codes}
 use Rattle.std.specs.List.{slice_split, list_all, slice_get}
-use Rattle.std.specs.Option.{option_map_or, option_and_then}
+use Rattle.std.specs.Option.{option_map, option_map_or}
 use Rattle.std.specs.Str.{bytes_eq}
 use Rattle.ldso_cli.specs.declared.words.Bind.{Bind}
+use Rattle.ldso_cli.specs.declared.words.Command.{Command}
+use Rattle.ldso_cli.specs.declared.words.Command.TheVariants as commands
 
 -- the word begins with a dash
 abbrev pub has_dash : List ℕ → Bool
@@ -69,7 +71,9 @@ read_bind words = do
   program ← only_word (flag_first (codes "--now") pre.1).1
   Some (record { folders = folders; preload = preload; now = (flag_first (codes "--now") pre.1).0; program = program })
 
--- Reads: the command that the words are, if they are one
-unfoldable pub reads : List (List ℕ) → Option Bind
+-- Reads: the command that the words are, if they are one; after dump stands the path of an object
+unfoldable pub reads : List (List ℕ) → Option Command
 reads [] = None
-reads (word ∷ words) = if bytes_eq word (codes "bind") then read_bind words else None
+reads (word ∷ words) =
+    if bytes_eq word (codes "bind") then option_map commands.Bind (read_bind words)
+    else (if bytes_eq word (codes "dump") then option_map commands.Dump (only_word words) else None)

@@ -1,10 +1,13 @@
-//! The command `ldso`: which definition each procedure linkage slot of a program gets.
+//! The command `ldso`: which definition each procedure linkage slot of a program gets, and what an
+//! object holds.
 //!
 //! [`ldso`] is the whole of it, over any library of files and any sink of bytes; `main` calls it over
 //! the files of the system and standard output, and ends with its status.
 #![tactic(auto)]
 
 mod bind;
+mod dump;
+mod dump_lines;
 mod lines;
 mod outcome;
 mod refusal;

@@ -153,9 +153,52 @@ fn binds_the_first_match(rt: HostRuntime) -> Result<(), Fail> {
     Ok(())
 }
 
+/// A command, its files with what is done to the first, and what it writes.
+const DUMPED: [(&str, &str, Damage, &str); 4] = [
+    (
+        "dump prog",
+        PAIR,
+        Damage::Whole,
+        "object dyn soname=-\nneeded liba.so\nneeded libb.so\nsymbol 1 f - 0x0 undef\n\
+         slot 0 0x588 1\nend 0 dumped\n",
+    ),
+    (
+        "dump lib/liba.so",
+        PAIR,
+        Damage::Whole,
+        "object dyn soname=-\nsymbol 1 f - 0x1 def\nend 0 dumped\n",
+    ),
+    (
+        "dump a",
+        "a ?f =g ?a:b",
+        Damage::Whole,
+        "object dyn soname=-\nsymbol 1 f - 0x0 undef\nsymbol 2 g - 0x1 def\n\
+         symbol 3 a%3ab - 0x0 undef\nslot 0 0x588 1\nslot 1 0x598 3\nend 0 dumped\n",
+    ),
+    // ET_EXEC.
+    (
+        "dump a",
+        "a",
+        Damage::Marked(16, 2),
+        "object exec soname=-\nend 0 dumped\n",
+    ),
+];
+
+#[test]
+fn dumps_objects(rt: HostRuntime) -> Result<(), Fail> {
+    let alloc = rt.alloc();
+    for (line, files, damage, text) in DUMPED {
+        let files = files_of(alloc, files, damage)?;
+        let (status, bytes) = run(&rt, alloc, line, files, &[], &[])?;
+        assert_eq!(rt; bytes.as_slice(), text.as_bytes(), "at {line}");
+        assert_eq!(rt; status, 0, "at {line}");
+    }
+    Ok(())
+}
+
 /// A command, its files with what is done to the first, the numbers of the read and the write that
 /// fail, what it writes, and its status.
-const REFUSED: [(&str, &str, Damage, u64, u64, &str, u8); 9] = [
+const REFUSED: [(&str, &str, Damage, u64, u64, &str, u8); 13] = [
     (
         "bind prog",
         PAIR,
@@ -229,6 +272,35 @@ const REFUSED: [(&str, &str, Damage, u64, u64, &str, u8); 9] = [
         121,
     ),
     ("bind --lib lib prog", PAIR, Damage::Whole, 0, 1, "", 122),
+    (
+        "dump prog",
+        PAIR,
+        Damage::Cut(0),
+        0,
+        0,
+        "end 126 not-accepted prog 1 0\n",
+        126,
+    ),
+    // A word that is a dash alone is a path.
+    (
+        "dump -",
+        PAIR,
+        Damage::Whole,
+        0,
+        0,
+        "end 127 missing-library %2d\n",
+        127,
+    ),
+    (
+        "dump prog",
+        PAIR,
+        Damage::Whole,
+        1,
+        0,
+        "end 121 read-fault prog\n",
+        121,
+    ),
+    ("dump prog", PAIR, Damage::Whole, 0, 1, "", 122),
 ];
 
 #[test]
@@ -258,6 +330,10 @@ fn reads_words(rt: HostRuntime) -> Result<(), Fail> {
         "bind --lib lib --lib lib prog",
         "bind prog prog",
         "bind --help",
+        "dump",
+        "dump prog prog",
+        "dump -x",
+        "dump --lib lib prog",
         "help",
     ] {
         let files = files_of(alloc, PAIR, Damage::Whole)?;

@@ -1,18 +1,20 @@
 //! The top call.
 
-ghost use Rattle.std.specs.Prelude.{◌≡◌, ◌≤◌, ℕ, List, map, IfOk, MatchResult};
+ghost use Rattle.std.specs.Prelude.{◌≡◌, ◌≤◌, ℕ, List, map, Some, IfOk, MatchResult};
 ghost use Rattle.std.specs.String.{string_bytes};
-ghost use Rattle.ld_base.specs.declared.fault.DlFault.TheVariants.{ReadFault};
+ghost use Rattle.ld_base.specs.declared.fault.DlFault.TheVariants.{MissingLibrary, ReadFault};
 ghost use Rattle.library_source.specs.Count.{Rises};
 ghost use Rattle.load_order.specs.Plan.{Over};
-ghost use Rattle.ldso_cli.specs.Bind.{CommandEnds, Ends, IsWrittenBy};
+ghost use Rattle.ldso_cli.specs.Command.{CommandEnds, Ends, IsWrittenBy};
 ghost use Rattle.ldso_cli.specs.Status.{status_of, usage_text};
 ghost use Rattle.ldso_cli.specs.Words.{reads};
 ghost use Rattle.ldso_cli.specs.declared.outcome.Cause.TheVariants.{Refused, Usage, WriteFault};
+ghost use Rattle.ldso_cli.specs.declared.words.Command.TheVariants.{Dump};
 
 use crate::bind::{Answer, bind};
+use crate::dump::dump;
 use crate::outcome::{Cause, Outcome};
-use crate::words::reads;
+use crate::words::{Command, reads};
 use ld_base::{Name, Names};
 use library_source::{Library, Sink, WriteError, put_all};
 use std::alloc::{AllocError, Global};
@@ -49,13 +51,15 @@ fn answer<L: Library>(
 ) -> Result<Answer, AllocError>
     ensures ends { IfOk result (λ answer. Over (L.files library.old) (CommandEnds (reads (map (λ word. string_bytes word) words.now)) answer.cause (string_bytes answer.text))) }
     ensures read_fault { IfOk result (λ answer. (path : List ℕ) → answer.cause ≡ Refused (ReadFault path) → Rises (L.faults library.old) (L.faults library.new)) }
+    ensures missing { IfOk result (λ answer. (path : List ℕ) → reads (map (λ word. string_bytes word) words.now) ≡ Some (Dump path) → answer.cause ≡ Refused (MissingLibrary path) → Rises (L.misses library.old) (L.misses library.new)) }
     ensures files { L.files library.new ≡ L.files library.old }
     ensures faults { L.faults library.old ≤ L.faults library.new }
     ensures misses { L.misses library.old ≤ L.misses library.new }
 {
     let words = bytes_of(alloc, words)?;
     match reads(alloc, words.as_slice())? {
-        Some(command) => bind(alloc, command, library),
+        Some(Command::Bind(command)) => bind(alloc, command, library),
+        Some(Command::Dump(path)) => dump(alloc, path, library),
         None => usage(alloc),
     }
 }
@@ -80,7 +84,8 @@ fn write_answer<K: Sink>(out: &mut K, answer: Result<Answer, AllocError>) -> Cau
 ///
 /// Where the words are no command the cause is `Usage`. `bind` ends with `Done`, or with the one
 /// refusal that stops it, which comes in this order: of finding and reading the program and what it
-/// needs, breadth-first; of a version that isn't there; of a reference without a definition.
+/// needs, breadth-first; of a version that isn't there; of a reference without a definition. `dump`
+/// ends with `Done` where the file is accepted as a program, and else with its refusal.
 pub fn ldso<R: Threads + Wait + Sync, L: Library + Send + Drop, K: Sink>(
     rt: &R,
     alloc: Global,
@@ -94,6 +99,7 @@ pub fn ldso<R: Threads + Wait + Sync, L: Library + Send + Drop, K: Sink>(
 
     // No failure is invented.
     ensures read_fault { (path : List ℕ) → result.0.cause ≡ Refused (ReadFault path) → Rises (L.faults library) (L.faults result.1) }
+    ensures dump_missing { (path : List ℕ) → reads (map (λ word. string_bytes word) words.items) ≡ Some (Dump path) → result.0.cause ≡ Refused (MissingLibrary path) → Rises (L.misses library) (L.misses result.1) }
     ensures write_fault { result.0.cause ≡ WriteFault → Rises (K.faults out.old) (K.faults out.new) }
 
     // What the library and the sink are left as.

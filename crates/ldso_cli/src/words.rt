@@ -143,6 +143,15 @@ pub struct Bind {
     pub program: Name,
 }
 
+/// What is to be done.
+#[derive(Debug, Drop)]
+pub enum Command {
+    /// The definition of each slot of a program and its libraries.
+    Bind(Bind),
+    /// What the object at a path holds.
+    Dump(Name),
+}
+
 #[tactic(auto, unfolding(crate::specs::Words::read_bind))]
 fn read_bind(alloc: Global, words: &[Name]) -> Result<Option<Bind>, AllocError>
     ensures { IfOk result (λ bind. bind ≡ read_bind words.now) }
@@ -172,13 +181,24 @@ fn read_bind(alloc: Global, words: &[Name]) -> Result<Option<Bind>, AllocError>
     }))
 }
 
+/// The path of the object that is dumped.
+fn read_dump(alloc: Global, words: &[Name]) -> Result<Option<Name>, AllocError>
+    ensures { IfOk result (λ path. path ≡ only_word words.now) }
+{
+    match only_word(words) {
+        Some(path) => Ok(Some(Name::new(alloc, path.as_bytes())?)),
+        None => Ok(None),
+    }
+}
+
 /// The command that the words are, if they are one.
 #[tactic(auto, unfolding(crate::specs::Words::reads))]
-pub fn reads(alloc: Global, words: &[Name]) -> Result<Option<Bind>, AllocError>
-    ensures { IfOk result (λ bind. bind ≡ reads words.now) }
+pub fn reads(alloc: Global, words: &[Name]) -> Result<Option<Command>, AllocError>
+    ensures { IfOk result (λ command. command ≡ reads words.now) }
 {
     match words {
-        [word, words @ ..] if word.is(b"bind") => read_bind(alloc, words),
+        [word, words @ ..] if word.is(b"bind") => Ok(read_bind(alloc, words)?.map(Command::Bind)),
+        [word, words @ ..] if word.is(b"dump") => Ok(read_dump(alloc, words)?.map(Command::Dump)),
         _ => Ok(None),
     }
 }
