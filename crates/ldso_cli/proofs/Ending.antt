@@ -1,6 +1,6 @@
 -- How bind ends.
 use Rattle.std.proofs.Common.{◌≡◌, ◌≢◌, ◌<◌, ◌+◌, ℕ, Bool, true, false, not, ◌&&◌, ◌==◌, List, [], ◌∷◌, ◌++◌, length, Option, Some, None, Result, Ok, Err, refl, sym, ap, subst, ◌∙◌, inl, inr, cond, arith, rules}
-use Rattle.std.specs.Prelude.{◌↔◌, nat_lt, IfOk}
+use Rattle.std.specs.Prelude.{◌↔◌, nat_lt, IfOk, IsTrue}
 use Rattle.std.specs.String.{string_bytes}
 use Rattle.std.specs.declared.alloc.AllocError.{AllocError}
 use Rattle.ldso_cli.specs.declared.bind.Answer.{Answer}
@@ -16,11 +16,10 @@ use Rattle.ld_base.specs.declared.object.Object.{Object}
 use Rattle.ld_base.specs.declared.object.Reloc.{Reloc}
 use Rattle.ld_base.specs.declared.object.Symbol.{Symbol}
 use Rattle.ld_base.specs.declared.parts.HashTable.{HashTable}
-use Rattle.elf_object.specs.Form.{is_slot}
-use Rattle.elf_object.specs.Spells.{Spells}
+use Rattle.elf_object.specs.Object.{names_own_symbols}
 use Rattle.elf_object.specs.Verdict.{object_verdict}
 use Rattle.library_source.specs.Files.{file_at}
-use Rattle.load_order.specs.Files.{reading_of, as_read, file_as_read}
+use Rattle.load_order.specs.Files.{reading_of, as_read, file_as_read, is_program}
 use Rattle.load_order.specs.Heard.{AreFiles}
 use Rattle.load_order.specs.Plan.{Over, IsPlan, IsRefused, load_over}
 use Rattle.load_order.specs.declared.ask.LoadAsk.{LoadAsk}
@@ -71,43 +70,24 @@ pub root_is_first : (bind : Bind) (files : List File) (root : ℕ) → IsRoot (l
 unfolding root_of find_path
 root_is_first bind files root is = first_serial (load_over (ask_of bind) nothing_loaded files) bind.program (reading_of files (ask_of bind) bind.program) is.0 root is.1
 
-and_first : (a b : Bool) → (a && b) ≡ true → a ≡ true
-and_first true b h = refl
-and_first false b h = absurd cc
-
-and_second : (a b : Bool) → (a && b) ≡ true → b ≡ true
-and_second true b h = h
-and_second false b h = absurd cc
-
--- ---- each relocation of a spelled object names one of its symbols
-
-slot_names : (count : ℕ) (r : Reloc) → is_slot count r ≡ true → nat_lt r.symbol count ≡ true
-slot_names count r h = and_second ((r.kind == 5) && not (r.symbol == 0)) (nat_lt r.symbol count) h
-
-slots_name : (count : ℕ) (slots : List Reloc) → list_all (is_slot count) slots ≡ true → list_all (λ r. nat_lt r.symbol count) slots ≡ true
-slots_name count [] h = refl
-slots_name count (r ∷ rest) h =
-    let here = slot_names count r (and_first (is_slot count r) (list_all (is_slot count) rest) h) in
-    rw (here, slots_name count rest (and_second (is_slot count r) (list_all (is_slot count) rest) h)) refl
-
-pub spelled_names : (bytes : List ℕ) (o : Object) → Spells bytes o → names_symbols o ≡ true
-spelled_names bytes o spells =
-    let slots : list_all (is_slot (length o.symbols)) o.plt_relocs ≡ true = spells.say.slots in
-    rw spells.say.relocs (slots_name (length o.symbols) o.plt_relocs slots)
+-- ---- each relocation of an object that was read names one of its symbols
 
 -- what is known of verdicts
 abbrev pub Law : Type 0
-Law = (bytes : List ℕ) (o : Object) → (object_verdict bytes ≡ Ok o) ↔ Spells bytes o
+Law = (bytes : List ℕ) (program : Bool) (o : Object) (table : HashTable) → object_verdict bytes program ≡ Ok (o, table) → IsTrue (names_own_symbols o)
 
-verdict_names : (law : Law) (bytes : List ℕ) (verdict : Result Object NotAccepted) (o : Object) (table : HashTable) → object_verdict bytes ≡ verdict → as_read verdict ≡ here o table → names_symbols o ≡ true
-verdict_names law bytes (Ok one) o table is e =
-    let same : one ≡ o = cc in
-    subst (λ (x : Object). names_symbols x ≡ true) same (spelled_names bytes one ((law bytes one).0 is))
-verdict_names law bytes (Err broken) o table is e = absurd cc
+abbrev done : {X : Type 0} → X → Result X NotAccepted
+done x = Ok x
+
+verdict_names : (law : Law) (bytes : List ℕ) (program : Bool) (verdict : Result (Object × HashTable) NotAccepted) (o : Object) (table : HashTable) → object_verdict bytes program ≡ verdict → as_read verdict ≡ here o table → names_symbols o ≡ true
+verdict_names law bytes program (Ok read) o table is e =
+    let same : read.0 ≡ o = cc in
+    subst (λ (x : Object). names_symbols x ≡ true) same (law bytes program read.0 read.1 is)
+verdict_names law bytes program (Err broken) o table is e = absurd cc
 
 file_names : (law : Law) (ask : LoadAsk) (path : List ℕ) (file : Option (List ℕ)) (o : Object) (table : HashTable) → file_as_read ask path file ≡ here o table → names_symbols o ≡ true
 file_names law ask path None o table e = absurd cc
-file_names law ask path (Some bytes) o table e = verdict_names law bytes (object_verdict bytes) o table refl e
+file_names law ask path (Some bytes) o table e = verdict_names law bytes (is_program ask path) (object_verdict bytes (is_program ask path)) o table refl e
 
 pub read_names : (law : Law) (files : List File) (ask : LoadAsk) (added : List Loaded) → AllByRecursion (λ o. reading_of files ask o.path ≡ here o.object o.table) added → AllByRecursion (λ o. names_symbols o.object ≡ true) added
 unfolding reading_of

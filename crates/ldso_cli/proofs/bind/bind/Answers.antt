@@ -11,7 +11,7 @@ returns-in-Err-Refused-clause-ends g c =
 pub of_objects-requires : goal.of_objects-requires
 of_objects-requires g c =
     let over = rw (c.ask_of-ask.ensures, c.nothing_loaded-ns.ensures) at c.in-Ok.ensures.plan in
-    rw c.in_ok-ns-in-Ok.ensures (read_names c.one_object.ensures.verdict over.files (ask_of c.args.command) c.in-Ok.plan.added over.holds.read)
+    rw c.in_ok-ns-in-Ok.ensures (read_names c.one_object.ensures.names over.files (ask_of c.args.command) c.in-Ok.plan.added over.holds.read)
 
 pub returns-clause-ends : goal.returns-clause-ends
 returns-clause-ends g c =
