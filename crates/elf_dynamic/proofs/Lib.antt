@@ -1,3 +1,4 @@
+pub mod Both
 pub mod Laws
 pub mod Read
 pub mod Verdicts

@@ -16,11 +16,14 @@
 //! entry stands at its own place.
 #![tactic(auto)]
 
+mod feature;
 mod law;
+mod memory;
 mod reader;
 mod reloc;
 mod string;
 mod symbol;
+mod symbol_rules;
 mod tag;
 
 pub use law::{one_reading, one_verdict};
