@@ -1,4 +1,5 @@
 pub mod Both
 pub mod Laws
+pub mod Packed
 pub mod Read
 pub mod Verdicts

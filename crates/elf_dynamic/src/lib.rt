@@ -21,6 +21,7 @@ mod law;
 mod memory;
 mod reader;
 mod reloc;
+mod relr;
 mod string;
 mod symbol;
 mod symbol_rules;
