@@ -19,8 +19,10 @@
 mod feature;
 mod law;
 mod memory;
+mod overlap;
 mod reader;
 mod reloc;
+mod reloc_rules;
 mod relr;
 mod string;
 mod symbol;
