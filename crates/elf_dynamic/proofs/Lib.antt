@@ -5,4 +5,5 @@ pub mod Packed
 pub mod Position
 pub mod Read
 pub mod Relocations
+pub mod Slots
 pub mod Verdicts

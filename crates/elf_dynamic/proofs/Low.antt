@@ -80,3 +80,10 @@ low_place headers place low good =
 pub high_place : (headers : List Header) (place : ℕ) → AreLow headers → 2 ^ 32 ≤ place → is_bad_place headers place ≡ true
 high_place headers place low high =
     elim (cases_Bool (is_bad_place headers place)) [ inl bad ↦ bad | inr good ↦ absurd (omega (arith, low_place headers place low good)) ]
+
+-- the same in an accepted file
+pub low_doubleword : (bytes : List ℕ) (head : Head) (place : ℕ) → head_verdict bytes ≡ Ok head → is_bad_place head.headers place ≡ false → place + 8 ≤ 2 ^ 32
+low_doubleword bytes head place ok good = low_place head.headers place (low_headers bytes head ok) good
+
+pub low_span : (bytes : List ℕ) (head : Head) (s : Span) → head_verdict bytes ≡ Ok head → in_writable head.headers s ≡ true → 0 < s.size → s.start + s.size ≤ 2 ^ 32
+low_span bytes head s ok inside some = low_writable head.headers s (low_headers bytes head ok) inside some

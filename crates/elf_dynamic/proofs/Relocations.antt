@@ -99,7 +99,7 @@ pub record Counts (first : Option ℕ) (k bads ranges : ℕ) : Type 0 where
   pub of_all : k ≡ unwrap_or first bads
   pub within : k ≤ ranges
 
-length_ranges : (symbols : List Symbol) (relocs : List Reloc) (places : List ℕ) → length (named_ranges symbols relocs places) ≡ length relocs + length places
+pub length_ranges : (symbols : List Symbol) (relocs : List Reloc) (places : List ℕ) → length (named_ranges symbols relocs places) ≡ length relocs + length places
 unfolding named_ranges
 length_ranges symbols relocs places = omega (arith, length-append (map (named_by symbols) relocs) (map doubleword places), length-map relocs (named_by symbols), length-map places doubleword)
 
@@ -164,7 +164,7 @@ bounded_packed headers true places zero s low within good at = absurd cc
 bounded_packed headers true places (suc j) s low within good at = absurd (omega arith)
 bounded_packed headers false places j s low within good at = bounded_place headers places j s low good at
 
-bounded_at : (headers : List Header) (symbols : List Symbol) (relocs : List Reloc) (odd : Bool) (places : List ℕ) (j : ℕ) (s : Span) → AreLow headers
+pub bounded_at : (headers : List Header) (symbols : List Symbol) (relocs : List Reloc) (odd : Bool) (places : List ℕ) (j : ℕ) (s : Span) → AreLow headers
     → j < length (bad_relocs headers symbols relocs odd places) → get_or (bad_relocs headers symbols relocs odd places) j false ≡ false
     → slice_get (map (named_by symbols) relocs ++ map doubleword places) j ≡ Some s → s.start < 2 ^ 64 → IsBounded s
 bounded_at headers symbols [] odd places j s low within good at start = bounded_packed headers odd places j s low within good at
@@ -192,7 +192,7 @@ front_ranges symbols relocs true places all front = (
       ∙ sym (append_assoc (map (named_by symbols) relocs) (map doubleword places) (map doubleword (front.0 ∷ front.1))),
 )
 
-ranges_are : (symbols : List Symbol) (relocs : List Reloc) (all : List ℕ) → named_ranges symbols relocs all ≡ map (named_by symbols) relocs ++ map doubleword all
+pub ranges_are : (symbols : List Symbol) (relocs : List Reloc) (all : List ℕ) → named_ranges symbols relocs all ≡ map (named_by symbols) relocs ++ map doubleword all
 unfolding named_ranges
 ranges_are symbols relocs all = refl
 
@@ -296,3 +296,18 @@ first_is headers symbols relocs odd past places all first named k ranges low fro
     ∙ ap (least_below (is_named_before (take k ranges))) (sym taken)
     ∙ sym found in
     cut_is (bad_relocs headers symbols relocs odd all) (named_ranges symbols relocs all) k first named is c.of_all at_all
+
+-- where no relocation is bad, the first packed word names a place by itself, and all places are read
+pub read_whole : (headers : List Header) (symbols : List Symbol) (relocs : List Reloc) (odd past : Bool) (places all : List ℕ) → AreLow headers → IsFront past places all
+    → bad_reloc headers symbols relocs odd all ≡ None → (odd ≡ false) × (places ≡ all)
+unfolding bad_reloc
+read_whole headers symbols relocs odd past places all low front none = from_first (position (λ b. b) (bad_relocs headers symbols relocs odd all)) refl
+  where
+    from_first : (first : Option ℕ) → position (λ b. b) (bad_relocs headers symbols relocs odd all) ≡ first → (odd ≡ false) × (places ≡ all)
+    from_first None is =
+        packed_none headers odd past places all low front
+        (neither _ (position (λ b. b) (if odd then true ∷ [] else map (is_bad_place headers) all)) (length relocs) (sym (first_of_both headers symbols relocs (if odd then true ∷ [] else map (is_bad_place headers) all)) ∙ is))
+    from_first (Some i) is =
+        let at = position-Some (λ b. b) (bad_relocs headers symbols relocs odd all) i false is in
+        let fails = least_none (λ j. get_or (bad_relocs headers symbols relocs odd all) j false || is_named_before (named_ranges symbols relocs all) j) (length (bad_relocs headers symbols relocs odd all)) i none at.0 in
+        absurd (cc (rw at.1 at fails))

@@ -24,6 +24,7 @@ mod reader;
 mod reloc;
 mod reloc_rules;
 mod relr;
+mod slot_rules;
 mod string;
 mod symbol;
 mod symbol_rules;

@@ -16,7 +16,7 @@ use ld_base::{Header, Reloc, Span, Symbol};
 use std::alloc::{AllocError, Global};
 
 /// The bytes of a doubleword.
-const DOUBLEWORD: u64 = 8;
+pub(crate) const DOUBLEWORD: u64 = 8;
 
 /// The first relocation that is bad by itself or names a byte that one before it names: the index
 /// of one of DT_RELA, or past them of a packed one.

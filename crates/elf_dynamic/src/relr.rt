@@ -15,7 +15,7 @@ const BITS_REACH: u64 = 63 * 8;
 
 /// The places that a table names, in order, up to the first that lies past the first 4 GiB of
 /// addresses: no segment has that one.
-#[derive(Drop)]
+#[derive(Debug, Drop)]
 pub(crate) struct LowPlaces {
     /// The places before that one.
     pub(crate) places: Places,
