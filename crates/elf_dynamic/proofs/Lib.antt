@@ -1,9 +1,15 @@
+pub mod Both
 pub mod Counting
 pub mod Ends
 pub mod Laws
 pub mod Limits
+pub mod Low
 pub mod Overlaps
+pub mod Packed
+pub mod Position
 pub mod Read
 pub mod Readable
+pub mod Relocations
+pub mod Slots
 pub mod Strings
 pub mod Verdicts

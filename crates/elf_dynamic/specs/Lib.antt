@@ -13,4 +13,5 @@ pub mod Symbol
 pub mod Tables
 pub mod Tag
 pub mod TagNumbers
+pub mod Tells
 pub mod Verdict

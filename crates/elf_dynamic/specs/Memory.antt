@@ -1,6 +1,6 @@
 -- Ranges of addresses, and the memory of segments (gABI, "Program Header": p_flags, p_vaddr, p_memsz).
-use Rattle.std.specs.Prelude.{ℕ, ◌+◌, ◌/◌, ◌%◌, ◌==◌, ◌&&◌, ◌||◌, Bool, nat_lt, nat_le, List}
-use Rattle.std.specs.List.{list_any}
+use Rattle.std.specs.Prelude.{ℕ, ◌+◌, ◌/◌, ◌%◌, ◌^◌, ◌<◌, ◌≤◌, IsTrue, ◌==◌, ◌&&◌, ◌||◌, Bool, nat_lt, nat_le, List}
+use Rattle.std.specs.List.{list_any, All}
 use Rattle.ld_base.specs.declared.object.Span.{Span}
 use Rattle.ld_base.specs.declared.parts.Header.{Header}
 use Rattle.elf_head.specs.Header.{is_loaded}
@@ -27,3 +27,11 @@ in_executable headers address = list_any (λ h. is_executable h && holds (record
 -- two ranges have a byte in common
 abbrev pub overlaps : Span → Span → Bool
 overlaps a b = nat_lt 0 a.size && nat_lt 0 b.size && nat_lt a.start (b.start + b.size) && nat_lt b.start (a.start + a.size)
+
+-- the memory of each mapped segment ends in the first 4 GiB of addresses
+abbrev pub AreLow : List Header → Type 0
+AreLow headers = All (λ h. IsTrue (is_loaded h) → h.vaddr + h.memsz ≤ 2 ^ 32) headers
+
+-- the range ends before the last address
+abbrev pub IsBounded : Span → Type 0
+IsBounded s = s.start + s.size < 2 ^ 64

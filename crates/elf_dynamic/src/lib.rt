@@ -16,14 +16,20 @@
 //! entry stands at its own place.
 #![tactic(auto)]
 
+mod feature;
 mod hash_words;
 mod law;
+mod memory;
 mod overlap;
 mod reader;
 mod reloc;
+mod reloc_rules;
+mod relr;
+mod slot_rules;
 mod string;
 mod string_rules;
 mod symbol;
+mod symbol_rules;
 mod table_rules;
 mod tables;
 mod tag;

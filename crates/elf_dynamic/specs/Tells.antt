@@ -1,0 +1,12 @@
+-- Ranges that tell of low memory what others tell.
+use Rattle.std.specs.Prelude.{◌≡◌, ℕ, ◌+◌, ◌-◌, ◌^◌, ◌≤◌, min, List}
+use Rattle.ld_base.specs.declared.object.Span.{Span}
+use Rattle.elf_dynamic.specs.Rules.{times_named}
+
+-- a doubleword, cut where it would reach the last address
+abbrev pub cut_doubleword : ℕ → Span
+cut_doubleword place = record { start = place; size = min 8 (2 ^ 64 - 1 - place) }
+
+-- as many of these ranges as of those have a byte in common with each range of the first 4 GiB
+abbrev pub TellsOf : List Span → List Span → Type 0
+TellsOf told ranges = (s : Span) → s.start + s.size ≤ 2 ^ 32 → times_named told s ≡ times_named ranges s

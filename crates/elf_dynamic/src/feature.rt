@@ -1,0 +1,174 @@
+//! What isn't linked (gABI, "Relocation" and "Dynamic Section"; psABI, "Relocations").
+
+ghost use Rattle.std.specs.Prelude.{◌≡◌, ◌==◌, ◌&&◌, ◌||◌, ◌++◌};
+ghost use Rattle.std.specs.List.{list_any};
+ghost use Rattle.ld_base.specs.Symbol.{binding, is_defined, type_of};
+ghost use Rattle.elf_dynamic.specs.Rules.{has_open_segment, has_type, is_exec, is_other_type, refused_feature};
+ghost use Rattle.elf_dynamic.specs.Tables.{has, has_flag};
+ghost use Rattle.elf_dynamic.specs.TagNumbers.{dt_flags, dt_rel, dt_textrel};
+
+use crate::memory::{is_executable, is_loaded, is_writable};
+use crate::reloc::R_RISCV_JUMP_SLOT;
+use crate::symbol_rules::{STB_GNU_UNIQUE, binding_of};
+use crate::tag::{DT_FLAGS, DT_REL, DT_TEXTREL, last_of};
+use ld_base::{DynParts, Head, Header, Kind, Reloc, Symbol, Tag};
+
+/// The type of a symbol whose value is a function that gives its address.
+const STT_GNU_IFUNC: u8 = 10;
+/// The bit of DT_FLAGS for relocations in segments that aren't writable.
+const DF_TEXTREL: u64 = 4;
+
+/// Nothing.
+pub(crate) const R_RISCV_NONE: u32 = 0;
+/// The 32 lower bits of an address.
+const R_RISCV_32: u32 = 1;
+/// An address.
+const R_RISCV_64: u32 = 2;
+/// An address of the object itself.
+const R_RISCV_RELATIVE: u32 = 3;
+/// The bytes of a library's variable, for a program that has a place for them.
+pub(crate) const R_RISCV_COPY: u32 = 4;
+/// The number of a module of thread-local storage.
+const R_RISCV_TLS_DTPMOD64: u32 = 7;
+/// An offset in the thread-local storage of a module.
+const R_RISCV_TLS_DTPREL64: u32 = 9;
+/// An offset from the thread pointer.
+const R_RISCV_TLS_TPREL64: u32 = 11;
+/// A function that gives the place of a thread-local variable.
+const R_RISCV_TLSDESC: u32 = 12;
+/// What a function of the object gives.
+const R_RISCV_IRELATIVE: u32 = 58;
+
+/// The least of the features that an object has, as the program or as a library, and that isn't
+/// linked. The features are:
+///
+/// 1. symbols of STT_GNU_IFUNC,
+/// 2. relocations of R_RISCV_IRELATIVE,
+/// 3. symbols of STB_GNU_UNIQUE,
+/// 4. relocations of R_RISCV_TLSDESC,
+/// 5. relocations of R_RISCV_32,
+/// 6. relocations without addends (DT_REL),
+/// 7. relocations in segments that aren't writable (DT_TEXTREL, DF_TEXTREL),
+/// 8. relocations of R_RISCV_COPY in a library,
+/// 9. relocations of another type,
+/// 11. segments that may be written and run,
+/// 12. a library at its own addresses (ET_EXEC).
+#[tactic(auto, unfolding(crate::specs::Rules::refused_feature))]
+pub(crate) fn refused_feature(head: &Head, program: bool, parts: &DynParts) -> Option<u64>
+    ensures { result ≡ refused_feature head.now program parts.now }
+{
+    let feature = if has_indirect(parts.symbols.as_slice()) {
+        1
+    } else if has_type(parts, R_RISCV_IRELATIVE) {
+        2
+    } else if has_unique(parts.symbols.as_slice()) {
+        3
+    } else if has_type(parts, R_RISCV_TLSDESC) {
+        4
+    } else if has_type(parts, R_RISCV_32) {
+        5
+    } else if last_of(parts.tags.as_slice(), DT_REL).is_some() {
+        6
+    } else if changes_text(parts.tags.as_slice()) {
+        7
+    } else if !program && has_type(parts, R_RISCV_COPY) {
+        8
+    } else if has_other_type(parts) {
+        9
+    } else if has_open_segment(head.headers.as_slice()) {
+        11
+    } else if !program && is_exec(head.kind) {
+        12
+    } else {
+        return None;
+    };
+    Some(feature)
+}
+
+/// Whether a definition's value is a function that gives its address.
+fn has_indirect(symbols: &[Symbol]) -> bool
+    ensures { result ≡ list_any (λ s. is_defined s && type_of s == 10) symbols.now }
+{
+    symbols.iter().any(|symbol| symbol.is_defined() && symbol.info % 16 == STT_GNU_IFUNC)
+}
+
+/// Whether a symbol is to be the only one of its name in a process.
+fn has_unique(symbols: &[Symbol]) -> bool
+    ensures { result ≡ list_any (λ s. binding s == 10) symbols.now }
+{
+    symbols
+        .iter()
+        .any(|symbol| binding_of(symbol) == STB_GNU_UNIQUE)
+}
+
+/// Whether a relocation, a slot's too, is of this type.
+#[tactic(auto, using(crate::proofs::Both::any_of_both))]
+fn has_type(parts: &DynParts, kind: u32) -> bool
+    ensures { result ≡ has_type kind (parts.now.relocs ++ parts.now.plt_relocs) }
+{
+    is_any_of(parts.relocs.as_slice(), kind) || is_any_of(parts.plt_relocs.as_slice(), kind)
+}
+
+/// Whether one of these relocations is of this type.
+fn is_any_of(relocs: &[Reloc], kind: u32) -> bool
+    ensures { result ≡ has_type kind relocs.now }
+{
+    relocs.iter().any(|reloc| reloc.kind == kind)
+}
+
+/// Whether relocations stand in segments that aren't writable.
+fn changes_text(tags: &[Tag]) -> bool
+    ensures { result ≡ (has tags.now dt_textrel || has_flag tags.now dt_flags 4) }
+{
+    let flags = last_of(tags, DT_FLAGS).unwrap_or(0);
+    last_of(tags, DT_TEXTREL).is_some() || flags / DF_TEXTREL % 2 == 1
+}
+
+/// Whether a relocation, a slot's too, is of a type that isn't known.
+#[tactic(auto, using(crate::proofs::Both::any_of_both))]
+fn has_other_type(parts: &DynParts) -> bool
+    ensures { result ≡ list_any is_other_type (parts.now.relocs ++ parts.now.plt_relocs) }
+{
+    is_any_other(parts.relocs.as_slice()) || is_any_other(parts.plt_relocs.as_slice())
+}
+
+/// Whether one of these relocations is of a type that isn't known.
+fn is_any_other(relocs: &[Reloc]) -> bool
+    ensures { result ≡ list_any is_other_type relocs.now }
+{
+    relocs.iter().any(|reloc| is_other_type(*reloc))
+}
+
+/// Whether the relocation is of a type that is neither linked nor a feature of its own.
+fn is_other_type(reloc: Reloc) -> bool
+    ensures { result ≡ is_other_type reloc }
+{
+    !matches!(
+        reloc.kind,
+        R_RISCV_NONE
+            | R_RISCV_32
+            | R_RISCV_64
+            | R_RISCV_RELATIVE
+            | R_RISCV_COPY
+            | R_RISCV_JUMP_SLOT
+            | R_RISCV_TLS_DTPMOD64
+            | R_RISCV_TLS_DTPREL64
+            | R_RISCV_TLS_TPREL64
+            | R_RISCV_TLSDESC
+            | R_RISCV_IRELATIVE
+    )
+}
+
+/// Whether a segment may be written and run.
+fn has_open_segment(headers: &[Header]) -> bool
+    ensures { result ≡ has_open_segment headers.now }
+{
+    headers.iter().any(|header| is_loaded(header) && is_writable(header) && is_executable(header))
+}
+
+/// Whether the file stands at its own addresses.
+fn is_exec(kind: Kind) -> bool
+    ensures { result ≡ is_exec kind }
+{
+    matches!(kind, Kind::Exec)
+}
