@@ -11,5 +11,6 @@ pub mod Read
 pub mod Readable
 pub mod Relocations
 pub mod Slots
+pub mod Steps
 pub mod Strings
 pub mod Verdicts

@@ -1,6 +1,6 @@
 //! What is asked of the relocations that aren't slots (psABI, "Relocations").
 
-ghost use Rattle.std.specs.Prelude.{◌≡◌, ◌<◌, ◌^◌, ◌∷◌, [], true, List, ℕ, map, position, if◌then◌else◌, IfOk, IfSome};
+ghost use Rattle.std.specs.Prelude.{◌≡◌, ◌<◌, ◌^◌, ◌∷◌, [], true, false, None, List, ℕ, map, position, if◌then◌else◌, IfOk, IfSome};
 ghost use Rattle.std.specs.List.{All};
 ghost use Rattle.elf_dynamic.specs.Memory.{AreLow};
 ghost use Rattle.elf_dynamic.specs.Named.{doubleword, named_by, named_ranges, size_of};
@@ -32,7 +32,8 @@ pub(crate) fn bad_reloc(
     relr: &LowPlaces,
 ) -> Result<Option<usize>, AllocError>
     requires { AreLow headers.now }
-    ensures { IfOk result (λ first. (all : List ℕ) → IsLowFront relr.now all → first ≡ bad_reloc headers.now symbols.now relocs.now odd all) }
+    ensures first { IfOk result (λ first. (all : List ℕ) → IsLowFront relr.now all → first ≡ bad_reloc headers.now symbols.now relocs.now odd all) }
+    ensures whole { IfOk result (λ first. first ≡ None → relr.now.past ≡ false) }
 {
     let first_bad = first_bad(headers, symbols, relocs, odd, relr);
     let mut ranges = named_ranges(alloc, symbols, relocs, relr.places.as_slice())?;
@@ -50,7 +51,8 @@ fn first_bad(
     relr: &LowPlaces,
 ) -> Option<usize>
     requires { AreLow headers.now }
-    ensures { (all : List ℕ) → IsLowFront relr.now all → result ≡ position (λ b. b) (bad_relocs headers.now symbols.now relocs.now odd all) }
+    ensures first { (all : List ℕ) → IsLowFront relr.now all → result ≡ position (λ b. b) (bad_relocs headers.now symbols.now relocs.now odd all) }
+    ensures whole { result ≡ None → relr.now.past ≡ false }
 {
     match first_bad_rela(headers, symbols, relocs) {
         Some(index) => Some(index),
@@ -75,6 +77,7 @@ fn first_bad_packed(headers: &[Header], odd: bool, relr: &LowPlaces) -> Option<u
     requires { AreLow headers.now }
     ensures value { (all : List ℕ) → IsLowFront relr.now all → result ≡ position (λ b. b) (if odd then true ∷ [] else map (is_bad_place headers.now) all) }
     ensures few { IfSome result (λ index. index < 2 ^ 63) }
+    ensures whole { result ≡ None → relr.now.past ≡ false }
 {
     if odd {
         return Some(0);
