@@ -15,10 +15,10 @@ first_named_before-requires c =
     let value = c.in_ok-ranges.ensures.value ∙ ap (named_ranges c.args.symbols.now c.args.relocs.now) c.as_slice.ensures in
     let count = c.unwrap_or.ensures ∙ ap (unwrap_or first) (c.len.ensures ∙ c.in_ok-ranges.ranges.ok.0) in
     let cut : c.deref.result.now ≡ take k ranges = c.deref.ensures.value ∙ c.truncate.ensures.items in
-    rw cut (bounded_ranges c.args.headers.now c.args.symbols.now c.args.relocs.now c.args.odd relr.past relr.places first k ranges c.requires c.first_bad-first_bad.ensures value count c.in_ok-ranges.ensures.starts)
+    rw cut (bounded_ranges c.args.headers.now c.args.symbols.now c.args.relocs.now c.args.odd relr.past relr.places first k ranges c.requires c.first_bad-first_bad.ensures.first value count c.in_ok-ranges.ensures.starts)
 
-pub returns : goal.returns
-returns c all front =
+pub returns-clause-first : goal.returns-clause-first
+returns-clause-first c all front =
     let relr = c.args.relr.now in
     let first = c.first_bad-first_bad.result in
     let ranges = c.in_ok-ranges.ranges.items in
@@ -27,4 +27,4 @@ returns c all front =
     let count = c.unwrap_or.ensures ∙ ap (unwrap_or first) (c.len.ensures ∙ c.in_ok-ranges.ranges.ok.0) in
     let cut : c.deref.result.now ≡ take k ranges = c.deref.ensures.value ∙ c.truncate.ensures.items in
     let found = c.in_ok-first_again.ensures ∙ ap (λ xs. least_below (is_named_before xs) (length xs)) cut in
-    c.or.ensures ∙ first_is c.args.headers.now c.args.symbols.now c.args.relocs.now c.args.odd relr.past relr.places all first c.in_ok-first_again.first_again k ranges c.requires front (c.first_bad-first_bad.ensures all front) value count found
+    c.or.ensures ∙ first_is c.args.headers.now c.args.symbols.now c.args.relocs.now c.args.odd relr.past relr.places all first c.in_ok-first_again.first_again k ranges c.requires front (c.first_bad-first_bad.ensures.first all front) value count found
