@@ -160,7 +160,7 @@ const DUMPED: [(&str, &str, Damage, &str); 4] = [
         PAIR,
         Damage::Whole,
         "object dyn soname=-\nneeded liba.so\nneeded libb.so\nsymbol 1 f - 0x0 undef\n\
-         slot 0 0x588 1\nend 0 dumped\n",
+         slot 0 0x1110 1\nend 0 dumped\n",
     ),
     (
         "dump lib/liba.so",
@@ -173,7 +173,7 @@ const DUMPED: [(&str, &str, Damage, &str); 4] = [
         "a ?f =g ?a:b",
         Damage::Whole,
         "object dyn soname=-\nsymbol 1 f - 0x0 undef\nsymbol 2 g - 0x1 def\n\
-         symbol 3 a%3ab - 0x0 undef\nslot 0 0x588 1\nslot 1 0x598 3\nend 0 dumped\n",
+         symbol 3 a%3ab - 0x0 undef\nslot 0 0x1110 1\nslot 1 0x1120 3\nend 0 dumped\n",
     ),
     // ET_EXEC.
     (

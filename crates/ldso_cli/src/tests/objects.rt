@@ -2,7 +2,8 @@
 
 use std::alloc::{AllocError, Global};
 
-const SIZE: usize = 0x600;
+/// The bytes of a file: a page of headers, tables and code, and 0x200 of data.
+const SIZE: usize = 0x1200;
 
 const STRINGS: usize = 0x100;
 
@@ -10,14 +11,14 @@ const SYMBOLS: usize = 0x200;
 
 const HASH: usize = 0x380;
 
-const SLOTS: usize = 0x390;
+const SLOTS: usize = 0x400;
 
-const DYNAMIC: usize = 0x480;
+const DYNAMIC: usize = 0x1000;
 
-const GOT: usize = 0x580;
+const GOT: usize = 0x1100;
 
-/// The ELF header and two program headers: place, width and value of each field that isn't 0.
-const HEAD: [(usize, usize, u64); 23] = [
+/// The ELF header and three program headers: place, width and value of each field that isn't 0.
+const HEAD: [(usize, usize, u64); 31] = [
     (0, 4, 0x464c_457f),
     (4, 1, 2),
     (5, 1, 1),
@@ -27,20 +28,28 @@ const HEAD: [(usize, usize, u64); 23] = [
     (20, 4, 1),
     (32, 8, 64),
     (54, 2, 56),
-    (56, 2, 2),
+    (56, 2, 3),
     (64, 4, 1),
-    (68, 4, 6),
-    (96, 8, SIZE as u64),
-    (104, 8, SIZE as u64),
+    (68, 4, 5),
+    (96, 8, DYNAMIC as u64),
+    (104, 8, DYNAMIC as u64),
     (112, 8, 0x1000),
-    (120, 4, 2),
+    (120, 4, 1),
     (124, 4, 6),
     (128, 8, DYNAMIC as u64),
     (136, 8, DYNAMIC as u64),
-    (152, 8, 0x100),
-    (160, 8, 0x100),
-    (168, 8, 8),
+    (152, 8, 0x200),
+    (160, 8, 0x200),
+    (168, 8, 0x1000),
+    (176, 4, 2),
+    (180, 4, 6),
+    (184, 8, DYNAMIC as u64),
+    (192, 8, DYNAMIC as u64),
+    (208, 8, 0x100),
+    (216, 8, 0x100),
+    (224, 8, 8),
     (HASH, 4, 1),
+    (HASH + 8, 4, 1),
 ];
 
 /// A file part way: where its next string, symbol, slot and dynamic entry go.
@@ -95,7 +104,7 @@ impl Layout {
     /// Puts the slot of the next symbol.
     fn put_slot(&mut self) {
         let index = self.symbol.saturating_sub(SYMBOLS) / 24;
-        let place = GOT.saturating_add(index.saturating_mul(8));
+        let place = (GOT + 8).saturating_add(index.saturating_mul(8));
         self.put(self.slot, 8, place as u64);
         self.put(self.slot.saturating_add(8), 4, 5);
         self.put(self.slot.saturating_add(12), 4, index as u64);
@@ -119,10 +128,19 @@ impl Layout {
         }
     }
 
+    /// Puts the chain of the hash table's one bucket, which goes through all of so many symbols.
+    fn put_chain(&mut self, symbols: usize) {
+        self.put(HASH + 4, 4, symbols as u64);
+        for index in 1..symbols.saturating_sub(1) {
+            let at = index.saturating_mul(4).saturating_add(HASH + 12);
+            self.put(at, 4, index as u64 + 1);
+        }
+    }
+
     /// Puts the entries that every object has, and those of the slots where there are any.
     fn put_tables(&mut self) {
         let symbols = self.symbol.saturating_sub(SYMBOLS) / 24;
-        self.put(HASH + 4, 4, symbols as u64);
+        self.put_chain(symbols);
         self.put_entry(4, HASH as u64);
         self.put_entry(5, STRINGS as u64);
         self.put_entry(6, SYMBOLS as u64);
