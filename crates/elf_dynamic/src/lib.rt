@@ -1,19 +1,30 @@
-//! The dynamic table of an ELF file, and the tables that it names: the blocks of which a reader of
-//! linked objects is made. Each takes the bytes of its table, so whoever calls it finds them first.
+//! The dynamic table of an ELF file, and the tables that it names.
 //!
-//! - [`read_tags`] gives the entries of a dynamic table before its first NULL; [`values_of`],
-//!   [`last_of`] and [`count_of`] ask them for a tag.
-//! - [`string_at`] gives the string at an offset of a string table, if one of at most 4,095 bytes
-//!   stands there. [`read_name`] and [`read_names`] read strings that have to be there.
-//! - [`read_symbols`] gives the first symbols of a symbol table, each with its name.
-//! - [`read_relocs`] gives the relocations of a table.
+//! [`read_dynamic`] reads them from the bytes of a file with an accepted head. It answers what they
+//! say exactly where they break none of these rules, and else the first that they break, with a
+//! number; [`one_verdict`] says the same by relations.
 //!
-//! What each gives is exactly what its definition in `specs/` says of the bytes, unless memory runs
-//! out. Where a string isn't there, the answer is rule 12 with the offset of the first such string.
-//! No reading takes more steps than its table has bytes, or, for names, 4,096 more a name.
+//! 10. There is a dynamic table with bytes in the file, and a DT_NULL ends it.
+//! 11. The string table, the symbol table and a hash table are there, and whatever table is named has
+//!     its size, entries of the sizes of ELF64 and all its bytes in the file. The number is the tag of
+//!     the first table that isn't so; symbols, of which there is at least one, come last.
+//! 12. Each needed name, the soname and each symbol's name is a string of the string table, of at most
+//!     4,095 bytes. The number is the first offset at which none stands.
+//! 13. Each symbol has a known binding, and none defines thread-local storage where there is no segment
+//!     of it. The number is the symbol.
+//! 14. Each relocation that isn't a slot names a symbol that is there and writable bytes that none
+//!     before it names, by doublewords at a multiple of 8, a copy apart. The number is its index, packed
+//!     relocations after the others.
+//! 15. Nothing is there that isn't linked, as indirect functions, text relocations or other types of
+//!     relocations. The number is that of the feature.
+//! 16. Each slot is one of a symbol's function, at a doubleword of writable memory that no other
+//!     relocation names, whose word in the file leads to code; the first two words of the table of
+//!     slots belong to the linker. The number is the slot, or how many there are.
 //!
-//! [`one_reading`] says the same as relations: a list is what a table is read as exactly where each
-//! entry stands at its own place.
+//! The readers of tables beside it ([`read_tags`], [`string_at`], [`read_symbols`], [`read_relocs`],
+//! [`read_hash_words`]) take the bytes of a table and give all of its entries, each at its own place;
+//! [`one_reading`] says so by relations. No reading takes more than n log n steps in the size of the
+//! file, but for names, of which each takes up to 4,096.
 #![tactic(auto)]
 
 mod feature;
