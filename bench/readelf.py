@@ -19,12 +19,18 @@ def from_readelf(path):
     soname = re.findall(r"\(SONAME\).*\[(.*)\]", dynamic)
     lines.append("soname " + (soname[0] if soname else "-"))
     for row in readelf("--dyn-syms", path).splitlines():
-        found = re.match(r"\s*(\d+): ([0-9a-f]+)\s+\S+ \S+\s+\S+\s+\S+\s+(?:\[.*\]\s+)?(\S+)\s*(\S*)", row)
+        found = re.match(r"\s*(\d+): ([0-9a-f]+)\s+\S+ (\S+)\s+\S+\s+\S+\s+(?:\[.*\]\s+)?(\S+)\s*(\S*)", row)
         if not found or found[1] == "0":
             continue
-        name, _, version = found[4].partition("@")
+        name, _, version = found[5].partition("@")
         version = version.lstrip("@") or "-"
-        defined = "undef" if found[3] == "UND" else "def"
+        if found[3] == "SECTION":
+            # readelf shows the section's name, and the symbol has none.
+            name = ""
+        elif found[4] == "ABS" and found[3] == "OBJECT" and version == "-":
+            # GNU ld defines a symbol for each version, and readelf leaves its version out.
+            version = name
+        defined = "undef" if found[4] == "UND" else "def"
         lines.append(f"symbol {found[1]} {name or '%'} {version} {int(found[2], 16):#x} {defined}")
     for row in readelf("-r", "--use-dynamic", path).splitlines():
         found = re.match(r"([0-9a-f]{16})\s+([0-9a-f]{16})\s+R_\S+(.*)", row)

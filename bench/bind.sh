@@ -1,0 +1,57 @@
+#!/bin/sh
+# Times `ldso bind` of a program over 64 libraries with 4,160 slots against `readelf -Ws` of the same
+# files. Library i needs 2i + 1 and 2i + 2, exports f_i_0 to f_i_63, which call g, and g; the program
+# calls them all. Run by hand: bench/bind.sh [LIBRARIES]. It needs clang, lld and readelf for RISC-V
+# (Debian: clang, lld, binutils-riscv64-linux-gnu), and GNU time.
+set -eu
+top=$(cd "$(dirname "$0")/.." && pwd)
+program=$top/crates/ldso_cli/out/ldso_cli
+libraries=${1:-64}
+work=$(mktemp -d)
+trap 'rm -rf "$work"' EXIT
+cd "$work"
+mkdir lib
+
+assemble() {
+    clang --target=riscv64-linux-gnu -march=rv64ima -mabi=lp64 -mno-relax -c "$1.s" -o "$1.o"
+}
+
+export_function() {
+    printf '.globl %s\n.type %s, @function\n%s: %s\n' "$1" "$1" "$1" "$2"
+}
+
+i=$((libraries - 1))
+while [ $i -ge 0 ]; do
+    {
+        for j in $(seq 0 63); do
+            export_function "f_${i}_$j" 'tail g@plt'
+        done
+        export_function g "li a0, $((i + 1))
+        ret"
+    } > "lib$i.s"
+    assemble "lib$i"
+    needs=
+    for n in $((2 * i + 1)) $((2 * i + 2)); do
+        if [ $n -lt "$libraries" ]; then
+            needs="$needs lib/lib$n.so"
+        fi
+    done
+    # shellcheck disable=SC2086
+    ld.lld -shared -soname "lib$i.so" "lib$i.o" $needs -o "lib/lib$i.so"
+    i=$((i - 1))
+done
+{
+    export_function _start nop
+    for i in $(seq 0 $((libraries - 1))); do
+        for j in $(seq 0 63); do
+            echo "call f_${i}_$j@plt"
+        done
+    done
+} > prog.s
+assemble prog
+ld.lld -pie -e _start --allow-shlib-undefined --unresolved-symbols=ignore-all prog.o lib/lib0.so -o prog
+
+/usr/bin/time -f '%e s, %M KiB' -o time.bind "$program" bind --lib lib prog > bound
+/usr/bin/time -f '%e s, %M KiB' -o time.readelf riscv64-linux-gnu-readelf -Ws prog lib/*.so > listed
+echo "objects $(grep -c '^object' bound), slots $(grep -c '^slot' bound), missing $(grep -c 'missing$' bound || true): $(tail -n 1 bound)"
+echo "bind: $(cat time.bind); readelf: $(cat time.readelf)"
