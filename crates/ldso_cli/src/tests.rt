@@ -2,8 +2,10 @@
 
 mod objects;
 
+use crate::dump_lines::dump_text;
 use crate::ldso;
-use ld_base::{Bytes, Calls, File, Files, Name};
+use elf_object::read_object;
+use ld_base::{Bytes, Calls, File, Files, Name, Places, Reloc, Symbol, Symbols, Verneed};
 use library_source::{MemLibrary, MemSink};
 use objects::object;
 use std::alloc::{AllocError, Global};
@@ -193,6 +195,51 @@ fn dumps_objects(rt: HostRuntime) -> Result<(), Fail> {
         assert_eq!(rt; bytes.as_slice(), text.as_bytes(), "at {line}");
         assert_eq!(rt; status, 0, "at {line}");
     }
+    Ok(())
+}
+
+fn symbol(alloc: Global, name: &str, version: u16) -> Result<Symbol, AllocError> {
+    Ok(Symbol {
+        name: Name::new(alloc, name.as_bytes())?,
+        info: 0x12,
+        other: 0,
+        shndx: 1,
+        value: 0xa0,
+        size: 0,
+        version,
+    })
+}
+
+/// The lines that no object of the form that is read has yet.
+#[test]
+fn dumps_all_parts(rt: HostRuntime) -> Result<(), Fail> {
+    let alloc = rt.alloc();
+    let bytes = object(alloc, "a")?;
+    let (mut object, _) = read_object(alloc, bytes.as_slice(), true)?;
+    object.soname = Some(Name::new(alloc, b"a.so")?);
+    object.verneeds.push(Verneed {
+        index: 2,
+        flags: 0,
+        file: Name::new(alloc, b"libc.so")?,
+        name: Name::new(alloc, b"V1")?,
+    })?;
+    let mut symbols = Symbols::new(alloc);
+    symbols.push(symbol(alloc, "", 0)?)?;
+    symbols.push(symbol(alloc, "f", 0x8002)?)?;
+    object.symbols = symbols;
+    object.relocs.push(Reloc {
+        place: 0x4000,
+        kind: 2,
+        symbol: 1,
+        addend: -8,
+    })?;
+    object.relr = Places::from_slice(alloc, &[0x5000, 0x5008])?;
+    let text = dump_text(alloc, &object)?;
+    assert_eq!(rt;
+        text.as_str(),
+        "object dyn soname=a.so\nsymbol 1 f V1 0xa0 def\nreloc 0 2 0x4000 1 -8\n\
+        relr 0 0x5000\nrelr 1 0x5008\nend 0 dumped\n"
+    );
     Ok(())
 }
 
