@@ -97,7 +97,7 @@ module _ (bytes : List ℕ) (head : Head) (program : Bool) where
       let b' : TablesBreak bytes head program tags (parts_in bytes head.headers tags) r n = subst (λ ts. TablesBreak bytes head program ts (parts_in bytes head.headers ts) r n) same b in
       let p = place_of bytes head program tags (parts_in bytes head.headers tags) r n b' in
       is_first 11 rules p.0 n p.2
-          (λ j other below e. kept (11 + j) other (omega (arith, p.1)) (by_tables tags is (11 + j) other (broken_at bytes head program tags (parts_in bytes head.headers tags) j other e)))
+      (λ j other below e. kept (11 + j) other (omega (arith, p.1)) (by_tables tags is (11 + j) other (broken_at bytes head program tags (parts_in bytes head.headers tags) j other e)))
       ∙ ap (λ m. Some (record { rule = m; number = n })) (sym p.1)
 
   -- ---- the verdict

@@ -28,13 +28,13 @@ use crate::symbol::{SYMBOL_SIZE, read_symbols};
 use crate::symbol_rules::bad_symbol;
 use crate::table_rules::bad_table;
 use crate::tables::{
-    bytes_in, dynamic_tags, first_exported, flags_of, plt_span, rela_span, span_of, symbol_count, value_of,
+    bytes_in, dynamic_tags, first_exported, flags_of, plt_span, rela_span, span_of, symbol_count,
+    value_of,
 };
 use crate::tag::{
     DT_FINI, DT_FINI_ARRAY, DT_FINI_ARRAYSZ, DT_INIT, DT_INIT_ARRAY, DT_INIT_ARRAYSZ, DT_NEEDED,
     DT_PLTGOT, DT_PREINIT_ARRAY, DT_PREINIT_ARRAYSZ, DT_RELR, DT_RELRSZ, DT_SONAME, DT_STRSZ,
-    DT_STRTAB, DT_SYMTAB,
-    last_of, values_of,
+    DT_STRTAB, DT_SYMTAB, last_of, values_of,
 };
 use elf_head::file_bytes;
 use ld_base::{
@@ -163,9 +163,9 @@ fn read_parts(
     requires { head_verdict bytes.now ≡ Ok head.now }
     ensures { Gives result (option_map_or Err
         (first_broken 11 (
-          bad_table head.now.headers tags (hash_words bytes.now head.now.headers tags) (count_in bytes.now head.now.headers tags)
-          ∷ bad_string (strings_in bytes.now head.now.headers tags) tags (symbol_bytes bytes.now head.now.headers tags) (count_in bytes.now head.now.headers tags)
-          ∷ []))
+        bad_table head.now.headers tags (hash_words bytes.now head.now.headers tags) (count_in bytes.now head.now.headers tags)
+        ∷ bad_string (strings_in bytes.now head.now.headers tags) tags (symbol_bytes bytes.now head.now.headers tags) (count_in bytes.now head.now.headers tags)
+        ∷ []))
         (Ok (record (parts_in bytes.now head.now.headers tags) { relr = relr }))) }
 {
     let entries = tags.as_slice();

@@ -17,10 +17,13 @@ use std::alloc::{AllocError, Global};
 
 /// DF_SYMBOLIC, DF_TEXTREL and DF_BIND_NOW of DT_FLAGS.
 const DF_SYMBOLIC: u64 = 2;
+
 pub(crate) const DF_TEXTREL: u64 = 4;
+
 const DF_BIND_NOW: u64 = 8;
 /// DF_1_NOW and DF_1_NODELETE of DT_FLAGS_1.
 const DF_1_NOW: u64 = 1;
+
 const DF_1_NODELETE: u64 = 8;
 
 /// The value of a tag, 0 where it doesn't stand.

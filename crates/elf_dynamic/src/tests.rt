@@ -1,10 +1,13 @@
 //! Whether tables are laid out as the formats say.
 
 use crate::overlap::{Naming, first_named_before};
+use crate::relr::read_relr;
 use crate::{
-    DT_NEEDED, DT_RELA, count_of, last_of, one_reading, read_name, read_names, read_relocs,
-    read_symbols, read_tags, string_at, values_of,
+    DT_NEEDED, DT_RELA, DT_STRSZ, count_of, last_of, one_reading, one_verdict, read_dynamic,
+    read_hash_words, read_name, read_names, read_relocs, read_symbols, read_tags, string_at,
+    value_of, values_of,
 };
+use elf_head::read_head;
 use ld_base::{NotAccepted, ReadFault, Reloc, Span, Symbol, Symbols, Tag};
 use std::test::Fail;
 
@@ -178,5 +181,99 @@ fn finds_ranges_with_bytes_in_common(rt: HostRuntime) -> Result<(), Fail> {
     for (start, size, want) in times {
         assert_eq!(rt; naming.times(Span { start, size }), want, "at {start}");
     }
+    Ok(())
+}
+
+/// Packed words, and the places that they name.
+const PACKED: [([u64; 2], [u64; 3]); 3] = [
+    ([0x3000, 0xb], [0x3000, 0x3008, 0x3018]),
+    ([0x3000, 1 << 63 | 1], [0x3000, 0x31f8, 0]),
+    ([0x3000, 0x3200], [0x3000, 0x3200, 0]),
+];
+
+#[test]
+fn names_packed_places(rt: HostRuntime) -> Result<(), Fail> {
+    for (words, want) in PACKED {
+        let mut bytes = Vec::new(rt.alloc());
+        for word in words {
+            bytes.extend_from_slice(&word.to_le_bytes())?;
+        }
+        let named = read_relr(rt.alloc(), &bytes)?;
+        assert!(rt; !named.past);
+        for (place, want) in named.places.as_slice().iter().zip(&want) {
+            assert_eq!(rt; *place, *want);
+        }
+        assert_eq!(rt;
+            named.places.len(),
+            want.iter().filter(|place| **place > 0).count()
+        );
+    }
+    Ok(())
+}
+
+/// A library that defines f, field by field: place, width and value.
+const FIELDS: [(usize, usize, u64); 35] = [
+    (0, 4, 0x464c_457f),
+    (4, 1, 2),
+    (5, 1, 1),
+    (6, 1, 1),
+    (16, 2, 3),
+    (18, 2, 243),
+    (20, 4, 1),
+    (32, 8, 64),
+    (54, 2, 56),
+    (56, 2, 2),
+    (64, 4, 1),
+    (68, 4, 5),
+    (96, 8, 0x240),
+    (104, 8, 0x240),
+    (120, 4, 2),
+    (128, 8, 0x1c0),
+    (136, 8, 0x1c0),
+    (152, 8, 0x80),
+    // The strings: an empty one, and f.
+    (0xc1, 1, 0x66),
+    // The symbol f.
+    (0x118, 4, 1),
+    (0x11c, 1, 0x12),
+    (0x11e, 2, 1),
+    (0x120, 8, 0xe0),
+    // The hash table: one bucket, two symbols.
+    (0x140, 4, 1),
+    (0x144, 4, 2),
+    (0x148, 4, 1),
+    // HASH, STRTAB, SYMTAB, STRSZ, SYMENT.
+    (0x1c0, 1, 4),
+    (0x1c8, 2, 0x140),
+    (0x1d0, 1, 5),
+    (0x1d8, 2, 0xc0),
+    (0x1e0, 1, 6),
+    (0x1e8, 2, 0x100),
+    (0x1f0, 1, 10),
+    (0x1f8, 1, 3),
+    (0x200, 1, 11),
+];
+
+#[test]
+fn reads_the_tables_of_a_file(rt: HostRuntime) -> Result<(), Fail> {
+    one_verdict();
+    let mut bytes = vec![in rt.alloc(); 0u8; 0x240]?;
+    for (at, width, value) in FIELDS {
+        for (place, digit) in value.to_le_bytes().iter().enumerate() {
+            let at = at.saturating_add(place);
+            if place < width && at < bytes.len() {
+                bytes[at] = *digit;
+            }
+        }
+    }
+    bytes[0x208] = 24;
+    let head = read_head(rt.alloc(), &bytes)?;
+    let parts = read_dynamic(rt.alloc(), &bytes, &head, false)?;
+    let tags = parts.tags.as_slice();
+    assert_eq!(rt; value_of(tags, DT_STRSZ), 3);
+    assert_eq!(rt; parts.symbols.len(), 2);
+    assert_eq!(rt; parts.first_exported, 1);
+    let words = read_hash_words(rt.alloc(), &bytes, &head, tags)?;
+    assert!(rt; words.gnu.is_none() && words.sysv.is_some());
     Ok(())
 }

@@ -32,7 +32,7 @@ returns-in_err-parts-2 c =
     let packed = c.bytes_in-packed.result.now in
     let k = kept_first (first_rules bytes head tags) (record (meant bytes head tags) { relr = c.new.result }) c.in_ok-parts.parts c.in_ok-parts.ensures in
     let packed-is : packed ≡ relr_bytes bytes head.headers tags =
-        c.bytes_in-packed.ensures ∙ ap (bytes_in bytes head.headers) (c.span_of.ensures ∙ ap (λ ts. span_of ts dt_relr dt_relrsz) c.as_slice.ensures) in
+    c.bytes_in-packed.ensures ∙ ap (bytes_in bytes head.headers) (c.span_of.ensures ∙ ap (λ ts. span_of ts dt_relr dt_relrsz) c.as_slice.ensures) in
     let same = packed_meant bytes head tags c.in_ok-parts.parts packed c.new.result c.begins_odd-odd.result k.1 packed-is c.begins_odd-odd.ensures in
     let refused = rw (c.as_slice-2.ensures, same) at (c.in_err-parts-2.ensures (relr_places packed) c.in_ok-relr.ensures) in
     let p = err_from_is_err_and c.from_residual-in_err-parts-2.result c.from_residual-in_err-parts-2.ensures.1 in
@@ -48,7 +48,7 @@ with_slots-requires-clause-kept c =
     let packed = c.bytes_in-packed.result.now in
     let k = kept_first (first_rules bytes head tags) (record parts { relr = c.new.result }) c.in_ok-parts.parts c.in_ok-parts.ensures in
     let packed-is : packed ≡ relr_bytes bytes head.headers tags =
-        c.bytes_in-packed.ensures ∙ ap (bytes_in bytes head.headers) (c.span_of.ensures ∙ ap (λ ts. span_of ts dt_relr dt_relrsz) c.as_slice.ensures) in
+    c.bytes_in-packed.ensures ∙ ap (bytes_in bytes head.headers) (c.span_of.ensures ∙ ap (λ ts. span_of ts dt_relr dt_relrsz) c.as_slice.ensures) in
     let same = packed_meant bytes head tags c.in_ok-parts.parts packed c.new.result c.begins_odd-odd.result k.1 packed-is c.begins_odd-odd.ensures in
     let odd = begins_odd (relr_words (relr_bytes bytes head.headers tags)) in
     let kept = kept_first (meant_middle bytes head tags) parts c.in_ok-parts-2.parts (rw (c.as_slice-2.ensures, same) at (c.in_ok-parts-2.ensures (relr_places packed) c.in_ok-relr.ensures)) in
@@ -63,7 +63,7 @@ returns c =
     let packed = c.bytes_in-packed.result.now in
     let k = kept_first (first_rules bytes head tags) (record parts { relr = c.new.result }) c.in_ok-parts.parts c.in_ok-parts.ensures in
     let packed-is : packed ≡ relr_bytes bytes head.headers tags =
-        c.bytes_in-packed.ensures ∙ ap (bytes_in bytes head.headers) (c.span_of.ensures ∙ ap (λ ts. span_of ts dt_relr dt_relrsz) c.as_slice.ensures) in
+    c.bytes_in-packed.ensures ∙ ap (bytes_in bytes head.headers) (c.span_of.ensures ∙ ap (λ ts. span_of ts dt_relr dt_relrsz) c.as_slice.ensures) in
     let same = packed_meant bytes head tags c.in_ok-parts.parts packed c.new.result c.begins_odd-odd.result k.1 packed-is c.begins_odd-odd.ensures in
     let kept = kept_first (meant_middle bytes head tags) parts c.in_ok-parts-2.parts (rw (c.as_slice-2.ensures, same) at (c.in_ok-parts-2.ensures (relr_places packed) c.in_ok-relr.ensures)) in
     rw (in_steps bytes head c.args.program tags, k.0, kept.0, kept.1) c.with_slots.ensures
