@@ -1,5 +1,5 @@
 -- Which definition of one object a reference takes (gABI, "Symbol Table"; Drepper, "ELF Symbol Versioning"; dlsym(3)).
-use Rattle.std.specs.Prelude.{◌≡◌, ◌<◌, ◌+◌, ℕ, Bool, true, false, not, ◌&&◌, ◌||◌, ◌==◌, if◌then◌else◌, List, drop, Option, Some, None, option_map, count_by, position}
+use Rattle.std.specs.Prelude.{◌+◌, ℕ, Bool, true, false, not, ◌&&◌, ◌||◌, ◌==◌, if◌then◌else◌, List, drop, Option, Some, None, option_map, count_by, position}
 use Rattle.std.specs.Option.{option_or}
 use Rattle.std.specs.Str.{bytes_eq}
 use Rattle.ld_base.specs.declared.object.Object.{Object}
