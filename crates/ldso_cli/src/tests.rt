@@ -2,10 +2,8 @@
 
 mod objects;
 
-use crate::dump_lines::dump_text;
 use crate::ldso;
-use elf_object::read_object;
-use ld_base::{Bytes, Calls, File, Files, Name, Places, Reloc, Symbol, Symbols, Verneed};
+use ld_base::{Bytes, Calls, File, Files, Name};
 use library_source::{MemLibrary, MemSink};
 use objects::object;
 use std::alloc::{AllocError, Global};
@@ -21,26 +19,30 @@ enum Damage {
     Cut(usize),
     /// The byte there is another.
     Marked(usize, u8),
+    /// Zeros behind the bytes make them so many.
+    Filled(usize),
 }
 
 impl Damage {
-    fn harm(self, bytes: &mut Vec<u8>) {
+    fn harm(self, bytes: &mut Vec<u8>) -> Result<(), AllocError> {
         match self {
             Damage::Whole => {}
             Damage::Cut(length) => bytes.truncate(length),
+            Damage::Filled(length) => bytes.resize(length, 0)?,
             Damage::Marked(at, mark) => {
                 if at < bytes.len() {
                     bytes[at] = mark;
                 }
             }
         }
+        Ok(())
     }
 }
 
 /// The file of a line: its path, and the words of its object.
 fn file_of(alloc: Global, line: &str, damage: Damage) -> Result<File, AllocError> {
     let mut bytes = object(alloc, line)?;
-    damage.harm(&mut bytes);
+    damage.harm(&mut bytes)?;
     let mut path = Name::new(alloc, b"")?;
     for word in line.split(' ').take(1) {
         path = Name::new(alloc, word.as_bytes())?;
@@ -87,11 +89,23 @@ fn run<R: Threads + Wait + Sync>(
     Ok((outcome.status, sink.bytes().to_vec(alloc)?))
 }
 
+/// The status of a program that is bound with its library in `lib`, and what is written.
+fn bind_pair<R: Threads + Wait + Sync>(
+    rt: &R,
+    alloc: Global,
+    program: &str,
+    library: &str,
+) -> Result<(u8, Vec<u8>), AllocError> {
+    let files = format!(in alloc; "{program}\n{library}")?;
+    let files = files_of(alloc, &files, Damage::Whole)?;
+    run(rt, alloc, "bind --lib lib prog", files, &[], &[])
+}
+
 /// A program that calls f, and two libraries that define it.
 const PAIR: &str = "prog +liba.so +libb.so ?f\nlib/liba.so =f\nlib/libb.so =f";
 
 /// A command, its files, what it writes, and its status.
-const BOUND: [(&str, &str, &str, u8); 7] = [
+const BOUND: [(&str, &str, &str, u8); 9] = [
     (
         "bind --lib lib prog",
         PAIR,
@@ -141,6 +155,22 @@ const BOUND: [(&str, &str, &str, u8); 7] = [
         "object 1 lib/prog\nobject 2 lib/a.so\nend 0 bound\n",
         0,
     ),
+    // GNU hash tables.
+    (
+        "bind --lib lib prog",
+        "prog gnu-hash +liba.so +libb.so ?f\nlib/liba.so gnu-hash =f =g\nlib/libb.so gnu-hash =f",
+        "object 1 prog\nobject 2 lib/liba.so\nobject 3 lib/libb.so\n\
+         slot 1 0 f - -> 2.1\nend 0 bound\n",
+        0,
+    ),
+    // A symbolic library is its own first match; another one isn't.
+    (
+        "bind --lib lib prog",
+        "prog +a.so +b.so +c.so\nlib/a.so =f\nlib/b.so symbolic $f\nlib/c.so $f",
+        "object 1 prog\nobject 2 lib/a.so\nobject 3 lib/b.so\nobject 4 lib/c.so\n\
+         slot 3 0 f - -> 3.1\nslot 4 0 f - -> 2.1\nend 0 bound\n",
+        0,
+    ),
 ];
 
 #[test]
@@ -155,8 +185,99 @@ fn binds_the_first_match(rt: HostRuntime) -> Result<(), Fail> {
     Ok(())
 }
 
+/// A library with a hidden f of V1 and an f of V2.
+const VERSIONED: &str = "lib/libv.so #libv.so @V1 @V2 =f@2 =f@@3";
+
+/// A library of the same name without versions.
+const PLAIN: &str = "lib/libv.so =f";
+
+/// A program and its library, what is written when they are bound, and the status.
+const VERSIONS: [(&str, &str, &str, u8); 6] = [
+    (
+        "prog +libv.so !libv.so <V1 ?f@@2",
+        VERSIONED,
+        "object 1 prog\nobject 2 lib/libv.so\nslot 1 0 f V1 -> 2.1\nend 0 bound\n",
+        0,
+    ),
+    (
+        "prog +libv.so !libv.so <V2 ?f@@2",
+        VERSIONED,
+        "object 1 prog\nobject 2 lib/libv.so\nslot 1 0 f V2 -> 2.2\nend 0 bound\n",
+        0,
+    ),
+    (
+        "prog +libv.so ?f",
+        VERSIONED,
+        "object 1 prog\nobject 2 lib/libv.so\nslot 1 0 f - -> 2.1\nend 0 bound\n",
+        0,
+    ),
+    (
+        "prog +libv.so !libv.so <V9 ?f@@2",
+        VERSIONED,
+        "end 127 missing-version prog libv.so V9\n",
+        127,
+    ),
+    // A version that may be missing.
+    (
+        "prog +libv.so !libv.so ~V9 ?f@@2",
+        VERSIONED,
+        "object 1 prog\nobject 2 lib/libv.so\nslot 1 0 f V9 -> missing\nend 0 bound\n",
+        0,
+    ),
+    (
+        "prog +libv.so !libv.so <V9 ?f@@2",
+        PLAIN,
+        "object 1 prog\nobject 2 lib/libv.so\nslot 1 0 f V9 -> 2.1\nend 0 bound\n",
+        0,
+    ),
+];
+
+#[test]
+fn binds_the_version_that_is_needed(rt: HostRuntime) -> Result<(), Fail> {
+    let alloc = rt.alloc();
+    for (program, library, text, expected) in VERSIONS {
+        let (status, bytes) = bind_pair(&rt, alloc, program, library)?;
+        assert_eq!(rt; bytes.as_slice(), text.as_bytes(), "at {program}");
+        assert_eq!(rt; status, expected, "at {program}");
+    }
+    Ok(())
+}
+
+/// A program and its library, what is written when they are bound, and the status.
+const COPIES: [(&str, &str, &str, u8); 3] = [
+    (
+        "prog +liba.so *v",
+        "lib/liba.so :v",
+        "object 1 prog\nobject 2 lib/liba.so\nend 0 bound\n",
+        0,
+    ),
+    (
+        "prog +liba.so *v",
+        "lib/liba.so :w",
+        "end 127 missing-symbol prog v -\n",
+        127,
+    ),
+    (
+        "prog +liba.so",
+        "lib/liba.so *v",
+        "end 126 not-accepted lib/liba.so 15 8\n",
+        126,
+    ),
+];
+
+#[test]
+fn copies_into_a_program_what_a_library_has(rt: HostRuntime) -> Result<(), Fail> {
+    let alloc = rt.alloc();
+    for (program, library, text, expected) in COPIES {
+        let (status, bytes) = bind_pair(&rt, alloc, program, library)?;
+        assert_eq!(rt; bytes.as_slice(), text.as_bytes(), "at {library}");
+        assert_eq!(rt; status, expected, "at {library}");
+    }
+    Ok(())
+}
+
 /// A command, its files with what is done to the first, and what it writes.
-const DUMPED: [(&str, &str, Damage, &str); 4] = [
+const DUMPED: [(&str, &str, Damage, &str); 5] = [
     (
         "dump prog",
         PAIR,
@@ -184,6 +305,15 @@ const DUMPED: [(&str, &str, Damage, &str); 4] = [
         Damage::Marked(16, 2),
         "object exec soname=-\nend 0 dumped\n",
     ),
+    // Every kind of line.
+    (
+        "dump a",
+        "a +libv.so #liba.so @V1 !libv.so <V2 ?f@@3 =g@2 &h packed",
+        Damage::Whole,
+        "object dyn soname=liba.so\nneeded libv.so\nsymbol 1 f V2 0x0 undef\n\
+         symbol 2 g V1 0x1 def\nsymbol 3 h - 0x0 undef\nreloc 0 2 0x1018 3 -8\n\
+         relr 0 0x1180\nrelr 1 0x1188\nrelr 2 0x1198\nslot 0 0x1110 1\nend 0 dumped\n",
+    ),
 ];
 
 #[test]
@@ -195,51 +325,6 @@ fn dumps_objects(rt: HostRuntime) -> Result<(), Fail> {
         assert_eq!(rt; bytes.as_slice(), text.as_bytes(), "at {line}");
         assert_eq!(rt; status, 0, "at {line}");
     }
-    Ok(())
-}
-
-fn symbol(alloc: Global, name: &str, version: u16) -> Result<Symbol, AllocError> {
-    Ok(Symbol {
-        name: Name::new(alloc, name.as_bytes())?,
-        info: 0x12,
-        other: 0,
-        shndx: 1,
-        value: 0xa0,
-        size: 0,
-        version,
-    })
-}
-
-/// The lines that no object of the form that is read has yet.
-#[test]
-fn dumps_all_parts(rt: HostRuntime) -> Result<(), Fail> {
-    let alloc = rt.alloc();
-    let bytes = object(alloc, "a")?;
-    let (mut object, _) = read_object(alloc, bytes.as_slice(), true)?;
-    object.soname = Some(Name::new(alloc, b"a.so")?);
-    object.verneeds.push(Verneed {
-        index: 2,
-        flags: 0,
-        file: Name::new(alloc, b"libc.so")?,
-        name: Name::new(alloc, b"V1")?,
-    })?;
-    let mut symbols = Symbols::new(alloc);
-    symbols.push(symbol(alloc, "", 0)?)?;
-    symbols.push(symbol(alloc, "f", 0x8002)?)?;
-    object.symbols = symbols;
-    object.relocs.push(Reloc {
-        place: 0x4000,
-        kind: 2,
-        symbol: 1,
-        addend: -8,
-    })?;
-    object.relr = Places::from_slice(alloc, &[0x5000, 0x5008])?;
-    let text = dump_text(alloc, &object)?;
-    assert_eq!(rt;
-        text.as_str(),
-        "object dyn soname=a.so\nsymbol 1 f V1 0xa0 def\nreloc 0 2 0x4000 1 -8\n\
-        relr 0 0x5000\nrelr 1 0x5008\nend 0 dumped\n"
-    );
     Ok(())
 }
 
@@ -358,6 +443,44 @@ fn refuses_files(rt: HostRuntime) -> Result<(), Fail> {
         let (status, bytes) = run(&rt, alloc, line, files, &[read], &[write])?;
         assert_eq!(rt; bytes.as_slice(), text.as_bytes(), "at {line}");
         assert_eq!(rt; status, expected, "at {line}");
+    }
+    Ok(())
+}
+
+/// What is done to a library, and what its dump writes.
+const BROKEN: [(Damage, &str); 14] = [
+    (Damage::Cut(63), "end 126 not-accepted o 1 0\n"),
+    // Of another class, and in another byte order.
+    (Damage::Marked(4, 1), "end 126 not-accepted o 3 0\n"),
+    (Damage::Marked(5, 2), "end 126 not-accepted o 3 0\n"),
+    // For another machine.
+    (Damage::Marked(18, 0x3e), "end 126 not-accepted o 4 0\n"),
+    // Not linked yet.
+    (Damage::Marked(16, 1), "end 126 not-accepted o 5 0\n"),
+    // With compressed code.
+    (Damage::Marked(48, 1), "end 126 not-accepted o 6 0\n"),
+    // Program headers of another size, none, and none that are whole.
+    (Damage::Marked(54, 32), "end 126 not-accepted o 7 0\n"),
+    (Damage::Marked(56, 0), "end 126 not-accepted o 7 0\n"),
+    (Damage::Cut(64), "end 126 not-accepted o 7 0\n"),
+    (Damage::Cut(231), "end 126 not-accepted o 7 0\n"),
+    // Segments that aren't whole.
+    (Damage::Cut(232), "end 126 not-accepted o 8 0\n"),
+    (Damage::Cut(0x13ff), "end 126 not-accepted o 8 1\n"),
+    // Too long.
+    (Damage::Filled(0x80_0001), "end 126 not-accepted o 9 0\n"),
+    // No dynamic table.
+    (Damage::Marked(176, 0), "end 126 not-accepted o 10 0\n"),
+];
+
+#[test]
+fn refuses_broken_files(rt: HostRuntime) -> Result<(), Fail> {
+    let alloc = rt.alloc();
+    for (damage, text) in BROKEN {
+        let files = files_of(alloc, "o =f", damage)?;
+        let (status, bytes) = run(&rt, alloc, "dump o", files, &[], &[])?;
+        assert_eq!(rt; bytes.as_slice(), text.as_bytes(), "at {text}");
+        assert_eq!(rt; status, 126, "at {text}");
     }
     Ok(())
 }
