@@ -1,6 +1,6 @@
 -- How long the parts of an accepted file may be.
-use Rattle.std.proofs.Common.{◌≡◌, ℕ, ◌+◌, ◌*◌, ◌<◌, ◌≤◌, ◌-◌, ◌++◌, ◌^◌, List, [], refl, length, take, drop, Ok, arith, length-drop}
-use Rattle.std.specs.Prelude.{find, Option, Some, None, option_map, slice_range, nat_lt, unwrap_or}
+use Rattle.std.proofs.Common.{◌≡◌, ℕ, ◌+◌, ◌*◌, ◌<◌, ◌≤◌, ◌-◌, ◌++◌, ◌^◌, List, [], refl, length, drop, Ok, arith, length-drop}
+use Rattle.std.specs.Prelude.{find, Option, Some, None, option_map, slice_range, unwrap_or}
 use Rattle.std.specs.Option.{option_map_or}
 use Rattle.std.proofs.lemmas.List.{length-take}
 use Rattle.std.proofs.lemmas.Bool.{ltb-false}

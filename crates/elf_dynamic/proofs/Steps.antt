@@ -1,5 +1,5 @@
 -- The rules of tables, a few at a time.
-use Rattle.std.proofs.Common.{◌≡◌, ◌∙◌, sym, ap, ℕ, Bool, List, [], ◌∷◌, ◌++◌, Option, Some, None, Result, Ok, Err, refl}
+use Rattle.std.proofs.Common.{◌≡◌, ◌∙◌, ap, ℕ, Bool, List, [], ◌∷◌, Option, Some, None, Result, Ok, Err, refl}
 use Rattle.std.specs.Option.{option_map_or, option_or}
 use Rattle.ld_base.specs.declared.parts.DynParts.{DynParts}
 use Rattle.ld_base.specs.declared.parts.Head.{Head}
@@ -13,7 +13,7 @@ use Rattle.ld_base.specs.declared.fault.ReadFault.{ReadFault}
 use Rattle.ld_base.specs.declared.fault.ReadFault.TheVariants as faults
 use Rattle.elf_head.proofs.Verdicts.{first_of_both}
 use Rattle.elf_head.specs.Broken.{first_broken}
-use Rattle.elf_head.specs.Gives.{Faults, Gives}
+use Rattle.elf_head.specs.Gives.{Faults}
 
 -- the verdict on a value and the rules that it has to keep
 abbrev pub verdict_on : {X : Type 0} → Option NotAccepted → X → Result X NotAccepted

@@ -1,23 +1,17 @@
 -- Reading symbols stops at the first name that isn't there.
-use Rattle.std.proofs.Common.{◌≡◌, ◌∙◌, sym, ap, ℕ, zero, suc, ◌+◌, ◌*◌, ◌<◌, ◌≤◌, Bool, true, false, not, List, [], ◌∷◌, ◌++◌, length, drop, get_or, Option, Some, None, Result, Ok, Err, refl, arith, add-one, zero-add}
-use Rattle.std.specs.Prelude.{◌||◌, ◌&&◌, nat_lt, nat_le, find, is_some, unwrap_or, if◌then◌else◌}
+use Rattle.std.proofs.Common.{◌≡◌, ℕ, zero, suc, ◌+◌, ◌*◌, Bool, true, false, not, List, [], ◌∷◌, ◌++◌, Option, Some, None, Result, Ok, Err, refl, zero-add}
+use Rattle.std.specs.Prelude.{find, is_some, unwrap_or, if◌then◌else◌}
 use Rattle.std.specs.Option.{option_map_or, option_or, ok_or}
-use Rattle.std.specs.List.{list_any}
-use Rattle.std.proofs.lemmas.List.{drop_more}
 use Rattle.std.proofs.lemmas.List.Folds.{find-append}
-use Rattle.std.proofs.lemmas.Bool.{cases_Bool}
-use Rattle.ld_base.specs.Field.{field}
 use Rattle.ld_base.specs.declared.fault.NotAccepted.{NotAccepted}
 use Rattle.ld_base.specs.declared.object.Symbol.{Symbol}
 use Rattle.ld_base.specs.declared.parts.Tag.{Tag}
 use Rattle.elf_head.specs.Table.{table}
-use Rattle.elf_dynamic.specs.Entries.{◌>>=◌, entries_of}
+use Rattle.elf_dynamic.specs.Entries.{◌>>=◌}
 use Rattle.elf_dynamic.specs.Name.{bad_string, name_at, string_at}
 use Rattle.elf_dynamic.specs.Rules.{bad_string as bad_string_of, lacks_string, name_offsets}
 use Rattle.elf_dynamic.specs.Symbol.{symbol_at, symbol_name, symbol_named, symbols_of}
 use Rattle.elf_dynamic.specs.Tables.{string_in, symbols_in}
-use Rattle.elf_dynamic.specs.Tag.{has_tag}
-use Rattle.elf_dynamic.specs.TagNumbers.{dt_needed, dt_soname}
 
 -- reading a string that has to be there: it is, or its offset lacks one
 named_or : (strings : List ℕ) (offset : ℕ) (found : Option (List ℕ)) → string_at strings offset ≡ found

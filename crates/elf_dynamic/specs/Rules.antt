@@ -1,7 +1,7 @@
 -- What is asked of a dynamic table and of the tables that it names (gABI, psABI): the rules 10 to 16.
 -- Each test here is true where the rule that it is named after is broken.
-use Rattle.std.specs.Prelude.{ℕ, zero, ◌+◌, ◌*◌, ◌%◌, ◌==◌, ◌&&◌, ◌||◌, Bool, true, false, not, nat_lt, nat_le, if◌then◌else◌, List, [], ◌∷◌, ◌++◌, length, map, find, take, count_by, position, slice_index, Option, Some, None, is_some, option_map, Result, Ok, Err}
-use Rattle.std.specs.Option.{option_map_or, option_or, is_none}
+use Rattle.std.specs.Prelude.{ℕ, ◌+◌, ◌*◌, ◌%◌, ◌==◌, ◌&&◌, ◌||◌, Bool, true, false, not, nat_lt, nat_le, if◌then◌else◌, List, [], ◌∷◌, ◌++◌, length, map, find, take, count_by, position, Option, Some, None, is_some, Result, Ok, Err}
+use Rattle.std.specs.Option.{option_map_or, option_or}
 use Rattle.std.specs.List.{list_any, slice_get, slice_index_or}
 use Rattle.ld_base.specs.Field.{field}
 use Rattle.ld_base.specs.Symbol.{binding, type_of, is_defined, is_tls}
@@ -28,8 +28,8 @@ use Rattle.elf_dynamic.specs.Name.{string_at}
 use Rattle.elf_dynamic.specs.Named.{doubleword, named_by, named_ranges, slot_ranges}
 use Rattle.elf_dynamic.specs.Relr.{begins_odd, relr_words}
 use Rattle.elf_dynamic.specs.Symbol.{symbol_name}
-use Rattle.elf_dynamic.specs.Tables.{value_of, has, has_flag, count_in, dynamic_tags, parts_in, plt_span, rela_span, relr_bytes, span_of, strings_in, symbol_bytes}
-use Rattle.elf_dynamic.specs.Tag.{has_tag, last_of}
+use Rattle.elf_dynamic.specs.Tables.{value_of, has, has_flag, count_in, dynamic_tags, parts_in, relr_bytes, span_of, strings_in, symbol_bytes}
+use Rattle.elf_dynamic.specs.Tag.{has_tag}
 use Rattle.elf_dynamic.specs.TagNumbers.{dt_fini_array, dt_fini_arraysz, dt_flags, dt_gnu_hash, dt_hash, dt_init_array, dt_init_arraysz, dt_jmprel, dt_needed, dt_pltgot, dt_pltrel, dt_pltrelsz, dt_preinit_array, dt_preinit_arraysz, dt_rel, dt_rela, dt_relaent, dt_relasz, dt_relr, dt_relrent, dt_relrsz, dt_soname, dt_strsz, dt_strtab, dt_syment, dt_symtab, dt_textrel, dt_verdef, dt_verdefnum, dt_verneed, dt_verneednum}
 
 -- ---- rule 11: the tables

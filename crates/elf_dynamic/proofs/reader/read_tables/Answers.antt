@@ -1,14 +1,12 @@
-use Rattle.std.proofs.Common.{◌≡◌, ◌∙◌, sym, ap, [], refl, subst, Ok}
+use Rattle.std.proofs.Common.{◌≡◌, ◌∙◌, ap}
 use Rattle.std.proofs.lemmas.Result.{err_from_is_err_and}
-use Rattle.ld_base.specs.declared.parts.DynParts.{DynParts}
-use Rattle.elf_head.specs.Gives.{Faults, Gives}
 use Rattle.elf_dynamic.specs.Relr.{begins_odd, relr_places, relr_words}
 use Rattle.elf_dynamic.specs.Rules.{bad_reloc, bad_symbol}
 use Rattle.elf_dynamic.specs.Tables.{bytes_in, relr_bytes, span_of}
 use Rattle.elf_dynamic.specs.TagNumbers.{dt_relr, dt_relrsz}
 use Rattle.elf_dynamic.proofs.Limits.{bytes_in-short}
 use Rattle.elf_dynamic.proofs.Low.{low_headers}
-use Rattle.elf_dynamic.proofs.Steps.{first_rules, in_steps, kept_first, last_rules, meant, meant_middle, middle_rules, packed_meant, refused_first, second_kept, verdict_on}
+use Rattle.elf_dynamic.proofs.Steps.{first_rules, in_steps, kept_first, last_rules, meant, meant_middle, packed_meant, refused_first, second_kept}
 use Rattle.elf_dynamic.proofs.reader.read_tables.Goals as goal
 
 pub read_relr-requires : goal.read_relr-requires
