@@ -6,6 +6,7 @@ pub mod Next
 pub mod Noting
 pub mod Numbered
 pub mod Outcome
+pub mod Paths
 pub mod Planning
 pub mod Reading
 pub mod Searching

@@ -115,7 +115,7 @@ fn read_path<L: Library>(
 {
     match library.read(path) {
         Err(ReadError::Missing) => {
-            progress.missed.push(Name::new(alloc, path)?)?;
+            progress.missed.add(alloc, path)?;
             Ok(None)
         }
         Err(ReadError::Failed) => {

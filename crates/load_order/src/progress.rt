@@ -4,7 +4,8 @@ ghost use Rattle.std.specs.Prelude.{◌≡◌, ◌<◌, [], length, slice_get, s
 ghost use Rattle.std.specs.List.{list_any};
 ghost use Rattle.std.specs.Str.{bytes_eq};
 
-use ld_base::{Added, Names, Serials};
+use crate::missed::Missed;
+use ld_base::{Added, Serials};
 use std::alloc::Global;
 use std::mem;
 
@@ -14,7 +15,7 @@ pub struct Progress {
     /// The new objects, in the order of their serials.
     pub added: Added,
     /// The paths at which there was no file. A load reads no path twice.
-    pub missed: Names,
+    pub missed: Missed,
 }
 
 impl Progress {
@@ -24,7 +25,7 @@ impl Progress {
     {
         Progress {
             added: Added::new(alloc),
-            missed: Names::new(alloc),
+            missed: Missed::new(alloc),
         }
     }
 
@@ -43,6 +44,6 @@ impl Progress {
     pub fn has_missed(&self, path: &[u8]) -> bool
         ensures { result ≡ list_any (λ missed. bytes_eq missed path.now) self.now.missed }
     {
-        self.missed.as_slice().iter().any(|missed| missed.is(path))
+        self.missed.has(path)
     }
 }

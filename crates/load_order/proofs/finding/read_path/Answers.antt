@@ -4,15 +4,15 @@ use Rattle.load_order.specs.Part.{load_of}
 use Rattle.load_order.proofs.Reading.{learns_miss, gives_miss, learns_failed, learns_added, gives_added, tells_absent, tells_found, nothing_there}
 use Rattle.load_order.proofs.finding.read_path.Goals as goal
 
-pub returns-in_ok-push-in-Err-Missing-clause-learns : goal.returns-in_ok-push-in-Err-Missing-clause-learns
-returns-in_ok-push-in-Err-Missing-clause-learns g c =
+pub returns-in_ok-add-in-Err-Missing-clause-learns : goal.returns-in_ok-add-in-Err-Missing-clause-learns
+returns-in_ok-add-in-Err-Missing-clause-learns g c =
     let h = c.in-Err-Missing.ensures in
     learns_miss _ _ _ _ _ c.args.path.now (record { files = h.files; faults = h.faults; misses = h.misses }) (h.missing (ap Err c.in-Err-Missing.field-0-is))
     (tells_absent _ c.args.path.now _ h.absent (ap Err c.in-Err-Missing.field-0-is))
-    (record { known = c.requires.new; missed = c.requires.unread }) refl (rw c.in_ok-new-in-Err-Missing.ensures at c.in_ok-push-in-Err-Missing.ensures.ok)
+    (record { known = c.requires.new; missed = c.requires.unread }) refl c.in_ok-add-in-Err-Missing.ensures.ok
 
-pub returns-in_ok-push-in-Err-Missing-clause-gives : goal.returns-in_ok-push-in-Err-Missing-clause-gives
-returns-in_ok-push-in-Err-Missing-clause-gives g c = λ ns reading heard stopped. gives_miss (load_of c.args.ask.now ns reading) c.args.progress.now _ c.args.path.now reading refl (rw c.in_ok-new-in-Err-Missing.ensures at c.in_ok-push-in-Err-Missing.ensures.ok) heard
+pub returns-in_ok-add-in-Err-Missing-clause-gives : goal.returns-in_ok-add-in-Err-Missing-clause-gives
+returns-in_ok-add-in-Err-Missing-clause-gives g c = λ ns reading heard stopped. gives_miss (load_of c.args.ask.now ns reading) c.args.progress.now _ c.args.path.now reading refl c.in_ok-add-in-Err-Missing.ensures.ok heard
 
 pub returns-in_ok-path-in-Err-Failed-clause-learns : goal.returns-in_ok-path-in-Err-Failed-clause-learns
 returns-in_ok-path-in-Err-Failed-clause-learns g c =
