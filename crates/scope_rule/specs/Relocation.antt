@@ -1,5 +1,5 @@
 -- What the relocations of an object are bound to (psABI, "Relocations").
-use Rattle.std.specs.Prelude.{ℕ, Bool, ◌||◌, ◌==◌, nat_lt, if◌then◌else◌, List, ◌++◌, length, Some, None}
+use Rattle.std.specs.Prelude.{Bool, ◌||◌, ◌==◌, nat_lt, if◌then◌else◌, ◌++◌, length, Some, None}
 use Rattle.std.specs.List.{slice_get, list_all}
 use Rattle.ld_base.specs.declared.linking.Choice.{Choice}
 use Rattle.ld_base.specs.declared.linking.Choice.TheVariants.{Def, WeakZero, Missing}
