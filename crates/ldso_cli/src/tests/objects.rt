@@ -353,8 +353,8 @@ impl Layout {
         self.put(GNU_HASH + 4, 4, first);
         let end = self.chain.saturating_sub(4);
         if defined > 0 && end < self.bytes.len() {
-            self.put(GNU_HASH + 24, 4, first);
             self.bytes[end] |= 1;
+            self.put(GNU_HASH + 24, 4, first);
         }
         self.put_entry(0x6fff_fef5, GNU_HASH as u64);
     }
