@@ -286,16 +286,16 @@ const DUMPED: [(&str, &str, Damage, &str); 5] = [
          slot 0 0x1110 1\nend 0 dumped\n",
     ),
     (
-        "dump lib/liba.so",
-        PAIR,
+        "dump liba.so",
+        "liba.so #liba.so =f",
         Damage::Whole,
-        "object dyn soname=-\nsymbol 1 f - 0x1 def\nend 0 dumped\n",
+        "object dyn soname=liba.so\nsymbol 1 f - 0x1000 def\nend 0 dumped\n",
     ),
     (
         "dump a",
         "a ?f =g ?a:b",
         Damage::Whole,
-        "object dyn soname=-\nsymbol 1 f - 0x0 undef\nsymbol 2 g - 0x1 def\n\
+        "object dyn soname=-\nsymbol 1 f - 0x0 undef\nsymbol 2 g - 0x1000 def\n\
          symbol 3 a%3ab - 0x0 undef\nslot 0 0x1110 1\nslot 1 0x1120 3\nend 0 dumped\n",
     ),
     // ET_EXEC.
@@ -311,7 +311,7 @@ const DUMPED: [(&str, &str, Damage, &str); 5] = [
         "a +libv.so #liba.so @V1 !libv.so <V2 ?f@@3 =g@2 &h packed",
         Damage::Whole,
         "object dyn soname=liba.so\nneeded libv.so\nsymbol 1 f V2 0x0 undef\n\
-         symbol 2 g V1 0x1 def\nsymbol 3 h - 0x0 undef\nreloc 0 2 0x1018 3 -8\n\
+         symbol 2 g V1 0x1000 def\nsymbol 3 h - 0x0 undef\nreloc 0 2 0x1018 3 -8\n\
          relr 0 0x1180\nrelr 1 0x1188\nrelr 2 0x1198\nslot 0 0x1110 1\nend 0 dumped\n",
     ),
 ];

@@ -188,7 +188,7 @@ impl Layout {
     }
 
     fn put_function(&mut self, word: &str, section: u64) {
-        self.put_symbol(word, 0x12, section, section);
+        self.put_symbol(word, 0x12, section, section.saturating_mul(0x1000));
     }
 
     /// Puts a variable of 8 bytes.
