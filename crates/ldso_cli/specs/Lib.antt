@@ -6,4 +6,5 @@ pub mod Lines
 pub mod Named
 pub mod Refusal
 pub mod Status
+pub mod VersionNames
 pub mod Words

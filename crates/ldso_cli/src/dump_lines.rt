@@ -6,7 +6,9 @@ ghost use Rattle.std.specs.Option.{option_copied};
 ghost use Rattle.std.specs.String.{string_bytes};
 ghost use Rattle.ld_base.specs.Text.{name_or_none};
 ghost use Rattle.ldso_cli.specs.DumpLines.{head_line, needed_line, symbol_line, reloc_line, relr_line, plt_line, symbol_lines, dump_text};
+ghost use Rattle.ldso_cli.specs.VersionNames.{AreOf};
 
+use crate::version_names::VersionNames;
 use ld_base::{Kind, Name, Object, Reloc, Symbol};
 use std::alloc::{AllocError, Global};
 use std::fmt;
@@ -59,13 +61,15 @@ fn write_all_needed(text: &mut String, names: &[Name]) -> Result<(), AllocError>
 fn write_symbol(
     text: &mut String,
     object: &Object,
+    names: &VersionNames,
     index: usize,
     symbol: &Symbol,
 ) -> Result<(), AllocError>
+    requires { AreOf object.now names.now.definitions.items names.now.needs.items }
     ensures { OnOk result (string_bytes text.new ≡ string_bytes text.old ++ symbol_line object.now (index, symbol.now)) }
 {
     let name = &symbol.name;
-    let version = OrNone(object.version_name(symbol.version_index()));
+    let version = OrNone(names.name(object, symbol.version_index()));
     let value = symbol.value;
     let defined = if symbol.is_defined() { "def" } else { "undef" };
     writeln!(
@@ -75,12 +79,13 @@ fn write_symbol(
 }
 
 /// Writes the symbols but for the null symbol.
-fn write_symbols(text: &mut String, object: &Object) -> Result<(), AllocError>
+fn write_symbols(text: &mut String, object: &Object, names: &VersionNames) -> Result<(), AllocError>
+    requires { AreOf object.now names.now.definitions.items names.now.needs.items }
     ensures { OnOk result (string_bytes text.new ≡ string_bytes text.old ++ symbol_lines object.now) }
 {
     if let [_null, symbols @ ..] = object.symbols.as_slice() {
         for (place, symbol) in symbols.iter().enumerate() {
-            write_symbol(text, object, place + 1, symbol)?;
+            write_symbol(text, object, names, place + 1, symbol)?;
         }
     }
     Ok(())
@@ -147,10 +152,11 @@ fn write_slots(text: &mut String, slots: &[Reloc]) -> Result<(), AllocError>
 pub(crate) fn dump_text(alloc: Global, object: &Object) -> Result<String, AllocError>
     ensures { IfOk result (λ text. string_bytes text ≡ dump_text object.now) }
 {
+    let names = VersionNames::new(alloc, object)?;
     let mut text = String::new(alloc);
     write_head(&mut text, object)?;
     write_all_needed(&mut text, object.needed.as_slice())?;
-    write_symbols(&mut text, object)?;
+    write_symbols(&mut text, object, &names)?;
     write_relocs(&mut text, object.relocs.as_slice())?;
     write_all_relr(&mut text, object.relr.as_slice())?;
     write_slots(&mut text, object.plt_relocs.as_slice())?;

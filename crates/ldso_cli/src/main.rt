@@ -12,6 +12,7 @@ mod lines;
 mod outcome;
 mod refusal;
 mod top;
+mod version_names;
 mod words;
 
 use library_source::{FolderLibrary, IoSink};
