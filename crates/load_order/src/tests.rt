@@ -85,7 +85,7 @@ fn put_needed(bytes: &mut [u8], number: u64, name: &[u8]) {
     }
 }
 
-/// The file of a line: its path, and the names that it needs.
+/// The file of a line: its path, and the names that it needs; with `!` it is no ELF file.
 fn file(alloc: Global, line: &str) -> Result<File, AllocError> {
     let mut bytes = vec![in alloc; 0u8; FILE_SIZE]?;
     for field in FIELDS {
@@ -94,6 +94,7 @@ fn file(alloc: Global, line: &str) -> Result<File, AllocError> {
     let mut path = Name::new(alloc, b"")?;
     for (place, word) in line.split(' ').enumerate() {
         match (place as u64).checked_sub(1) {
+            Some(_) if word == "!" => put(&mut bytes, Field(0, 4, 0)),
             Some(number) => put_needed(&mut bytes, number, word.as_bytes()),
             None => path = Name::new(alloc, word.as_bytes())?,
         }
@@ -204,7 +205,7 @@ fn load(
 
 /// A program's files and preload names, the number of the read that fails, and what loading it comes
 /// to.
-const PROGRAMS: [(&str, &str, u64, &str); 14] = [
+const PROGRAMS: [(&str, &str, u64, &str); 16] = [
     ("prog", "", 0, "prog\n 1\n"),
     // A diamond: each object once, breadth-first.
     (
@@ -227,6 +228,9 @@ const PROGRAMS: [(&str, &str, u64, &str); 14] = [
         0,
         "prog 2 3\nalt/a\nlib/b 4\nlib/prog\n 1 2 3 4\n",
     ),
+    // A name with a `/` is a path.
+    ("prog x/y a\nx/y\nlib/a x/z", "", 0, "missing x/z"),
+    ("prog x/y\nx/y\nlib/y", "", 0, "prog 2\nx/y\n 1 2\n"),
     // Preload names come before the program's own, and belong to it alone.
     (
         "prog a\nlib/a\nlib/p a\nlib/q",
@@ -246,8 +250,8 @@ const PROGRAMS: [(&str, &str, u64, &str); 14] = [
     ("prog a b\nlib/a c\nlib/b d", "", 0, "missing c"),
     ("prog a b\nlib/a c", "", 0, "missing b"),
     ("prog\nlib/a", "z", 0, "missing z"),
-    // A file that isn't accepted, for a name that is no plain name.
-    ("prog a\nlib/a x/y\nalt/a", "", 0, "broken lib/a"),
+    // A file that isn't accepted, though another folder has one that is.
+    ("prog a\nlib/a !\nalt/a", "", 0, "broken lib/a"),
     // A failed read comes before what the load would meet later.
     ("prog a b", "", 3, "unread alt/a"),
     // No path is read twice: the sixth is that of `c` in the second folder.
