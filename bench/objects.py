@@ -50,9 +50,10 @@ def hash_table(names, first, one_chain):
     return out
 
 
-def build(count, places, one_chain=False, versions=0, padding=0):
+def build(count, places, one_chain=False, versions=0, own_versions=False, padding=0):
     """An object with `count` exported functions and a relocation at each of `places` of its data, and
-    with so many version records, each of which shares the tail of one chain of versions."""
+    with so many version records, each of which shares the tail of one chain of versions; or with
+    another version for each function."""
     names = [b"function_%06d_%s" % (i, b"x" * padding) for i in range(count)]
     buckets = max(1, count // 4)
     names.sort(key=lambda name: gnu_hash(name) % buckets)
@@ -88,6 +89,13 @@ def build(count, places, one_chain=False, versions=0, padding=0):
             needs += struct.pack("<IHHII", 0, 0, 2 + i % 30000, file_name + 8, 0 if last else 16)
         table(0x6FFFFFFE, needs)
         tags.append((0x6FFFFFFF, versions))
+    if own_versions:
+        needs = bytearray(struct.pack("<HHIII", 1, count, file_name, 16, 0))
+        for i in range(count):
+            needs += struct.pack("<IHHII", 0, 0, 2 + i, file_name + 8, 0 if i + 1 == count else 16)
+        table(0x6FFFFFFE, needs)
+        tags.append((0x6FFFFFFF, 1))
+        table(0x6FFFFFF0, b"".join(struct.pack("<H", index) for index in [0, *range(2, 2 + count)]))
     relocs_at = align(data, 8)
     if places:
         tags += [(7, relocs_at), (8, 24 * len(places)), (9, 24)]
@@ -126,6 +134,7 @@ def main(folder):
     write("scattered", build(1, [8 * (k * 7919 % 330000) for k in range(330000)]))
     write("late-clash", build(1, [8 * (k * 7919 % 330000) for k in range(329999)] + [0]))
     write("shared-tails", build(10, [], versions=250))
+    write("own-versions", build(32000, [], own_versions=True))
 
 
 main(sys.argv[1])
