@@ -1,5 +1,5 @@
 -- Reading symbols stops at the first name that isn't there.
-use Rattle.std.proofs.Common.{◌≡◌, ℕ, zero, suc, ◌+◌, ◌*◌, Bool, true, false, not, List, [], ◌∷◌, ◌++◌, Option, Some, None, Result, Ok, Err, refl, zero-add}
+use Rattle.std.proofs.Common.{◌≡◌, ℕ, zero, suc, ◌*◌, Bool, true, false, not, List, [], ◌∷◌, ◌++◌, Option, Some, None, Result, Ok, Err, refl, zero-add}
 use Rattle.std.specs.Prelude.{find, is_some, unwrap_or, if◌then◌else◌}
 use Rattle.std.specs.Option.{option_map_or, option_or, ok_or}
 use Rattle.std.proofs.lemmas.List.Folds.{find-append}

@@ -1,5 +1,5 @@
 -- What the dynamic table and the tables that it names say, whatever the rules (gABI, "Dynamic Section").
-use Rattle.std.specs.Prelude.{ℕ, ◌+◌, ◌-◌, ◌*◌, ◌/◌, ◌%◌, ◌==◌, ◌&&◌, ◌||◌, Bool, not, nat_le, max, if◌then◌else◌, List, [], ◌++◌, length, map, find, fold, Option, Some, None, option_map, is_some, unwrap_or}
+use Rattle.std.specs.Prelude.{ℕ, ◌+◌, ◌-◌, ◌*◌, ◌/◌, ◌%◌, ◌==◌, ◌&&◌, ◌||◌, Bool, nat_le, max, if◌then◌else◌, List, [], ◌++◌, length, map, find, fold, Option, Some, None, option_map, is_some, unwrap_or}
 use Rattle.std.specs.Option.{option_and_then, option_map_or}
 use Rattle.ld_base.specs.declared.object.Reloc.{Reloc}
 use Rattle.ld_base.specs.declared.object.ObjFlags.{ObjFlags}

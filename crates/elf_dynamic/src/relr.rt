@@ -13,6 +13,10 @@ const ADDRESS_LIMIT: u64 = 1 << 32;
 /// The bytes of the places that the bits of a word may name, a doubleword for each bit from 1 to 63.
 const BITS_REACH: u64 = 63 * 8;
 
+/// As many places as memory is asked for: four times the doublewords of guest memory, so that no
+/// table that a program can be loaded with has more.
+const MOST_PLACES: usize = 1 << 22;
+
 /// The places that a table names, in order, up to the first that lies past the first 4 GiB of
 /// addresses: no segment has that one.
 #[derive(Debug, Drop)]
@@ -35,7 +39,8 @@ impl LowPlaces {
         }
     }
 
-    /// Puts a place at the end, unless one before it lies past the limit.
+    /// Puts a place at the end, unless one before it lies past the limit. A place too many is want
+    /// of memory.
     fn push(&mut self, place: u64) -> Result<(), AllocError>
         ensures front { OnOk result ((all : List ℕ) → IsLowFront self.old all → IsLowFront self.new (all ++ place ∷ [])) }
         ensures low { OnOk result (self.new.past ≡ false → place < 2 ^ 32) }
@@ -46,6 +51,9 @@ impl LowPlaces {
         if place >= ADDRESS_LIMIT {
             self.past = true;
             return Ok(());
+        }
+        if self.places.len() >= MOST_PLACES {
+            return Err(AllocError);
         }
         self.places.push(place)
     }
