@@ -50,10 +50,10 @@ def hash_table(names, first, one_chain):
     return out
 
 
-def build(count, places, one_chain=False, versions=0, own_versions=False, padding=0):
+def build(count, places, one_chain=False, versions=0, own_versions=False, packed=0, padding=0):
     """An object with `count` exported functions and a relocation at each of `places` of its data, and
     with so many version records, each of which shares the tail of one chain of versions; or with
-    another version for each function."""
+    another version for each function; or with so many packed words, which name every place."""
     names = [b"function_%06d_%s" % (i, b"x" * padding) for i in range(count)]
     buckets = max(1, count // 4)
     names.sort(key=lambda name: gnu_hash(name) % buckets)
@@ -96,6 +96,9 @@ def build(count, places, one_chain=False, versions=0, own_versions=False, paddin
         table(0x6FFFFFFE, needs)
         tags.append((0x6FFFFFFF, 1))
         table(0x6FFFFFF0, b"".join(struct.pack("<H", index) for index in [0, *range(2, 2 + count)]))
+    if packed:
+        packed_at = table(36, b"\xff" * 8 * packed)
+        tags += [(35, 8 * packed), (37, 8)]
     relocs_at = align(data, 8)
     if places:
         tags += [(7, relocs_at), (8, 24 * len(places)), (9, 24)]
@@ -104,12 +107,14 @@ def build(count, places, one_chain=False, versions=0, own_versions=False, paddin
     start = base + 16 * (len(tags) + 1)
     for k, place in enumerate(places):
         data += struct.pack("<QQq", start + place, (1 + k % count) << 32 | 2, 0)
+    if packed:
+        struct.pack_into("<Q", data, packed_at, start)
     align(data, PAGE)
     dynamic = bytearray()
     for tag, value in tags:
         dynamic += struct.pack("<QQ", tag, value)
     dynamic += struct.pack("<QQ", 0, 0)
-    top = max(places, default=0) + 8
+    top = max(places, default=0) + 8 + 504 * packed
     data.extend(dynamic)
     header = struct.pack("<16sHHIQQQIHHHHHH", b"\x7fELF\x02\x01\x01" + b"\0" * 9, 3, 243, 1, 0, 64, 0, 0, 64, 56, 3, 0, 0, 0)
     data[0:64] = header
@@ -135,6 +140,8 @@ def main(folder):
     write("late-clash", build(1, [8 * (k * 7919 % 330000) for k in range(329999)] + [0]))
     write("shared-tails", build(10, [], versions=250))
     write("own-versions", build(32000, [], own_versions=True))
+    write("packed", build(1, [], packed=66000))
+    write("packed-all", build(1, [], packed=1000000))
 
 
 main(sys.argv[1])
