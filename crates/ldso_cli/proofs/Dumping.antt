@@ -7,7 +7,6 @@ use Rattle.std.specs.Str.{bytes_eq}
 use Rattle.std.specs.String.{string_bytes}
 use Rattle.std.specs.declared.alloc.AllocError.{AllocError}
 use Rattle.std.proofs.lemmas.Slice.Eq.{bytes_eq-Decides}
-use Rattle.ld_base.specs.declared.fault.DlFault.{DlFault}
 use Rattle.ld_base.specs.declared.fault.DlFault.TheVariants as dl
 use Rattle.ld_base.specs.declared.linking.File.{File}
 use Rattle.library_source.specs.Files.{file_at}
@@ -15,7 +14,7 @@ use Rattle.library_source.specs.declared.library.ReadError.{ReadError}
 use Rattle.library_source.specs.declared.library.ReadError.TheVariants.{Missing}
 use Rattle.load_order.specs.Plan.{Over}
 use Rattle.scope_rule.specs.Finding.{Reading, here, unaccepted, absent, failed}
-use Rattle.ldso_cli.specs.Dump.{program_read, Shows, DumpEnds, IsOfBytes}
+use Rattle.ldso_cli.specs.Dump.{program_read, Shows, DumpEnds}
 use Rattle.ldso_cli.specs.Status.{refused_text}
 use Rattle.ldso_cli.specs.declared.bind.Answer.{Answer}
 use Rattle.ldso_cli.specs.declared.outcome.Cause.{Cause}

@@ -1,12 +1,11 @@
 -- How bind ends.
-use Rattle.std.proofs.Common.{◌≡◌, ◌≢◌, ◌<◌, ◌+◌, ℕ, Bool, true, false, not, ◌&&◌, ◌==◌, List, [], ◌∷◌, ◌++◌, length, Option, Some, None, Result, Ok, Err, refl, sym, ap, subst, ◌∙◌, inl, inr, cond, arith, rules}
-use Rattle.std.specs.Prelude.{◌↔◌, nat_lt, IfOk, IsTrue}
+use Rattle.std.proofs.Common.{◌≡◌, ◌+◌, ℕ, Bool, true, false, List, [], ◌∷◌, Option, Some, None, Result, Ok, Err, refl, sym, ap, subst, ◌∙◌, inl, inr, cond, arith}
+use Rattle.std.specs.Prelude.{IfOk, IsTrue}
 use Rattle.std.specs.String.{string_bytes}
 use Rattle.std.specs.declared.alloc.AllocError.{AllocError}
 use Rattle.ldso_cli.specs.declared.bind.Answer.{Answer}
-use Rattle.std.specs.List.{AllByRecursion, list_all, slice_get}
+use Rattle.std.specs.List.{AllByRecursion, slice_get}
 use Rattle.std.specs.Option.{option_or, option_map}
-use Rattle.std.proofs.lemmas.Bool.{cases_Bool}
 use Rattle.ld_base.specs.declared.fault.DlFault.{DlFault}
 use Rattle.ld_base.specs.declared.fault.DlFault.TheVariants as dl
 use Rattle.ld_base.specs.declared.fault.NotAccepted.{NotAccepted}
@@ -20,20 +19,18 @@ use Rattle.elf_object.specs.Object.{names_own_symbols}
 use Rattle.elf_object.specs.Verdict.{object_verdict}
 use Rattle.library_source.specs.Files.{file_at}
 use Rattle.load_order.specs.Files.{reading_of, as_read, file_as_read, is_program}
-use Rattle.load_order.specs.Heard.{AreFiles}
 use Rattle.load_order.specs.Plan.{Over, IsPlan, IsRefused, load_over}
 use Rattle.load_order.specs.declared.ask.LoadAsk.{LoadAsk}
 use Rattle.load_order.specs.declared.ask.LoadPlan.{LoadPlan}
 use Rattle.scope_rule.specs.Breadth.{breadth}
 use Rattle.scope_rule.specs.Finding.{Reading, here, unaccepted, absent, failed, find_path, found_by_reading}
-use Rattle.scope_rule.specs.Loading.{with_added}
 use Rattle.scope_rule.specs.Order.{Load, Stop, IsRoot, arrival, root_of, take_found, must_lead, ◌>>=◌}
 use Rattle.scope_rule.specs.Relocation.{choice_at, names_symbols}
 use Rattle.scope_rule.specs.declared.namespace.Namespace.{Namespace}
 use Rattle.ldso_cli.specs.declared.outcome.Cause.{Cause}
 use Rattle.ldso_cli.specs.declared.outcome.Cause.TheVariants as causes
 use Rattle.ldso_cli.specs.declared.words.Bind.{Bind}
-use Rattle.ldso_cli.specs.Bind.{BindEnds, IsLoaded, IsNotLoaded, ObjectsEnd, ask_of, nothing_loaded, unopened, opened, namespace_of}
+use Rattle.ldso_cli.specs.Bind.{BindEnds, ObjectsEnd, ask_of, nothing_loaded, unopened, opened}
 use Rattle.ldso_cli.specs.Refusal.{is_missing, missing_symbol, refusal_at, first_missing, refusal_of, first_refusal}
 use Rattle.ldso_cli.specs.Status.{refused_text}
 

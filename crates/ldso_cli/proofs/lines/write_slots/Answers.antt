@@ -1,5 +1,4 @@
-use Rattle.std.proofs.Common.{◌≡◌, length, refl, subst, sym, rules}
-use Rattle.std.specs.List.{slice_get}
+use Rattle.std.proofs.Common.{length, refl}
 use Rattle.ldso_cli.proofs.Slots.{slot_step, named_rest, named_second, named_here, read_at, no_reloc}
 use Rattle.ldso_cli.proofs.lines.write_slots.Goals as goal
 

@@ -1,4 +1,4 @@
-use Rattle.std.proofs.Common.{◌≡◌, ◌++◌, ◌<◌, take, drop, length}
+use Rattle.std.proofs.Common.{◌≡◌, ◌++◌, ◌<◌, drop, length}
 use Rattle.std.specs.List.{flat_map, enumerate_from, AllByRecursion}
 use Rattle.std.specs.String.{string_bytes}
 use Rattle.ldso_cli.specs.Lines.{numbered_line}

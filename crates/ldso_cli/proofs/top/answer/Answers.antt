@@ -1,4 +1,4 @@
-use Rattle.std.proofs.Common.{◌≡◌, sym, ◌∙◌}
+use Rattle.std.proofs.Common.{sym, ◌∙◌}
 use Rattle.ldso_cli.proofs.Writing.{usage_ends}
 use Rattle.ldso_cli.proofs.top.answer.Goals as goal
 
