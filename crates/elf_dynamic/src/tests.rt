@@ -198,6 +198,7 @@ fn names_packed_places(rt: HostRuntime) -> Result<(), Fail> {
         for word in words {
             bytes.extend_from_slice(&word.to_le_bytes())?;
         }
+        assert_eq!(rt; bytes.len(), 16);
         let named = read_relr(rt.alloc(), &bytes)?;
         assert!(rt; !named.past);
         for (place, want) in named.places.as_slice().iter().zip(&want) {
