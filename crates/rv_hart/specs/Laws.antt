@@ -18,6 +18,6 @@ StepFollows = (r : Registers) (items : List Item) (end : Place) → IsStep r ite
 abbrev pub FollowsJoin : Type 0
 FollowsJoin = (start between end : Place) (items more : List Item) → Follows start items between → Follows between more end → Follows start (items ++ more) end
 
--- division by zero, and the one signed division that overflows (section 7.2, table 7.1)
+-- division by zero, and the one signed division that overflows (Unprivileged ISA 20191213, "Division Operations")
 abbrev pub DivisionEdges : Type 0
 DivisionEdges = (a : ℕ) → (unsigned_quotient w64 a 0 ≡ 2 ^ 64 - 1) × (unsigned_remainder a 0 ≡ a) × (quotient w64 a 0 ≡ all_ones w64) × (remainder w64 a 0 ≡ a) × (quotient w64 (2 ^ 63) (all_ones w64) ≡ 2 ^ 63) × (remainder w64 (2 ^ 63) (all_ones w64) ≡ 0)

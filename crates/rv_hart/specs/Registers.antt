@@ -1,4 +1,4 @@
--- The registers of a hart (Unprivileged ISA 20191213, section 2.1).
+-- The registers of a hart (Unprivileged ISA 20191213, "Programmers' Model for Base Integer ISA").
 use Rattle.std.specs.Prelude.{ℕ, ◌+◌, ◌%◌, ◌^◌, List, Option, replicate, slice_set, ◌==◌, if◌then◌else◌}
 use Rattle.rv_hart.specs.declared.hart.Held.{Held}
 use Rattle.rv_hart.specs.declared.hart.Hart.{Hart}

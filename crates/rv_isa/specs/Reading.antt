@@ -53,7 +53,7 @@ reg_ops = Add ∷ Sll ∷ Slt ∷ Sltu ∷ Xor ∷ Srl ∷ Or ∷ And ∷ Sub �
 abbrev pub reg_of : ℕ → ℕ → ℕ → Option RegOp
 reg_of opcode funct7 funct3 = find (has_reg_code opcode funct7 funct3) reg_ops
 
--- the immediates of the forms (section 2.3, "Immediate Encoding Variants")
+-- the immediates of the forms (Unprivileged ISA 20191213, "Immediate Encoding Variants")
 unfoldable pub i_number : ℕ → ℤ
 i_number word = signed 12 (bits 20 12 word)
 
