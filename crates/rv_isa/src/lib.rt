@@ -4,8 +4,8 @@
 //! The table is that of the RISC-V Unprivileged ISA 20191213, chapter 24 ("RV32/64G Instruction Set
 //! Listings"), for RV64I, the standard extensions M and A, and nothing else. An instruction is a row
 //! of fields, the lowest first, each with its width and its value; the immediates stand in parts of
-//! their own ("Immediate Encoding Variants"). A word is an instruction's where it has each of these fields at its
-//! place.
+//! their own ("Immediate Encoding Variants"). A word is an instruction's where it has each of these
+//! fields at its place.
 //!
 //! What is promised of every word and every instruction:
 //!
