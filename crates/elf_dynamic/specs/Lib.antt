@@ -1,6 +1,7 @@
 pub mod Before
 pub mod Ends
 pub mod Entries
+pub mod Feature
 pub mod HashWords
 pub mod Memory
 pub mod Name

@@ -1,8 +1,9 @@
 //! What isn't linked (gABI, "Relocation" and "Dynamic Section"; psABI, "Relocations").
 
-ghost use Rattle.std.specs.Prelude.{◌≡◌, ◌==◌, ◌&&◌, ◌||◌, ◌++◌};
+ghost use Rattle.std.specs.Prelude.{◌≡◌, ◌==◌, ◌&&◌, ◌||◌, ◌++◌, option_map};
 ghost use Rattle.std.specs.List.{list_any};
 ghost use Rattle.ld_base.specs.Symbol.{binding, is_defined, type_of};
+ghost use Rattle.elf_dynamic.specs.Feature.{number_of};
 ghost use Rattle.elf_dynamic.specs.Rules.{has_open_segment, has_type, is_exec, is_other_type, refused_feature};
 ghost use Rattle.elf_dynamic.specs.Tables.{has, has_flag};
 ghost use Rattle.elf_dynamic.specs.TagNumbers.{dt_flags, dt_rel, dt_textrel};
@@ -10,13 +11,12 @@ ghost use Rattle.elf_dynamic.specs.TagNumbers.{dt_flags, dt_rel, dt_textrel};
 use crate::memory::{is_executable, is_loaded, is_writable};
 use crate::reloc::R_RISCV_JUMP_SLOT;
 use crate::symbol_rules::{STB_GNU_UNIQUE, binding_of};
-use crate::tag::{DT_FLAGS, DT_REL, DT_TEXTREL, last_of};
+use crate::tables::{DF_TEXTREL, has, has_flag};
+use crate::tag::{DT_FLAGS, DT_REL, DT_TEXTREL};
 use ld_base::{DynParts, Head, Header, Kind, Reloc, Symbol, Tag};
 
 /// The type of a symbol whose value is a function that gives its address.
 const STT_GNU_IFUNC: u8 = 10;
-/// The bit of DT_FLAGS for relocations in segments that aren't writable.
-const DF_TEXTREL: u64 = 4;
 
 /// Nothing.
 pub(crate) const R_RISCV_NONE: u32 = 0;
@@ -39,46 +39,82 @@ const R_RISCV_TLSDESC: u32 = 12;
 /// What a function of the object gives.
 const R_RISCV_IRELATIVE: u32 = 58;
 
+/// What an object may have and isn't linked, the least number first.
+#[derive(Clone, Copy, Debug, PartialEq, Eq)]
+pub(crate) enum Feature {
+    /// A definition of STT_GNU_IFUNC.
+    IndirectFunction,
+    /// A relocation of R_RISCV_IRELATIVE.
+    Irelative,
+    /// A symbol of STB_GNU_UNIQUE.
+    UniqueSymbol,
+    /// A relocation of R_RISCV_TLSDESC.
+    TlsDescriptor,
+    /// A relocation of R_RISCV_32.
+    Reloc32,
+    /// A table of relocations without addends (DT_REL).
+    RelTable,
+    /// Relocations in segments that aren't writable (DT_TEXTREL, DF_TEXTREL).
+    TextRelocations,
+    /// A relocation of R_RISCV_COPY in a library.
+    CopyInLibrary,
+    /// A relocation of another type.
+    OtherRelocation,
+    /// A segment that may be written and run.
+    OpenSegment,
+    /// A library at its own addresses (ET_EXEC).
+    FixedLibrary,
+}
+
+impl Feature {
+    /// The number by which rule 15 names the feature; none is 10.
+    pub(crate) fn number(self) -> u64
+        ensures { result ≡ number_of self }
+    {
+        match self {
+            Self::IndirectFunction => 1,
+            Self::Irelative => 2,
+            Self::UniqueSymbol => 3,
+            Self::TlsDescriptor => 4,
+            Self::Reloc32 => 5,
+            Self::RelTable => 6,
+            Self::TextRelocations => 7,
+            Self::CopyInLibrary => 8,
+            Self::OtherRelocation => 9,
+            Self::OpenSegment => 11,
+            Self::FixedLibrary => 12,
+        }
+    }
+}
+
 /// The least of the features that an object has, as the program or as a library, and that isn't
-/// linked. The features are:
-///
-/// 1. symbols of STT_GNU_IFUNC,
-/// 2. relocations of R_RISCV_IRELATIVE,
-/// 3. symbols of STB_GNU_UNIQUE,
-/// 4. relocations of R_RISCV_TLSDESC,
-/// 5. relocations of R_RISCV_32,
-/// 6. relocations without addends (DT_REL),
-/// 7. relocations in segments that aren't writable (DT_TEXTREL, DF_TEXTREL),
-/// 8. relocations of R_RISCV_COPY in a library,
-/// 9. relocations of another type,
-/// 11. segments that may be written and run,
-/// 12. a library at its own addresses (ET_EXEC).
+/// linked.
 #[tactic(auto, unfolding(crate::specs::Rules::refused_feature))]
-pub(crate) fn refused_feature(head: &Head, program: bool, parts: &DynParts) -> Option<u64>
-    ensures { result ≡ refused_feature head.now program parts.now }
+pub(crate) fn refused_feature(head: &Head, program: bool, parts: &DynParts) -> Option<Feature>
+    ensures { option_map number_of result ≡ refused_feature head.now program parts.now }
 {
     let feature = if has_indirect(parts.symbols.as_slice()) {
-        1
+        Feature::IndirectFunction
     } else if has_type(parts, R_RISCV_IRELATIVE) {
-        2
+        Feature::Irelative
     } else if has_unique(parts.symbols.as_slice()) {
-        3
+        Feature::UniqueSymbol
     } else if has_type(parts, R_RISCV_TLSDESC) {
-        4
+        Feature::TlsDescriptor
     } else if has_type(parts, R_RISCV_32) {
-        5
-    } else if last_of(parts.tags.as_slice(), DT_REL).is_some() {
-        6
+        Feature::Reloc32
+    } else if has(parts.tags.as_slice(), DT_REL) {
+        Feature::RelTable
     } else if changes_text(parts.tags.as_slice()) {
-        7
+        Feature::TextRelocations
     } else if !program && has_type(parts, R_RISCV_COPY) {
-        8
+        Feature::CopyInLibrary
     } else if has_other_type(parts) {
-        9
+        Feature::OtherRelocation
     } else if has_open_segment(head.headers.as_slice()) {
-        11
+        Feature::OpenSegment
     } else if !program && is_exec(head.kind) {
-        12
+        Feature::FixedLibrary
     } else {
         return None;
     };
@@ -120,8 +156,7 @@ fn is_any_of(relocs: &[Reloc], kind: u32) -> bool
 fn changes_text(tags: &[Tag]) -> bool
     ensures { result ≡ (has tags.now dt_textrel || has_flag tags.now dt_flags 4) }
 {
-    let flags = last_of(tags, DT_FLAGS).unwrap_or(0);
-    last_of(tags, DT_TEXTREL).is_some() || flags / DF_TEXTREL % 2 == 1
+    has(tags, DT_TEXTREL) || has_flag(tags, DT_FLAGS, DF_TEXTREL)
 }
 
 /// Whether a relocation, a slot's too, is of a type that isn't known.

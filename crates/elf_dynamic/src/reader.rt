@@ -233,7 +233,7 @@ fn with_slots(
         (Ok parts)) }
 {
     if let Some(feature) = refused_feature(head, program, &parts) {
-        return Err(broken(15, feature));
+        return Err(broken(15, feature.number()));
     }
     if let Some(index) = bad_slot(alloc, bytes, head, &parts)? {
         return Err(broken(16, index as u64));

@@ -9,6 +9,7 @@ use crate::{
 };
 use elf_head::read_head;
 use ld_base::{NotAccepted, ReadFault, Reloc, Span, Symbol, Symbols, Tag};
+use std::alloc::{AllocError, Global};
 use std::test::Fail;
 
 /// Two whole entries, and no NULL before the bytes end.
@@ -208,6 +209,27 @@ fn names_packed_places(rt: HostRuntime) -> Result<(), Fail> {
             named.places.len(),
             want.iter().filter(|place| **place > 0).count()
         );
+    }
+    Ok(())
+}
+
+/// A packed table of one place and so many words that name 63 places each.
+fn packed_table(alloc: Global, full_words: usize) -> Result<Vec<u8>, AllocError> {
+    let mut bytes = Vec::from_slice(alloc, &0x1_0000_u64.to_le_bytes())?;
+    for _ in 0..full_words {
+        bytes.extend_from_slice(&u64::MAX.to_le_bytes())?;
+    }
+    Ok(bytes)
+}
+
+#[test]
+fn bounds_the_places_of_a_packed_table(rt: HostRuntime) -> Result<(), Fail> {
+    for (full_words, places) in [(66_576, Some(4_194_289)), (66_577, None)] {
+        let bytes = packed_table(rt.alloc(), full_words)?;
+        assert!(rt; bytes.len() < 0x80_0000);
+        let named = read_relr(rt.alloc(), &bytes);
+        let count = named.ok().map(|named| named.places.len());
+        assert_eq!(rt; count, places, "{full_words} words");
     }
     Ok(())
 }

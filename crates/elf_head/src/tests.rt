@@ -1,6 +1,8 @@
 //! Whether the rules are those of the formats: files laid out field by field.
 
-use crate::{PT_DYNAMIC, PT_LOAD, PT_TLS, bytes_from, file_bytes, one_verdict, read_head};
+use crate::{
+    PT_DYNAMIC, PT_LOAD, PT_TLS, bytes_from, file_bytes, is_readable, one_verdict, read_head,
+};
 use ld_base::{Kind, NotAccepted, ReadFault};
 use std::alloc::{AllocError, Global};
 use std::test::Fail;
@@ -249,6 +251,8 @@ fn gives_the_head_and_its_bytes(rt: HostRuntime) -> Result<(), Fail> {
     for (start, size, length) in ranges {
         let found = file_bytes(&bytes, &head, start, size);
         assert_eq!(rt; found.map(|part| part.len()), length, "from {start}");
+        let readable = is_readable(head.headers.as_slice(), start, size);
+        assert_eq!(rt; readable, length.is_some(), "from {start}");
     }
     let last: &[u8] = &[0x5a];
     assert_eq!(rt; file_bytes(&bytes, &head, 0x1_27ff, 1), Some(last));

@@ -1,14 +1,16 @@
 -- The verdict on a file, and the relations that say what it means.
 use Rattle.std.proofs.Common.{◌≡◌, ◌↔◌, ◌⊎◌, ℕ, Bool, true, List, ◌++◌, length, Some, Result, Ok, Err, refl, sym, ◌∙◌, ap, subst, inl, inr}
-use Rattle.std.specs.Prelude.{nat_lt}
+use Rattle.std.specs.Prelude.{nat_lt, IfOk}
 use Rattle.std.specs.List.{list_all, slice_get}
 use Rattle.ld_base.specs.declared.fault.NotAccepted.{NotAccepted}
+use Rattle.ld_base.specs.declared.fault.ReadFault.{ReadFault}
 use Rattle.ld_base.specs.declared.object.Object.{Object}
 use Rattle.ld_base.specs.declared.object.Symbol.{Symbol}
 use Rattle.ld_base.specs.declared.parts.DynParts.{DynParts}
 use Rattle.ld_base.specs.declared.parts.HashTable.{HashTable}
 use Rattle.ld_base.specs.declared.parts.Head.{Head}
 use Rattle.ld_base.specs.declared.parts.Versions.{Versions}
+use Rattle.elf_head.specs.Gives.{Gives}
 use Rattle.elf_head.specs.Rules.{head_verdict}
 use Rattle.elf_head.specs.Verdict.{SpellsHead}
 use Rattle.elf_head.specs.Verdict.{BreaksFirst as HeadBreaks}
@@ -21,7 +23,7 @@ use Rattle.elf_versions.specs.Spells.{SpellsVersions}
 use Rattle.elf_versions.specs.Spells.{BreaksFirst as VersionsBreak}
 use Rattle.elf_versions.specs.Verdict.{versions_verdict}
 use Rattle.sym_hash.specs.Breaks.{BreaksHash}
-use Rattle.sym_hash.specs.Reached.{IsTableFor}
+use Rattle.sym_hash.specs.Reached.{IsTableFor, IsTableOf}
 use Rattle.sym_hash.specs.Verdict.{hash_verdict}
 use Rattle.sym_hash.specs.Words.{table_words}
 use Rattle.elf_object.proofs.Named.{parts_name}
@@ -35,6 +37,12 @@ use Rattle.elf_object.specs.Verdict.{object_verdict}
 abbrev pub SameTable : Type 0
 SameTable = (t : HashTable) (symbols others : List Symbol) (first : ℕ) → length others ≡ length symbols
     → ((i : ℕ) (s : Symbol) → slice_get others i ≡ Some s → slice_get symbols i ≡ Some (record s { version = 0 })) → IsTableFor t symbols first → IsTableFor t others first
+
+-- what a reader gave has its own table, where what its bytes mean has
+pub given_table : (meant : Result (Object × HashTable) NotAccepted) (result : Result (Object × HashTable) ReadFault)
+    → ((object : Object) (table : HashTable) → meant ≡ Ok (object, table) → IsTableOf table object) → Gives result meant → IfOk result (λ read. IsTableOf read.1 read.0)
+given_table meant (Ok (object, table)) own given = own object table given
+given_table meant (Err fault) own given = tt
 
 -- what the readers below promise
 pub record Readings : Type 0 where

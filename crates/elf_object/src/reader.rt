@@ -7,6 +7,7 @@ ghost use Rattle.sym_hash.specs.Reached.{IsTableOf};
 ghost use Rattle.elf_object.specs.Object.{object_of, with_versions};
 ghost use Rattle.elf_object.specs.Verdict.{object_verdict};
 
+use crate::law::one_object;
 use crate::segment::{dynamic_of, read_segments, relro_of, tls_of};
 use elf_dynamic::read_dynamic;
 use elf_head::read_head;
@@ -67,12 +68,24 @@ fn object_of(
     })
 }
 
+/// What the parts of a file say, read one after the other.
+#[tactic(auto, unfolding(crate::specs::Verdict::object_verdict))]
+fn read_parts(alloc: Global, bytes: &[u8], program: bool) -> Result<(Object, HashTable), ReadFault>
+    ensures { Gives result (object_verdict bytes.now program) }
+{
+    let head = read_head(alloc, bytes)?;
+    let parts = read_dynamic(alloc, bytes, &head, program)?;
+    let versions = read_versions(alloc, bytes, &head, &parts)?;
+    let table = HashTable::check(alloc, bytes, &head, &parts, &versions)?;
+    let object = object_of(alloc, bytes, &head, parts, versions)?;
+    Ok((object, table))
+}
+
 /// Reads the object that a file is, as the program or as another object, and its hash tables.
 ///
 /// # Errors
 ///
 /// The first of the rules 1 to 19 that the file breaks, with its number, or want of memory.
-#[tactic(auto, unfolding(crate::specs::Verdict::object_verdict))]
 pub fn read_object(
     alloc: Global,
     bytes: &[u8],
@@ -81,10 +94,6 @@ pub fn read_object(
     ensures object { Gives result (object_verdict bytes.now program) }
     ensures table { IfOk result (λ read. IsTableOf read.1 read.0) }
 {
-    let head = read_head(alloc, bytes)?;
-    let parts = read_dynamic(alloc, bytes, &head, program)?;
-    let versions = read_versions(alloc, bytes, &head, &parts)?;
-    let table = HashTable::check(alloc, bytes, &head, &parts, &versions)?;
-    let object = object_of(alloc, bytes, &head, parts, versions)?;
-    Ok((object, table))
+    one_object();
+    read_parts(alloc, bytes, program)
 }

@@ -2,5 +2,6 @@ pub mod FaultText
 pub mod Field
 pub mod Pick
 pub mod Symbol
+pub mod Taken
 pub mod Text
 pub mod Version

@@ -4,6 +4,7 @@
 
 mod fault;
 mod field;
+mod law;
 mod linking;
 mod matching;
 mod name;
@@ -16,6 +17,7 @@ mod text;
 
 pub use fault::{DlFault, NotAccepted, ReadFault, Shown};
 pub use field::{field16, field32, field64};
+pub use law::one_pick;
 pub use linking::{Added, Calls, Choice, File, Files, Loaded, Role, State, TlsPlace, Want};
 pub use matching::pick;
 pub use name::Name;

@@ -1,5 +1,5 @@
 -- How bind ends.
-use Rattle.std.proofs.Common.{◌≡◌, ◌+◌, ℕ, Bool, true, false, List, [], ◌∷◌, Option, Some, None, Result, Ok, Err, refl, sym, ap, subst, ◌∙◌, inl, inr, cond, arith}
+use Rattle.std.proofs.Common.{◌≡◌, ◌+◌, ◌≤◌, ℕ, map, Bool, true, false, List, [], ◌∷◌, Option, Some, None, Result, Ok, Err, refl, sym, ap, subst, ◌∙◌, inl, inr, cond, arith}
 use Rattle.std.specs.Prelude.{IfOk, IsTrue}
 use Rattle.std.specs.String.{string_bytes}
 use Rattle.std.specs.declared.alloc.AllocError.{AllocError}
@@ -9,6 +9,7 @@ use Rattle.std.specs.Option.{option_or, option_map}
 use Rattle.ld_base.specs.declared.fault.DlFault.{DlFault}
 use Rattle.ld_base.specs.declared.fault.DlFault.TheVariants as dl
 use Rattle.ld_base.specs.declared.fault.NotAccepted.{NotAccepted}
+use Rattle.ld_base.specs.declared.fault.Shown.{Shown}
 use Rattle.ld_base.specs.declared.linking.File.{File}
 use Rattle.ld_base.specs.declared.linking.Loaded.{Loaded}
 use Rattle.ld_base.specs.declared.object.Object.{Object}
@@ -19,12 +20,14 @@ use Rattle.elf_object.specs.Object.{names_own_symbols}
 use Rattle.elf_object.specs.Verdict.{object_verdict}
 use Rattle.library_source.specs.Files.{file_at}
 use Rattle.load_order.specs.Files.{reading_of, as_read, file_as_read, is_program}
-use Rattle.load_order.specs.Plan.{Over, IsPlan, IsRefused, load_over}
+use Rattle.load_order.specs.Plan.{HasToWait, Over, IsPlan, IsRefused, load_over}
+use Rattle.load_order.specs.Waiting.{WaitsForOne}
 use Rattle.load_order.specs.declared.ask.LoadAsk.{LoadAsk}
 use Rattle.load_order.specs.declared.ask.LoadPlan.{LoadPlan}
 use Rattle.scope_rule.specs.Breadth.{breadth}
 use Rattle.scope_rule.specs.Finding.{Reading, here, unaccepted, absent, failed, find_path, found_by_reading}
-use Rattle.scope_rule.specs.Order.{Load, Stop, IsRoot, arrival, root_of, take_found, must_lead, ◌>>=◌}
+use Rattle.scope_rule.specs.Loading.{with_added}
+use Rattle.scope_rule.specs.Order.{Load, Stop, Stops, Brings, IsRoot, waits, arrival, root_of, take_found, must_lead, ◌>>=◌}
 use Rattle.scope_rule.specs.Relocation.{choice_at, names_symbols}
 use Rattle.scope_rule.specs.declared.namespace.Namespace.{Namespace}
 use Rattle.ldso_cli.specs.declared.outcome.Cause.{Cause}
@@ -33,6 +36,15 @@ use Rattle.ldso_cli.specs.declared.words.Bind.{Bind}
 use Rattle.ldso_cli.specs.Bind.{BindEnds, ObjectsEnd, ask_of, nothing_loaded, unopened, opened}
 use Rattle.ldso_cli.specs.Refusal.{is_missing, missing_symbol, refusal_at, first_missing, refusal_of, first_refusal}
 use Rattle.ldso_cli.specs.Status.{refused_text}
+
+-- ---- a load that has to wait
+
+-- nothing is loaded, so there is nothing to wait for
+pub never_waits : ((load : Load) (shown : Shown) → Stops load (waits shown) → WaitsForOne load shown) → (told : Option (List File)) (bind : Bind) (shown : Shown) → Over told (HasToWait (ask_of bind) nothing_loaded shown) → ⊥
+never_waits law told bind shown over =
+    let one = law (load_over (ask_of bind) nothing_loaded over.files) shown over.holds in
+    let d : None ≡ Some one.object = one.at in
+    absurd cc
 
 -- ---- a load that is refused
 
@@ -91,49 +103,55 @@ unfolding reading_of
 read_names law files ask [] h = tt
 read_names law files ask (o ∷ rest) h = (file_names law ask o.path (file_at files o.path) o.object o.table h.0, read_names law files ask rest h.1)
 
--- ---- a reference that is refused is no failed read
+-- ---- a reference that is refused is no failed read, and no missing library
 
-abbrev IsNoRead : Option DlFault → Type 0
-IsNoRead fault = (path : List ℕ) → fault ≡ Some (dl.ReadFault path) → ⊥
+record IsNoFile (fault : Option DlFault) : Type 0 where
+  pub not_read : (path : List ℕ) → fault ≡ Some (dl.ReadFault path) → ⊥
+  pub not_missing : (name : List ℕ) → fault ≡ Some (dl.MissingLibrary name) → ⊥
 
-either_no_read : (a b : Option DlFault) → IsNoRead a → IsNoRead b → IsNoRead (option_or a b)
-either_no_read None b h k = k
-either_no_read (Some f) b h k = h
+none_no_file : IsNoFile None
+none_no_file = record { not_read = λ path e. absurd cc; not_missing = λ name e. absurd cc }
 
-symbol_no_read : (o : Loaded) (symbol : Option Symbol) → IsNoRead (option_map (missing_symbol o) symbol)
-symbol_no_read o None path e = absurd cc
-symbol_no_read o (Some s) path e = absurd cc
+either_no_file : (a b : Option DlFault) → IsNoFile a → IsNoFile b → IsNoFile (option_or a b)
+either_no_file None b h k = k
+either_no_file (Some f) b h k = h
 
-reloc_no_read : (ns : Namespace) (o : Loaded) (r : Reloc) → IsNoRead (refusal_at ns o r)
+symbol_no_file : (o : Loaded) (symbol : Option Symbol) → IsNoFile (option_map (missing_symbol o) symbol)
+symbol_no_file o None = none_no_file
+symbol_no_file o (Some s) = record { not_read = λ path e. absurd cc; not_missing = λ name e. absurd cc }
+
+reloc_no_file : (ns : Namespace) (o : Loaded) (r : Reloc) → IsNoFile (refusal_at ns o r)
 unfolding refusal_at
-reloc_no_read ns o r =
-    elim (is_missing (choice_at ns o r)) as (λ v. IsNoRead (cond v (option_map (missing_symbol o) (slice_get o.object.symbols r.symbol)) None))
-    [ true ↦ symbol_no_read o (slice_get o.object.symbols r.symbol) | false ↦ λ path e. absurd cc ]
+reloc_no_file ns o r =
+    elim (is_missing (choice_at ns o r)) as (λ v. IsNoFile (cond v (option_map (missing_symbol o) (slice_get o.object.symbols r.symbol)) None))
+    [ true ↦ symbol_no_file o (slice_get o.object.symbols r.symbol) | false ↦ none_no_file ]
 
-relocs_no_read : (ns : Namespace) (o : Loaded) (relocs : List Reloc) → IsNoRead (first_missing ns o relocs)
-relocs_no_read ns o [] = λ path e. absurd cc
-relocs_no_read ns o (r ∷ rest) = either_no_read (refusal_at ns o r) (first_missing ns o rest) (reloc_no_read ns o r) (relocs_no_read ns o rest)
+relocs_no_file : (ns : Namespace) (o : Loaded) (relocs : List Reloc) → IsNoFile (first_missing ns o relocs)
+relocs_no_file ns o [] = none_no_file
+relocs_no_file ns o (r ∷ rest) = either_no_file (refusal_at ns o r) (first_missing ns o rest) (reloc_no_file ns o r) (relocs_no_file ns o rest)
 
-slots_no_read : (ns : Namespace) (now : Bool) (o : Loaded) → IsNoRead (cond now (first_missing ns o o.object.plt_relocs) None)
-slots_no_read ns true o = relocs_no_read ns o o.object.plt_relocs
-slots_no_read ns false o = λ path e. absurd cc
+slots_no_file : (ns : Namespace) (now : Bool) (o : Loaded) → IsNoFile (cond now (first_missing ns o o.object.plt_relocs) None)
+slots_no_file ns true o = relocs_no_file ns o o.object.plt_relocs
+slots_no_file ns false o = none_no_file
 
-objects_no_read : (ns : Namespace) (now : Bool) (objects : List Loaded) → IsNoRead (first_refusal ns now objects)
-objects_no_read ns now [] = λ path e. absurd cc
-objects_no_read ns now (o ∷ rest) =
-    either_no_read (refusal_of ns now o) (first_refusal ns now rest)
-    (either_no_read (first_missing ns o o.object.relocs) (cond now (first_missing ns o o.object.plt_relocs) None) (relocs_no_read ns o o.object.relocs) (slots_no_read ns now o))
-    (objects_no_read ns now rest)
+objects_no_file : (ns : Namespace) (now : Bool) (objects : List Loaded) → IsNoFile (first_refusal ns now objects)
+objects_no_file ns now [] = none_no_file
+objects_no_file ns now (o ∷ rest) =
+    either_no_file (refusal_of ns now o) (first_refusal ns now rest)
+    (either_no_file (first_missing ns o o.object.relocs) (cond now (first_missing ns o o.object.plt_relocs) None) (relocs_no_file ns o o.object.relocs) (slots_no_file ns now o))
+    (objects_no_file ns now rest)
 
-pub ends_no_read : (ns : Namespace) (now : Bool) (cause : Cause) (text path : List ℕ) → ObjectsEnd ns now cause text → cause ≡ causes.Refused (dl.ReadFault path) → ⊥
-ends_no_read ns now cause text path ends e =
-    let P : Cause → Type 0 = λ c. ObjectsEnd ns now c text in
-    objects_no_read ns now ns.objects path (subst P e ends).0
+refused_first : (ns : Namespace) (now : Bool) (cause : Cause) (text : List ℕ) (fault : DlFault) → ObjectsEnd ns now cause text → cause ≡ causes.Refused fault → first_refusal ns now ns.objects ≡ Some fault
+refused_first ns now cause text fault ends e = let P : Cause → Type 0 = λ c. ObjectsEnd ns now c text in (subst P e ends).0
 
 -- ---- a load that brings objects
 
-pub loaded_ends : (told : Option (List File)) (bind : Bind) (plan : LoadPlan) (cause : Cause) (text : List ℕ) → Over told (IsPlan (ask_of bind) nothing_loaded plan) → ObjectsEnd (opened plan.added plan.breadth) bind.now cause text → Over told (BindEnds bind cause text)
-loaded_ends told bind plan cause text over ends =
+-- a load with nothing there is breadth-first
+abbrev pub BreadthFirst : Type 0
+BreadthFirst = (load : Load) (added : List Loaded) (ns : Namespace) → Brings load added → load.there ≡ [] → ns.objects ≡ [] → 1 ≤ load.next → map (λ (o : Loaded). o.serial) added ≡ breadth (with_added ns added) load.next
+
+pub loaded_ends : BreadthFirst → (told : Option (List File)) (bind : Bind) (plan : LoadPlan) (cause : Cause) (text : List ℕ) → Over told (IsPlan (ask_of bind) nothing_loaded plan) → ObjectsEnd (opened plan.added plan.breadth) bind.now cause text → Over told (BindEnds bind cause text)
+loaded_ends law told bind plan cause text over ends =
     let one : plan.root ≡ 1 = root_is_first bind over.files plan.root over.holds.root in
     let breadth_is : plan.breadth ≡ breadth (unopened plan.added) 1 = over.holds.breadth ∙ ap (breadth (unopened plan.added)) one in
     let P : List ℕ → Type 0 = λ global. ObjectsEnd (opened plan.added global) bind.now cause text in
@@ -143,6 +161,7 @@ loaded_ends told bind plan cause text over ends =
       holds = inl (record {
         objects = plan.added;
         brings = over.holds.added;
+        breadth_first = law (load_over (ask_of bind) nothing_loaded over.files) plan.added nothing_loaded over.holds.added refl refl (omega arith);
         versions = over.holds.versions;
         ends = subst P breadth_is ends;
       });
@@ -157,14 +176,19 @@ refused_answers told bind fault (Ok answer) cause text over =
     let P : Cause → Type 0 = λ c. Over told (BindEnds bind c (string_bytes answer.text)) in
     subst P (sym cause) (refused_ends told bind fault (string_bytes answer.text) text over)
 
-pub loaded_answers : (told : Option (List File)) (bind : Bind) (plan : LoadPlan) (ns : Namespace) (r : Result Answer AllocError) → ns ≡ opened plan.added plan.breadth → Over told (IsPlan (ask_of bind) nothing_loaded plan)
+pub loaded_answers : BreadthFirst → (told : Option (List File)) (bind : Bind) (plan : LoadPlan) (ns : Namespace) (r : Result Answer AllocError) → ns ≡ opened plan.added plan.breadth → Over told (IsPlan (ask_of bind) nothing_loaded plan)
     → IfOk r (λ answer. ObjectsEnd ns bind.now answer.cause (string_bytes answer.text)) → IfOk r (λ answer. Over told (BindEnds bind answer.cause (string_bytes answer.text)))
-loaded_answers told bind plan ns (Err e) same over ends = tt
-loaded_answers told bind plan ns (Ok answer) same over ends =
+loaded_answers law told bind plan ns (Err e) same over ends = tt
+loaded_answers law told bind plan ns (Ok answer) same over ends =
     let P : Namespace → Type 0 = λ n. ObjectsEnd n bind.now answer.cause (string_bytes answer.text) in
-    loaded_ends told bind plan answer.cause (string_bytes answer.text) over (subst P same ends)
+    loaded_ends law told bind plan answer.cause (string_bytes answer.text) over (subst P same ends)
 
 pub loaded_counts : (ns : Namespace) (now : Bool) (r : Result Answer AllocError) (Q : Type 0) → IfOk r (λ answer. ObjectsEnd ns now answer.cause (string_bytes answer.text))
     → IfOk r (λ answer. (path : List ℕ) → answer.cause ≡ causes.Refused (dl.ReadFault path) → Q)
 loaded_counts ns now (Err e) Q ends = tt
-loaded_counts ns now (Ok answer) Q ends = λ path e. absurd (ends_no_read ns now answer.cause (string_bytes answer.text) path ends e)
+loaded_counts ns now (Ok answer) Q ends = λ path e. absurd ((objects_no_file ns now ns.objects).not_read path (refused_first ns now answer.cause (string_bytes answer.text) (dl.ReadFault path) ends e))
+
+pub loaded_finds : (ns : Namespace) (now : Bool) (r : Result Answer AllocError) (Q : List ℕ → Type 0) → IfOk r (λ answer. ObjectsEnd ns now answer.cause (string_bytes answer.text))
+    → IfOk r (λ answer. (name : List ℕ) → answer.cause ≡ causes.Refused (dl.MissingLibrary name) → Q name)
+loaded_finds ns now (Err e) Q ends = tt
+loaded_finds ns now (Ok answer) Q ends = λ name e. absurd ((objects_no_file ns now ns.objects).not_missing name (refused_first ns now answer.cause (string_bytes answer.text) (dl.MissingLibrary name) ends e))

@@ -1,5 +1,5 @@
 -- What bind comes to.
-use Rattle.std.specs.Prelude.{◌≡◌, ◌⊎◌, ℕ, Bool, List, [], ◌∷◌, Some, None}
+use Rattle.std.specs.Prelude.{◌≡◌, ◌⊎◌, ℕ, Bool, List, [], ◌∷◌, map, Some, None}
 use Rattle.ld_base.specs.declared.fault.DlFault.{DlFault}
 use Rattle.ld_base.specs.declared.linking.File.{File}
 use Rattle.ld_base.specs.declared.linking.Loaded.{Loaded}
@@ -50,10 +50,11 @@ ObjectsEnd ns now causes.Usage text = ⊥
 ObjectsEnd ns now causes.WriteFault text = ⊥
 ObjectsEnd ns now causes.Memory text = ⊥
 
--- the program and all that it needs are there, with the versions that they need, and that is how they end
+-- the program and all that it needs are there, breadth-first, with the versions that they need, and that is how they end
 pub record IsLoaded (bind : Bind) (cause : Cause) (text : List ℕ) (files : List File) : Type 0 where
   pub objects : List Loaded
   pub brings : Brings (load_over (ask_of bind) nothing_loaded files) objects
+  pub breadth_first : map (λ (o : Loaded). o.serial) objects ≡ breadth (unopened objects) 1
   pub versions : version_fault nothing_loaded objects ≡ None
   pub ends : ObjectsEnd (namespace_of objects) bind.now cause text
 

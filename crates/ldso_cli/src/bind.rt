@@ -5,7 +5,7 @@ ghost use Rattle.std.specs.List.{AllByRecursion};
 ghost use Rattle.std.specs.String.{string_bytes};
 ghost use Rattle.ld_base.specs.declared.fault.DlFault.TheVariants.{MissingLibrary, ReadFault};
 ghost use Rattle.library_source.specs.Count.{Rises};
-ghost use Rattle.load_order.specs.Plan.{Over};
+ghost use Rattle.load_order.specs.Plan.{HasNoPath, Over};
 ghost use Rattle.scope_rule.specs.Relocation.{names_symbols};
 ghost use Rattle.ldso_cli.specs.Bind.{BindEnds, ObjectsEnd, ask_of, nothing_loaded, opened};
 ghost use Rattle.ldso_cli.specs.Status.{refused_text, status_of_fault};
@@ -18,7 +18,7 @@ use crate::words::Bind;
 use elf_object::one_object;
 use ld_base::{Added, DlFault, HartId, NsId, Serial, Serials};
 use library_source::Library;
-use load_order::{LoadAsk, LoadFault, LoadPlan, plan_load};
+use load_order::{LoadAsk, LoadFault, LoadPlan, loads_breadth_first, plan_load, waits_for_one};
 use scope_rule::{Namespace, OpenRec, Opens};
 use std::alloc::{AllocError, Global};
 
@@ -120,6 +120,8 @@ pub(crate) fn bind<L: Library>(
 
     // No fault of the library is invented.
     ensures read_fault { IfOk result (λ answer. (path : List ℕ) → answer.cause ≡ Refused (ReadFault path) → Rises (L.faults library.old) (L.faults library.new)) }
+    ensures missing { IfOk result (λ answer. (name : List ℕ) → answer.cause ≡ Refused (MissingLibrary name) →
+        Rises (L.misses library.old) (L.misses library.new) ⊎ Over (L.files library.old) (HasNoPath (ask_of command) nothing_loaded name)) }
 
     // What the library is left as.
     ensures files { L.files library.new ≡ L.files library.old }
@@ -127,13 +129,16 @@ pub(crate) fn bind<L: Library>(
     ensures misses { L.misses library.old ≤ L.misses library.new }
 {
     one_object();
+    loads_breadth_first();
+    waits_for_one();
     let now = command.now;
     let ask = ask_of(alloc, command);
     let ns = nothing_loaded(alloc);
     match plan_load(alloc, &ns, &ask, library) {
         Err(LoadFault::Refused(fault)) => refused(alloc, fault),
-        // No other hart is there to wait for.
-        Err(LoadFault::Memory | LoadFault::Wait(_)) => Err(AllocError),
+        // Nothing is loaded that another hart could start or close.
+        Err(LoadFault::Wait(_)) => unreachable!(),
+        Err(LoadFault::Memory) => Err(AllocError),
         Ok(plan) => {
             let LoadPlan {
                 root: _,

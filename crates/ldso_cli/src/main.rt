@@ -23,22 +23,33 @@ use std::rt::Env;
 use std::{env, io};
 pub use top::ldso;
 
-/// The words after the program's name.
-fn words_of<R: Env + Alloc<A = Global>>(rt: &R, alloc: Global) -> io::Result<Vec<String>> {
+/// The words after the program's name. Words that aren't text are no command; none stand for them.
+fn words_of<R: Env + Alloc<A = Global>>(rt: &R, alloc: Global) -> Result<Vec<String>, AllocError> {
     let mut words = Vec::new(alloc);
-    for word in env::args(rt)?.skip(1) {
-        words.push(word)?;
+    match env::args(rt) {
+        Ok(arguments) => {
+            for word in arguments.skip(1) {
+                words.push(word)?;
+            }
+            Ok(words)
+        }
+        Err(error) if error.kind() == io::ErrorKind::OutOfMemory => Err(AllocError),
+        Err(_) => Ok(words),
     }
-    Ok(words)
 }
 
-fn main(rt: HostRuntime) -> io::Result<ExitCode> {
+fn main(rt: HostRuntime) -> ExitCode {
     let alloc = rt.alloc();
-    let words = words_of(&rt, alloc)?;
-    let library = FolderLibrary::new(rt.clone()?, alloc);
+    let Ok(words) = words_of(&rt, alloc) else {
+        return ExitCode::from(Cause::Memory.status());
+    };
+    let Ok(files) = rt.clone() else {
+        return ExitCode::from(Cause::Memory.status());
+    };
+    let library = FolderLibrary::new(files, alloc);
     let mut out = IoSink::new(io::writer(&rt));
     let (outcome, _library) = ldso(&rt, alloc, words, library, &mut out);
-    Ok(ExitCode::from(outcome.status))
+    ExitCode::from(outcome.status)
 }
 
 #[cfg(test)]

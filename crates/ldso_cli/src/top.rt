@@ -1,15 +1,14 @@
 //! The top call.
 
-ghost use Rattle.std.specs.Prelude.{◌≡◌, ◌≤◌, ℕ, List, map, Some, IfOk, MatchResult};
+ghost use Rattle.std.specs.Prelude.{◌≡◌, ◌≤◌, ◌⊎◌, ℕ, List, map, IfOk, MatchResult};
 ghost use Rattle.std.specs.String.{string_bytes};
 ghost use Rattle.ld_base.specs.declared.fault.DlFault.TheVariants.{MissingLibrary, ReadFault};
 ghost use Rattle.library_source.specs.Count.{Rises};
 ghost use Rattle.load_order.specs.Plan.{Over};
-ghost use Rattle.ldso_cli.specs.Command.{CommandEnds, Ends, IsWrittenBy};
+ghost use Rattle.ldso_cli.specs.Command.{CommandEnds, Ends, HasNoFolder, IsCounted, IsWrittenBy};
 ghost use Rattle.ldso_cli.specs.Status.{status_of, usage_text};
 ghost use Rattle.ldso_cli.specs.Words.{reads};
 ghost use Rattle.ldso_cli.specs.declared.outcome.Cause.TheVariants.{Refused, Usage, WriteFault};
-ghost use Rattle.ldso_cli.specs.declared.words.Command.TheVariants.{Dump};
 
 use crate::bind::{Answer, bind};
 use crate::dump::dump;
@@ -50,8 +49,7 @@ fn answer<L: Library>(
     library: &mut L,
 ) -> Result<Answer, AllocError>
     ensures ends { IfOk result (λ answer. Over (L.files library.old) (CommandEnds (reads (map (λ word. string_bytes word) words.now)) answer.cause (string_bytes answer.text))) }
-    ensures read_fault { IfOk result (λ answer. (path : List ℕ) → answer.cause ≡ Refused (ReadFault path) → Rises (L.faults library.old) (L.faults library.new)) }
-    ensures missing { IfOk result (λ answer. (path : List ℕ) → reads (map (λ word. string_bytes word) words.now) ≡ Some (Dump path) → answer.cause ≡ Refused (MissingLibrary path) → Rises (L.misses library.old) (L.misses library.new)) }
+    ensures counted { IfOk result (λ answer. IsCounted (L.files library.old) (reads (map (λ word. string_bytes word) words.now)) (Rises (L.faults library.old) (L.faults library.new)) (Rises (L.misses library.old) (L.misses library.new)) answer.cause) }
     ensures files { L.files library.new ≡ L.files library.old }
     ensures faults { L.faults library.old ≤ L.faults library.new }
     ensures misses { L.misses library.old ≤ L.misses library.new }
@@ -94,12 +92,12 @@ pub fn ldso<R: Threads + Wait + Sync, L: Library + Send + Drop, K: Sink>(
     out: &mut K,
 ) -> (Outcome, L)
     // Over the library's files where it tells them, and over some files where it doesn't.
-    ensures ends { Ends (L.files library) (map (λ word. string_bytes word) words.items) result.0.cause (K.taken out.old) (K.taken out.new) }
+    ensures ends { Ends (L.files library) (map (λ word. string_bytes word) words.items) (Rises (L.faults library) (L.faults result.1)) (Rises (L.misses library) (L.misses result.1)) result.0.cause (K.taken out.old) (K.taken out.new) }
     ensures status { result.0.status ≡ status_of result.0.cause }
 
     // No failure is invented.
     ensures read_fault { (path : List ℕ) → result.0.cause ≡ Refused (ReadFault path) → Rises (L.faults library) (L.faults result.1) }
-    ensures dump_missing { (path : List ℕ) → reads (map (λ word. string_bytes word) words.items) ≡ Some (Dump path) → result.0.cause ≡ Refused (MissingLibrary path) → Rises (L.misses library) (L.misses result.1) }
+    ensures missing { (name : List ℕ) → result.0.cause ≡ Refused (MissingLibrary name) → Rises (L.misses library) (L.misses result.1) ⊎ HasNoFolder (L.files library) (reads (map (λ word. string_bytes word) words.items)) name }
     ensures write_fault { result.0.cause ≡ WriteFault → Rises (K.faults out.old) (K.faults out.new) }
 
     // What the library and the sink are left as.

@@ -8,8 +8,11 @@ pub mod Numbered
 pub mod Outcome
 pub mod Paths
 pub mod Planning
+pub mod Queue
+pub mod Reaching
 pub mod Reading
 pub mod Searching
 pub mod Taking
 pub mod Turning
 pub mod Unfound
+pub mod Waiting

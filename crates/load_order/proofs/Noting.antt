@@ -1,5 +1,5 @@
 -- What the names of an object found, noted in its record.
-use Rattle.std.proofs.Common.{◌≡◌, ◌<◌, ℕ, zero, suc, List, [], ◌∷◌, length, get_or, Option, Some, None, Result, Ok, refl, sym, ap, subst, ◌∙◌, arith, inl, inr, ◌⊎◌}
+use Rattle.std.proofs.Common.{◌≡◌, ◌<◌, ◌≤◌, ℕ, zero, suc, List, [], ◌∷◌, length, get_or, Option, Some, None, Result, Ok, refl, sym, ap, subst, ◌∙◌, arith, inl, inr, ◌⊎◌}
 use Rattle.std.specs.Prelude.{IfSome, slice_set}
 use Rattle.std.specs.List.{AllByRecursion, slice_get}
 use Rattle.std.proofs.lemmas.Option.{slice_get_cases, slice_get_read}
@@ -116,14 +116,17 @@ pub record HadTurn (load : Load) (i : ℕ) (added new : List Loaded) : Type 0 wh
 abbrev turned : List Loaded → Result (List Loaded) Stop
 turned added = Ok added
 
--- a turn is an object's, or nothing changes
-pub turn_is : (load : Load) (i : ℕ) (added new : List Loaded) → turn_of load i added ≡ Ok new → (new ≡ added) ⊎ HadTurn load i added new
+-- a turn is an object's, or past the last of them, and nothing changes
+pub turn_cases : (load : Load) (i : ℕ) (added new : List Loaded) → turn_of load i added ≡ Ok new → ((length added ≤ i) × (new ≡ added)) ⊎ HadTurn load i added new
 unfolding turn_of
-turn_is load i added new e =
+turn_cases load i added new e =
     elim (slice_get_cases added i).1 [
-      | inr h ↦ inl (let none : slice_get added i ≡ None = h.1 in let same : turned added ≡ turned new = rw (turn_of, none) at e in cc)
+      | inr h ↦ inl (h.0, (let none : slice_get added i ≡ None = h.1 in let same : turned added ≡ turned new = rw (turn_of, none) at e in cc))
       | inl h ↦
           let at : slice_get added i ≡ Some h.0 = h.2 in
           let w = went (take_names load added (names_of load i h.0)) (λ taken. turned (slice_set taken.0 i (noted h.0 taken.1))) new (rw (turn_of, at) at e) in
           inr (record { object = h.0; at = at; mid = w.mid.0; found = w.mid.1; taken = w.first; is = let same : turned (slice_set w.mid.0 i (noted h.0 w.mid.1)) ≡ turned new = w.second in cc })
     ]
+
+pub turn_is : (load : Load) (i : ℕ) (added new : List Loaded) → turn_of load i added ≡ Ok new → (new ≡ added) ⊎ HadTurn load i added new
+turn_is load i added new e = elim (turn_cases load i added new e) [ inl past ↦ inl past.1 | inr had ↦ inr had ]

@@ -13,7 +13,7 @@ use Rattle.load_order.proofs.Longer.{went, known_longer, must_lead_same, longer_
 use Rattle.load_order.proofs.Noting.{noted, turn_is}
 use Rattle.load_order.proofs.Reading.{done, added_is, taken_is}
 
-abbrev serial_of : Loaded → ℕ
+abbrev pub serial_of : Loaded → ℕ
 serial_of o = o.serial
 
 -- the serials count up from this number
@@ -26,7 +26,7 @@ range_push a (suc n) =
     let shift : (a + 1) + n ≡ a + suc n = omega arith in
     ap (λ (xs : List ℕ). a ∷ xs) (range_push (a + 1) n ∙ ap (λ (k : ℕ). range_with_len (a + 1) n ++ k ∷ []) shift)
 
-numbered_push : (next : ℕ) (added : List Loaded) (x : Loaded) → x.serial ≡ next + length added → IsNumbered next added → IsNumbered next (added ++ x ∷ [])
+pub numbered_push : (next : ℕ) (added : List Loaded) (x : Loaded) → x.serial ≡ next + length added → IsNumbered next added → IsNumbered next (added ++ x ∷ [])
 numbered_push next added x e h = record {
   is =
       let long : length (added ++ x ∷ []) ≡ suc (length added) = length-append added (x ∷ []) ∙ add-one (length added) in
@@ -51,12 +51,12 @@ found_numbered load added new s nowhere e h = numbered_same load.next added new 
 found_numbered load added new s (unreadable path) e h = absurd cc
 found_numbered load added new s (refused path broken) e h = absurd cc
 
-taken_numbered : (load : Load) (added new : List Loaded) (name : List ℕ) (serial : ℕ) (found : Found) → (take_found load added found >>= must_lead name) ≡ Ok (new, serial) → IsNumbered load.next added → IsNumbered load.next new
+pub taken_numbered : (load : Load) (added new : List Loaded) (name : List ℕ) (serial : ℕ) (found : Found) → (take_found load added found >>= must_lead name) ≡ Ok (new, serial) → IsNumbered load.next added → IsNumbered load.next new
 taken_numbered load added new name serial found e h =
     let w = went (take_found load added found) (must_lead name) (new, serial) e in
     numbered_same load.next w.mid.0 new (must_lead_same name w.mid new serial w.second) (found_numbered load added w.mid.0 w.mid.1 found w.first h)
 
-names_numbered : (load : Load) (added new : List Loaded) (names : List (List ℕ)) (found : List ℕ) → take_names load added names ≡ Ok (new, found) → IsNumbered load.next added → IsNumbered load.next new
+pub names_numbered : (load : Load) (added new : List Loaded) (names : List (List ℕ)) (found : List ℕ) → take_names load added names ≡ Ok (new, found) → IsNumbered load.next added → IsNumbered load.next new
 unfolding take_name
 names_numbered load added new [] found e h = numbered_same load.next added new (sym (ap (λ (q : List Loaded × List ℕ). q.0) (taken_is (added, []) (new, found) e))) h
 names_numbered load added new (name ∷ names) found e h =
@@ -86,7 +86,7 @@ turn_numbered load i added new e h =
           (noted_numbered load.next had.mid i had.object had.found still (names_numbered load added had.mid (names_of load i had.object) had.found had.taken h))
     ]
 
-after_numbered : (load : Load) (turns : ℕ) (added : List Loaded) → added_after load turns ≡ Ok added → IsNumbered load.next added
+pub after_numbered : (load : Load) (turns : ℕ) (added : List Loaded) → added_after load turns ≡ Ok added → IsNumbered load.next added
 unfolding added_after root_of
 after_numbered load zero added e =
     let w = went (root_of load) (λ root. done {A = List Loaded} root.0) added e in

@@ -5,3 +5,4 @@ pub mod Led
 pub mod Missing
 pub mod Part
 pub mod Plan
+pub mod Waiting

@@ -12,8 +12,8 @@
 //! them, over which the definitions give just what the load answered: that is the contract. A read
 //! fault or a missing library comes only where the library failed or missed a path.
 //!
-//! The definitions are `scope_rule`'s. [`one_outcome`], [`serials_follow`], [`found_by_name`] and
-//! [`missing_library`] are laws of theirs.
+//! The definitions are `scope_rule`'s. [`one_outcome`], [`serials_follow`], [`found_by_name`],
+//! [`loads_breadth_first`], [`missing_library`] and [`waits_for_one`] are laws of theirs.
 #![tactic(auto)]
 
 mod ask;
@@ -26,7 +26,9 @@ mod progress;
 mod versions;
 
 pub use ask::{LoadAsk, LoadFault, LoadPlan};
-pub use law::{found_by_name, missing_library, one_outcome, serials_follow};
+pub use law::{
+    found_by_name, loads_breadth_first, missing_library, one_outcome, serials_follow, waits_for_one,
+};
 pub use plan::plan_load;
 
 #[cfg(test)]

@@ -6,9 +6,12 @@ mod script;
 use self::plain::Plain;
 use self::script::Script;
 use crate::arithmetic::reg_result;
-use crate::{Bus, BusFault, Doubleword, Hart, Held, Item, Stop, step};
+use crate::{
+    Access, Answer, Bus, BusFault, Doubleword, Hart, Held, Item, Stop, combined, complete, lane,
+    plan, step, with_lane,
+};
 use ld_base::Role;
-use rv_isa::RegOp;
+use rv_isa::{AmoOp, RegOp};
 use std::test::Fail;
 
 // Results of qemu-riscv64 7.2.
@@ -169,6 +172,23 @@ fn atomics_on_plain_memory(rt: HostRuntime) -> Result<(), Fail> {
     assert_eq!(rt; step(&mut hart, &mut memory), Err(refused));
     assert_eq!(rt; hart.pc, 12);
     Ok(())
+}
+
+#[test]
+fn plans_an_access_and_completes_it(rt: HostRuntime) {
+    // ld a1, 8(sp)
+    let mut hart = Hart::new(0x1000, 0x100, 0, 0);
+    let action = plan(&hart, 0x0081_3583);
+    assert_eq!(rt; action.access, Access::Read(0x108, 8));
+    complete(&mut hart, action, Answer::Value(7));
+    assert_eq!(rt; (hart.x[11], hart.pc), (7, 0x1004));
+}
+
+#[test]
+fn a_part_of_a_doubleword(rt: HostRuntime) {
+    assert_eq!(rt; lane(0x8877_6655_4433_2211, 2, 2), 0x4433);
+    assert_eq!(rt; with_lane(0xff, 4, 4, 0x0102_0304), 0x0102_0304_0000_00ff);
+    assert_eq!(rt; combined(AmoOp::Add, 4, 0xffff_ffff, 2), 1);
 }
 
 #[test]

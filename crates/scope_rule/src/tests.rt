@@ -137,6 +137,75 @@ fn deep_objects_search_their_own_first(rt: HostRuntime) -> Result<(), Fail> {
 }
 
 #[test]
+fn new_objects_follow_those_of_the_namespace(rt: HostRuntime) -> Result<(), Fail> {
+    let alloc = rt.alloc();
+    let mut objects = Added::new(alloc);
+    objects.push(loaded(alloc, 1, false, false, &[])?)?;
+    let ns = namespace(alloc, objects)?;
+    let mut added = Added::new(alloc);
+    added.push(loaded(alloc, 2, true, false, &[3, 1])?)?;
+    added.push(loaded(alloc, 3, true, false, &[])?)?;
+    let order = breadth_with(alloc, &ns, added.as_slice(), Serial::new(2))?;
+    let expected = [2, 3, 1].map(Serial::new);
+    assert_eq!(rt; order.as_slice(), expected.as_slice());
+    assert!(rt; ns.object(Serial::new(3)).is_none());
+    let third = ns.object_or_new(added.as_slice(), Serial::new(3));
+    assert!(rt; third.is_some());
+    Ok(())
+}
+
+/// The scope of an object of a namespace in which the program needs a library that is closing.
+fn scope_beside_closing(alloc: Global, owner: u64) -> Result<Serials, Fail> {
+    let mut closing = loaded(alloc, 2, true, false, &[])?;
+    closing.state = State::Dying(HartId::new(0));
+    let mut objects = Added::new(alloc);
+    objects.push(loaded(alloc, 1, false, false, &[2])?)?;
+    objects.push(closing)?;
+    let ns = namespace(alloc, objects)?;
+    let owner = ns.object(Serial::new(owner)).ok_or("the owner")?;
+    Ok(scope(alloc, &ns, owner)?)
+}
+
+#[test]
+fn closing_objects_are_seen_by_closing_ones_alone(rt: HostRuntime) -> Result<(), Fail> {
+    let program = scope_beside_closing(rt.alloc(), 1)?;
+    let expected = [1, 1, 1, 0].map(Serial::new);
+    assert_eq!(rt; program.as_slice(), expected.as_slice());
+    let closing = scope_beside_closing(rt.alloc(), 2)?;
+    let expected = [1, 2, 1, 2, 2, 0].map(Serial::new);
+    assert_eq!(rt; closing.as_slice(), expected.as_slice());
+    Ok(())
+}
+
+#[test]
+fn a_reference_wants_its_version(rt: HostRuntime) -> Result<(), Fail> {
+    let alloc = rt.alloc();
+    let mut owner = object(alloc, false)?;
+    owner.verneeds.push(Verneed {
+        file: Name::new(alloc, b"libv.so")?,
+        flags: 0,
+        index: 2,
+        name: Name::new(alloc, b"V1")?,
+    })?;
+    for (version, wanted) in [(0, None), (1, None), (2, Some(b"V1".as_slice())), (3, None)] {
+        let symbol = Symbol {
+            name: Name::new(alloc, b"f")?,
+            info: 0x12,
+            other: 0,
+            shndx: 0,
+            value: 0,
+            size: 0,
+            version,
+        };
+        match want_of(alloc, &owner, &symbol)? {
+            Want::Version(name) => assert_eq!(rt; Some(name.as_bytes()), wanted),
+            _ => assert!(rt; wanted.is_none(), "version {version}"),
+        }
+    }
+    Ok(())
+}
+
+#[test]
 fn the_linker_has_seven_functions(rt: HostRuntime) {
     for (name, symbol) in [
         (b"dlopen".as_slice(), Some(1)),
