@@ -48,7 +48,11 @@ impl Regions {
     }
 
     /// Gives away so many pages at the least address that is a multiple of `align` and has room for
-    /// them. The error keeps the number of pages.
+    /// them.
+    ///
+    /// # Errors
+    ///
+    /// That there is no room, with the pages that were asked for. Nothing is reserved then.
     pub fn reserve(&mut self, pages: u64, align: u64) -> Result<u64, NoRoom>
         requires some { 0 < pages }
         requires align { 0 < align }
@@ -67,8 +71,11 @@ impl Regions {
         Ok(page_address(start))
     }
 
-    /// Gives away so many pages from an address on, which have to be free. The error keeps the
-    /// number of pages.
+    /// Gives away so many pages from an address on, which have to be free.
+    ///
+    /// # Errors
+    ///
+    /// That there is no room, with the pages that were asked for. Nothing is reserved then.
     pub fn reserve_at(&mut self, address: u64, pages: u64) -> Result<(), NoRoom>
         ensures free { OnOk result (AllFree self.old address pages) }
         ensures taken { OnOk result (self.new ≡ without self.old address pages) }

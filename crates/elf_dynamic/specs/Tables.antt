@@ -46,7 +46,7 @@ span_of tags address size =
 abbrev pub bytes_in : List ℕ → List Header → Option Span → List ℕ
 bytes_in bytes headers span = unwrap_or (option_and_then (λ s. file_bytes bytes headers s.start s.size) span) []
 
--- the slots' relocations stand at the end of the others, as GNU ld lays them out for RISC-V
+-- the slots' relocations stand at the end of the others, as in files of GNU ld
 abbrev pub is_tail : Span → Span → Bool
 is_tail plt rela = nat_le rela.start plt.start && rela.start + rela.size == plt.start + plt.size
 

@@ -118,8 +118,8 @@ pub(crate) fn plt_span(tags: &[Tag]) -> Option<Span>
     span_of(tags, DT_JMPREL, DT_PLTRELSZ)
 }
 
-/// Where the other relocations stand, less those of the slots where those are their tail, as GNU ld
-/// lays them out for RISC-V.
+/// Where the other relocations stand, less those of the slots where those are their tail, as in
+/// files of GNU ld.
 #[tactic(auto, unfolding(crate::specs::Tables::rela_span))]
 pub(crate) fn rela_span(tags: &[Tag]) -> Option<Span>
     ensures { result ≡ rela_span tags.now }

@@ -447,6 +447,43 @@ fn span(start: u64, size: u64) -> Option<Span> {
     Some(Span { start, size })
 }
 
+/// The relocations of `FIELDS` that aren't packed and are no slot's, in file order.
+const RELOCATIONS: [Reloc; 3] = [
+    Reloc {
+        place: 0x12a0,
+        kind: 2,
+        symbol: 1,
+        addend: 4,
+    },
+    Reloc {
+        place: 0x12a8,
+        kind: 3,
+        symbol: 0,
+        addend: 0x800,
+    },
+    Reloc {
+        place: 0x12b0,
+        kind: 7,
+        symbol: 3,
+        addend: 0,
+    },
+];
+
+/// The storage of threads, by its program header in `FIELDS`.
+const STORAGE: TlsSeg = TlsSeg {
+    vaddr: 0x12f0,
+    filesz: 8,
+    memsz: 16,
+    align: 8,
+};
+
+/// The marks of DT_FLAGS and DT_FLAGS_1 in `FIELDS`.
+const FLAGS: ObjFlags = ObjFlags {
+    symbolic: false,
+    bind_now: true,
+    nodelete: true,
+};
+
 #[test]
 fn reads_every_table(rt: HostRuntime) -> Result<(), Fail> {
     let bytes = file(rt.alloc())?;
@@ -458,27 +495,7 @@ fn reads_every_table(rt: HostRuntime) -> Result<(), Fail> {
     assert!(rt; object.has_versym);
     assert!(rt; has_versions(&object));
     assert_eq!(rt; object.first_exported, 2);
-    let words = [
-        Reloc {
-            place: 0x12a0,
-            kind: 2,
-            symbol: 1,
-            addend: 4,
-        },
-        Reloc {
-            place: 0x12a8,
-            kind: 3,
-            symbol: 0,
-            addend: 0x800,
-        },
-        Reloc {
-            place: 0x12b0,
-            kind: 7,
-            symbol: 3,
-            addend: 0,
-        },
-    ];
-    assert_eq!(rt; object.relocs.as_slice(), words.as_slice());
+    assert_eq!(rt; object.relocs.as_slice(), RELOCATIONS.as_slice());
     assert_eq!(rt; object.plt_relocs.len(), 1);
     assert_eq!(rt; object.relr.as_slice(), [0x12c0, 0x12c8].as_slice());
     assert_eq!(rt; object.pltgot, Some(0x1280));
@@ -487,19 +504,8 @@ fn reads_every_table(rt: HostRuntime) -> Result<(), Fail> {
     assert_eq!(rt; object.fini_array, span(0x12d8, 8));
     assert_eq!(rt; (object.init, object.fini), (Some(0x804), Some(0x808)));
     assert_eq!(rt; object.relro, span(0x1000, 0x280));
-    let storage = TlsSeg {
-        vaddr: 0x12f0,
-        filesz: 8,
-        memsz: 16,
-        align: 8,
-    };
-    assert_eq!(rt; object.tls, Some(storage));
-    let flags = ObjFlags {
-        symbolic: false,
-        bind_now: true,
-        nodelete: true,
-    };
-    assert_eq!(rt; object.flags, flags);
+    assert_eq!(rt; object.tls, Some(STORAGE));
+    assert_eq!(rt; object.flags, FLAGS);
     assert_eq!(rt; object.dynamic, 0x1000);
     assert_eq!(rt; object.segments.len(), 2);
     assert!(rt; table.gnu.is_some() && table.sysv.is_some());

@@ -13,27 +13,40 @@ use crate::{Name, Object, Symbol, Verdef, Verneed, Want};
 const UNDEFINED: u16 = 0;
 /// The section index of a symbol whose value isn't an address (SHN_ABS).
 const ABSOLUTE: u16 = 0xfff1;
+/// The bindings of a symbol that its own object alone sees, and of one that may lack a definition.
+const STB_LOCAL: u8 = 0;
+const STB_WEAK: u8 = 2;
+/// The types of symbols that name functions (the last of three that name code or data), common
+/// data, and places in thread-local storage.
+const STT_FUNC: u8 = 2;
+const STT_COMMON: u8 = 5;
+const STT_TLS: u8 = 6;
+/// The visibilities that keep a definition from other objects.
+const STV_INTERNAL: u8 = 1;
+const STV_HIDDEN: u8 = 2;
+/// The flag of a version that names the object itself.
+const VER_FLG_BASE: u16 = 1;
 
 impl Symbol {
     /// Whether only its own object sees it (STB_LOCAL).
     pub fn is_local(&self) -> bool
         ensures { result ≡ is_local self.now }
     {
-        self.info / 16 == 0
+        self.info / 16 == STB_LOCAL
     }
 
     /// Whether a reference to it may stay without a definition (STB_WEAK).
     pub fn is_weak(&self) -> bool
         ensures { result ≡ is_weak self.now }
     {
-        self.info / 16 == 2
+        self.info / 16 == STB_WEAK
     }
 
     /// Whether it names a place in thread-local storage (STT_TLS).
     pub fn is_tls(&self) -> bool
         ensures { result ≡ is_tls self.now }
     {
-        self.info % 16 == 6
+        self.info % 16 == STT_TLS
     }
 
     /// Whether it is a definition.
@@ -72,18 +85,25 @@ impl Symbol {
         let kind = self.info % 16;
         self.is_defined()
             && !self.is_local()
-            && visibility != 1
-            && visibility != 2
-            && (kind <= 2 || kind == 5 || self.is_tls())
+            && visibility != STV_INTERNAL
+            && visibility != STV_HIDDEN
+            && (kind <= STT_FUNC || kind == STT_COMMON || self.is_tls())
             && (self.value != 0 || self.is_absolute() || self.is_tls())
     }
 }
 
 impl Verdef {
+    /// Whether it names the object itself, and no version (VER_FLG_BASE).
+    pub fn is_base(&self) -> bool
+        ensures { result ≡ is_base self.now }
+    {
+        self.flags % 2 == VER_FLG_BASE
+    }
+
     fn defines(&self, index: u16) -> bool
         ensures { result ≡ (self.now.index == index && not (is_base self.now)) }
     {
-        self.index == index && self.flags % 2 != 1
+        self.index == index && !self.is_base()
     }
 }
 
@@ -181,6 +201,7 @@ fn index_of(object: &Object, place: Option<usize>) -> Option<u32>
     requires { IfSome place (λ k. k < length (exported object.now)) }
     ensures { result ≡ option_map (λ k. k + object.now.first_exported) place }
 {
+    // There are fewer than 2^32, so that the sum is an index.
     let _few = exported(object).len();
     match place {
         Some(place) => Some(place as u32 + object.first_exported),
@@ -233,8 +254,9 @@ fn only_in_sight(object: &Object, name: &[u8]) -> Option<u32>
 /// least index that is an exported definition of the name with the version that is wanted (gABI,
 /// "Symbol Table"; Drepper, "ELF Symbol Versioning").
 ///
-/// A reference that names no version takes the first of index 1 or 2 (dlsym: 1), else the only one
-/// that isn't hidden. In an object without versions every reference takes the first of the name.
+/// Without a wanted version the first of index 1 or 2 is taken (for dlsym of index 1), and failing
+/// that a definition that is alone in sight. An object without version indexes gives its first of
+/// the name.
 pub fn pick(object: &Object, name: &[u8], want: &Want) -> Option<u32>
     ensures { result ≡ pick_of object.now name.now want.now }
 {

@@ -22,6 +22,10 @@ impl Model for Name {
 
 impl Name {
     /// The name with these bytes.
+    ///
+    /// # Errors
+    ///
+    /// Want of memory.
     pub fn new(alloc: Global, bytes: &[u8]) -> Result<Self, AllocError>
         ensures { IfOk result (λ n. n ≡ bytes.now) }
     {

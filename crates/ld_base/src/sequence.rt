@@ -59,6 +59,10 @@ impl<T> Sequence<T> {
     }
 
     /// Puts an element at the end.
+    ///
+    /// # Errors
+    ///
+    /// Want of memory. The list is as before then.
     pub fn push(&mut self, item: T) -> Result<(), AllocError>
     where
         T: Drop,
@@ -88,6 +92,10 @@ impl<T> From<Vec<T>> for Sequence<T> {
 
 impl<T: Copy> Sequence<T> {
     /// A list of these elements.
+    ///
+    /// # Errors
+    ///
+    /// Want of memory.
     pub fn from_slice(alloc: Global, items: &[T]) -> Result<Self, AllocError>
         ensures { IfOk result (λ s. s ≡ items.now) }
     {
@@ -96,6 +104,10 @@ impl<T: Copy> Sequence<T> {
     }
 
     /// Puts these elements at the end.
+    ///
+    /// # Errors
+    ///
+    /// Want of memory. The list is as before then.
     pub fn extend_from_slice(&mut self, items: &[T]) -> Result<(), AllocError>
         ensures ok { OnOk result (self.new ≡ self.old ++ items.now) }
         ensures err { OnErr result (self.new ≡ self.old) }

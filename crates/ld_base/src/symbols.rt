@@ -58,6 +58,10 @@ impl Symbols {
     }
 
     /// Puts a symbol at the end.
+    ///
+    /// # Errors
+    ///
+    /// Want of memory. The symbols are as before then.
     pub fn push(&mut self, symbol: Symbol) -> Result<(), AllocError>
         requires { length self.old + 1 < 2 ^ 32 }
         ensures ok { OnOk result (self.new ≡ self.old ++ symbol ∷ []) }

@@ -14,30 +14,18 @@ fn function(alloc: Global, name: &[u8], version: u16) -> Result<Symbol, AllocErr
     })
 }
 
-/// A library that defines `f` at V1, hidden, and at V2, as its symbols 1 and 2.
-fn library(alloc: Global) -> Result<Object, AllocError> {
-    let mut symbols = Symbols::new(alloc);
-    for version in [0, 0x8002, 3] {
-        if symbols.len() < 9 {
-            symbols.push(function(alloc, b"f", version)?)?;
-        }
-    }
-    let mut verdefs = Verdefs::new(alloc);
-    for (index, name) in [(2, b"V1"), (3, b"V2")] {
-        let name = Name::new(alloc, name)?;
-        let flags = 0;
-        verdefs.push(Verdef { index, flags, name })?;
-    }
-    Ok(Object {
+/// An object with a table of versions, and nothing else yet.
+fn empty_object(alloc: Global) -> Object {
+    Object {
         kind: Kind::Dyn,
         entry: 0,
         soname: None,
         needed: Names::new(alloc),
         segments: Segments::new(alloc),
-        symbols,
+        symbols: Symbols::new(alloc),
         first_exported: 1,
         has_versym: true,
-        verdefs,
+        verdefs: Verdefs::new(alloc),
         verneeds: Verneeds::new(alloc),
         relocs: Relocs::new(alloc),
         plt_relocs: Relocs::new(alloc),
@@ -56,7 +44,23 @@ fn library(alloc: Global) -> Result<Object, AllocError> {
         },
         relr: Places::new(alloc),
         dynamic: 0,
-    })
+    }
+}
+
+/// A library that defines `f` at V1, hidden, and at V2, as its symbols 1 and 2.
+fn library(alloc: Global) -> Result<Object, AllocError> {
+    let mut library = empty_object(alloc);
+    for version in [0, 0x8002, 3] {
+        if library.symbols.len() < 9 {
+            library.symbols.push(function(alloc, b"f", version)?)?;
+        }
+    }
+    for (index, name) in [(2, b"V1"), (3, b"V2")] {
+        let name = Name::new(alloc, name)?;
+        let flags = 0;
+        library.verdefs.push(Verdef { index, flags, name })?;
+    }
+    Ok(library)
 }
 
 #[test]
@@ -160,6 +164,12 @@ fn names_versions(rt: HostRuntime) -> Result<(), Fail> {
     assert!(rt; name.is(b"V2"));
     assert!(rt; !name.is(b"V1"));
     assert!(rt; library.version_name(4).is_none());
+    let base = Verdef {
+        index: 1,
+        flags: 1,
+        name: Name::new(alloc, b"libv.so")?,
+    };
+    assert!(rt; base.is_base());
     let built = Name::from(Vec::from_slice(alloc, b"V2")?);
     assert!(rt; built.is(b"V2"));
     Ok(())

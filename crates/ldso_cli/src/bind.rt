@@ -44,10 +44,9 @@ pub(crate) fn refused(alloc: Global, fault: DlFault) -> Result<Answer, AllocErro
 }
 
 /// What is asked of the load of a program.
-fn ask_of(alloc: Global, bind: Bind) -> LoadAsk
+fn ask_of(bind: Bind) -> LoadAsk
     ensures { result ≡ ask_of bind }
 {
-    let _ = alloc;
     let Bind {
         folders,
         preload,
@@ -132,7 +131,7 @@ pub(crate) fn bind<L: Library>(
     loads_breadth_first();
     waits_for_one();
     let now = command.now;
-    let ask = ask_of(alloc, command);
+    let ask = ask_of(command);
     let ns = nothing_loaded(alloc);
     match plan_load(alloc, &ns, &ask, library) {
         Err(LoadFault::Refused(fault)) => refused(alloc, fault),

@@ -2,7 +2,7 @@
 
 ghost use Rattle.std.specs.Prelude.{◌≡◌, ◌<◌, ℕ, IfOk, None, length, slice_index_or};
 ghost use Rattle.std.specs.Option.{option_copied};
-ghost use Rattle.ld_base.specs.Version.{is_base, version_name};
+ghost use Rattle.ld_base.specs.Version.{version_name};
 ghost use Rattle.ldso_cli.specs.VersionNames.{IsTable, place_of_definition, place_of_need};
 
 use ld_base::{Name, Object, Verdef, Verneed};
@@ -10,13 +10,6 @@ use std::alloc::{AllocError, Global};
 
 /// How many indexes there are.
 const INDEXES: usize = 1 << 16;
-
-/// Whether it names the object itself and no version (VER_FLG_BASE).
-fn is_base(verdef: &Verdef) -> bool
-    ensures { result ≡ is_base verdef.now }
-{
-    verdef.flags % 2 == 1
-}
 
 /// A table without a place.
 fn no_places(alloc: Global, indexes: usize) -> Result<Vec<Option<usize>>, AllocError>
@@ -33,7 +26,7 @@ fn definitions_by_index(alloc: Global, verdefs: &[Verdef]) -> Result<Vec<Option<
     let mut places = no_places(alloc, INDEXES)?;
     for (place, verdef) in verdefs.iter().enumerate() {
         let index = usize::from(verdef.index);
-        if places[index].is_none() && !is_base(verdef) {
+        if places[index].is_none() && !verdef.is_base() {
             places[index] = Some(place);
         }
     }

@@ -7,6 +7,11 @@ ghost use Rattle.std.specs.Option.{option_copied};
 use ld_base::{Name, Names};
 use std::alloc::{AllocError, Global};
 
+/// How many parts the value of an option may have.
+const MOST_PARTS: usize = 16;
+/// How many bytes a folder may have.
+const LONGEST_FOLDER: usize = 1000;
+
 fn has_dash(word: &[u8]) -> bool
     ensures { result ≡ has_dash word.now }
 {
@@ -49,14 +54,14 @@ fn none_is_empty(parts: &[Name]) -> bool
 fn are_parts(parts: &[Name]) -> bool
     ensures { result ≡ are_parts parts.now }
 {
-    parts.len() <= 16 && none_is_empty(parts)
+    parts.len() <= MOST_PARTS && none_is_empty(parts)
 }
 
 /// Whether no part is longer than a folder's path may be.
 fn are_short(parts: &[Name]) -> bool
     ensures { result ≡ are_short parts.now }
 {
-    parts.iter().all(|part| part.as_bytes().len() <= 1000)
+    parts.iter().all(|part| part.as_bytes().len() <= LONGEST_FOLDER)
 }
 
 /// The folders of `--lib`, none where it doesn't stand.
@@ -67,11 +72,8 @@ fn folders_of(alloc: Global, value: Option<&Name>) -> Result<Option<Names>, Allo
         None => Ok(Some(Names::new(alloc))),
         Some(value) => {
             let parts = parts_of(alloc, value.as_bytes())?;
-            if are_parts(parts.as_slice()) && are_short(parts.as_slice()) {
-                Ok(Some(parts))
-            } else {
-                Ok(None)
-            }
+            let are_good = are_parts(parts.as_slice()) && are_short(parts.as_slice());
+            Ok(are_good.then_some(parts))
         }
     }
 }
@@ -84,11 +86,8 @@ fn preload_of(alloc: Global, value: Option<&Name>) -> Result<Option<Names>, Allo
         None => Ok(Some(Names::new(alloc))),
         Some(value) => {
             let parts = parts_of(alloc, value.as_bytes())?;
-            if are_parts(parts.as_slice()) {
-                Ok(Some(parts))
-            } else {
-                Ok(None)
-            }
+            let are_good = are_parts(parts.as_slice());
+            Ok(are_good.then_some(parts))
         }
     }
 }

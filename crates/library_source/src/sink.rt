@@ -59,6 +59,10 @@ pub trait Sink {
 }
 
 /// Writes all of the bytes, in as many pieces as the sink takes them.
+///
+/// # Errors
+///
+/// That the sink failed, which it counts, or want of memory. What it took is a front of the bytes then.
 pub fn put_all<K: Sink>(out: &mut K, bytes: &[u8]) -> Result<(), WriteError>
     ensures all { OnOk result (K.taken out.new ≡ append_known (K.taken out.old) bytes.now) }
     ensures front { OnErr result (TakesFront (K.taken out.old) bytes.now (K.taken out.new)) }

@@ -23,7 +23,7 @@ use std::alloc::{AllocError, Global};
 /// The name of the linker's own object.
 const LINKER_NAME: &[u8] = b"ldso.so.1";
 /// Serials stay below this number.
-const LAST_SERIAL: u64 = 1 << 62;
+const SERIAL_LIMIT: u64 = 1 << 62;
 
 /// Whether a hart may use an object that it found, and its serial then.
 fn use_of(alloc: Global, hart: HartId, object: &Loaded) -> Result<Serial, LoadFault>
@@ -132,7 +132,7 @@ fn next_serial(ask: &LoadAsk, progress: &Progress) -> Option<Serial>
     ensures { IfSome result (λ serial. serial ≡ ask.now.next + length progress.now.added) }
 {
     let number = ask.next.number().checked_add(progress.added.len() as u64)?;
-    if number < LAST_SERIAL {
+    if number < SERIAL_LIMIT {
         Some(Serial::new(number))
     } else {
         None

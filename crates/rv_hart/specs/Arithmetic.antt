@@ -35,7 +35,7 @@ shifted_signed w a shift = cast_unsigned w64 (int_shr (cast_signed w a) shift)
 abbrev pub all_ones : Width → ℕ
 all_ones w = cast_unsigned w (negsuc 0)
 
--- division: by zero the quotient is all ones and the remainder the dividend. The one quotient that
+-- division: where the divisor is 0 every bit of the quotient is 1, and the dividend is what remains. The one quotient that
 -- overflows, that of the least number by -1, has the bits of the least number
 abbrev pub quotient : Width → ℕ → ℕ → ℕ
 quotient w a b = if b == 0 then all_ones w else cast_unsigned w (int_div (cast_signed w a) (cast_signed w b))

@@ -60,6 +60,10 @@ fn perform<B: Bus>(bus: &mut B, access: Access, word: u32) -> Result<Answer, Sto
 
 /// One step of a hart: it fetches a word, makes the one access that the word asks for, and goes
 /// on. A hart that stops is as before the step.
+///
+/// # Errors
+///
+/// Why the hart stops.
 pub fn step<B: Bus>(hart: &mut Hart, bus: &mut B) -> Result<(), Stop>
     ensures followed { let r = registers_of hart.old in let r' = registers_of hart.new
         in Steps B.does bus.old bus.new r r' result }

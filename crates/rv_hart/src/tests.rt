@@ -12,109 +12,111 @@ use crate::{
 };
 use ld_base::Role;
 use rv_isa::{AmoOp, RegOp};
+use std::alloc::{AllocError, Global};
 use std::test::Fail;
 
-// Results of qemu-riscv64 7.2.
+/// An operation on two registers, its operands and its result. Results of qemu-riscv64 7.2.
+const ARITHMETIC: [(RegOp, u64, u64, u64); 50] = [
+    (RegOp::Add, 0xffff_ffff_ffff_ffff, 2, 1),
+    (RegOp::Sub, 1, 3, 0xffff_ffff_ffff_fffe),
+    (RegOp::Sll, 3, 0x41, 6),
+    (RegOp::Srl, 0x8000_0000_0000_0000, 0x7f, 1),
+    (
+        RegOp::Sra,
+        0x8000_0000_0000_0000,
+        0x3f,
+        0xffff_ffff_ffff_ffff,
+    ),
+    (RegOp::Slt, 0xffff_ffff_ffff_ffff, 0, 1),
+    (RegOp::Slt, 0, 0xffff_ffff_ffff_ffff, 0),
+    (RegOp::Sltu, 0xffff_ffff_ffff_ffff, 0, 0),
+    (RegOp::Sltu, 0, 0xffff_ffff_ffff_ffff, 1),
+    (
+        RegOp::Xor,
+        0xff00_ff00_ff00_ff00,
+        0xff0_0ff0_0ff0_0ff0,
+        0xf0f0_f0f0_f0f0_f0f0,
+    ),
+    (RegOp::Or, 0xf0, 15, 0xff),
+    (RegOp::And, 0xff, 0xf0f, 15),
+    (RegOp::Mul, 0x8000_0000_0000_0003, 5, 0x8000_0000_0000_000f),
+    (RegOp::Mulh, 0xffff_ffff_ffff_ffff, 0xffff_ffff_ffff_ffff, 0),
+    (
+        RegOp::Mulh,
+        0x8000_0000_0000_0000,
+        0x8000_0000_0000_0000,
+        0x4000_0000_0000_0000,
+    ),
+    (RegOp::Mulh, 0xffff_ffff_ffff_fffe, 3, 0xffff_ffff_ffff_ffff),
+    (
+        RegOp::Mulhsu,
+        0xffff_ffff_ffff_ffff,
+        0xffff_ffff_ffff_ffff,
+        0xffff_ffff_ffff_ffff,
+    ),
+    (RegOp::Mulhsu, 5, 0xffff_ffff_ffff_ffff, 4),
+    (
+        RegOp::Mulhu,
+        0xffff_ffff_ffff_ffff,
+        0xffff_ffff_ffff_ffff,
+        0xffff_ffff_ffff_fffe,
+    ),
+    (RegOp::Div, 7, 0xffff_ffff_ffff_fffe, 0xffff_ffff_ffff_fffd),
+    (RegOp::Div, 7, 0, 0xffff_ffff_ffff_ffff),
+    (
+        RegOp::Div,
+        0x8000_0000_0000_0000,
+        0xffff_ffff_ffff_ffff,
+        0x8000_0000_0000_0000,
+    ),
+    (RegOp::Divu, 0xffff_ffff_ffff_fff9, 2, 0x7fff_ffff_ffff_fffc),
+    (RegOp::Divu, 7, 0, 0xffff_ffff_ffff_ffff),
+    (RegOp::Rem, 0xffff_ffff_ffff_fff9, 2, 0xffff_ffff_ffff_ffff),
+    (RegOp::Rem, 7, 0, 7),
+    (RegOp::Rem, 0x8000_0000_0000_0000, 0xffff_ffff_ffff_ffff, 0),
+    (RegOp::Remu, 0xffff_ffff_ffff_fff9, 4, 1),
+    (RegOp::Remu, 7, 0, 7),
+    (RegOp::Addw, 0x7fff_ffff, 1, 0xffff_ffff_8000_0000),
+    (RegOp::Addw, 0xffff_ffff_0000_0001, 1, 2),
+    (RegOp::Subw, 0, 1, 0xffff_ffff_ffff_ffff),
+    (RegOp::Subw, 0x1_8000_0000, 1, 0x7fff_ffff),
+    (RegOp::Sllw, 1, 0x3f, 0xffff_ffff_8000_0000),
+    (RegOp::Sllw, 0x4000_0000, 0x21, 0xffff_ffff_8000_0000),
+    (RegOp::Srlw, 0xffff_ffff_8000_0000, 0x1f, 1),
+    (
+        RegOp::Srlw,
+        0xffff_ffff_8000_0000,
+        0x20,
+        0xffff_ffff_8000_0000,
+    ),
+    (RegOp::Sraw, 0x8000_0000, 0x1f, 0xffff_ffff_ffff_ffff),
+    (RegOp::Sraw, 0x1_f000_0000, 0x24, 0xffff_ffff_ff00_0000),
+    (RegOp::Mulw, 0x1_0000, 0x8000, 0xffff_ffff_8000_0000),
+    (
+        RegOp::Divw,
+        0x8000_0000,
+        0xffff_ffff_ffff_ffff,
+        0xffff_ffff_8000_0000,
+    ),
+    (RegOp::Divw, 0x1_0000_0007, 0, 0xffff_ffff_ffff_ffff),
+    (RegOp::Divw, 0xffff_ffff_ffff_fff7, 2, 0xffff_ffff_ffff_fffc),
+    (RegOp::Divuw, 0x8000_0000, 1, 0xffff_ffff_8000_0000),
+    (RegOp::Divuw, 7, 0, 0xffff_ffff_ffff_ffff),
+    (RegOp::Remw, 0x8000_0000, 0xffff_ffff_ffff_ffff, 0),
+    (RegOp::Remw, 0xffff_ffff_ffff_fff7, 2, 0xffff_ffff_ffff_ffff),
+    (RegOp::Remw, 0x1_8000_0001, 0, 0xffff_ffff_8000_0001),
+    (RegOp::Remuw, 0xffff_fff9, 4, 1),
+    (
+        RegOp::Remuw,
+        0x1_8000_0001,
+        0x1_0000_0000,
+        0xffff_ffff_8000_0001,
+    ),
+];
+
 #[test]
 fn arithmetic_of_qemu(rt: HostRuntime) {
-    let rows = [
-        (RegOp::Add, 0xffff_ffff_ffff_ffff, 2, 1),
-        (RegOp::Sub, 1, 3, 0xffff_ffff_ffff_fffe),
-        (RegOp::Sll, 3, 0x41, 6),
-        (RegOp::Srl, 0x8000_0000_0000_0000, 0x7f, 1),
-        (
-            RegOp::Sra,
-            0x8000_0000_0000_0000,
-            0x3f,
-            0xffff_ffff_ffff_ffff,
-        ),
-        (RegOp::Slt, 0xffff_ffff_ffff_ffff, 0, 1),
-        (RegOp::Slt, 0, 0xffff_ffff_ffff_ffff, 0),
-        (RegOp::Sltu, 0xffff_ffff_ffff_ffff, 0, 0),
-        (RegOp::Sltu, 0, 0xffff_ffff_ffff_ffff, 1),
-        (
-            RegOp::Xor,
-            0xff00_ff00_ff00_ff00,
-            0xff0_0ff0_0ff0_0ff0,
-            0xf0f0_f0f0_f0f0_f0f0,
-        ),
-        (RegOp::Or, 0xf0, 15, 0xff),
-        (RegOp::And, 0xff, 0xf0f, 15),
-        (RegOp::Mul, 0x8000_0000_0000_0003, 5, 0x8000_0000_0000_000f),
-        (RegOp::Mulh, 0xffff_ffff_ffff_ffff, 0xffff_ffff_ffff_ffff, 0),
-        (
-            RegOp::Mulh,
-            0x8000_0000_0000_0000,
-            0x8000_0000_0000_0000,
-            0x4000_0000_0000_0000,
-        ),
-        (RegOp::Mulh, 0xffff_ffff_ffff_fffe, 3, 0xffff_ffff_ffff_ffff),
-        (
-            RegOp::Mulhsu,
-            0xffff_ffff_ffff_ffff,
-            0xffff_ffff_ffff_ffff,
-            0xffff_ffff_ffff_ffff,
-        ),
-        (RegOp::Mulhsu, 5, 0xffff_ffff_ffff_ffff, 4),
-        (
-            RegOp::Mulhu,
-            0xffff_ffff_ffff_ffff,
-            0xffff_ffff_ffff_ffff,
-            0xffff_ffff_ffff_fffe,
-        ),
-        (RegOp::Div, 7, 0xffff_ffff_ffff_fffe, 0xffff_ffff_ffff_fffd),
-        (RegOp::Div, 7, 0, 0xffff_ffff_ffff_ffff),
-        (
-            RegOp::Div,
-            0x8000_0000_0000_0000,
-            0xffff_ffff_ffff_ffff,
-            0x8000_0000_0000_0000,
-        ),
-        (RegOp::Divu, 0xffff_ffff_ffff_fff9, 2, 0x7fff_ffff_ffff_fffc),
-        (RegOp::Divu, 7, 0, 0xffff_ffff_ffff_ffff),
-        (RegOp::Rem, 0xffff_ffff_ffff_fff9, 2, 0xffff_ffff_ffff_ffff),
-        (RegOp::Rem, 7, 0, 7),
-        (RegOp::Rem, 0x8000_0000_0000_0000, 0xffff_ffff_ffff_ffff, 0),
-        (RegOp::Remu, 0xffff_ffff_ffff_fff9, 4, 1),
-        (RegOp::Remu, 7, 0, 7),
-        (RegOp::Addw, 0x7fff_ffff, 1, 0xffff_ffff_8000_0000),
-        (RegOp::Addw, 0xffff_ffff_0000_0001, 1, 2),
-        (RegOp::Subw, 0, 1, 0xffff_ffff_ffff_ffff),
-        (RegOp::Subw, 0x1_8000_0000, 1, 0x7fff_ffff),
-        (RegOp::Sllw, 1, 0x3f, 0xffff_ffff_8000_0000),
-        (RegOp::Sllw, 0x4000_0000, 0x21, 0xffff_ffff_8000_0000),
-        (RegOp::Srlw, 0xffff_ffff_8000_0000, 0x1f, 1),
-        (
-            RegOp::Srlw,
-            0xffff_ffff_8000_0000,
-            0x20,
-            0xffff_ffff_8000_0000,
-        ),
-        (RegOp::Sraw, 0x8000_0000, 0x1f, 0xffff_ffff_ffff_ffff),
-        (RegOp::Sraw, 0x1_f000_0000, 0x24, 0xffff_ffff_ff00_0000),
-        (RegOp::Mulw, 0x1_0000, 0x8000, 0xffff_ffff_8000_0000),
-        (
-            RegOp::Divw,
-            0x8000_0000,
-            0xffff_ffff_ffff_ffff,
-            0xffff_ffff_8000_0000,
-        ),
-        (RegOp::Divw, 0x1_0000_0007, 0, 0xffff_ffff_ffff_ffff),
-        (RegOp::Divw, 0xffff_ffff_ffff_fff7, 2, 0xffff_ffff_ffff_fffc),
-        (RegOp::Divuw, 0x8000_0000, 1, 0xffff_ffff_8000_0000),
-        (RegOp::Divuw, 7, 0, 0xffff_ffff_ffff_ffff),
-        (RegOp::Remw, 0x8000_0000, 0xffff_ffff_ffff_ffff, 0),
-        (RegOp::Remw, 0xffff_ffff_ffff_fff7, 2, 0xffff_ffff_ffff_ffff),
-        (RegOp::Remw, 0x1_8000_0001, 0, 0xffff_ffff_8000_0001),
-        (RegOp::Remuw, 0xffff_fff9, 4, 1),
-        (
-            RegOp::Remuw,
-            0x1_8000_0001,
-            0x1_0000_0000,
-            0xffff_ffff_8000_0001,
-        ),
-    ];
-    for (op, a, b, expected) in rows {
+    for (op, a, b, expected) in ARITHMETIC {
         assert_eq!(rt; reg_result(op, a, b), expected, "{op:?} {a:#x} {b:#x}");
     }
 }
@@ -127,8 +129,8 @@ fn doubleword(value: u64, role: Role) -> Doubleword {
     }
 }
 
-#[test]
-fn atomics_on_plain_memory(rt: HostRuntime) -> Result<(), Fail> {
+/// Two doublewords of code, one of data at 16, and a slot at 24.
+fn memory_of_atomics(alloc: Global) -> Result<Plain, AllocError> {
     // amoadd.w a0, a1, (a2); lr.d t0, (a2); sc.d t1, a1, (a2); sd a1, 8(a2)
     let words = [
         doubleword(0x1006_32af_00b6_252f, Role::Rx),
@@ -136,8 +138,13 @@ fn atomics_on_plain_memory(rt: HostRuntime) -> Result<(), Fail> {
         doubleword(0xffff_ffff_0000_0001, Role::Rw),
         doubleword(0, Role::Slot),
     ]
-    .to_vec(rt.alloc())?;
-    let mut memory = Plain { words };
+    .to_vec(alloc)?;
+    Ok(Plain { words })
+}
+
+#[test]
+fn atomics_on_plain_memory(rt: HostRuntime) -> Result<(), Fail> {
+    let mut memory = memory_of_atomics(rt.alloc())?;
     let mut hart = Hart::new(0, 0x100, 0x200, 3);
     let start = (hart.x[1], hart.x[2], hart.x[4], hart.x[10]);
     assert_eq!(rt; start, (Hart::END, 0x100, 0x200, 3));

@@ -2,8 +2,9 @@
 
 use crate::{AmoOp, BranchOp, ImmOp, LoadOp, Reg, RegOp, StoreOp};
 
-/// An instruction of RV64IMA. Registers stand in the order rd, rs1, rs2; the `u8` is the size of
-/// the access in bytes, 4 or 8, and the two `bool`s are aq and rl.
+/// An instruction of RV64IMA, its operands by position: the destination before the sources (rd, rs1,
+/// rs2). An atomic one begins with how many bytes it reaches, 4 or 8, and ends with its acquire and
+/// release bits.
 #[derive(Clone, Copy, Debug, PartialEq, Eq)]
 pub enum Instr {
     Lui(Reg, i32),

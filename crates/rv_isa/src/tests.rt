@@ -28,7 +28,10 @@ fn words_of_gnu_as(rt: HostRuntime) {
     jumps_and_upper_immediates(&rt);
     loads_and_stores(&rt);
     arithmetic_with_an_immediate(&rt);
-    atomics(&rt);
+    atomic_additions_and_swaps(&rt);
+    atomic_bitwise_operations(&rt);
+    atomic_minima_and_maxima(&rt);
+    reservations_fence_and_system(&rt);
     arithmetic_with_registers(&rt);
 }
 
@@ -105,7 +108,7 @@ fn arithmetic_with_an_immediate(rt: &impl Abort) {
     );
 }
 
-fn atomics(rt: &impl Abort) {
+fn atomic_additions_and_swaps(rt: &impl Abort) {
     agree(
         rt,
         &[
@@ -125,6 +128,14 @@ fn atomics(rt: &impl Abort) {
                 0x0ec6_b5af,
                 Instr::Amo(AmoOp::Swap, 8, x(11), x(13), x(12), true, true),
             ),
+        ],
+    );
+}
+
+fn atomic_bitwise_operations(rt: &impl Abort) {
+    agree(
+        rt,
+        &[
             (
                 0x26d7_262f,
                 Instr::Amo(AmoOp::Xor, 4, x(12), x(14), x(13), true, true),
@@ -149,6 +160,14 @@ fn atomics(rt: &impl Abort) {
                 0x62f8_372f,
                 Instr::Amo(AmoOp::And, 8, x(14), x(16), x(15), false, true),
             ),
+        ],
+    );
+}
+
+fn atomic_minima_and_maxima(rt: &impl Abort) {
+    agree(
+        rt,
+        &[
             (
                 0x8308_a7af,
                 Instr::Amo(AmoOp::Min, 4, x(15), x(17), x(16), false, true),
@@ -181,6 +200,14 @@ fn atomics(rt: &impl Abort) {
                 0xe33a_392f,
                 Instr::Amo(AmoOp::Maxu, 8, x(18), x(20), x(19), false, true),
             ),
+        ],
+    );
+}
+
+fn reservations_fence_and_system(rt: &impl Abort) {
+    agree(
+        rt,
+        &[
             (0x1001_20af, Instr::Lr(4, x(1), x(2), false, false)),
             (0x1401_30af, Instr::Lr(8, x(1), x(2), true, false)),
             (0x1a31_20af, Instr::Sc(4, x(1), x(2), x(3), false, true)),

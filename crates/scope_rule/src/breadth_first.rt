@@ -66,6 +66,10 @@ fn extend_by_level(
 
 /// The objects that a root leads to by the names that it and they need, breadth-first, each once
 /// (gABI, "Shared Object Dependencies").
+///
+/// # Errors
+///
+/// Want of memory.
 #[tactic(auto, using(crate::proofs::Levels::nothing_added))]
 pub fn breadth(alloc: Global, ns: &Namespace, root: Serial) -> Result<Serials, AllocError>
     ensures { IfOk result (λ order. order ≡ breadth ns.now root) }
@@ -74,6 +78,10 @@ pub fn breadth(alloc: Global, ns: &Namespace, root: Serial) -> Result<Serials, A
 }
 
 /// The same as [`breadth`], where these new objects follow those of the namespace.
+///
+/// # Errors
+///
+/// Want of memory.
 pub fn breadth_with(
     alloc: Global,
     ns: &Namespace,

@@ -45,8 +45,12 @@ fn first_with(ns: &Namespace, name: &[u8], want: &Want, scope: &[Serial]) -> Opt
     None
 }
 
-/// The version that a relocation against a symbol asks for: the name of the symbol's index where
-/// that is 2 or more (Drepper, "ELF Symbol Versioning").
+/// The version that a relocation against a symbol asks for: that of the symbol's index, if the index
+/// names one (Drepper, "ELF Symbol Versioning").
+///
+/// # Errors
+///
+/// Want of memory.
 pub fn want_of(alloc: Global, object: &Object, symbol: &Symbol) -> Result<Want, AllocError>
     ensures { IfOk result (λ w. w ≡ want_of object.now symbol.now) }
 {
@@ -123,6 +127,10 @@ fn choose_for(
 /// The definition that a relocation of `owner` against its symbol of this index is bound to
 /// (gABI, "Symbol Table" and "Shared Object Dependencies"; psABI, COPY). `copy` says that the
 /// relocation is a COPY: its own object is then left out of the search.
+///
+/// # Errors
+///
+/// Want of memory.
 pub fn choose(
     alloc: Global,
     ns: &Namespace,
@@ -141,6 +149,10 @@ pub fn choose(
 
 /// The choice of a relocation of `owner` when the object is loaded (psABI, "Relocations"). One of no
 /// symbol (NONE, RELATIVE) makes no search, and the null symbol is the object's own.
+///
+/// # Errors
+///
+/// Want of memory.
 #[tactic(auto, unfolding(crate::specs::Relocation::choice_at))]
 pub fn choose_reloc(
     alloc: Global,

@@ -62,6 +62,10 @@ fn whole_scope(alloc: Global, ns: &Namespace, owner: &Loaded) -> Result<Serials,
 }
 
 /// Where the references of an object are searched, in order (gABI, "Shared Object Dependencies").
+///
+/// # Errors
+///
+/// Want of memory.
 #[tactic(auto, unfolding(crate::specs::Scope::scope))]
 pub fn scope(alloc: Global, ns: &Namespace, owner: &Loaded) -> Result<Serials, AllocError>
     ensures { IfOk result (λ s. s ≡ scope ns.now owner.now) }

@@ -3,8 +3,8 @@ use ld_base::*;
 use std::alloc::{AllocError, Global};
 use std::test::Fail;
 
-/// An object that exports or needs the function `f`, as its symbol 1.
-fn object(alloc: Global, defines: bool) -> Result<Object, AllocError> {
+/// Symbol 0, to which nothing refers, and the function `f` as symbol 1: defined, or only needed.
+fn symbols(alloc: Global, defines: bool) -> Result<Symbols, AllocError> {
     let mut symbols = Symbols::new(alloc);
     for shndx in [0, u16::from(defines)] {
         let symbol = Symbol {
@@ -20,7 +20,12 @@ fn object(alloc: Global, defines: bool) -> Result<Object, AllocError> {
             symbols.push(symbol)?;
         }
     }
-    Ok(Object {
+    Ok(symbols)
+}
+
+/// An object that has these symbols and nothing else.
+fn object_of(alloc: Global, symbols: Symbols) -> Object {
+    Object {
         kind: Kind::Dyn,
         entry: 0,
         soname: None,
@@ -48,7 +53,12 @@ fn object(alloc: Global, defines: bool) -> Result<Object, AllocError> {
         },
         relr: Places::new(alloc),
         dynamic: 0,
-    })
+    }
+}
+
+/// An object that exports or needs the function `f`, as its symbol 1.
+fn object(alloc: Global, defines: bool) -> Result<Object, AllocError> {
+    Ok(object_of(alloc, symbols(alloc, defines)?))
 }
 
 fn loaded(

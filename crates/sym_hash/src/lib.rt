@@ -4,11 +4,11 @@
 //! and finds symbols: [`Lookup::check`] answers the tables' words exactly where they don't break
 //! this rule.
 //!
-//! 19. Every walk of the table ends: that of the GNU table's chains from a bucket inside the symbols,
-//!     that of the System V table's at 0, within as many steps as there are chain words. Then each
-//!     exported definition is reached from the bucket of its name's hash, in the GNU table with its
-//!     chain word and its two bits of the bloom filter. The number is 0 for a walk, and else the
-//!     first symbol that isn't reached. Where there is a GNU table, the System V table isn't walked.
+//! 19. No walk goes on for ever: in the GNU table one that a bucket begins comes to an end mark before
+//!     the symbols are over, in the System V table it comes to 0 in no more steps than there are chain
+//!     words. The walk for its name's hash passes every exported definition, which in the GNU table
+//!     has a matching chain word and passes the bloom filter. The number is 0 for a walk, and else
+//!     the first symbol that isn't found so. Beside a GNU table the System V table isn't walked.
 #![tactic(auto)]
 
 mod follow;

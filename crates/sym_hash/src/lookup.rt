@@ -1,4 +1,4 @@
-//! Reading hash tables, and finding symbols with them.
+//! Reading hash tables, and finding symbols in their object.
 
 ghost use Rattle.std.specs.Prelude.{◌≡◌, ◌<◌, ◌^◌, Ok, IfOk, IfSome, length, false, not, nat_le, ◌&&◌};
 ghost use Rattle.ld_base.specs.Symbol.{is_visible_definition};
@@ -13,7 +13,7 @@ use crate::{gnu, sysv};
 use ld_base::{DynParts, HashTable, Head, Object, ReadFault, Symbol, Versions, Want, pick};
 use std::alloc::{AllocError, Global};
 
-/// Reading hash tables, and finding symbols with them.
+/// Reading hash tables, and finding symbols in their object.
 pub trait Lookup {
     /// Reads the hash tables of an object. Its head, its parts and its versions are those that their
     /// readers answer for these bytes.
@@ -33,7 +33,7 @@ pub trait Lookup {
         requires { head_verdict bytes.now ≡ Ok head.now };
 
     /// The index of the definition that a reference to the name takes in the object of this table,
-    /// or none.
+    /// or none. It goes over the symbols; the hash table isn't walked.
     fn find(&self, object: &Object, name: &[u8], want: &Want) -> Option<u32>;
 }
 

@@ -151,21 +151,19 @@ fn put(bytes: &mut [u8], Field(at, width, value): Field) {
     }
 }
 
+fn put_all(bytes: &mut [u8], fields: &[Field]) {
+    for field in fields {
+        put(bytes, *field);
+    }
+}
+
 /// A file with both tables, some fields changed.
 fn file(alloc: Global, changes: [Field; 2]) -> Result<Vec<u8>, AllocError> {
     let mut bytes = vec![in alloc; 0u8; FILE_SIZE]?;
-    for field in HEADS {
-        put(&mut bytes, field);
-    }
-    for field in GNU_TABLE {
-        put(&mut bytes, field);
-    }
-    for field in SYSV_TABLE {
-        put(&mut bytes, field);
-    }
-    for field in changes {
-        put(&mut bytes, field);
-    }
+    put_all(&mut bytes, &HEADS);
+    put_all(&mut bytes, &GNU_TABLE);
+    put_all(&mut bytes, &SYSV_TABLE);
+    put_all(&mut bytes, &changes);
     Ok(bytes)
 }
 
