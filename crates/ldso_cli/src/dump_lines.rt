@@ -13,6 +13,10 @@ use ld_base::{Kind, Name, Object, Reloc, Symbol};
 use std::alloc::{AllocError, Global};
 use std::fmt;
 
+/// How long a text may be when a symbol is to follow. Symbols share names of versions, so that those
+/// of a file of 8 MiB could ask for more than a GiB.
+const MOST_TEXT: usize = 1 << 27;
+
 /// A name, or `-` where there is none.
 #[derive(Clone, Copy)]
 struct OrNone<'a>(Option<&'a Name>);
@@ -56,7 +60,7 @@ fn write_all_needed(text: &mut String, names: &[Name]) -> Result<(), AllocError>
     Ok(())
 }
 
-/// Writes the symbol with an index.
+/// Writes the symbol with an index. A text that is too long is want of memory.
 #[tactic(auto, unfolding(crate::specs::DumpLines::symbol_line))]
 fn write_symbol(
     text: &mut String,
@@ -68,6 +72,9 @@ fn write_symbol(
     requires { AreOf object.now names.now.definitions.items names.now.needs.items }
     ensures { OnOk result (string_bytes text.new ≡ string_bytes text.old ++ symbol_line object.now (index, symbol.now)) }
 {
+    if text.len() > MOST_TEXT {
+        return Err(AllocError);
+    }
     let name = &symbol.name;
     let version = OrNone(names.name(object, symbol.version_index()));
     let value = symbol.value;
