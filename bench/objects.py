@@ -140,7 +140,7 @@ def main(folder):
     write("late-clash", build(1, [8 * (k * 7919 % 330000) for k in range(329999)] + [0]))
     write("shared-tails", build(10, [], versions=250))
     write("own-versions", build(32000, [], own_versions=True))
-    write("packed", build(1, [], packed=66000))
+    write("packed", build(1, [], packed=16000))
     write("packed-all", build(1, [], packed=1000000))
 
 

@@ -15,9 +15,9 @@ use Rattle.elf_head.proofs.Least.{least_none}
 use Rattle.elf_dynamic.proofs.Low.{low_writable}
 use Rattle.elf_dynamic.proofs.Relocations.{bounded_at, length_ranges}
 use Rattle.elf_dynamic.specs.Memory.{in_writable, overlaps, AreLow, IsBounded}
-use Rattle.elf_dynamic.specs.Named.{doubleword, named_ranges, slot_ranges}
+use Rattle.elf_dynamic.specs.Named.{named_by, named_ranges, slot_ranges}
 use Rattle.elf_dynamic.specs.Rules.{bad_reloc, bad_relocs, is_bad_place, is_bad_reloc, is_bad_table_of_slots, is_named_before}
-use Rattle.elf_dynamic.specs.Tells.{cut_doubleword, TellsOf}
+use Rattle.elf_dynamic.specs.Tells.{cut, TellsOf}
 
 -- the ranges of relocations that are kept end before the last address
 pub bounded_kept : (headers : List Header) (symbols : List Symbol) (relocs : List Reloc) (odd : Bool) (places : List ℕ) → AreLow headers → bad_reloc headers symbols relocs odd places ≡ None
@@ -43,35 +43,39 @@ bounded_kept headers symbols relocs false places low none i d within start =
     neither true b is = cc
     neither false b is = refl
 
--- a cut doubleword has as much of low memory
-overlaps_cut : (s : Span) (place : ℕ) → s.start + s.size ≤ 2 ^ 32 → overlaps s (cut_doubleword place) ≡ overlaps s (doubleword place)
-overlaps_cut s place near = grind arith
+-- a cut range has as much of low memory
+overlaps_cut : (s t : Span) → s.start + s.size ≤ 2 ^ 32 → overlaps s (cut t) ≡ overlaps s t
+overlaps_cut s t near = grind arith
 
 -- ---- what ranges tell
 
--- the slots' ranges as they are counted
-count_slots : (s : Span) (slots : List Reloc) (n : ℕ) → s.start + s.size ≤ 2 ^ 32
-    → fold (λ a x. a + (if overlaps s x then 1 else 0)) n (map (λ (r : Reloc). cut_doubleword r.place) slots) ≡ fold (λ a x. a + (if overlaps s x then 1 else 0)) n (slot_ranges slots)
-count_slots s [] n near = refl
-count_slots s (r ∷ slots) n near =
-    ap (λ b. fold (λ a x. a + (if overlaps s x then 1 else 0)) (n + (if b then 1 else 0)) (map (λ (q : Reloc). cut_doubleword q.place) slots)) (overlaps_cut s r.place near)
-    ∙ count_slots s slots (n + (if overlaps s (doubleword r.place) then 1 else 0)) near
+module _ (symbols : List Symbol) where
+  -- the range of a slot as it is counted
+  abbrev pub cut_slot : Reloc → Span
+  cut_slot r = cut (named_by symbols r)
 
-pub tells_cut : (named : List Span) (slots : List Reloc) → TellsOf (named ++ map (λ (r : Reloc). cut_doubleword r.place) slots) (named ++ slot_ranges slots)
-tells_cut named slots s near =
-    let step = λ (a : ℕ) (x : Span). a + (if overlaps s x then 1 else 0) in
-    fold-append step 0 named (map (λ (r : Reloc). cut_doubleword r.place) slots)
-    ∙ count_slots s slots (fold step 0 named) near
-    ∙ sym (fold-append step 0 named (slot_ranges slots))
+  -- the slots' ranges as they are counted
+  count_slots : (s : Span) (slots : List Reloc) (n : ℕ) → s.start + s.size ≤ 2 ^ 32
+      → fold (λ a x. a + (if overlaps s x then 1 else 0)) n (map cut_slot slots) ≡ fold (λ a x. a + (if overlaps s x then 1 else 0)) n (slot_ranges symbols slots)
+  count_slots s [] n near = refl
+  count_slots s (r ∷ slots) n near =
+      ap (λ b. fold (λ a x. a + (if overlaps s x then 1 else 0)) (n + (if b then 1 else 0)) (map cut_slot slots)) (overlaps_cut s (named_by symbols r) near)
+      ∙ count_slots s slots (n + (if overlaps s (named_by symbols r) then 1 else 0)) near
 
--- one slot more
-pub slots_more : (front ranges : List Span) (slots : List Reloc) (i : ℕ) (d : Reloc) → i < length slots → ranges ≡ front ++ map (λ (r : Reloc). cut_doubleword r.place) (take i slots)
-    → ranges ++ cut_doubleword (get_or slots i d).place ∷ [] ≡ front ++ map (λ (r : Reloc). cut_doubleword r.place) (take (i + 1) slots)
-slots_more front ranges slots i d within so_far =
-    let cut = λ (r : Reloc). cut_doubleword r.place in
-    ap (λ xs. xs ++ cut (get_or slots i d) ∷ []) so_far
-    ∙ append_assoc front (map cut (take i slots)) (cut (get_or slots i d) ∷ [])
-    ∙ ap (λ xs. front ++ xs) (sym (map-append cut (take i slots) (get_or slots i d ∷ [])) ∙ ap (map cut) (sym (take_more slots i d within)))
+  pub tells_cut : (named : List Span) (slots : List Reloc) → TellsOf (named ++ map cut_slot slots) (named ++ slot_ranges symbols slots)
+  tells_cut named slots s near =
+      let step = λ (a : ℕ) (x : Span). a + (if overlaps s x then 1 else 0) in
+      fold-append step 0 named (map cut_slot slots)
+      ∙ count_slots s slots (fold step 0 named) near
+      ∙ sym (fold-append step 0 named (slot_ranges symbols slots))
+
+  -- one slot more
+  pub slots_more : (front ranges : List Span) (slots : List Reloc) (i : ℕ) (d : Reloc) → i < length slots → ranges ≡ front ++ map cut_slot (take i slots)
+      → ranges ++ cut_slot (get_or slots i d) ∷ [] ≡ front ++ map cut_slot (take (i + 1) slots)
+  slots_more front ranges slots i d within so_far =
+      ap (λ xs. xs ++ cut_slot (get_or slots i d) ∷ []) so_far
+      ∙ append_assoc front (map cut_slot (take i slots)) (cut_slot (get_or slots i d) ∷ [])
+      ∙ ap (λ xs. front ++ xs) (sym (map-append cut_slot (take i slots) (get_or slots i d ∷ [])) ∙ ap (map cut_slot) (sym (take_more slots i d within)))
 
 -- the table of slots, by ranges that tell the same
 pub same_table : (headers : List Header) (told ranges : List Span) (start : ℕ) → AreLow headers → TellsOf told ranges → is_bad_table_of_slots headers told start ≡ is_bad_table_of_slots headers ranges start

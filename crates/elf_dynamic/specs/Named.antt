@@ -22,6 +22,6 @@ named_by symbols r = record { start = r.place; size = if r.kind == 0 then 0 else
 unfoldable pub named_ranges : List Symbol → List Reloc → List ℕ → List Span
 named_ranges symbols relocs places = map (named_by symbols) relocs ++ map doubleword places
 
--- the bytes of slots
-abbrev pub slot_ranges : List Reloc → List Span
-slot_ranges slots = map (λ (r : Reloc). doubleword r.place) slots
+-- the bytes that slots name, each by its type
+abbrev pub slot_ranges : List Symbol → List Reloc → List Span
+slot_ranges symbols slots = map (named_by symbols) slots

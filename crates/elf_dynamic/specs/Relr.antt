@@ -18,7 +18,7 @@ pub record Named : Type 0 where
   pub places : List ℕ
   pub next : ℕ
 
--- an even word names the place equal to it, and an odd one a doubleword for each of its bits, of which the first is the next one
+-- a word without its lowest bit is a place by itself; any other stands for one doubleword a bit, counted from the next place
 abbrev pub name_more : Named → ℕ → Named
 name_more named word =
     if word % 2 == 0

@@ -120,7 +120,7 @@ bad_table headers tags words count = first_bad (table_checks headers tags words 
 
 -- ---- rule 12: the strings
 
--- the offsets of the needed names and of the soname, in the order of the dynamic table; of sonames the last one counts
+-- where the needed names and the last soname stand in the string table, entry by entry
 abbrev pub name_offsets : List Tag → List ℕ
 name_offsets [] = []
 name_offsets (t ∷ tags) =
@@ -242,7 +242,7 @@ is_bad_table_of_slots headers ranges start =
 
 -- the ranges that all relocations name
 abbrev pub all_ranges : DynParts → List Span
-all_ranges parts = named_ranges parts.symbols parts.relocs parts.relr ++ slot_ranges parts.plt_relocs
+all_ranges parts = named_ranges parts.symbols parts.relocs parts.relr ++ slot_ranges parts.symbols parts.plt_relocs
 
 -- the first bad slot; or the number of slots, where there are some and their table is bad
 unfoldable pub bad_slot : List ℕ → List Header → DynParts → Option ℕ

@@ -22,7 +22,7 @@ use crate::reloc::read_relocs;
 use crate::reloc_rules::bad_reloc;
 use crate::relr::{LowPlaces, begins_odd, read_relr};
 use crate::slot_rules::bad_slot;
-use crate::string::string_at;
+use crate::string::{string_at, with_name};
 use crate::string_rules::bad_name;
 use crate::symbol::{SYMBOL_SIZE, read_symbols};
 use crate::symbol_rules::bad_symbol;
@@ -134,8 +134,11 @@ fn needed_in(alloc: Global, strings: &[u8], tags: &[Tag]) -> Result<Names, Alloc
     ensures { IfOk result (λ names. names ≡ map (string_in strings.now) (values_of tags.now dt_needed)) }
 {
     let mut names = Names::new(alloc);
+    let mut name_bytes = 0;
     for offset in &values_of(alloc, tags, DT_NEEDED)? {
-        names.push(name_in(alloc, strings, *offset)?)?;
+        let name = name_in(alloc, strings, *offset)?;
+        name_bytes = with_name(name_bytes, &name)?;
+        names.push(name)?;
     }
     Ok(names)
 }

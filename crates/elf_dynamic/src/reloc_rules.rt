@@ -159,7 +159,7 @@ fn rela_ranges(alloc: Global, symbols: &[Symbol], relocs: &[Reloc]) -> Result<Ve
 }
 
 /// The bytes that the relocation names.
-fn named_by(symbols: &[Symbol], reloc: Reloc) -> Span
+pub(crate) fn named_by(symbols: &[Symbol], reloc: Reloc) -> Span
     ensures { result ≡ named_by symbols.now reloc }
 {
     let size = match reloc.kind {

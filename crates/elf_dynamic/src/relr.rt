@@ -13,9 +13,9 @@ const ADDRESS_LIMIT: u64 = 1 << 32;
 /// The bytes of the places that the bits of a word may name, a doubleword for each bit from 1 to 63.
 const BITS_REACH: u64 = 63 * 8;
 
-/// As many places as memory is asked for: four times the doublewords of guest memory, so that no
-/// table that a program can be loaded with has more.
-const MOST_PLACES: usize = 1 << 22;
+/// As many places as memory is asked for: as many doublewords as a file of 8 MiB has, and as guest
+/// memory has.
+const MOST_PLACES: usize = 1 << 20;
 
 /// The places that a table names, in order, up to the first that lies past the first 4 GiB of
 /// addresses: no segment has that one.

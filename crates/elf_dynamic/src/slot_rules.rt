@@ -8,12 +8,12 @@ ghost use Rattle.elf_head.specs.Rules.{head_verdict};
 ghost use Rattle.elf_dynamic.specs.Memory.{AreLow, IsBounded};
 ghost use Rattle.elf_dynamic.specs.Named.{named_ranges};
 ghost use Rattle.elf_dynamic.specs.Rules.{all_ranges, bad_reloc, bad_slot, is_bad_slot, is_bad_table_of_slots, leads_to_code};
-ghost use Rattle.elf_dynamic.specs.Tells.{cut_doubleword, TellsOf};
+ghost use Rattle.elf_dynamic.specs.Tells.{cut, TellsOf};
 
 use crate::memory::{in_executable, in_writable};
 use crate::overlap::Naming;
 use crate::reloc::R_RISCV_JUMP_SLOT;
-use crate::reloc_rules::{DOUBLEWORD, doubleword, is_bad_place, named_ranges};
+use crate::reloc_rules::{DOUBLEWORD, doubleword, is_bad_place, named_by, named_ranges};
 use elf_head::file_bytes;
 use ld_base::{DynParts, Head, Header, Reloc, Span, field64};
 use std::alloc::{AllocError, Global};
@@ -47,33 +47,34 @@ pub(crate) fn bad_slot(
 
 /// The bytes that relocations name, slots too.
 ///
-/// The range of a slot at the end of the addresses is cut. No memory is there, so that slot is bad,
-/// and it has no byte in common with one that isn't.
+/// The range of a slot is cut where it would reach the last address. No memory is there, so no slot
+/// that isn't bad has a byte there.
 fn all_ranges(alloc: Global, parts: &DynParts) -> Result<Vec<Span>, AllocError>
     requires { All (λ s. s.start < 2 ^ 64 → IsBounded s) (named_ranges parts.now.symbols parts.now.relocs parts.now.relr) }
     ensures told { IfOk result (λ ranges. TellsOf ranges.items (all_ranges parts.now)) }
     ensures bounded { IfOk result (λ ranges. All IsBounded ranges.items) }
 {
+    let symbols = parts.symbols.as_slice();
     let mut ranges = named_ranges(
         alloc,
-        parts.symbols.as_slice(),
+        symbols,
         parts.relocs.as_slice(),
         parts.relr.as_slice(),
     )?;
     for slot in parts.plt_relocs.as_slice() {
-        ranges.push(cut_doubleword(slot.place))?;
+        ranges.push(cut(named_by(symbols, *slot)))?;
     }
     Ok(ranges)
 }
 
-/// The doubleword at a place, cut where it would reach the last address.
-fn cut_doubleword(place: u64) -> Span
-    ensures value { result ≡ cut_doubleword place }
+/// The range, cut where it would reach the last address.
+fn cut(span: Span) -> Span
+    ensures value { result ≡ cut span }
     ensures bounded { IsBounded result }
 {
     Span {
-        start: place,
-        size: DOUBLEWORD.min(u64::MAX - place),
+        start: span.start,
+        size: span.size.min(u64::MAX - span.start),
     }
 }
 

@@ -1,15 +1,19 @@
 //! Strings of a string table (gABI, "String Table").
 
-ghost use Rattle.std.specs.Prelude.{◌≡◌, ◌==◌, position, take, drop};
+ghost use Rattle.std.specs.Prelude.{◌≡◌, ◌==◌, ◌≤◌, ◌^◌, IfOk, position, take, drop};
 ghost use Rattle.std.specs.Option.{option_copied};
 ghost use Rattle.elf_head.specs.Gives.{Gives};
 ghost use Rattle.elf_dynamic.specs.Name.{string_at, name_at, names_at};
 
 use ld_base::{Name, Names, NotAccepted, ReadFault};
-use std::alloc::Global;
+use std::alloc::{AllocError, Global};
 
 /// The most bytes that a string has, its zero byte counted: what keeps reading many of them cheap.
 pub const STRING_LIMIT: usize = 4096;
+
+/// As many bytes as the names of one list have together: eight times those of the largest file.
+/// Names may share bytes of the file, and each has a copy of them.
+const MOST_NAME_BYTES: usize = 1 << 26;
 
 /// The index of the first zero byte.
 fn first_zero(bytes: &[u8]) -> Option<usize>
@@ -56,14 +60,28 @@ pub fn read_name(alloc: Global, strings: &[u8], offset: u64) -> Result<Name, Rea
     }
 }
 
+/// The bytes of some names and of one more. A byte too many is want of memory.
+pub(crate) fn with_name(so_far: usize, name: &Name) -> Result<usize, AllocError>
+    ensures { IfOk result (λ together. together ≤ 2 ^ 26) }
+{
+    let together = so_far.saturating_add(name.as_bytes().len());
+    if together > MOST_NAME_BYTES {
+        return Err(AllocError);
+    }
+    Ok(together)
+}
+
 /// The strings at these offsets, in order (rule 12, numbered by the first offset that has none).
 #[tactic(auto, unfolding(crate::specs::Name::names_at))]
 pub fn read_names(alloc: Global, strings: &[u8], offsets: &[u64]) -> Result<Names, ReadFault>
     ensures { Gives result (names_at strings.now offsets.now) }
 {
     let mut names = Names::new(alloc);
+    let mut name_bytes = 0;
     for offset in offsets {
-        names.push(read_name(alloc, strings, *offset)?)?;
+        let name = read_name(alloc, strings, *offset)?;
+        name_bytes = with_name(name_bytes, &name)?;
+        names.push(name)?;
     }
     Ok(names)
 }

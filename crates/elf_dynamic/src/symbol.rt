@@ -4,7 +4,7 @@ ghost use Rattle.std.specs.Prelude.{◌≡◌, ◌+◌, ◌*◌, ◌≤◌, leng
 ghost use Rattle.elf_head.specs.Gives.{Gives};
 ghost use Rattle.elf_dynamic.specs.Symbol.{symbol_at, symbols_of};
 
-use crate::string::read_name;
+use crate::string::{read_name, with_name};
 use ld_base::{ReadFault, Symbol, Symbols, field16, field32, field64};
 use std::alloc::Global;
 
@@ -42,8 +42,11 @@ pub fn read_symbols(
     ensures { Gives result (symbols_of bytes.now strings.now count) }
 {
     let mut symbols = Symbols::new(alloc);
+    let mut name_bytes = 0;
     for index in 0..count {
-        symbols.push(symbol_at(alloc, bytes, strings, SYMBOL_SIZE as usize * index as usize)?)?;
+        let symbol = symbol_at(alloc, bytes, strings, SYMBOL_SIZE as usize * index as usize)?;
+        name_bytes = with_name(name_bytes, &symbol.name)?;
+        symbols.push(symbol)?;
     }
     Ok(symbols)
 }

@@ -2,6 +2,7 @@
 
 use crate::overlap::{Naming, first_named_before};
 use crate::relr::read_relr;
+use crate::string::with_name;
 use crate::{
     DT_NEEDED, DT_RELA, DT_STRSZ, count_of, last_of, one_reading, one_verdict, read_dynamic,
     read_hash_words, read_name, read_names, read_relocs, read_symbols, read_tags, string_at,
@@ -224,12 +225,28 @@ fn packed_table(alloc: Global, full_words: usize) -> Result<Vec<u8>, AllocError>
 
 #[test]
 fn bounds_the_places_of_a_packed_table(rt: HostRuntime) -> Result<(), Fail> {
-    for (full_words, places) in [(66_576, Some(4_194_289)), (66_577, None)] {
+    for (full_words, places) in [(16_644, Some(1_048_573)), (16_645, None)] {
         let bytes = packed_table(rt.alloc(), full_words)?;
         assert!(rt; bytes.len() < 0x80_0000);
         let named = read_relr(rt.alloc(), &bytes);
         let count = named.ok().map(|named| named.places.len());
         assert_eq!(rt; count, places, "{full_words} words");
+    }
+    Ok(())
+}
+
+#[test]
+fn bounds_the_bytes_of_names(rt: HostRuntime) -> Result<(), Fail> {
+    let name = read_name(rt.alloc(), &STRINGS, 3)?;
+    assert_eq!(rt; name.as_bytes().len(), 2);
+    let rows = [
+        (0, Some(2)),
+        (0x3ff_fffe, Some(0x400_0000)),
+        (0x3ff_ffff, None),
+        (usize::MAX, None),
+    ];
+    for (so_far, want) in rows {
+        assert_eq!(rt; with_name(so_far, &name).ok(), want, "{so_far} bytes");
     }
     Ok(())
 }

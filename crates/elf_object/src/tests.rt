@@ -341,6 +341,29 @@ const BROKEN: [(usize, usize, u64, u8, u64); 71] = [
     (0x290, 8, 0, 19, 2),
 ];
 
+/// What makes a table of two slots of g, of which the first is like the slot of the file. A copy of
+/// g has sixteen bytes.
+const TWO_SLOTS: [(usize, u64); 5] = [
+    (0x10f8, 0x500),
+    (0x1108, 0x30),
+    (0x500, 0x1290),
+    (0x508, 0x1_0000_0005),
+    (0x228, 0x10),
+];
+
+/// A second slot, its place, type and symbol, and which of the two breaks rule 16.
+const SECOND_SLOTS: [(u64, u64, u64); 5] = [
+    // It names the first one's word.
+    (0x1290, 0x1_0000_0005, 0),
+    // It names nothing.
+    (0x1290, 0, 1),
+    // A copy that reaches into the first one's word, and one that ends before it.
+    (0x1288, 0x1_0000_0004, 0),
+    (0x128c, 0x2_0000_0004, 1),
+    // A copy that would reach beyond the last address.
+    (u64::MAX, 0x1_0000_0004, 1),
+];
+
 /// Puts a number in so many bytes, the lowest first.
 fn put(bytes: &mut Vec<u8>, at: usize, width: usize, value: u64) {
     for (place, digit) in value.to_le_bytes().iter().enumerate() {
@@ -378,7 +401,12 @@ fn fault(
 ) -> Result<Option<NotAccepted>, ReadFault> {
     let mut bytes = file(alloc)?;
     put(&mut bytes, at, width, value);
-    match read_object(alloc, &bytes, program) {
+    fault_of(alloc, &bytes, program)
+}
+
+/// The rule that these bytes break, if any.
+fn fault_of(alloc: Global, bytes: &[u8], program: bool) -> Result<Option<NotAccepted>, ReadFault> {
+    match read_object(alloc, bytes, program) {
         Ok(_) => Ok(None),
         Err(ReadFault::NotAccepted(broken)) => Ok(Some(broken)),
         Err(ReadFault::Memory) => Err(ReadFault::Memory),
@@ -391,6 +419,22 @@ fn tells_each_broken_rule(rt: HostRuntime) -> Result<(), Fail> {
     for (at, width, value, rule, number) in BROKEN {
         let told = fault(rt.alloc(), at, width, value, true)?;
         assert_eq!(rt; told, Some(NotAccepted { rule, number }), "{at:#x}");
+    }
+    Ok(())
+}
+
+#[test]
+fn tells_what_a_second_slot_names(rt: HostRuntime) -> Result<(), Fail> {
+    for (place, info, number) in SECOND_SLOTS {
+        let mut bytes = file(rt.alloc())?;
+        for (at, value) in TWO_SLOTS {
+            put(&mut bytes, at, 8, value);
+        }
+        put(&mut bytes, 0x518, 8, place);
+        put(&mut bytes, 0x520, 8, info);
+        let told = fault_of(rt.alloc(), &bytes, true)?;
+        let want = NotAccepted { rule: 16, number };
+        assert_eq!(rt; told, Some(want), "{place:#x} {info:#x}");
     }
     Ok(())
 }
