@@ -2,6 +2,7 @@ pub mod Find
 pub mod Hearing
 pub mod Led
 pub mod Longer
+pub mod Lookups
 pub mod Next
 pub mod Noting
 pub mod Numbered

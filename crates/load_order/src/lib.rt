@@ -19,6 +19,7 @@
 mod ask;
 mod finding;
 mod law;
+mod lookup;
 mod missed;
 mod ordering;
 mod plan;

@@ -1,12 +1,12 @@
 //! Whether the versions that new objects need are there.
 
-ghost use Rattle.std.specs.Prelude.{◌≡◌, ◌<◌, ◌++◌, length, position, IfOk, IfSome};
-ghost use Rattle.std.specs.List.{list_any};
-ghost use Rattle.std.specs.Str.{bytes_eq};
+ghost use Rattle.std.specs.Prelude.{◌≡◌, ◌++◌, ◌==◌, ℕ, List, find, IfOk, OnOk};
 ghost use Rattle.std.specs.Option.{option_copied};
-ghost use Rattle.scope_rule.specs.Needed.{is_weak_need, defines, defines_version, provider, lacks_version, first_lack, missing_version};
+ghost use Rattle.scope_rule.specs.Needed.{is_weak_need, provider, lacks_version, first_lack, missing_version};
+ghost use Rattle.load_order.specs.Lookup.{has, defined_at, ArePlacesOf, Knows};
 
-use ld_base::{DlFault, Loaded, Name, Object, Serial, Verdef, Verneed};
+use crate::lookup::{Defined, Definer, Places};
+use ld_base::{DlFault, Loaded, Name, Sequence, Serial, Verneed};
 use scope_rule::Namespace;
 use std::alloc::{AllocError, Global};
 
@@ -17,44 +17,12 @@ fn is_weak_need(need: &Verneed) -> bool
     need.flags / 2 % 2 == 1
 }
 
-/// Whether an entry defines a version.
-fn defines(verdef: &Verdef, version: &[u8]) -> bool
-    ensures { result ≡ defines version.now verdef.now }
-{
-    verdef.flags % 2 != 1 && verdef.name.is(version)
-}
-
-/// Whether one of the entries defines a version.
-fn any_defines(verdefs: &[Verdef], version: &[u8]) -> bool
-    ensures { result ≡ list_any (defines version.now) verdefs.now }
-{
-    verdefs.iter().any(|verdef| defines(verdef, version))
-}
-
-/// Whether an object defines a version. One without definitions of versions defines every one.
-fn defines_version(object: &Object, version: &[u8]) -> bool
-    ensures { result ≡ defines_version object.now version.now }
-{
-    object.verdefs.is_empty() || any_defines(object.verdefs.as_slice(), version)
-}
-
-/// The place of a file among the names that an object needs.
-fn place_of(object: &Object, file: &[u8]) -> Option<usize>
-    ensures place { result ≡ position (λ name. bytes_eq name file.now) object.now.needed }
-    ensures within { IfSome result (λ place. place < length object.now.needed) }
-{
-    object
-        .needed
-        .as_slice()
-        .iter()
-        .position(|name| name.is(file))
-}
-
 /// The object that the first of an object's needed names that is the file found.
-fn provider(object: &Loaded, file: &[u8]) -> Option<Serial>
+fn provider(object: &Loaded, places: &Places, file: &[u8]) -> Option<Serial>
+    requires { ArePlacesOf object.now.object.needed places.now }
     ensures { result ≡ provider object.now file.now }
 {
-    match place_of(&object.object, file) {
+    match places.place(file) {
         Some(place) => {
             let found = object.found.as_slice();
             let first = found.len().saturating_sub(object.object.needed.len());
@@ -64,32 +32,96 @@ fn provider(object: &Loaded, file: &[u8]) -> Option<Serial>
     }
 }
 
-/// Whether a version that an object needs isn't there.
-fn lacks_version(ns: &Namespace, added: &[Loaded], object: &Loaded, need: &Verneed) -> bool
-    ensures { result ≡ lacks_version (ns.now.objects ++ added.now) object.now need.now }
+/// The versions that the object with a serial defines. Where there is no such object, none is
+/// lacking.
+fn defined_at(
+    alloc: Global,
+    ns: &Namespace,
+    added: &[Loaded],
+    serial: Serial,
+) -> Result<Defined, AllocError>
+    ensures { IfOk result (λ defined. (version : List ℕ) → has defined version ≡ defined_at (ns.now.objects ++ added.now) serial version) }
 {
-    if is_weak_need(need) {
-        return false;
-    }
-    let Some(serial) = provider(object, need.file.as_bytes()) else {
-        return false;
-    };
     match ns.object_or_new(added, serial) {
-        Some(definer) => !defines_version(&definer.object, need.name.as_bytes()),
-        None => false,
+        Some(definer) => Defined::of(alloc, &definer.object),
+        None => Ok(Defined::every(alloc)),
     }
 }
 
-/// The first version that an object needs and that isn't there.
-fn first_lack<'a>(ns: &Namespace, added: &[Loaded], object: &'a Loaded) -> Option<&'a Verneed>
-    ensures { option_copied result ≡ first_lack (ns.now.objects ++ added.now) object.now }
+/// What is known of the object with a serial.
+fn known_definer(known: &[Definer], serial: Serial) -> Option<&Definer>
+    ensures { option_copied result ≡ find (λ definer. definer.serial == serial) known.now }
 {
+    known.iter().find(|definer| definer.serial == serial)
+}
+
+/// Whether the object with a serial defines a version. Its versions are known from then on, since a
+/// scan of them for each need takes the product of two counts that a file chooses.
+fn is_defined_at(
+    alloc: Global,
+    ns: &Namespace,
+    added: &[Loaded],
+    known: &mut Sequence<Definer>,
+    serial: Serial,
+    version: &[u8],
+) -> Result<bool, AllocError>
+    requires { Knows (ns.now.objects ++ added.now) known.old }
+    ensures knows { OnOk result (Knows (ns.now.objects ++ added.now) known.new) }
+    ensures answer { IfOk result (λ answer. answer ≡ defined_at (ns.now.objects ++ added.now) serial version.now) }
+{
+    if let Some(definer) = known_definer(known.as_slice(), serial) {
+        return Ok(definer.defined.has(version));
+    }
+    let defined = defined_at(alloc, ns, added, serial)?;
+    let answer = defined.has(version);
+    known.push(Definer { serial, defined })?;
+    Ok(answer)
+}
+
+/// Whether a version that an object needs isn't there.
+fn lacks_version(
+    alloc: Global,
+    ns: &Namespace,
+    added: &[Loaded],
+    known: &mut Sequence<Definer>,
+    object: &Loaded,
+    places: &Places,
+    need: &Verneed,
+) -> Result<bool, AllocError>
+    requires known { Knows (ns.now.objects ++ added.now) known.old }
+    requires places { ArePlacesOf object.now.object.needed places.now }
+    ensures knows { OnOk result (Knows (ns.now.objects ++ added.now) known.new) }
+    ensures answer { IfOk result (λ lacks. lacks ≡ lacks_version (ns.now.objects ++ added.now) object.now need.now) }
+{
+    if is_weak_need(need) {
+        return Ok(false);
+    }
+    let Some(serial) = provider(object, places, need.file.as_bytes()) else {
+        return Ok(false);
+    };
+    let version = need.name.as_bytes();
+    Ok(!is_defined_at(alloc, ns, added, known, serial, version)?)
+}
+
+/// The first version that an object needs and that isn't there.
+fn first_lack<'a>(
+    alloc: Global,
+    ns: &Namespace,
+    added: &[Loaded],
+    known: &mut Sequence<Definer>,
+    object: &'a Loaded,
+) -> Result<Option<&'a Verneed>, AllocError>
+    requires { Knows (ns.now.objects ++ added.now) known.old }
+    ensures knows { OnOk result (Knows (ns.now.objects ++ added.now) known.new) }
+    ensures lack { IfOk result (λ lack. option_copied lack ≡ first_lack (ns.now.objects ++ added.now) object.now) }
+{
+    let places = Places::of(alloc, object.object.needed.as_slice())?;
     for need in object.object.verneeds.as_slice() {
-        if lacks_version(ns, added, object, need) {
-            return Some(need);
+        if lacks_version(alloc, ns, added, known, object, &places, need)? {
+            return Ok(Some(need));
         }
     }
-    None
+    Ok(None)
 }
 
 /// The refusal of an object that needs a version that isn't there.
@@ -110,8 +142,9 @@ pub(crate) fn missing_version(
 ) -> Result<Option<DlFault>, AllocError>
     ensures { IfOk result (λ fault. fault ≡ missing_version (ns.now.objects ++ added.now) added.now) }
 {
+    let mut known = Sequence::new(alloc);
     for object in added {
-        if let Some(need) = first_lack(ns, added, object) {
+        if let Some(need) = first_lack(alloc, ns, added, &mut known, object)? {
             return Ok(Some(version_fault(alloc, object, need)?));
         }
     }

@@ -1,8 +1,12 @@
 use Rattle.std.proofs.Common.{◌≡◌, ◌++◌, drop}
 use Rattle.std.specs.List.{find}
 use Rattle.scope_rule.specs.Needed.{lacks_version, first_lack}
+use Rattle.load_order.specs.Lookup.{Knows}
 use Rattle.load_order.proofs.versions.first_lack.Given as goal
 
 -- the search of the rest is the search of the whole
 abbrev pub invariant-loop-need : goal.invariant-loop-need
-invariant-loop-need l = find (lacks_version (l.ns.objects ++ l.added) l.object) (drop l.need-index l.need-items) ≡ first_lack (l.ns.objects ++ l.added) l.object
+invariant-loop-need l = record {
+  knows : Knows (l.ns.objects ++ l.added) l.known;
+  rest : find (lacks_version (l.ns.objects ++ l.added) l.object) (drop l.need-index l.need-items) ≡ first_lack (l.ns.objects ++ l.added) l.object;
+}
