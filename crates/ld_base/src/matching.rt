@@ -15,14 +15,18 @@ const UNDEFINED: u16 = 0;
 const ABSOLUTE: u16 = 0xfff1;
 /// The bindings of a symbol that its own object alone sees, and of one that may lack a definition.
 const STB_LOCAL: u8 = 0;
+
 const STB_WEAK: u8 = 2;
 /// The types of symbols that name functions (the last of three that name code or data), common
 /// data, and places in thread-local storage.
 const STT_FUNC: u8 = 2;
+
 const STT_COMMON: u8 = 5;
+
 const STT_TLS: u8 = 6;
 /// The visibilities that keep a definition from other objects.
 const STV_INTERNAL: u8 = 1;
+
 const STV_HIDDEN: u8 = 2;
 /// The flag of a version that names the object itself.
 const VER_FLG_BASE: u16 = 1;

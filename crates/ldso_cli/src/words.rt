@@ -61,7 +61,9 @@ fn are_parts(parts: &[Name]) -> bool
 fn are_short(parts: &[Name]) -> bool
     ensures { result ≡ are_short parts.now }
 {
-    parts.iter().all(|part| part.as_bytes().len() <= LONGEST_FOLDER)
+    parts
+        .iter()
+        .all(|part| part.as_bytes().len() <= LONGEST_FOLDER)
 }
 
 /// The folders of `--lib`, none where it doesn't stand.
