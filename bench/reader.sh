@@ -1,5 +1,6 @@
 #!/bin/sh
-# Times `ldso dump` of large objects against `readelf -aW` of the same files, both written to a file,
+# Times `ldso dump` of large objects against `readelf -aWD` of the same files (they have no sections, so
+# that only -D makes it print their symbols and relocations), both written to a file,
 # and says how much memory it took. Run by hand: bench/reader.sh. It needs python3, GNU time, and
 # readelf for RISC-V (Debian: time, binutils-riscv64-linux-gnu).
 set -eu
@@ -24,7 +25,7 @@ for object in "$work"/*.so; do
     name=$(basename "$object" .so)
     dump=$(cd "$work" && seconds "$program" dump "$name.so")
     end=$(tail -n 1 "$work/out")
-    other=$(seconds riscv64-linux-gnu-readelf -aW "$object")
+    other=$(seconds timeout 20 riscv64-linux-gnu-readelf -aWD "$object")
     echo "$name $dump $other" | awk -v end="$end" '{
         printf "%-14s %8.2f %8.2f %8.2f %8d  %s\n", $1, $2, $4, $2 / ($4 > 0 ? $4 : 0.01), $3 / 1024, end
     }'
