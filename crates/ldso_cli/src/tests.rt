@@ -485,6 +485,44 @@ fn refuses_broken_files(rt: HostRuntime) -> Result<(), Fail> {
     Ok(())
 }
 
+/// Up to which length the fronts of a library break a rule: the ends of the ELF header, of the
+/// program headers, and of the two segments in the file.
+const FRONTS: [(usize, &str); 4] = [
+    (64, "end 126 not-accepted o 1 0\n"),
+    (232, "end 126 not-accepted o 7 0\n"),
+    (0x1000, "end 126 not-accepted o 8 0\n"),
+    (0x1400, "end 126 not-accepted o 8 1\n"),
+];
+
+/// Whether the fronts of a library, from one length to below another, are all refused so.
+fn are_refused<R: Threads + Wait + Sync>(
+    rt: &R,
+    alloc: Global,
+    first: usize,
+    end: usize,
+    text: &str,
+) -> Result<bool, AllocError> {
+    for length in first..end {
+        let files = files_of(alloc, "o =f", Damage::Cut(length))?;
+        let (status, bytes) = run(rt, alloc, "dump o", files, &[], &[])?;
+        if status != 126 || bytes.as_slice() != text.as_bytes() {
+            return Ok(false);
+        }
+    }
+    Ok(true)
+}
+
+#[test]
+fn refuses_each_front_of_a_library(rt: HostRuntime) -> Result<(), Fail> {
+    let mut first = 0;
+    for (end, text) in FRONTS {
+        let refused = are_refused(&rt, rt.alloc(), first, end, text)?;
+        assert!(rt; refused, "those below {end} bytes");
+        first = end;
+    }
+    Ok(())
+}
+
 #[test]
 fn reads_words(rt: HostRuntime) -> Result<(), Fail> {
     let alloc = rt.alloc();
