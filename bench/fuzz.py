@@ -76,4 +76,5 @@ def main(count, seed, paths):
     print(f"{count} files, {differ} differ")
 
 
-main(int(sys.argv[1]), int(sys.argv[2]), sys.argv[3:])
+if __name__ == "__main__":
+    main(int(sys.argv[1]), int(sys.argv[2]), sys.argv[3:])

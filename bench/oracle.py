@@ -1,6 +1,6 @@
-"""What `ldso dump` should print of a file, worked out a second time and in another way: plain Python,
-bytes counted one by one, no index and no cleverness. docs/RULES.md has the rules by their numbers.
-bench/fuzz.py compares the two."""
+"""What an object is and what `ldso dump` should print of it, worked out a second time and in another
+way: plain Python, bytes counted one by one, no index and no cleverness. docs/RULES.md has the rules by
+their numbers. bench/fuzz.py compares the two."""
 
 import struct
 from collections import Counter, namedtuple
@@ -9,6 +9,7 @@ LOAD, DYNAMIC, STORAGE = 1, 2, 7
 NULL, NEEDED, PLTRELSZ, PLTGOT, HASH, STRTAB, SYMTAB, RELA, RELASZ, RELAENT, STRSZ, SYMENT = range(12)
 SONAME, REL, PLTREL, TEXTREL, JMPREL, FLAGS = 14, 17, 20, 22, 23, 30
 RELRSZ, RELR, RELRENT = 35, 36, 37
+SYMBOLIC, DF_SYMBOLIC = 16, 2
 ARRAYS = ((25, 27), (26, 28), (32, 33))
 GNU_HASH, VERSYM = 0x6FFFFEF5, 0x6FFFFFF0
 VERDEF, VERDEFNUM, VERNEED, VERNEEDNUM = 0x6FFFFFFC, 0x6FFFFFFD, 0x6FFFFFFE, 0x6FFFFFFF
@@ -22,6 +23,10 @@ Reloc = namedtuple("Reloc", "place kind symbol addend")
 Gnu = namedtuple("Gnu", "first shift bloom buckets chain count")
 Definition = namedtuple("Definition", "index flags name")
 Need = namedtuple("Need", "index flags file name")
+Object = namedtuple(
+    "Object",
+    "is_exec soname needed symbols first indexes definitions needs relocs places slots is_symbolic",
+)
 
 
 class Broken(Exception):
@@ -307,7 +312,7 @@ def check_relocs(memory, symbols, relocs, table, places):
 # ---- rules 15 and 16
 
 
-def check_features(memory, last, symbols, kinds):
+def check_features(memory, last, symbols, kinds, fixed_library, is_program):
     features = {
         1: any(s.section and s.info & 15 == 10 for s in symbols),
         2: R_IRELATIVE in kinds,
@@ -316,8 +321,10 @@ def check_features(memory, last, symbols, kinds):
         5: R_32 in kinds,
         6: REL in last,
         7: TEXTREL in last or last.get(FLAGS, 0) & 4,
+        8: not is_program and R_COPY in kinds,
         9: kinds - LINKED_TYPES,
         11: any(h.flags & 3 == 3 for h in memory.segments),
+        12: fixed_library,
     }
     for number, is_there in features.items():
         ask(not is_there, 15, number)
@@ -491,8 +498,10 @@ def version_name(index, definitions, needs):
     return next((n.name for n in needs if n.index == index), None)
 
 
-def object_text(data):
+def read_object(data, is_program):
+    """The object that a file is, as the program or as a library."""
     headers = headers_of(data)
+    is_exec = number_at(data, 16, 2) == 2
     memory = check_segments(data, headers)
     tags = tags_of(memory, headers)
     last = dict(tags)
@@ -508,30 +517,42 @@ def object_text(data):
     table = memory.bytes_at(last[RELR], last[RELRSZ]) if last.get(RELRSZ) and RELR in last else b""
     places = packed_places(table)
     named = check_relocs(memory, symbols, relocs, table, places)
-    check_features(memory, last, symbols, {r.kind for r in relocs + slots})
+    kinds = {r.kind for r in relocs + slots}
+    check_features(memory, last, symbols, kinds, is_exec and not is_program, is_program)
     check_slots(memory, last, symbols, slots, named)
     indexes = indexes_of(memory, last, count)
     definitions, needs = definitions_of(memory, last, strings), needs_of(memory, last, strings)
     check_indexes(indexes, definitions, needs)
     check_gnu(gnu, symbols) if gnu else check_sysv(sysv, symbols)
+    is_symbolic = SYMBOLIC in last or last.get(FLAGS, 0) & DF_SYMBOLIC != 0
+    first = gnu.first if gnu else 1
+    return Object(
+        is_exec, soname, needed, symbols, first, indexes, definitions, needs, relocs, places, slots, is_symbolic
+    )
 
-    kind = "exec" if number_at(data, 16, 2) == 2 else "dyn"
-    lines = [f"object {kind} soname={written(soname)}"]
-    lines += [f"needed {written(name)}" for name in needed]
-    for index, s in enumerate(symbols[1:], 1):
-        version = version_name(indexes[index] & 0x7FFF, definitions, needs) if indexes else None
+
+def index_of(o, symbol):
+    """The version index of a symbol, without the bit that hides it."""
+    return o.indexes[symbol] & 0x7FFF if o.indexes else 0
+
+
+def object_text(o):
+    lines = [f"object {'exec' if o.is_exec else 'dyn'} soname={written(o.soname)}"]
+    lines += [f"needed {written(name)}" for name in o.needed]
+    for number, s in enumerate(o.symbols[1:], 1):
+        version = version_name(index_of(o, number), o.definitions, o.needs)
         defined = "def" if s.section else "undef"
-        lines.append(f"symbol {index} {written(s.name)} {written(version)} 0x{s.value:x} {defined}")
-    for number, r in enumerate(relocs):
+        lines.append(f"symbol {number} {written(s.name)} {written(version)} 0x{s.value:x} {defined}")
+    for number, r in enumerate(o.relocs):
         lines.append(f"reloc {number} {r.kind} 0x{r.place:x} {r.symbol} {r.addend}")
-    lines += [f"relr {number} 0x{place:x}" for number, place in enumerate(places)]
-    lines += [f"slot {number} 0x{r.place:x} {r.symbol}" for number, r in enumerate(slots)]
+    lines += [f"relr {number} 0x{place:x}" for number, place in enumerate(o.places)]
+    lines += [f"slot {number} 0x{r.place:x} {r.symbol}" for number, r in enumerate(o.slots)]
     return "\n".join(lines + ["end 0 dumped", ""])
 
 
 def dump(data, name):
     """The text of `ldso dump NAME` where these are the bytes of the file."""
     try:
-        return object_text(data)
+        return object_text(read_object(data, True))
     except Broken as broken:
         return f"end 126 not-accepted {name} {broken.rule} {broken.number}\n"
