@@ -1,0 +1,3 @@
+pub mod Initialised
+pub mod Reached
+pub mod Sources
