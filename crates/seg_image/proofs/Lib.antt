@@ -1,0 +1,5 @@
+mod FileWords
+mod Found
+mod Marks
+mod Ordered
+mod Steps
