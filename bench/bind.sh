@@ -5,7 +5,7 @@
 # (Debian: clang, lld, binutils-riscv64-linux-gnu), and GNU time.
 set -eu
 top=$(cd "$(dirname "$0")/.." && pwd)
-program=$top/crates/ldso_cli/out/ldso_cli
+program=$top/crates/ldso/out/ldso
 libraries=${1:-64}
 work=$(mktemp -d)
 trap 'rm -rf "$work"' EXIT

@@ -13,7 +13,7 @@ from collections import Counter
 
 import oracle
 
-PROGRAM = pathlib.Path(__file__).resolve().parent.parent / "crates/ldso_cli/out/ldso_cli"
+PROGRAM = pathlib.Path(__file__).resolve().parent.parent / "crates/ldso/out/ldso"
 NUMBERS = (0, 1, 2, 3, 4, 5, 7, 8, 12, 16, 24, 0x7FFF, 0x8000, 0xFFFF, 0xFFFFFFFF, 1 << 32, (1 << 64) - 1)
 
 

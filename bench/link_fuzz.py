@@ -17,7 +17,7 @@ from collections import Counter
 import linker
 import oracle
 
-PROGRAM = pathlib.Path(__file__).resolve().parent.parent / "crates/ldso_cli/out/ldso_cli"
+PROGRAM = pathlib.Path(__file__).resolve().parent.parent / "crates/ldso/out/ldso"
 FUNCTIONS = [b"f", b"g", b"h", b"dlsym"]
 VERSIONS = [b"V1", b"V2", b"V3"]
 LIBRARIES = [b"a", b"b", b"c", b"s", b"ldso.so.1", b"lib/c"]

@@ -6,6 +6,6 @@ top=$(cd "$(dirname "$0")/.." && pwd)
 work=$(mktemp)
 trap 'rm -f "$work"' EXIT
 for object in "$@"; do
-    (cd "$(dirname "$object")" && "$top/crates/ldso_cli/out/ldso_cli" dump "$(basename "$object")") > "$work"
+    (cd "$(dirname "$object")" && "$top/crates/ldso/out/ldso" dump "$(basename "$object")") > "$work"
     python3 "$top/bench/readelf.py" "$work" "$object"
 done

@@ -5,7 +5,7 @@
 # readelf for RISC-V (Debian: time, binutils-riscv64-linux-gnu).
 set -eu
 top=$(cd "$(dirname "$0")/.." && pwd)
-program=$top/crates/ldso_cli/out/ldso_cli
+program=$top/crates/ldso/out/ldso
 work=$(mktemp -d)
 trap 'rm -rf "$work"' EXIT
 python3 "$top/bench/objects.py" "$work"

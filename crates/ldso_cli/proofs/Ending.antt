@@ -32,9 +32,9 @@ use Rattle.scope_rule.specs.Relocation.{choice_at, names_symbols}
 use Rattle.scope_rule.specs.declared.namespace.Namespace.{Namespace}
 use Rattle.ldso_cli.specs.declared.outcome.Cause.{Cause}
 use Rattle.ldso_cli.specs.declared.outcome.Cause.TheVariants as causes
-use Rattle.ldso_cli.specs.declared.words.Bind.{Bind}
+use Rattle.command_text.specs.declared.words.Bind.{Bind}
 use Rattle.ldso_cli.specs.Bind.{BindEnds, ObjectsEnd, ask_of, nothing_loaded, unopened, opened}
-use Rattle.ldso_cli.specs.Refusal.{is_missing, missing_symbol, refusal_at, first_missing, refusal_of, first_refusal}
+use Rattle.command_text.specs.Refusal.{is_missing, missing_symbol, refusal_at, first_missing, refusal_of, first_refusal}
 use Rattle.ldso_cli.specs.Status.{refused_text}
 
 -- ---- a load that has to wait

@@ -11,13 +11,13 @@ use Rattle.load_order.specs.Plan.{HasNoPath, Over}
 use Rattle.ldso_cli.specs.Bind.{ask_of, nothing_loaded, BindEnds}
 use Rattle.ldso_cli.specs.Command.{CommandEnds, Ends, HasNoFolder, IsCounted, IsWrittenBy}
 use Rattle.ldso_cli.specs.Status.{usage_text}
-use Rattle.ldso_cli.specs.Words.{reads}
+use Rattle.command_text.specs.Words.{reads}
 use Rattle.ldso_cli.specs.declared.bind.Answer.{Answer}
 use Rattle.ldso_cli.specs.declared.outcome.Cause.{Cause}
 use Rattle.ldso_cli.specs.declared.outcome.Cause.TheVariants as causes
-use Rattle.ldso_cli.specs.declared.words.Bind.{Bind}
-use Rattle.ldso_cli.specs.declared.words.Command.{Command}
-use Rattle.ldso_cli.specs.declared.words.Command.TheVariants as commands
+use Rattle.command_text.specs.declared.words.Bind.{Bind}
+use Rattle.command_text.specs.declared.words.Command.{Command}
+use Rattle.command_text.specs.declared.words.Command.TheVariants as commands
 use Rattle.ldso_cli.proofs.Dumping.{dump_no_write_fault, dump_no_memory}
 
 -- ---- words that are no command

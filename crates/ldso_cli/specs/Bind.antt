@@ -10,9 +10,9 @@ use Rattle.load_order.specs.Plan.{load_over, version_fault, IsRefused}
 use Rattle.load_order.specs.declared.ask.LoadAsk.{LoadAsk}
 use Rattle.ldso_cli.specs.declared.outcome.Cause.{Cause}
 use Rattle.ldso_cli.specs.declared.outcome.Cause.TheVariants as causes
-use Rattle.ldso_cli.specs.declared.words.Bind.{Bind}
-use Rattle.ldso_cli.specs.Lines.{bound_text}
-use Rattle.ldso_cli.specs.Refusal.{first_refusal}
+use Rattle.command_text.specs.declared.words.Bind.{Bind}
+use Rattle.command_text.specs.Lines.{bound_text}
+use Rattle.command_text.specs.Refusal.{first_refusal}
 use Rattle.ldso_cli.specs.Status.{refused_text}
 
 -- the program is asked for by hart 0, and is object 1

@@ -7,12 +7,12 @@ use Rattle.ld_base.specs.declared.fault.DlFault.TheVariants as dl
 use Rattle.load_order.specs.Plan.{HasNoPath, Over}
 use Rattle.ldso_cli.specs.declared.outcome.Cause.{Cause}
 use Rattle.ldso_cli.specs.declared.outcome.Cause.TheVariants as causes
-use Rattle.ldso_cli.specs.declared.words.Command.{Command}
-use Rattle.ldso_cli.specs.declared.words.Command.TheVariants as commands
+use Rattle.command_text.specs.declared.words.Command.{Command}
+use Rattle.command_text.specs.declared.words.Command.TheVariants as commands
 use Rattle.ldso_cli.specs.Bind.{ask_of, nothing_loaded, BindEnds}
 use Rattle.ldso_cli.specs.Dump.{DumpEnds}
 use Rattle.ldso_cli.specs.Status.{usage_text}
-use Rattle.ldso_cli.specs.Words.{reads}
+use Rattle.command_text.specs.Words.{reads}
 
 -- how the words end over files, and what is written: as their command does, or as a usage where they are none
 abbrev pub CommandEnds : Option Command → Cause → List ℕ → List File → Type 0

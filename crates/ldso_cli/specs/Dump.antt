@@ -8,7 +8,7 @@ use Rattle.load_order.specs.Files.{bytes_as_read}
 use Rattle.scope_rule.specs.Finding.{Reading, here, unaccepted, absent, failed}
 use Rattle.ldso_cli.specs.declared.outcome.Cause.{Cause}
 use Rattle.ldso_cli.specs.declared.outcome.Cause.TheVariants as causes
-use Rattle.ldso_cli.specs.DumpLines.{dump_text}
+use Rattle.command_text.specs.DumpLines.{dump_text}
 use Rattle.ldso_cli.specs.Status.{refused_text}
 
 -- what a file is, read as a program

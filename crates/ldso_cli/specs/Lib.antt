@@ -1,10 +1,4 @@
 pub mod Bind
 pub mod Command
 pub mod Dump
-pub mod DumpLines
-pub mod Lines
-pub mod Named
-pub mod Refusal
 pub mod Status
-pub mod VersionNames
-pub mod Words

@@ -11,10 +11,8 @@ ghost use Rattle.ldso_cli.specs.Bind.{BindEnds, ObjectsEnd, ask_of, nothing_load
 ghost use Rattle.ldso_cli.specs.Status.{refused_text, status_of_fault};
 ghost use Rattle.ldso_cli.specs.declared.outcome.Cause.TheVariants.{Refused};
 
-use crate::lines::bound_text;
 use crate::outcome::{Cause, status_of_fault};
-use crate::refusal::first_refusal;
-use crate::words::Bind;
+use command_text::{Bind, bound_text, first_refusal};
 use elf_object::one_object;
 use ld_base::{Added, DlFault, HartId, NsId, Serial, Serials};
 use library_source::Library;

@@ -9,8 +9,8 @@ ghost use Rattle.ldso_cli.specs.Dump.{DumpEnds, IsOfBytes, Shows};
 ghost use Rattle.ldso_cli.specs.declared.outcome.Cause.TheVariants.{Refused};
 
 use crate::bind::{Answer, refused};
-use crate::dump_lines::dump_text;
 use crate::outcome::Cause;
+use command_text::dump_text;
 use elf_object::read_object;
 use ld_base::{DlFault, Name, ReadFault};
 use library_source::{Library, ReadError};

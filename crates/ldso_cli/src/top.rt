@@ -7,13 +7,13 @@ ghost use Rattle.library_source.specs.Count.{Rises};
 ghost use Rattle.load_order.specs.Plan.{Over};
 ghost use Rattle.ldso_cli.specs.Command.{CommandEnds, Ends, HasNoFolder, IsCounted, IsWrittenBy};
 ghost use Rattle.ldso_cli.specs.Status.{status_of, usage_text};
-ghost use Rattle.ldso_cli.specs.Words.{reads};
+ghost use Rattle.command_text.specs.Words.{reads};
 ghost use Rattle.ldso_cli.specs.declared.outcome.Cause.TheVariants.{Refused, Usage, WriteFault};
 
 use crate::bind::{Answer, bind};
 use crate::dump::dump;
 use crate::outcome::{Cause, Outcome};
-use crate::words::{Command, reads};
+use command_text::{Command, reads};
 use ld_base::{Name, Names};
 use library_source::{Library, Sink, WriteError, put_all};
 use std::alloc::{AllocError, Global};

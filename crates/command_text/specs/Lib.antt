@@ -1,0 +1,6 @@
+pub mod DumpLines
+pub mod Lines
+pub mod Named
+pub mod Refusal
+pub mod VersionNames
+pub mod Words

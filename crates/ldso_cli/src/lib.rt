@@ -1,0 +1,17 @@
+//! The command `ldso`: which definition each procedure linkage slot of a program gets, and what an
+//! object holds.
+//!
+//! [`ldso`] is the whole of it, over any library of files and any sink of bytes. What its words and
+//! its texts are stands in `command_text`.
+#![tactic(auto)]
+
+mod bind;
+mod dump;
+mod outcome;
+mod top;
+
+pub use outcome::{Cause, Outcome};
+pub use top::ldso;
+
+#[cfg(test)]
+mod tests;
