@@ -1,0 +1,4 @@
+mod Entries
+mod Gaps
+mod Parts
+mod Residues
