@@ -1,0 +1,19 @@
+//! Functions of names.
+
+use crate::calls::{show, show_some};
+use scope_rule::linker_symbol;
+use std::alloc::Global;
+use sym_hash::{gnu_hash, sysv_hash};
+use test_file::Fault;
+
+pub fn sysv(alloc: Global, name: &str) -> Result<String, Fault> {
+    show(alloc, sysv_hash(name.as_bytes()))
+}
+
+pub fn gnu(alloc: Global, name: &str) -> Result<String, Fault> {
+    show(alloc, gnu_hash(name.as_bytes()))
+}
+
+pub fn linker(alloc: Global, name: &str) -> Result<String, Fault> {
+    show_some(alloc, linker_symbol(name.as_bytes()))
+}

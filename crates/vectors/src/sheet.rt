@@ -1,0 +1,61 @@
+//! A file of calls, read line by line.
+
+use crate::calls::Calls;
+use std::alloc::{AllocError, Global};
+use test_file::{Fault, Report, whole, without_remark};
+
+/// A file of calls, as far as it is read.
+#[derive(Drop)]
+pub struct Sheet {
+    calls: Calls,
+    report: Report,
+}
+
+impl Sheet {
+    pub fn new(alloc: Global) -> Self {
+        Sheet {
+            calls: Calls::new(alloc),
+            report: Report::new(alloc),
+        }
+    }
+
+    /// Makes all calls, and says which of them don't hold.
+    pub fn read(mut self, path: &str, text: &str) -> Result<String, AllocError> {
+        for (index, line) in text.lines().enumerate() {
+            let line = without_remark(line.trim());
+            if !line.is_empty() {
+                self.read_line(path, index.saturating_add(1), line)?;
+            }
+        }
+        let Sheet { report, .. } = self;
+        report.close(path)
+    }
+
+    fn read_line(&mut self, path: &str, number: usize, line: &str) -> Result<(), AllocError> {
+        match self.follow(path, number, line) {
+            Ok(()) => Ok(()),
+            Err(Fault::Unclear) => self.report.is_unclear(path, number),
+            Err(Fault::Memory) => Err(AllocError),
+        }
+    }
+
+    /// Makes the call of a line, and compares its answer.
+    fn follow(&mut self, path: &str, number: usize, line: &str) -> Result<(), Fault> {
+        let (call, wanted) = line.split_once(" = ").ok_or(Fault::Unclear)?;
+        let answer = self.calls.answer(call)?;
+        if agree(answer.as_str(), wanted.trim()) {
+            self.report.holds();
+        } else {
+            self.report.differs(path, number, answer.as_str())?;
+        }
+        Ok(())
+    }
+}
+
+/// Whether two answers are the same number or the same text.
+fn agree(given: &str, wanted: &str) -> bool {
+    match (whole(given), whole(wanted)) {
+        (Some(given), Some(wanted)) => given == wanted,
+        _ => given == wanted,
+    }
+}
