@@ -10,6 +10,3 @@
 mod regions;
 
 pub use regions::{NoRoom, Regions};
-
-#[cfg(test)]
-mod tests;

@@ -1,5 +1,5 @@
 -- A doubleword of memory, its lanes, and what each call of a bus does to it.
-use Rattle.std.specs.Prelude.{◌≡◌, ℕ, ◌+◌, ◌-◌, ◌*◌, ◌/◌, ◌%◌, ◌^◌, List, [], ◌∷◌, Bool, true, Option, Some, None, Result, Ok, Err, slice_index_or, slice_set, ◌==◌, if◌then◌else◌}
+use Rattle.std.specs.Prelude.{◌≡◌, ℕ, ◌+◌, ◌-◌, ◌*◌, ◌/◌, ◌%◌, ◌^◌, List, [], ◌∷◌, Bool, true, Option, Some, None, Result, Ok, Err, slice_index_or, slice_set, nat_lt, ◌==◌, if◌then◌else◌}
 use Rattle.ld_base.specs.declared.linking.Role.{Role}
 use Rattle.ld_base.specs.declared.linking.Role.TheVariants.{None as NoRole}
 use Rattle.rv_isa.specs.Word.{bits, joined}
@@ -39,9 +39,13 @@ answer_or (Some fault) value = Err fault
 abbrev pub checked : {T : Type 0} → (Role → Bool) → ℕ → ℕ → Role → T → Result T BusFault
 checked may address size role value = answer_or (refusal (may role) address size role) value
 
+-- a version counts modulo 2^60: one word of a memory that harts share holds it beside a role and a lock
+abbrev pub raised : ℕ → ℕ
+raised version = (version + 1) % 2 ^ 60
+
 -- a store raises the version
 abbrev pub stored : Doubleword → ℕ → ℕ → ℕ → Doubleword
-stored word address size value = record { value = with_lane word.value address size value; role = word.role; version = (word.version + 1) % 2 ^ 64 }
+stored word address size value = record { value = with_lane word.value address size value; role = word.role; version = raised word.version }
 
 -- what is left where a call answered this
 abbrev pub if_ok : {T : Type 0} → Result T BusFault → Doubleword → Doubleword → Doubleword
@@ -74,6 +78,14 @@ address_of (Amo address size op value answer) = address
 address_of (Reserve address size answer) = address
 address_of (Conditional address size value version answer) = address
 
--- what a call does to doublewords that lie side by side from address 0 on
-abbrev pub DoesIn : List Doubleword → Item → List Doubleword → Type 0
-DoesIn words item words' = let at = address_of item / 8 in (word' : Doubleword) × DoesAt (slice_index_or words at nowhere) item word' × (words' ≡ slice_set words at word')
+-- the doubleword at an address, of those that lie side by side from the address `first` on, and these with another one there
+abbrev pub word_at : ℕ → List Doubleword → ℕ → Doubleword
+word_at first words address = if nat_lt address first then nowhere else slice_index_or words ((address - first) / 8) nowhere
+
+abbrev pub with_word_at : ℕ → List Doubleword → ℕ → Doubleword → List Doubleword
+with_word_at first words address word = if nat_lt address first then words else slice_set words ((address - first) / 8) word
+
+-- what a call does to doublewords that lie side by side from the address `first` on, a multiple of 8
+abbrev pub DoesIn : ℕ → List Doubleword → Item → List Doubleword → Type 0
+DoesIn first words item words' =
+    let at = address_of item in (word' : Doubleword) × DoesAt (word_at first words at) item word' × (words' ≡ with_word_at first words at word')

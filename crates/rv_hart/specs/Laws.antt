@@ -1,22 +1,29 @@
 -- Laws of steps and of trails.
-use Rattle.std.specs.Prelude.{◌≡◌, ℕ, ◌-◌, ◌^◌, List, ◌++◌}
+use Rattle.std.specs.Prelude.{◌≡◌, ℕ, ◌-◌, ◌^◌, Bool, List, [], ◌++◌}
 use Rattle.std.specs.Int.{w64}
+use Rattle.rv_hart.specs.declared.bus.BusFault.{BusFault}
 use Rattle.rv_hart.specs.declared.bus.Item.{Item}
+use Rattle.rv_hart.specs.declared.stepping.Stop.TheVariants.{Refused}
 use Rattle.rv_hart.specs.Arithmetic.{quotient, remainder, unsigned_quotient, unsigned_remainder, all_ones}
 use Rattle.rv_hart.specs.Registers.{Registers}
-use Rattle.rv_hart.specs.Trail.{Place, Ready, Follows, IsStep}
+use Rattle.rv_hart.specs.Items.{StepLeaves}
+use Rattle.rv_hart.specs.Trail.{Place, Ready, Stopped, Leads, IsStep}
 
 -- from a place, the same calls lead to one place
 abbrev pub OneEnd : Type 0
-OneEnd = (start : Place) (items : List Item) (one other : Place) → Follows start items one → Follows start items other → one ≡ other
+OneEnd = (start : Place) (items : List Item) (one other : Place) → Leads start items one → Leads start items other → one ≡ other
 
--- a step follows the instructions
-abbrev pub StepFollows : Type 0
-StepFollows = (r : Registers) (items : List Item) (end : Place) → IsStep r items end → Follows (Ready r) items end
+-- the calls of a step lead the hart by the instructions
+abbrev pub StepLeads : Type 0
+StepLeads = (r : Registers) (items : List Item) (end : Place) → IsStep r items end → Leads (Ready r) items end
 
--- calls that follow the instructions, and then more from where they led, follow them together
-abbrev pub FollowsJoin : Type 0
-FollowsJoin = (start between end : Place) (items more : List Item) → Follows start items between → Follows between more end → Follows start (items ++ more) end
+-- calls that lead to a place, and then more from there, lead on together
+abbrev pub LeadsJoin : Type 0
+LeadsJoin = (start between end : Place) (items more : List Item) → Leads start items between → Leads between more end → Leads start (items ++ more) end
+
+-- only a step whose fetch is refused leaves nothing
+abbrev pub SilentSteps : Type 0
+SilentSteps = (has_word : ℕ → Bool) (r : Registers) (end : Place) → StepLeaves has_word r [] end → (fault : BusFault) × (end ≡ Stopped r (Refused r.pc fault))
 
 -- division by zero, and the one signed division that overflows (Unprivileged ISA 20191213, "Division Operations")
 abbrev pub DivisionEdges : Type 0

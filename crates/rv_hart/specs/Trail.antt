@@ -1,5 +1,5 @@
--- What it is that a hart followed the instructions: the calls of a bus, one after another, each the
--- one that the hart's registers ask for.
+-- Where the calls of a bus lead a hart by the instructions: one after another, each the one that the hart's registers ask
+-- for. No ecall is passed here and no fuel is counted: that is for whoever runs the hart.
 use Rattle.std.specs.Prelude.{◌≡◌, ℕ, List, [], ◌∷◌, Option, Result, Ok, Err, Bool, IfOk, ◌<◌, ◌*◌, ◌^◌}
 use Rattle.rv_isa.specs.declared.instr.Instr.{Instr}
 use Rattle.rv_isa.specs.Encoding.{Decodes}
@@ -68,10 +68,10 @@ Advances (Ready r) item end = Begins r item end
 Advances (Accessing r decoded) item end = Ends r decoded item end
 Advances (Stopped r stop) item end = Resumes r stop item end
 
--- the hart followed the instructions over these calls, from the first place to the last
-abbrev pub Follows : Place → List Item → Place → Type 0
-Follows start [] end = start ≡ end
-Follows start (item ∷ items) end = (between : Place) × Advances start item between × Follows between items end
+-- these calls lead the hart from a place to another, by the instructions
+abbrev pub Leads : Place → List Item → Place → Type 0
+Leads start [] end = start ≡ end
+Leads start (item ∷ items) end = (between : Place) × Advances start item between × Leads between items end
 
 -- one step of a hart: a fetch, and the one access that the word asks for, if it asks for one
 abbrev pub IsStep : Registers → List Item → Place → Type 0

@@ -10,12 +10,15 @@ use crate::{BusFault, Item};
 use ld_base::Role;
 use rv_isa::AmoOp;
 
+/// A version counts modulo this.
+const VERSIONS: u64 = 1 << 60;
+
 /// What memory holds at an address that is a multiple of 8.
 #[derive(Clone, Copy, Debug, PartialEq, Eq)]
 pub struct Doubleword {
     pub value: u64,
     pub role: Role,
-    /// It rises with each store, and with each mapping and unmapping.
+    /// It rises with each store, and with each mapping and unmapping, modulo 2^60.
     pub version: u64,
 }
 
@@ -120,7 +123,7 @@ impl Doubleword {
         ensures { self.new ≡ stored self.old address size value }
     {
         self.value = with_lane(self.value, address, size, value);
-        self.version = self.version.wrapping_add(1);
+        self.version = self.version.wrapping_add(1) % VERSIONS;
     }
 
     /// Stores a value at an address.

@@ -1,6 +1,6 @@
 //! Laws of steps. Their functions do nothing: each is there for what it ensures.
 
-ghost use Rattle.rv_hart.specs.Laws.{OneEnd, StepFollows, FollowsJoin, DivisionEdges};
+ghost use Rattle.rv_hart.specs.Laws.{OneEnd, StepLeads, LeadsJoin, SilentSteps, DivisionEdges};
 
 use rv_isa::decoding_inverts_encoding;
 
@@ -12,10 +12,16 @@ pub fn calls_determine_the_end()
     decoding_inverts_encoding();
 }
 
-/// One step after another is a run that followed the instructions.
+/// The calls of a step lead the hart by the instructions, and those of one step after another lead on.
 pub fn steps_join()
-    ensures step { StepFollows }
-    ensures join { FollowsJoin }
+    ensures step { StepLeads }
+    ensures join { LeadsJoin }
+{}
+
+/// A trail has no item of a call that its address alone refuses. Only a step whose fetch is refused
+/// leaves no item at all.
+pub fn silent_steps()
+    ensures { SilentSteps }
 {}
 
 /// Division by zero gives all ones and leaves the dividend; the signed division that overflows

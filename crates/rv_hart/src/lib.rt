@@ -19,9 +19,12 @@
 //!   to a target that is no multiple of 4 stops the hart with its registers as before.
 //! - [`step`] makes one fetch at the pc and at most the one access that the word asks for, and
 //!   leaves the registers that the table says; a hart that stops is as before.
-//! - Calls, one after another, are those of a hart that followed the instructions where each is the
-//!   one that the registers ask for; they determine the registers at the end
-//!   ([`calls_determine_the_end`]), and steps join to such runs ([`steps_join`]).
+//! - Calls, one after another, lead a hart by the instructions where each is the one that the
+//!   registers ask for; they determine the registers at the end ([`calls_determine_the_end`]), and
+//!   steps join to such runs ([`steps_join`]). They pass no ecall and count no fuel: that is for
+//!   whoever runs the hart.
+//! - What is left of a step's calls, for whoever keeps a trail, is all but a call that its address
+//!   alone refuses, which finds nothing in memory ([`silent_steps`]).
 //! - Each bus answers Misaligned exactly where the address is no multiple of the size, and refuses
 //!   only a role that doesn't allow the access.
 //!
@@ -40,8 +43,6 @@ mod hart;
 mod laws;
 mod planning;
 mod stepping;
-#[cfg(test)]
-mod tests;
 
 pub use action::{Access, Action, Answer};
 pub use arithmetic::combined;
@@ -49,6 +50,6 @@ pub use bus::{Bus, BusFault, Item};
 pub use completion::complete;
 pub use doubleword::{Doubleword, lane, with_lane};
 pub use hart::{Hart, Held};
-pub use laws::{calls_determine_the_end, division_at_its_edges, steps_join};
+pub use laws::{calls_determine_the_end, division_at_its_edges, silent_steps, steps_join};
 pub use planning::plan;
 pub use stepping::{Stop, step};

@@ -28,8 +28,6 @@ mod instr;
 mod laws;
 mod operation;
 mod register;
-#[cfg(test)]
-mod tests;
 
 pub use decoder::decode;
 pub use encoder::encode;

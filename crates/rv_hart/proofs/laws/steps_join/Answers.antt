@@ -1,5 +1,5 @@
-use Rattle.rv_hart.proofs.Trails.{step_follows, follows_join}
+use Rattle.rv_hart.proofs.Trails.{step_leads, leads_join}
 use Rattle.rv_hart.proofs.laws.steps_join.Goals as goal
 
 pub returns : goal.returns
-returns c = record { step = step_follows; join = follows_join }
+returns c = record { step = step_leads; join = leads_join }

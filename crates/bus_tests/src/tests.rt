@@ -5,121 +5,14 @@ mod script;
 
 use self::plain::Plain;
 use self::script::Script;
-use crate::arithmetic::reg_result;
-use crate::{
+use ld_base::Role;
+use rv_hart::{
     Access, Answer, Bus, BusFault, Doubleword, Hart, Held, Item, Stop, combined, complete, lane,
     plan, step, with_lane,
 };
-use ld_base::Role;
-use rv_isa::{AmoOp, RegOp};
+use rv_isa::AmoOp;
 use std::alloc::{AllocError, Global};
 use std::test::Fail;
-
-/// An operation on two registers, its operands and its result. Results of qemu-riscv64 7.2.
-const ARITHMETIC: [(RegOp, u64, u64, u64); 50] = [
-    (RegOp::Add, 0xffff_ffff_ffff_ffff, 2, 1),
-    (RegOp::Sub, 1, 3, 0xffff_ffff_ffff_fffe),
-    (RegOp::Sll, 3, 0x41, 6),
-    (RegOp::Srl, 0x8000_0000_0000_0000, 0x7f, 1),
-    (
-        RegOp::Sra,
-        0x8000_0000_0000_0000,
-        0x3f,
-        0xffff_ffff_ffff_ffff,
-    ),
-    (RegOp::Slt, 0xffff_ffff_ffff_ffff, 0, 1),
-    (RegOp::Slt, 0, 0xffff_ffff_ffff_ffff, 0),
-    (RegOp::Sltu, 0xffff_ffff_ffff_ffff, 0, 0),
-    (RegOp::Sltu, 0, 0xffff_ffff_ffff_ffff, 1),
-    (
-        RegOp::Xor,
-        0xff00_ff00_ff00_ff00,
-        0xff0_0ff0_0ff0_0ff0,
-        0xf0f0_f0f0_f0f0_f0f0,
-    ),
-    (RegOp::Or, 0xf0, 15, 0xff),
-    (RegOp::And, 0xff, 0xf0f, 15),
-    (RegOp::Mul, 0x8000_0000_0000_0003, 5, 0x8000_0000_0000_000f),
-    (RegOp::Mulh, 0xffff_ffff_ffff_ffff, 0xffff_ffff_ffff_ffff, 0),
-    (
-        RegOp::Mulh,
-        0x8000_0000_0000_0000,
-        0x8000_0000_0000_0000,
-        0x4000_0000_0000_0000,
-    ),
-    (RegOp::Mulh, 0xffff_ffff_ffff_fffe, 3, 0xffff_ffff_ffff_ffff),
-    (
-        RegOp::Mulhsu,
-        0xffff_ffff_ffff_ffff,
-        0xffff_ffff_ffff_ffff,
-        0xffff_ffff_ffff_ffff,
-    ),
-    (RegOp::Mulhsu, 5, 0xffff_ffff_ffff_ffff, 4),
-    (
-        RegOp::Mulhu,
-        0xffff_ffff_ffff_ffff,
-        0xffff_ffff_ffff_ffff,
-        0xffff_ffff_ffff_fffe,
-    ),
-    (RegOp::Div, 7, 0xffff_ffff_ffff_fffe, 0xffff_ffff_ffff_fffd),
-    (RegOp::Div, 7, 0, 0xffff_ffff_ffff_ffff),
-    (
-        RegOp::Div,
-        0x8000_0000_0000_0000,
-        0xffff_ffff_ffff_ffff,
-        0x8000_0000_0000_0000,
-    ),
-    (RegOp::Divu, 0xffff_ffff_ffff_fff9, 2, 0x7fff_ffff_ffff_fffc),
-    (RegOp::Divu, 7, 0, 0xffff_ffff_ffff_ffff),
-    (RegOp::Rem, 0xffff_ffff_ffff_fff9, 2, 0xffff_ffff_ffff_ffff),
-    (RegOp::Rem, 7, 0, 7),
-    (RegOp::Rem, 0x8000_0000_0000_0000, 0xffff_ffff_ffff_ffff, 0),
-    (RegOp::Remu, 0xffff_ffff_ffff_fff9, 4, 1),
-    (RegOp::Remu, 7, 0, 7),
-    (RegOp::Addw, 0x7fff_ffff, 1, 0xffff_ffff_8000_0000),
-    (RegOp::Addw, 0xffff_ffff_0000_0001, 1, 2),
-    (RegOp::Subw, 0, 1, 0xffff_ffff_ffff_ffff),
-    (RegOp::Subw, 0x1_8000_0000, 1, 0x7fff_ffff),
-    (RegOp::Sllw, 1, 0x3f, 0xffff_ffff_8000_0000),
-    (RegOp::Sllw, 0x4000_0000, 0x21, 0xffff_ffff_8000_0000),
-    (RegOp::Srlw, 0xffff_ffff_8000_0000, 0x1f, 1),
-    (
-        RegOp::Srlw,
-        0xffff_ffff_8000_0000,
-        0x20,
-        0xffff_ffff_8000_0000,
-    ),
-    (RegOp::Sraw, 0x8000_0000, 0x1f, 0xffff_ffff_ffff_ffff),
-    (RegOp::Sraw, 0x1_f000_0000, 0x24, 0xffff_ffff_ff00_0000),
-    (RegOp::Mulw, 0x1_0000, 0x8000, 0xffff_ffff_8000_0000),
-    (
-        RegOp::Divw,
-        0x8000_0000,
-        0xffff_ffff_ffff_ffff,
-        0xffff_ffff_8000_0000,
-    ),
-    (RegOp::Divw, 0x1_0000_0007, 0, 0xffff_ffff_ffff_ffff),
-    (RegOp::Divw, 0xffff_ffff_ffff_fff7, 2, 0xffff_ffff_ffff_fffc),
-    (RegOp::Divuw, 0x8000_0000, 1, 0xffff_ffff_8000_0000),
-    (RegOp::Divuw, 7, 0, 0xffff_ffff_ffff_ffff),
-    (RegOp::Remw, 0x8000_0000, 0xffff_ffff_ffff_ffff, 0),
-    (RegOp::Remw, 0xffff_ffff_ffff_fff7, 2, 0xffff_ffff_ffff_ffff),
-    (RegOp::Remw, 0x1_8000_0001, 0, 0xffff_ffff_8000_0001),
-    (RegOp::Remuw, 0xffff_fff9, 4, 1),
-    (
-        RegOp::Remuw,
-        0x1_8000_0001,
-        0x1_0000_0000,
-        0xffff_ffff_8000_0001,
-    ),
-];
-
-#[test]
-fn arithmetic_of_qemu(rt: HostRuntime) {
-    for (op, a, b, expected) in ARITHMETIC {
-        assert_eq!(rt; reg_result(op, a, b), expected, "{op:?} {a:#x} {b:#x}");
-    }
-}
 
 fn doubleword(value: u64, role: Role) -> Doubleword {
     Doubleword {

@@ -1,9 +1,9 @@
 //! A plain memory of one thread: doublewords side by side from address 0 on.
 
-ghost use Rattle.std.specs.Prelude.{◌≡◌, ◌/◌, slice_index_or, slice_set};
-ghost use Rattle.rv_hart.specs.Doublewords.{nowhere, DoesIn};
+ghost use Rattle.std.specs.Prelude.{◌≡◌};
+ghost use Rattle.rv_hart.specs.Doublewords.{word_at, with_word_at, DoesIn};
 
-use crate::{Bus, BusFault, Doubleword};
+use rv_hart::{Bus, BusFault, Doubleword};
 use rv_isa::AmoOp;
 
 #[derive(Drop)]
@@ -13,7 +13,7 @@ pub struct Plain {
 
 impl Plain {
     fn word(&self, address: u64) -> Doubleword
-        ensures { result ≡ slice_index_or self.now.words.items (address / 8) nowhere }
+        ensures { result ≡ word_at 0 self.now.words.items address }
     {
         let at = (address / 8) as usize;
         if at < self.words.len() {
@@ -24,7 +24,7 @@ impl Plain {
     }
 
     fn put(&mut self, address: u64, word: Doubleword)
-        ensures { self.new.words.items ≡ slice_set self.old.words.items (address / 8) word }
+        ensures { self.new.words.items ≡ with_word_at 0 self.old.words.items address word }
     {
         let at = (address / 8) as usize;
         if at < self.words.len() {
@@ -34,7 +34,7 @@ impl Plain {
 }
 
 impl Bus for Plain {
-    ghost does = { λ before item after. DoesIn before.words.items item after.words.items };
+    ghost does = { λ before item after. DoesIn 0 before.words.items item after.words.items };
 
     fn fetch(&mut self, address: u64) -> Result<u32, BusFault> {
         self.word(address).fetch(address)

@@ -2,8 +2,7 @@
 
 ghost use Rattle.std.specs.Prelude.{◌≡◌, ◌++◌, ◌∷◌, [], ◌≤◌, ◌<◌, ◌*◌, ◌^◌, take, length};
 
-use crate::arithmetic::low_bytes;
-use crate::{Bus, BusFault, Item};
+use rv_hart::{Bus, BusFault, Item, lane};
 use rv_isa::AmoOp;
 
 /// Room for so many calls.
@@ -50,7 +49,7 @@ impl Script {
 }
 
 impl Bus for Script {
-    ghost use Rattle.rv_hart.specs.declared.tests.script.TheConstants.{ROOM};
+    ghost use Rattle.bus_tests.specs.declared.tests.script.TheConstants.{ROOM};
 
     ghost does = { λ before item after. before.count < ROOM
         → take after.count after.calls ≡ take before.count before.calls ++ item ∷ [] };
@@ -60,7 +59,7 @@ impl Bus for Script {
             self.record(Item::Fetch(address, Err(BusFault::Misaligned)));
             return Err(BusFault::Misaligned);
         }
-        let answer = low_bytes(4, self.answer()) as u32;
+        let answer = lane(self.answer(), 0, 4) as u32;
         self.record(Item::Fetch(address, Ok(answer)));
         Ok(answer)
     }
@@ -70,7 +69,7 @@ impl Bus for Script {
             self.record(Item::Read(address, size, Err(BusFault::Misaligned)));
             return Err(BusFault::Misaligned);
         }
-        let answer = low_bytes(size, self.answer());
+        let answer = lane(self.answer(), 0, size);
         self.record(Item::Read(address, size, Ok(answer)));
         Ok(answer)
     }
@@ -89,7 +88,7 @@ impl Bus for Script {
             self.record(Item::Amo(address, size, op, value, Err(BusFault::Misaligned)));
             return Err(BusFault::Misaligned);
         }
-        let answer = low_bytes(size, self.answer());
+        let answer = lane(self.answer(), 0, size);
         self.record(Item::Amo(address, size, op, value, Ok(answer)));
         Ok(answer)
     }
@@ -99,7 +98,7 @@ impl Bus for Script {
             self.record(Item::Reserve(address, size, Err(BusFault::Misaligned)));
             return Err(BusFault::Misaligned);
         }
-        let answer = (low_bytes(size, self.answer()), 0);
+        let answer = (lane(self.answer(), 0, size), 0);
         self.record(Item::Reserve(address, size, Ok(answer)));
         Ok(answer)
     }
