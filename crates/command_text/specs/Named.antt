@@ -1,4 +1,4 @@
--- Relocations whose symbols are there.
+-- Relocations whose symbols are there: for the loops that go over them.
 use Rattle.std.specs.Prelude.{ℕ, ◌<◌, List}
 use Rattle.std.specs.List.{AllByRecursion}
 use Rattle.ld_base.specs.declared.object.Reloc.{Reloc}

@@ -1,4 +1,4 @@
--- Where an object's versions are, by index.
+-- Where an object's versions are, by index: for the tables that `dump` looks them up in.
 use Rattle.std.specs.Prelude.{ℕ, ◌≡◌, ◌<◌, ◌^◌, ◌==◌, ◌&&◌, not, List, Option, None, length, position, slice_index_or}
 use Rattle.ld_base.specs.Version.{is_base}
 use Rattle.ld_base.specs.declared.object.Object.{Object}

@@ -12,6 +12,3 @@ mod top;
 
 pub use outcome::{Cause, Outcome};
 pub use top::ldso;
-
-#[cfg(test)]
-mod tests;
