@@ -1,3 +1,4 @@
+mod Changes
 mod FileWords
 mod Found
 mod Marks

@@ -6,7 +6,7 @@ use Rattle.std.proofs.lemmas.Option.{slice_get-get_or}
 use Rattle.std.specs.List.{slice_get}
 use Rattle.ld_base.specs.declared.linking.Role.{Role}
 use Rattle.seg_image.specs.declared.image.Word.{Word}
-use Rattle.seg_image.specs.Images.{AreWords, with_role}
+use Rattle.seg_image.specs.Images.{AreWords, with_role, with_value}
 
 module _ {X : Type 0} where
   slice_get-append_left : (xs ys : List X) (k : ℕ) (d : X) → k < length xs → slice_get (xs ++ ys) k ≡ slice_get xs k
@@ -31,6 +31,9 @@ module _ {X : Type 0} where
 
 with_role_is : (ws : List Word) (k : ℕ) (role : Role) (w : Word) → slice_get ws k ≡ Some w → with_role ws k role ≡ set ws k (record { value = w.value; role = role })
 with_role_is ws k role w at = ap (λ e. elim e [ Some x ↦ set ws k (record { value = x.value; role = role }) | None ↦ ws ]) at
+
+with_value_is : (ws : List Word) (k value : ℕ) (w : Word) → slice_get ws k ≡ Some w → with_value ws k value ≡ set ws k (record { value = value; role = w.role })
+with_value_is ws k value w at = ap (λ e. elim e [ Some x ↦ set ws k (record { value = value; role = x.role }) | None ↦ ws ]) at
 
 module _ (low : ℕ) where
   pub no_words : (word : ℕ → Word) → AreWords low word []
@@ -63,7 +66,7 @@ module _ (low : ℕ) where
 
   -- one word changes
   pub word_set : (word after : ℕ → Word) (ws : List Word) (k : ℕ) (w : Word) → AreWords low word ws → k < length ws
-      → w ≡ after (low + 8 * k) → w.value < 2 ^ 64 → ((v : ℕ) → v ≢ low + 8 * k → after v ≡ word v) → AreWords low after (set ws k w)
+      → w ≡ after (low + 8 * k) → w.value < 2 ^ 64 → ((j : ℕ) → j ≢ k → after (low + 8 * j) ≡ word (low + 8 * j)) → AreWords low after (set ws k w)
   word_set word after ws k w are within is fits others = record {
     each = λ j less. by_place j (cases_eq j k) (rw (length-set ws k w) at less);
     fit = λ j less. fit_place j (cases_eq j k) (rw (length-set ws k w) at less);
@@ -71,11 +74,11 @@ module _ (low : ℕ) where
     where
       by_place : (j : ℕ) → (j ≡ k) ⊎ (j ≡ k → ⊥) → j < length ws → slice_get (set ws k w) j ≡ Some (after (low + 8 * j))
       by_place j (inl same) less = subst (λ n. slice_get (set ws k w) n ≡ Some (after (low + 8 * n))) (sym same) (slice_get-set_same ws k w within ∙ ap Some is)
-      by_place j (inr other) less = slice_get-set_other ws k j w other less ∙ are.each j less ∙ ap Some (sym (others (low + 8 * j) (λ e. other (omega arith))))
+      by_place j (inr other) less = slice_get-set_other ws k j w other less ∙ are.each j less ∙ ap Some (sym (others j other))
 
       fit_place : (j : ℕ) → (j ≡ k) ⊎ (j ≡ k → ⊥) → j < length ws → (after (low + 8 * j)).value < 2 ^ 64
       fit_place j (inl same) less = subst (λ n. (after (low + 8 * n)).value < 2 ^ 64) (sym same) (rw is at fits)
-      fit_place j (inr other) less = rw (others (low + 8 * j) (λ e. other (omega arith))) (are.fit j less)
+      fit_place j (inr other) less = rw (others j other) (are.fit j less)
 
   -- the same words by another name
   pub words_same : (word after : ℕ → Word) (ws : List Word) → AreWords low word ws → ((k : ℕ) → k < length ws → after (low + 8 * k) ≡ word (low + 8 * k))
@@ -90,7 +93,21 @@ module _ (low : ℕ) where
       → after (low + 8 * k) ≡ record { value = (word (low + 8 * k)).value; role = role } → ((v : ℕ) → v ≢ low + 8 * k → after v ≡ word v)
       → AreWords low after (with_role ws k role)
   role_set word after ws k role are within is others =
-      rw (with_role_is ws k role (word (low + 8 * k)) (are.each k within)) (word_set word after ws k (record { value = (word (low + 8 * k)).value; role = role }) are within (sym is) (are.fit k within) others)
+      rw (with_role_is ws k role (word (low + 8 * k)) (are.each k within)) (word_set word after ws k (record { value = (word (low + 8 * k)).value; role = role }) are within (sym is) (are.fit k within) (λ j other. others (low + 8 * j) (λ e. other (omega arith))))
+
+  -- one value changes
+  pub value_set : (word after : ℕ → Word) (ws : List Word) (k value : ℕ) → AreWords low word ws → k < length ws → value < 2 ^ 64
+      → after (low + 8 * k) ≡ record { value = value; role = (word (low + 8 * k)).role } → ((j : ℕ) → j ≢ k → after (low + 8 * j) ≡ word (low + 8 * j))
+      → AreWords low after (with_value ws k value)
+  value_set word after ws k value are within fits is others =
+      rw (with_value_is ws k value (word (low + 8 * k)) (are.each k within)) (word_set word after ws k (record { value = value; role = (word (low + 8 * k)).role }) are within (sym is) fits others)
+
+pub length-with_value : (ws : List Word) (k value : ℕ) → length (with_value ws k value) ≡ length ws
+length-with_value ws k value = by_element (slice_get ws k)
+  where
+    by_element : (e : Option Word) → length {A = Word} (elim e [ Some w ↦ set ws k (record { value = value; role = w.role }) | None ↦ ws ]) ≡ length ws
+    by_element (Some w) = length-set ws k (record { value = value; role = w.role })
+    by_element None = refl
 
 pub length-with_role : (ws : List Word) (k : ℕ) (role : Role) → length (with_role ws k role) ≡ length ws
 length-with_role ws k role = by_element (slice_get ws k)

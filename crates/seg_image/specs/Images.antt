@@ -1,5 +1,5 @@
 -- What it is for words to be the image of an object.
-use Rattle.std.specs.Prelude.{◌≡◌, ℕ, ◌+◌, ◌*◌, ◌^◌, ◌<◌, List, length, Some, None, slice_set}
+use Rattle.std.specs.Prelude.{◌≡◌, ℕ, ◌+◌, ◌*◌, ◌^◌, ◌<◌, ◌==◌, if◌then◌else◌, List, length, Some, None, slice_set}
 use Rattle.std.specs.List.{slice_get}
 use Rattle.ld_base.specs.declared.linking.Role.{Role}
 use Rattle.ld_base.specs.declared.object.Object.{Object}
@@ -25,3 +25,11 @@ with_value words k value = elim (slice_get words k) [ Some w ↦ slice_set words
 
 abbrev pub with_role : List Word → ℕ → Role → List Word
 with_role words k role = elim (slice_get words k) [ Some w ↦ slice_set words k (record { value = w.value; role = role }) | None ↦ words ]
+
+-- values, of words or of bytes, of which the one at an address is another
+unfoldable pub changed_at : (ℕ → ℕ) → ℕ → ℕ → ℕ → ℕ
+changed_at values at value v = if v == at then value else values v
+
+-- values that bytes have
+abbrev pub AreBytes : (ℕ → ℕ) → Type 0
+AreBytes byte = (v : ℕ) → byte v < 256

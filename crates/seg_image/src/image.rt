@@ -3,7 +3,8 @@
 ghost use Rattle.std.specs.Prelude.{◌≡◌, ◌==◌, ◌<◌, ◌^◌, length, slice_index_or};
 ghost use Rattle.seg_image.specs.Images.{with_role, with_value};
 
-use ld_base::{Role, Sequence};
+use crate::pages::{WORD_SIZE, index_of};
+use ld_base::{Object, Role, Sequence};
 use std::marker::Model;
 
 /// A doubleword of guest memory: its value, and what it may be used for.
@@ -80,6 +81,51 @@ impl From<Vec<Word>> for Words {
 pub struct Image {
     pub start: u64,
     pub words: Words,
+}
+
+impl Image {
+    ghost use Rattle.std.specs.Prelude.{◌≡◌, ℕ, ◌*◌, length};
+    ghost use Rattle.seg_image.specs.Accepted.{Accepted, IsPlace};
+    ghost use Rattle.seg_image.specs.Images.{AreBytes, IsImage, changed_at};
+    ghost use Rattle.seg_image.specs.Pages.{IsInside, pages_of};
+    ghost use Rattle.seg_image.specs.Words.{word_of};
+
+    /// The value of the word at a place of the object, which is the image's.
+    pub fn value(&self, object: &Object, place: u64) -> u64
+        requires accepted { Accepted object.now }
+        requires place { IsPlace object.now place }
+        requires all { length self.now.words ≡ 512 * pages_of object.now }
+        ensures { (base : ℕ) (value : ℕ → ℕ) → IsImage object.now base value self.now → result ≡ value place }
+    {
+        self.words.as_slice()[index_of(object, place)].value
+    }
+
+    /// Sets the value of the word at a place of the object, which is the image's.
+    pub fn set_value(&mut self, object: &Object, place: u64, word: u64)
+        requires accepted { Accepted object.now }
+        requires place { IsPlace object.now place }
+        requires all { length self.old.words ≡ 512 * pages_of object.now }
+        ensures all { length self.new.words ≡ length self.old.words }
+        ensures set { (base : ℕ) (value : ℕ → ℕ) → IsImage object.now base value self.old
+            → IsImage object.now base (changed_at value place word) self.new }
+    {
+        self.words.set_value(index_of(object, place), word);
+    }
+
+    /// Sets the byte at an address of the object, which is the image's.
+    pub fn set_byte(&mut self, object: &Object, address: u64, byte: u8)
+        requires accepted { Accepted object.now }
+        requires inside { IsInside object.now address }
+        requires all { length self.old.words ≡ 512 * pages_of object.now }
+        ensures all { length self.new.words ≡ length self.old.words }
+        ensures set { (base : ℕ) (bytes : ℕ → ℕ) → AreBytes bytes → IsImage object.now base (word_of bytes) self.old
+            → IsImage object.now base (word_of (changed_at bytes address byte)) self.new }
+    {
+        let index = index_of(object, address);
+        let mut bytes = self.words.as_slice()[index].value.to_le_bytes();
+        bytes[(address % WORD_SIZE) as usize] = byte;
+        self.words.set_value(index, u64::from_le_bytes(bytes));
+    }
 }
 
 /// Images, in order.

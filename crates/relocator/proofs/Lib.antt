@@ -1,0 +1,7 @@
+mod Apart
+mod Fronts
+mod Layers
+mod Linkers
+mod Overlays
+mod Pairs
+mod Types

@@ -1,0 +1,4 @@
+pub mod Bindings
+pub mod Copies
+pub mod Relocated
+pub mod Storage
