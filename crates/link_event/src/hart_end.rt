@@ -21,9 +21,9 @@ pub enum HartEnd {
     Break(u64),
     /// The number of a module that isn't there.
     BadModule(u64),
-    /// The serial of an object that isn't mapped, and asked for a slot.
+    /// The serial that was given for a slot's object; no such object is mapped.
     Unloaded(u64),
-    /// The object, and what it gave for the number of a slot.
+    /// The object, and what was given for eight times the number of a slot; it has no such slot.
     NoSlot(Serial, u64),
     /// The object and its slot, which has no definition.
     Unresolved(Serial, u32),

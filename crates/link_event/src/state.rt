@@ -23,8 +23,8 @@ pub struct Block {
 /// What became of a grant.
 #[derive(Clone, Copy, Debug, PartialEq, Eq)]
 pub enum Standing {
-    /// Its hart isn't done with it, as far as the linker knows.
-    Posted,
+    /// It isn't settled yet.
+    Open,
     /// The slot got its value.
     Bound,
     /// The slot had this value.

@@ -1,2 +1,3 @@
 mod BySource
 pub mod Members
+pub mod Pairs

@@ -24,22 +24,22 @@ from_kept {X} p xs x there = (
   All-contains (λ (y : X). p y ≡ true) (filter p xs) x (filter_passes p xs) there,
 )
 
-mapped_at : {X : Type 0} (f : X → ℕ) (xs : List X) (x : X) (k : ℕ) → k < length xs → get_or xs k x ≡ x → Contains (map f xs) (f x)
+mapped_at : {X Y : Type 0} (f : X → Y) (xs : List X) (x : X) (k : ℕ) → k < length xs → get_or xs k x ≡ x → Contains (map f xs) (f x)
 mapped_at f [] x k within same = absurd (omega arith)
 mapped_at f (y ∷ ys) x zero within same = (0, omega arith, ap f same)
 mapped_at f (y ∷ ys) x (suc k) within same = Contains-append_right (f y ∷ []) (map f ys) (f x) (mapped_at f ys x k (omega arith) same)
 
-pub mapped : {X : Type 0} (f : X → ℕ) (xs : List X) (x : X) → Contains xs x → Contains (map f xs) (f x)
+pub mapped : {X Y : Type 0} (f : X → Y) (xs : List X) (x : X) → Contains xs x → Contains (map f xs) (f x)
 mapped f xs x there = mapped_at f xs x there.0 there.1 there.2
 
-from_mapped_at : {X : Type 0} (f : X → ℕ) (xs : List X) (y k : ℕ) → k < length (map f xs) → get_or (map f xs) k y ≡ y → (x : X) × Contains xs x × (f x ≡ y)
+from_mapped_at : {X Y : Type 0} (f : X → Y) (xs : List X) (y : Y) (k : ℕ) → k < length (map f xs) → get_or (map f xs) k y ≡ y → (x : X) × Contains xs x × (f x ≡ y)
 from_mapped_at f [] y k within same = absurd (omega arith)
 from_mapped_at f (x ∷ xs) y zero within same = (x, (0, omega arith, refl), same)
 from_mapped_at f (x ∷ xs) y (suc k) within same =
     let rest = from_mapped_at f xs y k (omega arith) same in
     (rest.0, Contains-append_right (x ∷ []) xs rest.0 rest.1, rest.2)
 
-pub from_mapped : {X : Type 0} (f : X → ℕ) (xs : List X) (y : ℕ) → Contains (map f xs) y → (x : X) × Contains xs x × (f x ≡ y)
+pub from_mapped : {X Y : Type 0} (f : X → Y) (xs : List X) (y : Y) → Contains (map f xs) y → (x : X) × Contains xs x × (f x ≡ y)
 from_mapped f xs y there = from_mapped_at f xs y there.0 there.1 there.2
 
 -- of those that pass p, some pass q and the others r

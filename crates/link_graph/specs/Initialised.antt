@@ -14,7 +14,7 @@ IsStrictDependency edges o d = Reaches edges o d × ¬ (Reaches edges d o)
 
 -- o isn't done, and its strict dependencies among the new objects are
 pub record MayStart (edges : List Edge) (new done : List ℕ) (o : ℕ) : Type 0 where
-  pub waits : ¬ (Contains done o)
+  pub undone : ¬ (Contains done o)
   pub ready : (d : ℕ) → Contains new d → IsStrictDependency edges o d → Contains done d
 
 -- the first of the new objects that may start is initialised next
@@ -29,7 +29,8 @@ pub record InitOrder (edges : List Edge) (new order : List ℕ) : Type 0 where
   pub each : (k o : ℕ) → slice_get order k ≡ Some o → InitNext edges new (take k order) o
   pub all : (d : ℕ) → Contains new d → Contains order d
 
--- the new objects in the order in which they are looked at: load order, but that the program is last
+-- the new objects in the order in which they are looked at: load order, but that the program is last; since the program leads to each
+-- object that is loaded with it, none of them waits for it, and it is initialised last
 abbrev pub program_last : Option ℕ → List ℕ → List ℕ
 program_last None new = new
 program_last (Some program) new = filter (λ o. not (o == program)) new ++ filter (λ o. o == program) new
@@ -38,6 +39,7 @@ program_last (Some program) new = filter (λ o. not (o == program)) new ++ filte
 abbrev pub is_one_of : List ℕ → ℕ → Bool
 is_one_of xs x = list_any (λ y. y == x) xs
 
--- FiniList: those of a set that were initialised, the latest first
+-- FiniList: those of a set that were initialised, the latest first; inits are the objects that were initialised and not finalised, in
+-- the order of their initialisation
 abbrev pub fini_list : List ℕ → List ℕ → List ℕ
 fini_list inits set = filter (is_one_of set) (reverse inits)

@@ -61,7 +61,8 @@ impl TlsModules {
     }
 
     /// Adds the module of an object: a late one, or one with a place in each static area. It gets
-    /// the least number that is free.
+    /// the least number that is free. The segment of object 1, which is the program, sets where tp
+    /// stands in its area: behind the area's start by the segment's address modulo its alignment.
     ///
     /// # Errors
     ///
