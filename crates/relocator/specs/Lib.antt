@@ -1,4 +1,5 @@
 pub mod Bindings
 pub mod Copies
+pub mod Example
 pub mod Relocated
 pub mod Storage

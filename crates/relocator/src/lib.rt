@@ -13,8 +13,10 @@
 
 mod binding;
 mod copying;
+mod law;
 mod relocating;
 mod storage;
 
 pub use binding::{Binding, Bindings, ModulePlace, TlsPlaces};
+pub use law::worked_example;
 pub use relocating::{RelocFault, relocate};
