@@ -1,5 +1,5 @@
 -- What the bindings of an object's relocations are.
-use Rattle.std.specs.Prelude.{◌≡◌, ℕ, ◌+◌, ◌==◌, Bool, IsTrue, List, length, min, Option, Some, None, drop}
+use Rattle.std.specs.Prelude.{◌≡◌, ◌≢◌, ℕ, ◌+◌, ◌==◌, Bool, IsTrue, List, length, min, Option, Some, None, drop}
 use Rattle.std.specs.List.{slice_get, zip}
 use Rattle.ld_base.specs.declared.linking.Choice.{Choice}
 use Rattle.ld_base.specs.declared.linking.Choice.TheVariants.{Def, WeakZero, Missing}
@@ -18,9 +18,10 @@ chosen (Def serial index) = Some serial
 chosen WeakZero = None
 chosen Missing = None
 
--- a binding says what its choice comes to: its object, nothing for a weak symbol without a definition, and for a copy as many bytes as
+-- a binding says what its choice, which isn't missing, comes to: its object, nothing for a weak symbol without a definition, and for a copy as many bytes as
 -- the smaller of the two sizes
 pub record IsBinding (o : Object) (r : Reloc) (b : Binding) : Type 0 where
+  pub found : b.choice ≢ Missing
   pub object : b.object ≡ chosen b.choice
   pub weak : b.choice ≡ WeakZero → (b.value ≡ 0) × (b.size ≡ 0)
   pub copied : IsTrue (is_copy r) → length b.copied ≡ min (symbol_size o r) b.size

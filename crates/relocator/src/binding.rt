@@ -30,5 +30,6 @@ pub struct ModulePlace {
     pub offset: Option<u64>,
 }
 
-/// Places of modules, one an object with thread-local storage.
+/// Places of modules, one an object with thread-local storage. Each relocation of thread-local
+/// storage looks its object up in them, one after the other.
 pub type TlsPlaces = Sequence<ModulePlace>;

@@ -1,6 +1,6 @@
 //! The relocation of an image.
 
-ghost use Rattle.std.specs.Prelude.{◌≡◌, ◌↔◌, ℕ, ◌+◌, ◌*◌, ◌%◌, ◌^◌, ◌≤◌, length, drop, OnOk, Some, None, Err, if◌then◌else◌};
+ghost use Rattle.std.specs.Prelude.{◌≡◌, ◌↔◌, ℕ, ◌+◌, ◌*◌, ◌%◌, ◌^◌, ◌≤◌, length, drop, OnOk, OnErr, Some, None, Err, if◌then◌else◌};
 ghost use Rattle.seg_image.specs.Accepted.{Accepted, IsPlace};
 ghost use Rattle.seg_image.specs.Images.{IsImage};
 ghost use Rattle.seg_image.specs.Pages.{IsPlaced, pages_of};
@@ -43,7 +43,8 @@ pub enum RelocFault {
 ///
 /// # Errors
 ///
-/// That a TLS_TPREL64 chose an object without a static offset, with the place of the first.
+/// That a TLS_TPREL64 chose an object without a static offset, with the place of the first. The image
+/// is as before then.
 pub fn relocate(
     image: &mut Image,
     object: &Object,
@@ -59,6 +60,7 @@ pub fn relocate(
     ensures image { OnOk result (IsImage object.now base (image_word object.now base serial bindings.now places.now) image.new) }
     ensures refused { (place : ℕ) → (result ≡ Err (RelocFault.NeedsStaticTls place))
         ↔ (first_without_offset object.now serial bindings.now places.now ≡ Some place) }
+    ensures unchanged { OnErr result (image.new ≡ image.old) }
 {
     if let Some(place) = first_without_offset(object, serial, bindings, places) {
         return Err(RelocFault::NeedsStaticTls(place));
