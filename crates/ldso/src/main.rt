@@ -3,7 +3,7 @@
 //! It hands them to the top call, `ldso_cli::ldso`, and ends with its status.
 #![tactic(auto)]
 
-use ldso_cli::Cause;
+use ldso_cli::{Cause, End};
 use library_source::{FolderLibrary, IoSink};
 use std::alloc::{AllocError, Global};
 use std::process::ExitCode;
@@ -28,10 +28,10 @@ fn words_of<R: Env + Alloc<A = Global>>(rt: &R, alloc: Global) -> Result<Vec<Str
 fn main(rt: HostRuntime) -> ExitCode {
     let alloc = rt.alloc();
     let Ok(words) = words_of(&rt, alloc) else {
-        return ExitCode::from(Cause::Memory.status());
+        return ExitCode::from(End::bare(Cause::Memory).status());
     };
     let Ok(files) = rt.clone() else {
-        return ExitCode::from(Cause::Memory.status());
+        return ExitCode::from(End::bare(Cause::Memory).status());
     };
     let library = FolderLibrary::new(files, alloc);
     let mut out = IoSink::new(io::writer(&rt));

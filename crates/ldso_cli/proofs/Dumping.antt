@@ -1,24 +1,31 @@
 -- How dump ends.
-use Rattle.std.proofs.Common.{◌≡◌, inl, inr, ℕ, List, [], ◌∷◌, Option, Some, None, Result, Ok, Err, true, refl, sym, subst}
+use Rattle.std.proofs.Common.{◌≡◌, ℕ, List, [], ◌∷◌, Option, Some, None, Result, Ok, Err, true, refl, sym, ap, subst, ◌∙◌}
 use Rattle.std.specs.Prelude.{IfOk, IfSome}
 use Rattle.std.specs.Global.{Vec}
 use Rattle.std.specs.Result.{IsErrOf}
 use Rattle.std.specs.Str.{bytes_eq}
-use Rattle.std.specs.String.{string_bytes}
 use Rattle.std.specs.declared.alloc.AllocError.{AllocError}
 use Rattle.std.proofs.lemmas.Slice.Eq.{bytes_eq-Decides}
-use Rattle.ld_base.specs.declared.fault.DlFault.TheVariants as dl
+use Rattle.ld_base.specs.declared.fault.NotAccepted.{NotAccepted}
 use Rattle.ld_base.specs.declared.linking.File.{File}
+use Rattle.ld_base.specs.declared.object.Object.{Object}
+use Rattle.ld_base.specs.declared.parts.HashTable.{HashTable}
+use Rattle.elf_object.specs.Verdict.{object_verdict}
+use Rattle.library_source.specs.Count.{Rises}
 use Rattle.library_source.specs.Files.{file_at}
 use Rattle.library_source.specs.declared.library.ReadError.{ReadError}
 use Rattle.library_source.specs.declared.library.ReadError.TheVariants.{Missing}
+use Rattle.load_order.specs.Files.{as_read}
 use Rattle.load_order.specs.Plan.{Over}
 use Rattle.scope_rule.specs.Finding.{Reading, here, unaccepted, absent, failed}
-use Rattle.ldso_cli.specs.Dump.{program_read, Shows, DumpEnds}
-use Rattle.ldso_cli.specs.Status.{refused_text}
-use Rattle.ldso_cli.specs.declared.bind.Answer.{Answer}
+use Rattle.command_text.specs.declared.words.Command.TheVariants as commands
+use Rattle.ldso_cli.specs.Command.{Answers}
+use Rattle.ldso_cli.specs.Dump.{ReadsAs, DumpPrints, dump_cause, program_read, reading_text}
+use Rattle.ldso_cli.specs.End.{bare}
+use Rattle.ldso_cli.specs.Outside.{LibraryAt}
+use Rattle.ldso_cli.specs.declared.answer.Answer.{Answer}
 use Rattle.ldso_cli.specs.declared.outcome.Cause.{Cause}
-use Rattle.ldso_cli.specs.declared.outcome.Cause.TheVariants as causes
+use Rattle.ldso_cli.specs.declared.outcome.End.{End}
 
 -- where the files are told, a path that was missing has none of them
 pub told_missing : (told : Option (List File)) (path : List ℕ) (r : Result (Vec ℕ) ReadError) → IfSome told (λ all. IsErrOf r Missing → file_at all path ≡ None) → IsErrOf r Missing → IfSome told (λ all. file_at all path ≡ None)
@@ -35,51 +42,67 @@ files_at None path (Some bytes) h = record {
   holds = let e : bytes_eq path path ≡ true = (bytes_eq-Decides path path).1 refl in rw e refl;
 }
 
-shown_over : (told : Option (List File)) (path : List ℕ) (file : Option (List ℕ)) (cause : Cause) (text : List ℕ) → IfSome told (λ all. file_at all path ≡ file) → Shows path (program_read file) cause text → Over told (DumpEnds path cause text)
-shown_over told path file cause text tells shows =
-    let over = files_at told path file tells in
-    let P : Option (List ℕ) → Type 0 = λ f. Shows path (program_read f) cause text in
-    record { files = over.files; are = over.are; holds = inl (subst P (sym over.holds) shows) }
+-- what is read of a file decides the text
+prints : (path : List ℕ) (files : List File) (file : Option (List ℕ)) (reading : Reading) → file_at files path ≡ file → program_read file ≡ reading → DumpPrints path files (dump_cause path reading) (reading_text path reading)
+prints path files file (here o table) at is = record { object = o; table = table; is = ap program_read at ∙ is; text_is = refl }
+prints path files file (unaccepted broken) at is = refl
+prints path files file absent at is = refl
+prints path files file failed at is = refl
 
-pub shown_answers : (told : Option (List File)) (path : List ℕ) (file : Option (List ℕ)) (r : Result Answer AllocError) → IfSome told (λ all. file_at all path ≡ file)
-    → IfOk r (λ answer. Shows path (program_read file) answer.cause (string_bytes answer.text)) → IfOk r (λ answer. Over told (DumpEnds path answer.cause (string_bytes answer.text)))
-shown_answers told path file (Err e) tells shows = tt
-shown_answers told path file (Ok answer) tells shows = shown_over told path file answer.cause (string_bytes answer.text) tells shows
+-- the reading that a path gave, with the files that have this at it
+record IsGiven (path : List ℕ) (before after : LibraryAt) (reading : Reading) : Type 0 where
+  pub file : Option (List ℕ)
+  pub told : IfSome before.files (λ all. file_at all path ≡ file)
+  pub gives : ReadsAs before after file reading
+  pub prints : (files : List File) → file_at files path ≡ file → DumpPrints path files (dump_cause path reading) (reading_text path reading)
 
-pub missing_answers : (told : Option (List File)) (path : List ℕ) (r : Result Answer AllocError) → IfSome told (λ all. file_at all path ≡ None)
-    → IfOk r (λ answer. answer.cause ≡ causes.Refused (dl.MissingLibrary path)) → IfOk r (λ answer. string_bytes answer.text ≡ refused_text (dl.MissingLibrary path))
-    → IfOk r (λ answer. Over told (DumpEnds path answer.cause (string_bytes answer.text)))
-missing_answers told path (Err e) tells cause text = tt
-missing_answers told path (Ok answer) tells cause text = shown_over told path None answer.cause (string_bytes answer.text) tells (cause, text)
+answer_over : (path : List ℕ) (before after : LibraryAt) (reading : Reading) (answer : Answer) → IsGiven path before after reading → answer.end ≡ bare (dump_cause path reading) → answer.text ≡ reading_text path reading
+    → Answers (Some (commands.Dump path)) before after answer.end answer.text
+answer_over path before after reading answer given end text =
+    let over = files_at before.files path given.file given.told in
+    let P : Option (List ℕ) → Type 0 = λ f. ReadsAs before after f reading in
+    let Q : Cause → Type 0 = λ c. DumpPrints path over.files c answer.text in
+    let R : List ℕ → Type 0 = λ t. DumpPrints path over.files (dump_cause path reading) t in
+    record {
+      files = over.files;
+      are = over.are;
+      holds = record {
+        comes = record { cause = dump_cause path reading; end_is = end; by = record { reading = reading; gives = subst P (sym over.holds) given.gives; cause_is = refl } };
+        prints = subst Q (sym (ap (λ (e : End). e.cause) end)) (subst R (sym text) (given.prints over.files over.holds));
+      };
+    }
 
-failed_over : (told : Option (List File)) (path : List ℕ) (cause : Cause) (text : List ℕ) → Shows path failed cause text → Over told (DumpEnds path cause text)
-failed_over (Some all) path cause text shows = record { files = all; are = refl; holds = inr shows }
-failed_over None path cause text shows = record { files = []; are = tt; holds = inr shows }
+dump_answers : (path : List ℕ) (before after : LibraryAt) (reading : Reading) (r : Result Answer AllocError) → IsGiven path before after reading → IfOk r (λ a. a.end ≡ bare (dump_cause path reading)) → IfOk r (λ a. a.text ≡ reading_text path reading)
+    → IfOk r (λ a. Answers (Some (commands.Dump path)) before after a.end a.text)
+dump_answers path before after reading (Err e) given end text = tt
+dump_answers path before after reading (Ok answer) given end text = answer_over path before after reading answer given end text
 
-pub failed_answers : (told : Option (List File)) (path : List ℕ) (r : Result Answer AllocError)
-    → IfOk r (λ answer. answer.cause ≡ causes.Refused (dl.ReadFault path)) → IfOk r (λ answer. string_bytes answer.text ≡ refused_text (dl.ReadFault path))
-    → IfOk r (λ answer. Over told (DumpEnds path answer.cause (string_bytes answer.text)))
-failed_answers told path (Err e) cause text = tt
-failed_answers told path (Ok answer) cause text = failed_over told path answer.cause (string_bytes answer.text) (cause, text)
+gives_read : (before after : LibraryAt) (bytes : List ℕ) (verdict : Result (Object × HashTable) NotAccepted) → object_verdict bytes true ≡ verdict → ReadsAs before after (Some bytes) (as_read verdict)
+gives_read before after bytes (Ok read) is = ap as_read is
+gives_read before after bytes (Err broken) is = ap as_read is
 
--- ---- the sink's causes are none of its own
+pub shown_answers : (path : List ℕ) (before after : LibraryAt) (bytes : List ℕ) (r : Result Answer AllocError) → IfSome before.files (λ all. file_at all path ≡ Some bytes)
+    → IfOk r (λ a. a.end ≡ bare (dump_cause path (program_read (Some bytes)))) → IfOk r (λ a. a.text ≡ reading_text path (program_read (Some bytes)))
+    → IfOk r (λ a. Answers (Some (commands.Dump path)) before after a.end a.text)
+shown_answers path before after bytes r told end text =
+    dump_answers path before after (program_read (Some bytes)) r (record {
+      file = Some bytes;
+      told = told;
+      gives = gives_read before after bytes (object_verdict bytes true) refl;
+      prints = λ files at. prints path files (Some bytes) (program_read (Some bytes)) at refl;
+    }) end text
 
-shows_no_write_fault : (path : List ℕ) (reading : Reading) (text : List ℕ) → Shows path reading causes.WriteFault text → ⊥
-shows_no_write_fault path (here o table) text shows = absurd (let e = shows.0 in cc)
-shows_no_write_fault path (unaccepted broken) text shows = absurd (let e = shows.0 in cc)
-shows_no_write_fault path absent text shows = absurd (let e = shows.0 in cc)
-shows_no_write_fault path failed text shows = absurd (let e = shows.0 in cc)
+pub missing_answers : (path : List ℕ) (before after : LibraryAt) (r : Result Answer AllocError) → IfSome before.files (λ all. file_at all path ≡ None) → Rises before.misses after.misses
+    → IfOk r (λ a. a.end ≡ bare (dump_cause path absent)) → IfOk r (λ a. a.text ≡ reading_text path absent) → IfOk r (λ a. Answers (Some (commands.Dump path)) before after a.end a.text)
+missing_answers path before after r told missed end text =
+    dump_answers path before after absent r (record { file = None; told = told; gives = (refl, missed); prints = λ files at. refl }) end text
 
-pub dump_no_write_fault : (path text : List ℕ) (files : List File) → DumpEnds path causes.WriteFault text files → ⊥
-dump_no_write_fault path text files (inl shows) = shows_no_write_fault path (program_read (file_at files path)) text shows
-dump_no_write_fault path text files (inr shows) = shows_no_write_fault path failed text shows
+some_file : (path : List ℕ) (told : Option (List File)) → (file : Option (List ℕ)) × IfSome told (λ all. file_at all path ≡ file)
+some_file path None = (None, tt)
+some_file path (Some all) = (file_at all path, refl)
 
-shows_no_memory : (path : List ℕ) (reading : Reading) (text : List ℕ) → Shows path reading causes.Memory text → ⊥
-shows_no_memory path (here o table) text shows = absurd (let e = shows.0 in cc)
-shows_no_memory path (unaccepted broken) text shows = absurd (let e = shows.0 in cc)
-shows_no_memory path absent text shows = absurd (let e = shows.0 in cc)
-shows_no_memory path failed text shows = absurd (let e = shows.0 in cc)
-
-pub dump_no_memory : (path text : List ℕ) (files : List File) → DumpEnds path causes.Memory text files → ⊥
-dump_no_memory path text files (inl shows) = shows_no_memory path (program_read (file_at files path)) text shows
-dump_no_memory path text files (inr shows) = shows_no_memory path failed text shows
+pub failed_answers : (path : List ℕ) (before after : LibraryAt) (r : Result Answer AllocError) → Rises before.faults after.faults
+    → IfOk r (λ a. a.end ≡ bare (dump_cause path failed)) → IfOk r (λ a. a.text ≡ reading_text path failed) → IfOk r (λ a. Answers (Some (commands.Dump path)) before after a.end a.text)
+failed_answers path before after r counted end text =
+    let some = some_file path before.files in
+    dump_answers path before after failed r (record { file = some.0; told = some.1; gives = counted; prints = λ files at. refl }) end text

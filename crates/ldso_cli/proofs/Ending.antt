@@ -1,9 +1,8 @@
 -- How bind ends.
 use Rattle.std.proofs.Common.{◌≡◌, ◌+◌, ◌≤◌, ℕ, map, Bool, true, false, List, [], ◌∷◌, Option, Some, None, Result, Ok, Err, refl, sym, ap, subst, ◌∙◌, inl, inr, cond, arith}
 use Rattle.std.specs.Prelude.{IfOk, IsTrue}
-use Rattle.std.specs.String.{string_bytes}
 use Rattle.std.specs.declared.alloc.AllocError.{AllocError}
-use Rattle.ldso_cli.specs.declared.bind.Answer.{Answer}
+use Rattle.ldso_cli.specs.declared.answer.Answer.{Answer}
 use Rattle.std.specs.List.{AllByRecursion, slice_get}
 use Rattle.std.specs.Option.{option_or, option_map}
 use Rattle.ld_base.specs.declared.fault.DlFault.{DlFault}
@@ -18,6 +17,7 @@ use Rattle.ld_base.specs.declared.object.Symbol.{Symbol}
 use Rattle.ld_base.specs.declared.parts.HashTable.{HashTable}
 use Rattle.elf_object.specs.Object.{names_own_symbols}
 use Rattle.elf_object.specs.Verdict.{object_verdict}
+use Rattle.library_source.specs.Count.{Rises}
 use Rattle.library_source.specs.Files.{file_at}
 use Rattle.load_order.specs.Files.{reading_of, as_read, file_as_read, is_program}
 use Rattle.load_order.specs.Plan.{HasToWait, Over, IsPlan, IsRefused, load_over}
@@ -32,8 +32,13 @@ use Rattle.scope_rule.specs.Relocation.{choice_at, names_symbols}
 use Rattle.scope_rule.specs.declared.namespace.Namespace.{Namespace}
 use Rattle.ldso_cli.specs.declared.outcome.Cause.{Cause}
 use Rattle.ldso_cli.specs.declared.outcome.Cause.TheVariants as causes
+use Rattle.ldso_cli.specs.declared.outcome.End.{End}
 use Rattle.command_text.specs.declared.words.Bind.{Bind}
-use Rattle.ldso_cli.specs.Bind.{BindEnds, ObjectsEnd, ask_of, nothing_loaded, unopened, opened}
+use Rattle.command_text.specs.declared.words.Command.TheVariants as commands
+use Rattle.ldso_cli.specs.Bind.{BindComes, BindMisses, BindPrints, ask_of, cause_of, namespace_of, nothing_loaded, objects_text, unopened, opened}
+use Rattle.ldso_cli.specs.Command.{Answers}
+use Rattle.ldso_cli.specs.End.{bare}
+use Rattle.ldso_cli.specs.Outside.{LibraryAt}
 use Rattle.command_text.specs.Refusal.{is_missing, missing_symbol, refusal_at, first_missing, refusal_of, first_refusal}
 use Rattle.ldso_cli.specs.Status.{refused_text}
 
@@ -45,15 +50,6 @@ never_waits law told bind shown over =
     let one = law (load_over (ask_of bind) nothing_loaded over.files) shown over.holds in
     let d : None ≡ Some one.object = one.at in
     absurd cc
-
--- ---- a load that is refused
-
-pub refused_ends : (told : Option (List File)) (bind : Bind) (fault : DlFault) (text : List ℕ) → text ≡ refused_text fault → Over told (IsRefused (ask_of bind) nothing_loaded fault) → Over told (BindEnds bind (causes.Refused fault) text)
-refused_ends told bind fault text written over = record {
-  files = over.files;
-  are = over.are;
-  holds = inr (record { fault = fault; is = over.holds; cause_is = refl; text_is = written });
-}
 
 -- ---- the program is object 1
 
@@ -141,54 +137,80 @@ objects_no_file ns now (o ∷ rest) =
     (either_no_file (first_missing ns o o.object.relocs) (cond now (first_missing ns o o.object.plt_relocs) None) (relocs_no_file ns o o.object.relocs) (slots_no_file ns now o))
     (objects_no_file ns now rest)
 
-refused_first : (ns : Namespace) (now : Bool) (cause : Cause) (text : List ℕ) (fault : DlFault) → ObjectsEnd ns now cause text → cause ≡ causes.Refused fault → first_refusal ns now ns.objects ≡ Some fault
-refused_first ns now cause text fault ends e = let P : Cause → Type 0 = λ c. ObjectsEnd ns now c text in (subst P e ends).0
+-- a refusal of a reference
+of_refusal : (fault : Option DlFault) (f : DlFault) → cause_of fault ≡ causes.Refused f → fault ≡ Some f
+of_refusal None f e = absurd cc
+of_refusal (Some g) f e = cc
 
--- ---- a load that brings objects
+-- ---- what bind answers
+
+pub refused_answers : (bind : Bind) (before after : LibraryAt) (fault : DlFault) (r : Result Answer AllocError) → IfOk r (λ a. a.end ≡ bare (causes.Refused fault)) → IfOk r (λ a. a.text ≡ refused_text fault)
+    → Over before.files (IsRefused (ask_of bind) nothing_loaded fault) → ((path : List ℕ) → fault ≡ dl.ReadFault path → Rises before.faults after.faults) → ((name : List ℕ) → fault ≡ dl.MissingLibrary name → BindMisses bind before after name)
+    → IfOk r (λ a. Answers (Some (commands.Bind bind)) before after a.end a.text)
+refused_answers bind before after fault (Err e) end text over counted missed = tt
+refused_answers bind before after fault (Ok answer) end text over counted missed =
+    let P : Cause → Type 0 = λ c. BindPrints bind over.files c answer.text in
+    record {
+      files = over.files;
+      are = over.are;
+      holds = record {
+        comes = record {
+          cause = causes.Refused fault;
+          end_is = end;
+          by = record { is = inr (record { fault = fault; is = over.holds; cause_is = refl }); read_fault = λ path e. counted path cc; missing = λ name e. missed name cc };
+        };
+        prints = subst P (sym (ap (λ (e : End). e.cause) end)) text;
+      };
+    }
 
 -- a load with nothing there is breadth-first
 abbrev pub BreadthFirst : Type 0
 BreadthFirst = (load : Load) (added : List Loaded) (ns : Namespace) → Brings load added → load.there ≡ [] → ns.objects ≡ [] → 1 ≤ load.next → map (λ (o : Loaded). o.serial) added ≡ breadth (with_added ns added) load.next
 
-pub loaded_ends : BreadthFirst → (told : Option (List File)) (bind : Bind) (plan : LoadPlan) (cause : Cause) (text : List ℕ) → Over told (IsPlan (ask_of bind) nothing_loaded plan) → ObjectsEnd (opened plan.added plan.breadth) bind.now cause text → Over told (BindEnds bind cause text)
-loaded_ends law told bind plan cause text over ends =
-    let one : plan.root ≡ 1 = root_is_first bind over.files plan.root over.holds.root in
-    let breadth_is : plan.breadth ≡ breadth (unopened plan.added) 1 = over.holds.breadth ∙ ap (breadth (unopened plan.added)) one in
-    let P : List ℕ → Type 0 = λ global. ObjectsEnd (opened plan.added global) bind.now cause text in
+-- the namespace that a plan makes
+same_namespace : (bind : Bind) (plan : LoadPlan) (files : List File) → IsPlan (ask_of bind) nothing_loaded plan files → opened plan.added plan.breadth ≡ namespace_of plan.added
+same_namespace bind plan files is = ap (opened plan.added) (is.breadth ∙ ap (breadth (unopened plan.added)) (root_is_first bind files plan.root is.root))
+
+loaded_comes : BreadthFirst → (bind : Bind) (before after : LibraryAt) (plan : LoadPlan) (files : List File) → IsPlan (ask_of bind) nothing_loaded plan files → BindComes bind before after files (cause_of (first_refusal (namespace_of plan.added) bind.now plan.added))
+loaded_comes law bind before after plan files is =
+    let ns = namespace_of plan.added in
+    let none = objects_no_file ns bind.now plan.added in
+    record {
+      is = inl (record {
+        objects = plan.added;
+        brings = is.added;
+        breadth_first = law (load_over (ask_of bind) nothing_loaded files) plan.added nothing_loaded is.added refl refl (omega arith);
+        versions = is.versions;
+        cause_is = refl;
+      });
+      read_fault = λ path e. absurd (none.not_read path (of_refusal (first_refusal ns bind.now plan.added) (dl.ReadFault path) e));
+      missing = λ name e. absurd (none.not_missing name (of_refusal (first_refusal ns bind.now plan.added) (dl.MissingLibrary name) e));
+    }
+
+loaded_prints : (bind : Bind) (files : List File) (objects : List Loaded) (fault : Option DlFault) → Brings (load_over (ask_of bind) nothing_loaded files) objects → BindPrints bind files (cause_of fault) (objects_text (namespace_of objects) fault)
+loaded_prints bind files objects None brings = record { objects = objects; brings = brings; text_is = refl }
+loaded_prints bind files objects (Some fault) brings = refl
+
+loaded_answer : BreadthFirst → (bind : Bind) (before after : LibraryAt) (plan : LoadPlan) (ns : Namespace) (answer : Answer) → ns ≡ namespace_of plan.added → (over : Over before.files (IsPlan (ask_of bind) nothing_loaded plan))
+    → answer.end ≡ bare (cause_of (first_refusal ns bind.now ns.objects)) → answer.text ≡ objects_text ns (first_refusal ns bind.now ns.objects) → Answers (Some (commands.Bind bind)) before after answer.end answer.text
+loaded_answer law bind before after plan ns answer same over end text =
+    let C : Namespace → Type 0 = λ n. answer.end ≡ bare (cause_of (first_refusal n bind.now n.objects)) in
+    let T : Namespace → Type 0 = λ n. answer.text ≡ objects_text n (first_refusal n bind.now n.objects) in
+    let end' = subst C same end in
+    let text' = subst T same text in
+    let fault = first_refusal (namespace_of plan.added) bind.now plan.added in
+    let P : Cause → Type 0 = λ c. BindPrints bind over.files c answer.text in
+    let Q : List ℕ → Type 0 = λ t. BindPrints bind over.files (cause_of fault) t in
     record {
       files = over.files;
       are = over.are;
-      holds = inl (record {
-        objects = plan.added;
-        brings = over.holds.added;
-        breadth_first = law (load_over (ask_of bind) nothing_loaded over.files) plan.added nothing_loaded over.holds.added refl refl (omega arith);
-        versions = over.holds.versions;
-        ends = subst P breadth_is ends;
-      });
+      holds = record {
+        comes = record { cause = cause_of fault; end_is = end'; by = loaded_comes law bind before after plan over.files over.holds };
+        prints = subst P (sym (ap (λ (e : End). e.cause) end')) (subst Q (sym text') (loaded_prints bind over.files plan.added fault over.holds.added));
+      };
     }
 
--- ---- what bind answers
-
-pub refused_answers : (told : Option (List File)) (bind : Bind) (fault : DlFault) (r : Result Answer AllocError) → IfOk r (λ answer. answer.cause ≡ causes.Refused fault) → IfOk r (λ answer. string_bytes answer.text ≡ refused_text fault)
-    → Over told (IsRefused (ask_of bind) nothing_loaded fault) → IfOk r (λ answer. Over told (BindEnds bind answer.cause (string_bytes answer.text)))
-refused_answers told bind fault (Err e) cause text over = tt
-refused_answers told bind fault (Ok answer) cause text over =
-    let P : Cause → Type 0 = λ c. Over told (BindEnds bind c (string_bytes answer.text)) in
-    subst P (sym cause) (refused_ends told bind fault (string_bytes answer.text) text over)
-
-pub loaded_answers : BreadthFirst → (told : Option (List File)) (bind : Bind) (plan : LoadPlan) (ns : Namespace) (r : Result Answer AllocError) → ns ≡ opened plan.added plan.breadth → Over told (IsPlan (ask_of bind) nothing_loaded plan)
-    → IfOk r (λ answer. ObjectsEnd ns bind.now answer.cause (string_bytes answer.text)) → IfOk r (λ answer. Over told (BindEnds bind answer.cause (string_bytes answer.text)))
-loaded_answers law told bind plan ns (Err e) same over ends = tt
-loaded_answers law told bind plan ns (Ok answer) same over ends =
-    let P : Namespace → Type 0 = λ n. ObjectsEnd n bind.now answer.cause (string_bytes answer.text) in
-    loaded_ends law told bind plan answer.cause (string_bytes answer.text) over (subst P same ends)
-
-pub loaded_counts : (ns : Namespace) (now : Bool) (r : Result Answer AllocError) (Q : Type 0) → IfOk r (λ answer. ObjectsEnd ns now answer.cause (string_bytes answer.text))
-    → IfOk r (λ answer. (path : List ℕ) → answer.cause ≡ causes.Refused (dl.ReadFault path) → Q)
-loaded_counts ns now (Err e) Q ends = tt
-loaded_counts ns now (Ok answer) Q ends = λ path e. absurd ((objects_no_file ns now ns.objects).not_read path (refused_first ns now answer.cause (string_bytes answer.text) (dl.ReadFault path) ends e))
-
-pub loaded_finds : (ns : Namespace) (now : Bool) (r : Result Answer AllocError) (Q : List ℕ → Type 0) → IfOk r (λ answer. ObjectsEnd ns now answer.cause (string_bytes answer.text))
-    → IfOk r (λ answer. (name : List ℕ) → answer.cause ≡ causes.Refused (dl.MissingLibrary name) → Q name)
-loaded_finds ns now (Err e) Q ends = tt
-loaded_finds ns now (Ok answer) Q ends = λ name e. absurd ((objects_no_file ns now ns.objects).not_missing name (refused_first ns now answer.cause (string_bytes answer.text) (dl.MissingLibrary name) ends e))
+pub loaded_answers : BreadthFirst → (bind : Bind) (before after : LibraryAt) (plan : LoadPlan) (ns : Namespace) (r : Result Answer AllocError) → ns ≡ opened plan.added plan.breadth → Over before.files (IsPlan (ask_of bind) nothing_loaded plan)
+    → IfOk r (λ a. a.end ≡ bare (cause_of (first_refusal ns bind.now ns.objects))) → IfOk r (λ a. a.text ≡ objects_text ns (first_refusal ns bind.now ns.objects)) → IfOk r (λ a. Answers (Some (commands.Bind bind)) before after a.end a.text)
+loaded_answers law bind before after plan ns (Err e) same over end text = tt
+loaded_answers law bind before after plan ns (Ok answer) same over end text = loaded_answer law bind before after plan ns answer (same ∙ same_namespace bind plan over.files over.holds) over end text

@@ -1,3 +1,4 @@
+pub mod Decided
 pub mod Dumping
 pub mod Ending
-pub mod Writing
+pub mod Same

@@ -1,18 +1,21 @@
 -- What bind comes to.
-use Rattle.std.specs.Prelude.{◌≡◌, ◌⊎◌, ℕ, Bool, List, [], ◌∷◌, map, Some, None}
+use Rattle.std.specs.Prelude.{◌≡◌, ◌⊎◌, ℕ, Bool, List, [], ◌∷◌, map, Option, Some, None}
 use Rattle.ld_base.specs.declared.fault.DlFault.{DlFault}
+use Rattle.ld_base.specs.declared.fault.DlFault.TheVariants as dl
 use Rattle.ld_base.specs.declared.linking.File.{File}
 use Rattle.ld_base.specs.declared.linking.Loaded.{Loaded}
+use Rattle.library_source.specs.Count.{Rises}
 use Rattle.scope_rule.specs.Breadth.{breadth}
 use Rattle.scope_rule.specs.Order.{Brings}
 use Rattle.scope_rule.specs.declared.namespace.Namespace.{Namespace}
-use Rattle.load_order.specs.Plan.{load_over, version_fault, IsRefused}
+use Rattle.load_order.specs.Plan.{load_over, version_fault, HasNoPath, IsRefused, Over}
 use Rattle.load_order.specs.declared.ask.LoadAsk.{LoadAsk}
 use Rattle.ldso_cli.specs.declared.outcome.Cause.{Cause}
 use Rattle.ldso_cli.specs.declared.outcome.Cause.TheVariants as causes
 use Rattle.command_text.specs.declared.words.Bind.{Bind}
 use Rattle.command_text.specs.Lines.{bound_text}
 use Rattle.command_text.specs.Refusal.{first_refusal}
+use Rattle.ldso_cli.specs.Outside.{LibraryAt}
 use Rattle.ldso_cli.specs.Status.{refused_text}
 
 -- the program is asked for by hart 0, and is object 1
@@ -42,29 +45,48 @@ opened objects global = record { id = 0; objects = objects; global = global; ope
 abbrev pub namespace_of : List Loaded → Namespace
 namespace_of objects = opened objects (breadth (unopened objects) 1)
 
--- the cause and the text of a namespace whose objects are all there: a reference is refused, or each slot has its line
-abbrev pub ObjectsEnd : Namespace → Bool → Cause → List ℕ → Type 0
-ObjectsEnd ns now causes.Done text = (first_refusal ns now ns.objects ≡ None) × (text ≡ bound_text ns)
-ObjectsEnd ns now (causes.Refused fault) text = (first_refusal ns now ns.objects ≡ Some fault) × (text ≡ refused_text fault)
-ObjectsEnd ns now causes.Usage text = ⊥
-ObjectsEnd ns now causes.WriteFault text = ⊥
-ObjectsEnd ns now causes.Memory text = ⊥
+-- the cause of a first refusal, or of none
+abbrev pub cause_of : Option DlFault → Cause
+cause_of None = causes.Done
+cause_of (Some fault) = causes.Refused fault
 
--- the program and all that it needs are there, breadth-first, with the versions that they need, and that is how they end
-pub record IsLoaded (bind : Bind) (cause : Cause) (text : List ℕ) (files : List File) : Type 0 where
+-- what is printed of a namespace whose objects are all there: each slot's choice, or the refusal alone
+abbrev pub objects_text : Namespace → Option DlFault → List ℕ
+objects_text ns None = bound_text ns
+objects_text ns (Some fault) = refused_text fault
+
+-- the program and all that it needs are there, breadth-first, with the versions that they need: their references decide
+pub record IsLoaded (bind : Bind) (files : List File) (cause : Cause) : Type 0 where
   pub objects : List Loaded
   pub brings : Brings (load_over (ask_of bind) nothing_loaded files) objects
   pub breadth_first : map (λ (o : Loaded). o.serial) objects ≡ breadth (unopened objects) 1
   pub versions : version_fault nothing_loaded objects ≡ None
-  pub ends : ObjectsEnd (namespace_of objects) bind.now cause text
+  pub cause_is : cause ≡ cause_of (first_refusal (namespace_of objects) bind.now objects)
 
 -- something that they need isn't there
-pub record IsNotLoaded (bind : Bind) (cause : Cause) (text : List ℕ) (files : List File) : Type 0 where
+pub record IsNotLoaded (bind : Bind) (files : List File) (cause : Cause) : Type 0 where
   pub fault : DlFault
   pub is : IsRefused (ask_of bind) nothing_loaded fault files
   pub cause_is : cause ≡ causes.Refused fault
-  pub text_is : text ≡ refused_text fault
 
--- how bind ends over files, and what it writes
-abbrev pub BindEnds : Bind → Cause → List ℕ → List File → Type 0
-BindEnds bind cause text files = IsLoaded bind cause text files ⊎ IsNotLoaded bind cause text files
+-- the library missed a library of the program: it counts that, or the name has no folder to be in
+abbrev pub BindMisses : Bind → LibraryAt → LibraryAt → List ℕ → Type 0
+BindMisses bind before after name = Rises before.misses after.misses ⊎ Over before.files (HasNoPath (ask_of bind) nothing_loaded name)
+
+-- how bind comes to its end over files, while its library goes on from one state to another; no failure is invented
+pub record BindComes (bind : Bind) (before after : LibraryAt) (files : List File) (cause : Cause) : Type 0 where
+  pub is : IsLoaded bind files cause ⊎ IsNotLoaded bind files cause
+  pub read_fault : (path : List ℕ) → cause ≡ causes.Refused (dl.ReadFault path) → Rises before.faults after.faults
+  pub missing : (name : List ℕ) → cause ≡ causes.Refused (dl.MissingLibrary name) → BindMisses bind before after name
+
+-- the text of the objects that the program's load brings
+pub record IsBound (bind : Bind) (files : List File) (text : List ℕ) : Type 0 where
+  pub objects : List Loaded
+  pub brings : Brings (load_over (ask_of bind) nothing_loaded files) objects
+  pub text_is : text ≡ bound_text (namespace_of objects)
+
+-- what bind prints at an end: the objects and the choices of their slots, or its refusal alone
+abbrev pub BindPrints : Bind → List File → Cause → List ℕ → Type 0
+BindPrints bind files causes.Done text = IsBound bind files text
+BindPrints bind files (causes.Refused fault) text = text ≡ refused_text fault
+BindPrints bind files _ text = ⊥

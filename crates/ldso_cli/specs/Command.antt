@@ -1,60 +1,61 @@
--- How the command ends.
-use Rattle.std.specs.Prelude.{◌≡◌, ◌⊎◌, ℕ, List, Option, Some, None}
-use Rattle.std.specs.Io.KnownBytes.{append_known}
-use Rattle.ld_base.specs.declared.linking.File.{File}
-use Rattle.library_source.specs.Writing.{TakesFront}
+-- What the words of the command line come to: a row for each command.
+use Rattle.std.specs.Prelude.{◌≡◌, ◌≢◌, ℕ, List, Option, Some, None}
 use Rattle.ld_base.specs.declared.fault.DlFault.TheVariants as dl
-use Rattle.load_order.specs.Plan.{HasNoPath, Over}
+use Rattle.ld_base.specs.declared.linking.File.{File}
+use Rattle.library_source.specs.Count.{Rises}
+use Rattle.load_order.specs.Plan.{Over}
+use Rattle.command_text.specs.declared.words.Command.{Command}
+use Rattle.command_text.specs.declared.words.Command.TheVariants.{Bind, Dump}
+use Rattle.ldso_cli.specs.Bind.{BindComes, BindMisses, BindPrints}
+use Rattle.ldso_cli.specs.Dump.{DumpComes, DumpPrints}
+use Rattle.ldso_cli.specs.End.{bare}
+use Rattle.ldso_cli.specs.Outside.{LibraryAt}
+use Rattle.ldso_cli.specs.Status.{usage_text}
 use Rattle.ldso_cli.specs.declared.outcome.Cause.{Cause}
 use Rattle.ldso_cli.specs.declared.outcome.Cause.TheVariants as causes
-use Rattle.command_text.specs.declared.words.Command.{Command}
-use Rattle.command_text.specs.declared.words.Command.TheVariants as commands
-use Rattle.ldso_cli.specs.Bind.{ask_of, nothing_loaded, BindEnds}
-use Rattle.ldso_cli.specs.Dump.{DumpEnds}
-use Rattle.ldso_cli.specs.Status.{usage_text}
-use Rattle.command_text.specs.Words.{reads}
+use Rattle.ldso_cli.specs.declared.outcome.End.{End}
 
--- how the words end over files, and what is written: as their command does, or as a usage where they are none
-abbrev pub CommandEnds : Option Command → Cause → List ℕ → List File → Type 0
-CommandEnds None cause text files = (cause ≡ causes.Usage) × (text ≡ usage_text)
-CommandEnds (Some (commands.Bind bind)) cause text files = BindEnds bind cause text files
-CommandEnds (Some (commands.Dump path)) cause text files = DumpEnds path cause text files
-
--- no folder has a path for a name that bind looks for
-abbrev pub HasNoFolder : Option (List File) → Option Command → List ℕ → Type 0
-HasNoFolder told (Some (commands.Bind bind)) name = Over told (HasNoPath (ask_of bind) nothing_loaded name)
-HasNoFolder told command name = ⊥
-
--- no failure is invented: a cause tells of a failed read only where the library failed, and of a missing file only where it missed one,
--- or where the file's name has no path
-pub record IsCounted (told : Option (List File)) (command : Option Command) (failed missed : Type 0) (cause : Cause) : Type 0 where
-  pub read_fault : (path : List ℕ) → cause ≡ causes.Refused (dl.ReadFault path) → failed
-  pub missing : (name : List ℕ) → cause ≡ causes.Refused (dl.MissingLibrary name) → missed ⊎ HasNoFolder told command name
-
--- a cause and a text were written: all of the text, and that is the cause; or a front of it, where the sink failed, which it
--- counts, or found no memory
-abbrev pub IsWrittenBy : Cause → List ℕ → Cause → Option (List ℕ) → Option (List ℕ) → Type 0 → Type 0
-IsWrittenBy own text cause old new failed =
-    ((cause ≡ own) × (new ≡ append_known old text)) ⊎ ((((cause ≡ causes.WriteFault) × failed) ⊎ (cause ≡ causes.Memory)) × TakesFront old text new)
-
--- the command's own end over the files of its library, whose counts rose so: its cause, and its text, which is written whole
-pub record IsWritten (told : Option (List File)) (words : List (List ℕ)) (failed missed : Type 0) (cause : Cause) (old new : Option (List ℕ)) : Type 0 where
-  pub text : List ℕ
-  pub own : Over told (CommandEnds (reads words) cause text)
-  pub counted : IsCounted told (reads words) failed missed cause
-  pub taken : new ≡ append_known old text
-
--- the command's own end, of whose text only a front is written
-pub record IsCutShort (told : Option (List File)) (words : List (List ℕ)) (failed missed : Type 0) (old new : Option (List ℕ)) : Type 0 where
+-- a command that runs no program ends for this cause, and keeps nothing
+pub record EndsBare (comes : Cause → Type 0) (end : End) : Type 0 where
   pub cause : Cause
-  pub text : List ℕ
-  pub own : Over told (CommandEnds (reads words) cause text)
-  pub counted : IsCounted told (reads words) failed missed cause
-  pub taken : TakesFront old text new
+  pub end_is : end ≡ bare cause
+  pub by : comes cause
 
--- how the command ends, and what its sink took: all of its text, or after a failed write a front of it;
--- without memory a front of it, or nothing
-abbrev pub Ends : Option (List File) → List (List ℕ) → Type 0 → Type 0 → Cause → Option (List ℕ) → Option (List ℕ) → Type 0
-Ends told words failed missed causes.WriteFault old new = IsCutShort told words failed missed old new
-Ends told words failed missed causes.Memory old new = (new ≡ old) ⊎ IsCutShort told words failed missed old new
-Ends told words failed missed cause old new = IsWritten told words failed missed cause old new
+-- how a command comes to an end over files, while its library goes on from one state to another
+abbrev pub Comes : Command → LibraryAt → LibraryAt → List File → End → Type 0
+Comes (Bind bind) before after files end = EndsBare (BindComes bind before after files) end
+Comes (Dump path) before after files end = EndsBare (DumpComes path before after files) end
+
+-- the text that a command prints at an end, over files
+abbrev pub Prints : Command → List File → End → List ℕ → Type 0
+Prints (Bind bind) files end text = BindPrints bind files end.cause text
+Prints (Dump path) files end text = DumpPrints path files end.cause text
+
+-- the library missed each file that a command's name could be
+abbrev pub Misses : Command → LibraryAt → LibraryAt → List ℕ → Type 0
+Misses (Bind bind) before after name = BindMisses bind before after name
+Misses (Dump path) before after name = (name ≡ path) × Rises before.misses after.misses
+
+-- the end isn't that of a failed read
+abbrev pub NoReadFails : End → Type 0
+NoReadFails end = (path : List ℕ) → end.cause ≢ causes.Refused (dl.ReadFault path)
+
+-- the files that a command reads, where they are told: the library's
+abbrev pub told_to : Command → LibraryAt → Option (List File)
+told_to command library = library.files
+
+-- over these files a command comes to this end, and prints this text at it
+pub record IsAnswer (command : Command) (before after : LibraryAt) (end : End) (text : List ℕ) (files : List File) : Type 0 where
+  pub comes : Comes command before after files end
+  pub prints : Prints command files end text
+
+-- words that are no command end as a usage
+pub record IsUsage (end : End) (text : List ℕ) : Type 0 where
+  pub end_is : end ≡ bare causes.Usage
+  pub text_is : text ≡ usage_text
+
+-- what the words come to, before anything is written: an end, and a text. They are the command's over the files that it reads,
+-- where these are told, and over some files where they aren't
+abbrev pub Answers : Option Command → LibraryAt → LibraryAt → End → List ℕ → Type 0
+Answers None before after end text = IsUsage end text
+Answers (Some command) before after end text = Over (told_to command before) (IsAnswer command before after end text)

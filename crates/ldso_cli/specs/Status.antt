@@ -6,6 +6,7 @@ use Rattle.ld_base.specs.declared.fault.DlFault.{DlFault}
 use Rattle.ld_base.specs.declared.fault.DlFault.TheVariants as dl
 use Rattle.ldso_cli.specs.declared.outcome.Cause.{Cause}
 use Rattle.ldso_cli.specs.declared.outcome.Cause.TheVariants as causes
+use Rattle.ldso_cli.specs.declared.outcome.End.{End}
 
 -- 121: a file can't be read; 126: it isn't accepted; 127: something that is needed isn't there; 118: what is there doesn't fit
 abbrev pub status_of_fault : DlFault → ℕ
@@ -16,12 +17,16 @@ status_of_fault (dl.MissingVersion o file version) = 127
 status_of_fault (dl.MissingSymbol o name version) = 127
 status_of_fault _ = 118
 
-abbrev pub status_of : Cause → ℕ
-status_of causes.Done = 0
-status_of (causes.Refused fault) = status_of_fault fault
-status_of causes.Usage = 120
-status_of causes.WriteFault = 122
-status_of causes.Memory = 123
+abbrev pub status_of_cause : Cause → ℕ
+status_of_cause causes.Done = 0
+status_of_cause (causes.Refused fault) = status_of_fault fault
+status_of_cause causes.Usage = 120
+status_of_cause causes.WriteFault = 122
+status_of_cause causes.Memory = 123
+
+-- the status of an end is that of its cause
+abbrev pub status_of : End → ℕ
+status_of end = status_of_cause end.cause
 
 -- the last line where a refusal ends the command
 unfoldable pub refused_text : DlFault → List ℕ

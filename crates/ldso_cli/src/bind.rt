@@ -1,45 +1,22 @@
 //! `bind`: the definition of each slot of a program and its libraries.
 
-ghost use Rattle.std.specs.Prelude.{◌≡◌, ◌≤◌, ◌⊎◌, ℕ, List, IfOk, IfSome, true};
+ghost use Rattle.std.specs.Prelude.{◌≡◌, ◌≤◌, IfOk, Some, true};
 ghost use Rattle.std.specs.List.{AllByRecursion};
-ghost use Rattle.std.specs.String.{string_bytes};
-ghost use Rattle.ld_base.specs.declared.fault.DlFault.TheVariants.{MissingLibrary, ReadFault};
-ghost use Rattle.library_source.specs.Count.{Rises};
-ghost use Rattle.load_order.specs.Plan.{HasNoPath, Over};
 ghost use Rattle.scope_rule.specs.Relocation.{names_symbols};
-ghost use Rattle.ldso_cli.specs.Bind.{BindEnds, ObjectsEnd, ask_of, nothing_loaded, opened};
-ghost use Rattle.ldso_cli.specs.Status.{refused_text, status_of_fault};
-ghost use Rattle.ldso_cli.specs.declared.outcome.Cause.TheVariants.{Refused};
+ghost use Rattle.command_text.specs.Refusal.{first_refusal};
+ghost use Rattle.ldso_cli.specs.Bind.{ask_of, cause_of, nothing_loaded, objects_text, opened};
+ghost use Rattle.ldso_cli.specs.Command.{Answers};
+ghost use Rattle.ldso_cli.specs.End.{bare};
+ghost use Rattle.ldso_cli.specs.Outside.{library_at};
 
-use crate::outcome::{Cause, status_of_fault};
-use command_text::{Bind, bound_text, first_refusal};
+use crate::answer::{Answer, done, refused};
+use command_text::{Bind, Command, bound_text, first_refusal};
 use elf_object::one_object;
 use ld_base::{Added, DlFault, HartId, NsId, Serial, Serials};
 use library_source::Library;
 use load_order::{LoadAsk, LoadFault, LoadPlan, loads_breadth_first, plan_load, waits_for_one};
 use scope_rule::{Namespace, OpenRec, Opens};
 use std::alloc::{AllocError, Global};
-
-/// What a command comes to: why it ends, and what it writes.
-#[derive(Debug, Drop)]
-pub(crate) struct Answer {
-    pub cause: Cause,
-    pub text: String,
-}
-
-/// The answer of a refusal.
-#[tactic(auto, unfolding(crate::specs::Status::refused_text))]
-pub(crate) fn refused(alloc: Global, fault: DlFault) -> Result<Answer, AllocError>
-    ensures cause { IfOk result (λ answer. answer.cause ≡ Refused fault) }
-    ensures text { IfOk result (λ answer. string_bytes answer.text ≡ refused_text fault) }
-{
-    let status = status_of_fault(&fault);
-    let text = format!(in alloc; "end {status} {fault}\n")?;
-    Ok(Answer {
-        cause: Cause::Refused(fault),
-        text,
-    })
-}
 
 /// What is asked of the load of a program.
 fn ask_of(bind: Bind) -> LoadAsk
@@ -94,14 +71,12 @@ fn opened(alloc: Global, objects: Added, global: Serials) -> Result<Namespace, A
 /// The answer of objects that are all there.
 fn of_objects(alloc: Global, ns: &Namespace, now: bool) -> Result<Answer, AllocError>
     requires { AllByRecursion (λ o. names_symbols o.object ≡ true) ns.now.objects }
-    ensures { IfOk result (λ answer. ObjectsEnd ns.now now answer.cause (string_bytes answer.text)) }
+    ensures end { IfOk result (λ answer. answer.end ≡ bare (cause_of (first_refusal ns.now now ns.now.objects))) }
+    ensures text { IfOk result (λ answer. answer.text ≡ objects_text ns.now (first_refusal ns.now now ns.now.objects)) }
 {
     match first_refusal(alloc, ns, now)? {
         Some(fault) => refused(alloc, fault),
-        None => Ok(Answer {
-            cause: Cause::Done,
-            text: bound_text(alloc, ns)?,
-        }),
+        None => Ok(done(bound_text(alloc, ns)?)),
     }
 }
 
@@ -112,13 +87,8 @@ pub(crate) fn bind<L: Library>(
     command: Bind,
     library: &mut L,
 ) -> Result<Answer, AllocError>
-    // Over the library's files where it tells them, and over some files where it doesn't.
-    ensures ends { IfOk result (λ answer. Over (L.files library.old) (BindEnds command answer.cause (string_bytes answer.text))) }
-
-    // No fault of the library is invented.
-    ensures read_fault { IfOk result (λ answer. (path : List ℕ) → answer.cause ≡ Refused (ReadFault path) → Rises (L.faults library.old) (L.faults library.new)) }
-    ensures missing { IfOk result (λ answer. (name : List ℕ) → answer.cause ≡ Refused (MissingLibrary name) →
-        Rises (L.misses library.old) (L.misses library.new) ⊎ Over (L.files library.old) (HasNoPath (ask_of command) nothing_loaded name)) }
+    ensures answers { IfOk result (λ answer. Answers (Some (Command.Bind command)) (library_at L.files L.faults L.misses library.old)
+        (library_at L.files L.faults L.misses library.new) answer.end answer.text) }
 
     // What the library is left as.
     ensures files { L.files library.new ≡ L.files library.old }

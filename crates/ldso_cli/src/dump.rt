@@ -1,16 +1,14 @@
 //! `dump`: what the object in a file holds.
 
-ghost use Rattle.std.specs.Prelude.{◌≡◌, ◌≤◌, ℕ, List, IfOk, true};
-ghost use Rattle.std.specs.String.{string_bytes};
-ghost use Rattle.library_source.specs.Count.{Rises};
+ghost use Rattle.std.specs.Prelude.{◌≡◌, ◌≤◌, IfOk, Some, true};
 ghost use Rattle.load_order.specs.Files.{bytes_as_read};
-ghost use Rattle.load_order.specs.Plan.{Over};
-ghost use Rattle.ldso_cli.specs.Dump.{DumpEnds, IsOfBytes, Shows};
-ghost use Rattle.ldso_cli.specs.declared.outcome.Cause.TheVariants.{Refused};
+ghost use Rattle.ldso_cli.specs.Command.{Answers};
+ghost use Rattle.ldso_cli.specs.Dump.{dump_cause, reading_text};
+ghost use Rattle.ldso_cli.specs.End.{bare};
+ghost use Rattle.ldso_cli.specs.Outside.{library_at};
 
-use crate::bind::{Answer, refused};
-use crate::outcome::Cause;
-use command_text::dump_text;
+use crate::answer::{Answer, done, refused};
+use command_text::{Command, dump_text};
 use elf_object::read_object;
 use ld_base::{DlFault, Name, ReadFault};
 use library_source::{Library, ReadError};
@@ -18,14 +16,11 @@ use std::alloc::{AllocError, Global};
 
 /// The answer of a file with these bytes, which are read as a program's.
 fn of_bytes(alloc: Global, path: Name, bytes: &[u8]) -> Result<Answer, AllocError>
-    ensures shows { IfOk result (λ answer. Shows path (bytes_as_read true bytes.now) answer.cause (string_bytes answer.text)) }
-    ensures cause { IfOk result (λ answer. IsOfBytes answer.cause) }
+    ensures end { IfOk result (λ answer. answer.end ≡ bare (dump_cause path (bytes_as_read true bytes.now))) }
+    ensures text { IfOk result (λ answer. answer.text ≡ reading_text path (bytes_as_read true bytes.now)) }
 {
     match read_object(alloc, bytes, true) {
-        Ok((object, _table)) => Ok(Answer {
-            cause: Cause::Done,
-            text: dump_text(alloc, &object)?,
-        }),
+        Ok((object, _table)) => Ok(done(dump_text(alloc, &object)?)),
         Err(ReadFault::NotAccepted(broken)) => {
             refused(alloc, DlFault::NotAccepted(path, broken))
         }
@@ -39,12 +34,8 @@ pub(crate) fn dump<L: Library>(
     path: Name,
     library: &mut L,
 ) -> Result<Answer, AllocError>
-    // Over the library's files where it tells them, and over some files where it doesn't.
-    ensures ends { IfOk result (λ answer. Over (L.files library.old) (DumpEnds path answer.cause (string_bytes answer.text))) }
-
-    // Nothing is invented.
-    ensures read_fault { IfOk result (λ answer. (path : List ℕ) → answer.cause ≡ Refused (DlFault.ReadFault path) → Rises (L.faults library.old) (L.faults library.new)) }
-    ensures missing { IfOk result (λ answer. (path : List ℕ) → answer.cause ≡ Refused (DlFault.MissingLibrary path) → Rises (L.misses library.old) (L.misses library.new)) }
+    ensures answers { IfOk result (λ answer. Answers (Some (Command.Dump path)) (library_at L.files L.faults L.misses library.old)
+        (library_at L.files L.faults L.misses library.new) answer.end answer.text) }
 
     // What the library is left as.
     ensures files { L.files library.new ≡ L.files library.old }

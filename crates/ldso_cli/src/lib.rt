@@ -5,10 +5,13 @@
 //! its texts are stands in `command_text`.
 #![tactic(auto)]
 
+mod answer;
 mod bind;
 mod dump;
+mod law;
 mod outcome;
 mod top;
 
-pub use outcome::{Cause, Outcome};
+pub use law::{one_end, one_text};
+pub use outcome::{Cause, End, Outcome};
 pub use top::ldso;

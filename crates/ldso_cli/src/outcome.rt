@@ -1,7 +1,8 @@
 //! How the command ends.
 
 ghost use Rattle.std.specs.Prelude.{◌≡◌};
-ghost use Rattle.ldso_cli.specs.Status.{status_of_fault, status_of};
+ghost use Rattle.ldso_cli.specs.End.{bare, end_of};
+ghost use Rattle.ldso_cli.specs.Status.{status_of, status_of_cause, status_of_fault};
 
 use ld_base::DlFault;
 
@@ -20,7 +21,15 @@ pub enum Cause {
     Memory,
 }
 
-/// How the command ended: its status, and why.
+/// How a command ended: why, and what it keeps. A command that runs a program will keep the record
+/// of the run and the trails of its harts: they get their fields here, and in [`Outcome`], with the
+/// first such command.
+#[derive(Debug, Drop)]
+pub struct End {
+    pub cause: Cause,
+}
+
+/// How the command ended: its status, and its end.
 #[derive(Debug, Drop)]
 pub struct Outcome {
     pub status: u8,
@@ -41,19 +50,49 @@ pub(crate) fn status_of_fault(fault: &DlFault) -> u8
     }
 }
 
-impl Cause {
+fn status_of_cause(cause: &Cause) -> u8
+    ensures { result ≡ status_of_cause cause.now }
+{
+    match cause {
+        Cause::Done => 0,
+        Cause::Refused(fault) => status_of_fault(fault),
+        Cause::Usage => 120,
+        Cause::WriteFault => 122,
+        Cause::Memory => 123,
+    }
+}
+
+impl End {
     ghost use Rattle.ldso_cli.specs.Status.{status_of};
+
+    /// The end of a command that runs no program: nothing is kept.
+    pub fn bare(cause: Cause) -> Self
+        ensures { result ≡ bare cause }
+    {
+        End { cause }
+    }
+
+    /// The same end for another cause: what is kept stays.
+    pub(crate) fn with_cause(self, cause: Cause) -> Self
+        ensures { result ≡ record self { cause = cause } }
+    {
+        End { cause, ..self }
+    }
 
     /// The status with which this ends the command.
     pub fn status(&self) -> u8
         ensures { result ≡ status_of self.now }
     {
-        match self {
-            Cause::Done => 0,
-            Cause::Refused(fault) => status_of_fault(fault),
-            Cause::Usage => 120,
-            Cause::WriteFault => 122,
-            Cause::Memory => 123,
-        }
+        status_of_cause(&self.cause)
+    }
+
+    /// The end with its status.
+    pub(crate) fn into_outcome(self) -> Outcome
+        ensures end { end_of result ≡ self }
+        ensures status { result.status ≡ status_of self }
+    {
+        let status = self.status();
+        let End { cause } = self;
+        Outcome { status, cause }
     }
 }

@@ -1,18 +1,18 @@
 //! The top call.
 
-ghost use Rattle.std.specs.Prelude.{◌≡◌, ◌≤◌, ◌⊎◌, ℕ, List, map, IfOk, MatchResult};
+ghost use Rattle.std.specs.Prelude.{◌≡◌, ◌≤◌, map, IfOk, MatchResult};
 ghost use Rattle.std.specs.String.{string_bytes};
-ghost use Rattle.ld_base.specs.declared.fault.DlFault.TheVariants.{MissingLibrary, ReadFault};
-ghost use Rattle.library_source.specs.Count.{Rises};
-ghost use Rattle.load_order.specs.Plan.{Over};
-ghost use Rattle.ldso_cli.specs.Command.{CommandEnds, Ends, HasNoFolder, IsCounted, IsWrittenBy};
-ghost use Rattle.ldso_cli.specs.Status.{status_of, usage_text};
 ghost use Rattle.command_text.specs.Words.{reads};
-ghost use Rattle.ldso_cli.specs.declared.outcome.Cause.TheVariants.{Refused, Usage, WriteFault};
+ghost use Rattle.ldso_cli.specs.Command.{Answers};
+ghost use Rattle.ldso_cli.specs.End.{end_of};
+ghost use Rattle.ldso_cli.specs.Ends.{Ends, IsCaused, IsUnanswered, Written};
+ghost use Rattle.ldso_cli.specs.Outside.{library_at, sink_at};
+ghost use Rattle.ldso_cli.specs.Status.{status_of};
 
-use crate::bind::{Answer, bind};
+use crate::answer::{Answer, usage};
+use crate::bind::bind;
 use crate::dump::dump;
-use crate::outcome::{Cause, Outcome};
+use crate::outcome::{Cause, End, Outcome};
 use command_text::{Command, reads};
 use ld_base::{Name, Names};
 use library_source::{Library, Sink, WriteError, put_all};
@@ -31,25 +31,14 @@ fn bytes_of(alloc: Global, words: &[String]) -> Result<Names, AllocError>
     Ok(names)
 }
 
-/// The answer of words that are no command.
-fn usage(alloc: Global) -> Result<Answer, AllocError>
-    ensures cause { IfOk result (λ answer. answer.cause ≡ Usage) }
-    ensures text { IfOk result (λ answer. string_bytes answer.text ≡ usage_text) }
-{
-    Ok(Answer {
-        cause: Cause::Usage,
-        text: String::from_str(alloc, "end 120 usage\n")?,
-    })
-}
-
 /// What the words come to.
 fn answer<L: Library>(
     alloc: Global,
     words: &[String],
     library: &mut L,
 ) -> Result<Answer, AllocError>
-    ensures ends { IfOk result (λ answer. Over (L.files library.old) (CommandEnds (reads (map (λ word. string_bytes word) words.now)) answer.cause (string_bytes answer.text))) }
-    ensures counted { IfOk result (λ answer. IsCounted (L.files library.old) (reads (map (λ word. string_bytes word) words.now)) (Rises (L.faults library.old) (L.faults library.new)) (Rises (L.misses library.old) (L.misses library.new)) answer.cause) }
+    ensures answers { IfOk result (λ answer. Answers (reads (map (λ word. string_bytes word) words.now)) (library_at L.files L.faults L.misses library.old)
+        (library_at L.files L.faults L.misses library.new) answer.end answer.text) }
     ensures files { L.files library.new ≡ L.files library.old }
     ensures faults { L.faults library.old ≤ L.faults library.new }
     ensures misses { L.misses library.old ≤ L.misses library.new }
@@ -63,16 +52,17 @@ fn answer<L: Library>(
 }
 
 /// Writes the answer, and says how the command ends.
-fn write_answer<K: Sink>(out: &mut K, answer: Result<Answer, AllocError>) -> Cause
-    ensures written { MatchResult answer (λ a. IsWrittenBy a.cause (string_bytes a.text) result (K.taken out.old) (K.taken out.new) (Rises (K.faults out.old) (K.faults out.new))) (λ _. (result ≡ Cause.Memory) × (K.taken out.new ≡ K.taken out.old)) }
+fn write_answer<K: Sink>(out: &mut K, answer: Result<Answer, AllocError>) -> End
+    ensures written { MatchResult answer (λ a. Written a.end a.text (sink_at K.taken K.faults out.old) (sink_at K.taken K.faults out.new) result)
+        (λ _. IsUnanswered (sink_at K.taken K.faults out.old) (sink_at K.taken K.faults out.new) result) }
     ensures faults { K.faults out.old ≤ K.faults out.new }
 {
     match answer {
-        Err(AllocError) => Cause::Memory,
-        Ok(answer) => match put_all(out, answer.text.as_bytes()) {
-            Ok(()) => answer.cause,
-            Err(WriteError::Failed) => Cause::WriteFault,
-            Err(WriteError::Memory) => Cause::Memory,
+        Err(AllocError) => End::bare(Cause::Memory),
+        Ok(answer) => match put_all(out, answer.text.as_slice()) {
+            Ok(()) => answer.end,
+            Err(WriteError::Failed) => answer.end.with_cause(Cause::WriteFault),
+            Err(WriteError::Memory) => answer.end.with_cause(Cause::Memory),
         },
     }
 }
@@ -91,14 +81,12 @@ pub fn ldso<R: Threads + Wait + Sync, L: Library + Send + Drop, K: Sink>(
     library: L,
     out: &mut K,
 ) -> (Outcome, L)
-    // Over the library's files where it tells them, and over some files where it doesn't.
-    ensures ends { Ends (L.files library) (map (λ word. string_bytes word) words.items) (Rises (L.faults library) (L.faults result.1)) (Rises (L.misses library) (L.misses result.1)) result.0.cause (K.taken out.old) (K.taken out.new) }
-    ensures status { result.0.status ≡ status_of result.0.cause }
-
-    // No failure is invented.
-    ensures read_fault { (path : List ℕ) → result.0.cause ≡ Refused (ReadFault path) → Rises (L.faults library) (L.faults result.1) }
-    ensures missing { (name : List ℕ) → result.0.cause ≡ Refused (MissingLibrary name) → Rises (L.misses library) (L.misses result.1) ⊎ HasNoFolder (L.files library) (reads (map (λ word. string_bytes word) words.items)) name }
-    ensures write_fault { result.0.cause ≡ WriteFault → Rises (K.faults out.old) (K.faults out.new) }
+    // How it ends, the text that it prints then, and how that was written.
+    ensures ends { Ends (reads (map (λ word. string_bytes word) words.items)) (library_at L.files L.faults L.misses library)
+        (library_at L.files L.faults L.misses result.1) (sink_at K.taken K.faults out.old) (sink_at K.taken K.faults out.new) (end_of result.0) }
+    ensures causes { IsCaused (reads (map (λ word. string_bytes word) words.items)) (library_at L.files L.faults L.misses library)
+        (library_at L.files L.faults L.misses result.1) (sink_at K.taken K.faults out.old) (sink_at K.taken K.faults out.new) result.0.cause }
+    ensures status { result.0.status ≡ status_of (end_of result.0) }
 
     // What the library and the sink are left as.
     ensures files { L.files result.1 ≡ L.files library }
@@ -109,7 +97,6 @@ pub fn ldso<R: Threads + Wait + Sync, L: Library + Send + Drop, K: Sink>(
     let _ = rt;
     let mut library = library;
     let answer = answer(alloc, words.as_slice(), &mut library);
-    let cause = write_answer(out, answer);
-    let status = cause.status();
-    (Outcome { status, cause }, library)
+    let end = write_answer(out, answer);
+    (end.into_outcome(), library)
 }

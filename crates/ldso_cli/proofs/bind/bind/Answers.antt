@@ -1,28 +1,31 @@
-use Rattle.std.proofs.Common.{Err, ap}
+use Rattle.std.proofs.Common.{Err, ap, ◌∙◌}
+use Rattle.load_order.specs.declared.ask.LoadFault.TheVariants as faults
 use Rattle.ldso_cli.specs.Bind.{ask_of}
-use Rattle.ldso_cli.proofs.Ending.{never_waits, refused_answers, read_names, loaded_answers, loaded_counts, loaded_finds}
+use Rattle.ldso_cli.specs.Outside.{library_at}
+use Rattle.ldso_cli.proofs.Ending.{never_waits, refused_answers, read_names, loaded_answers}
 use Rattle.ldso_cli.proofs.bind.bind.Goals as goal
 
-pub returns-in-Err-Refused-clause-ends : goal.returns-in-Err-Refused-clause-ends
-returns-in-Err-Refused-clause-ends g c =
+pub returns-in-Err-Refused-clause-answers : goal.returns-in-Err-Refused-clause-answers
+returns-in-Err-Refused-clause-answers g c =
+    let before = library_at g.L.Library.files g.L.Library.faults g.L.Library.misses c.args.library.now in
+    let after = library_at g.L.Library.files g.L.Library.faults g.L.Library.misses c.plan_load.new.library in
     let over = rw (c.ask_of-ask.ensures, c.nothing_loaded-ns.ensures) at (c.in-Err-Refused.ensures.refused c.in-Err-Refused.fault (ap Err c.in-Err-Refused.field-0-is)) in
-    refused_answers (g.L.Library.files c.args.library.now) c.args.command c.in-Err-Refused.fault c.refused.result c.refused.ensures.cause c.refused.ensures.text over
+    let missed = rw (c.ask_of-ask.ensures, c.nothing_loaded-ns.ensures) at c.in-Err-Refused.ensures.missing in
+    refused_answers c.args.command before after c.in-Err-Refused.fault c.refused.result c.refused.ensures.end c.refused.ensures.text over
+    (λ path e. c.in-Err-Refused.ensures.read_fault path (ap Err (c.in-Err-Refused.field-0-is ∙ ap faults.Refused e)))
+    (λ name e. missed name (ap Err (c.in-Err-Refused.field-0-is ∙ ap faults.Refused e)))
 
 pub of_objects-requires : goal.of_objects-requires
 of_objects-requires g c =
     let over = rw (c.ask_of-ask.ensures, c.nothing_loaded-ns.ensures) at c.in-Ok.ensures.plan in
     rw c.in_ok-ns-in-Ok.ensures (read_names c.one_object.ensures.names over.files (ask_of c.args.command) c.in-Ok.plan.added over.holds.read)
 
-pub returns-clause-ends : goal.returns-clause-ends
-returns-clause-ends g c =
+pub returns-clause-answers : goal.returns-clause-answers
+returns-clause-answers g c =
+    let before = library_at g.L.Library.files g.L.Library.faults g.L.Library.misses c.args.library.now in
+    let after = library_at g.L.Library.files g.L.Library.faults g.L.Library.misses c.plan_load.new.library in
     let over = rw (c.ask_of-ask.ensures, c.nothing_loaded-ns.ensures) at c.in-Ok.ensures.plan in
-    loaded_answers c.loads_breadth_first.ensures (g.L.Library.files c.args.library.now) c.args.command c.in-Ok.plan c.in_ok-ns-in-Ok.ns c.of_objects.result c.in_ok-ns-in-Ok.ensures over c.of_objects.ensures
-
-pub returns-clause-read_fault : goal.returns-clause-read_fault
-returns-clause-read_fault g c = loaded_counts c.in_ok-ns-in-Ok.ns c.args.command.now c.of_objects.result _ c.of_objects.ensures
-
-pub returns-clause-missing : goal.returns-clause-missing
-returns-clause-missing g c = loaded_finds c.in_ok-ns-in-Ok.ns c.args.command.now c.of_objects.result _ c.of_objects.ensures
+    loaded_answers c.loads_breadth_first.ensures c.args.command before after c.in-Ok.plan c.in_ok-ns-in-Ok.ns c.of_objects.result c.in_ok-ns-in-Ok.ensures over c.of_objects.ensures.end c.of_objects.ensures.text
 
 pub unreachable-requires : goal.unreachable-requires
 unreachable-requires g c =

@@ -1,0 +1,55 @@
+//! What a command answers, before anything is written.
+
+ghost use Rattle.std.specs.Prelude.{◌≡◌, IfOk};
+ghost use Rattle.std.specs.String.{string_bytes};
+ghost use Rattle.ldso_cli.specs.Command.{IsUsage};
+ghost use Rattle.ldso_cli.specs.End.{bare};
+ghost use Rattle.ldso_cli.specs.Status.{refused_text, status_of_fault};
+ghost use Rattle.ldso_cli.specs.declared.outcome.Cause.TheVariants.{Done, Refused};
+
+use crate::outcome::{Cause, End, status_of_fault};
+use ld_base::{Bytes, DlFault};
+use std::alloc::{AllocError, Global};
+
+/// How a command ended, and the bytes that it prints then.
+#[derive(Debug, Drop)]
+pub(crate) struct Answer {
+    pub end: End,
+    pub text: Bytes,
+}
+
+/// The answer of a command that did what it was asked, and ran no program.
+pub(crate) fn done(text: String) -> Answer
+    ensures end { result.end ≡ bare Done }
+    ensures text { result.text ≡ string_bytes text }
+{
+    Answer {
+        end: End::bare(Cause::Done),
+        text: Bytes::from(text.into_bytes()),
+    }
+}
+
+/// The answer of a refusal, of a command that ran no program.
+#[tactic(auto, unfolding(crate::specs::Status::refused_text))]
+pub(crate) fn refused(alloc: Global, fault: DlFault) -> Result<Answer, AllocError>
+    ensures end { IfOk result (λ answer. answer.end ≡ bare (Refused fault)) }
+    ensures text { IfOk result (λ answer. answer.text ≡ refused_text fault) }
+{
+    let status = status_of_fault(&fault);
+    let text = format!(in alloc; "end {status} {fault}\n")?;
+    Ok(Answer {
+        end: End::bare(Cause::Refused(fault)),
+        text: Bytes::from(text.into_bytes()),
+    })
+}
+
+/// The answer of words that are no command.
+pub(crate) fn usage(alloc: Global) -> Result<Answer, AllocError>
+    ensures { IfOk result (λ answer. IsUsage answer.end answer.text) }
+{
+    let text = String::from_str(alloc, "end 120 usage\n")?;
+    Ok(Answer {
+        end: End::bare(Cause::Usage),
+        text: Bytes::from(text.into_bytes()),
+    })
+}
