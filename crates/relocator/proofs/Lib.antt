@@ -4,4 +4,5 @@ mod Layers
 mod Linkers
 mod Overlays
 mod Pairs
+mod Premises
 mod Types

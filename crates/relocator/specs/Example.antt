@@ -24,7 +24,7 @@ code = record { vaddr = 0x1000; memsz = 24; flags = 5; align = 0x1000; bytes = s
 abbrev bytes_of_data : List ℕ
 bytes_of_data = short 0 0 ++ short 0 0 ++ short 0x10 0x10 ++ short 0x10 0x10 ++ short 1 0 ++ short 2 0 ++ short 0xef 0xbe ++ (0x11 ∷ 0x22 ∷ 0x33 ∷ 0x44 ∷ [])
 
-abbrev data_segment : Segment
+abbrev pub data_segment : Segment
 data_segment = record { vaddr = 0x3000; memsz = 0x90; flags = 6; align = 0x1000; bytes = bytes_of_data }
 
 abbrev symbol : ℕ → Symbol
@@ -84,16 +84,16 @@ abbrev pub example_places : List ModulePlace
 example_places = record { serial = 7; number = 1; offset = Some 0x10 } ∷ record { serial = 9; number = 2; offset = None } ∷ []
 
 -- a definition of object 9, and none
-abbrev defined : ℕ → ℕ → List ℕ → Binding
+abbrev pub defined : ℕ → ℕ → List ℕ → Binding
 defined value size copied = record { bound = true; choice = Def 9 4; value = value; size = size; object = Some 9; copied = copied }
 
-abbrev undefined : Binding
+abbrev pub undefined : Binding
 undefined = record { bound = true; choice = WeakZero; value = 0; size = 0; object = None; copied = [] }
 
 abbrev lazily : Binding
 lazily = record { bound = false; choice = WeakZero; value = 0x99; size = 0; object = None; copied = [] }
 
-abbrev own : Binding
+abbrev pub own : Binding
 own = record { bound = true; choice = Def 7 0; value = 0x99; size = 0; object = Some 7; copied = [] }
 
 abbrev pub example_bindings : List Binding
