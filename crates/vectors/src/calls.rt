@@ -4,7 +4,7 @@
 //! text, beside those of its topic, and name it here.
 
 use crate::words::Words;
-use crate::{hashes, instructions, pages};
+use crate::{graphs, hashes, instructions, pages};
 use address_space::Regions;
 use std::alloc::{AllocError, Global};
 use std::fmt::Debug;
@@ -34,6 +34,7 @@ impl Calls {
             "sysv_hash" => hashes::sysv(alloc, rest),
             "gnu_hash" => hashes::gnu(alloc, rest),
             "linker_symbol" => hashes::linker(alloc, rest),
+            "unneeded" => graphs::unneeded_of(alloc, words),
             "instruction" => instructions::instruction(alloc, words),
             "compute" => instructions::computed(alloc, words),
             "all_free" => pages::all_free(alloc, &mut self.regions),

@@ -7,6 +7,7 @@
 #![tactic(auto)]
 
 mod calls;
+mod graphs;
 mod hashes;
 mod instructions;
 mod pages;
