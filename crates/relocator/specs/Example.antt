@@ -17,17 +17,17 @@ use Rattle.relocator.specs.declared.binding.ModulePlace.{ModulePlace}
 abbrev short : ℕ → ℕ → List ℕ
 short low high = low ∷ high ∷ 0 ∷ 0 ∷ 0 ∷ 0 ∷ 0 ∷ 0 ∷ []
 
-abbrev code : Segment
+abbrev pub code : Segment
 code = record { vaddr = 0x1000; memsz = 24; flags = 5; align = 0x1000; bytes = short 0x13 0 ++ short 0x67 0x80 ++ short 0x73 0 }
 
 -- .got.plt with two slots, whose file words lead to 0x1010; then the words that are relocated; then four bytes more
-abbrev bytes_of_data : List ℕ
+abbrev pub bytes_of_data : List ℕ
 bytes_of_data = short 0 0 ++ short 0 0 ++ short 0x10 0x10 ++ short 0x10 0x10 ++ short 1 0 ++ short 2 0 ++ short 0xef 0xbe ++ (0x11 ∷ 0x22 ∷ 0x33 ∷ 0x44 ∷ [])
 
 abbrev pub data_segment : Segment
 data_segment = record { vaddr = 0x3000; memsz = 0x90; flags = 6; align = 0x1000; bytes = bytes_of_data }
 
-abbrev symbol : ℕ → Symbol
+abbrev pub symbol : ℕ → Symbol
 symbol size = record { name = []; info = 17; other = 0; shndx = 0; value = 0; size = size; version = 0 }
 
 abbrev reloc : ℕ → ℕ → ℕ → Reloc
@@ -90,7 +90,7 @@ defined value size copied = record { bound = true; choice = Def 9 4; value = val
 abbrev pub undefined : Binding
 undefined = record { bound = true; choice = WeakZero; value = 0; size = 0; object = None; copied = [] }
 
-abbrev lazily : Binding
+abbrev pub lazily : Binding
 lazily = record { bound = false; choice = WeakZero; value = 0x99; size = 0; object = None; copied = [] }
 
 abbrev pub own : Binding

@@ -4,7 +4,7 @@
 //! text, beside those of its topic, and name it here.
 
 use crate::words::Words;
-use crate::{graphs, hashes, instructions, pages};
+use crate::{graphs, hashes, images, instructions, pages};
 use address_space::Regions;
 use std::alloc::{AllocError, Global};
 use std::fmt::Debug;
@@ -37,6 +37,7 @@ impl Calls {
             "unneeded" => graphs::unneeded_of(alloc, words),
             "instruction" => instructions::instruction(alloc, words),
             "compute" => instructions::computed(alloc, words),
+            "relocated_word" => images::word(alloc, words),
             "all_free" => pages::all_free(alloc, &mut self.regions),
             "copied" => pages::copied(alloc, &mut self.regions),
             "reserve" => pages::reserve(alloc, &mut self.regions, words),

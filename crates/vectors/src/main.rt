@@ -9,6 +9,7 @@
 mod calls;
 mod graphs;
 mod hashes;
+mod images;
 mod instructions;
 mod pages;
 mod sheet;
