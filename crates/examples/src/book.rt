@@ -246,12 +246,12 @@ impl<'a> Book<'a> {
 
     /// Goes on with the bytes that the last line of bytes was about.
     fn write(&mut self, bytes: &str) -> Result<(), Fault> {
-        let line_of = match self.open {
+        let last = match self.open {
             Open::Nothing => None,
             Open::Stock => self.stocks.pop(),
             Open::File => self.command.files.pop(),
         };
-        let mut layout = line_of.ok_or(Fault::Unclear)?;
+        let mut layout = last.ok_or(Fault::Unclear)?;
         let written = layout.write(bytes, self.stocks.as_slice(), &self.numbers);
         match self.open {
             Open::File => self.command.files.push(layout)?,

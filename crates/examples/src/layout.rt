@@ -109,24 +109,14 @@ impl Layout {
                 self.put(word.as_bytes())?;
                 self.put(b"\0")?;
             }
-            Directive::At | Directive::Size | Directive::Number(_) | Directive::Zero => {
-                self.put_number(directive, number(numbers, word)?)?;
-            }
+            Directive::At => self.at = number(numbers, word)? as usize,
+            Directive::Size => self.bytes.resize(number(numbers, word)? as usize, 0)?,
+            Directive::Number(width) => self.put_low(number(numbers, word)?, width)?,
+            Directive::Zero => self.fill(number(numbers, word)?, 0, 1)?,
             Directive::Fill => return Ok(Directive::Filling(number(numbers, word)?)),
-            Directive::Filling(count) => self.fill(count, number(numbers, word)?)?,
+            Directive::Filling(count) => self.fill(count, number(numbers, word)?, 8)?,
         }
         Ok(directive)
-    }
-
-    fn put_number(&mut self, directive: Directive, value: u64) -> Result<(), AllocError> {
-        match directive {
-            Directive::At => self.at = value as usize,
-            Directive::Size => self.bytes.resize(value as usize, 0)?,
-            Directive::Zero => self.fill_bytes(value)?,
-            Directive::Number(width) => self.put_low(value, width)?,
-            _ => {}
-        }
-        Ok(())
     }
 
     /// Puts the lowest bytes of a number, so many of them.
@@ -137,16 +127,10 @@ impl Layout {
         Ok(())
     }
 
-    fn fill(&mut self, count: u64, value: u64) -> Result<(), AllocError> {
+    /// Puts the lowest bytes of a number so many times.
+    fn fill(&mut self, count: u64, value: u64, width: usize) -> Result<(), AllocError> {
         for _ in 0..count {
-            self.put_low(value, 8)?;
-        }
-        Ok(())
-    }
-
-    fn fill_bytes(&mut self, count: u64) -> Result<(), AllocError> {
-        for _ in 0..count {
-            self.put_byte(0)?;
+            self.put_low(value, width)?;
         }
         Ok(())
     }
