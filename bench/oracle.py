@@ -196,7 +196,10 @@ def check_tables(memory, last, sysv, gnu):
         ask(GNU_HASH in last, 11, HASH)
     ask(STRTAB in last and last.get(STRSZ) and memory.bytes_at(last[STRTAB], last[STRSZ]) is not None, 11, STRTAB)
     ask(SYMTAB in last and last.get(SYMENT) == 24, 11, SYMTAB)
-    check_sized(memory, last, RELA, RELASZ, 24, last.get(RELAENT) == 24)
+    if RELA in last:
+        ask(RELASZ in last, 11, RELA)
+        rela = rela_span(last)
+        ask(rela is None or (last.get(RELAENT) == 24 and rela[1] % 24 == 0 and memory.bytes_at(*rela) is not None), 11, RELA)
     check_sized(memory, last, JMPREL, PLTRELSZ, 24, last.get(PLTREL) == RELA and PLTGOT in last)
     for tag, size_tag in ARRAYS:
         check_sized(memory, last, tag, size_tag, 8, last.get(tag, 0) % 8 == 0)
@@ -219,12 +222,17 @@ def relocs_at(memory, span):
     return relocs
 
 
-def both_relocs(memory, last):
-    """The relocations, less those of slots at their end, and those of slots."""
+def rela_span(last):
+    """The table of the relocations, less that of slots at its end; none where nothing is left."""
     rela, slots = span_of(last, RELA, RELASZ), span_of(last, JMPREL, PLTRELSZ)
     if rela and slots and slots[0] >= rela[0] and sum(rela) == sum(slots):
-        rela = (rela[0], slots[0] - rela[0])
-    return relocs_at(memory, rela), relocs_at(memory, slots)
+        rela = (rela[0], slots[0] - rela[0]) if slots[0] > rela[0] else None
+    return rela
+
+
+def both_relocs(memory, last):
+    """The relocations, less those of slots at their end, and those of slots."""
+    return relocs_at(memory, rela_span(last)), relocs_at(memory, span_of(last, JMPREL, PLTRELSZ))
 
 
 # ---- rules 12 to 14

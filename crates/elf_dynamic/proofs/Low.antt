@@ -1,60 +1,23 @@
--- Mapped segments end in the first 4 GiB of addresses, and so does what lies in one.
-use Rattle.std.proofs.Common.{◌≡◌, ap, ℕ, ◌+◌, ◌<◌, ◌≤◌, ◌^◌, true, false, List, ◌++◌, length, take, get_or, refl, arith, inl, inr}
-use Rattle.std.specs.Prelude.{Option, Some, None, Ok, IsTrue, ◌&&◌}
+-- What lies in mapped segments ends in the first 4 GiB of addresses.
+use Rattle.std.proofs.Common.{◌≡◌, ℕ, ◌+◌, ◌-◌, ◌*◌, ◌%◌, ◌<◌, ◌≤◌, ◌^◌, ◌==◌, Bool, true, false, List, [], ◌∷◌, length, arith, refl, inl, inr}
+use Rattle.std.specs.Prelude.{IsTrue, ◌&&◌}
 use Rattle.std.specs.List.{list_any}
-use Rattle.std.specs.Option.{option_or}
 use Rattle.std.proofs.lemmas.Bool.{cases_Bool}
+use Rattle.std.proofs.lemmas.Bool.Decides.{nat_tests}
 use Rattle.std.proofs.lemmas.List.Folds.{Any-from_list_any}
-use Rattle.std.proofs.lemmas.Option.{slice_get-get_or}
+use Rattle.ld_base.specs.declared.object.Reloc.{Reloc}
 use Rattle.ld_base.specs.declared.object.Span.{Span}
-use Rattle.ld_base.specs.declared.parts.Head.{Head}
+use Rattle.ld_base.specs.declared.object.Symbol.{Symbol}
 use Rattle.ld_base.specs.declared.parts.Header.{Header}
-use Rattle.elf_head.proofs.Least.{least_none}
-use Rattle.elf_head.proofs.Limits.{limit_of_shape}
-use Rattle.elf_head.proofs.Verdicts.{none_at, verdict_ok}
-use Rattle.elf_head.specs.Header.{headers_of, is_loaded}
-use Rattle.elf_head.specs.Rules.{file_rules, head_broken, head_of, head_verdict, header_rules}
-use Rattle.elf_head.specs.Segments.{bad_segment, is_bad, is_bad_at, is_misshapen}
+use Rattle.elf_head.specs.Accepted.{AllFit}
+use Rattle.elf_head.specs.Header.{is_loaded}
 use Rattle.elf_dynamic.specs.Memory.{holds, in_writable, is_writable, AreLow}
-use Rattle.elf_dynamic.specs.Named.{doubleword}
-use Rattle.elf_dynamic.specs.Rules.{is_bad_place}
+use Rattle.elf_dynamic.specs.Named.{doubleword, named_by}
+use Rattle.elf_dynamic.specs.Rules.{is_bad_place, is_bad_reloc, is_misplaced, is_no_slot}
 
--- ---- the segments of an accepted file
-
-no_number : (broken : Option ℕ) → ((number : ℕ) → broken ≡ Some number → ⊥) → broken ≡ None
-no_number None never = refl
-no_number (Some number) never = absurd (never number refl)
-
-none_bad : (bytes : List ℕ) → head_broken bytes ≡ None → bad_segment (length bytes) (headers_of bytes) ≡ None
-unfolding head_broken
-none_bad bytes none = no_number (bad_segment (length bytes) (headers_of bytes)) (λ number found. none_at 1 (header_rules bytes ++ file_rules bytes) 7 number none (ap Some found))
-
-neither : (first second : Option ℕ) → option_or first second ≡ None → first ≡ None
-neither None second none = refl
-neither (Some k) second none = cc
-
-good_at : (size : ℕ) (headers : List Header) (i : ℕ) → bad_segment size headers ≡ None → i < length headers → is_bad_at size headers i ≡ false
-unfolding bad_segment
-good_at size headers i none within = least_none (is_bad_at size headers) (length headers) i (neither _ _ none) within
-
-headers_same : (bytes : List ℕ) (head : Head) → head ≡ head_of bytes → head.headers ≡ headers_of bytes
-unfolding head_of
-headers_same bytes head same = ap (λ (h : Head). h.headers) same
-
-shape_of : (size : ℕ) (headers before : List Header) (h : Header) → is_bad size headers before h ≡ false → is_loaded h ≡ true → is_misshapen size h ≡ false
-unfolding is_bad
-shape_of size headers before h good loaded = grind arith
-
-pub low_headers : (bytes : List ℕ) (head : Head) → head_verdict bytes ≡ Ok head → AreLow head.headers
-low_headers bytes head ok k d within loaded =
-    let parts = verdict_ok bytes head ok in
-    let none : bad_segment (length bytes) head.headers ≡ None = rw (headers_same bytes head parts.1) (none_bad bytes parts.0) in
-    let good : is_bad_at (length bytes) head.headers k ≡ false = good_at (length bytes) head.headers k none within in
-    let h = get_or head.headers k d in
-    let here : is_bad (length bytes) head.headers (take k head.headers) h ≡ false = rw (slice_get-get_or head.headers k d within) at good in
-    limit_of_shape (length bytes) h (shape_of (length bytes) head.headers (take k head.headers) h here loaded)
-
--- ---- what lies in them
+-- the segments of an accepted head
+pub low_headers : (size : ℕ) (headers : List Header) → AllFit size headers → AreLow headers
+low_headers size headers fit k d within loaded = (fit k d within loaded).low
 
 -- a range in one segment ends where that segment does, or before
 end_in : (h : Header) (s : Span) → (is_writable h && holds s h) ≡ true → (IsTrue (is_loaded h) → h.vaddr + h.memsz ≤ 2 ^ 32) → s.start + s.size ≤ 2 ^ 32
@@ -77,13 +40,46 @@ low_place headers place low good =
     let inside : in_writable headers (doubleword place) ≡ true = grind arith in
     low_writable headers (doubleword place) low inside (omega arith)
 
-pub high_place : (headers : List Header) (place : ℕ) → AreLow headers → 2 ^ 32 ≤ place → is_bad_place headers place ≡ true
-high_place headers place low high =
-    elim (cases_Bool (is_bad_place headers place)) [ inl bad ↦ bad | inr good ↦ absurd (omega (arith, low_place headers place low good)) ]
+-- the bytes of a relocation that isn't bad
+pub low_reloc : (headers : List Header) (symbols : List Symbol) (r : Reloc) → AreLow headers → is_bad_reloc headers symbols r ≡ false → 0 < (named_by symbols r).size → (named_by symbols r).start + (named_by symbols r).size ≤ 2 ^ 32
+low_reloc headers symbols r low good some =
+    let placed : is_misplaced headers symbols r ≡ false = grind arith in
+    elim (cases_Bool (r.kind == 0)) [
+      | inl none ↦ absurd (omega (arith, rw none at some))
+      | inr other ↦
+          elim (cases_Bool (r.kind == 4)) [
+            | inl copy ↦
+                let inside : in_writable headers (named_by symbols r) ≡ true = grind arith in
+                low_writable headers (named_by symbols r) low inside some
+            | inr doublewords ↦
+                let here : is_bad_place headers r.place ≡ false = rw (other, doublewords) at placed in
+                rw (other, doublewords) (low_place headers r.place low here)
+          ]
+    ]
 
--- the same in an accepted file
-pub low_doubleword : (bytes : List ℕ) (head : Head) (place : ℕ) → head_verdict bytes ≡ Ok head → is_bad_place head.headers place ≡ false → place + 8 ≤ 2 ^ 32
-low_doubleword bytes head place ok good = low_place head.headers place (low_headers bytes head ok) good
+-- a slot that isn't bad by itself
+pub low_slot : (bytes : List ℕ) (headers : List Header) (symbols : List Symbol) (r : Reloc) → AreLow headers → is_no_slot bytes headers symbols r ≡ false → (r.place % 8 ≡ 0) × (r.place + 8 ≤ 2 ^ 32)
+low_slot bytes headers symbols r low good =
+    let placed : is_bad_place headers r.place ≡ false = grind arith in
+    let aligned : r.place % 8 ≡ 0 = grind arith in
+    (aligned, low_place headers r.place low placed)
 
-pub low_span : (bytes : List ℕ) (head : Head) (s : Span) → head_verdict bytes ≡ Ok head → in_writable head.headers s ≡ true → 0 < s.size → s.start + s.size ≤ 2 ^ 32
-low_span bytes head s ok inside some = low_writable head.headers s (low_headers bytes head ok) inside some
+-- a doubleword of a range of writable memory is in writable memory
+any_more : (p q : Header → Bool) (headers : List Header) → ((h : Header) → p h ≡ true → q h ≡ true) → list_any p headers ≡ true → list_any q headers ≡ true
+any_more p q [] more any = absurd cc
+any_more p q (h ∷ headers) more any =
+    elim (cases_Bool (p h)) [
+      | inl passes ↦ rw (more h passes) refl
+      | inr fails ↦ let rest = any_more p q headers more (rw fails at any) in grind arith
+    ]
+
+inside_of : (next bit : ℕ) (h : Header) → 1 ≤ bit → bit < 64 → (is_writable h && holds (record { start = next; size = 504 }) h) ≡ true → (is_writable h && holds (doubleword (next + 8 * (bit - 1))) h) ≡ true
+inside_of next bit h some few inside = grind (arith, nat_tests)
+
+pub sure_place : (headers : List Header) (next bit : ℕ) → 1 ≤ bit → bit < 64 → next % 8 ≡ 0 → in_writable headers (record { start = next; size = 504 }) ≡ true → is_bad_place headers (next + 8 * (bit - 1)) ≡ false
+unfolding in_writable
+sure_place headers next bit some few aligned inside =
+    let any : list_any (λ h. is_writable h && holds (record { start = next; size = 504 }) h) headers ≡ true = grind arith in
+    let more = any_more (λ h. is_writable h && holds (record { start = next; size = 504 }) h) (λ h. is_writable h && holds (doubleword (next + 8 * (bit - 1))) h) headers (λ h. inside_of next bit h some few) any in
+    let level : (next + 8 * (bit - 1)) % 8 ≡ 0 = omega arith in
+    rw (level, more) refl

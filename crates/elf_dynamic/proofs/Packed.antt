@@ -8,27 +8,12 @@ use Rattle.std.proofs.lemmas.List.Sums.{fold_push}
 use Rattle.std.specs.Prelude.{if◌then◌else◌}
 use Rattle.std.specs.List.{range_with_len}
 use Rattle.ld_base.specs.Field.{field}
-use Rattle.elf_head.specs.Table.{table}
-use Rattle.elf_dynamic.specs.Relr.{begins_odd, bits_of, name_more, named_by_words, IsFront, Named}
+use Rattle.acceptance.specs.Table.{table}
+use Rattle.elf_dynamic.specs.Relr.{begins_odd, bits_of, has_bit, name_more, named_by_words, Named}
 
 -- the words of so many, and what they name
 abbrev pub first_words : List ℕ → ℕ → List ℕ
 first_words bytes n = table (field 8 bytes) 0 8 n
-
--- ---- the front of the places
-
--- a front that has stopped is one of more places too
-pub front_past : (places all more : List ℕ) → IsFront true places all → IsFront true places (all ++ more)
-front_past places all more front =
-    (front.0, front.1 ++ more, front.2, ap (λ xs. xs ++ more) front.3 ∙ append_assoc places (front.0 ∷ front.1) more)
-
--- it stops at a place that isn't low
-pub front_stops : (places all : List ℕ) (place : ℕ) → IsFront false places all → 2 ^ 32 ≤ place → IsFront true places (all ++ place ∷ [])
-front_stops places all place front high = (place, [], high, ap (λ xs. xs ++ place ∷ []) (sym front))
-
--- and takes any other
-pub front_more : (places all : List ℕ) (place : ℕ) → IsFront false places all → IsFront false (places ++ place ∷ []) (all ++ place ∷ [])
-front_more places all place front = ap (λ xs. xs ++ place ∷ []) front
 
 -- ---- words
 
@@ -80,21 +65,6 @@ first_odd bytes (suc n) = front_odd (first_words bytes (suc n)) _ (omega (arith,
     front_odd [] more some = absurd (omega arith)
     front_odd (word ∷ words) more some = refl
 
--- a front that has stopped is one of the whole table
-pub front_whole : (bytes : List ℕ) (past : Bool) (places : List ℕ) (i n : ℕ) → i ≤ n → past ≡ true → IsFront past places (named_by_words (first_words bytes i)).places → IsFront past places (named_by_words (first_words bytes n)).places
-front_whole bytes false places i n within stopped front = absurd cc
-front_whole bytes true places i n within stopped front =
-    let more = places_extend bytes i n within in
-    rw more.1 (front_past places (named_by_words (first_words bytes i)).places more.0 front)
-
--- the front with the places of one word more
-pub front_named : (bytes : List ℕ) (past : Bool) (places : List ℕ) (n word : ℕ) → word ≡ field 8 bytes (8 * n)
-    → IsFront past places (name_more (named_by_words (first_words bytes n)) word).places → IsFront past places (named_by_words (first_words bytes (n + 1))).places
-front_named bytes past places n word is front =
-    let named = named_by_words (first_words bytes n) in
-    let same = ap (λ w. (name_more named w).places) is ∙ sym (ap (λ (more : Named). more.places) (named_more bytes n)) in
-    subst (IsFront past places) same front
-
 -- ---- bits
 
 -- one number more
@@ -103,10 +73,6 @@ range_more a zero = rw add-zero refl
 range_more a (suc n) =
     let same : a + 1 + n ≡ a + suc n = omega arith in
     ap (λ xs. a ∷ xs) (range_more (a + 1) n ∙ ap (λ k. range_with_len (a + 1) n ++ k ∷ []) same)
-
--- the word has this bit
-abbrev pub has_bit : ℕ → ℕ → Bool
-has_bit word i = word / 2 ^ i % 2 == 1
 
 -- the places of the first bits of a word, from a place on
 unfoldable pub bit_places : ℕ → ℕ → ℕ → List ℕ
@@ -129,21 +95,26 @@ next_bit word next n =
     ∙ map-append (λ i. next + 8 * (i - 1)) (filter (has_bit word) (range_with_len 1 n)) (filter (has_bit word) ((1 + n) ∷ []))
 
 -- one bit more
-pub bit_set : (word next bit : ℕ) → 1 ≤ bit → word / 2 ^ bit % 2 ≡ 1 → bit_places word next (bit + 1 - 1) ≡ bit_places word next (bit - 1) ++ (next + 8 * (bit - 1)) ∷ []
-bit_set word next bit some set =
+pub bit_more : (word next bit : ℕ) → 1 ≤ bit → bit_places word next (bit + 1 - 1) ≡ bit_places word next (bit - 1) ++ (if has_bit word bit then (next + 8 * (bit - 1)) ∷ [] else [])
+bit_more word next bit some =
     let last : bit + 1 - 1 ≡ suc (bit - 1) = omega arith in
     let same : 1 + (bit - 1) ≡ bit = omega arith in
-    let has : has_bit word bit ≡ true = grind arith in
     ap (bit_places word next) last ∙ next_bit word next (bit - 1)
     ∙ ap (λ k. bit_places word next (bit - 1) ++ map (λ i. next + 8 * (i - 1)) (filter (has_bit word) (k ∷ []))) same
-    ∙ ap (λ b. bit_places word next (bit - 1) ++ map (λ i. next + 8 * (i - 1)) (if b then bit ∷ [] else [])) has
+    ∙ ap (λ xs. bit_places word next (bit - 1) ++ xs) (of_bit (has_bit word bit))
+  where
+    of_bit : (has : Bool) → map (λ i. next + 8 * (i - 1)) (if has then bit ∷ [] else []) ≡ (if has then (next + 8 * (bit - 1)) ∷ [] else [])
+    of_bit true = refl
+    of_bit false = refl
 
-pub bit_clear : (word next bit : ℕ) → 1 ≤ bit → (word / 2 ^ bit % 2 ≡ 1 → ⊥) → bit_places word next (bit + 1 - 1) ≡ bit_places word next (bit - 1)
-bit_clear word next bit some clear =
-    let last : bit + 1 - 1 ≡ suc (bit - 1) = omega arith in
-    let same : 1 + (bit - 1) ≡ bit = omega arith in
-    let has : has_bit word bit ≡ false = grind arith in
-    ap (bit_places word next) last ∙ next_bit word next (bit - 1)
-    ∙ ap (λ k. bit_places word next (bit - 1) ++ map (λ i. next + 8 * (i - 1)) (filter (has_bit word) (k ∷ []))) same
-    ∙ ap (λ b. bit_places word next (bit - 1) ++ map (λ i. next + 8 * (i - 1)) (if b then bit ∷ [] else [])) has
-    ∙ append-nil (bit_places word next (bit - 1))
+-- the places of bits stand before those of more bits
+pub bits_extend : (word next i n : ℕ) → i ≤ n → (rest : List ℕ) × (bit_places word next n ≡ bit_places word next i ++ rest)
+bits_extend word next i zero within = let same : i ≡ 0 = omega arith in ([], rw (same, append-nil) refl)
+bits_extend word next i (suc n) within =
+    elim (eq-or-lt_of_le within) [
+      | inl same ↦ ([], rw (same, append-nil) refl)
+      | inr below ↦
+          let before = bits_extend word next i n (omega arith) in
+          let step = map (λ k. next + 8 * (k - 1)) (filter (has_bit word) ((1 + n) ∷ [])) in
+          (before.0 ++ step, next_bit word next n ∙ ap (λ xs. xs ++ step) before.1 ∙ append_assoc (bit_places word next i) before.0 step)
+    ]

@@ -1,16 +1,18 @@
 -- What follows for symbols that a file has.
-use Rattle.std.proofs.Common.{◌≡◌, ℕ, ◌*◌, ◌<◌, ◌^◌, Bool, true, false, List, [], ◌∷◌, ◌++◌, None, Ok, refl, arith, inl, inr}
+use Rattle.std.proofs.Common.{◌≡◌, ℕ, ◌+◌, ◌*◌, ◌<◌, ◌≤◌, ◌^◌, Bool, true, false, List, [], ◌∷◌, ◌++◌, None, Ok, refl, arith, inl, inr}
 use Rattle.ld_base.specs.declared.parts.HashTable.{HashTable}
-use Rattle.ld_base.specs.declared.parts.Head.{Head}
 use Rattle.ld_base.specs.declared.parts.Header.{Header}
 use Rattle.ld_base.specs.declared.parts.Tag.{Tag}
-use Rattle.elf_head.specs.Readable.{readable}
-use Rattle.elf_head.specs.Rules.{head_verdict}
+use Rattle.std.specs.Prelude.{IsTrue}
+use Rattle.std.specs.List.{list_any}
+use Rattle.std.proofs.lemmas.List.Folds.{Any-from_list_any}
+use Rattle.elf_head.specs.Accepted.{AllFit, Fits}
+use Rattle.elf_head.specs.Header.{is_loaded}
+use Rattle.elf_head.specs.Readable.{covers, readable}
 use Rattle.std.proofs.lemmas.Bool.{cases_lt}
-use Rattle.elf_head.proofs.Low.{low}
 use Rattle.elf_dynamic.specs.Rules.{bad_table, first_bad, lacks_symbols, table_checks}
-use Rattle.elf_dynamic.specs.Tables.{value_of}
-use Rattle.elf_dynamic.specs.TagNumbers.{dt_symtab}
+use Rattle.dyn_table.specs.Tag.{value_of}
+use Rattle.dyn_table.specs.TagNumbers.{dt_symtab}
 
 -- where no table is bad, the last of them isn't
 last_good : (tables : List (ℕ × Bool)) (tag : ℕ) (bad : Bool) → first_bad (tables ++ (tag, bad) ∷ []) ≡ None → bad ≡ false
@@ -27,10 +29,24 @@ good_last headers tags words count none = last_good (table_checks headers tags w
 pub all_symbols : (headers : List Header) (tags : List Tag) (words : HashTable) (count : ℕ) → bad_table headers tags words count ≡ None → readable headers (value_of tags dt_symtab) (24 * count) ≡ true
 all_symbols headers tags words count none = let good = good_last headers tags words count none in grind arith
 
--- and there are few
-pub few_symbols : (bytes : List ℕ) (head : Head) (tags : List Tag) (words : HashTable) (count : ℕ) → head_verdict bytes ≡ Ok head → bad_table head.headers tags words count ≡ None → count < 2 ^ 32
-few_symbols bytes head tags words count ok none =
+-- what an accepted file has bytes for lies in the first 4 GiB
+end_of : (size start count : ℕ) (h : Header) → (IsTrue (is_loaded h) → Fits size h) → covers start count h ≡ true → start + count ≤ 2 ^ 32
+end_of size start count h fits covered =
+    let loaded : is_loaded h ≡ true = grind arith in
+    let ends : start + count ≤ h.vaddr + h.filesz = grind arith in
+    let fit = fits loaded in
+    omega (arith, ends, fit.memory, fit.low)
+
+low_readable : (size : ℕ) (headers : List Header) (start count : ℕ) → AllFit size headers → readable headers start count ≡ true → 0 < count → start + count ≤ 2 ^ 32
+low_readable size headers start count fit can some =
+    let any : list_any (covers start count) headers ≡ true = grind arith in
+    let at = Any-from_list_any (covers start count) headers any in
+    end_of size start count at.1 (rw at.3 at (fit at.0 at.1 at.2)) at.4
+
+-- so there are few symbols
+pub few_symbols : (size : ℕ) (headers : List Header) (tags : List Tag) (words : HashTable) (count : ℕ) → AllFit size headers → bad_table headers tags words count ≡ None → count < 2 ^ 32
+few_symbols size headers tags words count fit none =
     elim (cases_lt 0 count) [
-      | inl some ↦ (let end = low bytes head (value_of tags dt_symtab) (24 * count) ok (all_symbols head.headers tags words count none) (omega arith) in omega arith)
+      | inl some ↦ (let end = low_readable size headers (value_of tags dt_symtab) (24 * count) fit (all_symbols headers tags words count none) (omega arith) in omega arith)
       | inr none ↦ omega arith
     ]

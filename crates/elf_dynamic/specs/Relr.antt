@@ -2,16 +2,19 @@
 use Rattle.std.specs.Prelude.{◌≡◌, ◌≤◌, ℕ, ◌+◌, ◌-◌, ◌*◌, ◌/◌, ◌%◌, ◌^◌, ◌==◌, Bool, true, false, if◌then◌else◌, List, [], ◌∷◌, ◌++◌, length, map, filter, fold}
 use Rattle.std.specs.List.{range_with_len}
 use Rattle.ld_base.specs.Field.{field}
-use Rattle.elf_head.specs.Table.{table}
-use Rattle.elf_dynamic.specs.declared.relr.LowPlaces.{LowPlaces}
+use Rattle.acceptance.specs.Table.{table}
 
 -- the 64-bit words of the table's bytes
 abbrev pub relr_words : List ℕ → List ℕ
 relr_words bytes = table (field 8 bytes) 0 8 (length bytes / 8)
 
+-- the word has this bit
+abbrev pub has_bit : ℕ → ℕ → Bool
+has_bit word i = word / 2 ^ i % 2 == 1
+
 -- the bits from 1 to 63 that a word has
 unfoldable pub bits_of : ℕ → List ℕ
-bits_of word = filter (λ i. word / 2 ^ i % 2 == 1) (range_with_len 1 63)
+bits_of word = filter (has_bit word) (range_with_len 1 63)
 
 -- the places that words name, and the place from which the next word's bits count
 pub record Named : Type 0 where
@@ -37,12 +40,3 @@ relr_places bytes = (named_by_words (relr_words bytes)).places
 abbrev pub begins_odd : List ℕ → Bool
 begins_odd [] = false
 begins_odd (word ∷ words) = word % 2 == 1
-
--- these places are all of them, or else those before one that lies past the first 4 GiB of addresses
-abbrev pub IsFront : Bool → List ℕ → List ℕ → Type 0
-IsFront false places all = places ≡ all
-IsFront true places all = (place : ℕ) × (rest : List ℕ) × (2 ^ 32 ≤ place) × (all ≡ places ++ place ∷ rest)
-
--- the low front of a table's places
-abbrev pub IsLowFront : LowPlaces → List ℕ → Type 0
-IsLowFront low all = IsFront low.past low.places all

@@ -1,6 +1,6 @@
 -- What is asked of a dynamic table and of the tables that it names (gABI, psABI): the rules 10 to 16.
 -- Each test here is true where the rule that it is named after is broken.
-use Rattle.std.specs.Prelude.{ℕ, ◌*◌, ◌%◌, ◌==◌, ◌&&◌, ◌||◌, Bool, true, false, not, nat_lt, nat_le, if◌then◌else◌, List, [], ◌∷◌, ◌++◌, length, map, find, take, count_by, position, Option, Some, None, is_some, Result, Ok, Err}
+use Rattle.std.specs.Prelude.{ℕ, ◌+◌, ◌*◌, ◌%◌, ◌==◌, ◌&&◌, ◌||◌, Bool, true, false, not, nat_lt, nat_le, if◌then◌else◌, List, [], ◌∷◌, ◌++◌, length, map, find, take, count_by, position, Option, Some, None, is_some, option_map, Result, Ok, Err}
 use Rattle.std.specs.Option.{option_map_or, option_or}
 use Rattle.std.specs.List.{list_any, slice_get, slice_index_or}
 use Rattle.ld_base.specs.Field.{field}
@@ -16,21 +16,21 @@ use Rattle.ld_base.specs.declared.parts.Head.{Head}
 use Rattle.ld_base.specs.declared.parts.HashTable.{HashTable}
 use Rattle.ld_base.specs.declared.parts.Header.{Header}
 use Rattle.ld_base.specs.declared.parts.Tag.{Tag}
-use Rattle.elf_head.specs.Broken.{first_broken}
+use Rattle.acceptance.specs.Broken.{first_broken}
 use Rattle.elf_head.specs.Header.{is_loaded}
-use Rattle.elf_head.specs.Least.{least_below}
 use Rattle.elf_head.specs.Readable.{file_bytes, readable}
-use Rattle.elf_head.specs.Table.{table}
-use Rattle.elf_head.specs.declared.program_headers.TheConstants.{PT_TLS}
-use Rattle.elf_dynamic.specs.HashWords.{hash_words}
+use Rattle.acceptance.specs.Table.{table}
+use Rattle.dyn_table.specs.HashWords.{hash_words}
 use Rattle.elf_dynamic.specs.Memory.{in_writable, in_executable, is_writable, is_executable, overlaps}
-use Rattle.elf_dynamic.specs.Name.{string_at}
-use Rattle.elf_dynamic.specs.Named.{doubleword, named_by, named_ranges, slot_ranges}
-use Rattle.elf_dynamic.specs.Relr.{begins_odd, relr_words}
-use Rattle.elf_dynamic.specs.Symbol.{symbol_name}
-use Rattle.elf_dynamic.specs.Tables.{value_of, has, has_flag, count_in, dynamic_tags, parts_in, relr_bytes, span_of, strings_in, symbol_bytes}
-use Rattle.elf_dynamic.specs.Tag.{has_tag}
-use Rattle.elf_dynamic.specs.TagNumbers.{dt_fini_array, dt_fini_arraysz, dt_flags, dt_gnu_hash, dt_hash, dt_init_array, dt_init_arraysz, dt_jmprel, dt_needed, dt_pltgot, dt_pltrel, dt_pltrelsz, dt_preinit_array, dt_preinit_arraysz, dt_rel, dt_rela, dt_relaent, dt_relasz, dt_relr, dt_relrent, dt_relrsz, dt_soname, dt_strsz, dt_strtab, dt_syment, dt_symtab, dt_textrel, dt_verdef, dt_verdefnum, dt_verneed, dt_verneednum}
+use Rattle.dyn_table.specs.Name.{string_at}
+use Rattle.elf_dynamic.specs.Again.{first_again}
+use Rattle.elf_dynamic.specs.Named.{doubleword, named_by, slot_ranges}
+use Rattle.elf_dynamic.specs.Relr.{begins_odd, relr_places, relr_words}
+use Rattle.dyn_table.specs.Symbol.{symbol_name}
+use Rattle.elf_dynamic.specs.Tables.{bare_in, count_in, dynamic_tags, parts_in, plt_relocs, rela_relocs, rela_span, relr_bytes, span_of, strings_in, symbol_bytes}
+use Rattle.dyn_table.specs.Tag.{value_of, has, has_flag}
+use Rattle.dyn_table.specs.Tag.{has_tag, last_of}
+use Rattle.dyn_table.specs.TagNumbers.{dt_fini_array, dt_fini_arraysz, dt_flags, dt_gnu_hash, dt_hash, dt_init_array, dt_init_arraysz, dt_jmprel, dt_needed, dt_pltgot, dt_pltrel, dt_pltrelsz, dt_preinit_array, dt_preinit_arraysz, dt_rel, dt_rela, dt_relaent, dt_relasz, dt_relr, dt_relrent, dt_relrsz, dt_soname, dt_strsz, dt_strtab, dt_syment, dt_symtab, dt_textrel, dt_verdef, dt_verdefnum, dt_verneed, dt_verneednum}
 
 -- ---- rule 11: the tables
 
@@ -67,9 +67,10 @@ has_bad_strings headers tags = option_map_or (λ s. not (is_readable headers s))
 abbrev pub has_bad_symbols : List Tag → Bool
 has_bad_symbols tags = not (has tags dt_symtab && value_of tags dt_syment == 24)
 
--- relocations with addends
+-- relocations with addends, less those of slots; where none is left the table counts as not there
 abbrev pub has_bad_rela : List Header → List Tag → Bool
-has_bad_rela headers tags = is_bad_table tags dt_rela dt_relasz (λ s. has_entries tags dt_relaent 24 s && is_readable headers s)
+has_bad_rela headers tags =
+    (has tags dt_rela && not (has tags dt_relasz)) || option_map_or (λ s. not (has_entries tags dt_relaent 24 s && is_readable headers s)) (rela_span tags) false
 
 -- slots: relocations with addends, and the table of slots
 abbrev pub has_bad_jmprel : List Header → List Tag → Bool
@@ -141,9 +142,9 @@ abbrev pub is_bad_symbol : Bool → Symbol → Bool
 is_bad_symbol has_storage s =
     not (nat_le (binding s) 2 || binding s == 10) || (is_defined s && is_tls s && not has_storage)
 
--- some header is of thread-local storage
+-- some header is of thread-local storage (PT_TLS is 7)
 abbrev pub has_storage : List Header → Bool
-has_storage headers = list_any (λ h. h.kind == PT_TLS) headers
+has_storage headers = list_any (λ h. h.kind == 7) headers
 
 unfoldable pub bad_symbol : List Header → List Symbol → Option ℕ
 bad_symbol headers symbols = position (is_bad_symbol (has_storage headers)) symbols
@@ -164,20 +165,19 @@ abbrev pub is_bad_reloc : List Header → List Symbol → Reloc → Bool
 is_bad_reloc headers symbols r =
     not (nat_lt r.symbol (length symbols)) || r.kind == 5 || (r.kind == 4 && r.symbol == 0) || is_misplaced headers symbols r
 
--- which relocations are bad by themselves: those of DT_RELA, and then packed ones, the first of which has to have a word of its own
-abbrev pub bad_relocs : List Header → List Symbol → List Reloc → Bool → List ℕ → List Bool
-bad_relocs headers symbols relocs odd places =
-    map (is_bad_reloc headers symbols) relocs ++ (if odd then true ∷ [] else map (is_bad_place headers) places)
+-- the first relocation of DT_RELA that is bad by itself, or names a byte that one before it names
+unfoldable pub bad_rela : List Header → List Symbol → List Reloc → Option ℕ
+bad_rela headers symbols relocs = first_again (is_bad_reloc headers symbols) (named_by symbols) [] relocs
 
--- the range of this index has a byte in common with one before it
-abbrev pub is_named_before : List Span → ℕ → Bool
-is_named_before ranges i = option_map_or (λ s. list_any (overlaps s) (take i ranges)) (slice_get ranges i) false
+-- the first packed relocation that is bad by itself, or names a byte that one of these ranges has or one before it names; the first has to have
+-- a word of its own
+unfoldable pub bad_packed : List Header → List Span → Bool → List ℕ → Option ℕ
+bad_packed headers ranges odd places = if odd then Some 0 else first_again (is_bad_place headers) doubleword ranges places
 
--- the first relocation that is bad by itself, or names a byte that one before it names
+-- the first of both, those of DT_RELA first
 unfoldable pub bad_reloc : List Header → List Symbol → List Reloc → Bool → List ℕ → Option ℕ
 bad_reloc headers symbols relocs odd places =
-    least_below (λ i. slice_index_or (bad_relocs headers symbols relocs odd places) i false || is_named_before (named_ranges symbols relocs places) i)
-    (length (bad_relocs headers symbols relocs odd places))
+    option_or (bad_rela headers symbols relocs) (option_map (λ k. length relocs + k) (bad_packed headers (map (named_by symbols) relocs) odd places))
 
 -- ---- rule 15: what isn't linked
 
@@ -202,17 +202,17 @@ is_exec Dyn = false
 -- the least of the features that an object has and that isn't linked: STT_GNU_IFUNC (10), R_RISCV_IRELATIVE (58), STB_GNU_UNIQUE (10),
 -- R_RISCV_TLSDESC (12), R_RISCV_32 (1), DT_REL, DT_TEXTREL or DF_TEXTREL, R_RISCV_COPY (4) in a library, another type, a segment that may be
 -- written and run, ET_EXEC of a library
-unfoldable pub refused_feature : Head → Bool → DynParts → Option ℕ
-refused_feature head program parts = first_bad (
-    (1, list_any (λ s. is_defined s && type_of s == 10) parts.symbols)
-    ∷ (2, has_type 58 (parts.relocs ++ parts.plt_relocs))
-    ∷ (3, list_any (λ s. binding s == 10) parts.symbols)
-    ∷ (4, has_type 12 (parts.relocs ++ parts.plt_relocs))
-    ∷ (5, has_type 1 (parts.relocs ++ parts.plt_relocs))
-    ∷ (6, has parts.tags dt_rel)
-    ∷ (7, has parts.tags dt_textrel || has_flag parts.tags dt_flags 4)
-    ∷ (8, not program && has_type 4 (parts.relocs ++ parts.plt_relocs))
-    ∷ (9, list_any is_other_type (parts.relocs ++ parts.plt_relocs))
+unfoldable pub refused_feature : Head → Bool → List Tag → List Symbol → List Reloc → Option ℕ
+refused_feature head program tags symbols relocs = first_bad (
+    (1, list_any (λ s. is_defined s && type_of s == 10) symbols)
+    ∷ (2, has_type 58 relocs)
+    ∷ (3, list_any (λ s. binding s == 10) symbols)
+    ∷ (4, has_type 12 relocs)
+    ∷ (5, has_type 1 relocs)
+    ∷ (6, has tags dt_rel)
+    ∷ (7, has tags dt_textrel || has_flag tags dt_flags 4)
+    ∷ (8, not program && has_type 4 relocs)
+    ∷ (9, list_any is_other_type relocs)
     ∷ (11, has_open_segment head.headers)
     ∷ (12, not program && is_exec head.kind)
     ∷ [])
@@ -228,41 +228,55 @@ abbrev pub leads_to_code : List ℕ → List Header → ℕ → Bool
 leads_to_code bytes headers place =
     option_map_or (λ part. field 8 part 0 % 4 == 0 && in_executable headers (field 8 part 0)) (file_bytes bytes headers place 8) false
 
--- not R_RISCV_JUMP_SLOT (5) of a symbol other than the null symbol; a bad place; no code in the file to lead to; or a byte that another
--- relocation names, the ranges being those of all relocations
-abbrev pub is_bad_slot : List ℕ → List Header → List Symbol → List Span → Reloc → Bool
-is_bad_slot bytes headers symbols ranges r =
-    not (r.kind == 5) || r.symbol == 0 || not (nat_lt r.symbol (length symbols)) || is_bad_place headers r.place
-    || not (leads_to_code bytes headers r.place) || not (times_named ranges (doubleword r.place) == 1)
+-- not R_RISCV_JUMP_SLOT (5) of a symbol other than the null symbol, a bad place, or no code in the file to lead to
+abbrev pub is_no_slot : List ℕ → List Header → List Symbol → Reloc → Bool
+is_no_slot bytes headers symbols r =
+    not (r.kind == 5) || r.symbol == 0 || not (nat_lt r.symbol (length symbols)) || is_bad_place headers r.place || not (leads_to_code bytes headers r.place)
 
--- two doublewords in writable memory, which no relocation names
-abbrev pub is_bad_table_of_slots : List Header → List Span → ℕ → Bool
-is_bad_table_of_slots headers ranges start =
-    not (start % 8 == 0) || not (in_writable headers (record { start = start; size = 16 })) || not (times_named ranges (record { start = start; size = 16 }) == 0)
+-- a byte that another relocation names: one that isn't a slot, by its range among the others, or one that is
+abbrev pub is_shared : List Span → List Span → ℕ → Bool
+is_shared others slots place = list_any (overlaps (doubleword place)) others || not (times_named slots (doubleword place) == 1)
 
--- the ranges that all relocations name
-abbrev pub all_ranges : DynParts → List Span
-all_ranges parts = named_ranges parts.symbols parts.relocs parts.relr ++ slot_ranges parts.symbols parts.plt_relocs
+abbrev pub is_bad_slot : List ℕ → List Header → List Symbol → List Span → List Span → Reloc → Bool
+is_bad_slot bytes headers symbols others slots r = is_no_slot bytes headers symbols r || is_shared others slots r.place
+
+-- two doublewords that some relocation names
+abbrev pub is_named_head : List Span → List Span → ℕ → Bool
+is_named_head others slots start =
+    list_any (overlaps (record { start = start; size = 16 })) others || not (times_named slots (record { start = start; size = 16 }) == 0)
+
+-- not two doublewords in writable memory that no relocation names
+abbrev pub is_bad_table_of_slots : List Header → List Span → List Span → ℕ → Bool
+is_bad_table_of_slots headers others slots start =
+    not (start % 8 == 0) || not (in_writable headers (record { start = start; size = 16 })) || is_named_head others slots start
 
 -- the first bad slot; or the number of slots, where there are some and their table is bad
-unfoldable pub bad_slot : List ℕ → List Header → DynParts → Option ℕ
-bad_slot bytes headers parts =
-    option_or (position (is_bad_slot bytes headers parts.symbols (all_ranges parts)) parts.plt_relocs)
-    (if not (length parts.plt_relocs == 0) && option_map_or (is_bad_table_of_slots headers (all_ranges parts)) parts.pltgot false
-    then Some (length parts.plt_relocs) else None)
+unfoldable pub bad_slot : List ℕ → List Header → List Symbol → List Span → List Reloc → Option ℕ → Option ℕ
+bad_slot bytes headers symbols others slots pltgot =
+    option_or (position (is_bad_slot bytes headers symbols others (slot_ranges symbols slots)) slots)
+    (if not (length slots == 0) && option_map_or (is_bad_table_of_slots headers others (slot_ranges symbols slots)) pltgot false then Some (length slots) else None)
 
 -- ---- the verdict
 
--- the rules from 11 on, of the parts that tables with these entries say
-abbrev pub rules_of : List ℕ → Head → Bool → List Tag → DynParts → List (Option ℕ)
-rules_of bytes head program tags parts =
+-- the bytes that the relocations of DT_RELA and packed ones name
+abbrev pub other_ranges : List Symbol → List Reloc → List ℕ → List Span
+other_ranges symbols relocs places = map (named_by symbols) relocs ++ map doubleword places
+
+-- the rules from 13 on, of symbols, relocations, slots and the words of packed relocations; no name of a symbol matters
+abbrev pub rules_on : List ℕ → Head → Bool → List Tag → List Symbol → List Reloc → List Reloc → List ℕ → List (Option ℕ)
+rules_on bytes head program tags symbols relocs slots packed =
+    bad_symbol head.headers symbols
+    ∷ bad_reloc head.headers symbols relocs (begins_odd (relr_words packed)) (relr_places packed)
+    ∷ refused_feature head program tags symbols (relocs ++ slots)
+    ∷ bad_slot bytes head.headers symbols (other_ranges symbols relocs (relr_places packed)) slots (last_of tags dt_pltgot)
+    ∷ []
+
+-- the rules from 11 on, of the tables with these entries
+abbrev pub rules_of : List ℕ → Head → Bool → List Tag → List (Option ℕ)
+rules_of bytes head program tags =
     bad_table head.headers tags (hash_words bytes head.headers tags) (count_in bytes head.headers tags)
     ∷ bad_string (strings_in bytes head.headers tags) tags (symbol_bytes bytes head.headers tags) (count_in bytes head.headers tags)
-    ∷ bad_symbol head.headers parts.symbols
-    ∷ bad_reloc head.headers parts.symbols parts.relocs (begins_odd (relr_words (relr_bytes bytes head.headers tags))) parts.relr
-    ∷ refused_feature head program parts
-    ∷ bad_slot bytes head.headers parts
-    ∷ []
+    ∷ rules_on bytes head program tags (bare_in bytes head.headers tags) (rela_relocs bytes head.headers tags) (plt_relocs bytes head.headers tags) (relr_bytes bytes head.headers tags)
 
 -- rule 10: no dynamic table, or none that ends
 abbrev pub no_dynamic : NotAccepted
@@ -271,7 +285,7 @@ no_dynamic = record { rule = 10; number = 0 }
 -- what the tables say, or the first rule that they break
 unfoldable pub tables_verdict : List ℕ → Head → Bool → List Tag → Result DynParts NotAccepted
 tables_verdict bytes head program tags =
-    option_map_or Err (first_broken 11 (rules_of bytes head program tags (parts_in bytes head.headers tags))) (Ok (parts_in bytes head.headers tags))
+    option_map_or Err (first_broken 11 (rules_of bytes head program tags)) (Ok (parts_in bytes head.headers tags))
 
 -- the parts of a file with this head, as the program's or as another object's, or the first of the rules 10 to 16 that it breaks
 unfoldable pub dynamic_verdict : List ℕ → Head → Bool → Result DynParts NotAccepted

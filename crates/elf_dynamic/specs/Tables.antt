@@ -10,32 +10,19 @@ use Rattle.ld_base.specs.declared.parts.HashTable.{HashTable}
 use Rattle.ld_base.specs.declared.parts.Header.{Header}
 use Rattle.ld_base.specs.declared.parts.Tag.{Tag}
 use Rattle.elf_head.specs.Readable.{file_bytes}
-use Rattle.elf_head.specs.Table.{table}
-use Rattle.elf_head.specs.declared.program_headers.TheConstants.{PT_DYNAMIC}
-use Rattle.elf_dynamic.specs.HashWords.{hash_words}
-use Rattle.elf_dynamic.specs.Name.{string_at}
+use Rattle.acceptance.specs.Table.{table}
+use Rattle.dyn_table.specs.HashWords.{hash_words}
+use Rattle.dyn_table.specs.Name.{string_in}
 use Rattle.elf_dynamic.specs.Relr.{relr_places}
-use Rattle.elf_dynamic.specs.Reloc.{relocs_of}
-use Rattle.elf_dynamic.specs.Symbol.{symbol_named, symbol_name}
-use Rattle.elf_dynamic.specs.Tag.{last_of, tags_of, values_of}
-use Rattle.elf_dynamic.specs.TagNumbers.{dt_bind_now, dt_fini, dt_fini_array, dt_fini_arraysz, dt_flags, dt_flags_1, dt_init, dt_init_array, dt_init_arraysz, dt_jmprel, dt_needed, dt_pltgot, dt_pltrelsz, dt_preinit_array, dt_preinit_arraysz, dt_rela, dt_relasz, dt_relr, dt_relrsz, dt_soname, dt_strsz, dt_strtab, dt_symbolic, dt_symtab}
+use Rattle.dyn_table.specs.Reloc.{relocs_of}
+use Rattle.dyn_table.specs.Symbol.{bare_symbols, symbols_in}
+use Rattle.dyn_table.specs.Tag.{has, has_flag, last_of, tags_of, value_of, values_of}
+use Rattle.dyn_table.specs.TagNumbers.{dt_bind_now, dt_fini, dt_fini_array, dt_fini_arraysz, dt_flags, dt_flags_1, dt_init, dt_init_array, dt_init_arraysz, dt_jmprel, dt_needed, dt_pltgot, dt_pltrelsz, dt_preinit_array, dt_preinit_arraysz, dt_rela, dt_relasz, dt_relr, dt_relrsz, dt_soname, dt_strsz, dt_strtab, dt_symbolic, dt_symtab}
 
--- the value of a tag, 0 where it doesn't stand
-abbrev pub value_of : List Tag → ℕ → ℕ
-value_of tags tag = unwrap_or (last_of tags tag) 0
-
--- the tag stands
-abbrev pub has : List Tag → ℕ → Bool
-has tags tag = is_some (last_of tags tag)
-
--- the tag's value has this bit, the lowest being 0
-abbrev pub has_flag : List Tag → ℕ → ℕ → Bool
-has_flag tags tag bit = value_of tags tag / bit % 2 == 1
-
--- the entries of the dynamic table: those before the first DT_NULL, where the bytes that its header names are there
+-- the entries of the dynamic table, whose header is PT_DYNAMIC (2): those before the first DT_NULL, where the bytes that its header names are there
 unfoldable pub dynamic_tags : List ℕ → List Header → Option (List Tag)
 dynamic_tags bytes headers =
-    option_and_then tags_of (option_and_then (λ h. file_bytes bytes headers h.vaddr h.filesz) (find (λ h. h.kind == PT_DYNAMIC) headers))
+    option_and_then tags_of (option_and_then (λ h. file_bytes bytes headers h.vaddr h.filesz) (find (λ h. h.kind == 2) headers))
 
 -- the range that two tags name, by its address and its size; a range of no bytes counts as not there
 unfoldable pub span_of : List Tag → ℕ → ℕ → Option Span
@@ -50,17 +37,18 @@ bytes_in bytes headers span = unwrap_or (option_and_then (λ s. file_bytes bytes
 abbrev pub is_tail : Span → Span → Bool
 is_tail plt rela = nat_le rela.start plt.start && rela.start + rela.size == plt.start + plt.size
 
--- a table without the tail that is another
-abbrev pub less_tail : Option Span → Span → Span
-less_tail None rela = rela
-less_tail (Some plt) rela = if is_tail plt rela then record { start = rela.start; size = plt.start - rela.start } else rela
+-- a table without the tail that is another; none where nothing is left
+abbrev pub less_tail : Option Span → Span → Option Span
+less_tail None rela = Some rela
+less_tail (Some plt) rela =
+    if is_tail plt rela then (if plt.start == rela.start then None else Some (record { start = rela.start; size = plt.start - rela.start })) else Some rela
 
 -- where the relocations of the slots stand, and the others
 abbrev pub plt_span : List Tag → Option Span
 plt_span tags = span_of tags dt_jmprel dt_pltrelsz
 
 unfoldable pub rela_span : List Tag → Option Span
-rela_span tags = option_map (less_tail (plt_span tags)) (span_of tags dt_rela dt_relasz)
+rela_span tags = option_and_then (less_tail (plt_span tags)) (span_of tags dt_rela dt_relasz)
 
 abbrev pub rela_relocs : List ℕ → List Header → List Tag → List Reloc
 rela_relocs bytes headers tags = relocs_of (bytes_in bytes headers (rela_span tags))
@@ -93,13 +81,9 @@ strings_in bytes headers tags = bytes_in bytes headers (span_of tags dt_strtab d
 unfoldable pub symbol_bytes : List ℕ → List Header → List Tag → List ℕ
 symbol_bytes bytes headers tags = unwrap_or (file_bytes bytes headers (value_of tags dt_symtab) (24 * count_in bytes headers tags)) []
 
--- the string at an offset, empty where there is none
-abbrev pub string_in : List ℕ → ℕ → List ℕ
-string_in strings offset = unwrap_or (string_at strings offset) []
-
--- the symbols of a table, each 24 bytes after the one before
-unfoldable pub symbols_in : List ℕ → List ℕ → ℕ → List Symbol
-symbols_in part strings count = table (λ at. symbol_named part at (string_in strings (symbol_name part at))) 0 24 count
+-- the symbols without their names
+unfoldable pub bare_in : List ℕ → List Header → List Tag → List Symbol
+bare_in bytes headers tags = bare_symbols (symbol_bytes bytes headers tags) (count_in bytes headers tags)
 
 -- DT_SYMBOLIC or DF_SYMBOLIC; DT_BIND_NOW, DF_BIND_NOW or DF_1_NOW; DF_1_NODELETE
 unfoldable pub flags_of : List Tag → ObjFlags

@@ -5,15 +5,14 @@ ghost use Rattle.std.specs.List.{list_any};
 ghost use Rattle.ld_base.specs.Symbol.{binding, is_defined, type_of};
 ghost use Rattle.elf_dynamic.specs.Feature.{number_of};
 ghost use Rattle.elf_dynamic.specs.Rules.{has_open_segment, has_type, is_exec, is_other_type, refused_feature};
-ghost use Rattle.elf_dynamic.specs.Tables.{has, has_flag};
-ghost use Rattle.elf_dynamic.specs.TagNumbers.{dt_flags, dt_rel, dt_textrel};
+ghost use Rattle.dyn_table.specs.Tag.{has, has_flag};
+ghost use Rattle.dyn_table.specs.TagNumbers.{dt_flags, dt_rel, dt_textrel};
 
 use crate::memory::{is_executable, is_loaded, is_writable};
-use crate::reloc::R_RISCV_JUMP_SLOT;
 use crate::symbol_rules::{STB_GNU_UNIQUE, binding_of};
-use crate::tables::{DF_TEXTREL, has, has_flag};
-use crate::tag::{DT_FLAGS, DT_REL, DT_TEXTREL};
-use ld_base::{DynParts, Head, Header, Kind, Reloc, Symbol, Tag};
+use crate::tables::DF_TEXTREL;
+use dyn_table::{DT_FLAGS, DT_REL, DT_TEXTREL, R_RISCV_JUMP_SLOT, has, has_flag};
+use ld_base::{Head, Header, Kind, Reloc, Symbol, Tag};
 
 /// The type of a symbol whose value is a function that gives its address.
 const STT_GNU_IFUNC: u8 = 10;
@@ -87,29 +86,42 @@ impl Feature {
     }
 }
 
+/// Relocations: slots, and the others with addends.
+#[derive(Clone, Copy)]
+pub(crate) struct Both<'a> {
+    pub(crate) others: &'a [Reloc],
+    pub(crate) slots: &'a [Reloc],
+}
+
 /// The least of the features that an object has, as the program or as a library, and that isn't
 /// linked.
 #[tactic(auto, unfolding(crate::specs::Rules::refused_feature))]
-pub(crate) fn refused_feature(head: &Head, program: bool, parts: &DynParts) -> Option<Feature>
-    ensures { option_map number_of result ≡ refused_feature head.now program parts.now }
+pub(crate) fn refused_feature(
+    head: &Head,
+    program: bool,
+    tags: &[Tag],
+    symbols: &[Symbol],
+    relocs: Both,
+) -> Option<Feature>
+    ensures { option_map number_of result ≡ refused_feature head.now program tags.now symbols.now (relocs.entry.others.now ++ relocs.entry.slots.now) }
 {
-    let feature = if has_indirect(parts.symbols.as_slice()) {
+    let feature = if has_indirect(symbols) {
         Feature::IndirectFunction
-    } else if has_type(parts, R_RISCV_IRELATIVE) {
+    } else if has_type(relocs, R_RISCV_IRELATIVE) {
         Feature::Irelative
-    } else if has_unique(parts.symbols.as_slice()) {
+    } else if has_unique(symbols) {
         Feature::UniqueSymbol
-    } else if has_type(parts, R_RISCV_TLSDESC) {
+    } else if has_type(relocs, R_RISCV_TLSDESC) {
         Feature::TlsDescriptor
-    } else if has_type(parts, R_RISCV_32) {
+    } else if has_type(relocs, R_RISCV_32) {
         Feature::Reloc32
-    } else if has(parts.tags.as_slice(), DT_REL) {
+    } else if has(tags, DT_REL) {
         Feature::RelTable
-    } else if changes_text(parts.tags.as_slice()) {
+    } else if changes_text(tags) {
         Feature::TextRelocations
-    } else if !program && has_type(parts, R_RISCV_COPY) {
+    } else if !program && has_type(relocs, R_RISCV_COPY) {
         Feature::CopyInLibrary
-    } else if has_other_type(parts) {
+    } else if has_other_type(relocs) {
         Feature::OtherRelocation
     } else if has_open_segment(head.headers.as_slice()) {
         Feature::OpenSegment
@@ -139,10 +151,10 @@ fn has_unique(symbols: &[Symbol]) -> bool
 
 /// Whether a relocation, a slot's too, is of this type.
 #[tactic(auto, using(crate::proofs::Both::any_of_both))]
-fn has_type(parts: &DynParts, kind: u32) -> bool
-    ensures { result ≡ has_type kind (parts.now.relocs ++ parts.now.plt_relocs) }
+fn has_type(relocs: Both, kind: u32) -> bool
+    ensures { result ≡ has_type kind (relocs.entry.others.now ++ relocs.entry.slots.now) }
 {
-    is_any_of(parts.relocs.as_slice(), kind) || is_any_of(parts.plt_relocs.as_slice(), kind)
+    is_any_of(relocs.others, kind) || is_any_of(relocs.slots, kind)
 }
 
 /// Whether one of these relocations is of this type.
@@ -161,10 +173,10 @@ fn changes_text(tags: &[Tag]) -> bool
 
 /// Whether a relocation, a slot's too, is of a type that isn't known.
 #[tactic(auto, using(crate::proofs::Both::any_of_both))]
-fn has_other_type(parts: &DynParts) -> bool
-    ensures { result ≡ list_any is_other_type (parts.now.relocs ++ parts.now.plt_relocs) }
+fn has_other_type(relocs: Both) -> bool
+    ensures { result ≡ list_any is_other_type (relocs.entry.others.now ++ relocs.entry.slots.now) }
 {
-    is_any_other(parts.relocs.as_slice()) || is_any_other(parts.plt_relocs.as_slice())
+    is_any_other(relocs.others) || is_any_other(relocs.slots)
 }
 
 /// Whether one of these relocations is of a type that isn't known.

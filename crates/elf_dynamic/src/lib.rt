@@ -21,45 +21,26 @@
 //!     relocation names, whose word in the file leads to code; the first two words of the table of
 //!     slots belong to the linker. The number is the slot, or how many there are.
 //!
-//! The readers of tables beside it ([`read_tags`], [`string_at`], [`read_symbols`], [`read_relocs`],
-//! [`read_hash_words`]) take the bytes of a table and give all of its entries, each at its own place;
-//! [`one_reading`] says so by relations. No reading takes more than n log n steps in the size of the
-//! file, but for names, of which each takes up to 4,096.
+//! Packed relocations are judged as their words name them, a bit for each doublewords that is named;
+//! what memory bounds, as names and the places of packed relocations, comes after all rules. No
+//! reading takes more than n log n steps in the size of the file, but for names, of which each takes
+//! up to 4,096, and the doublewords of memory that copies name.
 #![tactic(auto)]
 
+mod apart;
 mod feature;
-mod hash_words;
 mod law;
+mod marks;
 mod memory;
-mod overlap;
+mod naming;
 mod reader;
-mod reloc;
 mod reloc_rules;
 mod relr;
 mod slot_rules;
-mod string;
 mod string_rules;
-mod symbol;
 mod symbol_rules;
 mod table_rules;
 mod tables;
-mod tag;
 
-pub use hash_words::read_hash_words;
-pub use law::{one_reading, one_verdict};
+pub use law::one_verdict;
 pub use reader::read_dynamic;
-pub use reloc::{R_RISCV_JUMP_SLOT, RELOC_SIZE, read_relocs};
-pub use string::{STRING_LIMIT, read_name, read_names, string_at};
-pub use symbol::{SYMBOL_SIZE, read_symbols};
-pub use tables::value_of;
-pub use tag::{
-    DT_BIND_NOW, DT_FINI, DT_FINI_ARRAY, DT_FINI_ARRAYSZ, DT_FLAGS, DT_FLAGS_1, DT_GNU_HASH,
-    DT_HASH, DT_INIT, DT_INIT_ARRAY, DT_INIT_ARRAYSZ, DT_JMPREL, DT_NEEDED, DT_NULL, DT_PLTGOT,
-    DT_PLTREL, DT_PLTRELSZ, DT_PREINIT_ARRAY, DT_PREINIT_ARRAYSZ, DT_REL, DT_RELA, DT_RELAENT,
-    DT_RELASZ, DT_RELR, DT_RELRENT, DT_RELRSZ, DT_SONAME, DT_STRSZ, DT_STRTAB, DT_SYMBOLIC,
-    DT_SYMENT, DT_SYMTAB, DT_TEXTREL, DT_VERDEF, DT_VERDEFNUM, DT_VERNEED, DT_VERNEEDNUM,
-    DT_VERSYM, count_of, last_of, read_tags, values_of,
-};
-
-#[cfg(test)]
-mod tests;

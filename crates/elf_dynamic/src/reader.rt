@@ -1,49 +1,48 @@
 //! Reading the dynamic table and the tables that it names.
 
-ghost use Rattle.std.specs.Prelude.{◌≡◌, ◌∷◌, [], ◌*◌, ◌<◌, ◌^◌, Ok, Err, IfOk, IsTrue, None, Some, Bool, ℕ, List, map, option_map};
+ghost use Rattle.std.specs.Prelude.{◌≡◌, ◌∷◌, [], ◌*◌, ◌<◌, ◌≤◌, ◌^◌, Ok, Err, IfOk, IsTrue, MatchResult, None, ℕ, List, length, map, option_map};
 ghost use Rattle.std.specs.Option.{option_map_or};
-ghost use Rattle.elf_head.specs.Broken.{first_broken};
-ghost use Rattle.elf_head.specs.Gives.{Gives};
+ghost use Rattle.acceptance.specs.Broken.{first_broken};
+ghost use Rattle.acceptance.specs.Gives.{Faults, Gives};
 ghost use Rattle.elf_head.specs.Readable.{readable};
 ghost use Rattle.elf_head.specs.Rules.{head_verdict};
-ghost use Rattle.elf_dynamic.specs.Name.{bad_string as lacks_string};
 ghost use Rattle.ld_base.specs.declared.fault.ReadFault.TheVariants as faults;
 ghost use Rattle.elf_dynamic.specs.Memory.{AreLow};
-ghost use Rattle.elf_dynamic.specs.Relr.{IsLowFront};
-ghost use Rattle.elf_dynamic.specs.Rules.{bad_reloc, bad_slot, bad_string, bad_symbol, bad_table, dynamic_verdict, refused_feature, tables_verdict};
-ghost use Rattle.elf_dynamic.specs.HashWords.{hash_words};
-ghost use Rattle.elf_dynamic.specs.Tables.{count_in, first_exported, parts_in, plt_relocs, rela_relocs, string_in, strings_in, symbol_bytes, symbols_in, value_of};
-ghost use Rattle.elf_dynamic.specs.Tag.{last_of, values_of};
-ghost use Rattle.elf_dynamic.specs.TagNumbers.{dt_needed, dt_soname, dt_symtab};
+ghost use Rattle.elf_dynamic.specs.Counted.{counted_in, rules_from_names};
+ghost use Rattle.elf_dynamic.specs.Judged.{ArePlaces};
+ghost use Rattle.elf_dynamic.specs.Relr.{relr_places};
+ghost use Rattle.elf_dynamic.specs.Rules.{bad_table, dynamic_verdict, rules_on, tables_verdict};
+ghost use Rattle.dyn_table.specs.HashWords.{hash_words};
+ghost use Rattle.dyn_table.specs.Name.{string_in};
+ghost use Rattle.dyn_table.specs.Tag.{last_of, value_of, values_of};
+ghost use Rattle.dyn_table.specs.TagNumbers.{dt_needed, dt_soname, dt_symtab};
+ghost use Rattle.elf_dynamic.specs.Tables.{count_in, parts_in, relr_bytes, symbol_bytes};
 
-use crate::feature::refused_feature;
-use crate::hash_words::read_hash_words;
-use crate::reloc::read_relocs;
-use crate::reloc_rules::bad_reloc;
-use crate::relr::{LowPlaces, begins_odd, read_relr};
-use crate::slot_rules::bad_slot;
-use crate::string::{string_at, with_name};
-use crate::string_rules::bad_name;
-use crate::symbol::{SYMBOL_SIZE, read_symbols};
+use crate::feature::{Both, refused_feature};
+use crate::reloc_rules::judge_relocs;
+use crate::relr::{Judged, MOST_PLACES};
+use crate::slot_rules::{Slots, bad_slot};
+use crate::string_rules::bad_string;
 use crate::symbol_rules::bad_symbol;
 use crate::table_rules::bad_table;
 use crate::tables::{
     bytes_in, dynamic_tags, first_exported, flags_of, plt_span, rela_span, span_of, symbol_count,
-    value_of,
 };
-use crate::tag::{
+use dyn_table::{
     DT_FINI, DT_FINI_ARRAY, DT_FINI_ARRAYSZ, DT_INIT, DT_INIT_ARRAY, DT_INIT_ARRAYSZ, DT_NEEDED,
     DT_PLTGOT, DT_PREINIT_ARRAY, DT_PREINIT_ARRAYSZ, DT_RELR, DT_RELRSZ, DT_SONAME, DT_STRSZ,
-    DT_STRTAB, DT_SYMTAB, last_of, values_of,
+    DT_STRTAB, DT_SYMTAB, SYMBOL_SIZE, last_of, read_hash_words, read_named_symbols, read_relocs,
+    read_string, read_symbols, value_of, values_of, with_name,
 };
-use elf_head::file_bytes;
+use elf_head::{accepted_head, file_bytes};
 use ld_base::{
-    DynParts, Head, Header, Name, Names, NotAccepted, Places, ReadFault, Relocs, Symbols, Tag, Tags,
+    DynParts, Head, Header, Name, Names, NotAccepted, Places, ReadFault, Reloc, Relocs, Symbol,
+    Tag, Tags,
 };
 use std::alloc::{AllocError, Global};
 
 /// The fault of a rule that is broken with a number.
-fn broken(rule: u8, number: u64) -> ReadFault
+pub(crate) fn broken(rule: u8, number: u64) -> ReadFault
     ensures { result ≡ faults.NotAccepted (record { rule = rule; number = number }) }
 {
     ReadFault::NotAccepted(NotAccepted { rule, number })
@@ -69,14 +68,10 @@ fn read_counted(
     requires { head_verdict bytes.now ≡ Ok head.now }
     ensures read { Gives result (option_map_or (λ tag. Err (record { rule = 11; number = tag }))
         (bad_table head.now.headers tags.now (hash_words bytes.now head.now.headers tags.now) (count_in bytes.now head.now.headers tags.now))
-        (Ok (record {
-          relocs = rela_relocs bytes.now head.now.headers tags.now;
-          plt_relocs = plt_relocs bytes.now head.now.headers tags.now;
-          first_exported = first_exported (hash_words bytes.now head.now.headers tags.now);
-          count = count_in bytes.now head.now.headers tags.now;
-        }))) }
+        (Ok (counted_in bytes.now head.now.headers tags.now))) }
     ensures readable { IfOk result (λ c. IsTrue (readable head.now.headers (value_of tags.now dt_symtab) (24 * c.count))) }
 {
+    accepted_head();
     let words = read_hash_words(alloc, bytes, head, tags)?;
     let relocs = read_relocs(alloc, bytes_in(bytes, head, rela_span(tags)))?;
     let plt_relocs = read_relocs(alloc, bytes_in(bytes, head, plt_span(tags)))?;
@@ -92,40 +87,19 @@ fn read_counted(
     })
 }
 
-/// Reads the symbols, of which there are so many, where each name is a string (rule 12).
-#[tactic(auto, using(crate::proofs::Strings::named_first, crate::proofs::Strings::named_rest), unfolding(crate::specs::Tables::strings_in, crate::specs::Tables::symbol_bytes))]
-fn read_named(
-    alloc: Global,
-    bytes: &[u8],
-    head: &Head,
-    tags: &[Tag],
-    count: u32,
-) -> Result<Symbols, ReadFault>
+/// The bytes of the symbol table, which are in the file.
+#[tactic(auto, unfolding(crate::specs::Tables::symbol_bytes))]
+fn symbol_part<'a>(bytes: &'a [u8], head: &Head, tags: &[Tag], count: u32) -> &'a [u8]
     requires accepted { head_verdict bytes.now ≡ Ok head.now }
     requires count { count ≡ count_in bytes.now head.now.headers tags.now }
     requires readable { IsTrue (readable head.now.headers (value_of tags.now dt_symtab) (24 * count)) }
-    ensures { Gives result (option_map_or (λ offset. Err (lacks_string offset))
-        (bad_string (strings_in bytes.now head.now.headers tags.now) tags.now (symbol_bytes bytes.now head.now.headers tags.now) count)
-        (Ok (symbols_in (symbol_bytes bytes.now head.now.headers tags.now) (strings_in bytes.now head.now.headers tags.now) count))) }
+    ensures value { result.now ≡ symbol_bytes bytes.now head.now.headers tags.now }
+    ensures size { 24 * count ≤ length result.now }
 {
-    let strings = bytes_in(bytes, head, span_of(tags, DT_STRTAB, DT_STRSZ));
-    if let Some(offset) = bad_name(strings, tags) {
-        return Err(broken(12, offset));
-    }
     let size = SYMBOL_SIZE * u64::from(count);
     match file_bytes(bytes, head, value_of(tags, DT_SYMTAB), size) {
-        Some(part) => read_symbols(alloc, part, strings, count),
+        Some(part) => part,
         None => unreachable!(),
-    }
-}
-
-/// The string at an offset, empty where there is none.
-fn name_in(alloc: Global, strings: &[u8], offset: u64) -> Result<Name, AllocError>
-    ensures { IfOk result (λ name. name ≡ string_in strings.now offset) }
-{
-    match string_at(strings, offset) {
-        Some(bytes) => Name::new(alloc, bytes),
-        None => Name::new(alloc, &[]),
     }
 }
 
@@ -136,7 +110,7 @@ fn needed_in(alloc: Global, strings: &[u8], tags: &[Tag]) -> Result<Names, Alloc
     let mut names = Names::new(alloc);
     let mut name_bytes = 0;
     for offset in &values_of(alloc, tags, DT_NEEDED)? {
-        let name = name_in(alloc, strings, *offset)?;
+        let name = read_string(alloc, strings, *offset)?;
         name_bytes = with_name(name_bytes, &name)?;
         names.push(name)?;
     }
@@ -148,37 +122,92 @@ fn soname_in(alloc: Global, strings: &[u8], tags: &[Tag]) -> Result<Option<Name>
     ensures { IfOk result (λ name. name ≡ option_map (string_in strings.now) (last_of tags.now dt_soname)) }
 {
     match last_of(tags, DT_SONAME) {
-        Some(offset) => Ok(Some(name_in(alloc, strings, offset)?)),
+        Some(offset) => Ok(Some(read_string(alloc, strings, offset)?)),
         None => Ok(None),
     }
 }
 
-/// Reads what the tables say that aren't of packed relocations, whose places are given (rules 11 and
-/// 12).
+/// The tables of an object that aren't read yet as they are kept.
+#[derive(Clone, Copy)]
+struct Tables<'a> {
+    bytes: &'a [u8],
+    head: &'a Head,
+    tags: &'a [Tag],
+    symbols: &'a [Symbol],
+    relocs: &'a [Reloc],
+    slots: &'a [Reloc],
+    packed: &'a [u8],
+}
+
+/// Judges symbols and relocations (rules 13 to 16).
+fn judge(alloc: Global, tables: Tables, program: bool) -> Result<Judged, ReadFault>
+    requires accepted { head_verdict tables.bytes.now ≡ Ok tables.head.now }
+    requires low { AreLow tables.head.now.headers }
+    requires short { length tables.packed.now ≤ 8_388_608 }
+    requires few { length tables.relocs.now < 2 ^ 32 }
+    ensures { MatchResult result
+        (λ judged. (first_broken 13 (rules_on tables.entry.bytes.now tables.entry.head.now program tables.entry.tags.now tables.entry.symbols.now tables.entry.relocs.now tables.entry.slots.now tables.entry.packed.now) ≡ None)
+        × ArePlaces judged (relr_places tables.entry.packed.now))
+        (λ fault. Faults fault (option_map_or Err (first_broken 13 (rules_on tables.entry.bytes.now tables.entry.head.now program tables.entry.tags.now tables.entry.symbols.now tables.entry.relocs.now tables.entry.slots.now tables.entry.packed.now)) (Ok (tt {0})))) }
+{
+    let headers = tables.head.headers.as_slice();
+    if let Some(symbol) = bad_symbol(headers, tables.symbols) {
+        return Err(broken(13, symbol as u64));
+    }
+    let judged = judge_relocs(alloc, headers, tables.symbols, tables.relocs, tables.packed)?;
+    let both = Both {
+        others: tables.relocs,
+        slots: tables.slots,
+    };
+    if let Some(feature) = refused_feature(
+        tables.head,
+        program,
+        tables.tags,
+        tables.symbols,
+        both,
+    ) {
+        return Err(broken(15, feature.number()));
+    }
+    let slots = Slots {
+        bytes: tables.bytes,
+        head: tables.head,
+        symbols: tables.symbols,
+        relocs: tables.slots,
+        table: last_of(tables.tags, DT_PLTGOT),
+    };
+    if let Some(index) = bad_slot(alloc, slots, &judged.named)? {
+        return Err(broken(16, index as u64));
+    }
+    Ok(judged)
+}
+
+/// The parts that the tables say, with what was read and judged of them. More places of packed
+/// relocations than are kept are want of memory.
 #[tactic(auto, unfolding(crate::specs::Tables::parts_in, crate::specs::Tables::strings_in))]
-fn read_parts(
+fn kept_parts(
     alloc: Global,
     bytes: &[u8],
     head: &Head,
     tags: Tags,
-    relr: Places,
-) -> Result<DynParts, ReadFault>
-    requires { head_verdict bytes.now ≡ Ok head.now }
-    ensures { Gives result (option_map_or Err
-        (first_broken 11 (
-        bad_table head.now.headers tags (hash_words bytes.now head.now.headers tags) (count_in bytes.now head.now.headers tags)
-        ∷ bad_string (strings_in bytes.now head.now.headers tags) tags (symbol_bytes bytes.now head.now.headers tags) (count_in bytes.now head.now.headers tags)
-        ∷ []))
-        (Ok (record (parts_in bytes.now head.now.headers tags) { relr = relr }))) }
+    counted: Counted,
+    judged: Judged,
+) -> Result<DynParts, AllocError>
+    requires accepted { head_verdict bytes.now ≡ Ok head.now }
+    requires readable { IsTrue (readable head.now.headers (value_of tags dt_symtab) (24 * counted.count)) }
+    requires counted { counted ≡ counted_in bytes.now head.now.headers tags }
+    requires judged { ArePlaces judged (relr_places (relr_bytes bytes.now head.now.headers tags)) }
+    ensures { IfOk result (λ parts. parts ≡ parts_in bytes.now head.now.headers tags) }
 {
+    if judged.count > MOST_PLACES as u64 {
+        return Err(AllocError);
+    }
     let entries = tags.as_slice();
-    let counted = read_counted(alloc, bytes, head, entries)?;
-    let symbols = read_named(alloc, bytes, head, entries, counted.count)?;
     let strings = bytes_in(bytes, head, span_of(entries, DT_STRTAB, DT_STRSZ));
+    let part = symbol_part(bytes, head, entries, counted.count);
     Ok(DynParts {
         soname: soname_in(alloc, strings, entries)?,
         needed: needed_in(alloc, strings, entries)?,
-        symbols,
+        symbols: read_named_symbols(alloc, part, strings, counted.count)?,
         first_exported: counted.first_exported,
         relocs: counted.relocs,
         plt_relocs: counted.plt_relocs,
@@ -189,62 +218,49 @@ fn read_parts(
         fini: last_of(entries, DT_FINI),
         fini_array: span_of(entries, DT_FINI_ARRAY, DT_FINI_ARRAYSZ),
         flags: flags_of(entries),
-        relr,
+        relr: judged.places,
         tags,
     })
 }
 
-/// The parts with the places of packed relocations, where no symbol is bad and no relocation that
-/// isn't a slot (rules 13 and 14).
-fn with_packed(
-    alloc: Global,
-    headers: &[Header],
-    parts: DynParts,
-    odd: bool,
-    relr: LowPlaces,
-) -> Result<DynParts, ReadFault>
-    requires { AreLow headers.now }
-    ensures { (all : List ℕ) → IsLowFront relr all → Gives result (option_map_or Err
-        (first_broken 13 (bad_symbol headers.now parts.symbols ∷ bad_reloc headers.now parts.symbols parts.relocs odd all ∷ []))
-        (Ok (record parts { relr = all }))) }
-{
-    let symbols = parts.symbols.as_slice();
-    if let Some(symbol) = bad_symbol(headers, symbols) {
-        return Err(broken(13, symbol as u64));
-    }
-    if let Some(index) = bad_reloc(alloc, headers, symbols, parts.relocs.as_slice(), odd, &relr)? {
-        return Err(broken(14, index as u64));
-    }
-    Ok(DynParts {
-        relr: relr.places,
-        ..parts
-    })
-}
-
-/// The parts, where nothing in them isn't linked and no slot is bad (rules 15 and 16).
-fn with_slots(
+/// Judges what the tables with these entries say, of which none is bad (rules 12 to 16).
+#[tactic(auto, unfolding(crate::specs::Tables::strings_in, crate::specs::Tables::bare_in))]
+fn judge_tables(
     alloc: Global,
     bytes: &[u8],
     head: &Head,
     program: bool,
-    parts: DynParts,
-) -> Result<DynParts, ReadFault>
+    tags: &[Tag],
+    counted: &Counted,
+) -> Result<Judged, ReadFault>
     requires accepted { head_verdict bytes.now ≡ Ok head.now }
-    requires kept { (odd : Bool) × (bad_reloc head.now.headers parts.symbols parts.relocs odd parts.relr ≡ None) }
-    ensures { Gives result (option_map_or Err
-        (first_broken 15 (refused_feature head.now program parts ∷ bad_slot bytes.now head.now.headers parts ∷ []))
-        (Ok parts)) }
+    requires readable { IsTrue (readable head.now.headers (value_of tags.now dt_symtab) (24 * counted.now.count)) }
+    requires counted { counted.now ≡ counted_in bytes.now head.now.headers tags.now }
+    ensures { MatchResult result
+        (λ judged. (first_broken 12 (rules_from_names bytes.now head.now program tags.now) ≡ None) × ArePlaces judged (relr_places (relr_bytes bytes.now head.now.headers tags.now)))
+        (λ fault. Faults fault (option_map_or Err (first_broken 12 (rules_from_names bytes.now head.now program tags.now)) (Ok (tt {0})))) }
 {
-    if let Some(feature) = refused_feature(head, program, &parts) {
-        return Err(broken(15, feature.number()));
+    accepted_head();
+    let strings = bytes_in(bytes, head, span_of(tags, DT_STRTAB, DT_STRSZ));
+    let part = symbol_part(bytes, head, tags, counted.count);
+    if let Some(offset) = bad_string(strings, tags, part, counted.count) {
+        return Err(broken(12, offset));
     }
-    if let Some(index) = bad_slot(alloc, bytes, head, &parts)? {
-        return Err(broken(16, index as u64));
-    }
-    Ok(parts)
+    let symbols = read_symbols(alloc, part, counted.count)?;
+    let tables = Tables {
+        bytes,
+        head,
+        tags,
+        symbols: symbols.as_slice(),
+        relocs: counted.relocs.as_slice(),
+        slots: counted.plt_relocs.as_slice(),
+        packed: bytes_in(bytes, head, span_of(tags, DT_RELR, DT_RELRSZ)),
+    };
+    judge(alloc, tables, program)
 }
 
-/// Reads what the tables with these entries say.
+/// Reads what the tables with these entries say. No bound of memory comes before a rule that is
+/// broken.
 fn read_tables(
     alloc: Global,
     bytes: &[u8],
@@ -255,12 +271,9 @@ fn read_tables(
     requires { head_verdict bytes.now ≡ Ok head.now }
     ensures { Gives result (tables_verdict bytes.now head.now program tags) }
 {
-    let packed = bytes_in(bytes, head, span_of(tags.as_slice(), DT_RELR, DT_RELRSZ));
-    let relr = read_relr(alloc, packed)?;
-    let parts = read_parts(alloc, bytes, head, tags, Places::new(alloc))?;
-    let odd = begins_odd(packed);
-    let parts = with_packed(alloc, head.headers.as_slice(), parts, odd, relr)?;
-    with_slots(alloc, bytes, head, program, parts)
+    let counted = read_counted(alloc, bytes, head, tags.as_slice())?;
+    let judged = judge_tables(alloc, bytes, head, program, tags.as_slice(), &counted)?;
+    Ok(kept_parts(alloc, bytes, head, tags, counted, judged)?)
 }
 
 /// Reads the dynamic table of a file with this head, and the tables that it names, as those of the

@@ -1,21 +1,24 @@
 //! What is asked of slots, the relocations of the procedure linkage table (psABI, "Procedure Linkage
 //! Table").
 
-ghost use Rattle.std.specs.Prelude.{◌≡◌, ◌<◌, ◌^◌, false, Bool, None, Ok, IfOk, position};
+ghost use Rattle.std.specs.Prelude.{◌≡◌, ◌<◌, ◌≤◌, ◌^◌, ◌+◌, ◌/◌, ◌%◌, ◌||◌, false, List, Ok, IfOk, position};
 ghost use Rattle.std.specs.List.{All};
 ghost use Rattle.std.specs.Option.{option_map_or};
+ghost use Rattle.ld_base.specs.declared.object.Span.{Span};
 ghost use Rattle.elf_head.specs.Rules.{head_verdict};
+ghost use Rattle.elf_dynamic.specs.Marks.{is_marked, AreMarks};
 ghost use Rattle.elf_dynamic.specs.Memory.{AreLow, IsBounded};
-ghost use Rattle.elf_dynamic.specs.Named.{named_ranges};
-ghost use Rattle.elf_dynamic.specs.Rules.{all_ranges, bad_reloc, bad_slot, is_bad_slot, is_bad_table_of_slots, leads_to_code};
+ghost use Rattle.elf_dynamic.specs.Named.{slot_ranges};
+ghost use Rattle.elf_dynamic.specs.Rules.{bad_slot, is_bad_slot, is_bad_table_of_slots, is_no_slot, is_shared, leads_to_code};
 ghost use Rattle.elf_dynamic.specs.Tells.{cut, TellsOf};
 
+use crate::marks::Marks;
 use crate::memory::{in_executable, in_writable};
-use crate::overlap::Naming;
-use crate::reloc::R_RISCV_JUMP_SLOT;
-use crate::reloc_rules::{DOUBLEWORD, doubleword, is_bad_place, named_by, named_ranges};
+use crate::naming::Naming;
+use crate::reloc_rules::{DOUBLEWORD, doubleword, is_bad_place, named_by};
+use dyn_table::R_RISCV_JUMP_SLOT;
 use elf_head::file_bytes;
-use ld_base::{DynParts, Head, Header, Reloc, Span, field64};
+use ld_base::{Head, Header, Reloc, Span, Symbol, field64};
 use std::alloc::{AllocError, Global};
 
 /// The bytes at the start of the table of slots that belong to the linker.
@@ -23,45 +26,50 @@ const TABLE_HEAD: u64 = 16;
 /// The bytes of an instruction.
 const INSTRUCTION: u64 = 4;
 
-/// The first slot that is bad, or their number where there are some and their table is bad.
+/// The slots of an object, and what else they are judged by.
+#[derive(Clone, Copy)]
+pub(crate) struct Slots<'a> {
+    pub(crate) bytes: &'a [u8],
+    pub(crate) head: &'a Head,
+    pub(crate) symbols: &'a [Symbol],
+    pub(crate) relocs: &'a [Reloc],
+    /// The address of the table of slots.
+    pub(crate) table: Option<u64>,
+}
+
+/// The first slot that is bad, or their number where there are some and their table is bad. The
+/// doublewords are those of which other relocations name bytes.
 #[tactic(auto, unfolding(crate::specs::Rules::bad_slot))]
 pub(crate) fn bad_slot(
     alloc: Global,
-    bytes: &[u8],
-    head: &Head,
-    parts: &DynParts,
+    slots: Slots,
+    named: &Marks,
 ) -> Result<Option<usize>, AllocError>
-    requires accepted { head_verdict bytes.now ≡ Ok head.now }
-    requires kept { (odd : Bool) × (bad_reloc head.now.headers parts.now.symbols parts.now.relocs odd parts.now.relr ≡ None) }
-    ensures { IfOk result (λ first. first ≡ bad_slot bytes.now head.now.headers parts.now) }
+    requires accepted { head_verdict slots.bytes.now ≡ Ok slots.head.now }
+    requires low { AreLow slots.head.now.headers }
+    ensures { IfOk result (λ first. (others : List Span) → AreMarks named.now.words.items others
+        → first ≡ bad_slot slots.entry.bytes.now slots.entry.head.now.headers slots.entry.symbols.now others slots.entry.relocs.now slots.entry.table) }
 {
-    let ranges = all_ranges(alloc, parts)?;
+    let ranges = slot_ranges(alloc, slots.symbols, slots.relocs)?;
     let naming = Naming::new(alloc, &ranges)?;
-    let slots = parts.plt_relocs.len();
-    match first_bad_slot(bytes, head, parts, &naming) {
+    let count = slots.relocs.len();
+    match first_bad_slot(slots, named, &naming) {
         Some(index) => Ok(Some(index)),
-        None if slots > 0 && has_bad_table(head, parts, &naming) => Ok(Some(slots)),
+        None if count > 0 && has_bad_table(slots, named, &naming) => Ok(Some(count)),
         None => Ok(None),
     }
 }
 
-/// The bytes that relocations name, slots too.
+/// The bytes that slots name.
 ///
-/// The range of a slot is cut where it would reach the last address. No memory is there, so no slot
-/// that isn't bad has a byte there.
-fn all_ranges(alloc: Global, parts: &DynParts) -> Result<Vec<Span>, AllocError>
-    requires { All (λ s. s.start < 2 ^ 64 → IsBounded s) (named_ranges parts.now.symbols parts.now.relocs parts.now.relr) }
-    ensures told { IfOk result (λ ranges. TellsOf ranges.items (all_ranges parts.now)) }
+/// A range is cut where it would reach the last address. No memory is there, so no slot that isn't
+/// bad has a byte there.
+fn slot_ranges(alloc: Global, symbols: &[Symbol], slots: &[Reloc]) -> Result<Vec<Span>, AllocError>
+    ensures told { IfOk result (λ ranges. TellsOf ranges.items (slot_ranges symbols.now slots.now)) }
     ensures bounded { IfOk result (λ ranges. All IsBounded ranges.items) }
 {
-    let symbols = parts.symbols.as_slice();
-    let mut ranges = named_ranges(
-        alloc,
-        symbols,
-        parts.relocs.as_slice(),
-        parts.relr.as_slice(),
-    )?;
-    for slot in parts.plt_relocs.as_slice() {
+    let mut ranges = Vec::new(alloc);
+    for slot in slots {
         ranges.push(cut(named_by(symbols, *slot)))?;
     }
     Ok(ranges)
@@ -79,31 +87,60 @@ fn cut(span: Span) -> Span
 }
 
 /// The first slot that is bad.
-fn first_bad_slot(bytes: &[u8], head: &Head, parts: &DynParts, naming: &Naming) -> Option<usize>
-    requires accepted { head_verdict bytes.now ≡ Ok head.now }
-    requires told { TellsOf naming.now (all_ranges parts.now) }
-    ensures { result ≡ position (is_bad_slot bytes.now head.now.headers parts.now.symbols (all_ranges parts.now)) parts.now.plt_relocs }
+fn first_bad_slot(slots: Slots, named: &Marks, naming: &Naming) -> Option<usize>
+    requires accepted { head_verdict slots.bytes.now ≡ Ok slots.head.now }
+    requires low { AreLow slots.head.now.headers }
+    requires told { TellsOf naming.now (slot_ranges slots.symbols.now slots.relocs.now) }
+    ensures { (others : List Span) → AreMarks named.now.words.items others
+        → result ≡ position (is_bad_slot slots.entry.bytes.now slots.entry.head.now.headers slots.entry.symbols.now others (slot_ranges slots.entry.symbols.now slots.entry.relocs.now)) slots.entry.relocs.now }
 {
-    parts
-        .plt_relocs
-        .as_slice()
-        .iter()
-        .position(|slot| is_bad_slot(bytes, head, parts, naming, *slot))
+    for (index, slot) in slots.relocs.iter().enumerate() {
+        if is_bad_slot(slots, named, naming, *slot) {
+            return Some(index);
+        }
+    }
+    None
 }
 
 /// Whether the slot isn't one of a symbol's function, at a place of its own that leads to code.
-#[tactic(auto, using(crate::proofs::Low::low_doubleword))]
-fn is_bad_slot(bytes: &[u8], head: &Head, parts: &DynParts, naming: &Naming, slot: Reloc) -> bool
-    requires accepted { head_verdict bytes.now ≡ Ok head.now }
-    requires told { TellsOf naming.now (all_ranges parts.now) }
-    ensures { result ≡ is_bad_slot bytes.now head.now.headers parts.now.symbols (all_ranges parts.now) slot }
+fn is_bad_slot(slots: Slots, named: &Marks, naming: &Naming, slot: Reloc) -> bool
+    requires accepted { head_verdict slots.bytes.now ≡ Ok slots.head.now }
+    requires low { AreLow slots.head.now.headers }
+    requires told { TellsOf naming.now (slot_ranges slots.symbols.now slots.relocs.now) }
+    ensures { (others : List Span) → AreMarks named.now.words.items others
+        → result ≡ is_bad_slot slots.entry.bytes.now slots.entry.head.now.headers slots.entry.symbols.now others (slot_ranges slots.entry.symbols.now slots.entry.relocs.now) slot }
+{
+    if is_no_slot(slots, slot) {
+        return true;
+    }
+    is_shared(slots, named, naming, slot.place)
+}
+
+/// Whether the slot isn't one of a symbol's function, at a doubleword that leads to code.
+#[tactic(auto, using(crate::proofs::Low::low_slot))]
+fn is_no_slot(slots: Slots, slot: Reloc) -> bool
+    requires accepted { head_verdict slots.bytes.now ≡ Ok slots.head.now }
+    ensures { result ≡ is_no_slot slots.entry.bytes.now slots.entry.head.now.headers slots.entry.symbols.now slot }
 {
     slot.kind != R_RISCV_JUMP_SLOT
         || slot.symbol == 0
-        || slot.symbol >= parts.symbols.len()
-        || is_bad_place(head.headers.as_slice(), slot.place)
-        || !leads_to_code(bytes, head, slot.place)
-        || naming.times(doubleword(slot.place)) != 1
+        || slot.symbol as usize >= slots.symbols.len()
+        || is_bad_place(slots.head.headers.as_slice(), slot.place)
+        || !leads_to_code(slots.bytes, slots.head, slot.place)
+}
+
+/// Whether another relocation than the slot at a place names a byte of its doubleword.
+fn is_shared(slots: Slots, named: &Marks, naming: &Naming, place: u64) -> bool
+    requires aligned { place % 8 ≡ 0 }
+    requires near { place + 8 ≤ 2 ^ 32 }
+    requires told { TellsOf naming.now (slot_ranges slots.symbols.now slots.relocs.now) }
+    ensures { (others : List Span) → AreMarks named.now.words.items others
+        → result ≡ is_shared others (slot_ranges slots.entry.symbols.now slots.entry.relocs.now) place }
+{
+    if named.has(place / DOUBLEWORD) {
+        return true;
+    }
+    naming.times(doubleword(place)) != 1
 }
 
 /// Whether the file has an address in executable memory at the place.
@@ -121,27 +158,43 @@ fn leads_to_code(bytes: &[u8], head: &Head, place: u64) -> bool
 }
 
 /// Whether there is a table of slots that is bad.
-fn has_bad_table(head: &Head, parts: &DynParts, naming: &Naming) -> bool
-    requires low { AreLow head.now.headers }
-    requires told { TellsOf naming.now (all_ranges parts.now) }
-    ensures { result ≡ option_map_or (is_bad_table_of_slots head.now.headers (all_ranges parts.now)) parts.now.pltgot false }
+fn has_bad_table(slots: Slots, named: &Marks, naming: &Naming) -> bool
+    requires low { AreLow slots.head.now.headers }
+    requires told { TellsOf naming.now (slot_ranges slots.symbols.now slots.relocs.now) }
+    ensures { (others : List Span) → AreMarks named.now.words.items others
+        → result ≡ option_map_or (is_bad_table_of_slots slots.entry.head.now.headers others (slot_ranges slots.entry.symbols.now slots.entry.relocs.now)) slots.entry.table false }
 {
-    match parts.pltgot {
-        Some(start) => is_bad_table_of_slots(head.headers.as_slice(), naming, start),
+    match slots.table {
+        Some(start) => is_bad_table_of_slots(slots, named, naming, start),
         None => false,
     }
 }
 
 /// Whether the first bytes of the table of slots, which belong to the linker, aren't two doublewords
 /// of writable memory that no relocation names.
-#[tactic(auto, using(crate::proofs::Low::low_writable))]
-fn is_bad_table_of_slots(headers: &[Header], naming: &Naming, start: u64) -> bool
-    requires { AreLow headers.now }
-    ensures { result ≡ is_bad_table_of_slots headers.now naming.now start }
+fn is_bad_table_of_slots(slots: Slots, named: &Marks, naming: &Naming, start: u64) -> bool
+    requires low { AreLow slots.head.now.headers }
+    requires told { TellsOf naming.now (slot_ranges slots.symbols.now slots.relocs.now) }
+    ensures { (others : List Span) → AreMarks named.now.words.items others
+        → result ≡ is_bad_table_of_slots slots.entry.head.now.headers others (slot_ranges slots.entry.symbols.now slots.entry.relocs.now) start }
 {
     let span = Span {
         start,
         size: TABLE_HEAD,
     };
-    start % DOUBLEWORD != 0 || !in_writable(headers, span) || naming.times(span) != 0
+    if start % DOUBLEWORD != 0 || !in_writable(slots.head.headers.as_slice(), span) {
+        return true;
+    }
+    if has_two(named, start) {
+        return true;
+    }
+    naming.times(span) != 0
+}
+
+/// Whether one of the two doublewords from a place on is named.
+fn has_two(named: &Marks, start: u64) -> bool
+    ensures { result ≡ (is_marked named.now.words.items (start / 8) || is_marked named.now.words.items (start / 8 + 1)) }
+{
+    let first = start / DOUBLEWORD;
+    named.has(first) || named.has(first + 1)
 }

@@ -1,14 +1,15 @@
 //! Which names have to be strings (rule 12).
 
-ghost use Rattle.std.specs.Prelude.{◌≡◌, ◌==◌, ◌||◌, ◌&&◌, ℕ, Bool, not, nat_lt, drop, find};
+ghost use Rattle.std.specs.Prelude.{◌≡◌, ◌==◌, ◌||◌, ◌&&◌, ◌*◌, ◌≤◌, ℕ, not, nat_lt, drop, find, length};
 ghost use Rattle.std.specs.List.{list_any};
-ghost use Rattle.elf_dynamic.specs.Rules.{lacks_string, name_offsets};
-ghost use Rattle.elf_dynamic.specs.Tag.{has_tag};
-ghost use Rattle.elf_dynamic.specs.TagNumbers.{dt_needed, dt_soname};
+ghost use Rattle.acceptance.specs.Table.{table};
+ghost use Rattle.dyn_table.specs.Symbol.{symbol_name};
+ghost use Rattle.elf_dynamic.specs.Rules.{bad_string, lacks_string, name_offsets};
+ghost use Rattle.dyn_table.specs.Tag.{has_tag};
+ghost use Rattle.dyn_table.specs.TagNumbers.{dt_needed, dt_soname};
 
-use crate::string::string_at;
-use crate::tag::{DT_NEEDED, DT_SONAME};
-use ld_base::Tag;
+use dyn_table::{DT_NEEDED, DT_SONAME, SYMBOL_SIZE, string_at};
+use ld_base::{Tag, field32};
 
 fn is_soname(entry: &Tag) -> bool
     ensures { result ≡ has_tag dt_soname entry.now }
@@ -42,7 +43,7 @@ fn lacks_string(strings: &[u8], offset: u64) -> bool
 }
 
 /// The first offset without a string, of the needed names and the soname in their order.
-pub(crate) fn bad_name(strings: &[u8], tags: &[Tag]) -> Option<u64>
+fn bad_name(strings: &[u8], tags: &[Tag]) -> Option<u64>
     ensures { result ≡ find (lacks_string strings.now) (name_offsets tags.now) }
 {
     let past = past_soname(tags);
@@ -52,4 +53,31 @@ pub(crate) fn bad_name(strings: &[u8], tags: &[Tag]) -> Option<u64>
         }
     }
     None
+}
+
+/// The first offset without a string, of the names of so many symbols.
+#[tactic(auto, using(crate::proofs::Strings::find_more, crate::proofs::Strings::find_here))]
+fn bad_symbol_name(strings: &[u8], part: &[u8], count: u32) -> Option<u64>
+    requires { 24 * count ≤ length part.now }
+    ensures { result ≡ find (lacks_string strings.now) (table (symbol_name part.now) 0 24 count) }
+{
+    for index in 0..count {
+        let offset = u64::from(field32(part, SYMBOL_SIZE as usize * index as usize));
+        if lacks_string(strings, offset) {
+            return Some(offset);
+        }
+    }
+    None
+}
+
+/// The first offset without a string, of all names.
+#[tactic(auto, using(crate::proofs::Strings::named_first, crate::proofs::Strings::named_rest))]
+pub(crate) fn bad_string(strings: &[u8], tags: &[Tag], part: &[u8], count: u32) -> Option<u64>
+    requires { 24 * count ≤ length part.now }
+    ensures { result ≡ bad_string strings.now tags.now part.now count }
+{
+    match bad_name(strings, tags) {
+        Some(offset) => Some(offset),
+        None => bad_symbol_name(strings, part, count),
+    }
 }

@@ -5,15 +5,13 @@ ghost use Rattle.std.specs.Option.{option_map_or};
 ghost use Rattle.elf_head.specs.Rules.{head_verdict};
 ghost use Rattle.elf_dynamic.specs.Rules.{are_addresses, bad_table, has_bad_array, has_bad_gnu_hash, has_bad_hash, has_bad_jmprel, has_bad_rela, has_bad_relr, has_bad_strings, has_bad_symbols, has_entries, is_bad_table, is_readable, lacks_count, lacks_string, lacks_symbols};
 
-use crate::reloc::RELOC_SIZE;
-use crate::string::string_at;
-use crate::symbol::SYMBOL_SIZE;
-use crate::tables::{has, span_of, value_of};
-use crate::tag::{
+use crate::tables::{rela_span, span_of};
+use dyn_table::{
     DT_FINI_ARRAY, DT_FINI_ARRAYSZ, DT_GNU_HASH, DT_HASH, DT_INIT_ARRAY, DT_INIT_ARRAYSZ,
     DT_JMPREL, DT_PLTGOT, DT_PLTREL, DT_PLTRELSZ, DT_PREINIT_ARRAY, DT_PREINIT_ARRAYSZ, DT_RELA,
     DT_RELAENT, DT_RELASZ, DT_RELR, DT_RELRENT, DT_RELRSZ, DT_STRSZ, DT_STRTAB, DT_SYMENT,
-    DT_SYMTAB, DT_VERDEF, DT_VERDEFNUM, DT_VERNEED, DT_VERNEEDNUM,
+    DT_SYMTAB, DT_VERDEF, DT_VERDEFNUM, DT_VERNEED, DT_VERNEEDNUM, RELOC_SIZE, SYMBOL_SIZE, has,
+    string_at, value_of,
 };
 use elf_head::is_readable;
 use ld_base::{HashTable, Header, Span, Tag};
@@ -90,7 +88,7 @@ fn has_bad_rela(headers: &[Header], tags: &[Tag]) -> bool
     if lacks(tags, DT_RELA, DT_RELASZ) {
         return true;
     }
-    match span_of(tags, DT_RELA, DT_RELASZ) {
+    match rela_span(tags) {
         Some(rela) => {
             !has_entries(tags, DT_RELAENT, RELOC_SIZE, rela) || !is_in_file(headers, rela)
         }

@@ -1,15 +1,15 @@
 //! Where the tables of an object stand, and what they say (gABI, "Dynamic Section").
 
-ghost use Rattle.std.specs.Prelude.{◌≡◌, ◌==◌, ◌+◌, ◌*◌, ◌≤◌, ◌<◌, ◌^◌, Ok, IfOk, IfSome, find, fold, length, max, option_map};
+ghost use Rattle.std.specs.Prelude.{◌≡◌, ◌==◌, ◌+◌, ◌*◌, ◌≤◌, ◌<◌, ◌^◌, Ok, Some, IfOk, IfSome, find, fold, length, max, option_map};
 ghost use Rattle.std.specs.Option.{option_copied, option_and_then, option_map_or};
 ghost use Rattle.elf_head.specs.Rules.{head_verdict};
-ghost use Rattle.elf_head.specs.declared.program_headers.TheConstants.{PT_DYNAMIC};
 ghost use Rattle.ld_base.specs.declared.object.Reloc.{Reloc};
-ghost use Rattle.elf_dynamic.specs.Tables.{bytes_in, dynamic_tags, flags_of, first_exported, has, has_flag, is_tail, less_tail, named_count, plt_span, rela_span, span_of, symbol_count, value_of};
+ghost use Rattle.elf_dynamic.specs.Tables.{bytes_in, dynamic_tags, flags_of, first_exported, is_tail, less_tail, named_count, plt_span, rela_span, span_of, symbol_count};
+ghost use Rattle.dyn_table.specs.Tag.{has, has_flag, value_of};
 
-use crate::tag::{
+use dyn_table::{
     DT_BIND_NOW, DT_FLAGS, DT_FLAGS_1, DT_JMPREL, DT_PLTRELSZ, DT_RELA, DT_RELASZ, DT_SYMBOLIC,
-    last_of, read_tags,
+    has, has_flag, last_of, read_tags, value_of,
 };
 use elf_head::{PT_DYNAMIC, file_bytes};
 use ld_base::{HashTable, Head, Header, ObjFlags, Reloc, Span, Tag, Tags};
@@ -26,31 +26,9 @@ const DF_1_NOW: u64 = 1;
 
 const DF_1_NODELETE: u64 = 8;
 
-/// The value of a tag, 0 where it doesn't stand.
-pub fn value_of(tags: &[Tag], tag: u64) -> u64
-    ensures { result ≡ value_of tags.now tag }
-{
-    last_of(tags, tag).unwrap_or(0)
-}
-
-/// Whether a tag stands.
-pub(crate) fn has(tags: &[Tag], tag: u64) -> bool
-    ensures { result ≡ has tags.now tag }
-{
-    last_of(tags, tag).is_some()
-}
-
-/// Whether the value of a tag has a flag, which is one bit.
-pub(crate) fn has_flag(tags: &[Tag], tag: u64, flag: u64) -> bool
-    requires { 0 < flag }
-    ensures { result ≡ has_flag tags.now tag flag }
-{
-    value_of(tags, tag) / flag % 2 == 1
-}
-
 /// The header of the dynamic table.
 fn dynamic_header(headers: &[Header]) -> Option<&Header>
-    ensures { option_copied result ≡ find (λ h. h.kind == PT_DYNAMIC) headers.now }
+    ensures { option_copied result ≡ find (λ h. h.kind == 2) headers.now }
 {
     headers.iter().find(|header| header.kind == PT_DYNAMIC)
 }
@@ -126,12 +104,25 @@ pub(crate) fn rela_span(tags: &[Tag]) -> Option<Span>
 {
     let rela = span_of(tags, DT_RELA, DT_RELASZ)?;
     match plt_span(tags) {
-        Some(plt) if is_tail(plt, rela) => Some(Span {
-            start: rela.start,
-            size: plt.start - rela.start,
-        }),
-        _ => Some(rela),
+        Some(plt) => less_tail(plt, rela),
+        None => Some(rela),
     }
+}
+
+/// The table without the tail that another may be, none where nothing is left.
+fn less_tail(plt: Span, rela: Span) -> Option<Span>
+    ensures { result ≡ less_tail (Some plt) rela }
+{
+    if !is_tail(plt, rela) {
+        return Some(rela);
+    }
+    if plt.start == rela.start {
+        return None;
+    }
+    Some(Span {
+        start: rela.start,
+        size: plt.start - rela.start,
+    })
 }
 
 /// One more than the greatest symbol that a relocation names, or so much from below.

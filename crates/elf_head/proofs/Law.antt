@@ -11,12 +11,13 @@ use Rattle.ld_base.specs.declared.object.Kind.{Kind}
 use Rattle.ld_base.specs.declared.object.Kind.TheVariants.{Exec, Dyn}
 use Rattle.ld_base.specs.declared.parts.Head.{Head}
 use Rattle.ld_base.specs.declared.parts.Header.{Header}
-use Rattle.elf_head.proofs.Entries.{length-table, get-table, same_elements}
-use Rattle.elf_head.proofs.Least.{least_all, least_at, least_found, least_none}
-use Rattle.elf_head.proofs.Verdicts.{accepted_verdict, first_at, is_first, none_at, refused_verdict, test_kept, verdict_err, verdict_ok}
-use Rattle.elf_head.specs.Broken.{broken_if}
+use Rattle.acceptance.proofs.Tables.{length-table, get-table, same_elements}
+use Rattle.acceptance.proofs.Leasts.{least_all, least_at, least_found, least_none}
+use Rattle.acceptance.proofs.Firsts.{first_at, is_first, none_at, test_kept}
+use Rattle.elf_head.proofs.Verdicts.{accepted_verdict, refused_verdict, verdict_err, verdict_ok}
+use Rattle.acceptance.specs.Broken.{broken_if}
 use Rattle.elf_head.specs.Header.{header_at, header_count, headers_of, is_loaded, table_start}
-use Rattle.elf_head.specs.Least.{least_below}
+use Rattle.acceptance.specs.Least.{least_below}
 use Rattle.elf_head.specs.Rules.{file_rules, head_broken, head_of, head_verdict, header_rules, is_not_linked, kind_of}
 use Rattle.elf_head.specs.Segments.{bad_segment, is_bad_at}
 use Rattle.elf_head.specs.Verdict.{Breaks, BreaksFirst, IsFirstBad, SpellsHead}

@@ -1,9 +1,7 @@
-pub mod Entries
+pub mod Accepted
 pub mod Finding
 pub mod Law
-pub mod Least
 pub mod Limits
-pub mod Low
 pub mod Passing
 pub mod Placing
 pub mod Verdicts

@@ -2,8 +2,7 @@
 use Rattle.std.specs.Prelude.{ℕ, ◌+◌, Bool, ◌&&◌, ◌==◌, nat_lt, List}
 use Rattle.ld_base.specs.Field.{field}
 use Rattle.ld_base.specs.declared.parts.Header.{Header}
-use Rattle.elf_head.specs.Table.{table}
-use Rattle.elf_head.specs.declared.program_headers.TheConstants.{PT_LOAD}
+use Rattle.acceptance.specs.Table.{table}
 
 -- the header at a place of the file
 unfoldable pub header_at : List ℕ → ℕ → Header
@@ -31,6 +30,6 @@ header_count bytes = field 2 bytes 56
 unfoldable pub headers_of : List ℕ → List Header
 headers_of bytes = table (header_at bytes) (table_start bytes) 56 (header_count bytes)
 
--- a segment that is mapped: a PT_LOAD header that takes no memory stands for nothing
+-- a segment that is mapped (PT_LOAD is 1): a header that takes no memory stands for nothing
 abbrev pub is_loaded : Header → Bool
-is_loaded h = h.kind == PT_LOAD && nat_lt 0 h.memsz
+is_loaded h = h.kind == 1 && nat_lt 0 h.memsz

@@ -1,10 +1,7 @@
-pub mod Broken
-pub mod Gives
+pub mod Accepted
 pub mod Header
-pub mod Least
 pub mod Passed
 pub mod Readable
 pub mod Rules
 pub mod Segments
-pub mod Table
 pub mod Verdict

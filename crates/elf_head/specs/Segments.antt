@@ -1,15 +1,13 @@
 -- What a linker asks of program headers (gABI, "Program Header" and "Program Loading").
 -- Each test here is true where a header breaks the rule that it is named after.
-use Rattle.std.specs.Prelude.{ℕ, ◌+◌, ◌-◌, ◌/◌, ◌%◌, Bool, false, not, ◌&&◌, ◌||◌, ◌==◌, nat_lt, nat_le, Option, None, Some, if◌then◌else◌, List, length, take}
+use Rattle.std.specs.Prelude.{ℕ, ◌+◌, ◌-◌, ◌/◌, ◌%◌, ◌^◌, Bool, false, not, ◌&&◌, ◌||◌, ◌==◌, nat_lt, nat_le, Option, None, Some, if◌then◌else◌, List, length, take}
 use Rattle.std.specs.Option.{option_or, option_map_or}
 use Rattle.std.specs.List.{list_any, slice_get}
 use Rattle.std.specs.Int.{is_power_of_two}
 use Rattle.ld_base.specs.declared.parts.Header.{Header}
 use Rattle.elf_head.specs.Header.{is_loaded}
-use Rattle.elf_head.specs.Least.{least_below}
+use Rattle.acceptance.specs.Least.{least_below}
 use Rattle.elf_head.specs.Readable.{readable}
-use Rattle.elf_head.specs.declared.program_headers.TheConstants.{PT_DYNAMIC, PT_TLS}
-use Rattle.elf_head.specs.declared.segments.TheConstants.{PAGE, ADDRESS_LIMIT, TLS_LIMIT}
 
 -- more bytes of the file than memory to hold them
 abbrev pub is_overfull : Header → Bool
@@ -21,7 +19,7 @@ passes_end size h = nat_lt 0 h.filesz && nat_lt size (h.offset + h.filesz)
 
 -- memory past the first 4 GiB of addresses
 abbrev pub passes_limit : Header → Bool
-passes_limit h = nat_lt ADDRESS_LIMIT (h.vaddr + h.memsz)
+passes_limit h = nat_lt (2 ^ 32) (h.vaddr + h.memsz)
 
 -- an alignment that is no power of two; 0 asks for none
 abbrev pub has_bad_align : Header → Bool
@@ -35,12 +33,12 @@ is_incongruent h = nat_lt 1 h.align && not (h.vaddr % h.align == h.offset % h.al
 unfoldable pub is_misshapen : ℕ → Header → Bool
 is_misshapen size h = is_overfull h || passes_end size h || passes_limit h || has_bad_align h || is_incongruent h
 
--- the pages of a segment that takes memory
+-- the pages, of 4,096 bytes, of a segment that takes memory
 abbrev pub first_page : Header → ℕ
-first_page h = h.vaddr / PAGE
+first_page h = h.vaddr / 4096
 
 abbrev pub last_page : Header → ℕ
-last_page h = (h.vaddr + h.memsz - 1) / PAGE
+last_page h = (h.vaddr + h.memsz - 1) / 4096
 
 -- not on pages above those of each mapped segment before it: out of ascending order, or on a page of another
 unfoldable pub is_misplaced : List Header → Header → Bool
@@ -50,25 +48,25 @@ is_misplaced before h = list_any (λ e. is_loaded e && nat_le (first_page h) (la
 abbrev pub has_kind : ℕ → List Header → Bool
 has_kind kind headers = list_any (λ h. h.kind == kind) headers
 
--- more memory, or a wider alignment, than a thread's block may have
+-- more memory, or a wider alignment, than a thread's block may have: 1 MiB
 abbrev pub is_oversized : Header → Bool
-is_oversized h = nat_lt TLS_LIMIT h.memsz || nat_lt TLS_LIMIT h.align
+is_oversized h = nat_lt 1_048_576 h.memsz || nat_lt 1_048_576 h.align
 
 -- a mapped segment, beside those before it
 abbrev pub is_bad_load : ℕ → List Header → Header → Bool
 is_bad_load size before h = is_loaded h && (is_misshapen size h || is_misplaced before h)
 
--- a second dynamic table
+-- a second dynamic table (PT_DYNAMIC is 2)
 abbrev pub is_bad_dynamic : List Header → Header → Bool
-is_bad_dynamic before h = h.kind == PT_DYNAMIC && has_kind PT_DYNAMIC before
+is_bad_dynamic before h = h.kind == 2 && has_kind 2 before
 
 -- what is asked of a segment of thread-local storage by itself: its first bytes are those of a mapped segment
 abbrev pub is_bad_storage : ℕ → List Header → Header → Bool
 is_bad_storage size headers h = is_misshapen size h || not (readable headers h.vaddr h.filesz) || is_oversized h
 
--- a segment of thread-local storage, which has to be the only one
+-- a segment of thread-local storage (PT_TLS is 7), which has to be the only one
 abbrev pub is_bad_tls : ℕ → List Header → List Header → Header → Bool
-is_bad_tls size headers before h = h.kind == PT_TLS && (has_kind PT_TLS before || is_bad_storage size headers h)
+is_bad_tls size headers before h = h.kind == 7 && (has_kind 7 before || is_bad_storage size headers h)
 
 -- a header, among all headers and beside those before it
 unfoldable pub is_bad : ℕ → List Header → List Header → Header → Bool

@@ -26,11 +26,9 @@ mod program_headers;
 mod range;
 mod reader;
 mod segments;
-#[cfg(test)]
-mod tests;
 mod verdict;
 
 pub use program_headers::{PT_DYNAMIC, PT_GNU_RELRO, PT_LOAD, PT_TLS};
 pub use range::{bytes_from, file_bytes, is_readable};
 pub use reader::read_head;
-pub use verdict::one_verdict;
+pub use verdict::{accepted_head, one_verdict};

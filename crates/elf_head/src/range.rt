@@ -1,6 +1,6 @@
 //! The bytes of the file that stand for a range of addresses.
 
-ghost use Rattle.std.specs.Prelude.{◌≡◌, ◌+◌, ◌≤◌, Ok, IfSome, IsSome, IsTrue, ◌↔◌, find, length};
+ghost use Rattle.std.specs.Prelude.{◌≡◌, ◌+◌, ◌^◌, ◌<◌, ◌≤◌, Ok, IfSome, IsSome, IsTrue, ◌↔◌, find, length};
 ghost use Rattle.std.specs.Option.{option_copied, option_map};
 ghost use Rattle.elf_head.specs.Readable.{bytes_from, covers, file_bytes, readable};
 ghost use Rattle.elf_head.specs.Rules.{head_verdict};
@@ -16,6 +16,7 @@ pub fn file_bytes<'a>(bytes: &'a [u8], head: &Head, start: u64, size: u64) -> Op
     ensures found { option_map (λ part. part.now) result ≡ file_bytes bytes.now head.now.headers start size }
     ensures size { IfSome result (λ part. length part.now ≡ size) }
     ensures readable { IsSome result ↔ IsTrue (readable head.now.headers start size) }
+    ensures low { 0 < size → IsSome result → start + size ≤ 2 ^ 32 }
 {
     if size == 0 {
         return Some(&bytes[..0]);
@@ -30,7 +31,8 @@ pub fn file_bytes<'a>(bytes: &'a [u8], head: &Head, start: u64, size: u64) -> Op
 #[tactic(auto, using(crate::proofs::Placing::found), unfolding(crate::specs::Readable::bytes_from))]
 pub fn bytes_from<'a>(bytes: &'a [u8], head: &Head, start: u64) -> &'a [u8]
     requires { head_verdict bytes.now ≡ Ok head.now }
-    ensures { result.now ≡ bytes_from bytes.now head.now.headers start }
+    ensures value { result.now ≡ bytes_from bytes.now head.now.headers start }
+    ensures few { length result.now ≤ 8_388_608 }
 {
     match covering(head.headers.as_slice(), start, 1) {
         Some(header) => {

@@ -2,8 +2,8 @@
 
 ghost use Rattle.std.specs.Prelude.{◌≡◌, IfOk};
 ghost use Rattle.ld_base.specs.declared.fault.NotAccepted.{NotAccepted};
-ghost use Rattle.elf_head.specs.Broken.{first_broken};
-ghost use Rattle.elf_head.specs.Gives.{Gives};
+ghost use Rattle.acceptance.specs.Broken.{first_broken};
+ghost use Rattle.acceptance.specs.Gives.{Gives};
 ghost use Rattle.elf_head.specs.Header.{headers_of};
 ghost use Rattle.elf_head.specs.Rules.{file_rules, head_broken, head_of, head_verdict};
 

@@ -10,12 +10,12 @@ use Rattle.ld_base.specs.declared.parts.DynParts.{DynParts}
 use Rattle.ld_base.specs.declared.parts.HashTable.{HashTable}
 use Rattle.ld_base.specs.declared.parts.Head.{Head}
 use Rattle.ld_base.specs.declared.parts.Versions.{Versions}
-use Rattle.elf_head.specs.Gives.{Gives}
+use Rattle.acceptance.specs.Gives.{Gives}
 use Rattle.elf_head.specs.Rules.{head_verdict}
 use Rattle.elf_head.specs.Verdict.{SpellsHead}
 use Rattle.elf_head.specs.Verdict.{BreaksFirst as HeadBreaks}
-use Rattle.elf_dynamic.proofs.Laws.{bind_ok}
-use Rattle.elf_dynamic.specs.Entries.{◌>>=◌}
+use Rattle.acceptance.proofs.Reading.{bind_ok}
+use Rattle.acceptance.specs.Entries.{◌>>=◌}
 use Rattle.elf_dynamic.specs.Rules.{dynamic_verdict}
 use Rattle.elf_dynamic.specs.Verdict.{SpellsDynamic}
 use Rattle.elf_dynamic.specs.Verdict.{BreaksFirst as DynamicBreaks}

@@ -1,4 +1,4 @@
-pub mod Bounds
+pub mod Held
 pub mod Laws
 pub mod Named
 pub mod Versioned

@@ -7,9 +7,10 @@ use Rattle.std.proofs.lemmas.Option.{slice_get_within}
 use Rattle.ld_base.specs.declared.object.Symbol.{Symbol}
 use Rattle.ld_base.specs.declared.parts.DynParts.{DynParts}
 use Rattle.ld_base.specs.declared.parts.Head.{Head}
-use Rattle.elf_head.proofs.Entries.{get-table, length-table}
-use Rattle.elf_dynamic.specs.Symbol.{symbol_name, symbol_named}
-use Rattle.elf_dynamic.specs.Tables.{parts_in, string_in, symbols_in}
+use Rattle.acceptance.proofs.Tables.{get-table, length-table}
+use Rattle.dyn_table.specs.Name.{string_in}
+use Rattle.dyn_table.specs.Symbol.{symbol_name, symbol_named, symbols_in}
+use Rattle.elf_dynamic.specs.Tables.{parts_in}
 use Rattle.elf_object.specs.Object.{with_version, with_versions}
 
 some_is : {X : Type 0} {x y : X} → Some x ≡ Some y → x ≡ y

@@ -5,7 +5,6 @@ use Rattle.ld_base.specs.declared.object.Span.{Span}
 use Rattle.ld_base.specs.declared.object.TlsSeg.{TlsSeg}
 use Rattle.ld_base.specs.declared.parts.Header.{Header}
 use Rattle.elf_head.specs.Header.{is_loaded}
-use Rattle.elf_head.specs.declared.program_headers.TheConstants.{PT_DYNAMIC, PT_GNU_RELRO, PT_TLS}
 
 -- the segment of a header, with its bytes of the file
 unfoldable pub segment_at : List ℕ → Header → Segment
@@ -25,14 +24,14 @@ segments_of bytes headers = map (segment_at bytes) (filter is_loaded headers)
 abbrev pub is_kind : ℕ → Header → Bool
 is_kind kind h = h.kind == kind
 
--- the range that is read-only once it is relocated: the last one that is named
+-- the range that is read-only once it is relocated (PT_GNU_RELRO is 0x6474e552): the last one that is named
 unfoldable pub relro_of : List Header → Option Span
-relro_of headers = option_map (λ h. record { start = h.vaddr; size = h.memsz }) (find (is_kind PT_GNU_RELRO) (reverse headers))
+relro_of headers = option_map (λ h. record { start = h.vaddr; size = h.memsz }) (find (is_kind 0x6474_e552) (reverse headers))
 
--- the segment from which each thread's block is made; the rules of the head allow no second one
+-- the segment from which each thread's block is made (PT_TLS is 7); the rules of the head allow no second one
 unfoldable pub tls_of : List Header → Option TlsSeg
-tls_of headers = option_map (λ h. record { vaddr = h.vaddr; filesz = h.filesz; memsz = h.memsz; align = h.align }) (find (is_kind PT_TLS) headers)
+tls_of headers = option_map (λ h. record { vaddr = h.vaddr; filesz = h.filesz; memsz = h.memsz; align = h.align }) (find (is_kind 7) headers)
 
--- the address of the dynamic table; the rules of the head allow no second one, and those of its table ask for one
+-- the address of the dynamic table (PT_DYNAMIC is 2); the rules of the head allow no second one, and those of its table ask for one
 unfoldable pub dynamic_of : List Header → ℕ
-dynamic_of headers = unwrap_or (option_map (λ h. h.vaddr) (find (is_kind PT_DYNAMIC) headers)) 0
+dynamic_of headers = unwrap_or (option_map (λ h. h.vaddr) (find (is_kind 2) headers)) 0

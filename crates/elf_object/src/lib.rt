@@ -27,6 +27,3 @@ mod segment;
 
 pub use law::one_object;
 pub use reader::read_object;
-
-#[cfg(test)]
-mod tests;

@@ -5,7 +5,7 @@ ghost use Rattle.elf_head.specs.Header.{is_loaded};
 ghost use Rattle.elf_head.specs.Rules.{head_verdict};
 ghost use Rattle.elf_object.specs.Segments.{dynamic_of, relro_of, segment_at, segments_of, tls_of};
 
-use elf_head::{PT_DYNAMIC, PT_GNU_RELRO, PT_LOAD, PT_TLS};
+use elf_head::{PT_DYNAMIC, PT_GNU_RELRO, PT_LOAD, PT_TLS, accepted_head};
 use ld_base::{Bytes, Head, Header, Segment, Segments, Span, TlsSeg};
 use std::alloc::{AllocError, Global};
 
@@ -62,6 +62,7 @@ pub(crate) fn read_segments(
     requires { head_verdict bytes.now ≡ Ok head.now }
     ensures { IfOk result (λ segments. segments ≡ segments_of bytes.now head.now.headers) }
 {
+    accepted_head();
     let mut segments = Segments::new(alloc);
     for header in head.headers.as_slice() {
         push_segment(alloc, &mut segments, bytes, header)?;

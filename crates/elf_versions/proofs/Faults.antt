@@ -6,11 +6,11 @@ use Rattle.ld_base.specs.Field.{field}
 use Rattle.ld_base.specs.declared.fault.NotAccepted.{NotAccepted}
 use Rattle.ld_base.specs.declared.parts.Tag.{Tag}
 use Rattle.elf_head.specs.Readable.{file_bytes}
-use Rattle.elf_head.specs.Table.{table}
-use Rattle.elf_dynamic.specs.Entries.{◌>>=◌, entries_of}
-use Rattle.elf_dynamic.specs.Name.{string_at}
-use Rattle.elf_dynamic.specs.Tag.{last_of}
-use Rattle.elf_dynamic.specs.TagNumbers.{dt_versym, dt_verdef, dt_verdefnum, dt_verneed, dt_verneednum}
+use Rattle.acceptance.specs.Table.{table}
+use Rattle.acceptance.specs.Entries.{◌>>=◌, entries_of}
+use Rattle.dyn_table.specs.Name.{string_at}
+use Rattle.dyn_table.specs.Tag.{last_of}
+use Rattle.dyn_table.specs.TagNumbers.{dt_versym, dt_verdef, dt_verdefnum, dt_verneed, dt_verneednum}
 use Rattle.elf_versions.specs.declared.verneed.Need.{Need}
 use Rattle.elf_versions.specs.Linked.{is_linked, place}
 use Rattle.elf_versions.specs.Record.{bad_table, distance, named, passing, record_at, value_of}

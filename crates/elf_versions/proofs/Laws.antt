@@ -9,12 +9,12 @@ use Rattle.ld_base.specs.declared.object.Verdef.{Verdef}
 use Rattle.ld_base.specs.declared.object.Verneed.{Verneed}
 use Rattle.ld_base.specs.declared.parts.Tag.{Tag}
 use Rattle.elf_head.specs.Readable.{file_bytes}
-use Rattle.elf_head.specs.Table.{table}
-use Rattle.elf_dynamic.specs.Entries.{◌>>=◌}
-use Rattle.elf_dynamic.specs.Name.{string_at, IsStringAt}
-use Rattle.elf_dynamic.specs.Tag.{last_of}
-use Rattle.elf_dynamic.specs.TagNumbers.{dt_versym, dt_verdef, dt_verdefnum, dt_verneed, dt_verneednum}
-use Rattle.elf_dynamic.proofs.Laws.{bind_ok, entries_from-read, read_from-entries, entries_map, some_from-ok_or, ok_or-some, ok_is}
+use Rattle.acceptance.specs.Table.{table}
+use Rattle.acceptance.specs.Entries.{◌>>=◌}
+use Rattle.dyn_table.specs.Name.{string_at, IsStringAt}
+use Rattle.dyn_table.specs.Tag.{last_of}
+use Rattle.dyn_table.specs.TagNumbers.{dt_versym, dt_verdef, dt_verdefnum, dt_verneed, dt_verneednum}
+use Rattle.acceptance.proofs.Reading.{bind_ok, entries_from-read, read_from-entries, entries_map, some_from-ok_or, ok_or-some, ok_is}
 use Rattle.elf_versions.specs.declared.verneed.Need.{Need}
 use Rattle.elf_versions.specs.Linked.{linked, is_linked, place}
 use Rattle.elf_versions.specs.Record.{bad_table, distance, named, passing, record_at, value_of}

@@ -10,10 +10,10 @@ use Rattle.ld_base.specs.declared.fault.NotAccepted.{NotAccepted}
 use Rattle.ld_base.specs.declared.parts.DynParts.{DynParts}
 use Rattle.ld_base.specs.declared.parts.Head.{Head}
 use Rattle.ld_base.specs.declared.parts.Versions.{Versions}
-use Rattle.elf_dynamic.proofs.Laws.{bind_ok, ok_is}
-use Rattle.elf_dynamic.specs.Entries.{◌>>=◌}
-use Rattle.elf_dynamic.specs.Tag.{last_of}
-use Rattle.elf_dynamic.specs.TagNumbers.{dt_versym, dt_verdef, dt_verneed}
+use Rattle.acceptance.proofs.Reading.{bind_ok, ok_is}
+use Rattle.acceptance.specs.Entries.{◌>>=◌}
+use Rattle.dyn_table.specs.Tag.{last_of}
+use Rattle.dyn_table.specs.TagNumbers.{dt_versym, dt_verdef, dt_verneed}
 use Rattle.elf_versions.proofs.Faults.{fails_with, verdefs_fail, verneeds_fail, versym_fails}
 use Rattle.elf_versions.proofs.Laws.{Strings, verdefs_are, verdefs_read, verneeds_are, verneeds_read, versym_is, versym_read}
 use Rattle.elf_versions.specs.Index.{indexes_of, is_unknown, unknown_index}

@@ -10,11 +10,11 @@ use Rattle.ld_base.specs.declared.parts.Head.{Head}
 use Rattle.ld_base.specs.declared.parts.Tag.{Tag}
 use Rattle.ld_base.specs.declared.parts.Versions.{Versions}
 use Rattle.elf_head.specs.Readable.{file_bytes}
-use Rattle.elf_head.specs.Table.{table}
-use Rattle.elf_dynamic.specs.Entries.{AreEntries}
-use Rattle.elf_dynamic.specs.Name.{IsStringAt}
-use Rattle.elf_dynamic.specs.Tag.{last_of}
-use Rattle.elf_dynamic.specs.TagNumbers.{dt_versym, dt_verdef, dt_verdefnum, dt_verneed, dt_verneednum}
+use Rattle.acceptance.specs.Table.{table}
+use Rattle.acceptance.specs.Entries.{AreEntries}
+use Rattle.dyn_table.specs.Name.{IsStringAt}
+use Rattle.dyn_table.specs.Tag.{last_of}
+use Rattle.dyn_table.specs.TagNumbers.{dt_versym, dt_verdef, dt_verdefnum, dt_verneed, dt_verneednum}
 use Rattle.elf_versions.specs.declared.verneed.Need.{Need}
 use Rattle.elf_versions.specs.Index.{indexes_of, is_unknown}
 use Rattle.elf_versions.specs.Linked.{place}

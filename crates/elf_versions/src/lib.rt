@@ -17,8 +17,6 @@ mod index;
 mod law;
 mod reader;
 mod records;
-#[cfg(test)]
-mod tests;
 mod verdef;
 mod verneed;
 mod versym;

@@ -2,12 +2,12 @@
 
 ghost use Rattle.std.specs.Prelude.{◌≡◌, ◌+◌, ◌≤◌, ◌<◌, ◌^◌, Ok, IfOk, length};
 ghost use Rattle.std.specs.Result.{result_map_both};
-ghost use Rattle.elf_head.specs.Gives.{Gives};
+ghost use Rattle.acceptance.specs.Gives.{Gives};
 ghost use Rattle.elf_head.specs.Rules.{head_verdict};
 ghost use Rattle.ld_base.specs.declared.fault.ReadFault.TheVariants as faults;
 ghost use Rattle.elf_versions.specs.Record.{bad_table, named, record_at};
 
-use elf_dynamic::string_at;
+use dyn_table::string_at;
 use elf_head::file_bytes;
 use ld_base::{Head, Name, NotAccepted, ReadFault};
 use std::alloc::Global;

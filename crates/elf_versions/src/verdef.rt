@@ -2,12 +2,12 @@
 
 ghost use Rattle.std.specs.Prelude.{◌≡◌, ◌+◌, ◌≤◌, IfOk, length};
 ghost use Rattle.std.specs.Result.{result_map_both};
-ghost use Rattle.elf_head.specs.Gives.{Gives};
+ghost use Rattle.acceptance.specs.Gives.{Gives};
 ghost use Rattle.elf_versions.specs.Record.{distance};
 ghost use Rattle.elf_versions.specs.Verdef.{is_verdef, verdef_at, verdefs_from, verdefs_of};
 
 use crate::records::{MAX_RECORDS, Records};
-use elf_dynamic::{DT_VERDEF, DT_VERDEFNUM, last_of, value_of};
+use dyn_table::{DT_VERDEF, DT_VERDEFNUM, last_of, value_of};
 use ld_base::{ReadFault, Tag, Verdef, Verdefs, field16, field32};
 use std::alloc::Global;
 

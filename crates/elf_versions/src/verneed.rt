@@ -2,13 +2,13 @@
 
 ghost use Rattle.std.specs.Prelude.{◌≡◌, ◌+◌, ◌≤◌, IfOk, length, sum_by};
 ghost use Rattle.std.specs.Result.{result_map_both};
-ghost use Rattle.elf_head.specs.Gives.{Gives};
+ghost use Rattle.acceptance.specs.Gives.{Gives};
 ghost use Rattle.elf_versions.specs.Linked.{is_linked};
 ghost use Rattle.elf_versions.specs.Record.{distance};
 ghost use Rattle.elf_versions.specs.Verneed.{is_verneed, need_at, needs_from, vernaux_at, versions_of, versions_of_all, verneeds_from, verneeds_of};
 
 use crate::records::{MAX_RECORDS, Records};
-use elf_dynamic::{DT_VERNEED, DT_VERNEEDNUM, last_of, value_of};
+use dyn_table::{DT_VERNEED, DT_VERNEEDNUM, last_of, value_of};
 use ld_base::{Name, ReadFault, Tag, Verneed, Verneeds, field16, field32};
 use std::alloc::Global;
 

@@ -17,9 +17,18 @@ exported o = drop o.first_exported o.symbols
 abbrev pub is_offer : Object → List ℕ → Symbol → Bool
 is_offer o name s = is_visible_definition s && bytes_eq s.name name && (not o.has_versym || not (version_index s == 0))
 
+-- a version's name, if it has one, is this
+abbrev pub is_named : List ℕ → Option (List ℕ) → Bool
+is_named version (Some name) = bytes_eq name version
+is_named version None = false
+
+-- the version with this index has this name
+abbrev pub carries : Object → List ℕ → ℕ → Bool
+carries o version index = is_named version (version_name o index)
+
 -- its version has this name
 abbrev pub has_version : Object → List ℕ → Symbol → Bool
-has_version o version s = elim (version_name o (version_index s)) [ Some v ↦ bytes_eq v version | None ↦ false ]
+has_version o version s = carries o version (version_index s)
 
 -- the first exported symbol that passes a test
 abbrev pub first_exported : Object → (Symbol → Bool) → Option ℕ

@@ -2,6 +2,7 @@
 //! rule by which a reference finds a definition within one object.
 #![tactic(auto)]
 
+mod carriers;
 mod fault;
 mod field;
 mod law;

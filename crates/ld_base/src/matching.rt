@@ -7,6 +7,7 @@ ghost use Rattle.ld_base.specs.Symbol.{is_local, is_weak, is_tls, is_defined, is
 ghost use Rattle.ld_base.specs.Version.{is_base, verdef_of, verneed_of, version_name};
 ghost use Rattle.ld_base.specs.Pick.{is_offer, has_version, is_wanted, names_no_version, first_exported, only_exported, exported, pick_of};
 
+use crate::carriers::Carriers;
 use crate::{Name, Object, Symbol, Verdef, Verneed, Want};
 
 /// The section index of a symbol that is undefined (SHN_UNDEF).
@@ -147,15 +148,6 @@ impl Object {
         }
     }
 
-    fn has_version(&self, version: &[u8], symbol: &Symbol) -> bool
-        ensures { result ≡ has_version self.now version.now symbol.now }
-    {
-        match self.version_name(symbol.version_index()) {
-            Some(name) => name.is(version),
-            None => false,
-        }
-    }
-
     fn is_offer(&self, name: &[u8], symbol: &Symbol) -> bool
         ensures { result ≡ is_offer self.now name.now symbol.now }
     {
@@ -166,19 +158,6 @@ impl Object {
 }
 
 impl Want {
-    fn is_met_by(&self, object: &Object, symbol: &Symbol) -> bool
-        ensures { result ≡ is_wanted object.now self.now symbol.now }
-    {
-        match self {
-            Want::Version(version) => {
-                object.has_version(version.as_bytes(), symbol) || symbol.version == 1
-            }
-            Want::Plain => symbol.version_index() == 1 || symbol.version_index() == 2,
-            Want::Dlsym => symbol.version_index() == 1,
-            Want::Dlvsym(version) => object.has_version(version.as_bytes(), symbol),
-        }
-    }
-
     fn names_no_version(&self) -> bool
         ensures { result ≡ names_no_version self.now }
     {
@@ -221,11 +200,41 @@ fn first_offer(object: &Object, name: &[u8]) -> Option<usize>
         .position(|symbol| object.is_offer(name, symbol))
 }
 
+/// The first offer of a version, or that every version takes.
+fn first_of_version(object: &Object, name: &[u8], version: &[u8]) -> Option<usize>
+    ensures { result ≡ position (λ s. is_offer object.now name.now s && (has_version object.now version.now s || s.version == 1)) (exported object.now) }
+{
+    let carriers = Carriers::new(object, version);
+    exported(object).iter().position(|symbol| object.is_offer(name, symbol)
+        && (carriers.has(symbol.version_index()) || symbol.version == 1))
+}
+
+/// The first offer of just this version.
+fn first_of_just(object: &Object, name: &[u8], version: &[u8]) -> Option<usize>
+    ensures { result ≡ position (λ s. is_offer object.now name.now s && has_version object.now version.now s) (exported object.now) }
+{
+    let carriers = Carriers::new(object, version);
+    exported(object).iter().position(|symbol| object.is_offer(name, symbol)
+        && carriers.has(symbol.version_index()))
+}
+
+/// The first offer of one of the first two indexes.
+fn first_of_base(object: &Object, name: &[u8], last: u16) -> Option<usize>
+    ensures { result ≡ position (λ s. is_offer object.now name.now s && (version_index s == 1 || version_index s == last)) (exported object.now) }
+{
+    exported(object).iter().position(|symbol| object.is_offer(name, symbol)
+        && (symbol.version_index() == 1 || symbol.version_index() == last))
+}
+
 fn first_wanted(object: &Object, name: &[u8], want: &Want) -> Option<usize>
     ensures { result ≡ position (λ s. is_offer object.now name.now s && is_wanted object.now want.now s) (exported object.now) }
 {
-    exported(object).iter().position(|symbol| object.is_offer(name, symbol)
-        && want.is_met_by(object, symbol))
+    match want {
+        Want::Version(version) => first_of_version(object, name, version.as_bytes()),
+        Want::Plain => first_of_base(object, name, 2),
+        Want::Dlsym => first_of_base(object, name, 1),
+        Want::Dlvsym(version) => first_of_just(object, name, version.as_bytes()),
+    }
 }
 
 fn first_in_sight(object: &Object, name: &[u8]) -> Option<usize>

@@ -14,9 +14,9 @@ use Rattle.ld_base.specs.declared.parts.GnuPart.{GnuPart}
 use Rattle.ld_base.specs.declared.parts.HashTable.{HashTable}
 use Rattle.ld_base.specs.declared.parts.Head.{Head}
 use Rattle.ld_base.specs.declared.parts.SysvPart.{SysvPart}
-use Rattle.elf_head.proofs.Least.{least_all, least_at, least_found, least_none}
-use Rattle.elf_dynamic.proofs.Laws.{bind_ok}
-use Rattle.elf_dynamic.specs.Entries.{◌>>=◌}
+use Rattle.acceptance.proofs.Leasts.{least_all, least_at, least_found, least_none}
+use Rattle.acceptance.proofs.Reading.{bind_ok}
+use Rattle.acceptance.specs.Entries.{◌>>=◌}
 use Rattle.sym_hash.proofs.Chains.{gnu_from, gnu_is, walk_from, walk_is}
 use Rattle.sym_hash.proofs.Links.{ends_leads, leads_end, sysv_from, sysv_is}
 use Rattle.sym_hash.specs.Breaks.{BreaksHash, IsMissedAt}

@@ -6,8 +6,8 @@ use Rattle.std.specs.List.{slice_get}
 use Rattle.std.proofs.lemmas.Option.{slice_get_read}
 use Rattle.ld_base.specs.Symbol.{is_visible_definition}
 use Rattle.ld_base.specs.declared.object.Symbol.{Symbol}
-use Rattle.elf_head.proofs.Least.{least_found, least_kept}
-use Rattle.elf_head.specs.Least.{least_below}
+use Rattle.acceptance.proofs.Leasts.{least_found, least_kept}
+use Rattle.acceptance.specs.Least.{least_below}
 use Rattle.sym_hash.specs.Verdict.{first_missed, is_missed}
 
 module _ (reached : List ℕ → ℕ → Bool) (symbols : List Symbol) (first i : ℕ) (s : Symbol) (within : i < length symbols) (is : s ≡ get_or symbols i s) (none : least_below (is_missed reached symbols first) i ≡ None) where

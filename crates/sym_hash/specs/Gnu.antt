@@ -3,7 +3,7 @@ use Rattle.std.specs.Prelude.{◌≡◌, ℕ, ◌-◌, ◌/◌, ◌%◌, ◌^◌
 use Rattle.std.specs.List.{list_any, list_all, slice_get}
 use Rattle.std.specs.Option.{option_map_or}
 use Rattle.ld_base.specs.declared.parts.GnuPart.{GnuPart}
-pub use Rattle.elf_dynamic.specs.HashWords.{is_end}
+pub use Rattle.dyn_table.specs.HashWords.{is_end}
 use Rattle.sym_hash.specs.Hash.{gnu_hash}
 
 -- some chain word marks an end, from that of one symbol on and before that of another

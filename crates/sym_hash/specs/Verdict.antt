@@ -8,8 +8,8 @@ use Rattle.ld_base.specs.declared.object.Symbol.{Symbol}
 use Rattle.ld_base.specs.declared.parts.DynParts.{DynParts}
 use Rattle.ld_base.specs.declared.parts.Head.{Head}
 use Rattle.ld_base.specs.declared.parts.HashTable.{HashTable}
-use Rattle.elf_head.specs.Least.{least_below}
-use Rattle.elf_dynamic.specs.Entries.{◌>>=◌}
+use Rattle.acceptance.specs.Least.{least_below}
+use Rattle.acceptance.specs.Entries.{◌>>=◌}
 use Rattle.sym_hash.specs.Gnu.{gnu_walks_end, gnu_reaches}
 use Rattle.sym_hash.specs.Sysv.{sysv_walks_end, sysv_reaches}
 use Rattle.sym_hash.specs.Words.{bad_hash, table_words}

@@ -4,9 +4,9 @@ use Rattle.ld_base.specs.declared.fault.NotAccepted.{NotAccepted}
 use Rattle.ld_base.specs.declared.parts.HashTable.{HashTable}
 use Rattle.ld_base.specs.declared.parts.Header.{Header}
 use Rattle.ld_base.specs.declared.parts.Tag.{Tag}
-use Rattle.elf_dynamic.specs.HashWords.{hash_words}
-use Rattle.elf_dynamic.specs.Tables.{has}
-use Rattle.elf_dynamic.specs.TagNumbers.{dt_hash, dt_gnu_hash}
+use Rattle.dyn_table.specs.HashWords.{hash_words}
+use Rattle.dyn_table.specs.Tag.{has}
+use Rattle.dyn_table.specs.TagNumbers.{dt_hash, dt_gnu_hash}
 
 -- rule 19, broken by a symbol, or by the table itself with the number 0
 abbrev pub bad_hash : ℕ → NotAccepted

@@ -17,8 +17,6 @@ mod hash;
 mod law;
 mod lookup;
 mod sysv;
-#[cfg(test)]
-mod tests;
 mod words;
 
 pub use hash::{gnu_hash, sysv_hash};

@@ -2,7 +2,7 @@
 
 ghost use Rattle.std.specs.Prelude.{◌≡◌, ◌<◌, ◌^◌, Ok, IfOk, IfSome, length, false, not, nat_le, ◌&&◌};
 ghost use Rattle.ld_base.specs.Symbol.{is_visible_definition};
-ghost use Rattle.elf_head.specs.Gives.{Gives};
+ghost use Rattle.acceptance.specs.Gives.{Gives};
 ghost use Rattle.elf_head.specs.Rules.{head_verdict};
 ghost use Rattle.ld_base.specs.Pick.{pick_of};
 ghost use Rattle.sym_hash.specs.Reached.{IsTableOf};

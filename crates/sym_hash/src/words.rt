@@ -1,12 +1,12 @@
 //! The words of the hash tables of an object.
 
 ghost use Rattle.std.specs.Prelude.{◌≡◌, ◌<◌, ◌^◌, Ok, IfOk, IfSome, length};
-ghost use Rattle.elf_head.specs.Gives.{Gives};
+ghost use Rattle.acceptance.specs.Gives.{Gives};
 ghost use Rattle.elf_head.specs.Rules.{head_verdict};
 ghost use Rattle.ld_base.specs.declared.fault.ReadFault.TheVariants as faults;
 ghost use Rattle.sym_hash.specs.Words.{bad_hash, lacks_words, table_words};
 
-use elf_dynamic::{DT_GNU_HASH, DT_HASH, last_of, read_hash_words};
+use dyn_table::{DT_GNU_HASH, DT_HASH, last_of, read_hash_words};
 use ld_base::{HashTable, Head, NotAccepted, ReadFault, Tag};
 use std::alloc::Global;
 

@@ -1,4 +1,5 @@
 use Rattle.std.proofs.Common.{arith}
+use Rattle.elf_head.proofs.Accepted.{few_range}
 use Rattle.elf_head.proofs.Placing.{range_found}
 use Rattle.elf_head.proofs.range.bytes_from.Goals as goal
 
@@ -31,3 +32,6 @@ pub slice_bounds-result-end : goal.slice_bounds-result-end
 slice_bounds-result-end c =
     let range = range_found c.args.bytes.now c.args.head.now c.args.start 1 _ _ c.in-Some.header c.requires c.covering.ensures c.as_slice.ensures c.in-Some.is (omega arith) in
     omega (arith, range.begins, range.ends, range.held)
+
+pub returns-in-Some-clause-few : goal.returns-in-Some-clause-few
+returns-in-Some-clause-few c = few_range c.args.bytes.now c.args.head.now _ _ c.requires

@@ -1,7 +1,7 @@
 use Rattle.std.proofs.Common.{◌≡◌, ◌∙◌, sym, rules}
 use Rattle.std.specs.Prelude.{None, Some}
 use Rattle.elf_head.proofs.Verdicts.{broken_by_file, refused_verdict}
-use Rattle.elf_head.specs.Broken.{first_broken}
+use Rattle.acceptance.specs.Broken.{first_broken}
 use Rattle.elf_head.specs.Rules.{file_rules, header_rules}
 use Rattle.elf_head.proofs.reader.read_head.Goals as goal
 

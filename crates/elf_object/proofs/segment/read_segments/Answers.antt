@@ -1,5 +1,8 @@
-use Rattle.elf_object.proofs.Bounds.{in_file_at}
+use Rattle.std.proofs.Common.{length}
+use Rattle.elf_object.proofs.Held.{held_at}
 use Rattle.elf_object.proofs.segment.read_segments.Goals as goal
 
 pub push_segment-requires : goal.push_segment-requires
-push_segment-requires c = in_file_at c.args.bytes.now c.args.head.now c.as_slice-header-items.result.now c.loop-header.header-index _ c.requires c.as_slice-header-items.ensures c.loop-header-test.true
+push_segment-requires c =
+    held_at (length c.args.bytes.now) c.as_slice-header-items.result.now c.args.head.now.headers c.loop-header.header-index _
+    (c.accepted_head.ensures.segments c.args.bytes.now c.args.head.now c.requires) c.as_slice-header-items.ensures c.loop-header-test.true

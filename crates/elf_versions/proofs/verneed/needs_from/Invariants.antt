@@ -1,5 +1,5 @@
 use Rattle.std.proofs.Common.{◌≡◌, Ok, ◌+◌, ◌==◌, length}
-use Rattle.elf_dynamic.specs.Entries.{entries_of}
+use Rattle.acceptance.specs.Entries.{entries_of}
 use Rattle.elf_versions.specs.Linked.{place}
 use Rattle.elf_versions.specs.Record.{distance}
 use Rattle.elf_versions.specs.Verneed.{need_at}

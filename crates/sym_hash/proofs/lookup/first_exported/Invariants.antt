@@ -1,5 +1,5 @@
 use Rattle.std.proofs.Common.{◌≡◌, None, false}
-use Rattle.elf_head.specs.Least.{least_below}
+use Rattle.acceptance.specs.Least.{least_below}
 use Rattle.sym_hash.specs.Verdict.{is_missed}
 use Rattle.sym_hash.proofs.lookup.first_exported.Given as goal
 

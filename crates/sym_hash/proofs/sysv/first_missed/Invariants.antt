@@ -1,5 +1,5 @@
 use Rattle.std.proofs.Common.{◌≡◌, None}
-use Rattle.elf_head.specs.Least.{least_below}
+use Rattle.acceptance.specs.Least.{least_below}
 use Rattle.sym_hash.specs.Follow.{arrives}
 use Rattle.sym_hash.specs.Verdict.{is_missed}
 use Rattle.sym_hash.proofs.sysv.first_missed.Given as goal

@@ -1,0 +1,5 @@
+pub mod Firsts
+pub mod Leasts
+pub mod Read
+pub mod Reading
+pub mod Tables
