@@ -163,7 +163,7 @@ impl TlsModules {
     }
 
     /// The module with a number.
-    pub(crate) fn find(&self, number: u64) -> Option<Module>
+    pub fn find(&self, number: u64) -> Option<Module>
         ensures { result ≡ module_at self.now.modules number }
     {
         module_with(self.modules.as_slice(), number)

@@ -3,6 +3,7 @@
 //! To add a call, write a function that takes its arguments from [`Words`] and gives the answer as
 //! text, beside those of its topic, and name it here.
 
+use crate::tls::Storage;
 use crate::words::Words;
 use crate::{graphs, hashes, images, instructions, pages};
 use address_space::Regions;
@@ -15,6 +16,7 @@ use test_file::Fault;
 pub struct Calls {
     alloc: Global,
     regions: Regions,
+    storage: Storage,
 }
 
 impl Calls {
@@ -22,6 +24,7 @@ impl Calls {
         Calls {
             alloc,
             regions: Regions::new(),
+            storage: Storage::new(alloc),
         }
     }
 
@@ -35,6 +38,14 @@ impl Calls {
             "gnu_hash" => hashes::gnu(alloc, rest),
             "linker_symbol" => hashes::linker(alloc, rest),
             "unneeded" => graphs::unneeded_of(alloc, words),
+            "fini_order" => graphs::finalised(alloc, words),
+            "component" => graphs::component(alloc, words),
+            "add_module" => self.storage.add(alloc, words),
+            "remove_module" => self.storage.remove(alloc, words),
+            "static_size" => self.storage.static_size(alloc),
+            "first_address" => self.storage.first_answer(alloc, words),
+            "keep_block" => self.storage.keep(alloc, words),
+            "kept" => self.storage.kept(alloc, words),
             "instruction" => instructions::instruction(alloc, words),
             "compute" => instructions::computed(alloc, words),
             "relocated_word" => images::word(alloc, words),

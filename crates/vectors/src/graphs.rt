@@ -2,8 +2,10 @@
 //!
 //! A list is written with commas, as `1,2`, or as `-` where it is empty; an edge as `1>2`.
 
+use crate::calls::show_some;
 use crate::words::Words;
 use close_mark::unneeded;
+use init_order::{components_of, fini_order};
 use ld_base::{Serial, Serials};
 use link_graph::{Edge, Edges, Graph};
 use std::alloc::Global;
@@ -18,6 +20,27 @@ pub fn unneeded_of(alloc: Global, mut words: Words) -> Result<String, Fault> {
     };
     let unneeded = unneeded(alloc, &graph)?;
     written(alloc, unneeded.as_slice())
+}
+
+/// The objects of a set in the order of their destructors: of those that were initialised, and the set.
+pub fn finalised(alloc: Global, mut words: Words) -> Result<String, Fault> {
+    let inits = serials(alloc, words.text()?)?;
+    let set = serials(alloc, words.text()?)?;
+    let order = fini_order(alloc, inits.as_slice(), set.as_slice())?;
+    written(alloc, order.as_slice())
+}
+
+/// The number of an object's component: of edges, the objects to begin with, and the object.
+pub fn component(alloc: Global, mut words: Words) -> Result<String, Fault> {
+    let graph = Graph {
+        nodes: Serials::new(alloc),
+        edges: edges(alloc, words.text()?)?,
+        roots: Serials::new(alloc),
+    };
+    let roots = serials(alloc, words.text()?)?;
+    let serial = serial(words.text()?)?;
+    let components = components_of(alloc, &graph, roots.as_slice())?;
+    show_some(alloc, components.number(serial))
 }
 
 fn serial(word: &str) -> Result<Serial, Fault> {

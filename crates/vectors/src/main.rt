@@ -13,6 +13,7 @@ mod images;
 mod instructions;
 mod pages;
 mod sheet;
+mod tls;
 mod words;
 
 use sheet::Sheet;

@@ -1,0 +1,6 @@
+mod Advances
+mod Joins
+mod Results
+mod Settles
+mod Visits
+mod Whole
