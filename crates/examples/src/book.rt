@@ -21,7 +21,7 @@ enum Part {
 
 /// Which bytes a line of bytes goes on with.
 #[derive(Clone, Copy)]
-enum Open {
+enum Growing {
     Nothing,
     Stock,
     File,
@@ -35,9 +35,11 @@ pub struct Book<'a> {
     numbers: Numbers,
     stocks: Vec<Layout>,
     part: Part,
-    open: Open,
+    growing: Growing,
     /// The line at which the example begins.
     first: usize,
+    /// Whether the table has a row.
+    has_row: bool,
     command: Command,
     wanted: Wanted,
     report: Report,
@@ -51,8 +53,9 @@ impl<'a> Book<'a> {
             numbers: Numbers::new(alloc),
             stocks: Vec::new(alloc),
             part: Part::Head,
-            open: Open::Nothing,
+            growing: Growing::Nothing,
             first: 0,
+            has_row: false,
             command: Command::new(alloc)?,
             wanted: Wanted::new(alloc),
             report: Report::new(alloc),
@@ -94,22 +97,28 @@ impl<'a> Book<'a> {
         line: &str,
     ) -> Result<(), Fault> {
         let (word, rest) = line.split_once(' ').unwrap_or((line, ""));
-        match word {
-            "example" => self.begin(rt, number, Part::Example)?,
-            "rows" => self.begin(rt, number, Part::Rows)?,
-            "$" => self.command.words = Name::new(self.alloc, rest.as_bytes())?,
-            "|" => self.wanted.push_line(rest)?,
-            _ => {
-                let line = without_remark(line);
-                match (self.part, line.split_once("=>")) {
-                    (Part::Rows, Some((changes, words))) => {
-                        self.row(rt, number, changes, words)?;
-                    }
-                    _ => self.lay_out(line)?,
-                }
-            }
+        match (self.part, word) {
+            (_, "example") => self.begin(rt, number, Part::Example)?,
+            (_, "rows") => self.begin(rt, number, Part::Rows)?,
+            (Part::Head, "$" | "|" | "status" | "fails" | "file") => return Err(Fault::Unclear),
+            (_, "$") => self.command.words = Name::new(self.alloc, rest.as_bytes())?,
+            (_, "|") => self.wanted.push_line(rest)?,
+            _ => self.follow_data(rt, number, without_remark(line))?,
         }
         Ok(())
+    }
+
+    /// Does what a line without an example's text says.
+    fn follow_data<R: Threads + Wait + Sync>(
+        &mut self,
+        rt: &R,
+        number: usize,
+        line: &str,
+    ) -> Result<(), Fault> {
+        match (self.part, line.split_once("=>")) {
+            (Part::Rows, Some((changes, words))) => self.row(rt, number, changes, words),
+            _ => self.lay_out(line),
+        }
     }
 
     /// Runs the example that ends here, and begins what begins at a line.
@@ -121,21 +130,25 @@ impl<'a> Book<'a> {
     ) -> Result<(), AllocError> {
         self.end_example(rt)?;
         self.part = part;
-        self.open = Open::Nothing;
+        self.growing = Growing::Nothing;
         self.first = number;
+        self.has_row = false;
         self.command = Command::new(self.alloc)?;
         self.wanted = Wanted::new(self.alloc);
         Ok(())
     }
 
     fn end_example<R: Threads + Wait + Sync>(&mut self, rt: &R) -> Result<(), AllocError> {
-        if let Part::Example = self.part {
-            let files = files_of(self.alloc, self.command.files.as_slice())?;
-            let answer = self.command.run(rt, self.alloc, files)?;
-            let holds = self.wanted.is_all_of(&answer);
-            self.tell(holds, self.first, &answer)?;
+        match self.part {
+            Part::Example => {
+                let files = files_of(self.alloc, self.command.files.as_slice())?;
+                let answer = self.command.run(rt, self.alloc, files)?;
+                let holds = self.wanted.is_all_of(&answer);
+                self.tell(holds, self.first, &answer)
+            }
+            Part::Rows if !self.has_row => self.report.is_unclear(self.path, self.first),
+            Part::Rows | Part::Head => Ok(()),
         }
-        Ok(())
     }
 
     /// Says of the example at a line whether it holds, and where it doesn't, what it gives.
@@ -159,6 +172,7 @@ impl<'a> Book<'a> {
         changes: &str,
         words: &str,
     ) -> Result<(), Fault> {
+        self.has_row = true;
         let wanted = self.wanted.of_row(self.alloc, words, &self.numbers)?;
         let (first, end) = self.range_in(changes).unwrap_or((0, 1));
         for turn in first..end {
@@ -195,7 +209,7 @@ impl<'a> Book<'a> {
         Ok(self.command.run(rt, self.alloc, files)?)
     }
 
-    /// Does what a line without an example's text says: begins bytes, or goes on with them.
+    /// Names a number, says what fails or which status is wanted, begins bytes or goes on with them.
     fn lay_out(&mut self, line: &str) -> Result<(), Fault> {
         let (word, rest) = line.split_once(' ').unwrap_or((line, ""));
         match word {
@@ -236,26 +250,26 @@ impl<'a> Book<'a> {
         let layout = Layout::new(self.alloc, name)?;
         if kind == "stock" {
             self.stocks.push(layout)?;
-            self.open = Open::Stock;
+            self.growing = Growing::Stock;
         } else {
             self.command.files.push(layout)?;
-            self.open = Open::File;
+            self.growing = Growing::File;
         }
         self.write(bytes)
     }
 
     /// Goes on with the bytes that the last line of bytes was about.
     fn write(&mut self, bytes: &str) -> Result<(), Fault> {
-        let last = match self.open {
-            Open::Nothing => None,
-            Open::Stock => self.stocks.pop(),
-            Open::File => self.command.files.pop(),
+        let last = match self.growing {
+            Growing::Nothing => None,
+            Growing::Stock => self.stocks.pop(),
+            Growing::File => self.command.files.pop(),
         };
         let mut layout = last.ok_or(Fault::Unclear)?;
         let written = layout.write(bytes, self.stocks.as_slice(), &self.numbers);
-        match self.open {
-            Open::File => self.command.files.push(layout)?,
-            Open::Nothing | Open::Stock => self.stocks.push(layout)?,
+        match self.growing {
+            Growing::File => self.command.files.push(layout)?,
+            Growing::Nothing | Growing::Stock => self.stocks.push(layout)?,
         }
         written
     }

@@ -63,10 +63,11 @@ pub fn files_of(alloc: Global, layouts: &[Layout]) -> Result<Files, AllocError> 
     Ok(files)
 }
 
-/// The words of a line of text.
+/// The words of a line of text. Two single quotes are an empty word.
 fn words_of(alloc: Global, line: &[u8]) -> Result<Vec<String>, AllocError> {
     let mut words = Vec::new(alloc);
     for word in str::from_utf8(line).unwrap_or("").split_whitespace() {
+        let word = if word == "''" { "" } else { word };
         words.push(String::from_str(alloc, word)?)?;
     }
     Ok(words)

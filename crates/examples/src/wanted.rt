@@ -33,9 +33,14 @@ impl Wanted {
         answer.text.as_slice() == self.text.as_bytes() && self.fits(answer)
     }
 
-    /// Whether the last line of a command's text is this text, and it has the status.
+    /// Whether the last line of a command's text is this text, and it has the status. Where that
+    /// isn't 0 the line is the only one.
     pub fn is_last_of(&self, answer: &Answer) -> bool {
-        last_line(answer.text.as_slice()) == last_line(self.text.as_bytes()) && self.fits(answer)
+        let line = last_line(answer.text.as_slice());
+        let is_alone = line.len().saturating_add(1) >= answer.text.len();
+        line == last_line(self.text.as_bytes())
+            && self.fits(answer)
+            && (answer.status == 0 || is_alone)
     }
 
     fn fits(&self, answer: &Answer) -> bool {

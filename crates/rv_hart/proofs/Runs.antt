@@ -13,7 +13,7 @@ use Rattle.rv_hart.specs.declared.stepping.Stop.{Stop}
 use Rattle.rv_hart.specs.declared.stepping.Stop.TheVariants.{Ecall as EcallStop, Break as BreakStop, Bad as BadStop, Misaligned as MisalignedStop}
 use Rattle.rv_hart.specs.Registers.{Registers}
 use Rattle.rv_hart.specs.Instructions.{access_for, after_action}
-use Rattle.rv_hart.specs.Trail.{Place, Ready, Stopped, place_for, concluded, answered, IsStep, Chain, Steps, Performs, place_after}
+use Rattle.rv_hart.specs.Trail.{Place, Ready, Stopped, place_for, concluded, answered, IsAfterStep, IsStep, Chain, Steps, Performs, place_after}
 
 -- where the answer of an access leads
 abbrev end_of : Registers → Option Instr → Result Answer Stop → Place
@@ -27,11 +27,15 @@ end-concluded r decoded address kind (Err fault) = refl
 abbrev StepsTo : {B : Type 0} → (B → Item → B → Type 0) → B → B → Registers → Place → Type 0
 StepsTo does bus bus' r end = (items : List Item) × Chain does bus items bus' × IsStep r items end
 
+after_step : (r : Registers) (decoded : Option Instr) (result : Result Answer Stop) → IsAfterStep (end_of r decoded result)
+after_step r decoded (Ok answer) = tt
+after_step r decoded (Err stop) = tt
+
 -- a step without an access
 alone : {B : Type 0} (does : B → Item → B → Type 0) (bus mid bus' : B) (r : Registers) (word : ℕ) (decoded : Option Instr) (access : Access) (result : Result Answer Stop) (given : Result Answer Stop) →
     does bus (Fetch r.pc (Ok word)) mid → Decodes word decoded → access ≡ access_for r decoded → (bus' ≡ mid) × (result ≡ given) → end_of r decoded given ≡ place_for r word decoded access → StepsTo does bus bus' r (end_of r decoded result)
 alone does bus mid bus' r word decoded access result given fetched decodes asked h same =
-    (Fetch r.pc (Ok word) ∷ [], (mid, fetched, sym h.0), (refl, (decoded, decodes, ap (end_of r decoded) h.1 ∙ same ∙ ap (place_for r word decoded) asked)))
+    (Fetch r.pc (Ok word) ∷ [], (mid, fetched, sym h.0), ((refl, (decoded, decodes, ap (end_of r decoded) h.1 ∙ same ∙ ap (place_for r word decoded) asked)), after_step r decoded result))
 
 pub performed : {B : Type 0} (does : B → Item → B → Type 0) (bus mid bus' : B) (r : Registers) (word : ℕ) (decoded : Option Instr) (access : Access) (result : Result Answer Stop) →
     does bus (Fetch r.pc (Ok word)) mid → Decodes word decoded → access ≡ access_for r decoded → Performs does mid bus' word access result → StepsTo does bus bus' r (end_of r decoded result)

@@ -51,7 +51,7 @@ one_end unique start (item ∷ items) one other (a, ha, fa) (b, hb, fb) =
 
 pub step_leads : StepLeads
 step_leads r [] end h = absurd h
-step_leads r (fetch ∷ []) end h = (end, h, refl)
+step_leads r (fetch ∷ []) end h = (end, h.0, refl)
 step_leads r (fetch ∷ (access ∷ [])) end h = (Accessing r h.0, h.1, (end, h.2, refl))
 step_leads r (fetch ∷ (access ∷ (more ∷ rest))) end h = absurd h
 
@@ -75,7 +75,7 @@ no_access r s decoded fault e = absurd cc
 
 silent : (has_word : ℕ → Bool) (r : Registers) (calls : List Item) (end : Place) → IsStep r calls end → [] ≡ items_left has_word calls → (fault : BusFault) × (end ≡ Stopped r (Refused r.pc fault))
 silent has_word r [] end h e = absurd h
-silent has_word r (fetch ∷ []) end h e = fetch_refused has_word r fetch end h [] e
+silent has_word r (fetch ∷ []) end h e = fetch_refused has_word r fetch end h.0 [] e
 silent has_word r (fetch ∷ (access ∷ [])) end h e =
     let refused = fetch_refused has_word r fetch (Accessing r h.0) h.1 (items_left has_word (access ∷ [])) e in
     absurd (no_access r r h.0 refused.0 refused.1)

@@ -73,9 +73,15 @@ abbrev pub Leads : Place → List Item → Place → Type 0
 Leads start [] end = start ≡ end
 Leads start (item ∷ items) end = (between : Place) × Advances start item between × Leads between items end
 
+-- a hart is between two instructions, or stopped
+abbrev pub IsAfterStep : Place → Type 0
+IsAfterStep (Ready r) = Unit {0}
+IsAfterStep (Accessing r decoded) = ⊥
+IsAfterStep (Stopped r stop) = Unit {0}
+
 -- one step of a hart: a fetch, and the one access that the word asks for, if it asks for one
 abbrev pub IsStep : Registers → List Item → Place → Type 0
-IsStep r (fetch ∷ []) end = Begins r fetch end
+IsStep r (fetch ∷ []) end = Begins r fetch end × IsAfterStep end
 IsStep r (fetch ∷ (access ∷ [])) end = (decoded : Option Instr) × Begins r fetch (Accessing r decoded) × Ends r decoded access end
 IsStep r _ end = ⊥
 

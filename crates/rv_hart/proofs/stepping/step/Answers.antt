@@ -9,7 +9,7 @@ pub returns-in-Err-clause-followed : goal.returns-in-Err-clause-followed
 returns-in-Err-clause-followed g c = record {
   items = Fetch c.args.hart.now.pc (Err c.in-Err.fault) ∷ [];
   chain = (c.fetch.new.self, c.in-Err.ensures.did, refl);
-  step = (refl, refl);
+  step = ((refl, refl), tt);
 }
 
 pub returns-in_err-answer-clause-followed : goal.returns-in_err-answer-clause-followed
