@@ -1,9 +1,13 @@
 -- Counts that only go up, and stand still at the end of their type.
-use Rattle.std.specs.Prelude.{◌≡◌, ℕ, ◌+◌, ◌-◌, ◌^◌, ◌<◌, ◌≤◌, ◌⊎◌, nat_lt, if◌then◌else◌}
+use Rattle.std.specs.Prelude.{◌≡◌, ℕ, ◌+◌, ◌-◌, ◌^◌, ◌≤◌, ◌⊎◌, nat_lt, if◌then◌else◌}
 
--- the count has risen: it is greater now, or it stands at the end of its type
+-- the count has risen by this much at least, or it stands at the end of its type
+abbrev pub RisesBy : ℕ → ℕ → ℕ → Type 0
+RisesBy much before after = (before + much ≤ after) ⊎ (2 ^ 64 - 1 ≤ after)
+
+-- the count has risen
 abbrev pub Rises : ℕ → ℕ → Type 0
-Rises before after = (before < after) ⊎ (2 ^ 64 - 1 ≤ after)
+Rises before after = RisesBy 1 before after
 
 -- the count after one more: at the end of its type it stands still
 abbrev pub one_more : ℕ → ℕ

@@ -1,12 +1,12 @@
 //! A library over the files of the system.
 
-ghost use Rattle.std.specs.Prelude.{◌≡◌, ◌<◌, ◌≤◌, length, vec_len, IfOk};
+ghost use Rattle.std.specs.Prelude.{◌≡◌, ◌≤◌, length, vec_len, IfOk};
 ghost use Rattle.std.specs.Result.{IsErrOf};
 ghost use Rattle.std.specs.Str.{IsUtf8};
 ghost use Rattle.std.specs.IoError.{error_kind};
-ghost use Rattle.std.specs.Io.KnownBytes.{Consumes, IsAtEnd, ReadConsumes};
+ghost use Rattle.std.specs.Io.KnownBytes.{ReadConsumes};
 ghost use Rattle.library_source.specs.Count.{CountsIf};
-ghost use Rattle.library_source.specs.Folder.{read_error};
+ghost use Rattle.library_source.specs.Folder.{IsFront, read_error, read_limit};
 
 use crate::{Library, ReadError};
 use std::alloc::Global;
@@ -21,7 +21,8 @@ pub const READ_LIMIT: usize = 8 * 1024 * 1024 + 1;
 /// How many bytes are asked for at a time.
 const PIECE: usize = 64 * 1024;
 
-/// The files of the system. A path that isn't UTF-8 names none of them.
+/// The files of the system. A path that isn't UTF-8 names none of them. No clause tells what a file
+/// holds, nor that a path is opened: that is shown by tests alone.
 #[derive(Drop)]
 pub struct FolderLibrary<R> {
     rt: R,
@@ -62,7 +63,7 @@ impl<R: Files + Clone + Drop + Send> Library for FolderLibrary<R> {
     ghost misses = { λ f. f.misses };
 
     fn read(&mut self, path: &[u8]) -> Result<Vec<u8>, ReadError>
-        ensures bound { IfOk result (λ bytes. vec_len bytes ≤ READ_LIMIT) }
+        ensures bound { IfOk result (λ bytes. vec_len bytes ≤ read_limit) }
         ensures text { ¬ (IsUtf8 path.now) → IsErrOf result ReadError.Missing }
         ensures faults { CountsIf (IsErrOf result ReadError.Failed)
             self.old.faults self.new.faults }
@@ -93,7 +94,7 @@ impl From<io::Error> for ReadError {
 
 /// The bytes of the file at a path.
 fn read_file<R: Files>(rt: &R, alloc: Global, path: &[u8]) -> Result<Vec<u8>, ReadError>
-    ensures bound { IfOk result (λ bytes. vec_len bytes ≤ READ_LIMIT) }
+    ensures bound { IfOk result (λ bytes. vec_len bytes ≤ read_limit) }
     ensures text { ¬ (IsUtf8 path.now) → IsErrOf result ReadError.Missing }
 {
     let Ok(path) = str::from_utf8(path) else {
@@ -105,13 +106,8 @@ fn read_file<R: Files>(rt: &R, alloc: Global, path: &[u8]) -> Result<Vec<u8>, Re
 
 /// The bytes that a reader gives, up to the limit: all of them where they are fewer.
 fn read_front<F: Read>(alloc: Global, file: &mut F) -> io::Result<Vec<u8>>
-    ensures bound { IfOk result (λ bytes. vec_len bytes ≤ READ_LIMIT) }
-
-    // No more was read than these bytes, and there are no more where they are short of the limit.
-    ensures taken { IfOk result (λ bytes.
-        Consumes (F.remaining file.old) (F.remaining file.new) bytes.items) }
-    ensures whole { IfOk result (λ bytes.
-        vec_len bytes < READ_LIMIT → IsAtEnd (F.remaining file.new)) }
+    ensures { IfOk result (λ bytes.
+        IsFront (F.remaining file.old) (F.remaining file.new) bytes.items) }
 {
     let mut bytes = Vec::new(alloc);
     let mut piece = [0u8; PIECE];

@@ -24,13 +24,14 @@ impl<W: Write + Drop> IoSink<W> {
 
 impl<W: Write + Drop> Sink for IoSink<W> {
     ghost use Rattle.std.specs.Prelude.{None};
+    ghost use Rattle.library_source.specs.Writing.{WritesThrough};
 
     ghost taken = { λ _. None };
 
     ghost faults = { λ s. s.faults };
 
     ghost writes = { λ old piece answer new.
-        WriteAppends (W.contents old.writer) (W.contents new.writer) answer piece };
+        WritesThrough (W.contents old.writer) old.faults piece answer (W.contents new.writer) new.faults };
 
     fn write(&mut self, piece: &[u8]) -> Result<usize, WriteError> {
         match write_once(&mut self.writer, piece) {

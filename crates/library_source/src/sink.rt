@@ -4,7 +4,7 @@ ghost use Rattle.std.specs.Prelude.{◌≡◌, ◌<◌, ◌≤◌, ◌++◌, ℕ
 ghost use Rattle.std.specs.Result.{IsErrOf};
 ghost use Rattle.std.specs.Io.KnownBytes.{append_known};
 ghost use Rattle.library_source.specs.Count.{Rises};
-ghost use Rattle.library_source.specs.Writing.{RanOut, TakesFront};
+ghost use Rattle.library_source.specs.Writing.{Puts, TakesFront};
 ghost use Rattle.library_source.specs.declared.sink.WriteError.{WriteError};
 ghost use Rattle.library_source.specs.declared.sink.WriteError.TheVariants.{Memory};
 
@@ -58,20 +58,21 @@ pub trait Sink {
             → Rises (faults self.old) (faults self.new) };
 }
 
-/// Writes all of the bytes, in as many pieces as the sink takes them.
+/// Writes all of the bytes, in as many pieces as the sink takes them. It hands no empty piece to the
+/// sink, and writes no more once a write failed.
 ///
 /// # Errors
 ///
 /// That the sink failed, which it counts, or want of memory. What it took is a front of the bytes then.
 pub fn put_all<K: Sink>(out: &mut K, bytes: &[u8]) -> Result<(), WriteError>
+    ensures writes { Puts K.writes bytes.now out.old result out.new }
     ensures all { OnOk result (K.taken out.new ≡ append_known (K.taken out.old) bytes.now) }
     ensures front { OnErr result (TakesFront (K.taken out.old) bytes.now (K.taken out.new)) }
     ensures faults { K.faults out.old ≤ K.faults out.new }
 
-    // No failure is invented, and the want of memory is the sink's own.
+    // No failure is invented.
     ensures failed { IsErrOf result WriteError.Failed
         → Rises (K.faults out.old) (K.faults out.new) }
-    ensures memory { IsErrOf result WriteError.Memory → RanOut K.writes bytes.now out.new }
 {
     let mut rest = bytes;
     while !rest.is_empty() {

@@ -7,29 +7,15 @@
 //! namespace as it is (gABI, "Shared Object Dependencies"; dlopen(3); Drepper, "ELF Symbol
 //! Versioning").
 //!
-//! A library needn't tell its files, and a load can't know that they stay as they are while it reads.
-//! But it reads no path twice. So there is always a list of files, the library's own where it tells
-//! them, over which the definitions give just what the load answered: that is the contract. A read
-//! fault or a missing library comes only where the library failed or missed a path.
-//!
-//! The definitions are `scope_rule`'s. [`one_outcome`], [`serials_follow`], [`found_by_name`],
-//! [`loads_breadth_first`], [`missing_library`] and [`waits_for_one`] are laws of theirs.
+//! The load itself is `load_walk`'s, which knows no format of files; here it reads ELF objects. What
+//! holds of every load is told by the laws of `scope_rule`, as `loads_breadth_first`.
 #![tactic(auto)]
 
-mod ask;
-mod finding;
-mod law;
-mod lookup;
-mod missed;
-mod ordering;
+mod elf;
 mod plan;
-mod progress;
-mod versions;
 
-pub use ask::{LoadAsk, LoadFault, LoadPlan};
-pub use law::{
-    found_by_name, loads_breadth_first, missing_library, one_outcome, serials_follow, waits_for_one,
-};
+pub use elf::Elf;
+pub use load_walk::{LoadAsk, LoadFault, LoadPlan};
 pub use plan::plan_load;
 
 #[cfg(test)]

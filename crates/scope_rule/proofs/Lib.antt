@@ -1,2 +1,12 @@
+pub mod Cases
 pub mod Extend
+pub mod Fronts
+pub mod Leading
 pub mod Levels
+pub mod Meaning
+pub mod Newer
+pub mod Ordered
+pub mod Outcome
+pub mod Recorded
+pub mod Standing
+pub mod Steps

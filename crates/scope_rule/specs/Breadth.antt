@@ -1,7 +1,7 @@
 -- The order in which an object's libraries are searched: breadth-first (gABI, "Shared Object Dependencies").
 use Rattle.std.specs.Prelude.{ℕ, zero, suc, Bool, not, ◌==◌, ◌||◌, if◌then◌else◌, List, [], ◌∷◌, ◌++◌, length, filter, flat_map}
 use Rattle.std.specs.List.{list_any}
-use Rattle.scope_rule.specs.declared.namespace.Namespace.{Namespace}
+use Rattle.scope_rule.specs.Seen.{Seen}
 use Rattle.scope_rule.specs.Loading.{found_of}
 
 -- it is one of the list
@@ -9,12 +9,12 @@ abbrev pub has : List ℕ → ℕ → Bool
 has xs x = list_any (λ y. y == x) xs
 
 -- level 0 is the object itself; each further level is what the objects of the level before found, one after another
-abbrev pub level : Namespace → ℕ → ℕ → List ℕ
+abbrev pub level : Seen → ℕ → ℕ → List ℕ
 level ns root zero = root ∷ []
 level ns root (suc n) = flat_map (found_of ns) (level ns root n)
 
 -- the levels from 0 to n, one after another
-abbrev pub levels : Namespace → ℕ → ℕ → List ℕ
+abbrev pub levels : Seen → ℕ → ℕ → List ℕ
 levels ns root zero = level ns root zero
 levels ns root (suc n) = levels ns root n ++ level ns root (suc n)
 
@@ -33,5 +33,5 @@ extend order [] = order
 extend order (x ∷ xs) = if x == 0 || has order x then extend order xs else extend (order ++ x ∷ []) xs
 
 -- Breadth: the levels of a root, down to as many as there are objects, first occurrences kept, the linker's own object left out
-unfoldable pub breadth : Namespace → ℕ → List ℕ
+unfoldable pub breadth : Seen → ℕ → List ℕ
 breadth ns root = without 0 (first_kept (levels ns root (length ns.objects)))

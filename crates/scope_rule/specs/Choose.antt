@@ -11,13 +11,13 @@ use Rattle.ld_base.specs.declared.object.Symbol.{Symbol}
 use Rattle.ld_base.specs.Symbol.{is_local, is_weak, is_defined, visibility, version_index}
 use Rattle.ld_base.specs.Version.{version_name}
 use Rattle.ld_base.specs.Pick.{pick_of}
-use Rattle.scope_rule.specs.declared.namespace.Namespace.{Namespace}
+use Rattle.scope_rule.specs.Seen.{Seen}
 use Rattle.scope_rule.specs.Loading.{object_of}
 use Rattle.scope_rule.specs.Linker.{linker_symbol}
 use Rattle.scope_rule.specs.Scope.{scope}
 
 -- what an object of the namespace, or the linker's own, has for a name and a version
-unfoldable pub pick_at : Namespace → List ℕ → Want → ℕ → Option ℕ
+unfoldable pub pick_at : Seen → List ℕ → Want → ℕ → Option ℕ
 pick_at ns name want serial = if serial == 0 then linker_symbol name else elim (object_of ns serial) [ Some o ↦ pick_of o.object name want | None ↦ None ]
 
 -- the first of the list that has something, with what it has
@@ -39,16 +39,16 @@ choice_of s (Some m) = Def m.0 m.1
 choice_of s None = if is_weak s then WeakZero else Missing
 
 -- where a reference is searched: a COPY's isn't searched in the object that has it
-abbrev pub searched : Namespace → Loaded → Bool → List ℕ
+abbrev pub searched : Seen → Loaded → Bool → List ℕ
 searched ns o copy = if copy then filter (λ serial. not (serial == o.serial)) (scope ns o) else scope ns o
 
 -- Choose: the definition that a relocation of an object against its symbol is bound to
-unfoldable pub choose_for : Namespace → Loaded → ℕ → Symbol → Bool → Choice
+unfoldable pub choose_for : Seen → Loaded → ℕ → Symbol → Bool → Choice
 choose_for ns o index s copy =
     if not copy && is_own s then Def o.serial index
     else choice_of s (first_with (pick_at ns s.name (want_of o.object s)) (searched ns o copy))
 
 -- the same, of the object with a serial and its symbol at an index
-abbrev pub choose_of : Namespace → ℕ → ℕ → Bool → Choice
+abbrev pub choose_of : Seen → ℕ → ℕ → Bool → Choice
 choose_of ns owner index copy =
     elim (object_of ns owner) [ Some o ↦ elim (slice_get o.object.symbols index) [ Some s ↦ choose_for ns o index s copy | None ↦ Missing ] | None ↦ Missing ]

@@ -4,6 +4,10 @@ pub mod Finding
 pub mod Linker
 pub mod Loading
 pub mod Needed
-pub mod Order
+pub mod Load
+pub mod Loads
+pub mod Opening
 pub mod Relocation
 pub mod Scope
+pub mod Searching
+pub mod Seen

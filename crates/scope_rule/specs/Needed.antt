@@ -1,5 +1,5 @@
 -- Whether the versions that new objects need are there (Drepper, "ELF Symbol Versioning").
-use Rattle.std.specs.Prelude.{ℕ, ◌+◌, ◌/◌, ◌%◌, ◌-◌, Bool, false, not, ◌&&◌, ◌||◌, ◌==◌, List, [], ◌∷◌, length, Option, Some, None, position, find}
+use Rattle.std.specs.Prelude.{ℕ, ◌+◌, ◌/◌, ◌%◌, ◌-◌, Bool, false, not, ◌&&◌, ◌||◌, ◌==◌, List, [], ◌∷◌, ◌++◌, length, Option, Some, None, position, find}
 use Rattle.std.specs.List.{slice_get, list_any}
 use Rattle.std.specs.Str.{bytes_eq}
 use Rattle.ld_base.specs.Version.{is_base}
@@ -45,3 +45,7 @@ first_lack objects o = find (lacks_version objects o) o.object.verneeds
 abbrev pub missing_version : List Loaded → List Loaded → Option DlFault
 missing_version objects [] = None
 missing_version objects (o ∷ rest) = elim (first_lack objects o) [ Some v ↦ Some (faults.MissingVersion o.path v.file v.name) | None ↦ missing_version objects rest ]
+
+-- that of new objects behind those that were there
+abbrev pub version_fault : List Loaded → List Loaded → Option DlFault
+version_fault there added = missing_version (there ++ added) added

@@ -6,7 +6,7 @@ use Rattle.ld_base.specs.declared.linking.Choice.TheVariants.{Def, WeakZero, Mis
 use Rattle.ld_base.specs.declared.linking.Loaded.{Loaded}
 use Rattle.ld_base.specs.declared.object.Object.{Object}
 use Rattle.ld_base.specs.declared.object.Reloc.{Reloc}
-use Rattle.scope_rule.specs.declared.namespace.Namespace.{Namespace}
+use Rattle.scope_rule.specs.Seen.{Seen}
 use Rattle.scope_rule.specs.Choose.{choose_for}
 
 -- R_RISCV_NONE is 0, R_RISCV_RELATIVE 3: they are of no symbol, whichever they name
@@ -18,7 +18,7 @@ abbrev pub is_copy : Reloc → Bool
 is_copy r = r.kind == 4
 
 -- the choice of a relocation: the null symbol is the object's own, and one of no symbol makes no search
-unfoldable pub choice_at : Namespace → Loaded → Reloc → Choice
+unfoldable pub choice_at : Seen → Loaded → Reloc → Choice
 choice_at ns o r =
     if has_no_symbol r then WeakZero
     else if r.symbol == 0 then Def o.serial 0

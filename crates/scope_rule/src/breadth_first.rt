@@ -1,15 +1,16 @@
 //! Breadth-first order.
 
 ghost use Rattle.std.specs.Prelude.{◌≡◌, ◌≤◌, ◌<◌, [], ◌∷◌, length, drop, flat_map, OnOk, IfOk};
-ghost use Rattle.scope_rule.specs.Loading.{found_of, with_added};
+ghost use Rattle.scope_rule.specs.Loading.{found_of};
+ghost use Rattle.scope_rule.specs.Seen.{seen};
 ghost use Rattle.scope_rule.specs.Breadth.{breadth, extend};
 
-use crate::Namespace;
-use ld_base::{Loaded, Serial, Serials};
+use crate::view::View;
+use ld_base::{Serial, Serials};
 use std::alloc::{AllocError, Global};
 
 /// Puts those serials at the end that the list lacks; the linker's own is left out.
-fn extend(order: &mut Serials, serials: &[Serial]) -> Result<(), AllocError>
+pub(crate) fn extend(order: &mut Serials, serials: &[Serial]) -> Result<(), AllocError>
     ensures { OnOk result (order.new ≡ extend order.old serials.now) }
 {
     for serial in serials {
@@ -29,37 +30,27 @@ fn extend_by_one(order: &mut Serials, serial: Serial) -> Result<(), AllocError>
 }
 
 /// Puts what the names of an object found at the end.
-fn extend_by_found(
-    ns: &Namespace,
-    added: &[Loaded],
-    order: &mut Serials,
-    serial: Serial,
-) -> Result<(), AllocError>
-    ensures { OnOk result (order.new ≡ extend order.old (found_of (with_added ns.now added.now) serial)) }
+fn extend_by_found(view: &View, order: &mut Serials, serial: Serial) -> Result<(), AllocError>
+    ensures { OnOk result (order.new ≡ extend order.old (found_of (seen view.now) serial)) }
 {
     if serial == Serial::LINKER {
         return Ok(());
     }
-    match ns.object_or_new(added, serial) {
+    match view.object(serial) {
         Some(object) => extend(order, object.found.as_slice()),
         None => Ok(()),
     }
 }
 
 /// Puts the next level at the end: what the entries from `start` on found.
-fn extend_by_level(
-    ns: &Namespace,
-    added: &[Loaded],
-    order: &mut Serials,
-    start: usize,
-) -> Result<(), AllocError>
+fn extend_by_level(view: &View, order: &mut Serials, start: usize) -> Result<(), AllocError>
     requires { start ≤ length order.old }
-    ensures { OnOk result (order.new ≡ extend order.old (flat_map (found_of (with_added ns.now added.now)) (drop start order.old))) }
+    ensures { OnOk result (order.new ≡ extend order.old (flat_map (found_of (seen view.now)) (drop start order.old))) }
 {
     let end = order.len();
     for i in start..end {
         let serial = order.as_slice()[i];
-        extend_by_found(ns, added, order, serial)?;
+        extend_by_found(view, order, serial)?;
     }
     Ok(())
 }
@@ -70,32 +61,15 @@ fn extend_by_level(
 /// # Errors
 ///
 /// Want of memory.
-#[tactic(auto, using(crate::proofs::Levels::nothing_added))]
-pub fn breadth(alloc: Global, ns: &Namespace, root: Serial) -> Result<Serials, AllocError>
-    ensures { IfOk result (λ order. order ≡ breadth ns.now root) }
-{
-    breadth_with(alloc, ns, &[], root)
-}
-
-/// The same as [`breadth`], where these new objects follow those of the namespace.
-///
-/// # Errors
-///
-/// Want of memory.
-pub fn breadth_with(
-    alloc: Global,
-    ns: &Namespace,
-    added: &[Loaded],
-    root: Serial,
-) -> Result<Serials, AllocError>
-    ensures { IfOk result (λ order. order ≡ breadth (with_added ns.now added.now) root) }
+pub fn breadth(alloc: Global, view: &View, root: Serial) -> Result<Serials, AllocError>
+    ensures { IfOk result (λ order. order ≡ breadth (seen view.now) root) }
 {
     let mut order = Serials::new(alloc);
     extend_by_one(&mut order, root)?;
     let mut start = 0;
-    for _ in 0..ns.objects.as_slice().len() + added.len() {
+    for _ in 0..view.objects.len() + view.added.len() {
         let end = order.len();
-        extend_by_level(ns, added, &mut order, start)?;
+        extend_by_level(view, &mut order, start)?;
         start = end;
     }
     Ok(order)

@@ -4,11 +4,13 @@ ghost use Rattle.std.specs.Prelude.{◌≡◌, ◌<◌, ◌==◌, not, filter, l
 ghost use Rattle.std.specs.Option.{option_copied};
 ghost use Rattle.ld_base.specs.Pick.{pick_of};
 ghost use Rattle.scope_rule.specs.Loading.{object_of};
+ghost use Rattle.scope_rule.specs.Seen.{seen, seen_in};
 ghost use Rattle.scope_rule.specs.Choose.{pick_at, first_with, want_of, is_own, choice_of, searched, choose_for, choose_of};
 ghost use Rattle.scope_rule.specs.Relocation.{choice_at};
 
 use crate::linker_object::linker_symbol;
 use crate::namespace::Namespace;
+use crate::view::View;
 use crate::scoping::scope;
 use ld_base::{Choice, Loaded, Name, Object, Reloc, Serial, Serials, Symbol, Want, pick};
 use std::alloc::{AllocError, Global};
@@ -21,24 +23,24 @@ const R_RISCV_COPY: u32 = 4;
 
 /// What an object of the namespace, or the linker's own, has for a name and a version.
 #[tactic(auto, unfolding(crate::specs::Choose::pick_at))]
-fn pick_at(ns: &Namespace, name: &[u8], want: &Want, serial: Serial) -> Option<u32>
-    ensures { result ≡ pick_at ns.now name.now want.now serial }
+fn pick_at(view: &View, name: &[u8], want: &Want, serial: Serial) -> Option<u32>
+    ensures { result ≡ pick_at (seen view.now) name.now want.now serial }
 {
     if serial == Serial::LINKER {
         return linker_symbol(name);
     }
-    match ns.object(serial) {
+    match view.object(serial) {
         Some(loaded) => pick(&loaded.object, name, want),
         None => None,
     }
 }
 
 /// The first object of the list that has a definition, with its symbol.
-fn first_with(ns: &Namespace, name: &[u8], want: &Want, scope: &[Serial]) -> Option<(Serial, u32)>
-    ensures { result ≡ first_with (pick_at ns.now name.now want.now) scope.now }
+pub(crate) fn first_with(view: &View, name: &[u8], want: &Want, scope: &[Serial]) -> Option<(Serial, u32)>
+    ensures { result ≡ first_with (pick_at (seen view.now) name.now want.now) scope.now }
 {
     for serial in scope {
-        if let Some(index) = pick_at(ns, name, want, *serial) {
+        if let Some(index) = pick_at(view, name, want, *serial) {
             return Some((*serial, index));
         }
     }
@@ -84,13 +86,13 @@ fn choice_of(symbol: &Symbol, found: Option<(Serial, u32)>) -> Choice
 /// Where a reference is searched: a COPY's isn't searched in the object that has it.
 fn searched(
     alloc: Global,
-    ns: &Namespace,
+    view: &View,
     owner: &Loaded,
     copy: bool,
 ) -> Result<Serials, AllocError>
-    ensures { IfOk result (λ s. s ≡ searched ns.now owner.now copy) }
+    ensures { IfOk result (λ s. s ≡ searched (seen view.now) owner.now copy) }
 {
-    let scope = scope(alloc, ns, owner)?;
+    let scope = scope(alloc, view, owner)?;
     if !copy {
         return Ok(scope);
     }
@@ -107,20 +109,20 @@ fn searched(
 #[tactic(auto, unfolding(crate::specs::Choose::choose_for))]
 fn choose_for(
     alloc: Global,
-    ns: &Namespace,
+    view: &View,
     owner: &Loaded,
     index: u32,
     symbol: &Symbol,
     copy: bool,
 ) -> Result<Choice, AllocError>
-    ensures { IfOk result (λ c. c ≡ choose_for ns.now owner.now index symbol.now copy) }
+    ensures { IfOk result (λ c. c ≡ choose_for (seen view.now) owner.now index symbol.now copy) }
 {
     if !copy && is_own(symbol) {
         return Ok(Choice::Def(owner.serial, index));
     }
     let want = want_of(alloc, &owner.object, symbol)?;
-    let scope = searched(alloc, ns, owner, copy)?;
-    let found = first_with(ns, symbol.name.as_bytes(), &want, scope.as_slice());
+    let scope = searched(alloc, view, owner, copy)?;
+    let found = first_with(view, symbol.name.as_bytes(), &want, scope.as_slice());
     Ok(choice_of(symbol, found))
 }
 
@@ -138,13 +140,32 @@ pub fn choose(
     symbol: u32,
     copy: bool,
 ) -> Result<Choice, AllocError>
-    requires owner_is_there { IsSome (object_of ns.now owner) }
-    requires symbol_is_there { IfSome (object_of ns.now owner) (λ o. symbol < length o.object.symbols) }
-    ensures { IfOk result (λ c. c ≡ choose_of ns.now owner symbol copy) }
+    requires owner_is_there { IsSome (object_of (seen_in ns.now) owner) }
+    requires symbol_is_there { IfSome (object_of (seen_in ns.now) owner) (λ o. symbol < length o.object.symbols) }
+    ensures { IfOk result (λ c. c ≡ choose_of (seen_in ns.now) owner symbol copy) }
 {
-    let loaded = ns.object(owner).unwrap();
+    choose_in(alloc, &ns.view(), owner, symbol, copy)
+}
+
+/// The same as [`choose`], of what is seen of a namespace.
+///
+/// # Errors
+///
+/// Want of memory.
+pub fn choose_in(
+    alloc: Global,
+    view: &View,
+    owner: Serial,
+    symbol: u32,
+    copy: bool,
+) -> Result<Choice, AllocError>
+    requires owner_is_there { IsSome (object_of (seen view.now) owner) }
+    requires symbol_is_there { IfSome (object_of (seen view.now) owner) (λ o. symbol < length o.object.symbols) }
+    ensures { IfOk result (λ c. c ≡ choose_of (seen view.now) owner symbol copy) }
+{
+    let loaded = view.object(owner).unwrap();
     let entry = &loaded.object.symbols.as_slice()[symbol as usize];
-    choose_for(alloc, ns, loaded, symbol, entry, copy)
+    choose_for(alloc, view, loaded, symbol, entry, copy)
 }
 
 /// The choice of a relocation of `owner` when the object is loaded (psABI, "Relocations"). One of no
@@ -156,12 +177,12 @@ pub fn choose(
 #[tactic(auto, unfolding(crate::specs::Relocation::choice_at))]
 pub fn choose_reloc(
     alloc: Global,
-    ns: &Namespace,
+    view: &View,
     owner: &Loaded,
     reloc: &Reloc,
 ) -> Result<Choice, AllocError>
     requires symbol_is_there { reloc.now.symbol < length owner.now.object.symbols }
-    ensures { IfOk result (λ c. c ≡ choice_at ns.now owner.now reloc.now) }
+    ensures { IfOk result (λ c. c ≡ choice_at (seen view.now) owner.now reloc.now) }
 {
     if reloc.kind == R_RISCV_NONE || reloc.kind == R_RISCV_RELATIVE {
         return Ok(Choice::WeakZero);
@@ -172,7 +193,7 @@ pub fn choose_reloc(
     let symbol = &owner.object.symbols.as_slice()[reloc.symbol as usize];
     choose_for(
         alloc,
-        ns,
+        view,
         owner,
         reloc.symbol,
         symbol,

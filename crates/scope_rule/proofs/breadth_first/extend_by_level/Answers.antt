@@ -1,5 +1,6 @@
 use Rattle.std.proofs.Common.{◌≡◌, ℕ, get_or, arith}
-use Rattle.scope_rule.specs.Loading.{found_of, with_added}
+use Rattle.scope_rule.specs.Loading.{found_of}
+use Rattle.scope_rule.specs.Seen.{seen}
 use Rattle.scope_rule.specs.Breadth.{extend}
 use Rattle.scope_rule.proofs.Extend.{extended_front, extended_length}
 use Rattle.scope_rule.proofs.Levels.{entry_step}
@@ -7,7 +8,7 @@ use Rattle.scope_rule.proofs.breadth_first.extend_by_level.Goals as goal
 
 pub loop-i-preserved : goal.loop-i-preserved
 loop-i-preserved c =
-    let f = found_of (with_added c.args.ns.now c.args.added.now) in
+    let f = found_of (seen c.args.view.now) in
     let x : ℕ = c.index-as_slice-i.result in
     let e : c.extend_by_found.new.order ≡ extend c.loop-i.order (f x) = c.in_ok-extend_by_found.ensures in
     let here : x ≡ get_or c.loop-i.order c.loop-i.i x = rw c.as_slice.ensures at c.index-as_slice-i.is in

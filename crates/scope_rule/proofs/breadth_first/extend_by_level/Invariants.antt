@@ -1,6 +1,7 @@
 use Rattle.std.proofs.Common.{◌≡◌, ◌≤◌, length, drop, take}
 use Rattle.std.specs.Prelude.{flat_map}
-use Rattle.scope_rule.specs.Loading.{found_of, with_added}
+use Rattle.scope_rule.specs.Loading.{found_of}
+use Rattle.scope_rule.specs.Seen.{seen}
 use Rattle.scope_rule.specs.Breadth.{extend}
 use Rattle.scope_rule.proofs.breadth_first.extend_by_level.Given as goal
 
@@ -9,5 +10,5 @@ abbrev pub invariant-loop-i : goal.invariant-loop-i
 invariant-loop-i l = record {
   begins : take l.end l.order ≡ l.fn.order;
   long : l.end ≤ length l.order;
-  rest : extend l.order (flat_map (found_of (with_added l.ns l.added)) (drop l.i l.fn.order)) ≡ extend l.fn.order (flat_map (found_of (with_added l.ns l.added)) (drop l.start l.fn.order));
+  rest : extend l.order (flat_map (found_of (seen l.view)) (drop l.i l.fn.order)) ≡ extend l.fn.order (flat_map (found_of (seen l.view)) (drop l.start l.fn.order));
 }

@@ -1,9 +1,0 @@
-use Rattle.std.proofs.Common.{◌∙◌, sym}
-use Rattle.std.specs.Str.{bytes_eq}
-use Rattle.load_order.proofs.Lookups.{one_further}
-use Rattle.load_order.proofs.lookup.Places.of.Goals as goal
-
-pub loop-place-preserved : goal.loop-place-preserved
-loop-place-preserved c = λ bytes.
-    c.in_ok-add_place.ensures bytes
-    ∙ rw (c.as_bytes.ensures, c.loop-place.invariant bytes) (sym (one_further (λ name. bytes_eq name bytes) c.args.names.now c.loop-place.place c.index-names-place.result c.loop-place-test.true c.index-names-place.is))

@@ -1,6 +1,0 @@
-use Rattle.std.proofs.Common.{◌∙◌}
-use Rattle.load_order.proofs.Paths.{any_is}
-use Rattle.load_order.proofs.missed.Missed.has.Goals as goal
-
-pub returns : goal.returns
-returns c = rw (← c.self.view_is) (c.contains.ensures ∙ any_is c.self.inside.paths.keys c.args.path.now)

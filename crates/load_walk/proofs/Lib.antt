@@ -1,0 +1,8 @@
+mod Lookups
+mod Missing
+mod Paths
+mod Planning
+mod Reading
+mod Recording
+mod Stages
+mod Walkers

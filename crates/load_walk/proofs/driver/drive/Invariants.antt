@@ -1,0 +1,7 @@
+use Rattle.load_walk.specs.Staging.{Stage, source_of}
+use Rattle.load_walk.proofs.driver.drive.Given as goal
+
+-- the load has come so far
+abbrev pub invariant-loop : goal.invariant-loop
+invariant-loop g l =
+    Stage (g.F.Format.verdict l.format) l.ask l.ns.objects (source_of g.L.Library.files g.L.Library.faults g.L.Library.misses l.fn.library) (source_of g.L.Library.files g.L.Library.faults g.L.Library.misses l.library) l.walker

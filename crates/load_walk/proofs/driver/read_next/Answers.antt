@@ -1,0 +1,25 @@
+use Rattle.std.proofs.Common.{Err, ap}
+use Rattle.load_walk.proofs.Reading.{tells_absent, tells_found}
+use Rattle.load_walk.proofs.Stages.{stage_missed, faulted_failed, bytes_taken}
+use Rattle.load_walk.proofs.driver.read_next.Goals as goal
+
+pub returns-in_ok-add-in-Err-Missing : goal.returns-in_ok-add-in-Err-Missing
+returns-in_ok-add-in-Err-Missing g c = λ there first stage to_read.
+    let h = c.in-Err-Missing.ensures in
+    let path = c.as_bytes-in-Err-Missing.ensures in
+    let unread = to_read.unread _ stage.over.holds in
+    let added = c.in_ok-add-in-Err-Missing.ensures.ok (rw path unread.unmissed) in
+    rw (added, path)
+    (stage_missed _ _ _ _ _ _ stage _ c.args.path (record { files = h.files; faults = h.faults; misses = h.misses }) (h.missing (ap Err c.in-Err-Missing.field-0-is))
+    (tells_absent _ c.args.path _ _ c.as_bytes.ensures h.absent (ap Err c.in-Err-Missing.field-0-is)) to_read)
+
+pub returns-in-Err-Failed : goal.returns-in-Err-Failed
+returns-in-Err-Failed g c = λ there first stage to_read.
+    let h = c.in-Err-Failed.ensures in
+    faulted_failed _ _ _ _ _ _ stage _ c.args.path (record { files = h.files; faults = h.faults; misses = h.misses }) (h.failed (ap Err c.in-Err-Failed.field-0-is)) to_read
+
+pub returns-in-Ok : goal.returns-in-Ok
+returns-in-Ok g c = λ there first stage to_read.
+    let h = c.in-Ok.ensures in
+    bytes_taken _ _ _ _ _ _ stage _ c.args.path c.as_slice.result.now _ _ (record { files = h.files; faults = h.faults; misses = h.misses })
+    (tells_found _ c.args.path _ c.as_slice.result.now c.in-Ok.bytes c.as_bytes.ensures c.as_slice.ensures.value h.found) to_read c.take_bytes.ensures

@@ -1,0 +1,6 @@
+pub mod Files
+pub mod Lookup
+pub mod Plan
+pub mod Records
+pub mod Staging
+pub mod Walking

@@ -1,0 +1,36 @@
+-- What the check of versions looks up by name.
+use Rattle.std.specs.Prelude.{◌≡◌, ℕ, ◌==◌, ◌||◌, Bool, true, List, [], ◌∷◌, Option, Some, None, find, position}
+use Rattle.std.specs.Global.{Vec}
+use Rattle.std.specs.List.{list_any}
+use Rattle.std.specs.Map.{lookup}
+use Rattle.std.specs.Str.{bytes_eq}
+use Rattle.ld_base.specs.declared.linking.Loaded.{Loaded}
+use Rattle.scope_rule.specs.Needed.{defines_version}
+use Rattle.load_walk.specs.declared.lookup.Defined.{Defined}
+use Rattle.load_walk.specs.declared.lookup.Definer.{Definer}
+use Rattle.load_walk.specs.declared.lookup.Places.{Places}
+
+-- one of the names is spelled so
+abbrev pub named : List (Vec ℕ) → List ℕ → Bool
+named names bytes = list_any (λ name. bytes_eq bytes name.items) names
+
+-- the place of the name that is spelled so
+abbrev pub place_of : List (Vec ℕ × ℕ) → List ℕ → Option ℕ
+place_of places bytes = lookup (λ name. bytes_eq bytes name.items) places
+
+-- a name's place is where it comes first
+abbrev pub ArePlacesOf : List (List ℕ) → Places → Type 0
+ArePlacesOf names places = (bytes : List ℕ) → place_of places.firsts.entries bytes ≡ position (λ name. bytes_eq name bytes) names
+
+-- a version is one of those that are defined
+abbrev pub has : Defined → List ℕ → Bool
+has defined version = defined.every || named defined.names.keys version
+
+-- the object with a serial defines a version; where there is no such object, none is lacking
+abbrev pub defined_at : List Loaded → ℕ → List ℕ → Bool
+defined_at objects serial version = elim (find (λ d. d.serial == serial) objects) [ Some d ↦ defines_version d.object version | None ↦ true ]
+
+-- what is known of an object's versions is so
+abbrev pub Knows : List Loaded → List Definer → Type 0
+Knows objects [] = Unit {0}
+Knows objects (d ∷ rest) = ((version : List ℕ) → has d.defined version ≡ defined_at objects d.serial version) × Knows objects rest

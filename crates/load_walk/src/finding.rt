@@ -1,0 +1,257 @@
+//! Finding the object that a name stands for, without reading anything.
+
+ghost use Rattle.std.specs.Prelude.{◌≡◌, ◌<◌, ◌+◌, ◌++◌, ◌∷◌, [], ℕ, List, length, map, IfOk, OnOk, IfSome, position};
+ghost use Rattle.std.specs.Option.{option_copied};
+ghost use Rattle.scope_rule.specs.Finding.{Reading, is_named, with_soname, with_path, at_soname, at_path, is_path, in_folders, candidates};
+ghost use Rattle.scope_rule.specs.Load.{use_of, find_path, find_paths, find_opened, find_needed, find_root, finds};
+ghost use Rattle.load_walk.specs.Files.{load_of};
+ghost use Rattle.load_walk.specs.Walking.{Agrees, Means};
+
+use crate::ask::{LoadAsk, LoadFault};
+use crate::walker::Walker;
+use ld_base::{DlFault, HartId, Loaded, Name, Names, Object, Serial, Shown, State};
+use scope_rule::{Arrival, Namespace};
+use std::alloc::{AllocError, Global};
+
+/// The name of the linker's own object.
+const LINKER_NAME: &[u8] = b"ldso.so.1";
+
+/// What the search of a name comes to.
+#[derive(Debug, Drop)]
+pub(crate) enum Finding {
+    /// The serial that the name leads to.
+    Leads(Serial),
+    /// The path that has to be read before more is known.
+    Read(Name),
+    Nowhere,
+}
+
+/// Whether a hart may use an object that it found, and its serial then.
+fn use_of(alloc: Global, hart: HartId, object: &Loaded) -> Result<Finding, LoadFault>
+    ensures { (w : Walker) (reading : List ℕ → Reading) → Means w reading result (use_of hart object.now) }
+{
+    match object.state {
+        State::Initialising(other) if other != hart => {
+            Err(LoadFault::Wait(Shown::Initialising(object.serial)))
+        }
+        State::Dying(other) if other != hart => {
+            Err(LoadFault::Wait(Shown::Closing(object.serial)))
+        }
+        State::Dying(_) => {
+            let path = Name::new(alloc, object.path.as_bytes())?;
+            Err(LoadFault::Refused(DlFault::ClosingHere(path)))
+        }
+        _ => Ok(Finding::Leads(object.serial)),
+    }
+}
+
+/// Whether an object gives itself this name.
+fn is_named(object: &Object, name: &[u8]) -> bool
+    ensures { result ≡ is_named name.now object.now }
+{
+    match &object.soname {
+        Some(soname) => soname.is(name),
+        None => false,
+    }
+}
+
+/// The first object that is there with this name of its own.
+fn with_soname<'a>(objects: &'a [Loaded], name: &[u8]) -> Option<&'a Loaded>
+    ensures { option_copied result ≡ with_soname objects.now name.now }
+{
+    objects.iter().find(|loaded| is_named(&loaded.object, name))
+}
+
+/// The first object that is there with this path.
+fn with_path<'a>(objects: &'a [Loaded], path: &[u8]) -> Option<&'a Loaded>
+    ensures { option_copied result ≡ with_path objects.now path.now }
+{
+    objects.iter().find(|loaded| loaded.path.is(path))
+}
+
+/// The place of the first new object with this name of its own.
+fn at_soname(news: &[Arrival], name: &[u8]) -> Option<usize>
+    ensures { result ≡ at_soname news.now name.now }
+{
+    news.iter().position(|new| is_named(&new.object, name))
+}
+
+/// The place of the first new object with this path.
+fn at_path(news: &[Arrival], path: &[u8]) -> Option<usize>
+    ensures { result ≡ at_path news.now path.now }
+{
+    news.iter().position(|new| new.path.is(path))
+}
+
+/// Whether a name is a path.
+fn is_path(name: &[u8]) -> bool
+    ensures { result ≡ is_path name.now }
+{
+    name.contains(&b'/')
+}
+
+/// The path of a name in a folder.
+fn path_in(alloc: Global, folder: &[u8], name: &[u8]) -> Result<Name, AllocError>
+    ensures { IfOk result (λ path. path ≡ (folder.now ++ 47 ∷ []) ++ name.now) }
+{
+    let mut path = Vec::from_slice(alloc, folder)?;
+    path.push(b'/')?;
+    path.extend_from_slice(name)?;
+    Ok(Name::from(path))
+}
+
+/// The paths of a name in folders, in order.
+fn in_folders(alloc: Global, folders: &[Name], name: &[u8]) -> Result<Names, AllocError>
+    ensures { IfOk result (λ paths. paths ≡ in_folders folders.now name.now) }
+{
+    let mut paths = Names::new(alloc);
+    for folder in folders {
+        paths.push(path_in(alloc, folder.as_bytes(), name)?)?;
+    }
+    Ok(paths)
+}
+
+/// The paths that a name may have, in order.
+fn candidates(alloc: Global, folders: &[Name], name: &[u8]) -> Result<Names, AllocError>
+    ensures { IfOk result (λ paths. paths ≡ candidates folders.now name.now) }
+{
+    if !is_path(name) {
+        return in_folders(alloc, folders, name);
+    }
+    let mut paths = Names::new(alloc);
+    paths.push(Name::new(alloc, name)?)?;
+    Ok(paths)
+}
+
+impl Walker {
+    ghost use Rattle.std.specs.Prelude.{◌≡◌, ◌<◌, ◌+◌, ℕ, List, length, IfSome};
+    ghost use Rattle.scope_rule.specs.Finding.{Reading};
+    ghost use Rattle.scope_rule.specs.Load.{find_path, find_paths, find_opened, find_needed, find_root, finds, leads};
+    ghost use Rattle.load_walk.specs.Files.{load_of};
+    ghost use Rattle.load_walk.specs.Walking.{Agrees, Means};
+
+    /// The new object at a place.
+    fn new_at(&self, ask: &LoadAsk, place: usize) -> Result<Finding, LoadFault>
+        ensures { (reading : List ℕ → Reading) → Means self.now reading result (leads (ask.now.next + place)) }
+    {
+        match ask.next.number().checked_add(place as u64) {
+            Some(number) => Ok(Finding::Leads(Serial::new(number))),
+            None => Err(LoadFault::Memory),
+        }
+    }
+
+    /// What a path leads to.
+    #[tactic(auto, unfolding(scope_rule::specs::Load::find_path))]
+    fn find_path(
+        &self,
+        alloc: Global,
+        ns: &Namespace,
+        ask: &LoadAsk,
+        path: &[u8],
+    ) -> Result<Finding, LoadFault>
+        ensures { (reading : List ℕ → Reading) → Agrees reading self.now → Means self.now reading result (find_path (load_of ask.now ns.now.objects reading) self.now.news path.now) }
+    {
+        if let Some(object) = with_path(ns.objects.as_slice(), path) {
+            return use_of(alloc, ask.hart, object);
+        }
+        if let Some(place) = at_path(self.news.as_slice(), path) {
+            return self.new_at(ask, place);
+        }
+        if self.missed.has(path) {
+            return Ok(Finding::Nowhere);
+        }
+        Ok(Finding::Read(Name::new(alloc, path)?))
+    }
+
+    /// What the first of the paths that leads anywhere leads to.
+    fn find_paths(
+        &self,
+        alloc: Global,
+        ns: &Namespace,
+        ask: &LoadAsk,
+        paths: &[Name],
+    ) -> Result<Finding, LoadFault>
+        ensures { (reading : List ℕ → Reading) → Agrees reading self.now → Means self.now reading result (find_paths (load_of ask.now ns.now.objects reading) self.now.news paths.now) }
+    {
+        for path in paths {
+            match self.find_path(alloc, ns, ask, path.as_bytes())? {
+                Finding::Nowhere => {}
+                found => return Ok(found),
+            }
+        }
+        Ok(Finding::Nowhere)
+    }
+
+    /// What a name leads to, as dlopen takes it.
+    #[tactic(auto, unfolding(scope_rule::specs::Load::find_opened))]
+    fn find_opened(
+        &self,
+        alloc: Global,
+        ns: &Namespace,
+        ask: &LoadAsk,
+        name: &[u8],
+    ) -> Result<Finding, LoadFault>
+        ensures { (reading : List ℕ → Reading) → Agrees reading self.now → Means self.now reading result (find_opened (load_of ask.now ns.now.objects reading) self.now.news name.now) }
+    {
+        let paths = candidates(alloc, ask.folders.as_slice(), name)?;
+        if is_path(name) {
+            return self.find_paths(alloc, ns, ask, paths.as_slice());
+        }
+        if let Some(object) = with_soname(ns.objects.as_slice(), name) {
+            return use_of(alloc, ask.hart, object);
+        }
+        if let Some(place) = at_soname(self.news.as_slice(), name) {
+            return self.new_at(ask, place);
+        }
+        self.find_paths(alloc, ns, ask, paths.as_slice())
+    }
+
+    /// What a name leads to, as an object needs it.
+    fn find_needed(
+        &self,
+        alloc: Global,
+        ns: &Namespace,
+        ask: &LoadAsk,
+        name: &[u8],
+    ) -> Result<Finding, LoadFault>
+        ensures { (reading : List ℕ → Reading) → Agrees reading self.now → Means self.now reading result (find_needed (load_of ask.now ns.now.objects reading) self.now.news name.now) }
+    {
+        if name == LINKER_NAME {
+            return Ok(Finding::Leads(Serial::LINKER));
+        }
+        self.find_opened(alloc, ns, ask, name)
+    }
+
+    /// What the load's own name leads to.
+    fn find_root(
+        &self,
+        alloc: Global,
+        ns: &Namespace,
+        ask: &LoadAsk,
+        name: &[u8],
+    ) -> Result<Finding, LoadFault>
+        ensures { (reading : List ℕ → Reading) → Agrees reading self.now → Means self.now reading result (find_root (load_of ask.now ns.now.objects reading) self.now.news name.now) }
+    {
+        if ask.program {
+            return self.find_path(alloc, ns, ask, name);
+        }
+        self.find_opened(alloc, ns, ask, name)
+    }
+
+    /// What the next name leads to.
+    #[tactic(auto, unfolding(scope_rule::specs::Load::finds))]
+    pub(crate) fn find(
+        &self,
+        alloc: Global,
+        ns: &Namespace,
+        ask: &LoadAsk,
+        name: &[u8],
+    ) -> Result<Finding, LoadFault>
+        ensures { (reading : List ℕ → Reading) → Agrees reading self.now → Means self.now reading result (finds (load_of ask.now ns.now.objects reading) (length self.now.leads) self.now.news name.now) }
+    {
+        if self.leads.is_empty() {
+            return self.find_root(alloc, ns, ask, name);
+        }
+        self.find_needed(alloc, ns, ask, name)
+    }
+}

@@ -1,0 +1,100 @@
+//! What a load brings.
+
+ghost use Rattle.std.specs.Prelude.{◌≡◌, ◌≤◌, ℕ, List, IfOk, IfErr};
+ghost use Rattle.std.specs.Result.{IsErrOf};
+ghost use Rattle.ld_base.specs.declared.fault.DlFault.{DlFault};
+ghost use Rattle.ld_base.specs.declared.fault.DlFault.TheVariants.{MissingLibrary, ReadFault};
+ghost use Rattle.ld_base.specs.declared.fault.Shown.{Shown};
+ghost use Rattle.library_source.specs.Count.{Rises};
+ghost use Rattle.library_source.specs.Files.{Over};
+ghost use Rattle.load_walk.specs.Files.{load_over};
+ghost use Rattle.load_walk.specs.Plan.{IsPlan, IsRefused, HasToWait, IsMissed};
+ghost use Rattle.load_walk.specs.Records.{Completes, Gathers, Incomplete};
+
+use crate::ask::{LoadAsk, LoadFault, LoadPlan};
+use crate::driver::drive;
+use crate::format::Format;
+use crate::records::records;
+use crate::versions::missing_version;
+use crate::walker::Walker;
+use ld_base::{Added, Serial};
+use library_source::Library;
+use scope_rule::{Namespace, breadth};
+use std::alloc::{AllocError, Global};
+
+/// The root, and the records of the new objects.
+fn gather(alloc: Global, ask: &LoadAsk, walker: Walker) -> Result<(Serial, Added), AllocError>
+    ensures { IfOk result (λ both. Gathers ask.now walker both.0 both.1) }
+{
+    let root = walker.root()?;
+    let Walker {
+        names: _,
+        leads,
+        news,
+        missed: _,
+    } = walker;
+    let added = records(alloc, ask, leads.as_slice(), news)?;
+    Ok((root, added))
+}
+
+/// The plan with this root and these new objects, if every version that they need is there.
+fn complete(
+    alloc: Global,
+    ns: &Namespace,
+    root: Serial,
+    added: Added,
+) -> Result<LoadPlan, LoadFault>
+    ensures plan { IfOk result (λ plan. Completes ns.now root added plan) }
+    ensures fault { IfErr result (λ fault. Incomplete ns.now added fault) }
+{
+    let new = added.as_slice();
+    let view = ns.view_with(new);
+    if let Some(fault) = missing_version(alloc, &view, new)? {
+        return Err(LoadFault::Refused(fault));
+    }
+    let breadth = breadth(alloc, &view, root)?;
+    Ok(LoadPlan {
+        root,
+        added,
+        breadth,
+    })
+}
+
+/// Loads an object of a format with all that it needs (gABI, "Shared Object Dependencies";
+/// dlopen(3)): finds and reads the objects that aren't there, in load order, and places none of
+/// them.
+///
+/// # Errors
+///
+/// The first refusal that the load meets; then that of the first version that a new object needs
+/// and that isn't there; that the load has to wait for another hart; or want of memory.
+pub fn plan_with<F: Format, L: Library>(
+    alloc: Global,
+    ns: &Namespace,
+    ask: &LoadAsk,
+    format: &F,
+    library: &mut L,
+) -> Result<LoadPlan, LoadFault>
+    // Over the library's files where it tells them, and over some files where it doesn't.
+    ensures plan { IfOk result (λ plan. Over (L.files library.old) (IsPlan (F.verdict format.now) ask.now ns.now plan)) }
+    ensures refused { (fault : DlFault) → IsErrOf result (LoadFault.Refused fault) →
+        Over (L.files library.old) (IsRefused (F.verdict format.now) ask.now ns.now.objects fault) }
+    ensures waits { (shown : Shown) → IsErrOf result (LoadFault.Wait shown) →
+        Over (L.files library.old) (HasToWait (F.verdict format.now) ask.now ns.now.objects shown) }
+
+    // No fault of the library is invented: each path that a missing name may have was missed.
+    ensures read_fault { (path : List ℕ) → IsErrOf result (LoadFault.Refused (ReadFault path)) →
+        Rises (L.faults library.old) (L.faults library.new) }
+    ensures missing { (name : List ℕ) → IsErrOf result (LoadFault.Refused (MissingLibrary name)) →
+        Over (L.files library.old) (λ files. IsMissed (load_over (F.verdict format.now) ask.now ns.now.objects files) name (L.misses library.old) (L.misses library.new)) }
+
+    // What the library is left as.
+    ensures files { L.files library.new ≡ L.files library.old }
+    ensures faults { L.faults library.old ≤ L.faults library.new }
+    ensures misses { L.misses library.old ≤ L.misses library.new }
+{
+    let mut walker = Walker::new(alloc, ask)?;
+    drive(alloc, ns, ask, format, library, &mut walker)?;
+    let (root, added) = gather(alloc, ask, walker)?;
+    complete(alloc, ns, root, added)
+}

@@ -1,0 +1,146 @@
+//! A load part way: it says which path it has to know next, and is told what reading it gave.
+
+ghost use Rattle.std.specs.Prelude.{◌≡◌, ◌++◌, ◌∷◌, [], OnOk, IfOk};
+
+use crate::ask::{LoadAsk, LoadFault};
+use crate::finding::Finding;
+use crate::missed::Missed;
+use ld_base::{DlFault, Name, Names, Sequence, Serial, Serials};
+use scope_rule::{Arrival, Namespace};
+use std::alloc::{AllocError, Global};
+
+/// Serials stay below this number.
+const SERIAL_LIMIT: u64 = 1 << 62;
+
+/// New objects, in the order in which they came.
+pub type Arrivals = Sequence<Arrival>;
+
+/// A load part way.
+#[derive(Debug, Drop)]
+pub(crate) struct Walker {
+    /// The names that are asked for, so far as the new objects tell.
+    pub names: Names,
+    /// The serial that each name so far led to.
+    pub leads: Serials,
+    pub news: Arrivals,
+    /// The paths at which there was no file. A load reads no path twice.
+    pub missed: Missed,
+}
+
+/// What comes next of a load.
+#[derive(Debug, Drop)]
+pub(crate) enum Next {
+    /// The next name leads to this serial.
+    Leads(Serial),
+    /// The path that has to be read before more is known.
+    Read(Name),
+    /// No name is left.
+    Done,
+}
+
+/// Puts copies of names at the end.
+fn append_names(alloc: Global, names: &mut Names, more: &[Name]) -> Result<(), AllocError>
+    ensures { OnOk result (names.new ≡ names.old ++ more.now) }
+{
+    for name in more {
+        names.push(Name::new(alloc, name.as_bytes())?)?;
+    }
+    Ok(())
+}
+
+impl Walker {
+    ghost use Rattle.std.specs.Prelude.{◌≡◌, ◌<◌, ◌+◌, ◌++◌, ◌∷◌, [], ℕ, List, length, IfOk, OnOk, IfSome};
+    ghost use Rattle.std.specs.List.{slice_get};
+    ghost use Rattle.std.specs.Option.{option_copied};
+    ghost use Rattle.load_walk.specs.Walking.{IsWalker, Looks, grown, more_names};
+
+    /// A load at its start.
+    pub fn new(alloc: Global, ask: &LoadAsk) -> Result<Self, AllocError>
+        ensures { IfOk result (λ w. w ≡ record { names = ask.now.name ∷ []; leads = []; news = []; missed = [] }) }
+    {
+        let mut names = Names::new(alloc);
+        names.push(Name::new(alloc, ask.name.as_bytes())?)?;
+        Ok(Walker {
+            names,
+            leads: Serials::new(alloc),
+            news: Arrivals::new(alloc),
+            missed: Missed::new(alloc),
+        })
+    }
+
+    /// The next name, if one is left.
+    fn next_name(&self) -> Option<&Name>
+        ensures { option_copied result ≡ slice_get self.now.names (length self.now.leads) }
+    {
+        self.names.as_slice().get(self.leads.len())
+    }
+
+    /// What comes next.
+    pub fn look(&self, alloc: Global, ns: &Namespace, ask: &LoadAsk) -> Result<Next, LoadFault>
+        requires { IsWalker ask.now ns.now.objects self.now }
+        ensures { Looks ask.now ns.now.objects self.now result }
+    {
+        let Some(name) = self.next_name() else {
+            return Ok(Next::Done);
+        };
+        match self.find(alloc, ns, ask, name.as_bytes())? {
+            Finding::Leads(serial) => Ok(Next::Leads(serial)),
+            Finding::Read(path) => Ok(Next::Read(path)),
+            Finding::Nowhere => {
+                let name = Name::new(alloc, name.as_bytes())?;
+                Err(LoadFault::Refused(DlFault::MissingLibrary(name)))
+            }
+        }
+    }
+
+    /// What the load's own name led to, once it did.
+    pub fn root(&self) -> Result<Serial, AllocError>
+        ensures { IfOk result (λ root. slice_get self.now.leads 0 ≡ Some root) }
+    {
+        self.leads.as_slice().first().copied().ok_or(AllocError)
+    }
+
+    /// The serial of the next new object, while there are serials.
+    fn next_serial(&self, ask: &LoadAsk) -> Option<Serial>
+        ensures { IfSome result (λ serial. serial ≡ ask.now.next + length self.now.news) }
+    {
+        let number = ask.next.number().checked_add(self.news.len() as u64)?;
+        if number < SERIAL_LIMIT {
+            Some(Serial::new(number))
+        } else {
+            None
+        }
+    }
+
+    /// Adds the names that one more new object asks for.
+    fn add_names(
+        &mut self,
+        alloc: Global,
+        ask: &LoadAsk,
+        arrival: &Arrival,
+    ) -> Result<(), AllocError>
+        ensures { OnOk result (self.new ≡ record self.old { names = self.old.names ++ more_names ask.now self.old arrival.now }) }
+    {
+        if ask.program && self.news.is_empty() {
+            append_names(alloc, &mut self.names, ask.preload.as_slice())?;
+        }
+        append_names(alloc, &mut self.names, arrival.object.needed.as_slice())
+    }
+
+    /// Takes in a new object, to which the next name led.
+    pub fn give_object(
+        &mut self,
+        alloc: Global,
+        ask: &LoadAsk,
+        arrival: Arrival,
+    ) -> Result<(), AllocError>
+        ensures { OnOk result (self.new ≡ grown ask.now self.old arrival) }
+    {
+        let Some(serial) = self.next_serial(ask) else {
+            return Err(AllocError);
+        };
+        self.add_names(alloc, ask, &arrival)?;
+        self.leads.push(serial)?;
+        self.news.push(arrival)
+    }
+}

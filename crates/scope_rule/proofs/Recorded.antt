@@ -1,0 +1,99 @@
+-- The records of new objects: their serials, and what each found.
+use Rattle.std.proofs.Common.{◌≡◌, ◌<◌, ◌≤◌, ◌+◌, ◌==◌, inl, inr, ℕ, zero, suc, Bool, true, false, cond, List, [], ◌∷◌, ◌++◌, length, take, drop, get_or, Option, Some, None, refl, sym, ap, subst, ◌∙◌, arith, append-nil, append_assoc, length-append, add-zero, add-suc, add-one}
+use Rattle.std.specs.Prelude.{flat_map, map}
+use Rattle.std.specs.List.{find, range_with_len, slice_get, AllByRecursion}
+use Rattle.std.proofs.Math.Seq.{take-add}
+use Rattle.std.proofs.lemmas.Bool.{cases_Bool, eq-eqb, ne_eqb}
+use Rattle.std.proofs.lemmas.Option.{slice_get_within}
+use Rattle.ld_base.specs.declared.linking.Loaded.{Loaded}
+use Rattle.scope_rule.specs.declared.arrival.Arrival.{Arrival}
+use Rattle.scope_rule.specs.Load.{Load, Walk, needed_by, preload_of, asks, shares, found_by, record_of, records, records_of}
+use Rattle.scope_rule.specs.Loading.{with_serial, is_dying}
+use Rattle.scope_rule.specs.Loads.{IsIn}
+
+pub length-shares : (more : ℕ) (serials : List ℕ) (news : List Arrival) → length (shares more serials news) ≡ length news
+length-shares more serials [] = refl
+length-shares more serials (o ∷ rest) = ap suc (length-shares 0 (drop (more + length o.object.needed) serials) rest)
+
+-- ---- serials
+
+numbered : (hart : ℕ) (deep : Bool) (serial more : ℕ) (serials : List ℕ) (news : List Arrival) → map (λ o. o.serial) (records hart deep serial news (shares more serials news)) ≡ range_with_len serial (length news)
+numbered hart deep serial more serials [] = refl
+numbered hart deep serial more serials (o ∷ rest) = ap (λ (xs : List ℕ). serial ∷ xs) (numbered hart deep (serial + 1) 0 (drop (more + length o.object.needed) serials) rest)
+
+pub records_numbered : (load : Load) (deep : Bool) (w : Walk) → map (λ o. o.serial) (records_of load deep w) ≡ range_with_len load.next (length w.news)
+records_numbered load deep w = numbered load.hart deep load.next (length (preload_of load)) (drop 1 w.leads) w.news
+
+pub length-records : (hart : ℕ) (deep : Bool) (serial : ℕ) (news : List Arrival) (founds : List (List ℕ)) → length founds ≡ length news → length (records hart deep serial news founds) ≡ length news
+length-records hart deep serial [] founds e = refl
+length-records hart deep serial (o ∷ rest) [] e = absurd cc
+length-records hart deep serial (o ∷ rest) (found ∷ founds) e = ap suc (length-records hart deep (serial + 1) rest founds cc)
+
+-- ---- looked up by serial
+
+-- what is found below is not recorded
+pub records_below : (hart : ℕ) (deep : Bool) (serial : ℕ) (news : List Arrival) (founds : List (List ℕ)) (s : ℕ) → s < serial → with_serial (records hart deep serial news founds) s ≡ None
+records_below hart deep serial [] founds s lt = refl
+records_below hart deep serial (o ∷ rest) [] s lt = refl
+records_below hart deep serial (o ∷ rest) (found ∷ founds) s lt =
+    let other : (serial == s) ≡ false = ne_eqb serial s (λ e. absurd (omega arith)) in
+    rw other (records_below hart deep (serial + 1) rest founds s (omega arith))
+
+-- the record of the object at a place
+pub records_at : (hart : ℕ) (deep : Bool) (serial : ℕ) (news : List Arrival) (founds : List (List ℕ)) (i : ℕ) → i < length founds → length founds ≡ length news
+    → (o : Loaded) × (with_serial (records hart deep serial news founds) (serial + i) ≡ Some o) × (slice_get (records hart deep serial news founds) i ≡ Some o) × (o.serial ≡ serial + i) × (o.found ≡ get_or founds i []) × (is_dying o ≡ false)
+records_at hart deep serial [] founds i lt e = absurd (let none : length founds ≡ 0 = e in omega arith)
+records_at hart deep serial (x ∷ rest) [] i lt e = absurd cc
+records_at hart deep serial (x ∷ rest) (found ∷ founds) zero lt e =
+    let same : (serial == serial + 0) ≡ true = eq-eqb serial (serial + 0) (sym (add-zero serial)) in
+    (record_of hart deep serial x found, rw same refl, refl, sym (add-zero serial), refl, refl)
+records_at hart deep serial (x ∷ rest) (found ∷ founds) (suc i) lt e =
+    let next = records_at hart deep (serial + 1) rest founds i (omega arith) cc in
+    let shift : (serial + 1) + i ≡ serial + suc i = omega arith in
+    let other : (serial == serial + suc i) ≡ false = ne_eqb serial (serial + suc i) (λ k. absurd (omega arith)) in
+    let at : with_serial (records hart deep (serial + 1) rest founds) (serial + suc i) ≡ Some next.0 = subst (λ (s : ℕ). with_serial (records hart deep (serial + 1) rest founds) s ≡ Some next.0) shift next.1 in
+    (next.0, rw other at, next.2, next.3 ∙ shift, next.4, next.5)
+
+-- ---- what the objects found, one after another
+
+abbrev pub joined : List (List ℕ) → List ℕ
+joined founds = flat_map (λ found. found) founds
+
+-- how many names the objects have, the first so many more
+abbrev pub count : ℕ → List Arrival → ℕ
+count more [] = 0
+count more (o ∷ rest) = (more + length o.object.needed) + count 0 rest
+
+pub joined_shares : (more : ℕ) (serials : List ℕ) (news : List Arrival) (k : ℕ) → joined (take k (shares more serials news)) ≡ take (count more (take k news)) serials
+joined_shares more serials news zero = refl
+joined_shares more serials [] (suc k) = refl
+joined_shares more serials (o ∷ rest) (suc k) =
+    let own : ℕ = more + length o.object.needed in
+    ap (λ (xs : List ℕ). take own serials ++ xs) (joined_shares 0 (drop own serials) rest k)
+    ∙ sym (take-add own (count 0 (take k rest)) serials)
+
+count_needed : (news : List Arrival) → count 0 news ≡ length (flat_map needed_by news)
+count_needed [] = refl
+count_needed (o ∷ rest) =
+    let one = count_needed rest in
+    let both : length (flat_map needed_by (o ∷ rest)) ≡ length o.object.needed + length (flat_map needed_by rest) = length-append o.object.needed (flat_map needed_by rest) in
+    omega (arith, one, both)
+
+pub count_asked : (load : Load) (news : List Arrival) → 1 + count (length (preload_of load)) news ≡ length (asks load news)
+count_asked load [] = refl
+count_asked load (o ∷ rest) =
+    let one = count_needed rest in
+    let needed : length (flat_map needed_by (o ∷ rest)) ≡ length o.object.needed + length (flat_map needed_by rest) = length-append o.object.needed (flat_map needed_by rest) in
+    let all : length (asks load (o ∷ rest)) ≡ length (load.name ∷ preload_of load) + length (flat_map needed_by (o ∷ rest)) = length-append (load.name ∷ preload_of load) (flat_map needed_by (o ∷ rest)) in
+    let first : length (load.name ∷ preload_of load) ≡ 1 + length (preload_of load) = omega arith in
+    omega (arith, one, needed, all, first)
+
+-- what the serials of a row lead to, where each leads to what stands at its place
+pub flat_range : (f : ℕ → List ℕ) (founds : List (List ℕ)) (a k : ℕ) → k ≤ length founds → ((i : ℕ) → i < length founds → f (a + i) ≡ get_or founds i []) → flat_map f (range_with_len a k) ≡ joined (take k founds)
+flat_range f founds a zero le at = refl
+flat_range f [] a (suc k) le at = absurd (omega arith)
+flat_range f (found ∷ founds) a (suc k) le at =
+    let here : f a ≡ found = ap f (sym (add-zero a)) ∙ at 0 (omega arith) in
+    let rest : flat_map f (range_with_len (a + 1) k) ≡ joined (take k founds) =
+        flat_range f founds (a + 1) k (omega arith) (λ i lt. (let shift : (a + 1) + i ≡ a + suc i = omega arith in ap f shift) ∙ at (suc i) (omega arith)) in
+    ap (λ (xs : List ℕ). xs ++ flat_map f (range_with_len (a + 1) k)) here ∙ ap (λ (xs : List ℕ). found ++ xs) rest

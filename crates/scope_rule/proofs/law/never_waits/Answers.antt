@@ -1,0 +1,5 @@
+use Rattle.scope_rule.proofs.Meaning.{never_waits}
+use Rattle.scope_rule.proofs.law.never_waits.Goals as goal
+
+pub returns : goal.returns
+returns c = never_waits

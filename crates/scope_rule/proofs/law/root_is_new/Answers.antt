@@ -1,0 +1,5 @@
+use Rattle.scope_rule.proofs.Meaning.{root_is_new}
+use Rattle.scope_rule.proofs.law.root_is_new.Goals as goal
+
+pub returns : goal.returns
+returns c = root_is_new

@@ -1,0 +1,82 @@
+//! What holds of every load.
+
+ghost use Rattle.std.specs.Prelude.{◌≡◌, ◌≤◌, ◌++◌, ℕ, Bool, List, [], Some, Err, length, map};
+ghost use Rattle.std.specs.List.{range_with_len, slice_get, AllByRecursion};
+ghost use Rattle.ld_base.specs.declared.fault.DlFault.TheVariants.{MissingLibrary};
+ghost use Rattle.ld_base.specs.declared.fault.Shown.{Shown};
+ghost use Rattle.scope_rule.specs.declared.arrival.Arrival.{Arrival};
+ghost use Rattle.scope_rule.specs.Breadth.{breadth};
+ghost use Rattle.scope_rule.specs.Finding.{absent};
+ghost use Rattle.scope_rule.specs.Load.{Load, Walk, Stop, Brings, Stops, IsRoot, finds, led, paths_of, records_of, refuses, waits};
+ghost use Rattle.scope_rule.specs.Loads.{Closed, IsLed, IsMissing, IsRead, Stands, WaitsForOne, new_of};
+ghost use Rattle.scope_rule.specs.Seen.{Seen, with_added};
+
+/// A load comes to one walk, or stops for one reason.
+pub fn one_outcome()
+    ensures one_walk { (load : Load) (first second : Walk) → Brings load first → Brings load second → first ≡ second }
+    ensures one_stop { (load : Load) (first second : Stop) → Stops load first → Stops load second → first ≡ second }
+    ensures not_both { (load : Load) (w : Walk) (why : Stop) → Brings load w → Stops load why → ⊥ }
+{}
+
+/// Each name leads to what is found for it among the objects that were there and the new ones of
+/// the names before it.
+pub fn names_lead()
+    ensures { (load : Load) (w : Walk) → Brings load w → (place serial : ℕ) → slice_get w.leads place ≡ Some serial → IsLed load w place serial }
+{}
+
+/// The serials of the new objects follow one another, from the one that is asked for on.
+pub fn serials_follow()
+    ensures { (load : Load) (deep : Bool) (w : Walk) → map (λ o. o.serial) (records_of load deep w) ≡ range_with_len load.next (length w.news) }
+{}
+
+/// Where nothing is there before, the root is the first new object.
+pub fn root_is_new()
+    ensures { (load : Load) (w : Walk) (root : ℕ) → load.there ≡ [] → Brings load w → IsRoot w root → root ≡ load.next }
+{}
+
+/// The new objects come breadth-first from the root: they are what the root leads to, in that
+/// order, those left out that were there before.
+pub fn loads_breadth_first()
+    ensures { (load : Load) (deep : Bool) (w : Walk) (ns : Seen) (root : ℕ) →
+        Brings load w → IsRoot w root → ns.objects ≡ load.there → Closed load.next load.there → 1 ≤ load.next →
+        map (λ o. o.serial) (records_of load deep w) ≡ new_of load.next (breadth (with_added ns (records_of load deep w)) root) }
+{}
+
+/// What a name leads to is there once the load is done, and doesn't close.
+pub fn found_stands()
+    ensures leads { (load : Load) (deep : Bool) (w : Walk) → Brings load w → AllByRecursion (Stands (load.there ++ records_of load deep w)) w.leads }
+    ensures founds { (load : Load) (deep : Bool) (w : Walk) → Brings load w →
+        AllByRecursion (λ o. AllByRecursion (Stands (load.there ++ records_of load deep w)) o.found) (records_of load deep w) }
+{}
+
+/// Each new object was read at the first path at which there is a file, of those that a name which
+/// was asked for may have; and no two were read at one path.
+pub fn reads_candidates()
+    ensures candidates { (load : Load) (w : Walk) → Brings load w → AllByRecursion (IsRead load w.news) w.news }
+    ensures once { (load : Load) (w : Walk) → Brings load w → (i j : ℕ) (a b : Arrival) →
+        slice_get w.news i ≡ Some a → slice_get w.news j ≡ Some b → a.path ≡ b.path → i ≡ j }
+{}
+
+/// Where nothing is to be read, as under RTLD_NOLOAD, there are no new objects.
+pub fn reads_nothing()
+    ensures { (load : Load) (w : Walk) → ((path : List ℕ) → load.reading path ≡ absent) → Brings load w → w.news ≡ [] }
+{}
+
+/// A load stops for a missing library only where no path that its name may have has a file: the
+/// load, and the name by itself.
+pub fn missing_library()
+    ensures load { (load : Load) (name : List ℕ) → Stops load (refuses (MissingLibrary name)) → IsMissing load name }
+    ensures name { (load : Load) (w : Walk) (name other : List ℕ) →
+        led load w name (finds load (length w.leads) w.news name) ≡ Err (refuses (MissingLibrary other)) →
+        (other ≡ name) × AllByRecursion (λ path. load.reading path ≡ absent) (paths_of load (length w.leads) name) }
+{}
+
+/// A load only waits for an object that was there before it, which another hart starts or closes.
+pub fn waits_for_one()
+    ensures { (load : Load) (shown : Shown) → Stops load (waits shown) → WaitsForOne load shown }
+{}
+
+/// Where nothing is there before, as at the load of a program, there is nothing to wait for.
+pub fn never_waits()
+    ensures { (load : Load) (shown : Shown) → load.there ≡ [] → Stops load (waits shown) → ⊥ }
+{}

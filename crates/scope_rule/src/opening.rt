@@ -1,0 +1,144 @@
+//! What an opening makes of a namespace.
+
+ghost use Rattle.std.specs.Prelude.{◌≡◌, ◌==◌, IfOk, map};
+ghost use Rattle.std.specs.List.{list_any};
+ghost use Rattle.scope_rule.specs.Opening.{global_after, opens_after, raised};
+ghost use Rattle.scope_rule.specs.Seen.{seen};
+
+use crate::breadth_first::{breadth, extend};
+use crate::namespace::{Namespace, OpenRec, Opens};
+use crate::view::View;
+use ld_base::{Added, Serial, Serials};
+use std::alloc::{AllocError, Global};
+
+/// The global objects and the openings of a namespace, as an opening leaves them.
+#[derive(Debug, Drop)]
+pub struct OpenedLists {
+    pub global: Serials,
+    pub opens: Opens,
+}
+
+impl OpenedLists {
+    ghost use Rattle.std.specs.Prelude.{◌≡◌};
+    ghost use Rattle.scope_rule.specs.Seen.{seen};
+
+    /// What is seen of the namespace after the opening.
+    pub fn view<'a>(&'a self, before: &View<'a>) -> View<'a>
+        ensures { seen result ≡ record (seen before.now) { global = self.now.global; opens = self.now.opens } }
+    {
+        View {
+            objects: before.objects,
+            added: before.added,
+            global: self.global.as_slice(),
+            opens: self.opens.as_slice(),
+        }
+    }
+}
+
+/// What an opening makes of the lists of a namespace; the view has its new objects (dlopen(3)).
+///
+/// # Errors
+///
+/// Want of memory.
+pub fn opened_lists(
+    alloc: Global,
+    view: &View,
+    root: Serial,
+    is_global: bool,
+) -> Result<OpenedLists, AllocError>
+    ensures global { IfOk result (λ o. o.global ≡ global_after (seen view.now) root is_global) }
+    ensures opens { IfOk result (λ o. o.opens ≡ opens_after root (seen view.now).opens) }
+{
+    Ok(OpenedLists {
+        global: global_after(alloc, view, root, is_global)?,
+        opens: opens_after(alloc, root, view.opens)?,
+    })
+}
+
+/// The global objects after an opening.
+fn global_after(
+    alloc: Global,
+    view: &View,
+    root: Serial,
+    is_global: bool,
+) -> Result<Serials, AllocError>
+    ensures { IfOk result (λ serials. serials ≡ global_after (seen view.now) root is_global) }
+{
+    let mut global = Serials::from_slice(alloc, view.global)?;
+    if is_global {
+        extend(&mut global, breadth(alloc, view, root)?.as_slice())?;
+    }
+    Ok(global)
+}
+
+/// An opening that counts one more where it is of this root.
+fn raised(root: Serial, opening: OpenRec) -> Result<OpenRec, AllocError>
+    ensures { IfOk result (λ r. r ≡ raised root opening) }
+{
+    if opening.root != root {
+        return Ok(opening);
+    }
+    let count = opening.count.checked_add(1).ok_or(AllocError)?;
+    Ok(OpenRec { root, count })
+}
+
+/// The openings, of which those of a root count one more.
+fn all_raised(alloc: Global, root: Serial, opens: &[OpenRec]) -> Result<Opens, AllocError>
+    ensures { IfOk result (λ all. all ≡ map (raised root) opens.now) }
+{
+    let mut all = Opens::new(alloc);
+    for open in opens {
+        all.push(raised(root, *open)?)?;
+    }
+    Ok(all)
+}
+
+/// Whether a root was opened.
+fn is_open(root: Serial, opens: &[OpenRec]) -> bool
+    ensures { result ≡ list_any (λ r. r.root == root) opens.now }
+{
+    opens.iter().any(|open| open.root == root)
+}
+
+/// The openings after one more.
+fn opens_after(alloc: Global, root: Serial, opens: &[OpenRec]) -> Result<Opens, AllocError>
+    ensures { IfOk result (λ all. all ≡ opens_after root opens.now) }
+{
+    if is_open(root, opens) {
+        return all_raised(alloc, root, opens);
+    }
+    let mut all = Opens::from_slice(alloc, opens)?;
+    all.push(OpenRec { root, count: 1 })?;
+    Ok(all)
+}
+
+impl Namespace {
+    ghost use Rattle.std.specs.Prelude.{◌≡◌, IfOk};
+    ghost use Rattle.scope_rule.specs.Opening.{opened};
+
+    /// The namespace after an opening that brought these objects.
+    ///
+    /// # Errors
+    ///
+    /// Want of memory.
+    pub fn opened(
+        self,
+        alloc: Global,
+        added: Added,
+        root: Serial,
+        is_global: bool,
+    ) -> Result<Namespace, AllocError>
+        ensures { IfOk result (λ ns. ns ≡ opened self added root is_global) }
+    {
+        let view = self.view_with(added.as_slice());
+        let OpenedLists { global, opens } = opened_lists(alloc, &view, root, is_global)?;
+        let mut objects = self.objects.into_vec();
+        objects.append(&mut added.into_vec())?;
+        Ok(Namespace {
+            id: self.id,
+            objects: Added::from(objects),
+            global,
+            opens,
+        })
+    }
+}
