@@ -20,9 +20,19 @@ import oracle
 PROGRAM = pathlib.Path(__file__).resolve().parent.parent / "crates/ldso/out/ldso"
 FUNCTIONS = [b"f", b"g", b"h", b"dlsym"]
 VERSIONS = [b"V1", b"V2", b"V3"]
-LIBRARIES = [b"a", b"b", b"c", b"s", b"ldso.so.1", b"lib/c"]
+# Names without and with a slash, own names, the linker's, and a file by two names or more: d is a link to a, and a path has
+# many spellings.
+PLAIN = [b"a", b"b", b"c", b"s", b"ldso.so.1", b"lib/c"]
+OTHERS = [b"d", b"lib/a", b"./lib/a", b"x/a", b"x/../lib/b", b"lib/d", b"prog", b"./prog"]
+SONAMES = [None, None, None, b"s", b"a", b"b", b"d", b"lib/a", b"prog", b"ldso.so.1"]
+FOLDERS = [[], [b"lib"], [b"lib", b"x"], [b"x", b"lib"], [b"none", b"lib", b"x"], [b"./lib", b"lib"], [b"x", b"."], [b"lib/", b"lib"]]
 CODE, DATA = 0x10000, 0x20000
 PAGE = 0x1000
+
+
+def names(chance, count):
+    """Names of libraries, mostly plain ones."""
+    return chance.sample(PLAIN + chance.sample(OTHERS, chance.choice((0, 0, 1, 2))), count)
 
 
 class Small:
@@ -32,8 +42,8 @@ class Small:
         self.chance = chance
         may_be_fixed = is_program or chance.random() < 0.03
         self.kind = chance.choice((2, 3)) if may_be_fixed else 3
-        self.soname = chance.choice((None, None, b"s", b"a", b"b"))
-        self.needed = chance.sample(LIBRARIES, chance.choice((0, 1, 1, 2, 3)))
+        self.soname = chance.choice(SONAMES)
+        self.needed = names(chance, chance.choice((0, 1, 1, 2, 3)))
         self.has_indexes = chance.random() < 0.6
         self.definitions, self.needs = self.versions()
         self.symbols = [(b"", 0, 0, 0, 0, 0)] + [self.symbol() for _ in range(chance.randint(1, 6))]
@@ -51,7 +61,7 @@ class Small:
             definitions.append((index, 0, name))
             index += 1
         needs = []
-        for file in chance.sample(LIBRARIES, chance.choice((0, 0, 1, 2))):
+        for file in names(chance, chance.choice((0, 0, 1, 2))):
             names = chance.sample(VERSIONS, chance.randint(1, 2))
             needs.append((file, [(index + at, chance.choice((0, 0, 2)), name) for at, name in enumerate(names)]))
             index += len(names)
@@ -180,6 +190,9 @@ def make_files(folder, chance):
     for path in paths:
         (folder / path).parent.mkdir(exist_ok=True)
         (folder / path).write_bytes(Small(chance, path == "prog").bytes())
+    for place in ("lib", "x"):
+        if (folder / place / "a").exists() and chance.random() < 0.5:
+            (folder / place / "d").symlink_to("a")
     if chance.random() < 0.05:
         (folder / "x" / "b").unlink(missing_ok=True)
         (folder / "x" / "b").mkdir(parents=True)
@@ -193,8 +206,8 @@ def run(folder, words):
 
 def compare_bind(folder, chance):
     """Whether the two bind the program alike, and the text."""
-    folders = chance.choice(([], [b"lib"], [b"lib", b"x"], [b"x", b"lib"], [b"none", b"lib", b"x"]))
-    preload = chance.sample(LIBRARIES, chance.choice((0, 0, 1, 2)))
+    folders = chance.choice(FOLDERS)
+    preload = names(chance, chance.choice((0, 0, 1, 2)))
     now = chance.random() < 0.3
     words = ["bind"] + ["--lib", b":".join(folders)] * bool(folders)
     words += ["--preload", b":".join(preload)] * bool(preload) + ["--now"] * now + ["prog"]

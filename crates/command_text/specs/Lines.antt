@@ -13,6 +13,7 @@ use Rattle.ld_base.specs.declared.object.Reloc.{Reloc}
 use Rattle.ld_base.specs.declared.object.Symbol.{Symbol}
 use Rattle.scope_rule.specs.Choose.{want_of}
 use Rattle.scope_rule.specs.Relocation.{choice_at}
+use Rattle.scope_rule.specs.Seen.{seen_in}
 use Rattle.scope_rule.specs.declared.namespace.Namespace.{Namespace}
 
 abbrev pub object_line : Loaded → List ℕ
@@ -38,7 +39,7 @@ reference_text o s = name_text s.name ++ 32 ∷ name_or_none (version_of (want_o
 -- a slot: its object, its number, what it refers to, and its choice
 unfoldable pub slot_line : Namespace → Loaded → ℕ → Reloc → Symbol → List ℕ
 slot_line ns o number r s =
-    codes "slot " ++ decimal o.serial ++ 32 ∷ decimal number ++ 32 ∷ reference_text o.object s ++ codes " -> " ++ choice_text (choice_at ns o r) ++ 10 ∷ []
+    codes "slot " ++ decimal o.serial ++ 32 ∷ decimal number ++ 32 ∷ reference_text o.object s ++ codes " -> " ++ choice_text (choice_at (seen_in ns) o r) ++ 10 ∷ []
 
 -- the line of a numbered slot, whose symbol is there
 abbrev pub numbered_line : Namespace → Loaded → ℕ × Reloc → List ℕ

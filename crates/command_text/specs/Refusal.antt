@@ -11,6 +11,7 @@ use Rattle.ld_base.specs.declared.object.Reloc.{Reloc}
 use Rattle.ld_base.specs.declared.object.Symbol.{Symbol}
 use Rattle.scope_rule.specs.Choose.{want_of}
 use Rattle.scope_rule.specs.Relocation.{choice_at}
+use Rattle.scope_rule.specs.Seen.{seen_in}
 use Rattle.scope_rule.specs.declared.namespace.Namespace.{Namespace}
 use Rattle.command_text.specs.Lines.{version_of}
 
@@ -25,7 +26,7 @@ missing_symbol o s = dl.MissingSymbol (Some o.path) s.name (version_of (want_of 
 
 -- what a relocation is refused for
 unfoldable pub refusal_at : Namespace → Loaded → Reloc → Option DlFault
-refusal_at ns o r = if is_missing (choice_at ns o r) then option_map (missing_symbol o) (slice_get o.object.symbols r.symbol) else None
+refusal_at ns o r = if is_missing (choice_at (seen_in ns) o r) then option_map (missing_symbol o) (slice_get o.object.symbols r.symbol) else None
 
 -- the first refusal of relocations in order
 abbrev pub first_missing : Namespace → Loaded → List Reloc → Option DlFault

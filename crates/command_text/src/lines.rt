@@ -63,7 +63,7 @@ fn write_slot(
     requires { slot.now.symbol < length owner.now.object.symbols }
     ensures { OnOk result (string_bytes text.new ≡ string_bytes text.old ++ slot_line ns.now owner.now number slot.now symbol.now) }
 {
-    let choice = Chosen(choose_reloc(alloc, ns, owner, slot)?);
+    let choice = Chosen(choose_reloc(alloc, &ns.view(), owner, slot)?);
     let want = want_of(alloc, &owner.object, symbol)?;
     let serial = owner.serial.number();
     let name = &symbol.name;

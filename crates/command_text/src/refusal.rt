@@ -36,7 +36,7 @@ fn refusal_at(
     requires { reloc.now.symbol < length owner.now.object.symbols }
     ensures { IfOk result (λ fault. fault ≡ refusal_at ns.now owner.now reloc.now) }
 {
-    match choose_reloc(alloc, ns, owner, reloc)? {
+    match choose_reloc(alloc, &ns.view(), owner, reloc)? {
         Choice::Missing => {
             let symbol = &owner.object.symbols.as_slice()[reloc.symbol as usize];
             Ok(Some(missing_symbol(alloc, owner, symbol)?))

@@ -15,8 +15,8 @@ use Rattle.library_source.specs.Count.{Rises}
 use Rattle.library_source.specs.Files.{file_at}
 use Rattle.library_source.specs.declared.library.ReadError.{ReadError}
 use Rattle.library_source.specs.declared.library.ReadError.TheVariants.{Missing}
-use Rattle.load_order.specs.Files.{as_read}
-use Rattle.load_order.specs.Plan.{Over}
+use Rattle.load_walk.specs.Files.{as_read}
+use Rattle.library_source.specs.Files.{Over}
 use Rattle.scope_rule.specs.Finding.{Reading, here, unaccepted, absent, failed}
 use Rattle.command_text.specs.declared.words.Command.TheVariants as commands
 use Rattle.ldso_cli.specs.Command.{Answers}

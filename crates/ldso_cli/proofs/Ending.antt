@@ -1,10 +1,11 @@
 -- How bind ends.
-use Rattle.std.proofs.Common.{◌≡◌, ◌+◌, ◌≤◌, ℕ, map, Bool, true, false, List, [], ◌∷◌, Option, Some, None, Result, Ok, Err, refl, sym, ap, subst, ◌∙◌, inl, inr, cond, arith}
+use Rattle.std.proofs.Common.{◌≡◌, ◌+◌, ◌≤◌, ℕ, map, Bool, true, false, List, [], ◌∷◌, length, Option, Some, None, Result, Ok, Err, refl, sym, ap, subst, ◌∙◌, inl, inr, cond, arith}
 use Rattle.std.specs.Prelude.{IfOk, IsTrue}
 use Rattle.std.specs.declared.alloc.AllocError.{AllocError}
 use Rattle.ldso_cli.specs.declared.answer.Answer.{Answer}
 use Rattle.std.specs.List.{AllByRecursion, slice_get}
 use Rattle.std.specs.Option.{option_or, option_map}
+use Rattle.std.proofs.lemmas.Grind.{common_steps}
 use Rattle.ld_base.specs.declared.fault.DlFault.{DlFault}
 use Rattle.ld_base.specs.declared.fault.DlFault.TheVariants as dl
 use Rattle.ld_base.specs.declared.fault.NotAccepted.{NotAccepted}
@@ -18,16 +19,17 @@ use Rattle.ld_base.specs.declared.parts.HashTable.{HashTable}
 use Rattle.elf_object.specs.Object.{names_own_symbols}
 use Rattle.elf_object.specs.Verdict.{object_verdict}
 use Rattle.library_source.specs.Count.{Rises}
-use Rattle.library_source.specs.Files.{file_at}
-use Rattle.load_order.specs.Files.{reading_of, as_read, file_as_read, is_program}
-use Rattle.load_order.specs.Plan.{HasToWait, Over, IsPlan, IsRefused, load_over}
-use Rattle.load_order.specs.Waiting.{WaitsForOne}
-use Rattle.load_order.specs.declared.ask.LoadAsk.{LoadAsk}
-use Rattle.load_order.specs.declared.ask.LoadPlan.{LoadPlan}
-use Rattle.scope_rule.specs.Breadth.{breadth}
-use Rattle.scope_rule.specs.Finding.{Reading, here, unaccepted, absent, failed, find_path, found_by_reading}
-use Rattle.scope_rule.specs.Loading.{with_added}
-use Rattle.scope_rule.specs.Order.{Load, Stop, Stops, Brings, IsRoot, waits, arrival, root_of, take_found, must_lead, ◌>>=◌}
+use Rattle.library_source.specs.Files.{file_at, Over}
+use Rattle.load_walk.specs.Files.{reading_of, as_read, file_as_read, is_program}
+use Rattle.load_walk.specs.Plan.{HasToWait, IsPlan, IsRefused}
+use Rattle.load_walk.specs.declared.ask.LoadAsk.{LoadAsk}
+use Rattle.load_walk.specs.declared.ask.LoadPlan.{LoadPlan}
+use Rattle.scope_rule.specs.Breadth.{breadth, first_kept, levels, without}
+use Rattle.scope_rule.specs.Finding.{here}
+use Rattle.scope_rule.specs.Load.{Load, Walk, Stops, Brings, IsRoot, records_of, waits}
+use Rattle.scope_rule.specs.Loads.{Closed, new_of}
+use Rattle.scope_rule.specs.Opening.{opened}
+use Rattle.scope_rule.specs.Seen.{Seen, seen_in, with_added}
 use Rattle.scope_rule.specs.Relocation.{choice_at, names_symbols}
 use Rattle.scope_rule.specs.declared.namespace.Namespace.{Namespace}
 use Rattle.ldso_cli.specs.declared.outcome.Cause.{Cause}
@@ -35,7 +37,7 @@ use Rattle.ldso_cli.specs.declared.outcome.Cause.TheVariants as causes
 use Rattle.ldso_cli.specs.declared.outcome.End.{End}
 use Rattle.command_text.specs.declared.words.Bind.{Bind}
 use Rattle.command_text.specs.declared.words.Command.TheVariants as commands
-use Rattle.ldso_cli.specs.Bind.{BindComes, BindMisses, BindPrints, ask_of, cause_of, namespace_of, nothing_loaded, objects_text, unopened, opened}
+use Rattle.ldso_cli.specs.Bind.{BindComes, BindMisses, BindPrints, Loads, ask_of, cause_of, namespace_of, nothing_loaded, objects_text, program_load, unopened}
 use Rattle.ldso_cli.specs.Command.{Answers}
 use Rattle.ldso_cli.specs.End.{bare}
 use Rattle.ldso_cli.specs.Outside.{LibraryAt}
@@ -45,35 +47,8 @@ use Rattle.ldso_cli.specs.Status.{refused_text}
 -- ---- a load that has to wait
 
 -- nothing is loaded, so there is nothing to wait for
-pub never_waits : ((load : Load) (shown : Shown) → Stops load (waits shown) → WaitsForOne load shown) → (told : Option (List File)) (bind : Bind) (shown : Shown) → Over told (HasToWait (ask_of bind) nothing_loaded shown) → ⊥
-never_waits law told bind shown over =
-    let one = law (load_over (ask_of bind) nothing_loaded over.files) shown over.holds in
-    let d : None ≡ Some one.object = one.at in
-    absurd cc
-
--- ---- the program is object 1
-
-abbrev made : List Loaded × ℕ → Result (List Loaded × ℕ) Stop
-made x = Ok x
-
-value_is : (x y : List Loaded × ℕ) → made x ≡ made y → x ≡ y
-value_is x y e = cc
-
-second_is : (a b : List Loaded) (s t : ℕ) → made (a, s) ≡ made (b, t) → s ≡ t
-second_is a b s t e = ap (λ (q : List Loaded × ℕ). q.1) (value_is (a, s) (b, t) e)
-
-first_serial : (load : Load) (path : List ℕ) (reading : Reading) (added : List Loaded) (serial : ℕ) → (take_found load [] (found_by_reading path reading) >>= must_lead load.name) ≡ Ok (added, serial) → serial ≡ load.next
-unfolding take_found
-first_serial load path (here o table) added serial e =
-    let p : load.next + 0 ≡ serial = second_is (arrival load (load.next + 0) path o table ∷ []) added (load.next + 0) serial e in
-    sym p ∙ omega arith
-first_serial load path (unaccepted broken) added serial e = absurd cc
-first_serial load path absent added serial e = absurd cc
-first_serial load path failed added serial e = absurd cc
-
-pub root_is_first : (bind : Bind) (files : List File) (root : ℕ) → IsRoot (load_over (ask_of bind) nothing_loaded files) root → root ≡ 1
-unfolding root_of find_path
-root_is_first bind files root is = first_serial (load_over (ask_of bind) nothing_loaded files) bind.program (reading_of files (ask_of bind) bind.program) is.0 root is.1
+pub waits_for_none : ((load : Load) (shown : Shown) → load.there ≡ [] → Stops load (waits shown) → ⊥) → (told : Option (List File)) (bind : Bind) (shown : Shown) → Over told (HasToWait object_verdict (ask_of bind) [] shown) → ⊥
+waits_for_none law told bind shown over = law (program_load bind over.files) shown refl over.holds
 
 -- ---- each relocation of an object that was read names one of its symbols
 
@@ -90,11 +65,11 @@ verdict_names law bytes program (Ok read) o table is e =
     subst (λ (x : Object). names_symbols x ≡ true) same (law bytes program read.0 read.1 is)
 verdict_names law bytes program (Err broken) o table is e = absurd cc
 
-file_names : (law : Law) (ask : LoadAsk) (path : List ℕ) (file : Option (List ℕ)) (o : Object) (table : HashTable) → file_as_read ask path file ≡ here o table → names_symbols o ≡ true
+file_names : (law : Law) (ask : LoadAsk) (path : List ℕ) (file : Option (List ℕ)) (o : Object) (table : HashTable) → file_as_read object_verdict ask path file ≡ here o table → names_symbols o ≡ true
 file_names law ask path None o table e = absurd cc
 file_names law ask path (Some bytes) o table e = verdict_names law bytes (is_program ask path) (object_verdict bytes (is_program ask path)) o table refl e
 
-pub read_names : (law : Law) (files : List File) (ask : LoadAsk) (added : List Loaded) → AllByRecursion (λ o. reading_of files ask o.path ≡ here o.object o.table) added → AllByRecursion (λ o. names_symbols o.object ≡ true) added
+pub read_names : (law : Law) (files : List File) (ask : LoadAsk) (added : List Loaded) → AllByRecursion (λ o. reading_of object_verdict files ask o.path ≡ here o.object o.table) added → AllByRecursion (λ o. names_symbols o.object ≡ true) added
 unfolding reading_of
 read_names law files ask [] h = tt
 read_names law files ask (o ∷ rest) h = (file_names law ask o.path (file_at files o.path) o.object o.table h.0, read_names law files ask rest h.1)
@@ -119,7 +94,7 @@ symbol_no_file o (Some s) = record { not_read = λ path e. absurd cc; not_missin
 reloc_no_file : (ns : Namespace) (o : Loaded) (r : Reloc) → IsNoFile (refusal_at ns o r)
 unfolding refusal_at
 reloc_no_file ns o r =
-    elim (is_missing (choice_at ns o r)) as (λ v. IsNoFile (cond v (option_map (missing_symbol o) (slice_get o.object.symbols r.symbol)) None))
+    elim (is_missing (choice_at (seen_in ns) o r)) as (λ v. IsNoFile (cond v (option_map (missing_symbol o) (slice_get o.object.symbols r.symbol)) None))
     [ true ↦ symbol_no_file o (slice_get o.object.symbols r.symbol) | false ↦ none_no_file ]
 
 relocs_no_file : (ns : Namespace) (o : Loaded) (relocs : List Reloc) → IsNoFile (first_missing ns o relocs)
@@ -145,7 +120,7 @@ of_refusal (Some g) f e = cc
 -- ---- what bind answers
 
 pub refused_answers : (bind : Bind) (before after : LibraryAt) (fault : DlFault) (r : Result Answer AllocError) → IfOk r (λ a. a.end ≡ bare (causes.Refused fault)) → IfOk r (λ a. a.text ≡ refused_text fault)
-    → Over before.files (IsRefused (ask_of bind) nothing_loaded fault) → ((path : List ℕ) → fault ≡ dl.ReadFault path → Rises before.faults after.faults) → ((name : List ℕ) → fault ≡ dl.MissingLibrary name → BindMisses bind before after name)
+    → Over before.files (IsRefused object_verdict (ask_of bind) [] fault) → ((path : List ℕ) → fault ≡ dl.ReadFault path → Rises before.faults after.faults) → ((name : List ℕ) → fault ≡ dl.MissingLibrary name → BindMisses bind before after name)
     → IfOk r (λ a. Answers (Some (commands.Bind bind)) before after a.end a.text)
 refused_answers bind before after fault (Err e) end text over counted missed = tt
 refused_answers bind before after fault (Ok answer) end text over counted missed =
@@ -163,37 +138,60 @@ refused_answers bind before after fault (Ok answer) end text over counted missed
       };
     }
 
--- a load with nothing there is breadth-first
+-- a load's new objects come breadth-first from its root, which is the first where nothing was there
 abbrev pub BreadthFirst : Type 0
-BreadthFirst = (load : Load) (added : List Loaded) (ns : Namespace) → Brings load added → load.there ≡ [] → ns.objects ≡ [] → 1 ≤ load.next → map (λ (o : Loaded). o.serial) added ≡ breadth (with_added ns added) load.next
+BreadthFirst = (load : Load) (deep : Bool) (w : Walk) (ns : Seen) (root : ℕ) → Brings load w → IsRoot w root → ns.objects ≡ load.there → Closed load.next load.there → 1 ≤ load.next
+    → map (λ (o : Loaded). o.serial) (records_of load deep w) ≡ new_of load.next (breadth (with_added ns (records_of load deep w)) root)
 
--- the namespace that a plan makes
-same_namespace : (bind : Bind) (plan : LoadPlan) (files : List File) → IsPlan (ask_of bind) nothing_loaded plan files → opened plan.added plan.breadth ≡ namespace_of plan.added
-same_namespace bind plan files is = ap (opened plan.added) (is.breadth ∙ ap (breadth (unopened plan.added)) (root_is_first bind files plan.root is.root))
+abbrev pub RootIsNew : Type 0
+RootIsNew = (load : Load) (w : Walk) (root : ℕ) → load.there ≡ [] → Brings load w → IsRoot w root → root ≡ load.next
 
-loaded_comes : BreadthFirst → (bind : Bind) (before after : LibraryAt) (plan : LoadPlan) (files : List File) → IsPlan (ask_of bind) nothing_loaded plan files → BindComes bind before after files (cause_of (first_refusal (namespace_of plan.added) bind.now plan.added))
-loaded_comes law bind before after plan files is =
-    let ns = namespace_of plan.added in
-    let none = objects_no_file ns bind.now plan.added in
-    record {
-      is = inl (record {
-        objects = plan.added;
-        brings = is.added;
-        breadth_first = law (load_over (ask_of bind) nothing_loaded files) plan.added nothing_loaded is.added refl refl (omega arith);
-        versions = is.versions;
-        cause_is = refl;
-      });
-      read_fault = λ path e. absurd (none.not_read path (of_refusal (first_refusal ns bind.now plan.added) (dl.ReadFault path) e));
-      missing = λ name e. absurd (none.not_missing name (of_refusal (first_refusal ns bind.now plan.added) (dl.MissingLibrary name) e));
-    }
+-- from 1 on is every serial but the linker's
+from_one : (xs : List ℕ) → new_of 1 (without 0 xs) ≡ without 0 xs
+from_one [] = refl
+from_one (x ∷ xs) = grind (arith, common_steps, from_one xs)
 
-loaded_prints : (bind : Bind) (files : List File) (objects : List Loaded) (fault : Option DlFault) → Brings (load_over (ask_of bind) nothing_loaded files) objects → BindPrints bind files (cause_of fault) (objects_text (namespace_of objects) fault)
-loaded_prints bind files objects None brings = record { objects = objects; brings = brings; text_is = refl }
-loaded_prints bind files objects (Some fault) brings = refl
+breadth_from_one : (ns : Seen) (root : ℕ) → new_of 1 (breadth ns root) ≡ breadth ns root
+unfolding breadth
+breadth_from_one ns root = from_one (first_kept (levels ns root (length ns.objects)))
 
-loaded_answer : BreadthFirst → (bind : Bind) (before after : LibraryAt) (plan : LoadPlan) (ns : Namespace) (answer : Answer) → ns ≡ namespace_of plan.added → (over : Over before.files (IsPlan (ask_of bind) nothing_loaded plan))
+module _ (breadth_first : BreadthFirst) (root_new : RootIsNew) (bind : Bind) (plan : LoadPlan) (files : List File) (is : IsPlan object_verdict (ask_of bind) nothing_loaded plan files) where
+  loads_is : Loads bind files plan.added
+  loads_is = record { walk = is.walk; brings = is.brings; are = is.added }
+
+  root_is_first : plan.root ≡ 1
+  root_is_first = root_new (program_load bind files) is.walk plan.root refl is.brings is.root
+
+  -- the namespace that a plan makes
+  pub same_namespace : opened nothing_loaded plan.added plan.root true ≡ namespace_of plan.added
+  same_namespace = ap (λ (root : ℕ). opened nothing_loaded plan.added root true) root_is_first
+
+  in_order : map (λ (o : Loaded). o.serial) plan.added ≡ breadth (unopened plan.added) 1
+  in_order =
+      let brought : List Loaded = records_of (program_load bind files) false is.walk in
+      ap (map (λ (o : Loaded). o.serial)) is.added
+      ∙ breadth_first (program_load bind files) false is.walk (seen_in nothing_loaded) plan.root is.brings is.root refl tt (omega arith)
+      ∙ breadth_from_one (unopened brought) plan.root
+      ∙ ap (breadth (unopened brought)) root_is_first
+      ∙ ap (λ (objects : List Loaded). breadth (unopened objects) 1) (sym is.added)
+
+  loaded_comes : (before after : LibraryAt) → BindComes bind before after files (cause_of (first_refusal (namespace_of plan.added) bind.now plan.added))
+  loaded_comes before after =
+      let ns = namespace_of plan.added in
+      let none = objects_no_file ns bind.now plan.added in
+      record {
+        is = inl (record { objects = plan.added; loads = loads_is; breadth_first = in_order; versions = is.versions; cause_is = refl });
+        read_fault = λ path e. absurd (none.not_read path (of_refusal (first_refusal ns bind.now plan.added) (dl.ReadFault path) e));
+        missing = λ name e. absurd (none.not_missing name (of_refusal (first_refusal ns bind.now plan.added) (dl.MissingLibrary name) e));
+      }
+
+loaded_prints : (bind : Bind) (files : List File) (objects : List Loaded) (fault : Option DlFault) → Loads bind files objects → BindPrints bind files (cause_of fault) (objects_text (namespace_of objects) fault)
+loaded_prints bind files objects None loads = record { objects = objects; loads = loads; text_is = refl }
+loaded_prints bind files objects (Some fault) loads = refl
+
+loaded_answer : BreadthFirst → RootIsNew → (bind : Bind) (before after : LibraryAt) (plan : LoadPlan) (ns : Namespace) (answer : Answer) → ns ≡ namespace_of plan.added → (over : Over before.files (IsPlan object_verdict (ask_of bind) nothing_loaded plan))
     → answer.end ≡ bare (cause_of (first_refusal ns bind.now ns.objects)) → answer.text ≡ objects_text ns (first_refusal ns bind.now ns.objects) → Answers (Some (commands.Bind bind)) before after answer.end answer.text
-loaded_answer law bind before after plan ns answer same over end text =
+loaded_answer law first bind before after plan ns answer same over end text =
     let C : Namespace → Type 0 = λ n. answer.end ≡ bare (cause_of (first_refusal n bind.now n.objects)) in
     let T : Namespace → Type 0 = λ n. answer.text ≡ objects_text n (first_refusal n bind.now n.objects) in
     let end' = subst C same end in
@@ -205,12 +203,12 @@ loaded_answer law bind before after plan ns answer same over end text =
       files = over.files;
       are = over.are;
       holds = record {
-        comes = record { cause = cause_of fault; end_is = end'; by = loaded_comes law bind before after plan over.files over.holds };
-        prints = subst P (sym (ap (λ (e : End). e.cause) end')) (subst Q (sym text') (loaded_prints bind over.files plan.added fault over.holds.added));
+        comes = record { cause = cause_of fault; end_is = end'; by = loaded_comes law first bind plan over.files over.holds before after };
+        prints = subst P (sym (ap (λ (e : End). e.cause) end')) (subst Q (sym text') (loaded_prints bind over.files plan.added fault (loads_is law first bind plan over.files over.holds)));
       };
     }
 
-pub loaded_answers : BreadthFirst → (bind : Bind) (before after : LibraryAt) (plan : LoadPlan) (ns : Namespace) (r : Result Answer AllocError) → ns ≡ opened plan.added plan.breadth → Over before.files (IsPlan (ask_of bind) nothing_loaded plan)
+pub loaded_answers : BreadthFirst → RootIsNew → (bind : Bind) (before after : LibraryAt) (plan : LoadPlan) (ns : Namespace) (r : Result Answer AllocError) → ns ≡ opened nothing_loaded plan.added plan.root true → Over before.files (IsPlan object_verdict (ask_of bind) nothing_loaded plan)
     → IfOk r (λ a. a.end ≡ bare (cause_of (first_refusal ns bind.now ns.objects))) → IfOk r (λ a. a.text ≡ objects_text ns (first_refusal ns bind.now ns.objects)) → IfOk r (λ a. Answers (Some (commands.Bind bind)) before after a.end a.text)
-loaded_answers law bind before after plan ns (Err e) same over end text = tt
-loaded_answers law bind before after plan ns (Ok answer) same over end text = loaded_answer law bind before after plan ns answer (same ∙ same_namespace bind plan over.files over.holds) over end text
+loaded_answers law first bind before after plan ns (Err e) same over end text = tt
+loaded_answers law first bind before after plan ns (Ok answer) same over end text = loaded_answer law first bind before after plan ns answer (same ∙ same_namespace law first bind plan over.files over.holds) over end text

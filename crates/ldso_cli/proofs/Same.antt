@@ -1,35 +1,39 @@
 -- Over the same files a command prints one text.
-use Rattle.std.proofs.Common.{◌≡◌, ℕ, List, sym, ap, ◌∙◌}
+use Rattle.std.proofs.Common.{◌≡◌, ℕ, Bool, List, sym, ap, ◌∙◌}
 use Rattle.ld_base.specs.declared.linking.File.{File}
 use Rattle.ld_base.specs.declared.linking.Loaded.{Loaded}
-use Rattle.scope_rule.specs.Order.{Brings, Load}
+use Rattle.scope_rule.specs.Load.{Brings, Load, Walk, records_of}
 use Rattle.command_text.specs.DumpLines.{dump_text}
 use Rattle.command_text.specs.Lines.{bound_text}
 use Rattle.command_text.specs.declared.words.Bind.{Bind}
 use Rattle.command_text.specs.declared.words.Command.{Command}
 use Rattle.command_text.specs.declared.words.Command.TheVariants as commands
-use Rattle.load_order.specs.Plan.{load_over}
-use Rattle.ldso_cli.specs.Bind.{BindPrints, IsBound, ask_of, namespace_of, nothing_loaded}
+use Rattle.ldso_cli.specs.Bind.{BindPrints, IsBound, Loads, namespace_of, program_load}
 use Rattle.ldso_cli.specs.Command.{Prints}
 use Rattle.ldso_cli.specs.Dump.{DumpPrints, IsDumped}
 use Rattle.ldso_cli.specs.declared.outcome.Cause.{Cause}
 use Rattle.ldso_cli.specs.declared.outcome.Cause.TheVariants as causes
 use Rattle.ldso_cli.specs.declared.outcome.End.{End}
 
--- a load brings one list of objects
-abbrev pub OneList : Type 0
-OneList = (load : Load) (first second : List Loaded) → Brings load first → Brings load second → first ≡ second
+-- a load comes to one walk
+abbrev pub OneWalk : Type 0
+OneWalk = (load : Load) (first second : Walk) → Brings load first → Brings load second → first ≡ second
 
-same_bound : OneList → (bind : Bind) (files : List File) (a b : List ℕ) → IsBound bind files a → IsBound bind files b → a ≡ b
+-- so a program's objects are one list
+pub one_list : OneWalk → (bind : Bind) (files : List File) (first second : List Loaded) → Loads bind files first → Loads bind files second → first ≡ second
+one_list law bind files first second p q =
+    p.are ∙ ap (records_of (program_load bind files) Bool.false) (law (program_load bind files) p.walk q.walk p.brings q.brings) ∙ sym q.are
+
+same_bound : OneWalk → (bind : Bind) (files : List File) (a b : List ℕ) → IsBound bind files a → IsBound bind files b → a ≡ b
 same_bound law bind files a b p q =
-    p.text_is ∙ ap (λ (objects : List Loaded). bound_text (namespace_of objects)) (law (load_over (ask_of bind) nothing_loaded files) p.objects q.objects p.brings q.brings) ∙ sym q.text_is
+    p.text_is ∙ ap (λ (objects : List Loaded). bound_text (namespace_of objects)) (one_list law bind files p.objects q.objects p.loads q.loads) ∙ sym q.text_is
 
 same_dumped : (path : List ℕ) (files : List File) (a b : List ℕ) → IsDumped path files a → IsDumped path files b → a ≡ b
 same_dumped path files a b p q =
     let same : p.object ≡ q.object = (let one = p.is in let two = q.is in cc) in
     p.text_is ∙ ap dump_text same ∙ sym q.text_is
 
-bind_text : OneList → (bind : Bind) (files : List File) (cause : Cause) (a b : List ℕ) → BindPrints bind files cause a → BindPrints bind files cause b → a ≡ b
+bind_text : OneWalk → (bind : Bind) (files : List File) (cause : Cause) (a b : List ℕ) → BindPrints bind files cause a → BindPrints bind files cause b → a ≡ b
 bind_text law bind files causes.Done a b p q = same_bound law bind files a b p q
 bind_text law bind files (causes.Refused fault) a b p q = p ∙ sym q
 bind_text law bind files causes.Usage a b p q = absurd p
@@ -43,6 +47,6 @@ dumped_text path files causes.Usage a b p q = absurd p
 dumped_text path files causes.WriteFault a b p q = absurd p
 dumped_text path files causes.Memory a b p q = absurd p
 
-pub one_text : OneList → (command : Command) (files : List File) (end : End) (a b : List ℕ) → Prints command files end a → Prints command files end b → a ≡ b
+pub one_text : OneWalk → (command : Command) (files : List File) (end : End) (a b : List ℕ) → Prints command files end a → Prints command files end b → a ≡ b
 one_text law (commands.Bind bind) files end a b p q = bind_text law bind files end.cause a b p q
 one_text law (commands.Dump path) files end a b p q = dumped_text path files end.cause a b p q

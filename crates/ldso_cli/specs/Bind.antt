@@ -5,11 +5,17 @@ use Rattle.ld_base.specs.declared.fault.DlFault.TheVariants as dl
 use Rattle.ld_base.specs.declared.linking.File.{File}
 use Rattle.ld_base.specs.declared.linking.Loaded.{Loaded}
 use Rattle.library_source.specs.Count.{Rises}
+use Rattle.library_source.specs.Files.{Over}
 use Rattle.scope_rule.specs.Breadth.{breadth}
-use Rattle.scope_rule.specs.Order.{Brings}
+use Rattle.scope_rule.specs.Load.{Load, Walk, Brings, records_of}
+use Rattle.scope_rule.specs.Needed.{version_fault}
+use Rattle.scope_rule.specs.Opening.{opened}
+use Rattle.scope_rule.specs.Seen.{Seen, seen_in, with_added}
 use Rattle.scope_rule.specs.declared.namespace.Namespace.{Namespace}
-use Rattle.load_order.specs.Plan.{load_over, version_fault, HasNoPath, IsRefused, Over}
-use Rattle.load_order.specs.declared.ask.LoadAsk.{LoadAsk}
+use Rattle.elf_object.specs.Verdict.{object_verdict}
+use Rattle.load_walk.specs.Files.{load_over}
+use Rattle.load_walk.specs.Plan.{IsMissed, IsRefused}
+use Rattle.load_walk.specs.declared.ask.LoadAsk.{LoadAsk}
 use Rattle.ldso_cli.specs.declared.outcome.Cause.{Cause}
 use Rattle.ldso_cli.specs.declared.outcome.Cause.TheVariants as causes
 use Rattle.command_text.specs.declared.words.Bind.{Bind}
@@ -34,16 +40,23 @@ ask_of bind = record {
 abbrev pub nothing_loaded : Namespace
 nothing_loaded = record { id = 0; objects = []; global = []; opens = [] }
 
--- a program's objects, before anything of them is global
-abbrev pub unopened : List Loaded → Namespace
-unopened objects = record { id = 0; objects = objects; global = []; opens = [] }
+-- the load of a program over files
+abbrev pub program_load : Bind → List File → Load
+program_load bind files = load_over object_verdict (ask_of bind) [] files
 
--- the namespace of a program's objects: its one opening makes all global that the program leads to
-abbrev pub opened : List Loaded → List ℕ → Namespace
-opened objects global = record { id = 0; objects = objects; global = global; opens = record { root = 1; count = 1 } ∷ [] }
+-- a program's objects are these: those that its load brings, with what their names found
+pub record Loads (bind : Bind) (files : List File) (objects : List Loaded) : Type 0 where
+  pub walk : Walk
+  pub brings : Brings (program_load bind files) walk
+  pub are : objects ≡ records_of (program_load bind files) Bool.false walk
 
+-- what is seen of a program's objects before anything of them is global
+abbrev pub unopened : List Loaded → Seen
+unopened objects = with_added (seen_in nothing_loaded) objects
+
+-- the namespace of a program's objects: its one opening is global
 abbrev pub namespace_of : List Loaded → Namespace
-namespace_of objects = opened objects (breadth (unopened objects) 1)
+namespace_of objects = opened nothing_loaded objects 1 Bool.true
 
 -- the cause of a first refusal, or of none
 abbrev pub cause_of : Option DlFault → Cause
@@ -58,20 +71,20 @@ objects_text ns (Some fault) = refused_text fault
 -- the program and all that it needs are there, breadth-first, with the versions that they need: their references decide
 pub record IsLoaded (bind : Bind) (files : List File) (cause : Cause) : Type 0 where
   pub objects : List Loaded
-  pub brings : Brings (load_over (ask_of bind) nothing_loaded files) objects
+  pub loads : Loads bind files objects
   pub breadth_first : map (λ (o : Loaded). o.serial) objects ≡ breadth (unopened objects) 1
-  pub versions : version_fault nothing_loaded objects ≡ None
+  pub versions : version_fault [] objects ≡ None
   pub cause_is : cause ≡ cause_of (first_refusal (namespace_of objects) bind.now objects)
 
 -- something that they need isn't there
 pub record IsNotLoaded (bind : Bind) (files : List File) (cause : Cause) : Type 0 where
   pub fault : DlFault
-  pub is : IsRefused (ask_of bind) nothing_loaded fault files
+  pub is : IsRefused object_verdict (ask_of bind) [] fault files
   pub cause_is : cause ≡ causes.Refused fault
 
--- the library missed a library of the program: it counts that, or the name has no folder to be in
+-- the library missed each path that the name may have: the program's, or one that is needed after those before it were found
 abbrev pub BindMisses : Bind → LibraryAt → LibraryAt → List ℕ → Type 0
-BindMisses bind before after name = Rises before.misses after.misses ⊎ Over before.files (HasNoPath (ask_of bind) nothing_loaded name)
+BindMisses bind before after name = Over before.files (λ files. IsMissed (program_load bind files) name before.misses after.misses)
 
 -- how bind comes to its end over files, while its library goes on from one state to another; no failure is invented
 pub record BindComes (bind : Bind) (before after : LibraryAt) (files : List File) (cause : Cause) : Type 0 where
@@ -82,7 +95,7 @@ pub record BindComes (bind : Bind) (before after : LibraryAt) (files : List File
 -- the text of the objects that the program's load brings
 pub record IsBound (bind : Bind) (files : List File) (text : List ℕ) : Type 0 where
   pub objects : List Loaded
-  pub brings : Brings (load_over (ask_of bind) nothing_loaded files) objects
+  pub loads : Loads bind files objects
   pub text_is : text ≡ bound_text (namespace_of objects)
 
 -- what bind prints at an end: the objects and the choices of their slots, or its refusal alone

@@ -3,7 +3,7 @@ use Rattle.std.specs.Prelude.{◌≡◌, ◌≢◌, ℕ, List, Option, Some, Non
 use Rattle.ld_base.specs.declared.fault.DlFault.TheVariants as dl
 use Rattle.ld_base.specs.declared.linking.File.{File}
 use Rattle.library_source.specs.Count.{Rises}
-use Rattle.load_order.specs.Plan.{Over}
+use Rattle.library_source.specs.Files.{Over}
 use Rattle.command_text.specs.declared.words.Command.{Command}
 use Rattle.command_text.specs.declared.words.Command.TheVariants.{Bind, Dump}
 use Rattle.ldso_cli.specs.Bind.{BindComes, BindMisses, BindPrints}

@@ -6,7 +6,8 @@ use Rattle.ld_base.specs.declared.object.Object.{Object}
 use Rattle.ld_base.specs.declared.parts.HashTable.{HashTable}
 use Rattle.library_source.specs.Count.{Rises}
 use Rattle.library_source.specs.Files.{file_at}
-use Rattle.load_order.specs.Files.{bytes_as_read}
+use Rattle.elf_object.specs.Verdict.{object_verdict}
+use Rattle.load_walk.specs.Files.{as_read}
 use Rattle.scope_rule.specs.Finding.{Reading, here, unaccepted, absent, failed}
 use Rattle.command_text.specs.DumpLines.{dump_text}
 use Rattle.ldso_cli.specs.Outside.{LibraryAt}
@@ -17,7 +18,7 @@ use Rattle.ldso_cli.specs.declared.outcome.Cause.TheVariants as causes
 -- what a file is, read as a program
 abbrev pub program_read : Option (List ℕ) → Reading
 program_read None = absent
-program_read (Some bytes) = bytes_as_read true bytes
+program_read (Some bytes) = as_read (object_verdict bytes true)
 
 -- the cause and the text that follow from what reading a path gave
 abbrev pub dump_cause : List ℕ → Reading → Cause

@@ -4,7 +4,7 @@ ghost use Rattle.std.specs.Prelude.{◌≡◌, ◌≤◌, IfOk, Some, true};
 ghost use Rattle.std.specs.List.{AllByRecursion};
 ghost use Rattle.scope_rule.specs.Relocation.{names_symbols};
 ghost use Rattle.command_text.specs.Refusal.{first_refusal};
-ghost use Rattle.ldso_cli.specs.Bind.{ask_of, cause_of, nothing_loaded, objects_text, opened};
+ghost use Rattle.ldso_cli.specs.Bind.{ask_of, cause_of, nothing_loaded, objects_text};
 ghost use Rattle.ldso_cli.specs.Command.{Answers};
 ghost use Rattle.ldso_cli.specs.End.{bare};
 ghost use Rattle.ldso_cli.specs.Outside.{library_at};
@@ -14,8 +14,8 @@ use command_text::{Bind, Command, bound_text, first_refusal};
 use elf_object::one_object;
 use ld_base::{Added, DlFault, HartId, NsId, Serial, Serials};
 use library_source::Library;
-use load_order::{LoadAsk, LoadFault, LoadPlan, loads_breadth_first, plan_load, waits_for_one};
-use scope_rule::{Namespace, OpenRec, Opens};
+use load_order::{LoadAsk, LoadFault, LoadPlan, plan_load};
+use scope_rule::{Namespace, Opens, loads_breadth_first, never_waits, root_is_new};
 use std::alloc::{AllocError, Global};
 
 /// What is asked of the load of a program.
@@ -51,23 +51,6 @@ fn nothing_loaded(alloc: Global) -> Namespace
     }
 }
 
-/// The namespace of a program's objects, all global that the program leads to.
-fn opened(alloc: Global, objects: Added, global: Serials) -> Result<Namespace, AllocError>
-    ensures { IfOk result (λ ns. ns ≡ opened objects global) }
-{
-    let mut opens = Opens::new(alloc);
-    opens.push(OpenRec {
-        root: Serial::new(1),
-        count: 1,
-    })?;
-    Ok(Namespace {
-        id: NsId::BASE,
-        objects,
-        global,
-        opens,
-    })
-}
-
 /// The answer of objects that are all there.
 fn of_objects(alloc: Global, ns: &Namespace, now: bool) -> Result<Answer, AllocError>
     requires { AllByRecursion (λ o. names_symbols o.object ≡ true) ns.now.objects }
@@ -97,7 +80,8 @@ pub(crate) fn bind<L: Library>(
 {
     one_object();
     loads_breadth_first();
-    waits_for_one();
+    never_waits();
+    root_is_new();
     let now = command.now;
     let ask = ask_of(command);
     let ns = nothing_loaded(alloc);
@@ -108,11 +92,11 @@ pub(crate) fn bind<L: Library>(
         Err(LoadFault::Memory) => Err(AllocError),
         Ok(plan) => {
             let LoadPlan {
-                root: _,
+                root,
                 added,
-                breadth,
+                breadth: _,
             } = plan;
-            let ns = opened(alloc, added, breadth)?;
+            let ns = ns.opened(alloc, added, root, true)?;
             of_objects(alloc, &ns, now)
         }
     }

@@ -1,9 +1,8 @@
 //! `dump`: what the object in a file holds.
 
 ghost use Rattle.std.specs.Prelude.{◌≡◌, ◌≤◌, IfOk, Some, true};
-ghost use Rattle.load_order.specs.Files.{bytes_as_read};
 ghost use Rattle.ldso_cli.specs.Command.{Answers};
-ghost use Rattle.ldso_cli.specs.Dump.{dump_cause, reading_text};
+ghost use Rattle.ldso_cli.specs.Dump.{dump_cause, program_read, reading_text};
 ghost use Rattle.ldso_cli.specs.End.{bare};
 ghost use Rattle.ldso_cli.specs.Outside.{library_at};
 
@@ -16,8 +15,8 @@ use std::alloc::{AllocError, Global};
 
 /// The answer of a file with these bytes, which are read as a program's.
 fn of_bytes(alloc: Global, path: Name, bytes: &[u8]) -> Result<Answer, AllocError>
-    ensures end { IfOk result (λ answer. answer.end ≡ bare (dump_cause path (bytes_as_read true bytes.now))) }
-    ensures text { IfOk result (λ answer. answer.text ≡ reading_text path (bytes_as_read true bytes.now)) }
+    ensures end { IfOk result (λ answer. answer.end ≡ bare (dump_cause path (program_read (Some bytes.now)))) }
+    ensures text { IfOk result (λ answer. answer.text ≡ reading_text path (program_read (Some bytes.now))) }
 {
     match read_object(alloc, bytes, true) {
         Ok((object, _table)) => Ok(done(dump_text(alloc, &object)?)),

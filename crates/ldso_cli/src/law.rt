@@ -7,7 +7,7 @@ ghost use Rattle.ldso_cli.specs.Command.{Comes, NoReadFails, Prints};
 ghost use Rattle.ldso_cli.specs.Outside.{LibraryAt};
 ghost use Rattle.ldso_cli.specs.declared.outcome.End.{End};
 
-use load_order::one_outcome;
+use scope_rule::one_outcome;
 
 /// Where no read fails, the files decide how a command ends.
 pub fn one_end()

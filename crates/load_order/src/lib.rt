@@ -19,4 +19,6 @@ pub use load_walk::{LoadAsk, LoadFault, LoadPlan};
 pub use plan::plan_load;
 
 #[cfg(test)]
+mod scope_tests;
+#[cfg(test)]
 mod tests;

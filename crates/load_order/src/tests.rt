@@ -177,98 +177,28 @@ fn namespace(alloc: Global, objects: Added) -> Namespace {
     }
 }
 
-fn ask(alloc: Global, name: &str, program: bool, preload: &str) -> Result<LoadAsk, AllocError> {
+fn ask(alloc: Global, name: &str) -> Result<LoadAsk, AllocError> {
     Ok(LoadAsk {
         name: Name::new(alloc, name.as_bytes())?,
         folders: names(alloc, "lib alt")?,
-        preload: names(alloc, preload)?,
+        preload: names(alloc, "none")?,
         hart: HartId::new(0),
-        next: Serial::new(1),
-        program,
+        next: Serial::new(7),
+        program: false,
         deep: false,
     })
 }
 
-/// What a load over these files comes to, of which the reads of these numbers fail.
+/// What a load over these files comes to.
 fn load(
     alloc: Global,
     ns: &Namespace,
     ask: &LoadAsk,
     text: &str,
-    fail: &[u64],
 ) -> Result<Vec<u8>, AllocError> {
     let files = files(alloc, text)?;
-    let fail = Calls::from_slice(alloc, fail)?;
-    let mut library = MemLibrary::new(alloc, files, fail);
+    let mut library = MemLibrary::new(alloc, files, Calls::new(alloc));
     outcome(alloc, &plan_load(alloc, ns, ask, &mut library))
-}
-
-/// A program's files and preload names, the number of the read that fails, and what loading it comes
-/// to.
-const PROGRAMS: [(&str, &str, u64, &str); 16] = [
-    ("prog", "", 0, "prog\n 1\n"),
-    // A diamond: each object once, breadth-first.
-    (
-        "prog a b\nlib/a c\nlib/b c d\nlib/c\nlib/d",
-        "",
-        0,
-        "prog 2 3\nlib/a 4\nlib/b 4 5\nlib/c\nlib/d\n 1 2 3 4 5\n",
-    ),
-    // Circles, one of them of one library.
-    (
-        "prog a\nlib/a a b\nlib/b a",
-        "",
-        0,
-        "prog 2\nlib/a 2 3\nlib/b 2\n 1 2 3\n",
-    ),
-    // The first folder that has it; the program's path isn't a path of its name.
-    (
-        "prog a b\nlib/b prog\nalt/a\nalt/b\nlib/prog",
-        "",
-        0,
-        "prog 2 3\nalt/a\nlib/b 4\nlib/prog\n 1 2 3 4\n",
-    ),
-    // A name with a `/` is a path.
-    ("prog x/y a\nx/y\nlib/a x/z", "", 0, "missing x/z"),
-    ("prog x/y\nx/y\nlib/y", "", 0, "prog 2\nx/y\n 1 2\n"),
-    // Preload names come before the program's own, and belong to it alone.
-    (
-        "prog a\nlib/a\nlib/p a\nlib/q",
-        "q p",
-        0,
-        "prog 2 3 4\nlib/q\nlib/p 4\nlib/a\n 1 2 3 4\n",
-    ),
-    // The linker's own object, which is in no list but that of what was found.
-    (
-        "prog ldso.so.1 a\nlib/a ldso.so.1\nlib/ldso.so.1",
-        "",
-        0,
-        "prog 0 2\nlib/a 0\n 1 2\n",
-    ),
-    // Names that lead nowhere: the first breadth-first.
-    ("lib/prog", "", 0, "missing prog"),
-    ("prog a b\nlib/a c\nlib/b d", "", 0, "missing c"),
-    ("prog a b\nlib/a c", "", 0, "missing b"),
-    ("prog\nlib/a", "z", 0, "missing z"),
-    // A file that isn't accepted, though another folder has one that is.
-    ("prog a\nlib/a !\nalt/a", "", 0, "broken lib/a"),
-    // A failed read comes before what the load would meet later.
-    ("prog a b", "", 3, "unread alt/a"),
-    // No path is read twice: the sixth is that of `c` in the second folder.
-    ("prog a b\nalt/a\nlib/b a c d", "", 6, "unread alt/c"),
-    ("prog a b\nalt/a\nlib/b a c d", "", 7, "missing c"),
-];
-
-#[test]
-fn loads_programs_in_order(rt: HostRuntime) -> Result<(), Fail> {
-    let alloc = rt.alloc();
-    let ns = namespace(alloc, Added::new(alloc));
-    for (text, preload, fail, expected) in PROGRAMS {
-        let ask = ask(alloc, "prog", true, preload)?;
-        let told = load(alloc, &ns, &ask, text, &[fail])?;
-        assert_eq!(rt; told.as_slice(), expected.as_bytes(), "{text}");
-    }
-    Ok(())
 }
 
 /// An object that is there, of a file without names, with its own name if it has one.
@@ -338,9 +268,8 @@ fn finds_what_is_there(rt: HostRuntime) -> Result<(), Fail> {
     let ns = namespace(alloc, objects_there(alloc)?);
     let files = "lib/s\nlib/x s x\nlib/y n d none\nlib/ldso.so.1 ldso.so.1";
     for (name, expected) in OPENED {
-        let mut ask = ask(alloc, name, false, "none")?;
-        ask.next = Serial::new(7);
-        let told = load(alloc, &ns, &ask, files, &[])?;
+        let ask = ask(alloc, name)?;
+        let told = load(alloc, &ns, &ask, files)?;
         assert_eq!(rt; told.as_slice(), expected.as_bytes(), "{name}");
     }
     Ok(())

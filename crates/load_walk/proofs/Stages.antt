@@ -14,7 +14,6 @@ use Rattle.library_source.specs.Files.{file_at, AreFiles, Over}
 use Rattle.scope_rule.specs.declared.arrival.Arrival.{Arrival}
 use Rattle.scope_rule.specs.Finding.{Reading, here, unaccepted, absent, failed}
 use Rattle.scope_rule.specs.Load.{Load, Walk, Stop, Stops, refuses, waits, asks, by_reading, finds, led, walk, paths_of}
-use Rattle.scope_rule.specs.Loads.{ComesTo}
 use Rattle.load_walk.specs.Files.{Verdict, reading_of, reading_until, failing, as_read, is_program, load_of, load_over, load_until}
 use Rattle.load_walk.specs.Plan.{HasToWait, IsMissed, distinct}
 use Rattle.load_walk.specs.Staging.{Source, Stays, Stage, FaultIs, Faulted, TakesBytes, Reads}
@@ -201,8 +200,11 @@ module _ (verdict : Verdict) (ask : LoadAsk) (there : List Loaded) (first mid : 
         files = stage.over.files;
         are = stage.over.are;
         holds = record {
-          before = walk_of w;
-          comes = record { steps = length w.leads; walked = e.walked; next = e.next ∙ ap Some (sym own.0) };
+          is = record {
+            before = walk_of w;
+            comes = record { steps = length w.leads; walked = e.walked; next = e.next ∙ ap Some (sym own.0) };
+            absent = subst (λ (n : List ℕ). AllByRecursion (λ path. over_files path ≡ absent) (paths_of (load_of ask there over_files) (length w.leads) n)) (sym own.0) own.1;
+          };
           each = rises_fewer (length (distinct paths)) (length w.missed) first.misses mid.misses (as_many paths w.missed all) stage.count;
         };
       }

@@ -10,7 +10,7 @@ use Rattle.library_source.specs.Count.{RisesBy}
 use Rattle.scope_rule.specs.Breadth.{breadth}
 use Rattle.scope_rule.specs.Finding.{here}
 use Rattle.scope_rule.specs.Load.{Load, Walk, Brings, Stops, IsRoot, refuses, waits, paths_of, records_of}
-use Rattle.scope_rule.specs.Loads.{ComesTo}
+use Rattle.scope_rule.specs.Loads.{IsMissing}
 use Rattle.scope_rule.specs.Needed.{version_fault}
 use Rattle.scope_rule.specs.Seen.{Seen, seen_in, with_added}
 use Rattle.scope_rule.specs.declared.namespace.Namespace.{Namespace}
@@ -53,9 +53,8 @@ abbrev pub distinct : List (List ℕ) → List (List ℕ)
 distinct [] = []
 distinct (x ∷ xs) = if list_any (λ y. bytes_eq y x) xs then distinct xs else x ∷ distinct xs
 
--- a name stopped the load, after those before it led somewhere, and the misses rose by each path that it may have. A program's
--- own name has one path; that of its library comes after the program.
+-- a name stopped the load, since no path that it may have has a file, and the misses rose by each of these paths. A program's own
+-- name has one path; that of its library comes after the program.
 pub record IsMissed (load : Load) (name : List ℕ) (misses misses' : ℕ) : Type 0 where
-  pub before : Walk
-  pub comes : ComesTo load before name
-  pub each : RisesBy (length (distinct (paths_of load (length before.leads) name))) misses misses'
+  pub is : IsMissing load name
+  pub each : RisesBy (length (distinct (paths_of load (length is.before.leads) name))) misses misses'

@@ -114,6 +114,7 @@ pub(crate) fn drive<F: Format, L: Library>(
     requires { Stage (F.verdict format.now) ask.now ns.now.objects (source_of L.files L.faults L.misses library.old) (source_of L.files L.faults L.misses library.old) walker.old }
     ensures { Drives (F.verdict format.now) ask.now ns.now.objects (source_of L.files L.faults L.misses library.old) (source_of L.files L.faults L.misses library.new) walker.new result }
 {
+    // A load ends long before; the bound spares a measure of what is left of it.
     for _ in 0..u64::MAX {
         if turn(alloc, ns, ask, format, library, walker)? {
             return Ok(());

@@ -11,25 +11,21 @@ use Rattle.ld_base.specs.declared.linking.State.TheVariants as states
 use Rattle.scope_rule.specs.declared.arrival.Arrival.{Arrival}
 use Rattle.scope_rule.specs.Finding.{Reading, here, unaccepted, absent, failed, with_path, at_path}
 use Rattle.scope_rule.specs.Load.{Load, Stop, refuses, waits, Found, leads, fresh, nowhere, stops, use_in, use_of, by_reading, finds, paths_of}
-use Rattle.scope_rule.specs.Loading.{is_dying}
 use Rattle.scope_rule.specs.Loads.{IsIn, WaitsForOne}
 use Rattle.scope_rule.proofs.Cases.{Cases, NoneThere, find_cases}
 
 -- ---- an object that is used
 
-abbrev closes : State → Bool
-closes state = elim state [ states.Dying hart ↦ Bool.true | _ ↦ false ]
-
-used_serial : (hart : ℕ) (o : Loaded) (state : State) (serial : ℕ) → use_in hart o state ≡ leads serial → (o.serial ≡ serial) × (closes state ≡ false)
+used_serial : (hart : ℕ) (o : Loaded) (state : State) (serial : ℕ) → use_in hart o state ≡ leads serial → o.serial ≡ serial
 used_serial hart o (states.Initialising h) serial e =
-    (elim (h == hart) as (λ v. cond v (leads o.serial) (stops (waits (shown.Initialising o.serial))) ≡ leads serial → (o.serial ≡ serial) × (false ≡ false))
-    [ true ↦ (λ d. (cc, refl)) | false ↦ (λ d. absurd cc) ]) e
-used_serial hart o states.Ready serial e = (cc, refl)
+    (elim (h == hart) as (λ v. cond v (leads o.serial) (stops (waits (shown.Initialising o.serial))) ≡ leads serial → o.serial ≡ serial)
+    [ true ↦ (λ d. cc) | false ↦ (λ d. absurd cc) ]) e
+used_serial hart o states.Ready serial e = cc
 used_serial hart o (states.Dying h) serial e =
-    (elim (h == hart) as (λ v. cond v (stops (refuses (faults.ClosingHere o.path))) (stops (waits (shown.Closing o.serial))) ≡ leads serial → (o.serial ≡ serial) × (true ≡ false))
+    (elim (h == hart) as (λ v. cond v (stops (refuses (faults.ClosingHere o.path))) (stops (waits (shown.Closing o.serial))) ≡ leads serial → o.serial ≡ serial)
     [ true ↦ (λ d. absurd cc) | false ↦ (λ d. absurd cc) ]) e
 
-pub use_serial : (hart : ℕ) (o : Loaded) (serial : ℕ) → use_of hart o ≡ leads serial → (o.serial ≡ serial) × (is_dying o ≡ false)
+pub use_serial : (hart : ℕ) (o : Loaded) (serial : ℕ) → use_of hart o ≡ leads serial → o.serial ≡ serial
 use_serial hart o serial e = used_serial hart o o.state serial e
 
 -- what an object that is there never is

@@ -95,7 +95,7 @@ old_serial : (load : Load) (number many s : ℕ) → 1 ≤ load.next → Closed 
 old_serial load number many s le closed (linker later is) =
     let small : is_new load.next s ≡ false = lt-leb load.next s (omega (arith, is)) in rw small refl
 old_serial load number many s le closed (old o i used) =
-    let same : o.serial ≡ s = (use_serial load.hart o s used).0 in
+    let same : o.serial ≡ s = use_serial load.hart o s used in
     let low : o.serial < load.next = (all_at (λ (x : Loaded). (x.serial < load.next) × AllByRecursion (λ n. n < load.next) x.found) load.there i.0 o closed i.1).0 in
     let small : is_new load.next s ≡ false = lt-leb load.next s (omega arith) in rw small refl
 old_serial load number many s le closed (new i lt is) =

@@ -7,8 +7,8 @@ use Rattle.std.proofs.lemmas.Bool.{cases_Bool, eq-eqb, ne_eqb}
 use Rattle.std.proofs.lemmas.Option.{slice_get_within}
 use Rattle.ld_base.specs.declared.linking.Loaded.{Loaded}
 use Rattle.scope_rule.specs.declared.arrival.Arrival.{Arrival}
-use Rattle.scope_rule.specs.Load.{Load, Walk, needed_by, preload_of, asks, shares, found_by, record_of, records, records_of}
-use Rattle.scope_rule.specs.Loading.{with_serial, is_dying}
+use Rattle.scope_rule.specs.Load.{Load, Walk, leads, use_of, needed_by, preload_of, asks, shares, found_by, record_of, records, records_of}
+use Rattle.scope_rule.specs.Loading.{with_serial}
 use Rattle.scope_rule.specs.Loads.{IsIn}
 
 pub length-shares : (more : ℕ) (serials : List ℕ) (news : List Arrival) → length (shares more serials news) ≡ length news
@@ -41,12 +41,14 @@ records_below hart deep serial (o ∷ rest) (found ∷ founds) s lt =
 
 -- the record of the object at a place
 pub records_at : (hart : ℕ) (deep : Bool) (serial : ℕ) (news : List Arrival) (founds : List (List ℕ)) (i : ℕ) → i < length founds → length founds ≡ length news
-    → (o : Loaded) × (with_serial (records hart deep serial news founds) (serial + i) ≡ Some o) × (slice_get (records hart deep serial news founds) i ≡ Some o) × (o.serial ≡ serial + i) × (o.found ≡ get_or founds i []) × (is_dying o ≡ false)
+    → (o : Loaded) × (with_serial (records hart deep serial news founds) (serial + i) ≡ Some o) × (slice_get (records hart deep serial news founds) i ≡ Some o) × (o.serial ≡ serial + i) × (o.found ≡ get_or founds i []) × (use_of hart o ≡ leads o.serial)
 records_at hart deep serial [] founds i lt e = absurd (let none : length founds ≡ 0 = e in omega arith)
 records_at hart deep serial (x ∷ rest) [] i lt e = absurd cc
 records_at hart deep serial (x ∷ rest) (found ∷ founds) zero lt e =
     let same : (serial == serial + 0) ≡ true = eq-eqb serial (serial + 0) (sym (add-zero serial)) in
-    (record_of hart deep serial x found, rw same refl, refl, sym (add-zero serial), refl, refl)
+    let own : (hart == hart) ≡ true = eq-eqb hart hart refl in
+    let own_use : use_of hart (record_of hart deep serial x found) ≡ leads serial = rw own refl in
+    (record_of hart deep serial x found, rw same refl, refl, sym (add-zero serial), refl, own_use)
 records_at hart deep serial (x ∷ rest) (found ∷ founds) (suc i) lt e =
     let next = records_at hart deep (serial + 1) rest founds i (omega arith) cc in
     let shift : (serial + 1) + i ≡ serial + suc i = omega arith in

@@ -3,10 +3,10 @@ use Rattle.std.proofs.Common.{◌≡◌, ◌<◌, ◌≤◌, ◌+◌, ◌==◌, 
 use Rattle.std.specs.List.{slice_get, AllByRecursion}
 use Rattle.ld_base.specs.declared.linking.Loaded.{Loaded}
 use Rattle.scope_rule.specs.declared.arrival.Arrival.{Arrival}
-use Rattle.scope_rule.specs.Load.{Load, Walk, preload_of, Brings, shares, found_by, records, records_of}
+use Rattle.scope_rule.specs.Load.{Load, Walk, leads, preload_of, Brings, shares, found_by, records, records_of}
 use Rattle.scope_rule.specs.Loads.{IsIn, Stands}
 use Rattle.scope_rule.proofs.Fronts.{front_at, all_push, all_weaker}
-use Rattle.scope_rule.proofs.Leading.{LeadsTo, linker, old, new, use_serial, led_to_serial}
+use Rattle.scope_rule.proofs.Leading.{LeadsTo, linker, old, new, led_to_serial}
 use Rattle.scope_rule.proofs.Recorded.{length-shares, records_at}
 use Rattle.scope_rule.proofs.Steps.{Stays, walk_stays}
 
@@ -37,20 +37,19 @@ behind : {X : Type 0} (xs ys : List X) (n : ℕ) (y : X) → slice_get ys n ≡ 
 behind [] ys n y e = (n, e)
 behind (x ∷ xs) ys n y e = let rest = behind xs ys n y e in (suc rest.0, rest.1)
 
-lead_stands : (load : Load) (deep : Bool) (w : Walk) (number serial : ℕ) → LeadsTo load number (length w.news) serial → Stands (load.there ++ records_of load deep w) serial
+lead_stands : (load : Load) (deep : Bool) (w : Walk) (number serial : ℕ) → LeadsTo load number (length w.news) serial → Stands load (load.there ++ records_of load deep w) serial
 lead_stands load deep w number serial (linker later is) = inl is
 lead_stands load deep w number serial (old o i used) =
-    let is = use_serial load.hart o serial used in
-    inr (o, (i.0, front_at load.there (records_of load deep w) i.0 o i.1), is.0, is.1)
+    inr (o, (i.0, front_at load.there (records_of load deep w) i.0 o i.1), used)
 lead_stands load deep w number serial (new i lt is) =
     let founds : List (List ℕ) = found_by load w in
     let all : length founds ≡ length w.news = length-shares (length (preload_of load)) (drop 1 w.leads) w.news in
     let at = records_at load.hart deep load.next w.news founds i (omega (arith, all)) all in
-    inr (at.0, behind load.there (records_of load deep w) i at.0 at.2, at.3 ∙ sym is, at.5)
+    inr (at.0, behind load.there (records_of load deep w) i at.0 at.2, at.5 ∙ ap leads (at.3 ∙ sym is))
 
-pub leads_stand : (load : Load) (deep : Bool) (w : Walk) → Brings load w → AllByRecursion (Stands (load.there ++ records_of load deep w)) w.leads
+pub leads_stand : (load : Load) (deep : Bool) (w : Walk) → Brings load w → AllByRecursion (Stands load (load.there ++ records_of load deep w)) w.leads
 leads_stand load deep w b =
-    all_weaker (Leads load (length w.news)) (Stands (load.there ++ records_of load deep w)) w.leads
+    all_weaker (Leads load (length w.news)) (Stands load (load.there ++ records_of load deep w)) w.leads
     (λ s l. lead_stands load deep w l.0 s l.1) (all_lead load w b)
 
 -- ---- what the objects found is what the names led to
@@ -70,7 +69,7 @@ shares_hold P hart deep serial more serials [] h = tt
 shares_hold P hart deep serial more serials (o ∷ rest) h =
     (all_take P (more + length o.object.needed) serials h, shares_hold P hart deep (serial + 1) 0 (drop (more + length o.object.needed) serials) rest (all_drop P (more + length o.object.needed) serials h))
 
-pub founds_stand : (load : Load) (deep : Bool) (w : Walk) → Brings load w → AllByRecursion (λ o. AllByRecursion (Stands (load.there ++ records_of load deep w)) o.found) (records_of load deep w)
+pub founds_stand : (load : Load) (deep : Bool) (w : Walk) → Brings load w → AllByRecursion (λ o. AllByRecursion (Stands load (load.there ++ records_of load deep w)) o.found) (records_of load deep w)
 founds_stand load deep w b =
-    let P : ℕ → Type 0 = Stands (load.there ++ records_of load deep w) in
+    let P : ℕ → Type 0 = Stands load (load.there ++ records_of load deep w) in
     shares_hold P load.hart deep load.next (length (preload_of load)) (drop 1 w.leads) w.news (all_drop P 1 w.leads (leads_stand load deep w b))

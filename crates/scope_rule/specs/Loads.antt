@@ -6,7 +6,6 @@ use Rattle.ld_base.specs.declared.linking.Loaded.{Loaded}
 use Rattle.scope_rule.specs.declared.arrival.Arrival.{Arrival}
 use Rattle.scope_rule.specs.Finding.{here, absent, with_path, at_path}
 use Rattle.scope_rule.specs.Load.{Load, Walk, Stop, Found, leads, stops, waits, asks, paths_of, use_of, finds, led, walk}
-use Rattle.scope_rule.specs.Loading.{is_dying}
 
 -- it is an element
 abbrev pub IsIn : {X : Type 0} → List X → X → Type 0
@@ -41,9 +40,9 @@ pub record IsLed (load : Load) (w : Walk) (place serial : ℕ) : Type 0 where
   pub by_finding : led load before name (finds load place before.news name) ≡ Ok after
   pub leads_after : after.leads ≡ before.leads ++ serial ∷ []
 
--- there is such an object and it isn't closing, or it is the linker's own
-abbrev pub Stands : List Loaded → ℕ → Type 0
-Stands objects serial = (serial ≡ 0) ⊎ ((o : Loaded) × IsIn objects o × (o.serial ≡ serial) × (is_dying o ≡ false))
+-- there is such an object, which the load's hart may use, or it is the linker's own
+abbrev pub Stands : Load → List Loaded → ℕ → Type 0
+Stands load objects serial = (serial ≡ 0) ⊎ ((o : Loaded) × IsIn objects o × (use_of load.hart o ≡ leads serial))
 
 -- how a new object was found: at the first path at which there is a file, of those that a name which was asked for may have. It
 -- is the path of no object that was there, and the object is what reading it gives.

@@ -42,11 +42,12 @@ pub fn loads_breadth_first()
         map (λ o. o.serial) (records_of load deep w) ≡ new_of load.next (breadth (with_added ns (records_of load deep w)) root) }
 {}
 
-/// What a name leads to is there once the load is done, and doesn't close.
+/// What a name leads to is there once the load is done: no other hart starts or closes it, and the
+/// load's own hart doesn't close it.
 pub fn found_stands()
-    ensures leads { (load : Load) (deep : Bool) (w : Walk) → Brings load w → AllByRecursion (Stands (load.there ++ records_of load deep w)) w.leads }
+    ensures leads { (load : Load) (deep : Bool) (w : Walk) → Brings load w → AllByRecursion (Stands load (load.there ++ records_of load deep w)) w.leads }
     ensures founds { (load : Load) (deep : Bool) (w : Walk) → Brings load w →
-        AllByRecursion (λ o. AllByRecursion (Stands (load.there ++ records_of load deep w)) o.found) (records_of load deep w) }
+        AllByRecursion (λ o. AllByRecursion (Stands load (load.there ++ records_of load deep w)) o.found) (records_of load deep w) }
 {}
 
 /// Each new object was read at the first path at which there is a file, of those that a name which

@@ -1,9 +1,17 @@
-//! Namespaces, and which definition a reference is bound to.
+//! Namespaces: which definition a reference is bound to, what a load brings, and what an opening
+//! makes of a namespace.
 //!
 //! [`choose`] gives, for a relocation of an object against one of its symbols, the one choice that
 //! the rules of scope and version name: the object's own definition where no other may take its
 //! place, else the first object of the object's scope that has a definition, else nothing. It is
-//! the plain form of the rule: it builds the scope and scans symbol tables.
+//! the plain form of the rule: it builds the scope and scans symbol tables. [`search_breadth`] and
+//! [`search_global`] are dlsym's searches. Each works over a [`View`], which shows a namespace as it
+//! stands or as an opening will leave it, so that all choices of an opening are known before
+//! anything changes. [`opened_lists`] and `Namespace::opened` say what an opening makes of it.
+//!
+//! What a load brings is a definition here (`specs/Load.antt`), for any namespace, for a program, for
+//! dlopen and for RTLD_NOLOAD, over what reading each path gives. The functions from [`one_outcome`]
+//! to [`never_waits`] are its laws. `load_walk` has the code.
 #![tactic(auto)]
 
 mod arrival;
@@ -30,6 +38,3 @@ pub use opening::{OpenedLists, opened_lists};
 pub use scoping::scope;
 pub use searching::{search_breadth, search_global};
 pub use view::View;
-
-#[cfg(test)]
-mod tests;

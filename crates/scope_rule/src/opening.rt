@@ -120,7 +120,7 @@ impl Namespace {
     ///
     /// # Errors
     ///
-    /// Want of memory.
+    /// Want of memory. The namespace is given up then.
     pub fn opened(
         self,
         alloc: Global,

@@ -1,8 +1,8 @@
 use Rattle.std.proofs.Common.{Err, ap, ◌∙◌}
-use Rattle.load_order.specs.declared.ask.LoadFault.TheVariants as faults
+use Rattle.load_walk.specs.declared.ask.LoadFault.TheVariants as faults
 use Rattle.ldso_cli.specs.Bind.{ask_of}
 use Rattle.ldso_cli.specs.Outside.{library_at}
-use Rattle.ldso_cli.proofs.Ending.{never_waits, refused_answers, read_names, loaded_answers}
+use Rattle.ldso_cli.proofs.Ending.{waits_for_none, refused_answers, read_names, loaded_answers}
 use Rattle.ldso_cli.proofs.bind.bind.Goals as goal
 
 pub returns-in-Err-Refused-clause-answers : goal.returns-in-Err-Refused-clause-answers
@@ -18,16 +18,18 @@ returns-in-Err-Refused-clause-answers g c =
 pub of_objects-requires : goal.of_objects-requires
 of_objects-requires g c =
     let over = rw (c.ask_of-ask.ensures, c.nothing_loaded-ns.ensures) at c.in-Ok.ensures.plan in
-    rw c.in_ok-ns-in-Ok.ensures (read_names c.one_object.ensures.names over.files (ask_of c.args.command) c.in-Ok.plan.added over.holds.read)
+    let same = rw c.nothing_loaded-ns.ensures at c.in_ok-ns-in-Ok.ensures in
+    rw same (read_names c.one_object.ensures.names over.files (ask_of c.args.command) c.in-Ok.plan.added over.holds.read)
 
 pub returns-clause-answers : goal.returns-clause-answers
 returns-clause-answers g c =
     let before = library_at g.L.Library.files g.L.Library.faults g.L.Library.misses c.args.library.now in
     let after = library_at g.L.Library.files g.L.Library.faults g.L.Library.misses c.plan_load.new.library in
     let over = rw (c.ask_of-ask.ensures, c.nothing_loaded-ns.ensures) at c.in-Ok.ensures.plan in
-    loaded_answers c.loads_breadth_first.ensures c.args.command before after c.in-Ok.plan c.in_ok-ns-in-Ok.ns c.of_objects.result c.in_ok-ns-in-Ok.ensures over c.of_objects.ensures.end c.of_objects.ensures.text
+    let same = rw c.nothing_loaded-ns.ensures at c.in_ok-ns-in-Ok.ensures in
+    loaded_answers c.loads_breadth_first.ensures c.root_is_new.ensures c.args.command before after c.in-Ok.plan c.in_ok-ns-in-Ok.ns c.of_objects.result same over c.of_objects.ensures.end c.of_objects.ensures.text
 
 pub unreachable-requires : goal.unreachable-requires
 unreachable-requires g c =
     let over = rw (c.ask_of-ask.ensures, c.nothing_loaded-ns.ensures) at (c.in-Err-Wait.ensures.waits c.in-Err-Wait.field-0-0 (ap Err c.in-Err-Wait.field-0-is)) in
-    never_waits c.waits_for_one.ensures (g.L.Library.files c.args.library.now) c.args.command c.in-Err-Wait.field-0-0 over
+    waits_for_none c.never_waits.ensures (g.L.Library.files c.args.library.now) c.args.command c.in-Err-Wait.field-0-0 over

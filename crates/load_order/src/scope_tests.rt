@@ -1,5 +1,7 @@
-use super::*;
+//! Searches of a namespace that no command reaches yet: deep, new and closing objects.
+
 use ld_base::*;
+use scope_rule::*;
 use std::alloc::{AllocError, Global};
 use std::test::Fail;
 
@@ -96,38 +98,12 @@ fn namespace(alloc: Global, objects: Added) -> Result<Namespace, AllocError> {
         global: Serials::new(alloc),
         opens: Opens::new(alloc),
     };
-    ns.global = breadth(alloc, &ns, Serial::new(1))?;
+    ns.global = breadth(alloc, &ns.view(), Serial::new(1))?;
     ns.opens.push(OpenRec {
         root: Serial::new(1),
         count: 1,
     })?;
     Ok(ns)
-}
-
-#[test]
-fn searches_breadth_first(rt: HostRuntime) -> Result<(), Fail> {
-    let alloc = rt.alloc();
-    let mut objects = Added::new(alloc);
-    objects.push(loaded(alloc, 1, false, false, &[2, 3])?)?;
-    objects.push(loaded(alloc, 2, false, false, &[4])?)?;
-    objects.push(loaded(alloc, 3, true, false, &[5])?)?;
-    objects.push(loaded(alloc, 4, true, false, &[])?)?;
-    objects.push(loaded(alloc, 5, false, false, &[])?)?;
-    let ns = namespace(alloc, objects)?;
-    let order = [1, 2, 3, 4, 5].map(Serial::new);
-    assert_eq!(rt; ns.global.as_slice(), order.as_slice());
-    let program = ns.object(Serial::new(1)).ok_or("the program")?;
-    let reloc = Reloc {
-        place: 0,
-        kind: 5,
-        symbol: 1,
-        addend: 0,
-    };
-    if program.object.symbols.len() == 2 {
-        let choice = choose_reloc(alloc, &ns, program, &reloc)?;
-        assert_eq!(rt; choice, Choice::Def(Serial::new(3), 1));
-    }
-    Ok(())
 }
 
 #[test]
@@ -138,7 +114,7 @@ fn deep_objects_search_their_own_first(rt: HostRuntime) -> Result<(), Fail> {
         objects.push(loaded(alloc, 1, true, false, &[])?)?;
         objects.push(loaded(alloc, 2, true, deep, &[])?)?;
         let ns = namespace(alloc, objects)?;
-        let library = ns.object(Serial::new(2)).ok_or("the library")?;
+        let library = ns.view().object(Serial::new(2)).ok_or("the library")?;
         assert_eq!(rt; library.object.symbols.len(), 2);
         let choice = choose(alloc, &ns, Serial::new(2), 1, false)?;
         assert_eq!(rt; choice, Choice::Def(Serial::new(expected), 1));
@@ -155,12 +131,19 @@ fn new_objects_follow_those_of_the_namespace(rt: HostRuntime) -> Result<(), Fail
     let mut added = Added::new(alloc);
     added.push(loaded(alloc, 2, true, false, &[3, 1])?)?;
     added.push(loaded(alloc, 3, true, false, &[])?)?;
-    let order = breadth_with(alloc, &ns, added.as_slice(), Serial::new(2))?;
+    let view = ns.view_with(added.as_slice());
+    let order = breadth(alloc, &view, Serial::new(2))?;
     let expected = [2, 3, 1].map(Serial::new);
     assert_eq!(rt; order.as_slice(), expected.as_slice());
-    assert!(rt; ns.object(Serial::new(3)).is_none());
-    let third = ns.object_or_new(added.as_slice(), Serial::new(3));
-    assert!(rt; third.is_some());
+    assert!(rt; ns.view().object(Serial::new(3)).is_none());
+    assert!(rt; view.object(Serial::new(3)).is_some());
+    let found = search_breadth(alloc, &view, Serial::new(2), b"f", &Want::Dlsym)?;
+    assert_eq!(rt; found, Some((Serial::new(2), 1)));
+    assert_eq!(rt; search_global(&view, b"dlsym", &Want::Dlsym), Some((Serial::LINKER, 3)));
+    let lists = opened_lists(alloc, &view, Serial::new(2), true)?;
+    let global = [1, 2, 3].map(Serial::new);
+    assert_eq!(rt; lists.global.as_slice(), global.as_slice());
+    assert_eq!(rt; lists.opens.len(), 2);
     Ok(())
 }
 
@@ -172,8 +155,9 @@ fn scope_beside_closing(alloc: Global, owner: u64) -> Result<Serials, Fail> {
     objects.push(loaded(alloc, 1, false, false, &[2])?)?;
     objects.push(closing)?;
     let ns = namespace(alloc, objects)?;
-    let owner = ns.object(Serial::new(owner)).ok_or("the owner")?;
-    Ok(scope(alloc, &ns, owner)?)
+    let view = ns.view();
+    let owner = view.object(Serial::new(owner)).ok_or("the owner")?;
+    Ok(scope(alloc, &view, owner)?)
 }
 
 #[test]
@@ -187,42 +171,3 @@ fn closing_objects_are_seen_by_closing_ones_alone(rt: HostRuntime) -> Result<(),
     Ok(())
 }
 
-#[test]
-fn a_reference_wants_its_version(rt: HostRuntime) -> Result<(), Fail> {
-    let alloc = rt.alloc();
-    let mut owner = object(alloc, false)?;
-    owner.verneeds.push(Verneed {
-        file: Name::new(alloc, b"libv.so")?,
-        flags: 0,
-        index: 2,
-        name: Name::new(alloc, b"V1")?,
-    })?;
-    for (version, wanted) in [(0, None), (1, None), (2, Some(b"V1".as_slice())), (3, None)] {
-        let symbol = Symbol {
-            name: Name::new(alloc, b"f")?,
-            info: 0x12,
-            other: 0,
-            shndx: 0,
-            value: 0,
-            size: 0,
-            version,
-        };
-        match want_of(alloc, &owner, &symbol)? {
-            Want::Version(name) => assert_eq!(rt; Some(name.as_bytes()), wanted),
-            _ => assert!(rt; wanted.is_none(), "version {version}"),
-        }
-    }
-    Ok(())
-}
-
-#[test]
-fn the_linker_has_seven_functions(rt: HostRuntime) {
-    for (name, symbol) in [
-        (b"dlopen".as_slice(), Some(1)),
-        (b"dlerror".as_slice(), Some(6)),
-        (b"__tls_get_addr".as_slice(), Some(7)),
-        (b"dlnext".as_slice(), None),
-    ] {
-        assert_eq!(rt; linker_symbol(name), symbol);
-    }
-}
