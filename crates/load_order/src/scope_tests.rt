@@ -139,7 +139,10 @@ fn new_objects_follow_those_of_the_namespace(rt: HostRuntime) -> Result<(), Fail
     assert!(rt; view.object(Serial::new(3)).is_some());
     let found = search_breadth(alloc, &view, Serial::new(2), b"f", &Want::Dlsym)?;
     assert_eq!(rt; found, Some((Serial::new(2), 1)));
-    assert_eq!(rt; search_global(&view, b"dlsym", &Want::Dlsym), Some((Serial::LINKER, 3)));
+    assert_eq!(rt;
+        search_global(&view, b"dlsym", &Want::Dlsym),
+        Some((Serial::LINKER, 3))
+    );
     let lists = opened_lists(alloc, &view, Serial::new(2), true)?;
     let global = [1, 2, 3].map(Serial::new);
     assert_eq!(rt; lists.global.as_slice(), global.as_slice());
@@ -170,4 +173,3 @@ fn closing_objects_are_seen_by_closing_ones_alone(rt: HostRuntime) -> Result<(),
     assert_eq!(rt; closing.as_slice(), expected.as_slice());
     Ok(())
 }
-

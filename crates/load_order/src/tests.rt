@@ -190,12 +190,7 @@ fn ask(alloc: Global, name: &str) -> Result<LoadAsk, AllocError> {
 }
 
 /// What a load over these files comes to.
-fn load(
-    alloc: Global,
-    ns: &Namespace,
-    ask: &LoadAsk,
-    text: &str,
-) -> Result<Vec<u8>, AllocError> {
+fn load(alloc: Global, ns: &Namespace, ask: &LoadAsk, text: &str) -> Result<Vec<u8>, AllocError> {
     let files = files(alloc, text)?;
     let mut library = MemLibrary::new(alloc, files, Calls::new(alloc));
     outcome(alloc, &plan_load(alloc, ns, ask, &mut library))

@@ -1,5 +1,5 @@
 -- How often a library missed what a name may be.
-use Rattle.std.proofs.Common.{◌≡◌, ◌≢◌, ◌≤◌, ◌<◌, ◌+◌, inl, inr, ℕ, zero, suc, Bool, true, false, cond, List, [], ◌∷◌, ◌++◌, length, Option, Some, None, refl, sym, ap, subst, ◌∙◌, arith, add-one, append_assoc}
+use Rattle.std.proofs.Common.{◌≡◌, ◌≢◌, ◌≤◌, ◌+◌, inl, inr, ℕ, Bool, true, false, cond, List, [], ◌∷◌, ◌++◌, length, refl, sym, subst, ◌∙◌, arith, add-one, append_assoc}
 use Rattle.std.specs.List.{AllByRecursion, list_any}
 use Rattle.std.specs.Str.{bytes_eq}
 use Rattle.std.proofs.lemmas.Bool.{cases_Bool}
@@ -145,10 +145,10 @@ objects_strictly reading w front (o ∷ rest) is agrees h =
     let self : bytes_eq o.path o.path ≡ true = (bytes_eq-Decides o.path o.path).1 refl in
     let there : among w.news o.path ≡ true = rw (is, list_any-append) (grind (arith, common_steps, self)) in
     let at : strictly reading w o.path ≡ here o.object o.table =
-        (elim (has w.missed o.path) as (λ v. has w.missed o.path ≡ v → cond v absent (cond (among w.news o.path) (reading o.path) failed) ≡ here o.object o.table) [
-          | true ↦ λ e. absurd (here_there reading o h.0 (missed_reads reading w.missed o.path agrees.missed e))
-          | false ↦ λ e. rw there h.0
-        ]) refl in
+    (elim (has w.missed o.path) as (λ v. has w.missed o.path ≡ v → cond v absent (cond (among w.news o.path) (reading o.path) failed) ≡ here o.object o.table) [
+      | true ↦ λ e. absurd (here_there reading o h.0 (missed_reads reading w.missed o.path agrees.missed e))
+      | false ↦ λ e. rw there h.0
+    ]) refl in
     (at, objects_strictly reading w (front ++ o ∷ []) rest (is ∙ sym (append_assoc front (o ∷ []) rest)) agrees h.1)
 
 pub strictly_agrees : (reading : List ℕ → Reading) (w : Walker) → Agrees reading w → Agrees (strictly reading w) w

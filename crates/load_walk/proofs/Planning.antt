@@ -1,8 +1,7 @@
 -- What a whole load comes to.
-use Rattle.std.proofs.Common.{◌≡◌, ◌⊎◌, ◌≤◌, inl, inr, ℕ, true, false, cond, List, [], ◌∷◌, ◌++◌, drop, length, Option, Some, None, Result, Ok, Err, refl, sym, ap, subst, ◌∙◌}
+use Rattle.std.proofs.Common.{◌≡◌, ◌≤◌, inl, inr, ℕ, List, [], ◌∷◌, ◌++◌, drop, length, Option, Some, None, Result, Ok, Err, sym, ap, subst, ◌∙◌}
 use Rattle.std.specs.Prelude.{IfOk, IfErr}
 use Rattle.std.specs.Result.{IsErrOf}
-use Rattle.std.specs.List.{AllByRecursion, slice_get}
 use Rattle.ld_base.specs.declared.fault.DlFault.{DlFault}
 use Rattle.ld_base.specs.declared.fault.DlFault.TheVariants as dl
 use Rattle.ld_base.specs.declared.fault.Shown.{Shown}
@@ -12,15 +11,14 @@ use Rattle.ld_base.specs.declared.object.Verneed.{Verneed}
 use Rattle.library_source.specs.Count.{Rises}
 use Rattle.library_source.specs.Files.{Over}
 use Rattle.scope_rule.specs.Finding.{Reading}
-use Rattle.scope_rule.specs.Load.{Load, Stops, refuses, waits}
 use Rattle.scope_rule.specs.Needed.{first_lack, missing_version, version_fault}
 use Rattle.scope_rule.specs.Breadth.{breadth}
 use Rattle.scope_rule.specs.Seen.{Seen}
 use Rattle.scope_rule.specs.declared.namespace.Namespace.{Namespace}
-use Rattle.load_walk.specs.Files.{Verdict, reading_of, load_over, load_until}
+use Rattle.load_walk.specs.Files.{Verdict, reading_of, load_over}
 use Rattle.load_walk.specs.Plan.{IsPlan, IsRefused, HasToWait, IsMissed, is_deep}
-use Rattle.load_walk.specs.Records.{added_by, preload_count, Completes, Gathers, Incomplete}
-use Rattle.load_walk.specs.Staging.{Source, Stays, Stage, FaultIs, Faulted}
+use Rattle.load_walk.specs.Records.{preload_count, Completes, Gathers, Incomplete}
+use Rattle.load_walk.specs.Staging.{Source, Stage, FaultIs}
 use Rattle.load_walk.specs.Walking.{walk_of}
 use Rattle.load_walk.specs.declared.ask.LoadAsk.{LoadAsk}
 use Rattle.load_walk.specs.declared.ask.LoadFault.{LoadFault}

@@ -1,5 +1,5 @@
 -- Files that have something at one path more.
-use Rattle.std.proofs.Common.{◌≡◌, ◌≢◌, ◌≤◌, ◌+◌, ◌⊎◌, inl, inr, ℕ, Bool, true, false, not, cond, List, [], ◌∷◌, ◌++◌, length, Option, Some, None, Result, refl, sym, ap, ◌∙◌, arith}
+use Rattle.std.proofs.Common.{◌≡◌, ◌≢◌, inl, inr, ℕ, Bool, true, false, not, cond, List, [], ◌∷◌, Option, Some, None, Result, refl, sym, ap, ◌∙◌, arith}
 use Rattle.std.specs.Prelude.{MatchOption, IfSome, position}
 use Rattle.std.specs.Global.{Vec}
 use Rattle.std.specs.Result.{IsErrOf}
@@ -12,7 +12,7 @@ use Rattle.std.proofs.lemmas.Slice.Eq.{bytes_eq-Decides}
 use Rattle.ld_base.specs.declared.linking.File.{File}
 use Rattle.library_source.specs.declared.library.ReadError.{ReadError}
 use Rattle.library_source.specs.declared.library.ReadError.TheVariants.{Missing}
-use Rattle.library_source.specs.Files.{file_at, AreFiles, Over}
+use Rattle.library_source.specs.Files.{file_at, Over}
 use Rattle.scope_rule.specs.declared.arrival.Arrival.{Arrival}
 use Rattle.scope_rule.specs.Finding.{Reading, here, absent, at_path}
 use Rattle.load_walk.specs.Files.{Verdict, reading_of}

@@ -1,7 +1,7 @@
 -- The records of new objects, one after another.
-use Rattle.std.proofs.Common.{◌≡◌, ◌+◌, ◌==◌, ◌&&◌, ◌≤◌, ℕ, zero, suc, Bool, true, false, cond, List, [], ◌∷◌, ◌++◌, length, take, drop, refl, sym, ap, subst, ◌∙◌, arith, add-zero, zero-add, add_comm, add-one, length-append}
+use Rattle.std.proofs.Common.{◌≡◌, ◌+◌, ◌==◌, ◌&&◌, ℕ, suc, Bool, true, false, cond, List, [], ◌∷◌, ◌++◌, length, take, drop, refl, sym, ap, ◌∙◌, arith, add-zero}
 use Rattle.std.specs.List.{AllByRecursion}
-use Rattle.std.proofs.lemmas.Bool.{and_right, ne_eqb, cases_Bool}
+use Rattle.std.proofs.lemmas.Bool.{and_right, ne_eqb}
 use Rattle.std.proofs.lemmas.List.{drop-drop}
 use Rattle.ld_base.specs.declared.linking.Loaded.{Loaded}
 use Rattle.scope_rule.specs.declared.arrival.Arrival.{Arrival}
@@ -10,7 +10,6 @@ use Rattle.scope_rule.specs.Load.{record_of, records, shares}
 use Rattle.load_walk.specs.Plan.{is_deep}
 use Rattle.load_walk.specs.Records.{AddsRecord, added_by, own_count, preload_count}
 use Rattle.load_walk.specs.declared.ask.LoadAsk.{LoadAsk}
-use Rattle.load_walk.specs.declared.walker.Walker.{Walker}
 
 -- how many names the objects have, the first so many more
 abbrev pub count : ℕ → List Arrival → ℕ
@@ -34,7 +33,7 @@ count_push more (x ∷ xs) o = let rest = count_push 0 xs o in let none : extra 
 -- the record of one object more
 records_push : (hart : ℕ) (deep : Bool) (serial more : ℕ) (serials : List ℕ) (xs : List Arrival) (o : Arrival)
     → records hart deep serial (xs ++ o ∷ []) (shares more serials (xs ++ o ∷ []))
-      ≡ records hart deep serial xs (shares more serials xs) ++ record_of hart deep (serial + length xs) o (take (extra more xs + length o.object.needed) (drop (count more xs) serials)) ∷ []
+    ≡ records hart deep serial xs (shares more serials xs) ++ record_of hart deep (serial + length xs) o (take (extra more xs + length o.object.needed) (drop (count more xs) serials)) ∷ []
 records_push hart deep serial more serials [] o =
     ap (λ (s : ℕ). record_of hart deep s o (take (more + length o.object.needed) serials) ∷ []) (sym (add-zero serial))
 records_push hart deep serial more serials (x ∷ xs) o =
@@ -81,9 +80,9 @@ recorded_more ask leads xs added new start end o so adds =
     let own' : own_count ask added o ≡ extra more xs + length o.object.needed = omega (arith, own) in
     let behind : drop start leads ≡ drop (count more xs) (drop 1 leads) = ap (λ (n : ℕ). drop n leads) so.place ∙ sym (drop-drop (count more xs) 1 leads) in
     let last : record_of ask.hart (is_deep ask) (ask.next + length added) o (take (own_count ask added o) (drop start leads)) ≡ record_of ask.hart (is_deep ask) (ask.next + length xs) o (take (extra more xs + length o.object.needed) (drop (count more xs) (drop 1 leads))) =
-        ap (λ (n : ℕ). record_of ask.hart (is_deep ask) (ask.next + n) o (take (own_count ask added o) (drop start leads))) many
-        ∙ ap (λ (n : ℕ). record_of ask.hart (is_deep ask) (ask.next + length xs) o (take n (drop start leads))) own'
-        ∙ ap (λ (l : List ℕ). record_of ask.hart (is_deep ask) (ask.next + length xs) o (take (extra more xs + length o.object.needed) l)) behind in
+    ap (λ (n : ℕ). record_of ask.hart (is_deep ask) (ask.next + n) o (take (own_count ask added o) (drop start leads))) many
+    ∙ ap (λ (n : ℕ). record_of ask.hart (is_deep ask) (ask.next + length xs) o (take n (drop start leads))) own'
+    ∙ ap (λ (l : List ℕ). record_of ask.hart (is_deep ask) (ask.next + length xs) o (take (extra more xs + length o.object.needed) l)) behind in
     record {
       are =
           adds.is

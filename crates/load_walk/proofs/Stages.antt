@@ -1,7 +1,6 @@
 -- A load and its library, one path after another.
-use Rattle.std.proofs.Common.{◌≡◌, ◌≢◌, ◌≤◌, ◌+◌, ◌⊎◌, inl, inr, ℕ, zero, suc, Bool, true, false, List, [], ◌∷◌, ◌++◌, length, Option, Some, None, Result, Ok, Err, refl, sym, ap, subst, ◌∙◌, arith, length-append}
-use Rattle.std.specs.Prelude.{MatchOption}
-use Rattle.std.specs.List.{AllByRecursion, slice_get}
+use Rattle.std.proofs.Common.{◌≡◌, ◌≤◌, ◌+◌, inl, inr, ℕ, true, List, [], ◌∷◌, ◌++◌, length, Option, Some, None, Result, Ok, Err, refl, sym, ap, subst, ◌∙◌, arith, length-append}
+use Rattle.std.specs.List.{AllByRecursion}
 use Rattle.std.specs.Str.{bytes_eq}
 use Rattle.std.proofs.lemmas.Slice.Eq.{bytes_eq-Decides}
 use Rattle.ld_base.specs.declared.fault.DlFault.{DlFault}
@@ -10,14 +9,14 @@ use Rattle.ld_base.specs.declared.fault.NotAccepted.{NotAccepted}
 use Rattle.ld_base.specs.declared.linking.File.{File}
 use Rattle.ld_base.specs.declared.linking.Loaded.{Loaded}
 use Rattle.library_source.specs.Count.{Rises, RisesBy}
-use Rattle.library_source.specs.Files.{file_at, AreFiles, Over}
+use Rattle.library_source.specs.Files.{AreFiles, Over}
 use Rattle.scope_rule.specs.declared.arrival.Arrival.{Arrival}
 use Rattle.scope_rule.specs.Finding.{Reading, here, unaccepted, absent, failed}
-use Rattle.scope_rule.specs.Load.{Load, Walk, Stop, Stops, refuses, waits, asks, by_reading, finds, led, walk, paths_of}
-use Rattle.load_walk.specs.Files.{Verdict, reading_of, reading_until, failing, as_read, is_program, load_of, load_over, load_until}
-use Rattle.load_walk.specs.Plan.{HasToWait, IsMissed, distinct}
+use Rattle.scope_rule.specs.Load.{Load, Walk, Stop, Stops, refuses, waits, by_reading, finds, led, paths_of}
+use Rattle.load_walk.specs.Files.{Verdict, reading_of, failing, is_program, load_of, load_over}
+use Rattle.load_walk.specs.Plan.{IsMissed, distinct}
 use Rattle.load_walk.specs.Staging.{Source, Stays, Stage, FaultIs, Faulted, TakesBytes, Reads}
-use Rattle.load_walk.specs.Walking.{walk_of, Agrees, IsWalker, IsUnread, IsToRead, EndsFor, EndsWith, Looks, grown}
+use Rattle.load_walk.specs.Walking.{walk_of, Agrees, IsToRead, EndsFor, Looks, grown}
 use Rattle.load_walk.specs.declared.ask.LoadAsk.{LoadAsk}
 use Rattle.load_walk.specs.declared.ask.LoadFault.{LoadFault}
 use Rattle.load_walk.specs.declared.ask.LoadFault.TheVariants as faults
@@ -144,11 +143,14 @@ module _ (verdict : Verdict) (ask : LoadAsk) (there : List Loaded) (first mid : 
       let at : failing p reading p ≡ failed = failing_at p reading in
       record {
         stays = stays_then first mid now stage.stays stays;
-        is = (record {
-          files = files;
-          are = stage.over.are;
-          holds = read_ends ask there w p (failing p reading) (refuses (dl.ReadFault p)) stage.walker to_read agrees (λ none. absurd (let d : failed ≡ absent = sym at ∙ none in cc)) (ap (by_reading p) at);
-        }, rises_from first.faults mid.faults now.faults stage.stays.faults rises);
+        is = (
+          record {
+            files = files;
+            are = stage.over.are;
+            holds = read_ends ask there w p (failing p reading) (refuses (dl.ReadFault p)) stage.walker to_read agrees (λ none. absurd (let d : failed ≡ absent = sym at ∙ none in cc)) (ap (by_reading p) at);
+          },
+          rises_from first.faults mid.faults now.faults stage.stays.faults rises,
+        );
       }
 
   pub faulted_broken : (now : Source) (p bytes : List ℕ) (broken : NotAccepted) → Stays mid now → TellsAt mid.files p (Some bytes) → IsToRead ask there w p → verdict bytes (is_program ask p) ≡ Err broken → Faulted verdict ask there first now (faults.Refused (dl.NotAccepted p broken))
@@ -194,8 +196,8 @@ module _ (verdict : Verdict) (ask : LoadAsk) (there : List Loaded) (first mid : 
       let none = law (load_of ask there strict) (walk_of w) f.name name f.ends in
       let paths : List (List ℕ) = paths_of (load_of ask there over_files) (length w.leads) name in
       let all : AllIn paths w.missed =
-          all_missed over_files w paths stage.over.holds
-          (subst (λ (n : List ℕ). AllByRecursion (λ path. strict path ≡ absent) (paths_of (load_of ask there strict) (length w.leads) n)) (sym none.0) none.1) in
+      all_missed over_files w paths stage.over.holds
+      (subst (λ (n : List ℕ). AllByRecursion (λ path. strict path ≡ absent) (paths_of (load_of ask there strict) (length w.leads) n)) (sym none.0) none.1) in
       record {
         files = stage.over.files;
         are = stage.over.are;

@@ -1,7 +1,7 @@
 -- A walker goes through its load.
-use Rattle.std.proofs.Common.{◌≡◌, ◌≢◌, ◌≤◌, ◌+◌, ◌==◌, ◌&&◌, inl, inr, ℕ, zero, suc, Bool, true, false, cond, List, [], ◌∷◌, ◌++◌, length, Option, Some, None, Result, Ok, Err, refl, sym, ap, subst, ◌∙◌, arith, add-one, append_assoc, append-nil, length-append}
+use Rattle.std.proofs.Common.{◌≡◌, ◌≢◌, ◌≤◌, ◌+◌, ◌==◌, ◌&&◌, ℕ, suc, Bool, true, false, cond, List, [], ◌∷◌, ◌++◌, length, Some, Result, Ok, Err, refl, sym, ap, subst, ◌∙◌, arith, add-one, append_assoc, append-nil, length-append}
 use Rattle.std.specs.Prelude.{flat_map}
-use Rattle.std.specs.List.{AllByRecursion, slice_get, list_any}
+use Rattle.std.specs.List.{AllByRecursion, slice_get}
 use Rattle.std.proofs.lemmas.Bool.{and_right, ne_eqb}
 use Rattle.std.proofs.lemmas.Grind.{flat_map-append}
 use Rattle.ld_base.specs.declared.fault.DlFault.{DlFault}
@@ -9,9 +9,9 @@ use Rattle.ld_base.specs.declared.fault.DlFault.TheVariants as dl
 use Rattle.ld_base.specs.declared.linking.Loaded.{Loaded}
 use Rattle.scope_rule.specs.declared.arrival.Arrival.{Arrival}
 use Rattle.scope_rule.specs.Finding.{Reading, here, absent}
-use Rattle.scope_rule.specs.Load.{Load, Walk, Stop, Found, leads, fresh, nowhere, stops, refuses, waits, needed_by, preload_of, asks, by_reading, finds, led, led_to, led_new, next_name, step, walk, Brings, Stops}
+use Rattle.scope_rule.specs.Load.{Load, Walk, Stop, Found, leads, fresh, stops, refuses, waits, needed_by, preload_of, asks, by_reading, finds, led, led_to, led_new, next_name, step, walk, Brings, Stops}
 use Rattle.load_walk.specs.Files.{load_of}
-use Rattle.load_walk.specs.Walking.{walk_of, Agrees, IsWalker, IsUnread, IsToRead, Means, EndsFor, EndsWith, Looks, more_names, grown}
+use Rattle.load_walk.specs.Walking.{walk_of, Agrees, IsWalker, IsToRead, Means, EndsFor, EndsWith, Looks, more_names, grown}
 use Rattle.load_walk.specs.declared.ask.LoadAsk.{LoadAsk}
 use Rattle.load_walk.specs.declared.ask.LoadFault.{LoadFault}
 use Rattle.load_walk.specs.declared.ask.LoadFault.TheVariants as faults
@@ -122,7 +122,7 @@ asks_one_more ask there reading w o e = ap (λ (xs : List (List ℕ)). xs ++ mor
         let off : (ask.program && length w.news == 0) ≡ false = and_right ask.program (length w.news == 0) later in
         let own : more_names ask w o ≡ o.object.needed = rw off refl in
         let tail : flat_map needed_by ((x ∷ xs) ++ o ∷ []) ≡ flat_map needed_by (x ∷ xs) ++ o.object.needed =
-            flat_map-append needed_by (x ∷ xs) (o ∷ []) ∙ ap (λ (ys : List (List ℕ)). flat_map needed_by (x ∷ xs) ++ ys) (append-nil o.object.needed) in
+        flat_map-append needed_by (x ∷ xs) (o ∷ []) ∙ ap (λ (ys : List (List ℕ)). flat_map needed_by (x ∷ xs) ++ ys) (append-nil o.object.needed) in
         ap (λ (ys : List (List ℕ)). (front ++ flat_map needed_by (x ∷ xs)) ++ ys) own
         ∙ append_assoc front (flat_map needed_by (x ∷ xs)) o.object.needed
         ∙ ap (λ (ys : List (List ℕ)). front ++ ys) (sym tail)

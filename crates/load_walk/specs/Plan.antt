@@ -12,7 +12,7 @@ use Rattle.scope_rule.specs.Finding.{here}
 use Rattle.scope_rule.specs.Load.{Load, Walk, Brings, Stops, IsRoot, refuses, waits, paths_of, records_of}
 use Rattle.scope_rule.specs.Loads.{IsMissing}
 use Rattle.scope_rule.specs.Needed.{version_fault}
-use Rattle.scope_rule.specs.Seen.{Seen, seen_in, with_added}
+use Rattle.scope_rule.specs.Seen.{seen_in, with_added}
 use Rattle.scope_rule.specs.declared.namespace.Namespace.{Namespace}
 use Rattle.load_walk.specs.Files.{Verdict, reading_of, load_over, load_until}
 use Rattle.load_walk.specs.declared.ask.LoadAsk.{LoadAsk}

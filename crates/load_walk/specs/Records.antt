@@ -1,7 +1,6 @@
 -- The records of a load's new objects, from what its walker knows.
 use Rattle.std.specs.Prelude.{◌≡◌, ℕ, ◌+◌, ◌==◌, ◌&&◌, if◌then◌else◌, List, [], ◌∷◌, ◌++◌, drop, length, take}
-use Rattle.std.specs.List.{slice_get, AllByRecursion}
-use Rattle.ld_base.specs.declared.fault.DlFault.{DlFault}
+use Rattle.std.specs.List.{slice_get}
 use Rattle.ld_base.specs.declared.linking.Loaded.{Loaded}
 use Rattle.scope_rule.specs.declared.arrival.Arrival.{Arrival}
 use Rattle.scope_rule.specs.declared.namespace.Namespace.{Namespace}

@@ -1,5 +1,5 @@
 -- What a walker knows of the load that it goes through.
-use Rattle.std.specs.Prelude.{◌≡◌, ◌≢◌, ◌≤◌, ◌+◌, ◌==◌, ◌&&◌, if◌then◌else◌, ℕ, false, List, [], ◌∷◌, ◌++◌, length, Option, Some, None, Result, Ok, Err}
+use Rattle.std.specs.Prelude.{◌≡◌, ◌≢◌, ◌≤◌, ◌+◌, ◌==◌, ◌&&◌, if◌then◌else◌, ℕ, false, List, [], ◌∷◌, ◌++◌, length, Some, None, Result, Ok, Err}
 use Rattle.std.specs.List.{AllByRecursion, slice_get, list_any}
 use Rattle.std.specs.Str.{bytes_eq}
 use Rattle.ld_base.specs.declared.fault.DlFault.TheVariants as dl

@@ -12,12 +12,7 @@ use scope_rule::Arrival;
 use std::alloc::{AllocError, Global};
 
 /// So many of the serials, from a place on.
-fn share(
-    alloc: Global,
-    leads: &[Serial],
-    start: usize,
-    count: usize,
-) -> Result<Serials, AllocError>
+fn share(alloc: Global, leads: &[Serial], start: usize, count: usize) -> Result<Serials, AllocError>
     ensures { IfOk result (λ found. found ≡ take count (drop start leads.now)) }
 {
     let rest = leads.get(start..).ok_or(AllocError)?;

@@ -35,11 +35,7 @@ fn provider(object: &Loaded, places: &Places, file: &[u8]) -> Option<Serial>
 
 /// The versions that the object with a serial defines. Where there is no such object, none is
 /// lacking.
-fn defined_at(
-    alloc: Global,
-    view: &View,
-    serial: Serial,
-) -> Result<Defined, AllocError>
+fn defined_at(alloc: Global, view: &View, serial: Serial) -> Result<Defined, AllocError>
     ensures { IfOk result (λ defined. (version : List ℕ) → has defined version ≡ defined_at (seen view.now).objects serial version) }
 {
     match view.object(serial) {

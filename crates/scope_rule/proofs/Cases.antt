@@ -14,7 +14,7 @@ use Rattle.ld_base.specs.declared.fault.DlFault.TheVariants as faults
 use Rattle.ld_base.specs.declared.fault.Shown.TheVariants as shown
 use Rattle.scope_rule.specs.declared.arrival.Arrival.{Arrival}
 use Rattle.scope_rule.specs.Finding.{Reading, here, unaccepted, absent, failed, is_named, linker_name, with_soname, with_path, at_soname, at_path, is_path, candidates}
-use Rattle.scope_rule.specs.Load.{Load, Stop, refuses, waits, Found, leads, fresh, nowhere, stops, use_in, use_of, by_reading, among, or_else, find_path, find_paths, find_opened, find_needed, find_root, finds, paths_of}
+use Rattle.scope_rule.specs.Load.{Load, refuses, waits, Found, leads, fresh, nowhere, stops, use_in, use_of, by_reading, among, or_else, find_path, find_paths, find_opened, find_needed, find_root, finds, paths_of}
 use Rattle.scope_rule.specs.Loads.{IsIn}
 
 -- ---- members
@@ -87,6 +87,7 @@ module _ (load : Load) (number : ℕ) (news : List Arrival) (name : List ℕ) (P
       seam_at : (xs : List (List ℕ)) (x : List ℕ) (ys : List (List ℕ)) → slice_get (xs ++ x ∷ ys) (length xs) ≡ Some x
       seam_at [] x ys = refl
       seam_at (z ∷ zs) x ys = seam_at zs x ys
+
       none_push : (xs : List (List ℕ)) (x : List ℕ) → NoneThere load xs → load.reading x ≡ absent → NoneThere load (xs ++ x ∷ [])
       none_push [] x h k = (k, tt)
       none_push (z ∷ zs) x h k = (h.0, none_push zs x h.1 k)

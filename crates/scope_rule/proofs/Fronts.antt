@@ -1,12 +1,12 @@
 -- Names and serials are only ever put at the end.
-use Rattle.std.proofs.Common.{◌≡◌, ◌≤◌, ◌<◌, ◌+◌, ℕ, zero, suc, List, [], ◌∷◌, ◌++◌, length, take, Option, Some, None, refl, sym, ap, subst, ◌∙◌, arith, append_assoc, append-nil, length-append, add-one}
+use Rattle.std.proofs.Common.{◌≡◌, ◌≤◌, ◌<◌, ℕ, zero, suc, List, [], ◌∷◌, ◌++◌, length, Some, refl, sym, ap, subst, ◌∙◌, arith, append_assoc, append-nil, length-append}
 use Rattle.std.specs.Prelude.{flat_map}
 use Rattle.std.specs.List.{slice_get, AllByRecursion}
 use Rattle.std.proofs.lemmas.Grind.{flat_map-append}
 use Rattle.std.proofs.lemmas.Option.{slice_get_within}
 use Rattle.scope_rule.specs.declared.arrival.Arrival.{Arrival}
 use Rattle.scope_rule.specs.Load.{Load, Walk, needed_by, preload_of, asks, next_name}
-use Rattle.scope_rule.specs.Loads.{IsIn, Begins}
+use Rattle.scope_rule.specs.Loads.{Begins}
 
 -- ---- lists
 
@@ -63,10 +63,11 @@ pushed_at (z ∷ zs) x (suc n) y e = pushed_on z zs x n y (pushed_at zs x n y e)
 pub asks_more : (load : Load) (xs ys : List Arrival) → Begins (asks load xs) (asks load (xs ++ ys))
 asks_more load [] [] = begins_all (asks load [])
 asks_more load [] (o ∷ rest) = (preload_of load ++ flat_map needed_by (o ∷ rest), refl)
-asks_more load (o ∷ xs) ys =
-    (flat_map needed_by ys,
-    ap (λ (l : List (List ℕ)). (load.name ∷ preload_of load) ++ l) (flat_map-append needed_by (o ∷ xs) ys)
-    ∙ sym (append_assoc (load.name ∷ preload_of load) (flat_map needed_by (o ∷ xs)) (flat_map needed_by ys)))
+asks_more load (o ∷ xs) ys = (
+  flat_map needed_by ys,
+  ap (λ (l : List (List ℕ)). (load.name ∷ preload_of load) ++ l) (flat_map-append needed_by (o ∷ xs) ys)
+      ∙ sym (append_assoc (load.name ∷ preload_of load) (flat_map needed_by (o ∷ xs)) (flat_map needed_by ys)),
+)
 
 pub asks_longer : (load : Load) (xs ys : List Arrival) → length (asks load xs) ≤ length (asks load (xs ++ ys))
 asks_longer load xs ys =

@@ -1,8 +1,7 @@
 -- What is known of a name by what it led to.
-use Rattle.std.proofs.Common.{◌≡◌, ◌≢◌, ◌+◌, ◌<◌, ◌==◌, inl, inr, ℕ, Bool, true, false, cond, List, [], ◌∷◌, length, take, Option, Some, None, refl, sym, ap, ◌∙◌}
+use Rattle.std.proofs.Common.{◌≡◌, ◌+◌, ◌<◌, ◌==◌, ℕ, true, false, cond, List, length, take, Some, None, refl, ap, ◌∙◌}
 use Rattle.std.specs.List.{slice_get}
 use Rattle.ld_base.specs.declared.fault.DlFault.TheVariants as faults
-use Rattle.ld_base.specs.declared.fault.NotAccepted.{NotAccepted}
 use Rattle.ld_base.specs.declared.fault.Shown.{Shown}
 use Rattle.ld_base.specs.declared.fault.Shown.TheVariants as shown
 use Rattle.ld_base.specs.declared.linking.Loaded.{Loaded}
@@ -10,9 +9,9 @@ use Rattle.ld_base.specs.declared.linking.State.{State}
 use Rattle.ld_base.specs.declared.linking.State.TheVariants as states
 use Rattle.scope_rule.specs.declared.arrival.Arrival.{Arrival}
 use Rattle.scope_rule.specs.Finding.{Reading, here, unaccepted, absent, failed, with_path, at_path}
-use Rattle.scope_rule.specs.Load.{Load, Stop, refuses, waits, Found, leads, fresh, nowhere, stops, use_in, use_of, by_reading, finds, paths_of}
+use Rattle.scope_rule.specs.Load.{Load, refuses, waits, Found, leads, fresh, nowhere, stops, use_in, use_of, by_reading, finds, paths_of}
 use Rattle.scope_rule.specs.Loads.{IsIn, WaitsForOne}
-use Rattle.scope_rule.proofs.Cases.{Cases, NoneThere, find_cases}
+use Rattle.scope_rule.proofs.Cases.{NoneThere, find_cases}
 
 -- ---- an object that is used
 

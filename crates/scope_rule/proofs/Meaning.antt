@@ -1,9 +1,6 @@
 -- What the names of a load led to, in words of its own.
-use Rattle.std.proofs.Common.{◌≡◌, ◌≢◌, ◌⊎◌, ◌≤◌, ◌<◌, ◌+◌, ◌==◌, inl, inr, ℕ, zero, suc, Bool, true, false, List, [], ◌∷◌, ◌++◌, length, take, Option, Some, None, Result, Ok, Err, refl, sym, ap, subst, ◌∙◌, arith, append-nil, add-zero, add-one, length-append}
+use Rattle.std.proofs.Common.{◌≡◌, ◌⊎◌, ◌+◌, inl, inr, ℕ, zero, suc, true, false, List, [], ◌∷◌, ◌++◌, length, Some, None, Ok, Err, refl, sym, ap, subst, ◌∙◌, arith, add-zero, add-one, length-append}
 use Rattle.std.specs.List.{slice_get, AllByRecursion}
-use Rattle.std.proofs.lemmas.List.{take-append-le, take_all}
-use Rattle.std.proofs.Math.Seq.{take-append_seam}
-use Rattle.std.proofs.lemmas.Option.{slice_get_within}
 use Rattle.std.specs.Str.{bytes_eq}
 use Rattle.std.proofs.lemmas.Bool.{eq-eqb}
 use Rattle.std.proofs.lemmas.Slice.Eq.{bytes_eq-Decides}
@@ -11,13 +8,13 @@ use Rattle.ld_base.specs.declared.fault.DlFault.TheVariants as faults
 use Rattle.ld_base.specs.declared.fault.Shown.{Shown}
 use Rattle.ld_base.specs.declared.linking.Loaded.{Loaded}
 use Rattle.scope_rule.specs.declared.arrival.Arrival.{Arrival}
-use Rattle.scope_rule.specs.Finding.{Reading, here, absent, with_path, at_path}
-use Rattle.scope_rule.specs.Load.{Load, Walk, Stop, refuses, waits, Found, leads, fresh, nowhere, stops, asks, paths_of, use_of, finds, start, led_to, led_new, led, next_name, step, walk, Brings, Stops, IsRoot}
-use Rattle.scope_rule.specs.Loads.{IsIn, Begins, ComesTo, IsLed, IsRead, IsMissing, WaitsForOne}
+use Rattle.scope_rule.specs.Finding.{here, absent, at_path}
+use Rattle.scope_rule.specs.Load.{Load, Walk, Stop, refuses, waits, Found, leads, fresh, nowhere, stops, asks, paths_of, finds, start, led_to, led_new, led, next_name, step, walk, Brings, Stops, IsRoot}
+use Rattle.scope_rule.specs.Loads.{Begins, IsLed, IsRead, IsMissing, WaitsForOne}
 use Rattle.scope_rule.proofs.Cases.{NoneThere, position_none}
-use Rattle.scope_rule.proofs.Fronts.{begins_all, begins_more, begins_at, all_push, all_weaker, all_at, last_at, Pushed, before, last, pushed_at, asks_more, asks_longer, asks_front, next_within}
-use Rattle.scope_rule.proofs.Leading.{LeadsTo, linker, old, new, IsNew, led_to_serial, led_to_new, led_nowhere, led_to_wait, led_not_missing}
-use Rattle.scope_rule.proofs.Steps.{Stays, walk_stays, Ended, missing, other, StopsAt, stops_at, comes_to, same_stop}
+use Rattle.scope_rule.proofs.Fronts.{begins_all, begins_at, all_push, all_weaker, Pushed, before, last, pushed_at, asks_more, asks_front}
+use Rattle.scope_rule.proofs.Leading.{LeadsTo, linker, old, new, led_to_serial, led_to_new, led_nowhere, led_to_wait, led_not_missing}
+use Rattle.scope_rule.proofs.Steps.{walk_stays, Ended, missing, other, stops_at, comes_to, same_stop}
 
 -- ---- how a load stops
 

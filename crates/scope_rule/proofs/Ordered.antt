@@ -1,28 +1,27 @@
 -- The new objects of a load come breadth-first.
-use Rattle.std.proofs.Common.{◌≡◌, ◌≢◌, ◌<◌, ◌≤◌, ◌+◌, ◌==◌, inl, inr, ℕ, zero, suc, Bool, true, false, cond, List, [], ◌∷◌, ◌++◌, length, take, drop, get_or, Option, Some, None, Ok, refl, sym, ap, subst, ◌∙◌, arith, append-nil, append_assoc, length-append, add-zero, add-one}
-use Rattle.std.specs.Prelude.{flat_map, map, nat_le, nat_lt}
-use Rattle.std.specs.List.{find, range_with_len, slice_get, AllByRecursion, filter}
+use Rattle.std.proofs.Common.{◌≡◌, ◌<◌, ◌≤◌, ◌+◌, ◌==◌, inl, inr, ℕ, zero, suc, Bool, true, false, cond, List, [], ◌∷◌, ◌++◌, length, take, drop, get_or, Option, Some, None, refl, sym, ap, subst, ◌∙◌, arith, length-append, add-zero, add-one}
+use Rattle.std.specs.Prelude.{flat_map, map}
+use Rattle.std.specs.List.{range_with_len, slice_get, AllByRecursion}
 use Rattle.std.specs.Option.{option_or}
-use Rattle.std.proofs.lemmas.Bool.{cases_Bool, cases_lt, eq-eqb, ne_eqb, eqb-true, le-leb, lt-leb, leb-true, leb-false}
-use Rattle.std.proofs.lemmas.List.{take-append-le, take_all, length-take-le}
+use Rattle.std.proofs.lemmas.Bool.{cases_Bool, cases_lt, eq-eqb, ne_eqb, le-leb, lt-leb, leb-false}
+use Rattle.std.proofs.lemmas.List.{take-append-le, take_all}
 use Rattle.std.proofs.lemmas.List.Elements.{filter-append}
 use Rattle.std.proofs.lemmas.List.Folds.{find-append}
 use Rattle.std.proofs.lemmas.List.FromFn.{length-range_with_len}
 use Rattle.ld_base.specs.declared.linking.Loaded.{Loaded}
 use Rattle.scope_rule.specs.declared.arrival.Arrival.{Arrival}
-use Rattle.scope_rule.specs.Breadth.{has, level, levels, extend, breadth}
-use Rattle.scope_rule.specs.Load.{Load, Walk, leads, fresh, asks, preload_of, use_of, finds, start, led_to, led_new, next_name, Brings, IsRoot, shares, found_by, records, records_of}
-use Rattle.scope_rule.specs.Loading.{with_serial, object_of, found_of}
-use Rattle.scope_rule.specs.Loads.{IsIn, Closed, new_of}
+use Rattle.scope_rule.specs.Breadth.{has, levels, extend, breadth}
+use Rattle.scope_rule.specs.Load.{Load, Walk, leads, asks, preload_of, finds, start, led_to, led_new, next_name, Brings, IsRoot, found_by, records_of}
+use Rattle.scope_rule.specs.Loading.{with_serial, found_of}
+use Rattle.scope_rule.specs.Loads.{Closed, new_of}
 use Rattle.scope_rule.specs.Seen.{Seen, with_added}
-use Rattle.scope_rule.proofs.Cases.{found_in}
-use Rattle.scope_rule.proofs.Extend.{lacks_not, extend-append, extended_length, extend_nothing}
-use Rattle.scope_rule.proofs.Fronts.{all_at, asks_more, asks_longer, next_within}
+use Rattle.scope_rule.proofs.Extend.{extend-append, extended_length}
+use Rattle.scope_rule.proofs.Fronts.{all_at, asks_longer, next_within}
 use Rattle.scope_rule.proofs.Leading.{LeadsTo, linker, old, new, use_serial, led_to_serial}
 use Rattle.scope_rule.proofs.Levels.{alone, kept_step, is_breadth}
-use Rattle.scope_rule.proofs.Newer.{is_new, reach, order_to, IsQueue, queue_order, new_extend, new_flat, new_flat_all, new_order}
-use Rattle.scope_rule.proofs.Recorded.{length-shares, length-records, records_numbered, records_below, records_at, joined, count, joined_shares, count_asked, flat_range}
-use Rattle.scope_rule.proofs.Steps.{Stays, walk_stays}
+use Rattle.scope_rule.proofs.Newer.{is_new, reach, order_to, IsQueue, queue_order, new_extend, new_flat_all, new_order}
+use Rattle.scope_rule.proofs.Recorded.{length-shares, length-records, records_numbered, records_below, records_at, count, joined_shares, count_asked, flat_range}
+use Rattle.scope_rule.proofs.Steps.{walk_stays}
 
 -- ---- rows of numbers
 
@@ -126,9 +125,9 @@ ordered_new load w name o le at h =
     let large : is_new load.next s ≡ true = le-leb load.next s (omega arith) in
     let room : length w.leads < length (asks load w.news) = next_within load w name at in
     let pushed : extend (range_with_len load.next n) (new_of load.next (s ∷ [])) ≡ range_with_len load.next (suc n) =
-        rw large (extend_pushed (range_with_len load.next n) s (omega arith) (range_lacks load.next n s (omega arith)) ∙ sym (range_push load.next n)) in
+    rw large (extend_pushed (range_with_len load.next n) s (omega arith) (range_lacks load.next n s (omega arith)) ∙ sym (range_push load.next n)) in
     let order : so_far load.next (w.leads ++ s ∷ []) ≡ range_with_len load.next (suc n) =
-        so_far_more load.next w.leads (s ∷ []) ∙ ap (λ (xs : List ℕ). extend xs (new_of load.next (s ∷ []))) h.in_order ∙ pushed in
+    so_far_more load.next w.leads (s ∷ []) ∙ ap (λ (xs : List ℕ). extend xs (new_of load.next (s ∷ []))) h.in_order ∙ pushed in
     record {
       in_order = order ∙ ap (range_with_len load.next) (sym many);
       ahead = λ k lt.
@@ -138,7 +137,7 @@ ordered_new load w name o le at h =
             | inr high ↦
                 let front : take k news ≡ w.news = take-append-le k w.news (o ∷ []) (omega (arith, many)) ∙ take_all k w.news high in
                 let all : take (asked load news k) (w.leads ++ s ∷ []) ≡ w.leads ++ s ∷ [] =
-                    take_all (asked load news k) (w.leads ++ s ∷ []) (rw front (omega (arith, room, long))) in
+                take_all (asked load news k) (w.leads ++ s ∷ []) (rw front (omega (arith, room, long))) in
                 let so : length (so_far load.next (w.leads ++ s ∷ [])) ≡ suc n = ap length order ∙ length-range_with_len load.next (suc n) in
                 rw all (omega (arith, so, many))
           ];
@@ -236,7 +235,7 @@ module _ (load : Load) (deep : Bool) (w : Walk) (s : Seen) (root : ℕ) (le : 1 
       let all : length founds ≡ length w.news = length-shares more (drop 1 w.leads) w.news in
       let c : ℕ = count more (take k w.news) in
       let led : flat_map leads_to (range_with_len load.next k) ≡ take c (drop 1 w.leads) =
-          flat_range leads_to founds load.next k (omega (arith, all)) (λ i lt. found_new load deep w s i le is closed (omega (arith, all))) ∙ joined_shares more (drop 1 w.leads) w.news k in
+      flat_range leads_to founds load.next k (omega (arith, all)) (λ i lt. found_new load deep w s i le is closed (omega (arith, all))) ∙ joined_shares more (drop 1 w.leads) w.news k in
       let many : suc c ≡ asked load w.news k = omega (arith, count_asked load (take k w.news)) in
       ap (extend (so_far load.next (root ∷ []))) (new_flat_all load.next leads_to (range_with_len load.next k) ∙ ap (new_of load.next) led)
       ∙ sym (so_far_more load.next (root ∷ []) (take c (drop 1 w.leads)))
@@ -275,11 +274,11 @@ module _ (load : Load) (deep : Bool) (w : Walk) (s : Seen) (root : ℕ) (le : 1 
       let row : List ℕ = range_with_len load.next n in
       let last : order_to leads_on (so_far load.next (root ∷ [])) many ≡ row = queue_order leads_on (so_far load.next (root ∷ [])) row many (queue b) (omega (arith, length-range_with_len load.next n)) in
       let news : new_of load.next (order_to leads_to (alone root) many) ≡ row =
-          new_order load.next leads_to (alone root) (λ x small. found_old load deep w s x is closed small) many
-          ∙ ap (λ (first : List ℕ). order_to leads_on first many) (new_extend load.next [] (root ∷ []))
-          ∙ last in
+      new_order load.next leads_to (alone root) (λ x small. found_old load deep w s x is closed small) many
+      ∙ ap (λ (first : List ℕ). order_to leads_on first many) (new_extend load.next [] (root ∷ []))
+      ∙ last in
       let order : order_to leads_to (alone root) many ≡ breadth (after load deep w s) root =
-          is_breadth (after load deep w s) root many (order_to leads_to (alone root) many) (omega arith) (omega arith) (sym (levels_order many)) in
+      is_breadth (after load deep w s) root many (order_to leads_to (alone root) many) (omega arith) (omega arith) (sym (levels_order many)) in
       records_numbered load deep w ∙ sym news ∙ ap (new_of load.next) order
 
 pub news_breadth_first : (load : Load) (deep : Bool) (w : Walk) (s : Seen) (root : ℕ) → Brings load w → IsRoot w root → s.objects ≡ load.there → Closed load.next load.there → 1 ≤ load.next

@@ -1,6 +1,5 @@
 -- A load comes to one thing, however many names are counted.
-use Rattle.std.proofs.Common.{◌≡◌, ◌≤◌, ◌+◌, ℕ, zero, suc, length, None, Result, Ok, Err, refl, sym, ap, ◌∙◌, arith, add-suc, add-zero}
-use Rattle.std.specs.List.{slice_get}
+use Rattle.std.proofs.Common.{◌≡◌, ◌≤◌, ◌+◌, ℕ, zero, suc, length, None, Result, refl, sym, ap, ◌∙◌, arith, add-suc, add-zero}
 use Rattle.std.proofs.lemmas.Option.{slice_get_past}
 use Rattle.scope_rule.specs.Load.{Load, Walk, Stop, Brings, Stops, asks, next_name, step, walk}
 use Rattle.scope_rule.proofs.Steps.{done, halt, same_walk, same_stop, no_end}

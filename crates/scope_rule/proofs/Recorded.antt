@@ -1,15 +1,13 @@
 -- The records of new objects: their serials, and what each found.
-use Rattle.std.proofs.Common.{◌≡◌, ◌<◌, ◌≤◌, ◌+◌, ◌==◌, inl, inr, ℕ, zero, suc, Bool, true, false, cond, List, [], ◌∷◌, ◌++◌, length, take, drop, get_or, Option, Some, None, refl, sym, ap, subst, ◌∙◌, arith, append-nil, append_assoc, length-append, add-zero, add-suc, add-one}
+use Rattle.std.proofs.Common.{◌≡◌, ◌<◌, ◌≤◌, ◌+◌, ◌==◌, ℕ, zero, suc, Bool, true, false, List, [], ◌∷◌, ◌++◌, length, take, drop, get_or, Some, None, refl, sym, ap, subst, ◌∙◌, arith, length-append, add-zero}
 use Rattle.std.specs.Prelude.{flat_map, map}
-use Rattle.std.specs.List.{find, range_with_len, slice_get, AllByRecursion}
+use Rattle.std.specs.List.{range_with_len, slice_get}
 use Rattle.std.proofs.Math.Seq.{take-add}
-use Rattle.std.proofs.lemmas.Bool.{cases_Bool, eq-eqb, ne_eqb}
-use Rattle.std.proofs.lemmas.Option.{slice_get_within}
+use Rattle.std.proofs.lemmas.Bool.{eq-eqb, ne_eqb}
 use Rattle.ld_base.specs.declared.linking.Loaded.{Loaded}
 use Rattle.scope_rule.specs.declared.arrival.Arrival.{Arrival}
-use Rattle.scope_rule.specs.Load.{Load, Walk, leads, use_of, needed_by, preload_of, asks, shares, found_by, record_of, records, records_of}
+use Rattle.scope_rule.specs.Load.{Load, Walk, leads, use_of, needed_by, preload_of, asks, shares, record_of, records, records_of}
 use Rattle.scope_rule.specs.Loading.{with_serial}
-use Rattle.scope_rule.specs.Loads.{IsIn}
 
 pub length-shares : (more : ℕ) (serials : List ℕ) (news : List Arrival) → length (shares more serials news) ≡ length news
 length-shares more serials [] = refl
@@ -97,5 +95,5 @@ flat_range f [] a (suc k) le at = absurd (omega arith)
 flat_range f (found ∷ founds) a (suc k) le at =
     let here : f a ≡ found = ap f (sym (add-zero a)) ∙ at 0 (omega arith) in
     let rest : flat_map f (range_with_len (a + 1) k) ≡ joined (take k founds) =
-        flat_range f founds (a + 1) k (omega arith) (λ i lt. (let shift : (a + 1) + i ≡ a + suc i = omega arith in ap f shift) ∙ at (suc i) (omega arith)) in
+    flat_range f founds (a + 1) k (omega arith) (λ i lt. (let shift : (a + 1) + i ≡ a + suc i = omega arith in ap f shift) ∙ at (suc i) (omega arith)) in
     ap (λ (xs : List ℕ). xs ++ flat_map f (range_with_len (a + 1) k)) here ∙ ap (λ (xs : List ℕ). found ++ xs) rest

@@ -1,14 +1,13 @@
 -- What names lead to is there afterwards.
-use Rattle.std.proofs.Common.{◌≡◌, ◌<◌, ◌≤◌, ◌+◌, ◌==◌, inl, inr, ℕ, zero, suc, Bool, false, List, [], ◌∷◌, ◌++◌, length, take, drop, Some, refl, sym, ap, subst, ◌∙◌, arith, length-append}
+use Rattle.std.proofs.Common.{◌≡◌, ◌+◌, inl, inr, ℕ, zero, suc, Bool, List, [], ◌∷◌, ◌++◌, length, take, drop, Some, refl, sym, ap, subst, ◌∙◌, arith, length-append}
 use Rattle.std.specs.List.{slice_get, AllByRecursion}
-use Rattle.ld_base.specs.declared.linking.Loaded.{Loaded}
 use Rattle.scope_rule.specs.declared.arrival.Arrival.{Arrival}
 use Rattle.scope_rule.specs.Load.{Load, Walk, leads, preload_of, Brings, shares, found_by, records, records_of}
 use Rattle.scope_rule.specs.Loads.{IsIn, Stands}
 use Rattle.scope_rule.proofs.Fronts.{front_at, all_push, all_weaker}
 use Rattle.scope_rule.proofs.Leading.{LeadsTo, linker, old, new, led_to_serial}
 use Rattle.scope_rule.proofs.Recorded.{length-shares, records_at}
-use Rattle.scope_rule.proofs.Steps.{Stays, walk_stays}
+use Rattle.scope_rule.proofs.Steps.{walk_stays}
 
 -- a serial leads somewhere, whichever name it came by
 abbrev Leads : Load → ℕ → ℕ → Type 0

@@ -1,9 +1,8 @@
 -- What holds of every walk, name by name.
-use Rattle.std.proofs.Common.{◌≡◌, ◌⊎◌, inl, inr, ◌+◌, ℕ, zero, suc, List, ◌∷◌, [], ◌++◌, length, Option, Some, None, Result, Ok, Err, refl, sym, ap, subst, ◌∙◌}
-use Rattle.std.specs.List.{slice_get}
+use Rattle.std.proofs.Common.{◌≡◌, ℕ, zero, suc, List, length, Option, Some, None, Result, Ok, Err, refl, sym, ap, subst, ◌∙◌}
 use Rattle.ld_base.specs.declared.fault.DlFault.TheVariants as faults
 use Rattle.scope_rule.specs.declared.arrival.Arrival.{Arrival}
-use Rattle.scope_rule.specs.Load.{Load, Walk, Stop, refuses, Found, leads, fresh, nowhere, stops, asks, finds, start, led_to, led_new, led, led_by, next_name, step, then_step, walk}
+use Rattle.scope_rule.specs.Load.{Load, Walk, Stop, refuses, Found, leads, fresh, nowhere, stops, finds, start, led_to, led_new, led, led_by, next_name, step, then_step, walk}
 use Rattle.scope_rule.specs.Loads.{ComesTo}
 
 abbrev pub done : Walk → Result Walk Stop

@@ -1,11 +1,11 @@
 -- What holds of every load, in words of its own.
-use Rattle.std.specs.Prelude.{◌≡◌, ◌≢◌, ◌<◌, ◌⊎◌, ℕ, Bool, false, List, [], ◌∷◌, ◌++◌, length, take, filter, nat_le, Option, Some, None, Result, Ok, Err}
+use Rattle.std.specs.Prelude.{◌≡◌, ◌<◌, ◌⊎◌, ℕ, List, [], ◌∷◌, ◌++◌, length, take, filter, nat_le, Some, None, Ok}
 use Rattle.std.specs.List.{slice_get, AllByRecursion}
 use Rattle.ld_base.specs.declared.fault.Shown.{Shown}
 use Rattle.ld_base.specs.declared.linking.Loaded.{Loaded}
 use Rattle.scope_rule.specs.declared.arrival.Arrival.{Arrival}
-use Rattle.scope_rule.specs.Finding.{here, absent, with_path, at_path}
-use Rattle.scope_rule.specs.Load.{Load, Walk, Stop, Found, leads, stops, waits, asks, paths_of, use_of, finds, led, walk}
+use Rattle.scope_rule.specs.Finding.{here, absent, with_path}
+use Rattle.scope_rule.specs.Load.{Load, Walk, leads, stops, waits, asks, paths_of, use_of, finds, led, walk}
 
 -- it is an element
 abbrev pub IsIn : {X : Type 0} → List X → X → Type 0

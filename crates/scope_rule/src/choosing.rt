@@ -10,8 +10,8 @@ ghost use Rattle.scope_rule.specs.Relocation.{choice_at};
 
 use crate::linker_object::linker_symbol;
 use crate::namespace::Namespace;
-use crate::view::View;
 use crate::scoping::scope;
+use crate::view::View;
 use ld_base::{Choice, Loaded, Name, Object, Reloc, Serial, Serials, Symbol, Want, pick};
 use std::alloc::{AllocError, Global};
 
@@ -36,7 +36,12 @@ fn pick_at(view: &View, name: &[u8], want: &Want, serial: Serial) -> Option<u32>
 }
 
 /// The first object of the list that has a definition, with its symbol.
-pub(crate) fn first_with(view: &View, name: &[u8], want: &Want, scope: &[Serial]) -> Option<(Serial, u32)>
+pub(crate) fn first_with(
+    view: &View,
+    name: &[u8],
+    want: &Want,
+    scope: &[Serial],
+) -> Option<(Serial, u32)>
     ensures { result ≡ first_with (pick_at (seen view.now) name.now want.now) scope.now }
 {
     for serial in scope {
@@ -84,12 +89,7 @@ fn choice_of(symbol: &Symbol, found: Option<(Serial, u32)>) -> Choice
 }
 
 /// Where a reference is searched: a COPY's isn't searched in the object that has it.
-fn searched(
-    alloc: Global,
-    view: &View,
-    owner: &Loaded,
-    copy: bool,
-) -> Result<Serials, AllocError>
+fn searched(alloc: Global, view: &View, owner: &Loaded, copy: bool) -> Result<Serials, AllocError>
     ensures { IfOk result (λ s. s ≡ searched (seen view.now) owner.now copy) }
 {
     let scope = scope(alloc, view, owner)?;

@@ -1,7 +1,7 @@
 use Rattle.std.proofs.Common.{◌≡◌, ◌<◌, [], length, arith}
 use Rattle.std.proofs.lemmas.List.{take_rest, nil_from_length}
 use Rattle.std.proofs.lemmas.Result.{err_from_is_err_and}
-use Rattle.library_source.specs.Writing.{Puts, all, more, stuck, stops}
+use Rattle.library_source.specs.Writing.{all, more, stuck, stops}
 use Rattle.library_source.proofs.Fronts.{takes_more}
 use Rattle.library_source.proofs.sink.put_all.Goals as goal
 

@@ -1,4 +1,3 @@
-use Rattle.std.proofs.Common.{true, false}
 use Rattle.std.proofs.lemmas.Result.{err_from_is_err_and}
 use Rattle.load_walk.proofs.Stages.{stage_led, faulted_now}
 use Rattle.load_walk.proofs.driver.turn.Goals as goal

@@ -1,5 +1,5 @@
 use Rattle.std.proofs.Common.{refl, sym, ap, ◌∙◌}
-use Rattle.scope_rule.specs.Seen.{seen, seen_in, with_added}
+use Rattle.scope_rule.specs.Seen.{seen_in, with_added}
 use Rattle.load_walk.proofs.Planning.{seen_versions, seen_breadth}
 use Rattle.load_walk.proofs.plan.complete.Goals as goal
 

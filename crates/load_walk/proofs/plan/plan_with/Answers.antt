@@ -1,7 +1,6 @@
-use Rattle.std.proofs.Common.{Err, sym}
 use Rattle.std.proofs.lemmas.Result.{err_from_is_err_and}
 use Rattle.load_walk.specs.Staging.{source_of}
-use Rattle.load_walk.proofs.Planning.{Answers, faulted_answers, memory_answers, complete_answers}
+use Rattle.load_walk.proofs.Planning.{faulted_answers, complete_answers}
 use Rattle.load_walk.proofs.Stages.{begins}
 use Rattle.load_walk.proofs.plan.plan_with.Goals as goal
 

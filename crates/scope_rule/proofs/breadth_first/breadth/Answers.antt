@@ -1,5 +1,4 @@
 use Rattle.std.proofs.Common.{◌≡◌, ℕ, suc, ◌+◌, List, [], sym, ap, ◌∙◌, add-one, length, length-append, drop, arith}
-use Rattle.ld_base.specs.declared.linking.Loaded.{Loaded}
 use Rattle.std.specs.List.{flat_map}
 use Rattle.scope_rule.specs.Loading.{found_of}
 use Rattle.scope_rule.specs.Seen.{seen}

@@ -1,4 +1,4 @@
-use Rattle.std.proofs.Common.{◌≡◌, None, sym, ◌∙◌}
+use Rattle.std.proofs.Common.{◌≡◌, None, sym}
 use Rattle.scope_rule.specs.Finding.{with_path, at_path}
 use Rattle.load_walk.specs.Files.{load_of}
 use Rattle.load_walk.proofs.Paths.{missed_path, missed_reads}

@@ -1,4 +1,4 @@
-use Rattle.std.proofs.Common.{◌≡◌, length, Some, Err, sym, ◌∙◌}
+use Rattle.std.proofs.Common.{◌≡◌, length, Some, sym}
 use Rattle.std.specs.List.{slice_get}
 use Rattle.std.proofs.lemmas.Result.{err_from_is_err_and}
 use Rattle.load_walk.proofs.Walkers.{looks_leads, looks_reads, looks_missing, looks_ends}
