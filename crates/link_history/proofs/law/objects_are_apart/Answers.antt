@@ -1,0 +1,5 @@
+use Rattle.link_history.proofs.Once.{apart}
+use Rattle.link_history.proofs.law.objects_are_apart.Goals as goal
+
+pub returns : goal.returns
+returns c = apart (record { serials = c.serials_follow.ensures; leads = c.found_stands.ensures.leads; founds = c.found_stands.ensures.founds })

@@ -1,0 +1,5 @@
+use Rattle.link_history.proofs.Ranges.{ranges_apart}
+use Rattle.link_history.proofs.law.ranges_apart.Goals as goal
+
+pub returns : goal.returns
+returns c = ranges_apart

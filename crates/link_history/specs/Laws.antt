@@ -1,0 +1,112 @@
+-- What holds in each state of a lawful history.
+use Rattle.std.specs.Prelude.{◌≡◌, ◌≢◌, ℕ, ◌+◌, ◌*◌, ◌<◌, ◌⊎◌, Contains, flat_map, IsTrue, Some}
+use Rattle.std.specs.List.{slice_get}
+use Rattle.address_space.specs.Pages.{guest_pages, is_within}
+use Rattle.ld_base.specs.declared.linking.Choice.{Choice}
+use Rattle.ld_base.specs.declared.linking.Choice.TheVariants.{Def, WeakZero, Missing}
+use Rattle.link_history.specs.Addresses.{is_code_in, is_linkers_page}
+use Rattle.ld_base.specs.declared.linking.Loaded.{Loaded}
+use Rattle.ld_base.specs.declared.linking.State.TheVariants as states
+use Rattle.link_event.specs.declared.event.Range.{Range}
+use Rattle.link_event.specs.declared.state.Chosen.{Chosen}
+use Rattle.link_event.specs.declared.state.Closing.{Closing}
+use Rattle.link_event.specs.declared.state.Granting.{Granting}
+use Rattle.link_event.specs.declared.state.Standing.TheVariants.{Bound, Lost, Open}
+use Rattle.scope_rule.specs.Scope.{scope, whole_scope}
+use Rattle.scope_rule.specs.Seen.{seen_in}
+use Rattle.scope_rule.specs.declared.namespace.Namespace.{Namespace}
+use Rattle.link_history.specs.State.{State}
+use Rattle.link_history.specs.Grants.{chosen_target, target_of}
+use Rattle.link_history.specs.Objects.{IsMapped, startup_serials}
+
+-- a mapped object, with its namespace
+pub record IsIn (s : State) (ns : Namespace) (o : Loaded) : Type 0 where
+  pub there : Contains s.namespaces ns
+  pub inside : Contains ns.objects o
+
+-- what an object leads to: what its names found, what its relocations chose at load, and the target of each grant of its slots that isn't
+-- lost
+pub data LeadsTo (s : State) (o : Loaded) (d : ℕ) : Type 0 where
+  found : Contains o.found d → LeadsTo s o d
+  chosen : (c : Chosen) → Contains s.chosen c → c.owner ≡ o.serial → Contains (flat_map chosen_target c.choices) d → LeadsTo s o d
+  granted : (g : Granting) → Contains s.grants g → g.owner ≡ o.serial → ((saw : ℕ) → g.standing ≢ Lost saw) → Contains (target_of g.choice) d → LeadsTo s o d
+
+-- the object is one of the namespace
+abbrev pub IsOf : Namespace → ℕ → Type 0
+IsOf ns d = (o : Loaded) × Contains ns.objects o × (o.serial ≡ d)
+
+-- whatever a mapped object leads to is mapped, in its namespace, or is the linker's own object
+abbrev pub NothingDangles : State → Type 0
+NothingDangles s = (ns : Namespace) (o : Loaded) (d : ℕ) → IsIn s ns o → LeadsTo s o d → (d ≡ 0) ⊎ IsOf ns d
+
+-- owner and target of each open grant are mapped
+pub record IsHeld (s : State) (g : Granting) : Type 0 where
+  pub owner : IsMapped s g.owner
+  pub target : (d : ℕ) → Contains (target_of g.choice) d → (d ≡ 0) ⊎ IsMapped s d
+
+abbrev pub GrantsAreHeld : State → Type 0
+GrantsAreHeld s = (g : Granting) → Contains s.grants g → g.standing ≡ Open → IsHeld s g
+
+-- what startup loaded is mapped, in the base namespace
+pub record IsBase (s : State) (d : ℕ) : Type 0 where
+  pub namespace : Namespace
+  pub object : Loaded
+  pub inside : IsIn s namespace object
+  pub is : object.serial ≡ d
+  pub base : namespace.id ≡ 0
+
+abbrev pub StartupStays : State → Type 0
+StartupStays s = (d : ℕ) → Contains (startup_serials s) d → IsBase s d
+
+-- each object of a closing that isn't unmapped yet is mapped, and dying by the closing's hart; no object is of two
+pub record IsDyingBy (s : State) (d hart : ℕ) : Type 0 where
+  pub namespace : Namespace
+  pub object : Loaded
+  pub inside : IsIn s namespace object
+  pub is : object.serial ≡ d
+  pub dying : object.state ≡ states.Dying hart
+
+pub record EachDiesOnce (s : State) : Type 0 where
+  pub dying : (c : Closing) (d : ℕ) → Contains s.closings c → Contains c.set d → IsDyingBy s d c.hart
+  pub once : (c k : Closing) (d : ℕ) → Contains s.closings c → Contains s.closings k → Contains c.set d → Contains k.set d → c ≡ k
+  pub only : (ns : Namespace) (o : Loaded) (hart : ℕ) → IsIn s ns o → o.state ≡ states.Dying hart
+      → (c : Closing) × Contains s.closings c × (c.hart ≡ hart) × Contains c.set o.serial
+
+-- no two mapped objects have one serial, and no two namespaces one number
+pub record AreApart (s : State) : Type 0 where
+  pub objects : (ns ms : Namespace) (o p : Loaded) → IsIn s ns o → IsIn s ms p → o.serial ≡ p.serial → ns ≡ ms
+  pub namespaces : (ns ms : Namespace) → Contains s.namespaces ns → Contains s.namespaces ms → ns.id ≡ ms.id → ns ≡ ms
+
+-- whoever sees a dying object dies with it: leaving dying objects out of a scope leaves none out
+abbrev pub NothingLeftOut : State → Type 0
+NothingLeftOut s = (ns : Namespace) (o : Loaded) → IsIn s ns o → scope (seen_in ns) o ≡ whole_scope (seen_in ns) o
+
+-- the address is code of a mapped object
+pub record IsCodeOf (s : State) (serial a : ℕ) : Type 0 where
+  pub namespace : Namespace
+  pub object : Loaded
+  pub inside : IsIn s namespace object
+  pub is : object.serial ≡ serial
+  pub code : IsTrue (is_code_in object a)
+
+-- a value of a choice: 0 by a weak symbol without a definition, an address in the linker's page, or code of the chosen object
+abbrev pub EntersBy : State → Choice → ℕ → Type 0
+EntersBy s (Def serial index) value = ((serial ≡ 0) × IsTrue (is_linkers_page value)) ⊎ IsCodeOf s serial value
+EntersBy s WeakZero value = value ≡ 0
+EntersBy s Missing value = ⊥
+
+-- what each grant of a mapped object put, or may still put, into its slot
+abbrev pub SlotsEnterCode : State → Type 0
+SlotsEnterCode s = (g : Granting) → Contains s.grants g → ((saw : ℕ) → g.standing ≢ Lost saw) → IsMapped s g.owner → EntersBy s g.choice g.value
+
+-- no page is of two reserved ranges, and each reserved page is one of guest memory that may be given away
+pub record RangesAreApart (s : State) : Type 0 where
+  pub one : (page : ℕ) (r q : Range) → Contains s.ranges r → Contains s.ranges q → Contains guest_pages page
+      → IsTrue (is_within r.address r.pages page) → IsTrue (is_within q.address q.pages page) → r ≡ q
+  pub inside : (r : Range) (k : ℕ) → Contains s.ranges r → k < r.pages → Contains guest_pages (r.address + 4096 * k)
+
+-- grants have the numbers from 1 on, and of a slot at most one is bound
+pub record GrantsAreTidy (s : State) : Type 0 where
+  pub numbered : (k : ℕ) (g : Granting) → slice_get s.grants k ≡ Some g → g.number ≡ k + 1
+  pub one_bound : (g h : Granting) → Contains s.grants g → Contains s.grants h → g.standing ≡ Bound → h.standing ≡ Bound
+      → g.owner ≡ h.owner → g.slot ≡ h.slot → g.number ≡ h.number

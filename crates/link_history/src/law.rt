@@ -1,0 +1,99 @@
+//! What holds in each state of a lawful history.
+
+ghost use Rattle.std.specs.Prelude.{◌≡◌, ℕ, List, ◌∷◌, ◌++◌, [], take};
+ghost use Rattle.link_event.specs.declared.event.Event.{Event};
+ghost use Rattle.link_history.specs.After.{after};
+ghost use Rattle.link_history.specs.Allowed.{Allowed};
+ghost use Rattle.link_history.specs.Laws.{AreApart, EachDiesOnce, GrantsAreHeld, GrantsAreTidy, NothingDangles, NothingLeftOut, RangesAreApart, SlotsEnterCode, StartupStays};
+ghost use Rattle.link_history.specs.Exits.{exits, initialised_by_another, setting, unmapped_unclosed};
+ghost use Rattle.link_history.specs.Legal.{Lawful, Legal, Whole};
+ghost use Rattle.link_history.specs.Setting.{Machine, Setting};
+
+/// A history grows event by event: a legal one is legal with one more event that is allowed, and
+/// each of its beginnings is.
+pub fn legal_step_by_step()
+    ensures lawful { (w : Setting) (events : List Event) → Legal w events → Lawful w.machine events }
+    ensures push { (w : Setting) (events : List Event) (e : Event) → Legal w events → Allowed w events e → Legal w (events ++ e ∷ []) }
+    ensures front { (w : Setting) (events : List Event) (k : ℕ) → Legal w events → Legal w (take k events) }
+    ensures lawful_push { (m : Machine) (w : Setting) (events : List Event) (e : Event) → w.machine ≡ m → Lawful m events → Allowed w events e → Lawful m (events ++ e ∷ []) }
+    ensures lawful_front { (m : Machine) (events : List Event) (k : ℕ) → Lawful m events → Lawful m (take k events) }
+{}
+
+/// No slot dangles: whatever a mapped object found, chose when it was loaded, or has a grant of is
+/// mapped.
+pub fn no_slot_dangles()
+    ensures { (m : Machine) (events : List Event) → Lawful m events → NothingDangles (after events) }
+{
+    scope_rule::serials_follow();
+    scope_rule::found_stands();
+}
+
+/// Owner and target of each open grant are mapped.
+pub fn grants_are_held()
+    ensures { (m : Machine) (events : List Event) → Lawful m events → GrantsAreHeld (after events) }
+{
+    scope_rule::serials_follow();
+    scope_rule::found_stands();
+}
+
+/// What startup loaded stays mapped, in the base namespace.
+pub fn startup_stays()
+    ensures { (m : Machine) (events : List Event) → Lawful m events → StartupStays (after events) }
+{
+    scope_rule::serials_follow();
+    scope_rule::found_stands();
+}
+
+/// The objects of a closing that isn't unmapped yet are mapped and dying by its hart, each is of no
+/// other closing, and no other object is dying.
+pub fn each_dies_once()
+    ensures { (m : Machine) (events : List Event) → Lawful m events → EachDiesOnce (after events) }
+{
+    scope_rule::serials_follow();
+    scope_rule::found_stands();
+}
+
+/// Mapped objects of one serial are of one namespace, and namespaces of one number are one.
+pub fn objects_are_apart()
+    ensures { (m : Machine) (events : List Event) → Lawful m events → AreApart (after events) }
+{
+    scope_rule::serials_follow();
+    scope_rule::found_stands();
+}
+
+/// Whoever sees a dying object dies with it: leaving dying objects out of a scope leaves none out.
+pub fn nothing_left_out()
+    ensures { (m : Machine) (events : List Event) → Lawful m events → NothingLeftOut (after events) }
+{
+    scope_rule::serials_follow();
+    scope_rule::found_stands();
+}
+
+/// What a grant of a mapped object put into its slot, or may still put there, is 0, an address in
+/// the linker's own page, or code of an object that is mapped now.
+pub fn slots_enter_code()
+    ensures { (m : Machine) (events : List Event) → Lawful m events → SlotsEnterCode (after events) }
+{
+    scope_rule::serials_follow();
+    scope_rule::found_stands();
+}
+
+/// No page is of two reserved ranges, and each reserved page is one of guest memory that may be
+/// given away.
+pub fn ranges_apart()
+    ensures { (m : Machine) (events : List Event) → Lawful m events → RangesAreApart (after events) }
+{}
+
+/// Grants have the numbers from 1 on, in order, and of a slot at most one is bound.
+pub fn grants_are_tidy()
+    ensures { (m : Machine) (events : List Event) → Lawful m events → GrantsAreTidy (after events) }
+{}
+
+/// The worked history of a program that starts, exits and is finalised is legal and whole. With one
+/// event of another hart's, or an unmapping in place of the destructors, it isn't legal.
+pub fn program_exits()
+    ensures legal { Legal setting exits }
+    ensures whole { Whole setting exits }
+    ensures by_another { Legal setting initialised_by_another → ⊥ }
+    ensures unclosed { Legal setting unmapped_unclosed → ⊥ }
+{}

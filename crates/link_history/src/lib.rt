@@ -1,0 +1,19 @@
+//! The history of a run: which event may come next, what the linker's state is after it, and what
+//! holds in each state of a legal history.
+//!
+//! Everything that this project promises of a run is said of its journal, the list of its events.
+//! `specs/` says what a state is, what each event makes of it (`step`, an equation an event), which
+//! event may come in it (`Allowed`, a record an event) and so which journals are legal (`Legal`). It
+//! says besides what guest memory is in a state: the role of each address and the word that was put
+//! there first.
+//!
+//! There is no code but laws: functions without a body, whose contract is the law.
+#![tactic(auto)]
+
+mod law;
+
+pub use law::{
+    each_dies_once, grants_are_held, grants_are_tidy, legal_step_by_step, no_slot_dangles,
+    nothing_left_out, objects_are_apart, program_exits, ranges_apart, slots_enter_code,
+    startup_stays,
+};
