@@ -30,9 +30,9 @@ CODE, DATA = 0x10000, 0x20000
 PAGE = 0x1000
 
 
-def names(chance, count):
+def some_names(chance, count):
     """Names of libraries, mostly plain ones."""
-    return chance.sample(PLAIN + chance.sample(OTHERS, chance.choice((0, 0, 1, 2))), count)
+    return chance.sample(PLAIN + chance.sample(OTHERS, chance.choice((0, 0, 0, 1))), count)
 
 
 class Small:
@@ -43,7 +43,7 @@ class Small:
         may_be_fixed = is_program or chance.random() < 0.03
         self.kind = chance.choice((2, 3)) if may_be_fixed else 3
         self.soname = chance.choice(SONAMES)
-        self.needed = names(chance, chance.choice((0, 1, 1, 2, 3)))
+        self.needed = some_names(chance, chance.choice((0, 1, 1, 2, 3)))
         self.has_indexes = chance.random() < 0.6
         self.definitions, self.needs = self.versions()
         self.symbols = [(b"", 0, 0, 0, 0, 0)] + [self.symbol() for _ in range(chance.randint(1, 6))]
@@ -61,7 +61,7 @@ class Small:
             definitions.append((index, 0, name))
             index += 1
         needs = []
-        for file in names(chance, chance.choice((0, 0, 1, 2))):
+        for file in some_names(chance, chance.choice((0, 0, 1, 2))):
             names = chance.sample(VERSIONS, chance.randint(1, 2))
             needs.append((file, [(index + at, chance.choice((0, 0, 2)), name) for at, name in enumerate(names)]))
             index += len(names)
@@ -207,7 +207,7 @@ def run(folder, words):
 def compare_bind(folder, chance):
     """Whether the two bind the program alike, and the text."""
     folders = chance.choice(FOLDERS)
-    preload = names(chance, chance.choice((0, 0, 1, 2)))
+    preload = some_names(chance, chance.choice((0, 0, 1, 2)))
     now = chance.random() < 0.3
     words = ["bind"] + ["--lib", b":".join(folders)] * bool(folders)
     words += ["--preload", b":".join(preload)] * bool(preload) + ["--now"] * now + ["prog"]
