@@ -27,7 +27,7 @@ filter_all {X} p (x ∷ xs) all =
     ap (λ (b : Bool). cond b (x ∷ filter p xs) (filter p xs)) (all x (here x xs)) ∙ ap (λ (ys : List X). x ∷ ys) (filter_all p xs (λ y h. all y (later x xs y h)))
 
 -- an object whose state says dying is dying by a hart
-by_whom : (doing : Doing) → (elim doing [ states.Dying k ↦ true | _ ↦ false ]) ≡ true → (hart : ℕ) × (doing ≡ states.Dying hart)
+pub by_whom : (doing : Doing) → (elim doing [ states.Dying k ↦ true | _ ↦ false ]) ≡ true → (hart : ℕ) × (doing ≡ states.Dying hart)
 by_whom (states.Initialising k) e = absurd (true≢false (sym e))
 by_whom states.Ready e = absurd (true≢false (sym e))
 by_whom (states.Dying k) e = (k, refl)

@@ -2,7 +2,7 @@
 use Rattle.std.proofs.Common.{◌≡◌, ◌⊎◌, inl, inr, ⊎_elim, ℕ, ◌<◌, ◌≤◌, Bool, true, false, List, [], ◌∷◌, ◌++◌, map, Option, Some, None, refl, sym, ap, subst, ◌∙◌, arith}
 use Rattle.std.specs.Prelude.{if◌then◌else◌}
 use Rattle.std.specs.List.{Contains, filter, list_any}
-use Rattle.std.proofs.lemmas.Bool.{eqb-true}
+use Rattle.std.proofs.lemmas.Bool.{cases_Bool, eqb-true}
 use Rattle.std.proofs.lemmas.List.Elements.{Contains-append_right, Contains-push, Contains-push_cases}
 use Rattle.ld_base.specs.declared.linking.Loaded.{Loaded}
 use Rattle.link_event.specs.declared.event.Event.{Event}
@@ -23,11 +23,14 @@ use Rattle.link_history.specs.Legal.{Lawful}
 use Rattle.link_history.specs.Opening.{Opens}
 use Rattle.link_history.specs.Setting.{Machine, Setting}
 use Rattle.link_history.proofs.Lists.{any_in, from_map, in_filter, in_map, none_in}
-use Rattle.link_history.proofs.Good.{Core, Free, Has, Keeps, closing_of, has_kept}
+use Rattle.link_history.proofs.Good.{core, Core, Free, Has, Keeps, closing_of, has_kept}
 use Rattle.link_history.proofs.Dying.{keeps_dying, keeps_lowered, keeps_ready, startup_root}
 use Rattle.link_history.proofs.Closed.{closes_dies, dies_node, fewer_closings, stays_there}
 use Rattle.link_history.proofs.Brought.{LoadLaws}
+use Rattle.link_history.proofs.LeftOut.{by_whom}
+use Rattle.link_history.proofs.Once.{Once, once_after}
 use Rattle.link_history.proofs.Steps.{Law, by_law}
+use Rattle.scope_rule.specs.Loading.{is_dying}
 use Rattle.link_history.proofs.Dangling.{kept_namespace, left_nonempty}
 
 -- an object of the base namespace
@@ -119,8 +122,26 @@ startup_law = record {
   initialises = λ s object good steady d h. (based_by (ready_in object) (keeps_ready object) s.namespaces d (steady d h).0, (steady d h).1);
 }
 
+-- what no closing has isn't dying
+alive_free : (s : State) → Once (core s) → (ns : Namespace) (o : Loaded) → Contains s.namespaces ns → Contains ns.objects o → Free s.closings o.serial → is_dying o ≡ false
+alive_free s once ns o there inside free = ⊎_elim
+    (λ (dying : is_dying o ≡ true).
+    let by = by_whom o.state dying in
+    let k = once.only ns o by.0 there inside by.1 in
+    absurd (free k.0 k.1 k.3))
+    (λ (alive : is_dying o ≡ false). alive)
+    (cases_Bool (is_dying o))
+
 pub startup_stays : LoadLaws → (m : Machine) (journal : List Event) → Lawful m journal → StartupStays (after journal)
 startup_stays laws m journal lawful d h =
     let both = by_law laws Steady startup_law m journal lawful in
     let at = (both.1 d h).0 in
-    record { namespace = at.0; object = at.3.0; inside = record { there = at.1; inside = at.3.1 }; is = at.3.2; base = at.2 }
+    let free : Free (after journal).closings at.3.0.serial = subst (Free (after journal).closings) (sym at.3.2) (both.1 d h).1 in
+    record {
+      namespace = at.0;
+      object = at.3.0;
+      inside = record { there = at.1; inside = at.3.1 };
+      is = at.3.2;
+      base = at.2;
+      alive = alive_free (after journal) (once_after laws m journal lawful).1 at.0 at.3.0 at.1 at.3.1 free;
+    }

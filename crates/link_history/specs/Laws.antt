@@ -1,5 +1,5 @@
 -- What holds in each state of a lawful history.
-use Rattle.std.specs.Prelude.{◌≡◌, ◌≢◌, ℕ, ◌+◌, ◌*◌, ◌<◌, ◌⊎◌, Contains, flat_map, IsTrue, Some}
+use Rattle.std.specs.Prelude.{◌≡◌, ◌≢◌, ℕ, ◌+◌, ◌*◌, ◌<◌, ◌⊎◌, Contains, flat_map, IsTrue, Some, false}
 use Rattle.std.specs.List.{slice_get}
 use Rattle.address_space.specs.Pages.{guest_pages, is_within}
 use Rattle.ld_base.specs.declared.linking.Choice.{Choice}
@@ -12,6 +12,7 @@ use Rattle.link_event.specs.declared.state.Chosen.{Chosen}
 use Rattle.link_event.specs.declared.state.Closing.{Closing}
 use Rattle.link_event.specs.declared.state.Granting.{Granting}
 use Rattle.link_event.specs.declared.state.Standing.TheVariants.{Bound, Lost, Open}
+use Rattle.scope_rule.specs.Loading.{is_dying}
 use Rattle.scope_rule.specs.Scope.{scope, whole_scope}
 use Rattle.scope_rule.specs.Seen.{seen_in}
 use Rattle.scope_rule.specs.declared.namespace.Namespace.{Namespace}
@@ -47,13 +48,14 @@ pub record IsHeld (s : State) (g : Granting) : Type 0 where
 abbrev pub GrantsAreHeld : State → Type 0
 GrantsAreHeld s = (g : Granting) → Contains s.grants g → g.standing ≡ Open → IsHeld s g
 
--- what startup loaded is mapped, in the base namespace
+-- what startup loaded is mapped, in the base namespace, and isn't dying
 pub record IsBase (s : State) (d : ℕ) : Type 0 where
   pub namespace : Namespace
   pub object : Loaded
   pub inside : IsIn s namespace object
   pub is : object.serial ≡ d
   pub base : namespace.id ≡ 0
+  pub alive : is_dying object ≡ false
 
 abbrev pub StartupStays : State → Type 0
 StartupStays s = (d : ℕ) → Contains (startup_serials s) d → IsBase s d

@@ -36,7 +36,7 @@ pub fn grants_are_held()
     scope_rule::found_stands();
 }
 
-/// What startup loaded stays mapped, in the base namespace.
+/// What startup loaded stays mapped, in the base namespace, and is never dying.
 pub fn startup_stays()
     ensures { (m : Machine) (events : List Event) → Lawful m events → StartupStays (after events) }
 {
