@@ -1,12 +1,12 @@
 -- Sets of doublewords as bits of words.
-use Rattle.std.proofs.Common.{◌≡◌, ◌≢◌, ◌∙◌, ap, sym, ℕ, zero, suc, ◌+◌, ◌*◌, ◌/◌, ◌%◌, ◌^◌, ◌<◌, ◌≤◌, ◌==◌, ◌||◌, ◌&&◌, Bool, true, false, List, [], ◌∷◌, ◌++◌, length, get_or, refl, arith, inl, inr, w64, nat_le, nat_lt}
+use Rattle.std.proofs.Common.{◌≡◌, ◌≢◌, ◌∙◌, ap, sym, ℕ, zero, suc, ◌+◌, ◌-◌, ◌*◌, ◌/◌, ◌%◌, ◌^◌, ◌<◌, ◌≤◌, ◌==◌, ◌||◌, ◌&&◌, Bool, true, false, List, [], ◌∷◌, ◌++◌, length, get_or, refl, arith, inl, inr, w64, nat_le, nat_lt}
 use Rattle.std.proofs.Math.ListN.{set}
 use Rattle.std.proofs.lemmas.Bool.{cases_eq, cases_lt}
 use Rattle.std.proofs.lemmas.List.{get_or_past}
 use Rattle.std.proofs.lemmas.Grind.{get_or_default_zero}
 use Rattle.std.proofs.lemmas.Option.{slice_get-get_or, slice_get_past}
 use Rattle.std.proofs.lemmas.Bool.Decides.{nat_tests}
-use Rattle.std.proofs.lemmas.Nat.Bits.{bit_at_set_same, bit_at_set_other, bit_at-zero}
+use Rattle.std.proofs.lemmas.Nat.Bits.{bit_at_ones, bit_at_set_same, bit_at_set_other, bit_at-zero}
 use Rattle.std.proofs.Common.{get_or-set_other, get_or-set_same}
 use Rattle.std.specs.Int.{bit_at}
 use Rattle.std.specs.Int.RustNames.{bit_or}
@@ -76,6 +76,28 @@ set_step old grown d e word same within is = rw (is ∙ get_or_default_zero grow
 pub marks_range : (span : Span) (e : ℕ) → 0 < span.size → (nat_le (span.start / 8) e && nat_lt e ((span.start + span.size + 7) / 8)) ≡ overlaps (doubleword (8 * e)) span
 marks_range span e some = grind (arith, nat_tests)
 
--- one doubleword more of a range
-pub range_step : (first d e : ℕ) (old before after : Bool) → first ≤ d → after ≡ (d == e || before) → before ≡ ((nat_le first e && nat_lt e d) || old) → after ≡ ((nat_le first e && nat_lt e (d + 1)) || old)
-range_step first d e old before after order step so_far = grind (arith, nat_tests)
+-- ---- a whole word
+
+-- its doublewords
+fill_marks : (words : List ℕ) (i e : ℕ) → i < length words → is_marked (set words i (2 ^ 64 - 1)) e ≡ (e / 64 == i || is_marked words e)
+fill_marks words i e within =
+    rw (marked_get (set words i (2 ^ 64 - 1)) e, marked_get words e)
+    (elim (cases_eq (e / 64) i) [
+      | inl same ↦
+          let here : get_or (set words i (2 ^ 64 - 1)) (e / 64) 0 ≡ 2 ^ 64 - 1 = rw same (same_set words i (2 ^ 64 - 1) within) in
+          let bit = bit_at_ones 64 (e % 64) (omega arith) in
+          let test : (e / 64 == i) ≡ true = grind (arith, nat_tests) in
+          rw (here, bit, test) refl
+      | inr other ↦
+          let test : (e / 64 == i) ≡ false = grind (arith, nat_tests) in
+          rw (get_or-set_other, test) refl
+    ])
+
+pub fill_step : (old grown : List ℕ) (i e : ℕ) → ((k : ℕ) → get_or grown k 0 ≡ get_or old k 0) → i < length grown → is_marked (set grown i (2 ^ 64 - 1)) e ≡ (e / 64 == i || is_marked old e)
+fill_step old grown i e same within = fill_marks grown i e within ∙ ap (λ b. e / 64 == i || b) (same_marks old grown same e)
+
+pub word_more : (d e : ℕ) → d % 64 ≡ 0 → (e / 64 == d / 64) ≡ (nat_le d e && nat_lt e (d + 64))
+word_more d e first = grind (arith, nat_tests)
+
+pub one_more : (d e : ℕ) → (d == e) ≡ (nat_le d e && nat_lt e (d + 1))
+one_more d e = grind (arith, nat_tests)

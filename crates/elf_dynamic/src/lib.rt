@@ -21,10 +21,10 @@
 //!     relocation names, whose word in the file leads to code; the first two words of the table of
 //!     slots belong to the linker. The number is the slot, or how many there are.
 //!
-//! Packed relocations are judged as their words name them, a bit for each doublewords that is named;
-//! what memory bounds, as names and the places of packed relocations, comes after all rules. No
+//! Packed relocations are judged as their words name them, with a bit for each doubleword that is
+//! named; what memory bounds, as names and the places of packed relocations, comes after all rules. No
 //! reading takes more than n log n steps in the size of the file, but for names, of which each takes
-//! up to 4,096, and the doublewords of memory that copies name.
+//! up to 4,096, and for the memory that copies name, 512 bytes of it a step.
 #![tactic(auto)]
 
 mod apart;

@@ -1,6 +1,6 @@
 //! Sets of doublewords of memory.
 
-ghost use Rattle.std.specs.Prelude.{◌≡◌, ◌==◌, ◌||◌, ◌+◌, ◌*◌, ◌<◌, ◌≤◌, ◌^◌, ℕ, false, length, slice_index, OnOk};
+ghost use Rattle.std.specs.Prelude.{◌≡◌, ◌==◌, ◌||◌, ◌&&◌, ◌+◌, ◌*◌, ◌/◌, ◌<◌, ◌≤◌, ◌^◌, ℕ, false, length, nat_le, nat_lt, slice_index, IfOk, OnOk};
 ghost use Rattle.elf_dynamic.specs.Marks.{is_marked};
 ghost use Rattle.elf_dynamic.specs.Memory.{overlaps};
 ghost use Rattle.elf_dynamic.specs.Named.{doubleword};
@@ -64,6 +64,33 @@ impl Marks {
         Ok(())
     }
 
+    /// Puts the doublewords into the set that a word tells of, by the word's index.
+    #[tactic(auto, using(crate::proofs::Bits::fill_step))]
+    fn fill(&mut self, index: usize) -> Result<(), AllocError>
+        requires { index < 2 ^ 32 }
+        ensures { OnOk result ((e : ℕ) → is_marked self.new.words.items e ≡ (e / 64 == index || is_marked self.old.words.items e)) }
+    {
+        self.grow(index + 1)?;
+        self.words[index] = u64::MAX;
+        Ok(())
+    }
+
+    /// Puts a doubleword into the set, or all that its word tells of where it is the first of them and
+    /// all are below a limit. Answers the doubleword after them.
+    #[tactic(auto, using(crate::proofs::Bits::one_more, crate::proofs::Bits::word_more))]
+    fn step(&mut self, d: u64, limit: u64) -> Result<u64, AllocError>
+        requires { (d < limit) × (limit ≤ 2 ^ 32) }
+        ensures next { IfOk result (λ next. (d < next) × (next ≤ limit)) }
+        ensures marks { IfOk result (λ next. (e : ℕ) → is_marked self.new.words.items e ≡ ((nat_le d e && nat_lt e next) || is_marked self.old.words.items e)) }
+    {
+        if d % BITS == 0 && d + BITS <= limit {
+            self.fill((d / BITS) as usize)?;
+            return Ok(d + BITS);
+        }
+        self.set(d)?;
+        Ok(d + 1)
+    }
+
     /// Puts each doubleword into the set of which the range has a byte.
     pub(crate) fn mark(&mut self, span: Span) -> Result<(), AllocError>
         requires { 0 < span.size → span.start + span.size ≤ 2 ^ 32 }
@@ -72,8 +99,10 @@ impl Marks {
         if span.size == 0 {
             return Ok(());
         }
-        for d in span.start / DOUBLEWORD..(span.start + span.size).div_ceil(DOUBLEWORD) {
-            self.set(d)?;
+        let limit = (span.start + span.size).div_ceil(DOUBLEWORD);
+        let mut d = span.start / DOUBLEWORD;
+        while d < limit {
+            d = self.step(d, limit)?;
         }
         Ok(())
     }
