@@ -10,6 +10,7 @@ pub mod History
 pub mod Steps
 pub mod Tidy
 pub mod Worked
+pub mod Imaged
 pub mod LeftOut
 pub mod Lists
 pub mod Once

@@ -53,7 +53,7 @@ based_open : (id : ℕ) (added : List Loaded) (root : ℕ) (g : Bool) (all : Lis
 based_open id added root g all d h = let m = kept_namespace id added root g all h.0 h.1 in (m.0, m.1, m.2 ∙ h.2, m.3 d h.3)
 
 -- the changed namespace is there
-changed_there : (id : ℕ) (added : List Loaded) (root : ℕ) (g : Bool) (all : List Namespace)
+pub changed_there : (id : ℕ) (added : List Loaded) (root : ℕ) (g : Bool) (all : List Namespace)
     → (ns : Namespace) × Contains (with_namespace id (λ n. opened n added root g) all) ns × (ns.id ≡ id) × ((a : Loaded) → Contains added a → Has ns a.serial)
 changed_there id added root g all = by (list_any (has_id id) all) refl
   where

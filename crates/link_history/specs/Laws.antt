@@ -1,5 +1,5 @@
 -- What holds in each state of a lawful history.
-use Rattle.std.specs.Prelude.{◌≡◌, ◌≢◌, ℕ, ◌+◌, ◌*◌, ◌<◌, ◌⊎◌, Contains, flat_map, IsTrue, Some, false}
+use Rattle.std.specs.Prelude.{◌≡◌, ◌≢◌, ℕ, ◌+◌, ◌*◌, ◌<◌, ◌⊎◌, Contains, flat_map, List, IsTrue, Some, false}
 use Rattle.std.specs.List.{slice_get}
 use Rattle.address_space.specs.Pages.{guest_pages, is_within}
 use Rattle.ld_base.specs.declared.linking.Choice.{Choice}
@@ -16,7 +16,7 @@ use Rattle.scope_rule.specs.Loading.{is_dying}
 use Rattle.scope_rule.specs.Scope.{scope, whole_scope}
 use Rattle.scope_rule.specs.Seen.{seen_in}
 use Rattle.scope_rule.specs.declared.namespace.Namespace.{Namespace}
-use Rattle.link_history.specs.State.{State}
+use Rattle.link_history.specs.State.{Linked, State}
 use Rattle.link_history.specs.Grants.{chosen_target, target_of}
 use Rattle.link_history.specs.Objects.{IsMapped, startup_serials}
 
@@ -112,3 +112,16 @@ pub record GrantsAreTidy (s : State) : Type 0 where
   pub numbered : (k : ℕ) (g : Granting) → slice_get s.grants k ≡ Some g → g.number ≡ k + 1
   pub one_bound : (g h : Granting) → Contains s.grants g → Contains s.grants h → g.standing ≡ Bound → h.standing ≡ Bound
       → g.owner ≡ h.owner → g.slot ≡ h.slot → g.number ≡ h.number
+
+-- the image of an object: of its serial, its record and its base
+pub record IsImageOf (images : List Linked) (o : Loaded) : Type 0 where
+  pub image : Linked
+  pub there : Contains images image
+  pub serial : image.serial ≡ o.serial
+  pub object : image.object ≡ o.object
+  pub base : image.base ≡ o.base
+
+-- each mapped object has its image, and each image is of a mapped object
+pub record ImagesAreMapped (s : State) : Type 0 where
+  pub mapped : (ns : Namespace) (o : Loaded) → IsIn s ns o → IsImageOf s.images o
+  pub image : (i : Linked) → Contains s.images i → IsMapped s i.serial

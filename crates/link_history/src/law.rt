@@ -4,7 +4,7 @@ ghost use Rattle.std.specs.Prelude.{◌≡◌, ℕ, List, ◌∷◌, ◌++◌, [
 ghost use Rattle.link_event.specs.declared.event.Event.{Event};
 ghost use Rattle.link_history.specs.After.{after};
 ghost use Rattle.link_history.specs.Allowed.{Allowed};
-ghost use Rattle.link_history.specs.Laws.{AreApart, EachDiesOnce, GrantsAreHeld, GrantsAreTidy, NothingDangles, NothingLeftOut, RangesAreApart, SlotsEnterCode, StartupStays};
+ghost use Rattle.link_history.specs.Laws.{AreApart, EachDiesOnce, GrantsAreHeld, GrantsAreTidy, ImagesAreMapped, NothingDangles, NothingLeftOut, RangesAreApart, SlotsEnterCode, StartupStays};
 ghost use Rattle.link_history.specs.Exits.{exits, initialised_by_another, setting, unmapped_unclosed};
 ghost use Rattle.link_history.specs.Legal.{Lawful, Legal, Whole};
 ghost use Rattle.link_history.specs.Setting.{Machine, Setting};
@@ -87,6 +87,12 @@ pub fn ranges_apart()
 /// Grants have the numbers from 1 on, in order, and of a slot at most one is bound.
 pub fn grants_are_tidy()
     ensures { (m : Machine) (events : List Event) → Lawful m events → GrantsAreTidy (after events) }
+{}
+
+/// Each mapped object has its image, of its record and its base, and each image is of a mapped
+/// object.
+pub fn images_are_mapped()
+    ensures { (m : Machine) (events : List Event) → Lawful m events → ImagesAreMapped (after events) }
 {}
 
 /// The worked history of a program that starts, exits and is finalised is legal and whole. With one

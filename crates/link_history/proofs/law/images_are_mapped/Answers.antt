@@ -1,0 +1,5 @@
+use Rattle.link_history.proofs.Imaged.{images_mapped}
+use Rattle.link_history.proofs.law.images_are_mapped.Goals as goal
+
+pub returns : goal.returns
+returns c = images_mapped
