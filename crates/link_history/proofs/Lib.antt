@@ -16,6 +16,7 @@ pub mod Lists
 pub mod Once
 pub mod Opened
 pub mod Pages
+pub mod Placed
 pub mod Ranges
 pub mod Scopes
 pub mod Startup

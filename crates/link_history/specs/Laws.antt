@@ -7,7 +7,9 @@ use Rattle.ld_base.specs.declared.linking.Choice.TheVariants.{Def, WeakZero, Mis
 use Rattle.link_history.specs.Addresses.{is_code_in, is_linkers_page}
 use Rattle.ld_base.specs.declared.linking.Loaded.{Loaded}
 use Rattle.ld_base.specs.declared.linking.State.TheVariants as states
+use Rattle.link_event.specs.declared.event.Purpose.TheVariants as purposes
 use Rattle.link_event.specs.declared.event.Range.{Range}
+use Rattle.seg_image.specs.Pages.{low_of, own_address, pages_of}
 use Rattle.link_event.specs.declared.state.Chosen.{Chosen}
 use Rattle.link_event.specs.declared.state.Closing.{Closing}
 use Rattle.link_event.specs.declared.state.Granting.{Granting}
@@ -125,3 +127,14 @@ pub record IsImageOf (images : List Linked) (o : Loaded) : Type 0 where
 pub record ImagesAreMapped (s : State) : Type 0 where
   pub mapped : (ns : Namespace) (o : Loaded) → IsIn s ns o → IsImageOf s.images o
   pub image : (i : Linked) → Contains s.images i → IsMapped s i.serial
+
+-- the reserved range of an image: the pages of its object, from the address that its base gives them
+pub record IsRangeOf (ranges : List Range) (i : Linked) : Type 0 where
+  pub range : Range
+  pub there : Contains ranges range
+  pub purpose : range.purpose ≡ purposes.Object i.serial
+  pub pages : range.pages ≡ pages_of i.object
+  pub base : i.base ≡ own_address (low_of i.object) range.address
+
+abbrev pub ImagesArePlaced : State → Type 0
+ImagesArePlaced s = (i : Linked) → Contains s.images i → IsRangeOf s.ranges i

@@ -4,7 +4,7 @@ ghost use Rattle.std.specs.Prelude.{◌≡◌, ℕ, List, ◌∷◌, ◌++◌, [
 ghost use Rattle.link_event.specs.declared.event.Event.{Event};
 ghost use Rattle.link_history.specs.After.{after};
 ghost use Rattle.link_history.specs.Allowed.{Allowed};
-ghost use Rattle.link_history.specs.Laws.{AreApart, EachDiesOnce, GrantsAreHeld, GrantsAreTidy, ImagesAreMapped, NothingDangles, NothingLeftOut, RangesAreApart, SlotsEnterCode, StartupStays};
+ghost use Rattle.link_history.specs.Laws.{AreApart, EachDiesOnce, GrantsAreHeld, GrantsAreTidy, ImagesAreMapped, ImagesArePlaced, NothingDangles, NothingLeftOut, RangesAreApart, SlotsEnterCode, StartupStays};
 ghost use Rattle.link_history.specs.Exits.{exits, initialised_by_another, setting, unmapped_unclosed};
 ghost use Rattle.link_history.specs.Legal.{Lawful, Legal, Whole};
 ghost use Rattle.link_history.specs.Setting.{Machine, Setting};
@@ -93,6 +93,11 @@ pub fn grants_are_tidy()
 /// object.
 pub fn images_are_mapped()
     ensures { (m : Machine) (events : List Event) → Lawful m events → ImagesAreMapped (after events) }
+{}
+
+/// The pages of each image are reserved for its object, at the address that its base gives them.
+pub fn images_are_placed()
+    ensures { (m : Machine) (events : List Event) → Lawful m events → ImagesArePlaced (after events) }
 {}
 
 /// The worked history of a program that starts, exits and is finalised is legal and whole. With one

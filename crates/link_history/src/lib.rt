@@ -13,7 +13,7 @@
 mod law;
 
 pub use law::{
-    each_dies_once, grants_are_held, grants_are_tidy, images_are_mapped, legal_step_by_step,
-    no_slot_dangles, nothing_left_out, objects_are_apart, program_exits, ranges_apart,
-    slots_enter_code, startup_stays,
+    each_dies_once, grants_are_held, grants_are_tidy, images_are_mapped, images_are_placed,
+    legal_step_by_step, no_slot_dangles, nothing_left_out, objects_are_apart, program_exits,
+    ranges_apart, slots_enter_code, startup_stays,
 };

@@ -1,0 +1,5 @@
+use Rattle.link_history.proofs.Placed.{images_placed}
+use Rattle.link_history.proofs.law.images_are_placed.Goals as goal
+
+pub returns : goal.returns
+returns c = images_placed
