@@ -1,5 +1,5 @@
 -- Each mapped object has its image, and each image is of a mapped object.
-use Rattle.std.proofs.Common.{◌≡◌, ◌⊎◌, inl, inr, ⊎_elim, ℕ, Bool, true, false, not, eqb, List, [], ◌∷◌, ◌++◌, map, length, take, Option, Some, None, refl, sym, ap, subst, ◌∙◌, arith}
+use Rattle.std.proofs.Common.{◌≡◌, ◌⊎◌, inl, inr, ⊎_elim, ℕ, Bool, true, false, not, eqb, List, [], ◌∷◌, ◌++◌, map, length, refl, sym, ap, subst, ◌∙◌, arith}
 use Rattle.std.specs.Prelude.{if◌then◌else◌}
 use Rattle.std.specs.List.{Contains, filter, list_any}
 use Rattle.std.proofs.lemmas.Bool.{not-true}
@@ -23,18 +23,17 @@ use Rattle.scope_rule.specs.Seen.{Seen}
 use Rattle.scope_rule.specs.declared.namespace.Namespace.{Namespace}
 use Rattle.link_history.specs.State.{Linked, State, empty_namespace}
 use Rattle.link_history.specs.After.{after}
-use Rattle.link_history.specs.Allowed.{AllowedIn}
 use Rattle.link_history.specs.Bound.{linked_with, uncopied, with_copies}
 use Rattle.link_history.specs.Flags.{is_global}
 use Rattle.link_history.specs.Laws.{ImagesAreMapped, IsImageOf}
 use Rattle.link_history.specs.Legal.{Lawful}
-use Rattle.link_history.specs.Objects.{IsMapped, has, has_id}
-use Rattle.link_history.specs.Setting.{Machine, Setting}
+use Rattle.link_history.specs.Objects.{has, has_id}
+use Rattle.link_history.specs.Setting.{Machine}
 use Rattle.link_history.specs.Step.{binds, changed_at, die, dying_in, dying_object, gone_in, initialise, is_left, loaded, lower, lowered_in, ready_in, ready_object, ready_state, seen_after, step, unmap, with_namespace}
 use Rattle.link_history.proofs.History.{by_history}
 use Rattle.link_history.proofs.Lists.{from_filter, from_map, has_not, in_filter, in_map, none_in, only_in}
 use Rattle.link_history.proofs.Good.{Has, each_mapped}
-use Rattle.link_history.proofs.Closed.{each_left, stayed}
+use Rattle.link_history.proofs.Closed.{each_left}
 use Rattle.link_history.proofs.Dangling.{Mapped, mapped_open, mapped_unmap}
 use Rattle.link_history.proofs.Startup.{changed_there}
 
@@ -57,9 +56,11 @@ objects_open id added root g all ns o there inside = by (list_any (has_id id) al
         (λ (i : Contains ms.objects o). inl (ms, at, i))
         (λ (i : Contains added o). inr i)
         (Contains-append_cases ms.objects added o h)
+
     changed : (ms : Namespace) → Contains all ms → (t : Bool) → Contains (if t then opened ms added root g else ms).objects o → ((ls : Namespace) × Contains all ls × Contains ls.objects o) ⊎ Contains added o
     changed ms at true h = parts ms at h
     changed ms at false h = inl (ms, at, h)
+
     by : (t : Bool) → Contains (if t then map (changed_at id (λ n. opened n added root g)) all else all ++ opened (empty_namespace id) added root g ∷ []) ns
         → ((ls : Namespace) × Contains all ls × Contains ls.objects o) ⊎ Contains added o
     by true h =
@@ -87,11 +88,11 @@ laid_open s ns now id root g added all images laid = record {
   image = λ m there. ⊎_elim
       (λ (old : Contains images m). mapped_open id added root g all m.serial (laid.image m old))
       (λ (new : Contains news m).
-          let at = from_map (with_copies (images ++ map (uncopied s ns now) added)) (map (uncopied s ns now) added) m new in
-          let by = from_map (uncopied s ns now) added at.0 at.1 in
-          let serial : by.0.serial ≡ m.serial = ap (λ (q : Linked). q.serial) by.2 ∙ ap (λ (q : Linked). q.serial) at.2 in
-          let home = changed_there id added root g all in
-          (home.0, home.1, subst (Has home.0) serial (home.3 by.0 by.1)))
+      let at = from_map (with_copies (images ++ map (uncopied s ns now) added)) (map (uncopied s ns now) added) m new in
+      let by = from_map (uncopied s ns now) added at.0 at.1 in
+      let serial : by.0.serial ≡ m.serial = ap (λ (q : Linked). q.serial) by.2 ∙ ap (λ (q : Linked). q.serial) at.2 in
+      let home = changed_there id added root g all in
+      (home.0, home.1, subst (Has home.0) serial (home.3 by.0 by.1)))
       (Contains-append_cases images news m there);
 }
   where
@@ -110,14 +111,16 @@ laid_map : (change : Namespace → Namespace) (each : Loaded → Loaded) → Lea
 laid_map change each leaves is all images laid = record {
   mapped = λ ms o there inside. each_mapped change all (λ n. Contains n.objects o → IsImageOf images o)
       (λ ns at h.
-          let q = from_map each ns.objects o (subst (λ (os : List Loaded). Contains os o) (is ns) h) in
-          let i = laid.mapped ns q.0 at q.1 in
-          subst (IsImageOf images) q.2 (record { image = i.image; there = i.there; serial = i.serial ∙ sym (leaves.serial q.0); object = i.object ∙ sym (leaves.object q.0); base = i.base ∙ sym (leaves.base q.0) }))
+      let q = from_map each ns.objects o (subst (λ (os : List Loaded). Contains os o) (is ns) h) in
+      let i = laid.mapped ns q.0 at q.1 in
+      subst (IsImageOf images) q.2 (record { image = i.image; there = i.there; serial = i.serial ∙ sym (leaves.serial q.0); object = i.object ∙ sym (leaves.object q.0); base = i.base ∙ sym (leaves.base q.0) }))
       ms there inside;
   image = λ m there.
-      let at = laid.image m there in
-      (change at.0, in_map change all at.0 at.1,
-      (each at.2.0, subst (λ (os : List Loaded). Contains os (each at.2.0)) (sym (is at.0)) (in_map each at.0.objects at.2.0 at.2.1), leaves.serial at.2.0 ∙ at.2.2));
+      let at = laid.image m there in (
+        change at.0,
+        in_map change all at.0 at.1,
+        (each at.2.0, subst (λ (os : List Loaded). Contains os (each at.2.0)) (sym (is at.0)) (in_map each at.0.objects at.2.0 at.2.1), leaves.serial at.2.0 ∙ at.2.2),
+      );
 }
 
 laid_lower : (handle : ℕ) (all : List Namespace) (images : List Linked) → Laid all images → Laid (map (lowered_in handle) all) images
@@ -132,9 +135,11 @@ leaves_dying hart set = record { serial = λ q. serial q (has set q.serial); obj
     serial : (q : Loaded) (t : Bool) → (if t then record q { state = states.Dying hart } else q).serial ≡ q.serial
     serial q true = refl
     serial q false = refl
+
     object : (q : Loaded) (t : Bool) → (if t then record q { state = states.Dying hart } else q).object ≡ q.object
     object q true = refl
     object q false = refl
+
     base : (q : Loaded) (t : Bool) → (if t then record q { state = states.Dying hart } else q).base ≡ q.base
     base q true = refl
     base q false = refl
@@ -158,9 +163,9 @@ laid_unmap : (set : List ℕ) (all : List Namespace) (images : List Linked) → 
 laid_unmap set all images laid = record {
   mapped = λ ms o there inside. each_left set all (λ n. Contains n.objects o → IsImageOf (filter (λ (m : Linked). not (has set m.serial)) images) o)
       (λ ns at h.
-          let was = from_filter (λ (q : Loaded). not (has set q.serial)) ns.objects o h in
-          let i = laid.mapped ns o at was.0 in
-          record { image = i.image; there = in_filter (λ (m : Linked). not (has set m.serial)) images i.image i.there (ap (λ (n : ℕ). not (has set n)) i.serial ∙ was.1); serial = i.serial; object = i.object; base = i.base })
+      let was = from_filter (λ (q : Loaded). not (has set q.serial)) ns.objects o h in
+      let i = laid.mapped ns o at was.0 in
+      record { image = i.image; there = in_filter (λ (m : Linked). not (has set m.serial)) images i.image i.there (ap (λ (n : ℕ). not (has set n)) i.serial ∙ was.1); serial = i.serial; object = i.object; base = i.base })
       ms there inside;
   image = λ m there.
       let kept = from_filter (λ (q : Linked). not (has set q.serial)) images m there in
@@ -209,13 +214,13 @@ laid_step s (events.Ended hart reason) laid = laid
 pub images_mapped : (m : Machine) (journal : List Event) → Lawful m journal → ImagesAreMapped (after journal)
 images_mapped m journal lawful =
     let laid : LaidIn (after journal) =
-        subst (λ (es : List Event). LaidIn (after es)) (take_all (length journal) journal (omega arith))
-        (by_history m LaidIn
-        (record {
-          mapped = λ ns o there inside. absurd (none_in o (subst (λ (n : Namespace). Contains n.objects o) (sym (only_in (empty_namespace 0) ns there)) inside));
-          image = λ i there. absurd (none_in i there);
-        })
-        (λ w past e same laid may. laid_step (after past) e laid) journal lawful (length journal)) in
+    subst (λ (es : List Event). LaidIn (after es)) (take_all (length journal) journal (omega arith))
+    (by_history m LaidIn
+    (record {
+      mapped = λ ns o there inside. absurd (none_in o (subst (λ (n : Namespace). Contains n.objects o) (sym (only_in (empty_namespace 0) ns there)) inside));
+      image = λ i there. absurd (none_in i there);
+    })
+    (λ w past e same laid may. laid_step (after past) e laid) journal lawful (length journal)) in
     record {
       mapped = λ ns o inside. laid.mapped ns o inside.there inside.inside;
       image = λ i there. let at = laid.image i there in record { namespace = at.0; object = at.2.0; there = at.1; inside = at.2.1; is = at.2.2 };

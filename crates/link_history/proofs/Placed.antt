@@ -1,7 +1,6 @@
 -- Each image has its range: its object's pages, where its base says.
-use Rattle.std.proofs.Common.{◌≡◌, ◌⊎◌, inl, inr, ⊎_elim, ℕ, Bool, true, false, not, List, [], ◌∷◌, ◌++◌, map, length, take, Option, Some, None, refl, sym, ap, subst, ◌∙◌, arith}
+use Rattle.std.proofs.Common.{◌≡◌, ⊎_elim, ℕ, Bool, not, List, [], ◌∷◌, ◌++◌, map, length, Option, Some, None, ap, subst, ◌∙◌, arith}
 use Rattle.std.specs.List.{Contains, filter}
-use Rattle.std.proofs.lemmas.Bool.{not-true}
 use Rattle.std.proofs.lemmas.List.{take_all}
 use Rattle.std.proofs.lemmas.List.Elements.{Contains-append_cases, Contains-append_left, Contains-append_right}
 use Rattle.ld_base.specs.declared.linking.Loaded.{Loaded}
@@ -58,8 +57,8 @@ given_pages free (o ∷ added) others [] left given based a h = absurd given
 given_pages free (o ∷ added) others (r ∷ ranges) left given based a h = ⊎_elim
     (λ (e : o ≡ a). subst (HasPages (r ∷ ranges)) e (record { range = r; there = here r ranges; purpose = given.0.purpose; pages = given.0.pages; base = based.0 }))
     (λ (i : Contains added a).
-        let rest = given_pages (without free r.address r.pages) added others ranges left given.1 based.1 a i in
-        record { range = rest.range; there = later r ranges rest.range rest.there; purpose = rest.purpose; pages = rest.pages; base = rest.base })
+    let rest = given_pages (without free r.address r.pages) added others ranges left given.1 based.1 a i in
+    record { range = rest.range; there = later r ranges rest.range rest.there; purpose = rest.purpose; pages = rest.pages; base = rest.base })
     (first_or_later o added a h)
 
 opens_pages : (w : Setting) (s : State) (hart : ℕ) (ask : OpenAsk) (id root : ℕ) (added : List Loaded) (ranges : List Range) (name : Option (List ℕ))
@@ -73,13 +72,13 @@ unfolding linked_with
 ranged_open s ns now added images old ranges has_pages ranged m there = ⊎_elim
     (λ (h : Contains images m). more_ranges old ranges m (ranged m h))
     (λ (h : Contains (map (with_copies (images ++ map (uncopied s ns now) added)) (map (uncopied s ns now) added)) m).
-        let at = from_map (with_copies (images ++ map (uncopied s ns now) added)) (map (uncopied s ns now) added) m h in
-        let by = from_map (uncopied s ns now) added at.0 at.1 in
-        let p = has_pages by.0 by.1 in
-        let first : IsRangeOf (old ++ ranges) (uncopied s ns now by.0) =
-            record { range = p.range; there = Contains-append_right old ranges p.range p.there; purpose = p.purpose; pages = p.pages; base = p.base } in
-        let made : IsRangeOf (old ++ ranges) at.0 = subst (IsRangeOf (old ++ ranges)) by.2 first in
-        subst (IsRangeOf (old ++ ranges)) at.2 (record { range = made.range; there = made.there; purpose = made.purpose; pages = made.pages; base = made.base }))
+    let at = from_map (with_copies (images ++ map (uncopied s ns now) added)) (map (uncopied s ns now) added) m h in
+    let by = from_map (uncopied s ns now) added at.0 at.1 in
+    let p = has_pages by.0 by.1 in
+    let first : IsRangeOf (old ++ ranges) (uncopied s ns now by.0) =
+    record { range = p.range; there = Contains-append_right old ranges p.range p.there; purpose = p.purpose; pages = p.pages; base = p.base } in
+    let made : IsRangeOf (old ++ ranges) at.0 = subst (IsRangeOf (old ++ ranges)) by.2 first in
+    subst (IsRangeOf (old ++ ranges)) at.2 (record { range = made.range; there = made.there; purpose = made.purpose; pages = made.pages; base = made.base }))
     (Contains-append_cases images (map (with_copies (images ++ map (uncopied s ns now) added)) (map (uncopied s ns now) added)) m there)
 
 -- ---- an unmapping

@@ -1,8 +1,8 @@
 -- Grants have the numbers from 1 on, and of a slot at most one is bound.
-use Rattle.std.proofs.Common.{◌≡◌, ◌≢◌, ◌⊎◌, inl, inr, ⊎_elim, ℕ, zero, suc, ◌+◌, ◌<◌, ◌≤◌, Bool, true, false, ◌&&◌, cond, eqb, List, [], ◌∷◌, ◌++◌, map, length, take, Option, Some, None, refl, sym, ap, subst, ◌∙◌, arith}
+use Rattle.std.proofs.Common.{◌≡◌, ◌⊎◌, inl, inr, ⊎_elim, ℕ, zero, suc, ◌+◌, Bool, true, false, ◌&&◌, eqb, List, [], ◌∷◌, ◌++◌, map, length, Some, None, refl, sym, ap, subst, ◌∙◌, arith}
 use Rattle.std.specs.Prelude.{if◌then◌else◌}
 use Rattle.std.specs.List.{Contains, slice_get}
-use Rattle.std.proofs.lemmas.Bool.{and_from, and_parts, cases_Bool, eq-eqb, eqb-true, true≢false}
+use Rattle.std.proofs.lemmas.Bool.{and_from, and_parts, eq-eqb, eqb-true}
 use Rattle.std.proofs.lemmas.List.{take_all}
 use Rattle.std.proofs.lemmas.List.Elements.{Contains-push_cases}
 use Rattle.link_event.specs.declared.event.CloseAnswer.{CloseAnswer}
@@ -20,15 +20,15 @@ use Rattle.link_event.specs.declared.state.Standing.{Standing}
 use Rattle.link_event.specs.declared.state.Standing.TheVariants as standings
 use Rattle.link_history.specs.State.{State}
 use Rattle.link_history.specs.After.{after}
-use Rattle.link_history.specs.Allowed.{AllowedIn, MayGrant}
-use Rattle.link_history.specs.Grants.{is_of, is_open, is_open_standing}
+use Rattle.link_history.specs.Allowed.{AllowedIn}
+use Rattle.link_history.specs.Grants.{is_open}
 use Rattle.link_history.specs.Laws.{GrantsAreTidy}
 use Rattle.link_history.specs.Legal.{Lawful}
 use Rattle.link_history.specs.Setting.{Machine, Setting}
-use Rattle.link_history.specs.Slots.{HasBound, MayBind, MayLose}
+use Rattle.link_history.specs.Slots.{MayBind}
 use Rattle.link_history.specs.Step.{die, initialise, loaded, lower, settled_as, step, unmap}
 use Rattle.link_history.proofs.History.{by_history}
-use Rattle.link_history.proofs.Lists.{first_or_later, from_map, here, none_in}
+use Rattle.link_history.proofs.Lists.{first_or_later, from_map, none_in}
 
 -- ---- places
 
