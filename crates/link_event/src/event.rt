@@ -145,12 +145,12 @@ pub enum Event {
         owner: Serial,
         address: u64,
     },
-    /// The object's constructors run next.
+    /// The object's constructors have run: it is ready.
     Init {
         hart: HartId,
         object: Serial,
     },
-    /// The object's destructors run next.
+    /// The object's destructors have run.
     Fini {
         hart: HartId,
         object: Serial,

@@ -2,10 +2,10 @@
 //!
 //! A journal is the list of a run's events. Each call of the linker that changes something, or is
 //! refused, appends one: an opening, a closing, an unmapping, a grant of a slot and its settling, a
-//! look-up, a block of thread-local storage, a constructor or destructor that is about to run, bytes
-//! written, a refusal told, and a hart's end. The state of the linker is a few lists, whose elements
-//! are plain types here too, so that a definition of the state and the code that keeps it hold the
-//! same lists.
+//! look-up, a block of thread-local storage, an object whose constructors or destructors have run,
+//! bytes written, a refusal told, and a hart's end. The state of the linker is a few lists, whose
+//! elements are plain types here too, so that a definition of the state and the code that keeps it
+//! hold the same lists.
 //!
 //! There is no code: a contract sees each type as the record of its fields.
 #![tactic(auto)]
