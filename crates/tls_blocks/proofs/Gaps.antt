@@ -6,7 +6,7 @@ use Rattle.std.proofs.lemmas.List.{append-nil, get_or-take, get_or-drop, length-
 use Rattle.std.proofs.lemmas.List.Elements.{All-append, All-cons, All-filter, All-weaker, Contains-get_or, filter-append, filter_passes}
 use Rattle.std.proofs.lemmas.List.Kept.{AllPairs-cons, AllPairs-filter}
 use Rattle.link_event.specs.declared.state.Module.{Module}
-use Rattle.tls_blocks.specs.Numbers.{AreNumbered, HasGapAt, IsLeastFree, IsTaken, number_of, with_module, without_module}
+use Rattle.tls_blocks.specs.Numbers.{AreNumbered, HasGapAt, IsLeastFree, IsTaken, number_of, with_module}
 use Rattle.tls_blocks.proofs.Parts.{filter_all, filter_none, pairs_join}
 
 -- numbers rise at least as fast as places
@@ -127,8 +127,8 @@ numbered_with ms m numbered positive =
           (AllPairs-cons Before m highs after (AllPairs-filter Before above ms numbered.rising)) across;
     }
 
-pub numbered_without : (ms : List Module) (number : ℕ) → AreNumbered ms → AreNumbered (without_module number ms)
-numbered_without ms number numbered = record {
-  positive = All-filter _ (λ x. 1 ≤ number_of x) ms numbered.positive;
-  rising = AllPairs-filter Before _ ms numbered.rising;
+pub numbered_filter : (keep : Module → Bool) (ms : List Module) → AreNumbered ms → AreNumbered (filter keep ms)
+numbered_filter keep ms numbered = record {
+  positive = All-filter keep (λ x. 1 ≤ number_of x) ms numbered.positive;
+  rising = AllPairs-filter Before keep ms numbered.rising;
 }

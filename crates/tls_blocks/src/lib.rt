@@ -7,8 +7,10 @@
 #![tactic(auto)]
 
 mod dtv;
+mod law;
 mod modules;
 mod placing;
 
 pub use dtv::{Dtv, Entry, TlsAnswer};
+pub use law::modules_stay_numbered;
 pub use modules::TlsModules;
