@@ -28,9 +28,10 @@ use Rattle.link_history.proofs.Opened.{Before, members}
 abbrev pub joined : Namespace → List Loaded → Namespace
 joined b added = record b { objects = b.objects ++ added }
 
--- what is known of new objects: their serials are new, and what they found, and the root, stays
+-- what is known of new objects: their serials are new, each another, and what they found, and the root, stays
 pub record Arrived (c : Core) (b : Namespace) (added : List Loaded) (root : ℕ) : Type 0 where
   pub fresh : (a : Loaded) → Contains added a → (c.next ≤ a.serial) × (a.serial < c.next + length added)
+  pub one : (a e : Loaded) → Contains added a → Contains added e → a.serial ≡ e.serial → a ≡ e
   pub found : (a : Loaded) (d : ℕ) → Contains added a → Contains a.found d → Stays c.closings (joined b added) d
   pub root_is : Stays c.closings (joined b added) root
   pub alive : (a : Loaded) → Contains added a → is_dying a ≡ false
@@ -64,13 +65,13 @@ module _ (c : Core) (good : Good c) (id root : ℕ) (g : Bool) (added : List Loa
       before.was
 
   -- an object of the namespace was there, or is new
-  old_in : (o : Loaded) → Contains b.objects o → Contains c.namespaces b
+  pub old_in : (o : Loaded) → Contains b.objects o → Contains c.namespaces b
   old_in o h = ⊎_elim
       (λ (there : Contains c.namespaces b). there)
       (λ (e : b ≡ empty_namespace id). absurd (none_in o (subst (λ (n : Namespace). Contains n.objects o) e h)))
       before.was
 
-  old_low : (o : Loaded) → Contains b.objects o → o.serial < c.next
+  pub old_low : (o : Loaded) → Contains b.objects o → o.serial < c.next
   old_low o h = good.low b o (old_in o h, h)
 
   sound_joined : Sound c.closings (joined b added)

@@ -55,6 +55,34 @@ length_range : (from n : ℕ) → length (range_with_len from n) ≡ n
 length_range from zero = refl
 length_range from (suc n) = ap suc (length_range (from + 1) n)
 
+-- values that follow one another are each of one element
+ranged_one : (from n : ℕ) (xs : List Loaded) → map serial_of xs ≡ range_with_len from n → (x y : Loaded) → Contains xs x → Contains xs y → x.serial ≡ y.serial → x ≡ y
+ranged_one from n [] e x y first second same = absurd (none_in x first)
+ranged_one from zero (z ∷ xs) e x y first second same = absurd cc
+ranged_one from (suc n) (z ∷ xs) e x y first second same = ⊎_elim
+    (λ (a : z ≡ x). ⊎_elim
+    (λ (b : z ≡ y). sym a ∙ b)
+    (λ (j : Contains xs y). absurd (later_not y j (ap serial_of a ∙ same)))
+    (first_or_later z xs y second))
+    (λ (i : Contains xs x). ⊎_elim
+    (λ (b : z ≡ y). absurd (later_not x i (ap serial_of b ∙ sym same)))
+    (λ (j : Contains xs y). ranged_one (from + 1) n xs rest x y i j same)
+    (first_or_later z xs y second))
+    (first_or_later z xs x first)
+  where
+    first_is : z.serial ≡ from
+    first_is = cc
+
+    rest : map serial_of xs ≡ range_with_len (from + 1) n
+    rest = cc
+
+    later_not : (q : Loaded) → Contains xs q → z.serial ≡ q.serial → ⊥
+    later_not q h is =
+        let r = in_range (from + 1) n q.serial (subst (λ (ns : List ℕ). Contains ns q.serial) rest (in_map serial_of xs q h)) in
+        let low : from + 1 ≤ q.serial = r.0 in
+        let at : z.serial ≡ from = first_is in
+        omega (arith, low, is, at)
+
 -- an object that a hart may use isn't dying
 usable : (hart serial : ℕ) (o : Loaded) (doing : Doing) → use_in hart o doing ≡ leads serial → (o.serial ≡ serial) × ((elim doing [ states.Dying k ↦ true | _ ↦ false ]) ≡ false)
 usable hart serial o (states.Initialising h) e = (by (eqb h hart) e, refl)
@@ -118,6 +146,14 @@ module _ (laws : LoadLaws) (w : Setting) (s : State) (good : Good (core s)) (har
       let same : length walk.news ≡ length added = as_many in
       (low, omega (arith, high, same))
 
+  serials_are : (os : List Loaded) → map serial_of (map unplaced os) ≡ map serial_of os
+  serials_are [] = refl
+  serials_are (o ∷ os) = ap (λ (ns : List ℕ). o.serial ∷ ns) (serials_are os)
+
+  one : (a e : Loaded) → Contains added a → Contains added e → a.serial ≡ e.serial → a ≡ e
+  one = ranged_one s.next (length walk.news) added
+      (sym (serials_are added) ∙ ap (map serial_of) placed ∙ laws.serials load (is_deepbind ask.flags) walk)
+
   stays : (d : ℕ) → Stands load (load.there ++ news) d → Stays s.closings (joined b added) d
   stays d stands = ⊎_elim
       (λ (e : d ≡ 0). inl e)
@@ -152,6 +188,7 @@ module _ (laws : LoadLaws) (w : Setting) (s : State) (good : Good (core s)) (har
   pub arrived : Arrived (core s) b added root
   arrived = record {
     fresh = fresh;
+    one = one;
     found = λ a d h f. stays d (all_at (Stands load (load.there ++ news)) a.found d
         (all_at (λ (o : Loaded). AllByRecursion (Stands load (load.there ++ news)) o.found) news (unplaced a) (laws.founds load (is_deepbind ask.flags) walk loads.finds.brings) (is_news a h)) f);
     root_is = stays root (all_at (Stands load (load.there ++ news)) walk.leads root (laws.leads load (is_deepbind ask.flags) walk loads.finds.brings) (at_in walk.leads 0 root loads.finds.root_is));
@@ -162,6 +199,7 @@ module _ (laws : LoadLaws) (w : Setting) (s : State) (good : Good (core s)) (har
 pub arrived_program : (s : State) → Good (core s) → (root : ℕ) (added : List Loaded) (ranges : List Range) → OpensProgram s root added ranges → Arrived (core s) (namespace_before s 0) added root
 arrived_program s good root added ranges opens = record {
   fresh = λ a h. absurd (none_in a (subst (λ (os : List Loaded). Contains os a) opens.none h));
+  one = λ a e h. absurd (none_in a (subst (λ (os : List Loaded). Contains os a) opens.none h));
   found = λ a d h f. absurd (none_in a (subst (λ (os : List Loaded). Contains os a) opens.none h));
   root_is = inr ((opens.stands.object, Contains-append_left (namespace_before s 0).objects added opens.stands.object opens.stands.inside, is), free);
   alive = λ a h. absurd (none_in a (subst (λ (os : List Loaded). Contains os a) opens.none h));

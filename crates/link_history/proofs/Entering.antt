@@ -8,8 +8,6 @@ use Rattle.std.proofs.lemmas.List.Elements.{Contains-append_cases, Contains-appe
 use Rattle.ld_base.specs.declared.linking.Choice.{Choice}
 use Rattle.ld_base.specs.declared.linking.Choice.TheVariants.{Def, WeakZero, Missing}
 use Rattle.ld_base.specs.declared.linking.Loaded.{Loaded}
-use Rattle.ld_base.specs.declared.linking.State.{State as Doing}
-use Rattle.ld_base.specs.declared.linking.State.TheVariants as states
 use Rattle.link_event.specs.declared.event.Event.{Event}
 use Rattle.link_event.specs.declared.state.Granting.{Granting}
 use Rattle.link_event.specs.declared.state.Standing.TheVariants.{Open}
@@ -17,10 +15,10 @@ use Rattle.scope_rule.specs.Opening.{opened}
 use Rattle.scope_rule.specs.declared.namespace.Namespace.{Namespace}
 use Rattle.link_history.specs.State.{State, empty_namespace}
 use Rattle.link_history.specs.Addresses.{address, is_code_in, is_code_of, is_linkers_page, leads_to_code}
-use Rattle.link_history.specs.Objects.{has, has_id, mapped, object_at}
+use Rattle.link_history.specs.Objects.{has, has_id, mapped, object_at, serial_of}
 use Rattle.link_history.specs.Flags.{is_global}
 use Rattle.link_history.specs.Grants.{target_of}
-use Rattle.link_history.specs.Step.{changed_at, die, dying_in, dying_object, gone_in, initialise, is_left, loaded, lower, lowered_in, namespace_before, ready_in, ready_object, ready_state, unmap, with_namespace}
+use Rattle.link_history.specs.Step.{changed_at, die, dying_in, dying_object, gone_in, initialise, is_left, loaded, lower, lowered_in, namespace_before, ready_in, ready_object, unmap, with_namespace}
 use Rattle.link_history.specs.After.{after}
 use Rattle.link_history.specs.Laws.{EntersBy, SlotsEnterCode}
 use Rattle.link_history.specs.Legal.{Lawful}
@@ -28,6 +26,7 @@ use Rattle.link_history.specs.Setting.{Machine}
 use Rattle.link_history.proofs.Lists.{found_in, from_flat, has_in, here, in_filter, in_map, none_in}
 use Rattle.link_history.proofs.Good.{Along, Core, Good, Has, Keeps, core, each_mapped, is_live}
 use Rattle.link_history.proofs.Granted.{was_there}
+use Rattle.link_history.proofs.Changed.{Leaves, leaves_dying, leaves_ready}
 use Rattle.link_history.proofs.Dying.{keeps_dying, keeps_lowered, keeps_ready}
 use Rattle.link_history.proofs.Closed.{each_left, stayed}
 use Rattle.link_history.proofs.Opened.{before_of, members}
@@ -38,16 +37,16 @@ use Rattle.link_history.proofs.Dangling.{Mapped, left_nonempty, lives}
 
 -- ---- code of a mapped object
 
-abbrev Code : List Namespace → ℕ → ℕ → Type 0
+abbrev pub Code : List Namespace → ℕ → ℕ → Type 0
 Code all d v = (ns : Namespace) × (o : Loaded) × Contains all ns × Contains ns.objects o × (o.serial ≡ d) × (is_code_in o v ≡ true)
 
 -- the value of a choice enters code of a mapped object, or the linker's page, or is 0
-abbrev Enters : List Namespace → Choice → ℕ → Type 0
+abbrev pub Enters : List Namespace → Choice → ℕ → Type 0
 Enters all (Def serial index) v = ((serial ≡ 0) × (is_linkers_page v ≡ true)) ⊎ Code all serial v
 Enters all WeakZero v = v ≡ 0
 Enters all Missing v = ⊥
 
-enters_more : (all more : List Namespace) (choice : Choice) (v : ℕ) → ((d : ℕ) → Contains (target_of choice) d → Code all d v → Code more d v) → Enters all choice v → Enters more choice v
+pub enters_more : (all more : List Namespace) (choice : Choice) (v : ℕ) → ((d : ℕ) → Contains (target_of choice) d → Code all d v → Code more d v) → Enters all choice v → Enters more choice v
 enters_more all more (Def serial index) v keeps enters = ⊎_elim
     (λ (h : (serial ≡ 0) × (is_linkers_page v ≡ true)). inl h)
     (λ (h : Code all serial v). inr (keeps serial (here serial []) h))
@@ -57,51 +56,20 @@ enters_more all more Missing v keeps enters = enters
 
 -- ---- changes of namespaces
 
--- a change that leaves each object, its serial and where it lies
-record Places (change : Loaded → Loaded) : Type 0 where
-  serial : (q : Loaded) → (change q).serial ≡ q.serial
-  code : (q : Loaded) (v : ℕ) → is_code_in (change q) v ≡ is_code_in q v
-
-code_by : (change : Namespace → Namespace) (each : Loaded → Loaded) → Places each → ((ns : Namespace) → (change ns).objects ≡ map each ns.objects)
+pub code_by : (change : Namespace → Namespace) (each : Loaded → Loaded) → Leaves each → ((ns : Namespace) → (change ns).objects ≡ map each ns.objects)
     → (all : List Namespace) (d v : ℕ) → Code all d v → Code (map change all) d v
-code_by change each places is all d v c = (
+code_by change each leaves is all d v c = (
   change c.0,
   each c.1,
   in_map change all c.0 c.2,
   subst (λ (os : List Loaded). Contains os (each c.1)) (sym (is c.0)) (in_map each c.0.objects c.1 c.3),
-  places.serial c.1 ∙ c.4,
-  places.code c.1 v ∙ c.5,
+  ap serial_of (leaves c.1).1 ∙ c.4,
+  ap (λ (q : Loaded). is_code_in q v) (leaves c.1).1 ∙ c.5,
 )
 
 mapped_back : (change : Namespace → Namespace) → Keeps change → (all : List Namespace) (d : ℕ) → Mapped (map change all) d → Mapped all d
 mapped_back change keeps all d m = each_mapped change all (λ n. Has n d → Mapped all d)
     (λ ns there h. let q = keeps.back ns h.0 h.1 in (ns, there, (q.0, q.1, q.2 ∙ h.2))) m.0 m.1 m.2
-
-places_dying : (hart : ℕ) (set : List ℕ) → Places (dying_object hart set)
-places_dying hart set = record { serial = λ q. serial q (has set q.serial); code = λ q v. code q v (has set q.serial) }
-  where
-    serial : (q : Loaded) (t : Bool) → (if t then record q { state = states.Dying hart } else q).serial ≡ q.serial
-    serial q true = refl
-    serial q false = refl
-
-    code : (q : Loaded) (v : ℕ) (t : Bool) → is_code_in (if t then record q { state = states.Dying hart } else q) v ≡ is_code_in q v
-    code q v true = refl
-    code q v false = refl
-
-abbrev made_ready : Loaded → Doing → Loaded
-made_ready q doing = elim doing [ states.Initialising k ↦ record q { state = states.Ready } | other ↦ q ]
-
-ready_places : (q : Loaded) (doing : Doing) → ((made_ready q doing).serial ≡ q.serial) × ((v : ℕ) → is_code_in (made_ready q doing) v ≡ is_code_in q v)
-ready_places q (states.Initialising k) = (refl, λ v. refl)
-ready_places q states.Ready = (refl, λ v. refl)
-ready_places q (states.Dying k) = (refl, λ v. refl)
-
-places_ready : (object : ℕ) → Places (ready_object object)
-places_ready object = record { serial = λ q. (at q (eqb q.serial object)).0; code = λ q v. (at q (eqb q.serial object)).1 v }
-  where
-    at : (q : Loaded) (t : Bool) → ((if t then ready_state q else q).serial ≡ q.serial) × ((v : ℕ) → is_code_in (if t then ready_state q else q) v ≡ is_code_in q v)
-    at q true = ready_places q q.state
-    at q false = (refl, λ v. refl)
 
 -- ---- the law
 
@@ -125,7 +93,7 @@ mapped_before s id root g added good came d low m = ⊎_elim
         (λ (i : Contains added h.0). absurd (let from : s.next ≤ h.0.serial = (came.fresh h.0 i).0 in let is : h.0.serial ≡ d = h.2 in omega (arith, from, is, low)))
         (Contains-append_cases (namespace_before s id).objects added h.0 h.1)
 
-code_open : (id root : ℕ) (g : Bool) (added : List Loaded) (all : List Namespace) (d v : ℕ) → Code all d v → Code (with_namespace id (λ n. opened n added root g) all) d v
+pub code_open : (id root : ℕ) (g : Bool) (added : List Loaded) (all : List Namespace) (d v : ℕ) → Code all d v → Code (with_namespace id (λ n. opened n added root g) all) d v
 code_open id root g added all d v c = by (list_any (has_id id) all)
   where
     still : (t : Bool) → Contains (if t then opened c.0 added root g else c.0).objects c.1
@@ -136,7 +104,7 @@ code_open id root g added all d v c = by (list_any (has_id id) all)
     by true = (changed_at id (λ n. opened n added root g) c.0, c.1, in_map (changed_at id (λ n. opened n added root g)) all c.0 c.2, still (has_id id c.0), c.4, c.5)
     by false = (c.0, c.1, Contains-append_left all (opened (empty_namespace id) added root g ∷ []) c.0 c.2, c.3, c.4, c.5)
 
-code_unmap : (set : List ℕ) (all : List Namespace) (d v : ℕ) → (Contains set d → ⊥) → Code all d v → Code (filter is_left (map (gone_in set) all)) d v
+pub code_unmap : (set : List ℕ) (all : List Namespace) (d v : ℕ) → (Contains set d → ⊥) → Code all d v → Code (filter is_left (map (gone_in set) all)) d v
 code_unmap set all d v out c =
     let kept : Contains (gone_in set c.0).objects c.1 = in_filter (λ (o : Loaded). not (has set o.serial)) c.0.objects c.1 c.3 (ap not (none (has set c.1.serial) refl)) in
     (gone_in set c.0, c.1, in_filter is_left (map (gone_in set) all) (gone_in set c.0) (in_map (gone_in set) all c.0 c.2) (left_nonempty (gone_in set c.0) c.1.serial (c.1, kept, refl)), kept, c.4, c.5)
@@ -158,12 +126,19 @@ code_of : (s : State) (serial v : ℕ) (t : Bool) → eqb serial 0 ≡ t → (if
 code_of s serial v true e code = inl (eqb-true serial 0 e, code)
 code_of s serial v false e code = inr (code_there s serial v (object_at s serial) refl code)
 
-grant_enters : (s : State) (lazy : ℕ) (choice : Choice) → leads_to_code s lazy choice ≡ true → Enters s.namespaces choice (address s choice)
+pub grant_enters : (s : State) (lazy : ℕ) (choice : Choice) → leads_to_code s lazy choice ≡ true → Enters s.namespaces choice (address s choice)
 unfolding leads_to_code is_code_of address
 grant_enters s lazy (Def serial index) code =
     code_of s serial _ (eqb serial 0) refl (and_parts _ _ code).0
 grant_enters s lazy WeakZero code = refl
 grant_enters s lazy Missing code = absurd (true≢false (sym code))
+
+-- a lowered opening changes no object
+pub code_lowered : (handle : ℕ) (all : List Namespace) (d v : ℕ) → Code all d v → Code (map (lowered_in handle) all) d v
+code_lowered handle all d v c = (lowered_in handle c.0, c.1, in_map (lowered_in handle) all c.0 c.2, c.3, c.4, c.5)
+
+pub no_zero : (s : State) → Good (core s) → (d v : ℕ) → Code s.namespaces d v → d ≡ 0 → ⊥
+no_zero s good d v c e = let some : 1 ≤ c.1.serial = good.some c.0 c.1 (c.2, c.3) in let is : c.1.serial ≡ d = c.4 in omega (arith, some, is, e)
 
 entering_law : Law Entering
 unfolding loaded die lower unmap initialise
@@ -174,7 +149,7 @@ entering_law = record {
       (enters g there live (mapped_before s id root (is_global ask.flags) added good came g.owner (good.grants_low g there) m));
   closes = λ s hart handle set good enters closes g there live m.
       enters_more s.namespaces (map (dying_in hart set) (map (lowered_in handle) s.namespaces)) g.choice g.value
-      (λ d h c. code_by (dying_in hart set) (dying_object hart set) (places_dying hart set) (λ ns. refl) (map (lowered_in handle) s.namespaces) d g.value
+      (λ d h c. code_by (dying_in hart set) (dying_object hart set) (leaves_dying hart set) (λ ns. refl) (map (lowered_in handle) s.namespaces) d g.value
       (code_lowered handle s.namespaces d g.value c))
       (enters g there live (mapped_back (lowered_in handle) (keeps_lowered handle) s.namespaces g.owner
       (mapped_back (dying_in hart set) (keeps_dying hart set) (map (lowered_in handle) s.namespaces) g.owner m)));
@@ -198,22 +173,16 @@ entering_law = record {
       (subst (λ (q : Choice). Enters s.namespaces q old.0.value) old.2.choice (enters old.0 old.1 (old.2.live live) (subst (Mapped s.namespaces) (sym old.2.owner) m)));
   initialises = λ s object good enters g there live m.
       enters_more s.namespaces (map (ready_in object) s.namespaces) g.choice g.value
-      (λ d h c. code_by (ready_in object) (ready_object object) (places_ready object) (λ ns. refl) s.namespaces d g.value c)
+      (λ d h c. code_by (ready_in object) (ready_object object) (leaves_ready object) (λ ns. refl) s.namespaces d g.value c)
       (enters g there live (mapped_back (ready_in object) (keeps_ready object) s.namespaces g.owner m));
 }
   where
-    code_lowered : (handle : ℕ) (all : List Namespace) (d v : ℕ) → Code all d v → Code (map (lowered_in handle) all) d v
-    code_lowered handle all d v c = (lowered_in handle c.0, c.1, in_map (lowered_in handle) all c.0 c.2, c.3, c.4, c.5)
-
-    no_zero : (s : State) → Good (core s) → (d v : ℕ) → Code s.namespaces d v → d ≡ 0 → ⊥
-    no_zero s good d v c e = let some : 1 ≤ c.1.serial = good.some c.0 c.1 (c.2, c.3) in let is : c.1.serial ≡ d = c.4 in omega (arith, some, is, e)
-
     unmapped_back : (set : List ℕ) (all : List Namespace) (d : ℕ) → Mapped (filter is_left (map (gone_in set) all)) d → Mapped all d × (Contains set d → ⊥)
     unmapped_back set all d m = each_left set all (λ n. Has n d → Mapped all d × (Contains set d → ⊥))
         (λ ns there h. let was = stayed set ns h.0 h.1 in ((ns, there, (h.0, was.0, h.2)), λ (i : Contains set d). was.1 (subst (Contains set) (sym h.2) i)))
         m.0 m.1 m.2
 
-enters_by : (s : State) (choice : Choice) (v : ℕ) → Enters s.namespaces choice v → EntersBy s choice v
+pub enters_by : (s : State) (choice : Choice) (v : ℕ) → Enters s.namespaces choice v → EntersBy s choice v
 enters_by s (Def serial index) v enters = ⊎_elim
     (λ (h : (serial ≡ 0) × (is_linkers_page v ≡ true)). inl h)
     (λ (c : Code s.namespaces serial v). inr (record { namespace = c.0; object = c.1; inside = record { there = c.2; inside = c.3 }; is = c.4; code = c.5 }))

@@ -1,13 +1,11 @@
 -- Each mapped object has its image, and each image is of a mapped object.
-use Rattle.std.proofs.Common.{◌≡◌, ◌⊎◌, inl, inr, ⊎_elim, ℕ, Bool, true, false, not, eqb, List, [], ◌∷◌, ◌++◌, map, length, refl, sym, ap, subst, ◌∙◌, arith}
+use Rattle.std.proofs.Common.{◌≡◌, ◌⊎◌, inl, inr, ⊎_elim, ℕ, Bool, true, false, not, List, [], ◌∷◌, ◌++◌, map, length, refl, sym, ap, subst, ◌∙◌, arith}
 use Rattle.std.specs.Prelude.{if◌then◌else◌}
 use Rattle.std.specs.List.{Contains, filter, list_any}
-use Rattle.std.proofs.lemmas.Bool.{not-true}
+use Rattle.std.proofs.lemmas.Bool.{not-true, true≢false}
 use Rattle.std.proofs.lemmas.List.{take_all}
 use Rattle.std.proofs.lemmas.List.Elements.{Contains-append_cases, Contains-append_left, Contains-append_right, Contains-push_cases}
 use Rattle.ld_base.specs.declared.linking.Loaded.{Loaded}
-use Rattle.ld_base.specs.declared.linking.State.{State as Doing}
-use Rattle.ld_base.specs.declared.linking.State.TheVariants as states
 use Rattle.link_event.specs.declared.event.CloseAnswer.{CloseAnswer}
 use Rattle.link_event.specs.declared.event.CloseAnswer.TheVariants as closes
 use Rattle.link_event.specs.declared.event.Event.{Event}
@@ -27,12 +25,13 @@ use Rattle.link_history.specs.Bound.{linked_with, uncopied, with_copies}
 use Rattle.link_history.specs.Flags.{is_global}
 use Rattle.link_history.specs.Laws.{ImagesAreMapped, IsImageOf}
 use Rattle.link_history.specs.Legal.{Lawful}
-use Rattle.link_history.specs.Objects.{has, has_id}
+use Rattle.link_history.specs.Objects.{has, has_id, serial_of}
 use Rattle.link_history.specs.Setting.{Machine}
-use Rattle.link_history.specs.Step.{binds, changed_at, die, dying_in, dying_object, gone_in, initialise, is_left, loaded, lower, lowered_in, ready_in, ready_object, ready_state, seen_after, step, unmap, with_namespace}
+use Rattle.link_history.specs.Step.{binds, changed_at, die, dying_in, dying_object, gone_in, initialise, is_left, loaded, lower, lowered_in, ready_in, ready_object, seen_after, step, unmap, with_namespace}
 use Rattle.link_history.proofs.History.{by_history}
-use Rattle.link_history.proofs.Lists.{from_filter, from_map, has_not, in_filter, in_map, none_in, only_in}
+use Rattle.link_history.proofs.Lists.{any_in, from_filter, from_map, has_not, here, in_filter, in_map, none_in, only_in}
 use Rattle.link_history.proofs.Good.{Has, each_mapped}
+use Rattle.link_history.proofs.Changed.{Leaves, leaves_dying, leaves_ready}
 use Rattle.link_history.proofs.Closed.{each_left}
 use Rattle.link_history.proofs.Dangling.{Mapped, mapped_open, mapped_unmap}
 use Rattle.link_history.proofs.Startup.{changed_there}
@@ -47,7 +46,7 @@ more_images images more o i = record { image = i.image; there = Contains-append_
 -- ---- an opening
 
 -- an object of a namespace after was there, or is new
-objects_open : (id : ℕ) (added : List Loaded) (root : ℕ) (g : Bool) (all : List Namespace) (ns : Namespace) (o : Loaded)
+pub objects_open : (id : ℕ) (added : List Loaded) (root : ℕ) (g : Bool) (all : List Namespace) (ns : Namespace) (o : Loaded)
     → Contains (with_namespace id (λ n. opened n added root g) all) ns → Contains ns.objects o → ((ms : Namespace) × Contains all ms × Contains ms.objects o) ⊎ Contains added o
 objects_open id added root g all ns o there inside = by (list_any (has_id id) all) there
   where
@@ -70,6 +69,35 @@ objects_open id added root g all ns o there inside = by (list_any (has_id id) al
         (λ (i : Contains all ns). inl (ns, i, inside))
         (λ (e : opened (empty_namespace id) added root g ≡ ns). inr (subst (λ (n : Namespace). Contains n.objects o) (sym e) inside))
         (Contains-push_cases all (opened (empty_namespace id) added root g) ns h)
+
+-- and each is there: one that was, and a new one
+pub reached_open : (id : ℕ) (added : List Loaded) (root : ℕ) (g : Bool) (all : List Namespace)
+    → ((ns : Namespace) (o : Loaded) → Contains all ns → Contains ns.objects o → (ms : Namespace) × Contains (with_namespace id (λ n. opened n added root g) all) ms × Contains ms.objects o)
+    × ((o : Loaded) → Contains added o → (ms : Namespace) × Contains (with_namespace id (λ n. opened n added root g) all) ms × Contains ms.objects o)
+reached_open id added root g all = by (list_any (has_id id) all) refl
+  where
+    kept : (ns : Namespace) (o : Loaded) → Contains ns.objects o → (t : Bool) → Contains (if t then opened ns added root g else ns).objects o
+    kept ns o h true = Contains-append_left ns.objects added o h
+    kept ns o h false = h
+
+    changed : (ns : Namespace) (o : Loaded) → Contains added o → (t : Bool) → t ≡ true → Contains (if t then opened ns added root g else ns).objects o
+    changed ns o h true e = Contains-append_right ns.objects added o h
+    changed ns o h false e = absurd (true≢false (sym e))
+
+    by : (t : Bool) → list_any (has_id id) all ≡ t
+        → ((ns : Namespace) (o : Loaded) → Contains all ns → Contains ns.objects o
+        → (ms : Namespace) × Contains (if t then map (changed_at id (λ n. opened n added root g)) all else all ++ opened (empty_namespace id) added root g ∷ []) ms × Contains ms.objects o)
+        × ((o : Loaded) → Contains added o
+        → (ms : Namespace) × Contains (if t then map (changed_at id (λ n. opened n added root g)) all else all ++ opened (empty_namespace id) added root g ∷ []) ms × Contains ms.objects o)
+    by true e = (
+      λ ns o there inside. (changed_at id (λ n. opened n added root g) ns, in_map (changed_at id (λ n. opened n added root g)) all ns there, kept ns o inside (has_id id ns)),
+      λ o new. let at = any_in (has_id id) all e in
+          (changed_at id (λ n. opened n added root g) at.0, in_map (changed_at id (λ n. opened n added root g)) all at.0 at.1, changed at.0 o new (has_id id at.0) at.2),
+    )
+    by false e = (
+      λ ns o there inside. (ns, Contains-append_left all (opened (empty_namespace id) added root g ∷ []) ns there, inside),
+      λ o new. (opened (empty_namespace id) added root g, Contains-append_right all (opened (empty_namespace id) added root g ∷ []) _ (here _ []), new),
+    )
 
 laid_open : (s : State) (ns : Seen) (now : Bool) (id root : ℕ) (g : Bool) (added : List Loaded) (all : List Namespace) (images : List Linked) → Laid all images
     → Laid (with_namespace id (λ n. opened n added root g) all) (images ++ linked_with images (map (uncopied s ns now) added))
@@ -101,11 +129,6 @@ laid_open s ns now id root g added all images laid = record {
 
 -- ---- changes in place
 
-record Leaves (each : Loaded → Loaded) : Type 0 where
-  serial : (q : Loaded) → (each q).serial ≡ q.serial
-  object : (q : Loaded) → (each q).object ≡ q.object
-  base : (q : Loaded) → (each q).base ≡ q.base
-
 laid_map : (change : Namespace → Namespace) (each : Loaded → Loaded) → Leaves each → ((ns : Namespace) → (change ns).objects ≡ map each ns.objects)
     → (all : List Namespace) (images : List Linked) → Laid all images → Laid (map change all) images
 laid_map change each leaves is all images laid = record {
@@ -113,13 +136,13 @@ laid_map change each leaves is all images laid = record {
       (λ ns at h.
       let q = from_map each ns.objects o (subst (λ (os : List Loaded). Contains os o) (is ns) h) in
       let i = laid.mapped ns q.0 at q.1 in
-      subst (IsImageOf images) q.2 (record { image = i.image; there = i.there; serial = i.serial ∙ sym (leaves.serial q.0); object = i.object ∙ sym (leaves.object q.0); base = i.base ∙ sym (leaves.base q.0) }))
+      subst (IsImageOf images) (sym (leaves q.0).1 ∙ q.2) (record { image = i.image; there = i.there; serial = i.serial; object = i.object; base = i.base }))
       ms there inside;
   image = λ m there.
       let at = laid.image m there in (
         change at.0,
         in_map change all at.0 at.1,
-        (each at.2.0, subst (λ (os : List Loaded). Contains os (each at.2.0)) (sym (is at.0)) (in_map each at.0.objects at.2.0 at.2.1), leaves.serial at.2.0 ∙ at.2.2),
+        (each at.2.0, subst (λ (os : List Loaded). Contains os (each at.2.0)) (sym (is at.0)) (in_map each at.0.objects at.2.0 at.2.1), ap serial_of (leaves at.2.0).1 ∙ at.2.2),
       );
 }
 
@@ -128,36 +151,6 @@ laid_lower handle all images laid = record {
   mapped = λ ms o there inside. each_mapped (lowered_in handle) all (λ n. Contains n.objects o → IsImageOf images o) (λ ns at h. laid.mapped ns o at h) ms there inside;
   image = λ m there. let at = laid.image m there in (lowered_in handle at.0, in_map (lowered_in handle) all at.0 at.1, at.2);
 }
-
-leaves_dying : (hart : ℕ) (set : List ℕ) → Leaves (dying_object hart set)
-leaves_dying hart set = record { serial = λ q. serial q (has set q.serial); object = λ q. object q (has set q.serial); base = λ q. base q (has set q.serial) }
-  where
-    serial : (q : Loaded) (t : Bool) → (if t then record q { state = states.Dying hart } else q).serial ≡ q.serial
-    serial q true = refl
-    serial q false = refl
-
-    object : (q : Loaded) (t : Bool) → (if t then record q { state = states.Dying hart } else q).object ≡ q.object
-    object q true = refl
-    object q false = refl
-
-    base : (q : Loaded) (t : Bool) → (if t then record q { state = states.Dying hart } else q).base ≡ q.base
-    base q true = refl
-    base q false = refl
-
-abbrev made : Loaded → Doing → Loaded
-made q doing = elim doing [ states.Initialising k ↦ record q { state = states.Ready } | other ↦ q ]
-
-made_leaves : (q : Loaded) (doing : Doing) → ((made q doing).serial ≡ q.serial) × ((made q doing).object ≡ q.object) × ((made q doing).base ≡ q.base)
-made_leaves q (states.Initialising k) = (refl, refl, refl)
-made_leaves q states.Ready = (refl, refl, refl)
-made_leaves q (states.Dying k) = (refl, refl, refl)
-
-leaves_ready : (serial : ℕ) → Leaves (ready_object serial)
-leaves_ready serial = record { serial = λ q. (at q (eqb q.serial serial)).0; object = λ q. (at q (eqb q.serial serial)).1; base = λ q. (at q (eqb q.serial serial)).2 }
-  where
-    at : (q : Loaded) (t : Bool) → ((if t then ready_state q else q).serial ≡ q.serial) × ((if t then ready_state q else q).object ≡ q.object) × ((if t then ready_state q else q).base ≡ q.base)
-    at q true = made_leaves q q.state
-    at q false = (refl, refl, refl)
 
 laid_unmap : (set : List ℕ) (all : List Namespace) (images : List Linked) → Laid all images → Laid (filter is_left (map (gone_in set) all)) (filter (λ m. not (has set m.serial)) images)
 laid_unmap set all images laid = record {

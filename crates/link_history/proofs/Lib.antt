@@ -1,5 +1,8 @@
+pub mod Alone
 pub mod Arrived
+pub mod AtLoad
 pub mod Brought
+pub mod Changed
 pub mod Closed
 pub mod Dangling
 pub mod Dying
@@ -13,6 +16,7 @@ pub mod Worked
 pub mod Imaged
 pub mod LeftOut
 pub mod Lists
+pub mod Moduled
 pub mod Once
 pub mod Opened
 pub mod Pages

@@ -22,7 +22,7 @@ use Rattle.link_history.specs.Flags.{is_global}
 use Rattle.link_history.specs.Links.{Needed, stays}
 use Rattle.link_history.specs.Step.{changed_at, die, dying_in, dying_object, gone_in, initialise, is_closing, is_left, loaded, lower, lowered_in, namespace_before, open_done, ready_in, ready_object, ready_state, unmap, with_namespace}
 use Rattle.link_history.specs.After.{after}
-use Rattle.link_history.specs.Laws.{AreApart, EachDiesOnce}
+use Rattle.link_history.specs.Laws.{EachDiesOnce}
 use Rattle.link_history.specs.Legal.{Lawful}
 use Rattle.link_history.specs.Setting.{Machine}
 use Rattle.link_history.proofs.Lists.{from_filter, from_map, has_in, in_filter, in_has, in_map, none_in, only_in}
@@ -32,7 +32,7 @@ use Rattle.link_history.proofs.Closed.{Dies, closes_dies, dies_node, each_left, 
 use Rattle.link_history.proofs.Opened.{before_of, members}
 use Rattle.link_history.proofs.Arrived.{Arrived}
 use Rattle.link_history.proofs.Brought.{LoadLaws}
-use Rattle.link_history.proofs.Steps.{Law, by_law, good_after}
+use Rattle.link_history.proofs.Steps.{Law, by_law}
 use Rattle.link_history.proofs.Dangling.{left_nonempty}
 
 -- ---- closings by hart and set
@@ -293,11 +293,3 @@ dies_once laws m journal lawful = are_once (after journal) (by_law laws Once onc
 
 pub once_after : LoadLaws → (m : Machine) (journal : List Event) → Lawful m journal → Good (core (after journal)) × Once (core (after journal))
 once_after laws m journal lawful = by_law laws Once once_law m journal lawful
-
-pub apart : LoadLaws → (m : Machine) (journal : List Event) → Lawful m journal → AreApart (after journal)
-apart laws m journal lawful =
-    let good = good_after laws m journal lawful in
-    record {
-      objects = λ ns ms o p first second same. good.one_home ns ms o p (first.there, first.inside) (second.there, second.inside) same;
-      namespaces = good.one_id;
-    }

@@ -1,26 +1,34 @@
 -- What holds in each state of a lawful history.
-use Rattle.std.specs.Prelude.{◌≡◌, ◌≢◌, ℕ, ◌+◌, ◌*◌, ◌<◌, ◌⊎◌, Contains, flat_map, List, IsTrue, Some, false}
+use Rattle.std.specs.Prelude.{◌≡◌, ◌≢◌, ℕ, ◌+◌, ◌*◌, ◌<◌, ◌≤◌, ◌⊎◌, Contains, flat_map, length, List, IsTrue, Some, false}
 use Rattle.std.specs.List.{slice_get}
+use Rattle.std.specs.Option.{is_some}
 use Rattle.address_space.specs.Pages.{guest_pages, is_within}
 use Rattle.ld_base.specs.declared.linking.Choice.{Choice}
 use Rattle.ld_base.specs.declared.linking.Choice.TheVariants.{Def, WeakZero, Missing}
 use Rattle.link_history.specs.Addresses.{is_code_in, is_linkers_page}
 use Rattle.ld_base.specs.declared.linking.Loaded.{Loaded}
 use Rattle.ld_base.specs.declared.linking.State.TheVariants as states
+use Rattle.ld_base.specs.declared.linking.TlsPlace.{TlsPlace}
+use Rattle.ld_base.specs.declared.object.Reloc.{Reloc}
 use Rattle.link_event.specs.declared.event.Purpose.TheVariants as purposes
 use Rattle.link_event.specs.declared.event.Range.{Range}
 use Rattle.seg_image.specs.Pages.{low_of, own_address, pages_of}
 use Rattle.link_event.specs.declared.state.Chosen.{Chosen}
 use Rattle.link_event.specs.declared.state.Closing.{Closing}
 use Rattle.link_event.specs.declared.state.Granting.{Granting}
+use Rattle.link_event.specs.declared.state.Module.{Module}
 use Rattle.link_event.specs.declared.state.Standing.TheVariants.{Bound, Lost, Open}
 use Rattle.scope_rule.specs.Loading.{is_dying}
 use Rattle.scope_rule.specs.Scope.{scope, whole_scope}
 use Rattle.scope_rule.specs.Seen.{seen_in}
 use Rattle.scope_rule.specs.declared.namespace.Namespace.{Namespace}
+use Rattle.tls_blocks.specs.Numbers.{AreNumbered, IsTaken}
+use Rattle.link_history.specs.Bound.{lazy_word}
+use Rattle.link_history.specs.Slots.{value_at_load}
 use Rattle.link_history.specs.State.{Linked, State}
+use Rattle.link_history.specs.Storage.{module_of_place}
 use Rattle.link_history.specs.Grants.{chosen_target, target_of}
-use Rattle.link_history.specs.Objects.{IsMapped, startup_serials}
+use Rattle.link_history.specs.Objects.{IsMapped, object_at, startup_serials}
 
 -- a mapped object, with its namespace
 pub record IsIn (s : State) (ns : Namespace) (o : Loaded) : Type 0 where
@@ -76,9 +84,11 @@ pub record EachDiesOnce (s : State) : Type 0 where
   pub only : (ns : Namespace) (o : Loaded) (hart : ℕ) → IsIn s ns o → o.state ≡ states.Dying hart
       → (c : Closing) × Contains s.closings c × (c.hart ≡ hart) × Contains c.set o.serial
 
--- no two mapped objects have one serial, and no two namespaces one number
+-- no two mapped objects have one serial, so that a serial leads to its object; and no two namespaces have one number
 pub record AreApart (s : State) : Type 0 where
   pub objects : (ns ms : Namespace) (o p : Loaded) → IsIn s ns o → IsIn s ms p → o.serial ≡ p.serial → ns ≡ ms
+  pub records : (ns ms : Namespace) (o p : Loaded) → IsIn s ns o → IsIn s ms p → o.serial ≡ p.serial → o ≡ p
+  pub found : (ns : Namespace) (o : Loaded) → IsIn s ns o → object_at s o.serial ≡ Some o
   pub namespaces : (ns ms : Namespace) → Contains s.namespaces ns → Contains s.namespaces ms → ns.id ≡ ms.id → ns ≡ ms
 
 -- whoever sees a dying object dies with it: leaving dying objects out of a scope leaves none out
@@ -102,6 +112,25 @@ EntersBy s Missing value = ⊥
 -- what each grant of a mapped object put, or may still put, into its slot
 abbrev pub SlotsEnterCode : State → Type 0
 SlotsEnterCode s = (g : Granting) → Contains s.grants g → ((saw : ℕ) → g.standing ≢ Lost saw) → IsMapped s g.owner → EntersBy s g.choice g.value
+
+-- a value that a slot got when its object was loaded enters what the slot chose then
+pub record EntersOfLoad (s : State) (o : Loaded) (slot value : ℕ) : Type 0 where
+  pub chosen : Chosen
+  pub there : Contains s.chosen chosen
+  pub owner : chosen.owner ≡ o.serial
+  pub choice : Choice
+  pub chose : slice_get chosen.choices (length o.object.relocs + slot) ≡ Some (Some choice)
+  pub enters : EntersBy s choice value
+
+abbrev pub LoadsEnterCode : State → Type 0
+LoadsEnterCode s = (ns : Namespace) (o : Loaded) (slot value : ℕ) → IsIn s ns o → value_at_load s o.serial slot ≡ Some value → EntersOfLoad s o slot value
+
+-- no value of a mapped object's slot is the word that the slot holds until it is bound
+pub record NoneIsLazy (s : State) : Type 0 where
+  pub granted : (ns : Namespace) (o : Loaded) (g : Granting) (r : Reloc) → IsIn s ns o → Contains s.grants g → g.owner ≡ o.serial → slice_get o.object.plt_relocs g.slot ≡ Some r
+      → g.value ≢ lazy_word o r
+  pub at_load : (ns : Namespace) (o : Loaded) (slot value : ℕ) (r : Reloc) → IsIn s ns o → value_at_load s o.serial slot ≡ Some value → slice_get o.object.plt_relocs slot ≡ Some r
+      → value ≢ lazy_word o r
 
 -- no page is of two reserved ranges, and each reserved page is one of guest memory that may be given away
 pub record RangesAreApart (s : State) : Type 0 where
@@ -138,3 +167,24 @@ pub record IsRangeOf (ranges : List Range) (i : Linked) : Type 0 where
 
 abbrev pub ImagesArePlaced : State → Type 0
 ImagesArePlaced s = (i : Linked) → Contains s.images i → IsRangeOf s.ranges i
+
+-- the module is that of a mapped object, with the number and the offset of its place
+pub record IsModule (s : State) (m : Module) : Type 0 where
+  pub namespace : Namespace
+  pub object : Loaded
+  pub inside : IsIn s namespace object
+  pub place : TlsPlace
+  pub has : object.«module» ≡ Some place
+  pub is : module_of_place object.serial place ≡ m
+
+-- modules are in the order of their numbers, each is that of one mapped object, and each mapped object with thread-local storage has its one
+pub record ModulesAreTidy (s : State) : Type 0 where
+  pub numbered : AreNumbered s.modules
+  pub mapped : (m : Module) → Contains s.modules m → IsModule s m
+  pub there : (ns : Namespace) (o : Loaded) (place : TlsPlace) → IsIn s ns o → o.«module» ≡ Some place → Contains s.modules (module_of_place o.serial place)
+  pub some : (ns : Namespace) (o : Loaded) → IsIn s ns o → is_some o.«module» ≡ is_some o.object.tls
+  pub one : (m n : Module) → Contains s.modules m → Contains s.modules n → m.serial ≡ n.serial → m ≡ n
+
+-- once an object has the module of a number, each number below it is one of a module
+abbrev pub TakesLeast : State → List Loaded → Type 0
+TakesLeast s added = (o : Loaded) (place : TlsPlace) → Contains added o → o.«module» ≡ Some place → (number : ℕ) → 1 ≤ number → number < place.number → IsTaken s.modules number

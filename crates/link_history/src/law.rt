@@ -1,10 +1,15 @@
 //! What holds in each state of a lawful history.
 
 ghost use Rattle.std.specs.Prelude.{◌≡◌, ℕ, List, ◌∷◌, ◌++◌, [], take};
+ghost use Rattle.ld_base.specs.declared.linking.Loaded.{Loaded};
 ghost use Rattle.link_event.specs.declared.event.Event.{Event};
+ghost use Rattle.link_event.specs.declared.event.Event.TheVariants.{Open};
+ghost use Rattle.link_event.specs.declared.event.OpenAnswer.TheVariants.{Done};
+ghost use Rattle.link_event.specs.declared.event.OpenAsk.{OpenAsk};
+ghost use Rattle.link_event.specs.declared.event.Range.{Range};
 ghost use Rattle.link_history.specs.After.{after};
 ghost use Rattle.link_history.specs.Allowed.{Allowed};
-ghost use Rattle.link_history.specs.Laws.{AreApart, EachDiesOnce, GrantsAreHeld, GrantsAreTidy, ImagesAreMapped, ImagesArePlaced, NothingDangles, NothingLeftOut, RangesAreApart, SlotsEnterCode, StartupStays};
+ghost use Rattle.link_history.specs.Laws.{AreApart, EachDiesOnce, GrantsAreHeld, GrantsAreTidy, ImagesAreMapped, ImagesArePlaced, LoadsEnterCode, ModulesAreTidy, NothingDangles, NothingLeftOut, RangesAreApart, SlotsEnterCode, StartupStays, TakesLeast};
 ghost use Rattle.link_history.specs.Exits.{exits, initialised_by_another, setting, unmapped_unclosed};
 ghost use Rattle.link_history.specs.Legal.{Lawful, Legal, Whole};
 ghost use Rattle.link_history.specs.Setting.{Machine, Setting};
@@ -53,7 +58,8 @@ pub fn each_dies_once()
     scope_rule::found_stands();
 }
 
-/// Mapped objects of one serial are of one namespace, and namespaces of one number are one.
+/// Mapped objects of one serial are one object, of one namespace, and namespaces of one number are
+/// one.
 pub fn objects_are_apart()
     ensures { (m : Machine) (events : List Event) → Lawful m events → AreApart (after events) }
 {
@@ -78,6 +84,15 @@ pub fn slots_enter_code()
     scope_rule::found_stands();
 }
 
+/// What a slot got when its object was loaded is 0, an address in the linker's own page, or code of an
+/// object that is mapped now, which the slot chose then.
+pub fn loads_enter_code()
+    ensures { (m : Machine) (events : List Event) → Lawful m events → LoadsEnterCode (after events) }
+{
+    scope_rule::serials_follow();
+    scope_rule::found_stands();
+}
+
 /// No page is of two reserved ranges, and each reserved page is one of guest memory that may be
 /// given away.
 pub fn ranges_apart()
@@ -88,6 +103,19 @@ pub fn ranges_apart()
 pub fn grants_are_tidy()
     ensures { (m : Machine) (events : List Event) → Lawful m events → GrantsAreTidy (after events) }
 {}
+
+/// Modules are in the order of their numbers, which begin at 1; each is that of one mapped object, and
+/// each mapped object with thread-local storage has its one. A new number is the least that is free:
+/// below it each is taken.
+pub fn modules_are_tidy()
+    ensures tidy { (m : Machine) (events : List Event) → Lawful m events → ModulesAreTidy (after events) }
+    ensures least { (w : Setting) (past : List Event) (hart id root : ℕ) (ask : OpenAsk) (added : List Loaded) (ranges : List Range) →
+        Allowed w past (Open hart ask (Done id root added ranges)) → TakesLeast (after (past ++ Open hart ask (Done id root added ranges) ∷ [])) added }
+{
+    scope_rule::serials_follow();
+    scope_rule::found_stands();
+    tls_blocks::modules_stay_numbered();
+}
 
 /// Each mapped object has its image, of its record and its base, and each image is of a mapped
 /// object.

@@ -1,0 +1,5 @@
+use Rattle.link_history.proofs.AtLoad.{loads_enter}
+use Rattle.link_history.proofs.law.loads_enter_code.Goals as goal
+
+pub returns : goal.returns
+returns c = loads_enter (record { serials = c.serials_follow.ensures; leads = c.found_stands.ensures.leads; founds = c.found_stands.ensures.founds })
