@@ -14,9 +14,11 @@
 #![tactic(auto)]
 
 mod image;
+mod law;
 mod making;
 mod pages;
 
 pub use image::{Image, Images, Word, Words};
+pub use law::pages_hold_segments;
 pub use making::make_image;
 pub use pages::{align_of, index_of, low_of, pages_of};
