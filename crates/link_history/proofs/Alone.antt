@@ -72,7 +72,7 @@ module _ (c : Core) (good : Good c) (id root : ℕ) (g : Bool) (added : List Loa
       joined (inr i) (inl j) = absurd (old_new p o j i (sym same))
       joined (inr i) (inr j) = came.one o p i j same
 
-alone_law : Law (λ c. Alone c.namespaces)
+pub alone_law : Law (λ c. Alone c.namespaces)
 unfolding loaded die lower unmap initialise
 alone_law = record {
   starts = λ ns o p there first. absurd (none_in o (subst (λ (n : Namespace). Contains n.objects o) (sym (only_in (empty_namespace 0) ns there)) first));

@@ -51,7 +51,7 @@ get_behind [] ys k i e = let same : i ≡ k = omega (arith, e) in ap (slice_get 
 get_behind (x ∷ xs) ys k zero e = absurd (omega (arith, e))
 get_behind (x ∷ xs) ys k (suc i) e = get_behind xs ys k i (omega (arith, e))
 
-get_map : {X Y : Type 0} (f : X → Y) (xs : List X) (k : ℕ) (y : Y) → slice_get (map f xs) k ≡ Some y → (x : X) × (slice_get xs k ≡ Some x) × (f x ≡ y)
+pub get_map : {X Y : Type 0} (f : X → Y) (xs : List X) (k : ℕ) (y : Y) → slice_get (map f xs) k ≡ Some y → (x : X) × (slice_get xs k ≡ Some x) × (f x ≡ y)
 get_map {X} {Y} f [] k y e = absurd (let d : None ≡ Some y = e in cc)
 get_map {X} {Y} f (x ∷ xs) zero y e = let same : f x ≡ y = cc in (x, refl, same)
 get_map f (x ∷ xs) (suc k) y e = get_map f xs k y e
@@ -106,7 +106,7 @@ more_load : (all more : List Namespace) (k : Chosen) (o : Loaded) (slot v : ℕ)
 more_load all more k o slot v keeps load = record { choice = load.choice; chose = load.chose; enters = keeps load.choice load.chose load.enters; lazy = load.lazy }
 
 -- a choice that is code differs from the lazy word, or is 0
-not_lazy : (s : State) (lazy : ℕ) (choice : Choice) → leads_to_code s lazy choice ≡ true → address s choice ≡ lazy → address s choice ≡ 0
+pub not_lazy : (s : State) (lazy : ℕ) (choice : Choice) → leads_to_code s lazy choice ≡ true → address s choice ≡ lazy → address s choice ≡ 0
 unfolding leads_to_code address
 not_lazy s lazy (Def serial index) code same =
     absurd (true≢false (sym (eq-eqb _ _ same) ∙ not-true _ (and_parts _ _ code).1))
@@ -181,11 +181,11 @@ module _ (s : State) (hart : ℕ) (ask : OpenAsk) (id root : ℕ) (added : List 
   abbrev all : List Namespace
   all = with_namespace id (λ n. opened n added root (is_global ask.flags)) s.namespaces
 
-  abbrev Old : Loaded → Type 0
+  abbrev pub Old : Loaded → Type 0
   Old o = (ms : Namespace) × Contains s.namespaces ms × Contains ms.objects o
 
   -- an object is an old one or a new one
-  cases : (ns : Namespace) (o : Loaded) → Contains all ns → Contains ns.objects o → Old o ⊎ Contains added o
+  pub cases : (ns : Namespace) (o : Loaded) → Contains all ns → Contains ns.objects o → Old o ⊎ Contains added o
   cases ns o there inside = ⊎_elim
       (λ (is : ns ≡ opened b added root (is_global ask.flags)). ⊎_elim
       (λ (i : Contains b.objects o). inl (b, old_in (core s) good id root (is_global ask.flags) added b (before_of s id good) came o i, i))
@@ -194,11 +194,11 @@ module _ (s : State) (hart : ℕ) (ask : OpenAsk) (id root : ℕ) (added : List 
       (λ (old : Contains s.namespaces ns × (ns.id ≡ id → ⊥)). inl (ns, old.0, inside))
       (members s.namespaces id b (before_of s id good) (λ n. opened n added root (is_global ask.flags)) ns there)
 
-  was_old : (o : Loaded) → o.serial < s.next → Old o ⊎ Contains added o → Old o
+  pub was_old : (o : Loaded) → o.serial < s.next → Old o ⊎ Contains added o → Old o
   was_old o low (inl old) = old
   was_old o low (inr new) = absurd (let from : s.next ≤ o.serial = (came.fresh o new).0 in omega (arith, from, low))
 
-  was_new : (a o : Loaded) → Contains added a → a.serial ≡ o.serial → Old o ⊎ Contains added o → a ≡ o
+  pub was_new : (a o : Loaded) → Contains added a → a.serial ≡ o.serial → Old o ⊎ Contains added o → a ≡ o
   was_new a o i serial (inl old) =
       absurd (let from : s.next ≤ a.serial = (came.fresh a i).0 in let low : o.serial < s.next = good.low old.0 o (old.1, old.2) in omega (arith, from, low, serial))
   was_new a o i serial (inr new) = came.one a o i new serial

@@ -37,7 +37,7 @@ pub record LoadLaws : Type 0 where
   pub founds : (load : Load) (deep : Bool) (w : Walk) → Brings load w →
       AllByRecursion (λ o. AllByRecursion (Stands load (load.there ++ records_of load deep w)) o.found) (records_of load deep w)
 
-all_at : {X : Type 0} (P : X → Type 0) (xs : List X) (x : X) → AllByRecursion P xs → Contains xs x → P x
+pub all_at : {X : Type 0} (P : X → Type 0) (xs : List X) (x : X) → AllByRecursion P xs → Contains xs x → P x
 all_at P [] x all h = absurd (none_in x h)
 all_at {X} P (y ∷ xs) x all h = ⊎_elim
     (λ (e : y ≡ x). subst P e all.0)

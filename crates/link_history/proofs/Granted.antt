@@ -51,6 +51,7 @@ good_granted c g good low safe = record {
 -- what a settled grant was: one of the same owner and choice, which was live if it is
 pub record Was (g q : Granting) : Type 0 where
   pub owner : g.owner ≡ q.owner
+  pub slot : g.slot ≡ q.slot
   pub choice : g.choice ≡ q.choice
   pub value : g.value ≡ q.value
   pub live : is_live q.standing ≡ true → is_live g.standing ≡ true
@@ -61,8 +62,8 @@ open_lives Bound e = refl
 open_lives (Lost saw) e = e
 
 was_by : (number : ℕ) (standing : Standing) (g : Granting) (b : Bool) → (b ≡ true → is_live g.standing ≡ true) → Was g (if b then record g { standing = standing } else g)
-was_by number standing g true lives = record { owner = refl; choice = refl; value = refl; live = λ h. lives refl }
-was_by number standing g false lives = record { owner = refl; choice = refl; value = refl; live = λ h. h }
+was_by number standing g true lives = record { owner = refl; slot = refl; choice = refl; value = refl; live = λ h. lives refl }
+was_by number standing g false lives = record { owner = refl; slot = refl; choice = refl; value = refl; live = λ h. h }
 
 pub was : (number : ℕ) (standing : Standing) (g : Granting) → Was g (settled_as number standing g)
 was number standing g = was_by number standing g (eqb g.number number && is_open g)

@@ -1,3 +1,4 @@
+pub mod Accepting
 pub mod Alone
 pub mod Arrived
 pub mod AtLoad
@@ -15,7 +16,9 @@ pub mod Tidy
 pub mod Worked
 pub mod Imaged
 pub mod LeftOut
+pub mod Lazy
 pub mod Lists
+pub mod Modular
 pub mod Moduled
 pub mod Once
 pub mod Opened

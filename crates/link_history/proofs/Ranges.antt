@@ -181,10 +181,11 @@ apart_step w past s (events.Wrote hart bytes) may apart = apart
 apart_step w past s (events.Told hart fault) may apart = apart
 apart_step w past s (events.Ended hart reason) may apart = apart
 
-pub ranges_apart : (m : Machine) (journal : List Event) → Lawful m journal → RangesAreApart (after journal)
-ranges_apart m journal lawful =
-    let apart : Apart (after journal).ranges =
+pub apart_after : (m : Machine) (journal : List Event) → Lawful m journal → Apart (after journal).ranges
+apart_after m journal lawful =
     subst (λ (es : List Event). Apart (after es).ranges) (take_all (length journal) journal (omega arith))
     (by_history m (λ s. Apart s.ranges) (record { one = λ page r q there. absurd (none_in r there); inside = λ r k there. absurd (none_in r there) })
-    (λ w past e same apart may. apart_step w past (after past) e may apart) journal lawful (length journal)) in
-    record { one = apart.one; inside = apart.inside }
+    (λ w past e same apart may. apart_step w past (after past) e may apart) journal lawful (length journal))
+
+pub ranges_apart : (m : Machine) (journal : List Event) → Lawful m journal → RangesAreApart (after journal)
+ranges_apart m journal lawful = let apart = apart_after m journal lawful in record { one = apart.one; inside = apart.inside }

@@ -7,9 +7,10 @@ ghost use Rattle.link_event.specs.declared.event.Event.TheVariants.{Open};
 ghost use Rattle.link_event.specs.declared.event.OpenAnswer.TheVariants.{Done};
 ghost use Rattle.link_event.specs.declared.event.OpenAsk.{OpenAsk};
 ghost use Rattle.link_event.specs.declared.event.Range.{Range};
+ghost use Rattle.link_history.specs.Accepted.{AcceptsOnly};
 ghost use Rattle.link_history.specs.After.{after};
 ghost use Rattle.link_history.specs.Allowed.{Allowed};
-ghost use Rattle.link_history.specs.Laws.{AreApart, EachDiesOnce, GrantsAreHeld, GrantsAreTidy, ImagesAreMapped, ImagesArePlaced, LoadsEnterCode, ModulesAreTidy, NothingDangles, NothingLeftOut, RangesAreApart, SlotsEnterCode, StartupStays, TakesLeast};
+ghost use Rattle.link_history.specs.Laws.{AreApart, EachDiesOnce, GrantsAreHeld, GrantsAreTidy, ImagesAreMapped, ImagesArePlaced, LoadsEnterCode, ModulesAreTidy, NoneIsLazy, NothingDangles, NothingLeftOut, RangesAreApart, SlotsEnterCode, StartupStays, TakesLeast};
 ghost use Rattle.link_history.specs.Exits.{exits, initialised_by_another, setting, unmapped_unclosed};
 ghost use Rattle.link_history.specs.Legal.{Lawful, Legal, Whole};
 ghost use Rattle.link_history.specs.Setting.{Machine, Setting};
@@ -91,6 +92,17 @@ pub fn loads_enter_code()
 {
     scope_rule::serials_follow();
     scope_rule::found_stands();
+}
+
+/// No value of a slot, neither a grant's nor that of its object's loading, is the word that the slot
+/// holds until it is bound.
+pub fn none_is_lazy()
+    ensures { (m : Machine) (events : List Event) → AcceptsOnly m → Lawful m events → NoneIsLazy (after events) }
+{
+    scope_rule::serials_follow();
+    scope_rule::found_stands();
+    scope_rule::reads_candidates();
+    seg_image::pages_hold_segments();
 }
 
 /// No page is of two reserved ranges, and each reserved page is one of guest memory that may be
