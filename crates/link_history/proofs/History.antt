@@ -1,6 +1,7 @@
 -- Journals event by event: what is pushed, what a prefix keeps, and induction over lawful ones.
-use Rattle.std.proofs.Common.{◌≡◌, ◌⊎◌, inl, inr, ⊎_elim, ℕ, zero, suc, List, [], ◌∷◌, ◌++◌, take, Some, None, refl, sym, ap, subst}
+use Rattle.std.proofs.Common.{◌≡◌, ◌⊎◌, inl, inr, ⊎_elim, ℕ, zero, suc, List, [], ◌∷◌, ◌++◌, take, length, Some, None, refl, sym, ap, subst, arith}
 use Rattle.std.specs.List.{slice_get}
+use Rattle.std.proofs.lemmas.List.{take_all}
 use Rattle.link_event.specs.declared.event.Event.{Event}
 use Rattle.link_history.specs.State.{State, start}
 use Rattle.link_history.specs.Step.{step}
@@ -104,3 +105,22 @@ unfolding Lawful
 lawful_take m events n lawful k e at =
     let r = get_take events n k e at in
     let old = lawful k e r.0 in (old.0, old.1, subst (λ (past : List Event). Allowed old.0 past e) (sym r.1) old.2)
+
+-- ---- induction with what is known of the past
+
+-- the same, where each step may use what was proved of lawful journals
+pub by_lawful : (m : Machine) (P : State → Type 0) → P start
+    → ((w : Setting) (past : List Event) (e : Event) → w.machine ≡ m → Lawful m past → P (after past) → AllowedIn w past (after past) e → P (step (after past) e))
+    → (events : List Event) → Lawful m events → P (after events)
+unfolding after_from Lawful
+by_lawful m P first keeps events lawful =
+    subst (λ (es : List Event). P (after es)) (take_all (length events) events (omega arith)) (up_to (length events))
+  where
+    up_to : (k : ℕ) → P (after (take k events))
+    up_to zero = first
+    up_to (suc k) = ⊎_elim
+        (λ (h : (e : Event) × (slice_get events k ≡ Some e)).
+        let allowed = lawful k h.0 h.1 in
+        subst P (sym (after_take events k h.0 h.1)) (keeps allowed.0 (take k events) h.0 allowed.1 (lawful_take m events k lawful) (up_to k) allowed.2))
+        (λ (h : take (suc k) events ≡ take k events). subst (λ (es : List Event). P (after es)) (sym h) (up_to k))
+        (take_next events k)

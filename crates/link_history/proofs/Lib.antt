@@ -18,6 +18,7 @@ pub mod Imaged
 pub mod LeftOut
 pub mod Lazy
 pub mod Lists
+pub mod Map
 pub mod Modular
 pub mod Moduled
 pub mod Once

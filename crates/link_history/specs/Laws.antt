@@ -12,6 +12,9 @@ use Rattle.ld_base.specs.declared.linking.TlsPlace.{TlsPlace}
 use Rattle.ld_base.specs.declared.object.Reloc.{Reloc}
 use Rattle.link_event.specs.declared.event.Purpose.TheVariants as purposes
 use Rattle.link_event.specs.declared.event.Range.{Range}
+use Rattle.relocator.specs.Relocated.{image_word}
+use Rattle.seg_image.specs.declared.image.Image.{Image}
+use Rattle.seg_image.specs.Images.{IsImage}
 use Rattle.seg_image.specs.Pages.{low_of, own_address, pages_of}
 use Rattle.link_event.specs.declared.state.Chosen.{Chosen}
 use Rattle.link_event.specs.declared.state.Closing.{Closing}
@@ -28,6 +31,7 @@ use Rattle.link_history.specs.Slots.{value_at_load}
 use Rattle.link_history.specs.State.{Linked, State}
 use Rattle.link_history.specs.Storage.{module_of_place}
 use Rattle.link_history.specs.Grants.{chosen_target, target_of}
+use Rattle.link_history.specs.Memory.{role_at, word_at}
 use Rattle.link_history.specs.Objects.{IsMapped, object_at, startup_serials}
 
 -- a mapped object, with its namespace
@@ -167,6 +171,11 @@ pub record IsRangeOf (ranges : List Range) (i : Linked) : Type 0 where
 
 abbrev pub ImagesArePlaced : State → Type 0
 ImagesArePlaced s = (i : Linked) → Contains s.images i → IsRangeOf s.ranges i
+
+-- the words of an image that was relocated by its record are those of memory, with their roles
+abbrev pub ImagesAreInstalled : State → Type 0
+ImagesAreInstalled s = (i : Linked) → Contains s.images i → (image : Image) → IsImage i.object i.base (image_word i.object i.base i.serial i.bindings i.places) image → (k : ℕ) → k < length image.words
+    → slice_get image.words k ≡ Some (record { value = word_at s (image.start + 8 * k); role = role_at s (image.start + 8 * k) })
 
 -- the module is that of a mapped object, with the number and the offset of its place
 pub record IsModule (s : State) (m : Module) : Type 0 where

@@ -10,7 +10,7 @@ ghost use Rattle.link_event.specs.declared.event.Range.{Range};
 ghost use Rattle.link_history.specs.Accepted.{AcceptsOnly};
 ghost use Rattle.link_history.specs.After.{after};
 ghost use Rattle.link_history.specs.Allowed.{Allowed};
-ghost use Rattle.link_history.specs.Laws.{AreApart, EachDiesOnce, GrantsAreHeld, GrantsAreTidy, ImagesAreMapped, ImagesArePlaced, LoadsEnterCode, ModulesAreTidy, NoneIsLazy, NothingDangles, NothingLeftOut, RangesAreApart, SlotsEnterCode, StartupStays, TakesLeast};
+ghost use Rattle.link_history.specs.Laws.{AreApart, EachDiesOnce, GrantsAreHeld, GrantsAreTidy, ImagesAreInstalled, ImagesAreMapped, ImagesArePlaced, LoadsEnterCode, ModulesAreTidy, NoneIsLazy, NothingDangles, NothingLeftOut, RangesAreApart, SlotsEnterCode, StartupStays, TakesLeast};
 ghost use Rattle.link_history.specs.Exits.{exits, initialised_by_another, setting, unmapped_unclosed};
 ghost use Rattle.link_history.specs.Legal.{Lawful, Legal, Whole};
 ghost use Rattle.link_history.specs.Setting.{Machine, Setting};
@@ -139,6 +139,16 @@ pub fn images_are_mapped()
 pub fn images_are_placed()
     ensures { (m : Machine) (events : List Event) → Lawful m events → ImagesArePlaced (after events) }
 {}
+
+/// Each word of an object's relocated image is the word of memory at its address, with its role.
+pub fn images_are_installed()
+    ensures { (m : Machine) (events : List Event) → AcceptsOnly m → Lawful m events → ImagesAreInstalled (after events) }
+{
+    scope_rule::serials_follow();
+    scope_rule::found_stands();
+    scope_rule::reads_candidates();
+    seg_image::pages_hold_segments();
+}
 
 /// The worked history of a program that starts, exits and is finalised is legal and whole. With one
 /// event of another hart's, or an unmapping in place of the destructors, it isn't legal.
