@@ -36,3 +36,7 @@ pub record SpellsDynamic (bytes : List ℕ) (head : Head) (program : Bool) (part
 -- the rule is broken with this number, and no rule before it is broken
 abbrev pub BreaksFirst : List ℕ → Head → Bool → NotAccepted → Type 0
 BreaksFirst bytes head program fault = IsFirstBroken (Breaks bytes head program) fault
+
+-- the parts of a file with this head, as the program's or as another object's
+abbrev pub ArePartsOf : List ℕ → Head → DynParts → Type 0
+ArePartsOf bytes head parts = (program : Bool) × SpellsDynamic bytes head program parts

@@ -43,4 +43,4 @@ mod table_rules;
 mod tables;
 
 pub use law::one_verdict;
-pub use reader::read_dynamic;
+pub use reader::{JudgedParts, judge_dynamic, read_dynamic};

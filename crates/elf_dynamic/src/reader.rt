@@ -31,7 +31,7 @@ use crate::tables::{
 use dyn_table::{
     DT_FINI, DT_FINI_ARRAY, DT_FINI_ARRAYSZ, DT_INIT, DT_INIT_ARRAY, DT_INIT_ARRAYSZ, DT_NEEDED,
     DT_PLTGOT, DT_PREINIT_ARRAY, DT_PREINIT_ARRAYSZ, DT_RELR, DT_RELRSZ, DT_SONAME, DT_STRSZ,
-    DT_STRTAB, DT_SYMTAB, SYMBOL_SIZE, last_of, read_hash_words, read_named_symbols, read_relocs,
+    DT_STRTAB, DT_SYMTAB, SYMBOL_SIZE, SymbolTable, last_of, read_hash_words, read_relocs,
     read_string, read_symbols, value_of, values_of, with_name,
 };
 use elf_head::{accepted_head, file_bytes};
@@ -40,6 +40,7 @@ use ld_base::{
     Tag, Tags,
 };
 use std::alloc::{AllocError, Global};
+use std::marker::Model;
 
 /// The fault of a rule that is broken with a number.
 pub(crate) fn broken(rule: u8, number: u64) -> ReadFault
@@ -181,46 +182,98 @@ fn judge(alloc: Global, tables: Tables, program: bool) -> Result<Judged, ReadFau
     Ok(judged)
 }
 
-/// The parts that the tables say, with what was read and judged of them. More places of packed
-/// relocations than are kept are want of memory.
-#[tactic(auto, unfolding(crate::specs::Tables::parts_in, crate::specs::Tables::strings_in))]
-fn kept_parts(
-    alloc: Global,
-    bytes: &[u8],
-    head: &Head,
+/// The tables of a file that break none of the rules 10 to 16, before their names are copied:
+/// contracts see the parts that they say.
+#[derive(Drop)]
+pub struct JudgedParts<'a> {
+    bytes: &'a [u8],
+    head: &'a Head,
     tags: Tags,
     counted: Counted,
     judged: Judged,
-) -> Result<DynParts, AllocError>
-    requires accepted { head_verdict bytes.now ≡ Ok head.now }
-    requires readable { IsTrue (readable head.now.headers (value_of tags dt_symtab) (24 * counted.count)) }
-    requires counted { counted ≡ counted_in bytes.now head.now.headers tags }
-    requires judged { ArePlaces judged (relr_places (relr_bytes bytes.now head.now.headers tags)) }
-    ensures { IfOk result (λ parts. parts ≡ parts_in bytes.now head.now.headers tags) }
-{
-    if judged.count > MOST_PLACES as u64 {
-        return Err(AllocError);
+}
+
+impl<'a> Model for JudgedParts<'a> {
+    ghost use Rattle.ld_base.specs.declared.parts.DynParts.{DynParts};
+    ghost use Rattle.elf_dynamic.specs.Counted.{AreJudged};
+    ghost use Rattle.elf_dynamic.specs.Tables.{parts_in};
+
+    ghost Value = { DynParts };
+
+    ghost view = { λ p. parts_in p.bytes.now p.head.now.headers p.tags };
+
+    ghost invariant = { λ p. AreJudged p.bytes.now p.head.now p.tags p.counted p.judged };
+}
+
+impl<'a> JudgedParts<'a> {
+    /// The entries of the dynamic table.
+    #[tactic(auto, unfolding(crate::specs::Tables::parts_in))]
+    pub fn tags(&self) -> &[Tag]
+        ensures { result.now ≡ self.now.tags }
+    {
+        self.tags.as_slice()
     }
-    let entries = tags.as_slice();
-    let strings = bytes_in(bytes, head, span_of(entries, DT_STRTAB, DT_STRSZ));
-    let part = symbol_part(bytes, head, entries, counted.count);
-    Ok(DynParts {
-        soname: soname_in(alloc, strings, entries)?,
-        needed: needed_in(alloc, strings, entries)?,
-        symbols: read_named_symbols(alloc, part, strings, counted.count)?,
-        first_exported: counted.first_exported,
-        relocs: counted.relocs,
-        plt_relocs: counted.plt_relocs,
-        pltgot: last_of(entries, DT_PLTGOT),
-        preinit: span_of(entries, DT_PREINIT_ARRAY, DT_PREINIT_ARRAYSZ),
-        init: last_of(entries, DT_INIT),
-        init_array: span_of(entries, DT_INIT_ARRAY, DT_INIT_ARRAYSZ),
-        fini: last_of(entries, DT_FINI),
-        fini_array: span_of(entries, DT_FINI_ARRAY, DT_FINI_ARRAYSZ),
-        flags: flags_of(entries),
-        relr: judged.places,
-        tags,
-    })
+
+    /// The least symbol that a hash table may lead to.
+    #[tactic(auto, unfolding(crate::specs::Tables::parts_in))]
+    pub fn first_exported(&self) -> u32
+        ensures { result ≡ self.now.first_exported }
+    {
+        self.counted.first_exported
+    }
+
+    /// The symbols.
+    #[tactic(auto, unfolding(crate::specs::Tables::parts_in, crate::specs::Tables::strings_in))]
+    pub fn symbols(&self) -> SymbolTable<'a>
+        ensures { result ≡ self.now.symbols }
+    {
+        let tags = self.tags.as_slice();
+        let strings = bytes_in(self.bytes, self.head, span_of(tags, DT_STRTAB, DT_STRSZ));
+        let part = symbol_part(self.bytes, self.head, tags, self.counted.count);
+        SymbolTable::new(part, strings, self.counted.count)
+    }
+
+    /// The parts, with a copy of each name. More bytes of names, or places of packed relocations,
+    /// than are kept are want of memory.
+    ///
+    /// # Errors
+    ///
+    /// Want of memory.
+    #[tactic(auto, unfolding(crate::specs::Tables::parts_in, crate::specs::Tables::strings_in))]
+    pub fn into_parts(self, alloc: Global) -> Result<DynParts, AllocError>
+        ensures { IfOk result (λ parts. parts ≡ self.entry) }
+    {
+        if self.judged.count > MOST_PLACES as u64 {
+            return Err(AllocError);
+        }
+        let symbols = self.symbols().named(alloc)?;
+        let JudgedParts {
+            bytes,
+            head,
+            tags,
+            counted,
+            judged,
+        } = self;
+        let entries = tags.as_slice();
+        let strings = bytes_in(bytes, head, span_of(entries, DT_STRTAB, DT_STRSZ));
+        Ok(DynParts {
+            soname: soname_in(alloc, strings, entries)?,
+            needed: needed_in(alloc, strings, entries)?,
+            symbols,
+            first_exported: counted.first_exported,
+            relocs: counted.relocs,
+            plt_relocs: counted.plt_relocs,
+            pltgot: last_of(entries, DT_PLTGOT),
+            preinit: span_of(entries, DT_PREINIT_ARRAY, DT_PREINIT_ARRAYSZ),
+            init: last_of(entries, DT_INIT),
+            init_array: span_of(entries, DT_INIT_ARRAY, DT_INIT_ARRAYSZ),
+            fini: last_of(entries, DT_FINI),
+            fini_array: span_of(entries, DT_FINI_ARRAY, DT_FINI_ARRAYSZ),
+            flags: flags_of(entries),
+            relr: judged.places,
+            tags,
+        })
+    }
 }
 
 /// Judges what the tables with these entries say, of which none is bad (rules 12 to 16).
@@ -259,21 +312,49 @@ fn judge_tables(
     judge(alloc, tables, program)
 }
 
-/// Reads what the tables with these entries say. No bound of memory comes before a rule that is
-/// broken.
-fn read_tables(
+/// Judges the tables with these entries. No bound of memory comes before a rule that is broken.
+fn judge_all<'a>(
     alloc: Global,
-    bytes: &[u8],
-    head: &Head,
+    bytes: &'a [u8],
+    head: &'a Head,
     program: bool,
     tags: Tags,
-) -> Result<DynParts, ReadFault>
+) -> Result<JudgedParts<'a>, ReadFault>
     requires { head_verdict bytes.now ≡ Ok head.now }
     ensures { Gives result (tables_verdict bytes.now head.now program tags) }
 {
     let counted = read_counted(alloc, bytes, head, tags.as_slice())?;
     let judged = judge_tables(alloc, bytes, head, program, tags.as_slice(), &counted)?;
-    Ok(kept_parts(alloc, bytes, head, tags, counted, judged)?)
+    Ok(JudgedParts {
+        bytes,
+        head,
+        tags,
+        counted,
+        judged,
+    })
+}
+
+/// Judges the dynamic table of a file with this head, and the tables that it names, as those of the
+/// program or of another object. No name is copied: what bounds their memory comes later, so that a
+/// rule of another table may be broken first.
+///
+/// # Errors
+///
+/// The first of the rules 10 to 16 that the tables break, with its number, or want of memory.
+#[tactic(auto, unfolding(crate::specs::Rules::dynamic_verdict))]
+pub fn judge_dynamic<'a>(
+    alloc: Global,
+    bytes: &'a [u8],
+    head: &'a Head,
+    program: bool,
+) -> Result<JudgedParts<'a>, ReadFault>
+    requires { head_verdict bytes.now ≡ Ok head.now }
+    ensures { Gives result (dynamic_verdict bytes.now head.now program) }
+{
+    match dynamic_tags(alloc, bytes, head)? {
+        Some(tags) => judge_all(alloc, bytes, head, program, tags),
+        None => Err(broken(10, 0)),
+    }
 }
 
 /// Reads the dynamic table of a file with this head, and the tables that it names, as those of the
@@ -282,7 +363,6 @@ fn read_tables(
 /// # Errors
 ///
 /// The first of the rules 10 to 16 that the tables break, with its number, or want of memory.
-#[tactic(auto, unfolding(crate::specs::Rules::dynamic_verdict))]
 pub fn read_dynamic(
     alloc: Global,
     bytes: &[u8],
@@ -292,8 +372,6 @@ pub fn read_dynamic(
     requires { head_verdict bytes.now ≡ Ok head.now }
     ensures { Gives result (dynamic_verdict bytes.now head.now program) }
 {
-    match dynamic_tags(alloc, bytes, head)? {
-        Some(tags) => read_tables(alloc, bytes, head, program, tags),
-        None => Err(broken(10, 0)),
-    }
+    let judged = judge_dynamic(alloc, bytes, head, program)?;
+    Ok(judged.into_parts(alloc)?)
 }

@@ -5,7 +5,7 @@ use Rattle.elf_dynamic.specs.Counted.{counted_in, rules_from_names}
 use Rattle.elf_dynamic.specs.Rules.{bad_table, tables_verdict}
 use Rattle.elf_dynamic.specs.Tables.{count_in, parts_in}
 use Rattle.elf_dynamic.proofs.Judging.{counted_fault, counted_ok, rest_fault, tables_ok}
-use Rattle.elf_dynamic.proofs.reader.read_tables.Goals as goal
+use Rattle.elf_dynamic.proofs.reader.judge_all.Goals as goal
 
 pub returns-in_err-counted : goal.returns-in_err-counted
 unfolding tables_verdict
@@ -40,4 +40,4 @@ returns c =
     let rest = rules_from_names bytes head c.args.program tags in
     let counted = counted_ok bad (counted_in bytes head.headers tags) c.in_ok-counted.counted (rw c.as_slice.ensures at c.in_ok-counted.ensures.read) in
     let judged = rw c.as_slice-2.ensures at c.in_ok-judged.ensures.0 in
-    tables_ok bad rest (parts_in bytes head.headers tags) counted.0 judged ∙ ap Ok (sym c.in_ok-kept_parts.ensures)
+    tables_ok bad rest (parts_in bytes head.headers tags) counted.0 judged
