@@ -13,9 +13,9 @@ use Rattle.ld_base.specs.declared.parts.Head.{Head}
 use Rattle.ld_base.specs.declared.parts.Header.{Header}
 use Rattle.acceptance.proofs.Tables.{length-table, get-table, same_elements}
 use Rattle.acceptance.proofs.Leasts.{least_all, least_at, least_found, least_none}
-use Rattle.acceptance.proofs.Firsts.{first_at, is_first, none_at, test_kept}
-use Rattle.elf_head.proofs.Verdicts.{accepted_verdict, refused_verdict, verdict_err, verdict_ok}
+use Rattle.acceptance.proofs.Firsts.{accepts, refuses, Breaking, Listed}
 use Rattle.acceptance.specs.Broken.{broken_if}
+use Rattle.acceptance.specs.First.{NoneBroken}
 use Rattle.elf_head.specs.Header.{header_at, header_count, headers_of, is_loaded, table_start}
 use Rattle.acceptance.specs.Least.{least_below}
 use Rattle.elf_head.specs.Rules.{file_rules, head_broken, head_of, head_verdict, header_rules, is_not_linked, kind_of}
@@ -53,58 +53,58 @@ unfolding bad_segment
 is_first_bad size headers k found = bad_first size headers k _ _ refl refl found
 
 -- a rule that is broken has its number in the list of rules
-pub number_of_break : (bytes : List ℕ) (rule number : ℕ) → Breaks bytes rule number → (i : ℕ) × (rule ≡ suc i) × (slice_get (header_rules bytes ++ file_rules bytes) i ≡ Some (Some number))
-number_of_break bytes rule number (too_short h) = (0, refl, rw h)
-number_of_break bytes rule number (not_elf h) = (1, refl, rw h)
-number_of_break bytes rule number (not_class64_little h) = (2, refl, rw h)
-number_of_break bytes rule number (not_riscv h) = (3, refl, rw h)
-number_of_break bytes rule number (not_linked h) = (4, refl, rw h)
-number_of_break bytes rule number (needs_an_extension h) = (5, refl, rw h)
-number_of_break bytes rule number (bad_program_headers h) = (6, refl, rw h)
-number_of_break bytes rule number (bad_segment_at k h) = (7, refl, rw (first_bad (length bytes) (headers_of bytes) k h))
-number_of_break bytes rule number (too_big h) = (8, refl, rw h)
+listed : (bytes : List ℕ) → Listed 1 (header_rules bytes ++ file_rules bytes) (Breaks bytes)
+listed bytes rule number (too_short h) = (0, refl, rw h)
+listed bytes rule number (not_elf h) = (1, refl, rw h)
+listed bytes rule number (not_class64_little h) = (2, refl, rw h)
+listed bytes rule number (not_riscv h) = (3, refl, rw h)
+listed bytes rule number (not_linked h) = (4, refl, rw h)
+listed bytes rule number (needs_an_extension h) = (5, refl, rw h)
+listed bytes rule number (bad_program_headers h) = (6, refl, rw h)
+listed bytes rule number (bad_segment_at k h) = (7, refl, rw (first_bad (length bytes) (headers_of bytes) k h))
+listed bytes rule number (too_big h) = (8, refl, rw h)
 
 test_of : (bytes : List ℕ) (rule number : ℕ) (test : Bool) → Some (broken_if test) ≡ Some (Some number) → (test ≡ true → Breaks bytes rule 0) → Breaks bytes rule number
 test_of bytes rule number true found breaks = let same : 0 ≡ number = cc in subst (λ n. Breaks bytes rule n) same (breaks refl)
 test_of bytes rule number false found breaks = cc
 
 -- a number in the list of rules is of a rule that is broken
-pub break_of_number : (bytes : List ℕ) (i number : ℕ) → slice_get (header_rules bytes ++ file_rules bytes) i ≡ Some (Some number) → Breaks bytes (suc i) number
-break_of_number bytes zero number found = test_of bytes 1 number _ found (λ h. too_short h)
-break_of_number bytes (suc zero) number found = test_of bytes 2 number _ found (λ h. not_elf h)
-break_of_number bytes (suc (suc zero)) number found = test_of bytes 3 number _ found (λ h. not_class64_little h)
-break_of_number bytes (suc (suc (suc zero))) number found = test_of bytes 4 number _ found (λ h. not_riscv h)
-break_of_number bytes (suc (suc (suc (suc zero)))) number found = test_of bytes 5 number _ found (λ h. not_linked h)
-break_of_number bytes (suc (suc (suc (suc (suc zero))))) number found = test_of bytes 6 number _ found (λ h. needs_an_extension h)
-break_of_number bytes (suc (suc (suc (suc (suc (suc zero)))))) number found = test_of bytes 7 number _ found (λ h. bad_program_headers h)
-break_of_number bytes (suc (suc (suc (suc (suc (suc (suc zero))))))) number found = bad_segment_at number (is_first_bad (length bytes) (headers_of bytes) number cc)
-break_of_number bytes (suc (suc (suc (suc (suc (suc (suc (suc zero)))))))) number found = test_of bytes 9 number _ found (λ h. too_big h)
-break_of_number bytes (suc (suc (suc (suc (suc (suc (suc (suc (suc i))))))))) number found = cc
+breaking : (bytes : List ℕ) → Breaking 1 (header_rules bytes ++ file_rules bytes) (Breaks bytes)
+breaking bytes zero number found = test_of bytes 1 number _ found (λ h. too_short h)
+breaking bytes (suc zero) number found = test_of bytes 2 number _ found (λ h. not_elf h)
+breaking bytes (suc (suc zero)) number found = test_of bytes 3 number _ found (λ h. not_class64_little h)
+breaking bytes (suc (suc (suc zero))) number found = test_of bytes 4 number _ found (λ h. not_riscv h)
+breaking bytes (suc (suc (suc (suc zero)))) number found = test_of bytes 5 number _ found (λ h. not_linked h)
+breaking bytes (suc (suc (suc (suc (suc zero))))) number found = test_of bytes 6 number _ found (λ h. needs_an_extension h)
+breaking bytes (suc (suc (suc (suc (suc (suc zero)))))) number found = test_of bytes 7 number _ found (λ h. bad_program_headers h)
+breaking bytes (suc (suc (suc (suc (suc (suc (suc zero))))))) number found = bad_segment_at number (is_first_bad (length bytes) (headers_of bytes) number cc)
+breaking bytes (suc (suc (suc (suc (suc (suc (suc (suc zero)))))))) number found = test_of bytes 9 number _ found (λ h. too_big h)
+breaking bytes (suc (suc (suc (suc (suc (suc (suc (suc (suc i))))))))) number found = cc
 
-kind_is : (bytes : List ℕ) → is_not_linked bytes ≡ false → ((field 2 bytes 16 ≡ 2) × (kind_of bytes ≡ Exec)) ⊎ ((field 2 bytes 16 ≡ 3) × (kind_of bytes ≡ Dyn))
-kind_is bytes linked =
+kind_is : (bytes : List ℕ) → NoneBroken (Breaks bytes) → ((field 2 bytes 16 ≡ 2) × (kind_of bytes ≡ Exec)) ⊎ ((field 2 bytes 16 ≡ 3) × (kind_of bytes ≡ Dyn))
+kind_is bytes kept =
     elim (cases_eq (field 2 bytes 16) 2) [
       | inl exec ↦ inl (exec, rw exec)
-      | inr other ↦ (let dyn : field 2 bytes 16 ≡ 3 = grind arith in inr (dyn, rw dyn))
+      | inr other ↦ elim (cases_eq (field 2 bytes 16) 3) [
+        | inl dyn ↦ inr (dyn, rw dyn)
+        | inr neither ↦ absurd (kept 5 0 (not_linked (grind arith)))
+      ]
     ]
 
 -- a kind that agrees with the bytes is theirs
 same_kind : (bytes : List ℕ) (kind : Kind) → ((field 2 bytes 16 ≡ 2) × (kind ≡ Exec)) ⊎ ((field 2 bytes 16 ≡ 3) × (kind ≡ Dyn)) → kind ≡ kind_of bytes
 same_kind bytes kind agrees = elim agrees [ inl exec ↦ rw exec.0 exec.1 | inr dyn ↦ rw dyn.0 dyn.1 ]
 
--- the head of an accepted file is spelled by it
-spelled : (bytes : List ℕ) (head : Head) → head_verdict bytes ≡ Ok head → SpellsHead bytes head
-unfolding head_broken head_of headers_of
-spelled bytes head ok =
-    let parts = verdict_ok bytes head ok in
-    let linked = test_kept 1 (header_rules bytes ++ file_rules bytes) 4 (is_not_linked bytes) parts.0 refl in
-    subst (λ (h : Head). SpellsHead bytes h) (sym parts.1) (record {
-      kept = λ rule number broken. (let at = number_of_break bytes rule number broken in none_at 1 (header_rules bytes ++ file_rules bytes) at.0 number parts.0 at.2);
-      kind = kind_is bytes linked;
-      entry = refl;
-      count = length-table (header_at bytes) (table_start bytes) 56 (header_count bytes);
-      headers = λ i below. get-table (header_at bytes) (table_start bytes) 56 (header_count bytes) i below;
-    })
+-- what a file that breaks no rule says
+spelled : (bytes : List ℕ) → NoneBroken (Breaks bytes) → SpellsHead bytes (head_of bytes)
+unfolding head_of headers_of
+spelled bytes kept = record {
+  kept = kept;
+  kind = kind_is bytes kept;
+  entry = refl;
+  count = length-table (header_at bytes) (table_start bytes) 56 (header_count bytes);
+  headers = λ i below. get-table (header_at bytes) (table_start bytes) 56 (header_count bytes) i below;
+}
 
 same_headers : (bytes : List ℕ) (head : Head) → SpellsHead bytes head → head.headers ≡ headers_of bytes
 unfolding headers_of
@@ -125,33 +125,12 @@ same_head bytes head spells =
     same_parts head.kind (kind_of bytes) head.entry (field 8 bytes 24) head.headers (headers_of bytes)
     (same_kind bytes head.kind spells.kind) spells.entry (same_headers bytes head spells)
 
--- a first broken rule is one that the relation says
-breaks_first : (bytes : List ℕ) (fault : NotAccepted) → head_broken bytes ≡ Some fault → BreaksFirst bytes fault
-unfolding head_broken
-breaks_first bytes fault broken =
-    let at = first_at 1 (header_rules bytes ++ file_rules bytes) fault broken in
-    let rule : suc at.0 ≡ fault.rule = omega (arith, at.1) in
-    record {
-      broken = subst (λ n. Breaks bytes n fault.number) rule (break_of_number bytes at.0 fault.number at.2);
-      kept = λ other number below breaks. (let place = number_of_break bytes other number breaks in at.3 place.0 number (omega (arith, place.1, at.1)) place.2);
-    }
-
-first_broken_is : (bytes : List ℕ) (fault : NotAccepted) → BreaksFirst bytes fault → head_broken bytes ≡ Some fault
-unfolding head_broken
-first_broken_is bytes fault first =
-    let at = number_of_break bytes fault.rule fault.number first.broken in
-    let rule : 1 + at.0 ≡ fault.rule = omega (arith, at.1) in
-    is_first 1 (header_rules bytes ++ file_rules bytes) at.0 fault.number at.2 (λ j other below found. first.kept (suc j) other (omega (arith, at.1)) (break_of_number bytes j other found))
-    ∙ ap (λ n. Some (record { rule = n; number = fault.number })) rule
-
-none_broken : (bytes : List ℕ) (broken : Option NotAccepted) → head_broken bytes ≡ broken → ((rule number : ℕ) → Breaks bytes rule number → ⊥) → head_broken bytes ≡ None
-none_broken bytes None is kept = is
-none_broken bytes (Some fault) is kept = absurd (kept fault.rule fault.number (breaks_first bytes fault is).broken)
-
 pub accepted : (bytes : List ℕ) (head : Head) → (head_verdict bytes ≡ Ok head) ↔ SpellsHead bytes head
+unfolding head_verdict head_broken
 accepted bytes head =
-    (spelled bytes head, λ spells. accepted_verdict bytes (none_broken bytes _ refl spells.kept) ∙ ap Ok (sym (same_head bytes head spells)))
+    let one = accepts 1 (header_rules bytes ++ file_rules bytes) (Breaks bytes) (listed bytes) (breaking bytes) (head_of bytes) head in
+    (λ ok. (let got = one.0 ok in rw got.1 (spelled bytes got.0)), λ s. one.1 (s.kept, same_head bytes head s))
 
 pub refused : (bytes : List ℕ) (fault : NotAccepted) → (head_verdict bytes ≡ Err fault) ↔ BreaksFirst bytes fault
-refused bytes fault =
-    (λ err. breaks_first bytes fault (verdict_err bytes fault err), λ first. refused_verdict bytes fault (first_broken_is bytes fault first))
+unfolding head_verdict head_broken
+refused bytes = refuses 1 (header_rules bytes ++ file_rules bytes) (Breaks bytes) (listed bytes) (breaking bytes) (head_of bytes)

@@ -1,4 +1,4 @@
--- What the headers before one say of it, in a few words.
+-- What the headers before one say of it, in a few words: for a loop of this crate alone.
 use Rattle.std.specs.Prelude.{◌≡◌, Bool, true, false, is_some, nat_le, MatchOption, Option, ℕ, List, [], ◌∷◌, ◌++◌}
 use Rattle.std.specs.Option.{option_map_or}
 use Rattle.std.specs.List.{list_any}

@@ -6,6 +6,7 @@ use Rattle.ld_base.specs.declared.fault.NotAccepted.{NotAccepted}
 use Rattle.ld_base.specs.declared.object.Kind.TheVariants.{Exec, Dyn}
 use Rattle.ld_base.specs.declared.parts.Head.{Head}
 use Rattle.ld_base.specs.declared.parts.Header.{Header}
+use Rattle.acceptance.specs.First.{IsFirstBroken, NoneBroken}
 use Rattle.elf_head.specs.Header.{header_at, headers_of, header_count, is_loaded, table_start}
 use Rattle.elf_head.specs.Rules.{is_too_short, is_not_elf, is_not_class64_little, is_not_riscv, is_not_linked, needs_extension, has_bad_program_headers, is_too_big}
 use Rattle.elf_head.specs.Segments.{is_bad_at}
@@ -29,13 +30,12 @@ pub data Breaks (bytes : List ℕ) : ℕ → ℕ → Type 0 where
 
 -- no rule is broken, and each field of the head stands at its place
 pub record SpellsHead (bytes : List ℕ) (head : Head) : Type 0 where
-  pub kept : (rule number : ℕ) → Breaks bytes rule number → ⊥
+  pub kept : NoneBroken (Breaks bytes)
   pub kind : ((field 2 bytes 16 ≡ 2) × (head.kind ≡ Exec)) ⊎ ((field 2 bytes 16 ≡ 3) × (head.kind ≡ Dyn))
   pub entry : head.entry ≡ field 8 bytes 24
   pub count : length head.headers ≡ header_count bytes
   pub headers : (i : ℕ) → i < header_count bytes → slice_get head.headers i ≡ Some (header_at bytes (table_start bytes + 56 * i))
 
 -- the rule is broken with this number, and no rule before it is broken
-pub record BreaksFirst (bytes : List ℕ) (fault : NotAccepted) : Type 0 where
-  pub broken : Breaks bytes fault.rule fault.number
-  pub kept : (rule number : ℕ) → rule < fault.rule → Breaks bytes rule number → ⊥
+abbrev pub BreaksFirst : List ℕ → NotAccepted → Type 0
+BreaksFirst bytes fault = IsFirstBroken (Breaks bytes) fault
