@@ -11,7 +11,7 @@ use Rattle.acceptance.specs.Entries.{◌>>=◌, entries_of}
 use Rattle.dyn_table.specs.Name.{string_at}
 use Rattle.dyn_table.specs.Tag.{last_of}
 use Rattle.dyn_table.specs.TagNumbers.{dt_versym, dt_verdef, dt_verdefnum, dt_verneed, dt_verneednum}
-use Rattle.elf_versions.specs.declared.verneed.Need.{Need}
+use Rattle.elf_versions.specs.Need.{Need}
 use Rattle.elf_versions.specs.Linked.{is_linked, place}
 use Rattle.elf_versions.specs.Record.{bad_table, distance, named, passing, record_at, value_of}
 use Rattle.elf_versions.specs.Source.{Source}

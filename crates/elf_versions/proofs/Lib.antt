@@ -1,5 +1,6 @@
 pub mod Faults
 pub mod Laws
 pub mod Marks
+pub mod Named
 pub mod Reading
 pub mod Verdicts

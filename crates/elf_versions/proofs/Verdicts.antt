@@ -20,7 +20,7 @@ use Rattle.elf_versions.specs.Index.{indexes_of, is_unknown, unknown_index}
 use Rattle.elf_versions.specs.Spells.{BreaksFirst, IsUnknownAt, Say, SpellsVersions}
 use Rattle.elf_versions.specs.Spells.BreaksFirst.{bad_versym, bad_verdefs, bad_verneeds, unknown}
 use Rattle.elf_versions.specs.Verdef.{verdefs_of}
-use Rattle.elf_versions.specs.Verdict.{bad_index, source_of, tables_of, versions_verdict, with_indexes}
+use Rattle.elf_versions.specs.Verdict.{bad_index, source_of, tables_of, versions_in, versions_verdict, with_indexes}
 use Rattle.elf_versions.specs.Verneed.{verneeds_of}
 use Rattle.elf_versions.specs.Versym.{versym_of}
 
@@ -122,7 +122,7 @@ module _ (strings : Strings) (bytes : List ℕ) (head : Head) (parts : DynParts)
       rw (versym_read (src dt_versym) parts.tags (length parts.symbols) v.versym s.versym, verdefs_read strings (src dt_verdef) parts.tags v.verdefs s.verdefs, verneeds_read strings (src dt_verneed) parts.tags v.verneeds s.verneeds, made) refl
 
   pub accepted : (v : Versions) → (versions_verdict bytes head parts ≡ Ok v) ↔ SpellsVersions bytes head parts v
-  unfolding versions_verdict with_indexes
+  unfolding versions_in with_indexes
   accepted v = (
     λ e.
         let t = bind_ok (tables_of bytes head.headers parts.tags (length parts.symbols)) _ v e in
@@ -134,7 +134,7 @@ module _ (strings : Strings) (bytes : List ℕ) (head : Head) (parts : DynParts)
   )
 
   refused_from : (fault : NotAccepted) → versions_verdict bytes head parts ≡ Err fault → BreaksFirst bytes head parts fault
-  unfolding versions_verdict with_indexes tables_of
+  unfolding versions_in with_indexes tables_of
   refused_from fault e =
       let src = source_of bytes head.headers parts.tags in
       let count = length parts.symbols in
@@ -159,7 +159,7 @@ module _ (strings : Strings) (bytes : List ℕ) (head : Head) (parts : DynParts)
       ]
 
   refused_is : (fault : NotAccepted) → BreaksFirst bytes head parts fault → versions_verdict bytes head parts ≡ Err fault
-  unfolding versions_verdict with_indexes tables_of
+  unfolding versions_in with_indexes tables_of
   refused_is fault (bad_versym never) =
       let src = source_of bytes head.headers parts.tags dt_versym in
       rw (fails_with dt_versym (versym_of src parts.tags (length parts.symbols)) (versym_fails src parts.tags (length parts.symbols)) (λ x is. never x (versym_is src parts.tags (length parts.symbols) x is))) refl

@@ -1,5 +1,7 @@
 pub mod Index
 pub mod Linked
+pub mod Names
+pub mod Need
 pub mod Record
 pub mod Source
 pub mod Spells

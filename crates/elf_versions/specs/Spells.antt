@@ -15,7 +15,7 @@ use Rattle.acceptance.specs.Entries.{AreEntries}
 use Rattle.dyn_table.specs.Name.{IsStringAt}
 use Rattle.dyn_table.specs.Tag.{last_of}
 use Rattle.dyn_table.specs.TagNumbers.{dt_versym, dt_verdef, dt_verdefnum, dt_verneed, dt_verneednum}
-use Rattle.elf_versions.specs.declared.verneed.Need.{Need}
+use Rattle.elf_versions.specs.Need.{Need}
 use Rattle.elf_versions.specs.Index.{indexes_of, is_unknown}
 use Rattle.elf_versions.specs.Linked.{place}
 use Rattle.elf_versions.specs.Record.{bad_table, distance, value_of}

@@ -42,8 +42,12 @@ bad_index symbol = record { rule = 18; number = symbol }
 unfoldable pub with_indexes : Versions → Result Versions NotAccepted
 with_indexes versions = option_map_or (λ symbol. Err (bad_index symbol)) (unknown_index versions) (Ok versions)
 
--- the versions of an object, or the rule that its tables break first
-unfoldable pub versions_verdict : List ℕ → Head → DynParts → Result Versions NotAccepted
-versions_verdict bytes head parts = do
-  versions ← tables_of bytes head.headers parts.tags (length parts.symbols)
+-- the versions of so many symbols that the tables with these entries say, or the rule that they break first
+unfoldable pub versions_in : List ℕ → List Header → List Tag → ℕ → Result Versions NotAccepted
+versions_in bytes headers tags count = do
+  versions ← tables_of bytes headers tags count
   with_indexes versions
+
+-- those of an object
+abbrev pub versions_verdict : List ℕ → Head → DynParts → Result Versions NotAccepted
+versions_verdict bytes head parts = versions_in bytes head.headers parts.tags (length parts.symbols)

@@ -1,10 +1,12 @@
 //! Which version indexes there are.
 
-ghost use Rattle.std.specs.Prelude.{◌≡◌, ◌==◌, ◌%◌, ◌<◌, ◌&&◌, ◌^◌, ℕ, IfOk, not, nat_le, length, position, slice_index_or, false, ◌≤◌};
+ghost use Rattle.std.specs.Prelude.{◌≡◌, ◌==◌, ◌%◌, ◌<◌, ◌&&◌, ◌^◌, ℕ, IfOk, ◌++◌, map, not, nat_le, length, position, slice_index_or, false, ◌≤◌};
 ghost use Rattle.std.specs.List.{list_any};
-ghost use Rattle.elf_versions.specs.Index.{indexes_of, unknown_index};
+ghost use Rattle.elf_versions.specs.Index.{unknown_index};
 
-use ld_base::{Verdef, Verneed, Versions};
+use crate::judged::JudgedVersions;
+use crate::verdef::VerdefRecord;
+use crate::verneed::VerneedRecord;
 use std::alloc::{AllocError, Global};
 
 /// How many 16-bit numbers there are.
@@ -13,10 +15,10 @@ const SHORTS: usize = 1 << 16;
 /// The indexes of these versions.
 fn indexes_of(
     alloc: Global,
-    verdefs: &[Verdef],
-    verneeds: &[Verneed],
+    verdefs: &[VerdefRecord],
+    verneeds: &[VerneedRecord],
 ) -> Result<Vec<u16>, AllocError>
-    ensures { IfOk result (λ indexes. indexes.items ≡ indexes_of verdefs.now verneeds.now) }
+    ensures { IfOk result (λ indexes. indexes.items ≡ map (λ d. d.index) verdefs.now ++ map (λ n. n.index) verneeds.now) }
 {
     let defined = verdefs.iter().map(|verdef| verdef.index);
     let needed = verneeds.iter().map(|verneed| verneed.index);
@@ -54,14 +56,13 @@ fn first_unmarked(marks: &[bool], versym: &[u16]) -> Option<usize>
 
 /// The first symbol whose version index isn't there.
 #[tactic(auto, unfolding(crate::specs::Index::unknown_index))]
-pub(crate) fn unknown_index(alloc: Global, versions: &Versions) -> Result<Option<usize>, AllocError>
+pub(crate) fn unknown_index(
+    alloc: Global,
+    versions: &JudgedVersions,
+) -> Result<Option<usize>, AllocError>
     ensures { IfOk result (λ symbol. symbol ≡ unknown_index versions.now) }
 {
-    let indexes = indexes_of(
-        alloc,
-        versions.verdefs.as_slice(),
-        versions.verneeds.as_slice(),
-    )?;
+    let indexes = indexes_of(alloc, &versions.verdefs, &versions.verneeds)?;
     let marks = marks_of(alloc, &indexes, SHORTS)?;
     Ok(first_unmarked(&marks, versions.versym.as_slice()))
 }

@@ -3,6 +3,7 @@
 //!
 //! [`read_versions`] reads the tables of the tags VERSYM, VERDEF and VERNEED. It answers what they say
 //! exactly where they break neither of these rules, and else the first that they break, with a number.
+//! [`judge_versions`] does the same before a name is copied.
 //!
 //! 17. Each table is well formed. That of VERSYM has an entry for each symbol. Each Verdef and each
 //!     Verneed has version 1 and counts at least one name; each record but the last of its chain
@@ -14,6 +15,7 @@
 #![tactic(auto)]
 
 mod index;
+mod judged;
 mod law;
 mod reader;
 mod records;
@@ -21,5 +23,6 @@ mod verdef;
 mod verneed;
 mod versym;
 
+pub use judged::JudgedVersions;
 pub use law::one_verdict;
-pub use reader::read_versions;
+pub use reader::{judge_versions, read_versions};

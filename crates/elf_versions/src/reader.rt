@@ -3,9 +3,10 @@
 ghost use Rattle.std.specs.Prelude.{◌≡◌, Ok, length};
 ghost use Rattle.acceptance.specs.Gives.{Gives};
 ghost use Rattle.elf_head.specs.Rules.{head_verdict};
-ghost use Rattle.elf_versions.specs.Verdict.{strings_of, tables_of, versions_verdict};
+ghost use Rattle.elf_versions.specs.Verdict.{strings_of, tables_of, versions_in, versions_verdict};
 
 use crate::index::unknown_index;
+use crate::judged::JudgedVersions;
 use crate::records::Records;
 use crate::verdef::read_verdefs;
 use crate::verneed::read_verneeds;
@@ -30,13 +31,13 @@ fn strings_of<'a>(bytes: &'a [u8], head: &Head, tags: &[Tag]) -> &'a [u8]
 
 /// What the tables say, for so many symbols (rule 17).
 #[tactic(auto, unfolding(crate::specs::Verdict::tables_of))]
-fn read_tables(
+fn read_tables<'a>(
     alloc: Global,
-    bytes: &[u8],
+    bytes: &'a [u8],
     head: &Head,
     tags: &[Tag],
     count: u32,
-) -> Result<Versions, ReadFault>
+) -> Result<JudgedVersions<'a>, ReadFault>
     requires { head_verdict bytes.now ≡ Ok head.now }
     ensures { Gives result (tables_of bytes.now head.now.headers tags.now count) }
 {
@@ -49,7 +50,8 @@ fn read_tables(
     )?;
     let verdefs = read_verdefs(alloc, &Records::new(bytes, head, strings, DT_VERDEF), tags)?;
     let verneeds = read_verneeds(alloc, &Records::new(bytes, head, strings, DT_VERNEED), tags)?;
-    Ok(Versions {
+    Ok(JudgedVersions {
+        strings,
         has_versym: last_of(tags, DT_VERSYM).is_some(),
         versym,
         verdefs,
@@ -57,13 +59,40 @@ fn read_tables(
     })
 }
 
-/// Reads the versions that an object defines, those that it needs, and the version index of each of
-/// its symbols.
+/// Judges the version tables that these entries of the dynamic table name, for so many symbols. No
+/// name is copied: what bounds their memory comes later, so that a rule of another table may be
+/// broken first.
 ///
 /// # Errors
 ///
 /// The first of the rules 17 and 18 that the tables break, with its number, or want of memory.
-#[tactic(auto, unfolding(crate::specs::Verdict::versions_verdict, crate::specs::Verdict::with_indexes))]
+#[tactic(auto, unfolding(crate::specs::Verdict::versions_in, crate::specs::Verdict::with_indexes))]
+pub fn judge_versions<'a>(
+    alloc: Global,
+    bytes: &'a [u8],
+    head: &Head,
+    tags: &[Tag],
+    count: u32,
+) -> Result<JudgedVersions<'a>, ReadFault>
+    requires { head_verdict bytes.now ≡ Ok head.now }
+    ensures { Gives result (versions_in bytes.now head.now.headers tags.now count) }
+{
+    let versions = read_tables(alloc, bytes, head, tags, count)?;
+    match unknown_index(alloc, &versions)? {
+        Some(symbol) => Err(ReadFault::NotAccepted(NotAccepted {
+            rule: 18,
+            number: symbol as u64,
+        })),
+        None => Ok(versions),
+    }
+}
+
+/// Reads the versions that an object defines, those that it needs, and the version index of each of
+/// its symbols. Its parts are those that `read_dynamic` answers for these bytes.
+///
+/// # Errors
+///
+/// The first of the rules 17 and 18 that the tables break, with its number, or want of memory.
 pub fn read_versions(
     alloc: Global,
     bytes: &[u8],
@@ -73,18 +102,7 @@ pub fn read_versions(
     requires { head_verdict bytes.now ≡ Ok head.now }
     ensures { Gives result (versions_verdict bytes.now head.now parts.now) }
 {
-    let versions = read_tables(
-        alloc,
-        bytes,
-        head,
-        parts.tags.as_slice(),
-        parts.symbols.len(),
-    )?;
-    match unknown_index(alloc, &versions)? {
-        Some(symbol) => Err(ReadFault::NotAccepted(NotAccepted {
-            rule: 18,
-            number: symbol as u64,
-        })),
-        None => Ok(versions),
-    }
+    let tags = parts.tags.as_slice();
+    let versions = judge_versions(alloc, bytes, head, tags, parts.symbols.len())?;
+    Ok(versions.into_versions(alloc)?)
 }

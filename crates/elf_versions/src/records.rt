@@ -5,12 +5,12 @@ ghost use Rattle.std.specs.Result.{result_map_both};
 ghost use Rattle.acceptance.specs.Gives.{Gives};
 ghost use Rattle.elf_head.specs.Rules.{head_verdict};
 ghost use Rattle.ld_base.specs.declared.fault.ReadFault.TheVariants as faults;
+ghost use Rattle.dyn_table.specs.Name.{string_in};
 ghost use Rattle.elf_versions.specs.Record.{bad_table, named, record_at};
 
 use dyn_table::string_at;
 use elf_head::file_bytes;
-use ld_base::{Head, Name, NotAccepted, ReadFault};
-use std::alloc::Global;
+use ld_base::{Head, NotAccepted, ReadFault};
 use std::marker::Model;
 
 /// The most records of one kind: there are no more version indexes.
@@ -79,13 +79,13 @@ impl<'a> Records<'a> {
         }
     }
 
-    /// The name at an offset of the string table.
+    /// The offset of a name, where a string of the string table stands.
     #[tactic(auto, unfolding(crate::specs::Record::named))]
-    pub(crate) fn name_at(&self, alloc: Global, offset: u32) -> Result<Name, ReadFault>
-        ensures { Gives result (named self.now offset) }
+    pub(crate) fn named(&self, offset: u32) -> Result<u32, ReadFault>
+        ensures { Gives (result_map_both (λ at. string_in self.now.strings at) (λ fault. fault) result) (named self.now offset) }
     {
         match string_at(self.strings, offset.into()) {
-            Some(bytes) => Ok(Name::new(alloc, bytes)?),
+            Some(_) => Ok(offset),
             None => Err(self.fault()),
         }
     }
