@@ -57,7 +57,7 @@ node_dies s ns set dies o inside unneeded =
     subst (λ (xs : List ℕ). Contains xs o.serial) (sym un.are) (in_filter un.leave (map serial_of ns.objects) o.serial node ((un.exactly o.serial node).1 unneeded))
 
 -- what leads into the dying set dies with it
-dies_along : (s : State) (ns : Namespace) (set : List ℕ) → Good (core s) → Dies s ns set → (ms : Namespace) (o : Loaded) (d : ℕ)
+pub dies_along : (s : State) (ns : Namespace) (set : List ℕ) → Good (core s) → Dies s ns set → (ms : Namespace) (o : Loaded) (d : ℕ)
     → Inside s.namespaces ms o → Leads s.grants s.chosen o d → Contains set d → Contains set o.serial
 dies_along s ns set good dies ms o d inside leads h =
     let node = dies_node s ns set dies d h in

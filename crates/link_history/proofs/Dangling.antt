@@ -39,7 +39,7 @@ lives Open kept = refl
 lives Bound kept = refl
 lives (Lost saw) kept = absurd (kept saw refl)
 
-leads_from : (s : State) (o : Loaded) (d : ℕ) → LeadsTo s o d → Leads s.grants s.chosen o d
+pub leads_from : (s : State) (o : Loaded) (d : ℕ) → LeadsTo s o d → Leads s.grants s.chosen o d
 leads_from s o d (found h) = inl h
 leads_from s o d (chosen c there owner h) = inr (inl (c, there, owner, h))
 leads_from s o d (granted g there owner kept h) = inr (inr (g, there, owner, lives g.standing kept, h))

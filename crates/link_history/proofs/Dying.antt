@@ -169,6 +169,12 @@ startup_root s d h = root (unfold_roots s d
     (Contains-append_left (startup_serials s ++ flat_map opened_roots s.namespaces) s.pinned d
     (Contains-append_left (startup_serials s) (flat_map opened_roots s.namespaces) d h)))))
 
+pub pinned_root : (s : State) (d : ℕ) → Contains s.pinned d → Needed s d
+pinned_root s d h = root (unfold_roots s d
+    (Contains-append_left (startup_serials s ++ flat_map opened_roots s.namespaces ++ s.pinned ++ flat_map staying_roots (mapped s)) (flat_map granted_roots s.grants) d
+    (Contains-append_left (startup_serials s ++ flat_map opened_roots s.namespaces ++ s.pinned) (flat_map staying_roots (mapped s)) d
+    (Contains-append_right (startup_serials s ++ flat_map opened_roots s.namespaces) s.pinned d h))))
+
 in_staying : (o : Loaded) (t : Bool) → t ≡ true → Contains (if t then o.serial ∷ [] else []) o.serial
 in_staying o true e = here o.serial []
 in_staying o false e = absurd (true≢false (sym e))

@@ -8,15 +8,13 @@ pub mod Closed
 pub mod Dangling
 pub mod Dying
 pub mod Entering
+pub mod Frame
 pub mod Good
 pub mod Granted
 pub mod History
-pub mod Steps
-pub mod Tidy
-pub mod Worked
 pub mod Imaged
-pub mod LeftOut
 pub mod Lazy
+pub mod LeftOut
 pub mod Lists
 pub mod Map
 pub mod Modular
@@ -27,4 +25,8 @@ pub mod Pages
 pub mod Placed
 pub mod Ranges
 pub mod Scopes
+pub mod Spare
 pub mod Startup
+pub mod Steps
+pub mod Tidy
+pub mod Worked

@@ -59,7 +59,7 @@ abbrev OneImage : List Linked → Type 0
 OneImage images = (i j : Linked) → Contains images i → Contains images j → i.serial ≡ j.serial → i ≡ j
 
 -- an image that an opening makes is that of a new object
-made_of : (s : State) (hart : ℕ) (ask : OpenAsk) (id root : ℕ) (added : List Loaded) (ranges : List Range) (i : Linked)
+pub made_of : (s : State) (hart : ℕ) (ask : OpenAsk) (id root : ℕ) (added : List Loaded) (ranges : List Range) (i : Linked)
     → Contains (linked_with s.images (map (uncopied (loaded s hart ask id root added ranges) (seen_after s ask id root added) (binds s ask)) added)) i
     → (a : Loaded) × Contains added a
     × (with_copies (s.images ++ map (uncopied (loaded s hart ask id root added ranges) (seen_after s ask id root added) (binds s ask)) added) (uncopied (loaded s hart ask id root added ranges) (seen_after s ask id root added) (binds s ask) a) ≡ i)
@@ -199,6 +199,34 @@ one_cover ranges apart a r q first second in_r in_q =
     page_from : (a page start j n : ℕ) → page ≡ 0x10000 + 4096 * j → start ≡ 0x10000 + 4096 * n → a < page + 4096 → start ≤ a → start ≤ page
     page_from a page start j n is at high from = omega (arith, is, at, high, from)
 
+-- no address of a range is of the linker's page
+pub no_linkers : (ranges : List Range) → Apart ranges → (a : ℕ) (r : Range) → Contains ranges r → covers a r ≡ true → is_linkers_page a ≡ false
+no_linkers ranges apart a r there e =
+    let at = within_of a r e in
+    let from : r.address ≤ a = at.0 in
+    let to : a < r.address + 4096 * r.pages = at.1 in
+    let high : r.address + 4096 * r.pages ≤ 0x80f000 = (range_lies ranges apart r there (omega (arith, from, to))).2 in
+    and_left (leb 0x80f000 a) (ltb a 0x810000) (below a (omega (arith, to, high)))
+  where
+    below : (x : ℕ) → x < 0x80f000 → leb 0x80f000 x ≡ false
+    below x lt = ⊎_elim (λ (t : leb 0x80f000 x ≡ true). absurd (let le : 0x80f000 ≤ x = leb-true 0x80f000 x t in omega (arith, le, lt))) (λ (f : leb 0x80f000 x ≡ false). f) (cases_Bool (leb 0x80f000 x))
+
+-- an image that has an address in its pages has it in its range
+pub covers_in : PageLaws → (s : State) → Apart s.ranges → (i : Linked) → IsAccepted i.object → (r : IsRangeOf s.ranges i) → (a : ℕ) → a < 2 ^ 64 → is_in i a ≡ true → covers a r.range ≡ true
+covers_in laws s apart i accepted r a word e =
+    let l = lies laws s apart i accepted r in
+    let n : ℕ = 4096 * pages_of i.object in
+    let A : ℕ = r.range.address in
+    let few : low_of i.object + 4096 * pages_of i.object < 2 ^ 33 = laws.few i.object accepted.image in
+    let high : A + 4096 * pages_of i.object ≤ 0x80f000 = l.high in
+    let parts = and_parts (leb (low_of i.object) (own_address i.base a)) (ltb (own_address i.base a) (low_of i.object + 4096 * pages_of i.object)) e in
+    let at = own_in (low_of i.object) A a n (omega (arith, few)) (omega (arith, high)) word
+    (subst (λ (b : ℕ). low_of i.object ≤ own_address b a) l.base (leb-true (low_of i.object) (own_address i.base a) parts.0))
+    (subst (λ (b : ℕ). own_address b a < low_of i.object + n) l.base (ltb-true (own_address i.base a) (low_of i.object + n) parts.1)) in
+    let to : a < A + n = at.1 in
+    let pages : r.range.pages ≡ pages_of i.object = r.pages in
+    covered a r.range at.0 (omega (arith, to, pages))
+
 -- ---- the image of an address
 
 module _ (laws : PageLaws) (s : State) (m : Mapped s) where
@@ -227,22 +255,8 @@ module _ (laws : PageLaws) (s : State) (m : Mapped s) where
       (le-leb (low_of i.object) (own_address i.base a) (omega (arith, own)))
       (lt-ltb (own_address i.base a) (low_of i.object + 4096 * pages_of i.object) (omega (arith, own, from, to)))
 
-  pub pages_in : (i : Linked) (there : Contains s.images i) (a : ℕ) → a < 2 ^ 64 → is_in i a ≡ true → (start_at i there ≤ a) × (a < start_at i there + 4096 * pages_of i.object)
-  pages_in i there a word e =
-      let parts = and_parts (leb (low_of i.object) (own_address i.base a)) (ltb (own_address i.base a) (low_of i.object + 4096 * pages_of i.object)) e in
-      let base = (placed i there).base in
-      own_in (low_of i.object) (start_at i there) a (4096 * pages_of i.object) (fits i there).0 (fits i there).1 word
-      (subst (λ (b : ℕ). low_of i.object ≤ own_address b a) base (leb-true (low_of i.object) (own_address i.base a) parts.0))
-      (subst (λ (b : ℕ). own_address b a < low_of i.object + 4096 * pages_of i.object) base (ltb-true (own_address i.base a) (low_of i.object + 4096 * pages_of i.object) parts.1))
-
-  -- an image that has an address in its pages has it in its range
   pub range_in : (i : Linked) (there : Contains s.images i) (a : ℕ) → a < 2 ^ 64 → is_in i a ≡ true → covers a (m.range i there).range ≡ true
-  range_in i there a word e =
-      let at = pages_in i there a word e in
-      let pages : (m.range i there).range.pages ≡ pages_of i.object = (m.range i there).pages in
-      let from : start_at i there ≤ a = at.0 in
-      let to : a < start_at i there + 4096 * pages_of i.object = at.1 in
-      covered a (m.range i there).range from (omega (arith, to, pages))
+  range_in i there a word e = covers_in laws s m.apart i (m.accepted i there) (m.range i there) a word e
 
   -- it is the one image that has it
   pub image_there : (i : Linked) → Contains s.images i → (a : ℕ) → a < 2 ^ 64 → is_in i a ≡ true → image_at s a ≡ Some i
@@ -260,13 +274,7 @@ module _ (laws : PageLaws) (s : State) (m : Mapped s) where
 
   -- no image's page is the linker's
   pub not_linkers : (i : Linked) (there : Contains s.images i) (a : ℕ) → a < 2 ^ 64 → is_in i a ≡ true → is_linkers_page a ≡ false
-  not_linkers i there a word e =
-      let to : a < start_at i there + 4096 * pages_of i.object = (pages_in i there a word e).1 in
-      let high : start_at i there + 4096 * pages_of i.object ≤ 0x80f000 = (placed i there).high in
-      and_left (leb 0x80f000 a) (ltb a 0x810000) (below a (omega (arith, to, high)))
-    where
-      below : (x : ℕ) → x < 0x80f000 → leb 0x80f000 x ≡ false
-      below x lt = ⊎_elim (λ (t : leb 0x80f000 x ≡ true). absurd (let le : 0x80f000 ≤ x = leb-true 0x80f000 x t in omega (arith, le, lt))) (λ (f : leb 0x80f000 x ≡ false). f) (cases_Bool (leb 0x80f000 x))
+  not_linkers i there a word e = no_linkers s.ranges m.apart a (m.range i there).range (m.range i there).there (range_in i there a word e)
 
   pub role_in_image : (i : Linked) → Contains s.images i → (a : ℕ) → a < 2 ^ 64 → is_in i a ≡ true → role_at s a ≡ role_of i.object (own_address i.base a)
   unfolding role_at

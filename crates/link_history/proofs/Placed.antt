@@ -43,12 +43,12 @@ more_ranges ranges more m i = record { range = i.range; there = Contains-append_
 -- ---- an opening
 
 -- what is known of a new object's pages
-record HasPages (ranges : List Range) (a : Loaded) : Type 0 where
-  range : Range
-  there : Contains ranges range
-  purpose : range.purpose ≡ purposes.Object a.serial
-  pages : range.pages ≡ pages_of a.object
-  base : a.base ≡ own_address (low_of a.object) range.address
+pub record HasPages (ranges : List Range) (a : Loaded) : Type 0 where
+  pub range : Range
+  pub there : Contains ranges range
+  pub purpose : range.purpose ≡ purposes.Object a.serial
+  pub pages : range.pages ≡ pages_of a.object
+  pub base : a.base ≡ own_address (low_of a.object) range.address
 
 given_pages : (free : List ℕ) (added : List Loaded) (others : List Area) (ranges : List Range) (left : List ℕ) → AreGiven free (map object_area added ++ others) ranges left → AreBased added ranges
     → (a : Loaded) → Contains added a → HasPages ranges a
@@ -61,7 +61,7 @@ given_pages free (o ∷ added) others (r ∷ ranges) left given based a h = ⊎_
     record { range = rest.range; there = later r ranges rest.range rest.there; purpose = rest.purpose; pages = rest.pages; base = rest.base })
     (first_or_later o added a h)
 
-opens_pages : (w : Setting) (s : State) (hart : ℕ) (ask : OpenAsk) (id root : ℕ) (added : List Loaded) (ranges : List Range) (name : Option (List ℕ))
+pub opens_pages : (w : Setting) (s : State) (hart : ℕ) (ask : OpenAsk) (id root : ℕ) (added : List Loaded) (ranges : List Range) (name : Option (List ℕ))
     → OpensName w s hart ask name id root added ranges → (a : Loaded) → Contains added a → HasPages ranges a
 opens_pages w s hart ask id root added ranges (Some name) loads a h = given_pages (free_pages s.ranges) added _ ranges loads.placed.left loads.placed.given loads.placed.based a h
 opens_pages w s hart ask id root added ranges None program a h = absurd (none_in a (subst (λ (os : List Loaded). Contains os a) program.none h))

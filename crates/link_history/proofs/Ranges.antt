@@ -32,7 +32,7 @@ use Rattle.link_history.specs.Setting.{Machine, Setting}
 use Rattle.link_history.specs.Step.{add_block, block_range, block_ranges, die, goes_with, initialise, loaded, lower, step, unmap}
 use Rattle.link_history.specs.Storage.{residue}
 use Rattle.link_history.proofs.History.{by_history}
-use Rattle.link_history.proofs.Lists.{from_filter, in_any_not, none_in}
+use Rattle.link_history.proofs.Lists.{first_or_later, from_filter, in_any_not, none_in}
 use Rattle.link_history.proofs.Pages.{page_number}
 
 -- no two ranges have a page in common, and each lies in guest memory
@@ -45,7 +45,7 @@ pub record Apart (ranges : List Range) : Type 0 where
 abbrev Clear : List ℕ → List Range → Type 0
 Clear free ranges = (page : ℕ) → Contains free page → Contains guest_pages page × ((r : Range) → Contains ranges r → is_within r.address r.pages page ≡ false)
 
-clear_free : (ranges : List Range) → Clear (free_pages ranges) ranges
+pub clear_free : (ranges : List Range) → Clear (free_pages ranges) ranges
 unfolding free_pages
 clear_free ranges page h =
     let kept = from_filter (λ p. not (list_any (λ (r : Range). is_within r.address r.pages p) ranges)) guest_pages page h in
@@ -122,6 +122,21 @@ given_apart free (a ∷ wanted) (r ∷ rs) left ranges g apart clear =
     subst Apart (append_one ranges r rs)
     (given_apart (without free r.address r.pages) wanted rs left (ranges ++ r ∷ []) g.1 (apart_push free ranges r apart clear all) (clear_without free ranges r clear))
 
+-- the pages that are given are free before
+pub given_free : (free : List ℕ) (wanted : List Area) (given : List Range) (left : List ℕ) → AreGiven free wanted given left → (r : Range) → Contains given r → AllFree free r.address r.pages
+given_free free [] [] left g r h = absurd (none_in r h)
+given_free free [] (q ∷ qs) left g r h = absurd g
+given_free free (a ∷ wanted) [] left g r h = absurd g
+given_free free (a ∷ wanted) (q ∷ qs) left g r h = ⊎_elim
+    (λ (e : q ≡ r). subst (λ (x : Range). AllFree free x.address x.pages) e (subst (AllFree free q.address) (sym g.0.pages) (stands_free free a.pages q.address a.place g.0.stands)))
+    (λ (i : Contains qs r). λ k few. (from_filter (λ p. not (is_within q.address q.pages p)) free (r.address + 4096 * k) (given_free (without free q.address q.pages) wanted qs left g.1 r i k few)).0)
+    (first_or_later q qs r h)
+
+pub opens_free : (w : Setting) (s : State) (hart : ℕ) (ask : OpenAsk) (id root : ℕ) (added : List Loaded) (ranges : List Range) (name : Option (List ℕ))
+    → OpensName w s hart ask name id root added ranges → (r : Range) → Contains ranges r → AllFree (free_pages s.ranges) r.address r.pages
+opens_free w s hart ask id root added ranges (Some name) loads r h = given_free (free_pages s.ranges) _ ranges loads.placed.left loads.placed.given r h
+opens_free w s hart ask id root added ranges None program r h = absurd (none_in r (subst (λ (rs : List Range). Contains rs r) program.no_pages h))
+
 apart_filter : (p : Range → Bool) (ranges : List Range) → Apart ranges → Apart (filter p ranges)
 apart_filter p ranges apart = record {
   one = λ page r q first second. apart.one page r q (from_filter p ranges r first).0 (from_filter p ranges q second).0;
@@ -150,19 +165,26 @@ sym_apart : (s : State) (hart : ℕ) (ask : SymAsk) (answer : SymAnswer) → Apa
 sym_apart s hart ask (syms.Found serial index value) apart = apart
 sym_apart s hart ask (syms.Refused fault) apart = apart
 
-block_apart : (s : State) (hart serial a : ℕ) → MayHaveBlock s hart serial a → Apart s.ranges → Apart (add_block hart serial a s).ranges
-block_apart s hart serial a may apart =
+-- the pages of a block are free before
+pub block_free : (s : State) (hart serial a : ℕ) → MayHaveBlock s hart serial a → (r : Range) × (block_ranges s hart serial a ≡ r ∷ []) × AllFree (free_pages s.ranges) r.address r.pages
+block_free s hart serial a may =
     let segment : option_and_then (λ (o : Loaded). o.object.tls) (object_at s serial) ≡ Some may.seg =
     ap (option_and_then (λ (o : Loaded). o.object.tls)) may.wants.mapped ∙ may.wants.storage in
-    let ranges : block_ranges s hart serial a ≡ block_range hart serial a may.seg ∷ [] = ap (λ (found : Option TlsSeg). option_map_or (λ seg. block_range hart serial a seg ∷ []) found []) segment in
     let is : a ≡ may.pages + residue may.seg = may.is in
     let at : may.pages ≡ a - residue may.seg = behind a may.pages (residue may.seg) is in
-    subst (λ (rs : List Range). Apart (s.ranges ++ rs)) (sym ranges)
-    (apart_push (free_pages s.ranges) s.ranges (block_range hart serial a may.seg) apart (clear_free s.ranges)
-    (subst (λ (x : ℕ). AllFree (free_pages s.ranges) x (block_range hart serial a may.seg).pages) at may.first.fits.room))
+    (
+      block_range hart serial a may.seg,
+      ap (λ (found : Option TlsSeg). option_map_or (λ seg. block_range hart serial a seg ∷ []) found []) segment,
+      subst (λ (x : ℕ). AllFree (free_pages s.ranges) x (block_range hart serial a may.seg).pages) at may.first.fits.room,
+    )
   where
     behind : (x y z : ℕ) → x ≡ y + z → y ≡ x - z
     behind x y z e = omega (arith, e)
+
+block_apart : (s : State) (hart serial a : ℕ) → MayHaveBlock s hart serial a → Apart s.ranges → Apart (add_block hart serial a s).ranges
+block_apart s hart serial a may apart =
+    let free = block_free s hart serial a may in
+    subst (λ (rs : List Range). Apart (s.ranges ++ rs)) (sym free.1) (apart_push (free_pages s.ranges) s.ranges free.0 apart (clear_free s.ranges) free.2)
 
 apart_step : (w : Setting) (past : List Event) (s : State) (e : Event) → AllowedIn w past s e → Apart s.ranges → Apart (step s e).ranges
 unfolding unmap initialise

@@ -21,10 +21,12 @@ use Rattle.link_event.specs.declared.state.Closing.{Closing}
 use Rattle.link_event.specs.declared.state.Granting.{Granting}
 use Rattle.link_event.specs.declared.state.Module.{Module}
 use Rattle.link_event.specs.declared.state.Standing.TheVariants.{Bound, Lost, Open}
+use Rattle.scope_rule.specs.Breadth.{breadth}
 use Rattle.scope_rule.specs.Loading.{is_dying}
 use Rattle.scope_rule.specs.Scope.{scope, whole_scope}
 use Rattle.scope_rule.specs.Seen.{seen_in}
 use Rattle.scope_rule.specs.declared.namespace.Namespace.{Namespace}
+use Rattle.scope_rule.specs.declared.namespace.OpenRec.{OpenRec}
 use Rattle.tls_blocks.specs.Numbers.{AreNumbered, IsTaken}
 use Rattle.link_history.specs.Bound.{lazy_word}
 use Rattle.link_history.specs.Slots.{value_at_load}
@@ -87,6 +89,24 @@ pub record EachDiesOnce (s : State) : Type 0 where
   pub once : (c k : Closing) (d : ℕ) → Contains s.closings c → Contains s.closings k → Contains c.set d → Contains k.set d → c ≡ k
   pub only : (ns : Namespace) (o : Loaded) (hart : ℕ) → IsIn s ns o → o.state ≡ states.Dying hart
       → (c : Closing) × Contains s.closings c × (c.hart ≡ hart) × Contains c.set o.serial
+
+-- nothing holds an object of a set: neither startup nor an opening, RTLD_NODELETE nor DF_1_NODELETE, its constructors or destructors, nor an
+-- open grant; and whatever leads to it is of the set too
+pub record IsSpare (s : State) (set : List ℕ) (d : ℕ) : Type 0 where
+  pub startup : ¬ (Contains (startup_serials s) d)
+  pub opened : (ns : Namespace) (r : OpenRec) → Contains s.namespaces ns → Contains ns.opens r → ¬ (Contains (breadth (seen_in ns) r.root) d)
+  pub pinned : ¬ (Contains s.pinned d)
+  pub ready : (ns : Namespace) (o : Loaded) → IsIn s ns o → o.serial ≡ d → o.state ≡ states.Ready
+  pub marked : (ns : Namespace) (o : Loaded) → IsIn s ns o → o.serial ≡ d → o.object.flags.nodelete ≡ false
+  pub granted : (g : Granting) → Contains s.grants g → g.standing ≡ Open → (g.owner ≢ d) × ¬ (Contains (target_of g.choice) d)
+  pub followed : (ns : Namespace) (o : Loaded) → IsIn s ns o → LeadsTo s o d → Contains set o.serial
+
+-- what a closing takes, in the state with one opening less: objects of one namespace, which nothing holds
+pub record ClosesSpare (s : State) (set : List ℕ) : Type 0 where
+  pub namespace : Namespace
+  pub there : Contains s.namespaces namespace
+  pub inside : (d : ℕ) → Contains set d → IsOf namespace d
+  pub spare : (d : ℕ) → Contains set d → IsSpare s set d
 
 -- no two mapped objects have one serial, so that a serial leads to its object; and no two namespaces have one number
 pub record AreApart (s : State) : Type 0 where

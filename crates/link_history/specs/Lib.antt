@@ -5,6 +5,7 @@ pub mod Allowed
 pub mod Areas
 pub mod Asking
 pub mod Bound
+pub mod Changes
 pub mod Exits
 pub mod Flags
 pub mod Grants

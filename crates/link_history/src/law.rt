@@ -3,17 +3,20 @@
 ghost use Rattle.std.specs.Prelude.{◌≡◌, ℕ, List, ◌∷◌, ◌++◌, [], take};
 ghost use Rattle.ld_base.specs.declared.linking.Loaded.{Loaded};
 ghost use Rattle.link_event.specs.declared.event.Event.{Event};
-ghost use Rattle.link_event.specs.declared.event.Event.TheVariants.{Open};
+ghost use Rattle.link_event.specs.declared.event.CloseAnswer.TheVariants.{Done as Closed};
+ghost use Rattle.link_event.specs.declared.event.Event.TheVariants.{Close, Open};
 ghost use Rattle.link_event.specs.declared.event.OpenAnswer.TheVariants.{Done};
 ghost use Rattle.link_event.specs.declared.event.OpenAsk.{OpenAsk};
 ghost use Rattle.link_event.specs.declared.event.Range.{Range};
 ghost use Rattle.link_history.specs.Accepted.{AcceptsOnly};
 ghost use Rattle.link_history.specs.After.{after};
 ghost use Rattle.link_history.specs.Allowed.{Allowed};
-ghost use Rattle.link_history.specs.Laws.{AreApart, EachDiesOnce, GrantsAreHeld, GrantsAreTidy, ImagesAreInstalled, ImagesAreMapped, ImagesArePlaced, LoadsEnterCode, ModulesAreTidy, NoneIsLazy, NothingDangles, NothingLeftOut, RangesAreApart, SlotsEnterCode, StartupStays, TakesLeast};
+ghost use Rattle.link_history.specs.Changes.{ChangesMemory};
+ghost use Rattle.link_history.specs.Laws.{AreApart, ClosesSpare, EachDiesOnce, GrantsAreHeld, GrantsAreTidy, ImagesAreInstalled, ImagesAreMapped, ImagesArePlaced, LoadsEnterCode, ModulesAreTidy, NoneIsLazy, NothingDangles, NothingLeftOut, RangesAreApart, SlotsEnterCode, StartupStays, TakesLeast};
 ghost use Rattle.link_history.specs.Exits.{exits, initialised_by_another, setting, unmapped_unclosed};
 ghost use Rattle.link_history.specs.Legal.{Lawful, Legal, Whole};
 ghost use Rattle.link_history.specs.Setting.{Machine, Setting};
+ghost use Rattle.link_history.specs.Step.{lower};
 
 /// A history grows event by event: a legal one is legal with one more event that is allowed, and
 /// each of its beginnings is.
@@ -148,6 +151,27 @@ pub fn images_are_installed()
     scope_rule::found_stands();
     scope_rule::reads_candidates();
     seg_image::pages_hold_segments();
+}
+
+/// An event changes memory in the ranges that it reserves or takes away alone. What it reserves had no
+/// role before, and what it takes away has none after.
+pub fn memory_changes()
+    ensures { (m : Machine) (w : Setting) (past : List Event) (e : Event) → w.machine ≡ m → AcceptsOnly m → Lawful m past → Allowed w past e → ChangesMemory (after past) e }
+{
+    scope_rule::serials_follow();
+    scope_rule::found_stands();
+    scope_rule::reads_candidates();
+    seg_image::pages_hold_segments();
+}
+
+/// What a closing takes nothing holds: neither startup nor an opening that is left, neither a mark nor
+/// its own constructors or destructors, nor an open grant; and whatever leads to it goes with it.
+pub fn closed_are_spare()
+    ensures { (m : Machine) (w : Setting) (past : List Event) (hart handle : ℕ) (set : List ℕ) → w.machine ≡ m → Lawful m past →
+        Allowed w past (Close hart handle (Closed set)) → ClosesSpare (lower handle (after past)) set }
+{
+    scope_rule::serials_follow();
+    scope_rule::found_stands();
 }
 
 /// The worked history of a program that starts, exits and is finalised is legal and whole. With one
