@@ -40,26 +40,10 @@ use Rattle.link_history.proofs.Lists.{first_or_later, found_in, from_filter, her
 use Rattle.link_history.proofs.Accepting.{ReadLaw}
 use Rattle.link_history.proofs.Brought.{LoadLaws}
 use Rattle.link_history.proofs.Lazy.{PageLaws}
+use Rattle.link_history.proofs.Lookups.{find_front, find_kept}
 use Rattle.link_history.proofs.Map.{Mapped, covers_in, made_of, mapped_after, no_linkers, one_cover, range_in, range_lies, within_of}
 use Rattle.link_history.proofs.Placed.{HasPages, opens_pages}
 use Rattle.link_history.proofs.Ranges.{Apart, block_free, clear_free, opens_free}
-
--- ---- searches of longer and of shorter lists
-
-find_front : {X : Type 0} (p : X → Bool) (xs ys : List X) → ((y : X) → Contains ys y → p y ≡ false) → find p (xs ++ ys) ≡ find p xs
-find_front p [] [] none = refl
-find_front {X} p [] (y ∷ ys) none = ap (λ (b : Bool). cond b (Some y) (find p ys)) (none y (here y ys)) ∙ find_front p [] ys (λ z h. none z (later y ys z h))
-find_front {X} p (x ∷ xs) ys none = ap (λ (found : Option X). cond (p x) (Some x) found) (find_front p xs ys none)
-
-find_kept : {X : Type 0} (p q : X → Bool) (xs : List X) → ((x : X) → Contains xs x → p x ≡ true → q x ≡ true) → find p (filter q xs) ≡ find p xs
-find_kept p q [] keeps = refl
-find_kept {X} p q (x ∷ xs) keeps = at (p x) (q x) refl refl (keeps x (here x xs)) (find_kept p q xs (λ y h. keeps y (later x xs y h)))
-  where
-    at : (b c : Bool) → p x ≡ b → q x ≡ c → (p x ≡ true → q x ≡ true) → find p (filter q xs) ≡ find p xs → find p (cond c (x ∷ filter q xs) (filter q xs)) ≡ cond b (Some x) (find p xs)
-    at true true e f k rest = ap (λ (t : Bool). cond t (Some x) (find p (filter q xs))) e
-    at true false e f k rest = absurd (true≢false (sym (k e) ∙ f))
-    at false true e f k rest = ap (λ (t : Bool). cond t (Some x) (find p (filter q xs))) e ∙ rest
-    at false false e f k rest = rest
 
 -- ---- what a state shows of an address
 

@@ -16,6 +16,7 @@ pub mod Imaged
 pub mod Lazy
 pub mod LeftOut
 pub mod Lists
+pub mod Lookups
 pub mod Map
 pub mod Modular
 pub mod Moduled
@@ -29,4 +30,5 @@ pub mod Spare
 pub mod Startup
 pub mod Steps
 pub mod Tidy
+pub mod Unbound
 pub mod Worked

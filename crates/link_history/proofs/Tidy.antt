@@ -1,9 +1,8 @@
 -- Grants have the numbers from 1 on, and of a slot at most one is bound.
-use Rattle.std.proofs.Common.{◌≡◌, ◌⊎◌, inl, inr, ⊎_elim, ℕ, zero, suc, ◌+◌, Bool, true, false, ◌&&◌, eqb, List, [], ◌∷◌, ◌++◌, map, length, Some, None, refl, sym, ap, subst, ◌∙◌, arith}
+use Rattle.std.proofs.Common.{◌≡◌, ◌≢◌, ◌⊎◌, inl, inr, ⊎_elim, ℕ, zero, suc, ◌+◌, Bool, true, false, ◌&&◌, eqb, List, [], ◌∷◌, ◌++◌, map, length, Some, None, refl, sym, ap, subst, ◌∙◌, arith}
 use Rattle.std.specs.Prelude.{if◌then◌else◌}
 use Rattle.std.specs.List.{Contains, slice_get}
 use Rattle.std.proofs.lemmas.Bool.{and_from, and_parts, eq-eqb, eqb-true}
-use Rattle.std.proofs.lemmas.List.{take_all}
 use Rattle.std.proofs.lemmas.List.Elements.{Contains-push_cases}
 use Rattle.link_event.specs.declared.event.CloseAnswer.{CloseAnswer}
 use Rattle.link_event.specs.declared.event.CloseAnswer.TheVariants as closes
@@ -22,12 +21,12 @@ use Rattle.link_history.specs.State.{State}
 use Rattle.link_history.specs.After.{after}
 use Rattle.link_history.specs.Allowed.{AllowedIn}
 use Rattle.link_history.specs.Grants.{is_open}
-use Rattle.link_history.specs.Laws.{GrantsAreTidy}
 use Rattle.link_history.specs.Legal.{Lawful}
 use Rattle.link_history.specs.Setting.{Machine, Setting}
 use Rattle.link_history.specs.Slots.{MayBind}
 use Rattle.link_history.specs.Step.{die, initialise, loaded, lower, settled_as, step, unmap}
-use Rattle.link_history.proofs.History.{by_history}
+use Rattle.link_history.proofs.History.{by_lawful}
+
 use Rattle.link_history.proofs.Lists.{first_or_later, from_map, none_in}
 
 -- ---- places
@@ -59,9 +58,10 @@ pub record Tidy (grants : List Granting) : Type 0 where
   pub numbered : (k : ℕ) (g : Granting) → slice_get grants k ≡ Some g → g.number ≡ k + 1
   pub one_bound : (g h : Granting) → Contains grants g → Contains grants h → g.standing ≡ standings.Bound → h.standing ≡ standings.Bound
       → g.owner ≡ h.owner → g.slot ≡ h.slot → g.number ≡ h.number
+  pub one_open : (g h : Granting) → Contains grants g → Contains grants h → g.standing ≡ standings.Open → h.standing ≡ standings.Open → g.hart ≡ h.hart → g.number ≡ h.number
 
 -- a number is one grant's
-one_number : (grants : List Granting) → Tidy grants → (g h : Granting) → Contains grants g → Contains grants h → g.number ≡ h.number → g ≡ h
+pub one_number : (grants : List Granting) → Tidy grants → (g h : Granting) → Contains grants g → Contains grants h → g.number ≡ h.number → g ≡ h
 one_number grants tidy g h first second same =
     let a = in_at grants g first in
     let b = in_at grants h second in
@@ -77,8 +77,9 @@ one_number grants tidy g h first second same =
 
 -- ---- a new grant, and a settled one
 
-tidy_push : (grants : List Granting) (g : Granting) → Tidy grants → g.number ≡ length grants + 1 → g.standing ≡ standings.Open → Tidy (grants ++ g ∷ [])
-tidy_push grants g tidy number posted = record {
+tidy_push : (grants : List Granting) (g : Granting) → Tidy grants → g.number ≡ length grants + 1 → g.standing ≡ standings.Open
+    → ((h : Granting) → Contains grants h → h.standing ≡ standings.Open → h.hart ≢ g.hart) → Tidy (grants ++ g ∷ [])
+tidy_push grants g tidy number posted free = record {
   numbered = λ k h at. ⊎_elim
       (λ (old : slice_get grants k ≡ Some h). tidy.numbered k h old)
       (λ (new : (k ≡ length grants) × (g ≡ h)). subst (λ (q : Granting). q.number ≡ k + 1) new.1 (number ∙ ap (λ (n : ℕ). n + 1) (sym new.0)))
@@ -90,6 +91,16 @@ tidy_push grants g tidy number posted = record {
       (Contains-push_cases grants g b second))
       (λ (e : g ≡ a). absurd (unbound a e bound))
       (Contains-push_cases grants g a first);
+  one_open = λ a b first second on on' hart. ⊎_elim
+      (λ (old : Contains grants a). ⊎_elim
+      (λ (old' : Contains grants b). tidy.one_open a b old old' on on' hart)
+      (λ (e : g ≡ b). absurd (free a old on (hart ∙ sym (ap (λ (q : Granting). q.hart) e))))
+      (Contains-push_cases grants g b second))
+      (λ (e : g ≡ a). ⊎_elim
+      (λ (old' : Contains grants b). absurd (free b old' on' (sym hart ∙ sym (ap (λ (q : Granting). q.hart) e))))
+      (λ (e' : g ≡ b). ap (λ (q : Granting). q.number) (sym e ∙ e'))
+      (Contains-push_cases grants g b second))
+      (Contains-push_cases grants g a first);
 }
   where
     unbound : (h : Granting) → g ≡ h → h.standing ≡ standings.Bound → ⊥
@@ -99,6 +110,7 @@ tidy_push grants g tidy number posted = record {
 -- what a settled grant was
 pub record Settled (number : ℕ) (standing : Standing) (g q : Granting) : Type 0 where
   pub number_is : g.number ≡ q.number
+  pub hart : g.hart ≡ q.hart
   pub owner : g.owner ≡ q.owner
   pub slot : g.slot ≡ q.slot
   pub how : (q.standing ≡ g.standing) ⊎ ((g.number ≡ number) × (is_open g ≡ true) × (q.standing ≡ standing))
@@ -106,10 +118,10 @@ pub record Settled (number : ℕ) (standing : Standing) (g q : Granting) : Type 
 settled_by : (number : ℕ) (standing : Standing) (g : Granting) (t : Bool) → (eqb g.number number && is_open g) ≡ t → Settled number standing g (if t then record g { standing = standing } else g)
 settled_by number standing g true e =
     let parts = and_parts (eqb g.number number) (is_open g) e in
-    record { number_is = refl; owner = refl; slot = refl; how = inr (eqb-true g.number number parts.0, parts.1, refl) }
-settled_by number standing g false e = record { number_is = refl; owner = refl; slot = refl; how = inl refl }
+    record { number_is = refl; hart = refl; owner = refl; slot = refl; how = inr (eqb-true g.number number parts.0, parts.1, refl) }
+settled_by number standing g false e = record { number_is = refl; hart = refl; owner = refl; slot = refl; how = inl refl }
 
-was_settled : (number : ℕ) (standing : Standing) (grants : List Granting) (q : Granting) → Contains (map (settled_as number standing) grants) q
+pub was_settled : (number : ℕ) (standing : Standing) (grants : List Granting) (q : Granting) → Contains (map (settled_as number standing) grants) q
     → (g : Granting) × Contains grants g × Settled number standing g q
 was_settled number standing grants q h =
     let at = from_map (settled_as number standing) grants q h in
@@ -121,6 +133,20 @@ settled_numbered number standing grants tidy k q at =
     let same : Settled number standing was.0 q = subst (Settled number standing was.0) was.2 (settled_by number standing was.0 (eqb was.0.number number && is_open was.0) refl) in
     sym same.number_is ∙ tidy.numbered k was.0 was.1
 
+-- a settled grant that is open was open
+open_before : (number : ℕ) (standing : Standing) → standing ≢ standings.Open → (grants : List Granting) → Tidy grants → (a b : Granting) → Contains (map (settled_as number standing) grants) a → Contains (map (settled_as number standing) grants) b
+    → a.standing ≡ standings.Open → b.standing ≡ standings.Open → a.hart ≡ b.hart → a.number ≡ b.number
+open_before number standing shut grants tidy a b first second on on' hart =
+    let x = was_settled number standing grants a first in
+    let y = was_settled number standing grants b second in
+    sym x.2.number_is ∙ tidy.one_open x.0 y.0 x.1 y.1 (before x.0 a x.2 on) (before y.0 b y.2 on') (x.2.hart ∙ hart ∙ sym y.2.hart) ∙ y.2.number_is
+  where
+    before : (g q : Granting) → Settled number standing g q → q.standing ≡ standings.Open → g.standing ≡ standings.Open
+    before g q settled e = ⊎_elim
+        (λ (same : q.standing ≡ g.standing). sym same ∙ e)
+        (λ (h : (g.number ≡ number) × (is_open g ≡ true) × (q.standing ≡ standing)). absurd (shut (sym h.2 ∙ e)))
+        settled.how
+
 tidy_lost : (number saw : ℕ) (grants : List Granting) → Tidy grants → Tidy (map (settled_as number (standings.Lost saw)) grants)
 tidy_lost number saw grants tidy = record {
   numbered = settled_numbered number (standings.Lost saw) grants tidy;
@@ -128,6 +154,7 @@ tidy_lost number saw grants tidy = record {
       let x = was_settled number (standings.Lost saw) grants a first in
       let y = was_settled number (standings.Lost saw) grants b second in
       sym x.2.number_is ∙ tidy.one_bound x.0 y.0 x.1 y.1 (bound_before x.0 a x.2 bound) (bound_before y.0 b y.2 bound') (x.2.owner ∙ owner ∙ sym y.2.owner) (x.2.slot ∙ slot ∙ sym y.2.slot) ∙ y.2.number_is;
+  one_open = open_before number (standings.Lost saw) (λ (e : standings.Lost saw ≡ standings.Open). cc) grants tidy;
 }
   where
     bound_before : (g q : Granting) → Settled number (standings.Lost saw) g q → q.standing ≡ standings.Bound → g.standing ≡ standings.Bound
@@ -143,6 +170,7 @@ tidy_bound s number may tidy = record {
       let x = was_settled number standings.Bound s.grants a first in
       let y = was_settled number standings.Bound s.grants b second in
       sym x.2.number_is ∙ old x.0 a y.0 b x.1 y.1 x.2 y.2 bound bound' (x.2.owner ∙ owner ∙ sym y.2.owner) (x.2.slot ∙ slot ∙ sym y.2.slot) ∙ y.2.number_is;
+  one_open = open_before number standings.Bound (λ (e : standings.Bound ≡ standings.Open). cc) s.grants tidy;
 }
   where
     -- no grant of the slot of the one that is bound now was bound
@@ -194,7 +222,7 @@ tidy_step w past s (events.Open hart ask answer) may tidy = open_tidy s hart ask
 tidy_step w past s (events.Close hart handle answer) may tidy = close_tidy s hart handle answer tidy
 tidy_step w past s (events.Unmapped hart set) may tidy = tidy
 tidy_step w past s (events.Grant number hart owner slot choice value) may tidy =
-    tidy_push s.grants (record { number = number; hart = hart; owner = owner; slot = slot; choice = choice; value = value; standing = standings.Open }) tidy may.numbered refl
+    tidy_push s.grants (record { number = number; hart = hart; owner = owner; slot = slot; choice = choice; value = value; standing = standings.Open }) tidy may.numbered refl may.free
 tidy_step w past s (events.Bound number) may tidy = tidy_bound s number may tidy
 tidy_step w past s (events.Lost number saw) may tidy = tidy_lost number saw s.grants tidy
 tidy_step w past s (events.Unresolved hart owner slot choice) may tidy = tidy
@@ -206,10 +234,8 @@ tidy_step w past s (events.Wrote hart bytes) may tidy = tidy
 tidy_step w past s (events.Told hart fault) may tidy = tidy
 tidy_step w past s (events.Ended hart reason) may tidy = tidy
 
-pub grants_tidy : (m : Machine) (journal : List Event) → Lawful m journal → GrantsAreTidy (after journal)
-grants_tidy m journal lawful =
-    let tidy : Tidy (after journal).grants =
-    subst (λ (es : List Event). Tidy (after es).grants) (take_all (length journal) journal (omega arith))
-    (by_history m (λ s. Tidy s.grants) (record { numbered = λ k g at. absurd (let d : None ≡ Some g = at in cc); one_bound = λ g h first. absurd (none_in g first) })
-    (λ w past e same tidy may. tidy_step w past (after past) e may tidy) journal lawful (length journal)) in
-    record { numbered = tidy.numbered; one_bound = tidy.one_bound }
+pub tidy_after : (m : Machine) (journal : List Event) → Lawful m journal → Tidy (after journal).grants
+tidy_after m journal lawful =
+    by_lawful m (λ s. Tidy s.grants)
+    (record { numbered = λ k g at. absurd (let d : None ≡ Some g = at in cc); one_bound = λ g h first. absurd (none_in g first); one_open = λ g h first. absurd (none_in g first) })
+    (λ w past e same past_lawful tidy may. tidy_step w past (after past) e may tidy) journal lawful

@@ -14,9 +14,12 @@ pub record IsExecutable (o : Object) (v : ℕ) : Type 0 where
   pub inside : IsInside o v
   pub executable : IsTrue (is_executable inside.segment)
 
--- what images ask of an object, and of each slot that the file's word leads to code: to its entry of the procedure linkage table
+-- what images ask of an object; and of each slot that its relocation is of the type of slots, and that the file's word leads to code: to its
+-- entry of the procedure linkage table
 pub record IsAccepted (o : Object) : Type 0 where
   pub image : Accepted o
+  -- R_RISCV_JUMP_SLOT is 5
+  pub jump : (r : Reloc) → Contains o.plt_relocs r → r.kind ≡ 5
   pub lazy : (r : Reloc) → Contains o.plt_relocs r → IsExecutable o (file_word o r.place)
 
 -- the machine accepts no other objects

@@ -1,5 +1,5 @@
 -- What holds in each state of a lawful history.
-use Rattle.std.specs.Prelude.{◌≡◌, ◌≢◌, ℕ, ◌+◌, ◌*◌, ◌<◌, ◌≤◌, ◌⊎◌, Contains, flat_map, length, List, IsTrue, Some, false}
+use Rattle.std.specs.Prelude.{◌≡◌, ◌≢◌, ℕ, ◌+◌, ◌*◌, ◌<◌, ◌≤◌, ◌⊎◌, Contains, flat_map, length, List, IsTrue, Some, None, false}
 use Rattle.std.specs.List.{slice_get}
 use Rattle.std.specs.Option.{is_some}
 use Rattle.address_space.specs.Pages.{guest_pages, is_within}
@@ -162,11 +162,14 @@ pub record RangesAreApart (s : State) : Type 0 where
       → IsTrue (is_within r.address r.pages page) → IsTrue (is_within q.address q.pages page) → r ≡ q
   pub inside : (r : Range) (k : ℕ) → Contains s.ranges r → k < r.pages → Contains guest_pages (r.address + 4096 * k)
 
--- grants have the numbers from 1 on, and of a slot at most one is bound
+-- grants have the numbers from 1 on; a hart has at most one that is open; and of a slot at most one is bound, and none where the slot got its
+-- value when its object was loaded
 pub record GrantsAreTidy (s : State) : Type 0 where
   pub numbered : (k : ℕ) (g : Granting) → slice_get s.grants k ≡ Some g → g.number ≡ k + 1
   pub one_bound : (g h : Granting) → Contains s.grants g → Contains s.grants h → g.standing ≡ Bound → h.standing ≡ Bound
       → g.owner ≡ h.owner → g.slot ≡ h.slot → g.number ≡ h.number
+  pub one_open : (g h : Granting) → Contains s.grants g → Contains s.grants h → g.standing ≡ Open → h.standing ≡ Open → g.hart ≡ h.hart → g.number ≡ h.number
+  pub unbound : (g : Granting) → Contains s.grants g → g.standing ≡ Bound → value_at_load s g.owner g.slot ≡ None
 
 -- the image of an object: of its serial, its record and its base
 pub record IsImageOf (images : List Linked) (o : Loaded) : Type 0 where

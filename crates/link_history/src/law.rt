@@ -114,10 +114,14 @@ pub fn ranges_apart()
     ensures { (m : Machine) (events : List Event) → Lawful m events → RangesAreApart (after events) }
 {}
 
-/// Grants have the numbers from 1 on, in order, and of a slot at most one is bound.
+/// Grants have the numbers from 1 on, in order; a hart has at most one that is open; and of a slot at
+/// most one is bound, none where the slot was bound when its object was loaded.
 pub fn grants_are_tidy()
     ensures { (m : Machine) (events : List Event) → Lawful m events → GrantsAreTidy (after events) }
-{}
+{
+    scope_rule::serials_follow();
+    scope_rule::found_stands();
+}
 
 /// Modules are in the order of their numbers, which begin at 1; each is that of one mapped object, and
 /// each mapped object with thread-local storage has its one. A new number is the least that is free:
