@@ -1,5 +1,7 @@
 mod Advances
 mod Joins
+mod Linked
+mod Ready
 mod Results
 mod Settles
 mod Visits

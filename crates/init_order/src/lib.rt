@@ -7,6 +7,7 @@
 
 mod components;
 mod order;
+mod tasks;
 mod walk;
 
 pub use components::{Components, components_of};
