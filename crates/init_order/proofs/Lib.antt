@@ -1,8 +1,11 @@
 mod Advances
+mod Firsts
 mod Joins
 mod Linked
+mod Pushes
 mod Ready
 mod Results
 mod Settles
+mod Turns
 mod Visits
 mod Whole

@@ -49,6 +49,19 @@ blocked_at left needs t n within undone =
 
 -- ---- what is done stays done
 
+-- what is left after a task was left before it
+pub left_before : (left after : ℕ → Bool) (task : ℕ) → ((q : ℕ) → after q ≡ cond (eqb task q) false (left q)) → (q : ℕ) → after q ≡ true → left q ≡ true
+left_before left after task is q undone = ⊎_elim
+    (λ (b : eqb task q ≡ true). absurd (true≢false (sym undone ∙ is q ∙ ap (λ (c : Bool). cond c false (left q)) b)))
+    (λ (b : eqb task q ≡ false). sym (ap (λ (c : Bool). cond c false (left q)) b) ∙ sym (is q) ∙ undone)
+    (cases_Bool (eqb task q))
+
+pub done_after : (left after : ℕ → Bool) (task : ℕ) → ((q : ℕ) → after q ≡ cond (eqb task q) false (left q)) → (q : ℕ) → left q ≡ false → after q ≡ false
+done_after left after task is q h = ⊎_elim
+    (λ (b : eqb task q ≡ true). is q ∙ ap (λ (c : Bool). cond c false (left q)) b)
+    (λ (b : eqb task q ≡ false). is q ∙ ap (λ (c : Bool). cond c false (left q)) b ∙ h)
+    (cases_Bool (eqb task q))
+
 -- a task that is done lets those that need it be looked at
 pub pending_done : (needs users : List Edge) (ready popped more left after : ℕ → Bool) (met : ℕ → ℕ) (task : ℕ) → IsPending needs users ready left met
     → ((q : ℕ) → ready q ≡ true → (q ≡ task) ⊎ (popped q ≡ true)) → ((q : ℕ) → popped q ≡ true → more q ≡ true)
@@ -57,28 +70,17 @@ pub pending_done : (needs users : List Edge) (ready popped more left after : ℕ
 pending_done needs users ready popped more left after met task p pops stay put is = record {
   waits = λ t undone. ⊎_elim
       (λ (h : ready t ≡ true). ⊎_elim
-          (λ (same : t ≡ task). absurd (true≢false (sym undone ∙ is t ∙ ap (λ (b : Bool). cond b false (left t)) (eq-eqb task t (sym same)))))
-          (λ (k : popped t ≡ true). inl (stay t k))
-          (pops t h))
+      (λ (same : t ≡ task). absurd (true≢false (sym undone ∙ is t ∙ ap (λ (b : Bool). cond b false (left t)) (eq-eqb task t (sym same)))))
+      (λ (k : popped t ≡ true). inl (stay t k))
+      (pops t h))
       (λ (h : Blocked needs left t). ⊎_elim
-          (λ (same : task ≡ (h.0).target). inl (subst (λ (n : ℕ). more n ≡ true) h.2 (put (flip_of h.0) (p.used h.0 h.1) (sym same))))
-          (λ (apart : task ≡ (h.0).target → ⊥). inr (h.0, h.1, h.2, is (h.0).target ∙ ap (λ (b : Bool). cond b false (left (h.0).target)) (ne_eqb task (h.0).target apart) ∙ h.3))
-          (cases_eq task (h.0).target))
-      (p.waits t (was t undone));
+      (λ (same : task ≡ (h.0).target). inl (subst (λ (n : ℕ). more n ≡ true) h.2 (put (flip_of h.0) (p.used h.0 h.1) (sym same))))
+      (λ (apart : task ≡ (h.0).target → ⊥). inr (h.0, h.1, h.2, is (h.0).target ∙ ap (λ (b : Bool). cond b false (left (h.0).target)) (ne_eqb task (h.0).target apart) ∙ h.3))
+      (cases_eq task (h.0).target))
+      (p.waits t (left_before left after task is t undone));
   used = p.used;
-  past = λ t j d low within. gone (get_or (filter (leads_from t) needs) j d).target (p.past t j d low within);
+  past = λ t j d low within. done_after left after task is (get_or (filter (leads_from t) needs) j d).target (p.past t j d low within);
 }
-  where
-    was : (t : ℕ) → after t ≡ true → left t ≡ true
-    was t undone = ⊎_elim
-        (λ (b : eqb task t ≡ true). absurd (true≢false (sym undone ∙ is t ∙ ap (λ (c : Bool). cond c false (left t)) b)))
-        (λ (b : eqb task t ≡ false). sym (ap (λ (c : Bool). cond c false (left t)) b) ∙ sym (is t) ∙ undone)
-        (cases_Bool (eqb task t))
-    gone : (t : ℕ) → left t ≡ false → after t ≡ false
-    gone t h = ⊎_elim
-        (λ (b : eqb task t ≡ true). is t ∙ ap (λ (c : Bool). cond c false (left t)) b)
-        (λ (b : eqb task t ≡ false). is t ∙ ap (λ (c : Bool). cond c false (left t)) b ∙ h)
-        (cases_Bool (eqb task t))
 
 -- a task that was looked at, and can't be done yet or is done, needn't be looked at
 pub pending_dropped : (needs users : List Edge) (ready popped left : ℕ → Bool) (met : ℕ → ℕ) (task : ℕ) → IsPending needs users ready left met
@@ -86,9 +88,9 @@ pub pending_dropped : (needs users : List Edge) (ready popped left : ℕ → Boo
 pending_dropped needs users ready popped left met task p pops why = record {
   waits = λ t undone. ⊎_elim
       (λ (h : ready t ≡ true). ⊎_elim
-          (λ (same : t ≡ task). inr (subst (Blocked needs left) (sym same) (why (sym (ap left same) ∙ undone))))
-          (λ (k : popped t ≡ true). inl k)
-          (pops t h))
+      (λ (same : t ≡ task). inr (subst (Blocked needs left) (sym same) (why (sym (ap left same) ∙ undone))))
+      (λ (k : popped t ≡ true). inl k)
+      (pops t h))
       (λ (h : Blocked needs left t). inr h)
       (p.waits t undone);
   used = p.used;

@@ -16,6 +16,9 @@ pub at_ok : {T E : Type 0} (r : Result T E) (P : Type 0) → is_ok r ≡ true �
 at_ok (Ok x) P ok p = p
 at_ok (Err e) P ok p = absurd (true≢false (sym ok))
 
+pub some_number : (a b : ℕ) → Some a ≡ Some b → a ≡ b
+some_number a b h = cc
+
 pub none_of : {X : Type 0} (o : Option X) → false ≡ is_some o → o ≡ None
 none_of None h = refl
 none_of (Some x) h = absurd (true≢false (sym h))

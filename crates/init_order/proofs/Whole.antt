@@ -1,5 +1,5 @@
 -- A walk that is over.
-use Rattle.std.proofs.Common.{◌≡◌, ℕ, List, [], ◌∷◌, length, Option, Some, None, ap, arith}
+use Rattle.std.proofs.Common.{◌≡◌, ℕ, ◌<◌, List, [], ◌∷◌, length, Option, Some, None, sym, ap, subst, arith}
 use Rattle.std.specs.Prelude.{IsSome, nat_eq}
 use Rattle.std.specs.HashMap.{get}
 use Rattle.std.specs.Option.{is_some}
@@ -37,10 +37,11 @@ marked (Some (Settled d)) c h = ap (λ (n : ℕ). Some (Settled n)) (same d c h)
     same d c h = cc
 
 pub are_components : (edges successors : List Edge) (roots starts visited : List ℕ) (pending : List Step) (count : ℕ) (path : List ℕ) (k : Components)
-    → IsPermutation edges successors → path ≡ [] → ((q : ℕ) → Contains roots q → Contains visited q)
+    → k.count ≡ count → IsPermutation edges successors → path ≡ [] → ((q : ℕ) → Contains roots q → Contains visited q)
     → Walked successors (λ q. get nat_eq k.marks q) path starts pending visited count → AreComponents edges roots k
-are_components edges successors roots starts visited pending count path k same free rooted w = record {
+are_components edges successors roots starts visited pending count path k so_many same free rooted w = record {
   rooted = λ q there. let seen = w.seen_only q (rooted q there) in in_one q seen.0 seen.1;
+  counted = λ q c is. subst (λ (n : ℕ). c < n) (sym so_many) (w.counted q c (marked (get nat_eq k.marks q) c is));
   closed = λ e c there is.
       let next = w.closed e c (Contains-permutation edges successors e same there) (marked (get nat_eq k.marks e.source) c is) in
       (next.0, ap settled_in next.1, next.2);

@@ -1,6 +1,6 @@
 //! Objects that lead to one another.
 
-ghost use Rattle.std.specs.Prelude.{◌≡◌, ℕ, IfOk, [], Contains};
+ghost use Rattle.std.specs.Prelude.{◌≡◌, ◌<◌, ◌^◌, ℕ, IfOk, [], Contains};
 ghost use Rattle.init_order.specs.Components.{AreComponents, number_of};
 ghost use Rattle.init_order.specs.Walked.{IsWalked};
 
@@ -15,6 +15,8 @@ use std::collections::HashMap;
 #[derive(Drop)]
 pub struct Components {
     marks: HashMap<Serial, Mark>,
+    /// How many there are.
+    pub(crate) count: usize,
 }
 
 impl Components {
@@ -42,11 +44,17 @@ pub fn components_of(
     graph: &Graph,
     roots: &[Serial],
 ) -> Result<Components, AllocError>
-    ensures { IfOk result (AreComponents graph.now.edges roots.now) }
+    ensures components { IfOk result (AreComponents graph.now.edges roots.now) }
+    ensures few { IfOk result (λ components. components.count < 2 ^ 62) }
 {
     let successors = Successors::new(alloc, graph.edges.as_slice())?;
-    let Walk { marks, .. } = walk_from(alloc, &successors, roots)?;
-    Ok(Components { marks })
+    let Walk {
+        marks,
+        components,
+        ..
+    } = walk_from(alloc, &successors, roots)?;
+    let count = components.len();
+    Ok(Components { marks, count })
 }
 
 /// A walk to all that the roots lead to.

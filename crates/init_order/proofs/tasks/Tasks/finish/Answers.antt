@@ -1,4 +1,4 @@
-use Rattle.std.proofs.Common.{◌≡◌, ℕ, List, eq-eqb, sym, ap, subst, ◌∙◌}
+use Rattle.std.proofs.Common.{ℕ, List, eq-eqb, sym, ap, subst, ◌∙◌}
 use Rattle.std.specs.List.{Contains, filter}
 use Rattle.link_graph.specs.declared.graph.Edge.{Edge}
 use Rattle.link_graph.specs.Reached.{leads_from}

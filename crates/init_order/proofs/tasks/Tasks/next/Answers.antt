@@ -1,13 +1,12 @@
-use Rattle.std.proofs.Common.{◌≡◌, ℕ, ◌<◌, ◌⊎◌, ⊎_elim, Bool, true, false, cond, eqb, List, [], length, refl, sym, ap, subst, ◌∙◌, arith}
+use Rattle.std.proofs.Common.{◌≡◌, ℕ, ◌⊎◌, ⊎_elim, true, false, cond, eqb, List, sym, ap, subst, ◌∙◌}
 use Rattle.std.specs.BTreeSet.{BTreeSet, contains}
 use Rattle.std.specs.HashMap.{get}
-use Rattle.std.specs.List.{Contains, list_any}
+use Rattle.std.specs.List.{Contains}
 use Rattle.std.specs.Option.{unwrap_or}
 use Rattle.std.specs.Ordering.{nat_cmp}
 use Rattle.std.proofs.lemmas.Bool.{false≢true}
 use Rattle.link_graph.specs.declared.graph.Edge.{Edge}
-use Rattle.link_graph.specs.Reached.{leads_from}
-use Rattle.init_order.specs.Least.{AreMet, Blocked, IsPending, is_left, is_ready, met_of}
+use Rattle.init_order.specs.Least.{Blocked, IsPending, is_left, is_ready, met_of}
 use Rattle.init_order.proofs.Ready.{pending_as, pending_done, pending_dropped, pending_seen, popped_cases, any_some}
 use Rattle.init_order.proofs.tasks.Tasks.next.Goals as goal
 
