@@ -75,7 +75,7 @@ new_accepted law m only w same s hart ask name id root added ranges loads a h =
     subst IsAccepted (sym from.2)
     (read_accepted m only w same (is_noload ask.flags) s name loads.finds.reading loads.finds.read from.0.path from.0.object from.0.table read.read)
 
-opens_accepted : ReadLaw → (m : Machine) → AcceptsOnly m → (w : Setting) → w.machine ≡ m → (s : State) (hart : ℕ) (ask : OpenAsk) (id root : ℕ) (added : List Loaded) (ranges : List Range) (name : Option (List ℕ))
+pub opens_accepted : ReadLaw → (m : Machine) → AcceptsOnly m → (w : Setting) → w.machine ≡ m → (s : State) (hart : ℕ) (ask : OpenAsk) (id root : ℕ) (added : List Loaded) (ranges : List Range) (name : Option (List ℕ))
     → OpensName w s hart ask name id root added ranges → (a : Loaded) → Contains added a → IsAccepted a.object
 opens_accepted law m only w same s hart ask id root added ranges (Some name) loads a h = new_accepted law m only w same s hart ask name id root added ranges loads a h
 opens_accepted law m only w same s hart ask id root added ranges None program a h = absurd (none_in a (subst (λ (os : List Loaded). Contains os a) program.none h))

@@ -7,13 +7,14 @@ use Rattle.ld_base.specs.declared.linking.Choice.{Choice}
 use Rattle.ld_base.specs.declared.linking.Loaded.{Loaded}
 use Rattle.ld_base.specs.declared.object.Object.{Object}
 use Rattle.ld_base.specs.declared.object.Reloc.{Reloc}
+use Rattle.ld_base.specs.declared.object.Segment.{Segment}
 use Rattle.link_event.specs.declared.event.Event.{Event}
 use Rattle.link_event.specs.declared.state.Granting.{Granting}
 use Rattle.link_event.specs.declared.state.Standing.TheVariants as standings
 use Rattle.relocator.specs.Relocated.{moved_word}
 use Rattle.scope_rule.specs.declared.namespace.Namespace.{Namespace}
 use Rattle.seg_image.specs.Accepted.{Accepted}
-use Rattle.seg_image.specs.Pages.{IsInside, low_of, own_address, pages_of}
+use Rattle.seg_image.specs.Pages.{IsInside, end_of, low_of, own_address, pages_of, segment_at, start_of}
 use Rattle.seg_image.specs.Words.{file_word}
 use Rattle.link_history.specs.State.{Linked, State, empty_namespace}
 use Rattle.link_history.specs.Accepted.{AcceptsOnly, IsAccepted}
@@ -117,8 +118,11 @@ unlazy_law = record {
 pub record PageLaws : Type 0 where
   pub low : (o : Object) (v : ℕ) → Accepted o → IsInside o v → low_of o ≤ v
   pub high : (o : Object) (v : ℕ) → Accepted o → IsInside o v → v < low_of o + 4096 * pages_of o
+  pub from : (o : Object) (k : ℕ) (g : Segment) (v : ℕ) → Accepted o → slice_get o.segments k ≡ Some g → start_of g ≤ v → low_of o ≤ v
+  pub to : (o : Object) (k : ℕ) (g : Segment) (v : ℕ) → Accepted o → slice_get o.segments k ≡ Some g → v < end_of g → v < low_of o + 4096 * pages_of o
   pub some : (o : Object) → Accepted o → 0 < pages_of o
   pub few : (o : Object) → Accepted o → low_of o + 4096 * pages_of o < 2 ^ 33
+  pub one : (o : Object) (k : ℕ) (g : Segment) (v : ℕ) → Accepted o → slice_get o.segments k ≡ Some g → start_of g ≤ v → v < end_of g → segment_at o v ≡ Some g
 
 -- an image's pages lie in guest memory, before the linker's own
 pub record Lies (i : Linked) (A : ℕ) : Type 0 where

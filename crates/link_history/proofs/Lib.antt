@@ -8,6 +8,7 @@ pub mod Closed
 pub mod Dangling
 pub mod Dying
 pub mod Entering
+pub mod Executing
 pub mod Frame
 pub mod Good
 pub mod Granted
@@ -30,5 +31,6 @@ pub mod Spare
 pub mod Startup
 pub mod Steps
 pub mod Tidy
+pub mod Tied
 pub mod Unbound
 pub mod Worked

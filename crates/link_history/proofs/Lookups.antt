@@ -29,3 +29,17 @@ find_less {X} p q xs goes = at (find p (filter q xs)) refl
         let found = found_in p (filter q xs) x e in
         let kept = from_filter q xs x found.0 in
         absurd (true≢false (sym kept.1 ∙ goes x kept.0 found.1))
+
+-- what is found in front is found
+pub find_first : {X : Type 0} (p : X → Bool) (xs ys : List X) (x : X) → find p xs ≡ Some x → find p (xs ++ ys) ≡ Some x
+find_first {X} p [] ys x e = absurd (let d : None ≡ Some x = e in cc)
+find_first {X} p (y ∷ xs) ys x e = at (p y) e (λ f. find_first p xs ys x f)
+  where
+    at : (b : Bool) → cond b (Some y) (find p xs) ≡ Some x → (find p xs ≡ Some x → find p (xs ++ ys) ≡ Some x) → cond b (Some y) (find p (xs ++ ys)) ≡ Some x
+    at true f again = f
+    at false f again = again f
+
+-- where nothing in front is looked for, what is found is behind
+pub find_behind : {X : Type 0} (p : X → Bool) (xs ys : List X) → ((x : X) → Contains xs x → p x ≡ false) → find p (xs ++ ys) ≡ find p ys
+find_behind p [] ys none = refl
+find_behind {X} p (x ∷ xs) ys none = ap (λ (b : Bool). cond b (Some x) (find p (xs ++ ys))) (none x (here x xs)) ∙ find_behind p xs ys (λ y h. none y (later x xs y h))

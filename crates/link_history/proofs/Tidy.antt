@@ -31,7 +31,7 @@ use Rattle.link_history.proofs.Lists.{first_or_later, from_map, none_in}
 
 -- ---- places
 
-in_at : {X : Type 0} (xs : List X) (x : X) → Contains xs x → (k : ℕ) × (slice_get xs k ≡ Some x)
+pub in_at : {X : Type 0} (xs : List X) (x : X) → Contains xs x → (k : ℕ) × (slice_get xs k ≡ Some x)
 in_at [] x h = absurd (none_in x h)
 in_at {X} (y ∷ xs) x h = ⊎_elim
     (λ (e : y ≡ x). (0, ap (λ (z : X). Some z) e))

@@ -1,17 +1,20 @@
 -- What holds in each state of a lawful history.
-use Rattle.std.specs.Prelude.{◌≡◌, ◌≢◌, ℕ, ◌+◌, ◌*◌, ◌<◌, ◌≤◌, ◌⊎◌, Contains, flat_map, length, List, IsTrue, Some, None, false}
+use Rattle.std.specs.Prelude.{◌≡◌, ◌≢◌, ℕ, ◌+◌, ◌*◌, ◌^◌, ◌<◌, ◌≤◌, ◌⊎◌, ◌==◌, if◌then◌else◌, Contains, drop, find, flat_map, length, map, List, Option, IsTrue, Some, None, false}
 use Rattle.std.specs.List.{slice_get}
-use Rattle.std.specs.Option.{is_some}
+use Rattle.std.specs.Option.{is_some, option_and_then}
 use Rattle.address_space.specs.Pages.{guest_pages, is_within}
 use Rattle.ld_base.specs.declared.linking.Choice.{Choice}
 use Rattle.ld_base.specs.declared.linking.Choice.TheVariants.{Def, WeakZero, Missing}
 use Rattle.link_history.specs.Addresses.{is_code_in, is_linkers_page}
 use Rattle.ld_base.specs.declared.linking.Loaded.{Loaded}
+use Rattle.ld_base.specs.declared.linking.Role.TheVariants.{Rx}
 use Rattle.ld_base.specs.declared.linking.State.TheVariants as states
 use Rattle.ld_base.specs.declared.linking.TlsPlace.{TlsPlace}
 use Rattle.ld_base.specs.declared.object.Reloc.{Reloc}
 use Rattle.link_event.specs.declared.event.Purpose.TheVariants as purposes
 use Rattle.link_event.specs.declared.event.Range.{Range}
+use Rattle.relocator.specs.declared.binding.Binding.{Binding}
+use Rattle.relocator.specs.Bindings.{chosen as object_of}
 use Rattle.relocator.specs.Relocated.{image_word}
 use Rattle.seg_image.specs.declared.image.Image.{Image}
 use Rattle.seg_image.specs.Images.{IsImage}
@@ -199,6 +202,35 @@ ImagesArePlaced s = (i : Linked) → Contains s.images i → IsRangeOf s.ranges 
 abbrev pub ImagesAreInstalled : State → Type 0
 ImagesAreInstalled s = (i : Linked) → Contains s.images i → (image : Image) → IsImage i.object i.base (image_word i.object i.base i.serial i.bindings i.places) image → (k : ℕ) → k < length image.words
     → slice_get image.words k ≡ Some (record { value = word_at s (image.start + 8 * k); role = role_at s (image.start + 8 * k) })
+
+-- where slots lead is code that memory holds: a value of a mapped object's slot is 0 or lies in an RX word, and so does the word that a slot
+-- holds until it is bound
+pub record SlotsLeadToRx (s : State) : Type 0 where
+  pub granted : (g : Granting) → Contains s.grants g → ((saw : ℕ) → g.standing ≢ Lost saw) → IsMapped s g.owner → g.value < 2 ^ 64 → (g.value ≡ 0) ⊎ (role_at s g.value ≡ Rx)
+  pub at_load : (ns : Namespace) (o : Loaded) (slot value : ℕ) → IsIn s ns o → value_at_load s o.serial slot ≡ Some value → value < 2 ^ 64 → (value ≡ 0) ⊎ (role_at s value ≡ Rx)
+  pub lazy : (ns : Namespace) (o : Loaded) (slot : ℕ) (r : Reloc) → IsIn s ns o → slice_get o.object.plt_relocs slot ≡ Some r → role_at s (lazy_word o r) ≡ Rx
+
+-- what a binding says that its relocation chose, the value that it gives its slot, and the object that it leads to
+abbrev pub bound_choice : Binding → Option Choice
+bound_choice b = if b.bound then Some b.choice else None
+
+abbrev pub bound_value : Binding → Option ℕ
+bound_value b = if b.bound then Some b.value else None
+
+abbrev pub bound_object : Binding → Option ℕ
+bound_object b = if b.bound then b.object else None
+
+-- an image's bindings are what its object chose when it was loaded: one a relocation, first those of DT_RELA and then those of slots, with the
+-- values that slots got
+pub record IsTied (s : State) (i : Linked) : Type 0 where
+  pub chosen : Chosen
+  pub found : find (λ c. c.owner == i.serial) s.chosen ≡ Some chosen
+  pub choices : map bound_choice i.bindings ≡ chosen.choices
+  pub values : map bound_value (drop (length i.object.relocs) i.bindings) ≡ chosen.values
+  pub objects : map bound_object i.bindings ≡ map (λ choice. option_and_then object_of choice) chosen.choices
+
+abbrev pub ImagesAreTied : State → Type 0
+ImagesAreTied s = (i : Linked) → Contains s.images i → IsTied s i
 
 -- the module is that of a mapped object, with the number and the offset of its place
 pub record IsModule (s : State) (m : Module) : Type 0 where

@@ -12,7 +12,7 @@ ghost use Rattle.link_history.specs.Accepted.{AcceptsOnly};
 ghost use Rattle.link_history.specs.After.{after};
 ghost use Rattle.link_history.specs.Allowed.{Allowed};
 ghost use Rattle.link_history.specs.Changes.{ChangesMemory};
-ghost use Rattle.link_history.specs.Laws.{AreApart, ClosesSpare, EachDiesOnce, GrantsAreHeld, GrantsAreTidy, ImagesAreInstalled, ImagesAreMapped, ImagesArePlaced, LoadsEnterCode, ModulesAreTidy, NoneIsLazy, NothingDangles, NothingLeftOut, RangesAreApart, SlotsEnterCode, StartupStays, TakesLeast};
+ghost use Rattle.link_history.specs.Laws.{AreApart, ClosesSpare, EachDiesOnce, GrantsAreHeld, GrantsAreTidy, ImagesAreInstalled, ImagesAreMapped, ImagesArePlaced, ImagesAreTied, LoadsEnterCode, ModulesAreTidy, NoneIsLazy, NothingDangles, NothingLeftOut, RangesAreApart, SlotsEnterCode, SlotsLeadToRx, StartupStays, TakesLeast};
 ghost use Rattle.link_history.specs.Exits.{exits, initialised_by_another, setting, unmapped_unclosed};
 ghost use Rattle.link_history.specs.Legal.{Lawful, Legal, Whole};
 ghost use Rattle.link_history.specs.Setting.{Machine, Setting};
@@ -155,6 +155,26 @@ pub fn images_are_installed()
     scope_rule::found_stands();
     scope_rule::reads_candidates();
     seg_image::pages_hold_segments();
+}
+
+/// Where slots lead is code that memory holds: each value of a mapped object's slot is 0 or lies in an
+/// RX word, and the word that a slot holds until it is bound lies in one.
+pub fn slots_lead_to_rx()
+    ensures { (m : Machine) (events : List Event) → AcceptsOnly m → Lawful m events → SlotsLeadToRx (after events) }
+{
+    scope_rule::serials_follow();
+    scope_rule::found_stands();
+    scope_rule::reads_candidates();
+    seg_image::pages_hold_segments();
+}
+
+/// The bindings of each image are what its object chose when it was loaded.
+pub fn images_are_tied()
+    ensures { (m : Machine) (events : List Event) → AcceptsOnly m → Lawful m events → ImagesAreTied (after events) }
+{
+    scope_rule::serials_follow();
+    scope_rule::found_stands();
+    scope_rule::reads_candidates();
 }
 
 /// An event changes memory in the ranges that it reserves or takes away alone. What it reserves had no

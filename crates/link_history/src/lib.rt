@@ -13,7 +13,7 @@
 mod law;
 
 pub use law::{
-    closed_are_spare, each_dies_once, grants_are_held, grants_are_tidy, images_are_installed, images_are_mapped, images_are_placed,
+    closed_are_spare, each_dies_once, grants_are_held, grants_are_tidy, images_are_installed, images_are_mapped, images_are_placed, images_are_tied,
     legal_step_by_step, loads_enter_code, memory_changes, modules_are_tidy, no_slot_dangles, none_is_lazy, nothing_left_out,
-    objects_are_apart, program_exits, ranges_apart, slots_enter_code, startup_stays,
+    objects_are_apart, program_exits, ranges_apart, slots_enter_code, slots_lead_to_rx, startup_stays,
 };
