@@ -3,6 +3,7 @@ pub mod Alone
 pub mod Arrived
 pub mod AtLoad
 pub mod Brought
+pub mod Chains
 pub mod Changed
 pub mod Closed
 pub mod Dangling
@@ -14,6 +15,7 @@ pub mod Good
 pub mod Granted
 pub mod History
 pub mod Imaged
+pub mod InRow
 pub mod Lazy
 pub mod LeftOut
 pub mod Lists
@@ -25,6 +27,8 @@ pub mod Once
 pub mod Opened
 pub mod Pages
 pub mod Placed
+pub mod Played
+pub mod Raced
 pub mod Ranges
 pub mod Scopes
 pub mod Spare

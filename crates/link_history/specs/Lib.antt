@@ -16,6 +16,8 @@ pub mod Lookup
 pub mod Memory
 pub mod Objects
 pub mod Opening
+pub mod Parts
+pub mod Race
 pub mod Relocating
 pub mod Setting
 pub mod Slots
