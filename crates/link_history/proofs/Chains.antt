@@ -1,5 +1,5 @@
 -- What chains of edges lead to, by computation: a set that holds the roots and each edge's target where it holds the source is all.
-use Rattle.std.proofs.Common.{◌≡◌, ⊎_elim, ℕ, zero, suc, ◌<◌, Bool, true, false, not, ◌&&◌, ◌||◌, eqb, List, [], ◌∷◌, ◌++◌, map, length, Some, refl, sym, ap, subst, ◌∙◌, arith}
+use Rattle.std.proofs.Common.{◌≡◌, ⊎_elim, ℕ, zero, suc, ◌<◌, Bool, true, false, not, ◌&&◌, ◌||◌, cond, eqb, List, [], ◌∷◌, ◌++◌, map, length, Some, refl, sym, ap, subst, ◌∙◌, arith}
 use Rattle.std.specs.List.{Contains, filter, list_all, list_any, slice_get}
 use Rattle.std.proofs.lemmas.Bool.{and_parts, cases_Bool, eq-eqb, not-true, or_cases, true≢false}
 use Rattle.std.proofs.lemmas.List.Elements.{Contains-append_cases}
@@ -70,8 +70,11 @@ is_all edges roots = is_closed edges (led_to edges roots) && list_all (has (led_
 pub reached_only : (edges : List Edge) (roots : List ℕ) (d : ℕ) → is_all edges roots ≡ true → Reached edges roots d → has (led_to edges roots) d ≡ true
 reached_only edges roots d all r = let parts = and_parts _ _ all in stays_inside edges roots (led_to edges roots) d parts.0 parts.1 r
 
+abbrev pub left_of : List Edge → List ℕ → List ℕ → List ℕ
+left_of edges roots nodes = filter (λ d. not (has (led_to edges roots) d)) nodes
+
 pub unneeded : (edges : List Edge) (roots nodes : List ℕ) → is_all edges roots ≡ true
-    → Unneeded edges roots nodes (filter (λ d. not (has (led_to edges roots) d)) nodes)
+    → Unneeded edges roots nodes (left_of edges roots nodes)
 unneeded edges roots nodes all = record {
   leave = λ d. not (has (led_to edges roots) d);
   are = refl;
@@ -150,3 +153,25 @@ init_next edges done before o rest may others = record {
   first = λ earlier e lt at. starts_not edges (before ++ o ∷ rest) done e
       (in_all (may_not_start edges (before ++ o ∷ rest) done) before e others (get_before before (o ∷ rest) earlier e lt at));
 }
+
+-- ---- what is left
+
+filter_alike : (p q : ℕ → Bool) (xs : List ℕ) → ((x : ℕ) → Contains xs x → p x ≡ q x) → filter p xs ≡ filter q xs
+filter_alike p q [] same = refl
+filter_alike p q (x ∷ xs) same =
+    ap (λ (b : Bool). cond b (x ∷ filter p xs) (filter p xs)) (same x (here x xs))
+    ∙ ap (λ (ys : List ℕ). cond (q x) (x ∷ ys) ys) (filter_alike p q xs (λ y h. same y (later x xs y h)))
+
+-- no other set is it
+pub left_alone : (edges : List Edge) (roots nodes set : List ℕ) → is_all edges roots ≡ true → Unneeded edges roots nodes set → set ≡ left_of edges roots nodes
+left_alone edges roots nodes set all un = un.are ∙ filter_alike un.leave (λ d. not (has (led_to edges roots) d)) nodes alike
+  where
+    alike : (d : ℕ) → Contains nodes d → un.leave d ≡ not (has (led_to edges roots) d)
+    alike d there = by (has (led_to edges roots) d) refl
+      where
+        by : (b : Bool) → has (led_to edges roots) d ≡ b → un.leave d ≡ not b
+        by true t = ⊎_elim
+            (λ (l : un.leave d ≡ true). absurd ((un.exactly d there).0 l (is_reached edges roots d t)))
+            (λ (l : un.leave d ≡ false). l)
+            (cases_Bool (un.leave d))
+        by false f = (un.exactly d there).1 (λ r. true≢false (sym (reached_only edges roots d all r) ∙ f))

@@ -4,6 +4,7 @@ pub mod Arrived
 pub mod AtLoad
 pub mod Brought
 pub mod Chains
+pub mod Cycled
 pub mod Changed
 pub mod Closed
 pub mod Dangling

@@ -3,8 +3,9 @@ use Rattle.std.proofs.Common.{◌≡◌, inr, ⊎_elim, ℕ, ◌+◌, Bool, true
 use Rattle.std.specs.Prelude.{Result, Ok, Err, if◌then◌else◌}
 use Rattle.std.specs.List.{Contains, flat_map, list_all, list_any, slice_get}
 use Rattle.std.specs.Str.{bytes_eq}
-use Rattle.std.proofs.lemmas.Bool.{and_from, eq-eqb, eqb-true, leb-true, not-true, or_cases, true≢false}
+use Rattle.std.proofs.lemmas.Bool.{and_from, eq-eqb, eqb-true, le-leb, leb-true, not-true, or_cases, true≢false}
 use Rattle.std.proofs.lemmas.List.{append-nil, append_assoc}
+use Rattle.ld_base.specs.declared.fault.DlFault.TheVariants as faults
 use Rattle.ld_base.specs.declared.fault.NotAccepted.{NotAccepted}
 use Rattle.ld_base.specs.declared.linking.Choice.{Choice}
 use Rattle.ld_base.specs.declared.linking.Choice.TheVariants.{Def, WeakZero, Missing}
@@ -16,35 +17,37 @@ use Rattle.library_source.specs.Files.{file_at}
 use Rattle.link_event.specs.declared.event.Event.{Event}
 use Rattle.link_event.specs.declared.event.OpenAsk.{OpenAsk}
 use Rattle.link_event.specs.declared.event.Range.{Range}
+use Rattle.link_event.specs.declared.state.Closing.{Closing}
 use Rattle.link_event.specs.declared.state.Granting.{Granting}
 use Rattle.link_event.specs.declared.state.Loading.{Loading}
 use Rattle.link_event.specs.declared.state.Standing.{Standing}
 use Rattle.link_event.specs.declared.state.Standing.TheVariants.{Open, Bound, Lost}
 use Rattle.scope_rule.specs.declared.arrival.Arrival.{Arrival}
 use Rattle.scope_rule.specs.declared.namespace.Namespace.{Namespace}
+use Rattle.scope_rule.specs.declared.namespace.OpenRec.{OpenRec}
 use Rattle.scope_rule.specs.Finding.{Reading, here, unaccepted, absent}
 use Rattle.scope_rule.specs.Load.{Load, asks, records_of, walk as walk_of}
 use Rattle.scope_rule.specs.Needed.{version_fault}
 use Rattle.link_history.specs.State.{State, start}
 use Rattle.link_history.specs.After.{after, after_from}
-use Rattle.link_history.specs.Allowed.{AllowedIn, AtTheEnd, IsFirst, MayGrant, MayInitialise}
+use Rattle.link_history.specs.Allowed.{AllowedIn, AtTheEnd, ByClosing, Closes, IsBadHandle, IsFirst, MayGrant, MayInitialise, MayUnmap, closable}
 use Rattle.link_history.specs.Addresses.{address, leads_to_code}
 use Rattle.link_history.specs.Bound.{lazy_word}
 use Rattle.link_graph.specs.Initialised.{InitNext, program_last}
 use Rattle.ld_base.specs.declared.object.Reloc.{Reloc}
 use Rattle.scope_rule.specs.Relocation.{choice_at}
 use Rattle.scope_rule.specs.Seen.{seen_in}
-use Rattle.link_history.proofs.Chains.{in_all, init_next, may_not_start, may_start}
+use Rattle.link_history.proofs.Chains.{in_all, init_next, is_all, left_alone, left_of, unneeded, may_not_start, may_start}
 use Rattle.link_history.specs.Areas.{AreBased, AreGiven, free_pages}
 use Rattle.link_history.specs.Flags.{is_deepbind, is_noload}
 use Rattle.link_history.specs.Grants.{is_bound, is_bound_standing, is_of, is_open, is_open_standing}
 use Rattle.link_history.specs.Legal.{IsOnlyBound, Legal, Settled, Whole}
-use Rattle.link_history.specs.Links.{finis_of, found_edges}
+use Rattle.link_history.specs.Links.{IsUnneeded, edges, finis_of, found_edges, roots}
 use Rattle.link_history.specs.Objects.{IsMapped, has, is_startup, mapped, serial_of}
 use Rattle.link_history.specs.Opening.{Loads, refused, there, unplaced, wanted}
 use Rattle.link_history.specs.Setting.{Machine, MayHold, MayRead, ReadingsBy, Setting, have_exited, load_of}
 use Rattle.link_history.specs.Slots.{HasBound, HasNoGrant, IsOpenGrant, IsSlot, MayBind, MayLose, value_at_load}
-use Rattle.link_history.specs.Step.{step}
+use Rattle.link_history.specs.Step.{lower, step}
 use Rattle.link_history.specs.Storage.{HaveModules}
 use Rattle.link_history.proofs.History.{after_push, legal_push}
 use Rattle.link_history.proofs.InRow.{AreInRow, StandInRow, free_from, given_in_row}
@@ -145,12 +148,12 @@ loads w files s hart ask name id root added ranges leads first c = record {
 
 -- ---- grants
 
+open_standing : (standing : Standing) → standing ≡ Open → is_open_standing standing ≡ true
+open_standing standing e = subst (λ (x : Standing). is_open_standing x ≡ true) (sym e) refl
+
 pub no_grant : (s : State) (hart : ℕ) → list_any (λ g. is_open g && eqb g.hart hart) s.grants ≡ false → HasNoGrant s hart
 no_grant s hart none g there open_yet same =
-    true≢false (sym (in_any (λ (x : Granting). is_open x && eqb x.hart hart) s.grants g there (and_from (is_open g) (eqb g.hart hart) (opened g.standing open_yet) (eq-eqb g.hart hart same))) ∙ none)
-  where
-    opened : (standing : Standing) → standing ≡ Open → is_open_standing standing ≡ true
-    opened standing e = subst (λ (x : Standing). is_open_standing x ≡ true) (sym e) refl
+    true≢false (sym (in_any (λ (x : Granting). is_open x && eqb x.hart hart) s.grants g there (and_from (is_open g) (eqb g.hart hart) (open_standing g.standing open_yet) (eq-eqb g.hart hart same))) ∙ none)
 
 bound_standing : (standing : Standing) → standing ≡ Bound → is_bound_standing standing ≡ true
 bound_standing standing e = subst (λ (x : Standing). is_bound_standing x ≡ true) (sym e) refl
@@ -334,4 +337,62 @@ whole_by w events all done = record {
   settled = λ g there standing. subst (SettledBy (after events) g) standing (each_settled (after events) (after events).grants g all there);
   lost = λ g saw there standing stands. subst (SettledBy (after events) g) standing (each_settled (after events) (after events).grants g all there);
   finished = λ over. done;
+}
+
+-- ---- closings
+
+pub some_in : (x : ℕ) (xs : List ℕ) → x ∷ xs ≡ [] → ⊥
+some_in x xs e = let d : x ∷ xs ≡ [] = e in cc
+
+-- an opening that may be closed; what its closing leaves without a chain from a root dies
+pub may_close : {ns : Namespace} {opening : OpenRec} {dying : List ℕ} (s : State) (handle n k : ℕ) → slice_get s.namespaces n ≡ Some ns → slice_get ns.opens k ≡ Some opening
+    → opening.root ≡ handle → leb 1 (closable opening) ≡ true → is_all (edges (lower handle s)) (roots (lower handle s)) ≡ true
+    → dying ≡ left_of (edges (lower handle s)) (roots (lower handle s)) (map serial_of ns.objects) → Closes s handle dying
+may_close {ns} {opening} s handle n k there inside of counts all are = record {
+  namespace = ns;
+  opened = record {
+    there = at_in s.namespaces n ns there;
+    opening = opening;
+    inside = at_in ns.opens k opening inside;
+    of = of;
+    counts = leb-true _ _ counts;
+  };
+  exactly = subst (IsUnneeded (lower handle s) (map serial_of ns.objects)) (sym are)
+      (unneeded (edges (lower handle s)) (roots (lower handle s)) (map serial_of ns.objects) all);
+}
+
+-- nothing else may die
+pub only_dying : {dying : List ℕ} (s : State) (handle : ℕ) (ns : Namespace) → s.namespaces ≡ ns ∷ [] → is_all (edges (lower handle s)) (roots (lower handle s)) ≡ true
+    → Closes s handle dying → dying ≡ left_of (edges (lower handle s)) (roots (lower handle s)) (map serial_of ns.objects)
+only_dying {dying} s handle ns one all closes =
+    left_alone (edges (lower handle s)) (roots (lower handle s)) (map serial_of ns.objects) dying all
+    (subst (λ (n : Namespace). IsUnneeded (lower handle s) (map serial_of n.objects) dying) (sym same) closes.exactly)
+  where
+    same : ns ≡ closes.namespace
+    same = only_in ns closes.namespace (subst (λ all. Contains all closes.namespace) one closes.opened.there)
+
+pub bad_handle : (s : State) (handle : ℕ) → list_any (λ ns. list_any (λ r. eqb r.root handle && leb 1 (closable r)) ns.opens) s.namespaces ≡ false
+    → IsBadHandle s handle (faults.BadHandle handle)
+bad_handle s handle none = record {
+  none = λ ns opened. true≢false (sym (in_any (λ (m : Namespace). list_any (λ r. eqb r.root handle && leb 1 (closable r)) m.opens) s.namespaces ns opened.there
+      (in_any (λ r. eqb r.root handle && leb 1 (closable r)) ns.opens opened.opening opened.inside
+          (and_from (eqb opened.opening.root handle) (leb 1 (closable opened.opening)) (eq-eqb _ _ opened.of) (le-leb _ _ opened.counts)))) ∙ none);
+  is = refl;
+}
+
+pub may_finish : {closing : Closing} (s : State) (hart object k : ℕ) → slice_get s.closings k ≡ Some closing → closing.hart ≡ hart
+    → IsFirst (finis_of s closing.set) object → ByClosing s hart object
+may_finish {closing} s hart object k at by next = record { closing = closing; there = at_in s.closings k closing at; by = by; next = next }
+
+-- while no grant is open
+pub may_unmap : {closing : Closing} (s : State) (hart k first : ℕ) (rest : List ℕ) → slice_get s.closings k ≡ Some closing → closing.hart ≡ hart
+    → closing.set ≡ first ∷ rest → finis_of s (first ∷ rest) ≡ [] → list_any is_open s.grants ≡ false → MayUnmap s hart (first ∷ rest)
+may_unmap {closing} s hart k first rest at by whole done none = record {
+  some = λ e. cc;
+  closing = closing;
+  there = at_in s.closings k closing at;
+  by = by;
+  whole = whole;
+  done = done;
+  free = λ g d there open_yet. absurd (true≢false (sym (in_any is_open s.grants g there (open_standing g.standing open_yet)) ∙ none));
 }

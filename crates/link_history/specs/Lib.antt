@@ -6,6 +6,7 @@ pub mod Areas
 pub mod Asking
 pub mod Bound
 pub mod Changes
+pub mod Cycle
 pub mod Exits
 pub mod Flags
 pub mod Grants

@@ -1,5 +1,6 @@
 //! Worked histories: journals that are legal, each with neighbours that aren't.
 
+ghost use Rattle.link_history.specs.Cycle as cycle;
 ghost use Rattle.link_history.specs.Legal.{Legal, Whole};
 ghost use Rattle.link_history.specs.Race as race;
 
@@ -10,4 +11,17 @@ pub fn harts_race()
     ensures legal { Legal race.setting race.race }
     ensures whole { Whole race.setting race.race }
     ensures granted_the_first { Legal race.setting race.granted_the_first → ⊥ }
+{}
+
+/// Two libraries that need nothing are bound to each other. Closing the handle of the first unmaps
+/// neither, and dlsym finds it still, though not on its handle; closing that of the second closes both,
+/// whose destructors run, the later one's first, before both are unmapped. The journal is legal and
+/// whole. It isn't legal that the first dies when its handle is closed, nor that none does when both
+/// are, nor that they are unmapped before their destructors have run.
+pub fn libraries_hold_each_other()
+    ensures legal { Legal cycle.setting cycle.cycle }
+    ensures whole { Whole cycle.setting cycle.cycle }
+    ensures dies_early { Legal cycle.setting cycle.dies_early → ⊥ }
+    ensures never_dies { Legal cycle.setting cycle.never_dies → ⊥ }
+    ensures unmapped_early { Legal cycle.setting cycle.unmapped_early → ⊥ }
 {}
