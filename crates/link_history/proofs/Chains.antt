@@ -121,7 +121,7 @@ starts edges new done o may =
           (or_cases (has done d || not (has (reach edges o) d)) (has (reach edges d) o) (in_all (is_free_of edges done o) new d parts.1 there));
     }
 
-starts_not : (edges : List Edge) (new done : List ℕ) (o : ℕ) → may_not_start edges new done o ≡ true → MayStart edges new done o → ⊥
+pub starts_not : (edges : List Edge) (new done : List ℕ) (o : ℕ) → may_not_start edges new done o ≡ true → MayStart edges new done o → ⊥
 starts_not edges new done o may_not start = ⊎_elim
     (λ (t : has done o ≡ true). start.undone (has_in done o t))
     (λ (t : list_any (waits_for edges done o) new ≡ true).

@@ -23,6 +23,7 @@ pub mod Lists
 pub mod Lookups
 pub mod Map
 pub mod Modular
+pub mod Matched
 pub mod Moduled
 pub mod Once
 pub mod Opened
@@ -32,6 +33,7 @@ pub mod Played
 pub mod Raced
 pub mod Ranges
 pub mod Scopes
+pub mod Separate
 pub mod Spare
 pub mod Startup
 pub mod Steps

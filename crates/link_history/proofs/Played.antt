@@ -17,6 +17,7 @@ use Rattle.library_source.specs.Files.{file_at}
 use Rattle.link_event.specs.declared.event.Event.{Event}
 use Rattle.link_event.specs.declared.event.OpenAsk.{OpenAsk}
 use Rattle.link_event.specs.declared.event.Range.{Range}
+use Rattle.link_event.specs.declared.event.SymAsk.{SymAsk}
 use Rattle.link_event.specs.declared.state.Closing.{Closing}
 use Rattle.link_event.specs.declared.state.Granting.{Granting}
 use Rattle.link_event.specs.declared.state.Loading.{Loading}
@@ -33,16 +34,17 @@ use Rattle.link_history.specs.After.{after, after_from}
 use Rattle.link_history.specs.Allowed.{AllowedIn, AtTheEnd, ByClosing, Closes, IsBadHandle, IsFirst, MayGrant, MayInitialise, MayUnmap, closable}
 use Rattle.link_history.specs.Addresses.{address, leads_to_code}
 use Rattle.link_history.specs.Bound.{lazy_word}
-use Rattle.link_graph.specs.Initialised.{InitNext, program_last}
+use Rattle.link_graph.specs.Initialised.{InitNext, MayStart, program_last}
 use Rattle.ld_base.specs.declared.object.Reloc.{Reloc}
 use Rattle.scope_rule.specs.Relocation.{choice_at}
 use Rattle.scope_rule.specs.Seen.{seen_in}
-use Rattle.link_history.proofs.Chains.{in_all, init_next, is_all, left_alone, left_of, unneeded, may_not_start, may_start}
+use Rattle.link_history.proofs.Chains.{in_all, init_next, is_all, left_alone, left_of, may_not_start, may_start, starts_not, unneeded}
 use Rattle.link_history.specs.Areas.{AreBased, AreGiven, free_pages}
 use Rattle.link_history.specs.Flags.{is_deepbind, is_noload}
 use Rattle.link_history.specs.Grants.{is_bound, is_bound_standing, is_of, is_open, is_open_standing}
 use Rattle.link_history.specs.Legal.{IsOnlyBound, Legal, Settled, Whole}
 use Rattle.link_history.specs.Links.{IsUnneeded, edges, finis_of, found_edges, roots}
+use Rattle.link_history.specs.Lookup.{FindsSymbol, search}
 use Rattle.link_history.specs.Objects.{IsMapped, has, is_startup, mapped, serial_of}
 use Rattle.link_history.specs.Opening.{Loads, refused, there, unplaced, wanted}
 use Rattle.link_history.specs.Setting.{Machine, MayHold, MayRead, ReadingsBy, Setting, have_exited, load_of}
@@ -396,3 +398,27 @@ may_unmap {closing} s hart k first rest at by whole done none = record {
   done = done;
   free = λ g d there open_yet. absurd (true≢false (sym (in_any is_open s.grants g there (open_standing g.standing open_yet)) ∙ none));
 }
+
+-- ---- wrong constructors, and wrong answers
+
+-- while there is one loading, and the object waits
+pub not_next : {loading : Loading} (s : State) (hart object : ℕ) → s.loadings ≡ loading ∷ []
+    → may_not_start (flat_map found_edges (mapped s)) (program_last (Some 1) loading.serials) s.inits object ≡ true → MayInitialise s hart object → ⊥
+not_next {loading} s hart object one waits may =
+    starts_not (flat_map found_edges (mapped s)) (program_last (Some 1) loading.serials) s.inits object waits
+    (subst (λ (l : Loading). MayStart (flat_map found_edges (mapped s)) (program_last (Some 1) l.serials) s.inits object) (sym same) may.next.may)
+  where
+    same : loading ≡ may.loading
+    same = only_in loading may.loading (subst (λ all. Contains all may.loading) one may.there)
+
+abbrev serial_found : Option (Option (ℕ × ℕ)) → ℕ
+serial_found None = 0
+serial_found (Some None) = 0
+serial_found (Some (Some x)) = x.0
+
+-- a search that finds one object's definition answers no other's
+pub another_is_found : {hart serial index value : ℕ} (s : State) (ask : SymAsk) (other at : ℕ) → search s ask ≡ Some (Some (other, at))
+    → eqb other serial ≡ false → FindsSymbol s hart ask serial index value → ⊥
+another_is_found {hart} {serial} s ask other at found differs finds =
+    let same : other ≡ serial = sym (ap serial_found found) ∙ ap serial_found finds.found in
+    true≢false (sym (eq-eqb other serial same) ∙ differs)

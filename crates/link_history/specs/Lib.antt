@@ -8,6 +8,7 @@ pub mod Bound
 pub mod Changes
 pub mod Cycle
 pub mod Exits
+pub mod FirstMatch
 pub mod Flags
 pub mod Grants
 pub mod Laws
@@ -15,6 +16,7 @@ pub mod Legal
 pub mod Links
 pub mod Lookup
 pub mod Memory
+pub mod Namespaces
 pub mod Objects
 pub mod Opening
 pub mod Parts

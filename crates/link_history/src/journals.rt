@@ -1,7 +1,9 @@
 //! Worked histories: journals that are legal, each with neighbours that aren't.
 
 ghost use Rattle.link_history.specs.Cycle as cycle;
+ghost use Rattle.link_history.specs.FirstMatch as matches;
 ghost use Rattle.link_history.specs.Legal.{Legal, Whole};
+ghost use Rattle.link_history.specs.Namespaces as apart;
 ghost use Rattle.link_history.specs.Race as race;
 
 /// Two harts race for a slot: while hart 0 has an open grant of one library's function, hart 1 opens a
@@ -24,4 +26,24 @@ pub fn libraries_hold_each_other()
     ensures dies_early { Legal cycle.setting cycle.dies_early → ⊥ }
     ensures never_dies { Legal cycle.setting cycle.never_dies → ⊥ }
     ensures unmapped_early { Legal cycle.setting cycle.unmapped_early → ⊥ }
+{}
+
+/// A program is bound to the first of two libraries that define what it calls. The journal is legal
+/// and whole. It isn't legal that the last match is chosen, nor that the program's constructors run
+/// before those of what it needs, nor that a page is left free between the libraries.
+pub fn first_match_is_chosen()
+    ensures legal { Legal matches.setting matches.first_match }
+    ensures whole { Whole matches.setting matches.first_match }
+    ensures last_match { Legal matches.setting matches.last_match → ⊥ }
+    ensures program_first { Legal matches.setting matches.program_first → ⊥ }
+    ensures gap_left { Legal matches.setting matches.gap_left → ⊥ }
+{}
+
+/// A library that is opened in the base namespace and in a new one is two objects, and each handle
+/// gives the variable of its own; a namespace that isn't there is refused. The journal is legal and
+/// whole. It isn't legal that a handle gives the variable of the other namespace.
+pub fn namespaces_are_apart()
+    ensures legal { Legal apart.setting apart.namespaces }
+    ensures whole { Whole apart.setting apart.namespaces }
+    ensures other_namespace { Legal apart.setting apart.other_namespace → ⊥ }
 {}
