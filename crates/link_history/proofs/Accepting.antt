@@ -1,5 +1,5 @@
 -- Each image is of an object that the machine accepts.
-use Rattle.std.proofs.Common.{◌≡◌, ⊎_elim, ℕ, ◌+◌, Bool, true, false, not, List, [], ◌∷◌, ◌++◌, map, length, Option, Some, None, Ok, sym, ap, subst, ◌∙◌, arith}
+use Rattle.std.proofs.Common.{◌≡◌, ⊎_elim, ℕ, ◌+◌, Bool, true, false, not, List, [], ◌∷◌, map, length, Option, Some, None, sym, ap, subst, ◌∙◌, arith}
 use Rattle.std.specs.List.{AllByRecursion, Contains}
 use Rattle.std.proofs.lemmas.List.{take_all}
 use Rattle.std.proofs.lemmas.List.Elements.{Contains-append_cases}
@@ -28,7 +28,7 @@ use Rattle.link_history.specs.Allowed.{AllowedIn}
 use Rattle.link_history.specs.Bound.{linked_with, uncopied, with_copies}
 use Rattle.link_history.specs.Flags.{is_deepbind, is_noload}
 use Rattle.link_history.specs.Legal.{Lawful}
-use Rattle.link_history.specs.Objects.{has, is_startup}
+use Rattle.link_history.specs.Objects.{has}
 use Rattle.link_history.specs.Opening.{Loads as LoadsName, MayOpen, OpensName, unplaced}
 use Rattle.link_history.specs.Setting.{Machine, MayRead, ReadingsBy, Setting, load_of}
 use Rattle.link_history.specs.Step.{binds, die, initialise, loaded, lower, seen_after, step, unmap}

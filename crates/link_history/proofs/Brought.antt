@@ -154,6 +154,9 @@ module _ (laws : LoadLaws) (w : Setting) (s : State) (good : Good (core s)) (har
   one = ranged_one s.next (length walk.news) added
       (sym (serials_are added) ∙ ap (map serial_of) placed ∙ laws.serials load (is_deepbind ask.flags) walk)
 
+  pub added_serials : map serial_of added ≡ range_with_len s.next (length added)
+  added_serials = sym (serials_are added) ∙ ap (map serial_of) placed ∙ laws.serials load (is_deepbind ask.flags) walk ∙ ap (range_with_len s.next) as_many
+
   stays : (d : ℕ) → Stands load (load.there ++ news) d → Stays s.closings (joined b added) d
   stays d stands = ⊎_elim
       (λ (e : d ≡ 0). inl e)

@@ -1,12 +1,11 @@
 -- Where slots lead lies in words that may be run.
-use Rattle.std.proofs.Common.{◌≡◌, ◌≢◌, ◌⊎◌, inl, inr, ⊎_elim, ℕ, ◌+◌, ◌-◌, ◌*◌, ◌^◌, ◌<◌, ◌≤◌, Bool, true, false, not, ◌||◌, leb, ltb, List, Option, Some, None, refl, sym, ap, subst, ◌∙◌, arith}
+use Rattle.std.proofs.Common.{◌≡◌, ◌⊎◌, inl, inr, ⊎_elim, ℕ, ◌+◌, ◌-◌, ◌*◌, ◌^◌, ◌<◌, ◌≤◌, Bool, true, not, ◌||◌, leb, ltb, List, Option, Some, None, refl, sym, ap, subst, ◌∙◌, arith}
 use Rattle.std.specs.Prelude.{if◌then◌else◌}
 use Rattle.std.specs.List.{Contains, find, slice_get}
 use Rattle.std.specs.Option.{option_map_or}
 use Rattle.std.proofs.lemmas.Bool.{and_from, and_parts, le-leb, leb-true, lt-ltb, ltb-true, true≢false}
 use Rattle.ld_base.specs.declared.linking.Choice.{Choice}
 use Rattle.ld_base.specs.declared.linking.Choice.TheVariants.{Def, WeakZero, Missing}
-use Rattle.ld_base.specs.declared.linking.Loaded.{Loaded}
 use Rattle.ld_base.specs.declared.linking.Role.{Role}
 use Rattle.ld_base.specs.declared.linking.Role.TheVariants.{None as NoRole, Ro, Rx, Rw, Slot}
 use Rattle.ld_base.specs.declared.object.Object.{Object}
@@ -18,10 +17,9 @@ use Rattle.seg_image.specs.Pages.{end_of, has_page, low_of, own_address, pages_o
 use Rattle.seg_image.specs.Roles.{is_executable, is_linkers, is_relro, is_slot, is_writable, role_in, role_of}
 use Rattle.seg_image.specs.Words.{file_word}
 use Rattle.link_history.specs.State.{Linked, State}
-use Rattle.link_history.specs.Accepted.{AcceptsOnly, IsAccepted}
+use Rattle.link_history.specs.Accepted.{AcceptsOnly}
 use Rattle.link_history.specs.Addresses.{is_linkers_page, is_rx}
 use Rattle.link_history.specs.After.{after}
-use Rattle.link_history.specs.Bound.{lazy_word}
 use Rattle.link_history.specs.Laws.{EntersBy, ImagesAreMapped, IsCodeOf, IsImageOf, SlotsLeadToRx}
 use Rattle.link_history.specs.Legal.{Lawful}
 use Rattle.link_history.specs.Memory.{data_at, image_at, is_in, role_at}

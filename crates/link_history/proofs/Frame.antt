@@ -1,20 +1,18 @@
 -- What an event changes of guest memory, and what it leaves.
-use Rattle.std.proofs.Common.{◌≡◌, ◌⊎◌, inl, inr, ⊎_elim, ℕ, ◌+◌, ◌*◌, ◌^◌, ◌<◌, ◌≤◌, Bool, true, false, not, ◌&&◌, cond, leb, ltb, List, [], ◌∷◌, ◌++◌, map, Option, Some, None, refl, sym, ap, subst, ◌∙◌, arith}
+use Rattle.std.proofs.Common.{◌≡◌, inl, inr, ℕ, ◌+◌, ◌*◌, ◌^◌, ◌<◌, ◌≤◌, Bool, true, false, not, ◌&&◌, leb, ltb, List, [], ◌∷◌, ◌++◌, map, Option, Some, None, refl, sym, ap, subst, ◌∙◌, arith}
 use Rattle.std.specs.Prelude.{if◌then◌else◌}
-use Rattle.std.specs.List.{Contains, filter, find}
+use Rattle.std.specs.List.{Contains, filter}
 use Rattle.std.specs.Option.{option_map_or}
-use Rattle.std.proofs.lemmas.Bool.{and_from, and_parts, and_right, cases_Bool, le-leb, lt-ltb, not-true, true≢false}
+use Rattle.std.proofs.lemmas.Bool.{and_from, and_parts, and_right, le-leb, lt-ltb, not-true, true≢false}
 use Rattle.std.proofs.lemmas.List.Elements.{Contains-append_left, Contains-append_right}
 use Rattle.address_space.specs.Pages.{AllFree, is_within}
 use Rattle.ld_base.specs.declared.linking.Loaded.{Loaded}
-use Rattle.ld_base.specs.declared.linking.Role.{Role}
 use Rattle.ld_base.specs.declared.linking.Role.TheVariants.{None as NoRole, Rx, Rw}
 use Rattle.link_event.specs.declared.event.CloseAnswer.TheVariants as closes
 use Rattle.link_event.specs.declared.event.Event.{Event}
 use Rattle.link_event.specs.declared.event.Event.TheVariants as events
 use Rattle.link_event.specs.declared.event.OpenAnswer.TheVariants as opens
 use Rattle.link_event.specs.declared.event.OpenAsk.{OpenAsk}
-use Rattle.link_event.specs.declared.event.Purpose.{Purpose}
 use Rattle.link_event.specs.declared.event.Range.{Range}
 use Rattle.link_event.specs.declared.event.SymAnswer.TheVariants as syms
 use Rattle.seg_image.specs.Roles.{role_of}
@@ -28,7 +26,6 @@ use Rattle.link_history.specs.Allowed.{Allowed, AllowedIn}
 use Rattle.link_history.specs.Areas.{free_pages}
 use Rattle.link_history.specs.Bound.{linked_with, uncopied, with_copies}
 use Rattle.link_history.specs.Changes.{ChangesMemory, IsUntouched, reserved, taken}
-use Rattle.link_history.specs.Laws.{IsRangeOf}
 use Rattle.link_history.specs.Legal.{Lawful}
 use Rattle.link_history.specs.Memory.{covers, data_at, ebreaks, first_byte, image_at, is_data_purpose, is_in, role_at, word_at, word_in}
 use Rattle.link_history.specs.Objects.{has}
@@ -36,7 +33,7 @@ use Rattle.link_history.specs.Opening.{Opens}
 use Rattle.link_history.specs.Setting.{Machine, Setting}
 use Rattle.link_history.specs.Step.{binds, die, goes_with, initialise, loaded, lower, purpose_goes, seen_after, step, unmap}
 use Rattle.link_history.proofs.History.{after_push, lawful_push}
-use Rattle.link_history.proofs.Lists.{first_or_later, found_in, from_filter, here, in_filter, later, none_in, only_in}
+use Rattle.link_history.proofs.Lists.{found_in, from_filter, in_filter, none_in, only_in}
 use Rattle.link_history.proofs.Accepting.{ReadLaw}
 use Rattle.link_history.proofs.Brought.{LoadLaws}
 use Rattle.link_history.proofs.Lazy.{PageLaws}

@@ -1,8 +1,7 @@
 -- No value of a slot is the word that the slot holds until it is bound.
-use Rattle.std.proofs.Common.{◌≡◌, ◌⊎◌, inl, inr, ⊎_elim, ℕ, ◌+◌, ◌-◌, ◌*◌, ◌%◌, ◌^◌, ◌<◌, ◌≤◌, Bool, List, [], ◌∷◌, ◌++◌, map, Some, refl, sym, ap, subst, ◌∙◌, arith}
+use Rattle.std.proofs.Common.{◌≡◌, ⊎_elim, ℕ, ◌+◌, ◌-◌, ◌*◌, ◌%◌, ◌^◌, ◌<◌, ◌≤◌, List, [], ◌∷◌, ◌++◌, map, Some, refl, sym, ap, subst, ◌∙◌, arith}
 use Rattle.std.specs.List.{Contains, filter, slice_get}
 use Rattle.std.proofs.lemmas.List.Elements.{Contains-push_cases}
-use Rattle.address_space.specs.Pages.{guest_pages}
 use Rattle.ld_base.specs.declared.linking.Choice.{Choice}
 use Rattle.ld_base.specs.declared.linking.Loaded.{Loaded}
 use Rattle.ld_base.specs.declared.object.Object.{Object}
@@ -16,26 +15,24 @@ use Rattle.scope_rule.specs.declared.namespace.Namespace.{Namespace}
 use Rattle.seg_image.specs.Accepted.{Accepted}
 use Rattle.seg_image.specs.Pages.{IsInside, end_of, low_of, own_address, pages_of, segment_at, start_of}
 use Rattle.seg_image.specs.Words.{file_word}
-use Rattle.link_history.specs.State.{Linked, State, empty_namespace}
+use Rattle.link_history.specs.State.{Linked, State}
 use Rattle.link_history.specs.Accepted.{AcceptsOnly, IsAccepted}
-use Rattle.link_history.specs.Addresses.{address}
 use Rattle.link_history.specs.After.{after}
 use Rattle.link_history.specs.Allowed.{MayGrant}
 use Rattle.link_history.specs.Bound.{lazy_word}
 use Rattle.link_history.specs.Laws.{IsRangeOf, NoneIsLazy}
 use Rattle.link_history.specs.Legal.{Lawful}
-use Rattle.link_history.specs.Objects.{serial_of}
 use Rattle.link_history.specs.Setting.{Machine}
 use Rattle.link_history.specs.Slots.{IsSlot}
 use Rattle.link_history.specs.Step.{die, dying_in, dying_object, gone_in, initialise, is_left, loaded, lower, lowered_in, ready_in, ready_object, unmap}
-use Rattle.link_history.proofs.Lists.{at_in, from_map, none_in, only_in}
+use Rattle.link_history.proofs.Lists.{at_in, from_map, none_in}
 use Rattle.link_history.proofs.Accepting.{ReadLaw, accepted_after}
 use Rattle.link_history.proofs.Alone.{Alone, alone_law, one_object}
-use Rattle.link_history.proofs.AtLoad.{Old, cases, chosen_at, loads_after, not_lazy, was_old}
+use Rattle.link_history.proofs.AtLoad.{cases, chosen_at, loads_after, not_lazy, was_old}
 use Rattle.link_history.proofs.Brought.{LoadLaws}
 use Rattle.link_history.proofs.Changed.{Leaves, leaves_dying, leaves_ready}
 use Rattle.link_history.proofs.Closed.{each_left, stayed}
-use Rattle.link_history.proofs.Good.{Core, Good, core, each_mapped}
+use Rattle.link_history.proofs.Good.{Good, core, each_mapped}
 use Rattle.link_history.proofs.Granted.{was_there}
 use Rattle.link_history.proofs.Imaged.{images_mapped}
 use Rattle.link_history.proofs.Modular.{moved_of}
@@ -89,27 +86,30 @@ unfolding loaded die lower unmap initialise
 unlazy_law = record {
   starts = (alone_law.starts, λ ns o g r there inside granted. absurd (none_in g granted));
   opens = λ w s hart ask id root added ranges good both opens came. (
-        alone_law.opens w s hart ask id root added ranges good both.0 opens came,
-        λ ns o g r there inside granted of at lazy.
-            let home = was_old s hart ask id root added ranges good came o (subst (λ (n : ℕ). n < s.next) of (good.grants_low g granted)) (cases s hart ask id root added ranges good came ns o there inside) in
-            both.1 home.0 o g r home.1 home.2 granted of at lazy,
-      );
+    alone_law.opens w s hart ask id root added ranges good both.0 opens came,
+    λ ns o g r there inside granted of at lazy.
+        let home = was_old s hart ask id root added ranges good came o (subst (λ (n : ℕ). n < s.next) of (good.grants_low g granted)) (cases s hart ask id root added ranges good came ns o there inside) in
+        both.1 home.0 o g r home.1 home.2 granted of at lazy,
+  );
   closes = λ s hart handle set good both closes. (
-        alone_law.closes s hart handle set good both.0 closes,
-        unlazy_map (dying_in hart set) (dying_object hart set) (leaves_dying hart set) (λ ns. refl) (map (lowered_in handle) s.namespaces) s.grants (unlazy_lowered handle s.namespaces s.grants both.1),
-      );
+    alone_law.closes s hart handle set good both.0 closes,
+    unlazy_map (dying_in hart set) (dying_object hart set) (leaves_dying hart set) (λ ns. refl) (map (lowered_in handle) s.namespaces) s.grants (unlazy_lowered handle s.namespaces s.grants both.1),
+  );
   unmaps = λ s hart set good both may. (alone_law.unmaps s hart set good both.0 may, unlazy_left set s.namespaces s.grants both.1);
   grants = λ s number hart owner slot choice value good both may. (
-        alone_law.grants s number hart owner slot choice value good both.0 may,
-        unlazy_grant s good both.0 number hart owner slot choice value may both.1,
-      );
-  settles = λ s number standing good both shut. (both.0, λ ns o g r there inside granted of at lazy.
+    alone_law.grants s number hart owner slot choice value good both.0 may,
+    unlazy_grant s good both.0 number hart owner slot choice value may both.1,
+  );
+  settles = λ s number standing good both shut. (
+    both.0,
+    λ ns o g r there inside granted of at lazy.
         let old = was_there number standing s.grants g granted in
-        sym old.2.value ∙ both.1 ns o old.0 r there inside old.1 (old.2.owner ∙ of) (ap (slice_get o.object.plt_relocs) old.2.slot ∙ at) (old.2.value ∙ lazy));
+        sym old.2.value ∙ both.1 ns o old.0 r there inside old.1 (old.2.owner ∙ of) (ap (slice_get o.object.plt_relocs) old.2.slot ∙ at) (old.2.value ∙ lazy),
+  );
   initialises = λ s object good both. (
-        alone_law.initialises s object good both.0,
-        unlazy_map (ready_in object) (ready_object object) (leaves_ready object) (λ ns. refl) s.namespaces s.grants both.1,
-      );
+    alone_law.initialises s object good both.0,
+    unlazy_map (ready_in object) (ready_object object) (leaves_ready object) (λ ns. refl) s.namespaces s.grants both.1,
+  );
 }
 
 -- ---- a lazy word isn't 0

@@ -1,29 +1,23 @@
 -- The map of guest memory: each address of a range is of that range alone, and each of an image's pages of that image.
-use Rattle.std.proofs.Common.{◌≡◌, ◌⊎◌, inl, inr, ⊎_elim, ℕ, ◌+◌, ◌-◌, ◌*◌, ◌/◌, ◌^◌, ◌<◌, ◌≤◌, Bool, true, false, not, leb, ltb, List, [], ◌∷◌, ◌++◌, map, length, Option, Some, None, refl, sym, ap, subst, ◌∙◌, arith}
+use Rattle.std.proofs.Common.{◌≡◌, ◌⊎◌, inl, inr, ⊎_elim, ℕ, ◌+◌, ◌-◌, ◌*◌, ◌/◌, ◌^◌, ◌<◌, ◌≤◌, Bool, true, false, not, leb, ltb, List, ◌++◌, map, length, Option, Some, None, refl, sym, ap, subst, ◌∙◌, arith}
 use Rattle.std.specs.Prelude.{if◌then◌else◌}
-use Rattle.std.specs.List.{Contains, filter, find, slice_get}
-use Rattle.std.specs.Option.{option_map_or}
-use Rattle.std.proofs.lemmas.Bool.{and_from, and_left, and_parts, and_right, cases_Bool, le-leb, leb-true, lt-ltb, ltb-true, true≢false}
+use Rattle.std.specs.List.{Contains}
+use Rattle.std.proofs.lemmas.Bool.{and_from, and_left, and_parts, cases_Bool, le-leb, leb-true, lt-ltb, ltb-true, true≢false}
 use Rattle.std.proofs.lemmas.List.Elements.{Contains-append_cases}
-use Rattle.address_space.specs.Pages.{guest_pages, is_within}
+use Rattle.address_space.specs.Pages.{is_within}
 use Rattle.ld_base.specs.declared.linking.Loaded.{Loaded}
 use Rattle.ld_base.specs.declared.linking.Role.{Role}
 use Rattle.ld_base.specs.declared.linking.Role.TheVariants.{None as NoRole, Rx, Rw}
-use Rattle.ld_base.specs.declared.object.Object.{Object}
-use Rattle.ld_base.specs.declared.object.Segment.{Segment}
 use Rattle.link_event.specs.declared.event.CloseAnswer.TheVariants as closes
 use Rattle.link_event.specs.declared.event.Event.{Event}
 use Rattle.link_event.specs.declared.event.Event.TheVariants as events
 use Rattle.link_event.specs.declared.event.OpenAnswer.TheVariants as opens
 use Rattle.link_event.specs.declared.event.OpenAsk.{OpenAsk}
-use Rattle.link_event.specs.declared.event.Purpose.{Purpose}
 use Rattle.link_event.specs.declared.event.Purpose.TheVariants as purposes
 use Rattle.link_event.specs.declared.event.Range.{Range}
 use Rattle.link_event.specs.declared.event.SymAnswer.TheVariants as syms
 use Rattle.relocator.specs.Relocated.{image_word}
-use Rattle.scope_rule.specs.declared.namespace.Namespace.{Namespace}
-use Rattle.seg_image.specs.declared.image.Image.{Image}
-use Rattle.seg_image.specs.Images.{IsImage}
+use Rattle.seg_image.specs.declared.image.Word.{Word}
 use Rattle.seg_image.specs.Pages.{guest_address, low_of, own_address, pages_of}
 use Rattle.seg_image.specs.Roles.{role_of}
 use Rattle.link_history.specs.State.{Linked, State}
@@ -34,17 +28,17 @@ use Rattle.link_history.specs.Allowed.{AllowedIn}
 use Rattle.link_history.specs.Bound.{linked_with, uncopied, with_copies}
 use Rattle.link_history.specs.Laws.{ImagesAreInstalled, IsRangeOf}
 use Rattle.link_history.specs.Legal.{Lawful}
-use Rattle.link_history.specs.Memory.{covers, data_at, image_at, is_data_purpose, is_in, role_at, word_at, word_in}
+use Rattle.link_history.specs.Memory.{covers, data_at, image_at, is_in, role_at, word_at, word_in}
 use Rattle.link_history.specs.Objects.{has}
 use Rattle.link_history.specs.Opening.{Opens}
 use Rattle.link_history.specs.Setting.{Machine, Setting}
 use Rattle.link_history.specs.Step.{binds, die, initialise, loaded, lower, namespace_before, seen_after, step, unmap}
 use Rattle.link_history.proofs.History.{by_lawful}
-use Rattle.link_history.proofs.Lists.{first_or_later, found_in, from_filter, from_map, none_in, not_found}
+use Rattle.link_history.proofs.Lists.{found_in, from_filter, from_map, none_in, not_found}
 use Rattle.link_history.proofs.Accepting.{ReadLaw, accepted_after}
 use Rattle.link_history.proofs.Arrived.{Arrived}
 use Rattle.link_history.proofs.Brought.{LoadLaws, arrived_by}
-use Rattle.link_history.proofs.Good.{Good, core}
+use Rattle.link_history.proofs.Good.{core}
 use Rattle.link_history.proofs.Imaged.{images_mapped}
 use Rattle.link_history.proofs.Lazy.{Lies, PageLaws, lies}
 use Rattle.link_history.proofs.Modular.{guest_of, own_in, own_of}
@@ -227,6 +221,17 @@ covers_in laws s apart i accepted r a word e =
     let pages : r.range.pages ≡ pages_of i.object = r.pages in
     covered a r.range at.0 (omega (arith, to, pages))
 
+abbrev a_word : ℕ → Role → Word
+a_word value role = record { value = value; role = role }
+
+-- a word of an image, by its address as the object's own
+word_is : (i : Linked) (v u value : ℕ) (role : Role) → u ≡ v → value ≡ image_word i.object i.base i.serial i.bindings i.places u → role ≡ role_of i.object u
+    → Some (a_word (image_word i.object i.base i.serial i.bindings i.places v) (role_of i.object v)) ≡ Some (a_word value role)
+word_is i v u value role own value_is role_is =
+    ap (λ (x : ℕ). Some (a_word (image_word i.object i.base i.serial i.bindings i.places x) (role_of i.object x))) (sym own)
+    ∙ ap (λ (x : ℕ). Some (a_word x (role_of i.object u))) (sym value_is)
+    ∙ ap (λ (x : Role). Some (a_word value x)) (sym role_is)
+
 -- ---- the image of an address
 
 module _ (laws : PageLaws) (s : State) (m : Mapped s) where
@@ -302,7 +307,7 @@ module _ (laws : PageLaws) (s : State) (m : Mapped s) where
       let small = fits i there in
       let some : 0 < n = laws.some i.object (m.accepted i there).image in
       let start : image.start ≡ A + (low_of i.object - low_of i.object) = is.start ∙ ap (λ (b : ℕ). guest_address b (low_of i.object)) (placed i there).base
-          ∙ guest_of (low_of i.object) A (low_of i.object) (4096 * n) small.0 small.1 (omega arith) (omega (arith, some)) in
+      ∙ guest_of (low_of i.object) A (low_of i.object) (4096 * n) small.0 small.1 (omega arith) (omega (arith, some)) in
       let from : A ≤ image.start + 8 * k = omega (arith, start) in
       let to : image.start + 8 * k < A + 4096 * n = omega (arith, start, few, all) in
       let high : A + 4096 * n ≤ 2 ^ 33 = small.1 in
@@ -310,6 +315,5 @@ module _ (laws : PageLaws) (s : State) (m : Mapped s) where
       let inside : is_in i (image.start + 8 * k) ≡ true = in_pages i there (image.start + 8 * k) from to in
       let own : own_address i.base (image.start + 8 * k) ≡ low_of i.object + 8 * k = own_at i there (image.start + 8 * k) from to ∙ omega (arith, start) in
       is.words.each k few
-      ∙ ap (λ (v : ℕ). Some (record { value = image_word i.object i.base i.serial i.bindings i.places v; role = role_of i.object v })) (sym own)
-      ∙ ap (λ (x : ℕ). Some (record { value = x; role = role_of i.object (own_address i.base (image.start + 8 * k)) })) (sym (word_in_image i there (image.start + 8 * k) word inside))
-      ∙ ap (λ (x : Role). Some (record { value = word_at s (image.start + 8 * k); role = x })) (sym (role_in_image i there (image.start + 8 * k) word inside))
+      ∙ word_is i (low_of i.object + 8 * k) (own_address i.base (image.start + 8 * k)) (word_at s (image.start + 8 * k)) (role_at s (image.start + 8 * k))
+      own (word_in_image i there (image.start + 8 * k) word inside) (role_in_image i there (image.start + 8 * k) word inside)

@@ -1,5 +1,5 @@
 -- Addresses of an object's own and of guest memory, where its pages begin at A and the object's own at low.
-use Rattle.std.proofs.Common.{◌≡◌, ℕ, ◌+◌, ◌-◌, ◌*◌, ◌/◌, ◌%◌, ◌^◌, ◌<◌, ◌≤◌, arith}
+use Rattle.std.proofs.Common.{◌≡◌, ℕ, ◌+◌, ◌-◌, ◌%◌, ◌^◌, ◌<◌, ◌≤◌, arith}
 use Rattle.seg_image.specs.Pages.{guest_address, own_address}
 
 -- an address of the pages, as the object's own

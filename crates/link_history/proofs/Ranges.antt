@@ -15,6 +15,7 @@ use Rattle.link_event.specs.declared.event.Event.TheVariants as events
 use Rattle.link_event.specs.declared.event.OpenAnswer.{OpenAnswer}
 use Rattle.link_event.specs.declared.event.OpenAnswer.TheVariants as opens
 use Rattle.link_event.specs.declared.event.OpenAsk.{OpenAsk}
+use Rattle.link_event.specs.declared.event.Purpose.TheVariants as purposes
 use Rattle.link_event.specs.declared.event.Range.{Range}
 use Rattle.link_event.specs.declared.event.SymAnswer.{SymAnswer}
 use Rattle.link_event.specs.declared.event.SymAnswer.TheVariants as syms
@@ -166,16 +167,16 @@ sym_apart s hart ask (syms.Found serial index value) apart = apart
 sym_apart s hart ask (syms.Refused fault) apart = apart
 
 -- the pages of a block are free before
-pub block_free : (s : State) (hart serial a : ℕ) → MayHaveBlock s hart serial a → (r : Range) × (block_ranges s hart serial a ≡ r ∷ []) × AllFree (free_pages s.ranges) r.address r.pages
+pub block_free : (s : State) (hart serial a : ℕ) → MayHaveBlock s hart serial a → (r : Range) × (block_ranges s hart serial a ≡ r ∷ []) × AllFree (free_pages s.ranges) r.address r.pages × (r.purpose ≡ purposes.Block hart serial)
 block_free s hart serial a may =
     let segment : option_and_then (λ (o : Loaded). o.object.tls) (object_at s serial) ≡ Some may.seg =
     ap (option_and_then (λ (o : Loaded). o.object.tls)) may.wants.mapped ∙ may.wants.storage in
     let is : a ≡ may.pages + residue may.seg = may.is in
-    let at : may.pages ≡ a - residue may.seg = behind a may.pages (residue may.seg) is in
-    (
+    let at : may.pages ≡ a - residue may.seg = behind a may.pages (residue may.seg) is in (
       block_range hart serial a may.seg,
       ap (λ (found : Option TlsSeg). option_map_or (λ seg. block_range hart serial a seg ∷ []) found []) segment,
       subst (λ (x : ℕ). AllFree (free_pages s.ranges) x (block_range hart serial a may.seg).pages) at may.first.fits.room,
+      refl,
     )
   where
     behind : (x y z : ℕ) → x ≡ y + z → y ≡ x - z

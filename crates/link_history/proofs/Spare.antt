@@ -1,8 +1,7 @@
 -- What a closing takes nothing holds.
-use Rattle.std.proofs.Common.{◌≡◌, ◌⊎◌, inl, inr, ⊎_elim, ℕ, Bool, true, false, not, ◌||◌, List, [], ◌∷◌, ◌++◌, refl, sym, ap, subst, ◌∙◌}
+use Rattle.std.proofs.Common.{◌≡◌, ⊎_elim, ℕ, Bool, true, false, not, ◌||◌, List, ◌∷◌, refl, ap, subst}
 use Rattle.std.specs.List.{Contains}
 use Rattle.std.proofs.lemmas.Bool.{cases_Bool, true≢false}
-use Rattle.std.proofs.lemmas.List.Elements.{Contains-append_right}
 use Rattle.ld_base.specs.declared.linking.Loaded.{Loaded}
 use Rattle.ld_base.specs.declared.linking.State.{State as Doing}
 use Rattle.ld_base.specs.declared.linking.State.TheVariants as states
@@ -12,9 +11,8 @@ use Rattle.scope_rule.specs.declared.namespace.Namespace.{Namespace}
 use Rattle.link_history.specs.State.{State}
 use Rattle.link_history.specs.Allowed.{Closes}
 use Rattle.link_history.specs.Grants.{target_of}
-use Rattle.link_history.specs.Laws.{ClosesSpare, IsOf, IsSpare}
+use Rattle.link_history.specs.Laws.{ClosesSpare, IsSpare}
 use Rattle.link_history.specs.Links.{Needed, stays}
-use Rattle.link_history.specs.Objects.{is_ready}
 use Rattle.link_history.specs.Step.{lower, lowered_in}
 use Rattle.link_history.proofs.Lists.{here, later}
 use Rattle.link_history.proofs.Closed.{Dies, closes_dies, dies_along, dies_node, good_lower}
@@ -44,9 +42,9 @@ spare_of s ns set good dies d h =
       ready = λ ms o inside is. (gone ms o (inside.there, inside.inside) is).0;
       marked = λ ms o inside is. (gone ms o (inside.there, inside.inside) is).1;
       granted = λ g there open_yet. (
-            λ (is : g.owner ≡ d). un (granted_root s g d there (open_is g.standing open_yet) (subst (λ (n : ℕ). Contains (g.owner ∷ target_of g.choice) n) is (here g.owner (target_of g.choice)))),
-            λ i. un (granted_root s g d there (open_is g.standing open_yet) (later g.owner (target_of g.choice) d i)),
-          );
+        λ (is : g.owner ≡ d). un (granted_root s g d there (open_is g.standing open_yet) (subst (λ (n : ℕ). Contains (g.owner ∷ target_of g.choice) n) is (here g.owner (target_of g.choice)))),
+        λ i. un (granted_root s g d there (open_is g.standing open_yet) (later g.owner (target_of g.choice) d i)),
+      );
       followed = λ ms o inside leads. dies_along s ns set good dies ms o d (inside.there, inside.inside) (leads_from s o d leads) h;
     }
   where

@@ -26,7 +26,6 @@ use Rattle.link_history.specs.Setting.{Machine, Setting}
 use Rattle.link_history.specs.Slots.{MayBind}
 use Rattle.link_history.specs.Step.{die, initialise, loaded, lower, settled_as, step, unmap}
 use Rattle.link_history.proofs.History.{by_lawful}
-
 use Rattle.link_history.proofs.Lists.{first_or_later, from_map, none_in}
 
 -- ---- places

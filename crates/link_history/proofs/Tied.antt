@@ -1,11 +1,11 @@
 -- The bindings of images are what their objects chose when they were loaded.
-use Rattle.std.proofs.Common.{◌≡◌, ◌⊎◌, inl, inr, ⊎_elim, ℕ, zero, suc, ◌<◌, ◌≤◌, Bool, true, false, not, ◌||◌, eqb, List, [], ◌∷◌, ◌++◌, map, length, drop, Option, Some, None, refl, sym, ap, subst, ◌∙◌, arith}
+use Rattle.std.proofs.Common.{◌≡◌, ⊎_elim, ℕ, ◌<◌, ◌≤◌, Bool, true, false, not, ◌||◌, eqb, List, [], ◌∷◌, ◌++◌, map, length, drop, Option, Some, None, refl, sym, ap, subst, ◌∙◌, arith}
 use Rattle.std.specs.Prelude.{if◌then◌else◌}
-use Rattle.std.specs.List.{All, Contains, filter, find}
+use Rattle.std.specs.List.{Contains, find}
 use Rattle.std.specs.Option.{option_and_then, option_map, option_map_or}
 use Rattle.std.proofs.lemmas.Bool.{eqb-true, eq-eqb, ne_eqb, true≢false}
 use Rattle.std.proofs.lemmas.List.{drop-map, length-map, map-append}
-use Rattle.std.proofs.lemmas.List.Elements.{All-append, All-nil, All-cons, Contains-append_cases, Contains-append_right}
+use Rattle.std.proofs.lemmas.List.Elements.{Contains-append_cases}
 use Rattle.std.proofs.Math.Seq.{drop-append_seam}
 use Rattle.ld_base.specs.declared.linking.Choice.{Choice}
 use Rattle.ld_base.specs.declared.linking.Loaded.{Loaded}
@@ -28,20 +28,19 @@ use Rattle.link_history.specs.Accepted.{AcceptsOnly, IsAccepted}
 use Rattle.link_history.specs.Addresses.{address, chosen_symbol}
 use Rattle.link_history.specs.After.{after}
 use Rattle.link_history.specs.Allowed.{AllowedIn}
-use Rattle.link_history.specs.Bound.{binding_of, binds_now, chosen_of, copied_of, copies_made, is_storage, linked_with, reloc_bindings, reloc_choices, slot_binding, slot_bindings, slot_choice, slot_choices, uncopied, with_copies}
-use Rattle.link_history.specs.Laws.{ImagesAreTied, IsTied, bound_choice, bound_object, bound_value}
+use Rattle.link_history.specs.Bound.{binding_of, chosen_of, copies_made, is_storage, linked_with, reloc_bindings, reloc_choices, slot_binding, slot_bindings, slot_choice, slot_choices, uncopied, with_copies}
+use Rattle.link_history.specs.Laws.{ImagesAreTied, bound_choice, bound_object, bound_value}
 use Rattle.link_history.specs.Legal.{Lawful}
 use Rattle.link_history.specs.Objects.{has}
 use Rattle.link_history.specs.Opening.{Opens}
 use Rattle.link_history.specs.Setting.{Machine, Setting}
 use Rattle.link_history.specs.Step.{binds, die, initialise, loaded, lower, namespace_before, seen_after, step, unmap}
 use Rattle.link_history.proofs.History.{by_lawful}
-use Rattle.link_history.proofs.Lists.{found_in, from_filter, from_map, has_in, here, in_map, later, none_in, not_found}
+use Rattle.link_history.proofs.Lists.{found_in, from_filter, from_map, here, in_map, later, none_in, not_found}
 use Rattle.link_history.proofs.Accepting.{ReadLaw, opens_accepted}
 use Rattle.link_history.proofs.Arrived.{Arrived}
 use Rattle.link_history.proofs.Brought.{LoadLaws, arrived_by}
-use Rattle.link_history.proofs.Good.{Good, core}
-use Rattle.link_history.proofs.Imaged.{images_mapped}
+use Rattle.link_history.proofs.Good.{core}
 use Rattle.link_history.proofs.Lookups.{find_behind, find_first, find_kept}
 use Rattle.link_history.proofs.Map.{made_of}
 use Rattle.link_history.proofs.Steps.{good_after}
@@ -126,8 +125,8 @@ made_ties s ns now o images accepted =
     let copied : List Binding = copies_made images o.object o.object.relocs bindings in (
       copies_same bound_choice (λ b bytes. refl) images o.object o.object.relocs bindings ∙ choices_are s ns now o,
       sym (drop-map bound_value (length o.object.relocs) copied) ∙ ap (drop (length o.object.relocs)) (copies_same bound_value (λ b bytes. refl) images o.object o.object.relocs bindings)
-      ∙ drop-map bound_value (length o.object.relocs) bindings
-      ∙ values_are s ns now o (λ r i. ap (λ (k : ℕ). eqb k 7 || eqb k 9 || eqb k 11) (accepted.jump r i)),
+          ∙ drop-map bound_value (length o.object.relocs) bindings
+          ∙ values_are s ns now o (λ r i. ap (λ (k : ℕ). eqb k 7 || eqb k 9 || eqb k 11) (accepted.jump r i)),
       copies_same bound_object (λ b bytes. refl) images o.object o.object.relocs bindings ∙ objects_are s ns now o,
     )
 

@@ -1,10 +1,9 @@
 -- No grant is bound of a slot that got its value when its object was loaded.
-use Rattle.std.proofs.Common.{◌≡◌, ◌⊎◌, inl, inr, ⊎_elim, ℕ, ◌<◌, ◌≤◌, Bool, true, false, not, eqb, List, [], ◌∷◌, ◌++◌, map, Option, Some, None, refl, sym, ap, subst, ◌∙◌, arith}
+use Rattle.std.proofs.Common.{◌≡◌, ⊎_elim, ℕ, ◌<◌, ◌≤◌, Bool, true, false, not, eqb, List, ◌++◌, map, Option, None, refl, sym, ap, subst, ◌∙◌, arith}
 use Rattle.std.specs.List.{Contains, filter, find, slice_get}
 use Rattle.std.specs.Option.{option_and_then}
-use Rattle.std.proofs.lemmas.Bool.{eqb-true, eq-eqb, ne_eqb, true≢false}
+use Rattle.std.proofs.lemmas.Bool.{eqb-true, ne_eqb}
 use Rattle.std.proofs.lemmas.List.Elements.{Contains-push_cases}
-use Rattle.ld_base.specs.declared.linking.Loaded.{Loaded}
 use Rattle.link_event.specs.declared.event.CloseAnswer.TheVariants as closes
 use Rattle.link_event.specs.declared.event.Event.{Event}
 use Rattle.link_event.specs.declared.event.Event.TheVariants as events
@@ -12,7 +11,6 @@ use Rattle.link_event.specs.declared.event.OpenAnswer.TheVariants as opens
 use Rattle.link_event.specs.declared.event.SymAnswer.TheVariants as syms
 use Rattle.link_event.specs.declared.state.Chosen.{Chosen}
 use Rattle.link_event.specs.declared.state.Granting.{Granting}
-use Rattle.link_event.specs.declared.state.Standing.{Standing}
 use Rattle.link_event.specs.declared.state.Standing.TheVariants as standings
 use Rattle.link_history.specs.State.{State}
 use Rattle.link_history.specs.After.{after}
@@ -23,12 +21,11 @@ use Rattle.link_history.specs.Laws.{GrantsAreTidy}
 use Rattle.link_history.specs.Legal.{Lawful}
 use Rattle.link_history.specs.Objects.{has}
 use Rattle.link_history.specs.Setting.{Machine, Setting}
-use Rattle.link_history.specs.Slots.{MayBind, value_at_load}
-use Rattle.link_history.specs.Step.{binds, die, initialise, loaded, lower, namespace_before, seen_after, settled_as, step, unmap}
+use Rattle.link_history.specs.Slots.{MayBind}
+use Rattle.link_history.specs.Step.{binds, die, initialise, loaded, lower, seen_after, settled_as, step, unmap}
 use Rattle.link_history.proofs.History.{by_lawful}
-use Rattle.link_history.proofs.Lists.{from_map, has_in, none_in}
+use Rattle.link_history.proofs.Lists.{from_map, none_in}
 use Rattle.link_history.proofs.Brought.{LoadLaws, arrived_by}
-use Rattle.link_history.proofs.Good.{Good, core}
 use Rattle.link_history.proofs.Lookups.{find_front, find_kept, find_less}
 use Rattle.link_history.proofs.Steps.{good_after}
 use Rattle.link_history.proofs.Tidy.{one_number, tidy_after, was_settled}

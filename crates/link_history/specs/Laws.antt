@@ -19,9 +19,11 @@ use Rattle.relocator.specs.Relocated.{image_word}
 use Rattle.seg_image.specs.declared.image.Image.{Image}
 use Rattle.seg_image.specs.Images.{IsImage}
 use Rattle.seg_image.specs.Pages.{low_of, own_address, pages_of}
+use Rattle.link_event.specs.declared.state.Block.{Block}
 use Rattle.link_event.specs.declared.state.Chosen.{Chosen}
 use Rattle.link_event.specs.declared.state.Closing.{Closing}
 use Rattle.link_event.specs.declared.state.Granting.{Granting}
+use Rattle.link_event.specs.declared.state.Loading.{Loading}
 use Rattle.link_event.specs.declared.state.Module.{Module}
 use Rattle.link_event.specs.declared.state.Standing.TheVariants.{Bound, Lost, Open}
 use Rattle.scope_rule.specs.Breadth.{breadth}
@@ -118,6 +120,29 @@ pub record AreApart (s : State) : Type 0 where
   pub found : (ns : Namespace) (o : Loaded) → IsIn s ns o → object_at s o.serial ≡ Some o
   pub namespaces : (ns ms : Namespace) → Contains s.namespaces ns → Contains s.namespaces ms → ns.id ≡ ms.id → ns ≡ ms
 
+-- serials: from 1 on and below that of the next new object; ascending in each namespace, in load order; and each of one loading
+pub record SerialsAreInOrder (s : State) : Type 0 where
+  pub from : (ns : Namespace) (o : Loaded) → IsIn s ns o → 1 ≤ o.serial
+  pub below : (ns : Namespace) (o : Loaded) → IsIn s ns o → o.serial < s.next
+  pub rising : (ns : Namespace) (i j : ℕ) (o p : Loaded) → Contains s.namespaces ns → slice_get ns.objects i ≡ Some o → slice_get ns.objects j ≡ Some p → i < j → o.serial < p.serial
+  pub loaded : (l k : Loading) (d : ℕ) → Contains s.loadings l → Contains s.loadings k → Contains l.serials d → Contains k.serials d → l ≡ k
+
+-- an object of the namespace that isn't dying, or the linker's own
+abbrev pub Lives : Namespace → ℕ → Type 0
+Lives ns d = (d ≡ 0) ⊎ ((o : Loaded) × Contains ns.objects o × (o.serial ≡ d) × (is_dying o ≡ false))
+
+-- openings count, and what is opened or global stands
+pub record OpeningsStand (s : State) : Type 0 where
+  pub count : (ns : Namespace) (r : OpenRec) → Contains s.namespaces ns → Contains ns.opens r → 1 ≤ r.count
+  pub root : (ns : Namespace) (r : OpenRec) → Contains s.namespaces ns → Contains ns.opens r → Lives ns r.root
+  pub global : (ns : Namespace) (d : ℕ) → Contains s.namespaces ns → Contains ns.global d → Lives ns d
+
+-- what each lost grant of a mapped object's slot saw is one value, and that of the bound grant, where there is one
+pub record LostSawTheValue (s : State) : Type 0 where
+  pub one : (g h : Granting) (saw word : ℕ) → Contains s.grants g → Contains s.grants h → g.standing ≡ Lost saw → h.standing ≡ Lost word → g.owner ≡ h.owner → g.slot ≡ h.slot → IsMapped s g.owner → saw ≡ word
+  pub bound : (g h : Granting) (saw : ℕ) → Contains s.grants g → Contains s.grants h → g.standing ≡ Lost saw → h.standing ≡ Bound → g.owner ≡ h.owner → g.slot ≡ h.slot → IsMapped s g.owner → saw ≡ h.value
+  pub at_load : (g : Granting) (saw value : ℕ) → Contains s.grants g → g.standing ≡ Lost saw → value_at_load s g.owner g.slot ≡ Some value → IsMapped s g.owner → saw ≡ value
+
 -- whoever sees a dying object dies with it: leaving dying objects out of a scope leaves none out
 abbrev pub NothingLeftOut : State → Type 0
 NothingLeftOut s = (ns : Namespace) (o : Loaded) → IsIn s ns o → scope (seen_in ns) o ≡ whole_scope (seen_in ns) o
@@ -164,6 +189,12 @@ pub record RangesAreApart (s : State) : Type 0 where
   pub one : (page : ℕ) (r q : Range) → Contains s.ranges r → Contains s.ranges q → Contains guest_pages page
       → IsTrue (is_within r.address r.pages page) → IsTrue (is_within q.address q.pages page) → r ≡ q
   pub inside : (r : Range) (k : ℕ) → Contains s.ranges r → k < r.pages → Contains guest_pages (r.address + 4096 * k)
+
+-- pages that are reserved for an object are those of an image, and for a block those of a block; and each block has its pages
+pub record RangesAreOwned (s : State) : Type 0 where
+  pub object : (r : Range) (serial : ℕ) → Contains s.ranges r → r.purpose ≡ purposes.Object serial → (i : Linked) × Contains s.images i × (i.serial ≡ serial)
+  pub late : (r : Range) (hart serial : ℕ) → Contains s.ranges r → r.purpose ≡ purposes.Block hart serial → (b : Block) × Contains s.blocks b × (b.hart ≡ hart) × (b.serial ≡ serial)
+  pub block : (b : Block) → Contains s.blocks b → (r : Range) × Contains s.ranges r × (r.purpose ≡ purposes.Block b.hart b.serial)
 
 -- grants have the numbers from 1 on; a hart has at most one that is open; and of a slot at most one is bound, and none where the slot got its
 -- value when its object was loaded

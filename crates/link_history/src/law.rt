@@ -1,6 +1,7 @@
 //! What holds in each state of a lawful history.
 
-ghost use Rattle.std.specs.Prelude.{◌≡◌, ℕ, List, ◌∷◌, ◌++◌, [], take};
+ghost use Rattle.std.specs.Prelude.{◌≡◌, ℕ, List, ◌∷◌, ◌++◌, [], take, map, length};
+ghost use Rattle.std.specs.List.{range_with_len};
 ghost use Rattle.ld_base.specs.declared.linking.Loaded.{Loaded};
 ghost use Rattle.link_event.specs.declared.event.Event.{Event};
 ghost use Rattle.link_event.specs.declared.event.CloseAnswer.TheVariants.{Done as Closed};
@@ -12,9 +13,10 @@ ghost use Rattle.link_history.specs.Accepted.{AcceptsOnly};
 ghost use Rattle.link_history.specs.After.{after};
 ghost use Rattle.link_history.specs.Allowed.{Allowed};
 ghost use Rattle.link_history.specs.Changes.{ChangesMemory};
-ghost use Rattle.link_history.specs.Laws.{AreApart, ClosesSpare, EachDiesOnce, GrantsAreHeld, GrantsAreTidy, ImagesAreInstalled, ImagesAreMapped, ImagesArePlaced, ImagesAreTied, LoadsEnterCode, ModulesAreTidy, NoneIsLazy, NothingDangles, NothingLeftOut, RangesAreApart, SlotsEnterCode, SlotsLeadToRx, StartupStays, TakesLeast};
+ghost use Rattle.link_history.specs.Laws.{AreApart, ClosesSpare, EachDiesOnce, GrantsAreHeld, GrantsAreTidy, ImagesAreInstalled, ImagesAreMapped, ImagesArePlaced, ImagesAreTied, LoadsEnterCode, LostSawTheValue, ModulesAreTidy, NoneIsLazy, NothingDangles, NothingLeftOut, OpeningsStand, RangesAreApart, RangesAreOwned, SerialsAreInOrder, SlotsEnterCode, SlotsLeadToRx, StartupStays, TakesLeast};
 ghost use Rattle.link_history.specs.Exits.{exits, initialised_by_another, setting, unmapped_unclosed};
 ghost use Rattle.link_history.specs.Legal.{Lawful, Legal, Whole};
+ghost use Rattle.link_history.specs.Objects.{serial_of};
 ghost use Rattle.link_history.specs.Setting.{Machine, Setting};
 ghost use Rattle.link_history.specs.Step.{lower};
 
@@ -71,6 +73,32 @@ pub fn objects_are_apart()
     scope_rule::found_stands();
 }
 
+/// Serials are in order: new objects take the next ones, in load order.
+pub fn serials_are_in_order()
+    ensures order { (m : Machine) (events : List Event) → Lawful m events → SerialsAreInOrder (after events) }
+    ensures new { (m : Machine) (w : Setting) (past : List Event) (hart id root : ℕ) (ask : OpenAsk) (added : List Loaded) (ranges : List Range) →
+        w.machine ≡ m → Lawful m past → Allowed w past (Open hart ask (Done id root added ranges)) → map serial_of added ≡ range_with_len (after past).next (length added) }
+{
+    scope_rule::serials_follow();
+    scope_rule::found_stands();
+}
+
+/// Each opening counts, and what is opened or global is mapped and isn't dying.
+pub fn openings_stand()
+    ensures { (m : Machine) (events : List Event) → Lawful m events → OpeningsStand (after events) }
+{
+    scope_rule::serials_follow();
+    scope_rule::found_stands();
+}
+
+/// In a whole history each lost grant of a mapped object's slot saw the slot's one value.
+pub fn lost_saw_the_value()
+    ensures { (w : Setting) (events : List Event) → Legal w events → Whole w events → LostSawTheValue (after events) }
+{
+    scope_rule::serials_follow();
+    scope_rule::found_stands();
+}
+
 /// Whoever sees a dying object dies with it: leaving dying objects out of a scope leaves none out.
 pub fn nothing_left_out()
     ensures { (m : Machine) (events : List Event) → Lawful m events → NothingLeftOut (after events) }
@@ -112,6 +140,11 @@ pub fn none_is_lazy()
 /// given away.
 pub fn ranges_apart()
     ensures { (m : Machine) (events : List Event) → Lawful m events → RangesAreApart (after events) }
+{}
+
+/// Pages that are reserved for an object or for a block are of one that is there: unmapping leaves none.
+pub fn ranges_are_owned()
+    ensures { (m : Machine) (events : List Event) → Lawful m events → RangesAreOwned (after events) }
 {}
 
 /// Grants have the numbers from 1 on, in order; a hart has at most one that is open; and of a slot at
