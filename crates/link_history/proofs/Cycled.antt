@@ -1,5 +1,5 @@
 -- The cycle of libraries, event by event.
-use Rattle.std.proofs.Common.{take, ◌≡◌, inl, inr, List, [], ◌∷◌, map, Some, None, refl, sym}
+use Rattle.std.proofs.Common.{take, inl, inr, List, [], ◌∷◌, map, Some, None, refl, sym}
 use Rattle.std.specs.Prelude.{codes}
 use Rattle.std.proofs.lemmas.Bool.{true≢false}
 use Rattle.ld_base.specs.declared.fault.DlFault.TheVariants.{BadHandle}
@@ -15,20 +15,20 @@ use Rattle.scope_rule.specs.Linker.{linker_symbol}
 use Rattle.scope_rule.specs.Load.{find_opened, find_path, finds, step as load_step}
 use Rattle.scope_rule.specs.Relocation.{choice_at}
 use Rattle.scope_rule.specs.Scope.{scope}
-use Rattle.scope_rule.specs.Searching.{in_breadth, in_global}
+use Rattle.scope_rule.specs.Searching.{in_global}
 use Rattle.seg_image.specs.Pages.{align_of, guest_address, high_of, low_of, own_address, pages_of, segment_at}
 use Rattle.seg_image.specs.Roles.{role_of}
 use Rattle.seg_image.specs.Words.{file_byte, file_word, word_of}
 use Rattle.relocator.specs.Relocated.{moved_word}
 use Rattle.link_history.specs.State.{State, start}
 use Rattle.link_history.specs.Addresses.{address, is_code_of, leads_to_code}
-use Rattle.link_history.specs.After.{after, after_from}
+use Rattle.link_history.specs.After.{after_from}
 use Rattle.link_history.specs.Allowed.{Allowed, AllowedIn, AtTheEnd, ByClosing, Closes, MayUnmap}
 use Rattle.link_history.specs.Legal.{Legal, Whole}
 use Rattle.link_history.specs.Lookup.{search}
 use Rattle.link_history.specs.Lookup.RefusesSymbol.{bad_handle as of_bad_handle}
 use Rattle.link_history.specs.Parts.{file_of}
-use Rattle.link_history.specs.Cycle.{both_bound, cycle, dies_early, libp, libq, never_dies, one_closed, opens_libp, opens_libq, prog, setting, startup, unmapped_early}
+use Rattle.link_history.specs.Cycle.{cycle, dies_early, libp, libq, never_dies, opens_libp, opens_libq, prog, setting, startup, unmapped_early}
 use Rattle.link_history.specs.Relocating.{relocation_fault}
 use Rattle.link_history.specs.Step.{die, initialise, loaded, lower, step, unmap}
 use Rattle.link_history.specs.Links.{edges, roots}

@@ -1,13 +1,9 @@
 -- The first match, event by event.
-use Rattle.std.proofs.Common.{take, ◌≡◌, ◌≤◌, arith, inl, inr, List, [], ◌∷◌, map, Some, None, refl, sym}
+use Rattle.std.proofs.Common.{take, ◌≤◌, arith, inl, inr, List, [], ◌∷◌, map, refl}
 use Rattle.std.specs.Prelude.{codes}
-use Rattle.std.proofs.lemmas.Bool.{true≢false}
-use Rattle.ld_base.specs.declared.fault.DlFault.TheVariants.{BadHandle}
 use Rattle.ld_base.specs.declared.linking.Choice.TheVariants.{Def}
 use Rattle.ld_base.specs.declared.linking.File.{File}
-use Rattle.link_event.specs.declared.event.CloseAnswer.TheVariants as closes
-use Rattle.link_event.specs.declared.event.Event.TheVariants.{Open, Grant, Bound, Init, Fini, Ended}
-use Rattle.link_event.specs.declared.event.SymAnswer.TheVariants as syms
+use Rattle.link_event.specs.declared.event.Event.TheVariants.{Grant, Bound, Init, Fini, Ended}
 use Rattle.link_event.specs.declared.hart_end.HartEnd.TheVariants.{Exit}
 use Rattle.scope_rule.specs.Breadth.{breadth}
 use Rattle.scope_rule.specs.Choose.{choose_for, pick_at}
@@ -15,7 +11,6 @@ use Rattle.scope_rule.specs.Linker.{linker_symbol}
 use Rattle.scope_rule.specs.Load.{find_opened, find_path, finds, step as load_step}
 use Rattle.scope_rule.specs.Relocation.{choice_at}
 use Rattle.scope_rule.specs.Scope.{scope}
-use Rattle.scope_rule.specs.Searching.{in_breadth, in_global}
 use Rattle.seg_image.specs.Pages.{align_of, guest_address, high_of, low_of, own_address, pages_of, segment_at}
 use Rattle.seg_image.specs.Roles.{role_of}
 use Rattle.seg_image.specs.Words.{file_byte, file_word, word_of}
@@ -24,16 +19,13 @@ use Rattle.link_history.specs.State.{State, start}
 use Rattle.link_history.specs.Addresses.{address, is_code_of, leads_to_code}
 use Rattle.address_space.specs.Pages.{IsFirstFit, without}
 use Rattle.link_history.specs.Areas.{free_pages}
-use Rattle.link_history.specs.After.{after, after_from}
+use Rattle.link_history.specs.After.{after_from}
 use Rattle.link_history.specs.Allowed.{Allowed, AllowedIn, AtTheEnd, MayGrant, MayInitialise}
 use Rattle.link_history.specs.Legal.{Legal, Whole}
-use Rattle.link_history.specs.Lookup.{search}
-use Rattle.link_history.specs.Lookup.RefusesSymbol.{bad_handle as of_bad_handle}
 use Rattle.link_history.specs.Parts.{file_of}
-use Rattle.link_history.specs.FirstMatch.{before, first_match, gap_left, last_match, liba, libb, prog, program_first, setting, startup, startup_with}
+use Rattle.link_history.specs.FirstMatch.{first_match, gap_left, last_match, liba, libb, prog, program_first, setting, startup, startup_with}
 use Rattle.link_history.specs.Relocating.{relocation_fault}
-use Rattle.link_history.specs.Step.{die, initialise, loaded, lower, step, unmap}
-use Rattle.link_history.specs.Links.{edges, roots}
+use Rattle.link_history.specs.Step.{initialise, loaded, step}
 use Rattle.link_history.proofs.Played.{another_is_chosen, at_the_end, legal_by, loads, mapped_at, may_bind, may_grant, may_initialise, not_next, whole_by}
 use Rattle.link_history.proofs.InRow.{fits_next, free_from, left_from}
 

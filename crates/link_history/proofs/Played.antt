@@ -378,7 +378,7 @@ pub bad_handle : (s : State) (handle : ℕ) → list_any (λ ns. list_any (λ r.
 bad_handle s handle none = record {
   none = λ ns opened. true≢false (sym (in_any (λ (m : Namespace). list_any (λ r. eqb r.root handle && leb 1 (closable r)) m.opens) s.namespaces ns opened.there
       (in_any (λ r. eqb r.root handle && leb 1 (closable r)) ns.opens opened.opening opened.inside
-          (and_from (eqb opened.opening.root handle) (leb 1 (closable opened.opening)) (eq-eqb _ _ opened.of) (le-leb _ _ opened.counts)))) ∙ none);
+      (and_from (eqb opened.opening.root handle) (leb 1 (closable opened.opening)) (eq-eqb _ _ opened.of) (le-leb _ _ opened.counts)))) ∙ none);
   is = refl;
 }
 

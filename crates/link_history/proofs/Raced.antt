@@ -4,7 +4,8 @@ use Rattle.std.specs.Prelude.{codes}
 use Rattle.std.proofs.lemmas.Bool.{true≢false}
 use Rattle.ld_base.specs.declared.linking.Choice.TheVariants.{Def}
 use Rattle.ld_base.specs.declared.linking.File.{File}
-use Rattle.link_event.specs.declared.event.Event.TheVariants.{Grant, Bound, Lost, Sym, Init, Fini, Ended}
+use Rattle.link_event.specs.declared.event.CloseAnswer.TheVariants as closes
+use Rattle.link_event.specs.declared.event.Event.TheVariants.{Close, Unmapped, Grant, Bound, Lost, Sym, Init, Fini, Ended}
 use Rattle.link_event.specs.declared.event.SymAnswer.TheVariants.{Found}
 use Rattle.link_event.specs.declared.hart_end.HartEnd.TheVariants.{Exit}
 use Rattle.scope_rule.specs.Breadth.{breadth}
@@ -21,14 +22,15 @@ use Rattle.relocator.specs.Relocated.{moved_word}
 use Rattle.link_history.specs.State.{State, start}
 use Rattle.link_history.specs.Addresses.{address, is_code_of, leads_to_code}
 use Rattle.link_history.specs.After.{after, after_from}
-use Rattle.link_history.specs.Allowed.{Allowed, AllowedIn, AtTheEnd, MayGrant}
+use Rattle.link_history.specs.Allowed.{Allowed, AllowedIn, AtTheEnd, ByClosing, Closes, MayGrant}
 use Rattle.link_history.specs.Legal.{Legal, Whole}
 use Rattle.link_history.specs.Lookup.{search}
 use Rattle.link_history.specs.Parts.{file_of}
-use Rattle.link_history.specs.Race.{granted_the_first, libf, libg, libo, opens_libg, opens_libo, prog, race, setting, startup}
+use Rattle.link_history.specs.Race.{closed_under_grant, granted_the_first, libf, libg, libo, opens_libg, opens_libo, owner_dies, prog, race, setting, startup}
 use Rattle.link_history.specs.Relocating.{relocation_fault}
-use Rattle.link_history.specs.Step.{initialise, loaded, step}
-use Rattle.link_history.proofs.Played.{another_is_chosen, at_the_end, legal_by, loads, mapped_at, may_bind, may_grant, may_initialise, may_lose, only_bound, whole_by}
+use Rattle.link_history.specs.Step.{die, initialise, loaded, lower, step}
+use Rattle.link_history.specs.Links.{edges, roots}
+use Rattle.link_history.proofs.Played.{another_is_chosen, at_the_end, legal_by, loads, mapped_at, may_bind, may_close, may_finish, may_grant, may_initialise, may_lose, may_unmap, only_bound, only_dying, some_in, whole_by}
 
 abbrev files : List File
 files = map file_of (prog ∷ libo ∷ libf ∷ libg ∷ [])
@@ -247,3 +249,64 @@ first_not_granted legal = another_is_chosen 4 1 refl refl (at_hart_1 (legal 14 (
   where
     at_hart_1 : Allowed setting (take 14 granted_the_first) (Grant 4 1 2 0 (Def 3 1) 0x39000) → MayGrant libg_ready 4 1 2 0 (Def 3 1) 0x39000
     at_hart_1 h = h
+
+-- ---- closed under a grant
+
+abbrev libo_closed : State
+libo_closed = step libg_ready (Close 1 2 (closes.Done []))
+
+abbrev first_bound : State
+first_bound = step libo_closed (Bound 3)
+
+abbrev libg_closed : State
+libg_closed = step first_bound (Close 1 4 (closes.Done (2 ∷ 3 ∷ 4 ∷ [])))
+
+abbrev libg_finished : State
+libg_finished = step libg_closed (Fini 1 4)
+
+abbrev libo_finished : State
+libo_finished = step libg_finished (Fini 1 2)
+
+abbrev libf_finished : State
+libf_finished = step libo_finished (Fini 1 3)
+
+closes_libo : AllowedIn setting [] libg_ready (Close 1 2 (closes.Done []))
+unfolding loaded initialise lower edges roots breadth
+closes_libo = may_close libg_ready 2 0 1 refl refl refl refl refl refl
+
+binds_first : AllowedIn setting [] libo_closed (Bound 3)
+unfolding loaded initialise lower die
+binds_first = may_bind libo_closed 3 2 refl refl refl refl refl
+
+closes_libg : AllowedIn setting [] first_bound (Close 1 4 (closes.Done (2 ∷ 3 ∷ 4 ∷ [])))
+unfolding loaded initialise lower die edges roots breadth
+closes_libg = may_close first_bound 4 0 1 refl refl refl refl refl refl
+
+closing_libg : ByClosing libg_closed 1 4
+unfolding loaded initialise lower die
+closing_libg = may_finish libg_closed 1 4 1 refl refl refl
+
+closing_libo : ByClosing libg_finished 1 2
+unfolding loaded initialise lower die
+closing_libo = may_finish libg_finished 1 2 1 refl refl refl
+
+closing_libf : ByClosing libo_finished 1 3
+unfolding loaded initialise lower die
+closing_libf = may_finish libo_finished 1 3 1 refl refl refl
+
+unmaps : AllowedIn setting [] libf_finished (Unmapped 1 (2 ∷ 3 ∷ 4 ∷ []))
+unfolding loaded initialise lower die
+unmaps = may_unmap libf_finished 1 1 2 (3 ∷ 4 ∷ []) refl refl refl refl refl
+
+pub closed_legal : Legal setting closed_under_grant
+unfolding loaded initialise lower die
+closed_legal = legal_by setting closed_under_grant
+    (may_start, (finds_h1, (grants_dlopen, (binds_dlopen, (may_open_libo, (inits_libf, (inits_libo, (grants_dlsym, (binds_dlsym, (finds_go, (inits_prog, (grants_first, (may_open_libg, (inits_libg,
+    (closes_libo, (binds_first, (closes_libg, (inl closing_libg, (inl closing_libo, (inl closing_libf, (unmaps, tt)))))))))))))))))))))
+
+pub owner_stays : Legal setting owner_dies → ⊥
+unfolding Legal loaded initialise after_from lower edges roots breadth
+owner_stays legal = some_in 2 [] (only_dying libg_ready 2 _ refl refl (at_close (legal 14 (Close 1 2 (closes.Done (2 ∷ []))) refl)))
+  where
+    at_close : Allowed setting (take 14 owner_dies) (Close 1 2 (closes.Done (2 ∷ []))) → Closes libg_ready 2 (2 ∷ [])
+    at_close h = h

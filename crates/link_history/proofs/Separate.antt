@@ -1,39 +1,31 @@
 -- One library in two namespaces, event by event.
-use Rattle.std.proofs.Common.{take, ◌≡◌, ℕ, ◌<◌, inl, inr, List, [], ◌∷◌, map, Some, None, refl, sym, subst, arith}
+use Rattle.std.proofs.Common.{take, ◌≡◌, ℕ, inl, inr, List, [], ◌∷◌, map, Some, refl, sym, subst, arith}
 use Rattle.std.specs.Prelude.{IsTrue, codes}
 use Rattle.std.proofs.lemmas.Bool.{true≢false}
 use Rattle.ld_base.specs.declared.fault.DlFault.TheVariants.{BadNamespace}
-use Rattle.ld_base.specs.declared.linking.Choice.TheVariants.{Def}
 use Rattle.ld_base.specs.declared.linking.File.{File}
 use Rattle.link_event.specs.declared.event.Event.TheVariants.{Open, Sym, Init, Fini, Told, Ended}
 use Rattle.link_event.specs.declared.event.OpenAnswer.TheVariants as opens
 use Rattle.link_event.specs.declared.event.SymAnswer.TheVariants.{Found}
 use Rattle.link_event.specs.declared.hart_end.HartEnd.TheVariants.{Exit}
 use Rattle.scope_rule.specs.Breadth.{breadth}
-use Rattle.scope_rule.specs.Choose.{choose_for, pick_at}
-use Rattle.scope_rule.specs.Linker.{linker_symbol}
+use Rattle.scope_rule.specs.Choose.{pick_at}
 use Rattle.scope_rule.specs.Load.{find_opened, find_path, finds, step as load_step}
-use Rattle.scope_rule.specs.Relocation.{choice_at}
-use Rattle.scope_rule.specs.Scope.{scope}
-use Rattle.scope_rule.specs.Searching.{in_breadth, in_global}
-use Rattle.seg_image.specs.Pages.{align_of, guest_address, high_of, low_of, own_address, pages_of, segment_at}
-use Rattle.seg_image.specs.Roles.{role_of}
-use Rattle.seg_image.specs.Words.{file_byte, file_word, word_of}
-use Rattle.relocator.specs.Relocated.{moved_word}
+use Rattle.scope_rule.specs.Searching.{in_breadth}
+use Rattle.seg_image.specs.Pages.{align_of, guest_address, high_of, low_of, own_address, pages_of}
 use Rattle.link_history.specs.State.{State, start}
 use Rattle.link_history.specs.Objects.{has_namespace}
 use Rattle.link_history.specs.Asking.{IsFreeNumber}
-use Rattle.link_history.specs.Addresses.{address, is_code_of, leads_to_code}
-use Rattle.link_history.specs.After.{after, after_from}
+use Rattle.link_history.specs.Addresses.{address}
+use Rattle.link_history.specs.After.{after_from}
 use Rattle.link_history.specs.Allowed.{Allowed, AllowedIn, AtTheEnd}
 use Rattle.link_history.specs.Legal.{Legal, Whole}
-use Rattle.link_history.specs.Lookup.{FindsSymbol, MayAnswer, search}
+use Rattle.link_history.specs.Lookup.{MayAnswer, search}
 use Rattle.link_history.specs.Opening.Refuses.{bad_namespace}
 use Rattle.link_history.specs.Parts.{file_of}
-use Rattle.link_history.specs.Namespaces.{before, d_of, libn, libn_in, namespaces, opens_in_base, opens_in_new, other_namespace, prog, setting, startup}
+use Rattle.link_history.specs.Namespaces.{d_of, libn, libn_in, namespaces, opens_in_base, opens_in_new, other_namespace, prog, setting, startup}
 use Rattle.link_history.specs.Relocating.{relocation_fault}
-use Rattle.link_history.specs.Step.{die, initialise, loaded, lower, step, unmap}
-use Rattle.link_history.specs.Links.{edges, roots}
+use Rattle.link_history.specs.Step.{initialise, loaded, step}
 use Rattle.link_history.proofs.Played.{another_is_found, at_the_end, legal_by, loads, mapped_at, may_initialise, whole_by}
 
 abbrev files : List File

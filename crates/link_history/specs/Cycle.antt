@@ -1,6 +1,6 @@
 -- A worked history: two libraries that need nothing call each other, so that bound grants alone hold them together. Closing the first
 -- unmaps nothing; closing the second closes both, the later one first.
-use Rattle.std.specs.Prelude.{ℕ, List, [], ◌∷◌, ◌++◌, Some, None, codes}
+use Rattle.std.specs.Prelude.{List, [], ◌∷◌, ◌++◌, Some, None, codes}
 use Rattle.ld_base.specs.declared.fault.DlFault.TheVariants.{BadHandle}
 use Rattle.ld_base.specs.declared.linking.Choice.TheVariants.{Def}
 use Rattle.link_event.specs.declared.event.CloseAnswer.TheVariants as closes

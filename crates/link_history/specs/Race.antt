@@ -2,8 +2,9 @@
 -- address there, hart 1 opens a global library, which comes first from then on, and wins.
 use Rattle.std.specs.Prelude.{List, [], ◌∷◌, ◌++◌, Some, None, codes}
 use Rattle.ld_base.specs.declared.linking.Choice.TheVariants.{Def}
+use Rattle.link_event.specs.declared.event.CloseAnswer.TheVariants as closes
 use Rattle.link_event.specs.declared.event.Event.{Event}
-use Rattle.link_event.specs.declared.event.Event.TheVariants.{Open, Grant, Bound, Lost, Sym, Init, Fini, Ended}
+use Rattle.link_event.specs.declared.event.Event.TheVariants.{Open, Close, Unmapped, Grant, Bound, Lost, Sym, Init, Fini, Ended}
 use Rattle.link_event.specs.declared.event.OpenAnswer.TheVariants.{Done}
 use Rattle.link_event.specs.declared.event.SymAnswer.TheVariants.{Found}
 use Rattle.link_event.specs.declared.hart_end.HartEnd.TheVariants.{Exit}
@@ -78,3 +79,19 @@ race = before ++ (
 -- the same, but that hart 1 is granted what hart 0 was
 abbrev pub granted_the_first : List Event
 granted_the_first = before ++ Grant 4 1 2 0 (Def 3 1) 0x39000 ∷ []
+
+-- hart 1 closes instead: while hart 0's grant is open nothing dies; once it is bound, everything does that no opening leads to
+abbrev pub closed_under_grant : List Event
+closed_under_grant = before ++ (
+    Close 1 2 (closes.Done [])
+    ∷ Bound 3
+    ∷ Close 1 4 (closes.Done (2 ∷ 3 ∷ 4 ∷ []))
+    ∷ Fini 1 4
+    ∷ Fini 1 2
+    ∷ Fini 1 3
+    ∷ Unmapped 1 (2 ∷ 3 ∷ 4 ∷ [])
+    ∷ [])
+
+-- the same, but that the owner of the open grant dies
+abbrev pub owner_dies : List Event
+owner_dies = before ++ Close 1 2 (closes.Done (2 ∷ [])) ∷ []

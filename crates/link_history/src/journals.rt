@@ -8,11 +8,15 @@ ghost use Rattle.link_history.specs.Race as race;
 
 /// Two harts race for a slot: while hart 0 has an open grant of one library's function, hart 1 opens a
 /// global library that comes first from then on, and binds the slot to it. The journal is legal and
-/// whole. It isn't legal that hart 1 is granted what hart 0 was: the global list comes first.
+/// whole. It isn't legal that hart 1 is granted what hart 0 was: the global list comes first. Where
+/// hart 1 closes in place of binding, nothing dies while the grant is open, neither its owner nor
+/// its target.
 pub fn harts_race()
     ensures legal { Legal race.setting race.race }
     ensures whole { Whole race.setting race.race }
     ensures granted_the_first { Legal race.setting race.granted_the_first → ⊥ }
+    ensures closed { Legal race.setting race.closed_under_grant }
+    ensures owner_dies { Legal race.setting race.owner_dies → ⊥ }
 {}
 
 /// Two libraries that need nothing are bound to each other. Closing the handle of the first unmaps
