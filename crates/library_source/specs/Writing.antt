@@ -33,3 +33,8 @@ HasFailed piece answer = (answer ≡ Err Failed) ⊎ ((answer ≡ Ok 0) × (0 < 
 pub record WritesThrough (old : Option (List ℕ)) (count : ℕ) (piece : List ℕ) (answer : Result ℕ WriteError) (new : Option (List ℕ)) (count' : ℕ) : Type 0 where
   pub appends : MatchResult answer (λ n. Appends old new (take n piece)) (λ _. Keeps old new)
   pub counts : CountsIf (HasFailed piece answer) count count'
+
+-- what is known of a sink over a writer of the system: the writer to which its bytes go, and how often it failed
+pub record WriterState (W : Type 0) : Type 0 where
+  pub writer : W
+  pub faults : ℕ

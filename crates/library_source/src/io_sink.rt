@@ -5,6 +5,7 @@ ghost use Rattle.std.specs.Io.KnownBytes.{WriteAppends};
 
 use crate::{Sink, WriteError};
 use std::io::{self, ErrorKind, Write};
+use std::marker::Model;
 
 /// A writer, with how often it failed.
 #[derive(Drop)]
@@ -13,10 +14,18 @@ pub struct IoSink<W> {
     faults: u64,
 }
 
+impl<W> Model for IoSink<W> {
+    ghost use Rattle.library_source.specs.Writing.{WriterState};
+
+    ghost Value = { WriterState W };
+
+    ghost view = { λ s. record { writer = s.writer; faults = s.faults } };
+}
+
 impl<W: Write + Drop> IoSink<W> {
     /// A sink that passes bytes to this writer.
     pub fn new(writer: W) -> Self
-        ensures { ⟦<IoSink<W> as Sink>⟧.faults result ≡ 0 }
+        ensures { result ≡ record { writer = writer; faults = 0 } }
     {
         IoSink { writer, faults: 0 }
     }
