@@ -7,7 +7,7 @@ use Rattle.ld_base.specs.declared.linking.Loaded.{Loaded}
 use Rattle.library_source.specs.Files.{file_at}
 use Rattle.elf_object.specs.Verdict.{object_verdict}
 use Rattle.load_walk.specs.Files.{reading_of, reading_until, load_of, load_over, load_until}
-use Rattle.load_walk.specs.Plan.{IsRefused, Lacks}
+use Rattle.load_walk.specs.Plan.{Lacks, StopsFor}
 use Rattle.load_walk.specs.declared.ask.LoadAsk.{LoadAsk}
 use Rattle.scope_rule.specs.Needed.{version_fault}
 use Rattle.scope_rule.specs.Finding.{Reading, here, unaccepted, absent, failed}
@@ -48,7 +48,7 @@ record HasFault (bind : Bind) (files : List File) (cause : Cause) : Type 0 where
   pub is : Stops (program_load bind files) (refuses fault) ⊎ Lacks (program_load bind files) Bool.false fault
   pub cause_is : cause ≡ causes.Refused fault
 
-stopped : (bind : Bind) (files : List File) (fault : DlFault) → ((path : List ℕ) → fault ≡ dl.ReadFault path → ⊥) → IsRefused object_verdict (ask_of bind) [] fault files
+stopped : (bind : Bind) (files : List File) (fault : DlFault) → ((path : List ℕ) → fault ≡ dl.ReadFault path → ⊥) → StopsFor object_verdict (ask_of bind) [] fault files
     → Stops (program_load bind files) (refuses fault) ⊎ Lacks (program_load bind files) Bool.false fault
 stopped bind files fault quiet (inl stops) = inl (stops_over bind files fault quiet stops)
 stopped bind files fault quiet (inr lacks) = inr lacks

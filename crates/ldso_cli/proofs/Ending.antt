@@ -37,7 +37,7 @@ use Rattle.ldso_cli.specs.declared.outcome.Cause.TheVariants as causes
 use Rattle.ldso_cli.specs.declared.outcome.End.{End}
 use Rattle.command_text.specs.declared.words.Bind.{Bind}
 use Rattle.command_text.specs.declared.words.Command.TheVariants as commands
-use Rattle.ldso_cli.specs.Bind.{BindComes, BindMisses, BindPrints, Loads, ask_of, cause_of, namespace_of, nothing_loaded, objects_text, program_load, unopened}
+use Rattle.ldso_cli.specs.Bind.{BindComes, BindPrints, Loads, ask_of, cause_of, namespace_of, nothing_loaded, objects_text, program_load, unopened}
 use Rattle.ldso_cli.specs.Command.{Answers}
 use Rattle.ldso_cli.specs.End.{bare}
 use Rattle.ldso_cli.specs.Outside.{LibraryAt}
@@ -120,10 +120,10 @@ of_refusal (Some g) f e = cc
 -- ---- what bind answers
 
 pub refused_answers : (bind : Bind) (before after : LibraryAt) (fault : DlFault) (r : Result Answer AllocError) → IfOk r (λ a. a.end ≡ bare (causes.Refused fault)) → IfOk r (λ a. a.text ≡ refused_text fault)
-    → Over before.files (IsRefused object_verdict (ask_of bind) [] fault) → ((path : List ℕ) → fault ≡ dl.ReadFault path → Rises before.faults after.faults) → ((name : List ℕ) → fault ≡ dl.MissingLibrary name → BindMisses bind before after name)
+    → Over before.files (IsRefused object_verdict (ask_of bind) [] before.misses after.misses fault) → ((path : List ℕ) → fault ≡ dl.ReadFault path → Rises before.faults after.faults)
     → IfOk r (λ a. Answers (Some (commands.Bind bind)) before after a.end a.text)
-refused_answers bind before after fault (Err e) end text over counted missed = tt
-refused_answers bind before after fault (Ok answer) end text over counted missed =
+refused_answers bind before after fault (Err e) end text over counted = tt
+refused_answers bind before after fault (Ok answer) end text over counted =
     let P : Cause → Type 0 = λ c. BindPrints bind over.files c answer.text in
     record {
       files = over.files;
@@ -132,7 +132,7 @@ refused_answers bind before after fault (Ok answer) end text over counted missed
         comes = record {
           cause = causes.Refused fault;
           end_is = end;
-          by = record { is = inr (record { fault = fault; is = over.holds; cause_is = refl }); read_fault = λ path e. counted path cc; missing = λ name e. missed name cc };
+          by = record { is = inr (record { fault = fault; is = over.holds.stops; cause_is = refl }); read_fault = λ path e. counted path cc; missing = λ name e. over.holds.missed name cc };
         };
         prints = subst P (sym (ap (λ (e : End). e.cause) end)) text;
       };

@@ -2,3 +2,4 @@ pub mod Decided
 pub mod Dumping
 pub mod Ending
 pub mod Same
+pub mod Whole

@@ -5,7 +5,6 @@ use Rattle.ld_base.specs.declared.fault.DlFault.TheVariants as dl
 use Rattle.ld_base.specs.declared.linking.File.{File}
 use Rattle.ld_base.specs.declared.linking.Loaded.{Loaded}
 use Rattle.library_source.specs.Count.{Rises}
-use Rattle.library_source.specs.Files.{Over}
 use Rattle.scope_rule.specs.Breadth.{breadth}
 use Rattle.scope_rule.specs.Load.{Load, Walk, Brings, records_of}
 use Rattle.scope_rule.specs.Needed.{version_fault}
@@ -14,7 +13,7 @@ use Rattle.scope_rule.specs.Seen.{Seen, seen_in, with_added}
 use Rattle.scope_rule.specs.declared.namespace.Namespace.{Namespace}
 use Rattle.elf_object.specs.Verdict.{object_verdict}
 use Rattle.load_walk.specs.Files.{load_over}
-use Rattle.load_walk.specs.Plan.{IsMissed, IsRefused}
+use Rattle.load_walk.specs.Plan.{IsMissed, StopsFor}
 use Rattle.load_walk.specs.declared.ask.LoadAsk.{LoadAsk}
 use Rattle.ldso_cli.specs.declared.outcome.Cause.{Cause}
 use Rattle.ldso_cli.specs.declared.outcome.Cause.TheVariants as causes
@@ -79,18 +78,18 @@ pub record IsLoaded (bind : Bind) (files : List File) (cause : Cause) : Type 0 w
 -- something that they need isn't there
 pub record IsNotLoaded (bind : Bind) (files : List File) (cause : Cause) : Type 0 where
   pub fault : DlFault
-  pub is : IsRefused object_verdict (ask_of bind) [] fault files
+  pub is : StopsFor object_verdict (ask_of bind) [] fault files
   pub cause_is : cause ≡ causes.Refused fault
 
 -- the library missed each path that the name may have: the program's, or one that is needed after those before it were found
-abbrev pub BindMisses : Bind → LibraryAt → LibraryAt → List ℕ → Type 0
-BindMisses bind before after name = Over before.files (λ files. IsMissed (program_load bind files) name before.misses after.misses)
+abbrev pub BindMisses : Bind → LibraryAt → LibraryAt → List ℕ → List File → Type 0
+BindMisses bind before after name files = IsMissed (program_load bind files) name before.misses after.misses
 
 -- how bind comes to its end over files, while its library goes on from one state to another; no failure is invented
 pub record BindComes (bind : Bind) (before after : LibraryAt) (files : List File) (cause : Cause) : Type 0 where
   pub is : IsLoaded bind files cause ⊎ IsNotLoaded bind files cause
   pub read_fault : (path : List ℕ) → cause ≡ causes.Refused (dl.ReadFault path) → Rises before.faults after.faults
-  pub missing : (name : List ℕ) → cause ≡ causes.Refused (dl.MissingLibrary name) → BindMisses bind before after name
+  pub missing : (name : List ℕ) → cause ≡ causes.Refused (dl.MissingLibrary name) → BindMisses bind before after name files
 
 -- the text of the objects that the program's load brings
 pub record IsBound (bind : Bind) (files : List File) (text : List ℕ) : Type 0 where

@@ -33,7 +33,7 @@ Prints (Dump path) files end text = DumpPrints path files end.cause text
 
 -- the library missed each file that a command's name could be
 abbrev pub Misses : Command → LibraryAt → LibraryAt → List ℕ → Type 0
-Misses (Bind bind) before after name = BindMisses bind before after name
+Misses (Bind bind) before after name = Over before.files (BindMisses bind before after name)
 Misses (Dump path) before after name = (name ≡ path) × Rises before.misses after.misses
 
 -- the end isn't that of a failed read

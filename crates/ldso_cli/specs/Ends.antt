@@ -1,51 +1,63 @@
 -- How the command ends, and what its sink took.
-use Rattle.std.specs.Prelude.{◌≡◌, ◌⊎◌, ℕ, List, Option, None, IsSomeAnd}
+use Rattle.std.specs.Prelude.{◌≡◌, ◌≢◌, ◌⊎◌, ℕ, List, Option, Some, None, Result, Ok, Err, IsSomeAnd}
 use Rattle.std.specs.Io.KnownBytes.{append_known}
 use Rattle.ld_base.specs.declared.fault.DlFault.TheVariants as dl
+use Rattle.ld_base.specs.declared.linking.File.{File}
 use Rattle.library_source.specs.Count.{Rises}
 use Rattle.library_source.specs.Writing.{TakesFront}
+use Rattle.library_source.specs.declared.sink.WriteError.{WriteError}
+use Rattle.library_source.specs.declared.sink.WriteError.TheVariants as writes
 use Rattle.command_text.specs.declared.words.Command.{Command}
-use Rattle.ldso_cli.specs.Command.{Answers, Misses}
+use Rattle.command_text.specs.Words.{reads}
+use Rattle.ldso_cli.specs.Command.{Answers, Misses, NoReadFails}
 use Rattle.ldso_cli.specs.Outside.{LibraryAt, SinkAt}
+use Rattle.ldso_cli.specs.Status.{status_of}
 use Rattle.ldso_cli.specs.declared.outcome.Cause.{Cause}
 use Rattle.ldso_cli.specs.declared.outcome.Cause.TheVariants as causes
 use Rattle.ldso_cli.specs.declared.outcome.End.{End}
 
+-- how a text may be handed to a sink, with the sink's answer at the end
+abbrev pub Handing : Type 1
+Handing = List ℕ → Result (Unit {0}) WriteError → Type 0
+
 -- all of the text was written, and the end is the command's own
-pub record IsWhole (own : End) (text : List ℕ) (old new : SinkAt) (end : End) : Type 0 where
+pub record IsWhole (handed : Handing) (own : End) (text : List ℕ) (old new : SinkAt) (end : End) : Type 0 where
   pub end_is : end ≡ own
+  pub written : handed text (Ok tt)
   pub taken : new.taken ≡ append_known old.taken text
 
 -- the sink failed, which it counts, and took a front of the text; what the command kept is still there
-pub record IsCutShort (own : End) (text : List ℕ) (old new : SinkAt) (end : End) : Type 0 where
+pub record IsCutShort (handed : Handing) (own : End) (text : List ℕ) (old new : SinkAt) (end : End) : Type 0 where
   pub end_is : end ≡ record own { cause = causes.WriteFault }
+  pub written : handed text (Err writes.Failed)
   pub counted : Rises old.faults new.faults
   pub taken : TakesFront old.taken text new.taken
 
--- the sink found no memory, and took a front of the text; what the command kept may be there or not
-pub record IsStopped (text : List ℕ) (old new : SinkAt) (end : End) : Type 0 where
+-- the sink itself answered that it found no memory, and took a front of the text; what the command kept may be there or not
+pub record IsStopped (handed : Handing) (text : List ℕ) (old new : SinkAt) (end : End) : Type 0 where
   pub cause_is : end.cause ≡ causes.Memory
+  pub written : handed text (Err writes.Memory)
   pub taken : TakesFront old.taken text new.taken
 
 -- how an answer was written, and the end that this makes
-abbrev pub Written : End → List ℕ → SinkAt → SinkAt → End → Type 0
-Written own text old new end = IsWhole own text old new end ⊎ IsCutShort own text old new end ⊎ IsStopped text old new end
+abbrev pub Written : Handing → End → List ℕ → SinkAt → SinkAt → End → Type 0
+Written handed own text old new end = IsWhole handed own text old new end ⊎ IsCutShort handed own text old new end ⊎ IsStopped handed text old new end
 
 -- the command's own end, the text that it prints at it, and how that was written
-pub record IsAnswered (command : Option Command) (before after : LibraryAt) (old new : SinkAt) (end : End) : Type 0 where
+pub record IsAnswered (handed : Handing) (command : Option Command) (before after : LibraryAt) (old new : SinkAt) (end : End) : Type 0 where
   pub own : End
   pub text : List ℕ
   pub answers : Answers command before after own text
-  pub written : Written own text old new end
+  pub written : Written handed own text old new end
 
--- there was no memory for an answer, and nothing was written; what is kept may be there or not
+-- the command found no memory for an answer, and nothing was written; what is kept may be there or not
 pub record IsUnanswered (old new : SinkAt) (end : End) : Type 0 where
   pub cause_is : end.cause ≡ causes.Memory
   pub taken : new.taken ≡ old.taken
 
 -- how a command ends
-abbrev pub Ends : Option Command → LibraryAt → LibraryAt → SinkAt → SinkAt → End → Type 0
-Ends command before after old new end = IsAnswered command before after old new end ⊎ IsUnanswered old new end
+abbrev pub Ends : Handing → Option Command → LibraryAt → LibraryAt → SinkAt → SinkAt → End → Type 0
+Ends handed command before after old new end = IsAnswered handed command before after old new end ⊎ IsUnanswered old new end
 
 -- each cause comes only where it is so
 pub record IsCaused (command : Option Command) (before after : LibraryAt) (old new : SinkAt) (cause : Cause) : Type 0 where
@@ -56,3 +68,27 @@ pub record IsCaused (command : Option Command) (before after : LibraryAt) (old n
   pub read_fault : (path : List ℕ) → cause ≡ causes.Refused (dl.ReadFault path) → Rises before.faults after.faults
   pub missing : (name : List ℕ) → cause ≡ causes.Refused (dl.MissingLibrary name) → IsSomeAnd command (λ c. Misses c before after name)
   pub write_fault : cause ≡ causes.WriteFault → Rises old.faults new.faults
+
+-- one call of the command: its library and its sink before and after it, and its end
+pub record RunAt : Type 0 where
+  pub before : LibraryAt
+  pub after : LibraryAt
+  pub old : SinkAt
+  pub new : SinkAt
+  pub end : End
+
+-- a call with these words over these files, which the library tells, in which no read and no write fails and memory suffices
+pub record IsUndisturbed (handed : Handing) (words : List (List ℕ)) (files : List File) (run : RunAt) : Type 0 where
+  pub told : run.before.files ≡ Some files
+  pub ends : Ends handed (reads words) run.before run.after run.old run.new run.end
+  pub reads_well : NoReadFails run.end
+  pub writes_well : run.end.cause ≢ causes.WriteFault
+  pub has_memory : run.end.cause ≢ causes.Memory
+
+-- two calls come to the same: one end, with its status, and one text, which both sinks took
+pub record ComeToOne (first second : RunAt) : Type 0 where
+  pub end : first.end ≡ second.end
+  pub status : status_of first.end ≡ status_of second.end
+  pub text : List ℕ
+  pub first_took : first.new.taken ≡ append_known first.old.taken text
+  pub second_took : second.new.taken ≡ append_known second.old.taken text

@@ -4,10 +4,21 @@ ghost use Rattle.std.specs.Prelude.{◌≡◌, ℕ, List};
 ghost use Rattle.ld_base.specs.declared.linking.File.{File};
 ghost use Rattle.command_text.specs.declared.words.Command.{Command};
 ghost use Rattle.ldso_cli.specs.Command.{Comes, NoReadFails, Prints};
-ghost use Rattle.ldso_cli.specs.Outside.{LibraryAt};
+ghost use Rattle.ldso_cli.specs.Ends.{ComeToOne, IsUndisturbed, RunAt};
+ghost use Rattle.ldso_cli.specs.Outside.{LibraryAt, handed_to};
 ghost use Rattle.ldso_cli.specs.declared.outcome.End.{End};
 
+use library_source::Sink;
 use scope_rule::one_outcome;
+
+/// The words and the files decide what a call of the command comes to, where the library tells its
+/// files, no read and no write fails, and memory suffices: one status, and one text.
+pub fn one_answer<K: Sink, J: Sink>()
+    ensures { (words : List (List ℕ)) (files : List File) (first second : RunAt) (old new : K) (old' new' : J) →
+        IsUndisturbed (handed_to K.writes old new) words files first → IsUndisturbed (handed_to J.writes old' new') words files second → ComeToOne first second }
+{
+    one_outcome();
+}
 
 /// Where no read fails, the files decide how a command ends.
 pub fn one_end()

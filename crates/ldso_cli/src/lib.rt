@@ -12,6 +12,6 @@ mod law;
 mod outcome;
 mod top;
 
-pub use law::{one_end, one_text};
+pub use law::{one_answer, one_end, one_text};
 pub use outcome::{Cause, End, Outcome};
 pub use top::ldso;

@@ -6,7 +6,7 @@ ghost use Rattle.command_text.specs.Words.{reads};
 ghost use Rattle.ldso_cli.specs.Command.{Answers};
 ghost use Rattle.ldso_cli.specs.End.{end_of};
 ghost use Rattle.ldso_cli.specs.Ends.{Ends, IsCaused, IsUnanswered, Written};
-ghost use Rattle.ldso_cli.specs.Outside.{library_at, sink_at};
+ghost use Rattle.ldso_cli.specs.Outside.{handed_to, library_at, sink_at};
 ghost use Rattle.ldso_cli.specs.Status.{status_of};
 
 use crate::answer::{Answer, usage};
@@ -53,7 +53,8 @@ fn answer<L: Library>(
 
 /// Writes the answer, and says how the command ends.
 fn write_answer<K: Sink>(out: &mut K, answer: Result<Answer, AllocError>) -> End
-    ensures written { MatchResult answer (λ a. Written a.end a.text (sink_at K.taken K.faults out.old) (sink_at K.taken K.faults out.new) result)
+    ensures written { MatchResult answer
+        (λ a. Written (handed_to K.writes out.old out.new) a.end a.text (sink_at K.taken K.faults out.old) (sink_at K.taken K.faults out.new) result)
         (λ _. IsUnanswered (sink_at K.taken K.faults out.old) (sink_at K.taken K.faults out.new) result) }
     ensures faults { K.faults out.old ≤ K.faults out.new }
 {
@@ -82,7 +83,8 @@ pub fn ldso<R: Threads + Wait + Sync, L: Library + Send + Drop, K: Sink>(
     out: &mut K,
 ) -> (Outcome, L)
     // How it ends, the text that it prints then, and how that was written.
-    ensures ends { Ends (reads (map (λ word. string_bytes word) words.items)) (library_at L.files L.faults L.misses library)
+    ensures ends { Ends (handed_to K.writes out.old out.new)
+        (reads (map (λ word. string_bytes word) words.items)) (library_at L.files L.faults L.misses library)
         (library_at L.files L.faults L.misses result.1) (sink_at K.taken K.faults out.old) (sink_at K.taken K.faults out.new) (end_of result.0) }
     ensures causes { IsCaused (reads (map (λ word. string_bytes word) words.items)) (library_at L.files L.faults L.misses library)
         (library_at L.files L.faults L.misses result.1) (sink_at K.taken K.faults out.old) (sink_at K.taken K.faults out.new) result.0.cause }

@@ -15,7 +15,7 @@ mod elf;
 mod plan;
 
 pub use elf::Elf;
-pub use load_walk::{LoadAsk, LoadFault, LoadPlan};
+pub use load_walk::{LoadAsk, LoadFault, LoadPlan, find_loaded};
 pub use plan::plan_load;
 
 #[cfg(test)]

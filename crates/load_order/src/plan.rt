@@ -3,13 +3,12 @@
 ghost use Rattle.std.specs.Prelude.{◌≡◌, ◌≤◌, ℕ, List, IfOk};
 ghost use Rattle.std.specs.Result.{IsErrOf};
 ghost use Rattle.ld_base.specs.declared.fault.DlFault.{DlFault};
-ghost use Rattle.ld_base.specs.declared.fault.DlFault.TheVariants.{MissingLibrary, ReadFault};
+ghost use Rattle.ld_base.specs.declared.fault.DlFault.TheVariants.{ReadFault};
 ghost use Rattle.ld_base.specs.declared.fault.Shown.{Shown};
 ghost use Rattle.elf_object.specs.Verdict.{object_verdict};
 ghost use Rattle.library_source.specs.Count.{Rises};
 ghost use Rattle.library_source.specs.Files.{Over};
-ghost use Rattle.load_walk.specs.Files.{load_over};
-ghost use Rattle.load_walk.specs.Plan.{IsPlan, IsRefused, HasToWait, IsMissed};
+ghost use Rattle.load_walk.specs.Plan.{IsPlan, IsRefused, HasToWait};
 
 use crate::Elf;
 use library_source::Library;
@@ -18,8 +17,7 @@ use scope_rule::Namespace;
 use std::alloc::Global;
 
 /// Loads an object with all that it needs (gABI, "Shared Object Dependencies"; dlopen(3)): finds
-/// and reads the objects that aren't there, in load order, and places none of them. Over a library
-/// without files it finds what is there, as under RTLD_NOLOAD.
+/// and reads the objects that aren't there, in load order, and places none of them.
 ///
 /// # Errors
 ///
@@ -31,18 +29,17 @@ pub fn plan_load<L: Library>(
     ask: &LoadAsk,
     library: &mut L,
 ) -> Result<LoadPlan, LoadFault>
-    // Over the library's files where it tells them, and over some files where it doesn't.
+    // Over the library's files where it tells them, and over some files where it doesn't. Each path that a
+    // missing name may have was missed.
     ensures plan { IfOk result (λ plan. Over (L.files library.old) (IsPlan object_verdict ask.now ns.now plan)) }
     ensures refused { (fault : DlFault) → IsErrOf result (LoadFault.Refused fault) →
-        Over (L.files library.old) (IsRefused object_verdict ask.now ns.now.objects fault) }
+        Over (L.files library.old) (IsRefused object_verdict ask.now ns.now.objects (L.misses library.old) (L.misses library.new) fault) }
     ensures waits { (shown : Shown) → IsErrOf result (LoadFault.Wait shown) →
         Over (L.files library.old) (HasToWait object_verdict ask.now ns.now.objects shown) }
 
-    // No fault of the library is invented: each path that a missing name may have was missed.
+    // No fault of the library is invented.
     ensures read_fault { (path : List ℕ) → IsErrOf result (LoadFault.Refused (ReadFault path)) →
         Rises (L.faults library.old) (L.faults library.new) }
-    ensures missing { (name : List ℕ) → IsErrOf result (LoadFault.Refused (MissingLibrary name)) →
-        Over (L.files library.old) (λ files. IsMissed (load_over object_verdict ask.now ns.now.objects files) name (L.misses library.old) (L.misses library.new)) }
 
     // What the library is left as.
     ensures files { L.files library.new ≡ L.files library.old }

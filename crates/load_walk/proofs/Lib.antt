@@ -1,8 +1,5 @@
 mod Lookups
 mod Missing
-mod Paths
 mod Planning
-mod Reading
-mod Recording
 mod Stages
 mod Walkers

@@ -21,7 +21,7 @@ use Rattle.ld_base.specs.declared.object.Verdef.{Verdef}
 use Rattle.scope_rule.specs.Needed.{defines}
 use Rattle.load_walk.specs.declared.lookup.Definer.{Definer}
 use Rattle.load_walk.specs.Lookup.{named, place_of, has, defined_at, Knows}
-use Rattle.load_walk.proofs.Paths.{same_path}
+use Rattle.load_walk.proofs.Missing.{same_path}
 
 -- one more element
 one_more : {X : Type 0} (p : X → Bool) (xs : List X) (x : X) → position p (xs ++ x ∷ []) ≡ option_or (position p xs) (cond (p x) (Some (length xs)) None)

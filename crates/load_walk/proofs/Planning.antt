@@ -1,23 +1,26 @@
 -- What a whole load comes to.
-use Rattle.std.proofs.Common.{◌≡◌, ◌≤◌, inl, inr, ℕ, List, [], ◌∷◌, ◌++◌, drop, length, Option, Some, None, Result, Ok, Err, sym, ap, subst, ◌∙◌}
+use Rattle.std.proofs.Common.{◌≡◌, ◌≤◌, ◌+◌, inl, inr, ℕ, Bool, List, [], ◌∷◌, ◌++◌, drop, take, length, refl, arith, add-zero, append_assoc, append-nil, length-append, Option, Some, None, Result, Ok, Err, sym, ap, subst, ◌∙◌}
+use Rattle.std.specs.List.{AllByRecursion}
 use Rattle.std.specs.Prelude.{IfOk, IfErr}
+use Rattle.std.proofs.lemmas.List.{drop-drop}
 use Rattle.std.specs.Result.{IsErrOf}
 use Rattle.ld_base.specs.declared.fault.DlFault.{DlFault}
 use Rattle.ld_base.specs.declared.fault.DlFault.TheVariants as dl
 use Rattle.ld_base.specs.declared.fault.Shown.{Shown}
-use Rattle.ld_base.specs.declared.linking.File.{File}
 use Rattle.ld_base.specs.declared.linking.Loaded.{Loaded}
 use Rattle.ld_base.specs.declared.object.Verneed.{Verneed}
 use Rattle.library_source.specs.Count.{Rises}
 use Rattle.library_source.specs.Files.{Over}
-use Rattle.scope_rule.specs.Finding.{Reading}
+use Rattle.scope_rule.specs.declared.arrival.Arrival.{Arrival}
+use Rattle.scope_rule.specs.Finding.{Reading, here}
+use Rattle.scope_rule.specs.Load.{record_of, records, shares}
 use Rattle.scope_rule.specs.Needed.{first_lack, missing_version, version_fault}
 use Rattle.scope_rule.specs.Breadth.{breadth}
 use Rattle.scope_rule.specs.Seen.{Seen}
 use Rattle.scope_rule.specs.declared.namespace.Namespace.{Namespace}
-use Rattle.load_walk.specs.Files.{Verdict, reading_of, load_over}
-use Rattle.load_walk.specs.Plan.{IsPlan, IsRefused, HasToWait, IsMissed, is_deep}
-use Rattle.load_walk.specs.Records.{preload_count, Completes, Gathers, Incomplete}
+use Rattle.load_walk.specs.Files.{Verdict, reading_of}
+use Rattle.load_walk.specs.Plan.{IsPlan, IsRefused, HasToWait, is_deep}
+use Rattle.load_walk.specs.Records.{AddsRecord, Completes, Gathers, Incomplete, added_by, preload_count}
 use Rattle.load_walk.specs.Staging.{Source, Stage, FaultIs}
 use Rattle.load_walk.specs.Walking.{walk_of}
 use Rattle.load_walk.specs.declared.ask.LoadAsk.{LoadAsk}
@@ -25,8 +28,35 @@ use Rattle.load_walk.specs.declared.ask.LoadFault.{LoadFault}
 use Rattle.load_walk.specs.declared.ask.LoadFault.TheVariants as faults
 use Rattle.load_walk.specs.declared.ask.LoadPlan.{LoadPlan}
 use Rattle.load_walk.specs.declared.walker.Walker.{Walker}
-use Rattle.load_walk.proofs.Recording.{records_read}
 use Rattle.load_walk.proofs.Walkers.{brings_all}
+
+-- ---- the records of new objects
+
+-- the records so far, and those of any further objects, are all of them together
+pub record IsSoFar (ask : LoadAsk) (found : List ℕ) (objects : List Arrival) (added : List Loaded) (start more : ℕ) : Type 0 where
+  pub all : (rest : List Arrival) → added ++ records ask.hart (is_deep ask) (ask.next + length added) rest (shares more (drop start found) rest) ≡ added_by ask found (objects ++ rest)
+
+pub none_so_far : (ask : LoadAsk) (found : List ℕ) → IsSoFar ask found [] [] 1 (preload_count ask)
+none_so_far ask found = record { all = λ rest. rw add-zero refl }
+
+pub one_more : (ask : LoadAsk) (found : List ℕ) (objects : List Arrival) (old new : List Loaded) (start more end : ℕ) (o : Arrival) → IsSoFar ask found objects old start more → AddsRecord ask found start more old o new end → IsSoFar ask found (objects ++ o ∷ []) new end 0
+one_more ask found objects old new start more end o so adds = record {
+  all = λ rest.
+      let own : ℕ = more + length o.object.needed in
+      let first : Loaded = record_of ask.hart (is_deep ask) (ask.next + length old) o (take own (drop start found)) in
+      let next : ask.next + length (old ++ first ∷ []) ≡ (ask.next + length old) + 1 = omega (arith, length-append old (first ∷ [])) in
+      let behind : drop (start + own) found ≡ drop own (drop start found) = sym (drop-drop own start found) in
+      rw (adds.is, adds.place, next, behind) (append_assoc old (first ∷ []) _ ∙ so.all (o ∷ rest) ∙ ap (added_by ask found) (sym (append_assoc objects (o ∷ []) rest)));
+}
+
+pub all_of : (ask : LoadAsk) (found : List ℕ) (objects arrivals : List Arrival) (added : List Loaded) (start more : ℕ) → IsSoFar ask found objects added start more → objects ≡ arrivals → added ≡ added_by ask found arrivals
+all_of ask found objects arrivals added start more so is = sym (append-nil added) ∙ so.all [] ∙ ap (added_by ask found) (append-nil objects ∙ is)
+
+-- what was read of them
+pub records_read : (reading : List ℕ → Reading) (hart : ℕ) (deep : Bool) (serial more : ℕ) (serials : List ℕ) (arrivals : List Arrival) → AllByRecursion (λ o. reading o.path ≡ here o.object o.table) arrivals
+    → AllByRecursion (λ o. reading o.path ≡ here o.object o.table) (records hart deep serial arrivals (shares more serials arrivals))
+records_read reading hart deep serial more serials [] h = tt
+records_read reading hart deep serial more serials (o ∷ rest) h = (h.0, records_read reading hart deep (serial + 1) 0 (drop (more + length o.object.needed) serials) rest h.1)
 
 -- ---- a version that isn't there
 
@@ -48,10 +78,9 @@ version_is objects (o ∷ rest) fault e = first_is o (first_lack objects o) (mis
 -- what a fault of the load, or of its versions, gives for each answer
 pub record Answers (verdict : Verdict) (ask : LoadAsk) (ns : Namespace) (first now : Source) (r : Result LoadPlan LoadFault) : Type 0 where
   pub plan : IfOk r (λ plan. Over first.files (IsPlan verdict ask ns plan))
-  pub refused : (fault : DlFault) → IsErrOf r (faults.Refused fault) → Over first.files (IsRefused verdict ask ns.objects fault)
+  pub refused : (fault : DlFault) → IsErrOf r (faults.Refused fault) → Over first.files (IsRefused verdict ask ns.objects first.misses now.misses fault)
   pub waits : (shown : Shown) → IsErrOf r (faults.Wait shown) → Over first.files (HasToWait verdict ask ns.objects shown)
   pub read_fault : (path : List ℕ) → IsErrOf r (faults.Refused (dl.ReadFault path)) → Rises first.faults now.faults
-  pub missing : (name : List ℕ) → IsErrOf r (faults.Refused (dl.MissingLibrary name)) → Over first.files (λ files. IsMissed (load_over verdict ask ns.objects files) name first.misses now.misses)
 
 abbrev err : LoadFault → Result LoadPlan LoadFault
 err fault = Err fault
@@ -59,29 +88,17 @@ err fault = Err fault
 same_fault : (a b : LoadFault) → err a ≡ err b → a ≡ b
 same_fault a b e = cc
 
-over_first : {P Q : List File → Type 0} (told : Option (List File)) → ((files : List File) → P files → Q files) → Over told P → Over told Q
-over_first told f over = record { files = over.files; are = over.are; holds = f over.files over.holds }
-
 module _ (verdict : Verdict) (ask : LoadAsk) (ns : Namespace) (first now : Source) where
-  refused_is : (fault : DlFault) → FaultIs verdict ask ns.objects first now (faults.Refused fault) → Over first.files (IsRefused verdict ask ns.objects fault)
-  refused_is (dl.ReadFault path) is = record { files = is.0.files; are = is.0.are; holds = inl is.0.holds }
-  refused_is (dl.MissingLibrary name) is = record { files = is.0.files; are = is.0.are; holds = inl is.0.holds }
-  refused_is fault is = record { files = is.files; are = is.are; holds = inl is.holds }
-
   pub faulted_answers : (fault : LoadFault) → FaultIs verdict ask ns.objects first now fault → Answers verdict ask ns first now (err fault)
   faulted_answers fault is = record {
     plan = tt;
-    refused = λ f e. refused_is f (subst (FaultIs verdict ask ns.objects first now) (same_fault fault (faults.Refused f) e) is);
+    refused = λ f e. (subst (FaultIs verdict ask ns.objects first now) (same_fault fault (faults.Refused f) e) is).0;
     waits = λ shown e. subst (FaultIs verdict ask ns.objects first now) (same_fault fault (faults.Wait shown) e) is;
-    read_fault = λ path e. (subst (FaultIs verdict ask ns.objects first now) (same_fault fault (faults.Refused (dl.ReadFault path)) e) is).1;
-    missing = λ name e. (subst (FaultIs verdict ask ns.objects first now) (same_fault fault (faults.Refused (dl.MissingLibrary name)) e) is).1;
+    read_fault = λ path e. (subst (FaultIs verdict ask ns.objects first now) (same_fault fault (faults.Refused (dl.ReadFault path)) e) is).1 path refl;
   }
 
-  pub memory_answers : Answers verdict ask ns first now (err faults.Memory)
-  memory_answers = faulted_answers faults.Memory tt
-
   -- a load that was gone through
-  module _ (w : Walker) (root : ℕ) (added : List Loaded) (stage : Stage verdict ask ns.objects first now w) (all : length w.names ≤ length w.leads) (gathers : Gathers ask w root added) where
+  module _ (w : Walker) (root : ℕ) (added : List Loaded) (stage : Stage verdict ask ns.objects first now w) (all : length w.names ≤ length w.found) (gathers : Gathers ask w root added) where
     abbrev reading : List ℕ → Reading
     reading path = reading_of verdict stage.over.files ask path
 
@@ -94,25 +111,25 @@ module _ (verdict : Verdict) (ask : LoadAsk) (ns : Namespace) (first now : Sourc
         brings = brings_all ask ns.objects w reading stage.walker all stage.over.holds;
         root = rw completes.same_root gathers.is_root;
         added = completes.same_added ∙ gathers.are;
-        read = rw (completes.same_added, gathers.are) (records_read reading ask.hart (is_deep ask) ask.next (preload_count ask) (drop 1 w.leads) w.news stage.over.holds.objects);
+        read = rw (completes.same_added, gathers.are) (records_read reading ask.hart (is_deep ask) ask.next (preload_count ask) (drop 1 w.found) w.arrivals stage.over.holds.objects);
         breadth = rw (completes.same_added, completes.same_root) completes.breadth;
         versions = rw completes.same_added completes.versions;
       };
     }
 
-    lacks_is : (fault : DlFault) → version_fault ns.objects added ≡ Some fault → Over first.files (IsRefused verdict ask ns.objects fault)
+    lacks_is : (fault : DlFault) → version_fault ns.objects added ≡ Some fault → Over first.files (IsRefused verdict ask ns.objects first.misses now.misses fault)
     lacks_is fault lacks = record {
       files = stage.over.files;
       are = stage.over.are;
-      holds = inr (record {
-        walk = walk_of w;
-        brings = brings_all ask ns.objects w reading stage.walker all stage.over.holds;
-        lacks = subst (λ (xs : List Loaded). version_fault ns.objects xs ≡ Some fault) gathers.are lacks;
-      });
+      holds = record {
+        stops = inr (record {
+          walk = walk_of w;
+          brings = brings_all ask ns.objects w reading stage.walker all stage.over.holds;
+          lacks = subst (λ (xs : List Loaded). version_fault ns.objects xs ≡ Some fault) gathers.are lacks;
+        });
+        missed = λ name e. let v = version_is (ns.objects ++ added) added fault lacks in absurd (let d : dl.MissingLibrary name ≡ dl.MissingVersion v.0 v.1 v.2 = sym e ∙ v.3 in cc);
+      };
     }
-
-    no_version : (fault : DlFault) → version_fault ns.objects added ≡ Some fault → IsVersion fault
-    no_version fault lacks = version_is (ns.objects ++ added) added fault lacks
 
     pub complete_answers : (r : Result LoadPlan LoadFault) → IfOk r (λ plan. Completes ns root added plan) → IfErr r (λ fault. Incomplete ns added fault) → Answers verdict ask ns first now r
     complete_answers (Ok plan) completes incomplete = record {
@@ -120,18 +137,14 @@ module _ (verdict : Verdict) (ask : LoadAsk) (ns : Namespace) (first now : Sourc
       refused = λ f e. absurd cc;
       waits = λ shown e. absurd cc;
       read_fault = λ path e. absurd cc;
-      missing = λ name e. absurd cc;
     }
     complete_answers (Err fault) completes incomplete = record {
       plan = tt;
       refused = λ f e. lacks_is f (subst (Incomplete ns added) (same_fault fault (faults.Refused f) e) incomplete);
       waits = λ shown e. absurd (subst (Incomplete ns added) (same_fault fault (faults.Wait shown) e) incomplete);
       read_fault = λ path e.
-          let v = no_version (dl.ReadFault path) (subst (Incomplete ns added) (same_fault fault (faults.Refused (dl.ReadFault path)) e) incomplete) in
+          let v = version_is (ns.objects ++ added) added (dl.ReadFault path) (subst (Incomplete ns added) (same_fault fault (faults.Refused (dl.ReadFault path)) e) incomplete) in
           absurd (let d : dl.ReadFault path ≡ dl.MissingVersion v.0 v.1 v.2 = v.3 in cc);
-      missing = λ name e.
-          let v = no_version (dl.MissingLibrary name) (subst (Incomplete ns added) (same_fault fault (faults.Refused (dl.MissingLibrary name)) e) incomplete) in
-          absurd (let d : dl.MissingLibrary name ≡ dl.MissingVersion v.0 v.1 v.2 = v.3 in cc);
     }
 
 -- ---- what is seen of a namespace with new objects

@@ -6,12 +6,13 @@ use Rattle.std.proofs.lemmas.Bool.{and_right, ne_eqb}
 use Rattle.std.proofs.lemmas.Grind.{flat_map-append}
 use Rattle.ld_base.specs.declared.fault.DlFault.{DlFault}
 use Rattle.ld_base.specs.declared.fault.DlFault.TheVariants as dl
+use Rattle.ld_base.specs.declared.fault.Shown.{Shown}
 use Rattle.ld_base.specs.declared.linking.Loaded.{Loaded}
 use Rattle.scope_rule.specs.declared.arrival.Arrival.{Arrival}
 use Rattle.scope_rule.specs.Finding.{Reading, here, absent}
-use Rattle.scope_rule.specs.Load.{Load, Walk, Stop, Found, leads, fresh, stops, refuses, waits, needed_by, preload_of, asks, by_reading, finds, led, led_to, led_new, next_name, step, walk, Brings, Stops}
+use Rattle.scope_rule.specs.Load.{Load, Walk, Stop, Found, present, fresh, stops, refuses, waits, use_of, needed_by, preload_of, asks, by_reading, finds, take_found, with_found, with_arrival, next_name, step, walk, Brings, Stops}
 use Rattle.load_walk.specs.Files.{load_of}
-use Rattle.load_walk.specs.Walking.{walk_of, Agrees, IsWalker, IsToRead, Means, EndsFor, EndsWith, Looks, more_names, grown}
+use Rattle.load_walk.specs.Walking.{EndsSo, walk_of, Agrees, IsWalker, IsToRead, Means, EndsFor, EndsWith, Looks, more_names, grown}
 use Rattle.load_walk.specs.declared.ask.LoadAsk.{LoadAsk}
 use Rattle.load_walk.specs.declared.ask.LoadFault.{LoadFault}
 use Rattle.load_walk.specs.declared.ask.LoadFault.TheVariants as faults
@@ -26,24 +27,24 @@ gone w = Ok w
 -- ---- the next name
 
 -- what the next name leads to is the load's step
-pub step_is : (load : Load) (w : Walk) (name : List ℕ) (found : Found) → next_name load w ≡ Some name → finds load (length w.leads) w.news name ≡ found → step load w ≡ led load w name found
+pub step_is : (load : Load) (w : Walk) (name : List ℕ) (found : Found) → next_name load w ≡ Some name → finds load (length w.found) w.arrivals name ≡ found → step load w ≡ take_found load w name found
 unfolding step
 step_is load w name found at is = rw (at, is) refl
 
 -- the name stands where the load asks for it
-pub asked : (ask : LoadAsk) (there : List Loaded) (w : Walker) (reading : List ℕ → Reading) (name : List ℕ) → IsWalker ask there w → slice_get w.names (length w.leads) ≡ Some name → next_name (load_of ask there reading) (walk_of w) ≡ Some name
-asked ask there w reading name is at = let P : List (List ℕ) → Type 0 = λ xs. slice_get xs (length w.leads) ≡ Some name in subst P (is.names reading) at
+pub asked : (ask : LoadAsk) (there : List Loaded) (w : Walker) (reading : List ℕ → Reading) (name : List ℕ) → IsWalker ask there w → slice_get w.names (length w.found) ≡ Some name → next_name (load_of ask there reading) (walk_of w) ≡ Some name
+asked ask there w reading name is at = let P : List (List ℕ) → Type 0 = λ xs. slice_get xs (length w.found) ≡ Some name in subst P (is.names reading) at
 
 -- what the search of the next name means
 abbrev pub NextMeans : LoadAsk → List Loaded → Walker → List ℕ → Result Finding LoadFault → Type 0
-NextMeans ask there w name result = (reading : List ℕ → Reading) → Agrees reading w → Means w reading result (finds (load_of ask there reading) (length w.leads) w.news name)
+NextMeans ask there w name result = (reading : List ℕ → Reading) → Agrees reading w → Means w reading result (finds (load_of ask there reading) (length w.found) w.arrivals name)
 
-ends_for : (load : Load) (w : Walk) (name : List ℕ) (why : Stop) → walk load (length w.leads) ≡ Ok w → next_name load w ≡ Some name → led load w name (finds load (length w.leads) w.news name) ≡ Err why → EndsFor load w why
+ends_for : (load : Load) (w : Walk) (name : List ℕ) (why : Stop) → walk load (length w.found) ≡ Ok w → next_name load w ≡ Some name → take_found load w name (finds load (length w.found) w.arrivals name) ≡ Err why → EndsFor load w why
 ends_for load w name why walked next ends = record { name = name; walked = walked; next = next; ends = ends }
 
-module _ (ask : LoadAsk) (there : List Loaded) (w : Walker) (name : List ℕ) (is : IsWalker ask there w) (at : slice_get w.names (length w.leads) ≡ Some name) where
-  pub looks_leads : (serial : ℕ) → NextMeans ask there w name (Ok (finding.Leads serial)) → Looks ask there w (Ok (next.Leads serial))
-  looks_leads serial means = λ reading agrees. step_is (load_of ask there reading) (walk_of w) name (leads serial) (asked ask there w reading name is at) (means reading agrees)
+module _ (ask : LoadAsk) (there : List Loaded) (w : Walker) (name : List ℕ) (is : IsWalker ask there w) (at : slice_get w.names (length w.found) ≡ Some name) where
+  pub looks_found : (serial : ℕ) → NextMeans ask there w name (Ok (finding.Found serial)) → Looks ask there w (Ok (next.Found serial))
+  looks_found serial means = λ reading agrees. step_is (load_of ask there reading) (walk_of w) name (present serial) (asked ask there w reading name is at) (means reading agrees)
 
   pub looks_reads : (path : List ℕ) → NextMeans ask there w name (Ok (finding.Read path)) → Looks ask there w (Ok (next.Read path))
   looks_reads path means = record { unread = λ reading agrees. (means reading agrees).0; name = name; next = at; gives = λ reading agrees there. (means reading agrees).1 there }
@@ -51,42 +52,43 @@ module _ (ask : LoadAsk) (there : List Loaded) (w : Walker) (name : List ℕ) (i
   pub looks_missing : NextMeans ask there w name (Ok finding.Nowhere) → Looks ask there w (Err (faults.Refused (dl.MissingLibrary name)))
   looks_missing means = λ reading agrees.
       ends_for (load_of ask there reading) (walk_of w) name (refuses (dl.MissingLibrary name)) (is.steps reading agrees) (asked ask there w reading name is at)
-      (ap (led (load_of ask there reading) (walk_of w) name) (means reading agrees))
+      (ap (take_found (load_of ask there reading) (walk_of w) name) (means reading agrees))
 
-  ends_refused : (reading : List ℕ → Reading) (fault : DlFault) (found : Found) → Agrees reading w → finds (load_of ask there reading) (length w.leads) w.news name ≡ found → Means w reading (Err (faults.Refused fault)) found → EndsWith (load_of ask there reading) (walk_of w) (faults.Refused fault)
+  ends_refused : (reading : List ℕ → Reading) (fault : DlFault) (found : Found) → Agrees reading w → finds (load_of ask there reading) (length w.found) w.arrivals name ≡ found → Means w reading (Err (faults.Refused fault)) found → EndsWith (load_of ask there reading) (walk_of w) (faults.Refused fault)
   ends_refused reading (dl.ReadFault path) found agrees e means = means
   ends_refused reading fault found agrees e means =
       ends_for (load_of ask there reading) (walk_of w) name (refuses fault) (is.steps reading agrees) (asked ask there w reading name is at)
-      (ap (led (load_of ask there reading) (walk_of w) name) (e ∙ means))
+      (ap (take_found (load_of ask there reading) (walk_of w) name) (e ∙ means))
 
   pub looks_ends : (fault : LoadFault) → NextMeans ask there w name (Err fault) → Looks ask there w (Err fault)
-  looks_ends (faults.Refused fault) means = λ reading agrees. ends_refused reading fault (finds (load_of ask there reading) (length w.leads) w.news name) agrees refl (means reading agrees)
+  looks_ends (faults.Refused fault) means = λ reading agrees. ends_refused reading fault (finds (load_of ask there reading) (length w.found) w.arrivals name) agrees refl (means reading agrees)
   looks_ends (faults.Wait shown) means = λ reading agrees.
       ends_for (load_of ask there reading) (walk_of w) name (waits shown) (is.steps reading agrees) (asked ask there w reading name is at)
-      (ap (led (load_of ask there reading) (walk_of w) name) (means reading agrees))
+      (ap (take_found (load_of ask there reading) (walk_of w) name) (means reading agrees))
   looks_ends faults.Memory means = λ reading agrees. tt
 
 -- ---- one name further
 
-pub starts : (ask : LoadAsk) (there : List Loaded) → IsWalker ask there (record { names = ask.name ∷ []; leads = []; news = []; missed = [] })
+pub starts : (ask : LoadAsk) (there : List Loaded) → IsWalker ask there (record { names = ask.name ∷ []; found = []; arrivals = []; missed = [] })
 starts ask there = record { names = λ reading. refl; steps = λ reading agrees. refl }
 
 -- the walk after one more serial
-walk_on : (load : Load) (w after : Walk) (s : ℕ) → walk load (length w.leads) ≡ gone w → step load w ≡ gone after → after.leads ≡ w.leads ++ s ∷ [] → walk load (length after.leads) ≡ gone after
+walk_on : (load : Load) (w after : Walk) (s : ℕ) → walk load (length w.found) ≡ gone w → step load w ≡ gone after → after.found ≡ w.found ++ s ∷ [] → walk load (length after.found) ≡ gone after
 walk_on load w after s walked stepped is =
-    let many : length after.leads ≡ suc (length w.leads) = ap length is ∙ length-append w.leads (s ∷ []) ∙ add-one (length w.leads) in
+    let many : length after.found ≡ suc (length w.found) = ap length is ∙ length-append w.found (s ∷ []) ∙ add-one (length w.found) in
     rw (many, walked) stepped
 
-abbrev led_on : Walker → ℕ → Walker
-led_on w serial = record w { leads = w.leads ++ serial ∷ [] }
-
-pub leads_on : (ask : LoadAsk) (there : List Loaded) (w : Walker) (serial : ℕ) → IsWalker ask there w → Looks ask there w (Ok (next.Leads serial)) → IsWalker ask there (led_on w serial)
-leads_on ask there w serial is looks = record {
+pub found_on : (ask : LoadAsk) (there : List Loaded) (w : Walker) (serial : ℕ) → IsWalker ask there w → Looks ask there w (Ok (next.Found serial)) → IsWalker ask there (record w { found = w.found ++ serial ∷ [] })
+found_on ask there w serial is looks = record {
   names = is.names;
   steps = λ reading agrees.
       let before : Agrees reading w = record { objects = agrees.objects; missed = agrees.missed } in
-      walk_on (load_of ask there reading) (walk_of w) (led_to (walk_of w) serial) serial (is.steps reading before) (looks reading before) refl;
+      walk_on (load_of ask there reading) (walk_of w) (with_found (walk_of w) serial) serial (is.steps reading before) (looks reading before) refl;
 }
+
+pub all_push : {X : Type 0} (P : X → Type 0) (xs : List X) (x : X) → AllByRecursion P xs → P x → AllByRecursion P (xs ++ x ∷ [])
+all_push P [] x h k = (k, tt)
+all_push P (y ∷ ys) x h k = (h.0, all_push P ys x h.1 k)
 
 pub all_front : {X : Type 0} (P : X → Type 0) (xs ys : List X) → AllByRecursion P (xs ++ ys) → AllByRecursion P xs
 all_front P [] ys h = tt
@@ -106,10 +108,10 @@ misses_on ask there w path is = record {
 }
 
 -- what one more new object asks for
-asks_one_more : (ask : LoadAsk) (there : List Loaded) (reading : List ℕ → Reading) (w : Walker) (o : Arrival) → w.names ≡ asks (load_of ask there reading) w.news → w.names ++ more_names ask w o ≡ asks (load_of ask there reading) (w.news ++ o ∷ [])
-asks_one_more ask there reading w o e = ap (λ (xs : List (List ℕ)). xs ++ more_names ask w o) e ∙ more w.news refl
+asks_one_more : (ask : LoadAsk) (there : List Loaded) (reading : List ℕ → Reading) (w : Walker) (o : Arrival) → w.names ≡ asks (load_of ask there reading) w.arrivals → w.names ++ more_names ask w o ≡ asks (load_of ask there reading) (w.arrivals ++ o ∷ [])
+asks_one_more ask there reading w o e = ap (λ (xs : List (List ℕ)). xs ++ more_names ask w o) e ∙ more w.arrivals refl
   where
-    more : (news : List Arrival) → w.news ≡ news → asks (load_of ask there reading) news ++ more_names ask w o ≡ asks (load_of ask there reading) (news ++ o ∷ [])
+    more : (arrivals : List Arrival) → w.arrivals ≡ arrivals → asks (load_of ask there reading) arrivals ++ more_names ask w o ≡ asks (load_of ask there reading) (arrivals ++ o ∷ [])
     more [] none = rw none (first ask.program)
       where
         first : (program : Bool) → (ask.name ∷ []) ++ ((cond (program && true) ask.preload []) ++ o.object.needed) ≡ (ask.name ∷ cond program ask.preload []) ++ (o.object.needed ++ [])
@@ -118,8 +120,8 @@ asks_one_more ask there reading w o e = ap (λ (xs : List (List ℕ)). xs ++ mor
     more (x ∷ xs) some =
         let load : Load = load_of ask there reading in
         let front : List (List ℕ) = ask.name ∷ preload_of load in
-        let later : (length w.news == 0) ≡ false = rw some (ne_eqb (length (x ∷ xs)) 0 (λ d. absurd (omega arith))) in
-        let off : (ask.program && length w.news == 0) ≡ false = and_right ask.program (length w.news == 0) later in
+        let later : (length w.arrivals == 0) ≡ false = rw some (ne_eqb (length (x ∷ xs)) 0 (λ d. absurd (omega arith))) in
+        let off : (ask.program && length w.arrivals == 0) ≡ false = and_right ask.program (length w.arrivals == 0) later in
         let own : more_names ask w o ≡ o.object.needed = rw off refl in
         let tail : flat_map needed_by ((x ∷ xs) ++ o ∷ []) ≡ flat_map needed_by (x ∷ xs) ++ o.object.needed =
         flat_map-append needed_by (x ∷ xs) (o ∷ []) ∙ ap (λ (ys : List (List ℕ)). flat_map needed_by (x ∷ xs) ++ ys) (append-nil o.object.needed) in
@@ -132,27 +134,27 @@ grows_on ask there w o is to_read = record {
   names = λ reading. asks_one_more ask there reading w o (is.names reading);
   steps = λ reading agrees.
       let P : Arrival → Type 0 = λ x. reading x.path ≡ here x.object x.table in
-      let before : Agrees reading w = record { objects = all_front P w.news (o ∷ []) agrees.objects; missed = agrees.missed } in
-      let at : reading o.path ≡ here o.object o.table = all_last P w.news o agrees.objects in
-      let read : finds (load_of ask there reading) (length w.leads) w.news to_read.name ≡ fresh o = to_read.gives reading before (λ none. absurd (let d : here o.object o.table ≡ absent = sym at ∙ none in cc)) ∙ ap (by_reading o.path) at in
+      let before : Agrees reading w = record { objects = all_front P w.arrivals (o ∷ []) agrees.objects; missed = agrees.missed } in
+      let at : reading o.path ≡ here o.object o.table = all_last P w.arrivals o agrees.objects in
+      let read : finds (load_of ask there reading) (length w.found) w.arrivals to_read.name ≡ fresh o = to_read.gives reading before (λ none. absurd (let d : here o.object o.table ≡ absent = sym at ∙ none in cc)) ∙ ap (by_reading o.path) at in
       let load : Load = load_of ask there reading in
-      walk_on load (walk_of w) (led_new load (walk_of w) o) (ask.next + length w.news) (is.steps reading before)
+      walk_on load (walk_of w) (with_arrival load (walk_of w) o) (ask.next + length w.arrivals) (is.steps reading before)
       (step_is load (walk_of w) to_read.name (fresh o) (asked ask there w reading to_read.name is to_read.next) read) refl;
 }
 
 -- ---- the end
 
-pub brings_all : (ask : LoadAsk) (there : List Loaded) (w : Walker) (reading : List ℕ → Reading) → IsWalker ask there w → length w.names ≤ length w.leads → Agrees reading w → Brings (load_of ask there reading) (walk_of w)
+pub brings_all : (ask : LoadAsk) (there : List Loaded) (w : Walker) (reading : List ℕ → Reading) → IsWalker ask there w → length w.names ≤ length w.found → Agrees reading w → Brings (load_of ask there reading) (walk_of w)
 brings_all ask there w reading is all agrees = record {
-  steps = length w.leads;
+  steps = length w.found;
   are = is.steps reading agrees;
-  all = let P : List (List ℕ) → Type 0 = λ xs. length xs ≤ length w.leads in subst P (is.names reading) all;
+  all = let P : List (List ℕ) → Type 0 = λ xs. length xs ≤ length w.found in subst P (is.names reading) all;
 }
 
 pub ends_stops : (load : Load) (w : Walk) (why : Stop) → EndsFor load w why → Stops load why
 ends_stops load w why e = record {
-  steps = suc (length w.leads);
-  is = let stepped : step load w ≡ led load w e.name (finds load (length w.leads) w.news e.name) = step_is load w e.name (finds load (length w.leads) w.news e.name) e.next refl in rw e.walked (stepped ∙ e.ends);
+  steps = suc (length w.found);
+  is = let stepped : step load w ≡ take_found load w e.name (finds load (length w.found) w.arrivals e.name) = step_is load w e.name (finds load (length w.found) w.arrivals e.name) e.next refl in rw e.walked (stepped ∙ e.ends);
 }
 
 -- what is to be read ends the load
@@ -160,4 +162,17 @@ pub read_ends : (ask : LoadAsk) (there : List Loaded) (w : Walker) (path : List 
 read_ends ask there w path reading why is to_read agrees there_is e =
     ends_stops (load_of ask there reading) (walk_of w) why
     (ends_for (load_of ask there reading) (walk_of w) to_read.name why (is.steps reading agrees) (asked ask there w reading to_read.name is to_read.next)
-    (ap (led (load_of ask there reading) (walk_of w) to_read.name) (to_read.gives reading agrees there_is ∙ e)))
+    (ap (take_found (load_of ask there reading) (walk_of w) to_read.name) (to_read.gives reading agrees there_is ∙ e)))
+
+-- ---- where nothing is read
+
+-- why an object that is there ends a load, as a fault says it
+pub unread_ends : (load : Load) (o : Loaded) (fault : LoadFault) (f : DlFault) → ((why : Stop) → use_of load.hart o ≡ stops why → Stops load why) → EndsSo fault (use_of load.hart o) → fault ≡ faults.Refused f → Stops load (refuses f)
+unread_ends load o fault f law ends e = law (refuses f) (so f (subst (λ (x : LoadFault). EndsSo x (use_of load.hart o)) e ends))
+  where
+    so : (g : DlFault) → EndsSo (faults.Refused g) (use_of load.hart o) → use_of load.hart o ≡ stops (refuses g)
+    so (dl.ReadFault path) is = absurd is
+    so g is = is
+
+pub unread_waits : (load : Load) (o : Loaded) (fault : LoadFault) (shown : Shown) → ((why : Stop) → use_of load.hart o ≡ stops why → Stops load why) → EndsSo fault (use_of load.hart o) → fault ≡ faults.Wait shown → Stops load (waits shown)
+unread_waits load o fault shown law ends e = law (waits shown) (subst (λ (x : LoadFault). EndsSo x (use_of load.hart o)) e ends)

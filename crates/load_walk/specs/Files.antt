@@ -71,3 +71,7 @@ load_over verdict ask there files = load_of ask there (reading_of verdict files 
 -- over these files, up to the read that failed, where the fault speaks of one
 abbrev pub load_until : Verdict → DlFault → LoadAsk → List Loaded → List File → Load
 load_until verdict fault ask there files = load_of ask there (reading_until verdict files ask fault)
+
+-- where nothing is read
+abbrev pub load_unread : LoadAsk → List Loaded → Load
+load_unread ask there = load_of ask there (λ path. absent)

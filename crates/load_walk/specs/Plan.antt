@@ -1,8 +1,10 @@
 -- What a load comes to.
 use Rattle.std.specs.Prelude.{◌≡◌, ◌⊎◌, ℕ, Bool, not, ◌&&◌, if◌then◌else◌, List, [], ◌∷◌, length, Some, None}
-use Rattle.std.specs.List.{AllByRecursion, list_any}
+use Rattle.std.specs.List.{AllByRecursion}
+use Rattle.std.specs.Set.{distinct_count}
 use Rattle.std.specs.Str.{bytes_eq}
 use Rattle.ld_base.specs.declared.fault.DlFault.{DlFault}
+use Rattle.ld_base.specs.declared.fault.DlFault.TheVariants as dl
 use Rattle.ld_base.specs.declared.fault.Shown.{Shown}
 use Rattle.ld_base.specs.declared.linking.File.{File}
 use Rattle.ld_base.specs.declared.linking.Loaded.{Loaded}
@@ -40,21 +42,21 @@ pub record Lacks (load : Load) (deep : Bool) (fault : DlFault) : Type 0 where
   pub lacks : version_fault load.there (records_of load deep walk) ≡ Some fault
 
 -- the load stops for the fault, or it is that of the first version that isn't there
-abbrev pub IsRefused : Verdict → LoadAsk → List Loaded → DlFault → List File → Type 0
-IsRefused verdict ask there fault files =
+abbrev pub StopsFor : Verdict → LoadAsk → List Loaded → DlFault → List File → Type 0
+StopsFor verdict ask there fault files =
     Stops (load_until verdict fault ask there files) (refuses fault) ⊎ Lacks (load_over verdict ask there files) (is_deep ask) fault
 
 -- the load stops because it has to wait
 abbrev pub HasToWait : Verdict → LoadAsk → List Loaded → Shown → List File → Type 0
 HasToWait verdict ask there shown files = Stops (load_over verdict ask there files) (waits shown)
 
--- each name once
-abbrev pub distinct : List (List ℕ) → List (List ℕ)
-distinct [] = []
-distinct (x ∷ xs) = if list_any (λ y. bytes_eq y x) xs then distinct xs else x ∷ distinct xs
-
--- a name stopped the load, since no path that it may have has a file, and the misses rose by each of these paths. A program's own
+-- a name stopped the load, since no path that it may have has a file, and the misses rose by each of these paths, the same one counted once. A program's own
 -- name has one path; that of its library comes after the program.
 pub record IsMissed (load : Load) (name : List ℕ) (misses misses' : ℕ) : Type 0 where
   pub is : IsMissing load name
-  pub each : RisesBy (length (distinct (paths_of load (length is.before.leads) name))) misses misses'
+  pub each : RisesBy (distinct_count bytes_eq (paths_of load (length is.before.found) name)) misses misses'
+
+-- the load stops for the fault; where that is a missing library, the misses rose by each of its paths
+pub record IsRefused (verdict : Verdict) (ask : LoadAsk) (there : List Loaded) (misses misses' : ℕ) (fault : DlFault) (files : List File) : Type 0 where
+  pub stops : StopsFor verdict ask there fault files
+  pub missed : (name : List ℕ) → fault ≡ dl.MissingLibrary name → IsMissed (load_over verdict ask there files) name misses misses'

@@ -7,9 +7,8 @@ use Rattle.ld_base.specs.declared.linking.Loaded.{Loaded}
 use Rattle.library_source.specs.Count.{Rises, RisesBy}
 use Rattle.library_source.specs.Files.{Over}
 use Rattle.scope_rule.specs.declared.arrival.Arrival.{Arrival}
-use Rattle.scope_rule.specs.Load.{Stops, refuses}
-use Rattle.load_walk.specs.Files.{Verdict, is_program, reading_of, load_over, load_until}
-use Rattle.load_walk.specs.Plan.{HasToWait, IsMissed}
+use Rattle.load_walk.specs.Files.{Verdict, is_program, reading_of}
+use Rattle.load_walk.specs.Plan.{HasToWait, IsRefused}
 use Rattle.load_walk.specs.Walking.{Agrees, IsWalker, grown}
 use Rattle.load_walk.specs.declared.ask.LoadAsk.{LoadAsk}
 use Rattle.load_walk.specs.declared.ask.LoadFault.{LoadFault}
@@ -39,14 +38,10 @@ pub record Stage (verdict : Verdict) (ask : LoadAsk) (there : List Loaded) (firs
   pub count : RisesBy (length w.missed) first.misses now.misses
   pub over : Over first.files (λ files. Agrees (reading_of verdict files ask) w)
 
--- why the load ended, over the files that it read
+-- why the load ended, over the files that it read; a failed read is one that the library counted
 abbrev pub FaultIs : Verdict → LoadAsk → List Loaded → Source → Source → LoadFault → Type 0
-FaultIs verdict ask there first now (faults.Refused (dl.ReadFault path)) =
-    Over first.files (λ files. Stops (load_until verdict (dl.ReadFault path) ask there files) (refuses (dl.ReadFault path))) × Rises first.faults now.faults
-FaultIs verdict ask there first now (faults.Refused (dl.MissingLibrary name)) =
-    Over first.files (λ files. Stops (load_over verdict ask there files) (refuses (dl.MissingLibrary name)))
-    × Over first.files (λ files. IsMissed (load_over verdict ask there files) name first.misses now.misses)
-FaultIs verdict ask there first now (faults.Refused fault) = Over first.files (λ files. Stops (load_until verdict fault ask there files) (refuses fault))
+FaultIs verdict ask there first now (faults.Refused fault) =
+    Over first.files (IsRefused verdict ask there first.misses now.misses fault) × ((path : List ℕ) → fault ≡ dl.ReadFault path → Rises first.faults now.faults)
 FaultIs verdict ask there first now (faults.Wait shown) = Over first.files (HasToWait verdict ask there shown)
 FaultIs verdict ask there first now faults.Memory = Unit {0}
 
@@ -56,7 +51,7 @@ pub record Faulted (verdict : Verdict) (ask : LoadAsk) (there : List Loaded) (fi
 
 -- a turn of the load
 abbrev pub Turns : Verdict → LoadAsk → List Loaded → Source → Source → Walker → Result Bool LoadFault → Type 0
-Turns verdict ask there first now w (Ok done) = Stage verdict ask there first now w × (done ≡ true → length w.names ≤ length w.leads)
+Turns verdict ask there first now w (Ok done) = Stage verdict ask there first now w × (done ≡ true → length w.names ≤ length w.found)
 Turns verdict ask there first now w (Err fault) = Faulted verdict ask there first now fault
 
 -- what became of the bytes at a path: a new object, or why they aren't one
@@ -75,5 +70,5 @@ Reads verdict ask there first now w (Err fault) = Faulted verdict ask there firs
 
 -- after the whole load
 abbrev pub Drives : Verdict → LoadAsk → List Loaded → Source → Source → Walker → Result (Unit {0}) LoadFault → Type 0
-Drives verdict ask there first now w (Ok done) = Stage verdict ask there first now w × (length w.names ≤ length w.leads)
+Drives verdict ask there first now w (Ok done) = Stage verdict ask there first now w × (length w.names ≤ length w.found)
 Drives verdict ask there first now w (Err fault) = Faulted verdict ask there first now fault

@@ -90,8 +90,8 @@ fn turn<F: Format, L: Library>(
 {
     missing_library();
     match walker.look(alloc, ns, ask)? {
-        Next::Leads(serial) => {
-            walker.leads.push(serial)?;
+        Next::Found(serial) => {
+            walker.found.push(serial)?;
             Ok(false)
         }
         Next::Read(path) => {

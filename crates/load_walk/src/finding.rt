@@ -5,7 +5,7 @@ ghost use Rattle.std.specs.Option.{option_copied};
 ghost use Rattle.scope_rule.specs.Finding.{Reading, is_named, with_soname, with_path, at_soname, at_path, is_path, in_folders, candidates};
 ghost use Rattle.scope_rule.specs.Load.{use_of, find_path, find_paths, find_opened, find_needed, find_root, finds};
 ghost use Rattle.load_walk.specs.Files.{load_of};
-ghost use Rattle.load_walk.specs.Walking.{Agrees, Means};
+ghost use Rattle.load_walk.specs.Walking.{Agrees, Means, Uses};
 
 use crate::ask::{LoadAsk, LoadFault};
 use crate::walker::Walker;
@@ -19,16 +19,16 @@ const LINKER_NAME: &[u8] = b"ldso.so.1";
 /// What the search of a name comes to.
 #[derive(Debug, Drop)]
 pub(crate) enum Finding {
-    /// The serial that the name leads to.
-    Leads(Serial),
+    /// The serial of the object that the name finds.
+    Found(Serial),
     /// The path that has to be read before more is known.
     Read(Name),
     Nowhere,
 }
 
-/// Whether a hart may use an object that it found, and its serial then.
-fn use_of(alloc: Global, hart: HartId, object: &Loaded) -> Result<Finding, LoadFault>
-    ensures { (w : Walker) (reading : List ℕ → Reading) → Means w reading result (use_of hart object.now) }
+/// The serial of an object that a hart found, if it may use it.
+pub(crate) fn use_of(alloc: Global, hart: HartId, object: &Loaded) -> Result<Serial, LoadFault>
+    ensures { Uses result (use_of hart object.now) }
 {
     match object.state {
         State::Initialising(other) if other != hart => {
@@ -41,7 +41,7 @@ fn use_of(alloc: Global, hart: HartId, object: &Loaded) -> Result<Finding, LoadF
             let path = Name::new(alloc, object.path.as_bytes())?;
             Err(LoadFault::Refused(DlFault::ClosingHere(path)))
         }
-        _ => Ok(Finding::Leads(object.serial)),
+        _ => Ok(object.serial),
     }
 }
 
@@ -56,35 +56,35 @@ fn is_named(object: &Object, name: &[u8]) -> bool
 }
 
 /// The first object that is there with this name of its own.
-fn with_soname<'a>(objects: &'a [Loaded], name: &[u8]) -> Option<&'a Loaded>
+pub(crate) fn with_soname<'a>(objects: &'a [Loaded], name: &[u8]) -> Option<&'a Loaded>
     ensures { option_copied result ≡ with_soname objects.now name.now }
 {
     objects.iter().find(|loaded| is_named(&loaded.object, name))
 }
 
 /// The first object that is there with this path.
-fn with_path<'a>(objects: &'a [Loaded], path: &[u8]) -> Option<&'a Loaded>
+pub(crate) fn with_path<'a>(objects: &'a [Loaded], path: &[u8]) -> Option<&'a Loaded>
     ensures { option_copied result ≡ with_path objects.now path.now }
 {
     objects.iter().find(|loaded| loaded.path.is(path))
 }
 
 /// The place of the first new object with this name of its own.
-fn at_soname(news: &[Arrival], name: &[u8]) -> Option<usize>
-    ensures { result ≡ at_soname news.now name.now }
+fn at_soname(arrivals: &[Arrival], name: &[u8]) -> Option<usize>
+    ensures { result ≡ at_soname arrivals.now name.now }
 {
-    news.iter().position(|new| is_named(&new.object, name))
+    arrivals.iter().position(|new| is_named(&new.object, name))
 }
 
 /// The place of the first new object with this path.
-fn at_path(news: &[Arrival], path: &[u8]) -> Option<usize>
-    ensures { result ≡ at_path news.now path.now }
+fn at_path(arrivals: &[Arrival], path: &[u8]) -> Option<usize>
+    ensures { result ≡ at_path arrivals.now path.now }
 {
-    news.iter().position(|new| new.path.is(path))
+    arrivals.iter().position(|new| new.path.is(path))
 }
 
 /// Whether a name is a path.
-fn is_path(name: &[u8]) -> bool
+pub(crate) fn is_path(name: &[u8]) -> bool
     ensures { result ≡ is_path name.now }
 {
     name.contains(&b'/')
@@ -111,37 +111,44 @@ fn in_folders(alloc: Global, folders: &[Name], name: &[u8]) -> Result<Names, All
     Ok(paths)
 }
 
+/// One path alone.
+pub(crate) fn one_path(alloc: Global, path: &[u8]) -> Result<Names, AllocError>
+    ensures { IfOk result (λ paths. paths ≡ path.now ∷ []) }
+{
+    let mut paths = Names::new(alloc);
+    paths.push(Name::new(alloc, path)?)?;
+    Ok(paths)
+}
+
 /// The paths that a name may have, in order.
-fn candidates(alloc: Global, folders: &[Name], name: &[u8]) -> Result<Names, AllocError>
+pub(crate) fn candidates(alloc: Global, folders: &[Name], name: &[u8]) -> Result<Names, AllocError>
     ensures { IfOk result (λ paths. paths ≡ candidates folders.now name.now) }
 {
-    if !is_path(name) {
-        return in_folders(alloc, folders, name);
+    if is_path(name) {
+        return one_path(alloc, name);
     }
-    let mut paths = Names::new(alloc);
-    paths.push(Name::new(alloc, name)?)?;
-    Ok(paths)
+    in_folders(alloc, folders, name)
 }
 
 impl Walker {
     ghost use Rattle.std.specs.Prelude.{◌≡◌, ◌<◌, ◌+◌, ℕ, List, length, IfSome};
     ghost use Rattle.scope_rule.specs.Finding.{Reading};
-    ghost use Rattle.scope_rule.specs.Load.{find_path, find_paths, find_opened, find_needed, find_root, finds, leads};
+    ghost use Rattle.scope_rule.specs.Load.{find_path, find_paths, find_opened, find_needed, find_root, finds, present};
     ghost use Rattle.load_walk.specs.Files.{load_of};
     ghost use Rattle.load_walk.specs.Walking.{Agrees, Means};
 
     /// The new object at a place.
     fn new_at(&self, ask: &LoadAsk, place: usize) -> Result<Finding, LoadFault>
-        ensures { (reading : List ℕ → Reading) → Means self.now reading result (leads (ask.now.next + place)) }
+        ensures { (reading : List ℕ → Reading) → Means self.now reading result (present (ask.now.next + place)) }
     {
         match ask.next.number().checked_add(place as u64) {
-            Some(number) => Ok(Finding::Leads(Serial::new(number))),
+            Some(number) => Ok(Finding::Found(Serial::new(number))),
             None => Err(LoadFault::Memory),
         }
     }
 
-    /// What a path leads to.
-    #[tactic(auto, unfolding(scope_rule::specs::Load::find_path))]
+    /// What a path finds.
+    #[tactic(auto, using(crate::proofs::Missing::missed_path, crate::proofs::Missing::missed_reads), unfolding(scope_rule::specs::Load::find_path))]
     fn find_path(
         &self,
         alloc: Global,
@@ -149,12 +156,12 @@ impl Walker {
         ask: &LoadAsk,
         path: &[u8],
     ) -> Result<Finding, LoadFault>
-        ensures { (reading : List ℕ → Reading) → Agrees reading self.now → Means self.now reading result (find_path (load_of ask.now ns.now.objects reading) self.now.news path.now) }
+        ensures { (reading : List ℕ → Reading) → Agrees reading self.now → Means self.now reading result (find_path (load_of ask.now ns.now.objects reading) self.now.arrivals path.now) }
     {
         if let Some(object) = with_path(ns.objects.as_slice(), path) {
-            return use_of(alloc, ask.hart, object);
+            return Ok(Finding::Found(use_of(alloc, ask.hart, object)?));
         }
-        if let Some(place) = at_path(self.news.as_slice(), path) {
+        if let Some(place) = at_path(self.arrivals.as_slice(), path) {
             return self.new_at(ask, place);
         }
         if self.missed.has(path) {
@@ -163,7 +170,7 @@ impl Walker {
         Ok(Finding::Read(Name::new(alloc, path)?))
     }
 
-    /// What the first of the paths that leads anywhere leads to.
+    /// What the first of the paths finds that finds anything.
     fn find_paths(
         &self,
         alloc: Global,
@@ -171,7 +178,7 @@ impl Walker {
         ask: &LoadAsk,
         paths: &[Name],
     ) -> Result<Finding, LoadFault>
-        ensures { (reading : List ℕ → Reading) → Agrees reading self.now → Means self.now reading result (find_paths (load_of ask.now ns.now.objects reading) self.now.news paths.now) }
+        ensures { (reading : List ℕ → Reading) → Agrees reading self.now → Means self.now reading result (find_paths (load_of ask.now ns.now.objects reading) self.now.arrivals paths.now) }
     {
         for path in paths {
             match self.find_path(alloc, ns, ask, path.as_bytes())? {
@@ -182,7 +189,7 @@ impl Walker {
         Ok(Finding::Nowhere)
     }
 
-    /// What a name leads to, as dlopen takes it.
+    /// What a name finds, as dlopen takes it.
     #[tactic(auto, unfolding(scope_rule::specs::Load::find_opened))]
     fn find_opened(
         &self,
@@ -191,22 +198,22 @@ impl Walker {
         ask: &LoadAsk,
         name: &[u8],
     ) -> Result<Finding, LoadFault>
-        ensures { (reading : List ℕ → Reading) → Agrees reading self.now → Means self.now reading result (find_opened (load_of ask.now ns.now.objects reading) self.now.news name.now) }
+        ensures { (reading : List ℕ → Reading) → Agrees reading self.now → Means self.now reading result (find_opened (load_of ask.now ns.now.objects reading) self.now.arrivals name.now) }
     {
         let paths = candidates(alloc, ask.folders.as_slice(), name)?;
         if is_path(name) {
             return self.find_paths(alloc, ns, ask, paths.as_slice());
         }
         if let Some(object) = with_soname(ns.objects.as_slice(), name) {
-            return use_of(alloc, ask.hart, object);
+            return Ok(Finding::Found(use_of(alloc, ask.hart, object)?));
         }
-        if let Some(place) = at_soname(self.news.as_slice(), name) {
+        if let Some(place) = at_soname(self.arrivals.as_slice(), name) {
             return self.new_at(ask, place);
         }
         self.find_paths(alloc, ns, ask, paths.as_slice())
     }
 
-    /// What a name leads to, as an object needs it.
+    /// What a name finds, as an object needs it.
     fn find_needed(
         &self,
         alloc: Global,
@@ -214,15 +221,15 @@ impl Walker {
         ask: &LoadAsk,
         name: &[u8],
     ) -> Result<Finding, LoadFault>
-        ensures { (reading : List ℕ → Reading) → Agrees reading self.now → Means self.now reading result (find_needed (load_of ask.now ns.now.objects reading) self.now.news name.now) }
+        ensures { (reading : List ℕ → Reading) → Agrees reading self.now → Means self.now reading result (find_needed (load_of ask.now ns.now.objects reading) self.now.arrivals name.now) }
     {
         if name == LINKER_NAME {
-            return Ok(Finding::Leads(Serial::LINKER));
+            return Ok(Finding::Found(Serial::LINKER));
         }
         self.find_opened(alloc, ns, ask, name)
     }
 
-    /// What the load's own name leads to.
+    /// What the load's own name finds.
     fn find_root(
         &self,
         alloc: Global,
@@ -230,7 +237,7 @@ impl Walker {
         ask: &LoadAsk,
         name: &[u8],
     ) -> Result<Finding, LoadFault>
-        ensures { (reading : List ℕ → Reading) → Agrees reading self.now → Means self.now reading result (find_root (load_of ask.now ns.now.objects reading) self.now.news name.now) }
+        ensures { (reading : List ℕ → Reading) → Agrees reading self.now → Means self.now reading result (find_root (load_of ask.now ns.now.objects reading) self.now.arrivals name.now) }
     {
         if ask.program {
             return self.find_path(alloc, ns, ask, name);
@@ -238,7 +245,7 @@ impl Walker {
         self.find_opened(alloc, ns, ask, name)
     }
 
-    /// What the next name leads to.
+    /// What the next name finds.
     #[tactic(auto, unfolding(scope_rule::specs::Load::finds))]
     pub(crate) fn find(
         &self,
@@ -247,9 +254,9 @@ impl Walker {
         ask: &LoadAsk,
         name: &[u8],
     ) -> Result<Finding, LoadFault>
-        ensures { (reading : List ℕ → Reading) → Agrees reading self.now → Means self.now reading result (finds (load_of ask.now ns.now.objects reading) (length self.now.leads) self.now.news name.now) }
+        ensures { (reading : List ℕ → Reading) → Agrees reading self.now → Means self.now reading result (finds (load_of ask.now ns.now.objects reading) (length self.now.found) self.now.arrivals name.now) }
     {
-        if self.leads.is_empty() {
+        if self.found.is_empty() {
             return self.find_root(alloc, ns, ask, name);
         }
         self.find_needed(alloc, ns, ask, name)

@@ -1,7 +1,7 @@
 //! The paths at which a load found no file.
 
 ghost use Rattle.std.specs.Prelude.{◌≡◌, ◌++◌, ◌∷◌, [], false, OnOk, OnErr};
-ghost use Rattle.std.specs.List.{list_any};
+ghost use Rattle.std.specs.Set.{is_member};
 ghost use Rattle.std.specs.Str.{bytes_eq};
 
 use indexmap::IndexSet;
@@ -34,14 +34,14 @@ impl Missed {
 
     /// Whether a path is one of them.
     pub fn has(&self, path: &[u8]) -> bool
-        ensures { result ≡ list_any (λ missed. bytes_eq missed path.now) self.now }
+        ensures { result ≡ is_member bytes_eq self.now path.now }
     {
         self.paths.contains(path)
     }
 
     /// Adds a path.
     pub fn add(&mut self, alloc: Global, path: &[u8]) -> Result<(), AllocError>
-        ensures ok { OnOk result (list_any (λ missed. bytes_eq missed path.now) self.old ≡ false → self.new ≡ self.old ++ path.now ∷ []) }
+        ensures ok { OnOk result (is_member bytes_eq self.old path.now ≡ false → self.new ≡ self.old ++ path.now ∷ []) }
         ensures err { OnErr result (self.new ≡ self.old) }
     {
         let path = Vec::from_slice(alloc, path)?;

@@ -3,12 +3,11 @@
 ghost use Rattle.std.specs.Prelude.{◌≡◌, ◌≤◌, ℕ, List, IfOk, IfErr};
 ghost use Rattle.std.specs.Result.{IsErrOf};
 ghost use Rattle.ld_base.specs.declared.fault.DlFault.{DlFault};
-ghost use Rattle.ld_base.specs.declared.fault.DlFault.TheVariants.{MissingLibrary, ReadFault};
+ghost use Rattle.ld_base.specs.declared.fault.DlFault.TheVariants.{ReadFault};
 ghost use Rattle.ld_base.specs.declared.fault.Shown.{Shown};
 ghost use Rattle.library_source.specs.Count.{Rises};
 ghost use Rattle.library_source.specs.Files.{Over};
-ghost use Rattle.load_walk.specs.Files.{load_over};
-ghost use Rattle.load_walk.specs.Plan.{IsPlan, IsRefused, HasToWait, IsMissed};
+ghost use Rattle.load_walk.specs.Plan.{IsPlan, IsRefused, HasToWait};
 ghost use Rattle.load_walk.specs.Records.{Completes, Gathers, Incomplete};
 
 use crate::ask::{LoadAsk, LoadFault, LoadPlan};
@@ -29,15 +28,16 @@ fn gather(alloc: Global, ask: &LoadAsk, walker: Walker) -> Result<(Serial, Added
     let root = walker.root()?;
     let Walker {
         names: _,
-        leads,
-        news,
+        found,
+        arrivals,
         missed: _,
     } = walker;
-    let added = records(alloc, ask, leads.as_slice(), news)?;
+    let added = records(alloc, ask, found.as_slice(), arrivals)?;
     Ok((root, added))
 }
 
 /// The plan with this root and these new objects, if every version that they need is there.
+#[tactic(auto, using(crate::proofs::Planning::seen_versions, crate::proofs::Planning::seen_breadth))]
 fn complete(
     alloc: Global,
     ns: &Namespace,
@@ -75,18 +75,17 @@ pub fn plan_with<F: Format, L: Library>(
     format: &F,
     library: &mut L,
 ) -> Result<LoadPlan, LoadFault>
-    // Over the library's files where it tells them, and over some files where it doesn't.
+    // Over the library's files where it tells them, and over some files where it doesn't. Each path that a
+    // missing name may have was missed.
     ensures plan { IfOk result (λ plan. Over (L.files library.old) (IsPlan (F.verdict format.now) ask.now ns.now plan)) }
     ensures refused { (fault : DlFault) → IsErrOf result (LoadFault.Refused fault) →
-        Over (L.files library.old) (IsRefused (F.verdict format.now) ask.now ns.now.objects fault) }
+        Over (L.files library.old) (IsRefused (F.verdict format.now) ask.now ns.now.objects (L.misses library.old) (L.misses library.new) fault) }
     ensures waits { (shown : Shown) → IsErrOf result (LoadFault.Wait shown) →
         Over (L.files library.old) (HasToWait (F.verdict format.now) ask.now ns.now.objects shown) }
 
-    // No fault of the library is invented: each path that a missing name may have was missed.
+    // No fault of the library is invented.
     ensures read_fault { (path : List ℕ) → IsErrOf result (LoadFault.Refused (ReadFault path)) →
         Rises (L.faults library.old) (L.faults library.new) }
-    ensures missing { (name : List ℕ) → IsErrOf result (LoadFault.Refused (MissingLibrary name)) →
-        Over (L.files library.old) (λ files. IsMissed (load_over (F.verdict format.now) ask.now ns.now.objects files) name (L.misses library.old) (L.misses library.new)) }
 
     // What the library is left as.
     ensures files { L.files library.new ≡ L.files library.old }

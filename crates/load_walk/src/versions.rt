@@ -53,6 +53,7 @@ fn known_definer(known: &[Definer], serial: Serial) -> Option<&Definer>
 
 /// Whether the object with a serial defines a version. Its versions are known from then on, since a
 /// scan of them for each need takes the product of two counts that a file chooses.
+#[tactic(auto, using(crate::proofs::Lookups::known_more))]
 fn is_defined_at(
     alloc: Global,
     view: &View,

@@ -20,9 +20,10 @@ pub type Arrivals = Sequence<Arrival>;
 pub(crate) struct Walker {
     /// The names that are asked for, so far as the new objects tell.
     pub names: Names,
-    /// The serial that each name so far led to.
-    pub leads: Serials,
-    pub news: Arrivals,
+    /// The serial that each name so far found.
+    pub found: Serials,
+    /// The new objects, in the order in which they came.
+    pub arrivals: Arrivals,
     /// The paths at which there was no file. A load reads no path twice.
     pub missed: Missed,
 }
@@ -30,8 +31,8 @@ pub(crate) struct Walker {
 /// What comes next of a load.
 #[derive(Debug, Drop)]
 pub(crate) enum Next {
-    /// The next name leads to this serial.
-    Leads(Serial),
+    /// The next name finds the object with this serial.
+    Found(Serial),
     /// The path that has to be read before more is known.
     Read(Name),
     /// No name is left.
@@ -52,30 +53,31 @@ impl Walker {
     ghost use Rattle.std.specs.Prelude.{◌≡◌, ◌<◌, ◌+◌, ◌++◌, ◌∷◌, [], ℕ, List, length, IfOk, OnOk, IfSome};
     ghost use Rattle.std.specs.List.{slice_get};
     ghost use Rattle.std.specs.Option.{option_copied};
-    ghost use Rattle.load_walk.specs.Walking.{IsWalker, Looks, grown, more_names};
+    ghost use Rattle.load_walk.specs.Walking.{IsWalker, Looks, announced, grown, more_names};
 
     /// A load at its start.
     pub fn new(alloc: Global, ask: &LoadAsk) -> Result<Self, AllocError>
-        ensures { IfOk result (λ w. w ≡ record { names = ask.now.name ∷ []; leads = []; news = []; missed = [] }) }
+        ensures { IfOk result (λ w. w ≡ record { names = ask.now.name ∷ []; found = []; arrivals = []; missed = [] }) }
     {
         let mut names = Names::new(alloc);
         names.push(Name::new(alloc, ask.name.as_bytes())?)?;
         Ok(Walker {
             names,
-            leads: Serials::new(alloc),
-            news: Arrivals::new(alloc),
+            found: Serials::new(alloc),
+            arrivals: Arrivals::new(alloc),
             missed: Missed::new(alloc),
         })
     }
 
     /// The next name, if one is left.
     fn next_name(&self) -> Option<&Name>
-        ensures { option_copied result ≡ slice_get self.now.names (length self.now.leads) }
+        ensures { option_copied result ≡ slice_get self.now.names (length self.now.found) }
     {
-        self.names.as_slice().get(self.leads.len())
+        self.names.as_slice().get(self.found.len())
     }
 
     /// What comes next.
+    #[tactic(auto, using(crate::proofs::Walkers::looks_found, crate::proofs::Walkers::looks_missing, crate::proofs::Walkers::looks_ends))]
     pub fn look(&self, alloc: Global, ns: &Namespace, ask: &LoadAsk) -> Result<Next, LoadFault>
         requires { IsWalker ask.now ns.now.objects self.now }
         ensures { Looks ask.now ns.now.objects self.now result }
@@ -84,7 +86,7 @@ impl Walker {
             return Ok(Next::Done);
         };
         match self.find(alloc, ns, ask, name.as_bytes())? {
-            Finding::Leads(serial) => Ok(Next::Leads(serial)),
+            Finding::Found(serial) => Ok(Next::Found(serial)),
             Finding::Read(path) => Ok(Next::Read(path)),
             Finding::Nowhere => {
                 let name = Name::new(alloc, name.as_bytes())?;
@@ -93,18 +95,18 @@ impl Walker {
         }
     }
 
-    /// What the load's own name led to, once it did.
+    /// What the load's own name found, once it did.
     pub fn root(&self) -> Result<Serial, AllocError>
-        ensures { IfOk result (λ root. slice_get self.now.leads 0 ≡ Some root) }
+        ensures { IfOk result (λ root. slice_get self.now.found 0 ≡ Some root) }
     {
-        self.leads.as_slice().first().copied().ok_or(AllocError)
+        self.found.as_slice().first().copied().ok_or(AllocError)
     }
 
     /// The serial of the next new object, while there are serials.
     fn next_serial(&self, ask: &LoadAsk) -> Option<Serial>
-        ensures { IfSome result (λ serial. serial ≡ ask.now.next + length self.now.news) }
+        ensures { IfSome result (λ serial. serial ≡ ask.now.next + length self.now.arrivals) }
     {
-        let number = ask.next.number().checked_add(self.news.len() as u64)?;
+        let number = ask.next.number().checked_add(self.arrivals.len() as u64)?;
         if number < SERIAL_LIMIT {
             Some(Serial::new(number))
         } else {
@@ -121,13 +123,30 @@ impl Walker {
     ) -> Result<(), AllocError>
         ensures { OnOk result (self.new ≡ record self.old { names = self.old.names ++ more_names ask.now self.old arrival.now }) }
     {
-        if ask.program && self.news.is_empty() {
+        if ask.program && self.arrivals.is_empty() {
             append_names(alloc, &mut self.names, ask.preload.as_slice())?;
         }
         append_names(alloc, &mut self.names, arrival.object.needed.as_slice())
     }
 
-    /// Takes in a new object, to which the next name led.
+    /// Adds the serial of a new object, which the next name found, and the names that it asks for.
+    fn announce(
+        &mut self,
+        alloc: Global,
+        ask: &LoadAsk,
+        arrival: &Arrival,
+    ) -> Result<(), AllocError>
+        ensures { OnOk result (self.new ≡ announced ask.now self.old arrival.now) }
+    {
+        let Some(serial) = self.next_serial(ask) else {
+            return Err(AllocError);
+        };
+        self.add_names(alloc, ask, arrival)?;
+        self.found.push(serial)?;
+        Ok(())
+    }
+
+    /// Takes in a new object, which the next name found.
     pub fn give_object(
         &mut self,
         alloc: Global,
@@ -136,11 +155,7 @@ impl Walker {
     ) -> Result<(), AllocError>
         ensures { OnOk result (self.new ≡ grown ask.now self.old arrival) }
     {
-        let Some(serial) = self.next_serial(ask) else {
-            return Err(AllocError);
-        };
-        self.add_names(alloc, ask, &arrival)?;
-        self.leads.push(serial)?;
-        self.news.push(arrival)
+        self.announce(alloc, ask, &arrival)?;
+        self.arrivals.push(arrival)
     }
 }

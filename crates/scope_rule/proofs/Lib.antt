@@ -1,12 +1,6 @@
-pub mod Cases
-pub mod Extend
-pub mod Fronts
-pub mod Leading
-pub mod Levels
-pub mod Meaning
-pub mod Newer
+pub mod Lists
 pub mod Ordered
-pub mod Outcome
-pub mod Recorded
-pub mod Standing
-pub mod Steps
+pub mod Orders
+pub mod Records
+pub mod Walks
+pub mod Ways

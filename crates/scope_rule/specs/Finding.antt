@@ -32,10 +32,10 @@ with_path objects path = find (λ o. bytes_eq o.path path) objects
 
 -- the place of the first new object with this name, or with this path
 abbrev pub at_soname : List Arrival → List ℕ → Option ℕ
-at_soname news name = position (λ o. is_named name o.object) news
+at_soname arrivals name = position (λ o. is_named name o.object) arrivals
 
 abbrev pub at_path : List Arrival → List ℕ → Option ℕ
-at_path news path = position (λ o. bytes_eq o.path path) news
+at_path arrivals path = position (λ o. bytes_eq o.path path) arrivals
 
 -- a name with a slash is a path
 abbrev pub is_path : List ℕ → Bool

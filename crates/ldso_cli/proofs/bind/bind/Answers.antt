@@ -10,10 +10,8 @@ returns-in-Err-Refused-clause-answers g c =
     let before = library_at g.L.Library.files g.L.Library.faults g.L.Library.misses c.args.library.now in
     let after = library_at g.L.Library.files g.L.Library.faults g.L.Library.misses c.plan_load.new.library in
     let over = rw (c.ask_of-ask.ensures, c.nothing_loaded-ns.ensures) at (c.in-Err-Refused.ensures.refused c.in-Err-Refused.fault (ap Err c.in-Err-Refused.field-0-is)) in
-    let missed = rw (c.ask_of-ask.ensures, c.nothing_loaded-ns.ensures) at c.in-Err-Refused.ensures.missing in
     refused_answers c.args.command before after c.in-Err-Refused.fault c.refused.result c.refused.ensures.end c.refused.ensures.text over
     (λ path e. c.in-Err-Refused.ensures.read_fault path (ap Err (c.in-Err-Refused.field-0-is ∙ ap faults.Refused e)))
-    (λ name e. missed name (ap Err (c.in-Err-Refused.field-0-is ∙ ap faults.Refused e)))
 
 pub of_objects-requires : goal.of_objects-requires
 of_objects-requires g c =

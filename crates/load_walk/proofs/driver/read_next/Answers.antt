@@ -1,6 +1,5 @@
 use Rattle.std.proofs.Common.{Err, ap}
-use Rattle.load_walk.proofs.Reading.{tells_absent, tells_found}
-use Rattle.load_walk.proofs.Stages.{stage_missed, faulted_failed, bytes_taken}
+use Rattle.load_walk.proofs.Stages.{bytes_taken, faulted_failed, stage_missed, tells_absent, tells_found}
 use Rattle.load_walk.proofs.driver.read_next.Goals as goal
 
 pub returns-in_ok-add-in-Err-Missing : goal.returns-in_ok-add-in-Err-Missing

@@ -1,5 +1,5 @@
 use Rattle.std.proofs.lemmas.Result.{err_from_is_err_and}
-use Rattle.load_walk.proofs.Stages.{stage_led, faulted_now}
+use Rattle.load_walk.proofs.Stages.{stage_found, faulted_now}
 use Rattle.load_walk.proofs.driver.turn.Goals as goal
 
 pub returns-in_err-serial : goal.returns-in_err-serial
@@ -7,8 +7,8 @@ returns-in_err-serial g c = λ first stage.
     let p = err_from_is_err_and c.from_residual.result c.from_residual.ensures.1 in
     rw (p.1, p.2) (faulted_now _ _ _ _ _ _ stage c.missing_library.ensures.name c.in_err-serial.field-0.0 c.in_err-serial.ensures)
 
-pub returns-in_ok-push-in-Leads : goal.returns-in_ok-push-in-Leads
-returns-in_ok-push-in-Leads g c = λ first stage. (rw c.in_ok-push-in-Leads.ensures.ok (stage_led _ _ _ _ _ _ stage c.in-Leads.serial (rw c.in-Leads.is at c.in_ok-serial.ensures)), λ e. absurd cc)
+pub returns-in_ok-push-in-Found : goal.returns-in_ok-push-in-Found
+returns-in_ok-push-in-Found g c = λ first stage. (rw c.in_ok-push-in-Found.ensures.ok (stage_found _ _ _ _ _ _ stage c.in-Found.serial (rw c.in-Found.is at c.in_ok-serial.ensures)), λ e. absurd cc)
 
 pub returns-in_ok-read_next-in-Read : goal.returns-in_ok-read_next-in-Read
 returns-in_ok-read_next-in-Read g c = λ first stage. (c.in_ok-read_next-in-Read.ensures _ first stage (rw c.in-Read.is at c.in_ok-serial.ensures), λ e. absurd cc)

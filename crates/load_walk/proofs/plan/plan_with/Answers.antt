@@ -20,6 +20,3 @@ returns-clause-refused g c = (complete_answers _ _ _ _ _ _ _ _ c.in_ok-drive.ens
 
 pub returns-clause-read_fault : goal.returns-clause-read_fault
 returns-clause-read_fault g c = (complete_answers _ _ _ _ _ _ _ _ c.in_ok-drive.ensures.0 c.in_ok-drive.ensures.1 c.in_ok-root.ensures c.complete.result c.complete.ensures.plan c.complete.ensures.fault).read_fault
-
-pub returns-clause-missing : goal.returns-clause-missing
-returns-clause-missing g c = (complete_answers _ _ _ _ _ _ _ _ c.in_ok-drive.ensures.0 c.in_ok-drive.ensures.1 c.in_ok-root.ensures c.complete.result c.complete.ensures.plan c.complete.ensures.fault).missing

@@ -3,8 +3,8 @@ use Rattle.std.specs.List.{flat_map}
 use Rattle.scope_rule.specs.Loading.{found_of}
 use Rattle.scope_rule.specs.Seen.{seen}
 use Rattle.scope_rule.specs.Breadth.{levels, extend}
-use Rattle.scope_rule.proofs.Extend.{extended_length}
-use Rattle.scope_rule.proofs.Levels.{alone, level_step, kept_step, grown_step, is_breadth}
+use Rattle.scope_rule.proofs.Orders.{extended_length}
+use Rattle.scope_rule.proofs.Orders.{alone, level_step, kept_step, grown_step, is_breadth}
 use Rattle.scope_rule.proofs.breadth_first.breadth.Goals as goal
 
 pub loop-preserved : goal.loop-preserved

@@ -3,7 +3,7 @@ use Rattle.std.specs.List.{flat_map}
 use Rattle.scope_rule.specs.Loading.{found_of}
 use Rattle.scope_rule.specs.Seen.{seen}
 use Rattle.scope_rule.specs.Breadth.{levels, extend}
-use Rattle.scope_rule.proofs.Levels.{alone}
+use Rattle.scope_rule.proofs.Orders.{alone}
 use Rattle.scope_rule.proofs.breadth_first.breadth.Given as goal
 
 -- after n turns the order is that of the levels from 0 to n, and it is what the entries before `start` lead to

@@ -1,4 +1,4 @@
-use Rattle.scope_rule.proofs.Meaning.{never_waits}
+use Rattle.scope_rule.proofs.Walks.{never_waits}
 use Rattle.scope_rule.proofs.law.never_waits.Goals as goal
 
 pub returns : goal.returns

@@ -1,4 +1,4 @@
-use Rattle.scope_rule.proofs.Outcome.{one_walk, one_stop, not_both}
+use Rattle.scope_rule.proofs.Walks.{one_walk, one_stop, not_both}
 use Rattle.scope_rule.proofs.law.one_outcome.Goals as goal
 
 pub returns : goal.returns

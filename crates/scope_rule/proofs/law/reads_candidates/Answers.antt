@@ -1,5 +1,5 @@
-use Rattle.scope_rule.proofs.Meaning.{news_read, paths_differ}
+use Rattle.scope_rule.proofs.Walks.{arrivals_read, paths_differ}
 use Rattle.scope_rule.proofs.law.reads_candidates.Goals as goal
 
 pub returns : goal.returns
-returns c = record { candidates = news_read; once = paths_differ }
+returns c = record { candidates = arrivals_read; once = paths_differ }

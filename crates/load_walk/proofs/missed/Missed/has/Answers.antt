@@ -1,5 +1,5 @@
 use Rattle.std.proofs.Common.{◌∙◌}
-use Rattle.load_walk.proofs.Paths.{any_is}
+use Rattle.load_walk.proofs.Missing.{any_is}
 use Rattle.load_walk.proofs.missed.Missed.has.Goals as goal
 
 pub returns : goal.returns
