@@ -38,7 +38,7 @@ use Rattle.link_history.proofs.Brought.{all_at}
 
 -- what a load reads
 abbrev pub ReadLaw : Type 0
-ReadLaw = (load : Load) (w : Walk) → Brings load w → AllByRecursion (IsRead load w.news) w.news
+ReadLaw = (load : Load) (w : Walk) → Brings load w → AllByRecursion (IsRead load w.arrivals) w.arrivals
 
 abbrev Accepting : List Linked → Type 0
 Accepting images = (i : Linked) → Contains images i → IsAccepted i.object
@@ -70,8 +70,8 @@ new_accepted law m only w same s hart ask name id root added ranges loads a h =
     let load : Load = load_of w s hart id name loads.finds.reading in
     let placed : map unplaced added ≡ records_of load (is_deepbind ask.flags) loads.finds.walk = loads.storage.same ∙ loads.finds.are in
     let inside : Contains (records_of load (is_deepbind ask.flags) loads.finds.walk) (unplaced a) = subst (λ (os : List Loaded). Contains os (unplaced a)) placed (in_map unplaced added a h) in
-    let from = arrival_of hart (is_deepbind ask.flags) s.next loads.finds.walk.news (found_by load loads.finds.walk) (unplaced a) inside in
-    let read : IsRead load loads.finds.walk.news from.0 = all_at (IsRead load loads.finds.walk.news) loads.finds.walk.news from.0 (law load loads.finds.walk loads.finds.brings) from.1 in
+    let from = arrival_of hart (is_deepbind ask.flags) s.next loads.finds.walk.arrivals (found_by load loads.finds.walk) (unplaced a) inside in
+    let read : IsRead load loads.finds.walk.arrivals from.0 = all_at (IsRead load loads.finds.walk.arrivals) loads.finds.walk.arrivals from.0 (law load loads.finds.walk loads.finds.brings) from.1 in
     subst IsAccepted (sym from.2)
     (read_accepted m only w same (is_noload ask.flags) s name loads.finds.reading loads.finds.read from.0.path from.0.object from.0.table read.read)
 

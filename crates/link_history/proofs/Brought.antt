@@ -8,7 +8,7 @@ use Rattle.ld_base.specs.declared.linking.Loaded.{Loaded}
 use Rattle.link_event.specs.declared.event.OpenAsk.{OpenAsk}
 use Rattle.link_event.specs.declared.event.Range.{Range}
 use Rattle.scope_rule.specs.declared.arrival.Arrival.{Arrival}
-use Rattle.scope_rule.specs.Load.{Brings, Load, Walk, found_by, leads, record_of, records, records_of, refuses, stops, use_in, use_of, waits}
+use Rattle.scope_rule.specs.Load.{Brings, Load, Walk, found_by, present, record_of, records, records_of, refuses, stops, use_in, use_of, waits}
 use Rattle.ld_base.specs.declared.fault.DlFault.TheVariants as faults
 use Rattle.ld_base.specs.declared.fault.Shown.TheVariants as shown
 use Rattle.ld_base.specs.declared.linking.State.{State as Doing}
@@ -32,8 +32,8 @@ use Rattle.link_history.proofs.Arrived.{Arrived, chooses, good_opened, joined}
 
 -- what holds of every load
 pub record LoadLaws : Type 0 where
-  pub serials : (load : Load) (deep : Bool) (w : Walk) → map (λ o. o.serial) (records_of load deep w) ≡ range_with_len load.next (length w.news)
-  pub leads : (load : Load) (deep : Bool) (w : Walk) → Brings load w → AllByRecursion (Stands load (load.there ++ records_of load deep w)) w.leads
+  pub serials : (load : Load) (deep : Bool) (w : Walk) → map (λ o. o.serial) (records_of load deep w) ≡ range_with_len load.next (length w.arrivals)
+  pub leads : (load : Load) (deep : Bool) (w : Walk) → Brings load w → AllByRecursion (Stands load (load.there ++ records_of load deep w)) w.found
   pub founds : (load : Load) (deep : Bool) (w : Walk) → Brings load w →
       AllByRecursion (λ o. AllByRecursion (Stands load (load.there ++ records_of load deep w)) o.found) (records_of load deep w)
 
@@ -84,16 +84,16 @@ ranged_one from (suc n) (z ∷ xs) e x y first second same = ⊎_elim
         omega (arith, low, is, at)
 
 -- an object that a hart may use isn't dying
-usable : (hart serial : ℕ) (o : Loaded) (doing : Doing) → use_in hart o doing ≡ leads serial → (o.serial ≡ serial) × ((elim doing [ states.Dying k ↦ true | _ ↦ false ]) ≡ false)
+usable : (hart serial : ℕ) (o : Loaded) (doing : Doing) → use_in hart o doing ≡ present serial → (o.serial ≡ serial) × ((elim doing [ states.Dying k ↦ true | _ ↦ false ]) ≡ false)
 usable hart serial o (states.Initialising h) e = (by (eqb h hart) e, refl)
   where
-    by : (t : Bool) → (if t then leads o.serial else stops (waits (shown.Initialising o.serial))) ≡ leads serial → o.serial ≡ serial
+    by : (t : Bool) → (if t then present o.serial else stops (waits (shown.Initialising o.serial))) ≡ present serial → o.serial ≡ serial
     by true same = cc
     by false same = absurd cc
 usable hart serial o states.Ready e = (let same : o.serial ≡ serial = cc in same, refl)
 usable hart serial o (states.Dying h) e = absurd (by (eqb h hart) e)
   where
-    by : (t : Bool) → (if t then stops (refuses (faults.ClosingHere o.path)) else stops (waits (shown.Closing o.serial))) ≡ leads serial → ⊥
+    by : (t : Bool) → (if t then stops (refuses (faults.ClosingHere o.path)) else stops (waits (shown.Closing o.serial))) ≡ present serial → ⊥
     by true same = absurd cc
     by false same = absurd cc
 
@@ -131,19 +131,19 @@ module _ (laws : LoadLaws) (w : Setting) (s : State) (good : Good (core s)) (har
       let at = from_map unplaced added o (subst (λ (os : List Loaded). Contains os o) (sym placed) h) in
       (at.0, at.1, ap (λ (q : Loaded). q.serial) at.2)
 
-  as_many : length walk.news ≡ length added
+  as_many : length walk.arrivals ≡ length added
   as_many =
-      let a : length (map serial_of news) ≡ length walk.news = ap length (laws.serials load (is_deepbind ask.flags) walk) ∙ length_range s.next (length walk.news) in
+      let a : length (map serial_of news) ≡ length walk.arrivals = ap length (laws.serials load (is_deepbind ask.flags) walk) ∙ length_range s.next (length walk.arrivals) in
       sym a ∙ length-map news serial_of ∙ sym (ap length placed) ∙ length-map added unplaced
 
   fresh : (a : Loaded) → Contains added a → (s.next ≤ a.serial) × (a.serial < s.next + length added)
   fresh a h =
-      let at : Contains (range_with_len s.next (length walk.news)) a.serial =
+      let at : Contains (range_with_len s.next (length walk.arrivals)) a.serial =
       subst (λ (xs : List ℕ). Contains xs a.serial) (laws.serials load (is_deepbind ask.flags) walk) (in_map serial_of news (unplaced a) (is_news a h)) in
-      let r = in_range s.next (length walk.news) a.serial at in
+      let r = in_range s.next (length walk.arrivals) a.serial at in
       let low : s.next ≤ a.serial = r.0 in
-      let high : a.serial < s.next + length walk.news = r.1 in
-      let same : length walk.news ≡ length added = as_many in
+      let high : a.serial < s.next + length walk.arrivals = r.1 in
+      let same : length walk.arrivals ≡ length added = as_many in
       (low, omega (arith, high, same))
 
   serials_are : (os : List Loaded) → map serial_of (map unplaced os) ≡ map serial_of os
@@ -151,7 +151,7 @@ module _ (laws : LoadLaws) (w : Setting) (s : State) (good : Good (core s)) (har
   serials_are (o ∷ os) = ap (λ (ns : List ℕ). o.serial ∷ ns) (serials_are os)
 
   one : (a e : Loaded) → Contains added a → Contains added e → a.serial ≡ e.serial → a ≡ e
-  one = ranged_one s.next (length walk.news) added
+  one = ranged_one s.next (length walk.arrivals) added
       (sym (serials_are added) ∙ ap (map serial_of) placed ∙ laws.serials load (is_deepbind ask.flags) walk)
 
   pub added_serials : map serial_of added ≡ range_with_len s.next (length added)
@@ -160,7 +160,7 @@ module _ (laws : LoadLaws) (w : Setting) (s : State) (good : Good (core s)) (har
   stays : (d : ℕ) → Stands load (load.there ++ news) d → Stays s.closings (joined b added) d
   stays d stands = ⊎_elim
       (λ (e : d ≡ 0). inl e)
-      (λ (at : (o : Loaded) × IsIn (load.there ++ news) o × (use_of hart o ≡ leads d)). inr (⊎_elim
+      (λ (at : (o : Loaded) × IsIn (load.there ++ news) o × (use_of hart o ≡ present d)). inr (⊎_elim
       (λ (i : Contains b.objects at.0). let may = usable hart d at.0 at.0.state at.2 in old at.0 may.0 may.1 i)
       (λ (i : Contains news at.0). new at.0 (usable hart d at.0 at.0.state at.2).0 i)
       (Contains-append_cases b.objects news at.0 (at_in (load.there ++ news) at.1.0 at.0 at.1.1))))
@@ -194,8 +194,8 @@ module _ (laws : LoadLaws) (w : Setting) (s : State) (good : Good (core s)) (har
     one = one;
     found = λ a d h f. stays d (all_at (Stands load (load.there ++ news)) a.found d
         (all_at (λ (o : Loaded). AllByRecursion (Stands load (load.there ++ news)) o.found) news (unplaced a) (laws.founds load (is_deepbind ask.flags) walk loads.finds.brings) (is_news a h)) f);
-    root_is = stays root (all_at (Stands load (load.there ++ news)) walk.leads root (laws.leads load (is_deepbind ask.flags) walk loads.finds.brings) (at_in walk.leads 0 root loads.finds.root_is));
-    alive = λ a h. records_alive load.hart (is_deepbind ask.flags) load.next walk.news (found_by load walk) (unplaced a) (is_news a h);
+    root_is = stays root (all_at (Stands load (load.there ++ news)) walk.found root (laws.leads load (is_deepbind ask.flags) walk loads.finds.brings) (at_in walk.found 0 root loads.finds.root_is));
+    alive = λ a h. records_alive load.hart (is_deepbind ask.flags) load.next walk.arrivals (found_by load walk) (unplaced a) (is_news a h);
   }
 
 -- the program is there, and nothing is new

@@ -112,10 +112,10 @@ pub record Comes (w : Setting) (files : List File) (s : State) (hart : ℕ) (ask
     : Type 0 where
   pub told : w.files ≡ Some files
   pub reads : is_noload ask.flags ≡ false
-  pub walked : walk_of (load_told w files s hart id name) (length leads) ≡ Ok (record { leads = leads; news = arrivals added })
+  pub walked : walk_of (load_told w files s hart id name) (length leads) ≡ Ok (record { found = leads; arrivals = arrivals added })
   pub all : leb (length (asks (load_told w files s hart id name) (arrivals added))) (length leads) ≡ true
   pub root_is : slice_get leads 0 ≡ Some root
-  pub are : map unplaced added ≡ records_of (load_told w files s hart id name) (is_deepbind ask.flags) (record { leads = leads; news = arrivals added })
+  pub are : map unplaced added ≡ records_of (load_told w files s hart id name) (is_deepbind ask.flags) (record { found = leads; arrivals = arrivals added })
   pub versions : version_fault (there s id) (map unplaced added) ≡ None
   pub modules : HaveModules (is_startup s) s.modules s.statics added
   pub row : AreInRow 0 s.ranges first
@@ -130,7 +130,7 @@ loads w files s hart ask name id root added ranges leads first c = record {
   finds = record {
     reading = readings w files s name;
     read = by (is_noload ask.flags) c.reads;
-    walk = record { leads = leads; news = arrivals added };
+    walk = record { found = leads; arrivals = arrivals added };
     brings = record { steps = length leads; are = c.walked; all = leb-true _ _ c.all };
     root_is = c.root_is;
     are = c.are;

@@ -99,7 +99,7 @@ may_read path true = ([], tt, refl)
 may_read path false = tt
 
 news_are : Walk
-news_are = record { leads = 1 ∷ []; news = record { path = name; object = program; table = table } ∷ [] }
+news_are = record { found = 1 ∷ []; arrivals = record { path = name; object = program; table = table } ∷ [] }
 
 found : Finds setting start 0 ask name 0 1 (loaded_program ∷ [])
 unfolding load_step finds find_path news_are reading_by

@@ -2,4 +2,4 @@ use Rattle.link_history.proofs.Once.{dies_once}
 use Rattle.link_history.proofs.law.each_dies_once.Goals as goal
 
 pub returns : goal.returns
-returns c = dies_once (record { serials = c.serials_follow.ensures; leads = c.found_stands.ensures.leads; founds = c.found_stands.ensures.founds })
+returns c = dies_once (record { serials = c.serials_follow.ensures; leads = c.found_stands.ensures.names; founds = c.found_stands.ensures.founds })

@@ -10,7 +10,7 @@ use Rattle.link_history.proofs.law.modules_are_tidy.Goals as goal
 pub returns-clause-tidy : goal.returns-clause-tidy
 returns-clause-tidy c = modules_tidy
     (record { more = c.modules_stay_numbered.ensures.more; fewer = c.modules_stay_numbered.ensures.fewer })
-    (record { serials = c.serials_follow.ensures; leads = c.found_stands.ensures.leads; founds = c.found_stands.ensures.founds })
+    (record { serials = c.serials_follow.ensures; leads = c.found_stands.ensures.names; founds = c.found_stands.ensures.founds })
 
 pub returns-clause-least : goal.returns-clause-least
 returns-clause-least c w past hart id root ask added ranges may =

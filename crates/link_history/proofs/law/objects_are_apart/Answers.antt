@@ -2,4 +2,4 @@ use Rattle.link_history.proofs.Alone.{apart}
 use Rattle.link_history.proofs.law.objects_are_apart.Goals as goal
 
 pub returns : goal.returns
-returns c = apart (record { serials = c.serials_follow.ensures; leads = c.found_stands.ensures.leads; founds = c.found_stands.ensures.founds })
+returns c = apart (record { serials = c.serials_follow.ensures; leads = c.found_stands.ensures.names; founds = c.found_stands.ensures.founds })

@@ -2,4 +2,4 @@ use Rattle.link_history.proofs.Entering.{slots_enter}
 use Rattle.link_history.proofs.law.slots_enter_code.Goals as goal
 
 pub returns : goal.returns
-returns c = slots_enter (record { serials = c.serials_follow.ensures; leads = c.found_stands.ensures.leads; founds = c.found_stands.ensures.founds })
+returns c = slots_enter (record { serials = c.serials_follow.ensures; leads = c.found_stands.ensures.names; founds = c.found_stands.ensures.founds })
