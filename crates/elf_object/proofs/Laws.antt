@@ -16,6 +16,7 @@ use Rattle.elf_head.specs.Verdict.{SpellsHead}
 use Rattle.elf_head.specs.Verdict.{BreaksFirst as HeadBreaks}
 use Rattle.acceptance.proofs.Reading.{bind_ok}
 use Rattle.acceptance.specs.Entries.{◌>>=◌}
+use Rattle.dyn_table.specs.HashWords.{hash_words}
 use Rattle.elf_dynamic.specs.Rules.{dynamic_verdict}
 use Rattle.elf_dynamic.specs.Verdict.{SpellsDynamic}
 use Rattle.elf_dynamic.specs.Verdict.{BreaksFirst as DynamicBreaks}
@@ -25,7 +26,6 @@ use Rattle.elf_versions.specs.Verdict.{versions_verdict}
 use Rattle.sym_hash.specs.Breaks.{BreaksHash}
 use Rattle.sym_hash.specs.Reached.{IsTableFor, IsTableOf}
 use Rattle.sym_hash.specs.Verdict.{hash_verdict}
-use Rattle.sym_hash.specs.Words.{table_words}
 use Rattle.elf_object.proofs.Named.{parts_name}
 use Rattle.elf_object.proofs.Versioned.{but_versions, length-versions, parts_unversioned}
 use Rattle.elf_object.specs.Object.{names_own_symbols, object_of, with_versions}
@@ -52,7 +52,7 @@ pub record Readings : Type 0 where
   pub bad_parts : (bytes : List ℕ) (head : Head) (program : Bool) (fault : NotAccepted) → (dynamic_verdict bytes head program ≡ Err fault) ↔ DynamicBreaks bytes head program fault
   pub versions : (bytes : List ℕ) (head : Head) (parts : DynParts) (versions : Versions) → (versions_verdict bytes head parts ≡ Ok versions) ↔ SpellsVersions bytes head parts versions
   pub bad_versions : (bytes : List ℕ) (head : Head) (parts : DynParts) (fault : NotAccepted) → (versions_verdict bytes head parts ≡ Err fault) ↔ VersionsBreak bytes head parts fault
-  pub table : (bytes : List ℕ) (head : Head) (parts : DynParts) (t : HashTable) → (hash_verdict bytes head parts ≡ Ok t) ↔ ((table_words bytes head.headers parts.tags ≡ Ok t) × IsTableFor t parts.symbols parts.first_exported)
+  pub table : (bytes : List ℕ) (head : Head) (parts : DynParts) (t : HashTable) → (hash_verdict bytes head parts ≡ Ok t) ↔ ((t ≡ hash_words bytes head.headers parts.tags) × IsTableFor t parts.symbols parts.first_exported)
   pub bad_table : (bytes : List ℕ) (head : Head) (parts : DynParts) (fault : NotAccepted) → (hash_verdict bytes head parts ≡ Err fault) ↔ BreaksHash bytes head parts fault
   pub same_table : SameTable
 

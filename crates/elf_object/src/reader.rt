@@ -4,17 +4,18 @@ ghost use Rattle.std.specs.Prelude.{◌≡◌, Ok, IfOk};
 ghost use Rattle.acceptance.specs.Gives.{Gives};
 ghost use Rattle.elf_head.specs.Rules.{head_verdict};
 ghost use Rattle.sym_hash.specs.Reached.{IsTableOf};
+ghost use Rattle.elf_versions.specs.Verdict.{versions_verdict};
 ghost use Rattle.elf_object.specs.Object.{object_of, with_versions};
 ghost use Rattle.elf_object.specs.Verdict.{object_verdict};
 
 use crate::law::one_object;
 use crate::segment::{dynamic_of, read_segments, relro_of, tls_of};
-use elf_dynamic::read_dynamic;
+use elf_dynamic::{JudgedParts, judge_dynamic};
 use elf_head::read_head;
-use elf_versions::read_versions;
+use elf_versions::{JudgedVersions, judge_versions};
 use ld_base::{DynParts, HashTable, Head, Object, ReadFault, Symbol, Symbols, Versions};
 use std::alloc::{AllocError, Global};
-use sym_hash::Lookup;
+use sym_hash::judge_table;
 
 /// The symbols, each with the entry of the versym table at its index; 0 where there is none.
 fn with_versions(alloc: Global, symbols: Symbols, versym: &[u16]) -> Result<Symbols, AllocError>
@@ -68,16 +69,47 @@ fn object_of(
     })
 }
 
+/// Judges the versions of an object with these parts.
+fn versions_of<'a>(
+    alloc: Global,
+    bytes: &'a [u8],
+    head: &Head,
+    parts: &JudgedParts,
+) -> Result<JudgedVersions<'a>, ReadFault>
+    requires { head_verdict bytes.now ≡ Ok head.now }
+    ensures { Gives result (versions_verdict bytes.now head.now parts.now) }
+{
+    let count = parts.symbols().len();
+    judge_versions(alloc, bytes, head, parts.tags(), count)
+}
+
+/// The object that judged parts say. What bounds memory comes here, where no rule is broken.
+fn kept_object(
+    alloc: Global,
+    bytes: &[u8],
+    head: &Head,
+    parts: JudgedParts,
+    versions: JudgedVersions,
+) -> Result<Object, AllocError>
+    requires { head_verdict bytes.now ≡ Ok head.now }
+    ensures { IfOk result (λ object. object ≡ object_of bytes.now head.now parts.entry versions.entry) }
+{
+    let parts = parts.into_parts(alloc)?;
+    let versions = versions.into_versions(alloc)?;
+    object_of(alloc, bytes, head, parts, versions)
+}
+
 /// What the parts of a file say, read one after the other.
 #[tactic(auto, unfolding(crate::specs::Verdict::object_verdict))]
 fn read_parts(alloc: Global, bytes: &[u8], program: bool) -> Result<(Object, HashTable), ReadFault>
     ensures { Gives result (object_verdict bytes.now program) }
 {
+    elf_dynamic::one_verdict();
     let head = read_head(alloc, bytes)?;
-    let parts = read_dynamic(alloc, bytes, &head, program)?;
-    let versions = read_versions(alloc, bytes, &head, &parts)?;
-    let table = HashTable::check(alloc, bytes, &head, &parts, &versions)?;
-    let object = object_of(alloc, bytes, &head, parts, versions)?;
+    let parts = judge_dynamic(alloc, bytes, &head, program)?;
+    let versions = versions_of(alloc, bytes, &head, &parts)?;
+    let table = judge_table(alloc, bytes, &head, &parts)?;
+    let object = kept_object(alloc, bytes, &head, parts, versions)?;
     Ok((object, table))
 }
 

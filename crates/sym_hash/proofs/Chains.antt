@@ -10,7 +10,7 @@ use Rattle.std.proofs.lemmas.List.{get_or_past}
 use Rattle.std.proofs.lemmas.List.Folds.{list_any_at}
 use Rattle.std.proofs.lemmas.Option.{get_or_from_slice_get, slice_get-get_or, slice_get_within}
 use Rattle.ld_base.specs.declared.parts.GnuPart.{GnuPart}
-use Rattle.sym_hash.specs.Gnu.{bloom_word, ends_between, gnu_bucket, gnu_reaches, has_bit, has_word, in_bloom, is_end, walk_ends, walk_reaches}
+use Rattle.sym_hash.specs.Gnu.{bloom_word, ends_between, gnu_bucket, gnu_leads, gnu_reaches, has_bit, has_word, in_bloom, is_end, walk_ends, walk_reaches}
 use Rattle.sym_hash.specs.Hash.{gnu_hash}
 use Rattle.sym_hash.specs.Reached.{EndsBefore, GoesOn, IsChainWord, ReachedByGnu}
 
@@ -159,7 +159,7 @@ word_from hash None e = cc
 word_from hash (Some word) e = (word, refl, eqb-true (word / 2) (hash / 2) e)
 
 pub gnu_from : (g : GnuPart) (name : List ℕ) (i : ℕ) → gnu_reaches g name i ≡ true → ReachedByGnu g name i
-unfolding gnu_reaches in_bloom
+unfolding gnu_leads in_bloom
 gnu_from g name i e =
     let h = gnu_hash name in
     let bucket = gnu_bucket g h in
@@ -190,7 +190,7 @@ gnu_from g name i e =
     }
 
 pub gnu_is : (g : GnuPart) (name : List ℕ) (i : ℕ) → ReachedByGnu g name i → gnu_reaches g name i ≡ true
-unfolding gnu_reaches in_bloom
+unfolding gnu_leads in_bloom
 gnu_is g name i r =
     let h = gnu_hash name in
     let bloom : bloom_word g h ≡ r.bloom = get_or_from_slice_get g.bloom (h / 64 % length g.bloom) r.bloom 0 r.filter in

@@ -1,5 +1,5 @@
 -- The verdict on hash tables and the relations that say what it means.
-use Rattle.std.proofs.Common.{◌≡◌, ◌↔◌, ◌⊎◌, ◌∙◌, sym, ap, ℕ, suc, ◌<◌, ◌≤◌, Bool, true, false, List, [], ◌∷◌, length, get_or, refl, arith, inl, inr}
+use Rattle.std.proofs.Common.{◌≡◌, ◌↔◌, ◌⊎◌, ◌∙◌, sym, ap, ℕ, zero, suc, ◌<◌, ◌≤◌, Bool, true, false, List, [], ◌∷◌, length, get_or, refl, arith, inl, inr}
 use Rattle.std.specs.Prelude.{Option, Some, None, Result, Ok, Err, Contains, IsTrue, ◌&&◌, not, nat_le, if◌then◌else◌}
 use Rattle.std.specs.Option.{option_map_or, option_or}
 use Rattle.std.specs.List.{list_all, slice_get}
@@ -15,17 +15,17 @@ use Rattle.ld_base.specs.declared.parts.HashTable.{HashTable}
 use Rattle.ld_base.specs.declared.parts.Head.{Head}
 use Rattle.ld_base.specs.declared.parts.SysvPart.{SysvPart}
 use Rattle.acceptance.proofs.Leasts.{least_all, least_at, least_found, least_none}
-use Rattle.acceptance.proofs.Reading.{bind_ok}
-use Rattle.acceptance.specs.Entries.{◌>>=◌}
+use Rattle.acceptance.proofs.Firsts.{accepts, none_at, refuses, Breaking, Listed}
+use Rattle.acceptance.specs.First.{NoneBroken}
+use Rattle.dyn_table.specs.HashWords.{hash_words}
 use Rattle.sym_hash.proofs.Chains.{gnu_from, gnu_is, walk_from, walk_is}
 use Rattle.sym_hash.proofs.Links.{ends_leads, leads_end, sysv_from, sysv_is}
-use Rattle.sym_hash.specs.Breaks.{BreaksHash, IsMissedAt}
-use Rattle.sym_hash.specs.Breaks.BreaksHash.{no_words, no_end, not_reached}
+use Rattle.sym_hash.specs.Breaks.{Breaks, BreaksHash, IsMissedAt}
+use Rattle.sym_hash.specs.Breaks.Breaks.{no_end, not_reached}
 use Rattle.sym_hash.specs.Gnu.{gnu_walks_end, walk_ends}
 use Rattle.sym_hash.specs.Reached.{IsTableFor, Reached, WalksEnd}
 use Rattle.sym_hash.specs.Sysv.{ends_within, sysv_walks_end}
-use Rattle.sym_hash.specs.Verdict.{first_missed, hash_verdict, is_missed, reaches, unmet, walks_end}
-use Rattle.sym_hash.specs.Words.{bad_hash, table_words}
+use Rattle.sym_hash.specs.Verdict.{first_missed, hash_verdict, is_missed, reaches, table_verdict, unmet, walks_end}
 
 -- ---- all of a list
 
@@ -169,18 +169,6 @@ unmet_number : (ends : Bool) (missed : Option ℕ) (number : ℕ) → option_or 
 unmet_number true missed number e = inr (refl, e)
 unmet_number false missed number e = inl (refl, cc)
 
-verdict_ok : (t : HashTable) (found : Option ℕ) (other : HashTable) → option_map_or (λ number. Err (bad_hash number)) found (Ok t) ≡ Ok other → (found ≡ None) × (t ≡ other)
-verdict_ok t None other e = (refl, cc)
-verdict_ok t (Some number) other e = cc
-
-verdict_err : (t : HashTable) (found : Option ℕ) (fault : NotAccepted) → option_map_or (λ number. Err (bad_hash number)) found (Ok t) ≡ Err fault → (number : ℕ) × (found ≡ Some number) × (bad_hash number ≡ fault)
-verdict_err t None fault e = cc
-verdict_err t (Some number) fault e = (number, refl, cc)
-
-bind_err : {A B : Type 0} (r : Result A NotAccepted) (f : A → Result B NotAccepted) (e : NotAccepted) → (r >>= f) ≡ Err e → (r ≡ Err e) ⊎ ((x : A) × (r ≡ Ok x) × (f x ≡ Err e))
-bind_err (Ok x) f e err = inr (x, refl, err)
-bind_err (Err d) f e err = inl cc
-
 table_from : (t : HashTable) (symbols : List Symbol) (first : ℕ) → unmet t symbols first ≡ None → IsTableFor t symbols first
 unfolding unmet
 table_from t symbols first e =
@@ -194,14 +182,14 @@ table_is t symbols first is =
     let none = none_is t symbols first (first_missed (reaches t) symbols first) refl (never_missed t symbols first is) in
     rw (ends, none) refl
 
-unmet_from : (bytes : List ℕ) (head : Head) (parts : DynParts) (t : HashTable) (number : ℕ) → table_words bytes head.headers parts.tags ≡ Ok t → unmet t parts.symbols parts.first_exported ≡ Some number → BreaksHash bytes head parts (bad_hash number)
+unmet_from : (t : HashTable) (symbols : List Symbol) (first number : ℕ) → unmet t symbols first ≡ Some number → Breaks t symbols first 19 number
 unfolding unmet
-unmet_from bytes head parts t number words e =
-    elim (unmet_number (walks_end t (length parts.symbols)) (first_missed (reaches t) parts.symbols parts.first_exported) number e) [
-      | inl walk ↦ rw walk.1 (no_end t words (λ ends. (let is = walks_are t.gnu t.sysv (length parts.symbols) ends in let off = walk.0 in cc)))
+unmet_from t symbols first number e =
+    elim (unmet_number (walks_end t (length symbols)) (first_missed (reaches t) symbols first) number e) [
+      | inl walk ↦ rw walk.1 (no_end (λ ends. (let is = walks_are t.gnu t.sysv (length symbols) ends in let off = walk.0 in cc)))
       | inr symbol ↦
-          let f = first_from t parts.symbols parts.first_exported number symbol.1 in
-          not_reached t words (walks_from t.gnu t.sysv (length parts.symbols) symbol.0) number f.here f.before
+          let f = first_from t symbols first number symbol.1 in
+          not_reached (walks_from t.gnu t.sysv (length symbols) symbol.0) number f.here f.before
     ]
 
 unmet_walk : (t : HashTable) (symbols : List Symbol) (first : ℕ) → (WalksEnd t (length symbols) → ⊥) → unmet t symbols first ≡ Some 0
@@ -216,35 +204,40 @@ unmet_symbol : (t : HashTable) (symbols : List Symbol) (first i : ℕ) → Walks
 unfolding unmet
 unmet_symbol t symbols first i ends f = rw (walks_are t.gnu t.sysv (length symbols) ends, first_is t symbols first i f) refl
 
+-- the rule is broken with the number by which it is unmet
+listed : (t : HashTable) (symbols : List Symbol) (first : ℕ) → Listed 19 (unmet t symbols first ∷ []) (Breaks t symbols first)
+listed t symbols first rule number (no_end never) = (0, refl, ap Some (unmet_walk t symbols first never))
+listed t symbols first rule number (not_reached ends i here before) = (0, refl, ap Some (unmet_symbol t symbols first i ends (record { here = here; before = before })))
+
+breaking : (t : HashTable) (symbols : List Symbol) (first : ℕ) → Breaking 19 (unmet t symbols first ∷ []) (Breaks t symbols first)
+breaking t symbols first zero number found = unmet_from t symbols first number (cc)
+breaking t symbols first (suc i) number found = cc
+
+kept_table : (t : HashTable) (symbols : List Symbol) (first : ℕ) → NoneBroken (Breaks t symbols first) → IsTableFor t symbols first
+kept_table t symbols first kept = by_number (unmet t symbols first) refl
+  where
+    by_number : (found : Option ℕ) → unmet t symbols first ≡ found → IsTableFor t symbols first
+    by_number None e = table_from t symbols first e
+    by_number (Some number) e = absurd (kept 19 number (unmet_from t symbols first number e))
+
+table_kept : (t : HashTable) (symbols : List Symbol) (first : ℕ) → IsTableFor t symbols first → NoneBroken (Breaks t symbols first)
+table_kept t symbols first is rule number broken = let at = listed t symbols first rule number broken in none_at 19 (unmet t symbols first ∷ []) at.0 number (rw (table_is t symbols first is) refl) at.2
+
 module _ (bytes : List ℕ) (head : Head) (parts : DynParts) where
-  pub accepted : (t : HashTable) → (hash_verdict bytes head parts ≡ Ok t) ↔ ((table_words bytes head.headers parts.tags ≡ Ok t) × IsTableFor t parts.symbols parts.first_exported)
-  unfolding hash_verdict
-  accepted t = (
-    λ e.
-        let b = bind_ok (table_words bytes head.headers parts.tags) _ t e in
-        let v = verdict_ok b.0 (unmet b.0 parts.symbols parts.first_exported) t b.2 in
-        (rw (← v.1) b.1, rw (← v.1) (table_from b.0 parts.symbols parts.first_exported v.0)),
-    λ s. rw (s.0, table_is t parts.symbols parts.first_exported s.1) refl,
-  )
+  abbrev words : HashTable
+  words = hash_words bytes head.headers parts.tags
 
-  refused_from : (fault : NotAccepted) → hash_verdict bytes head parts ≡ Err fault → BreaksHash bytes head parts fault
-  unfolding hash_verdict
-  refused_from fault e =
-      elim (bind_err (table_words bytes head.headers parts.tags) _ fault e) [
-        | inl none ↦ no_words fault none
-        | inr there ↦
-            let v = verdict_err there.0 (unmet there.0 parts.symbols parts.first_exported) fault there.2 in
-            rw (← v.2) (unmet_from bytes head parts there.0 v.0 there.1 v.1)
-      ]
-
-  refused_is : (fault : NotAccepted) → BreaksHash bytes head parts fault → hash_verdict bytes head parts ≡ Err fault
-  unfolding hash_verdict
-  refused_is fault (no_words other none) = rw none refl
-  refused_is fault (no_end t words never) = rw (words, unmet_walk t parts.symbols parts.first_exported never) refl
-  refused_is fault (not_reached t words ends i here before) = rw (words, unmet_symbol t parts.symbols parts.first_exported i ends (record { here = here; before = before })) refl
+  pub accepted : (t : HashTable) → (hash_verdict bytes head parts ≡ Ok t) ↔ ((t ≡ words) × IsTableFor t parts.symbols parts.first_exported)
+  unfolding table_verdict
+  accepted t =
+      let one = accepts 19 (unmet words parts.symbols parts.first_exported ∷ []) (Breaks words parts.symbols parts.first_exported) (listed words parts.symbols parts.first_exported) (breaking words parts.symbols parts.first_exported) words t in (
+        λ e. (let got = one.0 e in (got.1, rw got.1 (kept_table words parts.symbols parts.first_exported got.0))),
+        λ (is, table). one.1 (table_kept words parts.symbols parts.first_exported (rw is at table), is),
+      )
 
   pub refused : (fault : NotAccepted) → (hash_verdict bytes head parts ≡ Err fault) ↔ BreaksHash bytes head parts fault
-  refused fault = (refused_from fault, refused_is fault)
+  unfolding table_verdict
+  refused = refuses 19 (unmet words parts.symbols parts.first_exported ∷ []) (Breaks words parts.symbols parts.first_exported) (listed words parts.symbols parts.first_exported) (breaking words parts.symbols parts.first_exported) words
 
 -- ---- the versions of symbols
 

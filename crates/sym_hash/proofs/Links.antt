@@ -9,7 +9,7 @@ use Rattle.ld_base.specs.declared.parts.SysvPart.{SysvPart}
 use Rattle.sym_hash.specs.Hash.{sysv_hash}
 use Rattle.sym_hash.specs.Reached.{Leads, ReachedBySysv}
 use Rattle.sym_hash.specs.Reached.Leads.{here, on}
-use Rattle.sym_hash.specs.Sysv.{ends_within, is_among, sysv_bucket, sysv_reaches}
+use Rattle.sym_hash.specs.Sysv.{ends_within, is_among, sysv_bucket, sysv_leads, sysv_reaches}
 
 among_leads : (chain : List ℕ) (m from i : ℕ) → is_among chain m from i ≡ true → (links : ℕ) × (links < m) × Leads chain from links i × (i ≢ 0)
 among_leads chain zero from i among = cc
@@ -81,14 +81,14 @@ bucket_there s hash links i leads some =
     ]
 
 pub sysv_from : (s : SysvPart) (name : List ℕ) (i : ℕ) → sysv_reaches s name i ≡ true → ReachedBySysv s name i
-unfolding sysv_reaches
+unfolding sysv_leads
 sysv_from s name i e =
     let bucket = sysv_bucket s (sysv_hash name) in
     let a = among_leads s.chain (length s.chain) bucket i e in
     record { bucket = bucket; begins = bucket_there s (sysv_hash name) a.0 i a.2 a.3; links = a.0; few = a.1; leads = a.2; some = a.3 }
 
 pub sysv_is : (s : SysvPart) (name : List ℕ) (i : ℕ) → ReachedBySysv s name i → sysv_reaches s name i ≡ true
-unfolding sysv_reaches
+unfolding sysv_leads
 sysv_is s name i r =
     let is : sysv_bucket s (sysv_hash name) ≡ r.bucket = get_or_from_slice_get s.buckets (sysv_hash name % length s.buckets) r.bucket 0 r.begins in
     ap (λ b. is_among s.chain (length s.chain) b i) is ∙ leads_among s.chain (length s.chain) r.bucket r.links i r.leads r.few r.some

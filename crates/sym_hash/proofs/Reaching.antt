@@ -5,16 +5,15 @@ use Rattle.std.specs.List.{list_all, slice_get}
 use Rattle.std.specs.Option.{option_or}
 use Rattle.std.proofs.lemmas.Bool.{and_from, and_parts, cases_lt, eq-eqb, eqb-false, eqb-true, le-leb, lt-leb, ne_eqb, not-true}
 use Rattle.std.proofs.lemmas.List.{length-map}
-use Rattle.std.proofs.lemmas.Option.{slice_get-map, slice_get_past}
+use Rattle.std.proofs.lemmas.Option.{slice_get-get_or, slice_get-map, slice_get_past, slice_get_within}
 use Rattle.ld_base.specs.declared.object.Symbol.{Symbol}
 use Rattle.ld_base.specs.declared.parts.SysvPart.{SysvPart}
 use Rattle.sym_hash.proofs.Among.{ComesTo, among_from, among_is, ends_is}
-use Rattle.sym_hash.proofs.Missed.{same_missed}
+use Rattle.sym_hash.proofs.Missed.{same_lost}
 use Rattle.sym_hash.proofs.Trips.{follow-add, follow_stays, followed-add, followed_few, followed_none, outside}
 use Rattle.sym_hash.specs.Follow.{AreTrips, arrives, follow, followed, start_to, trip, trip_from}
-use Rattle.sym_hash.specs.Hash.{sysv_hash}
-use Rattle.sym_hash.specs.Sysv.{ends_within, is_among, sysv_bucket, sysv_reaches, sysv_walks_end}
-use Rattle.sym_hash.specs.Verdict.{first_missed}
+use Rattle.sym_hash.specs.Hashed.{first_lost}
+use Rattle.sym_hash.specs.Sysv.{ends_within, is_among, sysv_bucket, sysv_leads, sysv_walks_end}
 use Rattle.sym_hash.specs.declared.follow.Start.{Start}
 use Rattle.sym_hash.specs.declared.follow.Trip.{Trip}
 
@@ -142,21 +141,23 @@ start_is chain n trips from i are = rw (trip_from_is chain n trips i are, trip_f
 arrives_is : (chain : List ℕ) (starts : List Start) (arrived : List Trip) (s : Start) (i : ℕ) → arrived ≡ map (λ (s : Start). trip chain (s.steps % 2 ^ 32) s.from) starts → slice_get starts i ≡ Some s → arrives arrived i ≡ comes_to chain s i
 arrives_is chain starts arrived s i is at = rw (is, slice_get-map (λ (s : Start). trip chain (s.steps % 2 ^ 32) s.from) starts i, at) refl
 
--- the walks come to the symbols that are reached
-pub all_reached : (sysv : SysvPart) (symbols : List Symbol) (first : ℕ) (trips : List Trip) (starts : List Start) (arrived : List Trip) → AreTrips sysv.chain (length sysv.chain) trips → length sysv.chain < 2 ^ 32
-    → list_all (ends_within sysv.chain (length sysv.chain)) sysv.buckets ≡ true
-    → ((i : ℕ) (s : Symbol) → slice_get symbols i ≡ Some s → slice_get starts i ≡ Some (start_to trips (sysv_bucket sysv (sysv_hash s.name)) i))
+-- the walks come to the symbols that are found
+pub all_found : (sysv : SysvPart) (symbols : List Symbol) (hashes : List ℕ) (first : ℕ) (trips : List Trip) (starts : List Start) (arrived : List Trip) → length hashes ≡ length symbols → AreTrips sysv.chain (length sysv.chain) trips
+    → length sysv.chain < 2 ^ 32 → list_all (ends_within sysv.chain (length sysv.chain)) sysv.buckets ≡ true
+    → ((i hash : ℕ) → slice_get hashes i ≡ Some hash → slice_get starts i ≡ Some (start_to trips (sysv_bucket sysv hash) i))
     → arrived ≡ map (λ (s : Start). trip sysv.chain (s.steps % 2 ^ 32) s.from) starts
-    → first_missed (λ name. arrives arrived) symbols first ≡ first_missed (sysv_reaches sysv) symbols first
-unfolding sysv_reaches
-all_reached sysv symbols first trips starts arrived are low all begun is =
+    → first_lost (arrives arrived) symbols first ≡ first_lost (λ i. sysv_leads sysv (slice_index hashes i) i) symbols first
+unfolding sysv_leads
+all_found sysv symbols hashes first trips starts arrived same are low all begun is =
     let chain = sysv.chain in
     let n = length sysv.chain in
-    same_missed (λ name. arrives arrived) (sysv_reaches sysv) symbols first (λ i s at.
-    (let from = sysv_bucket sysv (sysv_hash s.name) in
-    let start : slice_get starts i ≡ Some (start_of chain n from i) = begun i s at ∙ ap Some (start_is chain n trips from i are) in
+    same_lost (arrives arrived) (λ i. is_among chain n (sysv_bucket sysv (slice_index hashes i)) i) symbols first (λ i s at.
+    (let hash = slice_index hashes i in
+    let from = sysv_bucket sysv hash in
+    let within : i < length hashes = rw same (slice_get_within symbols i s at) in
+    let start : slice_get starts i ≡ Some (start_of chain n from i) = begun i hash (slice_get-get_or hashes i 0 within) ∙ ap Some (start_is chain n trips from i are) in
     arrives_is chain starts arrived (start_of chain n from i) i is start
-    ∙ reach_is chain n from i (bucket_ends chain sysv.buckets (sysv_hash s.name % length sysv.buckets) all) low))
+    ∙ reach_is chain n from i (bucket_ends chain sysv.buckets (hash % length sysv.buckets) all) low))
 
 pub walks_are : (sysv : SysvPart) (trips : List Trip) → AreTrips sysv.chain (length sysv.chain) trips → sysv_walks_end sysv ≡ list_all (λ b. (trip_from trips b).end == 0) sysv.buckets
 unfolding sysv_walks_end

@@ -1,5 +1,5 @@
 -- What it is for hash tables to break rule 19.
-use Rattle.std.specs.Prelude.{◌≡◌, ℕ, ◌<◌, ◌≤◌, IsTrue, List, length, Some, Ok, Err}
+use Rattle.std.specs.Prelude.{◌≡◌, ℕ, ◌<◌, ◌≤◌, IsTrue, List, length, Some}
 use Rattle.std.specs.List.{slice_get}
 use Rattle.ld_base.specs.Symbol.{is_visible_definition}
 use Rattle.ld_base.specs.declared.fault.NotAccepted.{NotAccepted}
@@ -7,8 +7,9 @@ use Rattle.ld_base.specs.declared.object.Symbol.{Symbol}
 use Rattle.ld_base.specs.declared.parts.DynParts.{DynParts}
 use Rattle.ld_base.specs.declared.parts.HashTable.{HashTable}
 use Rattle.ld_base.specs.declared.parts.Head.{Head}
+use Rattle.acceptance.specs.First.{IsFirstBroken}
+use Rattle.dyn_table.specs.HashWords.{hash_words}
 use Rattle.sym_hash.specs.Reached.{Reached, WalksEnd}
-use Rattle.sym_hash.specs.Words.{bad_hash, table_words}
 
 -- the symbol of this index is an exported definition that isn't reached under its name
 pub record IsMissedAt (t : HashTable) (symbols : List Symbol) (first i : ℕ) : Type 0 where
@@ -18,9 +19,11 @@ pub record IsMissedAt (t : HashTable) (symbols : List Symbol) (first i : ℕ) : 
   pub visible : IsTrue (is_visible_definition symbol)
   pub missed : Reached t symbol.name i → ⊥
 
--- the words aren't there; or a walk doesn't end; or all do, and this is the first exported definition that isn't reached
-pub data BreaksHash (bytes : List ℕ) (head : Head) (parts : DynParts) : NotAccepted → Type 0 where
-  no_words : (fault : NotAccepted) → table_words bytes head.headers parts.tags ≡ Err fault → BreaksHash bytes head parts fault
-  no_end : (t : HashTable) → table_words bytes head.headers parts.tags ≡ Ok t → (WalksEnd t (length parts.symbols) → ⊥) → BreaksHash bytes head parts (bad_hash 0)
-  not_reached : (t : HashTable) → table_words bytes head.headers parts.tags ≡ Ok t → WalksEnd t (length parts.symbols) → (i : ℕ) → IsMissedAt t parts.symbols parts.first_exported i
-      → ((before : ℕ) → before < i → IsMissedAt t parts.symbols parts.first_exported before → ⊥) → BreaksHash bytes head parts (bad_hash i)
+-- the rule is broken with this number: a walk doesn't end; or all do, and this is the first exported definition that isn't reached
+pub data Breaks (t : HashTable) (symbols : List Symbol) (first : ℕ) : ℕ → ℕ → Type 0 where
+  no_end : (WalksEnd t (length symbols) → ⊥) → Breaks t symbols first 19 0
+  not_reached : WalksEnd t (length symbols) → (i : ℕ) → IsMissedAt t symbols first i → ((before : ℕ) → before < i → IsMissedAt t symbols first before → ⊥) → Breaks t symbols first 19 i
+
+-- the tables of an object with these parts break it
+abbrev pub BreaksHash : List ℕ → Head → DynParts → NotAccepted → Type 0
+BreaksHash bytes head parts fault = IsFirstBroken (Breaks (hash_words bytes head.headers parts.tags) parts.symbols parts.first_exported) fault

@@ -42,9 +42,13 @@ walk_reaches g bucket i = nat_lt 0 bucket && nat_le g.symoffset bucket && nat_le
 abbrev pub has_word : GnuPart → ℕ → ℕ → Bool
 has_word g hash i = option_map_or (λ word. word / 2 == hash / 2) (slice_get g.chain (i - g.symoffset)) false
 
+-- the symbol is found by a hash
+unfoldable pub gnu_leads : GnuPart → ℕ → ℕ → Bool
+gnu_leads g hash i = in_bloom g hash && walk_reaches g (gnu_bucket g hash) i && has_word g hash i
+
 -- the symbol is found under a name
-unfoldable pub gnu_reaches : GnuPart → List ℕ → ℕ → Bool
-gnu_reaches g name i = in_bloom g (gnu_hash name) && walk_reaches g (gnu_bucket g (gnu_hash name)) i && has_word g (gnu_hash name) i
+abbrev pub gnu_reaches : GnuPart → List ℕ → ℕ → Bool
+gnu_reaches g name i = gnu_leads g (gnu_hash name) i
 
 -- how the ends stand before a symbol: from each chain word on there is one, of those before the symbol, where the word is below a number
 abbrev pub EndsBelow : GnuPart → ℕ → ℕ → Type 0

@@ -22,6 +22,10 @@ is_among chain (suc links) at i = not (at == 0) && (at == i || (nat_lt at (lengt
 abbrev pub sysv_bucket : SysvPart → ℕ → ℕ
 sysv_bucket s hash = slice_index s.buckets (hash % length s.buckets)
 
+-- the symbol is found by a hash
+unfoldable pub sysv_leads : SysvPart → ℕ → ℕ → Bool
+sysv_leads s hash i = is_among s.chain (length s.chain) (sysv_bucket s hash) i
+
 -- the symbol is found under a name
-unfoldable pub sysv_reaches : SysvPart → List ℕ → ℕ → Bool
-sysv_reaches s name i = is_among s.chain (length s.chain) (sysv_bucket s (sysv_hash name)) i
+abbrev pub sysv_reaches : SysvPart → List ℕ → ℕ → Bool
+sysv_reaches s name i = sysv_leads s (sysv_hash name) i

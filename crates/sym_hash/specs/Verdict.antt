@@ -1,5 +1,5 @@
 -- Whether the hash tables lead to all that an object exports.
-use Rattle.std.specs.Prelude.{ℕ, ◌&&◌, Bool, true, false, not, nat_le, List, length, Option, Some, None, Result, Ok, Err, if◌then◌else◌}
+use Rattle.std.specs.Prelude.{ℕ, ◌&&◌, Bool, true, false, not, nat_le, List, [], ◌∷◌, length, Option, Some, None, Result, Ok, Err, if◌then◌else◌}
 use Rattle.std.specs.Option.{option_map_or, option_or}
 use Rattle.std.specs.List.{slice_get}
 use Rattle.ld_base.specs.Symbol.{is_visible_definition}
@@ -8,11 +8,13 @@ use Rattle.ld_base.specs.declared.object.Symbol.{Symbol}
 use Rattle.ld_base.specs.declared.parts.DynParts.{DynParts}
 use Rattle.ld_base.specs.declared.parts.Head.{Head}
 use Rattle.ld_base.specs.declared.parts.HashTable.{HashTable}
+use Rattle.ld_base.specs.declared.parts.Header.{Header}
+use Rattle.ld_base.specs.declared.parts.Tag.{Tag}
+use Rattle.acceptance.specs.Broken.{first_broken}
 use Rattle.acceptance.specs.Least.{least_below}
-use Rattle.acceptance.specs.Entries.{◌>>=◌}
+use Rattle.dyn_table.specs.HashWords.{hash_words}
 use Rattle.sym_hash.specs.Gnu.{gnu_walks_end, gnu_reaches}
 use Rattle.sym_hash.specs.Sysv.{sysv_walks_end, sysv_reaches}
-use Rattle.sym_hash.specs.Words.{bad_hash, table_words}
 
 -- every walk of the table ends, for so many symbols; where there is a GNU table, no other is walked
 abbrev pub walks_end : HashTable → ℕ → Bool
@@ -34,8 +36,11 @@ first_missed reached symbols first = least_below (is_missed reached symbols firs
 unfoldable pub unmet : HashTable → List Symbol → ℕ → Option ℕ
 unmet t symbols first = option_or (if walks_end t (length symbols) then None else Some 0) (first_missed (reaches t) symbols first)
 
--- the hash tables of an object, or the number by which they break rule 19
-unfoldable pub hash_verdict : List ℕ → Head → DynParts → Result HashTable NotAccepted
-hash_verdict bytes head parts = do
-  words ← table_words bytes head.headers parts.tags
-  option_map_or (λ number. Err (bad_hash number)) (unmet words parts.symbols parts.first_exported) (Ok words)
+-- the hash tables of an object with these symbols, or the rule that they break
+unfoldable pub table_verdict : List ℕ → List Header → List Tag → List Symbol → ℕ → Result HashTable NotAccepted
+table_verdict bytes headers tags symbols first =
+    option_map_or Err (first_broken 19 (unmet (hash_words bytes headers tags) symbols first ∷ [])) (Ok (hash_words bytes headers tags))
+
+-- those of an object with these parts
+abbrev pub hash_verdict : List ℕ → Head → DynParts → Result HashTable NotAccepted
+hash_verdict bytes head parts = table_verdict bytes head.headers parts.tags parts.symbols parts.first_exported

@@ -4,10 +4,9 @@ ghost use Rattle.std.specs.Prelude.{◌≡◌, ℕ, ◌+◌, ◌-◌, ◌*◌, �
 ghost use Rattle.std.specs.List.{list_all, list_any};
 ghost use Rattle.std.specs.Option.{option_or};
 ghost use Rattle.ld_base.specs.Symbol.{is_visible_definition};
-ghost use Rattle.sym_hash.specs.Gnu.{EndsBelow, gnu_reaches, gnu_walks_end, has_bit, has_word, in_bloom, is_end, walk_reaches};
-ghost use Rattle.sym_hash.specs.Verdict.{first_missed};
+ghost use Rattle.sym_hash.specs.Gnu.{EndsBelow, gnu_leads, gnu_walks_end, has_bit, has_word, in_bloom, is_end, walk_reaches};
+ghost use Rattle.sym_hash.specs.Hashed.{first_lost};
 
-use crate::hash::gnu_hash;
 use ld_base::{GnuPart, Symbol};
 
 /// Whether a chain word marks the end of its chain.
@@ -125,24 +124,28 @@ fn has_word(gnu: &GnuPart, hash: u32, index: usize) -> bool
     place < words.len() && words[place] / 2 == hash / 2
 }
 
-/// Whether the symbol is found under a name.
-#[tactic(auto, unfolding(crate::specs::Gnu::gnu_reaches))]
-fn reaches(gnu: &GnuPart, name: &[u8], index: usize, ended: usize) -> bool
-    ensures { EndsBelow gnu.now index ended → result ≡ gnu_reaches gnu.now name.now index }
+/// Whether the symbol is found by a hash.
+#[tactic(auto, unfolding(crate::specs::Gnu::gnu_leads))]
+fn leads(gnu: &GnuPart, hash: u32, index: usize, ended: usize) -> bool
+    ensures { EndsBelow gnu.now index ended → result ≡ gnu_leads gnu.now hash index }
 {
-    let hash = gnu_hash(name);
     let bucket = bucket_of(gnu.buckets.as_slice(), hash);
     in_bloom(gnu, hash) && walk_reaches(gnu, bucket, index, ended) && has_word(gnu, hash, index)
 }
 
-/// Whether the symbol is an exported definition that isn't found.
-fn is_missed(gnu: &GnuPart, symbol: &Symbol, first: u32, index: usize, ended: usize) -> bool
+/// Whether the symbol is an exported definition that isn't found by its hash.
+fn is_lost(
+    gnu: &GnuPart,
+    symbol: &Symbol,
+    hash: u32,
+    first: u32,
+    index: usize,
+    ended: usize,
+) -> bool
     ensures { EndsBelow gnu.now index ended
-        → result ≡ (nat_le first index && (is_visible_definition symbol.now && not (gnu_reaches gnu.now symbol.now.name index))) }
+        → result ≡ (nat_le first index && (is_visible_definition symbol.now && not (gnu_leads gnu.now hash index))) }
 {
-    index >= first as usize
-        && symbol.is_visible_definition()
-        && !reaches(gnu, symbol.name.as_bytes(), index, ended)
+    index >= first as usize && symbol.is_visible_definition() && !leads(gnu, hash, index, ended)
 }
 
 /// How the ends stand behind the word of a symbol.
@@ -159,14 +162,15 @@ fn ended_after(gnu: &GnuPart, index: usize, ended: usize) -> usize
     }
 }
 
-/// The first exported definition that isn't found under its name.
-#[tactic(auto, unfolding(crate::specs::Verdict::first_missed))]
-fn first_missed(gnu: &GnuPart, symbols: &[Symbol], first: u32) -> Option<usize>
-    ensures { result ≡ first_missed (gnu_reaches gnu.now) symbols.now first }
+/// The first exported definition that isn't found by its hash.
+#[tactic(auto, unfolding(crate::specs::Hashed::first_lost))]
+fn first_lost(gnu: &GnuPart, symbols: &[Symbol], hashes: &[u32], first: u32) -> Option<usize>
+    requires { length hashes.now ≡ length symbols.now }
+    ensures { result ≡ first_lost (λ i. gnu_leads gnu.now (slice_index hashes.now i) i) symbols.now first }
 {
     let mut ended = 0;
     for (index, symbol) in symbols.iter().enumerate() {
-        if is_missed(gnu, symbol, first, index, ended) {
+        if is_lost(gnu, symbol, hashes[index], first, index, ended) {
             return Some(index);
         }
         ended = ended_after(gnu, index, ended);
@@ -174,12 +178,13 @@ fn first_missed(gnu: &GnuPart, symbols: &[Symbol], first: u32) -> Option<usize>
     None
 }
 
-/// What breaks rule 19.
-pub(crate) fn unmet(gnu: &GnuPart, symbols: &[Symbol], first: u32) -> Option<usize>
-    ensures { result ≡ option_or (if gnu_walks_end gnu.now (length symbols.now) then None else Some 0) (first_missed (gnu_reaches gnu.now) symbols.now first) }
+/// What breaks rule 19, of symbols whose names have these hashes.
+pub(crate) fn unmet(gnu: &GnuPart, symbols: &[Symbol], hashes: &[u32], first: u32) -> Option<usize>
+    requires { length hashes.now ≡ length symbols.now }
+    ensures { result ≡ option_or (if gnu_walks_end gnu.now (length symbols.now) then None else Some 0) (first_lost (λ i. gnu_leads gnu.now (slice_index hashes.now i) i) symbols.now first) }
 {
     if walks_end(gnu, symbols.len()) {
-        first_missed(gnu, symbols, first)
+        first_lost(gnu, symbols, hashes, first)
     } else {
         Some(0)
     }

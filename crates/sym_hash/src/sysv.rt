@@ -1,18 +1,16 @@
 //! System V hash tables (gABI, "Hash Table").
 
-ghost use Rattle.std.specs.Prelude.{◌≡◌, ℕ, ◌^◌, ◌<◌, ◌==◌, ◌&&◌, not, nat_le, IfOk, None, Some, if◌then◌else◌, length};
+ghost use Rattle.std.specs.Prelude.{◌≡◌, ℕ, ◌^◌, ◌<◌, ◌==◌, ◌&&◌, not, nat_le, IfOk, None, Some, if◌then◌else◌, length, slice_index};
 ghost use Rattle.ld_base.specs.Symbol.{is_visible_definition};
 ghost use Rattle.std.specs.List.{list_all, slice_get};
 ghost use Rattle.std.specs.Option.{option_or};
 ghost use Rattle.ld_base.specs.declared.object.Symbol.{Symbol};
 ghost use Rattle.sym_hash.specs.Follow.{AreTrips, arrives, start_to, trip_from};
-ghost use Rattle.sym_hash.specs.Hash.{sysv_hash};
-ghost use Rattle.sym_hash.specs.Sysv.{sysv_bucket, sysv_reaches, sysv_walks_end};
-ghost use Rattle.sym_hash.specs.Verdict.{first_missed};
+ghost use Rattle.sym_hash.specs.Hashed.{first_lost};
+ghost use Rattle.sym_hash.specs.Sysv.{sysv_bucket, sysv_leads, sysv_walks_end};
 
 use crate::follow::{Start, Trip, follow_all};
 use crate::gnu::bucket_of;
-use crate::hash::sysv_hash;
 use ld_base::{Symbol, SysvPart};
 use std::alloc::{AllocError, Global};
 
@@ -66,21 +64,21 @@ fn start_to(trips: &[Trip], bucket: u32, symbol: u32) -> Start
     }
 }
 
-/// The walks to each symbol, from the bucket of its name's hash.
+/// The walks to each symbol, from the bucket of its hash.
 fn starts_of(
     alloc: Global,
     sysv: &SysvPart,
     trips: &[Trip],
-    symbols: &[Symbol],
+    hashes: &[u32],
 ) -> Result<Vec<Start>, AllocError>
     requires short { (at : ℕ) → (trip_from trips.now at).links < 2 ^ 32 }
-    requires few { length symbols.now < 2 ^ 32 }
-    ensures length { IfOk result (λ starts. length starts.items ≡ length symbols.now) }
-    ensures starts { IfOk result (λ starts. (i : ℕ) (s : Symbol) → slice_get symbols.now i ≡ Some s → slice_get starts.items i ≡ Some (start_to trips.now (sysv_bucket sysv.now (sysv_hash s.name)) i)) }
+    requires few { length hashes.now < 2 ^ 32 }
+    ensures length { IfOk result (λ starts. length starts.items ≡ length hashes.now) }
+    ensures starts { IfOk result (λ starts. (i hash : ℕ) → slice_get hashes.now i ≡ Some hash → slice_get starts.items i ≡ Some (start_to trips.now (sysv_bucket sysv.now hash) i)) }
 {
-    let mut starts = Vec::with_capacity(alloc, symbols.len())?;
-    for (index, symbol) in symbols.iter().enumerate() {
-        let bucket = bucket_of(sysv.buckets.as_slice(), sysv_hash(symbol.name.as_bytes()));
+    let mut starts = Vec::with_capacity(alloc, hashes.len())?;
+    for (index, hash) in hashes.iter().enumerate() {
+        let bucket = bucket_of(sysv.buckets.as_slice(), *hash);
         starts.push(start_to(trips, bucket, index as u32))?;
     }
     Ok(starts)
@@ -94,43 +92,45 @@ fn arrives(arrived: &[Trip], symbol: u32) -> bool
 }
 
 /// Whether the symbol is an exported definition to which its walk hasn't come.
-fn is_missed(arrived: &[Trip], symbol: &Symbol, first: u32, index: u32) -> bool
+fn is_lost(arrived: &[Trip], symbol: &Symbol, first: u32, index: u32) -> bool
     ensures { result ≡ (nat_le first index && (is_visible_definition symbol.now && not (arrives arrived.now index))) }
 {
     index >= first && symbol.is_visible_definition() && !arrives(arrived, index)
 }
 
 /// The first exported definition to which its walk hasn't come.
-#[tactic(auto, unfolding(crate::specs::Verdict::first_missed))]
-fn first_missed(symbols: &[Symbol], arrived: &[Trip], first: u32) -> Option<usize>
+#[tactic(auto, unfolding(crate::specs::Hashed::first_lost))]
+fn first_lost(symbols: &[Symbol], arrived: &[Trip], first: u32) -> Option<usize>
     requires { length symbols.now < 2 ^ 32 }
-    ensures { result ≡ first_missed (λ name. arrives arrived.now) symbols.now first }
+    ensures { result ≡ first_lost (arrives arrived.now) symbols.now first }
 {
     for (index, symbol) in symbols.iter().enumerate() {
-        if is_missed(arrived, symbol, first, index as u32) {
+        if is_lost(arrived, symbol, first, index as u32) {
             return Some(index);
         }
     }
     None
 }
 
-/// What breaks rule 19.
+/// What breaks rule 19, of symbols whose names have these hashes.
 pub(crate) fn unmet(
     alloc: Global,
     sysv: &SysvPart,
     symbols: &[Symbol],
+    hashes: &[u32],
     first: u32,
 ) -> Result<Option<usize>, AllocError>
     requires chain { length sysv.now.chain < 2 ^ 32 }
     requires few { length symbols.now < 2 ^ 32 }
-    ensures { IfOk result (λ number. number ≡ option_or (if sysv_walks_end sysv.now then None else Some 0) (first_missed (sysv_reaches sysv.now) symbols.now first)) }
+    requires same { length hashes.now ≡ length symbols.now }
+    ensures { IfOk result (λ number. number ≡ option_or (if sysv_walks_end sysv.now then None else Some 0) (first_lost (λ i. sysv_leads sysv.now (slice_index hashes.now i) i) symbols.now first)) }
 {
     let chain = sysv.chain.as_slice();
     let trips = full_trips(alloc, chain)?;
     if !all_end(&trips, sysv.buckets.as_slice()) {
         return Ok(Some(0));
     }
-    let starts = starts_of(alloc, sysv, &trips, symbols)?;
+    let starts = starts_of(alloc, sysv, &trips, hashes)?;
     let arrived = follow_all(alloc, chain, &starts)?;
-    Ok(first_missed(symbols, &arrived, first))
+    Ok(first_lost(symbols, &arrived, first))
 }

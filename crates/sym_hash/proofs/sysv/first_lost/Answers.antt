@@ -1,14 +1,14 @@
 use Rattle.std.proofs.Common.{◌∙◌, sym, ℕ, List}
 use Rattle.sym_hash.specs.Follow.{arrives}
-use Rattle.sym_hash.proofs.Missed.{missed_here, not_missed}
-use Rattle.sym_hash.proofs.sysv.first_missed.Goals as goal
+use Rattle.sym_hash.proofs.Missed.{lost_here, not_lost}
+use Rattle.sym_hash.proofs.sysv.first_lost.Goals as goal
 
-pub returns-then-is_missed : goal.returns-then-is_missed
-returns-then-is_missed c =
-    sym (missed_here (λ (name : List ℕ). arrives c.args.arrived.now) c.args.symbols.now c.args.first c.loop-index.index c.index-symbols-index.result c.loop-index-test.true c.index-symbols-index.is c.loop-index.invariant
-    (sym c.is_missed.ensures ∙ c.if-is_missed.true))
+pub returns-then-is_lost : goal.returns-then-is_lost
+returns-then-is_lost c =
+    sym (lost_here (arrives c.args.arrived.now) c.args.symbols.now c.args.first c.loop-index.index c.index-symbols-index.result c.loop-index-test.true c.index-symbols-index.is c.loop-index.invariant
+    (sym c.is_lost.ensures ∙ c.if-is_lost.true))
 
 pub loop-index-preserved : goal.loop-index-preserved
 loop-index-preserved c =
-    not_missed (λ (name : List ℕ). arrives c.args.arrived.now) c.args.symbols.now c.args.first c.loop-index.index c.index-symbols-index.result c.loop-index-test.true c.index-symbols-index.is c.loop-index.invariant
-    (sym c.is_missed.ensures ∙ c.if-is_missed.false)
+    not_lost (arrives c.args.arrived.now) c.args.symbols.now c.args.first c.loop-index.index c.index-symbols-index.result c.loop-index-test.true c.index-symbols-index.is c.loop-index.invariant
+    (sym c.is_lost.ensures ∙ c.if-is_lost.false)

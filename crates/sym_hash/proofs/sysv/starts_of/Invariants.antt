@@ -1,13 +1,11 @@
 use Rattle.std.proofs.Common.{◌≡◌, ℕ, ◌<◌, length, Some}
 use Rattle.std.specs.List.{slice_get}
-use Rattle.ld_base.specs.declared.object.Symbol.{Symbol}
 use Rattle.sym_hash.specs.Follow.{start_to}
-use Rattle.sym_hash.specs.Hash.{sysv_hash}
 use Rattle.sym_hash.specs.Sysv.{sysv_bucket}
 use Rattle.sym_hash.proofs.sysv.starts_of.Given as goal
 
 abbrev pub invariant-loop-index : goal.invariant-loop-index
 invariant-loop-index l = record {
   len : length l.starts.items ≡ l.index;
-  each : (i : ℕ) (s : Symbol) → i < l.index → slice_get l.symbols i ≡ Some s → slice_get l.starts.items i ≡ Some (start_to l.trips (sysv_bucket l.sysv (sysv_hash s.name)) i);
+  each : (i hash : ℕ) → i < l.index → slice_get l.hashes i ≡ Some hash → slice_get l.starts.items i ≡ Some (start_to l.trips (sysv_bucket l.sysv hash) i);
 }
