@@ -3,12 +3,15 @@
 
 usage: objects.py FOLDER
 """
+import functools
 import struct
 import sys
 
 PAGE = 4096
+LONG = 4095
 
 
+@functools.lru_cache(maxsize=None)
 def gnu_hash(name):
     h = 5381
     for c in name:
@@ -50,19 +53,24 @@ def hash_table(names, first, one_chain):
     return out
 
 
-def build(count, places, one_chain=False, versions=0, own_versions=False, packed=0, padding=0):
+def build(count, places, one_chain=False, versions=0, own_versions=False, packed=0, padding=0, tails=0, long_versions=0):
     """An object with `count` exported functions and a relocation at each of `places` of its data, and
     with so many version records, each of which shares the tail of one chain of versions; or with
-    another version for each function; or with so many packed words, which name every place."""
-    names = [b"function_%06d_%s" % (i, b"x" * padding) for i in range(count)]
+    another version for each function; or with so many packed words, which name every place. With `tails`
+    the functions have that many names, the tails of one of 4,095 bytes; with `long_versions` the object
+    needs so many versions of such a name, of a file of such a name."""
+    long_name = b"a" * LONG
+    tail_names = [long_name[i:] for i in range(tails)]
+    names = [tail_names[i % tails] if tails else b"function_%06d_%s" % (i, b"x" * padding) for i in range(count)]
     buckets = max(1, count // 4)
     names.sort(key=lambda name: gnu_hash(name) % buckets)
-    strings = bytearray(b"\0")
+    strings = bytearray(b"\0" + (long_name + b"\0" if tails or long_versions else b""))
     symbols = bytearray(24)
     code = 0x2000
     for name in names:
-        symbols += struct.pack("<IBBHQQ", len(strings), 0x12, 0, 1, code, 4)
-        strings += name + b"\0"
+        symbols += struct.pack("<IBBHQQ", 1 + LONG - len(name) if tails else len(strings), 0x12, 0, 1, code, 4)
+        if not tails:
+            strings += name + b"\0"
     file_name = len(strings)
     strings += b"liba.so\0V1\0"
     data = bytearray(64 + 56 * 4)
@@ -96,6 +104,12 @@ def build(count, places, one_chain=False, versions=0, own_versions=False, packed
         table(0x6FFFFFFE, needs)
         tags.append((0x6FFFFFFF, 1))
         table(0x6FFFFFF0, b"".join(struct.pack("<H", index) for index in [0, *range(2, 2 + count)]))
+    if long_versions:
+        needs = bytearray(struct.pack("<HHIII", 1, long_versions, 1, 16, 0))
+        for i in range(long_versions):
+            needs += struct.pack("<IHHII", 0, 0, 2 + i % 30000, 1, 0 if i + 1 == long_versions else 16)
+        table(0x6FFFFFFE, needs)
+        tags.append((0x6FFFFFFF, 1))
     if packed:
         packed_at = table(36, b"\xff" * 8 * packed)
         tags += [(35, 8 * packed), (37, 8)]
@@ -142,6 +156,10 @@ def main(folder):
     write("own-versions", build(32000, [], own_versions=True))
     write("packed", build(1, [], packed=16000))
     write("packed-all", build(1, [], packed=1000000))
+    write("one-long-name", build(280000, [], tails=1))
+    write("two-long-names", build(280000, [], tails=2))
+    write("many-long-names", build(280000, [], tails=4000))
+    write("long-versions", build(1, [], long_versions=32768))
 
 
 main(sys.argv[1])
