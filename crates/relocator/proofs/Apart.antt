@@ -30,23 +30,23 @@ not_none r fills = other_kind r 0 fills (λ k same. rw same)
 pub not_copy : (r : Reloc) → fills_word r ≡ true → (r.kind == 4) ≡ false
 not_copy r fills = other_kind r 4 fills (λ k same. rw same)
 
-names_word : (o : Object) (r : Reloc) → fills_word r ≡ true → named_by o r ≡ doubleword r.place
+pub names_word : (o : Object) (r : Reloc) → fills_word r ≡ true → named_by o r ≡ doubleword r.place
 names_word o r fills = rw (not_none r fills, not_copy r fills)
 
-names_copy : (o : Object) (r : Reloc) → is_copy r ≡ true → named_by o r ≡ record { start = r.place; size = symbol_size o r }
+pub names_copy : (o : Object) (r : Reloc) → is_copy r ≡ true → named_by o r ≡ record { start = r.place; size = symbol_size o r }
 names_copy o r copy = let kind = eqb-true r.kind 4 copy in rw kind
 
 module _ (o : Object) (a : Accepted o) where
-  abbrev relas : List Span
+  abbrev pub relas : List Span
   relas = map (named_by o) o.relocs
 
-  abbrev packed : List Span
+  abbrev pub packed : List Span
   packed = map doubleword o.relr
 
-  abbrev slots : List Span
+  abbrev pub slots : List Span
   slots = map (λ r. doubleword r.place) o.plt_relocs
 
-  all_apart : AllPairs AreApart ((relas ++ packed) ++ slots)
+  pub all_apart : AllPairs AreApart ((relas ++ packed) ++ slots)
   unfolding named
   all_apart = a.apart
 
@@ -70,7 +70,7 @@ module _ (o : Object) (a : Accepted o) where
       let pair = pairs_right AreApart relas packed (pairs_left AreApart (relas ++ packed) slots all_apart) i j (doubleword 0) less (rw (length-map o.relr doubleword) within) in
       apart_places _ _ (rw (get_or-map doubleword o.relr i 0 (doubleword 0) (omega arith), get_or-map doubleword o.relr j 0 (doubleword 0) within) at pair)
 
-  slot_span : (j : ℕ) (d : Reloc) → j < length o.plt_relocs → get_or slots j (doubleword 0) ≡ doubleword (get_or o.plt_relocs j d).place
+  pub slot_span : (j : ℕ) (d : Reloc) → j < length o.plt_relocs → get_or slots j (doubleword 0) ≡ doubleword (get_or o.plt_relocs j d).place
   slot_span j d within = get_or-map (λ r. doubleword r.place) o.plt_relocs j d (doubleword 0) within
 
   pub slots_apart : (i j : ℕ) (d : Reloc) → i < j → j < length o.plt_relocs → (get_or o.plt_relocs i d).place ≢ (get_or o.plt_relocs j d).place

@@ -5,4 +5,5 @@ mod Linkers
 mod Overlays
 mod Pairs
 mod Premises
+mod SlotWords
 mod Types

@@ -127,7 +127,7 @@ lanes v aligned w =
     let e7 : (v + 7) % 8 ≡ 7 = omega arith in
     rw (e0, e1, e2, e3, e4, e5, e6, e7)
 
-word_back : (value : ℕ → ℕ) (v : ℕ) → v % 8 ≡ 0 → value v < 2 ^ 64 → word_of (λ a. byte_of (value (a / 8 * 8)) a) v ≡ value v
+pub word_back : (value : ℕ → ℕ) (v : ℕ) → v % 8 ≡ 0 → value v < 2 ^ 64 → word_of (λ a. byte_of (value (a / 8 * 8)) a) v ≡ value v
 unfolding word_of
 word_back value v aligned fits =
     ap (from_le_bytes w64) (map_in (λ i. byte_of (value ((v + i) / 8 * 8)) (v + i)) (λ i. byte_of (value v) (v + i)) (λ i less. let place : (v + i) / 8 * 8 ≡ v = omega arith in rw place)

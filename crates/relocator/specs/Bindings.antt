@@ -1,5 +1,5 @@
 -- What the bindings of an object's relocations are.
-use Rattle.std.specs.Prelude.{◌≡◌, ◌≢◌, ℕ, ◌+◌, ◌==◌, Bool, IsTrue, List, length, min, Option, Some, None, drop}
+use Rattle.std.specs.Prelude.{◌≡◌, ◌≢◌, ℕ, ◌+◌, ◌==◌, ◌≤◌, Bool, IsTrue, List, length, min, Option, Some, None, drop}
 use Rattle.std.specs.List.{slice_get, zip}
 use Rattle.ld_base.specs.declared.linking.Choice.{Choice}
 use Rattle.ld_base.specs.declared.linking.Choice.TheVariants.{Def, WeakZero, Missing}
@@ -38,3 +38,7 @@ pub record AreBindings (o : Object) (bindings : List Binding) : Type 0 where
   pub count : length bindings ≡ length o.relocs + length o.plt_relocs
   pub relas : (k : ℕ) (r : Reloc) (b : Binding) → slice_get (relas_of o bindings) k ≡ Some (r, b) → IsBinding o r b
   pub slots : (k : ℕ) (r : Reloc) (b : Binding) → slice_get (slots_of o bindings) k ≡ Some (r, b) → IsTrue b.bound → IsBinding o r b
+
+-- a copy has at most as many bytes as its symbol
+abbrev pub AreCopied : Object → List Binding → Type 0
+AreCopied o bindings = (k : ℕ) (r : Reloc) (b : Binding) → slice_get (relas_of o bindings) k ≡ Some (r, b) → IsTrue (is_copy r) → length b.copied ≤ symbol_size o r

@@ -46,6 +46,10 @@ rela_at base serial places relas v = option_map (value_of base serial places) (f
 unfoldable pub slot_at : Object → ℕ → List (Reloc × Binding) → ℕ → Option ℕ
 slot_at o base slots v = option_map (λ x. if x.1.bound then x.1.value else moved_word o base v) (find (λ x. x.0.place == v) slots)
 
+-- the word of a slot: the chosen address where it is bound, and else the file's word, moved
+unfoldable pub slot_word : Object → ℕ → Reloc → Binding → ℕ
+slot_word o base r b = if b.bound then b.value else moved_word o base r.place
+
 -- where it is one of the first two of .got.plt: the linker's entry for slots, and the object's serial
 unfoldable pub linkers_at : Object → ℕ → ℕ → Option ℕ
 linkers_at o serial v = if is_linkers o v then Some (if option_map_or (λ table. v == table) o.pltgot false then 0x80f000 else serial) else None

@@ -18,5 +18,5 @@ mod relocating;
 mod storage;
 
 pub use binding::{Binding, Bindings, ModulePlace, TlsPlaces};
-pub use law::worked_example;
+pub use law::{slots_hold, worked_example};
 pub use relocating::{RelocFault, relocate};
