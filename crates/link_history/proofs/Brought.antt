@@ -51,7 +51,7 @@ in_range from (suc n) x h = ⊎_elim
     (λ (i : Contains (range_with_len (from + 1) n) x). let r = in_range (from + 1) n x i in let low : from + 1 ≤ x = r.0 in let high : x < from + 1 + n = r.1 in (omega (arith, low), omega (arith, high)))
     (first_or_later from (range_with_len (from + 1) n) x h)
 
-length_range : (from n : ℕ) → length (range_with_len from n) ≡ n
+pub length_range : (from n : ℕ) → length (range_with_len from n) ≡ n
 length_range from zero = refl
 length_range from (suc n) = ap suc (length_range (from + 1) n)
 

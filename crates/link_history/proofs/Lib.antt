@@ -2,6 +2,7 @@ pub mod Accepting
 pub mod Alone
 pub mod Arrived
 pub mod AtLoad
+pub mod Beginning
 pub mod Brought
 pub mod Chains
 pub mod Changed

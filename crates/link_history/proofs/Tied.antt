@@ -1,7 +1,8 @@
 -- The bindings of images are what their objects chose when they were loaded.
-use Rattle.std.proofs.Common.{◌≡◌, ⊎_elim, ℕ, ◌<◌, ◌≤◌, Bool, true, false, not, ◌||◌, eqb, List, [], ◌∷◌, ◌++◌, map, length, drop, Option, Some, None, refl, sym, ap, subst, ◌∙◌, arith}
-use Rattle.std.specs.Prelude.{if◌then◌else◌}
-use Rattle.std.specs.List.{Contains, find}
+use Rattle.std.proofs.Common.{◌≡◌, ⊎_elim, ℕ, ◌<◌, ◌≤◌, Bool, true, false, not, ◌||◌, eqb, List, [], ◌∷◌, ◌++◌, map, length, drop, Option, Some, None, refl, sym, ap, subst, ◌∙◌, arith, zero, suc, ◌+◌}
+use Rattle.seg_image.specs.Accepted.{symbol_size}
+use Rattle.std.specs.Prelude.{if◌then◌else◌, min}
+use Rattle.std.specs.List.{Contains, find, range_with_len, slice_get, zip}
 use Rattle.std.specs.Option.{option_and_then, option_map, option_map_or}
 use Rattle.std.proofs.lemmas.Bool.{eqb-true, eq-eqb, ne_eqb, true≢false}
 use Rattle.std.proofs.lemmas.List.{drop-map, length-map, map-append}
@@ -20,7 +21,7 @@ use Rattle.link_event.specs.declared.event.Range.{Range}
 use Rattle.link_event.specs.declared.event.SymAnswer.TheVariants as syms
 use Rattle.link_event.specs.declared.state.Chosen.{Chosen}
 use Rattle.relocator.specs.declared.binding.Binding.{Binding}
-use Rattle.relocator.specs.Bindings.{chosen as object_of, is_copy}
+use Rattle.relocator.specs.Bindings.{chosen as object_of, is_copy, AreCopied}
 use Rattle.scope_rule.specs.Relocation.{choice_at}
 use Rattle.scope_rule.specs.Seen.{Seen}
 use Rattle.link_history.specs.State.{Linked, State}
@@ -28,7 +29,7 @@ use Rattle.link_history.specs.Accepted.{AcceptsOnly, IsAccepted}
 use Rattle.link_history.specs.Addresses.{address, chosen_symbol}
 use Rattle.link_history.specs.After.{after}
 use Rattle.link_history.specs.Allowed.{AllowedIn}
-use Rattle.link_history.specs.Bound.{binding_of, chosen_of, copies_made, is_storage, linked_with, reloc_bindings, reloc_choices, slot_binding, slot_bindings, slot_choice, slot_choices, uncopied, with_copies}
+use Rattle.link_history.specs.Bound.{binding_of, chosen_of, copies_made, is_storage, linked_with, reloc_bindings, reloc_choices, slot_binding, slot_bindings, slot_choice, slot_choices, uncopied, with_copies, bytes_from, copied_of, settled_byte}
 use Rattle.link_history.specs.Laws.{ImagesAreTied, bound_choice, bound_object, bound_value}
 use Rattle.link_history.specs.Legal.{Lawful}
 use Rattle.link_history.specs.Objects.{has}
@@ -39,7 +40,7 @@ use Rattle.link_history.proofs.History.{by_lawful}
 use Rattle.link_history.proofs.Lists.{found_in, from_filter, from_map, here, in_map, later, none_in, not_found}
 use Rattle.link_history.proofs.Accepting.{ReadLaw, opens_accepted}
 use Rattle.link_history.proofs.Arrived.{Arrived}
-use Rattle.link_history.proofs.Brought.{LoadLaws, arrived_by}
+use Rattle.link_history.proofs.Brought.{LoadLaws, arrived_by, length_range}
 use Rattle.link_history.proofs.Good.{core}
 use Rattle.link_history.proofs.Lookups.{find_behind, find_first, find_kept}
 use Rattle.link_history.proofs.Map.{made_of}
@@ -64,6 +65,33 @@ copies_same {Y} f same images o (r ∷ relocs) (b ∷ bindings) =
     one : (bytes : List ℕ) (t : Bool) → f (if t then record b { copied = bytes } else b) ≡ f b
     one bytes true = same b bytes
     one bytes false = refl
+
+-- a copy takes at most as many bytes as its symbol has
+bytes_few : (images : List Linked) (from : Option ℕ) (a count : ℕ) → length (bytes_from images from a count) ≤ count
+bytes_few images None a count = omega arith
+bytes_few images (Some serial) a count = by (find (λ (m : Linked). eqb m.serial serial) images)
+  where
+    by : (found : Option Linked) → length (option_map_or (λ m. map (λ i. settled_byte m (a + i)) (range_with_len 0 count)) found []) ≤ count
+    by None = omega arith
+    by (Some m) = let long : length (map (λ i. settled_byte m (a + i)) (range_with_len 0 count)) ≡ count = length-map (range_with_len 0 count) (λ i. settled_byte m (a + i)) ∙ length_range 0 count in omega (arith, long)
+
+copied_fit : (images : List Linked) (o : Object) (relocs : List Reloc) (bindings : List Binding) (k : ℕ) (r : Reloc) (b : Binding) → slice_get (zip relocs (copies_made images o relocs bindings)) k ≡ Some (r, b)
+    → is_copy r ≡ true → length b.copied ≤ symbol_size o r
+copied_fit images o [] bindings k r b at copy = absurd (let d : None ≡ Some (r, b) = at in cc)
+copied_fit images o (q ∷ relocs) [] k r b at copy = absurd (let d : None ≡ Some (r, b) = at in cc)
+copied_fit images o (q ∷ relocs) (c ∷ bindings) zero r b at copy =
+    let both : (q, copied_of images o q c) ≡ (r, b) = cc in
+    let reloc : q ≡ r = ap (λ (x : Reloc × Binding). x.0) both in
+    let binding : copied_of images o q c ≡ b = ap (λ (x : Reloc × Binding). x.1) both in
+    let made : length (copied_of images o q c).copied ≤ symbol_size o q = by (is_copy q) (ap is_copy reloc ∙ copy) in
+    subst (λ (x : Reloc). length b.copied ≤ symbol_size o x) reloc (subst (λ (x : Binding). length x.copied ≤ symbol_size o q) binding made)
+  where
+    by : (t : Bool) → t ≡ true → length (if t then record c { copied = bytes_from images c.object c.value (min (symbol_size o q) c.size) } else c).copied ≤ symbol_size o q
+    by true e =
+        let few : length (bytes_from images c.object c.value (min (symbol_size o q) c.size)) ≤ min (symbol_size o q) c.size = bytes_few images c.object c.value (min (symbol_size o q) c.size) in
+        omega (arith, few)
+    by false e = absurd (true≢false (sym e))
+copied_fit images o (q ∷ relocs) (c ∷ bindings) (suc k) r b at copy = copied_fit images o relocs bindings k r b at copy
 
 -- what the binding of a slot says
 slot_choice_is : (s : State) (r : Reloc) (choice : Option Choice) → bound_choice (slot_binding s (r, choice)) ≡ choice
@@ -109,11 +137,16 @@ module _ (s : State) (ns : Seen) (now : Bool) (o : Loaded) where
       (λ r i. slot_value_is s r (slot_choice ns now o r) (plain r i))
       ∙ sym (map_both (slot_choice ns now o) (option_map (address s)) (λ r. option_map (address s) (slot_choice ns now o r)) o.object.plt_relocs (λ r i. refl))
 
+-- one value a slot
+count_is : (s : State) (ns : Seen) (now : Bool) (o : Loaded) → length (chosen_of s ns now o).values ≡ length o.object.plt_relocs
+count_is s ns now o = length-map (slot_choices ns now o) (option_map (address s)) ∙ length-map o.object.plt_relocs (slot_choice ns now o)
+
 -- ---- the invariant
 
 abbrev Ties : State → Linked → Type 0
 Ties s i = (c : Chosen) × (find (λ k. eqb k.owner i.serial) s.chosen ≡ Some c) × (map bound_choice i.bindings ≡ c.choices)
     × (map bound_value (drop (length i.object.relocs) i.bindings) ≡ c.values) × (map bound_object i.bindings ≡ map (λ choice. option_and_then object_of choice) c.choices)
+    × (length c.values ≡ length i.object.plt_relocs) × AreCopied i.object i.bindings
 
 -- a new image, before it is looked up
 made_ties : (s : State) (ns : Seen) (now : Bool) (o : Loaded) (images : List Linked) → IsAccepted o.object
@@ -172,11 +205,11 @@ module _ (loads : LoadLaws) (read : ReadLaw) (m : Machine) (only : AcceptsOnly m
   tied_open tied i there = ⊎_elim
       (λ (old : Contains s.images i).
       let was = tied i old in
-      (was.0, find_first (λ k. eqb k.owner i.serial) s.chosen (map (chosen_of t seen now) added) was.0 was.1, was.2, was.3, was.4))
+      (was.0, find_first (λ k. eqb k.owner i.serial) s.chosen (map (chosen_of t seen now) added) was.0 was.1, was.2, was.3, was.4, was.5, was.6))
       (λ (new : Contains (linked_with s.images (map (uncopied t seen now) added)) i).
       let by = made_of s hart ask id root added ranges i new in
       let ties = made_ties t seen now by.0 (s.images ++ map (uncopied t seen now) added) (opens_accepted read m only w is s hart ask id root added ranges ask.name may.name by.0 by.1) in
-      subst (Ties (step s (events.Open hart ask (opens.Done id root added ranges)))) by.2 (chosen_of t seen now by.0, found_new by.0 by.1, ties.0, ties.1, ties.2))
+      subst (Ties (step s (events.Open hart ask (opens.Done id root added ranges)))) by.2 (chosen_of t seen now by.0, found_new by.0 by.1, ties.0, ties.1, ties.2, count_is t seen now by.0, copied_fit (s.images ++ map (uncopied t seen now) added) by.0.object by.0.object.relocs _))
       (Contains-append_cases s.images (linked_with s.images (map (uncopied t seen now) added)) i there)
 
 tied_unmap : (s : State) (hart : ℕ) (set : List ℕ) → ((i : Linked) → Contains s.images i → Ties s i) → (i : Linked) → Contains (unmap hart set s).images i → Ties (unmap hart set s) i
@@ -184,7 +217,7 @@ unfolding unmap
 tied_unmap s hart set tied i there =
     let kept = from_filter (λ (q : Linked). not (has set q.serial)) s.images i there in
     let was = tied i kept.0 in
-    (was.0, find_kept (λ k. eqb k.owner i.serial) (λ k. not (has set k.owner)) s.chosen (λ k at is. ap (λ (n : ℕ). not (has set n)) (eqb-true k.owner i.serial is) ∙ kept.1) ∙ was.1, was.2, was.3, was.4)
+    (was.0, find_kept (λ k. eqb k.owner i.serial) (λ k. not (has set k.owner)) s.chosen (λ k at is. ap (λ (n : ℕ). not (has set n)) (eqb-true k.owner i.serial is) ∙ kept.1) ∙ was.1, was.2, was.3, was.4, was.5, was.6)
 
 tied_step : LoadLaws → ReadLaw → (m : Machine) → AcceptsOnly m → (w : Setting) → w.machine ≡ m → (past : List Event) → Lawful m past → (e : Event) → AllowedIn w past (after past) e
     → ((i : Linked) → Contains (after past).images i → Ties (after past) i) → (i : Linked) → Contains (step (after past) e).images i → Ties (step (after past) e) i
@@ -212,4 +245,4 @@ pub images_tied : LoadLaws → ReadLaw → (m : Machine) → AcceptsOnly m → (
 images_tied loads read m only journal lawful i there =
     let ties = by_lawful m (λ s. (j : Linked) → Contains s.images j → Ties s j) (λ j at. absurd (none_in j at))
     (λ w past e is past_lawful tied may. tied_step loads read m only w is past past_lawful e may tied) journal lawful i there in
-    record { chosen = ties.0; found = ties.1; choices = ties.2; values = ties.3; objects = ties.4 }
+    record { chosen = ties.0; found = ties.1; choices = ties.2; values = ties.3; objects = ties.4; count = ties.5; copied = ties.6 }

@@ -7,18 +7,18 @@ use Rattle.ld_base.specs.declared.linking.Choice.{Choice}
 use Rattle.ld_base.specs.declared.linking.Choice.TheVariants.{Def, WeakZero, Missing}
 use Rattle.link_history.specs.Addresses.{is_code_in, is_linkers_page}
 use Rattle.ld_base.specs.declared.linking.Loaded.{Loaded}
-use Rattle.ld_base.specs.declared.linking.Role.TheVariants.{Rx}
+use Rattle.ld_base.specs.declared.linking.Role.TheVariants.{Rx, Slot}
 use Rattle.ld_base.specs.declared.linking.State.TheVariants as states
 use Rattle.ld_base.specs.declared.linking.TlsPlace.{TlsPlace}
 use Rattle.ld_base.specs.declared.object.Reloc.{Reloc}
 use Rattle.link_event.specs.declared.event.Purpose.TheVariants as purposes
 use Rattle.link_event.specs.declared.event.Range.{Range}
 use Rattle.relocator.specs.declared.binding.Binding.{Binding}
-use Rattle.relocator.specs.Bindings.{chosen as object_of}
-use Rattle.relocator.specs.Relocated.{image_word}
+use Rattle.relocator.specs.Bindings.{AreCopied, chosen as object_of}
+use Rattle.relocator.specs.Relocated.{image_word, moved_word}
 use Rattle.seg_image.specs.declared.image.Image.{Image}
 use Rattle.seg_image.specs.Images.{IsImage}
-use Rattle.seg_image.specs.Pages.{low_of, own_address, pages_of}
+use Rattle.seg_image.specs.Pages.{guest_address, low_of, own_address, pages_of}
 use Rattle.link_event.specs.declared.state.Block.{Block}
 use Rattle.link_event.specs.declared.state.Chosen.{Chosen}
 use Rattle.link_event.specs.declared.state.Closing.{Closing}
@@ -259,9 +259,23 @@ pub record IsTied (s : State) (i : Linked) : Type 0 where
   pub choices : map bound_choice i.bindings ≡ chosen.choices
   pub values : map bound_value (drop (length i.object.relocs) i.bindings) ≡ chosen.values
   pub objects : map bound_object i.bindings ≡ map (λ choice. option_and_then object_of choice) chosen.choices
+  pub count : length chosen.values ≡ length i.object.plt_relocs
+  pub copied : AreCopied i.object i.bindings
 
 abbrev pub ImagesAreTied : State → Type 0
 ImagesAreTied s = (i : Linked) → Contains s.images i → IsTied s i
+
+-- where a slot of an image stands
+abbrev pub slot_address : Linked → Reloc → ℕ
+slot_address i r = guest_address i.base r.place
+
+-- the word that was put into a slot first: the value that it got when its object was loaded, or else the word that it holds until it is bound
+pub record SlotsBegin (s : State) : Type 0 where
+  pub at_load : (i : Linked) (slot value : ℕ) (r : Reloc) → Contains s.images i → slice_get i.object.plt_relocs slot ≡ Some r → value_at_load s i.serial slot ≡ Some value → value < 2 ^ 64
+      → word_at s (slot_address i r) ≡ value
+  pub lazy : (i : Linked) (slot : ℕ) (r : Reloc) → Contains s.images i → slice_get i.object.plt_relocs slot ≡ Some r → value_at_load s i.serial slot ≡ None
+      → word_at s (slot_address i r) ≡ moved_word i.object i.base r.place
+  pub role : (i : Linked) (slot : ℕ) (r : Reloc) → Contains s.images i → slice_get i.object.plt_relocs slot ≡ Some r → role_at s (slot_address i r) ≡ Slot
 
 -- the module is that of a mapped object, with the number and the offset of its place
 pub record IsModule (s : State) (m : Module) : Type 0 where

@@ -13,7 +13,7 @@ ghost use Rattle.link_history.specs.Accepted.{AcceptsOnly};
 ghost use Rattle.link_history.specs.After.{after};
 ghost use Rattle.link_history.specs.Allowed.{Allowed};
 ghost use Rattle.link_history.specs.Changes.{ChangesMemory};
-ghost use Rattle.link_history.specs.Laws.{AreApart, ClosesSpare, EachDiesOnce, GrantsAreHeld, GrantsAreTidy, ImagesAreInstalled, ImagesAreMapped, ImagesArePlaced, ImagesAreTied, LoadsEnterCode, LostSawTheValue, ModulesAreTidy, NoneIsLazy, NothingDangles, NothingLeftOut, OpeningsStand, RangesAreApart, RangesAreOwned, SerialsAreInOrder, SlotsEnterCode, SlotsLeadToRx, StartupStays, TakesLeast};
+ghost use Rattle.link_history.specs.Laws.{AreApart, ClosesSpare, EachDiesOnce, GrantsAreHeld, GrantsAreTidy, ImagesAreInstalled, ImagesAreMapped, ImagesArePlaced, ImagesAreTied, LoadsEnterCode, LostSawTheValue, ModulesAreTidy, NoneIsLazy, NothingDangles, NothingLeftOut, OpeningsStand, RangesAreApart, RangesAreOwned, SerialsAreInOrder, SlotsBegin, SlotsEnterCode, SlotsLeadToRx, StartupStays, TakesLeast};
 ghost use Rattle.link_history.specs.Exits.{exits, initialised_by_another, setting, unmapped_unclosed};
 ghost use Rattle.link_history.specs.Legal.{Lawful, Legal, Whole};
 ghost use Rattle.link_history.specs.Objects.{serial_of};
@@ -208,6 +208,18 @@ pub fn images_are_tied()
     scope_rule::serials_follow();
     scope_rule::found_stands();
     scope_rule::reads_candidates();
+}
+
+/// Each slot begins with the value that it got when its object was loaded, or else with the word that
+/// leads to its entry of the procedure linkage table; and its role is that of a slot.
+pub fn slots_begin()
+    ensures { (m : Machine) (events : List Event) → AcceptsOnly m → Lawful m events → SlotsBegin (after events) }
+{
+    scope_rule::serials_follow();
+    scope_rule::found_stands();
+    scope_rule::reads_candidates();
+    seg_image::pages_hold_segments();
+    relocator::slots_hold();
 }
 
 /// An event changes memory in the ranges that it reserves or takes away alone. What it reserves had no
