@@ -57,6 +57,10 @@ Means w reading (Ok (finding.Read path)) found = IsUnread w path × (reading pat
 Means w reading (Ok finding.Nowhere) found = found ≡ nowhere
 Means w reading (Err fault) found = EndsSo fault found
 
+-- a search answers what its definition finds in the load, whatever further paths read as
+abbrev pub Searches : LoadAsk → List Loaded → Walker → Result Finding LoadFault → (Load → Found) → Type 0
+Searches ask there w result finds = (reading : List ℕ → Reading) → Agrees reading w → Means w reading result (finds (load_of ask there reading))
+
 -- the next path to read is one of the next name's: what it reads as the name finds, unless there is no file
 pub record IsToRead (ask : LoadAsk) (there : List Loaded) (w : Walker) (path : List ℕ) : Type 0 where
   pub unread : (reading : List ℕ → Reading) → Agrees reading w → IsUnread w path

@@ -111,8 +111,10 @@ pub(crate) fn drive<F: Format, L: Library>(
     library: &mut L,
     walker: &mut Walker,
 ) -> Result<(), LoadFault>
-    requires { Stage (F.verdict format.now) ask.now ns.now.objects (source_of L.files L.faults L.misses library.old) (source_of L.files L.faults L.misses library.old) walker.old }
-    ensures { Drives (F.verdict format.now) ask.now ns.now.objects (source_of L.files L.faults L.misses library.old) (source_of L.files L.faults L.misses library.new) walker.new result }
+    requires { Stage (F.verdict format.now) ask.now ns.now.objects
+        (source_of L.files L.faults L.misses library.old) (source_of L.files L.faults L.misses library.old) walker.old }
+    ensures { Drives (F.verdict format.now) ask.now ns.now.objects
+        (source_of L.files L.faults L.misses library.old) (source_of L.files L.faults L.misses library.new) walker.new result }
 {
     // A load ends long before; the bound spares a measure of what is left of it.
     for _ in 0..u64::MAX {

@@ -4,8 +4,7 @@ ghost use Rattle.std.specs.Prelude.{◌≡◌, ◌<◌, ◌+◌, ◌++◌, ◌�
 ghost use Rattle.std.specs.Option.{option_copied};
 ghost use Rattle.scope_rule.specs.Finding.{Reading, is_named, with_soname, with_path, at_soname, at_path, is_path, in_folders, candidates};
 ghost use Rattle.scope_rule.specs.Load.{use_of, find_path, find_paths, find_opened, find_needed, find_root, finds};
-ghost use Rattle.load_walk.specs.Files.{load_of};
-ghost use Rattle.load_walk.specs.Walking.{Agrees, Means, Uses};
+ghost use Rattle.load_walk.specs.Walking.{Means, Searches, Uses};
 
 use crate::ask::{LoadAsk, LoadFault};
 use crate::walker::Walker;
@@ -134,8 +133,7 @@ impl Walker {
     ghost use Rattle.std.specs.Prelude.{◌≡◌, ◌<◌, ◌+◌, ℕ, List, length, IfSome};
     ghost use Rattle.scope_rule.specs.Finding.{Reading};
     ghost use Rattle.scope_rule.specs.Load.{find_path, find_paths, find_opened, find_needed, find_root, finds, present};
-    ghost use Rattle.load_walk.specs.Files.{load_of};
-    ghost use Rattle.load_walk.specs.Walking.{Agrees, Means};
+    ghost use Rattle.load_walk.specs.Walking.{Means, Searches};
 
     /// The new object at a place.
     fn new_at(&self, ask: &LoadAsk, place: usize) -> Result<Finding, LoadFault>
@@ -156,7 +154,7 @@ impl Walker {
         ask: &LoadAsk,
         path: &[u8],
     ) -> Result<Finding, LoadFault>
-        ensures { (reading : List ℕ → Reading) → Agrees reading self.now → Means self.now reading result (find_path (load_of ask.now ns.now.objects reading) self.now.arrivals path.now) }
+        ensures { Searches ask.now ns.now.objects self.now result (λ load. find_path load self.now.arrivals path.now) }
     {
         if let Some(object) = with_path(ns.objects.as_slice(), path) {
             return Ok(Finding::Found(use_of(alloc, ask.hart, object)?));
@@ -178,7 +176,7 @@ impl Walker {
         ask: &LoadAsk,
         paths: &[Name],
     ) -> Result<Finding, LoadFault>
-        ensures { (reading : List ℕ → Reading) → Agrees reading self.now → Means self.now reading result (find_paths (load_of ask.now ns.now.objects reading) self.now.arrivals paths.now) }
+        ensures { Searches ask.now ns.now.objects self.now result (λ load. find_paths load self.now.arrivals paths.now) }
     {
         for path in paths {
             match self.find_path(alloc, ns, ask, path.as_bytes())? {
@@ -198,7 +196,7 @@ impl Walker {
         ask: &LoadAsk,
         name: &[u8],
     ) -> Result<Finding, LoadFault>
-        ensures { (reading : List ℕ → Reading) → Agrees reading self.now → Means self.now reading result (find_opened (load_of ask.now ns.now.objects reading) self.now.arrivals name.now) }
+        ensures { Searches ask.now ns.now.objects self.now result (λ load. find_opened load self.now.arrivals name.now) }
     {
         let paths = candidates(alloc, ask.folders.as_slice(), name)?;
         if is_path(name) {
@@ -221,7 +219,7 @@ impl Walker {
         ask: &LoadAsk,
         name: &[u8],
     ) -> Result<Finding, LoadFault>
-        ensures { (reading : List ℕ → Reading) → Agrees reading self.now → Means self.now reading result (find_needed (load_of ask.now ns.now.objects reading) self.now.arrivals name.now) }
+        ensures { Searches ask.now ns.now.objects self.now result (λ load. find_needed load self.now.arrivals name.now) }
     {
         if name == LINKER_NAME {
             return Ok(Finding::Found(Serial::LINKER));
@@ -237,7 +235,7 @@ impl Walker {
         ask: &LoadAsk,
         name: &[u8],
     ) -> Result<Finding, LoadFault>
-        ensures { (reading : List ℕ → Reading) → Agrees reading self.now → Means self.now reading result (find_root (load_of ask.now ns.now.objects reading) self.now.arrivals name.now) }
+        ensures { Searches ask.now ns.now.objects self.now result (λ load. find_root load self.now.arrivals name.now) }
     {
         if ask.program {
             return self.find_path(alloc, ns, ask, name);
@@ -254,7 +252,7 @@ impl Walker {
         ask: &LoadAsk,
         name: &[u8],
     ) -> Result<Finding, LoadFault>
-        ensures { (reading : List ℕ → Reading) → Agrees reading self.now → Means self.now reading result (finds (load_of ask.now ns.now.objects reading) (length self.now.found) self.now.arrivals name.now) }
+        ensures { Searches ask.now ns.now.objects self.now result (λ load. finds load (length self.now.found) self.now.arrivals name.now) }
     {
         if self.found.is_empty() {
             return self.find_root(alloc, ns, ask, name);

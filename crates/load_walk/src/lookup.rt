@@ -43,7 +43,8 @@ fn add_place(
     name: &[u8],
     place: usize,
 ) -> Result<(), AllocError>
-    ensures { OnOk result ((other : List ℕ) → place_of firsts.new.entries other ≡ option_or (place_of firsts.old.entries other) (if bytes_eq name.now other then Some place else None)) }
+    ensures { OnOk result ((other : List ℕ) →
+        place_of firsts.new.entries other ≡ option_or (place_of firsts.old.entries other) (if bytes_eq name.now other then Some place else None)) }
 {
     if !firsts.contains_key(name) {
         let name = Vec::from_slice(alloc, name)?;
