@@ -1,0 +1,6 @@
+pub mod Put
+pub mod Locks
+pub mod HartLocks
+pub mod KeeperLocks
+pub mod Rows
+pub mod HartCalls

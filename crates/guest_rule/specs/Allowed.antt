@@ -1,0 +1,38 @@
+-- What the keeper's view says of slots: where they lead, and which values may stand in one.
+use Rattle.std.specs.Prelude.{◌≡◌, ◌≢◌, ◌⊎◌, ℕ, ◌<◌, Some, Contains}
+use Rattle.ld_base.specs.declared.linking.Role.TheVariants.{Rx, Slot as SlotRole}
+use Rattle.guest_rule.specs.declared.entry.Grant.{Grant}
+use Rattle.guest_rule.specs.declared.view.Fate.TheVariants.{Won}
+use Rattle.guest_rule.specs.declared.view.Kept.{Kept}
+use Rattle.guest_rule.specs.declared.view.Row.{Row}
+use Rattle.guest_rule.specs.Layout.{doublewords, place_of, IsInMemory}
+
+-- a value is 0, or lies in an RX word
+abbrev pub LeadsTo : (ℕ → Kept) → ℕ → Type 0
+LeadsTo known v = (v ≡ 0) ⊎ (IsInMemory v × ((known (place_of v)).role ≡ Rx))
+
+abbrev pub IsSlot : (ℕ → Kept) → ℕ → Type 0
+IsSlot known d = (d < doublewords) × ((known d).role ≡ SlotRole)
+
+-- a grant of a slot that is there: it has the slot's address, and a number above the count at which the slot got its role
+abbrev pub IsOf : (ℕ → Kept) → ℕ → Grant → Type 0
+IsOf known d g = IsSlot known d × (place_of g.entry.slot ≡ d) × ((known d).since < g.entry.number)
+
+-- a grant of a hart was posted, and isn't known as lost
+abbrev pub Stands : Row → Grant → Type 0
+Stands row g = (row.pending ≡ Some g) ⊎ Contains row.settled (record { grant = g; fate = Won })
+
+-- the values that may stand in a slot: that of the image, and those of its grants
+abbrev pub IsAllowed : (ℕ → Kept) → (ℕ → Row) → ℕ → ℕ → Type 0
+IsAllowed known row d v = (v ≡ (known d).value) ⊎ ((hart : ℕ) × (g : Grant) × Stands (row hart) g × IsOf known d g × (v ≡ g.entry.value))
+
+-- a grant may be posted
+pub record IsPostable (known : ℕ → Kept) (g : Grant) : Type 0 where
+  pub of_slot : IsOf known (place_of g.entry.slot) g
+  pub lazy_is : g.lazy ≡ (known (place_of g.entry.slot)).lazy
+  pub other : g.entry.value ≢ g.lazy
+  pub leads : LeadsTo known g.entry.value
+
+-- no allowed value of a slot lies in the doubleword
+abbrev pub NothingEnters : (ℕ → Kept) → (ℕ → Row) → ℕ → Type 0
+NothingEnters known row d = (e v : ℕ) → IsSlot known e → IsAllowed known row e v → (v ≡ 0) ⊎ (place_of v ≢ d)

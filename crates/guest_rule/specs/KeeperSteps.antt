@@ -1,0 +1,201 @@
+-- The steps of the keeper: of each kind its word, what is done to the word, what the keeper must know before, its view after,
+-- and what the rule tells of the number found.
+use Rattle.std.specs.Prelude.{◌≡◌, ◌≢◌, ◌⊎◌, ℕ, ◌+◌, ◌-◌, ◌*◌, ◌%◌, ◌≤◌, ◌<◌, ◌^◌, Bool, true, false, cond, eqb, nat_le, List, [], ◌∷◌, ◌++◌, length, map, Option, Some, None, slice_get, slice_set, Contains, ◌==◌}
+use Rattle.ld_base.specs.declared.linking.Role.{Role}
+use Rattle.ld_base.specs.declared.linking.Role.TheVariants.{None as NoRole, Ro, Rx, Rw, Slot as SlotRole}
+use Rattle.link_event.specs.declared.event.Event.{Event}
+use Rattle.guest_rule.specs.declared.entry.Entry.{Entry}
+use Rattle.guest_rule.specs.declared.entry.Grant.{Grant}
+use Rattle.guest_rule.specs.declared.entry.RowWord.{RowWord}
+use Rattle.guest_rule.specs.declared.kind.KeeperKind.{KeeperKind}
+use Rattle.guest_rule.specs.declared.kind.KeeperKind.TheVariants as kinds
+use Rattle.guest_rule.specs.declared.view.Access.{Access}
+use Rattle.guest_rule.specs.declared.view.Fate.{Fate}
+use Rattle.guest_rule.specs.declared.view.Fate.TheVariants.{Won, Lost}
+use Rattle.guest_rule.specs.declared.view.HartView.{HartView}
+use Rattle.guest_rule.specs.declared.view.KeeperView.{KeeperView}
+use Rattle.guest_rule.specs.declared.view.Kept.{Kept}
+use Rattle.guest_rule.specs.declared.view.Row.{Row}
+use Rattle.guest_rule.specs.declared.view.Told.{Told}
+use Rattle.guest_rule.specs.Layout.{doublewords, count_at, generation_at, quiet_at, harts_at_most, state_at, row_at, index_of, value_at, control_at, place_of, role_code, lock_bit, to_lock, to_unlock}
+use Rattle.guest_rule.specs.Views.{BeginsWith, entries_of, entry_of, grant_in, kept_at, nothing_locked, row_of, with_field}
+use Rattle.guest_rule.specs.Allowed.{IsAllowed, IsOf, IsPostable, IsSlot, LeadsTo, NothingEnters}
+use Rattle.guest_rule.specs.Operations.{Op, load, store, exchange, add}
+
+-- ---- views
+
+-- a load ends what is kept of a note
+abbrev pub heeding : KeeperView → KeeperView
+heeding k = record k { note = None }
+
+abbrev pub accessing : Access → KeeperView → KeeperView
+accessing a k = record k { access = a }
+
+abbrev pub with_kept : ℕ → Kept → KeeperView → KeeperView
+with_kept d x k = record k { words = slice_set k.words d x }
+
+abbrev pub with_row : ℕ → Row → KeeperView → KeeperView
+with_row m r k = record k { rows = slice_set k.rows m r }
+
+abbrev pub last_if : ℕ → ℕ → Bool → Option (ℕ × ℕ)
+last_if d control true = Some (d, control)
+last_if d control false = None
+
+abbrev pub keeps_if : ℕ → Bool → KeeperView → KeeperView
+keeps_if d true k = accessing (record { locked = Some d; held = None; last = None }) k
+keeps_if d false k = accessing nothing_locked k
+
+abbrev pub not_found : Row → Row
+not_found r = record r { found_open = false }
+
+-- the hart is found calling: no row was found open since
+abbrev pub awaited_if : ℕ → Bool → KeeperView → KeeperView
+awaited_if m true k = with_row m (record (not_found (row_of k m)) { since = Some (length k.events) }) (record k { rows = map not_found k.rows })
+awaited_if m false k = k
+
+-- the fate of the last grant is known
+abbrev pub settled_as : Fate → Option Grant → Row → Row
+settled_as f None r = r
+settled_as f (Some g) r = record r { pending = None; settled = r.settled ++ record { grant = g; fate = f } ∷ [] }
+
+-- what a state says of the last grant: open, won, lost, or nothing
+abbrev pub asked_if : Bool → Bool → Bool → Row → Row
+asked_if true won lost r = record r { found_open = true }
+asked_if false true lost r = settled_as Won r.pending r
+asked_if false false true r = settled_as Lost r.pending r
+asked_if false false false r = r
+
+abbrev pub asked : ℕ → Row → Row
+asked state r = asked_if (eqb (state % 8) 3) (eqb (state % 8) 4) (eqb (state % 8) 5) r
+
+abbrev pub handed : ℕ → Row → Row
+handed mark r = record r { issued = r.issued ++ entry_of mark r ∷ []; since = None }
+
+abbrev pub opened : Row → Row
+opened r = record (handed 3 r) { pending = Some (grant_in r) }
+
+-- ---- the table
+
+abbrev pub keeper_word : KeeperKind → ℕ
+keeper_word (kinds.Look d) = control_at d
+keeper_word (kinds.Load d) = value_at d
+keeper_word (kinds.Lock d control) = control_at d
+keeper_word (kinds.Store d x) = value_at d
+keeper_word (kinds.Unlock d old new lazy) = control_at d
+keeper_word (kinds.Count e) = count_at
+keeper_word (kinds.Await m) = state_at m
+keeper_word (kinds.Ask m) = state_at m
+keeper_word (kinds.Saw d) = value_at d
+keeper_word (kinds.Fill m i x) = row_at m (index_of i)
+keeper_word (kinds.Hand m mark) = state_at m
+keeper_word (kinds.Open m) = state_at m
+keeper_word (kinds.RetireSlot d) = control_at d
+keeper_word (kinds.Retire d old) = control_at d
+keeper_word (kinds.Generation g) = generation_at
+keeper_word kinds.Listen = quiet_at
+
+abbrev pub keeper_op : KeeperKind → Op
+keeper_op (kinds.Look d) = load
+keeper_op (kinds.Load d) = load
+keeper_op (kinds.Lock d control) = exchange control (control + to_lock)
+keeper_op (kinds.Store d x) = store x
+keeper_op (kinds.Unlock d old new lazy) = add (to_unlock old new)
+keeper_op (kinds.Count e) = add 1
+keeper_op (kinds.Await m) = load
+keeper_op (kinds.Ask m) = load
+keeper_op (kinds.Saw d) = load
+keeper_op (kinds.Fill m i x) = store x
+keeper_op (kinds.Hand m mark) = store mark
+keeper_op (kinds.Open m) = store 3
+keeper_op (kinds.RetireSlot d) = add (to_unlock SlotRole NoRole)
+keeper_op (kinds.Retire d old) = add (to_unlock old NoRole)
+keeper_op (kinds.Generation g) = store g
+keeper_op kinds.Listen = load
+
+-- the hart is known to call since this count, and the fate of its last grant is known
+abbrev pub Waits : KeeperView → ℕ → ℕ → Type 0
+Waits k m c = (m < harts_at_most) × ((row_of k m).since ≡ Some c) × ((row_of k m).pending ≡ None)
+
+-- no grant whose fate isn't known is of the doubleword
+abbrev pub Unposted : KeeperView → ℕ → Type 0
+Unposted k d = (m : ℕ) (g : Grant) → (row_of k m).pending ≡ Some g → place_of g.entry.slot ≢ d
+
+-- an answer OpenGrant is given only where each open grant was found open by an ask
+abbrev pub FoundOpen : KeeperView → ℕ → Row → Type 0
+FoundOpen k mark r = mark ≡ 6 → r.slot ≡ 3 → (m : ℕ) (g : Grant) → (row_of k m).pending ≡ Some g → (row_of k m).found_open ≡ true
+
+-- what the keeper must know before the step
+abbrev pub KeeperReady : KeeperKind → KeeperView → Type 0
+KeeperReady (kinds.Look d) k = (d < doublewords) × (k.access.locked ≡ None)
+KeeperReady (kinds.Load d) k = (d < doublewords) × (k.access.locked ≡ None)
+KeeperReady (kinds.Lock d control) k =
+    (d < doublewords) × (k.access.locked ≡ None) × (k.access.last ≡ Some (d, control)) × (lock_bit control ≡ 0) × ((kept_at k d).role ≡ SlotRole → Unposted k d)
+KeeperReady (kinds.Store d x) k = (k.access.locked ≡ Some d) × ((kept_at k d).role ≢ SlotRole)
+KeeperReady (kinds.Unlock d old new lazy) k =
+    (k.access.locked ≡ Some d) × (old ≡ (kept_at k d).role) × (old ≢ SlotRole) × (new ≢ NoRole) × ((old ≡ NoRole) ⊎ (old ≡ new)) × (k.access.held ≡ Some (kept_at k d).value)
+    × (new ≡ SlotRole → LeadsTo (kept_at k) (kept_at k d).value)
+KeeperReady (kinds.Count e) k = length k.events < 18446744073709551615
+KeeperReady (kinds.Await m) k = m < harts_at_most
+KeeperReady (kinds.Ask m) k = (m < harts_at_most) × ((g : Grant) × ((row_of k m).pending ≡ Some g))
+KeeperReady (kinds.Saw d) k = IsSlot (kept_at k) d
+KeeperReady (kinds.Fill m i x) k = (c : ℕ) × Waits k m c
+KeeperReady (kinds.Hand m mark) k =
+    (c : ℕ) × Waits k m c × ((mark ≡ 1) ⊎ (mark ≡ 2) ⊎ (mark ≡ 6)) × ((row_of k m).number ≡ length k.events) × (mark ≡ 1 → c < (row_of k m).number)
+    × ((row_of k m).generation ≤ k.generation) × FoundOpen k mark (row_of k m)
+KeeperReady (kinds.Open m) k =
+    (c : ℕ) × Waits k m c × ((row_of k m).number ≡ length k.events) × (c < (row_of k m).number) × ((row_of k m).generation ≡ k.generation)
+    × IsPostable (kept_at k) (grant_in (row_of k m)) × (k.access.locked ≡ None)
+KeeperReady (kinds.RetireSlot d) k = (k.access.locked ≡ Some d) × ((kept_at k d).role ≡ SlotRole)
+KeeperReady (kinds.Retire d old) k =
+    (k.access.locked ≡ Some d) × (old ≡ (kept_at k d).role) × (old ≢ SlotRole) × NothingEnters (kept_at k) (row_of k) d
+KeeperReady (kinds.Generation g) k = k.generation < g
+KeeperReady kinds.Listen k = Unit {0}
+
+-- its view after, by the number found
+abbrev pub keeper_after : KeeperKind → KeeperView → ℕ → KeeperView
+keeper_after (kinds.Look d) k n = accessing (record { locked = None; held = None; last = last_if d n (eqb (lock_bit n) 0) }) (heeding k)
+keeper_after (kinds.Load d) k n = accessing nothing_locked (heeding k)
+keeper_after (kinds.Lock d control) k n = keeps_if d (eqb n control) k
+keeper_after (kinds.Store d x) k n = accessing (record { locked = k.access.locked; held = Some x; last = None }) (with_kept d (record (kept_at k d) { value = x }) k)
+keeper_after (kinds.Unlock d old new lazy) k n =
+    accessing nothing_locked (with_kept d (record { role = new; value = (kept_at k d).value; lazy = lazy; since = length k.events }) k)
+keeper_after (kinds.Count e) k n = record k { events = k.events ++ e ∷ [] }
+keeper_after (kinds.Await m) k n = awaited_if m (nat_le 8 n) (heeding k)
+keeper_after (kinds.Ask m) k n = with_row m (asked n (row_of k m)) (heeding k)
+keeper_after (kinds.Saw d) k n = heeding k
+keeper_after (kinds.Fill m i x) k n = with_row m (with_field i x (row_of k m)) k
+keeper_after (kinds.Hand m mark) k n = with_row m (handed mark (row_of k m)) k
+keeper_after (kinds.Open m) k n = with_row m (opened (row_of k m)) k
+keeper_after (kinds.RetireSlot d) k n = accessing nothing_locked (with_kept d (record (kept_at k d) { role = NoRole }) k)
+keeper_after (kinds.Retire d old) k n = accessing nothing_locked (with_kept d (record (kept_at k d) { role = NoRole }) k)
+keeper_after (kinds.Generation g) k n = record k { generation = g }
+keeper_after kinds.Listen k n = heeding k
+
+-- ---- what the rule tells
+
+-- what the keeper keeps of a note is true
+abbrev pub KeeperHeard : Option Told → KeeperView → Type 0
+KeeperHeard None k = Unit {0}
+KeeperHeard (Some t) k = BeginsWith k.events t.told × BeginsWith (row_of k t.number).issued t.entries
+
+-- a hart whose seat was joined while it wasn't calling has taken all that was issued to it, and its row has no call
+abbrev pub HasTakenAll : KeeperView → ℕ → ℕ → Type 0
+HasTakenAll k m n =
+    (i : ℕ) (j : HartView) → slice_get k.joined i ≡ Some j → j.number ≡ m → j.lane.calling ≡ false
+    → (j.lane.taken ≡ (row_of k m).issued) × (entries_of j.trail ≡ j.lane.taken) × (n < 8)
+
+-- the word of a slot is one of its allowed values, and not the lazy word where a grant of it was lost
+pub record TellsSlot (k : KeeperView) (d n : ℕ) : Type 0 where
+  pub allowed : IsAllowed (kept_at k) (row_of k) d n
+  pub lost : (m : ℕ) (g : Grant) → Contains (row_of k m).settled (record { grant = g; fate = Lost }) → IsOf (kept_at k) d g → n ≢ g.lazy
+
+abbrev pub KeeperLearns : KeeperKind → KeeperView → ℕ → Type 0
+KeeperLearns (kinds.Look d) k n = (n % 8 ≡ role_code (kept_at k d).role) × ((kept_at k d).role ≢ Rw → lock_bit n ≡ 0)
+KeeperLearns (kinds.Load d) k n = ((kept_at k d).role ≡ Ro) ⊎ ((kept_at k d).role ≡ Rx) → n ≡ (kept_at k d).value
+KeeperLearns (kinds.Lock d control) k n = (kept_at k d).role ≢ Rw → n ≡ control
+KeeperLearns (kinds.Count e) k n = n ≡ length k.events
+KeeperLearns (kinds.Await m) k n = HasTakenAll k m n
+KeeperLearns (kinds.Ask m) k n = (n % 8 ≡ 3) ⊎ (n % 8 ≡ 4) ⊎ (n % 8 ≡ 5)
+KeeperLearns (kinds.Saw d) k n = TellsSlot k d n
+KeeperLearns kinds.Listen k n = KeeperHeard k.note k
+KeeperLearns _ k n = Unit {0}

@@ -1,0 +1,9 @@
+pub mod Layout
+pub mod Views
+pub mod Allowed
+pub mod Operations
+pub mod HartSteps
+pub mod KeeperSteps
+pub mod Seats
+pub mod Words
+pub mod Calls

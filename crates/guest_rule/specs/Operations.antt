@@ -1,0 +1,16 @@
+-- What a step does to its word.
+use Rattle.std.specs.Prelude.{ℕ, ◌+◌, ◌%◌, ◌^◌, eqb}
+use prog.Atomic.{either}
+
+pub data Op : Type 0 where
+  load : Op
+  store : ℕ → Op
+  exchange : ℕ → ℕ → Op
+  add : ℕ → Op
+
+-- the word after, by the number found
+abbrev pub becomes : Op → ℕ → ℕ
+becomes load n = n
+becomes (store x) n = x
+becomes (exchange old new) n = either (eqb n old) new n
+becomes (add k) n = (n + k) % 18446744073709551616

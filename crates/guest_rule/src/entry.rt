@@ -1,0 +1,39 @@
+//! What goes between the keeper and a hart.
+
+/// What answers a hart's call.
+#[derive(Clone, Copy, Debug, PartialEq, Eq)]
+pub struct Entry {
+    /// 1: an event. 2: a TLS answer that is no event. 3: a grant. 6: the call is to be tried again.
+    pub mark: u64,
+    /// The event's number, or the count.
+    pub number: u64,
+    /// The slot's address of a grant, the module of a TLS answer, the cause of mark 6.
+    pub slot: u64,
+    pub value: u64,
+    /// The generation of the TLS modules at that number.
+    pub generation: u64,
+}
+
+/// A grant as a hart gets it: its entry, of mark 3, and the slot's lazy word.
+#[derive(Clone, Copy, Debug, PartialEq, Eq)]
+pub struct Grant {
+    pub entry: Entry,
+    pub lazy: u64,
+}
+
+/// A compare-exchange of a slot: the grant that it was made for, and the word found.
+#[derive(Clone, Copy, Debug, PartialEq, Eq)]
+pub struct Exchange {
+    pub grant: Grant,
+    pub found: u64,
+}
+
+/// A word of a hart's row beside its state.
+#[derive(Clone, Copy, Debug, PartialEq, Eq)]
+pub enum RowWord {
+    Number,
+    Slot,
+    Lazy,
+    Value,
+    Generation,
+}

@@ -1,0 +1,25 @@
+//! The rule of guest memory that harts share.
+//!
+//! Guest memory, and what the linker and the harts hand one another, are words that change in single
+//! atomic steps which no lock covers. Whoever steps has a view: what it knows. There is one keeper,
+//! which the linker's state belongs to, and up to 16 harts. This crate says which steps there are
+//! ([`HartKind`] and [`KeeperKind`], two closed enums), what each asks of the view, what it does to its
+//! word and what the view is after; and it states the rule, a fact about all words and all views that
+//! holds between any two steps, whoever steps.
+//!
+//! The rule has parts that speak of different things: who the seats are (`specs/Seats.antt`), the
+//! words and their locks (`specs/Words.antt`), calls and rows (`specs/Calls.antt`). Each is a record of facts about words and a few fields of the views, so that a kind of
+//! step owes one lemma to each part.
+//!
+//! Nothing here runs. No value of a view is ever made: views exist in proofs alone.
+#![tactic(auto)]
+
+mod entry;
+mod kind;
+mod view;
+
+pub use entry::{Entry, Exchange, Grant, RowWord};
+pub use kind::{Ask, HartKind, KeeperKind, Kind, LoadAsk, StoreAsk};
+pub use view::{
+    Access, Fate, HartView, KeeperView, Kept, Lane, Offer, Row, Settled, Slip, Told, TrailItem, View,
+};
