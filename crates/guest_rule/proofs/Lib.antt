@@ -4,3 +4,4 @@ pub mod HartLocks
 pub mod KeeperLocks
 pub mod Rows
 pub mod HartCalls
+pub mod KeeperCalls
