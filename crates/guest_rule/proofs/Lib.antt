@@ -5,3 +5,4 @@ pub mod KeeperLocks
 pub mod Rows
 pub mod HartCalls
 pub mod KeeperCalls
+pub mod SlotFrames

@@ -7,3 +7,4 @@ pub mod KeeperSteps
 pub mod Seats
 pub mod Words
 pub mod Calls
+pub mod Slots
