@@ -28,10 +28,10 @@ use Rattle.guest_rule.proofs.Rows.{begins, beside_rows, carry, elsewhere, entrie
 
 -- ---- what an access leaves alone
 
-push_quiet : (trail : List TrailItem) (item : TrailItem) → entries_by item ≡ [] → entries_of (trail ++ item ∷ []) ≡ entries_of trail
+pub push_quiet : (trail : List TrailItem) (item : TrailItem) → entries_by item ≡ [] → entries_of (trail ++ item ∷ []) ≡ entries_of trail
 push_quiet trail item e = entries_push trail item ∙ (ap (λ es. entries_of trail ++ es) e ∙ append-nil (entries_of trail))
 
-glanced_lane : (ask : Ask) (control : ℕ) (a b c : Bool) (h : HartView) → (glanced ask control a b c h).lane ≡ h.lane
+pub glanced_lane : (ask : Ask) (control : ℕ) (a b c : Bool) (h : HartView) → (glanced ask control a b c h).lane ≡ h.lane
 glanced_lane ask control true b c h = refl
 glanced_lane ask control false false c h = refl
 glanced_lane ask control false true false h = refl
@@ -43,7 +43,7 @@ glanced_entries ask control false false c h = push_quiet h.trail _ refl
 glanced_entries ask control false true false h = push_quiet h.trail _ refl
 glanced_entries ask control false true true h = refl
 
-locked_lane : (ask : StoreAsk) (c n : ℕ) (b : Bool) (h : HartView) → (locked_if ask c n b h).lane ≡ h.lane
+pub locked_lane : (ask : StoreAsk) (c n : ℕ) (b : Bool) (h : HartView) → (locked_if ask c n b h).lane ≡ h.lane
 locked_lane ask c n true h = refl
 locked_lane ask c n false h = refl
 
@@ -53,19 +53,19 @@ locked_entries ask c n false h = push_quiet h.trail _ refl
 
 -- ---- stages
 
-still_if : (s : ℕ) (r : Row) (l : Lane) → l.calling ≡ false → Stage s r l l.calling → Rests s × Still r l
+pub still_if : (s : ℕ) (r : Row) (l : Lane) → l.calling ≡ false → Stage s r l l.calling → Rests s × Still r l
 still_if s r l e st = subst (Stage s r l) e st
 
-answered_if : (s : ℕ) (r : Row) (l : Lane) (o : Offer) → l.offer ≡ Some o → (b : Bool) → Stage s r l b → Answered s r l
+pub answered_if : (s : ℕ) (r : Row) (l : Lane) (o : Offer) → l.offer ≡ Some o → (b : Bool) → Stage s r l b → Answered s r l
 answered_if s r l o has false st = let h : Some o ≡ None = sym has ∙ st.1.no_offer in absurd (cc)
 answered_if s r l o has true st = ⊎_elim (λ (w : Awaits s × Still r l). let h : Some o ≡ None = sym has ∙ w.1.no_offer in absurd (cc)) (λ (a : Answered s r l). a) st
 
-tried_if : (s : ℕ) (r : Row) (l : Lane) (x : Exchange) → l.tried ≡ Some x → (b : Bool) → Stage s r l b → Answered s r l
+pub tried_if : (s : ℕ) (r : Row) (l : Lane) (x : Exchange) → l.tried ≡ Some x → (b : Bool) → Stage s r l b → Answered s r l
 tried_if s r l x has false st = let h : Some x ≡ None = sym has ∙ st.1.no_try in absurd (cc)
 tried_if s r l x has true st = ⊎_elim (λ (w : Awaits s × Still r l). let h : Some x ≡ None = sym has ∙ w.1.no_try in absurd (cc)) (λ (a : Answered s r l). a) st
 
 -- a row that is answered is that of a hart that calls
-calling_if : (s : ℕ) (r : Row) (l : Lane) → Answered s r l → (b : Bool) → Stage s r l b → b ≡ true
+pub calling_if : (s : ℕ) (r : Row) (l : Lane) → Answered s r l → (b : Bool) → Stage s r l b → b ≡ true
 calling_if s r l a false st = absurd (last_apart r.issued l.taken (entry_of s r) (sym st.1.all) a.last)
   where
     longer : (xs : List Entry) (e : Entry) → xs ≡ xs ++ e ∷ [] → ⊥
@@ -75,7 +75,7 @@ calling_if s r l a false st = absurd (last_apart r.issued l.taken (entry_of s r)
 calling_if s r l a true st = refl
 
 -- the entry that was read in full is the row's
-read_entry : (word : ℕ) (r : Row) (l : Lane) (o : Offer) (e : Entry) → Answered word r l → l.offer ≡ Some o → IsRead o e → (word ≡ e.mark) × (e ≡ entry_of word r)
+pub read_entry : (word : ℕ) (r : Row) (l : Lane) (o : Offer) (e : Entry) → Answered word r l → l.offer ≡ Some o → IsRead o e → (word ≡ e.mark) × (e ≡ entry_of word r)
 read_entry s r l o e a has is =
     let f : (i : RowWord) (x : ℕ) → offered i o ≡ Some x → x ≡ field_of i r = (a.offer o has).1 in
     let mark : s ≡ e.mark = sym (a.offer o has).0 ∙ is.mark_is in

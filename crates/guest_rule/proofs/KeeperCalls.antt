@@ -177,12 +177,12 @@ awaited word count m r l es high is = record {
 
 -- ---- the list of rows
 
-map_row : (rows : List Row) (j : ℕ) → not_found (get_or rows j no_row) ≡ get_or (map not_found rows) j no_row
+pub map_row : (rows : List Row) (j : ℕ) → not_found (get_or rows j no_row) ≡ get_or (map not_found rows) j no_row
 map_row [] j = refl
 map_row (r ∷ rs) zero = refl
 map_row (r ∷ rs) (suc j) = map_row rs j
 
-map_long : (rows : List Row) → length (map not_found rows) ≡ length rows
+pub map_long : (rows : List Row) → length (map not_found rows) ≡ length rows
 map_long [] = refl
 map_long (r ∷ rs) = ap suc (map_long rs)
 

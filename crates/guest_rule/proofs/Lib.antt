@@ -6,3 +6,5 @@ pub mod Rows
 pub mod HartCalls
 pub mod KeeperCalls
 pub mod SlotFrames
+pub mod HartSlots
+pub mod KeeperSlots
