@@ -187,7 +187,7 @@ HasTakenAll k m n =
 -- the word of a slot is one of its allowed values, and not the lazy word where a grant of it was lost
 pub record TellsSlot (k : KeeperView) (d n : ℕ) : Type 0 where
   pub allowed : IsAllowed (kept_at k) (row_of k) d n
-  pub lost : (m : ℕ) (g : Grant) → Contains (row_of k m).settled (record { grant = g; fate = Lost }) → IsOf (kept_at k) d g → n ≢ g.lazy
+  pub lost : (m : ℕ) (g : Grant) → m < harts_at_most → Contains (row_of k m).settled (record { grant = g; fate = Lost }) → IsOf (kept_at k) d g → n ≢ g.lazy
 
 abbrev pub KeeperLearns : KeeperKind → KeeperView → ℕ → Type 0
 KeeperLearns (kinds.Look d) k n = (n % 8 ≡ role_code (kept_at k d).role) × ((kept_at k d).role ≢ Rw → lock_bit n ≡ 0)

@@ -59,6 +59,10 @@ pub record IsPending (known : ℕ → Kept) (locked : Option ℕ) (value state :
   pub other : g.entry.value ≢ g.lazy
   pub fate : Fated value state winner m row tried exchanges g
 
+-- a grant was posted to the row's hart
+abbrev pub IsGrant : Row → Grant → Type 0
+IsGrant row g = (row.pending ≡ Some g) ⊎ ((f : Fate) × Contains row.settled (record { grant = g; fate = f }))
+
 -- numbers rise
 abbrev pub Rising : List Exchange → Type 0
 Rising [] = Unit {0}
@@ -71,9 +75,9 @@ pub record GrantsAre (known : ℕ → Kept) (locked : Option ℕ) (count : ℕ) 
   pub pending : (g : Grant) → row.pending ≡ Some g → let d = place_of g.entry.slot in IsPending known locked (word (value_at d)) (word (state_at m)) (winner d) m row tried exchanges g
   pub won : (g : Grant) → Contains row.settled (record { grant = g; fate = Won }) → HasWon exchanges g
   pub lost : (g : Grant) → Contains row.settled (record { grant = g; fate = Lost }) → HasLost exchanges g
-  -- known grants are older than the call that is known
-  pub counted : (g : Grant) (f : Fate) → Contains row.settled (record { grant = g; fate = f }) → (g.entry.number ≤ count) × ((c : ℕ) → row.since ≡ Some c → g.entry.number ≤ c)
-  pub granted : (x : Exchange) → Contains exchanges x → (row.pending ≡ Some x.grant) ⊎ ((f : Fate) × Contains row.settled (record { grant = x.grant; fate = f }))
+  -- grants are older than a call that came to be known later
+  pub counted : (g : Grant) → IsGrant row g → (g.entry.number ≤ count) × ((c : ℕ) → row.since ≡ Some c → g.entry.number ≤ c)
+  pub granted : (x : Exchange) → Contains exchanges x → IsGrant row x.grant
   pub rising : Rising exchanges
 
 pub record Slots (word : ℕ → ℕ) (known : ℕ → Kept) (locked : Option ℕ) (count : ℕ) (row : ℕ → Row) (tried : ℕ → Option Exchange) (exchanges : ℕ → List Exchange) : Type 0 where
