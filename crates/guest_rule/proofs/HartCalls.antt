@@ -324,7 +324,7 @@ module _ (word : ℕ → ℕ) (count : ℕ) (row : ℕ → Row) (lane : ℕ → 
   hart_calls (kinds.Hold ask) ready = at_value (store_place ask) (word (value_at (store_place ask))) (hart_after (kinds.Hold ask) h (word (value_at (store_place ask)))) refl refl
   hart_calls (kinds.Lock ask control) ready =
       let n : ℕ = word (control_at (store_place ask)) in
-      at_control (store_place ask) (becomes (hart_op (kinds.Lock ask control)) n) (locked_if ask control n (eqb n control) h) (locked_lane ask control n (eqb n control) h) (locked_entries ask control n (eqb n control) h)
+      at_control (store_place ask) (becomes (hart_op (kinds.Lock ask control)) n) (locked_if ask control n (eqb n control) (heeded h)) (locked_lane ask control n (eqb n control) (heeded h)) (locked_entries ask control n (eqb n control) (heeded h))
   hart_calls (kinds.Store ask x) ready = at_value (store_place ask) x (hart_after (kinds.Store ask x) h (word (value_at (store_place ask)))) refl (push_quiet h.trail _ refl)
   hart_calls (kinds.Unlock d) ready = at_control d ((word (control_at d) + 8) % 18446744073709551616) (hart_after (kinds.Unlock d) h (word (control_at d))) refl refl
   hart_calls kinds.Tally ready = counts ready

@@ -81,7 +81,7 @@ module _ (word : ℕ → ℕ) (known : ℕ → Kept) (access : Access) (harts : 
   -- the compare-exchange of a control word
   locks : (ask : StoreAsk) (c : ℕ) → store_place ask < doublewords → h.access.locked ≡ None → lock_bit c ≡ 0 → may_write (role_in c) ≡ true
       → (b : Bool) → eqb (word (control_at (store_place ask))) c ≡ b
-      → Words (put word (control_at (store_place ask)) (either b (c + 8) (word (control_at (store_place ask))))) known access (put harts m (locked_if ask c (word (control_at (store_place ask))) b h).access)
+      → Words (put word (control_at (store_place ask)) (either b (c + 8) (word (control_at (store_place ask))))) known access (put harts m (locked_if ask c (word (control_at (store_place ask))) b (heeded h)).access)
   locks ask c low none' free may false miss = unmoved word (control_at (store_place ask)) (λ f. Words f known access (put harts m nothing_locked)) (unlocked word known access harts m nothing_locked w (none_locked none') refl)
   locks ask c low none' free may true hit =
       let d : ℕ = store_place ask in

@@ -471,7 +471,7 @@ module _ (word : ℕ → ℕ) (known : ℕ → Kept) (locked : Option ℕ) (coun
   hart_slots (kinds.Lock ask control) ready =
       let n : ℕ = word (control_at (store_place ask)) in
       let x : ℕ = becomes (hart_op (kinds.Lock ask control)) n in
-      quiet (put word (control_at (store_place ask)) x) (locked_if ask control n (eqb n control) h) (ap (λ (l : Lane). l.tried) (locked_lane ask control n (eqb n control) h)) (locked_exchanges ask control n (eqb n control) h) (at_control (store_place ask) x)
+      quiet (put word (control_at (store_place ask)) x) (locked_if ask control n (eqb n control) (heeded h)) (ap (λ (l : Lane). l.tried) (locked_lane ask control n (eqb n control) (heeded h))) (locked_exchanges ask control n (eqb n control) (heeded h)) (at_control (store_place ask) x)
   hart_slots (kinds.Store ask x) ready = quiet (put word (value_at (store_place ask)) x) (hart_after (kinds.Store ask x) h (word (value_at (store_place ask)))) refl (push_quiet h.trail _ refl) (at_locked (store_place ask) x ready.0)
   hart_slots (kinds.Unlock d) ready = quiet (put word (control_at d) ((word (control_at d) + 8) % 18446744073709551616)) (hart_after (kinds.Unlock d) h (word (control_at d))) refl refl (at_control d ((word (control_at d) + 8) % 18446744073709551616))
   hart_slots kinds.Tally ready = quiet (put word 0 (word 0)) (hart_after kinds.Tally h (word 0)) refl refl (low_word 0 (word 0) (omega arith))

@@ -250,7 +250,7 @@ module _ (word : ℕ → ℕ) (k : KeeperView) (lane : ℕ → Lane) (entries : 
   not_three : (mark c number : ℕ) → (mark ≡ 1) ⊎ (mark ≡ 2) ⊎ (mark ≡ 6) → (mark ≡ 1 → c < number) → IsEvent mark → c < number
   not_three mark c number h one e = ⊎_elim one (λ (three : mark ≡ 3). elim h [ inl e ↦ absurd (omega arith) | inr h ↦ elim h [ inl e ↦ absurd (omega arith) | inr e ↦ absurd (omega arith) ] ]) e
 
-  kept_rows : (d n : ℕ) (b : Bool) (word' : ℕ → ℕ) → Calls word' (length k.events) (row_of k) lane entries → After word' (keeps_if d b k)
+  kept_rows : (d n : ℕ) (b : Bool) (word' : ℕ → ℕ) → Calls word' (length k.events) (row_of k) lane entries → After word' (keeps_if d b (heeding k))
   kept_rows d n true word' c = c
   kept_rows d n false word' c = c
 

@@ -52,7 +52,7 @@ module _ (word : ℕ → ℕ) (k : KeeperView) (harts : ℕ → Access) (w : Wor
   moved d x word' b low p = subst (λ (f : ℕ → Kept). Words word' f b harts) (set_put k.words d x unmapped (subst (λ n. d < n) (sym known_all) low)) p
 
   locks : (d c : ℕ) → d < doublewords → k.access.locked ≡ None → lock_bit c ≡ 0 → (b : Bool) → eqb (word (control_at d)) c ≡ b
-      → Words (put word (control_at d) (either b (c + 8) (word (control_at d)))) (kept_at (keeps_if d b k)) (keeps_if d b k).access harts
+      → Words (put word (control_at d) (either b (c + 8) (word (control_at d)))) (kept_at (keeps_if d b (heeding k))) (keeps_if d b (heeding k)).access harts
   locks d c low none' free false miss = unmoved word (control_at d) (λ f. Words f (kept_at k) nothing_locked harts) (unlocked nothing_locked none' refl (forgets nothing_locked refl))
   locks d c low none' free true hit =
       let same : word (control_at d) ≡ c = eqb-true (word (control_at d)) c hit in

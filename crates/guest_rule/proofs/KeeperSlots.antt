@@ -132,7 +132,7 @@ module _ (word : ℕ → ℕ) (k : KeeperView) (tried : ℕ → Option Exchange)
       → Slots word' (λ j. slice_index_or (slice_set k.words d x) j unmapped) locked' (length k.events) (row_of k) tried exchanges
   moved d x word' locked' low p = subst (λ (f : ℕ → Kept). Slots word' f locked' (length k.events) (row_of k) tried exchanges) (set_put k.words d x unmapped (subst (λ n. d < n) (sym words_known) low)) p
 
-  locks : (d x : ℕ) (b : Bool) → ((kept_at k d).role ≡ SlotRole → (m : ℕ) (g : Grant) → (row_of k m).pending ≡ Some g → place_of g.entry.slot ≢ d) → After (put word (control_at d) x) (keeps_if d b k)
+  locks : (d x : ℕ) (b : Bool) → ((kept_at k d).role ≡ SlotRole → (m : ℕ) (g : Grant) → (row_of k m).pending ≡ Some g → place_of g.entry.slot ≢ d) → After (put word (control_at d) x) (keeps_if d b (heeding k))
   locks d x false un = relocked (put word (control_at d) x) None (at_control d x) (λ m g few e here. nothing (place_of g.entry.slot))
   locks d x true un = relocked (put word (control_at d) x) (Some d) (at_control d x)
       (λ m g few e here q. let z : Some d ≡ Some (place_of g.entry.slot) = q in let same : d ≡ place_of g.entry.slot = cc in un (ap (λ n. (kept_at k n).role) same ∙ here.1) m g e (sym same))

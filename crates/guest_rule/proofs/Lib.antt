@@ -8,3 +8,5 @@ pub mod KeeperCalls
 pub mod SlotFrames
 pub mod HartSlots
 pub mod KeeperSlots
+pub mod Trails
+pub mod Marks

@@ -151,7 +151,7 @@ abbrev pub last_control : Option (ℕ × ℕ) → ℕ
 last_control None = 0
 last_control (Some p) = p.1
 
--- a load ends what is kept of a note
+-- what is kept of a note ends
 abbrev pub heeded : HartView → HartView
 heeded h = record h { note = None }
 
@@ -253,21 +253,21 @@ HartReady (kinds.Finish m won) h = (m ≡ h.number) × ((x : Exchange) × (h.lan
 HartReady (kinds.Generation number) h = Unit {0}
 HartReady kinds.Listen h = Unit {0}
 
--- its view after, by the number found
+-- its view after, by the number found. Each step ends what is kept of a note
 abbrev pub hart_after : HartKind → HartView → ℕ → HartView
 hart_after (kinds.Look ask) h n = looked ask n (heeded h)
 hart_after (kinds.Load ask) h n = entered (Call (loaded ask (last_control h.access.last) n)) (with_access nothing_locked (heeded h))
 hart_after (kinds.Hold ask) h n = with_access (record h.access { held = Some n }) (heeded h)
-hart_after (kinds.Lock ask control) h n = locked_if ask control n (eqb n control) h
-hart_after (kinds.Store ask x) h n = entered (Call (stored ask (or_zero h.access.held))) (with_access (record h.access { held = Some x }) h)
-hart_after (kinds.Unlock d) h n = with_access nothing_locked h
+hart_after (kinds.Lock ask control) h n = locked_if ask control n (eqb n control) (heeded h)
+hart_after (kinds.Store ask x) h n = entered (Call (stored ask (or_zero h.access.held))) (with_access (record h.access { held = Some x }) (heeded h))
+hart_after (kinds.Unlock d) h n = with_access nothing_locked (heeded h)
 hart_after kinds.Tally h n = with_lane_of (record h.lane { seen = n }) (heeded h)
-hart_after (kinds.Begin m) h n = with_lane_of (record h.lane { calling = true }) h
+hart_after (kinds.Begin m) h n = with_lane_of (record h.lane { calling = true }) (heeded h)
 hart_after (kinds.Arrive m) h n = with_lane_of (arrived_if n (nat_lt n 8) h.lane) (heeded h)
 hart_after (kinds.Find m i) h n = with_lane_of (record h.lane { offer = found_in i n h.lane.offer }) (heeded h)
-hart_after (kinds.Exchange g) h n = let x : Exchange = record { grant = g; found = n } in entered (Exchanged x) (with_lane_of (record h.lane { tried = Some x }) h)
-hart_after (kinds.Accept m e) h n = entered (Took e) (with_lane_of (record h.lane { calling = false; taken = h.lane.taken ++ e ∷ []; offer = None }) h)
-hart_after (kinds.Finish m won) h n = entered Done (with_lane_of (finished h.lane.tried h.lane) h)
+hart_after (kinds.Exchange g) h n = let x : Exchange = record { grant = g; found = n } in entered (Exchanged x) (with_lane_of (record h.lane { tried = Some x }) (heeded h))
+hart_after (kinds.Accept m e) h n = entered (Took e) (with_lane_of (record h.lane { calling = false; taken = h.lane.taken ++ e ∷ []; offer = None }) (heeded h))
+hart_after (kinds.Finish m won) h n = entered Done (with_lane_of (finished h.lane.tried h.lane) (heeded h))
 hart_after (kinds.Generation number) h n = entered (ReadGeneration n number (last_block n number h.lane.taken)) (heeded h)
 hart_after kinds.Listen h n = heeded h
 

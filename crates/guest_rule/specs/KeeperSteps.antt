@@ -24,7 +24,7 @@ use Rattle.guest_rule.specs.Operations.{Op, load, store, exchange, add}
 
 -- ---- views
 
--- a load ends what is kept of a note
+-- what is kept of a note ends
 abbrev pub heeding : KeeperView → KeeperView
 heeding k = record k { note = None }
 
@@ -151,24 +151,24 @@ KeeperReady (kinds.Retire d old) k =
 KeeperReady (kinds.Generation g) k = k.generation < g
 KeeperReady kinds.Listen k = Unit {0}
 
--- its view after, by the number found
+-- its view after, by the number found. Each step ends what is kept of a note
 abbrev pub keeper_after : KeeperKind → KeeperView → ℕ → KeeperView
 keeper_after (kinds.Look d) k n = accessing (record { locked = None; held = None; last = last_if d n (eqb (lock_bit n) 0) }) (heeding k)
 keeper_after (kinds.Load d) k n = accessing nothing_locked (heeding k)
-keeper_after (kinds.Lock d control) k n = keeps_if d (eqb n control) k
-keeper_after (kinds.Store d x) k n = accessing (record { locked = k.access.locked; held = Some x; last = None }) (with_kept d (record (kept_at k d) { value = x }) k)
+keeper_after (kinds.Lock d control) k n = keeps_if d (eqb n control) (heeding k)
+keeper_after (kinds.Store d x) k n = accessing (record { locked = k.access.locked; held = Some x; last = None }) (with_kept d (record (kept_at k d) { value = x }) (heeding k))
 keeper_after (kinds.Unlock d old new lazy) k n =
-    accessing nothing_locked (with_kept d (record { role = new; value = (kept_at k d).value; lazy = lazy; since = length k.events }) k)
-keeper_after (kinds.Count e) k n = record k { events = k.events ++ e ∷ [] }
+    accessing nothing_locked (with_kept d (record { role = new; value = (kept_at k d).value; lazy = lazy; since = length k.events }) (heeding k))
+keeper_after (kinds.Count e) k n = record (heeding k) { events = k.events ++ e ∷ [] }
 keeper_after (kinds.Await m) k n = awaited_if m (nat_le 8 n) (heeding k)
 keeper_after (kinds.Ask m) k n = with_row m (asked n (row_of k m)) (heeding k)
 keeper_after (kinds.Saw d) k n = heeding k
-keeper_after (kinds.Fill m i x) k n = with_row m (with_field i x (row_of k m)) k
-keeper_after (kinds.Hand m mark) k n = with_row m (handed mark (row_of k m)) k
-keeper_after (kinds.Open m) k n = with_row m (opened (row_of k m)) k
-keeper_after (kinds.RetireSlot d) k n = accessing nothing_locked (with_kept d (record (kept_at k d) { role = NoRole }) k)
-keeper_after (kinds.Retire d old) k n = accessing nothing_locked (with_kept d (record (kept_at k d) { role = NoRole }) k)
-keeper_after (kinds.Generation g) k n = record k { generation = g }
+keeper_after (kinds.Fill m i x) k n = with_row m (with_field i x (row_of k m)) (heeding k)
+keeper_after (kinds.Hand m mark) k n = with_row m (handed mark (row_of k m)) (heeding k)
+keeper_after (kinds.Open m) k n = with_row m (opened (row_of k m)) (heeding k)
+keeper_after (kinds.RetireSlot d) k n = accessing nothing_locked (with_kept d (record (kept_at k d) { role = NoRole }) (heeding k))
+keeper_after (kinds.Retire d old) k n = accessing nothing_locked (with_kept d (record (kept_at k d) { role = NoRole }) (heeding k))
+keeper_after (kinds.Generation g) k n = record (heeding k) { generation = g }
 keeper_after kinds.Listen k n = heeding k
 
 -- ---- what the rule tells

@@ -8,3 +8,5 @@ pub mod Seats
 pub mod Words
 pub mod Calls
 pub mod Slots
+pub mod Generations
+pub mod Rule
