@@ -85,7 +85,7 @@ pub record Waiting (state c count : ℕ) (r : Row) (l : Lane) : Type 0 where
   pub still : Still r l
   pub known : Known state c count r l
 
-waiting : (word : ℕ → ℕ) (count m : ℕ) (r : Row) (l : Lane) (es : List Entry) (c : ℕ) → RowIs word count m r l es → r.since ≡ Some c → Waiting (word (state_at m)) c count r l
+pub waiting : (word : ℕ → ℕ) (count m : ℕ) (r : Row) (l : Lane) (es : List Entry) (c : ℕ) → RowIs word count m r l es → r.since ≡ Some c → Waiting (word (state_at m)) c count r l
 waiting word count m r l es c is since = go l.calling refl is.stage
   where
     k : Known (word (state_at m)) c count r l

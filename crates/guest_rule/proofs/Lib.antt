@@ -10,3 +10,4 @@ pub mod HartSlots
 pub mod KeeperSlots
 pub mod Trails
 pub mod Marks
+pub mod Seating

@@ -91,7 +91,7 @@ module _ (word : ℕ → ℕ) (generation : ℕ) (row : ℕ → Row) (trail : �
 
 -- ---- the keeper
 
-asked_issued : (a b c : Bool) (r : Row) → (asked_if a b c r).issued ≡ r.issued
+pub asked_issued : (a b c : Bool) (r : Row) → (asked_if a b c r).issued ≡ r.issued
 asked_issued true b c r = refl
 asked_issued false true c r = settled Won r.pending r
   where
