@@ -11,3 +11,4 @@ pub mod KeeperSlots
 pub mod Trails
 pub mod Marks
 pub mod Seating
+pub mod Steps
