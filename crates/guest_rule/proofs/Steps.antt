@@ -172,3 +172,127 @@ module _ (word : ℕ → ℕ) (kept : KeeperView) (harts : ℕ → HartView) (p 
       word' = put word (hart_word kind) (becomes (hart_op kind) (word (hart_word kind)))
       same : SameHart h (hart_after kind h (word (hart_word kind)))
       same = same_hart kind h (word (hart_word kind))
+
+  pub hart_tells : (kind : HartKind) → HartReady kind h → HartLearns kind h (word (hart_word kind))
+  hart_tells kinds.Tally ready = subst (λ n. length h.heard ≤ n) (sym p.calls.counted) (begun kept.events h.heard (subst (λ (x : HartView). BeginsWith kept.events x.heard) is (p.heard h.number).heard))
+    where
+      begun : (xs ys : List Event) → BeginsWith xs ys → length ys ≤ length xs
+      begun xs ys b = let e : length xs ≡ length (ys ++ b.0) = ap length b.1 in let l : length (ys ++ b.0) ≡ length ys + length b.0 = length-append ys b.0 in omega arith
+  hart_tells (kinds.Arrive m) ready = subst (λ m. HartLearns (kinds.Arrive m) h (word (state_at m))) (sym ready.0)
+      (arrive_tells word (length kept.events) (row_of kept) (after (λ (x : HartView). x.lane) harts) (after (λ (x : HartView). entries_of x.trail) harts) p.calls h few (ap (λ (x : HartView). x.lane) is) (ap (λ (x : HartView). entries_of x.trail) is) (refl, ready.1, ready.2))
+  hart_tells kinds.Listen ready = subst (λ (x : HartView). Rattle.guest_rule.specs.HartSteps.HartHeard x.note x) is (p.heard h.number).told
+  hart_tells _ ready = tt
+
+-- ---- the steps of the keeper
+
+module _ (word : ℕ → ℕ) (k : KeeperView) (harts : ℕ → HartView) (p : Parts word k harts) (words_known : length k.words ≡ doublewords) (rows_known : length k.rows ≡ harts_at_most) where
+  place : (d : ℕ) → k.access.locked ≡ Some d → d < doublewords
+  place d e = (p.locks.keepers.named d e).0
+
+  still : (m c : ℕ) → m < harts_at_most → (row_of k m).since ≡ Some c → (harts m).lane.tried ≡ None
+  still m c few since = (waiting word (length k.events) m (row_of k m) (harts m).lane (entries_of (harts m).trail) c (p.calls.each_row m few) since).still.no_try
+
+  pub keeper_low : (kind : KeeperKind) → KeeperReady kind k → keeper_word kind < table_words
+  keeper_low (keeps.Look d) ready = control_low d ready.0
+  keeper_low (keeps.Load d) ready = value_low d ready.0
+  keeper_low (keeps.Lock d control) ready = control_low d ready.0
+  keeper_low (keeps.Store d x) ready = value_low d (place d ready.0)
+  keeper_low (keeps.Unlock d old new lazy) ready = control_low d (place d ready.0)
+  keeper_low (keeps.Count e) ready = omega arith
+  keeper_low (keeps.Await m) ready = row_low m 0 ready (omega arith)
+  keeper_low (keeps.Ask m) ready = row_low m 0 ready.0 (omega arith)
+  keeper_low (keeps.Saw d) ready = value_low d ready.0
+  keeper_low (keeps.Fill m i x) ready = row_low m (index_of i) ready.1.0 (low_index i)
+  keeper_low (keeps.Hand m mark) ready = row_low m 0 ready.1.0 (omega arith)
+  keeper_low (keeps.Open m) ready = row_low m 0 ready.1.0 (omega arith)
+  keeper_low (keeps.RetireSlot d) ready = control_low d (place d ready.0)
+  keeper_low (keeps.Retire d old) ready = control_low d (place d ready.0)
+  keeper_low (keeps.Generation g) ready = omega arith
+  keeper_low keeps.Listen ready = omega arith
+
+  pub keeper_parts : (kind : KeeperKind) → KeeperReady kind k → word (keeper_word kind) < 18446744073709551616
+      → Parts (put word (keeper_word kind) (becomes (keeper_op kind) (word (keeper_word kind)))) (keeper_after kind k (word (keeper_word kind))) harts
+  keeper_parts kind ready small = record {
+    heard = heard_more k.events (keeper_after kind k (word (keeper_word kind))).events harts (keeper_grows kind k (word (keeper_word kind)) rows_known ready).events p.heard;
+    locks = keeper_locks word k (after (λ (x : HartView). x.access) harts) p.locks words_known kind small ready;
+    calls = keeper_calls word k (after (λ (x : HartView). x.lane) harts) (after (λ (x : HartView). entries_of x.trail) harts) p.calls rows_known kind ready;
+    slots = keeper_slots word k (after (λ (x : HartView). x.lane.tried) harts) (after (λ (x : HartView). exchanges_of x.trail) harts) p.slots words_known rows_known place p.locks.keepers.held still kind ready;
+    generations = keeper_marks word k (after (λ (x : HartView). x.trail) harts) p.generations rows_known kind ready;
+  }
+
+  -- a hart whose seat was joined
+  taken_all : (m : ℕ) → m < harts_at_most → ((i : ℕ) (j : HartView) → slice_get k.joined i ≡ Some j → harts j.number ≡ j) → HasTakenAll k m (word (state_at m))
+  taken_all m few gone i j there number idle =
+      let is : harts m ≡ j = ap harts (sym number) ∙ gone i j there in
+      let r : RowIs word (length k.events) m (row_of k m) j.lane (entries_of j.trail) = subst (λ (x : HartView). RowIs word (length k.events) m (row_of k m) x.lane (entries_of x.trail)) is (p.calls.each_row m few) in
+      let st : Rests (word (state_at m)) × Still (row_of k m) j.lane = subst (Stage (word (state_at m)) (row_of k m) j.lane) idle r.stage in
+      (st.1.all, r.trail ∙ (ap (λ t. j.lane.taken ++ Rattle.guest_rule.specs.Views.tried_entry t) st.1.no_try ∙ Rattle.std.proofs.Common.append-nil j.lane.taken), low_rest (word (state_at m)) st.0)
+
+  pub keeper_tells : ((i : ℕ) (j : HartView) → slice_get k.joined i ≡ Some j → harts j.number ≡ j) → Rattle.guest_rule.specs.KeeperSteps.KeeperHeard k.note k → (kind : KeeperKind) → KeeperReady kind k → KeeperLearns kind k (word (keeper_word kind))
+  keeper_tells gone told (keeps.Look d) ready = look_tells word k (after (λ (x : HartView). x.access) harts) p.locks words_known d ready
+  keeper_tells gone told (keeps.Load d) ready = load_tells word k (after (λ (x : HartView). x.access) harts) p.locks words_known d ready
+  keeper_tells gone told (keeps.Lock d control) ready = lock_tells word k (after (λ (x : HartView). x.access) harts) p.locks words_known d control ready
+  keeper_tells gone told (keeps.Count e) ready = p.calls.counted
+  keeper_tells gone told (keeps.Await m) ready = taken_all m ready gone
+  keeper_tells gone told (keeps.Ask m) ready = ask_tells word k (after (λ (x : HartView). x.lane.tried) harts) (after (λ (x : HartView). exchanges_of x.trail) harts) p.slots words_known rows_known m ready
+  keeper_tells gone told (keeps.Saw d) ready = saw_tells word k (after (λ (x : HartView). x.lane.tried) harts) (after (λ (x : HartView). exchanges_of x.trail) harts) p.slots words_known rows_known d ready
+  keeper_tells gone told keeps.Listen ready = told
+  keeper_tells gone told _ ready = tt
+
+-- ---- the rule
+
+pub hart_keeps : (kind : HartKind) (seat : ℕ) (h : HartView) → HartReady kind h → HartKeeps kind seat h
+hart_keeps kind seat h ready words views g at small = (
+    record {
+      kept = g.kept;
+      keeper = g.keeper;
+      seat_of = g.seat_of;
+      hart = put g.hart h.number h';
+      wide = length-set words (hart_word kind) x ∙ g.wide;
+      seats = hart_seats views g.kept g.keeper g.seat_of g.hart g.seats seat h h' at (same_hart kind h n).number;
+      parts = subst (λ (f : ℕ → ℕ). Parts f g.kept (put g.hart h.number h')) (set_put words (hart_word kind) x 0 (subst (λ m. hart_word kind < m) (sym g.wide) (hart_low (slice_index words) g.kept g.hart g.parts h few fits.2 kind ready)))
+          (hart_parts (slice_index words) g.kept g.hart g.parts h few fits.2 kind ready small);
+    },
+    hart_tells (slice_index words) g.kept g.hart g.parts h few fits.2 kind ready,
+  )
+  where
+    n : ℕ
+    n = slice_index words (hart_word kind)
+    x : ℕ
+    x = becomes (hart_op kind) (slice_index words (hart_word kind))
+    h' : HartView
+    h' = hart_after kind h (slice_index words (hart_word kind))
+    fits : Fits g.kept g.keeper g.seat_of g.hart seat (Hart h)
+    fits = g.seats.each seat (Hart h) at
+    few : h.number < harts_at_most
+    few = let low : h.number < g.kept.harts = fits.0 in let most : g.kept.harts ≤ harts_at_most = g.seats.few in omega arith
+
+-- the keeper's seat is the one, and its view is the rule's
+pub keeper_keeps : (kind : KeeperKind) (seat : ℕ) (k : KeeperView) → KeeperReady kind k → KeeperKeeps kind seat k
+keeper_keeps kind seat k ready words views g at small = (
+    record {
+      kept = k';
+      keeper = g.keeper;
+      seat_of = g.seat_of;
+      hart = g.hart;
+      wide = length-set words (keeper_word kind) x ∙ g.wide;
+      seats = subst (λ i. Seats (set views i (Keeper k')) k' g.keeper g.seat_of g.hart) (sym fits.1)
+          (keeper_seats views k k' g.keeper g.seat_of g.hart seats (keeper_grows kind k n seats.rows_known ready));
+      parts = subst (λ (f : ℕ → ℕ). Parts f k' g.hart) (set_put words (keeper_word kind) x 0 (subst (λ m. keeper_word kind < m) (sym g.wide) (keeper_low (slice_index words) k g.hart parts seats.words_known seats.rows_known kind ready)))
+          (keeper_parts (slice_index words) k g.hart parts seats.words_known seats.rows_known kind ready small);
+    },
+    keeper_tells (slice_index words) k g.hart parts seats.words_known seats.rows_known (λ i j e. (seats.gone i j e).2) seats.told kind ready,
+  )
+  where
+    n : ℕ
+    n = slice_index words (keeper_word kind)
+    x : ℕ
+    x = becomes (keeper_op kind) (slice_index words (keeper_word kind))
+    k' : KeeperView
+    k' = keeper_after kind k (slice_index words (keeper_word kind))
+    fits : Fits g.kept g.keeper g.seat_of g.hart seat (Keeper k)
+    fits = g.seats.each seat (Keeper k) at
+    seats : Seats views k g.keeper g.seat_of g.hart
+    seats = subst (λ k. Seats views k g.keeper g.seat_of g.hart) (sym fits.0) g.seats
+    parts : Parts (slice_index words) k g.hart
+    parts = subst (λ k. Parts (slice_index words) k g.hart) (sym fits.0) g.parts
