@@ -12,3 +12,4 @@ pub mod Trails
 pub mod Marks
 pub mod Seating
 pub mod Steps
+pub mod Begins

@@ -10,3 +10,4 @@ pub mod Calls
 pub mod Slots
 pub mod Generations
 pub mod Rule
+pub mod Start

@@ -7,19 +7,22 @@
 //! word and what the view is after; and it states the rule, a fact about all words and all views that
 //! holds between any two steps, whoever steps.
 //!
-//! The rule has parts that speak of different things: who the seats are (`specs/Seats.antt`), the
-//! words and their locks (`specs/Words.antt`), calls and rows (`specs/Calls.antt`). Each is a record of facts about words and a few fields of the views, so that a kind of
-//! step owes one lemma to each part.
+//! The rule (`specs/Rule.antt`) has parts that speak of different things: who the seats are
+//! (`Seats`), words and locks (`Words`), calls and rows (`Calls`), slots and grants (`Slots`), and the
+//! generation of the TLS modules (`Generations`). Each is a record of facts about words and a few
+//! fields of the views, so that a kind of step owes one lemma to each part.
 //!
 //! Nothing here runs. No value of a view is ever made: views exist in proofs alone.
 #![tactic(auto)]
 
 mod entry;
 mod kind;
+mod law;
 mod view;
 
 pub use entry::{Entry, Exchange, Grant, RowWord};
 pub use kind::{Ask, HartKind, KeeperKind, Kind, LoadAsk, StoreAsk};
+pub use law::{hart_steps_keep, keeper_steps_keep, rule_begins};
 pub use view::{
     Access, Fate, HartView, KeeperView, Kept, Lane, Offer, Row, Settled, Slip, Told, TrailItem, View,
 };
