@@ -6,15 +6,14 @@ use lib.ListN.{get_elem?}
 use Rattle.guest_rule.specs.declared.entry.Grant.{Grant}
 use Rattle.guest_rule.specs.declared.entry.RowWord.{RowWord}
 use Rattle.guest_rule.specs.declared.entry.RowWord.TheVariants.{Number, Slot, Lazy, Value, Generation}
-use Rattle.guest_rule.specs.declared.view.HartView.{HartView}
 use Rattle.guest_rule.specs.declared.view.Kept.{Kept}
 use Rattle.guest_rule.specs.declared.view.Row.{Row}
 use Rattle.guest_rule.specs.declared.view.View.{View}
-use Rattle.guest_rule.specs.declared.view.View.TheVariants.{Keeper, Hart}
-use Rattle.guest_rule.specs.Layout.{doublewords, harts_at_most, table_words, value_at, control_at, row_at, index_of}
-use Rattle.guest_rule.specs.Views.{after, entries_of, exchanges_of, field_of, first_hart, kept_at, no_row, nothing_locked, row_of, unmapped}
+use Rattle.guest_rule.specs.declared.view.View.TheVariants.{Keeper}
+use Rattle.guest_rule.specs.Layout.{doublewords, harts_at_most, table_words}
+use Rattle.guest_rule.specs.Views.{field_of, first_hart, kept_at, no_row, nothing_locked, row_of, unmapped}
 use Rattle.guest_rule.specs.Start.{first_keeper, first_words}
-use Rattle.guest_rule.specs.Seats.{Fits, Seats}
+use Rattle.guest_rule.specs.Seats.{Fits}
 use Rattle.guest_rule.specs.Words.{nobody, keeper, hart, LockIs, Owner, Words}
 use Rattle.guest_rule.specs.Calls.{Calls, RowIs}
 use Rattle.guest_rule.specs.Slots.{GrantsAre, Slots}
@@ -95,8 +94,10 @@ first_parts = record {
   where
     words : (λ i. 0) ≡ slice_index first_words
     words = ext (λ i. 0) (slice_index first_words) (all_same table_words 0)
+
     knowledge : (λ d. unmapped) ≡ kept_at first_keeper
     knowledge = ext (λ d. unmapped) (kept_at first_keeper) (all_same doublewords unmapped)
+
     rows : (λ m. no_row) ≡ row_of first_keeper
     rows = ext (λ m. no_row) (row_of first_keeper) (all_same harts_at_most no_row)
 

@@ -1,7 +1,5 @@
 -- The part on calls and rows, over the steps of harts.
-use Rattle.std.proofs.Common.{◌≡◌, ◌≢◌, ◌⊎◌, ⊎_elim, inl, inr, ℕ, ◌+◌, ◌*◌, ◌%◌, ◌≤◌, ◌<◌, Bool, true, false, cond, eqb, nat_lt, ltb-true, true≢false, List, [], ◌∷◌, ◌++◌, length, append_assoc, append-nil, Option, Some, None, refl, sym, ap, subst, ◌∙◌, arith, ◌==◌, length-append}
-use prog.Atomic.{either}
-use Rattle.link_event.specs.declared.event.Event.{Event}
+use Rattle.std.proofs.Common.{◌≡◌, ◌≢◌, ◌⊎◌, ⊎_elim, inl, inr, ℕ, ◌+◌, ◌%◌, ◌≤◌, ◌<◌, Bool, true, false, cond, eqb, nat_lt, ltb-true, true≢false, List, [], ◌∷◌, ◌++◌, length, append-nil, Option, Some, None, refl, sym, ap, subst, ◌∙◌, arith, ◌==◌, length-append}
 use Rattle.guest_rule.specs.declared.entry.Entry.{Entry}
 use Rattle.guest_rule.specs.declared.entry.Grant.{Grant}
 use Rattle.guest_rule.specs.declared.entry.RowWord.{RowWord}
@@ -16,15 +14,15 @@ use Rattle.guest_rule.specs.declared.view.Lane.{Lane}
 use Rattle.guest_rule.specs.declared.view.Offer.{Offer}
 use Rattle.guest_rule.specs.declared.view.Row.{Row}
 use Rattle.guest_rule.specs.declared.view.TrailItem.{TrailItem}
-use Rattle.guest_rule.specs.declared.view.TrailItem.TheVariants.{Call, Took, Exchanged, Done, Generation as ReadGeneration}
-use Rattle.guest_rule.specs.Layout.{count_at, harts_at_most, row_at, state_at, index_of, value_at, control_at, place_of, role_in, lock_bit}
-use Rattle.guest_rule.specs.Views.{BeginsWith, put, entries_by, entries_of, entry_of, field_of, grant_in, offered, with_offered, fresh_offer, tried_entry, last_block, IsRead, IsGranted}
+use Rattle.guest_rule.specs.declared.view.TrailItem.TheVariants.{Took, Exchanged, Done}
+use Rattle.guest_rule.specs.Layout.{harts_at_most, row_at, state_at, index_of, value_at, control_at, place_of, role_in, lock_bit}
+use Rattle.guest_rule.specs.Views.{put, entries_by, entries_of, entry_of, field_of, grant_in, offered, with_offered, fresh_offer, tried_entry, IsRead, IsGranted}
 use Rattle.guest_rule.specs.Operations.{becomes}
 use Rattle.guest_rule.specs.HartSteps.{HartReady, HartLearns, IsMark, hart_word, hart_op, hart_after, glanced, looked, locked_if, arrived_if, found_in, finished, heeded, permits, ask_is_fresh, ask_place, load_place, store_place}
-use Rattle.guest_rule.specs.Calls.{Answered, Awaits, Calls, IsEvent, Known, Rests, RowIs, Stage, Still}
+use Rattle.guest_rule.specs.Calls.{Answered, Awaits, Calls, Known, Rests, RowIs, Stage, Still}
 use Rattle.guest_rule.proofs.Put.{put_here, put_else, put_same}
 use Rattle.guest_rule.proofs.HartLocks.{unmoved}
-use Rattle.guest_rule.proofs.Rows.{begins, beside_rows, carry, elsewhere, entries_push, low_mark, low_rest, high_awaits, not_both, not_rest, one_row, offered_with, mark_with, other_row, Same}
+use Rattle.guest_rule.proofs.Rows.{begins, beside_rows, carry, elsewhere, entries_push, high_awaits, not_both, not_rest, one_row, offered_with, mark_with, other_row, Same}
 
 -- ---- what an access leaves alone
 
@@ -70,6 +68,7 @@ calling_if s r l a false st = absurd (last_apart r.issued l.taken (entry_of s r)
   where
     longer : (xs : List Entry) (e : Entry) → xs ≡ xs ++ e ∷ [] → ⊥
     longer xs e is = let n : length xs ≡ length (xs ++ e ∷ []) = ap length is in let k : length (xs ++ e ∷ []) ≡ length xs + 1 = length-append xs (e ∷ []) in omega arith
+
     last_apart : (xs ys : List Entry) (e : Entry) → xs ≡ ys → xs ≡ ys ++ e ∷ [] → ⊥
     last_apart xs ys e same is = longer ys e (sym same ∙ is)
 calling_if s r l a true st = refl
@@ -167,9 +166,9 @@ module _ (word : ℕ → ℕ) (count : ℕ) (row : ℕ → Row) (lane : ℕ → 
       let rests : Rests state × Still (row h.number) h.lane = still_if state (row h.number) h.lane idle old.stage in
       let l : Lane = record h.lane { calling = true } in
       stores ((state + 8) % 18446744073709551616) (hart_after (kinds.Begin h.number) h state) (new_state ((state + 8) % 18446744073709551616) l (entries_of h.trail)
-          (inl (begins state rests.0, record { all = rests.1.all; no_offer = rests.1.no_offer; no_try = rests.1.no_try }))
-          (unknown (λ a. not_rest state rests.0 a) ((state + 8) % 18446744073709551616) l)
-          refl old.trail)
+      (inl (begins state rests.0, record { all = rests.1.all; no_offer = rests.1.no_offer; no_try = rests.1.no_try }))
+      (unknown (λ a. not_rest state rests.0 a) ((state + 8) % 18446744073709551616) l)
+      refl old.trail)
 
   -- a lane that differs in its offer alone
   offers : (o : Option Offer) → (let l : Lane = record h.lane { offer = o } in Stage state (row h.number) l h.lane.calling) → RowIs word count h.number (row h.number) (record h.lane { offer = o }) (entries_of h.trail)
@@ -222,16 +221,18 @@ module _ (word : ℕ → ℕ) (count : ℕ) (row : ℕ → Row) (lane : ℕ → 
         last = a.last;
         new = a.new;
         offer = λ p has'. let q : Some o' ≡ Some p = has' in let same : o' ≡ p = cc in
-            subst (λ p. (p.mark ≡ state) × ((j : RowWord) (x : ℕ) → offered j p ≡ Some x → x ≡ field_of j (row h.number))) same
-            (mark_with i n o ∙ (a.offer o has).0, λ j x e. ⊎_elim
-                (λ (t : (j ≡ i) × (n ≡ x)). sym t.1 ∙ (old.fields i ∙ ap (λ k. field_of k (row h.number)) (sym t.0)))
-                (λ (t : offered j o ≡ Some x). (a.offer o has).1 j x t)
-                (offered_with i j n x o e));
+            subst (λ p. (p.mark ≡ state) × ((j : RowWord) (x : ℕ) → offered j p ≡ Some x → x ≡ field_of j (row h.number))) same (
+              mark_with i n o ∙ (a.offer o has).0,
+              λ j x e. ⊎_elim
+                  (λ (t : (j ≡ i) × (n ≡ x)). sym t.1 ∙ (old.fields i ∙ ap (λ k. field_of k (row h.number)) (sym t.0)))
+                  (λ (t : offered j o ≡ Some x). (a.offer o has).1 j x t)
+                  (offered_with i j n x o e),
+            );
         tried = λ x t. ((a.tried x t).0, (a.tried x t).1, (o', refl));
       })) in
       unmoved word (row_at h.number (index_of i)) (λ f. After f (hart_after (kinds.Find h.number i) h n))
-          (changed word (hart_after (kinds.Find h.number i) h n) refl (λ j few' apart k low. refl)
-              (subst (λ (p : Option Offer). RowIs word count h.number (row h.number) (record h.lane { offer = p }) (entries_of h.trail)) (ap (found_in i n) (sym has)) (offers (Some o') st)))
+      (changed word (hart_after (kinds.Find h.number i) h n) refl (λ j few' apart k low. refl)
+      (subst (λ (p : Option Offer). RowIs word count h.number (row h.number) (record h.lane { offer = p }) (entries_of h.trail)) (ap (found_in i n) (sym has)) (offers (Some o') st)))
 
   exchanges : (g : Grant) (x : ℕ) → HartReady (kinds.Exchange g) h → After (put word (value_at (place_of g.entry.slot)) x) (hart_after (kinds.Exchange g) h (word (value_at (place_of g.entry.slot))))
   exchanges g x ready =
@@ -265,8 +266,8 @@ module _ (word : ℕ → ℕ) (count : ℕ) (row : ℕ → Row) (lane : ℕ → 
         trail = entries_push h.trail (Exchanged e) ∙ ap (λ es. es ++ g.entry ∷ []) none_before;
       } in
       changed (put word (value_at d) x) h' (put_else word (value_at d) x 0 (λ (e : 0 ≡ value_at d). omega arith))
-          (λ j few' apart. elsewhere word (value_at d) x j few' (inr (omega arith)))
-          (carry word (put word (value_at d) x) count h.number (row h.number) l (entries_of h'.trail) (elsewhere word (value_at d) x h.number few (inr (omega arith))) mine')
+      (λ j few' apart. elsewhere word (value_at d) x j few' (inr (omega arith)))
+      (carry word (put word (value_at d) x) count h.number (row h.number) l (entries_of h'.trail) (elsewhere word (value_at d) x h.number few (inr (omega arith))) mine')
 
   no_try : (a : Answered state (row h.number) h.lane) → state ≢ 3 → (t : Option Exchange) → h.lane.tried ≡ t → h.lane.tried ≡ None
   no_try a other None e = e
@@ -283,10 +284,10 @@ module _ (word : ℕ → ℕ) (count : ℕ) (row : ℕ → Row) (lane : ℕ → 
       let before : entries_of h.trail ≡ h.lane.taken = old.trail ∙ (ap (λ t. h.lane.taken ++ tried_entry t) none' ∙ append-nil h.lane.taken) in
       let h' : HartView = hart_after (kinds.Accept h.number e) h state in
       stores 0 h' (new_state 0 l (entries_of h'.trail)
-          (inl refl, record { all = ap (λ x. h.lane.taken ++ x ∷ []) read.1 ∙ sym a.last; no_offer = refl; no_try = none' })
-          (unknown (not_both state a.mark) 0 l)
-          refl
-          (entries_push h.trail (Took e) ∙ (ap (λ es. es ++ e ∷ []) before ∙ (sym (append-nil (h.lane.taken ++ e ∷ [])) ∙ ap (λ t. (h.lane.taken ++ e ∷ []) ++ tried_entry t) (sym none')))))
+      (inl refl, record { all = ap (λ x. h.lane.taken ++ x ∷ []) read.1 ∙ sym a.last; no_offer = refl; no_try = none' })
+      (unknown (not_both state a.mark) 0 l)
+      refl
+      (entries_push h.trail (Took e) ∙ (ap (λ es. es ++ e ∷ []) before ∙ (sym (append-nil (h.lane.taken ++ e ∷ [])) ∙ ap (λ t. (h.lane.taken ++ e ∷ []) ++ tried_entry t) (sym none')))))
 
   rests_if : (won : Bool) → Rests (cond won 4 5)
   rests_if true = inr (inl refl)
@@ -304,10 +305,10 @@ module _ (word : ℕ → ℕ) (count : ℕ) (row : ℕ → Row) (lane : ℕ → 
       let before : entries_of h.trail ≡ h.lane.taken ++ e ∷ [] = old.trail ∙ ap (λ t. h.lane.taken ++ tried_entry t) tried in
       let s : ℕ = cond won 4 5 in
       stores s h' (subst (λ l. RowIs (put word (state_at h.number) s) count h.number (row h.number) l (entries_of h'.trail)) l_is (new_state s l (entries_of h'.trail)
-          (rests_if won, record { all = ap (λ y. h.lane.taken ++ y ∷ []) same ∙ sym a.last; no_offer = refl; no_try = refl })
-          (unknown (not_both state a.mark) s l)
-          refl
-          (push_quiet h.trail Done refl ∙ (before ∙ sym (append-nil (h.lane.taken ++ e ∷ []))))))
+      (rests_if won, record { all = ap (λ y. h.lane.taken ++ y ∷ []) same ∙ sym a.last; no_offer = refl; no_try = refl })
+      (unknown (not_both state a.mark) s l)
+      refl
+      (push_quiet h.trail Done refl ∙ (before ∙ sym (append-nil (h.lane.taken ++ e ∷ []))))))
 
   -- ---- the kinds
 
@@ -318,8 +319,8 @@ module _ (word : ℕ → ℕ) (count : ℕ) (row : ℕ → Row) (lane : ℕ → 
   hart_calls (kinds.Look ask) ready =
       let n : ℕ = word (control_at (ask_place ask)) in
       at_control (ask_place ask) n (looked ask n (heeded h))
-          (glanced_lane ask n (lock_bit n == 1) (permits ask (role_in n)) (ask_is_fresh ask n) (heeded h))
-          (glanced_entries ask n (lock_bit n == 1) (permits ask (role_in n)) (ask_is_fresh ask n) (heeded h))
+      (glanced_lane ask n (lock_bit n == 1) (permits ask (role_in n)) (ask_is_fresh ask n) (heeded h))
+      (glanced_entries ask n (lock_bit n == 1) (permits ask (role_in n)) (ask_is_fresh ask n) (heeded h))
   hart_calls (kinds.Load ask) ready = at_value (load_place ask) (word (value_at (load_place ask))) (hart_after (kinds.Load ask) h (word (value_at (load_place ask)))) refl (push_quiet h.trail _ refl)
   hart_calls (kinds.Hold ask) ready = at_value (store_place ask) (word (value_at (store_place ask))) (hart_after (kinds.Hold ask) h (word (value_at (store_place ask)))) refl refl
   hart_calls (kinds.Lock ask control) ready =

@@ -1,5 +1,5 @@
 -- The part on words and locks, over the steps of harts.
-use Rattle.std.proofs.Common.{◌≡◌, ◌≢◌, ◌⊎◌, ⊎_elim, inl, inr, ℕ, ◌+◌, ◌-◌, ◌*◌, ◌%◌, ◌<◌, Bool, true, false, cond, eqb, eqb-true, ◌==◌, Option, Some, None, refl, sym, ap, subst, ◌∙◌, arith, slice_index_or}
+use Rattle.std.proofs.Common.{◌≡◌, ◌≢◌, inl, inr, ℕ, ◌+◌, ◌-◌, ◌%◌, ◌<◌, Bool, true, false, cond, eqb, eqb-true, ◌==◌, Some, None, refl, sym, ap, subst, ◌∙◌, arith, slice_index_or}
 use mathlib.Core.Logic.{dite}
 use native.Mathlib.Decide.{ℕ_discrete}
 use prog.Atomic.{either}
@@ -19,9 +19,9 @@ use Rattle.guest_rule.specs.Layout.{doublewords, harts_at_most, value_at, contro
 use Rattle.guest_rule.specs.Views.{put, nothing_locked}
 use Rattle.guest_rule.specs.Operations.{becomes}
 use Rattle.guest_rule.specs.HartSteps.{HartReady, hart_word, hart_op, hart_after, glanced, looked, locked_if, heeded, permits, ask_is_fresh, ask_place, load_place, store_place}
-use Rattle.guest_rule.specs.Words.{Owner, nobody, keeper, hart, Holds, WordIs, LockIs, Words}
+use Rattle.guest_rule.specs.Words.{nobody, hart, Holds, WordIs, LockIs, Words}
 use Rattle.guest_rule.proofs.Put.{put_here, put_else, put_each, put_same}
-use Rattle.guest_rule.proofs.Locks.{Aims, Beside, beside_value, beside_control, nothing_lock, aside, slot_aside, hart_change, is_free, lock_word, unlock_word}
+use Rattle.guest_rule.proofs.Locks.{Aims, beside_value, beside_control, nothing_lock, aside, slot_aside, hart_change, is_free, lock_word, unlock_word}
 
 -- no word changes, and the hart has nothing locked before and after
 unlocked : (word : ℕ → ℕ) (known : ℕ → Kept) (access : Access) (harts : ℕ → Access) (m : ℕ) (b : Access) → Words word known access harts
@@ -94,14 +94,14 @@ module _ (word : ℕ → ℕ) (known : ℕ → Kept) (access : Access) (harts : 
       let v : word' (value_at d) ≡ word (value_at d) = put_else word (control_at d) (c + 8) (value_at d) (λ (e : value_at d ≡ control_at d). omega arith) in
       let k : word' (control_at d) ≡ c + 8 = put_here word (control_at d) (c + 8) in
       hart_change word word' known access harts w m d (hart m) b (beside_control word d (c + 8)) (inl ours) (inr refl) writable
-          (subst (λ (p : ℕ × ℕ). WordIs p.0 p.1 (hart m) (known d)) (λ i. (sym v i, sym k i)) (lock_word (word (value_at d)) c (w.owner d) (hart m) (known d) at free (λ e. absurd (cc))))
-          (record {
-            owns = λ e is. dite (ℕ_discrete e d) (λ (s : e ≡ d). ap Some (sym s)) (λ (apart : e ≢ d).
-                let q : Some e ≡ None = sym ((w.of_hart m).owns e (sym (put_else w.owner d (hart m) e apart) ∙ is)) ∙ none_locked none' in absurd (cc));
-            named = λ e is. let s : d ≡ e = (let q : Some d ≡ Some e = is in cc) in subst (λ n. (n < doublewords) × (put w.owner d (hart m) n ≡ hart m)) s (low, put_here w.owner d (hart m));
-            held = λ e x is has. let q : Some x ≡ None = sym has in absurd (cc);
-          })
-          (λ e is. let s : d ≡ e = (let q : Some d ≡ Some e = is in cc) in subst (λ n. (known n).role ≡ Rw) s writable)
+      (subst (λ (p : ℕ × ℕ). WordIs p.0 p.1 (hart m) (known d)) (λ i. (sym v i, sym k i)) (lock_word (word (value_at d)) c (w.owner d) (hart m) (known d) at free (λ e. absurd (cc))))
+      (record {
+        owns = λ e is. dite (ℕ_discrete e d) (λ (s : e ≡ d). ap Some (sym s)) (λ (apart : e ≢ d).
+            let q : Some e ≡ None = sym ((w.of_hart m).owns e (sym (put_else w.owner d (hart m) e apart) ∙ is)) ∙ none_locked none' in absurd (cc));
+        named = λ e is. let s : d ≡ e = (let q : Some d ≡ Some e = is in cc) in subst (λ n. (n < doublewords) × (put w.owner d (hart m) n ≡ hart m)) s (low, put_here w.owner d (hart m));
+        held = λ e x is has. let q : Some x ≡ None = sym has in absurd (cc);
+      })
+      (λ e is. let s : d ≡ e = (let q : Some d ≡ Some e = is in cc) in subst (λ n. (known n).role ≡ Rw) s writable)
 
   -- the value of a doubleword that the hart has locked is known, or changes
   values : (d x : ℕ) → h.access.locked ≡ Some d → After (put word (value_at d) x) (record h.access { held = Some x })
@@ -113,20 +113,20 @@ module _ (word : ℕ → ℕ) (known : ℕ → Kept) (access : Access) (harts : 
       let k : word' (control_at d) ≡ word (control_at d) = put_else word (value_at d) x (control_at d) (λ (e : control_at d ≡ value_at d). omega arith) in
       let writable : (known d).role ≡ Rw = w.only_rw m d (some_locked d is) in
       hart_change word word' known access harts w m d (hart m) b (beside_value word d x) (inr place.1) (inr refl) writable
-          (subst (λ n. WordIs (word' (value_at d)) n (hart m) (known d)) (sym k) (record {
-            role = at.role;
-            free = λ e. absurd (cc);
-            taken = λ _. at.taken (λ e. let q : hart m ≡ nobody = sym place.1 ∙ e in absurd (cc));
-            holds = λ e. absurd (cc);
-          }))
-          (record {
-            owns = λ e here. dite (ℕ_discrete e d) (λ (s : e ≡ d). is ∙ ap Some (sym s)) (λ (apart : e ≢ d).
-                sym (ap (λ (a : Access). a.locked) mine) ∙ (w.of_hart m).owns e (sym (put_else w.owner d (hart m) e apart) ∙ here));
-            named = λ e here. let s : d ≡ e = (let q : Some d ≡ Some e = sym is ∙ here in cc) in subst (λ n. (n < doublewords) × (put w.owner d (hart m) n ≡ hart m)) s (place.0, put_here w.owner d (hart m));
-            held = λ e y here has. let s : d ≡ e = (let q : Some d ≡ Some e = sym is ∙ here in cc) in let t : x ≡ y = (let q : Some x ≡ Some y = has in cc) in
-                subst (λ n. word' (value_at n) ≡ y) s (put_here word (value_at d) x ∙ t);
-          })
-          (λ e here. let s : d ≡ e = (let q : Some d ≡ Some e = sym is ∙ here in cc) in subst (λ n. (known n).role ≡ Rw) s writable)
+      (subst (λ n. WordIs (word' (value_at d)) n (hart m) (known d)) (sym k) (record {
+        role = at.role;
+        free = λ e. absurd (cc);
+        taken = λ _. at.taken (λ e. let q : hart m ≡ nobody = sym place.1 ∙ e in absurd (cc));
+        holds = λ e. absurd (cc);
+      }))
+      (record {
+        owns = λ e here. dite (ℕ_discrete e d) (λ (s : e ≡ d). is ∙ ap Some (sym s)) (λ (apart : e ≢ d).
+            sym (ap (λ (a : Access). a.locked) mine) ∙ (w.of_hart m).owns e (sym (put_else w.owner d (hart m) e apart) ∙ here));
+        named = λ e here. let s : d ≡ e = (let q : Some d ≡ Some e = sym is ∙ here in cc) in subst (λ n. (n < doublewords) × (put w.owner d (hart m) n ≡ hart m)) s (place.0, put_here w.owner d (hart m));
+        held = λ e y here has. let s : d ≡ e = (let q : Some d ≡ Some e = sym is ∙ here in cc) in let t : x ≡ y = (let q : Some x ≡ Some y = has in cc) in
+            subst (λ n. word' (value_at n) ≡ y) s (put_here word (value_at d) x ∙ t);
+      })
+      (λ e here. let s : d ≡ e = (let q : Some d ≡ Some e = sym is ∙ here in cc) in subst (λ n. (known n).role ≡ Rw) s writable)
 
   unlocks : (d : ℕ) → h.access.locked ≡ Some d → word (control_at d) < 18446744073709551616 → After (put word (control_at d) ((word (control_at d) + 8) % 18446744073709551616)) nothing_locked
   unlocks d is low =
@@ -138,19 +138,19 @@ module _ (word : ℕ → ℕ) (known : ℕ → Kept) (access : Access) (harts : 
       let v : word' (value_at d) ≡ word (value_at d) = put_else word (control_at d) ((c + 8) % 18446744073709551616) (value_at d) (λ (e : value_at d ≡ control_at d). omega arith) in
       let back : (n : ℕ) → 8 + n - n ≡ 8 = λ n. omega arith in
       let k : (c + (8 + role_code (known d).role - role_code (known d).role)) % 18446744073709551616 ≡ word' (control_at d) =
-          ap (λ (n : ℕ). (c + n) % 18446744073709551616) (back (role_code (known d).role)) ∙ sym (put_here word (control_at d) ((c + 8) % 18446744073709551616)) in
+      ap (λ (n : ℕ). (c + n) % 18446744073709551616) (back (role_code (known d).role)) ∙ sym (put_here word (control_at d) ((c + 8) % 18446744073709551616)) in
       hart_change word word' known access harts w m d nobody nothing_locked (beside_control word d ((c + 8) % 18446744073709551616)) (inr place.1) (inl refl) writable
-          (subst (λ (p : ℕ × ℕ). WordIs p.0 p.1 nobody (known d)) (λ i. (sym v i, k i))
-              (unlock_word (word (value_at d)) c (w.owner d) (known d) (known d) at (λ e. let q : hart m ≡ nobody = sym place.1 ∙ e in absurd (cc)) low
-                  (subst (λ r. Holds r (known d).value (word (value_at d))) (sym writable) tt)))
-          (record {
-            owns = λ e here. dite (ℕ_discrete e d) (λ (s : e ≡ d). let q : nobody ≡ hart m = sym (put_here w.owner d nobody) ∙ (ap (put w.owner d nobody) (sym s) ∙ here) in absurd (cc)) (λ (apart : e ≢ d).
-                let q : Some d ≡ Some e = sym is ∙ (sym (ap (λ (a : Access). a.locked) mine) ∙ (w.of_hart m).owns e (sym (put_else w.owner d nobody e apart) ∙ here)) in
-                let s : d ≡ e = cc in absurd (apart (sym s)));
-            named = λ e here. let q : None ≡ Some e = here in absurd (cc);
-            held = λ e x here has. let q : None ≡ Some e = here in absurd (cc);
-          })
-          (λ e here. let q : None ≡ Some e = here in absurd (cc))
+      (subst (λ (p : ℕ × ℕ). WordIs p.0 p.1 nobody (known d)) (λ i. (sym v i, k i))
+      (unlock_word (word (value_at d)) c (w.owner d) (known d) (known d) at (λ e. let q : hart m ≡ nobody = sym place.1 ∙ e in absurd (cc)) low
+      (subst (λ r. Holds r (known d).value (word (value_at d))) (sym writable) tt)))
+      (record {
+        owns = λ e here. dite (ℕ_discrete e d) (λ (s : e ≡ d). let q : nobody ≡ hart m = sym (put_here w.owner d nobody) ∙ (ap (put w.owner d nobody) (sym s) ∙ here) in absurd (cc)) (λ (apart : e ≢ d).
+            let q : Some d ≡ Some e = sym is ∙ (sym (ap (λ (a : Access). a.locked) mine) ∙ (w.of_hart m).owns e (sym (put_else w.owner d nobody e apart) ∙ here)) in
+            let s : d ≡ e = cc in absurd (apart (sym s)));
+        named = λ e here. let q : None ≡ Some e = here in absurd (cc);
+        held = λ e x here has. let q : None ≡ Some e = here in absurd (cc);
+      })
+      (λ e here. let q : None ≡ Some e = here in absurd (cc))
 
   -- the words beside doublewords
   below : (i x : ℕ) → i < 128 → After (put word i x) h.access
@@ -173,7 +173,7 @@ module _ (word : ℕ → ℕ) (known : ℕ → Kept) (access : Access) (harts : 
       let n : ℕ = word (control_at (ask_place ask)) in
       let b : Access = (looked ask n (heeded h)).access in
       unmoved word (control_at (ask_place ask)) (λ f. Words f known access (put harts m b))
-          (unlocked word known access harts m b w (none_locked ready.1) (glanced_unlocked ask n (lock_bit n == 1) (permits ask (role_in n)) (ask_is_fresh ask n) (heeded h)))
+      (unlocked word known access harts m b w (none_locked ready.1) (glanced_unlocked ask n (lock_bit n == 1) (permits ask (role_in n)) (ask_is_fresh ask n) (heeded h)))
   hart_locks (kinds.Load ask) small few ready aims = unmoved word (value_at (load_place ask)) (λ f. After f nothing_locked) (unlocked word known access harts m nothing_locked w (none_locked ready.1) refl)
   hart_locks (kinds.Hold ask) small few ready aims = values (store_place ask) (word (value_at (store_place ask))) ready
   hart_locks (kinds.Lock ask control) small few ready aims = locks ask control ready.0.0.1 ready.1 ready.3 ready.4 (eqb (word (control_at (store_place ask))) control) refl

@@ -1,5 +1,5 @@
 -- The part on slots and grants, over the steps of harts.
-use Rattle.std.proofs.Common.{◌≡◌, ◌≢◌, ◌⊎◌, ⊎_elim, inl, inr, ℕ, zero, suc, ◌+◌, ◌*◌, ◌%◌, ◌≤◌, ◌<◌, Bool, true, false, cond, eqb, eqb-true, nat_lt, List, [], ◌∷◌, ◌++◌, append_assoc, append-nil, Option, Some, None, Contains, refl, sym, ap, subst, ◌∙◌, arith, ◌==◌, length}
+use Rattle.std.proofs.Common.{◌≡◌, ◌≢◌, ⊎_elim, inl, inr, ℕ, suc, ◌+◌, ◌%◌, ◌≤◌, ◌<◌, Bool, true, false, cond, eqb, eqb-true, nat_lt, List, [], ◌∷◌, ◌++◌, append_assoc, append-nil, Option, Some, None, Contains, refl, sym, ap, subst, ◌∙◌, arith, ◌==◌}
 use Rattle.std.proofs.lemmas.List.Elements.{Contains-append_left, Contains-push, Contains-push_cases}
 use Rattle.std.proofs.lemmas.Bool.{eqb-false}
 use mathlib.Core.Logic.{dite}
@@ -9,8 +9,7 @@ use Rattle.ld_base.specs.declared.linking.Role.TheVariants.{Rw, Slot as SlotRole
 use Rattle.guest_rule.specs.declared.entry.Entry.{Entry}
 use Rattle.guest_rule.specs.declared.entry.Exchange.{Exchange}
 use Rattle.guest_rule.specs.declared.entry.Grant.{Grant}
-use Rattle.guest_rule.specs.declared.entry.RowWord.{RowWord}
-use Rattle.guest_rule.specs.declared.entry.RowWord.TheVariants.{Number, Slot, Lazy, Value, Generation}
+use Rattle.guest_rule.specs.declared.entry.RowWord.TheVariants.{Lazy}
 use Rattle.guest_rule.specs.declared.kind.Ask.{Ask}
 use Rattle.guest_rule.specs.declared.kind.StoreAsk.{StoreAsk}
 use Rattle.guest_rule.specs.declared.kind.HartKind.{HartKind}
@@ -21,19 +20,19 @@ use Rattle.guest_rule.specs.declared.view.Lane.{Lane}
 use Rattle.guest_rule.specs.declared.view.Offer.{Offer}
 use Rattle.guest_rule.specs.declared.view.Row.{Row}
 use Rattle.guest_rule.specs.declared.view.TrailItem.{TrailItem}
-use Rattle.guest_rule.specs.declared.view.TrailItem.TheVariants.{Call, Took, Exchanged, Done, Generation as ReadGeneration}
-use Rattle.guest_rule.specs.Layout.{doublewords, harts_at_most, place_of, row_at, state_at, value_at, control_at, index_of, role_in, lock_bit}
+use Rattle.guest_rule.specs.declared.view.TrailItem.TheVariants.{Took, Exchanged, Done}
+use Rattle.guest_rule.specs.Layout.{harts_at_most, place_of, row_at, state_at, value_at, control_at, index_of, role_in, lock_bit}
 use Rattle.guest_rule.specs.Views.{put, entry_of, grant_in, exchanges_by, exchanges_of}
 use Rattle.guest_rule.specs.Operations.{becomes}
-use Rattle.guest_rule.specs.HartSteps.{HartReady, IsMark, hart_word, hart_op, hart_after, glanced, looked, locked_if, arrived_if, finished, heeded, permits, ask_is_fresh, ask_place, load_place, store_place}
-use Rattle.guest_rule.specs.Allowed.{IsAllowed, IsOf, IsSlot, LeadsTo, Stands}
-use Rattle.guest_rule.specs.Calls.{Answered, Awaits, Rests, RowIs, Stage, Still}
-use Rattle.guest_rule.specs.Slots.{Did, Fated, GrantsAre, HasLost, HasWon, IsOpen, IsPending, Rising, SlotIs, Slots, Winner}
+use Rattle.guest_rule.specs.HartSteps.{HartReady, IsMark, hart_word, hart_op, hart_after, glanced, looked, locked_if, arrived_if, heeded, permits, ask_is_fresh, ask_place, load_place, store_place}
+use Rattle.guest_rule.specs.Allowed.{IsOf, IsSlot, Stands}
+use Rattle.guest_rule.specs.Calls.{Answered, Rests, RowIs, Still}
+use Rattle.guest_rule.specs.Slots.{Did, Fated, GrantsAre, HasWon, IsOpen, IsPending, Rising, SlotIs, Slots, Winner}
 use Rattle.guest_rule.proofs.Put.{put_here, put_else, put_each, put_same}
-use Rattle.guest_rule.proofs.HartLocks.{unmoved, low_index}
+use Rattle.guest_rule.proofs.HartLocks.{unmoved}
 use Rattle.guest_rule.proofs.HartCalls.{answered_if, tried_if, read_entry, still_if, glanced_lane, locked_lane}
-use Rattle.guest_rule.proofs.Rows.{begins, high_awaits, low_rest, low_mark}
-use Rattle.guest_rule.proofs.SlotFrames.{SameSlots, SameGrants, beside_slots, row_changes}
+use Rattle.guest_rule.proofs.Rows.{begins, high_awaits, low_rest}
+use Rattle.guest_rule.proofs.SlotFrames.{SameSlots, beside_slots, row_changes}
 
 -- ---- trails
 
@@ -60,9 +59,9 @@ there x xs y c = let low = c.1 in (suc c.0, omega arith, c.2)
 rising_push : (xs : List Exchange) (e : Exchange) → Rising xs → ((x : Exchange) → Contains xs x → x.grant.entry.number < e.grant.entry.number) → Rising (xs ++ e ∷ [])
 rising_push [] e r lt = ((λ y c. let low = c.1 in absurd (omega arith)), tt)
 rising_push (x ∷ xs) e r lt = (
-    (λ y c. ⊎_elim (λ (h : Contains xs y). r.0 y h) (λ (same : e ≡ y). subst (λ (y : Exchange). x.grant.entry.number < y.grant.entry.number) same (lt x (0, omega arith, refl))) (Contains-push_cases xs e y c)),
-    rising_push xs e r.1 (λ y c. lt y (there x xs y c)),
-  )
+  (λ y c. ⊎_elim (λ (h : Contains xs y). r.0 y h) (λ (same : e ≡ y). subst (λ (y : Exchange). x.grant.entry.number < y.grant.entry.number) same (lt x (0, omega arith, refl))) (Contains-push_cases xs e y c)),
+  rising_push xs e r.1 (λ y c. lt y (there x xs y c)),
+)
 
 abbrev winning : ℕ → Grant → Winner
 winning m g = Some (m, g)
@@ -75,7 +74,7 @@ given_back won = cond won 4 5
 restate : (known : ℕ → Kept) (locked : Option ℕ) (count : ℕ) (word word' : ℕ → ℕ) (winner : ℕ → Winner) (m : ℕ) (row : Row) (t t' : Option Exchange) (xs : List Exchange)
     → ((d : ℕ) → IsSlot known d → word' (value_at d) ≡ word (value_at d)) → (row.pending ≡ None → word' (state_at m) ≢ 3)
     → ((g : Grant) → row.pending ≡ Some g → (value : ℕ) (w : Winner) → (value ≡ word (value_at (place_of g.entry.slot))) → (w ≡ winner (place_of g.entry.slot)) → IsOf known (place_of g.entry.slot) g
-        → Fated value (word (state_at m)) w m row t xs g → Fated value (word' (state_at m)) w m row t' xs g)
+    → Fated value (word (state_at m)) w m row t xs g → Fated value (word' (state_at m)) w m row t' xs g)
     → GrantsAre known locked count word winner m row t xs → GrantsAre known locked count word' winner m row t' xs
 restate known locked count word word' winner m row t t' xs values closed' fates old = record {
   closed = closed';
@@ -136,13 +135,13 @@ module _ (word : ℕ → ℕ) (known : ℕ → Kept) (locked : Option ℕ) (coun
       → GrantsAre known locked count (put word (state_at h.number) x) s.winner h.number (row h.number) h'.lane.tried (exchanges h.number) → After (put word (state_at h.number) x) h'
   states_step x h' same g =
       subst (λ (p : (ℕ → Row) × (ℕ → List Exchange)). Slots (put word (state_at h.number) x) known locked count p.0 (put tried h.number h'.lane.tried) p.1)
-          (λ i. (put_same row h.number (row h.number) refl i, sym (put_same exchanges h.number (exchanges_of h'.trail) (trail_is ∙ sym same)) i))
+      (λ i. (put_same row h.number (row h.number) refl i, sym (put_same exchanges h.number (exchanges_of h'.trail) (trail_is ∙ sym same)) i))
       (row_changes word (put word (state_at h.number) x) known locked count row tried exchanges h.number (row h.number) h'.lane.tried few
-          (λ d here. put_else word (state_at h.number) x (value_at d) (λ (q : value_at d ≡ state_at h.number). omega arith))
-          (λ j low apart. put_else word (state_at h.number) x (state_at j) (λ (q : state_at j ≡ state_at h.number). apart (omega arith)))
-          s
-          (record { back = λ g st. inl st; forth = λ d g here e. ((s.each_slot d here).by h.number g e).1 })
-          g)
+      (λ d here. put_else word (state_at h.number) x (value_at d) (λ (q : value_at d ≡ state_at h.number). omega arith))
+      (λ j low apart. put_else word (state_at h.number) x (state_at j) (λ (q : state_at j ≡ state_at h.number). apart (omega arith)))
+      s
+      (record { back = λ g st. inl st; forth = λ d g here e. ((s.each_slot d here).by h.number g e).1 })
+      g)
 
   values_stay : (x d : ℕ) → IsSlot known d → put word (state_at h.number) x (value_at d) ≡ word (value_at d)
   values_stay x d here = put_else word (state_at h.number) x (value_at d) (λ (q : value_at d ≡ state_at h.number). omega arith)
@@ -157,13 +156,14 @@ module _ (word : ℕ → ℕ) (known : ℕ → Kept) (locked : Option ℕ) (coun
       let x : ℕ = (state + 8) % 18446744073709551616 in
       let high : 8 ≤ x = high_awaits x (begins state rests.0) in
       states_step x (hart_after (kinds.Begin h.number) h state) refl
-          (restate known locked count word (put word (state_at h.number) x) s.winner h.number (row h.number) h.lane.tried h.lane.tried (exchanges h.number) (values_stay x)
-              (λ none' e. let q : x ≡ 3 = sym (state_is x) ∙ e in omega arith)
-              (λ g e value w _ _ _ f. subst (λ n. Fated value n w h.number (row h.number) h.lane.tried (exchanges h.number) g) (sym (state_is x)) (begun state x refl low rests.0 w g value f))
-              old)
+      (restate known locked count word (put word (state_at h.number) x) s.winner h.number (row h.number) h.lane.tried h.lane.tried (exchanges h.number) (values_stay x)
+      (λ none' e. let q : x ≡ 3 = sym (state_is x) ∙ e in omega arith)
+      (λ g e value w _ _ _ f. subst (λ n. Fated value n w h.number (row h.number) h.lane.tried (exchanges h.number) g) (sym (state_is x)) (begun state x refl low rests.0 w g value f))
+      old)
     where
       three : (n : ℕ) → Rests n → n ≡ 3 → ⊥
       three n rest e = elim rest [ inl a ↦ omega arith | inr a ↦ elim a [ inl b ↦ omega arith | inr b ↦ omega arith ] ]
+
       begun : (n x : ℕ) → x ≡ (n + 8) % 18446744073709551616 → n < 8 → Rests n → (w : Winner) (g : Grant) (value : ℕ) → Fated value n w h.number (row h.number) h.lane.tried (exchanges h.number) g → Fated value x w h.number (row h.number) h.lane.tried (exchanges h.number) g
       begun n x is low rest w g value f = elim f [
         | inl o ↦ absurd (three n rest o.0)
@@ -181,10 +181,10 @@ module _ (word : ℕ → ℕ) (known : ℕ → Kept) (locked : Option ℕ) (coun
       let read : (state ≡ e.mark) × (e ≡ entry_of state (row h.number)) = read_entry state (row h.number) h.lane o e a has ready.2.2 in
       let other : state ≢ 3 = λ t. ready.1 (sym read.0 ∙ t) in
       states_step 0 (hart_after (kinds.Accept h.number e) h state) (push_quiet h.trail (Took e) refl)
-          (restate known locked count word (put word (state_at h.number) 0) s.winner h.number (row h.number) h.lane.tried h.lane.tried (exchanges h.number) (values_stay 0)
-              (λ none' t. let q : 0 ≡ 3 = sym (state_is 0) ∙ t in omega arith)
-              (λ g p value w _ _ _ f. absurd (unfated state a.mark other w g value f))
-              old)
+      (restate known locked count word (put word (state_at h.number) 0) s.winner h.number (row h.number) h.lane.tried h.lane.tried (exchanges h.number) (values_stay 0)
+      (λ none' t. let q : 0 ≡ 3 = sym (state_is 0) ∙ t in omega arith)
+      (λ g p value w _ _ _ f. absurd (unfated state a.mark other w g value f))
+      old)
     where
       unfated : (n : ℕ) → IsMark n → n ≢ 3 → (w : Winner) (g : Grant) (value : ℕ) → Fated value n w h.number (row h.number) h.lane.tried (exchanges h.number) g → ⊥
       unfated n mark other w g value f = elim f [
@@ -197,6 +197,7 @@ module _ (word : ℕ → ℕ) (known : ℕ → Kept) (locked : Option ℕ) (coun
         where
           at_four : (n : ℕ) → IsMark n → n % 8 ≡ 4 → ⊥
           at_four n mark q = elim mark [ inl a ↦ omega arith | inr a ↦ elim a [ inl b ↦ omega arith | inr b ↦ elim b [ inl c ↦ omega arith | inr c ↦ omega arith ] ] ]
+
           at_five : (n : ℕ) → IsMark n → n % 8 ≡ 5 → ⊥
           at_five n mark q = elim mark [ inl a ↦ omega arith | inr a ↦ elim a [ inl b ↦ omega arith | inr b ↦ elim b [ inl c ↦ omega arith | inr c ↦ omega arith ] ] ]
 
@@ -207,15 +208,16 @@ module _ (word : ℕ → ℕ) (known : ℕ → Kept) (locked : Option ℕ) (coun
       let y : ℕ = cond won 4 5 in
       let h' : HartView = hart_after (kinds.Finish h.number won) h state in
       states_step y h' (push_quiet h.trail Done refl)
-          (restate known locked count word (put word (state_at h.number) y) s.winner h.number (row h.number) h.lane.tried h'.lane.tried (exchanges h.number) (values_stay y)
-              (λ none' t. not_open won (sym (state_is y) ∙ t))
-              (λ g p value w value_is w_is o f. subst (λ n. Fated value n w h.number (row h.number) h'.lane.tried (exchanges h.number) g) (sym (state_is y))
-                  (fated h'.lane.tried won (sym won_is) g value w value_is w_is o (opened state three w g value f)))
-              old)
+      (restate known locked count word (put word (state_at h.number) y) s.winner h.number (row h.number) h.lane.tried h'.lane.tried (exchanges h.number) (values_stay y)
+      (λ none' t. not_open won (sym (state_is y) ∙ t))
+      (λ g p value w value_is w_is o f. subst (λ n. Fated value n w h.number (row h.number) h'.lane.tried (exchanges h.number) g) (sym (state_is y))
+      (fated h'.lane.tried won (sym won_is) g value w value_is w_is o (opened state three w g value f)))
+      old)
     where
       not_open : (won : Bool) → given_back won ≡ 3 → ⊥
       not_open true e = omega arith
       not_open false e = omega arith
+
       opened : (n : ℕ) → n ≡ 3 → (w : Winner) (g : Grant) (value : ℕ) → Fated value n w h.number (row h.number) h.lane.tried (exchanges h.number) g → IsOpen w h.number (row h.number) h.lane.tried (exchanges h.number) g
       opened n three w g value f = elim f [
         | inl o ↦ o.1
@@ -224,24 +226,29 @@ module _ (word : ℕ → ℕ) (known : ℕ → Kept) (locked : Option ℕ) (coun
           | inr b ↦ (let q = b.0 in absurd (omega arith))
         ]
       ]
+
       fated : (t : Option Exchange) (won : Bool) → eqb x.found x.grant.lazy ≡ won → (g : Grant) (value : ℕ) (w : Winner) → value ≡ word (value_at (place_of g.entry.slot)) → w ≡ s.winner (place_of g.entry.slot) → IsOf known (place_of g.entry.slot) g
           → IsOpen w h.number (row h.number) h.lane.tried (exchanges h.number) g → Fated value (cond won 4 5) w h.number (row h.number) t (exchanges h.number) g
       fated t won won_is g value w value_is w_is o is_open = go won won_is
         where
           made : (x.grant ≡ g) × Contains (exchanges h.number) x
           made = is_open.made x is
+
           did : Did (word (value_at (place_of g.entry.slot))) (known (place_of g.entry.slot)).lazy (s.winner (place_of g.entry.slot)) h.number x
           did = subst (λ (q : Grant). Did (word (value_at (place_of q.entry.slot))) (known (place_of q.entry.slot)).lazy (s.winner (place_of q.entry.slot)) h.number x) made.0
               (s.each_exchange h.number few x made.1 (subst (λ (q : Grant). IsOf known (place_of q.entry.slot) q) (sym made.0) o))
+
           go : (won : Bool) → eqb x.found x.grant.lazy ≡ won → Fated value (cond won 4 5) w h.number (row h.number) t (exchanges h.number) g
           go true e = inr (inl (refl, w_is ∙ (did.won (eqb-true x.found x.grant.lazy e) ∙ ap (λ q. Some (h.number, q)) made.0)))
           go false e =
               let apart : x.found ≢ x.grant.lazy = eqb-false x.found x.grant.lazy e in
               let lost = did.lost apart in
-              inr (inr (refl,
-                  (λ q. lost.0 (sym w_is ∙ (q ∙ ap (λ q. Some (h.number, q)) (sym made.0)))),
-                  (λ q. did.not_lazy (sym value_is ∙ (q ∙ (ap (λ (q : Grant). q.lazy) (sym made.0) ∙ did.lazy_is)))),
-                  (x.found, (λ q. apart (q ∙ ap (λ (q : Grant). q.lazy) (sym made.0))), subst (Contains (exchanges h.number)) (λ i. record { grant = made.0 i; found = x.found }) made.1)))
+              inr (inr (
+                refl,
+                (λ q. lost.0 (sym w_is ∙ (q ∙ ap (λ q. Some (h.number, q)) (sym made.0)))),
+                (λ q. did.not_lazy (sym value_is ∙ (q ∙ (ap (λ (q : Grant). q.lazy) (sym made.0) ∙ did.lazy_is)))),
+                (x.found, (λ q. apart (q ∙ ap (λ (q : Grant). q.lazy) (sym made.0))), subst (Contains (exchanges h.number)) (λ i. record { grant = made.0 i; found = x.found }) made.1),
+              ))
 
   -- ---- the exchange
 
@@ -257,16 +264,22 @@ module _ (word : ℕ → ℕ) (known : ℕ → Kept) (locked : Option ℕ) (coun
     where
       o : Offer
       o = ready.2.0
+
       a : Answered state (row h.number) h.lane
       a = answered_if state (row h.number) h.lane ready.2.0 ready.2.1 h.lane.calling r.stage
+
       read : (state ≡ g.entry.mark) × (g.entry ≡ entry_of state (row h.number))
       read = read_entry state (row h.number) h.lane ready.2.0 g.entry a ready.2.1 ready.2.2.0
+
       three : state ≡ 3
       three = read.0 ∙ ready.1
+
       lazy : g.lazy ≡ (row h.number).lazy
       lazy = (a.offer ready.2.0 ready.2.1).1 Lazy g.lazy ready.2.2.1
+
       same : g ≡ grant_in (row h.number)
       same i = record { entry = (read.1 ∙ ap (λ s. entry_of s (row h.number)) three) i; lazy = lazy i }
+
       opened : (n : ℕ) → n ≡ 3 → (p : Grant) (w : Winner) (value : ℕ) → Fated value n w h.number (row h.number) h.lane.tried (exchanges h.number) p → IsOpen w h.number (row h.number) h.lane.tried (exchanges h.number) p
       opened n is p w value f = elim f [
         | inl f ↦ f.1
@@ -275,6 +288,7 @@ module _ (word : ℕ → ℕ) (known : ℕ → Kept) (locked : Option ℕ) (coun
           | inr f ↦ (let q = f.0 in absurd (omega arith))
         ]
       ]
+
       at : (p : Option Grant) → (row h.number).pending ≡ p → Aim g
       at None e = absurd (old.closed e three)
       at (Some p) e =
@@ -299,51 +313,62 @@ module _ (word : ℕ → ℕ) (known : ℕ → Kept) (locked : Option ℕ) (coun
         winner = winner';
         each_slot = λ n here. dite (ℕ_discrete n d)
             (λ (same : n ≡ d). subst (λ n. SlotIs (word' (value_at n)) known count row exchanges' (winner' n) n) (sym same)
-                (subst (λ (p : ℕ × Winner). SlotIs p.0 known count row exchanges' p.1 d) (λ i. (sym (put_here word (value_at d) v') i, sym (put_here s.winner d w') i)) left.slot))
+            (subst (λ (p : ℕ × Winner). SlotIs p.0 known count row exchanges' p.1 d) (λ i. (sym (put_here word (value_at d) v') i, sym (put_here s.winner d w') i)) left.slot))
             (λ (apart : n ≢ d). subst (λ (p : ℕ × Winner). SlotIs p.0 known count row exchanges' p.1 n) (λ i. (sym (value_else n apart) i, sym (put_else s.winner d w' n apart) i)) (slot_more n (s.each_slot n here)));
         each_hart = λ j low. dite (ℕ_discrete j m)
             (λ (same : j ≡ m). subst (λ j. GrantsAre known locked count word' winner' j (row j) (put tried m (Some e) j) (exchanges' j)) (sym same)
-                (subst (λ (p : Option Exchange × List Exchange). GrantsAre known locked count word' winner' m (row m) p.0 p.1) (λ i. (sym (put_here tried m (Some e)) i, sym (put_here exchanges m (exchanges m ++ e ∷ [])) i)) mine'))
+            (subst (λ (p : Option Exchange × List Exchange). GrantsAre known locked count word' winner' m (row m) p.0 p.1) (λ i. (sym (put_here tried m (Some e)) i, sym (put_here exchanges m (exchanges m ++ e ∷ [])) i)) mine'))
             (λ (apart : j ≢ m). subst (λ (p : Option Exchange × List Exchange). GrantsAre known locked count word' winner' j (row j) p.0 p.1) (λ i. (sym (put_else tried m (Some e) j apart) i, sym (put_else exchanges m (exchanges m ++ e ∷ []) j apart) i)) (others j low apart));
         each_exchange = λ j low x c o. dite (ℕ_discrete j m)
             (λ (same : j ≡ m). ⊎_elim
-                (λ (was : Contains (exchanges m) x). did_before j x (s.each_exchange j low x (subst (λ n. Contains (exchanges n) x) (sym same) was) o))
-                (λ (new : e ≡ x). subst (λ (p : ℕ × Exchange). Did (word' (value_at (place_of p.1.grant.entry.slot))) (known (place_of p.1.grant.entry.slot)).lazy (winner' (place_of p.1.grant.entry.slot)) p.0 p.1) (λ i. (sym same i, new i))
-                    (subst (λ (p : ℕ × Winner). Did p.0 (known d).lazy p.1 m e) (λ i. (sym (put_here word (value_at d) v') i, sym (put_here s.winner d w') i)) left.did))
-                (Contains-push_cases (exchanges m) e x (subst (λ xs. Contains xs x) (ap exchanges' same ∙ put_here exchanges m (exchanges m ++ e ∷ [])) c)))
+            (λ (was : Contains (exchanges m) x). did_before j x (s.each_exchange j low x (subst (λ n. Contains (exchanges n) x) (sym same) was) o))
+            (λ (new : e ≡ x). subst (λ (p : ℕ × Exchange). Did (word' (value_at (place_of p.1.grant.entry.slot))) (known (place_of p.1.grant.entry.slot)).lazy (winner' (place_of p.1.grant.entry.slot)) p.0 p.1) (λ i. (sym same i, new i))
+            (subst (λ (p : ℕ × Winner). Did p.0 (known d).lazy p.1 m e) (λ i. (sym (put_here word (value_at d) v') i, sym (put_here s.winner d w') i)) left.did))
+            (Contains-push_cases (exchanges m) e x (subst (λ xs. Contains xs x) (ap exchanges' same ∙ put_here exchanges m (exchanges m ++ e ∷ [])) c)))
             (λ (apart : j ≢ m). did_before j x (s.each_exchange j low x (subst (λ xs. Contains xs x) (put_else exchanges m (exchanges m ++ e ∷ []) j apart) c) o));
         no_more = s.no_more;
       })
     where
       m : ℕ
       m = h.number
+
       d : ℕ
       d = place_of g.entry.slot
+
       e : Exchange
       e = record { grant = g; found = word (value_at d) }
+
       word' : ℕ → ℕ
       word' = put word (value_at d) v'
+
       winner' : ℕ → Winner
       winner' = put s.winner d w'
+
       exchanges' : ℕ → List Exchange
       exchanges' = put exchanges m (exchanges m ++ e ∷ [])
+
       value_else : (n : ℕ) → n ≢ d → word' (value_at n) ≡ word (value_at n)
       value_else n apart = put_else word (value_at d) v' (value_at n) (λ (q : value_at n ≡ value_at d). apart (omega arith))
+
       state_else : (j : ℕ) → j < harts_at_most → word' (state_at j) ≡ word (state_at j)
       state_else j low = put_else word (value_at d) v' (state_at j) (λ (q : state_at j ≡ value_at d). omega arith)
+
       more : (j : ℕ) (x : Exchange) → Contains (exchanges j) x → Contains (exchanges' j) x
       more j x c = put_each (λ n xs. Contains (exchanges n) x → Contains xs x) exchanges m (exchanges m ++ e ∷ []) (λ n _ c. c) (λ c. Contains-append_left (exchanges m) (e ∷ []) x c) j c
+
       slot_more : (n : ℕ) → SlotIs (word (value_at n)) known count row exchanges (s.winner n) n → SlotIs (word (value_at n)) known count row exchanges' (s.winner n) n
       slot_more n o = record { since = o.since; image = o.image; bound = o.bound; by = λ j p is. ((o.by j p is).0, (o.by j p is).1, more j (record { grant = p; found = p.lazy }) (o.by j p is).2); leads = o.leads }
+
       did_before : (j : ℕ) (x : Exchange) → (let n = place_of x.grant.entry.slot in Did (word (value_at n)) (known n).lazy (s.winner n) j x) → (let n = place_of x.grant.entry.slot in Did (word' (value_at n)) (known n).lazy (winner' n) j x)
       did_before j x = at (place_of x.grant.entry.slot)
         where
           at : (n : ℕ) → Did (word (value_at n)) (known n).lazy (s.winner n) j x → Did (word' (value_at n)) (known n).lazy (winner' n) j x
           at n did = dite (ℕ_discrete n d)
               (λ (same : n ≡ d). subst (λ n. Did (word' (value_at n)) (known n).lazy (winner' n) j x) (sym same)
-                  (subst (λ (p : ℕ × Winner). Did p.0 (known d).lazy p.1 j x) (λ i. (sym (put_here word (value_at d) v') i, sym (put_here s.winner d w') i))
-                      (left.before j x (subst (λ n. Did (word (value_at n)) (known n).lazy (s.winner n) j x) same did))))
+              (subst (λ (p : ℕ × Winner). Did p.0 (known d).lazy p.1 j x) (λ i. (sym (put_here word (value_at d) v') i, sym (put_here s.winner d w') i))
+              (left.before j x (subst (λ n. Did (word (value_at n)) (known n).lazy (s.winner n) j x) same did))))
               (λ (apart : n ≢ d). subst (λ (p : ℕ × Winner). Did p.0 (known n).lazy p.1 j x) (λ i. (sym (value_else n apart) i, sym (put_else s.winner d w' n apart) i)) did)
+
       others : (j : ℕ) → j < harts_at_most → j ≢ m → GrantsAre known locked count word' winner' j (row j) (tried j) (exchanges j)
       others j low apart = let o : GrantsAre known locked count word s.winner j (row j) (tried j) (exchanges j) = s.each_hart j low in record {
         closed = λ none' t. o.closed none' (sym (state_else j low) ∙ t);
@@ -365,9 +390,10 @@ module _ (word : ℕ → ℕ) (known : ℕ → Kept) (locked : Option ℕ) (coun
               → Fated (word' (value_at n)) (word (state_at j)) (winner' n) j (row j) (tried j) (exchanges j) p
           fate_at j low apart p n lazy f = dite (ℕ_discrete n d)
               (λ (same : n ≡ d). subst (λ n. Fated (word' (value_at n)) (word (state_at j)) (winner' n) j (row j) (tried j) (exchanges j) p) (sym same)
-                  (subst (λ (q : ℕ × Winner). Fated q.0 (word (state_at j)) q.1 j (row j) (tried j) (exchanges j) p) (λ i. (sym (put_here word (value_at d) v') i, sym (put_here s.winner d w') i))
-                      (left.fates j low apart p (lazy ∙ ap (λ n. (known n).lazy) same) (subst (λ n. Fated (word (value_at n)) (word (state_at j)) (s.winner n) j (row j) (tried j) (exchanges j) p) same f))))
+              (subst (λ (q : ℕ × Winner). Fated q.0 (word (state_at j)) q.1 j (row j) (tried j) (exchanges j) p) (λ i. (sym (put_here word (value_at d) v') i, sym (put_here s.winner d w') i))
+              (left.fates j low apart p (lazy ∙ ap (λ n. (known n).lazy) same) (subst (λ n. Fated (word (value_at n)) (word (state_at j)) (s.winner n) j (row j) (tried j) (exchanges j) p) same f))))
               (λ (other : n ≢ d). subst (λ (q : ℕ × Winner). Fated q.0 (word (state_at j)) q.1 j (row j) (tried j) (exchanges j) p) (λ i. (sym (value_else n other) i, sym (put_else s.winner d w' n other) i)) f)
+
       mine' : GrantsAre known locked count word' winner' m (row m) (Some e) (exchanges m ++ e ∷ [])
       mine' = record {
         closed = λ none' t. old.closed none' (sym (state_else m few) ∙ t);
@@ -377,12 +403,15 @@ module _ (word : ℕ → ℕ) (known : ℕ → Kept) (locked : Option ℕ) (coun
               free = aim.posted.free;
               lazy_is = aim.posted.lazy_is;
               other = aim.posted.other;
-              fate = inl (state_else m few ∙ aim.three, record {
-                in_row = aim.is_open.in_row;
-                untried = λ t. let z : Some e ≡ None = t in absurd (cc);
-                new = λ t. let z : Some e ≡ None = t in absurd (cc);
-                made = λ x t. let z : Some e ≡ Some x = t in let same : e ≡ x = cc in subst (λ (x : Exchange). (x.grant ≡ g) × Contains (exchanges m ++ e ∷ []) x) same (refl, Contains-push (exchanges m) e);
-              });
+              fate = inl (
+                state_else m few ∙ aim.three,
+                record {
+                  in_row = aim.is_open.in_row;
+                  untried = λ t. let z : Some e ≡ None = t in absurd (cc);
+                  new = λ t. let z : Some e ≡ None = t in absurd (cc);
+                  made = λ x t. let z : Some e ≡ Some x = t in let same : e ≡ x = cc in subst (λ (x : Exchange). (x.grant ≡ g) × Contains (exchanges m ++ e ∷ []) x) same (refl, Contains-push (exchanges m) e);
+                },
+              );
             });
         won = λ p c. Contains-append_left (exchanges m) (e ∷ []) (record { grant = p; found = p.lazy }) (old.won p c);
         lost = λ p c. let l = old.lost p c in (l.0, l.1, Contains-append_left (exchanges m) (e ∷ []) (record { grant = p; found = l.0 }) l.2);
@@ -424,9 +453,12 @@ module _ (word : ℕ → ℕ) (known : ℕ → Kept) (locked : Option ℕ) (coun
           bound = λ j p q. let z : Some (h.number, g) ≡ Some (j, p) = q in let y : (h.number, g) ≡ (j, p) = cc in
               subst (λ (x : ℕ × Grant). (g.entry.value ≡ x.1.entry.value) × (x.1.entry.value ≢ x.1.lazy) × (x.1.lazy ≡ (known d).lazy)) y (refl, aim.posted.other, aim.posted.lazy_is);
           by = λ j p q. let z : Some (h.number, g) ≡ Some (j, p) = q in let y : (h.number, g) ≡ (j, p) = cc in
-              subst (λ (x : ℕ × Grant). IsOf known d x.1 × Stands (row x.0) x.1 × HasWon (put exchanges h.number (exchanges h.number ++ e ∷ []) x.0) x.1) y
-              (aim.posted.of_slot, inl aim.is_pending, subst (λ xs. HasWon xs g) (sym (put_here exchanges h.number (exchanges h.number ++ e ∷ [])))
-                  (subst (λ f. Contains (exchanges h.number ++ e ∷ []) (record { grant = g; found = f })) same (Contains-push (exchanges h.number) e)));
+              subst (λ (x : ℕ × Grant). IsOf known d x.1 × Stands (row x.0) x.1 × HasWon (put exchanges h.number (exchanges h.number ++ e ∷ []) x.0) x.1) y (
+                aim.posted.of_slot,
+                inl aim.is_pending,
+                subst (λ xs. HasWon xs g) (sym (put_here exchanges h.number (exchanges h.number ++ e ∷ [])))
+                    (subst (λ f. Contains (exchanges h.number ++ e ∷ []) (record { grant = g; found = f })) same (Contains-push (exchanges h.number) e)),
+              );
           leads = o.leads;
         };
         did = record { lazy_is = aim.posted.lazy_is; not_lazy = λ q. aim.posted.other (q ∙ sym aim.posted.lazy_is); won = λ _. refl; lost = λ q. absurd (q same) };
@@ -437,6 +469,7 @@ module _ (word : ℕ → ℕ) (known : ℕ → Kept) (locked : Option ℕ) (coun
       nobody : (n d : ℕ) (w : Winner) → s.winner d ≡ w → SlotIs n known count row exchanges (s.winner d) d → n ≡ (known d).lazy → s.winner d ≡ None
       nobody n d None is o lazy = is
       nobody n d (Some (j, p)) is o lazy = let b = o.bound j p is in absurd (b.1 (sym b.0 ∙ (lazy ∙ sym b.2)))
+
       refated : (g : Grant) (d n j : ℕ) → j ≢ h.number → (p : Grant) → p.lazy ≡ g.lazy → g.entry.value ≢ g.lazy → s.winner d ≡ None → Fated n (word (state_at j)) (s.winner d) j (row j) (tried j) (exchanges j) p
           → Fated g.entry.value (word (state_at j)) (Some (h.number, g)) j (row j) (tried j) (exchanges j) p
       refated g d n j apart p lazy other none' f = elim f [
@@ -463,9 +496,9 @@ module _ (word : ℕ → ℕ) (known : ℕ → Kept) (locked : Option ℕ) (coun
   hart_slots (kinds.Look ask) ready =
       let n : ℕ = word (control_at (ask_place ask)) in
       quiet (put word (control_at (ask_place ask)) n) (looked ask n (heeded h))
-          (ap (λ (l : Lane). l.tried) (glanced_lane ask n (lock_bit n == 1) (permits ask (role_in n)) (ask_is_fresh ask n) (heeded h)))
-          (glanced_exchanges ask n (lock_bit n == 1) (permits ask (role_in n)) (ask_is_fresh ask n) (heeded h))
-          (at_control (ask_place ask) n)
+      (ap (λ (l : Lane). l.tried) (glanced_lane ask n (lock_bit n == 1) (permits ask (role_in n)) (ask_is_fresh ask n) (heeded h)))
+      (glanced_exchanges ask n (lock_bit n == 1) (permits ask (role_in n)) (ask_is_fresh ask n) (heeded h))
+      (at_control (ask_place ask) n)
   hart_slots (kinds.Load ask) ready = quiet (put word (value_at (load_place ask)) (word (value_at (load_place ask)))) (hart_after (kinds.Load ask) h (word (value_at (load_place ask)))) refl (push_quiet h.trail _ refl) (same_word (value_at (load_place ask)))
   hart_slots (kinds.Hold ask) ready = quiet (put word (value_at (store_place ask)) (word (value_at (store_place ask)))) (hart_after (kinds.Hold ask) h (word (value_at (store_place ask)))) refl refl (same_word (value_at (store_place ask)))
   hart_slots (kinds.Lock ask control) ready =

@@ -1,8 +1,7 @@
 -- The part on calls and rows, over the steps of the keeper.
-use Rattle.std.proofs.Common.{◌≡◌, ◌≢◌, ◌⊎◌, ⊎_elim, inl, inr, ℕ, zero, suc, ◌+◌, ◌*◌, ◌%◌, ◌≤◌, ◌<◌, Bool, true, false, eqb, nat_le, leb-true, true≢false, List, [], ◌∷◌, ◌++◌, length, map, get_or, length-append, Option, Some, None, refl, sym, ap, subst, ◌∙◌, arith, slice_index_or, slice_set}
+use Rattle.std.proofs.Common.{◌≡◌, ◌≢◌, ◌⊎◌, ⊎_elim, inl, inr, ℕ, zero, suc, ◌+◌, ◌%◌, ◌≤◌, ◌<◌, Bool, true, false, eqb, nat_le, leb-true, List, [], ◌∷◌, ◌++◌, length, map, get_or, length-append, Option, Some, None, refl, sym, ap, subst, ◌∙◌, arith, slice_index_or, slice_set}
 use Rattle.guest_rule.specs.declared.entry.Entry.{Entry}
 use Rattle.guest_rule.specs.declared.entry.Grant.{Grant}
-use Rattle.guest_rule.specs.declared.entry.Exchange.{Exchange}
 use Rattle.guest_rule.specs.declared.entry.RowWord.{RowWord}
 use Rattle.guest_rule.specs.declared.entry.RowWord.TheVariants.{Number, Slot, Lazy, Value, Generation}
 use Rattle.guest_rule.specs.declared.kind.KeeperKind.{KeeperKind}
@@ -13,15 +12,15 @@ use Rattle.guest_rule.specs.declared.view.KeeperView.{KeeperView}
 use Rattle.guest_rule.specs.declared.view.Lane.{Lane}
 use Rattle.guest_rule.specs.declared.view.Row.{Row}
 use Rattle.guest_rule.specs.declared.view.Settled.{Settled}
-use Rattle.guest_rule.specs.Layout.{count_at, harts_at_most, row_at, state_at, index_of, value_at, control_at}
-use Rattle.guest_rule.specs.Views.{put, entry_of, field_of, with_field, grant_in, kept_at, no_row, offered, row_of}
+use Rattle.guest_rule.specs.Layout.{harts_at_most, row_at, state_at, index_of, value_at, control_at}
+use Rattle.guest_rule.specs.Views.{put, entry_of, field_of, with_field, grant_in, no_row, row_of}
 use Rattle.guest_rule.specs.Operations.{becomes}
 use Rattle.guest_rule.specs.HartSteps.{IsMark}
-use Rattle.guest_rule.specs.KeeperSteps.{KeeperReady, KeeperLearns, Waits, asked, asked_if, awaited_if, handed, heeding, keeper_word, keeper_op, keeper_after, keeps_if, not_found, opened, settled_as}
-use Rattle.guest_rule.specs.Calls.{Answered, Awaits, Calls, IsEvent, Known, Rests, RowIs, Stage, Still}
+use Rattle.guest_rule.specs.KeeperSteps.{KeeperReady, asked, asked_if, awaited_if, handed, heeding, keeper_word, keeper_op, keeper_after, keeps_if, not_found, opened, settled_as}
+use Rattle.guest_rule.specs.Calls.{Answered, Awaits, Calls, IsEvent, Known, RowIs, Stage, Still}
 use Rattle.guest_rule.proofs.Put.{put_here, put_else, put_same, set_put, ext}
 use Rattle.guest_rule.proofs.HartLocks.{unmoved, low_index}
-use Rattle.guest_rule.proofs.Rows.{beside_rows, carry, elsewhere, field_issued, field_since, field_with, high_awaits, low_mark, low_rest, not_both, not_rest, one_row, other_row, Same}
+use Rattle.guest_rule.proofs.Rows.{beside_rows, carry, elsewhere, field_issued, field_since, field_with, low_mark, low_rest, not_both, not_rest, one_row, other_row, Same}
 
 -- ---- what the keeper knows of grants is nothing to this part
 
@@ -90,6 +89,7 @@ waiting word count m r l es c is since = go l.calling refl is.stage
   where
     k : Known (word (state_at m)) c count r l
     k = is.known c since
+
     go : (b : Bool) → l.calling ≡ b → Stage (word (state_at m)) r l b → Waiting (word (state_at m)) c count r l
     go false e st = absurd (not_rest (word (state_at m)) st.0 k.awaits)
     go true e st = ⊎_elim
@@ -165,9 +165,11 @@ awaited word count m r l es high is = record {
     field_since_only Lazy = refl
     field_since_only Value = refl
     field_since_only Generation = refl
+
     calls : (b : Bool) → Stage (word (state_at m)) r l b → Awaits (word (state_at m))
     calls false st = let low = low_rest (word (state_at m)) st.0 in absurd (omega arith)
     calls true st = ⊎_elim (λ (w : Awaits (word (state_at m)) × Still r l). w.0) (λ (a : Answered (word (state_at m)) r l). let low = low_mark (word (state_at m)) a.mark in absurd (omega arith)) st
+
     stage' : (b : Bool) → Stage (word (state_at m)) r l b → Stage (word (state_at m)) (record r { since = Some count }) l b
     stage' false st = (st.0, record { all = st.1.all; no_offer = st.1.no_offer; no_try = st.1.no_try })
     stage' true st = ⊎_elim
@@ -237,12 +239,12 @@ module _ (word : ℕ → ℕ) (k : KeeperView) (lane : ℕ → Lane) (entries : 
       let rows' : (ℕ → Row) = λ j. slice_index_or (map not_found k.rows) j no_row in
       let same : (λ j. not_found (row_of k j)) ≡ rows' = ext (λ j. not_found (row_of k j)) rows' (map_row k.rows) in
       let mine : RowIs word (length k.events) m r (lane m) (entries m) = awaited word (length k.events) m (not_found (row_of k m)) (lane m) (entries m) (leb-true 8 (word (state_at m)) e)
-          (alike (row_of k m).pending (row_of k m).settled false word (length k.events) m (row_of k m) (lane m) (entries m) (old m few)) in
+      (alike (row_of k m).pending (row_of k m).settled false word (length k.events) m (row_of k m) (lane m) (entries m) (old m few)) in
       let long : m < length (map not_found k.rows) = subst (λ n. m < n) (sym (map_long k.rows ∙ rows_known)) few in
       subst (λ (f : ℕ → Row). Calls word (length k.events) f lane entries) (set_put (map not_found k.rows) m r no_row long)
       (subst (λ (p : (ℕ → Lane) × (ℕ → List Entry)). Calls word (length k.events) (put rows' m r) p.0 p.1) (λ i. (put_same lane m (lane m) refl i, put_same entries m (entries m) refl i))
       (one_row word word (length k.events) m rows' lane entries r (lane m) (entries m) refl (λ j few' apart i low. refl)
-          (subst (λ (f : ℕ → Row). Calls word (length k.events) f lane entries) same unfound) mine))
+      (subst (λ (f : ℕ → Row). Calls word (length k.events) f lane entries) same unfound) mine))
 
   three_marks : (mark : ℕ) → (mark ≡ 1) ⊎ (mark ≡ 2) ⊎ (mark ≡ 6) → IsMark mark
   three_marks mark h = elim h [ inl e ↦ inl e | inr h ↦ elim h [ inl e ↦ inr (inl e) | inr e ↦ inr (inr (inr e)) ] ]
@@ -274,7 +276,7 @@ module _ (word : ℕ → ℕ) (k : KeeperView) (lane : ℕ → Lane) (entries : 
       let r : Row = asked s (row_of k m) in
       unmoved word (state_at m) (λ f. Calls f (length k.events) (λ j. slice_index_or (slice_set k.rows m r) j no_row) lane entries)
       (changed word m r ready.0 refl (λ j few' apart i low. refl)
-          (asked_alike (eqb (s % 8) 3) (eqb (s % 8) 4) (eqb (s % 8) 5) word (length k.events) m (row_of k m) (lane m) (entries m) (old m ready.0)))
+      (asked_alike (eqb (s % 8) 3) (eqb (s % 8) 4) (eqb (s % 8) 5) word (length k.events) m (row_of k m) (lane m) (entries m) (old m ready.0)))
   keeper_calls (kinds.Saw d) ready = at_value d (word (value_at d))
   keeper_calls (kinds.Fill m i x) ready = at_row m (index_of i) x (with_field i x (row_of k m)) ready.1.0 (low_index i)
       (filled word (length k.events) m (row_of k m) (lane m) (entries m) ready.0 i x (old m ready.1.0) ready.1.1)

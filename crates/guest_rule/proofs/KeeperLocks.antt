@@ -1,5 +1,5 @@
 -- The part on words and locks, over the steps of the keeper.
-use Rattle.std.proofs.Common.{◌≡◌, ◌≢◌, ◌⊎◌, ⊎_elim, inl, inr, ℕ, ◌+◌, ◌-◌, ◌*◌, ◌%◌, ◌<◌, Bool, true, false, cond, eqb, eqb-true, nat_le, length, map, Option, Some, None, refl, sym, ap, subst, ◌∙◌, arith, slice_index_or, slice_set}
+use Rattle.std.proofs.Common.{◌≡◌, ◌≢◌, ◌⊎◌, ⊎_elim, inl, inr, ℕ, ◌+◌, ◌-◌, ◌%◌, ◌<◌, Bool, true, false, eqb, eqb-true, nat_le, length, Some, None, refl, sym, ap, subst, ◌∙◌, arith, slice_index_or, slice_set}
 use mathlib.Core.Logic.{dite}
 use native.Mathlib.Decide.{ℕ_discrete}
 use prog.Atomic.{either}
@@ -10,13 +10,13 @@ use Rattle.guest_rule.specs.declared.kind.KeeperKind.TheVariants as kinds
 use Rattle.guest_rule.specs.declared.view.Access.{Access}
 use Rattle.guest_rule.specs.declared.view.KeeperView.{KeeperView}
 use Rattle.guest_rule.specs.declared.view.Kept.{Kept}
-use Rattle.guest_rule.specs.Layout.{doublewords, harts_at_most, value_at, control_at, row_at, state_at, index_of, role_code, lock_bit}
+use Rattle.guest_rule.specs.Layout.{doublewords, value_at, control_at, row_at, state_at, index_of, role_code, lock_bit}
 use Rattle.guest_rule.specs.Views.{put, kept_at, nothing_locked, unmapped}
 use Rattle.guest_rule.specs.Operations.{becomes}
 use Rattle.guest_rule.specs.KeeperSteps.{KeeperReady, KeeperLearns, keeper_word, keeper_op, keeper_after, awaited_if, heeding, keeps_if, last_if}
-use Rattle.guest_rule.specs.Words.{Owner, nobody, keeper, hart, Holds, WordIs, LockIs, Words}
+use Rattle.guest_rule.specs.Words.{Owner, nobody, keeper, hart, Holds, WordIs, Words}
 use Rattle.guest_rule.proofs.Put.{put_here, put_else, put_same, set_put}
-use Rattle.guest_rule.proofs.Locks.{Beside, beside_value, beside_control, nothing_lock, aside, keeper_change, is_free, lock_word, unlock_word}
+use Rattle.guest_rule.proofs.Locks.{beside_value, beside_control, nothing_lock, aside, keeper_change, is_free, lock_word, unlock_word}
 use Rattle.guest_rule.proofs.HartLocks.{unmoved, low_row, low_index}
 
 -- what the keeper knows of doublewords and has locked stays while it looks at a row
@@ -45,7 +45,7 @@ module _ (word : ℕ → ℕ) (k : KeeperView) (harts : ℕ → Access) (w : Wor
   looks d false free = unlocked (record { locked = None; held = None; last = None }) free refl (forgets (record { locked = None; held = None; last = None }) refl)
   looks d true free = unlocked (record { locked = None; held = None; last = Some (d, word (control_at d)) }) free refl
       (λ e control low last other. let h : Some (d, word (control_at d)) ≡ Some (e, control) = last in let p : (d, word (control_at d)) ≡ (e, control) = cc in
-          subst (λ n. word (control_at n) ≡ control) (ap (λ (x : ℕ × ℕ). x.0) p) (ap (λ (x : ℕ × ℕ). x.1) p))
+      subst (λ n. word (control_at n) ≡ control) (ap (λ (x : ℕ × ℕ). x.0) p) (ap (λ (x : ℕ × ℕ). x.1) p))
 
   -- the keeper's knowledge of a doubleword changes
   moved : (d : ℕ) (x : Kept) (word' : ℕ → ℕ) (b : Access) → d < doublewords → Words word' (put (kept_at k) d x) b harts → Words word' (λ j. slice_index_or (slice_set k.words d x) j unmapped) b harts
@@ -64,14 +64,14 @@ module _ (word : ℕ → ℕ) (k : KeeperView) (harts : ℕ → Access) (w : Wor
       let n : word' (control_at d) ≡ c + 8 = put_here word (control_at d) (c + 8) in
       subst (λ (f : ℕ → Kept). Words word' f b harts) (put_same (kept_at k) d (kept_at k d) refl)
       (keeper_change word word' (kept_at k) k.access harts w d keeper (kept_at k d) b (beside_control word d (c + 8)) (inl ours) (inr refl)
-          (subst (λ (p : ℕ × ℕ). WordIs p.0 p.1 keeper (kept_at k d)) (λ i. (sym v i, sym n i)) (lock_word (word (value_at d)) c (w.owner d) keeper (kept_at k d) at free (λ e. absurd (cc))))
-          (record {
-            owns = λ e is. dite (ℕ_discrete e d) (λ (s : e ≡ d). ap Some (sym s)) (λ (apart : e ≢ d).
-                let q : Some e ≡ None = sym (w.keepers.owns e (sym (put_else w.owner d keeper e apart) ∙ is)) ∙ none' in absurd (cc));
-            named = λ e is. let s : d ≡ e = (let q : Some d ≡ Some e = is in cc) in subst (λ n. (n < doublewords) × (put w.owner d keeper n ≡ keeper)) s (low, put_here w.owner d keeper);
-            held = λ e x is has. let q : None ≡ Some x = has in absurd (cc);
-          })
-          refl)
+      (subst (λ (p : ℕ × ℕ). WordIs p.0 p.1 keeper (kept_at k d)) (λ i. (sym v i, sym n i)) (lock_word (word (value_at d)) c (w.owner d) keeper (kept_at k d) at free (λ e. absurd (cc))))
+      (record {
+        owns = λ e is. dite (ℕ_discrete e d) (λ (s : e ≡ d). ap Some (sym s)) (λ (apart : e ≢ d).
+            let q : Some e ≡ None = sym (w.keepers.owns e (sym (put_else w.owner d keeper e apart) ∙ is)) ∙ none' in absurd (cc));
+        named = λ e is. let s : d ≡ e = (let q : Some d ≡ Some e = is in cc) in subst (λ n. (n < doublewords) × (put w.owner d keeper n ≡ keeper)) s (low, put_here w.owner d keeper);
+        held = λ e x is has. let q : None ≡ Some x = has in absurd (cc);
+      })
+      refl)
 
   place : (d : ℕ) → k.access.locked ≡ Some d → (d < doublewords) × (w.owner d ≡ keeper)
   place d is = w.keepers.named d is
@@ -90,24 +90,24 @@ module _ (word : ℕ → ℕ) (k : KeeperView) (harts : ℕ → Access) (w : Wor
       let n : word' (control_at d) ≡ word (control_at d) = put_else word (value_at d) x (control_at d) (λ (e : control_at d ≡ value_at d). omega arith) in
       moved d k' word' b (place d is).0
       (keeper_change word word' (kept_at k) k.access harts w d keeper k' b (beside_value word d x) (inr (place d is).1) (inr refl)
-          (subst (λ c. WordIs (word' (value_at d)) c keeper k') (sym n) (record {
-            role = at.role;
-            free = λ e. absurd (cc);
-            taken = λ _. at.taken (taken d is);
-            holds = λ e. absurd (cc);
-          }))
-          (record {
-            owns = λ e here. dite (ℕ_discrete e d) (λ (s : e ≡ d). is ∙ ap Some (sym s)) (λ (apart : e ≢ d). w.keepers.owns e (sym (put_else w.owner d keeper e apart) ∙ here));
-            named = λ e here. let s : d ≡ e = (let q : Some d ≡ Some e = sym is ∙ here in cc) in subst (λ n. (n < doublewords) × (put w.owner d keeper n ≡ keeper)) s ((place d is).0, put_here w.owner d keeper);
-            held = λ e y here has. let s : d ≡ e = (let q : Some d ≡ Some e = sym is ∙ here in cc) in let t : x ≡ y = (let q : Some x ≡ Some y = has in cc) in
-                subst (λ n. word' (value_at n) ≡ y) s (put_here word (value_at d) x ∙ t);
-          })
-          refl)
+      (subst (λ c. WordIs (word' (value_at d)) c keeper k') (sym n) (record {
+        role = at.role;
+        free = λ e. absurd (cc);
+        taken = λ _. at.taken (taken d is);
+        holds = λ e. absurd (cc);
+      }))
+      (record {
+        owns = λ e here. dite (ℕ_discrete e d) (λ (s : e ≡ d). is ∙ ap Some (sym s)) (λ (apart : e ≢ d). w.keepers.owns e (sym (put_else w.owner d keeper e apart) ∙ here));
+        named = λ e here. let s : d ≡ e = (let q : Some d ≡ Some e = sym is ∙ here in cc) in subst (λ n. (n < doublewords) × (put w.owner d keeper n ≡ keeper)) s ((place d is).0, put_here w.owner d keeper);
+        held = λ e y here has. let s : d ≡ e = (let q : Some d ≡ Some e = sym is ∙ here in cc) in let t : x ≡ y = (let q : Some x ≡ Some y = has in cc) in
+            subst (λ n. word' (value_at n) ≡ y) s (put_here word (value_at d) x ∙ t);
+      })
+      refl)
 
   -- the keeper unlocks with another role, or with the same one
   unlocks : (d : ℕ) (k' : Kept) → k.access.locked ≡ Some d → word (control_at d) < 18446744073709551616 → Holds k'.role k'.value (word (value_at d))
       → Words (put word (control_at d) ((word (control_at d) + (8 + role_code k'.role - role_code (kept_at k d).role)) % 18446744073709551616))
-          (λ j. slice_index_or (slice_set k.words d k') j unmapped) nothing_locked harts
+      (λ j. slice_index_or (slice_set k.words d k') j unmapped) nothing_locked harts
   unlocks d k' is low holds' =
       let c : ℕ = word (control_at d) in
       let c' : ℕ = (c + (8 + role_code k'.role - role_code (kept_at k d).role)) % 18446744073709551616 in
@@ -117,14 +117,14 @@ module _ (word : ℕ → ℕ) (k : KeeperView) (harts : ℕ → Access) (w : Wor
       let n : word' (control_at d) ≡ c' = put_here word (control_at d) c' in
       moved d k' word' nothing_locked (place d is).0
       (keeper_change word word' (kept_at k) k.access harts w d nobody k' nothing_locked (beside_control word d c') (inr (place d is).1) (inl refl)
-          (subst (λ (p : ℕ × ℕ). WordIs p.0 p.1 nobody k') (λ i. (sym v i, sym n i)) (unlock_word (word (value_at d)) c (w.owner d) (kept_at k d) k' at (taken d is) low holds'))
-          (record {
-            owns = λ e here. dite (ℕ_discrete e d) (λ (s : e ≡ d). let q : nobody ≡ keeper = sym (put_here w.owner d nobody) ∙ (ap (put w.owner d nobody) (sym s) ∙ here) in absurd (cc)) (λ (apart : e ≢ d).
-                let q : Some d ≡ Some e = sym is ∙ w.keepers.owns e (sym (put_else w.owner d nobody e apart) ∙ here) in let s : d ≡ e = cc in absurd (apart (sym s)));
-            named = λ e here. let q : None ≡ Some e = here in absurd (cc);
-            held = λ e x here has. let q : None ≡ Some e = here in absurd (cc);
-          })
-          refl)
+      (subst (λ (p : ℕ × ℕ). WordIs p.0 p.1 nobody k') (λ i. (sym v i, sym n i)) (unlock_word (word (value_at d)) c (w.owner d) (kept_at k d) k' at (taken d is) low holds'))
+      (record {
+        owns = λ e here. dite (ℕ_discrete e d) (λ (s : e ≡ d). let q : nobody ≡ keeper = sym (put_here w.owner d nobody) ∙ (ap (put w.owner d nobody) (sym s) ∙ here) in absurd (cc)) (λ (apart : e ≢ d).
+            let q : Some d ≡ Some e = sym is ∙ w.keepers.owns e (sym (put_else w.owner d nobody e apart) ∙ here) in let s : d ≡ e = cc in absurd (apart (sym s)));
+        named = λ e here. let q : None ≡ Some e = here in absurd (cc);
+        held = λ e x here has. let q : None ≡ Some e = here in absurd (cc);
+      })
+      refl)
 
   below : (i x : ℕ) → i < 128 → Words (put word i x) (kept_at k) k.access harts
   below i x low = aside word i x (kept_at k) k.access harts low w
@@ -150,7 +150,7 @@ module _ (word : ℕ → ℕ) (k : KeeperView) (harts : ℕ → Access) (w : Wor
       let k' : Kept = record { role = new; value = (kept_at k d).value; lazy = lazy; since = length k.events } in
       let c : ℕ = word (control_at d) in
       subst (λ (r : Role). Words (put word (control_at d) ((c + (8 + role_code new - role_code r)) % 18446744073709551616)) (λ j. slice_index_or (slice_set k.words d k') j unmapped) nothing_locked harts) (sym ready.1)
-          (unlocks d k' ready.0 small (stands new (word (value_at d)) (kept_at k d).value (w.keepers.held d (kept_at k d).value ready.0 ready.5)))
+      (unlocks d k' ready.0 small (stands new (word (value_at d)) (kept_at k d).value (w.keepers.held d (kept_at k d).value ready.0 ready.5)))
   keeper_locks (kinds.Count e) small ready = below 0 ((word 0 + 1) % 18446744073709551616) (omega arith)
   keeper_locks (kinds.Await m) small ready = awaited_same (λ f b. Words (put word (state_at m) (word (state_at m))) f b harts) m (nat_le 8 (word (state_at m))) k (below (state_at m) (word (state_at m)) (low_row m 0 ready (omega arith)))
   keeper_locks (kinds.Ask m) small ready = below (state_at m) (word (state_at m)) (low_row m 0 ready.0 (omega arith))
@@ -162,12 +162,12 @@ module _ (word : ℕ → ℕ) (k : KeeperView) (harts : ℕ → Access) (w : Wor
       let k' : Kept = record (kept_at k d) { role = NoRole } in
       let c : ℕ = word (control_at d) in
       subst (λ (r : Role). Words (put word (control_at d) ((c + (8 + role_code NoRole - role_code r)) % 18446744073709551616)) (λ j. slice_index_or (slice_set k.words d k') j unmapped) nothing_locked harts) ready.1
-          (unlocks d k' ready.0 small tt)
+      (unlocks d k' ready.0 small tt)
   keeper_locks (kinds.Retire d old) small ready =
       let k' : Kept = record (kept_at k d) { role = NoRole } in
       let c : ℕ = word (control_at d) in
       subst (λ (r : Role). Words (put word (control_at d) ((c + (8 + role_code NoRole - role_code r)) % 18446744073709551616)) (λ j. slice_index_or (slice_set k.words d k') j unmapped) nothing_locked harts) (sym ready.1)
-          (unlocks d k' ready.0 small tt)
+      (unlocks d k' ready.0 small tt)
   keeper_locks (kinds.Generation g) small ready = below 1 g (omega arith)
   keeper_locks kinds.Listen small ready = below 2 (word 2) (omega arith)
 

@@ -5,7 +5,6 @@ use mathlib.Core.Logic.{dite}
 use native.Mathlib.Decide.{ℕ_discrete}
 use Rattle.ld_base.specs.declared.linking.Role.{Role}
 use Rattle.ld_base.specs.declared.linking.Role.TheVariants.{None as NoRole, Ro, Rx, Rw, Slot as SlotRole}
-use Rattle.link_event.specs.declared.event.Event.{Event}
 use Rattle.guest_rule.specs.declared.entry.Exchange.{Exchange}
 use Rattle.guest_rule.specs.declared.entry.Grant.{Grant}
 use Rattle.guest_rule.specs.declared.entry.RowWord.{RowWord}
@@ -19,18 +18,17 @@ use Rattle.guest_rule.specs.declared.view.Kept.{Kept}
 use Rattle.guest_rule.specs.declared.view.Row.{Row}
 use Rattle.guest_rule.specs.declared.view.Settled.{Settled}
 use Rattle.guest_rule.specs.Layout.{doublewords, harts_at_most, place_of, row_at, state_at, value_at, control_at, index_of}
-use Rattle.guest_rule.specs.Views.{put, entry_of, grant_in, kept_at, no_row, row_of, with_field, unmapped}
+use Rattle.guest_rule.specs.Views.{put, grant_in, kept_at, no_row, row_of, with_field, unmapped}
 use Rattle.guest_rule.specs.Operations.{becomes}
-use Rattle.guest_rule.specs.KeeperSteps.{KeeperReady, KeeperLearns, TellsSlot, Waits, asked, asked_if, awaited_if, handed, heeding, keeper_word, keeper_op, keeper_after, keeps_if, not_found, opened, settled_as}
-use Rattle.guest_rule.specs.Allowed.{IsAllowed, IsOf, IsPostable, IsSlot, LeadsTo, NothingEnters, Stands}
-use Rattle.guest_rule.specs.Slots.{Did, Fated, GrantsAre, HasLost, HasWon, IsGrant, IsOpen, IsPending, Rising, SlotIs, Slots, Winner}
-use Rattle.guest_rule.specs.Words.{Owner, keeper, LockIs}
-use Rattle.guest_rule.proofs.Put.{put_here, put_else, put_each, put_same, set_put, ext}
+use Rattle.guest_rule.specs.KeeperSteps.{KeeperReady, KeeperLearns, asked, asked_if, awaited_if, handed, heeding, keeper_word, keeper_op, keeper_after, keeps_if, not_found, opened, settled_as}
+use Rattle.guest_rule.specs.Allowed.{IsAllowed, IsOf, IsPostable, IsSlot, LeadsTo, Stands}
+use Rattle.guest_rule.specs.Slots.{Did, Fated, GrantsAre, HasLost, HasWon, IsGrant, IsOpen, IsPending, SlotIs, Slots, Winner}
+use Rattle.guest_rule.proofs.Put.{put_here, put_else, put_same, set_put, ext}
 use Rattle.guest_rule.proofs.HartLocks.{unmoved}
 use Rattle.guest_rule.proofs.KeeperCalls.{map_row, map_long}
 use Rattle.guest_rule.proofs.HartLocks.{low_index}
 use Rattle.guest_rule.proofs.Rows.{field_since}
-use Rattle.guest_rule.proofs.SlotFrames.{FewerSlots, SameSlots, SameGrants, beside_slots, fewer, row_changes}
+use Rattle.guest_rule.proofs.SlotFrames.{FewerSlots, SameSlots, beside_slots, fewer, row_changes}
 
 -- ---- what is known of one hart's grants, over a change of its row that leaves them
 
@@ -80,9 +78,9 @@ regrant word word' known locked count winner m row row' t xs same old = record {
 leads_same : (known : ℕ → Kept) (d : ℕ) (k' : Kept) (v : ℕ) → ((known d).role ≡ Rx → k'.role ≡ Rx) ⊎ ((v ≡ 0) ⊎ (place_of v ≢ d)) → LeadsTo known v → LeadsTo (put known d k') v
 leads_same known d k' v why l = ⊎_elim (λ (zero' : v ≡ 0). inl zero') (λ h. dite (ℕ_discrete (place_of v) d)
     (λ (same : place_of v ≡ d). ⊎_elim
-        (λ (stays : (known d).role ≡ Rx → k'.role ≡ Rx). inr (h.0, ap (λ (x : Kept). x.role) (ap (put known d k') same ∙ put_here known d k') ∙ stays (ap (λ n. (known n).role) (sym same) ∙ h.1)))
-        (λ (out : (v ≡ 0) ⊎ (place_of v ≢ d)). ⊎_elim (λ (zero' : v ≡ 0). inl zero') (λ (apart : place_of v ≢ d). absurd (apart same)) out)
-        why)
+    (λ (stays : (known d).role ≡ Rx → k'.role ≡ Rx). inr (h.0, ap (λ (x : Kept). x.role) (ap (put known d k') same ∙ put_here known d k') ∙ stays (ap (λ n. (known n).role) (sym same) ∙ h.1)))
+    (λ (out : (v ≡ 0) ⊎ (place_of v ≢ d)). ⊎_elim (λ (zero' : v ≡ 0). inl zero') (λ (apart : place_of v ≢ d). absurd (apart same)) out)
+    why)
     (λ (apart : place_of v ≢ d). inr (h.0, ap (λ (x : Kept). x.role) (put_else known d k' (place_of v) apart) ∙ h.1))) l
 
 -- the knowledge of a doubleword that is no slot, or is one no more, changes
@@ -145,11 +143,11 @@ module _ (word : ℕ → ℕ) (k : KeeperView) (tried : ℕ → Option Exchange)
       → Slots (put word (value_at d) x) (λ j. slice_index_or (slice_set k.words d (record (kept_at k d) { value = x })) j unmapped) k.access.locked (length k.events) (row_of k) tried exchanges
   stores d x low is other = moved d (record (kept_at k d) { value = x }) (put word (value_at d) x) k.access.locked low
       (fewer word (put word (value_at d) x) (kept_at k) (put (kept_at k) d (record (kept_at k d) { value = x })) k.access.locked k.access.locked (length k.events) (row_of k) tried exchanges
-          (aside (value_at d) x (λ e here (q : value_at e ≡ value_at d). let same : e ≡ d = omega arith in other (ap (λ n. (kept_at k n).role) (sym same) ∙ here.1)) (λ m few (q : state_at m ≡ value_at d). omega arith))
-          (no_slot (kept_at k) k.access.locked (row_of k) d (record (kept_at k d) { value = x }) other
-              (λ m g few e here. (unposted d is m g few e, ((s.each_hart m few).pending g e).free))
-              (λ e v here a. inl (λ q. q)))
-          s)
+      (aside (value_at d) x (λ e here (q : value_at e ≡ value_at d). let same : e ≡ d = omega arith in other (ap (λ n. (kept_at k n).role) (sym same) ∙ here.1)) (λ m few (q : state_at m ≡ value_at d). omega arith))
+      (no_slot (kept_at k) k.access.locked (row_of k) d (record (kept_at k d) { value = x }) other
+      (λ m g few e here. (unposted d is m g few e, ((s.each_hart m few).pending g e).free))
+      (λ e v here a. inl (λ q. q)))
+      s)
 
   -- a doubleword is unlocked, and is no slot
   unlocks : (d x : ℕ) (k' : Kept) → d < doublewords → k.access.locked ≡ Some d → k'.role ≢ SlotRole
@@ -157,8 +155,8 @@ module _ (word : ℕ → ℕ) (k : KeeperView) (tried : ℕ → Option Exchange)
       → Slots (put word (control_at d) x) (λ j. slice_index_or (slice_set k.words d k') j unmapped) None (length k.events) (row_of k) tried exchanges
   unlocks d x k' low is other leads = moved d k' (put word (control_at d) x) None low
       (fewer word (put word (control_at d) x) (kept_at k) (put (kept_at k) d k') k.access.locked None (length k.events) (row_of k) tried exchanges (at_control d x)
-          (no_slot (kept_at k) None (row_of k) d k' other (λ m g few e here. (unposted d is m g few e, nothing (place_of g.entry.slot))) leads)
-          s)
+      (no_slot (kept_at k) None (row_of k) d k' other (λ m g few e here. (unposted d is m g few e, nothing (place_of g.entry.slot))) leads)
+      s)
 
   -- ---- a new slot
 
@@ -181,39 +179,50 @@ module _ (word : ℕ → ℕ) (k : KeeperView) (tried : ℕ → Option Exchange)
     each_exchange = λ m few y c o. dite (ℕ_discrete (place_of y.grant.entry.slot) d)
         (λ (same : place_of y.grant.entry.slot ≡ d). absurd (too_new m few y.grant (made m few y c) (subst (λ n. IsOf known' n y.grant) same o)))
         (λ (apart : place_of y.grant.entry.slot ≢ d). subst (λ (p : ℕ × Kept × Winner). Did p.0 p.1.lazy p.2 m y)
-            (λ i. (sym (value_same (place_of y.grant.entry.slot)) i, sym (put_else (kept_at k) d k' (place_of y.grant.entry.slot) apart) i, sym (put_else s.winner d None (place_of y.grant.entry.slot) apart) i))
-            (s.each_exchange m few y c (was_of (place_of y.grant.entry.slot) y.grant apart o)));
+        (λ i. (sym (value_same (place_of y.grant.entry.slot)) i, sym (put_else (kept_at k) d k' (place_of y.grant.entry.slot) apart) i, sym (put_else s.winner d None (place_of y.grant.entry.slot) apart) i))
+        (s.each_exchange m few y c (was_of (place_of y.grant.entry.slot) y.grant apart o)));
     no_more = s.no_more;
   }
     where
       word' : ℕ → ℕ
       word' = put word (control_at d) x
+
       known' : ℕ → Kept
       known' = put (kept_at k) d k'
+
       winner' : ℕ → Winner
       winner' = put s.winner d None
+
       here' : known' d ≡ k'
       here' = put_here (kept_at k) d k'
+
       value_same : (e : ℕ) → word' (value_at e) ≡ word (value_at e)
       value_same e = put_else word (control_at d) x (value_at e) (λ (q : value_at e ≡ control_at d). omega arith)
+
       was_of : (e : ℕ) (g : Grant) → e ≢ d → IsOf known' e g → IsOf (kept_at k) e g
       was_of e g apart o = subst (λ (q : Kept). ((e < doublewords) × (q.role ≡ SlotRole)) × (place_of g.entry.slot ≡ e) × (q.since < g.entry.number)) (put_else (kept_at k) d k' e apart) o
+
       now_of : (e : ℕ) (g : Grant) → e ≢ d → IsOf (kept_at k) e g → IsOf known' e g
       now_of e g apart o = subst (λ (q : Kept). ((e < doublewords) × (q.role ≡ SlotRole)) × (place_of g.entry.slot ≡ e) × (q.since < g.entry.number)) (sym (put_else (kept_at k) d k' e apart)) o
+
       leads' : (v : ℕ) → LeadsTo (kept_at k) v → LeadsTo known' v
       leads' v l = leads_same (kept_at k) d k' v (inl (λ q. absurd (unread q))) l
+
       made : (m : ℕ) → m < harts_at_most → (y : Exchange) → Contains (exchanges m) y → ((row_of k m).pending ≡ Some y.grant) ⊎ ((f : Fate) × Contains (row_of k m).settled (record { grant = y.grant; fate = f }))
       made m few y c = (s.each_hart m few).granted y c
+
       -- no grant so far is newer than the slot
       too_new : (m : ℕ) → m < harts_at_most → (g : Grant) → ((row_of k m).pending ≡ Some g) ⊎ ((f : Fate) × Contains (row_of k m).settled (record { grant = g; fate = f })) → IsOf known' d g → ⊥
       too_new m few g h o = ⊎_elim
           (λ (e : (row_of k m).pending ≡ Some g). other (ap (λ n. (kept_at k n).role) (sym o.1) ∙ ((s.each_hart m few).pending g e).of_slot.0.1))
           (λ (c : (f : Fate) × Contains (row_of k m).settled (record { grant = g; fate = f })).
-              let old : g.entry.number ≤ length k.events = ((s.each_hart m few).counted g (inr c)).0 in
-              let new : length k.events < g.entry.number = subst (λ n. n < g.entry.number) (ap (λ (q : Kept). q.since) here' ∙ since) o.2 in omega arith)
+          let old : g.entry.number ≤ length k.events = ((s.each_hart m few).counted g (inr c)).0 in
+          let new : length k.events < g.entry.number = subst (λ n. n < g.entry.number) (ap (λ (q : Kept). q.since) here' ∙ since) o.2 in omega arith)
           h
+
       stood : (m : ℕ) (g : Grant) → Stands (row_of k m) g → ((row_of k m).pending ≡ Some g) ⊎ ((f : Fate) × Contains (row_of k m).settled (record { grant = g; fate = f }))
       stood m g st = ⊎_elim (λ (e : (row_of k m).pending ≡ Some g). inl e) (λ (c : Contains (row_of k m).settled (record { grant = g; fate = Won })). inr (Won, c)) st
+
       mine : SlotIs (word' (value_at d)) known' (length k.events) (row_of k) exchanges (winner' d) d
       mine = record {
         since = subst (λ n. n ≤ length k.events) (sym (ap (λ (q : Kept). q.since) here' ∙ since)) (omega arith);
@@ -225,6 +234,7 @@ module _ (word : ℕ → ℕ) (k : KeeperView) (tried : ℕ → Option Exchange)
             (λ (h : (m : ℕ) × (g : Grant) × Stands (row_of k m) g × IsOf known' d g × (v ≡ g.entry.value)). absurd (too_new h.0 (stands_low h.0 h.1 h.2) h.1 (stood h.0 h.1 h.2) h.3))
             a;
       }
+
       old_slot : (e : ℕ) → e ≢ d → IsSlot known' e → SlotIs (word' (value_at e)) known' (length k.events) (row_of k) exchanges (s.winner e) e
       old_slot e apart here =
           let same : known' e ≡ kept_at k e = put_else (kept_at k) d k' e apart in
@@ -238,6 +248,7 @@ module _ (word : ℕ → ℕ) (k : KeeperView) (tried : ℕ → Option Exchange)
                 (λ (h : (m : ℕ) × (g : Grant) × Stands (row_of k m) g × IsOf known' e g × (v ≡ g.entry.value)). inr (h.0, h.1, h.2, was_of e h.1 apart h.3, h.4))
                 a));
           }
+
       hart_old : (m : ℕ) → m < harts_at_most → GrantsAre known' None (length k.events) word' winner' m (row_of k m) (tried m) (exchanges m)
       hart_old m few = let o : GrantsAre (kept_at k) k.access.locked (length k.events) word s.winner m (row_of k m) (tried m) (exchanges m) = s.each_hart m few in record {
         closed = λ none' t. o.closed none' (sym (state_same m few) ∙ t);
@@ -286,11 +297,11 @@ module _ (word : ℕ → ℕ) (k : KeeperView) (tried : ℕ → Option Exchange)
       → Slots word' (kept_at k) k.access.locked (length k.events) (λ j. slice_index_or (slice_set k.rows m r) j no_row) tried exchanges
   alike word' m r few states same = in_list k.rows m r word' (long m few)
       (row_changes word word' (kept_at k) k.access.locked (length k.events) (row_of k) tried exchanges m r (tried m) few same.values states s
-          (record {
-            back = λ g st. inl (stood (row_of k m) r g same.pending same.settled st);
-            forth = λ d g here e. stood r (row_of k m) g (sym same.pending) (sym same.settled) ((s.each_slot d here).by m g e).1;
-          })
-          (regrant word word' (kept_at k) k.access.locked (length k.events) s.winner m (row_of k m) r (tried m) (exchanges m) same (s.each_hart m few)))
+      (record {
+        back = λ g st. inl (stood (row_of k m) r g same.pending same.settled st);
+        forth = λ d g here e. stood r (row_of k m) g (sym same.pending) (sym same.settled) ((s.each_slot d here).by m g e).1;
+      })
+      (regrant word word' (kept_at k) k.access.locked (length k.events) s.winner m (row_of k m) r (tried m) (exchanges m) same (s.each_hart m few)))
 
   -- ---- the kinds on rows
 
@@ -319,21 +330,21 @@ module _ (word : ℕ → ℕ) (k : KeeperView) (tried : ℕ → Option Exchange)
       in_list (map not_found k.rows) m r word (subst (λ n. m < n) (sym (map_long k.rows ∙ rows_known)) few)
       (subst (λ (f : ℕ → Row). Slots word (kept_at k) k.access.locked (length k.events) (put f m r) (put tried m (tried m)) exchanges) same
       (row_changes word word (kept_at k) k.access.locked (length k.events) (λ j. not_found (row_of k j)) tried exchanges m r (tried m) few (λ d here. refl) (λ j low apart. refl) unfound
-          (record { back = λ g st. inl st; forth = λ d g here e. ((s.each_slot d here).by m g e).1 })
-          (regrant word word (kept_at k) k.access.locked (length k.events) s.winner m (row_of k m) r (tried m) (exchanges m)
-              (same_here m r refl refl refl (λ n low before c e. let q : Some (length k.events) ≡ Some c = e in let is : length k.events ≡ c = cc in subst (λ c. n ≤ c) is low) few)
-              (s.each_hart m few))))
+      (record { back = λ g st. inl st; forth = λ d g here e. ((s.each_slot d here).by m g e).1 })
+      (regrant word word (kept_at k) k.access.locked (length k.events) s.winner m (row_of k m) r (tried m) (exchanges m)
+      (same_here m r refl refl refl (λ n low before c e. let q : Some (length k.events) ≡ Some c = e in let is : length k.events ≡ c = cc in subst (λ c. n ≤ c) is low) few)
+      (s.each_hart m few))))
 
   fills : (m : ℕ) (i : RowWord) (x : ℕ) → m < harts_at_most → (row_of k m).pending ≡ None
       → Slots (put word (row_at m (index_of i)) x) (kept_at k) k.access.locked (length k.events) (λ j. slice_index_or (slice_set k.rows m (with_field i x (row_of k m))) j no_row) tried exchanges
   fills m i x few none' = alike (put word (row_at m (index_of i)) x) m (with_field i x (row_of k m)) few (row_states m (index_of i) x (low_index i)) (record {
-        values = row_values m (index_of i) x few (low_index i);
-        closed = λ e t. (s.each_hart m few).closed e (sym (put_else word (row_at m (index_of i)) x (state_at m) (λ (q : state_at m ≡ row_at m (index_of i)). apart i q)) ∙ t);
-        state = λ g e. let q : None ≡ Some g = sym none' ∙ e in absurd (cc);
-        pending = still_pending i;
-        settled = still_settled i;
-        since = λ n low before c e. before c (sym (field_since i x (row_of k m)) ∙ e);
-      })
+    values = row_values m (index_of i) x few (low_index i);
+    closed = λ e t. (s.each_hart m few).closed e (sym (put_else word (row_at m (index_of i)) x (state_at m) (λ (q : state_at m ≡ row_at m (index_of i)). apart i q)) ∙ t);
+    state = λ g e. let q : None ≡ Some g = sym none' ∙ e in absurd (cc);
+    pending = still_pending i;
+    settled = still_settled i;
+    since = λ n low before c e. before c (sym (field_since i x (row_of k m)) ∙ e);
+  })
     where
       apart : (i : RowWord) → state_at m ≡ row_at m (index_of i) → ⊥
       apart Number q = omega arith
@@ -341,12 +352,14 @@ module _ (word : ℕ → ℕ) (k : KeeperView) (tried : ℕ → Option Exchange)
       apart Lazy q = omega arith
       apart Value q = omega arith
       apart Generation q = omega arith
+
       still_pending : (i : RowWord) → (with_field i x (row_of k m)).pending ≡ (row_of k m).pending
       still_pending Number = refl
       still_pending Slot = refl
       still_pending Lazy = refl
       still_pending Value = refl
       still_pending Generation = refl
+
       still_settled : (i : RowWord) → (with_field i x (row_of k m)).settled ≡ (row_of k m).settled
       still_settled Number = refl
       still_settled Slot = refl
@@ -373,31 +386,36 @@ module _ (word : ℕ → ℕ) (k : KeeperView) (tried : ℕ → Option Exchange)
       (same_here m (record (row_of k m) { found_open = true }) refl refl refl (λ n low before. before) few)
   asks m g few is false true c x y z = subst (λ (p : Option Grant). Slots word (kept_at k) k.access.locked (length k.events) (λ j. slice_index_or (slice_set k.rows m (settled_as Won p (row_of k m))) j no_row) tried exchanges) (sym is)
       (in_list k.rows m r word (long m few) (row_changes word word (kept_at k) k.access.locked (length k.events) (row_of k) tried exchanges m r (tried m) few (λ d here. refl) (λ j low apart. refl) s
-          (record { back = back; forth = λ d p here e. forth p ((s.each_slot d here).by m p e).1 })
-          (record {
-            closed = λ _ t. at_four (word (state_at m)) four t;
-            pending = λ p e. let q : None ≡ Some p = e in absurd (cc);
-            won = λ p t. ⊎_elim (λ (was : Contains (row_of k m).settled (record { grant = p; fate = Won })). old.won p was)
-                (λ (e : record { grant = g; fate = Won } ≡ record { grant = p; fate = Won }). subst (HasWon (exchanges m)) (ap (λ (w : Settled). w.grant) e) has_won)
-                (Contains-push_cases (row_of k m).settled (record { grant = g; fate = Won }) (record { grant = p; fate = Won }) t);
-            lost = λ p t. ⊎_elim (λ (was : Contains (row_of k m).settled (record { grant = p; fate = Lost })). old.lost p was)
-                (λ (e : record { grant = g; fate = Won } ≡ record { grant = p; fate = Lost }). let q : Won ≡ Lost = ap (λ (w : Settled). w.fate) e in absurd (cc))
-                (Contains-push_cases (row_of k m).settled (record { grant = g; fate = Won }) (record { grant = p; fate = Lost }) t);
-            counted = λ p h. old.counted p (back_grant p h);
-            granted = λ y t. forth_grant y.grant (old.granted y t);
-            rising = old.rising;
-          })))
+      (record { back = back; forth = λ d p here e. forth p ((s.each_slot d here).by m p e).1 })
+      (record {
+        closed = λ _ t. at_four (word (state_at m)) four t;
+        pending = λ p e. let q : None ≡ Some p = e in absurd (cc);
+        won = λ p t. ⊎_elim (λ (was : Contains (row_of k m).settled (record { grant = p; fate = Won })). old.won p was)
+            (λ (e : record { grant = g; fate = Won } ≡ record { grant = p; fate = Won }). subst (HasWon (exchanges m)) (ap (λ (w : Settled). w.grant) e) has_won)
+            (Contains-push_cases (row_of k m).settled (record { grant = g; fate = Won }) (record { grant = p; fate = Won }) t);
+        lost = λ p t. ⊎_elim (λ (was : Contains (row_of k m).settled (record { grant = p; fate = Lost })). old.lost p was)
+            (λ (e : record { grant = g; fate = Won } ≡ record { grant = p; fate = Lost }). let q : Won ≡ Lost = ap (λ (w : Settled). w.fate) e in absurd (cc))
+            (Contains-push_cases (row_of k m).settled (record { grant = g; fate = Won }) (record { grant = p; fate = Lost }) t);
+        counted = λ p h. old.counted p (back_grant p h);
+        granted = λ y t. forth_grant y.grant (old.granted y t);
+        rising = old.rising;
+      })))
     where
       r : Row
       r = settled_as Won (Some g) (row_of k m)
+
       old : GrantsAre (kept_at k) k.access.locked (length k.events) word s.winner m (row_of k m) (tried m) (exchanges m)
       old = s.each_hart m few
+
       four : word (state_at m) % 8 ≡ 4
       four = eqb-true (word (state_at m) % 8) 4 y
+
       at_four : (n : ℕ) → n % 8 ≡ 4 → n ≡ 3 → ⊥
       at_four n a b = omega arith
+
       posted : let d = place_of g.entry.slot in IsPending (kept_at k) k.access.locked (word (value_at d)) (word (state_at m)) (s.winner d) m (row_of k m) (tried m) (exchanges m) g
       posted = old.pending g is
+
       has_won : HasWon (exchanges m) g
       has_won = elim posted.fate [
         | inl o ↦ absurd (at_four (word (state_at m)) four o.0)
@@ -406,51 +424,60 @@ module _ (word : ℕ → ℕ) (k : KeeperView) (tried : ℕ → Option Exchange)
           | inr b ↦ (let q = b.0 in let n = four in absurd (omega arith))
         ]
       ]
+
       back_grant : (p : Grant) → IsGrant r p → IsGrant (row_of k m) p
       back_grant p h = ⊎_elim (λ (e : None ≡ Some p). let q : None ≡ Some p = e in absurd (cc))
           (λ (t : (f : Fate) × Contains r.settled (record { grant = p; fate = f })). ⊎_elim (λ (was : Contains (row_of k m).settled (record { grant = p; fate = t.0 })). inr (t.0, was))
-              (λ (e : record { grant = g; fate = Won } ≡ record { grant = p; fate = t.0 }). inl (is ∙ ap (λ (w : Settled). Some w.grant) e))
-              (Contains-push_cases (row_of k m).settled (record { grant = g; fate = Won }) (record { grant = p; fate = t.0 }) t.1)) h
+          (λ (e : record { grant = g; fate = Won } ≡ record { grant = p; fate = t.0 }). inl (is ∙ ap (λ (w : Settled). Some w.grant) e))
+          (Contains-push_cases (row_of k m).settled (record { grant = g; fate = Won }) (record { grant = p; fate = t.0 }) t.1)) h
+
       forth_grant : (p : Grant) → IsGrant (row_of k m) p → IsGrant r p
       forth_grant p h = ⊎_elim (λ (e : (row_of k m).pending ≡ Some p). let q : Some g ≡ Some p = sym is ∙ e in let same : g ≡ p = cc in
-              inr (Won, subst (λ p. Contains r.settled (record { grant = p; fate = Won })) same (Contains-push (row_of k m).settled (record { grant = g; fate = Won }))))
+          inr (Won, subst (λ p. Contains r.settled (record { grant = p; fate = Won })) same (Contains-push (row_of k m).settled (record { grant = g; fate = Won }))))
           (λ (t : (f : Fate) × Contains (row_of k m).settled (record { grant = p; fate = f })). inr (t.0, Contains-append_left (row_of k m).settled (record { grant = g; fate = Won } ∷ []) (record { grant = p; fate = t.0 }) t.1)) h
+
       back : (p : Grant) → Stands r p → Stands (row_of k m) p ⊎ ((d : ℕ) → IsOf (kept_at k) d p → LeadsTo (kept_at k) p.entry.value)
       back p h = ⊎_elim (λ (e : None ≡ Some p). let q : None ≡ Some p = e in absurd (cc))
           (λ (t : Contains r.settled (record { grant = p; fate = Won })). ⊎_elim (λ (was : Contains (row_of k m).settled (record { grant = p; fate = Won })). inl (inr was))
-              (λ (e : record { grant = g; fate = Won } ≡ record { grant = p; fate = Won }). inl (inl (is ∙ ap (λ (w : Settled). Some w.grant) e)))
-              (Contains-push_cases (row_of k m).settled (record { grant = g; fate = Won }) (record { grant = p; fate = Won }) t)) h
+          (λ (e : record { grant = g; fate = Won } ≡ record { grant = p; fate = Won }). inl (inl (is ∙ ap (λ (w : Settled). Some w.grant) e)))
+          (Contains-push_cases (row_of k m).settled (record { grant = g; fate = Won }) (record { grant = p; fate = Won }) t)) h
+
       forth : (p : Grant) → Stands (row_of k m) p → Stands r p
       forth p h = ⊎_elim (λ (e : (row_of k m).pending ≡ Some p). let q : Some g ≡ Some p = sym is ∙ e in let same : g ≡ p = cc in
-              inr (subst (λ p. Contains r.settled (record { grant = p; fate = Won })) same (Contains-push (row_of k m).settled (record { grant = g; fate = Won }))))
+          inr (subst (λ p. Contains r.settled (record { grant = p; fate = Won })) same (Contains-push (row_of k m).settled (record { grant = g; fate = Won }))))
           (λ (t : Contains (row_of k m).settled (record { grant = p; fate = Won })). inr (Contains-append_left (row_of k m).settled (record { grant = g; fate = Won } ∷ []) (record { grant = p; fate = Won }) t)) h
   asks m g few is false false true x y z = subst (λ (p : Option Grant). Slots word (kept_at k) k.access.locked (length k.events) (λ j. slice_index_or (slice_set k.rows m (settled_as Lost p (row_of k m))) j no_row) tried exchanges) (sym is)
       (in_list k.rows m r word (long m few) (row_changes word word (kept_at k) k.access.locked (length k.events) (row_of k) tried exchanges m r (tried m) few (λ d here. refl) (λ j low apart. refl) s
-          (record { back = back; forth = λ d p here e. forth d p here e ((s.each_slot d here).by m p e) })
-          (record {
-            closed = λ _ t. at_five (word (state_at m)) five t;
-            pending = λ p e. let q : None ≡ Some p = e in absurd (cc);
-            won = λ p t. ⊎_elim (λ (was : Contains (row_of k m).settled (record { grant = p; fate = Won })). old.won p was)
-                (λ (e : record { grant = g; fate = Lost } ≡ record { grant = p; fate = Won }). let q : Lost ≡ Won = ap (λ (w : Settled). w.fate) e in absurd (cc))
-                (Contains-push_cases (row_of k m).settled (record { grant = g; fate = Lost }) (record { grant = p; fate = Won }) t);
-            lost = λ p t. ⊎_elim (λ (was : Contains (row_of k m).settled (record { grant = p; fate = Lost })). old.lost p was)
-                (λ (e : record { grant = g; fate = Lost } ≡ record { grant = p; fate = Lost }). subst (HasLost (exchanges m)) (ap (λ (w : Settled). w.grant) e) has_lost.1)
-                (Contains-push_cases (row_of k m).settled (record { grant = g; fate = Lost }) (record { grant = p; fate = Lost }) t);
-            counted = λ p h. old.counted p (back_grant p h);
-            granted = λ y t. forth_grant y.grant (old.granted y t);
-            rising = old.rising;
-          })))
+      (record { back = back; forth = λ d p here e. forth d p here e ((s.each_slot d here).by m p e) })
+      (record {
+        closed = λ _ t. at_five (word (state_at m)) five t;
+        pending = λ p e. let q : None ≡ Some p = e in absurd (cc);
+        won = λ p t. ⊎_elim (λ (was : Contains (row_of k m).settled (record { grant = p; fate = Won })). old.won p was)
+            (λ (e : record { grant = g; fate = Lost } ≡ record { grant = p; fate = Won }). let q : Lost ≡ Won = ap (λ (w : Settled). w.fate) e in absurd (cc))
+            (Contains-push_cases (row_of k m).settled (record { grant = g; fate = Lost }) (record { grant = p; fate = Won }) t);
+        lost = λ p t. ⊎_elim (λ (was : Contains (row_of k m).settled (record { grant = p; fate = Lost })). old.lost p was)
+            (λ (e : record { grant = g; fate = Lost } ≡ record { grant = p; fate = Lost }). subst (HasLost (exchanges m)) (ap (λ (w : Settled). w.grant) e) has_lost.1)
+            (Contains-push_cases (row_of k m).settled (record { grant = g; fate = Lost }) (record { grant = p; fate = Lost }) t);
+        counted = λ p h. old.counted p (back_grant p h);
+        granted = λ y t. forth_grant y.grant (old.granted y t);
+        rising = old.rising;
+      })))
     where
       r : Row
       r = settled_as Lost (Some g) (row_of k m)
+
       old : GrantsAre (kept_at k) k.access.locked (length k.events) word s.winner m (row_of k m) (tried m) (exchanges m)
       old = s.each_hart m few
+
       five : word (state_at m) % 8 ≡ 5
       five = eqb-true (word (state_at m) % 8) 5 z
+
       at_five : (n : ℕ) → n % 8 ≡ 5 → n ≡ 3 → ⊥
       at_five n a b = omega arith
+
       posted : let d = place_of g.entry.slot in IsPending (kept_at k) k.access.locked (word (value_at d)) (word (state_at m)) (s.winner d) m (row_of k m) (tried m) (exchanges m) g
       posted = old.pending g is
+
       has_lost : (s.winner (place_of g.entry.slot) ≢ Some (m, g)) × HasLost (exchanges m) g
       has_lost = elim posted.fate [
         | inl o ↦ absurd (at_five (word (state_at m)) five o.0)
@@ -459,23 +486,27 @@ module _ (word : ℕ → ℕ) (k : KeeperView) (tried : ℕ → Option Exchange)
           | inr b ↦ (b.1, b.3)
         ]
       ]
+
       back_grant : (p : Grant) → IsGrant r p → IsGrant (row_of k m) p
       back_grant p h = ⊎_elim (λ (e : None ≡ Some p). let q : None ≡ Some p = e in absurd (cc))
           (λ (t : (f : Fate) × Contains r.settled (record { grant = p; fate = f })). ⊎_elim (λ (was : Contains (row_of k m).settled (record { grant = p; fate = t.0 })). inr (t.0, was))
-              (λ (e : record { grant = g; fate = Lost } ≡ record { grant = p; fate = t.0 }). inl (is ∙ ap (λ (w : Settled). Some w.grant) e))
-              (Contains-push_cases (row_of k m).settled (record { grant = g; fate = Lost }) (record { grant = p; fate = t.0 }) t.1)) h
+          (λ (e : record { grant = g; fate = Lost } ≡ record { grant = p; fate = t.0 }). inl (is ∙ ap (λ (w : Settled). Some w.grant) e))
+          (Contains-push_cases (row_of k m).settled (record { grant = g; fate = Lost }) (record { grant = p; fate = t.0 }) t.1)) h
+
       forth_grant : (p : Grant) → IsGrant (row_of k m) p → IsGrant r p
       forth_grant p h = ⊎_elim (λ (e : (row_of k m).pending ≡ Some p). let q : Some g ≡ Some p = sym is ∙ e in let same : g ≡ p = cc in
-              inr (Lost, subst (λ p. Contains r.settled (record { grant = p; fate = Lost })) same (Contains-push (row_of k m).settled (record { grant = g; fate = Lost }))))
+          inr (Lost, subst (λ p. Contains r.settled (record { grant = p; fate = Lost })) same (Contains-push (row_of k m).settled (record { grant = g; fate = Lost }))))
           (λ (t : (f : Fate) × Contains (row_of k m).settled (record { grant = p; fate = f })). inr (t.0, Contains-append_left (row_of k m).settled (record { grant = g; fate = Lost } ∷ []) (record { grant = p; fate = t.0 }) t.1)) h
+
       back : (p : Grant) → Stands r p → Stands (row_of k m) p ⊎ ((d : ℕ) → IsOf (kept_at k) d p → LeadsTo (kept_at k) p.entry.value)
       back p h = ⊎_elim (λ (e : None ≡ Some p). let q : None ≡ Some p = e in absurd (cc))
           (λ (t : Contains r.settled (record { grant = p; fate = Won })). ⊎_elim (λ (was : Contains (row_of k m).settled (record { grant = p; fate = Won })). inl (inr was))
-              (λ (e : record { grant = g; fate = Lost } ≡ record { grant = p; fate = Won }). let q : Lost ≡ Won = ap (λ (w : Settled). w.fate) e in absurd (cc))
-              (Contains-push_cases (row_of k m).settled (record { grant = g; fate = Lost }) (record { grant = p; fate = Won }) t)) h
+          (λ (e : record { grant = g; fate = Lost } ≡ record { grant = p; fate = Won }). let q : Lost ≡ Won = ap (λ (w : Settled). w.fate) e in absurd (cc))
+          (Contains-push_cases (row_of k m).settled (record { grant = g; fate = Lost }) (record { grant = p; fate = Won }) t)) h
+
       forth : (d : ℕ) (p : Grant) → IsSlot (kept_at k) d → s.winner d ≡ Some (m, p) → IsOf (kept_at k) d p × Stands (row_of k m) p × HasWon (exchanges m) p → Stands r p
       forth d p here e by = ⊎_elim (λ (q : (row_of k m).pending ≡ Some p). let w : Some g ≡ Some p = sym is ∙ q in let same : g ≡ p = cc in
-              absurd (has_lost.0 (ap s.winner (ap (λ (x : Grant). place_of x.entry.slot) same ∙ by.0.1) ∙ (e ∙ ap (λ x. Some (m, x)) (sym same)))))
+          absurd (has_lost.0 (ap s.winner (ap (λ (x : Grant). place_of x.entry.slot) same ∙ by.0.1) ∙ (e ∙ ap (λ x. Some (m, x)) (sym same)))))
           (λ (t : Contains (row_of k m).settled (record { grant = p; fate = Won })). inr (Contains-append_left (row_of k m).settled (record { grant = g; fate = Lost } ∷ []) (record { grant = p; fate = Won }) t)) by.1
   asks m g few is false false false x y z = alike word m (row_of k m) few (λ j low apart. refl) (same_here m (row_of k m) refl refl refl (λ n low before. before) few)
 
@@ -486,49 +517,59 @@ module _ (word : ℕ → ℕ) (k : KeeperView) (tried : ℕ → Option Exchange)
       → Slots (put word (state_at m) 3) (kept_at k) k.access.locked (length k.events) (λ j. slice_index_or (slice_set k.rows m (opened (row_of k m))) j no_row) tried exchanges
   opens m c few since none' untried number newer postable free = in_list k.rows m r (put word (state_at m) 3) (long m few)
       (row_changes word (put word (state_at m) 3) (kept_at k) k.access.locked (length k.events) (row_of k) tried exchanges m r (tried m) few (row_values m 0 3 few (omega arith)) (row_states m 0 3 (omega arith)) s
-          (record { back = back; forth = λ d p here e. forth p ((s.each_slot d here).by m p e).1 })
-          (record {
-            closed = λ e. let q : Some g ≡ None = e in absurd (cc);
-            pending = λ p e. let q : Some g ≡ Some p = e in let same : g ≡ p = cc in
-                subst (λ (p : Grant). let d = place_of p.entry.slot in IsPending (kept_at k) k.access.locked (put word (state_at m) 3 (value_at d)) (put word (state_at m) 3 (state_at m)) (s.winner d) m r (tried m) (exchanges m) p) same posted;
-            won = old.won;
-            lost = old.lost;
-            counted = λ p h. (counted p h, λ n e. let q : None ≡ Some n = e in absurd (cc));
-            granted = λ y t. ⊎_elim (λ (e : (row_of k m).pending ≡ Some y.grant). let q : None ≡ Some y.grant = sym none' ∙ e in absurd (cc)) (λ (t : (f : Fate) × Contains (row_of k m).settled (record { grant = y.grant; fate = f })). inr t) (old.granted y t);
-            rising = old.rising;
-          }))
+      (record { back = back; forth = λ d p here e. forth p ((s.each_slot d here).by m p e).1 })
+      (record {
+        closed = λ e. let q : Some g ≡ None = e in absurd (cc);
+        pending = λ p e. let q : Some g ≡ Some p = e in let same : g ≡ p = cc in
+            subst (λ (p : Grant). let d = place_of p.entry.slot in IsPending (kept_at k) k.access.locked (put word (state_at m) 3 (value_at d)) (put word (state_at m) 3 (state_at m)) (s.winner d) m r (tried m) (exchanges m) p) same posted;
+        won = old.won;
+        lost = old.lost;
+        counted = λ p h. (counted p h, λ n e. let q : None ≡ Some n = e in absurd (cc));
+        granted = λ y t. ⊎_elim (λ (e : (row_of k m).pending ≡ Some y.grant). let q : None ≡ Some y.grant = sym none' ∙ e in absurd (cc)) (λ (t : (f : Fate) × Contains (row_of k m).settled (record { grant = y.grant; fate = f })). inr t) (old.granted y t);
+        rising = old.rising;
+      }))
     where
       r : Row
       r = opened (row_of k m)
+
       g : Grant
       g = grant_in (row_of k m)
+
       old : GrantsAre (kept_at k) k.access.locked (length k.events) word s.winner m (row_of k m) (tried m) (exchanges m)
       old = s.each_hart m few
+
       -- no grant of this hart so far is as new
       newest : (p : Grant) → IsGrant (row_of k m) p → p.entry.number < (row_of k m).number
       newest p h = let low : p.entry.number ≤ c = (old.counted p h).1 c since in let high : c < (row_of k m).number = newer in omega arith
+
       posted : let d = place_of g.entry.slot in IsPending (kept_at k) k.access.locked (put word (state_at m) 3 (value_at d)) (put word (state_at m) 3 (state_at m)) (s.winner d) m r (tried m) (exchanges m) g
       posted = record {
         of_slot = postable.of_slot;
         free = λ q. nothing (place_of g.entry.slot) (sym free ∙ q);
         lazy_is = postable.lazy_is;
         other = postable.other;
-        fate = inl (put_here word (state_at m) 3, record {
-          in_row = refl;
-          untried = λ _ e. not_won ((s.each_slot (place_of g.entry.slot) postable.of_slot.0).by m g e).1;
-          new = λ _ x t. newest x.grant (old.granted x t);
-          made = λ x t. let q : None ≡ Some x = sym untried ∙ t in absurd (cc);
-        });
+        fate = inl (
+          put_here word (state_at m) 3,
+          record {
+            in_row = refl;
+            untried = λ _ e. not_won ((s.each_slot (place_of g.entry.slot) postable.of_slot.0).by m g e).1;
+            new = λ _ x t. newest x.grant (old.granted x t);
+            made = λ x t. let q : None ≡ Some x = sym untried ∙ t in absurd (cc);
+          },
+        );
       }
         where
           not_won : Stands (row_of k m) g → ⊥
           not_won st = let n : g.entry.number < (row_of k m).number = newest g (⊎_elim (λ (e : (row_of k m).pending ≡ Some g). inl e) (λ (t : Contains (row_of k m).settled (record { grant = g; fate = Won })). inr (Won, t)) st) in omega arith
+
       counted : (p : Grant) → IsGrant r p → p.entry.number ≤ length k.events
       counted p h = ⊎_elim (λ (e : Some g ≡ Some p). let q : Some g ≡ Some p = e in let same : g ≡ p = cc in subst (λ (p : Grant). p.entry.number ≤ length k.events) same (subst (λ n. n ≤ length k.events) (sym number) (omega arith)))
           (λ (t : (f : Fate) × Contains (row_of k m).settled (record { grant = p; fate = f })). (old.counted p (inr t)).0) h
+
       back : (p : Grant) → Stands r p → Stands (row_of k m) p ⊎ ((d : ℕ) → IsOf (kept_at k) d p → LeadsTo (kept_at k) p.entry.value)
       back p h = ⊎_elim (λ (e : Some g ≡ Some p). let q : Some g ≡ Some p = e in let same : g ≡ p = cc in inr (λ d o. subst (λ (p : Grant). LeadsTo (kept_at k) p.entry.value) same postable.leads))
           (λ (t : Contains (row_of k m).settled (record { grant = p; fate = Won })). inl (inr t)) h
+
       forth : (p : Grant) → Stands (row_of k m) p → Stands r p
       forth p h = ⊎_elim (λ (e : (row_of k m).pending ≡ Some p). let q : None ≡ Some p = sym none' ∙ e in absurd (cc)) (λ (t : Contains (row_of k m).settled (record { grant = p; fate = Won })). inr t) h
 
@@ -593,7 +634,7 @@ module _ (word : ℕ → ℕ) (k : KeeperView) (tried : ℕ → Option Exchange)
   keeper_slots place held still (kinds.Ask m) ready =
       let n : ℕ = word (state_at m) in
       unmoved word (state_at m) (λ f. Slots f (kept_at k) k.access.locked (length k.events) (λ j. slice_index_or (slice_set k.rows m (asked n (row_of k m))) j no_row) tried exchanges)
-          (asks m ready.1.0 ready.0 ready.1.1 (eqb (n % 8) 3) (eqb (n % 8) 4) (eqb (n % 8) 5) refl refl refl)
+      (asks m ready.1.0 ready.0 ready.1.1 (eqb (n % 8) 3) (eqb (n % 8) 4) (eqb (n % 8) 5) refl refl refl)
   keeper_slots place held still (kinds.Saw d) ready = beside (put word (value_at d) (word (value_at d))) (same_word (value_at d))
   keeper_slots place held still (kinds.Fill m i x) ready = fills m i x ready.1.0 ready.1.2
   keeper_slots place held still (kinds.Hand m mark) ready = hands m mark ready.1.0 ready.1.2 (other mark ready.2)
@@ -616,8 +657,8 @@ module _ (word : ℕ → ℕ) (k : KeeperView) (tried : ℕ → Option Exchange)
       let d : ℕ = place_of g.entry.slot in
       let p : IsPending (kept_at k) k.access.locked (word (value_at d)) (word (state_at m)) (s.winner d) m (row_of k m) (tried m) (exchanges m) g = (s.each_hart m ready.0).pending g ready.1.1 in
       ⊎_elim (λ (o : (word (state_at m) ≡ 3) × IsOpen (s.winner d) m (row_of k m) (tried m) (exchanges m) g). inl (let q = o.0 in omega arith))
-          (λ f. ⊎_elim (λ (a : (word (state_at m) % 8 ≡ 4) × (s.winner d ≡ Some (m, g))). inr (inl a.0)) (λ b. inr (inr b.0)) f)
-          p.fate
+      (λ f. ⊎_elim (λ (a : (word (state_at m) % 8 ≡ 4) × (s.winner d ≡ Some (m, g))). inr (inl a.0)) (λ b. inr (inr b.0)) f)
+      p.fate
 
   pub saw_tells : (d : ℕ) → KeeperReady (kinds.Saw d) k → KeeperLearns (kinds.Saw d) k (word (value_at d))
   saw_tells d ready = record {
@@ -625,7 +666,7 @@ module _ (word : ℕ → ℕ) (k : KeeperView) (tried : ℕ → Option Exchange)
     lost = λ m g few c o q.
         let l : HasLost (exchanges m) g = (s.each_hart m few).lost g c in
         let did : Did (word (value_at (place_of g.entry.slot))) (kept_at k (place_of g.entry.slot)).lazy (s.winner (place_of g.entry.slot)) m (record { grant = g; found = l.0 }) =
-            s.each_exchange m few (record { grant = g; found = l.0 }) l.2 (subst (λ n. IsOf (kept_at k) n g) (sym o.1) o) in
+        s.each_exchange m few (record { grant = g; found = l.0 }) l.2 (subst (λ n. IsOf (kept_at k) n g) (sym o.1) o) in
         did.not_lazy (ap (λ n. word (value_at n)) o.1 ∙ (q ∙ did.lazy_is));
   }
     where

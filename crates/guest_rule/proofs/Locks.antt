@@ -1,5 +1,5 @@
 -- What the part on words and locks keeps, over functions.
-use Rattle.std.proofs.Common.{◌≡◌, ◌≢◌, ◌⊎◌, ⊎_elim, inl, inr, ℕ, ◌+◌, ◌-◌, ◌/◌, ◌*◌, ◌%◌, ◌<◌, Option, Some, None, refl, sym, ap, subst, ◌∙◌, arith}
+use Rattle.std.proofs.Common.{◌≡◌, ◌≢◌, ◌⊎◌, ⊎_elim, ℕ, ◌+◌, ◌-◌, ◌%◌, ◌<◌, Some, None, refl, sym, ap, subst, ◌∙◌, arith}
 use mathlib.Core.Logic.{dite}
 use native.Mathlib.Decide.{ℕ_discrete}
 use Rattle.ld_base.specs.declared.linking.Role.{Role}
@@ -60,10 +60,10 @@ pub words_change : (word word' : ℕ → ℕ) (known : ℕ → Kept) (owner : �
     → (e : ℕ) → e < doublewords → WordIs (word' (value_at e)) (word' (control_at e)) (put owner d o e) (put known d k e)
 words_change word word' known owner d o k beside mine others e low = dite (ℕ_discrete e d)
     (λ (same : e ≡ d). subst (λ n. WordIs (word' (value_at n)) (word' (control_at n)) (put owner d o n) (put known d k n)) (sym same)
-        (subst (λ (p : Owner × Kept). WordIs (word' (value_at d)) (word' (control_at d)) p.0 p.1) (λ i. (sym (put_here owner d o) i, sym (put_here known d k) i)) mine))
+    (subst (λ (p : Owner × Kept). WordIs (word' (value_at d)) (word' (control_at d)) p.0 p.1) (λ i. (sym (put_here owner d o) i, sym (put_here known d k) i)) mine))
     (λ (apart : e ≢ d). subst (λ (p : ℕ × ℕ × Owner × Kept). WordIs p.0 p.1 p.2 p.3)
-        (λ i. (sym (beside.value e apart) i, sym (beside.control e apart) i, sym (put_else owner d o e apart) i, sym (put_else known d k e apart) i))
-        (others e low))
+    (λ i. (sym (beside.value e apart) i, sym (beside.control e apart) i, sym (put_else owner d o e apart) i, sym (put_else known d k e apart) i))
+    (others e low))
 
 -- a word below 128 changes
 pub aside : (word : ℕ → ℕ) (i x : ℕ) (known : ℕ → Kept) (access : Access) (harts : ℕ → Access) → i < 128
@@ -79,8 +79,10 @@ aside word i x known access harts low w = record {
   where
     value_stays : (d : ℕ) → put word i x (value_at d) ≡ word (value_at d)
     value_stays d = put_else word i x (value_at d) (λ (h : value_at d ≡ i). omega arith)
+
     control_stays : (d : ℕ) → put word i x (control_at d) ≡ word (control_at d)
     control_stays d = put_else word i x (control_at d) (λ (h : control_at d ≡ i). omega arith)
+
     lock_stays : (me : Owner) (a : Access) → LockIs word w.owner me a → LockIs (put word i x) w.owner me a
     lock_stays me a l = record { owns = l.owns; named = l.named; held = λ d y is has. value_stays d ∙ l.held d y is has }
 
@@ -100,13 +102,17 @@ slot_aside word d x known access harts slot free w = record {
   where
     word' : ℕ → ℕ
     word' = put word (value_at d) x
+
     beside : Beside word word' d
     beside = beside_value word d x
+
     control_stays : (e : ℕ) → word' (control_at e) ≡ word (control_at e)
     control_stays e = put_else word (value_at d) x (control_at e) (λ (h : control_at e ≡ value_at d). omega arith)
+
     slot_word : d < doublewords → WordIs (word' (value_at d)) (word' (control_at d)) (w.owner d) (known d)
     slot_word low = let at = w.each_word d low in subst (λ n. WordIs (word' (value_at d)) n (w.owner d) (known d)) (sym (control_stays d))
         (record { role = at.role; free = at.free; taken = at.taken; holds = λ _. subst (λ r. Holds r (known d).value (word' (value_at d))) (sym slot) tt })
+
     lock_stays : (me : Owner) (a : Access) → ((e : ℕ) → a.locked ≡ Some e → e ≢ d) → LockIs word w.owner me a → LockIs word' w.owner me a
     lock_stays me a elsewhere l = record { owns = l.owns; named = l.named; held = λ e y is has. beside.value e (elsewhere e is) ∙ l.held e y is has }
 
@@ -140,9 +146,9 @@ hart_change word word' known access harts w m d o b beside before after writable
       w.keepers;
   of_hart = put_each (λ j a. LockIs word' (put w.owner d o) (hart j) a) harts m b
       (λ j apart. other_lock word word' d w.owner o (hart j) (harts j) beside
-          (not_other (w.owner d) (hart m) (hart j) before (hart_apart m j apart) (λ e. absurd (cc)))
-          (not_other o (hart m) (hart j) after (hart_apart m j apart) (λ e. absurd (cc)))
-          (w.of_hart j))
+      (not_other (w.owner d) (hart m) (hart j) before (hart_apart m j apart) (λ e. absurd (cc)))
+      (not_other o (hart m) (hart j) after (hart_apart m j apart) (λ e. absurd (cc)))
+      (w.of_hart j))
       lock;
   only_rw = put_each (λ j a. (e : ℕ) → a.locked ≡ Some e → (known e).role ≡ Rw) harts m b (λ j _. w.only_rw j) rw';
   steady = λ e control low last other. dite (ℕ_discrete e d)
@@ -185,6 +191,7 @@ lock_word v c o me k w free apart = record {
   where
     keeps : (c : ℕ) → (c + 8) % 8 ≡ c % 8
     keeps c = omega arith
+
     bit : (c : ℕ) → lock_bit c ≡ 0 → lock_bit (c + 8) ≡ 1
     bit c e = omega arith
 

@@ -1,11 +1,8 @@
 -- The part on the generation, over each kind of step.
-use Rattle.std.proofs.Common.{◌≡◌, ◌≢◌, ◌⊎◌, ⊎_elim, inl, inr, ℕ, ◌+◌, ◌*◌, ◌%◌, ◌≤◌, ◌<◌, Bool, true, false, cond, eqb, nat_le, nat_lt, List, [], ◌∷◌, ◌++◌, append-nil, length, map, Option, Some, None, Contains, refl, sym, ap, subst, ◌∙◌, arith, slice_index_or, slice_set, ◌==◌}
+use Rattle.std.proofs.Common.{◌≡◌, ◌≢◌, ◌⊎◌, ⊎_elim, inl, inr, ℕ, ◌+◌, ◌%◌, ◌≤◌, ◌<◌, Bool, true, false, eqb, nat_le, List, [], ◌∷◌, ◌++◌, length, map, Option, Some, None, Contains, refl, sym, ap, subst, ◌∙◌, arith, slice_index_or, slice_set, ◌==◌}
 use Rattle.std.proofs.lemmas.List.Elements.{Contains-append_left, Contains-push_cases}
 use Rattle.guest_rule.specs.declared.entry.Entry.{Entry}
 use Rattle.guest_rule.specs.declared.entry.Grant.{Grant}
-use Rattle.guest_rule.specs.declared.entry.Exchange.{Exchange}
-use Rattle.guest_rule.specs.declared.entry.RowWord.{RowWord}
-use Rattle.guest_rule.specs.declared.entry.RowWord.TheVariants.{Number, Slot, Lazy, Value, Generation}
 use Rattle.guest_rule.specs.declared.kind.Ask.{Ask}
 use Rattle.guest_rule.specs.declared.kind.StoreAsk.{StoreAsk}
 use Rattle.guest_rule.specs.declared.kind.HartKind.{HartKind}
@@ -18,14 +15,14 @@ use Rattle.guest_rule.specs.declared.view.HartView.{HartView}
 use Rattle.guest_rule.specs.declared.view.KeeperView.{KeeperView}
 use Rattle.guest_rule.specs.declared.view.Row.{Row}
 use Rattle.guest_rule.specs.declared.view.TrailItem.{TrailItem}
-use Rattle.guest_rule.specs.declared.view.TrailItem.TheVariants.{Call, Took, Exchanged, Done, Generation as ReadGeneration}
-use Rattle.guest_rule.specs.Layout.{generation_at, harts_at_most, value_at, control_at, state_at, row_at, index_of, place_of, role_in, lock_bit}
+use Rattle.guest_rule.specs.declared.view.TrailItem.TheVariants.{Took, Done, Generation as ReadGeneration}
+use Rattle.guest_rule.specs.Layout.{harts_at_most, value_at, control_at, state_at, row_at, index_of, place_of, role_in, lock_bit}
 use Rattle.guest_rule.specs.Views.{put, entries_of, entry_of, last_block, no_row, row_of, tried_entry, with_field}
 use Rattle.guest_rule.specs.Operations.{becomes}
-use Rattle.guest_rule.specs.HartSteps.{HartReady, hart_word, hart_op, hart_after, glanced, looked, locked_if, heeded, permits, ask_is_fresh, ask_place, load_place, store_place}
+use Rattle.guest_rule.specs.HartSteps.{hart_word, hart_op, hart_after, glanced, looked, locked_if, heeded, permits, ask_is_fresh, ask_place, load_place, store_place}
 use Rattle.guest_rule.specs.KeeperSteps.{KeeperReady, asked, asked_if, awaited_if, handed, heeding, keeper_word, keeper_op, keeper_after, keeps_if, not_found, opened, settled_as}
 use Rattle.guest_rule.specs.Generations.{AllKept, Answers, Generations, IsKept}
-use Rattle.guest_rule.proofs.Put.{put_here, put_else, put_each, put_same, set_put}
+use Rattle.guest_rule.proofs.Put.{put_here, put_else, put_each, set_put}
 use Rattle.guest_rule.proofs.KeeperCalls.{map_row, map_long}
 use Rattle.guest_rule.proofs.Rows.{field_issued}
 use Rattle.guest_rule.proofs.Trails.{kept_push, last_is, rows_grow, trails_grow}
@@ -115,9 +112,9 @@ module _ (word : ℕ → ℕ) (k : KeeperView) (trail : ℕ → List TrailItem) 
       → Generations (put word i x) k.generation (λ j. slice_index_or (slice_set rows m r) j no_row) trail
   one rows i x m r apart low same back = subst (λ (f : ℕ → Row). Generations (put word i x) k.generation f trail) (set_put rows m r no_row low)
       (rows_grow word (put word i x) k.generation k.generation (row_of k) (put (λ j. slice_index_or rows j no_row) m r) trail (put_else word i x 1 (λ (e : 1 ≡ i). apart (sym e)) ∙ g.current) (omega arith)
-          (put_each (λ j (y : Row). j < harts_at_most → (e : Entry) → Contains y.issued e → Contains (row_of k j).issued e ⊎ (e.generation ≤ k.generation)) (λ j. slice_index_or rows j no_row) m r
-              (λ j _ _ e c. inl (subst (λ es. Contains es e) (same j) c)) (λ _. back))
-          g)
+      (put_each (λ j (y : Row). j < harts_at_most → (e : Entry) → Contains y.issued e → Contains (row_of k j).issued e ⊎ (e.generation ≤ k.generation)) (λ j. slice_index_or rows j no_row) m r
+      (λ j _ _ e c. inl (subst (λ es. Contains es e) (same j) c)) (λ _. back))
+      g)
 
   long : (m : ℕ) → m < harts_at_most → m < length k.rows
   long m few = subst (λ n. m < n) (sym rows_known) few

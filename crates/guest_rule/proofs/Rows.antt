@@ -1,22 +1,19 @@
 -- What is known of a row, kept over changes of it.
-use Rattle.std.proofs.Common.{◌≡◌, ◌≢◌, ◌⊎◌, ⊎_elim, inl, inr, ℕ, ◌+◌, ◌*◌, ◌%◌, ◌≤◌, ◌<◌, Bool, true, false, List, [], ◌∷◌, ◌++◌, length, append_assoc, append-nil, Option, Some, None, refl, sym, ap, subst, ◌∙◌, arith}
+use Rattle.std.proofs.Common.{◌≡◌, ◌≢◌, ◌⊎◌, ⊎_elim, inl, inr, ℕ, ◌+◌, ◌%◌, ◌≤◌, ◌<◌, List, [], ◌∷◌, ◌++◌, append_assoc, append-nil, Some, refl, sym, ap, subst, ◌∙◌, arith}
 use mathlib.Core.Logic.{dite}
 use native.Mathlib.Decide.{ℕ_discrete}
 use Rattle.guest_rule.specs.declared.entry.Entry.{Entry}
-use Rattle.guest_rule.specs.declared.entry.Grant.{Grant}
 use Rattle.guest_rule.specs.declared.entry.RowWord.{RowWord}
 use Rattle.guest_rule.specs.declared.entry.RowWord.TheVariants.{Number, Slot, Lazy, Value, Generation}
-use Rattle.guest_rule.specs.declared.entry.Exchange.{Exchange}
 use Rattle.guest_rule.specs.declared.view.Lane.{Lane}
 use Rattle.guest_rule.specs.declared.view.Offer.{Offer}
 use Rattle.guest_rule.specs.declared.view.Row.{Row}
-use Rattle.guest_rule.specs.declared.view.Settled.{Settled}
 use Rattle.guest_rule.specs.declared.view.TrailItem.{TrailItem}
-use Rattle.guest_rule.specs.Layout.{count_at, harts_at_most, row_at, state_at, index_of}
-use Rattle.guest_rule.specs.Views.{put, entries_by, entries_of, entry_of, field_of, with_field, grant_in, offered, with_offered, tried_entry}
+use Rattle.guest_rule.specs.Layout.{harts_at_most, row_at, state_at, index_of}
+use Rattle.guest_rule.specs.Views.{put, entries_by, entries_of, field_of, with_field, offered, with_offered}
 use Rattle.guest_rule.specs.HartSteps.{IsMark}
-use Rattle.guest_rule.specs.Calls.{Answered, Awaits, Calls, IsEvent, Known, Rests, RowIs, Stage, Still}
-use Rattle.guest_rule.proofs.Put.{put_here, put_else, put_each, put_same}
+use Rattle.guest_rule.specs.Calls.{Awaits, Calls, Known, Rests, RowIs, Stage}
+use Rattle.guest_rule.proofs.Put.{put_here, put_else}
 use Rattle.guest_rule.proofs.HartLocks.{low_index}
 
 -- ---- states
@@ -84,10 +81,10 @@ one_row word word' count n row lane entries r l es zero' others is mine = record
   counted = zero' ∙ is.counted;
   each_row = λ m few. dite (ℕ_discrete m n)
       (λ (e : m ≡ n). subst (λ j. RowIs word' count j (put row n r j) (put lane n l j) (put entries n es j)) (sym e)
-          (subst (λ (p : Row × Lane × List Entry). RowIs word' count n p.0 p.1 p.2) (λ i. (sym (put_here row n r) i, sym (put_here lane n l) i, sym (put_here entries n es) i)) mine))
+      (subst (λ (p : Row × Lane × List Entry). RowIs word' count n p.0 p.1 p.2) (λ i. (sym (put_here row n r) i, sym (put_here lane n l) i, sym (put_here entries n es) i)) mine))
       (λ (apart : m ≢ n). subst (λ (p : Row × Lane × List Entry). RowIs word' count m p.0 p.1 p.2)
-          (λ i. (sym (put_else row n r m apart) i, sym (put_else lane n l m apart) i, sym (put_else entries n es m apart) i))
-          (carry word word' count m (row m) (lane m) (entries m) (others m few apart) (is.each_row m few)));
+      (λ i. (sym (put_else row n r m apart) i, sym (put_else lane n l m apart) i, sym (put_else entries n es m apart) i))
+      (carry word word' count m (row m) (lane m) (entries m) (others m few apart) (is.each_row m few)));
 }
 
 -- ---- offers

@@ -1,15 +1,11 @@
 -- Who the seats are, over steps.
-use Rattle.std.proofs.Common.{◌≡◌, ◌≢◌, ◌⊎◌, ⊎_elim, inl, inr, ℕ, zero, suc, ◌+◌, ◌≤◌, ◌<◌, Bool, true, false, eqb, nat_le, List, [], ◌∷◌, ◌++◌, append_assoc, append-nil, length, length-set, map, set, Option, Some, None, refl, sym, ap, subst, ◌∙◌, arith, slice_get, slice_index_or, slice_set, ◌%◌}
+use Rattle.std.proofs.Common.{◌≡◌, ◌≢◌, ⊎_elim, ℕ, zero, suc, ◌≤◌, ◌<◌, Bool, true, false, eqb, nat_le, List, [], ◌∷◌, ◌++◌, append_assoc, append-nil, length, length-set, map, set, Some, None, refl, sym, ap, subst, ◌∙◌, arith, slice_get, slice_index_or, ◌%◌}
 use mathlib.Core.Option.{some, some-injective, some-ne-none}
 use lib.ListN.{get_elem?}
 use Rattle.atomic_table.proofs.Lists.{at_set, set_else}
 use Rattle.link_event.specs.declared.event.Event.{Event}
-use Rattle.guest_rule.specs.declared.entry.Entry.{Entry}
-use Rattle.guest_rule.specs.declared.entry.Grant.{Grant}
 use Rattle.guest_rule.specs.declared.kind.KeeperKind.{KeeperKind}
 use Rattle.guest_rule.specs.declared.kind.KeeperKind.TheVariants as kinds
-use Rattle.guest_rule.specs.declared.view.Fate.{Fate}
-use Rattle.guest_rule.specs.declared.view.Fate.TheVariants.{Won, Lost}
 use Rattle.guest_rule.specs.declared.view.HartView.{HartView}
 use Rattle.guest_rule.specs.declared.view.KeeperView.{KeeperView}
 use Rattle.guest_rule.specs.declared.view.Row.{Row}
@@ -17,10 +13,10 @@ use Rattle.guest_rule.specs.declared.view.Slip.{Slip}
 use Rattle.guest_rule.specs.declared.view.Slip.TheVariants.{OfHart, OfKeeper}
 use Rattle.guest_rule.specs.declared.view.View.{View}
 use Rattle.guest_rule.specs.declared.view.View.TheVariants.{Keeper, Hart, Note, Spent}
-use Rattle.guest_rule.specs.Layout.{doublewords, harts_at_most, state_at}
+use Rattle.guest_rule.specs.Layout.{harts_at_most}
 use Rattle.guest_rule.specs.Views.{BeginsWith, put, no_row, row_of, with_field, entry_of}
 use Rattle.guest_rule.specs.KeeperSteps.{KeeperReady, asked, asked_if, awaited_if, handed, heeding, keeper_after, keeper_word, keeps_if, not_found, opened, settled_as}
-use Rattle.guest_rule.specs.Seats.{Fits, Gone, Heard, HartFits, Issued, Seats}
+use Rattle.guest_rule.specs.Seats.{Fits, Heard, HartFits, Issued, Seats}
 use Rattle.guest_rule.proofs.Put.{put_here, put_else, put_each, set_put}
 use Rattle.guest_rule.proofs.KeeperCalls.{map_row, map_long}
 use Rattle.guest_rule.proofs.Rows.{field_issued}
@@ -62,10 +58,13 @@ module _ (views : List View) (kept : KeeperView) (keeper : ℕ) (seat_of : ℕ �
     where
       fits : Fits kept keeper seat_of hart id (Hart h)
       fits = s.each id (Hart h) at
+
       apart : keeper ≢ id
       apart e = let q : Keeper kept ≡ Hart h = some-injective (Keeper kept) (Hart h) (sym s.here ∙ (ap (get_elem? views) e ∙ at)) in absurd (cc)
+
       mine : Fits kept keeper seat_of (put hart h.number h') id (Hart h')
       mine = subst (λ n. (n < kept.harts) × (seat_of n ≡ id) × (put hart h.number h' n ≡ h')) (sym same) (fits.0, fits.1, put_here hart h.number h')
+
       others : (seat : ℕ) (v : View) → seat ≢ id → Fits kept keeper seat_of hart seat v → Fits kept keeper seat_of (put hart h.number h') seat v
       others seat (Keeper k) other f = f
       others seat (Hart g) other f = (f.0, f.1, put_else hart h.number h' g.number (λ q. other (sym f.1 ∙ (ap seat_of q ∙ fits.1))) ∙ f.2)
@@ -110,6 +109,7 @@ keeper_seats views k k' keeper seat_of hart s g = record {
     issued_on : (slip : Slip) → Issued (row_of k) slip → Issued (row_of k') slip
     issued_on (OfHart m es) i = begins_on (row_of k' m).issued (row_of k m).issued es (g.issued m) i
     issued_on (OfKeeper rows) i = λ m. begins_on (row_of k' m).issued (row_of k m).issued (slice_index_or rows m no_row).issued (g.issued m) (i m)
+
     others : (seat : ℕ) (v : View) → seat ≢ keeper → Fits k keeper seat_of hart seat v → Fits k' keeper seat_of hart seat v
     others seat (Keeper x) other f = absurd (other f.1)
     others seat (Hart h) other f = (subst (λ n. h.number < n) (sym g.harts) f.0, f.1, f.2)

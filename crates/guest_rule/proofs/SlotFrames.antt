@@ -1,18 +1,16 @@
 -- The part on slots and grants, over changes that touch few of them.
-use Rattle.std.proofs.Common.{◌≡◌, ◌≢◌, ◌⊎◌, ⊎_elim, inl, inr, ℕ, ◌+◌, ◌*◌, ◌%◌, ◌≤◌, ◌<◌, List, [], ◌∷◌, ◌++◌, Option, Some, None, Contains, refl, sym, ap, subst, ◌∙◌, arith}
+use Rattle.std.proofs.Common.{◌≡◌, ◌≢◌, ◌⊎◌, ⊎_elim, inl, inr, ℕ, ◌≤◌, ◌<◌, List, Option, Some, refl, sym, ap, subst, ◌∙◌, arith}
 use mathlib.Core.Logic.{dite}
 use native.Mathlib.Decide.{ℕ_discrete}
 use Rattle.guest_rule.specs.declared.entry.Exchange.{Exchange}
 use Rattle.guest_rule.specs.declared.entry.Grant.{Grant}
-use Rattle.guest_rule.specs.declared.view.Fate.{Fate}
-use Rattle.guest_rule.specs.declared.view.Fate.TheVariants.{Won, Lost}
 use Rattle.guest_rule.specs.declared.view.Kept.{Kept}
 use Rattle.guest_rule.specs.declared.view.Row.{Row}
-use Rattle.guest_rule.specs.Layout.{doublewords, harts_at_most, place_of, state_at, value_at}
-use Rattle.guest_rule.specs.Views.{put, grant_in}
+use Rattle.guest_rule.specs.Layout.{harts_at_most, place_of, state_at, value_at}
+use Rattle.guest_rule.specs.Views.{put}
 use Rattle.guest_rule.specs.Allowed.{IsAllowed, IsOf, IsSlot, LeadsTo, Stands}
-use Rattle.guest_rule.specs.Slots.{Did, Fated, GrantsAre, HasLost, HasWon, IsOpen, IsPending, Rising, SlotIs, Slots, Winner}
-use Rattle.guest_rule.proofs.Put.{put_here, put_else, put_each, put_same}
+use Rattle.guest_rule.specs.Slots.{Did, Fated, GrantsAre, IsPending, SlotIs, Slots, Winner}
+use Rattle.guest_rule.proofs.Put.{put_here, put_else}
 
 -- the words of slots and the states of rows are as they were
 pub record SameSlots (word word' : ℕ → ℕ) (known : ℕ → Kept) : Type 0 where
@@ -114,9 +112,9 @@ row_changes word word' known locked count row tried exchanges m r t few values s
   };
   each_hart = λ j low. dite (ℕ_discrete j m)
       (λ (e : j ≡ m). subst (λ n. GrantsAre known locked count word' s.winner n (put row m r n) (put tried m t n) (exchanges n)) (sym e)
-          (subst (λ (p : Row × Option Exchange). GrantsAre known locked count word' s.winner m p.0 p.1 (exchanges m)) (λ i. (sym (put_here row m r) i, sym (put_here tried m t) i)) mine))
+      (subst (λ (p : Row × Option Exchange). GrantsAre known locked count word' s.winner m p.0 p.1 (exchanges m)) (λ i. (sym (put_here row m r) i, sym (put_here tried m t) i)) mine))
       (λ (apart : j ≢ m). subst (λ (p : Row × Option Exchange). GrantsAre known locked count word' s.winner j p.0 p.1 (exchanges j)) (λ i. (sym (put_else row m r j apart) i, sym (put_else tried m t j apart) i))
-          (others j low (states j low apart)));
+      (others j low (states j low apart)));
   each_exchange = λ j low x there o. let d : ℕ = place_of x.grant.entry.slot in
       subst (λ v. Did v (known d).lazy (s.winner d) j x) (sym (values d o.0)) (s.each_exchange j low x there o);
   no_more = λ j g high. subst (λ r. ¬ (Stands r g)) (sym (put_else row m r j (λ (e : j ≡ m). omega arith))) (s.no_more j g high);
@@ -126,13 +124,15 @@ row_changes word word' known locked count row tried exchanges m r t few values s
     stands_still d here j g e st = dite (ℕ_discrete j m)
         (λ (same : j ≡ m). subst (λ x. Stands x g) (sym (ap (put row m r) same ∙ put_here row m r)) (grants.forth d g here (e ∙ ap (λ n. Some (n, g)) same)))
         (λ (apart : j ≢ m). subst (λ x. Stands x g) (sym (put_else row m r j apart)) st)
+
     leads_still : (d j : ℕ) (g : Grant) (v : ℕ) → (IsAllowed known row d v → LeadsTo known v) → Stands (put row m r j) g → IsOf known d g → v ≡ g.entry.value → LeadsTo known v
     leads_still d j g v old st o e = dite (ℕ_discrete j m)
         (λ (same : j ≡ m). ⊎_elim
-            (λ (st : Stands (row m) g). old (inr (m, g, st, o, e)))
-            (λ (new : (d : ℕ) → IsOf known d g → LeadsTo known g.entry.value). subst (LeadsTo known) (sym e) (new d o))
-            (grants.back g (subst (λ x. Stands x g) (ap (put row m r) same ∙ put_here row m r) st)))
+        (λ (st : Stands (row m) g). old (inr (m, g, st, o, e)))
+        (λ (new : (d : ℕ) → IsOf known d g → LeadsTo known g.entry.value). subst (LeadsTo known) (sym e) (new d o))
+        (grants.back g (subst (λ x. Stands x g) (ap (put row m r) same ∙ put_here row m r) st)))
         (λ (apart : j ≢ m). old (inr (j, g, subst (λ x. Stands x g) (put_else row m r j apart) st, o, e)))
+
     others : (j : ℕ) → j < harts_at_most → word' (state_at j) ≡ word (state_at j) → GrantsAre known locked count word' s.winner j (row j) (tried j) (exchanges j)
     others j low state = let old : GrantsAre known locked count word s.winner j (row j) (tried j) (exchanges j) = s.each_hart j low in record {
       closed = λ e t. old.closed e (sym state ∙ t);

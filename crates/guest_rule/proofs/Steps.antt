@@ -1,12 +1,8 @@
 -- Each kind of step keeps the rule, and what it tells is true.
 use Rattle.std.proofs.Common.{◌≡◌, ◌≢◌, ◌⊎◌, ⊎_elim, inl, inr, ℕ, ◌+◌, ◌*◌, ◌≤◌, ◌<◌, Bool, true, false, eqb, List, [], ◌∷◌, ◌++◌, length, length-append, length-set, set, get_or, Option, Some, None, refl, sym, ap, subst, ◌∙◌, arith, slice_get, slice_index, slice_set, ◌==◌}
-use mathlib.Core.Option.{some}
-use lib.ListN.{get_elem?}
 use Rattle.link_event.specs.declared.event.Event.{Event}
 use Rattle.guest_rule.specs.declared.entry.Entry.{Entry}
 use Rattle.guest_rule.specs.declared.entry.Exchange.{Exchange}
-use Rattle.guest_rule.specs.declared.entry.Grant.{Grant}
-use Rattle.guest_rule.specs.declared.entry.RowWord.{RowWord}
 use Rattle.guest_rule.specs.declared.kind.Ask.{Ask}
 use Rattle.guest_rule.specs.declared.kind.Ask.TheVariants.{Load as Loads, Store as Stores}
 use Rattle.guest_rule.specs.declared.kind.StoreAsk.{StoreAsk}
@@ -17,34 +13,31 @@ use Rattle.guest_rule.specs.declared.kind.KeeperKind.TheVariants as keeps
 use Rattle.guest_rule.specs.declared.view.Access.{Access}
 use Rattle.guest_rule.specs.declared.view.HartView.{HartView}
 use Rattle.guest_rule.specs.declared.view.KeeperView.{KeeperView}
-use Rattle.guest_rule.specs.declared.view.Kept.{Kept}
 use Rattle.guest_rule.specs.declared.view.Lane.{Lane}
-use Rattle.guest_rule.specs.declared.view.Row.{Row}
 use Rattle.guest_rule.specs.declared.view.TrailItem.{TrailItem}
-use Rattle.guest_rule.specs.declared.view.View.{View}
 use Rattle.guest_rule.specs.declared.view.View.TheVariants.{Keeper, Hart}
 use Rattle.guest_rule.specs.Layout.{doublewords, harts_at_most, table_words, value_at, control_at, state_at, row_at, index_of, place_of, role_in, lock_bit}
 use Rattle.guest_rule.specs.Views.{BeginsWith, after, put, entries_of, exchanges_of, kept_at, row_of}
 use Rattle.guest_rule.specs.Operations.{becomes}
 use Rattle.guest_rule.specs.HartSteps.{HartReady, HartLearns, hart_word, hart_op, hart_after, ask_place, Asked, glanced, looked, locked_if, heeded, permits, ask_is_fresh, store_place}
 use Rattle.guest_rule.specs.KeeperSteps.{HasTakenAll, KeeperReady, KeeperLearns, keeper_word, keeper_op, keeper_after}
-use Rattle.guest_rule.specs.Seats.{Fits, Heard, HartFits, Seats}
-use Rattle.guest_rule.specs.Words.{Owner, keeper, hart, LockIs, Words}
-use Rattle.guest_rule.specs.Calls.{Answered, Awaits, Calls, Rests, RowIs, Stage, Still}
+use Rattle.guest_rule.specs.Seats.{Fits, Seats}
+use Rattle.guest_rule.specs.Words.{Words}
+use Rattle.guest_rule.specs.Calls.{Calls, Rests, RowIs, Stage, Still}
 use Rattle.guest_rule.specs.Slots.{Slots}
 use Rattle.guest_rule.specs.Generations.{Generations}
-use Rattle.guest_rule.specs.Rule.{HartKeeps, IsGuest, KeeperKeeps, Parts}
+use Rattle.guest_rule.specs.Rule.{HartKeeps, KeeperKeeps, Parts}
 use Rattle.guest_rule.proofs.Put.{put_field, set_put}
 use Rattle.guest_rule.proofs.Locks.{Aims}
 use Rattle.guest_rule.proofs.HartLocks.{hart_locks, low_index}
 use Rattle.guest_rule.proofs.KeeperLocks.{keeper_locks, look_tells, load_tells, lock_tells}
 use Rattle.guest_rule.proofs.HartCalls.{hart_calls, arrive_tells}
 use Rattle.guest_rule.proofs.KeeperCalls.{keeper_calls, waiting}
-use Rattle.guest_rule.proofs.HartSlots.{Aim, aims_at, hart_slots}
+use Rattle.guest_rule.proofs.HartSlots.{aims_at, hart_slots}
 use Rattle.guest_rule.proofs.KeeperSlots.{keeper_slots, ask_tells, saw_tells}
 use Rattle.guest_rule.proofs.Marks.{hart_marks, keeper_marks}
 use Rattle.guest_rule.proofs.Rows.{low_rest}
-use Rattle.guest_rule.proofs.Seating.{hart_seats, heard_on, heard_more, keeper_grows, keeper_seats, Grows}
+use Rattle.guest_rule.proofs.Seating.{hart_seats, heard_on, heard_more, keeper_grows, keeper_seats}
 
 -- ---- a hart's view after a step
 
@@ -126,7 +119,7 @@ module _ (word : ℕ → ℕ) (kept : KeeperView) (harts : ℕ → HartView) (p 
   aims : (kind : HartKind) → HartReady kind h → Aims (kept_at kept) kept.access kind
   aims (kinds.Exchange g) ready =
       let aim = aims_at word (kept_at kept) kept.access.locked (length kept.events) (row_of kept) (after (λ (x : HartView). x.lane.tried) harts) (after (λ (x : HartView). exchanges_of x.trail) harts) p.slots
-          h few (ap (λ (x : HartView). x.lane.tried) is) (ap (λ (x : HartView). exchanges_of x.trail) is) (entries_of h.trail) row_is writable g ready in
+      h few (ap (λ (x : HartView). x.lane.tried) is) (ap (λ (x : HartView). exchanges_of x.trail) is) (entries_of h.trail) row_is writable g ready in
       (aim.posted.of_slot.0, aim.posted.free)
   aims _ ready = tt
 
@@ -161,15 +154,17 @@ module _ (word : ℕ → ℕ) (kept : KeeperView) (harts : ℕ → HartView) (p 
     slots = subst (λ (q : (ℕ → Option Exchange) × (ℕ → List Exchange)). Slots word' (kept_at kept) kept.access.locked (length kept.events) (row_of kept) q.0 q.1)
         (λ i. (put_field (λ (x : HartView). x.lane.tried) harts h.number h' i, put_field (λ (x : HartView). exchanges_of x.trail) harts h.number h' i))
         (hart_slots word (kept_at kept) kept.access.locked (length kept.events) (row_of kept) (after (λ (x : HartView). x.lane.tried) harts) (after (λ (x : HartView). exchanges_of x.trail) harts) p.slots
-            h few (ap (λ (x : HartView). x.lane.tried) is) (ap (λ (x : HartView). exchanges_of x.trail) is) (entries_of h.trail) row_is writable kind ready);
+        h few (ap (λ (x : HartView). x.lane.tried) is) (ap (λ (x : HartView). exchanges_of x.trail) is) (entries_of h.trail) row_is writable kind ready);
     generations = subst (λ (f : ℕ → List TrailItem). Generations word' kept.generation (row_of kept) f) (put_field (λ (x : HartView). x.trail) harts h.number h')
         (hart_marks word kept.generation (row_of kept) (after (λ (x : HartView). x.trail) harts) p.generations h few (ap (λ (x : HartView). x.trail) is) row_is.trail kind);
   }
     where
       h' : HartView
       h' = hart_after kind h (word (hart_word kind))
+
       word' : ℕ → ℕ
       word' = put word (hart_word kind) (becomes (hart_op kind) (word (hart_word kind)))
+
       same : SameHart h (hart_after kind h (word (hart_word kind)))
       same = same_hart kind h (word (hart_word kind))
 
@@ -243,56 +238,65 @@ module _ (word : ℕ → ℕ) (k : KeeperView) (harts : ℕ → HartView) (p : P
 
 pub hart_keeps : (kind : HartKind) (seat : ℕ) (h : HartView) → HartReady kind h → HartKeeps kind seat h
 hart_keeps kind seat h ready words views g at small = (
-    record {
-      kept = g.kept;
-      keeper = g.keeper;
-      seat_of = g.seat_of;
-      hart = put g.hart h.number h';
-      wide = length-set words (hart_word kind) x ∙ g.wide;
-      seats = hart_seats views g.kept g.keeper g.seat_of g.hart g.seats seat h h' at (same_hart kind h n).number;
-      parts = subst (λ (f : ℕ → ℕ). Parts f g.kept (put g.hart h.number h')) (set_put words (hart_word kind) x 0 (subst (λ m. hart_word kind < m) (sym g.wide) (hart_low (slice_index words) g.kept g.hart g.parts h few fits.2 kind ready)))
-          (hart_parts (slice_index words) g.kept g.hart g.parts h few fits.2 kind ready small);
-    },
-    hart_tells (slice_index words) g.kept g.hart g.parts h few fits.2 kind ready,
-  )
+  record {
+    kept = g.kept;
+    keeper = g.keeper;
+    seat_of = g.seat_of;
+    hart = put g.hart h.number h';
+    wide = length-set words (hart_word kind) x ∙ g.wide;
+    seats = hart_seats views g.kept g.keeper g.seat_of g.hart g.seats seat h h' at (same_hart kind h n).number;
+    parts = subst (λ (f : ℕ → ℕ). Parts f g.kept (put g.hart h.number h')) (set_put words (hart_word kind) x 0 (subst (λ m. hart_word kind < m) (sym g.wide) (hart_low (slice_index words) g.kept g.hart g.parts h few fits.2 kind ready)))
+        (hart_parts (slice_index words) g.kept g.hart g.parts h few fits.2 kind ready small);
+  },
+  hart_tells (slice_index words) g.kept g.hart g.parts h few fits.2 kind ready,
+)
   where
     n : ℕ
     n = slice_index words (hart_word kind)
+
     x : ℕ
     x = becomes (hart_op kind) (slice_index words (hart_word kind))
+
     h' : HartView
     h' = hart_after kind h (slice_index words (hart_word kind))
+
     fits : Fits g.kept g.keeper g.seat_of g.hart seat (Hart h)
     fits = g.seats.each seat (Hart h) at
+
     few : h.number < harts_at_most
     few = let low : h.number < g.kept.harts = fits.0 in let most : g.kept.harts ≤ harts_at_most = g.seats.few in omega arith
 
 -- the keeper's seat is the one, and its view is the rule's
 pub keeper_keeps : (kind : KeeperKind) (seat : ℕ) (k : KeeperView) → KeeperReady kind k → KeeperKeeps kind seat k
 keeper_keeps kind seat k ready words views g at small = (
-    record {
-      kept = k';
-      keeper = g.keeper;
-      seat_of = g.seat_of;
-      hart = g.hart;
-      wide = length-set words (keeper_word kind) x ∙ g.wide;
-      seats = subst (λ i. Seats (set views i (Keeper k')) k' g.keeper g.seat_of g.hart) (sym fits.1)
-          (keeper_seats views k k' g.keeper g.seat_of g.hart seats (keeper_grows kind k n seats.rows_known ready));
-      parts = subst (λ (f : ℕ → ℕ). Parts f k' g.hart) (set_put words (keeper_word kind) x 0 (subst (λ m. keeper_word kind < m) (sym g.wide) (keeper_low (slice_index words) k g.hart parts seats.words_known seats.rows_known kind ready)))
-          (keeper_parts (slice_index words) k g.hart parts seats.words_known seats.rows_known kind ready small);
-    },
-    keeper_tells (slice_index words) k g.hart parts seats.words_known seats.rows_known (λ i j e. (seats.gone i j e).2) seats.told kind ready,
-  )
+  record {
+    kept = k';
+    keeper = g.keeper;
+    seat_of = g.seat_of;
+    hart = g.hart;
+    wide = length-set words (keeper_word kind) x ∙ g.wide;
+    seats = subst (λ i. Seats (set views i (Keeper k')) k' g.keeper g.seat_of g.hart) (sym fits.1)
+        (keeper_seats views k k' g.keeper g.seat_of g.hart seats (keeper_grows kind k n seats.rows_known ready));
+    parts = subst (λ (f : ℕ → ℕ). Parts f k' g.hart) (set_put words (keeper_word kind) x 0 (subst (λ m. keeper_word kind < m) (sym g.wide) (keeper_low (slice_index words) k g.hart parts seats.words_known seats.rows_known kind ready)))
+        (keeper_parts (slice_index words) k g.hart parts seats.words_known seats.rows_known kind ready small);
+  },
+  keeper_tells (slice_index words) k g.hart parts seats.words_known seats.rows_known (λ i j e. (seats.gone i j e).2) seats.told kind ready,
+)
   where
     n : ℕ
     n = slice_index words (keeper_word kind)
+
     x : ℕ
     x = becomes (keeper_op kind) (slice_index words (keeper_word kind))
+
     k' : KeeperView
     k' = keeper_after kind k (slice_index words (keeper_word kind))
+
     fits : Fits g.kept g.keeper g.seat_of g.hart seat (Keeper k)
     fits = g.seats.each seat (Keeper k) at
+
     seats : Seats views k g.keeper g.seat_of g.hart
     seats = subst (λ k. Seats views k g.keeper g.seat_of g.hart) (sym fits.0) g.seats
+
     parts : Parts (slice_index words) k g.hart
     parts = subst (λ k. Parts (slice_index words) k g.hart) (sym fits.0) g.parts

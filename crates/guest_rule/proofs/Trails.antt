@@ -1,14 +1,12 @@
 -- The part on the generation, over the steps of harts and of the keeper.
-use Rattle.std.proofs.Common.{◌≡◌, ◌≢◌, ◌⊎◌, ⊎_elim, inl, inr, ℕ, zero, suc, ◌+◌, ◌*◌, ◌≤◌, ◌<◌, Bool, true, false, cond, eqb, List, [], ◌∷◌, ◌++◌, append_assoc, append-nil, length, map, Option, Some, None, Contains, refl, sym, ap, subst, ◌∙◌, arith, slice_index_or, slice_set}
-use Rattle.std.proofs.lemmas.List.Elements.{Contains-append_left, Contains-push_cases}
+use Rattle.std.proofs.Common.{◌≡◌, ◌⊎◌, ⊎_elim, ℕ, suc, ◌≤◌, ◌<◌, Bool, true, false, List, [], ◌∷◌, ◌++◌, append_assoc, append-nil, Option, Some, None, Contains, refl, sym, ap, subst, ◌∙◌, arith}
 use Rattle.guest_rule.specs.declared.entry.Entry.{Entry}
 use Rattle.guest_rule.specs.declared.view.Row.{Row}
 use Rattle.guest_rule.specs.declared.view.TrailItem.{TrailItem}
-use Rattle.guest_rule.specs.declared.view.TrailItem.TheVariants.{Call, Took, Exchanged, Done, Generation as ReadGeneration}
 use Rattle.guest_rule.specs.Layout.{generation_at, harts_at_most}
 use Rattle.guest_rule.specs.Views.{put, entries_by, entries_of, is_block, last_block, later_block}
-use Rattle.guest_rule.specs.Generations.{AllKept, Answers, Generations, IsKept}
-use Rattle.guest_rule.proofs.Put.{put_here, put_else, put_each, put_same}
+use Rattle.guest_rule.specs.Generations.{AllKept, Answers, Generations}
+use Rattle.guest_rule.proofs.Put.{put_each}
 
 pub kept_push : (before : List Entry) (trail : List TrailItem) (item : TrailItem) → AllKept before trail → Answers (before ++ entries_of trail) item → AllKept before (trail ++ item ∷ [])
 kept_push before [] item all new = (subst (λ es. Answers es item) (append-nil before) new, tt)

@@ -3,7 +3,7 @@ use Rattle.std.specs.Prelude.{◌≡◌, ℕ, ◌≤◌, ◌<◌, true, List, []
 use Rattle.guest_rule.specs.declared.entry.Entry.{Entry}
 use Rattle.guest_rule.specs.declared.view.Row.{Row}
 use Rattle.guest_rule.specs.declared.view.TrailItem.{TrailItem}
-use Rattle.guest_rule.specs.declared.view.TrailItem.TheVariants.{Call, Took, Exchanged, Done, Generation as ReadGeneration}
+use Rattle.guest_rule.specs.declared.view.TrailItem.TheVariants.{Generation as ReadGeneration}
 use Rattle.guest_rule.specs.Layout.{generation_at, harts_at_most}
 use Rattle.guest_rule.specs.Views.{entries_by, is_block}
 

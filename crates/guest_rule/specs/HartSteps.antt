@@ -1,6 +1,6 @@
 -- The steps of harts: of each kind its word, what is done to the word, what the hart must know before, its view after, and what
 -- the rule tells of the number found.
-use Rattle.std.specs.Prelude.{◌≡◌, ◌≢◌, ◌⊎◌, ℕ, ◌+◌, ◌-◌, ◌*◌, ◌%◌, ◌≤◌, ◌<◌, ◌^◌, Bool, true, false, cond, eqb, nat_lt, List, [], ◌∷◌, ◌++◌, length, Option, Some, None, Ok, Err, ◌==◌}
+use Rattle.std.specs.Prelude.{◌≡◌, ◌≢◌, ◌⊎◌, ℕ, ◌+◌, ◌%◌, ◌≤◌, Bool, true, false, cond, eqb, nat_lt, [], ◌∷◌, ◌++◌, length, Option, Some, None, Ok, Err, ◌==◌}
 use Rattle.ld_base.specs.declared.fault.Shown.TheVariants.{Locked}
 use Rattle.rv_hart.specs.Arithmetic.{combined}
 use Rattle.rv_hart.specs.Buses.{IsSize, may_fetch, may_read, may_write}
@@ -10,8 +10,6 @@ use Rattle.rv_hart.specs.declared.bus.BusFault.TheVariants.{Role as RoleFault, A
 use Rattle.rv_hart.specs.declared.bus.Item.{Item}
 use Rattle.rv_hart.specs.declared.bus.Item.TheVariants as items
 use Rattle.ld_base.specs.declared.linking.Role.{Role}
-use Rattle.guest_rule.specs.declared.entry.Entry.{Entry}
-use Rattle.guest_rule.specs.declared.entry.Grant.{Grant}
 use Rattle.guest_rule.specs.declared.entry.Exchange.{Exchange}
 use Rattle.guest_rule.specs.declared.entry.RowWord.{RowWord}
 use Rattle.guest_rule.specs.declared.kind.Ask.{Ask}

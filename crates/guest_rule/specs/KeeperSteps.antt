@@ -1,12 +1,8 @@
 -- The steps of the keeper: of each kind its word, what is done to the word, what the keeper must know before, its view after,
 -- and what the rule tells of the number found.
-use Rattle.std.specs.Prelude.{◌≡◌, ◌≢◌, ◌⊎◌, ℕ, ◌+◌, ◌-◌, ◌*◌, ◌%◌, ◌≤◌, ◌<◌, ◌^◌, Bool, true, false, cond, eqb, nat_le, List, [], ◌∷◌, ◌++◌, length, map, Option, Some, None, slice_get, slice_set, Contains, ◌==◌}
-use Rattle.ld_base.specs.declared.linking.Role.{Role}
+use Rattle.std.specs.Prelude.{◌≡◌, ◌≢◌, ◌⊎◌, ℕ, ◌+◌, ◌%◌, ◌≤◌, ◌<◌, Bool, true, false, eqb, nat_le, [], ◌∷◌, ◌++◌, length, map, Option, Some, None, slice_get, slice_set, Contains}
 use Rattle.ld_base.specs.declared.linking.Role.TheVariants.{None as NoRole, Ro, Rx, Rw, Slot as SlotRole}
-use Rattle.link_event.specs.declared.event.Event.{Event}
-use Rattle.guest_rule.specs.declared.entry.Entry.{Entry}
 use Rattle.guest_rule.specs.declared.entry.Grant.{Grant}
-use Rattle.guest_rule.specs.declared.entry.RowWord.{RowWord}
 use Rattle.guest_rule.specs.declared.kind.KeeperKind.{KeeperKind}
 use Rattle.guest_rule.specs.declared.kind.KeeperKind.TheVariants as kinds
 use Rattle.guest_rule.specs.declared.view.Access.{Access}

@@ -1,7 +1,7 @@
 -- Where the words of guest memory stand, and what a control word is.
 -- First come the count, the generation, a word that nothing changes, and a row of six words for each of 16 harts. From the
 -- word 128 on, each doubleword has two words: its value, and its control word.
-use Rattle.std.specs.Prelude.{◌≡◌, ℕ, ◌+◌, ◌-◌, ◌*◌, ◌/◌, ◌%◌, ◌≤◌, ◌<◌, List, [], ◌∷◌, slice_index_or}
+use Rattle.std.specs.Prelude.{ℕ, ◌+◌, ◌-◌, ◌*◌, ◌/◌, ◌%◌, ◌≤◌, ◌<◌, List, [], ◌∷◌, slice_index_or}
 use Rattle.ld_base.specs.declared.linking.Role.{Role}
 use Rattle.ld_base.specs.declared.linking.Role.TheVariants.{None as NoRole, Ro, Rx, Rw, Slot as SlotRole}
 use Rattle.guest_rule.specs.declared.entry.RowWord.{RowWord}

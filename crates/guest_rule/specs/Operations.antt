@@ -1,5 +1,5 @@
 -- What a step does to its word.
-use Rattle.std.specs.Prelude.{ℕ, ◌+◌, ◌%◌, ◌^◌, eqb}
+use Rattle.std.specs.Prelude.{ℕ, ◌+◌, ◌%◌, eqb}
 use prog.Atomic.{either}
 
 pub data Op : Type 0 where

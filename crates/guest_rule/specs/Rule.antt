@@ -2,7 +2,6 @@
 use Rattle.std.specs.Prelude.{◌≡◌, ℕ, List, length, slice_index, slice_set, ◌<◌}
 use Rattle.guest_rule.specs.declared.kind.HartKind.{HartKind}
 use Rattle.guest_rule.specs.declared.kind.KeeperKind.{KeeperKind}
-use Rattle.guest_rule.specs.declared.view.Access.{Access}
 use Rattle.guest_rule.specs.declared.view.HartView.{HartView}
 use Rattle.guest_rule.specs.declared.view.KeeperView.{KeeperView}
 use Rattle.guest_rule.specs.declared.view.View.{View}
@@ -12,14 +11,13 @@ use lib.ListN.{get_elem?}
 use Rattle.guest_rule.specs.Layout.{table_words}
 use Rattle.guest_rule.specs.Views.{after, entries_of, exchanges_of, kept_at, row_of}
 use Rattle.guest_rule.specs.Operations.{becomes}
-use Rattle.guest_rule.specs.HartSteps.{HartReady, HartLearns, hart_word, hart_op, hart_after}
-use Rattle.guest_rule.specs.KeeperSteps.{KeeperReady, KeeperLearns, keeper_word, keeper_op, keeper_after}
+use Rattle.guest_rule.specs.HartSteps.{HartLearns, hart_word, hart_op, hart_after}
+use Rattle.guest_rule.specs.KeeperSteps.{KeeperLearns, keeper_word, keeper_op, keeper_after}
 use Rattle.guest_rule.specs.Seats.{Heard, Seats}
 use Rattle.guest_rule.specs.Words.{Words}
 use Rattle.guest_rule.specs.Calls.{Calls}
 use Rattle.guest_rule.specs.Slots.{Slots}
 use Rattle.guest_rule.specs.Generations.{Generations}
-
 
 -- the parts, over the words and what the views say: the keeper's, and the last view of each hart
 pub record Parts (word : ℕ → ℕ) (kept : KeeperView) (hart : ℕ → HartView) : Type 0 where
@@ -44,10 +42,10 @@ abbrev pub HartKeeps : HartKind → ℕ → HartView → Type 0
 HartKeeps kind seat h =
     (words : List ℕ) (views : List View) → IsGuest words views → get_elem? views seat ≡ some (Hart h) → slice_index words (hart_word kind) < 18446744073709551616
     → let n = slice_index words (hart_word kind) in
-      IsGuest (slice_set words (hart_word kind) (becomes (hart_op kind) n)) (slice_set views seat (Hart (hart_after kind h n))) × HartLearns kind h n
+    IsGuest (slice_set words (hart_word kind) (becomes (hart_op kind) n)) (slice_set views seat (Hart (hart_after kind h n))) × HartLearns kind h n
 
 abbrev pub KeeperKeeps : KeeperKind → ℕ → KeeperView → Type 0
 KeeperKeeps kind seat k =
     (words : List ℕ) (views : List View) → IsGuest words views → get_elem? views seat ≡ some (Keeper k) → slice_index words (keeper_word kind) < 18446744073709551616
     → let n = slice_index words (keeper_word kind) in
-      IsGuest (slice_set words (keeper_word kind) (becomes (keeper_op kind) n)) (slice_set views seat (Keeper (keeper_after kind k n))) × KeeperLearns kind k n
+    IsGuest (slice_set words (keeper_word kind) (becomes (keeper_op kind) n)) (slice_set views seat (Keeper (keeper_after kind k n))) × KeeperLearns kind k n

@@ -1,9 +1,8 @@
 -- Who the seats are. A hart's last view is that of its seat, or the one that the keeper's view keeps since the seat was joined.
-use Rattle.std.specs.Prelude.{◌≡◌, ℕ, ◌≤◌, ◌<◌, List, length, Option, Some, None, slice_get, slice_index_or}
+use Rattle.std.specs.Prelude.{◌≡◌, ℕ, ◌≤◌, ◌<◌, List, length, Some, slice_get, slice_index_or}
 use mathlib.Core.Option.{some}
 use lib.ListN.{get_elem?}
 use Rattle.link_event.specs.declared.event.Event.{Event}
-use Rattle.guest_rule.specs.declared.entry.Entry.{Entry}
 use Rattle.guest_rule.specs.declared.view.HartView.{HartView}
 use Rattle.guest_rule.specs.declared.view.KeeperView.{KeeperView}
 use Rattle.guest_rule.specs.declared.view.Row.{Row}

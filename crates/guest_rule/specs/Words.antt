@@ -1,7 +1,7 @@
 -- Words and locks.
-use Rattle.std.specs.Prelude.{◌≡◌, ◌≢◌, ◌⊎◌, ℕ, ◌%◌, ◌<◌, Option, Some, None, suc}
+use Rattle.std.specs.Prelude.{◌≡◌, ◌≢◌, ℕ, ◌%◌, ◌<◌, Some}
 use Rattle.ld_base.specs.declared.linking.Role.{Role}
-use Rattle.ld_base.specs.declared.linking.Role.TheVariants.{None as NoRole, Ro, Rx, Rw, Slot as SlotRole}
+use Rattle.ld_base.specs.declared.linking.Role.TheVariants.{Ro, Rx, Rw}
 use Rattle.guest_rule.specs.declared.view.Access.{Access}
 use Rattle.guest_rule.specs.declared.view.Kept.{Kept}
 use Rattle.guest_rule.specs.Layout.{doublewords, value_at, control_at, role_code, lock_bit}

@@ -24,5 +24,6 @@ pub use entry::{Entry, Exchange, Grant, RowWord};
 pub use kind::{Ask, HartKind, KeeperKind, Kind, LoadAsk, StoreAsk};
 pub use law::{hart_steps_keep, keeper_steps_keep, rule_begins};
 pub use view::{
-    Access, Fate, HartView, KeeperView, Kept, Lane, Offer, Row, Settled, Slip, Told, TrailItem, View,
+    Access, Fate, HartView, KeeperView, Kept, Lane, Offer, Row, Settled, Slip, Told, TrailItem,
+    View,
 };
