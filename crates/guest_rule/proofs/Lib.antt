@@ -13,3 +13,4 @@ pub mod Marks
 pub mod Seating
 pub mod Steps
 pub mod Begins
+pub mod Table

@@ -11,3 +11,4 @@ pub mod Slots
 pub mod Generations
 pub mod Rule
 pub mod Start
+pub mod Table

@@ -18,11 +18,13 @@
 mod entry;
 mod kind;
 mod law;
+mod rule;
 mod view;
 
 pub use entry::{Entry, Exchange, Grant, RowWord};
 pub use kind::{Ask, HartKind, KeeperKind, Kind, LoadAsk, StoreAsk};
 pub use law::{hart_steps_keep, keeper_steps_keep, rule_begins};
+pub use rule::{Aimed, Does, GuestRule};
 pub use view::{
     Access, Fate, HartView, KeeperView, Kept, Lane, Offer, Row, Settled, Slip, Told, TrailItem,
     View,

@@ -1,0 +1,37 @@
+//! The rule, as a table of atomic words takes it.
+
+use crate::{Kind, View};
+use atomic_table::{Play, TableRule};
+use std::marker::PhantomData;
+
+/// The rule of a table without slots, whose words are those of guest memory.
+pub struct GuestRule;
+
+impl TableRule<(), View, ()> for GuestRule {
+    ghost use Rattle.guest_rule.specs.declared.view.View.TheVariants.{Keeper};
+    ghost use Rattle.guest_rule.specs.Rule.{IsGuest};
+    ghost use Rattle.guest_rule.specs.Start.{first_keeper};
+
+    ghost holds = { λ _ s. IsGuest s.words s.views };
+
+    ghost first = { λ _. Keeper first_keeper };
+}
+
+/// What a step is for. Whoever steps picks it.
+pub trait Aimed {
+    ghost use Rattle.guest_rule.specs.declared.kind.Kind.{Kind};
+
+    ghost kind: { Kind };
+}
+
+/// What a step of a kind tells: the seat's view after it, and what the rule knows of the number found.
+/// There is no other, so that each step is one of the kinds.
+pub struct Does<A> {
+    of: PhantomData<A>,
+}
+
+impl<A: Aimed> Play<(), View> for Does<A> {
+    ghost use Rattle.guest_rule.specs.Table.{Tells};
+
+    ghost then = { Tells A.kind };
+}
