@@ -18,6 +18,7 @@ pub mod Granted
 pub mod History
 pub mod Imaged
 pub mod InRow
+pub mod Lately
 pub mod Lazy
 pub mod LeftOut
 pub mod Lists

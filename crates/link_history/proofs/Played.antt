@@ -1,9 +1,10 @@
 -- What each event of a worked history asks for, from what computes.
-use Rattle.std.proofs.Common.{◌≡◌, inr, ⊎_elim, ℕ, ◌+◌, Bool, true, false, not, ◌&&◌, ◌||◌, eqb, leb, List, [], ◌∷◌, ◌++◌, map, length, Option, Some, None, refl, sym, ap, subst, ◌∙◌}
-use Rattle.std.specs.Prelude.{Result, Ok, Err, if◌then◌else◌}
+use Rattle.std.proofs.Common.{◌≡◌, inr, ⊎_elim, ℕ, ◌+◌, Bool, true, false, not, ◌&&◌, ◌||◌, eqb, leb, List, [], ◌∷◌, ◌++◌, map, length, Option, Some, None, refl, sym, ap, subst, ◌∙◌, arith}
+use Rattle.std.specs.Prelude.{Result, Ok, Err, ◌%◌, if◌then◌else◌}
 use Rattle.std.specs.List.{Contains, flat_map, list_all, list_any, slice_get}
+use Rattle.std.specs.Option.{is_some}
 use Rattle.std.specs.Str.{bytes_eq}
-use Rattle.std.proofs.lemmas.Bool.{and_from, eq-eqb, eqb-true, le-leb, leb-true, not-true, or_cases, true≢false}
+use Rattle.std.proofs.lemmas.Bool.{and_from, and_parts, eq-eqb, eqb-true, le-leb, leb-true, not-true, or_cases, true≢false}
 use Rattle.std.proofs.lemmas.List.{append-nil, append_assoc}
 use Rattle.ld_base.specs.declared.fault.DlFault.TheVariants as faults
 use Rattle.ld_base.specs.declared.fault.NotAccepted.{NotAccepted}
@@ -12,6 +13,8 @@ use Rattle.ld_base.specs.declared.linking.Choice.TheVariants.{Def, WeakZero, Mis
 use Rattle.ld_base.specs.declared.linking.File.{File}
 use Rattle.ld_base.specs.declared.linking.Loaded.{Loaded}
 use Rattle.ld_base.specs.declared.object.Object.{Object}
+use Rattle.ld_base.specs.declared.object.TlsSeg.{TlsSeg}
+use Rattle.address_space.specs.Pages.{IsFirstFit, page_at}
 use Rattle.ld_base.specs.declared.parts.HashTable.{HashTable}
 use Rattle.library_source.specs.Files.{file_at}
 use Rattle.link_event.specs.declared.event.Event.{Event}
@@ -44,15 +47,15 @@ use Rattle.link_history.specs.Flags.{is_deepbind, is_noload}
 use Rattle.link_history.specs.Grants.{is_bound, is_bound_standing, is_of, is_open, is_open_standing}
 use Rattle.link_history.specs.Legal.{IsOnlyBound, Legal, Settled, Whole}
 use Rattle.link_history.specs.Links.{IsUnneeded, edges, finis_of, found_edges, roots}
-use Rattle.link_history.specs.Lookup.{FindsSymbol, search}
-use Rattle.link_history.specs.Objects.{IsMapped, has, is_startup, mapped, serial_of}
+use Rattle.link_history.specs.Lookup.{FindsSymbol, MayHaveBlock, search}
+use Rattle.link_history.specs.Objects.{IsMapped, has, is_startup, mapped, object_at, serial_of}
 use Rattle.link_history.specs.Opening.{Loads, refused, there, unplaced, wanted}
 use Rattle.link_history.specs.Setting.{Machine, MayHold, MayRead, ReadingsBy, Setting, have_exited, load_of}
 use Rattle.link_history.specs.Slots.{HasBound, HasNoGrant, IsOpenGrant, IsSlot, MayBind, MayLose, value_at_load}
 use Rattle.link_history.specs.Step.{lower, step}
-use Rattle.link_history.specs.Storage.{HaveModules}
+use Rattle.link_history.specs.Storage.{HaveModules, block_align, block_pages, module_of, residue, tls_block}
 use Rattle.link_history.proofs.History.{after_push, legal_push}
-use Rattle.link_history.proofs.InRow.{AreInRow, StandInRow, free_from, given_in_row}
+use Rattle.link_history.proofs.InRow.{AreInRow, StandInRow, fits_next, free_from, given_in_row}
 use Rattle.link_history.proofs.Lists.{at_in, first_or_later, here as first_in, in_any, in_flat, none_in, only_in}
 
 -- ---- one event after another
@@ -422,3 +425,21 @@ pub another_is_found : {hart serial index value : ℕ} (s : State) (ask : SymAsk
 another_is_found {hart} {serial} s ask other at found differs finds =
     let same : other ≡ serial = sym (ap serial_found found) ∙ ap serial_found finds.found in
     true≢false (sym (eq-eqb other serial same) ∙ differs)
+
+-- ---- blocks
+
+-- a first block, which stands in the next pages
+pub may_block : {object : Loaded} {seg : TlsSeg} (s : State) (hart serial first : ℕ) → AreInRow 0 s.ranges first → object_at s serial ≡ Some object → object.object.tls ≡ Some seg
+    → is_some (module_of s serial) ≡ true → tls_block s hart serial ≡ None → block_align seg ≡ 4096 → page_at first % 4096 ≡ 0
+    → (leb 1 (block_pages seg) && leb (first + block_pages seg) 2047) ≡ true → residue seg ≡ 0 → MayHaveBlock s hart serial (page_at first)
+may_block {object} {seg} s hart serial first row mapped storage has_module none align aligned few residue_is = record {
+  seg = seg;
+  wants = record { object = object; mapped = mapped; storage = storage; has_module = has_module; none = none };
+  pages = page_at first;
+  first = subst (λ (n : ℕ). IsFirstFit (free_pages s.ranges) (block_pages seg) n (page_at first)) (sym align)
+      (fits_next (free_pages s.ranges) first (block_pages seg) (free_from s.ranges first row) aligned (leb-true _ _ parts.0) (leb-true _ _ parts.1));
+  is = let zero_is : residue seg ≡ 0 = residue_is in omega (arith, zero_is);
+}
+  where
+    parts : (leb 1 (block_pages seg) ≡ true) × (leb (first + block_pages seg) 2047 ≡ true)
+    parts = and_parts _ _ few

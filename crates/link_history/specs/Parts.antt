@@ -28,6 +28,10 @@ data_pages = record { vaddr = 0; memsz = 0x3000; flags = 6; align = 4096; bytes 
 abbrev pub slots : Segment
 slots = record { vaddr = 0x3000; memsz = 0x20; flags = 6; align = 4096; bytes = [] }
 
+-- two pages of variables
+abbrev pub variables : Segment
+variables = record { vaddr = 0; memsz = 0x2000; flags = 6; align = 4096; bytes = [] }
+
 -- a slot, which is of a symbol
 abbrev pub slot : ℕ → ℕ → Reloc
 slot place symbol = record { place = place; kind = 5; symbol = symbol; addend = pos 0 }
@@ -35,6 +39,10 @@ slot place symbol = record { place = place; kind = 5; symbol = symbol; addend = 
 -- what is defined at an address of the object's own, and what is only named
 abbrev pub defined : List ℕ → ℕ → Symbol
 defined name value = record { name = name; info = 0x10; other = 0; shndx = 1; value = value; size = 0; version = 0 }
+
+-- a variable of thread-local storage, at its place in the block
+abbrev pub stored : List ℕ → ℕ → Symbol
+stored name value = record { name = name; info = 0x16; other = 0; shndx = 1; value = value; size = 0; version = 0 }
 
 abbrev pub undefined : List ℕ → Symbol
 undefined name = record { name = name; info = 0x10; other = 0; shndx = 0; value = 0; size = 0; version = 0 }

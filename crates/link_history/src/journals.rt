@@ -2,6 +2,7 @@
 
 ghost use Rattle.link_history.specs.Cycle as cycle;
 ghost use Rattle.link_history.specs.FirstMatch as matches;
+ghost use Rattle.link_history.specs.Late as late;
 ghost use Rattle.link_history.specs.Legal.{Legal, Whole};
 ghost use Rattle.link_history.specs.Namespaces as apart;
 ghost use Rattle.link_history.specs.Race as race;
@@ -50,4 +51,12 @@ pub fn namespaces_are_apart()
     ensures legal { Legal apart.setting apart.namespaces }
     ensures whole { Whole apart.setting apart.namespaces }
     ensures other_namespace { Legal apart.setting apart.other_namespace → ⊥ }
+{}
+
+/// A late library has thread-local storage: each hart gets its own block at its first use, and closed
+/// and opened again the library has its module's number, its pages and its block's as before. The
+/// journal is legal. It isn't legal that a hart is given the variable in another hart's block.
+pub fn late_blocks_are_apart()
+    ensures legal { Legal late.setting late.late }
+    ensures other_block { Legal late.setting late.other_block → ⊥ }
 {}
