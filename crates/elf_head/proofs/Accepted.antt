@@ -1,5 +1,5 @@
 -- What the head of an accepted file keeps.
-use Rattle.std.proofs.Common.{◌≡◌, ap, ℕ, ◌+◌, ◌-◌, ◌≤◌, ◌<◌, ◌^◌, true, false, List, [], ◌++◌, length, take, drop, get_or, refl, arith, length-drop}
+use Rattle.std.proofs.Common.{◌≡◌, ap, ℕ, ◌-◌, ◌≤◌, ◌<◌, true, false, List, ◌++◌, length, take, drop, get_or, refl, arith, length-drop}
 use Rattle.std.specs.Prelude.{Option, Some, None, Ok, slice_range}
 use Rattle.std.specs.Option.{option_or}
 use Rattle.std.proofs.lemmas.Bool.{ltb-false}

@@ -1,7 +1,7 @@
 -- A verdict and the relations that say what it means.
-use Rattle.std.proofs.Common.{◌≡◌, ◌⊎◌, ◌∙◌, sym, ap, subst, ℕ, zero, suc, ◌+◌, ◌<◌, Bool, true, false, List, ◌++◌, length, refl, arith, inl, inr}
+use Rattle.std.proofs.Common.{◌≡◌, ◌⊎◌, ◌∙◌, sym, subst, ℕ, zero, suc, ◌<◌, Bool, true, false, List, ◌++◌, length, refl, arith, inl, inr}
 use Rattle.std.specs.Prelude.{Option, Some, None, Ok, Err, ◌↔◌, if◌then◌else◌}
-use Rattle.std.specs.List.{slice_get, list_any}
+use Rattle.std.specs.List.{list_any}
 use Rattle.std.specs.Option.{option_or}
 use Rattle.std.proofs.lemmas.Bool.{cases_eq, cases_lt}
 use Rattle.std.proofs.lemmas.Option.{slice_get_past}
@@ -18,7 +18,7 @@ use Rattle.acceptance.specs.Broken.{broken_if}
 use Rattle.acceptance.specs.First.{NoneBroken}
 use Rattle.elf_head.specs.Header.{header_at, header_count, headers_of, is_loaded, table_start}
 use Rattle.acceptance.specs.Least.{least_below}
-use Rattle.elf_head.specs.Rules.{file_rules, head_broken, head_of, head_verdict, header_rules, is_not_linked, kind_of}
+use Rattle.elf_head.specs.Rules.{file_rules, head_broken, head_of, head_verdict, header_rules, kind_of}
 use Rattle.elf_head.specs.Segments.{bad_segment, is_bad_at}
 use Rattle.elf_head.specs.Verdict.{Breaks, BreaksFirst, IsFirstBad, SpellsHead}
 use Rattle.elf_head.specs.Verdict.Breaks.{too_short, not_elf, not_class64_little, not_riscv, not_linked, needs_an_extension, bad_program_headers, bad_segment_at, too_big}

@@ -1,8 +1,8 @@
 -- Where the bytes of a readable range stand in a file that is accepted.
-use Rattle.std.proofs.Common.{◌≡◌, ◌∙◌, sym, ℕ, ◌+◌, ◌≤◌, ◌<◌, ◌^◌, true, false, get_or, List, length, take, arith, ap, ◌++◌, refl, Bor}
-use Rattle.std.specs.Prelude.{Option, Some, None, Ok, find, is_some, ◌==◌}
+use Rattle.std.proofs.Common.{◌≡◌, ◌∙◌, sym, ℕ, ◌+◌, ◌≤◌, ◌<◌, ◌^◌, true, false, get_or, List, length, arith, ap, Bor}
+use Rattle.std.specs.Prelude.{Option, Some, Ok, find, is_some, ◌==◌}
 use Rattle.std.specs.List.{slice_get, position_or_len}
-use Rattle.std.specs.Option.{option_copied, option_or}
+use Rattle.std.specs.Option.{option_copied}
 use Rattle.std.proofs.lemmas.List.Folds.{find_at}
 use Rattle.std.proofs.lemmas.Option.{slice_get_within, get_or_from_slice_get}
 use Rattle.ld_base.specs.declared.parts.Head.{Head}

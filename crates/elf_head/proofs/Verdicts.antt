@@ -1,11 +1,10 @@
 -- The first broken rule, rule by rule.
-use Rattle.std.proofs.Common.{◌≡◌, ◌∙◌, ℕ, zero, suc, ◌+◌, ◌*◌, ◌≤◌, ◌<◌, Bool, true, false, List, [], ◌∷◌, ◌++◌, length, refl, ap, sym, arith, add-zero}
-use Rattle.std.specs.Prelude.{Option, None, Some, Ok, Err}
-use Rattle.std.specs.List.{slice_get}
-use Rattle.std.specs.Option.{option_map, option_or, option_map_or}
+use Rattle.std.proofs.Common.{◌≡◌, ℕ, ◌+◌, ◌*◌, ◌≤◌, false, List, length, refl, arith}
+use Rattle.std.specs.Prelude.{None, Some, Ok, Err}
+use Rattle.std.specs.Option.{option_or}
 use Rattle.ld_base.specs.declared.fault.NotAccepted.{NotAccepted}
 use Rattle.ld_base.specs.declared.parts.Head.{Head}
-use Rattle.acceptance.specs.Broken.{broken_if, first_broken}
+use Rattle.acceptance.specs.Broken.{first_broken}
 use Rattle.acceptance.proofs.Firsts.{first_of_both, test_kept, verdict_err_is, verdict_ok_is}
 use Rattle.elf_head.specs.Header.{table_start, header_count}
 use Rattle.elf_head.specs.Rules.{is_too_short, has_bad_program_headers, header_rules, file_rules, head_broken, head_of, head_verdict}
