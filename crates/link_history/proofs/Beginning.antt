@@ -1,9 +1,9 @@
 -- The words that slots begin with.
-use Rattle.std.proofs.Common.{◌≡◌, ◌⊎◌, inl, inr, ⊎_elim, ℕ, zero, suc, ◌+◌, ◌-◌, ◌*◌, ◌^◌, ◌<◌, ◌≤◌, Bool, true, false, not, ◌||◌, eqb, leb, ltb, List, [], ◌∷◌, map, length, drop, get_or, Option, Some, None, refl, sym, ap, subst, ◌∙◌, arith}
+use Rattle.std.proofs.Common.{◌≡◌, ℕ, zero, suc, ◌+◌, ◌-◌, ◌*◌, ◌^◌, ◌<◌, ◌≤◌, Bool, true, false, not, ◌||◌, eqb, List, [], ◌∷◌, length, drop, get_or, Option, Some, None, refl, sym, ap, subst, ◌∙◌, arith}
 use Rattle.std.specs.Prelude.{if◌then◌else◌}
-use Rattle.std.specs.List.{Contains, find, slice_get, zip}
+use Rattle.std.specs.List.{Contains, slice_get, zip}
 use Rattle.std.specs.Option.{option_and_then, option_map_or}
-use Rattle.std.proofs.lemmas.Bool.{eq-eqb, true≢false}
+use Rattle.std.proofs.lemmas.Bool.{eq-eqb}
 use Rattle.std.proofs.lemmas.Option.{get_or_from_slice_get, slice_get-get_or, slice_get_within}
 use Rattle.ld_base.specs.declared.linking.Role.TheVariants.{None as NoRole, Ro, Rx, Rw, Slot}
 use Rattle.ld_base.specs.declared.object.Object.{Object}
@@ -101,9 +101,11 @@ module _ (pages : PageLaws) (slots : SlotLaw) (s : State) (m : Mapped s) (tied :
       let tie = tied i there in
       let d : Option ℕ = None in
       let here : slice_get tie.chosen.values k ≡ Some (get_or tie.chosen.values k d) = slice_get-get_or tie.chosen.values k d (let count = tie.count in let less = inside_slots in omega (arith, count, less)) in
-      let b = get_map bound_value (drop (length o.relocs) i.bindings) k (get_or tie.chosen.values k d) (ap (λ (vs : List (Option ℕ)). slice_get vs k) tie.values ∙ here) in
-      (b.0, zip_both o.plt_relocs (drop (length o.relocs) i.bindings) k r b.0 at b.1,
-      ap (λ (found : Option Chosen). option_and_then (λ c. option_and_then (λ v. v) (slice_get c.values k)) found) tie.found ∙ ap (option_and_then (λ v. v)) here ∙ sym b.2)
+      let b = get_map bound_value (drop (length o.relocs) i.bindings) k (get_or tie.chosen.values k d) (ap (λ (vs : List (Option ℕ)). slice_get vs k) tie.values ∙ here) in (
+        b.0,
+        zip_both o.plt_relocs (drop (length o.relocs) i.bindings) k r b.0 at b.1,
+        ap (λ (found : Option Chosen). option_and_then (λ c. option_and_then (λ v. v) (slice_get c.values k)) found) tie.found ∙ ap (option_and_then (λ v. v)) here ∙ sym b.2,
+      )
 
   -- the slot's word is that of its binding
   holds : (b : Binding) → slice_get (slots_of o i.bindings) k ≡ Some (r, b) → (b.bound ≡ true → b.value < 2 ^ 64) → word_at s (slot_address i r) ≡ slot_word o i.base r b

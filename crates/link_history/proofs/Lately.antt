@@ -1,33 +1,25 @@
 -- A late library with thread-local storage, event by event.
-use Rattle.std.proofs.Common.{take, ◌≡◌, ℕ, ◌≤◌, inl, List, [], ◌∷◌, map, Some, None, refl, sym, ap, ◌∙◌, arith}
+use Rattle.std.proofs.Common.{take, ◌≡◌, ℕ, inl, List, [], ◌∷◌, map, Some, refl, sym, ap, ◌∙◌, arith}
 use Rattle.std.specs.Prelude.{◌+◌, ◌%◌, ◌^◌, codes, unwrap_or}
 use Rattle.std.proofs.lemmas.Bool.{true≢false}
 use Rattle.ld_base.specs.declared.linking.File.{File}
 use Rattle.link_event.specs.declared.event.CloseAnswer.TheVariants as closes
-use Rattle.link_event.specs.declared.event.Event.TheVariants.{Close, Unmapped, Sym, Tls, Init, Fini, Wrote}
+use Rattle.link_event.specs.declared.event.Event.TheVariants.{Close, Unmapped, Sym, Tls, Init, Fini}
 use Rattle.link_event.specs.declared.event.SymAnswer.TheVariants.{Found}
-use Rattle.link_event.specs.declared.hart_end.HartEnd.TheVariants.{Exit}
 use Rattle.scope_rule.specs.Breadth.{breadth}
-use Rattle.scope_rule.specs.Choose.{choose_for, pick_at}
-use Rattle.scope_rule.specs.Linker.{linker_symbol}
+use Rattle.scope_rule.specs.Choose.{pick_at}
 use Rattle.scope_rule.specs.Load.{find_opened, find_path, finds, step as load_step}
-use Rattle.scope_rule.specs.Relocation.{choice_at}
-use Rattle.scope_rule.specs.Scope.{scope}
 use Rattle.scope_rule.specs.Searching.{in_breadth}
-use Rattle.seg_image.specs.Pages.{align_of, guest_address, high_of, low_of, own_address, pages_of, segment_at}
-use Rattle.seg_image.specs.Roles.{role_of}
-use Rattle.seg_image.specs.Words.{file_byte, file_word, word_of}
-use Rattle.relocator.specs.Relocated.{moved_word}
+use Rattle.seg_image.specs.Pages.{align_of, high_of, low_of, own_address, pages_of}
 use Rattle.link_history.specs.State.{State, start}
-use Rattle.link_history.specs.Addresses.{address, is_code_of, leads_to_code}
 use Rattle.link_history.specs.After.{after_from}
 use Rattle.link_history.specs.Allowed.{Allowed, AllowedIn, ByClosing}
-use Rattle.link_history.specs.Lookup.{FindsSymbol, MayAnswer, MayHaveBlock, search}
+use Rattle.link_history.specs.Lookup.{MayAnswer, search}
 use Rattle.link_history.specs.Storage.{tls_block, tp_of}
 use Rattle.tls_blocks.specs.Numbers.{IsLeastFree}
-use Rattle.link_history.specs.Legal.{Legal, Whole}
+use Rattle.link_history.specs.Legal.{Legal}
 use Rattle.link_history.specs.Parts.{file_of}
-use Rattle.link_history.specs.Late.{before, late, libt, opens_libt, other_block, prog, setting, startup, v_of}
+use Rattle.link_history.specs.Late.{late, libt, opens_libt, other_block, prog, setting, startup, v_of}
 use Rattle.link_history.specs.Relocating.{relocation_fault}
 use Rattle.link_history.specs.Step.{die, initialise, loaded, lower, step, unmap}
 use Rattle.link_history.specs.Links.{edges, roots}

@@ -1,10 +1,9 @@
 -- Openings count, and what is opened or global is there and isn't dying.
-use Rattle.std.proofs.Common.{◌≡◌, ◌⊎◌, inl, inr, ⊎_elim, ℕ, zero, suc, ◌+◌, ◌-◌, ◌<◌, ◌≤◌, Bool, true, false, not, eqb, List, [], ◌∷◌, ◌++◌, map, refl, sym, ap, subst, ◌∙◌, arith}
+use Rattle.std.proofs.Common.{◌≡◌, inl, inr, ⊎_elim, ℕ, zero, suc, ◌+◌, ◌≤◌, Bool, true, false, not, eqb, List, [], ◌∷◌, ◌++◌, map, refl, sym, subst, ◌∙◌, arith}
 use Rattle.std.specs.Prelude.{if◌then◌else◌}
-use Rattle.std.specs.List.{Contains, filter, list_any}
+use Rattle.std.specs.List.{Contains, list_any}
 use Rattle.std.proofs.lemmas.Bool.{cases_Bool, eq-eqb, not-true, true≢false}
 use Rattle.std.proofs.lemmas.List.Elements.{Contains-push_cases}
-use Rattle.ld_base.specs.declared.linking.Loaded.{Loaded}
 use Rattle.link_event.specs.declared.event.Event.{Event}
 use Rattle.scope_rule.specs.Loading.{is_dying}
 use Rattle.scope_rule.specs.Opening.{opened, opens_after, raised}
@@ -16,7 +15,7 @@ use Rattle.link_history.specs.Flags.{is_global}
 use Rattle.link_history.specs.Laws.{Lives, OpeningsStand}
 use Rattle.link_history.specs.Legal.{Lawful}
 use Rattle.link_history.specs.Setting.{Machine}
-use Rattle.link_history.specs.Step.{die, dying_in, gone_in, initialise, is_left, loaded, lower, lowered_in, lowered_open, namespace_before, ready_in, unmap, with_namespace}
+use Rattle.link_history.specs.Step.{die, dying_in, initialise, loaded, lower, lowered_in, lowered_open, namespace_before, ready_in, unmap}
 use Rattle.link_history.proofs.Lists.{from_filter, from_map, none_in, only_in}
 use Rattle.link_history.proofs.Brought.{LoadLaws}
 use Rattle.link_history.proofs.Closed.{each_left}
@@ -84,13 +83,18 @@ counting_law = record {
 lives : (s : State) → Once (core s) → (ns : Namespace) (d : ℕ) → Contains s.namespaces ns → Stays s.closings ns d → Lives ns d
 lives s once ns d there stays = ⊎_elim
     (λ (e : d ≡ 0). inl e)
-    (λ (h : Has ns d × Free s.closings d). inr (h.0.0, h.0.1, h.0.2, ⊎_elim
-      (λ (dying : is_dying h.0.0 ≡ true).
-      let by = by_whom h.0.0.state dying in
-      let k = once.only ns h.0.0 by.0 there h.0.1 by.1 in
-      absurd (h.1 k.0 k.1 (subst (Contains k.0.set) h.0.2 k.3)))
-      (λ (alive : is_dying h.0.0 ≡ false). alive)
-      (cases_Bool (is_dying h.0.0))))
+    (λ (h : Has ns d × Free s.closings d). inr (
+      h.0.0,
+      h.0.1,
+      h.0.2,
+      ⊎_elim
+          (λ (dying : is_dying h.0.0 ≡ true).
+          let by = by_whom h.0.0.state dying in
+          let k = once.only ns h.0.0 by.0 there h.0.1 by.1 in
+          absurd (h.1 k.0 k.1 (subst (Contains k.0.set) h.0.2 k.3)))
+          (λ (alive : is_dying h.0.0 ≡ false). alive)
+          (cases_Bool (is_dying h.0.0)),
+    ))
     stays
 
 pub openings_stand : LoadLaws → (m : Machine) (journal : List Event) → Lawful m journal → OpeningsStand (after journal)

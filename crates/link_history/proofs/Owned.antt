@@ -1,12 +1,10 @@
 -- Each range is an object's, a hart's stack or static area, or a block's: of an image or a block that is there.
-use Rattle.std.proofs.Common.{◌≡◌, ◌⊎◌, inl, inr, ⊎_elim, ℕ, Bool, true, false, not, List, [], ◌∷◌, ◌++◌, map, length, Option, Some, None, refl, sym, ap, subst, ◌∙◌}
+use Rattle.std.proofs.Common.{◌≡◌, ⊎_elim, ℕ, Bool, true, false, not, List, [], ◌∷◌, ◌++◌, map, Option, Some, None, refl, sym, ap, subst, ◌∙◌}
 use Rattle.std.specs.Prelude.{if◌then◌else◌}
 use Rattle.std.specs.List.{Contains, filter, range_with_len}
-use Rattle.std.proofs.lemmas.Bool.{not-true, true≢false}
 use Rattle.std.proofs.lemmas.List.Elements.{Contains-append_cases, Contains-append_left, Contains-append_right, Contains-push}
 use Rattle.address_space.specs.Pages.{without}
 use Rattle.ld_base.specs.declared.linking.Loaded.{Loaded}
-use Rattle.ld_base.specs.declared.object.TlsSeg.{TlsSeg}
 use Rattle.link_event.specs.declared.event.CloseAnswer.TheVariants as closes
 use Rattle.link_event.specs.declared.event.Event.{Event}
 use Rattle.link_event.specs.declared.event.Event.TheVariants as events
@@ -28,7 +26,7 @@ use Rattle.link_history.specs.Lookup.{MayHaveBlock}
 use Rattle.link_history.specs.Objects.{has, is_startup}
 use Rattle.link_history.specs.Opening.{Opens, OpensName}
 use Rattle.link_history.specs.Setting.{Machine, Setting}
-use Rattle.link_history.specs.Step.{binds, block_range, block_ranges, die, goes_with, initialise, loaded, lower, seen_after, step, unmap}
+use Rattle.link_history.specs.Step.{binds, block_ranges, die, goes_with, initialise, loaded, lower, seen_after, step, unmap}
 use Rattle.link_history.specs.Storage.{statics_with}
 use Rattle.link_history.proofs.History.{by_lawful}
 use Rattle.link_history.proofs.Lists.{first_or_later, from_filter, from_map, here, in_filter, in_map, later, none_in, only_in}
@@ -133,9 +131,11 @@ owned_block s hart serial address may owned =
       block = λ b there. ⊎_elim
           (λ (old : Contains s.blocks b). let at = owned.block b old in (at.0, Contains-append_left s.ranges (block_ranges s hart serial address) at.0 at.1, at.2))
           (λ (e : Contains (new ∷ []) b).
-          let is : new ≡ b = only_in new b e in
-          (free.0, Contains-append_right s.ranges (block_ranges s hart serial address) free.0 (subst (λ (rs : List Range). Contains rs free.0) (sym free.1) (here free.0 [])),
-          purpose ∙ ap (λ (x : Block). purposes.Block x.hart x.serial) is))
+          let is : new ≡ b = only_in new b e in (
+            free.0,
+            Contains-append_right s.ranges (block_ranges s hart serial address) free.0 (subst (λ (rs : List Range). Contains rs free.0) (sym free.1) (here free.0 [])),
+            purpose ∙ ap (λ (x : Block). purposes.Block x.hart x.serial) is,
+          ))
           (Contains-append_cases s.blocks (new ∷ []) b there);
     }
   where

@@ -300,9 +300,49 @@ unmaps = may_unmap libf_finished 1 1 2 (3 ∷ 4 ∷ []) refl refl refl refl refl
 
 pub closed_legal : Legal setting closed_under_grant
 unfolding loaded initialise lower die
-closed_legal = legal_by setting closed_under_grant
-    (may_start, (finds_h1, (grants_dlopen, (binds_dlopen, (may_open_libo, (inits_libf, (inits_libo, (grants_dlsym, (binds_dlsym, (finds_go, (inits_prog, (grants_first, (may_open_libg, (inits_libg,
-    (closes_libo, (binds_first, (closes_libg, (inl closing_libg, (inl closing_libo, (inl closing_libf, (unmaps, tt)))))))))))))))))))))
+closed_legal = legal_by setting closed_under_grant (
+  may_start,
+  (
+    finds_h1,
+    (
+      grants_dlopen,
+      (
+        binds_dlopen,
+        (
+          may_open_libo,
+          (
+            inits_libf,
+            (
+              inits_libo,
+              (
+                grants_dlsym,
+                (
+                  binds_dlsym,
+                  (
+                    finds_go,
+                    (
+                      inits_prog,
+                      (
+                        grants_first,
+                        (
+                          may_open_libg,
+                          (
+                            inits_libg,
+                            (closes_libo, (binds_first, (closes_libg, (inl closing_libg, (inl closing_libo, (inl closing_libf, (unmaps, tt))))))),
+                          ),
+                        ),
+                      ),
+                    ),
+                  ),
+                ),
+              ),
+            ),
+          ),
+        ),
+      ),
+    ),
+  ),
+)
 
 pub owner_stays : Legal setting owner_dies → ⊥
 unfolding Legal loaded initialise after_from lower edges roots breadth

@@ -1,15 +1,14 @@
 -- In a whole history each lost grant of a slot saw the slot's one value.
-use Rattle.std.proofs.Common.{◌≡◌, ◌⊎◌, inl, inr, ⊎_elim, ℕ, ◌&&◌, eqb, List, Some, None, refl, sym, ap, subst, ◌∙◌}
+use Rattle.std.proofs.Common.{◌≡◌, ◌⊎◌, inl, inr, ℕ, eqb, List, Some, None, sym, ap, subst, ◌∙◌}
 use Rattle.std.specs.List.{Contains}
 use Rattle.std.proofs.lemmas.Bool.{and_from, and_parts, eq-eqb, eqb-true}
 use Rattle.link_event.specs.declared.event.Event.{Event}
 use Rattle.link_event.specs.declared.state.Granting.{Granting}
-use Rattle.link_event.specs.declared.state.Standing.TheVariants.{Bound, Lost}
+use Rattle.link_event.specs.declared.state.Standing.TheVariants.{Bound}
 use Rattle.link_history.specs.State.{State}
 use Rattle.link_history.specs.After.{after}
-use Rattle.link_history.specs.Grants.{is_of}
 use Rattle.link_history.specs.Laws.{GrantsAreTidy, LostSawTheValue}
-use Rattle.link_history.specs.Legal.{IsOnlyBound, IsWhole, Legal, Settled, Whole}
+use Rattle.link_history.specs.Legal.{IsOnlyBound, Legal, Whole}
 use Rattle.link_history.specs.Objects.{IsMapped}
 use Rattle.link_history.specs.Setting.{Setting}
 use Rattle.link_history.specs.Slots.{value_at_load}

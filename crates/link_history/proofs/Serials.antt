@@ -15,11 +15,11 @@ use Rattle.link_history.specs.Flags.{is_global}
 use Rattle.link_history.specs.Laws.{SerialsAreInOrder}
 use Rattle.link_history.specs.Legal.{Lawful}
 use Rattle.link_history.specs.Objects.{has, serial_of}
-use Rattle.link_history.specs.Opening.{Opens, OpensName}
+use Rattle.link_history.specs.Opening.{OpensName}
 use Rattle.link_history.specs.Setting.{Machine, Setting}
-use Rattle.link_history.specs.Step.{die, dying_in, dying_object, gone_in, initialise, is_left, loaded, loading_of, lower, lowered_in, namespace_before, ready_in, ready_object, unmap, with_namespace}
+use Rattle.link_history.specs.Step.{die, dying_in, dying_object, initialise, loaded, loading_of, lower, lowered_in, namespace_before, ready_in, ready_object, unmap}
 use Rattle.link_history.proofs.Lists.{at_in, first_or_later, from_map, here, later, none_in, only_in}
-use Rattle.link_history.proofs.Arrived.{Arrived, old_low}
+use Rattle.link_history.proofs.Arrived.{old_low}
 use Rattle.link_history.proofs.Brought.{LoadLaws, added_serials}
 use Rattle.link_history.proofs.Changed.{Leaves, leaves_dying, leaves_ready}
 use Rattle.link_history.proofs.Closed.{each_left}
