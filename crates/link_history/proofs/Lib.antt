@@ -18,6 +18,7 @@ pub mod Granted
 pub mod History
 pub mod Imaged
 pub mod InRow
+pub mod Initialised
 pub mod Lately
 pub mod Lazy
 pub mod LeftOut
@@ -27,6 +28,7 @@ pub mod Map
 pub mod Matched
 pub mod Modular
 pub mod Moduled
+pub mod Offsets
 pub mod Once
 pub mod Opened
 pub mod Openings

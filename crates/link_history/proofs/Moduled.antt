@@ -1,5 +1,5 @@
 -- Modules are in the order of their numbers, each is that of a mapped object, and each mapped object with thread-local storage has its module.
-use Rattle.std.proofs.Common.{◌≡◌, ◌⊎◌, inl, inr, ⊎_elim, ℕ, ◌<◌, ◌≤◌, Bool, not, ltb, List, [], ◌∷◌, map, length, Option, Some, None, refl, sym, ap, subst, ◌∙◌, arith}
+use Rattle.std.proofs.Common.{◌≡◌, ◌⊎◌, inl, inr, ⊎_elim, ℕ, ◌<◌, ◌≤◌, Bool, not, ltb, List, [], ◌∷◌, map, length, Option, Some, None, refl, sym, ap, subst, ◌∙◌, arith, ◌++◌}
 use Rattle.std.specs.List.{Contains, filter}
 use Rattle.std.specs.Option.{is_some}
 use Rattle.std.proofs.lemmas.Bool.{cases_lt, lt-ltb}
@@ -27,7 +27,7 @@ use Rattle.link_history.specs.State.{State, Statics, empty_namespace}
 use Rattle.link_history.specs.After.{after}
 use Rattle.link_history.specs.Allowed.{AllowedIn}
 use Rattle.link_history.specs.Flags.{is_global}
-use Rattle.link_history.specs.Laws.{ModulesAreTidy}
+use Rattle.link_history.specs.Laws.{ModulesAreTidy, TakesLeast}
 use Rattle.link_history.specs.Legal.{Lawful}
 use Rattle.link_history.specs.Objects.{has, is_startup}
 use Rattle.link_history.specs.Opening.{MayOpen, Opens, OpensName}
@@ -130,7 +130,7 @@ module _ (startup : Bool) where
       (λ (i : Contains rest a). all_new (with_place o modules) _ rest have.1 a place i e)
       (first_or_later o rest a h)
 
-  all_from : (modules : List Module) (added : List Loaded) (x : Module) → Contains (with_modules added modules) x
+  pub all_from : (modules : List Module) (added : List Loaded) (x : Module) → Contains (with_modules added modules) x
       → Contains modules x ⊎ ((a : Loaded) × Contains added a × ((place : TlsPlace) × (a.«module» ≡ Some place) × (module_of_place a.serial place ≡ x)))
   all_from modules [] x h = inl h
   all_from modules (o ∷ rest) x h = ⊎_elim
@@ -141,16 +141,11 @@ module _ (startup : Bool) where
       (λ (i : (a : Loaded) × Contains rest a × ((place : TlsPlace) × (a.«module» ≡ Some place) × (module_of_place a.serial place ≡ x))). inr (i.0, later o rest i.0 i.1, i.2))
       (all_from (with_place o modules) rest x h)
 
-  -- below a new number each is taken
-  all_taken : (modules : List Module) (st : Statics) (added : List Loaded) → HaveModules startup modules st added → (a : Loaded) (place : TlsPlace) → Contains added a → a.«module» ≡ Some place
-      → (n : ℕ) → 1 ≤ n → n < place.number → IsTaken (with_modules added modules) n
-  all_taken modules st [] have a place h e n low high = absurd (none_in a h)
-  all_taken modules st (o ∷ rest) have a place h e n low high = ⊎_elim
-      (λ (is : o ≡ a).
-      let at = (least_of startup modules st o.serial o.object.tls place (subst (IsPlaceOf startup modules st o.serial o.object.tls) (ap (λ (q : Loaded). q.«module») is ∙ e) have.0)).least n low high in
-      (at.0, all_keep modules st (o ∷ rest) have at.0 at.1, at.2))
-      (λ (i : Contains rest a). all_taken (with_place o modules) _ rest have.1 a place i e n low high)
-      (first_or_later o rest a h)
+  -- each new number is the least that is free then
+  least_in_order : (modules : List Module) (st : Statics) (before behind : List Loaded) (o : Loaded) (place : TlsPlace) → HaveModules startup modules st (before ++ o ∷ behind) → o.«module» ≡ Some place
+      → IsLeastFree (with_modules before modules) place.number
+  least_in_order modules st [] behind o place have e = least_of startup modules st o.serial o.object.tls place (subst (IsPlaceOf startup modules st o.serial o.object.tls) e have.0)
+  least_in_order modules st (x ∷ before) behind o place have e = least_in_order (with_place x modules) _ before behind o place have.1 e
 
   all_numbered : NumberLaws → (modules : List Module) (st : Statics) (added : List Loaded) → HaveModules startup modules st added → AreNumbered modules → AreNumbered (with_modules added modules)
   all_numbered laws modules st [] have numbered = numbered
@@ -243,7 +238,7 @@ moduled_unmap laws set all modules moduled = record {
 abbrev ModuledIn : State → Type 0
 ModuledIn s = Moduled s.namespaces s.modules
 
-have_modules : (w : Setting) (s : State) (hart : ℕ) (ask : OpenAsk) (id root : ℕ) (added : List Loaded) (ranges : List Range) (name : Option (List ℕ)) → OpensName w s hart ask name id root added ranges
+pub have_modules : (w : Setting) (s : State) (hart : ℕ) (ask : OpenAsk) (id root : ℕ) (added : List Loaded) (ranges : List Range) (name : Option (List ℕ)) → OpensName w s hart ask name id root added ranges
     → HaveModules (is_startup s) s.modules s.statics added
 have_modules w s hart ask id root added ranges (Some name) loads = loads.storage.modules
 have_modules w s hart ask id root added ranges None program = subst (HaveModules (is_startup s) s.modules s.statics) (sym program.none) tt
@@ -283,7 +278,7 @@ module _ (laws : NumberLaws) where
   moduled_step w past s (events.Told hart fault) may moduled = moduled
   moduled_step w past s (events.Ended hart reason) may moduled = moduled
 
-  moduled_after : (m : Machine) (journal : List Event) → Lawful m journal → ModuledIn (after journal)
+  pub moduled_after : (m : Machine) (journal : List Event) → Lawful m journal → ModuledIn (after journal)
   moduled_after m journal lawful =
       subst (λ (es : List Event). ModuledIn (after es)) (take_all (length journal) journal (omega arith))
       (by_history m ModuledIn
@@ -295,29 +290,9 @@ module _ (laws : NumberLaws) where
       })
       (λ w past e same moduled may. moduled_step w past (after past) e may moduled) journal lawful (length journal))
 
--- ---- the laws
+-- ---- new modules
 
-pub modules_tidy : NumberLaws → LoadLaws → (m : Machine) (journal : List Event) → Lawful m journal → ModulesAreTidy (after journal)
-modules_tidy numbers loads m journal lawful =
-    let moduled = moduled_after numbers m journal lawful in
-    let alone = alone_after loads m journal lawful in
-    record {
-      numbered = moduled.numbered;
-      mapped = λ x h. let at = moduled.mapped x h in record { namespace = at.0; object = at.1; inside = record { there = at.2; inside = at.3 }; place = at.4.0; has = at.4.1; is = at.4.2 };
-      there = λ ns o place inside e. moduled.there ns o place inside.there inside.inside e;
-      some = λ ns o inside. moduled.some ns o inside.there inside.inside;
-      one = λ x y first second same.
-          let a = moduled.mapped x first in
-          let b = moduled.mapped y second in
-          let serial : a.1.serial ≡ b.1.serial = ap (λ (q : Module). q.serial) a.4.2 ∙ same ∙ sym (ap (λ (q : Module). q.serial) b.4.2) in
-          let object : a.1 ≡ b.1 = one_object (after journal) alone.0 alone.1 a.0 b.0 a.1 b.1 a.2 a.3 b.2 b.3 serial in
-          let both : Some a.4.0 ≡ Some b.4.0 = sym a.4.1 ∙ ap (λ (q : Loaded). q.«module») object ∙ b.4.1 in
-          let place : a.4.0 ≡ b.4.0 = cc in
-          sym a.4.2 ∙ ap (λ (q : Loaded). module_of_place q.serial a.4.0) object ∙ ap (module_of_place b.1.serial) place ∙ b.4.2;
-    }
-
-pub new_numbers : (w : Setting) (s : State) (hart : ℕ) (ask : OpenAsk) (id root : ℕ) (added : List Loaded) (ranges : List Range) → Opens w s hart ask id root added ranges
-    → (a : Loaded) (place : TlsPlace) → Contains added a → a.«module» ≡ Some place → (n : ℕ) → 1 ≤ n → n < place.number → IsTaken (step s (events.Open hart ask (opens.Done id root added ranges))).modules n
-unfolding loaded
-new_numbers w s hart ask id root added ranges may a place new e n low high =
-    all_taken (is_startup s) s.modules s.statics added (have_modules w s hart ask id root added ranges ask.name may.name) a place new e n low high
+pub new_numbers : (w : Setting) (s : State) (hart : ℕ) (ask : OpenAsk) (id root : ℕ) (added : List Loaded) (ranges : List Range) → Opens w s hart ask id root added ranges → TakesLeast s added
+new_numbers w s hart ask id root added ranges may before behind o place are e =
+    least_in_order (is_startup s) s.modules s.statics before behind o place
+    (subst (HaveModules (is_startup s) s.modules s.statics) are (have_modules w s hart ask id root added ranges ask.name may.name)) e

@@ -1,7 +1,8 @@
 -- Serials are in order.
 use Rattle.std.proofs.Common.{◌≡◌, ◌⊎◌, inl, inr, ⊎_elim, ℕ, zero, suc, ◌+◌, ◌<◌, ◌≤◌, Bool, true, false, not, cond, List, [], ◌∷◌, ◌++◌, map, length, Option, Some, None, refl, sym, ap, subst, ◌∙◌, arith}
+use Rattle.link_history.proofs.Imaged.{objects_open}
 use Rattle.std.specs.List.{Contains, filter, range_with_len, slice_get}
-use Rattle.std.proofs.lemmas.List.Elements.{Contains-append_cases}
+use Rattle.std.proofs.lemmas.List.Elements.{Contains-append_cases, Contains-append_left, Contains-append_right}
 use Rattle.ld_base.specs.declared.linking.Loaded.{Loaded}
 use Rattle.link_event.specs.declared.event.Event.{Event}
 use Rattle.link_event.specs.declared.event.OpenAsk.{OpenAsk}
@@ -18,11 +19,11 @@ use Rattle.link_history.specs.Objects.{has, serial_of}
 use Rattle.link_history.specs.Opening.{OpensName}
 use Rattle.link_history.specs.Setting.{Machine, Setting}
 use Rattle.link_history.specs.Step.{die, dying_in, dying_object, initialise, loaded, loading_of, lower, lowered_in, namespace_before, ready_in, ready_object, unmap}
-use Rattle.link_history.proofs.Lists.{at_in, first_or_later, from_map, here, later, none_in, only_in}
+use Rattle.link_history.proofs.Lists.{at_in, first_or_later, from_map, here, later, none_in, only_in, in_map}
 use Rattle.link_history.proofs.Arrived.{old_low}
 use Rattle.link_history.proofs.Brought.{LoadLaws, added_serials}
 use Rattle.link_history.proofs.Changed.{Leaves, leaves_dying, leaves_ready}
-use Rattle.link_history.proofs.Closed.{each_left}
+use Rattle.link_history.proofs.Closed.{each_left, stayed}
 use Rattle.link_history.proofs.Good.{Core, Good, core, each_mapped}
 use Rattle.link_history.proofs.Opened.{before_of, members}
 use Rattle.link_history.proofs.Steps.{Law, by_law}
@@ -82,7 +83,12 @@ in_order n (x ∷ rest) rising (suc i) (suc j) o p first second lt = in_order (x
 
 -- ---- the invariant
 
+-- a loading has the serial
+abbrev pub OfLoading : List Loading → ℕ → Type 0
+OfLoading loadings d = (l : Loading) × Contains loadings l × Contains l.serials d
+
 pub record InOrder (c : Core) : Type 0 where
+  pub of : (ns : Namespace) (o : Loaded) → Contains c.namespaces ns → Contains ns.objects o → OfLoading c.loadings o.serial
   pub rising : (ns : Namespace) → Contains c.namespaces ns → Rising 0 ns.objects
   pub low : (l : Loading) (d : ℕ) → Contains c.loadings l → Contains l.serials d → d < c.next
   pub one : (l k : Loading) (d : ℕ) → Contains c.loadings l → Contains c.loadings k → Contains l.serials d → Contains k.serials d → l ≡ k
@@ -107,15 +113,31 @@ one_loading : (hart : ℕ) (added : List Loaded) (l k : Loading) → Contains (l
 one_loading hart [] l k h i = absurd (none_in l h)
 one_loading hart (o ∷ rest) l k h i = sym (only_in _ l h) ∙ only_in _ k i
 
+loading_new : (hart : ℕ) (added : List Loaded) (a : Loaded) → Contains added a → OfLoading (loading_of hart added) a.serial
+loading_new hart [] a h = absurd (none_in a h)
+loading_new hart (o ∷ rest) a h = (_, here _ [], in_map serial_of (o ∷ rest) a h)
+
+of_in_place : (change : Namespace → Namespace) (each : Loaded → Loaded) → Leaves each → ((ns : Namespace) → (change ns).objects ≡ map each ns.objects) → (all : List Namespace) (loadings : List Loading)
+    → ((ns : Namespace) (o : Loaded) → Contains all ns → Contains ns.objects o → OfLoading loadings o.serial) → (ms : Namespace) (o : Loaded) → Contains (map change all) ms → Contains ms.objects o → OfLoading loadings o.serial
+of_in_place change each leaves is all loadings of ms o there inside = each_mapped change all (λ n. Contains n.objects o → OfLoading loadings o.serial)
+    (λ ns at h. let q = from_map each ns.objects o (subst (λ (os : List Loaded). Contains os o) (is ns) h) in
+    subst (OfLoading loadings) (sym (ap serial_of (leaves q.0).1) ∙ ap serial_of q.2) (of ns q.0 at q.1)) ms there inside
+
 order_law : LoadLaws → Law InOrder
 unfolding loaded die lower unmap initialise
 order_law laws = record {
   starts = record {
+    of = λ ns o there inside. absurd (none_in o (subst (λ (n : Namespace). Contains n.objects o) (sym (only_in (empty_namespace 0) ns there)) inside));
     rising = λ ns there. subst (λ (n : Namespace). Rising 0 n.objects) (only_in (empty_namespace 0) ns there) tt;
     low = λ l d there. absurd (none_in l there);
     one = λ l k d there. absurd (none_in l there);
   };
   opens = λ w s hart ask id root added ranges good order may came. record {
+    of = λ ns o there inside. ⊎_elim
+        (λ (old : (ms : Namespace) × Contains s.namespaces ms × Contains ms.objects o).
+        let l = order.of old.0 o old.1 old.2 in (l.0, Contains-append_left s.loadings (loading_of hart added) l.0 l.1, l.2))
+        (λ (new : Contains added o). let l = loading_new hart added o new in (l.0, Contains-append_right s.loadings (loading_of hart added) l.0 l.1, l.2))
+        (objects_open id added root (is_global ask.flags) s.namespaces ns o there inside);
     rising = λ ns there. ⊎_elim
         (λ (is : ns ≡ opened (namespace_before s id) added root (is_global ask.flags)).
         subst (λ (n : Namespace). Rising 0 n.objects) (sym is)
@@ -132,19 +154,22 @@ order_law laws = record {
         (Contains-append_cases s.loadings (loading_of hart added) l first) (Contains-append_cases s.loadings (loading_of hart added) k second);
   };
   closes = λ s hart handle set good order closes. record {
+    of = of_in_place (dying_in hart set) (dying_object hart set) (leaves_dying hart set) (λ ns. refl) (map (lowered_in handle) s.namespaces) s.loadings
+        (λ ms o there inside. each_mapped (lowered_in handle) s.namespaces (λ n. Contains n.objects o → OfLoading s.loadings o.serial) (λ ns at h. order.of ns o at h) ms there inside);
     rising = in_place (dying_in hart set) (dying_object hart set) (leaves_dying hart set) (λ ns. refl) (map (lowered_in handle) s.namespaces)
         (λ ms there. each_mapped (lowered_in handle) s.namespaces (λ n. Rising 0 n.objects) (λ ns at. order.rising ns at) ms there);
     low = order.low;
     one = order.one;
   };
   unmaps = λ s hart set good order may. record {
+    of = λ ms o there inside. each_left set s.namespaces (λ n. Contains n.objects o → OfLoading s.loadings o.serial) (λ ns at h. order.of ns o at (stayed set ns o h).0) ms there inside;
     rising = λ ms there. each_left set s.namespaces (λ n. Rising 0 n.objects) (λ ns at. rising_filter (λ (o : Loaded). not (has set o.serial)) 0 ns.objects (order.rising ns at)) ms there;
     low = order.low;
     one = order.one;
   };
-  grants = λ s number hart owner slot choice value good order may. record { rising = order.rising; low = order.low; one = order.one };
-  settles = λ s number standing good order shut. record { rising = order.rising; low = order.low; one = order.one };
-  initialises = λ s object good order. record { rising = in_place (ready_in object) (ready_object object) (leaves_ready object) (λ ns. refl) s.namespaces order.rising; low = order.low; one = order.one };
+  grants = λ s number hart owner slot choice value good order may. record { of = order.of; rising = order.rising; low = order.low; one = order.one };
+  settles = λ s number standing good order shut. record { of = order.of; rising = order.rising; low = order.low; one = order.one };
+  initialises = λ s object good order. record { of = of_in_place (ready_in object) (ready_object object) (leaves_ready object) (λ ns. refl) s.namespaces s.loadings order.of; rising = in_place (ready_in object) (ready_object object) (leaves_ready object) (λ ns. refl) s.namespaces order.rising; low = order.low; one = order.one };
 }
   where
     before : (s : State) (id : ℕ) → Good (core s) → InOrder (core s) → Rising 0 (namespace_before s id).objects
@@ -164,6 +189,9 @@ order_law laws = record {
         absurd (let low : d < s.next = order.low k d b in_k in let high : s.next ≤ n.0.serial = fresh n.0 n.1 in let is : n.0.serial ≡ d = n.2 in omega (arith, low, high, is))
     apart s hart added fresh order l k d in_l in_k (inr a) (inr b) = one_loading hart added l k a b
 
+pub in_order_after : LoadLaws → (m : Machine) (journal : List Event) → Lawful m journal → InOrder (core (after journal))
+in_order_after laws m journal lawful = (by_law laws InOrder (order_law laws) m journal lawful).1
+
 pub serials_in_order : LoadLaws → (m : Machine) (journal : List Event) → Lawful m journal → SerialsAreInOrder (after journal)
 serials_in_order laws m journal lawful =
     let both = by_law laws InOrder (order_law laws) m journal lawful in
@@ -171,5 +199,6 @@ serials_in_order laws m journal lawful =
       from = λ ns o inside. both.0.some ns o (inside.there, inside.inside);
       below = λ ns o inside. both.0.low ns o (inside.there, inside.inside);
       rising = λ ns i j o p there first second lt. in_order 0 ns.objects (both.1.rising ns there) i j o p first second lt;
+      of = λ ns o inside. both.1.of ns o inside.there inside.inside;
       loaded = both.1.one;
     }

@@ -42,7 +42,7 @@ get_map {X} f [] k y e = absurd (let d : None ≡ Some y = e in cc)
 get_map {X} f (x ∷ xs) zero y e = let same : f x ≡ y = cc in (x, refl, same)
 get_map f (x ∷ xs) (suc k) y e = get_map f xs k y e
 
-get_push : {X : Type 0} (xs : List X) (y : X) (k : ℕ) (x : X) → slice_get (xs ++ y ∷ []) k ≡ Some x → (slice_get xs k ≡ Some x) ⊎ ((k ≡ length xs) × (y ≡ x))
+pub get_push : {X : Type 0} (xs : List X) (y : X) (k : ℕ) (x : X) → slice_get (xs ++ y ∷ []) k ≡ Some x → (slice_get xs k ≡ Some x) ⊎ ((k ≡ length xs) × (y ≡ x))
 get_push {X} [] y zero x e = let same : y ≡ x = cc in inr (refl, same)
 get_push {X} [] y (suc k) x e = absurd (let d : None ≡ Some x = e in cc)
 get_push (z ∷ xs) y zero x e = inl e

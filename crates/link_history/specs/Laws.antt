@@ -1,5 +1,5 @@
 -- What holds in each state of a lawful history.
-use Rattle.std.specs.Prelude.{◌≡◌, ◌≢◌, ℕ, ◌+◌, ◌*◌, ◌^◌, ◌<◌, ◌≤◌, ◌⊎◌, ◌==◌, if◌then◌else◌, Contains, drop, find, flat_map, length, map, List, Option, IsTrue, Some, None, false}
+use Rattle.std.specs.Prelude.{◌≡◌, ◌≢◌, ℕ, ◌+◌, ◌*◌, ◌^◌, ◌<◌, ◌≤◌, ◌⊎◌, ◌==◌, if◌then◌else◌, Contains, drop, find, flat_map, length, map, List, Option, IsTrue, Some, None, false, ◌∷◌, ◌++◌}
 use Rattle.std.specs.List.{slice_get}
 use Rattle.std.specs.Option.{is_some, option_and_then}
 use Rattle.address_space.specs.Pages.{guest_pages, is_within}
@@ -32,14 +32,14 @@ use Rattle.scope_rule.specs.Scope.{scope, whole_scope}
 use Rattle.scope_rule.specs.Seen.{seen_in}
 use Rattle.scope_rule.specs.declared.namespace.Namespace.{Namespace}
 use Rattle.scope_rule.specs.declared.namespace.OpenRec.{OpenRec}
-use Rattle.tls_blocks.specs.Numbers.{AreNumbered, IsTaken}
+use Rattle.tls_blocks.specs.Numbers.{AreNumbered, IsLeastFree}
 use Rattle.link_history.specs.Bound.{lazy_word}
 use Rattle.link_history.specs.Slots.{value_at_load}
 use Rattle.link_history.specs.State.{Linked, State}
-use Rattle.link_history.specs.Storage.{module_of_place}
+use Rattle.link_history.specs.Storage.{module_of_place, with_modules}
 use Rattle.link_history.specs.Grants.{chosen_target, target_of}
 use Rattle.link_history.specs.Memory.{role_at, word_at}
-use Rattle.link_history.specs.Objects.{IsMapped, object_at, startup_serials}
+use Rattle.link_history.specs.Objects.{IsMapped, object_at, startup_serials, has}
 
 -- a mapped object, with its namespace
 pub record IsIn (s : State) (ns : Namespace) (o : Loaded) : Type 0 where
@@ -125,7 +125,21 @@ pub record SerialsAreInOrder (s : State) : Type 0 where
   pub from : (ns : Namespace) (o : Loaded) → IsIn s ns o → 1 ≤ o.serial
   pub below : (ns : Namespace) (o : Loaded) → IsIn s ns o → o.serial < s.next
   pub rising : (ns : Namespace) (i j : ℕ) (o p : Loaded) → Contains s.namespaces ns → slice_get ns.objects i ≡ Some o → slice_get ns.objects j ≡ Some p → i < j → o.serial < p.serial
+  pub of : (ns : Namespace) (o : Loaded) → IsIn s ns o → (l : Loading) × Contains s.loadings l × Contains l.serials o.serial
   pub loaded : (l k : Loading) (d : ℕ) → Contains s.loadings l → Contains s.loadings k → Contains l.serials d → Contains k.serials d → l ≡ k
+
+-- an object is being initialised by the hart that loaded it, exactly until its constructors have run
+pub record IsStarting (s : State) (o : Loaded) (hart : ℕ) : Type 0 where
+  pub loading : Loading
+  pub there : Contains s.loadings loading
+  pub by : loading.hart ≡ hart
+  pub inside : Contains loading.serials o.serial
+  pub undone : ¬ (Contains s.inits o.serial)
+
+pub record InitialisedOnce (s : State) : Type 0 where
+  pub doing : (ns : Namespace) (o : Loaded) (hart : ℕ) → IsIn s ns o → o.state ≡ states.Initialising hart → IsStarting s o hart
+  pub undone : (ns : Namespace) (o : Loaded) → IsIn s ns o → ¬ (Contains s.inits o.serial) → (hart : ℕ) × (o.state ≡ states.Initialising hart)
+  pub once : (i j d : ℕ) → slice_get s.inits i ≡ Some d → slice_get s.inits j ≡ Some d → i ≡ j
 
 -- an object of the namespace that isn't dying, or the linker's own
 abbrev pub Lives : Namespace → ℕ → Type 0
@@ -293,7 +307,9 @@ pub record ModulesAreTidy (s : State) : Type 0 where
   pub there : (ns : Namespace) (o : Loaded) (place : TlsPlace) → IsIn s ns o → o.«module» ≡ Some place → Contains s.modules (module_of_place o.serial place)
   pub some : (ns : Namespace) (o : Loaded) → IsIn s ns o → is_some o.«module» ≡ is_some o.object.tls
   pub one : (m n : Module) → Contains s.modules m → Contains s.modules n → m.serial ≡ n.serial → m ≡ n
+  -- a module is static where startup loaded its object
+  pub offset : (m : Module) → Contains s.modules m → is_some m.offset ≡ has (startup_serials s) m.serial
 
--- once an object has the module of a number, each number below it is one of a module
+-- new modules take their numbers in load order, each the least that is free then
 abbrev pub TakesLeast : State → List Loaded → Type 0
-TakesLeast s added = (o : Loaded) (place : TlsPlace) → Contains added o → o.«module» ≡ Some place → (number : ℕ) → 1 ≤ number → number < place.number → IsTaken s.modules number
+TakesLeast s added = (before behind : List Loaded) (o : Loaded) (place : TlsPlace) → added ≡ before ++ o ∷ behind → o.«module» ≡ Some place → IsLeastFree (with_modules before s.modules) place.number

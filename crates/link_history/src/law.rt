@@ -13,7 +13,7 @@ ghost use Rattle.link_history.specs.Accepted.{AcceptsOnly};
 ghost use Rattle.link_history.specs.After.{after};
 ghost use Rattle.link_history.specs.Allowed.{Allowed};
 ghost use Rattle.link_history.specs.Changes.{ChangesMemory};
-ghost use Rattle.link_history.specs.Laws.{AreApart, ClosesSpare, EachDiesOnce, GrantsAreHeld, GrantsAreTidy, ImagesAreInstalled, ImagesAreMapped, ImagesArePlaced, ImagesAreTied, LoadsEnterCode, LostSawTheValue, ModulesAreTidy, NoneIsLazy, NothingDangles, NothingLeftOut, OpeningsStand, RangesAreApart, RangesAreOwned, SerialsAreInOrder, SlotsBegin, SlotsEnterCode, SlotsLeadToRx, StartupStays, TakesLeast};
+ghost use Rattle.link_history.specs.Laws.{AreApart, ClosesSpare, EachDiesOnce, GrantsAreHeld, GrantsAreTidy, ImagesAreInstalled, ImagesAreMapped, ImagesArePlaced, ImagesAreTied, InitialisedOnce, LoadsEnterCode, LostSawTheValue, ModulesAreTidy, NoneIsLazy, NothingDangles, NothingLeftOut, OpeningsStand, RangesAreApart, RangesAreOwned, SerialsAreInOrder, SlotsBegin, SlotsEnterCode, SlotsLeadToRx, StartupStays, TakesLeast};
 ghost use Rattle.link_history.specs.Exits.{exits, initialised_by_another, setting, unmapped_unclosed};
 ghost use Rattle.link_history.specs.Legal.{Lawful, Legal, Whole};
 ghost use Rattle.link_history.specs.Objects.{serial_of};
@@ -78,6 +78,15 @@ pub fn serials_are_in_order()
     ensures order { (m : Machine) (events : List Event) → Lawful m events → SerialsAreInOrder (after events) }
     ensures new { (m : Machine) (w : Setting) (past : List Event) (hart id root : ℕ) (ask : OpenAsk) (added : List Loaded) (ranges : List Range) →
         w.machine ≡ m → Lawful m past → Allowed w past (Open hart ask (Done id root added ranges)) → map serial_of added ≡ range_with_len (after past).next (length added) }
+{
+    scope_rule::serials_follow();
+    scope_rule::found_stands();
+}
+
+/// A mapped object is being initialised, by the hart that loaded it, exactly until its constructors
+/// have run, and they run once.
+pub fn initialised_once()
+    ensures { (m : Machine) (events : List Event) → Lawful m events → InitialisedOnce (after events) }
 {
     scope_rule::serials_follow();
     scope_rule::found_stands();
@@ -157,12 +166,12 @@ pub fn grants_are_tidy()
 }
 
 /// Modules are in the order of their numbers, which begin at 1; each is that of one mapped object, and
-/// each mapped object with thread-local storage has its one. A new number is the least that is free:
-/// below it each is taken.
+/// each mapped object with thread-local storage has its one, at a static offset where startup loaded
+/// the object. New modules take their numbers in load order, each the least that is free then.
 pub fn modules_are_tidy()
     ensures tidy { (m : Machine) (events : List Event) → Lawful m events → ModulesAreTidy (after events) }
     ensures least { (w : Setting) (past : List Event) (hart id root : ℕ) (ask : OpenAsk) (added : List Loaded) (ranges : List Range) →
-        Allowed w past (Open hart ask (Done id root added ranges)) → TakesLeast (after (past ++ Open hart ask (Done id root added ranges) ∷ [])) added }
+        Allowed w past (Open hart ask (Done id root added ranges)) → TakesLeast (after past) added }
 {
     scope_rule::serials_follow();
     scope_rule::found_stands();
