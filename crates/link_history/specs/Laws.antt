@@ -161,6 +161,16 @@ pub record LostSawTheValue (s : State) : Type 0 where
 abbrev pub NothingLeftOut : State → Type 0
 NothingLeftOut s = (ns : Namespace) (o : Loaded) → IsIn s ns o → scope (seen_in ns) o ≡ whole_scope (seen_in ns) o
 
+-- a scope has its parts: the global list, what each opening leads to that leads to the object, what the object leads to, and the linker's own
+pub record ScopeIsWhole (ns : Namespace) (o : Loaded) : Type 0 where
+  pub global : (d : ℕ) → Contains ns.global d → Contains (scope (seen_in ns) o) d
+  pub opened : (r : OpenRec) (d : ℕ) → Contains ns.opens r → Contains (breadth (seen_in ns) r.root) o.serial → Contains (breadth (seen_in ns) r.root) d → Contains (scope (seen_in ns) o) d
+  pub own : (d : ℕ) → Contains (breadth (seen_in ns) o.serial) d → Contains (scope (seen_in ns) o) d
+  pub linker : Contains (scope (seen_in ns) o) 0
+
+abbrev pub ScopesAreWhole : State → Type 0
+ScopesAreWhole s = (ns : Namespace) (o : Loaded) → IsIn s ns o → ScopeIsWhole ns o
+
 -- the address is code of a mapped object
 pub record IsCodeOf (s : State) (serial a : ℕ) : Type 0 where
   pub namespace : Namespace

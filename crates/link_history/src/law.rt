@@ -13,7 +13,7 @@ ghost use Rattle.link_history.specs.Accepted.{AcceptsOnly};
 ghost use Rattle.link_history.specs.After.{after};
 ghost use Rattle.link_history.specs.Allowed.{Allowed};
 ghost use Rattle.link_history.specs.Changes.{ChangesMemory};
-ghost use Rattle.link_history.specs.Laws.{AreApart, ClosesSpare, EachDiesOnce, GrantsAreHeld, GrantsAreTidy, ImagesAreInstalled, ImagesAreMapped, ImagesArePlaced, ImagesAreTied, InitialisedOnce, LoadsEnterCode, LostSawTheValue, ModulesAreTidy, NoneIsLazy, NothingDangles, NothingLeftOut, OpeningsStand, RangesAreApart, RangesAreOwned, SerialsAreInOrder, SlotsBegin, SlotsEnterCode, SlotsLeadToRx, StartupStays, TakesLeast};
+ghost use Rattle.link_history.specs.Laws.{AreApart, ClosesSpare, EachDiesOnce, GrantsAreHeld, GrantsAreTidy, ImagesAreInstalled, ImagesAreMapped, ImagesArePlaced, ImagesAreTied, InitialisedOnce, LoadsEnterCode, LostSawTheValue, ModulesAreTidy, NoneIsLazy, NothingDangles, NothingLeftOut, OpeningsStand, RangesAreApart, RangesAreOwned, ScopesAreWhole, SerialsAreInOrder, SlotsBegin, SlotsEnterCode, SlotsLeadToRx, StartupStays, TakesLeast};
 ghost use Rattle.link_history.specs.Exits.{exits, initialised_by_another, setting, unmapped_unclosed};
 ghost use Rattle.link_history.specs.Legal.{Lawful, Legal, Whole};
 ghost use Rattle.link_history.specs.Objects.{serial_of};
@@ -109,8 +109,10 @@ pub fn lost_saw_the_value()
 }
 
 /// Whoever sees a dying object dies with it: leaving dying objects out of a scope leaves none out.
+/// So each scope has all its parts.
 pub fn nothing_left_out()
-    ensures { (m : Machine) (events : List Event) → Lawful m events → NothingLeftOut (after events) }
+    ensures none { (m : Machine) (events : List Event) → Lawful m events → NothingLeftOut (after events) }
+    ensures parts { (m : Machine) (events : List Event) → Lawful m events → ScopesAreWhole (after events) }
 {
     scope_rule::serials_follow();
     scope_rule::found_stands();
