@@ -202,9 +202,10 @@ done_open loads m w past lawful hart ask id root added ranges may done =
           (λ (new : Contains added o).
           let l = loading_new hart added o new in
           let is : states.Initialising hart ≡ states.Initialising h = sym (new_doing w (after past) hart ask id root added ranges ask.name may.name o new) ∙ e in
-          let same : hart ≡ h = cc in
-          ((l.0, Contains-append_right (after past).loadings (loading_of hart added) l.0 l.1, l.2 ∙ same, l.3),
-          λ (i : Contains (after past).inits o.serial). let low : o.serial < (after past).next = done.low o.serial i in let high : (after past).next ≤ o.serial = (came.fresh o new).0 in omega (arith, low, high)))
+          let same : hart ≡ h = cc in (
+            (l.0, Contains-append_right (after past).loadings (loading_of hart added) l.0 l.1, l.2 ∙ same, l.3),
+            λ (i : Contains (after past).inits o.serial). let low : o.serial < (after past).next = done.low o.serial i in let high : (after past).next ≤ o.serial = (came.fresh o new).0 in omega (arith, low, high),
+          ))
           (objects_open id added root (is_global ask.flags) (after past).namespaces ns o there inside);
       undone = λ ns o there inside out. ⊎_elim
           (λ (old : (ms : Namespace) × Contains (after past).namespaces ms × Contains ms.objects o). done.undone old.0 o old.1 old.2 out)
