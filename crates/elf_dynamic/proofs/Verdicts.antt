@@ -1,75 +1,187 @@
 -- The verdict on the dynamic table and its tables, and the relations that say what it means.
-use Rattle.std.proofs.Common.{◌≡◌, ◌↔◌, ◌∙◌, ℕ, zero, suc, ◌+◌, ◌<◌, Bool, List, Option, Some, None, Ok, Err, refl, sym, ap, subst, arith}
+use Rattle.std.proofs.Common.{◌≡◌, ◌↔◌, ◌⊎◌, ◌∙◌, ℕ, zero, suc, ◌+◌, ◌<◌, Bool, List, ◌++◌, length, map, Option, Some, None, Result, Ok, Err, refl, sym, ap, subst, arith, inl, inr}
 use Rattle.std.specs.List.{slice_get}
 use Rattle.std.specs.Option.{option_map_or}
 use Rattle.ld_base.specs.declared.fault.NotAccepted.{NotAccepted}
+use Rattle.ld_base.specs.declared.fault.ReadFault.{ReadFault}
+use Rattle.ld_base.specs.declared.fault.ReadFault.TheVariants as faults
 use Rattle.ld_base.specs.declared.parts.DynParts.{DynParts}
 use Rattle.ld_base.specs.declared.parts.Head.{Head}
 use Rattle.ld_base.specs.declared.parts.Tag.{Tag}
 use Rattle.acceptance.proofs.Firsts.{accepts, refuses, Breaking, Listed}
-use Rattle.elf_dynamic.specs.Rules.{dynamic_verdict, no_dynamic, rules_of, tables_verdict}
-use Rattle.elf_dynamic.specs.Tables.{dynamic_tags, parts_in}
-use Rattle.elf_dynamic.specs.Verdict.{Breaks, BreaksFirst, SpellsDynamic, TablesBreak}
+use Rattle.acceptance.specs.Gives.{Gives}
+use Rattle.dyn_table.specs.HashWords.{hash_words}
+use Rattle.dyn_table.specs.Name.{string_at, IsStringAt}
+use Rattle.dyn_table.specs.Tag.{last_of, tags_of, EndsAtNull}
+use Rattle.dyn_table.specs.TagNumbers.{dt_pltgot, dt_symtab}
+use Rattle.elf_dynamic.specs.Breaks.{named, HasFeature, IsBadRelocAt, IsBadSlotAt, IsBadSymbolAt, IsBadTable, IsFirst, Lacks, LacksName, LacksSymbolName, LacksSymbols}
+use Rattle.elf_dynamic.specs.Parts.{AreParts, AreTags}
+use Rattle.elf_dynamic.specs.Relr.{begins_odd, relr_places, relr_words}
+use Rattle.elf_dynamic.specs.Rules.{dynamic_verdict, no_dynamic, other_ranges, rules_of, tables_verdict}
+use Rattle.elf_dynamic.specs.Rules.{bad_reloc as reloc_rule, bad_slot as slot_rule, bad_string as string_rule, bad_symbol as symbol_rule, bad_table as table_rule, refused_feature as feature_rule}
+use Rattle.elf_dynamic.specs.Tables.{bare_in, count_in, dynamic_tags, parts_in, plt_relocs, rela_relocs, relr_bytes, strings_in, symbol_bytes}
+use Rattle.elf_dynamic.specs.Verdict.{Answers, Breaks, BreaksFirst, SpellsDynamic, TablesBreak}
 use Rattle.elf_dynamic.specs.Verdict.Breaks.{no_table, by_tables}
-use Rattle.elf_dynamic.specs.Verdict.TablesBreak.{bad_table_of, bad_string_at, bad_symbol_of, bad_reloc_of, has_feature, bad_slot_of}
+use Rattle.elf_dynamic.specs.Verdict.TablesBreak.{bad_table, lacks_symbols, bad_name, bad_symbol_name, bad_symbol, bad_reloc, has_feature, bad_slot}
+use Rattle.elf_dynamic.proofs.BadNames.{string_first, StandsFirst}
+use Rattle.elf_dynamic.proofs.BadTables.{table_first}
+use Rattle.elf_dynamic.proofs.Features.{feature_finds}
+use Rattle.elf_dynamic.proofs.Finds.{finds_is, finds_like, same_some, Finds}
+use Rattle.elf_dynamic.proofs.ReadParts.{read, say_in, tags_are, Reads}
+use Rattle.elf_dynamic.proofs.Relocs.{reloc_finds, symbol_finds, unnamed, unnamed_sizes}
+use Rattle.elf_dynamic.proofs.SlotReasons.{slot_finds}
+use Rattle.elf_dynamic.proofs.Unnamed.{bare_is, named_same, reloc_at_like, slot_at_like, turned}
 
-module _ (bytes : List ℕ) (head : Head) (program : Bool) (tags : List Tag) where
-  -- a rule that is broken has its number in the list of rules
-  place_of : (rule number : ℕ) → TablesBreak bytes head program tags rule number → (i : ℕ) × (rule ≡ 11 + i) × (slice_get (rules_of bytes head program tags) i ≡ Some (Some number))
-  place_of rule number (bad_table_of tag e) = (0, refl, ap Some e)
-  place_of rule number (bad_string_at offset e) = (1, refl, ap Some e)
-  place_of rule number (bad_symbol_of symbol e) = (2, refl, ap Some e)
-  place_of rule number (bad_reloc_of index e) = (3, refl, ap Some e)
-  place_of rule number (has_feature feature e) = (4, refl, ap Some e)
-  place_of rule number (bad_slot_of index e) = (5, refl, ap Some e)
+module _ (tags_law : (bytes : List ℕ) (tags : List Tag) → (tags_of bytes ≡ Some tags) ↔ EndsAtNull bytes tags)
+    (string : (strings name : List ℕ) (offset : ℕ) → (string_at strings offset ≡ Some name) ↔ IsStringAt strings offset name)
+    (bytes : List ℕ) (head : Head) (program : Bool) where
+  -- ---- the rules of tables that say these parts
 
-  -- a number in the list of rules is of a rule that is broken
-  broken_at : (i number : ℕ) → slice_get (rules_of bytes head program tags) i ≡ Some (Some number) → TablesBreak bytes head program tags (11 + i) number
-  broken_at zero number e = bad_table_of number cc
-  broken_at (suc zero) number e = bad_string_at number cc
-  broken_at (suc (suc zero)) number e = bad_symbol_of number cc
-  broken_at (suc (suc (suc zero))) number e = bad_reloc_of number cc
-  broken_at (suc (suc (suc (suc zero)))) number e = has_feature number cc
-  broken_at (suc (suc (suc (suc (suc zero))))) number e = bad_slot_of number cc
-  broken_at (suc (suc (suc (suc (suc (suc i)))))) number e = absurd cc
+  module _ (parts : DynParts) (say : AreParts bytes head.headers parts) where
+    own : Reads tags_law string bytes head.headers parts say.strings say.table say.words
+    own = read tags_law string bytes head.headers parts say
 
-same_tags : (tags others : List Tag) → Some tags ≡ Some others → tags ≡ others
-same_tags tags others e = cc
+    bare : map unnamed parts.symbols ≡ bare_in bytes head.headers parts.tags
+    unfolding bare_in parts_in
+    bare = ap (λ (p : DynParts). map unnamed p.symbols) own.is ∙ bare_is (symbol_bytes bytes head.headers parts.tags) (strings_in bytes head.headers parts.tags) (count_in bytes head.headers parts.tags)
 
-module _ (bytes : List ℕ) (head : Head) (program : Bool) where
-  listed : (tags : List Tag) → dynamic_tags bytes head.headers ≡ Some tags → Listed 11 (rules_of bytes head program tags) (Breaks bytes head program)
-  listed tags is rule number (no_table e) = absurd cc
-  listed tags is rule number (by_tables others are r n b) =
-      place_of bytes head program tags r n (subst (λ ts. TablesBreak bytes head program ts r n) (same_tags others tags (sym are ∙ is)) b)
+    relocs : parts.relocs ≡ rela_relocs bytes head.headers parts.tags
+    unfolding parts_in
+    relocs = ap (λ (p : DynParts). p.relocs) own.is
 
-  breaking : (tags : List Tag) → dynamic_tags bytes head.headers ≡ Some tags → Breaking 11 (rules_of bytes head program tags) (Breaks bytes head program)
-  breaking tags is i number e = by_tables tags is (11 + i) number (broken_at bytes head program tags i number e)
+    slots : parts.plt_relocs ≡ plt_relocs bytes head.headers parts.tags
+    unfolding parts_in
+    slots = ap (λ (p : DynParts). p.plt_relocs) own.is
+
+    places : parts.relr ≡ relr_places (relr_bytes bytes head.headers parts.tags)
+    unfolding parts_in
+    places = ap (λ (p : DynParts). p.relr) own.is
+
+    tables : (tag : ℕ) → (table_rule head.headers parts.tags (hash_words bytes head.headers parts.tags) (count_in bytes head.headers parts.tags) ≡ Some tag)
+        ↔ (IsFirst (IsBadTable head.headers parts.tags (hash_words bytes head.headers parts.tags)) tag
+        ⊎ (((n : ℕ) → IsBadTable head.headers parts.tags (hash_words bytes head.headers parts.tags) n → ⊥) × LacksSymbols head.headers parts.tags (length parts.symbols) × (tag ≡ dt_symtab)))
+    tables tag = rw (← own.count) (table_first head.headers parts.tags (hash_words bytes head.headers parts.tags) (length parts.symbols) tag)
+
+    strings : (offset : ℕ) → (string_rule (strings_in bytes head.headers parts.tags) parts.tags (symbol_bytes bytes head.headers parts.tags) (count_in bytes head.headers parts.tags) ≡ Some offset)
+        ↔ (StandsFirst (LacksName say.strings parts.tags) offset
+        ⊎ (((k : ℕ) → Lacks (LacksName say.strings parts.tags) k → ⊥) × StandsFirst (LacksSymbolName say.strings say.table (length parts.symbols)) offset))
+    strings offset = rw (← own.strings_is, ← own.table_is, ← own.count) (string_first string say.strings say.table (length parts.symbols) parts.tags offset)
+
+    symbols : Finds (IsBadSymbolAt head.headers parts.symbols) (symbol_rule head.headers (bare_in bytes head.headers parts.tags))
+    symbols = rw (← bare) (symbol_finds head.headers parts.symbols)
+
+    others : Finds (IsBadRelocAt head.headers parts.symbols parts.relocs say.words parts.relr)
+        (reloc_rule head.headers (bare_in bytes head.headers parts.tags) (rela_relocs bytes head.headers parts.tags) (begins_odd (relr_words (relr_bytes bytes head.headers parts.tags))) (relr_places (relr_bytes bytes head.headers parts.tags)))
+    others =
+        let same = unnamed_sizes parts.symbols in
+        rw (← bare, ← relocs, ← own.words_are, ← places)
+        (finds_like (IsBadRelocAt head.headers (map unnamed parts.symbols) parts.relocs say.words parts.relr) (IsBadRelocAt head.headers parts.symbols parts.relocs say.words parts.relr)
+        (reloc_at_like (map unnamed parts.symbols) parts.symbols same head.headers parts.relocs say.words parts.relr)
+        (reloc_at_like parts.symbols (map unnamed parts.symbols) (turned (map unnamed parts.symbols) parts.symbols same) head.headers parts.relocs say.words parts.relr) _
+        (reloc_finds head.headers (map unnamed parts.symbols) parts.relocs say.words parts.relr))
+
+    features : Finds (HasFeature head program parts.tags parts.symbols (parts.relocs ++ parts.plt_relocs))
+        (feature_rule head program parts.tags (bare_in bytes head.headers parts.tags) (rela_relocs bytes head.headers parts.tags ++ plt_relocs bytes head.headers parts.tags))
+    features = rw (← bare, ← relocs, ← slots) (feature_finds head program parts.tags parts.symbols (parts.relocs ++ parts.plt_relocs))
+
+    all_slots : Finds (IsBadSlotAt bytes head.headers parts.symbols (named parts.symbols parts.relocs parts.relr) parts.plt_relocs parts.pltgot)
+        (slot_rule bytes head.headers (bare_in bytes head.headers parts.tags) (other_ranges (bare_in bytes head.headers parts.tags) (rela_relocs bytes head.headers parts.tags) (relr_places (relr_bytes bytes head.headers parts.tags)))
+        (plt_relocs bytes head.headers parts.tags) (last_of parts.tags dt_pltgot))
+    all_slots =
+        let same = unnamed_sizes parts.symbols in
+        let plain = map unnamed parts.symbols in
+        let ranges = named_same plain parts.symbols same parts.relocs parts.relr in
+        rw (← bare, ← relocs, ← places, ← slots, ← say.pltgot)
+        (finds_like (IsBadSlotAt bytes head.headers plain (named plain parts.relocs parts.relr) parts.plt_relocs parts.pltgot) (IsBadSlotAt bytes head.headers parts.symbols (named parts.symbols parts.relocs parts.relr) parts.plt_relocs parts.pltgot)
+        (λ k bad. subst (λ rs. IsBadSlotAt bytes head.headers parts.symbols rs parts.plt_relocs parts.pltgot k) ranges (slot_at_like plain parts.symbols same bytes head.headers (named plain parts.relocs parts.relr) parts.plt_relocs parts.pltgot k bad))
+        (λ k bad. slot_at_like parts.symbols plain (turned plain parts.symbols same) bytes head.headers (named plain parts.relocs parts.relr) parts.plt_relocs parts.pltgot k (subst (λ rs. IsBadSlotAt bytes head.headers parts.symbols rs parts.plt_relocs parts.pltgot k) (sym ranges) bad)) _
+        (slot_finds bytes head.headers plain (named plain parts.relocs parts.relr) parts.plt_relocs parts.pltgot))
+
+    -- a rule that is broken has its number in the list of rules
+    place_of : (rule number : ℕ) → TablesBreak bytes head program parts say rule number → (i : ℕ) × (rule ≡ 11 + i) × (slice_get (rules_of bytes head program parts.tags) i ≡ Some (Some number))
+    place_of rule number (bad_table tag first) = (0, refl, ap Some ((tables tag).1 (inl first)))
+    place_of rule number (lacks_symbols never lacking) = (0, refl, ap Some ((tables dt_symtab).1 (inr (never, lacking, refl))))
+    place_of rule number (bad_name k offset first lacks) = (1, refl, ap Some ((strings offset).1 (inl (k, first, lacks))))
+    place_of rule number (bad_symbol_name never symbol offset first lacks) = (1, refl, ap Some ((strings offset).1 (inr (never, (symbol, first, lacks)))))
+    place_of rule number (bad_symbol symbol first) = (2, refl, ap Some ((finds_is _ _ symbol symbols).1 first))
+    place_of rule number (bad_reloc index first) = (3, refl, ap Some ((finds_is _ _ index others).1 first))
+    place_of rule number (has_feature feature first) = (4, refl, ap Some ((finds_is _ _ feature features).1 first))
+    place_of rule number (bad_slot index first) = (5, refl, ap Some ((finds_is _ _ index all_slots).1 first))
+
+    -- a number in the list of rules is of a rule that is broken
+    broken_at : (i number : ℕ) → slice_get (rules_of bytes head program parts.tags) i ≡ Some (Some number) → TablesBreak bytes head program parts say (11 + i) number
+    broken_at zero number e = by_table ((tables number).0 (same_some e))
+      where
+        by_table : IsFirst (IsBadTable head.headers parts.tags (hash_words bytes head.headers parts.tags)) number
+            ⊎ (((n : ℕ) → IsBadTable head.headers parts.tags (hash_words bytes head.headers parts.tags) n → ⊥) × LacksSymbols head.headers parts.tags (length parts.symbols) × (number ≡ dt_symtab))
+            → TablesBreak bytes head program parts say 11 number
+        by_table (inl first) = bad_table number first
+        by_table (inr (never, lacking, same)) = rw same (lacks_symbols never lacking)
+    broken_at (suc zero) number e = by_name ((strings number).0 (same_some e))
+      where
+        by_name : StandsFirst (LacksName say.strings parts.tags) number
+            ⊎ (((k : ℕ) → Lacks (LacksName say.strings parts.tags) k → ⊥) × StandsFirst (LacksSymbolName say.strings say.table (length parts.symbols)) number)
+            → TablesBreak bytes head program parts say 12 number
+        by_name (inl (k, first, lacks)) = bad_name k number first lacks
+        by_name (inr (never, (symbol, first, lacks))) = bad_symbol_name never symbol number first lacks
+    broken_at (suc (suc zero)) number e = bad_symbol number ((finds_is _ _ number symbols).0 (same_some e))
+    broken_at (suc (suc (suc zero))) number e = bad_reloc number ((finds_is _ _ number others).0 (same_some e))
+    broken_at (suc (suc (suc (suc zero)))) number e = has_feature number ((finds_is _ _ number features).0 (same_some e))
+    broken_at (suc (suc (suc (suc (suc zero))))) number e = bad_slot number ((finds_is _ _ number all_slots).0 (same_some e))
+    broken_at (suc (suc (suc (suc (suc (suc i)))))) number e = absurd cc
+
+  -- ---- all rules, where there is a dynamic table
+
+  same_tags : (tags : List Tag) → dynamic_tags bytes head.headers ≡ Some tags → (parts : DynParts) → AreParts bytes head.headers parts → parts.tags ≡ tags
+  same_tags tags is parts say = same_some (sym ((tags_are tags_law string bytes head.headers parts.tags).1 say.tags) ∙ is)
+
+  module _ (tags : List Tag) (is : dynamic_tags bytes head.headers ≡ Some tags) where
+    said : AreParts bytes head.headers (parts_in bytes head.headers tags)
+    said = say_in tags_law string bytes head.headers tags is
+
+    its_tags : (parts_in bytes head.headers tags).tags ≡ tags
+    unfolding parts_in
+    its_tags = refl
+
+    listed : Listed 11 (rules_of bytes head program tags) (Breaks bytes head program)
+    listed rule number (no_table none) = absurd (none tags ((tags_are tags_law string bytes head.headers tags).0 is))
+    listed rule number (by_tables parts say r n broken) =
+        subst (λ ts. (i : ℕ) × (r ≡ 11 + i) × (slice_get (rules_of bytes head program ts) i ≡ Some (Some n))) (same_tags tags is parts say) (place_of parts say r n broken)
+
+    breaking : Breaking 11 (rules_of bytes head program tags) (Breaks bytes head program)
+    breaking i number e = by_tables (parts_in bytes head.headers tags) said (11 + i) number
+        (broken_at (parts_in bytes head.headers tags) said i number (subst (λ ts. slice_get (rules_of bytes head program ts) i ≡ Some (Some number)) (sym its_tags) e))
+
+  -- ---- the verdict
+
+  no_tags : dynamic_tags bytes head.headers ≡ None → (tags : List Tag) → AreTags bytes head.headers tags → ⊥
+  no_tags none tags are = let there = (tags_are tags_law string bytes head.headers tags).1 are in absurd cc
 
   accepted_at : (found : Option (List Tag)) (parts : DynParts) → dynamic_tags bytes head.headers ≡ found
       → (option_map_or (tables_verdict bytes head program) found (Err no_dynamic) ≡ Ok parts) ↔ SpellsDynamic bytes head program parts
-  unfolding tables_verdict parts_in
-  accepted_at None parts is = (λ e. absurd cc, λ s. absurd (let stands = s.tags in cc))
+  unfolding tables_verdict
+  accepted_at None parts is = (λ e. absurd cc, λ s. absurd (no_tags is parts.tags s.say.tags))
   accepted_at (Some tags) parts is =
       let both = accepts 11 (rules_of bytes head program tags) (Breaks bytes head program) (listed tags is) (breaking tags is) (parts_in bytes head.headers tags) parts in (
-        λ e. let ok = both.0 e in rw ok.1 (record { kept = ok.0; tags = is; say = refl }),
-        λ s. both.1 (s.kept, subst (λ ts. parts ≡ parts_in bytes head.headers ts) (same_tags parts.tags tags (sym s.tags ∙ is)) s.say),
+        λ e. let ok = both.0 e in rw ok.1 (record { kept = ok.0; say = said tags is }),
+        λ s. both.1 (s.kept, (own parts s.say).is ∙ ap (parts_in bytes head.headers) (same_tags tags is parts s.say)),
       )
 
   refused_at : (found : Option (List Tag)) (fault : NotAccepted) → dynamic_tags bytes head.headers ≡ found
       → (option_map_or (tables_verdict bytes head program) found (Err no_dynamic) ≡ Err fault) ↔ BreaksFirst bytes head program fault
   unfolding tables_verdict
   refused_at None fault is = (
-    λ e. let same : no_dynamic ≡ fault = cc in rw (← same) (record { broken = no_table is; kept = λ rule number below b. none_early rule number below b }),
+    λ e. let same : no_dynamic ≡ fault = cc in rw (← same) (record { broken = no_table (no_tags is); kept = λ rule number below b. none_early rule number below b }),
     λ first. ap Err (only first.broken),
   )
     where
       none_early : (rule number : ℕ) → rule < 10 → Breaks bytes head program rule number → ⊥
       none_early rule number below (no_table e) = absurd (omega arith)
-      none_early rule number below (by_tables tags are r n b) = absurd cc
+      none_early rule number below (by_tables parts say r n b) = no_tags is parts.tags say.tags
 
       only : {rule number : ℕ} → Breaks bytes head program rule number → no_dynamic ≡ record { rule = rule; number = number }
       only (no_table e) = refl
-      only (by_tables tags are r n b) = absurd cc
+      only (by_tables parts say r n b) = absurd (no_tags is parts.tags say.tags)
   refused_at (Some tags) fault is =
       refuses 11 (rules_of bytes head program tags) (Breaks bytes head program) (listed tags is) (breaking tags is) (parts_in bytes head.headers tags) fault
 
@@ -80,3 +192,10 @@ module _ (bytes : List ℕ) (head : Head) (program : Bool) where
   pub refused : (fault : NotAccepted) → (dynamic_verdict bytes head program ≡ Err fault) ↔ BreaksFirst bytes head program fault
   unfolding dynamic_verdict
   refused fault = refused_at (dynamic_tags bytes head.headers) fault refl
+
+-- what a reader gives is what it has to answer
+pub answers : (bytes : List ℕ) (head : Head) (program : Bool) (meant : Result DynParts NotAccepted) → ((parts : DynParts) → (meant ≡ Ok parts) ↔ SpellsDynamic bytes head program parts)
+    → ((fault : NotAccepted) → (meant ≡ Err fault) ↔ BreaksFirst bytes head program fault) → (result : Result DynParts ReadFault) → Gives result meant → Answers bytes head program result
+answers bytes head program meant spells breaks (Ok parts) given = (spells parts).0 given
+answers bytes head program meant spells breaks (Err (faults.NotAccepted fault)) given = (breaks fault).0 given
+answers bytes head program meant spells breaks (Err faults.Memory) given = tt

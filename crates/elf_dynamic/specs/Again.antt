@@ -1,4 +1,4 @@
--- The first of a list that is bad.
+-- The first of a list that is bad, for loops of this crate alone.
 use Rattle.std.specs.Prelude.{ℕ, suc, ◌||◌, Bool, List, [], ◌∷◌, ◌++◌, Option, Some, None, option_map, if◌then◌else◌}
 use Rattle.std.specs.List.{list_any}
 use Rattle.ld_base.specs.declared.object.Span.{Span}

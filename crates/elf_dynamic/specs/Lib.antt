@@ -1,12 +1,16 @@
 pub mod Again
+pub mod Breaks
 pub mod Counted
 pub mod Ends
 pub mod Feature
 pub mod Judged
+pub mod Keeps
 pub mod Marks
 pub mod Memory
 pub mod Named
 pub mod Naming
+pub mod Parts
+pub mod Ranges
 pub mod Relr
 pub mod Rules
 pub mod Tables

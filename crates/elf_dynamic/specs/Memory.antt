@@ -1,16 +1,10 @@
--- Ranges of addresses, and the memory of segments (gABI, "Program Header": p_flags, p_vaddr, p_memsz).
-use Rattle.std.specs.Prelude.{ℕ, ◌+◌, ◌/◌, ◌%◌, ◌^◌, ◌<◌, ◌≤◌, IsTrue, ◌==◌, ◌&&◌, ◌||◌, Bool, nat_lt, nat_le, List}
+-- Ranges of addresses as tests, for the code of this crate alone: `Share` and `LiesIn` say what they decide.
+use Rattle.std.specs.Prelude.{ℕ, ◌+◌, ◌^◌, ◌<◌, ◌≤◌, IsTrue, ◌==◌, ◌&&◌, ◌||◌, Bool, nat_lt, nat_le, List}
 use Rattle.std.specs.List.{list_any, All}
 use Rattle.ld_base.specs.declared.object.Span.{Span}
 use Rattle.ld_base.specs.declared.parts.Header.{Header}
 use Rattle.elf_head.specs.Header.{is_loaded}
-
--- PF_X is 1, PF_W is 2
-abbrev pub is_executable : Header → Bool
-is_executable h = h.flags % 2 == 1
-
-abbrev pub is_writable : Header → Bool
-is_writable h = h.flags / 2 % 2 == 1
+pub use Rattle.elf_dynamic.specs.Ranges.{is_executable, is_writable}
 
 -- the range lies in the memory of this segment, which is mapped
 abbrev pub holds : Span → Header → Bool

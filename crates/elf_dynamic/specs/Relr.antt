@@ -1,20 +1,13 @@
--- Packed relative relocations (gABI, "Relocation": DT_RELR). Each word names places, by itself or by its bits.
-use Rattle.std.specs.Prelude.{◌≡◌, ◌≤◌, ℕ, ◌+◌, ◌-◌, ◌*◌, ◌/◌, ◌%◌, ◌^◌, ◌==◌, Bool, true, false, if◌then◌else◌, List, [], ◌∷◌, ◌++◌, length, map, filter, fold}
-use Rattle.std.specs.List.{range_with_len}
+-- Packed relative relocations as a fold over their words, for loops of this crate alone: `NamePlaces` says what it gives.
+use Rattle.std.specs.Prelude.{ℕ, ◌+◌, ◌-◌, ◌*◌, ◌/◌, ◌%◌, ◌==◌, Bool, false, if◌then◌else◌, List, [], ◌∷◌, ◌++◌, length, map, fold}
 use Rattle.ld_base.specs.Field.{field}
 use Rattle.acceptance.specs.Table.{table}
+pub use Rattle.elf_dynamic.specs.Parts.{has_bit}
+unfoldable pub use Rattle.elf_dynamic.specs.Parts.{bits_of}
 
 -- the 64-bit words of the table's bytes
 abbrev pub relr_words : List ℕ → List ℕ
 relr_words bytes = table (field 8 bytes) 0 8 (length bytes / 8)
-
--- the word has this bit
-abbrev pub has_bit : ℕ → ℕ → Bool
-has_bit word i = word / 2 ^ i % 2 == 1
-
--- the bits from 1 to 63 that a word has
-unfoldable pub bits_of : ℕ → List ℕ
-bits_of word = filter (has_bit word) (range_with_len 1 63)
 
 -- the places that words name, and the place from which the next word's bits count
 pub record Named : Type 0 where

@@ -1,8 +1,8 @@
--- What is asked of a dynamic table and of the tables that it names (gABI, psABI): the rules 10 to 16.
--- Each test here is true where the rule that it is named after is broken.
-use Rattle.std.specs.Prelude.{ℕ, ◌+◌, ◌*◌, ◌%◌, ◌==◌, ◌&&◌, ◌||◌, Bool, true, false, not, nat_lt, nat_le, if◌then◌else◌, List, [], ◌∷◌, ◌++◌, length, map, find, take, count_by, position, Option, Some, None, is_some, option_map, Result, Ok, Err}
+-- The rules 10 to 16 as tests, which the code of this crate is proved against: each is true where the rule that it is named after is broken. What
+-- it is to break a rule is said by the relations of `Breaks`, and the law of this crate that both are one.
+use Rattle.std.specs.Prelude.{ℕ, ◌+◌, ◌*◌, ◌%◌, ◌==◌, ◌&&◌, ◌||◌, Bool, true, false, not, nat_lt, nat_le, if◌then◌else◌, List, [], ◌∷◌, ◌++◌, length, map, find, count_by, position, Option, Some, None, is_some, option_map, Result, Ok, Err}
 use Rattle.std.specs.Option.{option_map_or, option_or}
-use Rattle.std.specs.List.{list_any, slice_get, slice_index_or}
+use Rattle.std.specs.List.{list_any}
 use Rattle.ld_base.specs.Field.{field}
 use Rattle.ld_base.specs.Symbol.{binding, type_of, is_defined, is_tls}
 use Rattle.ld_base.specs.declared.fault.NotAccepted.{NotAccepted}

@@ -1,5 +1,6 @@
--- What the dynamic table and the tables that it names say, whatever the rules (gABI, "Dynamic Section").
-use Rattle.std.specs.Prelude.{ℕ, ◌+◌, ◌-◌, ◌*◌, ◌/◌, ◌%◌, ◌==◌, ◌&&◌, ◌||◌, Bool, nat_le, max, if◌then◌else◌, List, [], ◌++◌, length, map, find, fold, Option, Some, None, option_map, is_some, unwrap_or}
+-- What the dynamic table and the tables that it names say as functions, which the code of this crate is proved against: `AreParts` says what
+-- they give (gABI, "Dynamic Section").
+use Rattle.std.specs.Prelude.{ℕ, ◌+◌, ◌-◌, ◌*◌, ◌==◌, ◌&&◌, ◌||◌, Bool, nat_le, max, if◌then◌else◌, List, [], ◌++◌, length, map, find, fold, Option, Some, None, option_map, unwrap_or}
 use Rattle.std.specs.Option.{option_and_then, option_map_or}
 use Rattle.ld_base.specs.declared.object.Reloc.{Reloc}
 use Rattle.ld_base.specs.declared.object.ObjFlags.{ObjFlags}
@@ -10,7 +11,6 @@ use Rattle.ld_base.specs.declared.parts.HashTable.{HashTable}
 use Rattle.ld_base.specs.declared.parts.Header.{Header}
 use Rattle.ld_base.specs.declared.parts.Tag.{Tag}
 use Rattle.elf_head.specs.Readable.{file_bytes}
-use Rattle.acceptance.specs.Table.{table}
 use Rattle.dyn_table.specs.HashWords.{hash_words}
 use Rattle.dyn_table.specs.Name.{string_in}
 use Rattle.elf_dynamic.specs.Relr.{relr_places}

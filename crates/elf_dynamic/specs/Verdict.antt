@@ -1,37 +1,41 @@
--- What it is for the tables of an object to say something, and to break a rule: as relations.
-use Rattle.std.specs.Prelude.{◌≡◌, ℕ, Bool, Some, None, List}
+-- What it is for the dynamic table and the tables that it names to say something, and to break a rule.
+use Rattle.std.specs.Prelude.{ℕ, Bool, List, ◌++◌, length, Result, Ok, Err}
 use Rattle.ld_base.specs.declared.fault.NotAccepted.{NotAccepted}
+use Rattle.ld_base.specs.declared.fault.ReadFault.{ReadFault}
+use Rattle.ld_base.specs.declared.fault.ReadFault.TheVariants as faults
 use Rattle.ld_base.specs.declared.parts.DynParts.{DynParts}
 use Rattle.ld_base.specs.declared.parts.Head.{Head}
 use Rattle.ld_base.specs.declared.parts.Tag.{Tag}
 use Rattle.acceptance.specs.First.{IsFirstBroken, NoneBroken}
 use Rattle.dyn_table.specs.HashWords.{hash_words}
-use Rattle.dyn_table.specs.Tag.{last_of}
-use Rattle.dyn_table.specs.TagNumbers.{dt_pltgot}
-use Rattle.elf_dynamic.specs.Relr.{begins_odd, relr_places, relr_words}
-use Rattle.elf_dynamic.specs.Rules.{bad_table, bad_string, bad_symbol, bad_reloc, other_ranges, refused_feature, bad_slot}
-use Rattle.elf_dynamic.specs.Tables.{bare_in, count_in, dynamic_tags, parts_in, plt_relocs, rela_relocs, relr_bytes, strings_in, symbol_bytes}
-use Rattle.std.specs.Prelude.{◌++◌}
+use Rattle.dyn_table.specs.TagNumbers.{dt_symtab}
+use Rattle.elf_dynamic.specs.Breaks.{named, HasFeature, IsBadRelocAt, IsBadSlotAt, IsBadSymbolAt, IsBadTable, IsFirst, Lacks, LacksName, LacksSymbolName, LacksSymbols}
+use Rattle.elf_dynamic.specs.Parts.{AreParts, AreTags}
 
--- tables with these entries break the rule with this number
-pub data TablesBreak (bytes : List ℕ) (head : Head) (program : Bool) (tags : List Tag) : ℕ → ℕ → Type 0 where
-  bad_table_of : (tag : ℕ) → bad_table head.headers tags (hash_words bytes head.headers tags) (count_in bytes head.headers tags) ≡ Some tag → TablesBreak bytes head program tags 11 tag
-  bad_string_at : (offset : ℕ) → bad_string (strings_in bytes head.headers tags) tags (symbol_bytes bytes head.headers tags) (count_in bytes head.headers tags) ≡ Some offset → TablesBreak bytes head program tags 12 offset
-  bad_symbol_of : (symbol : ℕ) → bad_symbol head.headers (bare_in bytes head.headers tags) ≡ Some symbol → TablesBreak bytes head program tags 13 symbol
-  bad_reloc_of : (index : ℕ) → bad_reloc head.headers (bare_in bytes head.headers tags) (rela_relocs bytes head.headers tags) (begins_odd (relr_words (relr_bytes bytes head.headers tags))) (relr_places (relr_bytes bytes head.headers tags)) ≡ Some index → TablesBreak bytes head program tags 14 index
-  has_feature : (feature : ℕ) → refused_feature head program tags (bare_in bytes head.headers tags) (rela_relocs bytes head.headers tags ++ plt_relocs bytes head.headers tags) ≡ Some feature → TablesBreak bytes head program tags 15 feature
-  bad_slot_of : (index : ℕ) → bad_slot bytes head.headers (bare_in bytes head.headers tags) (other_ranges (bare_in bytes head.headers tags) (rela_relocs bytes head.headers tags) (relr_places (relr_bytes bytes head.headers tags))) (plt_relocs bytes head.headers tags) (last_of tags dt_pltgot) ≡ Some index → TablesBreak bytes head program tags 16 index
+-- tables that say these parts break the rule with this number
+pub data TablesBreak (bytes : List ℕ) (head : Head) (program : Bool) (parts : DynParts) (say : AreParts bytes head.headers parts) : ℕ → ℕ → Type 0 where
+  bad_table : (tag : ℕ) → IsFirst (IsBadTable head.headers parts.tags (hash_words bytes head.headers parts.tags)) tag → TablesBreak bytes head program parts say 11 tag
+  lacks_symbols : ((tag : ℕ) → IsBadTable head.headers parts.tags (hash_words bytes head.headers parts.tags) tag → ⊥)
+      → LacksSymbols head.headers parts.tags (length parts.symbols) → TablesBreak bytes head program parts say 11 dt_symtab
+  bad_name : (k offset : ℕ) → IsFirst (Lacks (LacksName say.strings parts.tags)) k → LacksName say.strings parts.tags k offset → TablesBreak bytes head program parts say 12 offset
+  bad_symbol_name : ((k : ℕ) → Lacks (LacksName say.strings parts.tags) k → ⊥) → (symbol offset : ℕ)
+      → IsFirst (Lacks (LacksSymbolName say.strings say.table (length parts.symbols))) symbol → LacksSymbolName say.strings say.table (length parts.symbols) symbol offset
+      → TablesBreak bytes head program parts say 12 offset
+  bad_symbol : (symbol : ℕ) → IsFirst (IsBadSymbolAt head.headers parts.symbols) symbol → TablesBreak bytes head program parts say 13 symbol
+  bad_reloc : (index : ℕ) → IsFirst (IsBadRelocAt head.headers parts.symbols parts.relocs say.words parts.relr) index → TablesBreak bytes head program parts say 14 index
+  has_feature : (feature : ℕ) → IsFirst (HasFeature head program parts.tags parts.symbols (parts.relocs ++ parts.plt_relocs)) feature → TablesBreak bytes head program parts say 15 feature
+  bad_slot : (index : ℕ) → IsFirst (IsBadSlotAt bytes head.headers parts.symbols (named parts.symbols parts.relocs parts.relr) parts.plt_relocs parts.pltgot) index
+      → TablesBreak bytes head program parts say 16 index
 
 -- the file breaks the rule with this number: it has no dynamic table that ends, or its tables break it
 pub data Breaks (bytes : List ℕ) (head : Head) (program : Bool) : ℕ → ℕ → Type 0 where
-  no_table : dynamic_tags bytes head.headers ≡ None → Breaks bytes head program 10 0
-  by_tables : (tags : List Tag) → dynamic_tags bytes head.headers ≡ Some tags → (rule number : ℕ) → TablesBreak bytes head program tags rule number → Breaks bytes head program rule number
+  no_table : ((tags : List Tag) → AreTags bytes head.headers tags → ⊥) → Breaks bytes head program 10 0
+  by_tables : (parts : DynParts) (say : AreParts bytes head.headers parts) (rule number : ℕ) → TablesBreak bytes head program parts say rule number → Breaks bytes head program rule number
 
--- no rule is broken, and each part stands at its place
+-- no rule is broken, and the tables say each field
 pub record SpellsDynamic (bytes : List ℕ) (head : Head) (program : Bool) (parts : DynParts) : Type 0 where
   pub kept : NoneBroken (Breaks bytes head program)
-  pub tags : dynamic_tags bytes head.headers ≡ Some parts.tags
-  pub say : parts ≡ parts_in bytes head.headers parts.tags
+  pub say : AreParts bytes head.headers parts
 
 -- the rule is broken with this number, and no rule before it is broken
 abbrev pub BreaksFirst : List ℕ → Head → Bool → NotAccepted → Type 0
@@ -40,3 +44,9 @@ BreaksFirst bytes head program fault = IsFirstBroken (Breaks bytes head program)
 -- the parts of a file with this head, as the program's or as another object's
 abbrev pub ArePartsOf : List ℕ → Head → DynParts → Type 0
 ArePartsOf bytes head parts = (program : Bool) × SpellsDynamic bytes head program parts
+
+-- what a reader answers: the parts that the tables spell, or the rule that they break first; want of memory says nothing of them
+abbrev pub Answers : List ℕ → Head → Bool → Result DynParts ReadFault → Type 0
+Answers bytes head program (Ok parts) = SpellsDynamic bytes head program parts
+Answers bytes head program (Err (faults.NotAccepted fault)) = BreaksFirst bytes head program fault
+Answers bytes head program (Err faults.Memory) = Unit {0}

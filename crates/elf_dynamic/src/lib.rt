@@ -2,7 +2,7 @@
 //!
 //! [`read_dynamic`] reads them from the bytes of a file with an accepted head. It answers what they
 //! say exactly where they break none of these rules, and else the first that they break, with a
-//! number; [`one_verdict`] says the same by relations.
+//! number; [`one_verdict`] says the same by relations, and [`accepted_tables`] what is then kept.
 //!
 //! 10. There is a dynamic table with bytes in the file, and a DT_NULL ends it.
 //! 11. The string table, the symbol table and a hash table are there, and whatever table is named has
@@ -42,5 +42,5 @@ mod symbol_rules;
 mod table_rules;
 mod tables;
 
-pub use law::one_verdict;
+pub use law::{accepted_tables, one_verdict};
 pub use reader::{JudgedParts, judge_dynamic, read_dynamic};

@@ -12,6 +12,7 @@ ghost use Rattle.elf_dynamic.specs.Counted.{counted_in, rules_from_names};
 ghost use Rattle.elf_dynamic.specs.Judged.{ArePlaces};
 ghost use Rattle.elf_dynamic.specs.Relr.{relr_places};
 ghost use Rattle.elf_dynamic.specs.Rules.{bad_table, dynamic_verdict, rules_on, tables_verdict};
+ghost use Rattle.elf_dynamic.specs.Verdict.{Answers};
 ghost use Rattle.dyn_table.specs.HashWords.{hash_words};
 ghost use Rattle.dyn_table.specs.Name.{string_in};
 ghost use Rattle.dyn_table.specs.Tag.{last_of, value_of, values_of};
@@ -19,6 +20,7 @@ ghost use Rattle.dyn_table.specs.TagNumbers.{dt_needed, dt_soname, dt_symtab};
 ghost use Rattle.elf_dynamic.specs.Tables.{count_in, parts_in, relr_bytes, symbol_bytes};
 
 use crate::feature::{Both, refused_feature};
+use crate::law::one_verdict;
 use crate::reloc_rules::judge_relocs;
 use crate::relr::{Judged, MOST_PLACES};
 use crate::slot_rules::{Slots, bad_slot};
@@ -357,6 +359,20 @@ pub fn judge_dynamic<'a>(
     }
 }
 
+/// The parts that the tables say, or the first rule that they break.
+fn read_judged(
+    alloc: Global,
+    bytes: &[u8],
+    head: &Head,
+    program: bool,
+) -> Result<DynParts, ReadFault>
+    requires { head_verdict bytes.now ≡ Ok head.now }
+    ensures { Gives result (dynamic_verdict bytes.now head.now program) }
+{
+    let judged = judge_dynamic(alloc, bytes, head, program)?;
+    Ok(judged.into_parts(alloc)?)
+}
+
 /// Reads the dynamic table of a file with this head, and the tables that it names, as those of the
 /// program or of another object.
 ///
@@ -370,8 +386,9 @@ pub fn read_dynamic(
     program: bool,
 ) -> Result<DynParts, ReadFault>
     requires { head_verdict bytes.now ≡ Ok head.now }
-    ensures { Gives result (dynamic_verdict bytes.now head.now program) }
+    ensures answers { Answers bytes.now head.now program result }
+    ensures verdict { Gives result (dynamic_verdict bytes.now head.now program) }
 {
-    let judged = judge_dynamic(alloc, bytes, head, program)?;
-    Ok(judged.into_parts(alloc)?)
+    one_verdict();
+    read_judged(alloc, bytes, head, program)
 }

@@ -1,0 +1,5 @@
+use Rattle.elf_dynamic.proofs.Keeping.{keeps}
+use Rattle.elf_dynamic.proofs.law.accepted_tables.Goals as goal
+
+pub returns : goal.returns
+returns c = keeps
