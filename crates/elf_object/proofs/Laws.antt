@@ -20,6 +20,7 @@ use Rattle.dyn_table.specs.HashWords.{hash_words}
 use Rattle.elf_dynamic.specs.Rules.{dynamic_verdict}
 use Rattle.elf_dynamic.specs.Verdict.{SpellsDynamic}
 use Rattle.elf_dynamic.specs.Verdict.{BreaksFirst as DynamicBreaks}
+use Rattle.elf_dynamic.specs.Keeps.{Keeps}
 use Rattle.elf_versions.specs.Spells.{SpellsVersions}
 use Rattle.elf_versions.specs.Spells.{BreaksFirst as VersionsBreak}
 use Rattle.elf_versions.specs.Verdict.{versions_verdict}
@@ -50,6 +51,7 @@ pub record Readings : Type 0 where
   pub bad_head : (bytes : List ℕ) (fault : NotAccepted) → (head_verdict bytes ≡ Err fault) ↔ HeadBreaks bytes fault
   pub parts : (bytes : List ℕ) (head : Head) (program : Bool) (parts : DynParts) → (dynamic_verdict bytes head program ≡ Ok parts) ↔ SpellsDynamic bytes head program parts
   pub bad_parts : (bytes : List ℕ) (head : Head) (program : Bool) (fault : NotAccepted) → (dynamic_verdict bytes head program ≡ Err fault) ↔ DynamicBreaks bytes head program fault
+  pub kept_parts : (bytes : List ℕ) (head : Head) (program : Bool) (parts : DynParts) → SpellsDynamic bytes head program parts → Keeps bytes head.headers parts
   pub versions : (bytes : List ℕ) (head : Head) (parts : DynParts) (versions : Versions) → (versions_verdict bytes head parts ≡ Ok versions) ↔ SpellsVersions bytes head parts versions
   pub bad_versions : (bytes : List ℕ) (head : Head) (parts : DynParts) (fault : NotAccepted) → (versions_verdict bytes head parts ≡ Err fault) ↔ VersionsBreak bytes head parts fault
   pub table : (bytes : List ℕ) (head : Head) (parts : DynParts) (t : HashTable) → (hash_verdict bytes head parts ≡ Ok t) ↔ ((t ≡ hash_words bytes head.headers parts.tags) × IsTableFor t parts.symbols parts.first_exported)
@@ -150,7 +152,7 @@ unfolding object_of
 own_table same bytes head program parts versions t o spelled table is =
     let versioned = same t parts.symbols (with_versions parts.symbols versions.versym) parts.first_exported
     (length-versions parts.symbols versions.versym)
-    (but_versions parts.symbols versions.versym (parts_unversioned bytes head parts spelled.say))
+    (but_versions parts.symbols versions.versym (parts_unversioned bytes head.headers parts spelled.say))
     table in
     subst (λ (x : Object). IsTableFor t x.symbols x.first_exported) (sym is) versioned
 
@@ -241,5 +243,5 @@ module _ (r : Readings) (bytes : List ℕ) (program : Bool) where
       let got = reads bytes program o t e in
       let spelled = (r.parts bytes got.head program got.parts).0 got.are_parts in
       let named : list_all (λ x. nat_lt x.symbol (length (with_versions got.parts.symbols got.versions.versym))) (got.parts.relocs ++ got.parts.plt_relocs) ≡ true =
-      subst (λ n. list_all (λ x. nat_lt x.symbol n) (got.parts.relocs ++ got.parts.plt_relocs) ≡ true) (sym (length-versions got.parts.symbols got.versions.versym)) (parts_name bytes got.head program got.parts spelled) in
+      subst (λ n. list_all (λ x. nat_lt x.symbol n) (got.parts.relocs ++ got.parts.plt_relocs) ≡ true) (sym (length-versions got.parts.symbols got.versions.versym)) (parts_name bytes got.head.headers got.parts (r.kept_parts bytes got.head program got.parts spelled)) in
       subst (λ (x : Object). names_own_symbols x ≡ true) got.is named

@@ -6,11 +6,11 @@ use Rattle.std.proofs.lemmas.List.FromFn.{length-enumerate_from}
 use Rattle.std.proofs.lemmas.Option.{slice_get_within}
 use Rattle.ld_base.specs.declared.object.Symbol.{Symbol}
 use Rattle.ld_base.specs.declared.parts.DynParts.{DynParts}
-use Rattle.ld_base.specs.declared.parts.Head.{Head}
+use Rattle.ld_base.specs.declared.parts.Header.{Header}
 use Rattle.acceptance.proofs.Tables.{get-table, length-table}
 use Rattle.dyn_table.specs.Name.{string_in}
 use Rattle.dyn_table.specs.Symbol.{symbol_name, symbol_named, symbols_in}
-use Rattle.elf_dynamic.specs.Tables.{parts_in}
+use Rattle.elf_dynamic.specs.Parts.{AreParts}
 use Rattle.elf_object.specs.Object.{with_version, with_versions}
 
 some_is : {X : Type 0} {x y : X} → Some x ≡ Some y → x ≡ y
@@ -46,16 +46,5 @@ but_versions symbols versym none i s e =
     found.1 ∙ ap Some (unversioned found.0 s _ found.2 (none i found.0 found.1))
 
 -- no symbol of a table has a version
-table_unversioned : (part strings : List ℕ) (count i : ℕ) (s : Symbol) → slice_get (symbols_in part strings count) i ≡ Some s → s.version ≡ 0
-unfolding symbols_in
-table_unversioned part strings count i s e =
-    let at : ℕ → Symbol = λ place. symbol_named part place (string_in strings (symbol_name part place)) in
-    let all = slice_get_within (symbols_in part strings count) i s e in
-    let within : i < count = omega (arith, length-table at 0 24 count) in
-    let is : at (0 + 24 * i) ≡ s = some_is (sym (get-table at 0 24 count i within) ∙ e) in
-    ap (λ (x : Symbol). x.version) (sym is)
-
-pub parts_unversioned : (bytes : List ℕ) (head : Head) (parts : DynParts) → parts ≡ parts_in bytes head.headers parts.tags
-    → (i : ℕ) (s : Symbol) → slice_get parts.symbols i ≡ Some s → s.version ≡ 0
-unfolding parts_in
-parts_unversioned bytes head parts say i s e = table_unversioned _ _ _ i s (subst (λ (p : DynParts). slice_get p.symbols i ≡ Some s) say e)
+pub parts_unversioned : (bytes : List ℕ) (headers : List Header) (parts : DynParts) → AreParts bytes headers parts → (i : ℕ) (s : Symbol) → slice_get parts.symbols i ≡ Some s → s.version ≡ 0
+parts_unversioned bytes headers parts say i s at = ap (λ (t : Symbol). t.version) (say.symbols.each i s at).1

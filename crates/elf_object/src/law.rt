@@ -22,6 +22,7 @@ pub fn one_object()
 {
     elf_head::one_verdict();
     elf_dynamic::one_verdict();
+    elf_dynamic::accepted_tables();
     elf_versions::one_verdict();
     sym_hash::one_verdict();
 }

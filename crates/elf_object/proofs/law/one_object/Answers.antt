@@ -7,6 +7,7 @@ readings c = record {
   bad_head = c.one_verdict.ensures.refused;
   parts = c.one_verdict-2.ensures.accepted;
   bad_parts = c.one_verdict-2.ensures.refused;
+  kept_parts = c.accepted_tables.ensures;
   versions = c.one_verdict-3.ensures.accepted;
   bad_versions = c.one_verdict-3.ensures.refused;
   table = c.one_verdict-4.ensures.accepted;
