@@ -1,5 +1,5 @@
 -- Symbols by the hashes of their names: for the reader of this crate alone.
-use Rattle.std.specs.Prelude.{◌≡◌, ℕ, ◌&&◌, Bool, true, false, not, nat_le, List, length, Option, Some, None, if◌then◌else◌, slice_index}
+use Rattle.std.specs.Prelude.{◌≡◌, ℕ, ◌&&◌, Bool, false, not, nat_le, List, length, Option, Some, None, if◌then◌else◌, slice_index}
 use Rattle.std.specs.Option.{option_map_or, option_or}
 use Rattle.std.specs.List.{slice_get}
 use Rattle.ld_base.specs.Symbol.{is_visible_definition}

@@ -1,4 +1,4 @@
-use Rattle.std.proofs.Common.{◌∙◌, sym, ℕ, List, false}
+use Rattle.std.proofs.Common.{◌∙◌, sym, ℕ, false}
 use Rattle.sym_hash.proofs.Missed.{lost_here, not_lost}
 use Rattle.sym_hash.proofs.judge.first_exported.Goals as goal
 

@@ -1,4 +1,4 @@
-use Rattle.std.proofs.Common.{◌∙◌, sym, ℕ, List}
+use Rattle.std.proofs.Common.{◌∙◌, sym}
 use Rattle.sym_hash.specs.Follow.{arrives}
 use Rattle.sym_hash.proofs.Missed.{lost_here, not_lost}
 use Rattle.sym_hash.proofs.sysv.first_lost.Goals as goal
