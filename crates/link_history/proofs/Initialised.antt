@@ -1,5 +1,5 @@
 -- Objects are being initialised from their loading until their constructors have run, and are initialised once.
-use Rattle.std.proofs.Common.{◌≡◌, ◌⊎◌, inl, inr, ⊎_elim, ℕ, zero, suc, ◌<◌, ◌≤◌, Bool, true, false, not, eqb, ◌||◌, List, [], ◌∷◌, ◌++◌, map, length, Option, Some, None, refl, sym, ap, subst, ◌∙◌, arith, ◌+◌}
+use Rattle.std.proofs.Common.{◌≡◌, ⊎_elim, ℕ, ◌<◌, ◌≤◌, Bool, true, false, not, eqb, List, [], ◌∷◌, ◌++◌, map, length, Option, Some, None, refl, sym, ap, subst, ◌∙◌, arith, ◌+◌}
 use Rattle.std.specs.Prelude.{if◌then◌else◌}
 use Rattle.std.specs.List.{Contains, filter, slice_get}
 use Rattle.std.proofs.lemmas.Bool.{eq-eqb, eqb-true, or_right, true≢false}
@@ -24,9 +24,9 @@ use Rattle.link_history.specs.Allowed.{AllowedIn, Closes, MayInitialise}
 use Rattle.link_history.specs.Flags.{is_deepbind, is_global}
 use Rattle.link_history.specs.Laws.{InitialisedOnce}
 use Rattle.link_history.specs.Legal.{Lawful}
-use Rattle.link_history.specs.Links.{Needed, stays}
+use Rattle.link_history.specs.Links.{stays}
 use Rattle.link_history.specs.Objects.{has, is_ready, serial_of}
-use Rattle.link_history.specs.Opening.{Loads as LoadsName, Opens, OpensName, unplaced}
+use Rattle.link_history.specs.Opening.{Opens, OpensName, unplaced}
 use Rattle.link_history.specs.Setting.{Machine, Setting, load_of}
 use Rattle.link_history.specs.Step.{die, dying_in, dying_object, gone_in, initialise, is_left, loaded, loading_of, lower, lowered_in, namespace_before, ready_in, ready_object, ready_state, step, unmap}
 use Rattle.link_history.proofs.History.{by_lawful}

@@ -22,12 +22,12 @@ use Rattle.link_event.specs.declared.event.SymAsk.{SymAsk}
 use Rattle.link_event.specs.declared.state.Module.{Module}
 use Rattle.scope_rule.specs.Opening.{opened}
 use Rattle.scope_rule.specs.declared.namespace.Namespace.{Namespace}
-use Rattle.tls_blocks.specs.Numbers.{AreNumbered, IsLeastFree, IsTaken, number_of, with_module}
+use Rattle.tls_blocks.specs.Numbers.{AreNumbered, IsLeastFree, number_of, with_module}
 use Rattle.link_history.specs.State.{State, Statics, empty_namespace}
 use Rattle.link_history.specs.After.{after}
 use Rattle.link_history.specs.Allowed.{AllowedIn}
 use Rattle.link_history.specs.Flags.{is_global}
-use Rattle.link_history.specs.Laws.{ModulesAreTidy, TakesLeast}
+use Rattle.link_history.specs.Laws.{TakesLeast}
 use Rattle.link_history.specs.Legal.{Lawful}
 use Rattle.link_history.specs.Objects.{has, is_startup}
 use Rattle.link_history.specs.Opening.{MayOpen, Opens, OpensName}
@@ -36,8 +36,6 @@ use Rattle.link_history.specs.Step.{die, dying_in, dying_object, gone_in, initia
 use Rattle.link_history.specs.Storage.{HaveModules, IsPlaceOf, module_of_place, with_modules, with_place}
 use Rattle.link_history.proofs.History.{by_history}
 use Rattle.link_history.proofs.Lists.{first_or_later, from_filter, here, in_filter, in_map, from_map, later, none_in, only_in}
-use Rattle.link_history.proofs.Alone.{alone_after, one_object}
-use Rattle.link_history.proofs.Brought.{LoadLaws}
 use Rattle.link_history.proofs.Changed.{Leaves, leaves_dying, leaves_ready}
 use Rattle.link_history.proofs.Closed.{each_left, stayed}
 use Rattle.link_history.proofs.Dangling.{left_nonempty}

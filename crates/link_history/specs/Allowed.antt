@@ -74,12 +74,14 @@ pub record MayUnmap (s : State) (hart : ℕ) (set : List ℕ) : Type 0 where
 
 -- ---- granting
 
+-- the next number, by a hart without an open grant, for a slot that may be bound to what it chooses now
 pub record MayGrant (s : State) (number hart owner slot : ℕ) (choice : Choice) (value : ℕ) : Type 0 where
   pub numbered : number ≡ length s.grants + 1
   pub free : HasNoGrant s hart
   pub may : MayBeBound s owner slot choice
   pub is : value ≡ address s choice
 
+-- the hart asked for a slot that may not be bound
 pub record IsUnresolved (s : State) (hart owner slot : ℕ) (choice : Choice) : Type 0 where
   pub free : HasNoGrant s hart
   pub may_not : MayNotBeBound s owner slot choice
@@ -93,7 +95,7 @@ pub record MayInitialise (s : State) (hart object : ℕ) : Type 0 where
   pub by : loading.hart ≡ hart
   pub next : IsInitNext s loading object
 
--- it is the latest initialised one of the list that wasn't finalised
+-- it stands first
 abbrev pub IsFirst : List ℕ → ℕ → Type 0
 IsFirst finis object = slice_get finis 0 ≡ Some object
 

@@ -17,13 +17,14 @@ abbrev pub asks_too_long : State → Option (List ℕ) → Bool
 asks_too_long s None = false
 asks_too_long s (Some name) = not (is_startup s) && is_too_long name
 
--- the namespace's number: one that is there, or for a new one the least that is free. The null name is the program's, in the base
--- namespace alone.
+-- the least number that no namespace has
 pub record IsFreeNumber (s : State) (id : ℕ) : Type 0 where
   pub free : has_namespace s id ≡ false
   pub below : id < 16
   pub least : (other : ℕ) → other < id → IsTrue (has_namespace s other)
 
+-- the namespace's number: one that is there, or for a new one the least that is free. The null name is the program's, in the base
+-- namespace alone.
 abbrev pub IsNamespace : State → Option ℕ → Option (List ℕ) → ℕ → Type 0
 IsNamespace s (Some n) (Some name) id = (id ≡ n) × IsTrue (has_namespace s n)
 IsNamespace s (Some n) None id = (id ≡ n) × (n ≡ 0)
@@ -47,11 +48,11 @@ pub record IsAsked (s : State) (ask : OpenAsk) (id : ℕ) : Type 0 where
   pub flags : IsTrue (are_flags ask.flags)
   pub namespace : IsNamespace s ask.ns ask.name id
 
--- startup's opening: by hart 0, in the base namespace, of a name, global, and lazy or now
 abbrev pub HasName : Option (List ℕ) → Type 0
 HasName (Some name) = Unit {0}
 HasName None = ⊥
 
+-- startup's opening: by hart 0, in the base namespace, of a name, global, and lazy or now
 pub record IsStartupAsk (hart : ℕ) (ask : OpenAsk) : Type 0 where
   pub by_first : hart ≡ 0
   pub base : ask.ns ≡ Some 0

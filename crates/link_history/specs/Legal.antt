@@ -23,7 +23,7 @@ Lawful m events = (k : ℕ) (e : Event) → slice_get events k ≡ Some e → (w
 
 -- ---- whole histories
 
--- the slot was bound at load with this value, or one grant of it alone is bound, with this value
+-- one grant of the slot alone is bound, with this value
 pub record IsOnlyBound (s : State) (owner slot value : ℕ) : Type 0 where
   pub grant : Granting
   pub there : Contains s.grants grant
@@ -32,6 +32,7 @@ pub record IsOnlyBound (s : State) (owner slot value : ℕ) : Type 0 where
   pub holds : grant.value ≡ value
   pub only : (other : Granting) → Contains s.grants other → IsTrue (is_of owner slot other) → other.standing ≡ Bound → other.number ≡ grant.number
 
+-- what a lost grant saw is the slot's value: that of its object's loading, or that of the one bound grant
 abbrev pub Settled : State → Granting → ℕ → Type 0
 Settled s g saw = (value_at_load s g.owner g.slot ≡ Some saw) ⊎ IsOnlyBound s g.owner g.slot saw
 

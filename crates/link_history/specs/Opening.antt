@@ -40,11 +40,12 @@ unplaced o = record o { base = 0; «module» = None }
 abbrev pub there : State → ℕ → List Loaded
 there s id = (namespace_before s id).objects
 
--- the new objects have their modules; what is reserved for them and, at startup, beside them
+-- the new objects are those that were found, with their modules
 pub record HaveStorage (s : State) (news added : List Loaded) : Type 0 where
   pub same : map unplaced added ≡ news
   pub modules : HaveModules (is_startup s) s.modules s.statics added
 
+-- what is reserved for them and, at startup, beside them
 abbrev pub wanted : Setting → State → List Loaded → List Area
 wanted w s added = areas (is_startup s) (statics_with added s.statics) w.machine.harts added
 

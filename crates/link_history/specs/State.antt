@@ -50,6 +50,7 @@ pub record State : Type 0 where
   pub pinned : List ℕ
   -- the closings whose objects aren't unmapped yet
   pub closings : List Closing
+  -- the objects whose constructors have run, in the order in which they did, and those whose destructors have
   pub inits : List ℕ
   pub finis : List ℕ
   pub kept : List Kept
