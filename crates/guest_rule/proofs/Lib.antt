@@ -13,4 +13,6 @@ pub mod Marks
 pub mod Seating
 pub mod Steps
 pub mod Begins
+pub mod Joining
 pub mod Table
+pub mod Worked

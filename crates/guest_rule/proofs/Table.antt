@@ -2,7 +2,7 @@
 use Rattle.std.proofs.Common.{◌≡◌, ℕ, ◌<◌, List, [], refl, slice_index, slice_set}
 use mathlib.Core.Option.{some}
 use lib.ListN.{get_elem?}
-use Rattle.atomic_table.specs.Table.{Allows, keeps, Me, State, Step}
+use Rattle.atomic_table.specs.Table.{Allows, keeps, State, Step}
 use Rattle.guest_rule.specs.declared.kind.Kind.{Kind}
 use Rattle.guest_rule.specs.declared.kind.Kind.TheVariants.{Hart as OfHart, Keeper as OfKeeper}
 use Rattle.guest_rule.specs.declared.view.View.{View}

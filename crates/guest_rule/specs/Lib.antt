@@ -11,4 +11,6 @@ pub mod Slots
 pub mod Generations
 pub mod Rule
 pub mod Start
+pub mod Joining
 pub mod Table
+pub mod Worked

@@ -4,7 +4,7 @@ use Rattle.atomic_table.specs.Table.{Me, Step}
 use Rattle.guest_rule.specs.declared.kind.Kind.{Kind}
 use Rattle.guest_rule.specs.declared.kind.Kind.TheVariants.{Hart as OfHart, Keeper as OfKeeper}
 use Rattle.guest_rule.specs.declared.view.View.{View}
-use Rattle.guest_rule.specs.declared.view.View.TheVariants.{Keeper, Hart, Note, Spent}
+use Rattle.guest_rule.specs.declared.view.View.TheVariants.{Keeper, Hart}
 use Rattle.guest_rule.specs.Operations.{Op}
 use Rattle.guest_rule.specs.HartSteps.{HartReady, HartLearns, hart_word, hart_op, hart_after}
 use Rattle.guest_rule.specs.KeeperSteps.{KeeperReady, KeeperLearns, keeper_word, keeper_op, keeper_after}

@@ -1,7 +1,6 @@
 //! What holds of the rule.
 
-ghost use Rattle.std.specs.Prelude.{◌≡◌, ◌≢◌, ℕ, List, [], ◌∷◌, ◌<◌, Some, Contains, slice_index};
-ghost use Rattle.guest_rule.specs.declared.entry.Exchange.{Exchange};
+ghost use Rattle.std.specs.Prelude.{ℕ, [], ◌∷◌};
 ghost use Rattle.guest_rule.specs.declared.kind.HartKind.{HartKind};
 ghost use Rattle.guest_rule.specs.declared.kind.KeeperKind.{KeeperKind};
 ghost use Rattle.guest_rule.specs.declared.view.HartView.{HartView};
@@ -11,7 +10,9 @@ ghost use Rattle.guest_rule.specs.declared.view.View.TheVariants.{Keeper};
 ghost use Rattle.guest_rule.specs.HartSteps.{HartReady};
 ghost use Rattle.guest_rule.specs.KeeperSteps.{KeeperReady};
 ghost use Rattle.guest_rule.specs.Rule.{HartKeeps, IsGuest, KeeperKeeps};
+ghost use Rattle.guest_rule.specs.Joining.{HasNote, HasRoom, JoinKeeps, MayTake, SplitKeeps, new_hart, note_of, takes_in, with_hart};
 ghost use Rattle.guest_rule.specs.Start.{first_keeper, first_words};
+ghost use Rattle.guest_rule.specs.Worked.{AnotherHasLocked, ConditionalFails, OneLocks, OneWins, RoleComesAndGoes};
 
 /// The rule holds at the start.
 pub fn rule_begins()
@@ -27,4 +28,26 @@ pub fn hart_steps_keep()
 /// The same of a step of the keeper.
 pub fn keeper_steps_keep()
     ensures { (kind : KeeperKind) (seat : ℕ) (k : KeeperView) → KeeperReady kind k → KeeperKeeps kind seat k }
+{}
+
+/// A hart's seat may be made from the keeper's while there are fewer than 16, and a note from either
+/// sort of seat.
+pub fn made_seats_keep()
+    ensures hart { (seat : ℕ) (v : View) → HasRoom v → SplitKeeps seat v (with_hart v) (new_hart v) }
+    ensures note { (seat : ℕ) (v : View) → HasNote v → SplitKeeps seat v v (note_of v) }
+{}
+
+/// A hart's seat may be joined into the keeper's, a hart's note too, and a keeper's note into a hart's
+/// seat.
+pub fn joined_seats_keep()
+    ensures { (seat : ℕ) (v : View) (other : ℕ) (w : View) → MayTake v w → JoinKeeps seat v other w (takes_in v w) }
+{}
+
+/// Worked steps of two harts on one doubleword and on one slot.
+pub fn worked_steps()
+    ensures one_locks { OneLocks }
+    ensures another_has_locked { AnotherHasLocked }
+    ensures conditional_fails { ConditionalFails }
+    ensures one_wins { OneWins }
+    ensures roles { RoleComesAndGoes }
 {}

@@ -23,8 +23,11 @@ mod view;
 
 pub use entry::{Entry, Exchange, Grant, RowWord};
 pub use kind::{Ask, HartKind, KeeperKind, Kind, LoadAsk, StoreAsk};
-pub use law::{hart_steps_keep, keeper_steps_keep, rule_begins};
-pub use rule::{Aimed, Does, GuestRule};
+pub use law::{
+    hart_steps_keep, joined_seats_keep, keeper_steps_keep, made_seats_keep, rule_begins,
+    worked_steps,
+};
+pub use rule::{Aimed, Does, GuestRule, MakesHart, MakesNote, TakesIn};
 pub use view::{
     Access, Fate, HartView, KeeperView, Kept, Lane, Offer, Row, Settled, Slip, Told, TrailItem,
     View,

@@ -1,7 +1,7 @@
 //! The rule, as a table of atomic words takes it.
 
 use crate::{Kind, View};
-use atomic_table::{Play, TableRule};
+use atomic_table::{Join, Play, Split, TableRule};
 use std::marker::PhantomData;
 
 /// The rule of a table without slots, whose words are those of guest memory.
@@ -34,4 +34,38 @@ impl<A: Aimed> Play<(), View> for Does<A> {
     ghost use Rattle.guest_rule.specs.Table.{Tells};
 
     ghost then = { Tells A.kind };
+}
+
+/// A hart's seat is made from the keeper's.
+pub struct MakesHart;
+
+impl Split<View> for MakesHart {
+    ghost use Rattle.guest_rule.specs.Joining.{new_hart, with_hart};
+
+    ghost left = { with_hart };
+
+    ghost right = { new_hart };
+}
+
+/// A note is made, and the seat stays as it is.
+pub struct MakesNote;
+
+impl Split<View> for MakesNote {
+    ghost use Rattle.guest_rule.specs.Joining.{note_of};
+
+    ghost left = { λ v. v };
+
+    ghost right = { note_of };
+}
+
+/// A seat takes in a hart's seat or a note.
+pub struct TakesIn;
+
+impl Join<View> for TakesIn {
+    ghost use Rattle.guest_rule.specs.declared.view.View.TheVariants.{Spent};
+    ghost use Rattle.guest_rule.specs.Joining.{takes_in};
+
+    ghost both = { takes_in };
+
+    ghost spent = { Spent };
 }

@@ -1,0 +1,17 @@
+use Rattle.guest_rule.proofs.Worked.{another_has_locked, conditional_fails, one_locks, one_wins, role_comes_and_goes}
+use Rattle.guest_rule.proofs.law.worked_steps.Goals as goal
+
+pub returns-clause-one_locks : goal.returns-clause-one_locks
+returns-clause-one_locks c = one_locks
+
+pub returns-clause-another_has_locked : goal.returns-clause-another_has_locked
+returns-clause-another_has_locked c = another_has_locked
+
+pub returns-clause-conditional_fails : goal.returns-clause-conditional_fails
+returns-clause-conditional_fails c = conditional_fails
+
+pub returns-clause-one_wins : goal.returns-clause-one_wins
+returns-clause-one_wins c = one_wins
+
+pub returns-clause-roles : goal.returns-clause-roles
+returns-clause-roles c = role_comes_and_goes
