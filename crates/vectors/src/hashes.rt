@@ -1,10 +1,9 @@
 //! Functions of names.
 
-use crate::calls::{show, show_some};
 use scope_rule::linker_symbol;
 use std::alloc::Global;
 use sym_hash::{gnu_hash, sysv_hash};
-use test_file::Fault;
+use test_file::{Fault, show, show_some};
 
 pub fn sysv(alloc: Global, name: &str) -> Result<String, Fault> {
     show(alloc, sysv_hash(name.as_bytes()))

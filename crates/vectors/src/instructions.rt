@@ -1,14 +1,12 @@
 //! Instructions and what they compute.
 
-use crate::calls::show;
-use crate::words::Words;
 use rv_hart::{Access, Answer, Hart, complete, plan};
 use rv_isa::{Instr, Reg, RegOp, decode, encode};
 use std::alloc::Global;
-use test_file::Fault;
+use test_file::{Fault, Words, show};
 
 /// The instruction of a word, which is encoded as that word again.
-pub fn instruction(alloc: Global, mut words: Words) -> Result<String, Fault> {
+pub fn instruction(alloc: Global, words: &mut Words) -> Result<String, Fault> {
     let word = words.number32()?;
     let Some(instr) = decode(word) else {
         return Ok(String::from_str(alloc, "none")?);
@@ -63,7 +61,7 @@ fn operation(mnemonic: &str) -> Result<RegOp, Fault> {
 }
 
 /// What an operation on two registers gives, as a hart computes it.
-pub fn computed(alloc: Global, mut words: Words) -> Result<String, Fault> {
+pub fn computed(alloc: Global, words: &mut Words) -> Result<String, Fault> {
     let op = operation(words.text()?)?;
     let mut hart = Hart::new(0, 0, 0, 0);
     hart.x[11] = words.number()?;

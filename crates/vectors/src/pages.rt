@@ -1,10 +1,8 @@
 //! Pages of guest memory, which stay given away from line to line.
 
-use crate::calls::show;
-use crate::words::Words;
 use address_space::{NoRoom, Regions};
 use std::alloc::Global;
-use test_file::Fault;
+use test_file::{Fault, Words, show};
 
 /// From here on all pages are free.
 pub fn all_free(alloc: Global, regions: &mut Regions) -> Result<String, Fault> {
@@ -19,7 +17,7 @@ pub fn copied(alloc: Global, regions: &mut Regions) -> Result<String, Fault> {
 }
 
 /// Where so many pages are given away, at a multiple of an alignment.
-pub fn reserve(alloc: Global, regions: &mut Regions, mut words: Words) -> Result<String, Fault> {
+pub fn reserve(alloc: Global, regions: &mut Regions, words: &mut Words) -> Result<String, Fault> {
     let (pages, align) = (words.number()?, words.number()?);
     if pages == 0 || align == 0 {
         return Err(Fault::Unclear);
@@ -31,13 +29,17 @@ pub fn reserve(alloc: Global, regions: &mut Regions, mut words: Words) -> Result
 }
 
 /// Whether the pages from an address on are given away, so many of them.
-pub fn reserve_at(alloc: Global, regions: &mut Regions, mut words: Words) -> Result<String, Fault> {
+pub fn reserve_at(
+    alloc: Global,
+    regions: &mut Regions,
+    words: &mut Words,
+) -> Result<String, Fault> {
     let (address, pages) = (words.number()?, words.number()?);
     show_given(alloc, regions.reserve_at(address, pages))
 }
 
 /// Gives pages away from an address on, and takes them back.
-pub fn borrow(alloc: Global, regions: &mut Regions, mut words: Words) -> Result<String, Fault> {
+pub fn borrow(alloc: Global, regions: &mut Regions, words: &mut Words) -> Result<String, Fault> {
     let (address, pages) = (words.number()?, words.number()?);
     match regions.reserve_at(address, pages) {
         Ok(()) => {

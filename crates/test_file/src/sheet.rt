@@ -1,22 +1,26 @@
 //! A file of calls, read line by line.
 
-use crate::calls::Calls;
+use crate::{Fault, Report, whole, without_remark};
 use std::alloc::{AllocError, Global};
-use test_file::{Fault, Report, whole, without_remark};
 
-/// A file of calls, as far as it is read.
+/// The calls that the lines of a file may name.
+pub trait Calls {
+    /// What a call gives.
+    fn answer(&mut self, line: &str) -> Result<String, Fault>;
+}
+
+/// A file of calls, as far as it is read. A line is a call with its arguments, an equals sign between
+/// spaces, and the answer.
 #[derive(Drop)]
-pub struct Sheet {
-    calls: Calls,
+pub struct Sheet<C> {
+    calls: C,
     report: Report,
 }
 
-impl Sheet {
-    pub fn new(alloc: Global) -> Self {
-        Sheet {
-            calls: Calls::new(alloc),
-            report: Report::new(alloc),
-        }
+impl<C: Calls + Drop> Sheet<C> {
+    pub fn new(alloc: Global, calls: C) -> Self {
+        let report = Report::new(alloc);
+        Sheet { calls, report }
     }
 
     /// Makes all calls, and says which of them don't hold.

@@ -1,10 +1,8 @@
 //! Modules of thread-local storage, which stay from line to line, and the blocks of one hart.
 
-use crate::calls::{show, show_some};
-use crate::words::Words;
 use ld_base::{Serial, TlsSeg};
 use std::alloc::Global;
-use test_file::Fault;
+use test_file::{Fault, Words, show, show_some};
 use tls_blocks::{Dtv, TlsModules};
 
 /// The greatest alignment and size of a segment.
@@ -27,7 +25,7 @@ impl Storage {
 
     /// Adds an object's module: its serial, its segment's four numbers, and whether it is `late`. Gives
     /// its number and offset.
-    pub fn add(&mut self, alloc: Global, mut words: Words) -> Result<String, Fault> {
+    pub fn add(&mut self, alloc: Global, words: &mut Words) -> Result<String, Fault> {
         let serial = Serial::new(words.number()?);
         let (vaddr, filesz) = (words.number()?, words.number()?);
         let (memsz, align) = (words.number()?, words.number()?);
@@ -52,7 +50,7 @@ impl Storage {
     }
 
     /// Removes a module. Gives the generation.
-    pub fn remove(&mut self, alloc: Global, mut words: Words) -> Result<String, Fault> {
+    pub fn remove(&mut self, alloc: Global, words: &mut Words) -> Result<String, Fault> {
         let number = words.number()?;
         let modules = &mut self.modules;
         if modules.find(number).is_none() || modules.generation() == u64::MAX {
@@ -67,14 +65,14 @@ impl Storage {
     }
 
     /// What a hart that knows no block is told of a module.
-    pub fn first_answer(&self, alloc: Global, mut words: Words) -> Result<String, Fault> {
+    pub fn first_answer(&self, alloc: Global, words: &mut Words) -> Result<String, Fault> {
         let module = words.number()?;
         let answer = Dtv::new(alloc).address(&self.modules, module);
         show(alloc, answer)
     }
 
     /// Keeps a block of a module.
-    pub fn keep(&mut self, alloc: Global, mut words: Words) -> Result<String, Fault> {
+    pub fn keep(&mut self, alloc: Global, words: &mut Words) -> Result<String, Fault> {
         let (module, block) = (words.number()?, words.number()?);
         if self.modules.find(module).is_none() {
             return Err(Fault::Unclear);
@@ -84,7 +82,7 @@ impl Storage {
     }
 
     /// The block that is kept, at a generation, for a module.
-    pub fn kept(&self, alloc: Global, mut words: Words) -> Result<String, Fault> {
+    pub fn kept(&self, alloc: Global, words: &mut Words) -> Result<String, Fault> {
         let (generation, module) = (words.number()?, words.number()?);
         show_some(alloc, self.blocks.kept(generation, module))
     }

@@ -6,7 +6,6 @@
 ghost use Rattle.std.specs.Prelude.{◌≡◌, IfOk};
 ghost use Rattle.relocator.specs.Example.{bytes_of_data, code, data_segment, defined, example, example_base, example_bindings, example_places, example_serial, lazily, own, symbol, undefined};
 
-use crate::words::Words;
 use ld_base::{
     Bytes, Choice, Kind, Name, Names, ObjFlags, Object, Places, Reloc, Relocs, Segment, Segments,
     Sequence, Serial, Span, Symbol, Symbols,
@@ -14,13 +13,13 @@ use ld_base::{
 use relocator::{Binding, Bindings, ModulePlace, TlsPlaces, relocate, worked_example};
 use seg_image::{Image, make_image};
 use std::alloc::{AllocError, Global};
-use test_file::Fault;
+use test_file::{Fault, Words};
 
 /// Where the object lies.
 const BASE: u64 = 0x30000;
 
 /// The word at a place of the relocated object, and its role.
-pub fn word(alloc: Global, mut words: Words) -> Result<String, Fault> {
+pub fn word(alloc: Global, words: &mut Words) -> Result<String, Fault> {
     let place = words.number()?;
     let image = relocated(alloc)?;
     let offset = place.wrapping_add(BASE).wrapping_sub(image.start);
@@ -33,19 +32,26 @@ pub fn word(alloc: Global, mut words: Words) -> Result<String, Fault> {
 
 /// The image of the object, relocated.
 fn relocated(alloc: Global) -> Result<Image, Fault> {
-    worked_example();
     let object = object(alloc)?;
+    image_of(alloc, &object)
+}
+
+/// The image of the object, with the example's bindings.
+fn image_of(alloc: Global, object: &Object) -> Result<Image, Fault>
+    requires { object.now ≡ example }
+{
     let bindings = bindings(alloc)?;
+    bound_image(alloc, object, &bindings)
+}
+
+fn bound_image(alloc: Global, object: &Object, bindings: &Bindings) -> Result<Image, Fault>
+    requires object { object.now ≡ example }
+    requires bindings { bindings.now ≡ example_bindings }
+{
+    worked_example();
     let places = places(alloc)?;
-    let mut image = make_image(alloc, &object, BASE)?;
-    match relocate(
-        &mut image,
-        &object,
-        BASE,
-        Serial::new(7),
-        &bindings,
-        &places,
-    ) {
+    let mut image = make_image(alloc, object, BASE)?;
+    match relocate(&mut image, object, BASE, Serial::new(7), bindings, &places) {
         Ok(()) => Ok(image),
         Err(_) => Err(Fault::Unclear),
     }

@@ -1,7 +1,7 @@
 //! The arguments of a call.
 
+use crate::{Fault, whole};
 use std::str::SplitWhitespace;
-use test_file::{Fault, whole};
 
 /// The words behind a call's name, in order.
 #[derive(Drop)]
@@ -29,10 +29,5 @@ impl<'a> Words<'a> {
     /// The next word, which is a number of 32 bits.
     pub fn number32(&mut self) -> Result<u32, Fault> {
         u32::try_from(self.number()?).map_err(|_| Fault::Unclear)
-    }
-
-    /// The next word, which is a number of 8 bits.
-    pub fn number8(&mut self) -> Result<u8, Fault> {
-        u8::try_from(self.number()?).map_err(|_| Fault::Unclear)
     }
 }
