@@ -26,7 +26,7 @@ use Rattle.link_history.specs.Addresses.{is_linkers_page}
 use Rattle.link_history.specs.After.{after}
 use Rattle.link_history.specs.Allowed.{AllowedIn}
 use Rattle.link_history.specs.Bound.{linked_with, uncopied, with_copies}
-use Rattle.link_history.specs.Laws.{ImagesAreInstalled, IsRangeOf}
+use Rattle.link_history.specs.Laws.{ImagesAreInstalled, IsRangeOf, RangesAreApart}
 use Rattle.link_history.specs.Legal.{Lawful}
 use Rattle.link_history.specs.Memory.{covers, data_at, image_at, is_in, role_at, word_at, word_in}
 use Rattle.link_history.specs.Objects.{has}
@@ -159,6 +159,19 @@ range_lies ranges apart r there some =
     let last_is : r.address + 4096 * (r.pages - 1) ≡ 0x10000 + 4096 * last.0 = last.2 in
     let last_low : last.0 < 2047 = last.1 in
     (first.0, omega (arith, first_is), omega (arith, last_is, last_low, some))
+
+pub ranges_apart : (m : Machine) (journal : List Event) → Lawful m journal → RangesAreApart (after journal)
+ranges_apart m journal lawful =
+    let apart = apart_after m journal lawful in
+    record {
+      one = apart.one;
+      inside = apart.inside;
+      guest = λ r there some.
+          let lies = range_lies (after journal).ranges apart r there some in
+          let at : r.address ≡ 0x10000 + 4096 * lies.0 = lies.1 in
+          let high : r.address + 4096 * r.pages ≤ 0x80f000 = lies.2 in
+          record { aligned = omega (arith, at); low = omega (arith, at); high = omega (arith, high) };
+    }
 
 -- an address is of one range
 pub one_cover : (ranges : List Range) → Apart ranges → (a : ℕ) (r q : Range) → Contains ranges r → Contains ranges q → covers a r ≡ true → covers a q ≡ true → r ≡ q

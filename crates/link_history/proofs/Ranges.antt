@@ -24,7 +24,6 @@ use Rattle.link_history.specs.State.{State}
 use Rattle.link_history.specs.After.{after}
 use Rattle.link_history.specs.Allowed.{AllowedIn}
 use Rattle.link_history.specs.Areas.{AreGiven, Area, StandsAt, Where, anywhere, free_pages, only}
-use Rattle.link_history.specs.Laws.{RangesAreApart}
 use Rattle.link_history.specs.Legal.{Lawful}
 use Rattle.link_history.specs.Lookup.{MayHaveBlock}
 use Rattle.link_history.specs.Objects.{object_at}
@@ -209,6 +208,3 @@ apart_after m journal lawful =
     subst (λ (es : List Event). Apart (after es).ranges) (take_all (length journal) journal (omega arith))
     (by_history m (λ s. Apart s.ranges) (record { one = λ page r q there. absurd (none_in r there); inside = λ r k there. absurd (none_in r there) })
     (λ w past e same apart may. apart_step w past (after past) e may apart) journal lawful (length journal))
-
-pub ranges_apart : (m : Machine) (journal : List Event) → Lawful m journal → RangesAreApart (after journal)
-ranges_apart m journal lawful = let apart = apart_after m journal lawful in record { one = apart.one; inside = apart.inside }

@@ -2,7 +2,7 @@
 use Rattle.std.specs.Prelude.{◌≡◌, ◌≢◌, ℕ, ◌+◌, ◌*◌, ◌^◌, ◌<◌, ◌≤◌, ◌⊎◌, ◌==◌, if◌then◌else◌, Contains, drop, find, flat_map, length, map, List, Option, IsTrue, Some, None, false, ◌∷◌, ◌++◌}
 use Rattle.std.specs.List.{slice_get}
 use Rattle.std.specs.Option.{is_some, option_and_then}
-use Rattle.address_space.specs.Pages.{guest_pages, is_within}
+use Rattle.address_space.specs.Pages.{guest_pages, is_within, IsGuestRange}
 use Rattle.ld_base.specs.declared.linking.Choice.{Choice}
 use Rattle.ld_base.specs.declared.linking.Choice.TheVariants.{Def, WeakZero, Missing}
 use Rattle.link_history.specs.Addresses.{is_code_in, is_linkers_page}
@@ -213,6 +213,7 @@ pub record RangesAreApart (s : State) : Type 0 where
   pub one : (page : ℕ) (r q : Range) → Contains s.ranges r → Contains s.ranges q → Contains guest_pages page
       → IsTrue (is_within r.address r.pages page) → IsTrue (is_within q.address q.pages page) → r ≡ q
   pub inside : (r : Range) (k : ℕ) → Contains s.ranges r → k < r.pages → Contains guest_pages (r.address + 4096 * k)
+  pub guest : (r : Range) → Contains s.ranges r → 0 < r.pages → IsGuestRange r.address r.pages
 
 -- pages that are reserved for an object are those of an image, and for a block those of a block; and each block has its pages
 pub record RangesAreOwned (s : State) : Type 0 where

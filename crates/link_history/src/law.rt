@@ -18,11 +18,12 @@ ghost use Rattle.link_history.specs.Exits.{exits, initialised_by_another, settin
 ghost use Rattle.link_history.specs.Legal.{Lawful, Legal, Whole};
 ghost use Rattle.link_history.specs.Objects.{serial_of};
 ghost use Rattle.link_history.specs.Setting.{Machine, Setting};
-ghost use Rattle.link_history.specs.Step.{lower};
+ghost use Rattle.link_history.specs.Step.{lower, step};
 
-/// A history grows event by event: a legal one is legal with one more event that is allowed, and
-/// each of its beginnings is.
+/// A history grows event by event: the state after one more event is a step on, a legal history is
+/// legal with one more event that is allowed, and each of its beginnings is.
 pub fn legal_step_by_step()
+    ensures state { (events : List Event) (e : Event) → after (events ++ e ∷ []) ≡ step (after events) e }
     ensures lawful { (w : Setting) (events : List Event) → Legal w events → Lawful w.machine events }
     ensures push { (w : Setting) (events : List Event) (e : Event) → Legal w events → Allowed w events e → Legal w (events ++ e ∷ []) }
     ensures front { (w : Setting) (events : List Event) (k : ℕ) → Legal w events → Legal w (take k events) }

@@ -1,5 +1,8 @@
-use Rattle.link_history.proofs.History.{legal_is_lawful, legal_push, legal_take, lawful_push, lawful_take}
+use Rattle.link_history.proofs.History.{after_push, legal_is_lawful, legal_push, legal_take, lawful_push, lawful_take}
 use Rattle.link_history.proofs.law.legal_step_by_step.Goals as goal
+
+pub returns-clause-state : goal.returns-clause-state
+returns-clause-state c = after_push
 
 pub returns-clause-lawful : goal.returns-clause-lawful
 returns-clause-lawful c = legal_is_lawful
