@@ -1,11 +1,13 @@
 //! What holds in each state of a lawful history.
 
-ghost use Rattle.std.specs.Prelude.{◌≡◌, ℕ, List, ◌∷◌, ◌++◌, [], take, map, length};
+ghost use Rattle.std.specs.Prelude.{◌≡◌, ◌≢◌, ℕ, List, ◌∷◌, ◌++◌, [], take, map, length};
 ghost use Rattle.std.specs.List.{range_with_len};
+ghost use Rattle.ld_base.specs.declared.linking.Choice.{Choice};
+ghost use Rattle.ld_base.specs.declared.linking.Choice.TheVariants.{Missing, WeakZero};
 ghost use Rattle.ld_base.specs.declared.linking.Loaded.{Loaded};
 ghost use Rattle.link_event.specs.declared.event.Event.{Event};
 ghost use Rattle.link_event.specs.declared.event.CloseAnswer.TheVariants.{Done as Closed};
-ghost use Rattle.link_event.specs.declared.event.Event.TheVariants.{Close, Open};
+ghost use Rattle.link_event.specs.declared.event.Event.TheVariants.{Close, Grant, Open, Unresolved};
 ghost use Rattle.link_event.specs.declared.event.OpenAnswer.TheVariants.{Done};
 ghost use Rattle.link_event.specs.declared.event.OpenAsk.{OpenAsk};
 ghost use Rattle.link_event.specs.declared.event.Range.{Range};
@@ -127,6 +129,17 @@ pub fn slots_enter_code()
     scope_rule::serials_follow();
     scope_rule::found_stands();
 }
+
+/// A grant chooses something: a definition, or nothing by a weak symbol and then the value 0. What is
+/// unresolved has no weak symbol.
+pub fn grants_choose()
+    ensures some { (w : Setting) (past : List Event) (number hart owner slot : ℕ) (choice : Choice) (value : ℕ) →
+        Allowed w past (Grant number hart owner slot choice value) → choice ≢ Missing }
+    ensures weak { (w : Setting) (past : List Event) (number hart owner slot : ℕ) (choice : Choice) (value : ℕ) →
+        Allowed w past (Grant number hart owner slot choice value) → choice ≡ WeakZero → value ≡ 0 }
+    ensures unresolved { (w : Setting) (past : List Event) (hart owner slot : ℕ) (choice : Choice) →
+        Allowed w past (Unresolved hart owner slot choice) → choice ≢ WeakZero }
+{}
 
 /// What a slot got when its object was loaded is 0, an address in the linker's own page, or code of an
 /// object that is mapped now, which the slot chose then.
