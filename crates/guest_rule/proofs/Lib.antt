@@ -16,3 +16,4 @@ pub mod Begins
 pub mod Joining
 pub mod Table
 pub mod Worked
+pub mod Clauses

@@ -14,3 +14,4 @@ pub mod Start
 pub mod Joining
 pub mod Table
 pub mod Worked
+pub mod Clauses

@@ -1,12 +1,13 @@
 //! What holds of the rule.
 
-ghost use Rattle.std.specs.Prelude.{ℕ, [], ◌∷◌};
+ghost use Rattle.std.specs.Prelude.{ℕ, List, [], ◌∷◌, slice_index};
 ghost use Rattle.guest_rule.specs.declared.kind.HartKind.{HartKind};
 ghost use Rattle.guest_rule.specs.declared.kind.KeeperKind.{KeeperKind};
 ghost use Rattle.guest_rule.specs.declared.view.HartView.{HartView};
 ghost use Rattle.guest_rule.specs.declared.view.KeeperView.{KeeperView};
 ghost use Rattle.guest_rule.specs.declared.view.View.{View};
 ghost use Rattle.guest_rule.specs.declared.view.View.TheVariants.{Keeper};
+ghost use Rattle.guest_rule.specs.Clauses.{Clauses};
 ghost use Rattle.guest_rule.specs.HartSteps.{HartReady};
 ghost use Rattle.guest_rule.specs.KeeperSteps.{KeeperReady};
 ghost use Rattle.guest_rule.specs.Rule.{HartKeeps, IsGuest, KeeperKeeps};
@@ -50,4 +51,10 @@ pub fn worked_steps()
     ensures conditional_fails { ConditionalFails }
     ensures one_wins { OneWins }
     ensures roles { RoleComesAndGoes }
+{}
+
+/// What the rule comes to: who has locked what, what RO and RX words hold, and that a slot has the
+/// word that its one winner left.
+pub fn rule_comes_to()
+    ensures { (words : List ℕ) (views : List View) (g : IsGuest words views) → Clauses (slice_index words) g.kept g.hart }
 {}

@@ -25,7 +25,7 @@ pub use entry::{Entry, Exchange, Grant, RowWord};
 pub use kind::{Ask, HartKind, KeeperKind, Kind, LoadAsk, StoreAsk};
 pub use law::{
     hart_steps_keep, joined_seats_keep, keeper_steps_keep, made_seats_keep, rule_begins,
-    worked_steps,
+    rule_comes_to, worked_steps,
 };
 pub use rule::{Aimed, Does, GuestRule, MakesHart, MakesNote, TakesIn};
 pub use view::{
