@@ -67,7 +67,7 @@ pub enum OpenAnswer {
         root: Serial,
         /// The new objects, in load order.
         added: Added,
-        /// The pages that were reserved for them.
+        /// The pages that were reserved for them, and at startup for stacks and static areas.
         ranges: Ranges,
     },
     /// The object isn't there, and was only to be used if it is (RTLD_NOLOAD).

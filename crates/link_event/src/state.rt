@@ -88,7 +88,7 @@ pub struct Ending {
     pub end: HartEnd,
 }
 
-/// Modules, in the order in which they were added.
+/// Modules, in the order of their numbers.
 pub type Modules = Sequence<Module>;
 /// Blocks, in the order in which harts got them.
 pub type Blocks = Sequence<Block>;
