@@ -1,0 +1,9 @@
+pub mod DirectiveWords
+pub mod Kinds
+pub mod Magnitude
+pub mod Mnemonics
+pub mod Names
+pub mod Number
+pub mod Registers
+pub mod Table
+pub mod Text
