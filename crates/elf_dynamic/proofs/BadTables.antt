@@ -113,7 +113,7 @@ module _ (headers : List Header) (tags : List Tag) where
   symbols_decides =
       elim (cases_Bool (has tags dt_symtab)) [
         | inl stands ↦ rw stands (Decides-like (not (value_of tags dt_syment == 24)) (λ other. inr other)
-          (λ why. elim why [ inl none ↦ absurd (absurd_of none stands) | inr other ↦ other ]) (Decides-not (value_of tags dt_syment == 24) (eq_decides (value_of tags dt_syment) 24)))
+            (λ why. elim why [ inl none ↦ absurd (absurd_of none stands) | inr other ↦ other ]) (Decides-not (value_of tags dt_syment == 24) (eq_decides (value_of tags dt_syment) 24)))
         | inr missing ↦ rw missing (λ e. inl ((lacks_decides tags dt_symtab).0 (rw missing refl)), λ why. refl)
       ]
     where
@@ -125,10 +125,10 @@ module _ (headers : List Header) (tags : List Tag) where
     hash_decides =
         elim (cases_Bool (has tags dt_hash)) [
           | inl stands ↦ rw stands (Decides-like (option_map_or (λ s. length s.buckets == 0) words.sysv true) (λ bad. inr ((stands_decides tags dt_hash).0 stands, bad))
-            (λ why. elim why [ inl (none, b) ↦ absurd (let missing = (lacks_decides tags dt_hash).1 none in cc) | inr (a, bad) ↦ bad ])
-            (missing_decides words.sysv (λ s. words.sysv ≡ Some s) (λ s. 0 < length s.buckets) (itself words.sysv) (λ s. length s.buckets == 0) (λ s. zero_decides (length s.buckets))))
+              (λ why. elim why [ inl (none, b) ↦ absurd (let missing = (lacks_decides tags dt_hash).1 none in cc) | inr (a, bad) ↦ bad ])
+              (missing_decides words.sysv (λ s. words.sysv ≡ Some s) (λ s. 0 < length s.buckets) (itself words.sysv) (λ s. length s.buckets == 0) (λ s. zero_decides (length s.buckets))))
           | inr missing ↦ rw missing (Decides-like (not (has tags dt_gnu_hash)) (λ none. inl ((lacks_decides tags dt_hash).0 (rw missing refl), none))
-            (λ why. elim why [ inl (a, none) ↦ none | inr (stands, b) ↦ absurd (let there = (stands_decides tags dt_hash).1 stands in cc) ]) (lacks_decides tags dt_gnu_hash))
+              (λ why. elim why [ inl (a, none) ↦ none | inr (stands, b) ↦ absurd (let there = (stands_decides tags dt_hash).1 stands in cc) ]) (lacks_decides tags dt_gnu_hash))
         ]
 
     gnu_decides : Decides (has_bad_gnu_hash words tags) (Stands tags dt_gnu_hash × ((g : GnuPart) → words.gnu ≡ Some g → (0 < length g.buckets) × (0 < length g.bloom) → ⊥))

@@ -120,12 +120,15 @@ module _ (bytes : List ℕ) (head : Head) (program : Bool) (parts : DynParts) (s
       let slots = decided _ (slots_decides head.headers parts.tags range) (λ bad. no_table dt_jmprel (bad_slots range is bad)) in
       let (start, there) = slots.words in
       let at : parts.pltgot ≡ Some start = s.say.pltgot ∙ there in
-      let free : (IsSlotTable head.headers (all_named parts) start → ⊥) → ⊥ = λ bad. no_bad_slot (length parts.plt_relocs) (bad_head refl some start at bad) in
-      (start, at, record {
-        aligned = decided (start % 8 == 0) (eq_decides (start % 8) 0) (λ odd. free (λ t. odd t.aligned));
-        writable = decided _ (writable_decides head.headers (record { start = start; size = 16 })) (λ out. free (λ t. out t.writable));
-        free = λ j a is share. free (λ t. t.free j a is share);
-      })
+      let free : (IsSlotTable head.headers (all_named parts) start → ⊥) → ⊥ = λ bad. no_bad_slot (length parts.plt_relocs) (bad_head refl some start at bad) in (
+        start,
+        at,
+        record {
+          aligned = decided (start % 8 == 0) (eq_decides (start % 8) 0) (λ odd. free (λ t. odd t.aligned));
+          writable = decided _ (writable_decides head.headers (record { start = start; size = 16 })) (λ out. free (λ t. out t.writable));
+          free = λ j a is share. free (λ t. t.free j a is share);
+        },
+      )
 
   pub keeps : Keeps bytes head.headers parts
   keeps = record {

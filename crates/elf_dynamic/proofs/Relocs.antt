@@ -180,7 +180,7 @@ module _ (headers : List Header) (symbols : List Symbol) (relocs : List Reloc) (
       elim (cases_Bool (begins_odd words)) [
         | inl odd ↦ subst (Finds OfPacked) (sym (bits_first (begins_odd words) _ odd)) (record { bad = inl (odd, refl); before = λ j below b. absurd (omega arith) })
         | inr even ↦ subst (Finds OfPacked) (sym (bits_later (begins_odd words) _ even)) (finds_like (Again (is_bad_place headers) doubleword ranges places) OfPacked
-          (λ k again. inr again) (λ k why. elim why [ inl (e, first) ↦ absurd cc | inr again ↦ again ]) _ (again_finds (is_bad_place headers) doubleword ranges places))
+            (λ k again. inr again) (λ k why. elim why [ inl (e, first) ↦ absurd cc | inr again ↦ again ]) _ (again_finds (is_bad_place headers) doubleword ranges places))
       ]
 
   -- what stands before the k-th of DT_RELA, and before the i-th packed one

@@ -169,7 +169,7 @@ module _ (bytes : List ℕ) (headers : List Header) (symbols : List Symbol) (oth
                   aligned = (eq_decides (start % 8) 0).0 even;
                   writable = (writable_decides headers (head start)).0 inside;
                   free = λ j s at share. not_from_Decides _ (named_head_decides start) free
-                    (elim (get_both others (slot_ranges symbols slots) j s at) [ inl here ↦ inl (j, s, here, share) | inr (i, e, there) ↦ inr (i, s, there, share) ]);
+                      (elim (get_both others (slot_ranges symbols slots) j s at) [ inl here ↦ inl (j, s, here, share) | inr (i, e, there) ↦ inr (i, s, there, share) ]);
                 }))
               ]
             ]
@@ -195,7 +195,7 @@ module _ (bytes : List ℕ) (headers : List Header) (symbols : List Symbol) (oth
         by_start : (o : Option ℕ) → Decides (option_map_or (is_bad_table_of_slots headers others (slot_ranges symbols slots)) o false) ((start : ℕ) × (o ≡ Some start) × (IsSlotTable headers (others ++ slot_ranges symbols slots) start → ⊥))
         by_start None = (λ e. absurd cc, λ (start, e, bad). absurd cc)
         by_start (Some at) = Decides-like (is_bad_table_of_slots headers others (slot_ranges symbols slots) at) (λ bad. (at, refl, bad))
-          (λ (start, e, bad). subst (λ n. IsSlotTable headers (others ++ slot_ranges symbols slots) n → ⊥) (sym (same_some e)) bad) (table_decides at)
+            (λ (start, e, bad). subst (λ n. IsSlotTable headers (others ++ slot_ranges symbols slots) n → ⊥) (sym (same_some e)) bad) (table_decides at)
 
     head_finds : Finds BadHead (if test then Some 0 else None)
     head_finds =

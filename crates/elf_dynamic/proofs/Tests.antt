@@ -120,15 +120,15 @@ module _ (headers : List Header) (symbols : List Symbol) (r : Reloc) where
   misplaced_decides =
       elim (cases_Bool (r.kind == 0)) [
         | inl none ↦ Decides-at _ false (first (r.kind == 0) _ none)
-          (λ e. absurd cc, λ why. absurd (elim why [ inl (four, out) ↦ omega (arith, (eq_decides r.kind 0).0 none) | inr (some, other, bad) ↦ some ((eq_decides r.kind 0).0 none) ]))
+            (λ e. absurd cc, λ why. absurd (elim why [ inl (four, out) ↦ omega (arith, (eq_decides r.kind 0).0 none) | inr (some, other, bad) ↦ some ((eq_decides r.kind 0).0 none) ]))
         | inr some ↦ elim (cases_Bool (r.kind == 4)) [
           | inl four ↦ Decides-at _ (not (in_writable headers (named_by symbols r))) (second (r.kind == 0) (r.kind == 4) _ _ some four)
-            (Decides-like (not (in_writable headers (named_by symbols r))) (λ out. inl ((eq_decides r.kind 4).0 four, out)) (λ why. elim why [ inl (e, out) ↦ out | inr (a, other, b) ↦ absurd (other ((eq_decides r.kind 4).0 four)) ])
-            (Decides-not (in_writable headers (named_by symbols r)) (writable_decides headers (named_by symbols r))))
+              (Decides-like (not (in_writable headers (named_by symbols r))) (λ out. inl ((eq_decides r.kind 4).0 four, out)) (λ why. elim why [ inl (e, out) ↦ out | inr (a, other, b) ↦ absurd (other ((eq_decides r.kind 4).0 four)) ])
+              (Decides-not (in_writable headers (named_by symbols r)) (writable_decides headers (named_by symbols r))))
           | inr other ↦ Decides-at _ (is_bad_place headers r.place) (third (r.kind == 0) (r.kind == 4) _ _ some other)
-            (Decides-like (is_bad_place headers r.place) (λ bad. inr (not_from_Decides (r.kind == 0) (eq_decides r.kind 0) some, not_from_Decides (r.kind == 4) (eq_decides r.kind 4) other, bad))
-            (λ why. elim why [ inl (four, out) ↦ absurd (not_from_Decides (r.kind == 4) (eq_decides r.kind 4) other four) | inr (a, b, bad) ↦ bad ])
-            (place_decides headers r.place))
+              (Decides-like (is_bad_place headers r.place) (λ bad. inr (not_from_Decides (r.kind == 0) (eq_decides r.kind 0) some, not_from_Decides (r.kind == 4) (eq_decides r.kind 4) other, bad))
+              (λ why. elim why [ inl (four, out) ↦ absurd (not_from_Decides (r.kind == 4) (eq_decides r.kind 4) other four) | inr (a, b, bad) ↦ bad ])
+              (place_decides headers r.place))
         ]
       ]
 
