@@ -1,11 +1,11 @@
 -- An object that a file spells is one of which an image can be made.
-use Rattle.std.proofs.Common.{◌≡◌, ◌≢◌, ◌⊎◌, ◌∙◌, ap, sym, subst, refl, ℕ, zero, suc, ◌+◌, ◌-◌, ◌*◌, ◌/◌, ◌%◌, ◌^◌, ◌<◌, ◌≤◌, ◌==◌, ◌||◌, ◌&&◌, Bool, true, false, not, List, [], ◌∷◌, ◌++◌, length, map, drop, Option, Some, None, arith, inl, inr, nat_lt}
+use Rattle.std.proofs.Common.{◌≡◌, ◌≢◌, ◌∙◌, ap, sym, subst, refl, ℕ, zero, suc, ◌+◌, ◌-◌, ◌*◌, ◌/◌, ◌%◌, ◌<◌, ◌≤◌, ◌==◌, ◌||◌, Bool, true, false, not, List, [], ◌∷◌, length, map, drop, Some, arith, inl, inr}
 use Rattle.std.specs.Prelude.{filter, IsTrue, if◌then◌else◌}
-use Rattle.std.specs.List.{enumerate_from, list_any, slice_get, All, AllPairs}
+use Rattle.std.specs.List.{enumerate_from, slice_get, All, AllPairs}
 use Rattle.std.specs.Option.{option_map_or}
-use Rattle.std.proofs.lemmas.Bool.{cases_Bool, cases_lt, eqb-true, eq-eqb}
+use Rattle.std.proofs.lemmas.Bool.{cases_lt, eqb-true}
 use Rattle.std.proofs.lemmas.Bool.Decides.{nat_tests}
-use Rattle.std.proofs.lemmas.List.{length-map, length-take, map-append}
+use Rattle.std.proofs.lemmas.List.{length-take}
 use Rattle.std.proofs.lemmas.Option.{get_or_from_slice_get, slice_get_within}
 use Rattle.ld_base.specs.declared.object.Object.{Object}
 use Rattle.ld_base.specs.declared.object.Reloc.{Reloc}
@@ -15,11 +15,9 @@ use Rattle.ld_base.specs.declared.object.Symbol.{Symbol}
 use Rattle.ld_base.specs.declared.parts.DynParts.{DynParts}
 use Rattle.ld_base.specs.declared.parts.Head.{Head}
 use Rattle.ld_base.specs.declared.parts.Header.{Header}
-use Rattle.ld_base.specs.declared.parts.Versions.{Versions}
 use Rattle.elf_head.specs.Accepted.{AllFit, Fits}
 use Rattle.elf_head.specs.Header.{is_loaded}
 use Rattle.elf_head.specs.Verdict.{SpellsHead}
-use Rattle.elf_dynamic.specs.Breaks.{named as all_others}
 use Rattle.elf_dynamic.specs.Breaks.{IsSlotTable}
 use Rattle.elf_dynamic.specs.Keeps.{all_named, Keeps}
 use Rattle.elf_dynamic.specs.Named.{size_of, slot_ranges}
@@ -28,11 +26,10 @@ use Rattle.elf_dynamic.specs.Ranges.{LiesIn, Share}
 use Rattle.elf_dynamic.specs.Ranges.{is_writable as writable_header, IsPlace as HeaderPlace, IsWritable as HeaderWritable}
 use Rattle.elf_object.specs.Object.{with_version, with_versions}
 use Rattle.elf_object.specs.Segments.{segment_at, segments_of}
-use Rattle.elf_object.specs.Spells.{Say}
 use Rattle.seg_image.specs.Accepted.{doubleword, named, named_by, symbol_size, Accepted, AreApart, IsPlace, IsReloc, IsSegment, IsTable, IsWritable}
 use Rattle.seg_image.specs.Pages.{end_of, start_of}
 use Rattle.accepted_image.proofs.Heads.{ascending, some_loaded}
-use Rattle.accepted_image.proofs.Lists.{all_of, any_get, filter_get, get_filter, get_map, map_get, pair_filter, pairs_of, same_some}
+use Rattle.accepted_image.proofs.Lists.{all_of, any_get, filter_get, get_filter, get_map, map_get, pair_filter, pairs_of}
 
 -- ---- symbols
 

@@ -1,15 +1,13 @@
 -- What an accepted head says of mapped segments.
-use Rattle.std.proofs.Common.{◌≡◌, ◌⊎◌, ◌∙◌, ap, sym, subst, refl, ℕ, zero, suc, ◌+◌, ◌-◌, ◌*◌, ◌/◌, ◌<◌, ◌≤◌, ◌==◌, ◌||◌, ◌&&◌, Bool, true, false, List, length, take, Some, None, arith, inl, inr, nat_le, nat_lt}
-use Rattle.std.specs.Prelude.{IsTrue}
+use Rattle.std.proofs.Common.{◌≡◌, ◌∙◌, sym, refl, ℕ, zero, suc, ◌<◌, ◌||◌, ◌&&◌, Bool, true, false, List, length, take, Some, arith, inl, inr, nat_le}
 use Rattle.std.specs.List.{list_any, slice_get}
-use Rattle.std.proofs.lemmas.Bool.{cases_Bool, cases_eq, cases_lt, lt-leb, le-leb, leb-true, or_left, or_right, or_parts}
-use Rattle.std.proofs.lemmas.Bool.Decides.{nat_tests}
+use Rattle.std.proofs.lemmas.Bool.{cases_Bool, cases_lt, le-leb, or_parts}
 use Rattle.acceptance.proofs.Tables.{get-table, length-table, same_elements}
 use Rattle.ld_base.specs.declared.parts.Head.{Head}
 use Rattle.ld_base.specs.declared.parts.Header.{Header}
 use Rattle.elf_head.specs.Header.{header_at, header_count, headers_of, is_loaded, table_start}
-use Rattle.elf_head.specs.Segments.{first_page, is_bad, is_bad_at, is_misplaced, is_misshapen, last_page}
-use Rattle.elf_head.specs.Verdict.{Breaks, IsFirstBad, SpellsHead}
+use Rattle.elf_head.specs.Segments.{first_page, is_bad, is_bad_at, is_misplaced, last_page}
+use Rattle.elf_head.specs.Verdict.{SpellsHead}
 use Rattle.elf_head.specs.Verdict.Breaks.{bad_segment_at}
 use Rattle.accepted_image.proofs.Lists.{any_of, take_get}
 
