@@ -1,12 +1,12 @@
 -- What the rule comes to.
-use Rattle.std.proofs.Common.{◌≡◌, ◌≢◌, ◌⊎◌, ⊎_elim, inl, inr, ℕ, ◌<◌, Some, None, Contains, refl, sym, ap, ◌∙◌, arith}
+use Rattle.std.proofs.Common.{◌≡◌, ◌≢◌, ◌⊎◌, ⊎_elim, inl, inr, ℕ, ◌<◌, Option, Some, None, Contains, refl, sym, ap, ◌∙◌, arith}
 use Rattle.ld_base.specs.declared.linking.Role.{Role}
 use Rattle.ld_base.specs.declared.linking.Role.TheVariants.{None as NoRole, Ro, Rx, Rw, Slot as SlotRole}
 use Rattle.guest_rule.specs.declared.entry.Exchange.{Exchange}
 use Rattle.guest_rule.specs.declared.entry.Grant.{Grant}
 use Rattle.guest_rule.specs.declared.view.HartView.{HartView}
 use Rattle.guest_rule.specs.declared.view.KeeperView.{KeeperView}
-use Rattle.guest_rule.specs.Layout.{control_at, doublewords, lock_bit, value_at}
+use Rattle.guest_rule.specs.Layout.{control_at, doublewords, harts_at_most, lock_bit, state_at, value_at}
 use Rattle.guest_rule.specs.Views.{exchanges_of, kept_at, row_of}
 use Rattle.guest_rule.specs.Allowed.{IsAllowed, IsSlot}
 use Rattle.guest_rule.specs.Words.{Holds, keeper, hart, nobody, Owner}
@@ -40,6 +40,10 @@ module _ (word : ℕ → ℕ) (kept : KeeperView) (harts : ℕ → HartView) (p 
   winner d here other None e = absurd (other ((p.slots.each_slot d here).image e))
   winner d here other (Some (m, g)) e = (m, record { grant = g; found = g.lazy }, ((p.slots.each_slot d here).by m g e).2, refl, ((p.slots.each_slot d here).bound m g e).0)
 
+  granted : (m : ℕ) → m < harts_at_most → word (state_at m) ≡ 3 → (o : Option Grant) → (row_of kept m).pending ≡ o → (g : Grant) × ((row_of kept m).pending ≡ Some g)
+  granted m few three None e = absurd ((p.slots.each_hart m few).closed e three)
+  granted m few three (Some g) e = (g, e)
+
   pub clauses : Clauses word kept harts
   clauses = record {
     locked = λ d low bit. who d low bit (p.locks.owner d) refl;
@@ -55,4 +59,9 @@ module _ (word : ℕ → ℕ) (kept : KeeperView) (harts : ℕ → HartView) (p 
         let q : Some (m, x.grant) ≡ Some (n, y.grant) = sym a ∙ (ap p.slots.winner same ∙ b) in
         let r : (m, x.grant) ≡ (n, y.grant) = cc in (ap (λ (z : ℕ × Grant). z.0) r, ap (λ (z : ℕ × Grant). z.1) r);
     some = λ d here other. winner d here other (p.slots.winner d) refl;
+    known_won = λ m g few c. (p.slots.each_hart m few).won g c;
+    known_lost = λ m g few c. (p.slots.each_hart m few).lost g c;
+    open_row = λ m few three. granted m few three (row_of kept m).pending refl;
+    posted = λ m g few e. let q = (p.slots.each_hart m few).pending g e in (q.of_slot, q.free);
+    entries = λ m few. (p.calls.each_row m few).trail;
   }

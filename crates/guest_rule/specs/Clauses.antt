@@ -1,11 +1,14 @@
 -- What the rule comes to, in the words of whoever relies on it.
-use Rattle.std.specs.Prelude.{◌≡◌, ◌≢◌, ◌⊎◌, ℕ, ◌<◌, Some, Contains}
+use Rattle.std.specs.Prelude.{◌≡◌, ◌≢◌, ◌⊎◌, ℕ, ◌++◌, ◌<◌, Some, Contains}
 use Rattle.ld_base.specs.declared.linking.Role.TheVariants.{Ro, Rx, Rw}
 use Rattle.guest_rule.specs.declared.entry.Exchange.{Exchange}
+use Rattle.guest_rule.specs.declared.entry.Grant.{Grant}
+use Rattle.guest_rule.specs.declared.view.Fate.TheVariants.{Won, Lost}
 use Rattle.guest_rule.specs.declared.view.HartView.{HartView}
 use Rattle.guest_rule.specs.declared.view.KeeperView.{KeeperView}
-use Rattle.guest_rule.specs.Layout.{control_at, doublewords, harts_at_most, lock_bit, place_of, value_at}
-use Rattle.guest_rule.specs.Views.{exchanges_of, kept_at, row_of}
+use Rattle.guest_rule.specs.Layout.{control_at, doublewords, harts_at_most, lock_bit, place_of, state_at, value_at}
+use Rattle.guest_rule.specs.Views.{entries_of, exchanges_of, kept_at, row_of, tried_entry}
+use Rattle.guest_rule.specs.Slots.{HasLost, HasWon}
 use Rattle.guest_rule.specs.Allowed.{IsAllowed, IsOf, IsSlot, LeadsTo}
 
 -- an exchange of a slot that is there, in a hart's trail
@@ -31,3 +34,11 @@ pub record Clauses (word : ℕ → ℕ) (kept : KeeperView) (hart : ℕ → Hart
   pub one : (m n : ℕ) (x y : Exchange) → Made kept hart m x → Made kept hart n y → slot_of x ≡ slot_of y → x.found ≡ x.grant.lazy → y.found ≡ y.grant.lazy → (m ≡ n) × (x.grant ≡ y.grant)
   pub some : (d : ℕ) → IsSlot (kept_at kept) d → word (value_at d) ≢ (kept_at kept d).value
       → (m : ℕ) × (x : Exchange) × Contains (exchanges_of (hart m).trail) x × (x.found ≡ x.grant.lazy) × (word (value_at d) ≡ x.grant.entry.value)
+  -- a grant that is known as won has an exchange that found the lazy word, and one that is known as lost has one that found another
+  pub known_won : (m : ℕ) (g : Grant) → m < harts_at_most → Contains (row_of kept m).settled (record { grant = g; fate = Won }) → HasWon (exchanges_of (hart m).trail) g
+  pub known_lost : (m : ℕ) (g : Grant) → m < harts_at_most → Contains (row_of kept m).settled (record { grant = g; fate = Lost }) → HasLost (exchanges_of (hart m).trail) g
+  -- an open row has a grant whose fate isn't known; such a grant is of a slot that is there and that the keeper hasn't locked
+  pub open_row : (m : ℕ) → m < harts_at_most → word (state_at m) ≡ 3 → (g : Grant) × ((row_of kept m).pending ≡ Some g)
+  pub posted : (m : ℕ) (g : Grant) → m < harts_at_most → (row_of kept m).pending ≡ Some g → let d = place_of g.entry.slot in IsOf (kept_at kept) d g × (kept.access.locked ≢ Some d)
+  -- a trail's entries are those taken, and the grant of an exchange that isn't given back
+  pub entries : (m : ℕ) → m < harts_at_most → entries_of (hart m).trail ≡ (hart m).lane.taken ++ tried_entry (hart m).lane.tried
