@@ -33,6 +33,3 @@ pub use parts::{
 };
 pub use sequence::{Bytes, Names, Sequence, Serials};
 pub use symbols::Symbols;
-
-#[cfg(test)]
-mod tests;

@@ -23,6 +23,3 @@ pub use library::{Library, ReadError};
 pub use mem_library::MemLibrary;
 pub use mem_sink::MemSink;
 pub use sink::{Sink, WriteError, put_all};
-
-#[cfg(test)]
-mod tests;

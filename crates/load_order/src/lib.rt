@@ -17,8 +17,3 @@ mod plan;
 pub use elf::Elf;
 pub use load_walk::{LoadAsk, LoadFault, LoadPlan, find_loaded};
 pub use plan::plan_load;
-
-#[cfg(test)]
-mod scope_tests;
-#[cfg(test)]
-mod tests;

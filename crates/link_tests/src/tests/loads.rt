@@ -1,9 +1,9 @@
 //! Whether loads come to what the rules give: files laid out in a few words each.
 
-use crate::{LoadAsk, LoadFault, LoadPlan, plan_load};
 use elf_object::read_object;
 use ld_base::*;
 use library_source::MemLibrary;
+use load_order::{LoadAsk, LoadFault, LoadPlan, plan_load};
 use scope_rule::{Namespace, Opens};
 use std::alloc::{AllocError, Global};
 use std::test::Fail;

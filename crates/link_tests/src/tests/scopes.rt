@@ -1,5 +1,6 @@
 //! Searches of a namespace that no command reaches yet: deep, new and closing objects.
 
+use super::objects::{empty_object, function};
 use ld_base::*;
 use scope_rule::*;
 use std::alloc::{AllocError, Global};
@@ -9,15 +10,7 @@ use std::test::Fail;
 fn symbols(alloc: Global, defines: bool) -> Result<Symbols, AllocError> {
     let mut symbols = Symbols::new(alloc);
     for shndx in [0, u16::from(defines)] {
-        let symbol = Symbol {
-            name: Name::new(alloc, b"f")?,
-            info: 0x12,
-            other: 0,
-            shndx,
-            value: 0x1000,
-            size: 4,
-            version: 0,
-        };
+        let symbol = function(alloc, b"f", shndx, 0)?;
         if symbols.len() < 9 {
             symbols.push(symbol)?;
         }
@@ -25,42 +18,11 @@ fn symbols(alloc: Global, defines: bool) -> Result<Symbols, AllocError> {
     Ok(symbols)
 }
 
-/// An object that has these symbols and nothing else.
-fn object_of(alloc: Global, symbols: Symbols) -> Object {
-    Object {
-        kind: Kind::Dyn,
-        entry: 0,
-        soname: None,
-        needed: Names::new(alloc),
-        segments: Segments::new(alloc),
-        symbols,
-        first_exported: 1,
-        has_versym: false,
-        verdefs: Verdefs::new(alloc),
-        verneeds: Verneeds::new(alloc),
-        relocs: Relocs::new(alloc),
-        plt_relocs: Relocs::new(alloc),
-        pltgot: None,
-        preinit: None,
-        init: None,
-        init_array: None,
-        fini: None,
-        fini_array: None,
-        tls: None,
-        relro: None,
-        flags: ObjFlags {
-            symbolic: false,
-            bind_now: false,
-            nodelete: false,
-        },
-        relr: Places::new(alloc),
-        dynamic: 0,
-    }
-}
-
 /// An object that exports or needs the function `f`, as its symbol 1.
 fn object(alloc: Global, defines: bool) -> Result<Object, AllocError> {
-    Ok(object_of(alloc, symbols(alloc, defines)?))
+    let mut object = empty_object(alloc);
+    object.symbols = symbols(alloc, defines)?;
+    Ok(object)
 }
 
 fn loaded(

@@ -1,5 +1,7 @@
-use super::*;
+//! Files and writers, in memory and real ones.
+
 use ld_base::{Bytes, Calls, File, Files, Name};
+use library_source::*;
 use std::alloc::{AllocError, Global};
 use std::fs;
 use std::test::Fail;

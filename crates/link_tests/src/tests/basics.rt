@@ -1,58 +1,17 @@
-use super::*;
+//! Types that all crates share, and matching within one object.
+
+use super::objects::{empty_object, function};
+use ld_base::*;
 use std::alloc::{AllocError, Global};
 use std::test::Fail;
-
-fn function(alloc: Global, name: &[u8], version: u16) -> Result<Symbol, AllocError> {
-    Ok(Symbol {
-        name: Name::new(alloc, name)?,
-        info: 0x12,
-        other: 0,
-        shndx: 1,
-        value: 0x1000,
-        size: 4,
-        version,
-    })
-}
-
-/// An object with a table of versions, and nothing else yet.
-fn empty_object(alloc: Global) -> Object {
-    Object {
-        kind: Kind::Dyn,
-        entry: 0,
-        soname: None,
-        needed: Names::new(alloc),
-        segments: Segments::new(alloc),
-        symbols: Symbols::new(alloc),
-        first_exported: 1,
-        has_versym: true,
-        verdefs: Verdefs::new(alloc),
-        verneeds: Verneeds::new(alloc),
-        relocs: Relocs::new(alloc),
-        plt_relocs: Relocs::new(alloc),
-        pltgot: None,
-        preinit: None,
-        init: None,
-        init_array: None,
-        fini: None,
-        fini_array: None,
-        tls: None,
-        relro: None,
-        flags: ObjFlags {
-            symbolic: false,
-            bind_now: false,
-            nodelete: false,
-        },
-        relr: Places::new(alloc),
-        dynamic: 0,
-    }
-}
 
 /// A library that defines `f` at V1, hidden, and at V2, as its symbols 1 and 2.
 fn library(alloc: Global) -> Result<Object, AllocError> {
     let mut library = empty_object(alloc);
+    library.has_versym = true;
     for version in [0, 0x8002, 3] {
         if library.symbols.len() < 9 {
-            library.symbols.push(function(alloc, b"f", version)?)?;
+            library.symbols.push(function(alloc, b"f", 1, version)?)?;
         }
     }
     for (index, name) in [(2, b"V1"), (3, b"V2")] {
@@ -135,7 +94,7 @@ fn tells_what_a_symbol_is(rt: HostRuntime) -> Result<(), Fail> {
         Telling(0x12, 3, 1, 8, [false, false, false, true, false, true]),
         Telling(0x13, 0, 1, 8, [false, false, false, true, false, false]),
     ] {
-        let mut symbol = function(alloc, b"f", 0x8002)?;
+        let mut symbol = function(alloc, b"f", 1, 0x8002)?;
         symbol.info = info;
         symbol.other = other;
         symbol.shndx = shndx;
@@ -189,7 +148,7 @@ fn keeps_lists_in_order(rt: HostRuntime) -> Result<(), Fail> {
     let mut symbols = Symbols::new(alloc);
     assert!(rt; symbols.is_empty());
     if symbols.len() == 0 {
-        symbols.push(function(alloc, b"f", 0)?)?;
+        symbols.push(function(alloc, b"f", 1, 0)?)?;
     }
     assert_eq!(rt; symbols.len(), 1);
     assert!(rt; symbols.as_slice()[0].name.is(b"f"));

@@ -1,0 +1,5 @@
+mod basics;
+mod loads;
+mod objects;
+mod scopes;
+mod sources;
