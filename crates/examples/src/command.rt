@@ -41,17 +41,42 @@ impl Command {
         alloc: Global,
         files: Files,
     ) -> Result<Answer, AllocError> {
-        let fail = Calls::from_slice(alloc, self.failing_reads.as_slice())?;
-        let library = MemLibrary::new(alloc, files, fail);
-        let fail = Calls::from_slice(alloc, self.failing_writes.as_slice())?;
-        let mut sink = MemSink::new(alloc, fail);
-        let words = words_of(alloc, self.words.as_bytes())?;
-        let (outcome, _library) = ldso(rt, alloc, words, library, &mut sink);
-        Ok(Answer {
-            status: outcome.status,
-            text: sink.bytes().to_vec(alloc)?,
-        })
+        let library = self.library(alloc, files)?;
+        let sink = MemSink::new(alloc, calls(alloc, &self.failing_writes)?);
+        run_words(
+            rt,
+            alloc,
+            words_of(alloc, self.words.as_bytes())?,
+            library,
+            sink,
+        )
     }
+
+    /// The files, of which some reads fail.
+    fn library(&self, alloc: Global, files: Files) -> Result<MemLibrary, AllocError> {
+        Ok(MemLibrary::new(alloc, files, calls(alloc, &self.failing_reads)?))
+    }
+}
+
+/// What these words come to.
+fn run_words<R: Threads + Wait + Sync>(
+    rt: &R,
+    alloc: Global,
+    words: Vec<String>,
+    library: MemLibrary,
+    mut sink: MemSink,
+) -> Result<Answer, AllocError> {
+    let (outcome, _library) = ldso(rt, alloc, words, library, &mut sink);
+    answer_of(alloc, outcome.status, &sink)
+}
+
+fn answer_of(alloc: Global, status: u8, sink: &MemSink) -> Result<Answer, AllocError> {
+    let text = sink.bytes().to_vec(alloc)?;
+    Ok(Answer { status, text })
+}
+
+fn calls(alloc: Global, numbers: &Vec<u64>) -> Result<Calls, AllocError> {
+    Calls::from_slice(alloc, numbers.as_slice())
 }
 
 /// The files that are laid out so.
