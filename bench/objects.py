@@ -162,4 +162,5 @@ def main(folder):
     write("long-versions", build(1, [], long_versions=32768))
 
 
-main(sys.argv[1])
+if __name__ == "__main__":
+    main(sys.argv[1])
