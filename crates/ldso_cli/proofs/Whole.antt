@@ -1,5 +1,5 @@
 -- Where nothing fails, the words and the files decide the answer.
-use Rattle.std.proofs.Common.{◌≡◌, ◌⊎◌, inl, inr, ℕ, List, Option, Some, None, refl, sym, ap, subst, ◌∙◌}
+use Rattle.std.proofs.Common.{◌≡◌, ◌⊎◌, inl, inr, ℕ, List, Option, Some, None, Result, Ok, Err, refl, sym, ap, subst, ◌∙◌}
 use Rattle.std.specs.Io.KnownBytes.{append_known}
 use Rattle.ld_base.specs.declared.fault.DlFault.TheVariants as dl
 use Rattle.ld_base.specs.declared.linking.File.{File}
@@ -16,20 +16,21 @@ use Rattle.ldso_cli.specs.declared.outcome.Cause.TheVariants as causes
 use Rattle.ldso_cli.specs.declared.outcome.End.{End}
 
 -- a call that answered, and whose text was written whole
-record IsTold (command : Option Command) (run : RunAt) : Type 0 where
+record IsTold (handed : Handing) (command : Option Command) (run : RunAt) : Type 0 where
   pub text : List ℕ
   pub answers : Answers command run.before run.after run.end text
+  pub written : handed text (Ok tt)
   pub taken : run.new.taken ≡ append_known run.old.taken text
 
 written_whole : (handed : Handing) (command : Option Command) (run : RunAt) (own : End) (text : List ℕ) → (run.end.cause ≡ causes.WriteFault → ⊥) → (run.end.cause ≡ causes.Memory → ⊥) → Answers command run.before run.after own text
-    → Written handed own text run.old run.new run.end → IsTold command run
-written_whole handed command run own text wrote memory answers (inl whole) = record { text = text; answers = subst (λ (e : End). Answers command run.before run.after e text) (sym whole.end_is) answers; taken = whole.taken }
+    → Written handed own text run.old run.new run.end → IsTold handed command run
+written_whole handed command run own text wrote memory answers (inl whole) = record { text = text; answers = subst (λ (e : End). Answers command run.before run.after e text) (sym whole.end_is) answers; written = whole.written; taken = whole.taken }
 written_whole handed command run own text wrote memory answers (inr (inl cut)) = absurd (wrote (ap (λ (e : End). e.cause) cut.end_is))
-written_whole handed command run own text wrote memory answers (inr (inr stopped)) = absurd (memory stopped.cause_is)
+written_whole handed command run own text wrote memory answers (inr (inr stopped)) = absurd (memory (ap (λ (e : End). e.cause) stopped.end_is))
 
-told : (handed : Handing) (command : Option Command) (run : RunAt) → (run.end.cause ≡ causes.WriteFault → ⊥) → (run.end.cause ≡ causes.Memory → ⊥) → Ends handed command run.before run.after run.old run.new run.end → IsTold command run
+told : (handed : Handing) (command : Option Command) (run : RunAt) → (run.end.cause ≡ causes.WriteFault → ⊥) → (run.end.cause ≡ causes.Memory → ⊥) → Ends handed command run.before run.after run.old run.new run.end → IsTold handed command run
 told handed command run wrote memory (inl answered) = written_whole handed command run answered.own answered.text wrote memory answered.answers answered.written
-told handed command run wrote memory (inr unanswered) = absurd (memory unanswered.cause_is)
+told handed command run wrote memory (inr unanswered) = absurd (memory (ap (λ (e : End). e.cause) unanswered.end_is))
 
 -- the answer over the files that are told
 over_these : (command : Command) (files : List File) (run : RunAt) (text : List ℕ) → run.before.files ≡ Some files → Answers (Some command) run.before run.after run.end text → IsAnswer command run.before run.after run.end text files
@@ -38,17 +39,19 @@ over_these command files run text tells answers =
     let over : Over (Some files) P = subst (λ (t : Option (List File)). Over t P) tells answers in
     subst P over.are over.holds
 
-module _ (one_walk : OneWalk) (one_stop : OneStop) (not_both : NotBoth) (files : List File) (first second : RunAt) (tells : first.before.files ≡ Some files) (tells' : second.before.files ≡ Some files) where
-  come_to_one : (command : Option Command) (one : IsTold command first) (two : IsTold command second) → first.end ≡ second.end → one.text ≡ two.text → ComeToOne first second
+module _ (handed handed' : Handing) (one_walk : OneWalk) (one_stop : OneStop) (not_both : NotBoth) (files : List File) (first second : RunAt) (tells : first.before.files ≡ Some files) (tells' : second.before.files ≡ Some files) where
+  come_to_one : (command : Option Command) (one : IsTold handed command first) (two : IsTold handed' command second) → first.end ≡ second.end → one.text ≡ two.text → ComeToOne handed handed' first second
   come_to_one command one two end text = record {
     end = end;
     status = ap status_of end;
     text = one.text;
+    first_handed = one.written;
+    second_handed = subst (λ (t : List ℕ). handed' t (Ok tt)) (sym text) two.written;
     first_took = one.taken;
     second_took = two.taken ∙ ap (append_known second.old.taken) (sym text);
   }
 
-  one_of : (command : Option Command) → IsTold command first → IsTold command second → ((path : List ℕ) → first.end.cause ≡ causes.Refused (dl.ReadFault path) → ⊥) → ((path : List ℕ) → second.end.cause ≡ causes.Refused (dl.ReadFault path) → ⊥) → ComeToOne first second
+  one_of : (command : Option Command) → IsTold handed command first → IsTold handed' command second → ((path : List ℕ) → first.end.cause ≡ causes.Refused (dl.ReadFault path) → ⊥) → ((path : List ℕ) → second.end.cause ≡ causes.Refused (dl.ReadFault path) → ⊥) → ComeToOne handed handed' first second
   one_of None one two quiet quiet' = come_to_one None one two (one.answers.end_is ∙ sym two.answers.end_is) (one.answers.text_is ∙ sym two.answers.text_is)
   one_of (Some command) one two quiet quiet' =
       let a = over_these command files first one.text tells one.answers in
@@ -57,7 +60,7 @@ module _ (one_walk : OneWalk) (one_stop : OneStop) (not_both : NotBoth) (files :
       let prints : Prints command files first.end two.text = subst (λ (e : End). Prints command files e two.text) (sym end) b.prints in
       come_to_one (Some command) one two end (one_text one_walk command files first.end one.text two.text a.prints prints)
 
-pub one_answer : OneWalk → OneStop → NotBoth → (handed handed' : Handing) (words : List (List ℕ)) (files : List File) (first second : RunAt) → IsUndisturbed handed words files first → IsUndisturbed handed' words files second → ComeToOne first second
+pub one_answer : OneWalk → OneStop → NotBoth → (handed handed' : Handing) (words : List (List ℕ)) (files : List File) (first second : RunAt) → IsUndisturbed handed words files first → IsUndisturbed handed' words files second → ComeToOne handed handed' first second
 one_answer one_walk one_stop not_both handed handed' words files first second p q =
-    one_of one_walk one_stop not_both files first second p.told q.told (reads words)
+    one_of handed handed' one_walk one_stop not_both files first second p.told q.told (reads words)
     (told handed (reads words) first p.writes_well p.has_memory p.ends) (told handed' (reads words) second q.writes_well q.has_memory q.ends) p.reads_well q.reads_well

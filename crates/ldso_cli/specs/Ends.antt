@@ -10,6 +10,7 @@ use Rattle.library_source.specs.declared.sink.WriteError.TheVariants as writes
 use Rattle.command_text.specs.declared.words.Command.{Command}
 use Rattle.command_text.specs.Words.{reads}
 use Rattle.ldso_cli.specs.Command.{Answers, Misses, NoReadFails}
+use Rattle.ldso_cli.specs.End.{bare}
 use Rattle.ldso_cli.specs.Outside.{LibraryAt, SinkAt}
 use Rattle.ldso_cli.specs.Status.{status_of}
 use Rattle.ldso_cli.specs.declared.outcome.Cause.{Cause}
@@ -33,15 +34,15 @@ pub record IsCutShort (handed : Handing) (own : End) (text : List ℕ) (old new 
   pub counted : Rises old.faults new.faults
   pub taken : TakesFront old.taken text new.taken
 
--- the sink itself answered that it found no memory, and took a front of the text; what the command kept may be there or not
-pub record IsStopped (handed : Handing) (text : List ℕ) (old new : SinkAt) (end : End) : Type 0 where
-  pub cause_is : end.cause ≡ causes.Memory
+-- the sink itself answered that it found no memory, and took a front of the text; what the command kept is still there
+pub record IsStopped (handed : Handing) (own : End) (text : List ℕ) (old new : SinkAt) (end : End) : Type 0 where
+  pub end_is : end ≡ record own { cause = causes.Memory }
   pub written : handed text (Err writes.Memory)
   pub taken : TakesFront old.taken text new.taken
 
 -- how an answer was written, and the end that this makes
 abbrev pub Written : Handing → End → List ℕ → SinkAt → SinkAt → End → Type 0
-Written handed own text old new end = IsWhole handed own text old new end ⊎ IsCutShort handed own text old new end ⊎ IsStopped handed text old new end
+Written handed own text old new end = IsWhole handed own text old new end ⊎ IsCutShort handed own text old new end ⊎ IsStopped handed own text old new end
 
 -- the command's own end, the text that it prints at it, and how that was written
 pub record IsAnswered (handed : Handing) (command : Option Command) (before after : LibraryAt) (old new : SinkAt) (end : End) : Type 0 where
@@ -50,9 +51,9 @@ pub record IsAnswered (handed : Handing) (command : Option Command) (before afte
   pub answers : Answers command before after own text
   pub written : Written handed own text old new end
 
--- the command found no memory for an answer, and nothing was written; what is kept may be there or not
+-- the command found no memory for an answer: nothing is kept, and nothing was written
 pub record IsUnanswered (old new : SinkAt) (end : End) : Type 0 where
-  pub cause_is : end.cause ≡ causes.Memory
+  pub end_is : end ≡ bare causes.Memory
   pub taken : new.taken ≡ old.taken
 
 -- how a command ends
@@ -85,10 +86,12 @@ pub record IsUndisturbed (handed : Handing) (words : List (List ℕ)) (files : L
   pub writes_well : run.end.cause ≢ causes.WriteFault
   pub has_memory : run.end.cause ≢ causes.Memory
 
--- two calls come to the same: one end, with its status, and one text, which both sinks took
-pub record ComeToOne (first second : RunAt) : Type 0 where
+-- two calls come to the same: one end, with its status, and one text, which was handed to both sinks, and both took it whole
+pub record ComeToOne (handed handed' : Handing) (first second : RunAt) : Type 0 where
   pub end : first.end ≡ second.end
   pub status : status_of first.end ≡ status_of second.end
   pub text : List ℕ
+  pub first_handed : handed text (Ok tt)
+  pub second_handed : handed' text (Ok tt)
   pub first_took : first.new.taken ≡ append_known first.old.taken text
   pub second_took : second.new.taken ≡ append_known second.old.taken text

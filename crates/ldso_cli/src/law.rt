@@ -15,7 +15,8 @@ use scope_rule::one_outcome;
 /// files, no read and no write fails, and memory suffices: one status, and one text.
 pub fn one_answer<K: Sink, J: Sink>()
     ensures { (words : List (List ℕ)) (files : List File) (first second : RunAt) (old new : K) (old' new' : J) →
-        IsUndisturbed (handed_to K.writes old new) words files first → IsUndisturbed (handed_to J.writes old' new') words files second → ComeToOne first second }
+        IsUndisturbed (handed_to K.writes old new) words files first → IsUndisturbed (handed_to J.writes old' new') words files second →
+        ComeToOne (handed_to K.writes old new) (handed_to J.writes old' new') first second }
 {
     one_outcome();
 }
