@@ -7,10 +7,13 @@ use Rattle.std.proofs.lemmas.Grind.{flat_map-append}
 use Rattle.ld_base.specs.declared.fault.DlFault.{DlFault}
 use Rattle.ld_base.specs.declared.fault.DlFault.TheVariants as dl
 use Rattle.ld_base.specs.declared.fault.Shown.{Shown}
+use Rattle.ld_base.specs.declared.fault.Shown.TheVariants as shown
+use Rattle.ld_base.specs.declared.linking.State.{State}
+use Rattle.ld_base.specs.declared.linking.State.TheVariants as states
 use Rattle.ld_base.specs.declared.linking.Loaded.{Loaded}
 use Rattle.scope_rule.specs.declared.arrival.Arrival.{Arrival}
 use Rattle.scope_rule.specs.Finding.{Reading, here, absent}
-use Rattle.scope_rule.specs.Load.{Load, Walk, Stop, Found, present, fresh, stops, refuses, waits, use_of, needed_by, preload_of, asks, by_reading, finds, take_found, with_found, with_arrival, next_name, step, walk, Brings, Stops}
+use Rattle.scope_rule.specs.Load.{Load, Walk, Stop, Found, present, fresh, stops, refuses, waits, use_in, use_of, needed_by, preload_of, asks, by_reading, finds, take_found, with_found, with_arrival, next_name, step, walk, Brings, Stops}
 use Rattle.load_walk.specs.Files.{load_of}
 use Rattle.load_walk.specs.Walking.{EndsSo, walk_of, Agrees, IsWalker, IsToRead, Means, EndsFor, EndsWith, Looks, more_names, grown}
 use Rattle.load_walk.specs.declared.ask.LoadAsk.{LoadAsk}
@@ -176,3 +179,12 @@ unread_ends load o fault f law ends e = law (refuses f) (so f (subst (λ (x : Lo
 
 pub unread_waits : (load : Load) (o : Loaded) (fault : LoadFault) (shown : Shown) → ((why : Stop) → use_of load.hart o ≡ stops why → Stops load why) → EndsSo fault (use_of load.hart o) → fault ≡ faults.Wait shown → Stops load (waits shown)
 unread_waits load o fault shown law ends e = law (waits shown) (subst (λ (x : LoadFault). EndsSo x (use_of load.hart o)) e ends)
+
+-- an object that is there is no missing library
+missing_use : (hart : ℕ) (o : Loaded) (state : State) (name : List ℕ) → use_in hart o state ≡ stops (refuses (dl.MissingLibrary name)) → ⊥
+missing_use hart o (states.Initialising h) name = elim (h == hart) as (λ v. cond v (present o.serial) (stops (waits (shown.Initialising o.serial))) ≡ stops (refuses (dl.MissingLibrary name)) → ⊥) [ true ↦ λ e. absurd cc | false ↦ λ e. absurd cc ]
+missing_use hart o states.Ready name = λ e. absurd cc
+missing_use hart o (states.Dying h) name = elim (h == hart) as (λ v. cond v (stops (refuses (dl.ClosingHere o.path))) (stops (waits (shown.Closing o.serial))) ≡ stops (refuses (dl.MissingLibrary name)) → ⊥) [ true ↦ λ e. absurd cc | false ↦ λ e. absurd cc ]
+
+pub never_missing : (load : Load) (o : Loaded) (fault : LoadFault) (name : List ℕ) → EndsSo fault (use_of load.hart o) → fault ≡ faults.Refused (dl.MissingLibrary name) → ⊥
+never_missing load o fault name ends e = missing_use load.hart o o.state name (subst (λ (x : LoadFault). EndsSo x (use_of load.hart o)) e ends)

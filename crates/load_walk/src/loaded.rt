@@ -1,6 +1,6 @@
 //! The object that is there for a name: nothing is read.
 
-ghost use Rattle.std.specs.Prelude.{◌≡◌, ◌||◌, ℕ, [], Some, None, Ok, IfOk, if◌then◌else◌};
+ghost use Rattle.std.specs.Prelude.{◌≡◌, ◌||◌, ℕ, List, [], Some, None, Ok, IfOk, if◌then◌else◌};
 ghost use Rattle.std.specs.Option.{option_copied};
 ghost use Rattle.std.specs.Result.{IsErrOf};
 ghost use Rattle.ld_base.specs.declared.fault.DlFault.{DlFault};
@@ -81,8 +81,10 @@ pub fn find_loaded(
     ask: &LoadAsk,
 ) -> Result<Option<Serial>, LoadFault>
     ensures found { (root : ℕ) → result ≡ Ok (Some root) → Brings (load_unread ask.now ns.now.objects) (alone root) }
-    ensures absent { result ≡ Ok None → Stops (load_unread ask.now ns.now.objects) (refuses (MissingLibrary ask.now.name)) }
+    ensures absent { result ≡ Ok None →
+        (named_there (load_unread ask.now ns.now.objects) ≡ None) × Stops (load_unread ask.now ns.now.objects) (refuses (MissingLibrary ask.now.name)) }
     ensures refused { (fault : DlFault) → IsErrOf result (LoadFault.Refused fault) → Stops (load_unread ask.now ns.now.objects) (refuses fault) }
+    ensures never_missing { (name : List ℕ) → IsErrOf result (LoadFault.Refused (MissingLibrary name)) → ⊥ }
     ensures waits { (shown : Shown) → IsErrOf result (LoadFault.Wait shown) → Stops (load_unread ask.now ns.now.objects) (waits shown) }
 {
     finds_loaded();

@@ -4,7 +4,7 @@ use Rattle.scope_rule.specs.Load.{present}
 use Rattle.scope_rule.specs.Loads.{named_there}
 use Rattle.load_walk.specs.Files.{load_unread}
 use Rattle.load_walk.specs.declared.ask.LoadFault.{LoadFault}
-use Rattle.load_walk.proofs.Walkers.{unread_ends, unread_waits}
+use Rattle.load_walk.proofs.Walkers.{never_missing, unread_ends, unread_waits}
 use Rattle.load_walk.proofs.loaded.find_loaded.Goals as goal
 
 abbrev err : LoadFault → Result (Option ℕ) LoadFault
@@ -39,4 +39,9 @@ returns-in_ok-use_of-in-Some-clause-found c =
 pub returns-in-None-clause-absent : goal.returns-in-None-clause-absent
 returns-in-None-clause-absent c =
     let none : named_there (load_unread c.args.ask.now c.args.ns.now.objects) ≡ None = sym (rw (c.as_slice.ensures, c.in-None.is) at c.in_ok-object.ensures) in
-    λ e. c.finds_loaded.ensures.missing _ (λ path. refl) none
+    λ e. (none, c.finds_loaded.ensures.missing _ (λ path. refl) none)
+
+pub returns-in_err-use_of-in-Some-clause-never_missing : goal.returns-in_err-use_of-in-Some-clause-never_missing
+returns-in_err-use_of-in-Some-clause-never_missing c =
+    let p = err_from_is_err_and c.from_residual-in_err-use_of-in-Some.result c.from_residual-in_err-use_of-in-Some.ensures.1 in
+    rw (p.1, p.2) (λ name e. never_missing (load_unread c.args.ask.now c.args.ns.now.objects) c.in-Some.object.now _ name c.in_err-use_of-in-Some.ensures (same_fault _ _ e))
