@@ -1,0 +1,3 @@
+pub mod Directives
+pub mod Lines
+pub mod Operands

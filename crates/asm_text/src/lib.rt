@@ -1,0 +1,22 @@
+//! The statements of an assembler source.
+//!
+//! [`parse`] reads a source line by line. Each line may define a label, and may have one statement: a
+//! directive or an instruction, whose operands are read. What they mean together, where labels are
+//! and which numbers fit is for those above.
+//!
+//! What is promised of every source: either each of its lines is one of the grammar, and the answer
+//! has them in order, or the answer is the first line that isn't, with its cause; or there was no
+//! memory.
+#![tactic(auto)]
+
+mod directives;
+mod fault;
+mod lines;
+mod operands;
+mod statement;
+
+pub use fault::{AsmCause, AsmFault};
+pub use lines::parse;
+pub use statement::{
+    Directive, Doubleword, Instruction, Line, Need, Statement, Statements, Symver,
+};
