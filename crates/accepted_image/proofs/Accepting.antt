@@ -50,7 +50,7 @@ module _ (bytes : List ℕ) (head : Head) (o : Object) (is_head : SpellsHead byt
   loaded_size : (h : Header) → is_loaded h ≡ true → 0 < h.memsz
   loaded_size h loaded = grind (arith, nat_tests)
 
-  fits : (k : ℕ) (h : Header) → slice_get head.headers k ≡ Some h → is_loaded h ≡ true → Fits (length bytes) h
+  pub fits : (k : ℕ) (h : Header) → slice_get head.headers k ≡ Some h → is_loaded h ≡ true → Fits (length bytes) h
   fits k h is loaded =
       let within = slice_get_within head.headers k h is in
       let own = get_or_from_slice_get head.headers k h h is in
@@ -63,7 +63,7 @@ module _ (bytes : List ℕ) (head : Head) (o : Object) (is_head : SpellsHead byt
       let (h, at, same) = get_map (segment_at bytes) (filter is_loaded head.headers) k g (rw segments at is) in
       (h, get_filter is_loaded head.headers h k at, same)
 
-  to_segment : (k : ℕ) (h : Header) → slice_get head.headers k ≡ Some h → is_loaded h ≡ true → (i : ℕ) × (slice_get o.segments i ≡ Some (segment_at bytes h))
+  pub to_segment : (k : ℕ) (h : Header) → slice_get head.headers k ≡ Some h → is_loaded h ≡ true → (i : ℕ) × (slice_get o.segments i ≡ Some (segment_at bytes h))
   unfolding segments_of
   to_segment k h is loaded = let (i, at) = filter_get is_loaded head.headers h k is loaded in (i, rw segments (map_get (segment_at bytes) (filter is_loaded head.headers) i h at))
 

@@ -1,3 +1,4 @@
 pub mod Accepting
 pub mod Heads
+pub mod LazyWords
 pub mod Lists

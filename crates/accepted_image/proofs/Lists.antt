@@ -1,6 +1,6 @@
 -- Elements of lists that were made of others.
 use Rattle.std.proofs.Common.{◌≡◌, ◌∙◌, ap, sym, refl, ℕ, zero, suc, ◌<◌, ◌||◌, Bool, true, false, List, [], ◌∷◌, map, take, get_or, Some, arith, inl, inr}
-use Rattle.std.specs.Prelude.{filter}
+use Rattle.std.specs.Prelude.{filter, find}
 use Rattle.std.specs.List.{list_any, slice_get, All, AllPairs}
 use Rattle.std.proofs.lemmas.Bool.{cases_Bool}
 use Rattle.std.proofs.lemmas.Option.{slice_get-get_or}
@@ -42,6 +42,14 @@ module _ {X : Type 0} where
     pub get_filter : (xs : List X) (x : X) (k : ℕ) → slice_get (filter p xs) k ≡ Some x → Passing xs x
     get_filter [] x k e = absurd cc
     get_filter (y ∷ xs) x k e = elim (cases_Bool (p y)) [ inl holds ↦ here_or y xs x holds (get_filter xs x) k (rw holds at e) | inr fails ↦ later y xs x (get_filter xs x k (rw fails at e)) ]
+
+    pub find_get : (xs : List X) (x : X) → find p xs ≡ Some x → Passing xs x
+    find_get [] x e = absurd cc
+    find_get (y ∷ xs) x e =
+        elim (cases_Bool (p y)) [
+          | inl holds ↦ (let same : y ≡ x = same_some (rw holds at e) in (0, ap Some same, ap p (sym same) ∙ holds))
+          | inr fails ↦ later y xs x (find_get xs x (rw fails at e))
+        ]
 
     pub filter_get : (xs : List X) (x : X) (k : ℕ) → slice_get xs k ≡ Some x → p x ≡ true → (i : ℕ) × (slice_get (filter p xs) i ≡ Some x)
     filter_get [] x k e holds = absurd cc

@@ -6,10 +6,13 @@ ghost use Rattle.ld_base.specs.declared.parts.HashTable.{HashTable};
 ghost use Rattle.elf_object.specs.Spells.{Spells};
 ghost use Rattle.elf_object.specs.Verdict.{object_verdict};
 ghost use Rattle.seg_image.specs.Accepted.{Accepted};
+ghost use Rattle.link_history.specs.Accepted.{IsAccepted, AcceptsOnly};
+ghost use Rattle.link_history.specs.Setting.{Machine};
 
 use elf_dynamic::accepted_tables;
 use elf_head::accepted_head;
 use elf_object::one_object;
+use seg_image::pages_hold_segments;
 
 /// An object that a file spells is one of which an image can be made and relocated, and so is each
 /// object that is read of a file.
@@ -21,4 +24,20 @@ pub fn one_image()
     accepted_head();
     accepted_tables();
     one_object();
+}
+
+/// Such an object has what the history's laws of memory ask: each slot's relocation is of the type of
+/// slots, and the word that the file has for the slot leads to code. So a machine whose verdict is the
+/// reader's accepts no other objects.
+pub fn accepted_object()
+    ensures spelled { (bytes : List ℕ) (program : Bool) (o : Object) → Spells bytes program o → IsAccepted o }
+    ensures read { (bytes : List ℕ) (program : Bool) (o : Object) (table : HashTable) → object_verdict bytes program ≡ Ok (o, table) → IsAccepted o }
+    ensures machine { (m : Machine) → m.verdict ≡ object_verdict → AcceptsOnly m }
+{
+    elf_head::one_verdict();
+    accepted_head();
+    accepted_tables();
+    one_object();
+    pages_hold_segments();
+    one_image();
 }
