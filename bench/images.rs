@@ -62,7 +62,7 @@ fn main() {
         .collect();
     let mut sum = 0u64;
     for _ in 0..rounds {
-        sum = sum.wrapping_add(*image(&bytes, &segments, &relocs).get(1000).unwrap());
+        sum = sum.wrapping_add(*image(&bytes, &segments, &relocs).get(1002).unwrap());
     }
     println!("{} {sum}", BASE);
 }

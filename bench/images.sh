@@ -1,7 +1,7 @@
 #!/bin/sh
 # Times the image of one object of 8 MiB in guest memory with 250,000 relocations, made and relocated, as
 # Rattle builds seg_image and relocator, against a plain Rust loop over the same bytes (bench/images.rs,
-# which gives no roles). Run by hand, once the crates are proved: bench/images.sh [ROUNDS]. It needs
+# which gives no roles). Run by hand: bench/images.sh [ROUNDS]; it proves what isn't proved yet. It needs
 # python3 and rustc. More relocations of so many places don't fit: each takes 24 bytes of the object's
 # table and 8 of its data, and guest memory has 8 MiB.
 set -eu
@@ -10,14 +10,14 @@ top=$(cd "$(dirname "$0")/.." && pwd)
 work=$(mktemp -d)
 trap 'rm -rf "$work"' EXIT
 
-crates='ld_base acceptance elf_head dyn_table elf_dynamic elf_versions sym_hash elf_object seg_image relocator accepted_image link_history'
-mkdir -p "$work/crates/bench/src" "$work/crates/bench/specs" "$work/crates/bench/proofs/bindings"
+crates='ld_base library_source acceptance elf_head dyn_table elf_dynamic elf_versions sym_hash elf_object scope_rule
+address_space link_event link_graph tls_blocks seg_image relocator link_history accepted_image'
+mkdir -p "$work/crates/bench/src" "$work/crates/bench/specs"
+mkdir -p "$work/crates/bench/proofs/bindings" "$work/crates/bench/proofs/run" "$work/crates/bench/proofs/main"
 for crate in $crates; do
     cp -r "$top/crates/$crate" "$work/crates/"
+    grep -E "^$crate:" "$top/crates.txt" >> "$work/crates.txt"
 done
-for crate in $crates; do
-    grep -E "^$crate:" "$top/crates.txt"
-done > "$work/crates.txt"
 echo 'bench: ld_base elf_object seg_image relocator accepted_image' >> "$work/crates.txt"
 
 cat > "$work/crates/bench/src/main.rt" <<'FILE'
@@ -68,7 +68,7 @@ fn bindings(alloc: Global, relocs: &[Reloc]) -> Result<Bindings, AllocError>
 }
 
 /// The sum of a word of each image.
-#[tactic(auto, unfolding(seg_image::specs::Pages::guest_address), using(crate::proofs::Bound::are_bindings))]
+#[tactic(auto, unfolding(seg_image::specs::Pages::guest_address))]
 fn run(alloc: Global, object: &Object) -> Result<u64, AllocError>
     requires { Accepted object.now }
 {
@@ -99,7 +99,7 @@ fn round(alloc: Global, object: &Object, bindings: &Bindings) -> Result<u64, All
     let places = TlsPlaces::new(alloc);
     let mut image = make_image(alloc, object, BASE)?;
     let relocated = relocate(&mut image, object, BASE, Serial::new(1), bindings, &places);
-    match (relocated, image.words.as_slice().get(1000)) {
+    match (relocated, image.words.as_slice().get(1002)) {
         (Ok(()), Some(word)) => Ok(word.value),
         _ => Ok(0),
     }
@@ -207,7 +207,36 @@ loop-reloc-preserved c =
     (omega (arith, c.loop-reloc-test.true)) c.loop-reloc.invariant c.in_ok-push.ensures.ok c.undefined.ensures
 FILE
 
-python3 - "$top/bench" "$work/object" <<'OBJECT'
+cat > "$work/crates/bench/proofs/run/Answers.antt" <<'FILE'
+use Rattle.std.proofs.Common.{◌≡◌, ◌∙◌, ap, sym, subst, ℕ, Bool, true, ◌==◌, List, [], ◌∷◌, length, map, refl, arith}
+use Rattle.std.proofs.lemmas.Bool.{eqb-true}
+use Rattle.ld_base.specs.declared.object.Reloc.{Reloc}
+use Rattle.relocator.specs.Bindings.{AreBindings}
+use Rattle.bench.specs.Weak.{undefined}
+use Rattle.bench.proofs.Bound.{are_bindings}
+use Rattle.bench.proofs.run.Goals as goal
+
+nothing : (rs : List Reloc) (b : Bool) → b ≡ true → b ≡ (length rs == 0) → rs ≡ []
+nothing [] b full is = refl
+nothing (r ∷ rs) b full is =
+    let none : length (r ∷ rs) ≡ 0 = eqb-true (length (r ∷ rs)) 0 (sym is ∙ full) in
+    absurd (omega (arith, none))
+
+pub rounds-requires-clause-bindings : goal.rounds-requires-clause-bindings
+rounds-requires-clause-bindings c =
+    subst (AreBindings c.args.object.now) (sym (c.in_ok-bindings.ensures ∙ ap (map (λ (r : Reloc). undefined)) c.as_slice.ensures))
+    (are_bindings c.args.object.now (nothing c.args.object.now.plt_relocs c.is_empty.result c.if-not-is_empty.false c.is_empty.ensures))
+FILE
+
+cat > "$work/crates/bench/proofs/main/Answers.antt" <<'FILE'
+use Rattle.std.proofs.Common.{sym, false}
+use Rattle.bench.proofs.main.Goals as goal
+
+pub run-requires : goal.run-requires
+run-requires c = c.one_image.ensures.read c.as_slice.result.now false c.in-Ok.object c.in-Ok._table c.in-Ok.ensures.object
+FILE
+
+python3 - "$top/bench" "$work/crates/bench/object" <<'OBJECT'
 import sys
 sys.path.insert(0, sys.argv[1])
 import objects
@@ -215,28 +244,30 @@ with open(sys.argv[2], "wb") as file:
     file.write(objects.build(1, [8 * k for k in range(250000)]))
 OBJECT
 
-# The processor time of a program that makes so many images, less that of one that makes one.
+# The processor time of a program.
 seconds() {
     python3 -c 'import os, subprocess, sys
 subprocess.run(sys.argv[1:], check=True, stdout=subprocess.DEVNULL)
-print(os.times().children_user)' "$@"
+times = os.times()
+print(times.children_user + times.children_system)' "$@"
 }
 
+# The program that makes so many images.
 built() {
-    sed -i "s/^const ROUNDS: u64 = .*/const ROUNDS: u64 = $1;/" "$work/crates/bench/src/main.rt"
-    (cd "$work/crates/bench" && cp "$work/object" . && rt run > "$work/log" 2>&1) || { tail -20 "$work/log"; exit 1; }
-    cp "$work/crates/bench/out/bench" "$work/images-$1"
+    sed -i "s/^const ROUNDS: u64 = .*/const ROUNDS: u64 = $1;/" src/main.rt
+    rt run > "$work/log" 2>&1 || { tail -20 "$work/log"; exit 1; }
+    cp out/bench "$work/images-$1"
 }
 
+cd "$work/crates/bench"
 built 1
 built "$rounds"
 rustc --edition 2024 -C opt-level=3 -C codegen-units=1 -C target-cpu=x86-64-v2 -o "$work/plain" "$top/bench/images.rs"
-cd "$work"
 for _ in 1 2 3; do
-    one=$(seconds ./images-1)
-    all=$(seconds "./images-$rounds")
-    plain_one=$(seconds ./plain 1)
-    plain_all=$(seconds ./plain "$rounds")
+    one=$(seconds "$work/images-1")
+    all=$(seconds "$work/images-$rounds")
+    plain_one=$(seconds "$work/plain" 1)
+    plain_all=$(seconds "$work/plain" "$rounds")
     echo "$one $all $plain_one $plain_all" | awk -v n="$rounds" '{
         ours = ($2 - $1) / (n - 1) * 1000; plain = ($4 - $3) / (n - 1) * 1000
         printf "an image: %.1f ms, plain Rust %.1f ms, ratio %.2f\n", ours, plain, ours / plain
