@@ -3,7 +3,7 @@ use Rattle.std.proofs.Common.{◌≡◌, ℕ, ◌+◌, List, [], ◌∷◌, ◌+
 use Rattle.std.proofs.lemmas.List.{take_rest}
 use Rattle.asm_text.specs.Lines.{read_line, read_lines, behind}
 use Rattle.asm_text.specs.declared.statement.Line.{Line}
-use Rattle.asm_text.specs.declared.fault.AsmCause.{AsmCause}
+use Rattle.ld_base.specs.declared.fault.AsmCause.{AsmCause}
 
 pushed : (done : List Line) (read : Line) (rest : Result (List Line) (ℕ × AsmCause)) → behind done (behind (read ∷ []) rest) ≡ behind (done ++ read ∷ []) rest
 unfolding behind

@@ -14,8 +14,8 @@ use Rattle.asm_text.specs.Directives.{directive}
 use Rattle.asm_text.specs.declared.statement.Statement.{Statement}
 use Rattle.asm_text.specs.declared.statement.Statement.TheVariants as statements
 use Rattle.asm_text.specs.declared.statement.Line.{Line}
-use Rattle.asm_text.specs.declared.fault.AsmCause.{AsmCause}
-use Rattle.asm_text.specs.declared.fault.AsmCause.TheVariants as causes
+use Rattle.ld_base.specs.declared.fault.AsmCause.{AsmCause}
+use Rattle.ld_base.specs.declared.fault.AsmCause.TheVariants as causes
 use Rattle.asm_text.specs.declared.fault.AsmFault.{AsmFault}
 use Rattle.asm_text.specs.declared.fault.AsmFault.TheVariants.{At, Memory}
 

@@ -2,7 +2,8 @@
 
 ghost use Rattle.std.specs.Prelude.{◌≡◌, IfOk, map};
 ghost use Rattle.std.specs.Option.{option_map};
-ghost use Rattle.asm_text.specs.Directives.{is_flag, stands_in, are_flags, flags, two_names, versioned, after_at, symver, need_of, need_file, need, pieces_of, sum, doubleword, quoted, asciz, is_power, alignment, copy, alone, plain, directive};
+ghost use Rattle.asm_text.specs.Directives.{is_flag, stands_in, are_flags, flags, two_names, versioned, after_at, symver, need_of, need_file, need};
+ghost use Rattle.asm_text.specs.Directives.{pieces_of, sum, doubleword, quoted, asciz, is_power, alignment, copy, alone, plain, directive};
 
 use crate::operands::zero;
 use crate::statement::{Directive, Doubleword, Need, Symver};

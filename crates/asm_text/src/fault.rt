@@ -3,28 +3,8 @@
 ghost use Rattle.std.specs.Prelude.{◌≡◌};
 ghost use Rattle.asm_text.specs.declared.fault.AsmFault.TheVariants.{Memory};
 
+use ld_base::AsmCause;
 use std::alloc::AllocError;
-
-/// Why a line is refused.
-#[derive(Clone, Copy, Debug)]
-pub enum AsmCause {
-    /// It is no line of the grammar.
-    BadStatement,
-    /// No directive and no instruction is named so.
-    UnknownWord,
-    /// An operand hasn't the form that is asked for.
-    BadOperand,
-    /// A number or a distance doesn't fit.
-    OutOfRange,
-    /// The label is defined before.
-    DoubleLabel,
-    /// A label or a version isn't defined.
-    UnknownLabel,
-    /// The statement may not stand in its section.
-    WrongSection,
-    /// The source or the object is too long.
-    TooBig,
-}
 
 /// Why there is no object.
 #[derive(Clone, Copy, Debug)]

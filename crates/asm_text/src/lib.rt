@@ -15,7 +15,8 @@ mod lines;
 mod operands;
 mod statement;
 
-pub use fault::{AsmCause, AsmFault};
+pub use fault::AsmFault;
+pub use ld_base::AsmCause;
 pub use lines::parse;
 pub use statement::{
     Directive, Doubleword, Instruction, Line, Need, Statement, Statements, Symver,

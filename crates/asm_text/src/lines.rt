@@ -2,10 +2,13 @@
 
 ghost use Rattle.std.specs.Prelude.{◌≡◌, false, Ok, option_map, IfOk, IfErr, map, length, ◌≤◌};
 ghost use Rattle.std.specs.List.{list_all};
-ghost use Rattle.asm_text.specs.Lines.{is_printed, uncommented, labelled, worded, keyword_of, statement, read_statement, read_text, line_of, read_line, read_lines, lines_of, statements_of, is_quoted_after, before_comment, TellsOf, TellsOfLine, TellsOfLines};
+ghost use Rattle.asm_text.specs.Lines.{is_printed, uncommented, labelled, worded, keyword_of, statement, read_statement, read_text, line_of};
+ghost use Rattle.asm_text.specs.Lines.{read_line, read_lines, lines_of, statements_of, is_quoted_after, before_comment, TellsOf, TellsOfLine};
+ghost use Rattle.asm_text.specs.Lines.{TellsOfLines};
 
 use crate::directives::directive;
-use crate::fault::{AsmCause, AsmFault};
+use crate::fault::AsmFault;
+use ld_base::AsmCause;
 use crate::operands::{instruction, operands_of};
 use crate::statement::{Line, Statement, Statements};
 use asm_words::{

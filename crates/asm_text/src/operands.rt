@@ -1,7 +1,10 @@
 //! The operands of instructions.
 
 ghost use Rattle.std.specs.Prelude.{◌≡◌, IfOk, map};
-ghost use Rattle.asm_text.specs.Operands.{zero, operands_of, parenthesised, offset, address, base, jump_target, register_operand, number_operand, name_operand, one_register, two_registers, three_registers, registers_number, register_number, register_address, register_base, registers_base, jump, fence, one_name, register_name, registers_name, without_name, of_memory, instruction};
+ghost use Rattle.asm_text.specs.Operands.{zero, operands_of, parenthesised, offset, address, base, jump_target, register_operand, number_operand};
+ghost use Rattle.asm_text.specs.Operands.{name_operand, one_register, two_registers, three_registers, registers_number, register_number};
+ghost use Rattle.asm_text.specs.Operands.{register_address, register_base, registers_base, jump, fence, one_name, register_name, registers_name};
+ghost use Rattle.asm_text.specs.Operands.{without_name, of_memory, instruction};
 ghost use Rattle.std.specs.Option.{option_map};
 
 use crate::statement::Instruction;

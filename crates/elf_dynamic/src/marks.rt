@@ -1,6 +1,7 @@
 //! Sets of doublewords of memory.
 
-ghost use Rattle.std.specs.Prelude.{◌≡◌, ◌==◌, ◌||◌, ◌&&◌, ◌+◌, ◌*◌, ◌/◌, ◌<◌, ◌≤◌, ◌^◌, ℕ, false, length, nat_le, nat_lt, slice_index, IfOk, OnOk};
+ghost use Rattle.std.specs.Prelude.{◌≡◌, ◌==◌, ◌||◌, ◌&&◌, ◌+◌, ◌*◌, ◌/◌, ◌<◌, ◌≤◌, ◌^◌, ℕ, false};
+ghost use Rattle.std.specs.Prelude.{length, nat_le, nat_lt, slice_index, IfOk, OnOk};
 ghost use Rattle.elf_dynamic.specs.Marks.{is_marked};
 ghost use Rattle.elf_dynamic.specs.Memory.{overlaps};
 ghost use Rattle.elf_dynamic.specs.Named.{doubleword};

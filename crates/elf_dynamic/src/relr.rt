@@ -1,6 +1,8 @@
 //! Packed relative relocations (gABI, "Relocation": DT_RELR).
 
-ghost use Rattle.std.specs.Prelude.{◌≡◌, ◌==◌, ◌+◌, ◌-◌, ◌*◌, ◌%◌, ◌<◌, ◌≤◌, ◌^◌, ◌++◌, [], ◌∷◌, ◌||◌, ◌/◌, true, false, List, ℕ, length, map, nat_lt, IfOk, OnOk, IsTrue, MatchResult, if◌then◌else◌};
+ghost use Rattle.std.specs.Prelude.{◌≡◌, ◌==◌, ◌+◌, ◌-◌, ◌*◌, ◌%◌, ◌<◌, ◌≤◌, ◌^◌, ◌++◌, [], ◌∷◌};
+ghost use Rattle.std.specs.Prelude.{◌||◌, ◌/◌, true, false, List, ℕ, length, map, nat_lt, IfOk, OnOk, IsTrue, MatchResult};
+ghost use Rattle.std.specs.Prelude.{if◌then◌else◌};
 ghost use Rattle.acceptance.specs.Gives.{Faults};
 ghost use Rattle.ld_base.specs.declared.object.Span.{Span};
 ghost use Rattle.elf_dynamic.specs.Judged.{most_places, packed_verdict, Admits, IsJudged};

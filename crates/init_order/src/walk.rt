@@ -1,7 +1,8 @@
 //! Which objects lead to one another: strongly connected components, by one walk along a path
 //! (Gabow, "Path-based depth-first search for strong and biconnected components").
 
-ghost use Rattle.std.specs.Prelude.{◌≡◌, ◌==◌, ◌+◌, ◌-◌, ◌^◌, ◌<◌, ◌≤◌, ◌∷◌, ◌++◌, ℕ, [], true, if◌then◌else◌, drop, filter, length, map, take, nat_eq, IfSome, IfNone, None, OnOk, Some, Contains};
+ghost use Rattle.std.specs.Prelude.{◌≡◌, ◌==◌, ◌+◌, ◌-◌, ◌^◌, ◌<◌, ◌≤◌, ◌∷◌, ◌++◌, ℕ, [], true};
+ghost use Rattle.std.specs.Prelude.{if◌then◌else◌, drop, filter, length, map, take, nat_eq, IfSome, IfNone, None, OnOk, Some, Contains};
 ghost use Rattle.std.specs.HashMap.{get};
 ghost use Rattle.init_order.specs.Walked.{Grows, IsWalked, Walked, work, work_of};
 ghost use Rattle.init_order.specs.Walking.{DropsBehind, IsCut, at, is_in, step_of};
@@ -131,7 +132,8 @@ impl Walk {
 
     /// Follows a step of the last part, which isn't pending any more.
     fn follow(&mut self, successors: &Successors, step: Step) -> Result<(), AllocError>
-        requires walked { Walked successors.now (at self.old) self.old.path.items self.old.starts.items (self.old.pending.items ++ step ∷ []) self.old.visited.items (length self.old.components.items) }
+        requires walked { Walked successors.now (at self.old) self.old.path.items self.old.starts.items (self.old.pending.items ++ step ∷ [])
+            self.old.visited.items (length self.old.components.items) }
         requires last { (start : ℕ) → Contains self.old.starts.items start → start ≤ step.place }
         ensures walked { OnOk result (IsWalked successors.now self.new) }
         ensures less { OnOk result (work_of successors.now self.new < work successors.now (at self.old) self.old.starts.items (self.old.pending.items ++ step ∷ [])) }

@@ -77,3 +77,24 @@ pub enum Shown {
     Closing(Serial),
     OpenGrant(GrantNo),
 }
+
+/// Why a line of an assembler source is refused.
+#[derive(Clone, Copy, Debug)]
+pub enum AsmCause {
+    /// It is no line of the grammar.
+    BadStatement,
+    /// No directive and no instruction is named so.
+    UnknownWord,
+    /// An operand hasn't the form that is asked for.
+    BadOperand,
+    /// A number or a distance doesn't fit.
+    OutOfRange,
+    /// The label is defined before.
+    DoubleLabel,
+    /// A label or a version isn't defined.
+    UnknownLabel,
+    /// The statement may not stand in its section.
+    WrongSection,
+    /// The source or the object is too long.
+    TooBig,
+}

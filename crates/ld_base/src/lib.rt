@@ -16,7 +16,7 @@ mod sequence;
 mod symbols;
 mod text;
 
-pub use fault::{DlFault, NotAccepted, ReadFault, Shown};
+pub use fault::{AsmCause, DlFault, NotAccepted, ReadFault, Shown};
 pub use field::{field16, field32, field64};
 pub use law::one_pick;
 pub use linking::{Added, Calls, Choice, File, Files, Loaded, Role, State, TlsPlace, Want};

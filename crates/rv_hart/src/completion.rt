@@ -2,7 +2,8 @@
 
 ghost use Rattle.std.specs.Prelude.{◌≡◌, ◌<◌, ◌^◌, ◌*◌, slice_index};
 ghost use Rattle.rv_hart.specs.Registers.{registers_of};
-ghost use Rattle.rv_hart.specs.Instructions.{load_size, loaded, atomic_loaded, branched, found_in, reserved, released, access_of, after, after_action, IsPlanned, IsOfKind, IsValue, IsReservation};
+ghost use Rattle.rv_hart.specs.Instructions.{load_size, loaded, atomic_loaded, branched, found_in, reserved, released, access_of, after};
+ghost use Rattle.rv_hart.specs.Instructions.{after_action, IsPlanned, IsOfKind, IsValue, IsReservation};
 
 use crate::arithmetic::{imm_result, reg_result};
 use crate::planning::{is_taken, jalr_target, offset_by};

@@ -5,7 +5,8 @@ ghost use Rattle.std.specs.Option.{option_map};
 ghost use Rattle.rv_isa.specs.Word.{bits};
 ghost use Rattle.rv_isa.specs.Opcodes.{imm_code};
 ghost use Rattle.rv_isa.specs.Encoding.{Decodes};
-ghost use Rattle.rv_isa.specs.Reading.{branch_of, load_of, store_of, amo_of, reg_of, imm_of, number_of, size_of, atomic_of, load_of_word, store_of_word, branch_of_word, imm_of_word, reg_of_word, with_opcode};
+ghost use Rattle.rv_isa.specs.Reading.{branch_of, load_of, store_of, amo_of, reg_of, imm_of, number_of, size_of, atomic_of, load_of_word};
+ghost use Rattle.rv_isa.specs.Reading.{store_of_word, branch_of_word, imm_of_word, reg_of_word, with_opcode};
 
 use crate::field::{b_number, field, i_number, j_number, register, s_number, u_number};
 use crate::{AmoOp, BranchOp, ImmOp, Instr, LoadOp, Reg, RegOp, StoreOp};

@@ -1,6 +1,8 @@
 //! The modules.
 
-ghost use Rattle.std.specs.Prelude.{◌≡◌, ◌==◌, ℕ, ◌+◌, ◌-◌, ◌^◌, ◌<◌, ◌≤◌, ◌≢◌, Option, None, Some, false, [], length, find, slice_index_or, if◌then◌else◌, IfOk, IfSome, IsOk, IsSome, IsSomeAnd, IsTrue, OnErr, OnOk};
+ghost use Rattle.std.specs.Prelude.{◌≡◌, ◌==◌, ℕ, ◌+◌, ◌-◌, ◌^◌, ◌<◌, ◌≤◌, ◌≢◌, Option, None, Some, false};
+ghost use Rattle.std.specs.Prelude.{[], length, find, slice_index_or, if◌then◌else◌, IfOk, IfSome, IsOk, IsSome, IsSomeAnd, IsTrue, OnErr};
+ghost use Rattle.std.specs.Prelude.{OnOk};
 ghost use Rattle.std.specs.Option.{option_copied};
 ghost use Rattle.tls_blocks.specs.Places.{IsOffset, alignment_of, end_with, tp_with};
 ghost use Rattle.tls_blocks.specs.Numbers.{AreNumbered, HasGapAt, IsLeastFree, number_of, module_at, with_module, without_module};

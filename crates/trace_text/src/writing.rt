@@ -3,7 +3,8 @@
 ghost use Rattle.std.specs.Prelude.{◌≡◌, ◌++◌, ◌∷◌, [], IfOk, OnOk, Some};
 ghost use Rattle.std.specs.String.{string_bytes};
 ghost use Rattle.ld_base.specs.Text.{name_or_none};
-ghost use Rattle.trace_text.specs.Lines.{IsSayable, asked_text, close_answer_text, granted_text, line_text, open_answer_text, open_text, sym_answer_text, sym_text, told_text, unmapped_text, unresolved_text, words_text};
+ghost use Rattle.trace_text.specs.Lines.{IsSayable, asked_text, close_answer_text, granted_text, line_text, open_answer_text, open_text};
+ghost use Rattle.trace_text.specs.Lines.{sym_answer_text, sym_text, told_text, unmapped_text, unresolved_text, words_text};
 
 use crate::ends::End;
 use crate::lists::{write_added, write_bytes, write_serials};
