@@ -1,0 +1,26 @@
+//! The statements of an assembler source: what a line says once its operands are read.
+//!
+//! A source is a list of [`Line`]s. Each may define a label, and may have one [`Statement`]: a
+//! [`Directive`], one variant a meaning, or an [`Instruction`], one variant a form of operands and a
+//! meaning. Operands are registers, numbers as they are written, and names. Where labels are and which
+//! numbers fit is for those who place the code.
+//!
+//! Instructions are those of the RISC-V Unprivileged ISA 20191213, chapters 24 and 25, and the ones
+//! that stand for a name's address in the RISC-V Assembly Programmer's Manual.
+#![tactic(auto)]
+
+mod alignment;
+mod directive;
+mod instruction;
+mod line;
+mod number;
+
+pub use alignment::Alignment;
+pub use directive::{
+    Array, DataSize, Directive, Doubleword, Export, HashKind, Need, ObjectKind, Section, Symver,
+};
+pub use instruction::{
+    Access, AddressOp, Fence, FenceSet, Instruction, PlainOp, UpperOp, Width, ZeroBranchOp,
+};
+pub use line::{Line, Statement, Statements};
+pub use number::Number;
