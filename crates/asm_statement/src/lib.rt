@@ -11,6 +11,7 @@
 
 mod alignment;
 mod directive;
+mod fault;
 mod instruction;
 mod line;
 mod number;
@@ -19,6 +20,7 @@ pub use alignment::Alignment;
 pub use directive::{
     Array, DataSize, Directive, Doubleword, Export, HashKind, Need, ObjectKind, Section, Symver,
 };
+pub use fault::AsmFault;
 pub use instruction::{
     Access, AddressOp, Fence, FenceSet, Instruction, PlainOp, UpperOp, Width, ZeroBranchOp,
 };
