@@ -1,19 +1,21 @@
 -- A list that is extended by what it lacks; breadth-first order, a level at a time; and the part of an order from a number on.
-use Rattle.std.proofs.Common.{◌≡◌, ℕ, Bool, true, false, not, ◌||◌, ◌==◌, cond, List, [], ◌∷◌, ◌++◌, ◌≤◌, length, take, refl, sym, ap, subst, ◌∙◌, inl, inr, append_assoc, arith, rules, zero, suc, ◌+◌, ◌<◌, Option, Some, None, drop, get_or, add-one, drop-cons, append-nil}
-use Rattle.std.proofs.lemmas.Bool.{cases_Bool, eqb-true}
-use Rattle.std.specs.List.{filter, flat_map, find}
-use Rattle.std.proofs.lemmas.List.{length-append, take-append-le, take-append-drop, take_all}
-use Rattle.std.proofs.lemmas.List.Folds.{list_any-append, find-append}
-use Rattle.std.proofs.lemmas.Grind.{flat_map-append, common_steps}
-use Rattle.scope_rule.specs.Breadth.{has, without, first_kept, extend, level, levels, breadth}
+use Rattle.std.proofs.Common.{◌≡◌, ℕ, zero, suc, ◌+◌, ◌<◌, ◌≤◌, ◌==◌, nat_le, Bool, true, false, not, ◌||◌, cond, ◌⊎◌, inl, inr, Option, Some, None}
+use Rattle.std.proofs.Common.{List, [], ◌∷◌, ◌++◌, length, take, drop, get_or, refl, sym, ap, subst, ◌∙◌, append_assoc, append-nil, add-one, drop-cons, arith, rules}
+use Rattle.std.proofs.ByRecursion.{All-weaker}
 use Rattle.std.proofs.Math.Seq.{take-length, take-append_seam}
-use Rattle.std.specs.Option.{option_or}
-use Rattle.scope_rule.specs.Seen.{Seen}
-use Rattle.scope_rule.specs.Loading.{found_of}
-use Rattle.scope_rule.specs.Choose.{first_with}
-use Rattle.std.specs.Prelude.{nat_lt, nat_le}
+use Rattle.std.proofs.lemmas.Bool.{cases_Bool, cases_lt, eqb-true}
+use Rattle.std.proofs.lemmas.Grind.{flat_map-append, common_steps}
+use Rattle.std.proofs.lemmas.List.{length-append, take-append-le, take-append-drop, take_all}
 use Rattle.std.proofs.lemmas.List.Elements.{filter-append}
+use Rattle.std.proofs.lemmas.List.Folds.{list_any-append}
+use Rattle.std.specs.List.{filter, flat_map, AllByRecursion}
+use Rattle.std.specs.Option.{option_or}
+use Rattle.scope_rule.specs.Breadth.{has, without, first_kept, extend, level, levels, breadth}
+use Rattle.scope_rule.specs.Choose.{first_with}
+use Rattle.scope_rule.specs.Loading.{found_of}
 use Rattle.scope_rule.specs.Loads.{new_of, Begins}
+use Rattle.scope_rule.specs.Seen.{Seen}
+pub use Rattle.std.proofs.lemmas.List.Folds.{find-append as find_either}
 
 -- ---- extending
 
@@ -26,102 +28,6 @@ extend-append a [] ys = refl
 extend-append a (x ∷ xs) ys =
     elim (lacks_not a x) as (λ v. cond v (extend a (xs ++ ys)) (extend (a ++ x ∷ []) (xs ++ ys)) ≡ extend (cond v (extend a xs) (extend (a ++ x ∷ []) xs)) ys)
     [ true ↦ extend-append a xs ys | false ↦ extend-append (a ++ x ∷ []) xs ys ]
-
--- the list itself stays at the front
-pub extend_begins : (a xs : List ℕ) → (ys : List ℕ) × (extend a xs ≡ a ++ ys)
-extend_begins a [] = ([], sym (append-nil a))
-extend_begins a (x ∷ xs) =
-    elim (lacks_not a x) as (λ v. (ys : List ℕ) × (cond v (extend a xs) (extend (a ++ x ∷ []) xs) ≡ a ++ ys)) [
-      | true ↦ extend_begins a xs
-      | false ↦ let rest = extend_begins (a ++ x ∷ []) xs in (x ∷ rest.0, rest.1 ∙ append_assoc a (x ∷ []) rest.0)
-    ]
-
--- each element is 0 or in the list
-abbrev pub Covered : List ℕ → List ℕ → Type 0
-Covered a [] = Unit {0}
-Covered a (x ∷ xs) = (lacks_not a x ≡ true) × Covered a xs
-
-pub covered_stays : (a xs : List ℕ) → Covered a xs → extend a xs ≡ a
-covered_stays a [] h = refl
-covered_stays a (x ∷ xs) h = rw h.0 (covered_stays a xs h.1)
-
-lacks_not_more : (a b : List ℕ) (x : ℕ) → lacks_not a x ≡ true → lacks_not (a ++ b) x ≡ true
-lacks_not_more a b x h = rw list_any-append (grind (arith, h))
-
-pub covered_more : (a b xs : List ℕ) → Covered a xs → Covered (a ++ b) xs
-covered_more a b [] h = tt
-covered_more a b (x ∷ xs) h = (lacks_not_more a b x h.0, covered_more a b xs h.1)
-
-pub covered_extended : (a xs ys : List ℕ) → Covered a ys → Covered (extend a xs) ys
-covered_extended a xs ys h = let more = extend_begins a xs in rw more.1 (covered_more a more.0 ys h)
-
-pub covered-append : (a xs ys : List ℕ) → Covered a xs → Covered a ys → Covered a (xs ++ ys)
-covered-append a [] ys h k = k
-covered-append a (x ∷ xs) ys h k = (h.0, covered-append a xs ys h.1 k)
-
-covered_front : (a xs ys : List ℕ) → Covered a (xs ++ ys) → Covered a xs
-covered_front a [] ys h = tt
-covered_front a (x ∷ xs) ys h = (h.0, covered_front a xs ys h.1)
-
-covered_back : (a xs ys : List ℕ) → Covered a (xs ++ ys) → Covered a ys
-covered_back a [] ys h = h
-covered_back a (x ∷ xs) ys h = covered_back a xs ys h.1
-
-has_pushed : (a : List ℕ) (x : ℕ) → lacks_not (a ++ x ∷ []) x ≡ true
-has_pushed a x = rw list_any-append (grind (arith, common_steps))
-
-lacks_not_extended : (a xs : List ℕ) (x : ℕ) → lacks_not a x ≡ true → lacks_not (extend a xs) x ≡ true
-lacks_not_extended a xs x h = let more = extend_begins a xs in rw more.1 (lacks_not_more a more.0 x h)
-
--- after it is extended a list has all of them
-pub covered_by_self : (a xs : List ℕ) → Covered (extend a xs) xs
-covered_by_self a [] = tt
-covered_by_self a (x ∷ xs) =
-    elim (cases_Bool (lacks_not a x)) [
-      | inl h ↦
-          let same : extend a xs ≡ extend a (x ∷ xs) = rw h refl in
-          subst (λ (order : List ℕ). Covered order (x ∷ xs)) same (lacks_not_extended a xs x h, covered_by_self a xs)
-      | inr h ↦
-          let same : extend (a ++ x ∷ []) xs ≡ extend a (x ∷ xs) = rw h refl in
-          subst (λ (order : List ℕ). Covered order (x ∷ xs)) same (lacks_not_extended (a ++ x ∷ []) xs x (has_pushed a x), covered_by_self (a ++ x ∷ []) xs)
-    ]
-
--- what the seen elements lead to is covered, so what one of them leads to is
-covered_of_seen : (f : ℕ → List ℕ) (acc seen : List ℕ) (x : ℕ) → has seen x ≡ true → Covered acc (flat_map f seen) → Covered acc (f x)
-covered_of_seen f acc [] x h k = absurd cc
-covered_of_seen f acc (y ∷ ys) x h k =
-    elim (cases_Bool (y == x)) [
-      | inl e ↦ let P : ℕ → Type 0 = λ z. Covered acc (f z) in subst P (eqb-true y x e) (covered_front acc (f y) (flat_map f ys) k)
-      | inr e ↦ covered_of_seen f acc ys x (grind (arith, h, e)) (covered_back acc (f y) (flat_map f ys) k)
-    ]
-
-covered_of_lacking : (f : ℕ → List ℕ) → f 0 ≡ [] → (acc seen : List ℕ) (x : ℕ) → lacks_not seen x ≡ true → Covered acc (flat_map f seen) → Covered acc (f x)
-covered_of_lacking f none acc seen x h k =
-    elim (cases_Bool (x == 0)) [
-      | inl e ↦ rw (eqb-true x 0 e, none) tt
-      | inr e ↦ covered_of_seen f acc seen x (grind (arith, h, e)) k
-    ]
-
--- elements that come again lead to nothing new
-pub extend_seen : (f : ℕ → List ℕ) → f 0 ≡ [] → (seen acc xs : List ℕ) → Covered acc (flat_map f seen) → extend acc (flat_map f (extend seen xs)) ≡ extend acc (flat_map f xs)
-extend_seen f none seen acc [] k = covered_stays acc (flat_map f seen) k
-extend_seen f none seen acc (x ∷ xs) k =
-    elim (cases_Bool (lacks_not seen x)) [
-      | inl h ↦
-          let stays : extend acc (f x) ≡ acc = covered_stays acc (f x) (covered_of_lacking f none acc seen x h k) in
-          rw h (extend_seen f none seen acc xs k ∙ rw (extend-append acc (f x) (flat_map f xs), stays) refl)
-      | inr h ↦
-          let acc' : List ℕ = extend acc (f x) in
-          let seen' : List ℕ = seen ++ x ∷ [] in
-          let grown : flat_map f seen' ≡ flat_map f seen ++ f x = rw flat_map-append (ap (λ (ys : List ℕ). flat_map f seen ++ ys) (append-nil (f x))) in
-          let k' : Covered acc' (flat_map f seen') = rw grown (covered-append acc' (flat_map f seen) (f x) (covered_extended acc (f x) (flat_map f seen) k) (covered_by_self acc (f x))) in
-          let more = extend_begins seen' xs in
-          let parts : flat_map f (extend seen' xs) ≡ flat_map f seen' ++ flat_map f more.0 = rw (more.1, flat_map-append f seen' more.0) refl in
-          let same : extend acc (flat_map f seen') ≡ acc' = rw (grown, extend-append acc (flat_map f seen) (f x), covered_stays acc (flat_map f seen) k) refl in
-          let here : extend acc (flat_map f (extend seen' xs)) ≡ extend acc' (flat_map f more.0) = rw (parts, extend-append acc (flat_map f seen') (flat_map f more.0), same) refl in
-          let there : extend acc' (flat_map f (extend seen' xs)) ≡ extend acc' (flat_map f more.0) = rw (parts, extend-append acc' (flat_map f seen') (flat_map f more.0), covered_stays acc' (flat_map f seen') k') refl in
-          rw h (here ∙ sym there ∙ extend_seen f none seen' acc' xs k' ∙ sym (extend-append acc (f x) (flat_map f xs)))
-    ]
 
 -- the elements that a list lacks
 abbrev fresh : List ℕ → List ℕ → List ℕ
@@ -136,23 +42,76 @@ fresh_without a x [] h = refl
 fresh_without a x (y ∷ ys) h = grind (arith, common_steps, fresh_without a x ys h)
 
 -- extending is putting the first occurrences of what is lacking at the end
-extend_is : (a xs : List ℕ) → extend a xs ≡ a ++ fresh a (first_kept xs)
+abbrev pub lacking : List ℕ → List ℕ → List ℕ
+lacking a xs = fresh a (first_kept xs)
+
+pub extend_is : (a xs : List ℕ) → extend a xs ≡ a ++ lacking a xs
 extend_is a [] = sym (append-nil a)
 extend_is a (x ∷ xs) =
     elim (cases_Bool (lacks_not a x)) [
       | inl h ↦ rw (h, fresh_without a x (first_kept xs) h) (extend_is a xs)
-      | inr h ↦ rw h (extend_is (a ++ x ∷ []) xs ∙ append_assoc a (x ∷ []) (fresh (a ++ x ∷ []) (first_kept xs)) ∙ rw (fresh_pushed a x (first_kept xs)) refl)
+      | inr h ↦ rw h (extend_is (a ++ x ∷ []) xs ∙ append_assoc a (x ∷ []) (lacking (a ++ x ∷ []) xs) ∙ rw (fresh_pushed a x (first_kept xs)) refl)
     ]
 
-pub extend_nothing : (xs : List ℕ) → extend [] xs ≡ without 0 (first_kept xs)
+extend_nothing : (xs : List ℕ) → extend [] xs ≡ without 0 (first_kept xs)
 extend_nothing xs = extend_is [] xs ∙ search rules
 
 -- the front of an extended list
 pub extended_front : (a xs s : List ℕ) (n : ℕ) → n ≤ length a → take n a ≡ s → take n (extend a xs) ≡ s
-extended_front a xs s n long front = let more = extend_begins a xs in rw (more.1, take-append-le n a more.0 long) front
+extended_front a xs s n long front = rw (extend_is a xs, take-append-le n a (lacking a xs) long) front
 
 pub extended_length : (a xs : List ℕ) → length a ≤ length (extend a xs)
-extended_length a xs = let more = extend_begins a xs in rw more.1 (omega (arith, length-append a more.0))
+extended_length a xs = rw (extend_is a xs) (omega (arith, length-append a (lacking a xs)))
+
+-- each element is 0 or in the list
+abbrev Covered : List ℕ → List ℕ → Type 0
+Covered a xs = AllByRecursion (λ x. lacks_not a x ≡ true) xs
+
+covered_stays : (a xs : List ℕ) → Covered a xs → extend a xs ≡ a
+covered_stays a [] h = refl
+covered_stays a (x ∷ xs) h = rw h.0 (covered_stays a xs h.1)
+
+lacks_not_more : (a b : List ℕ) (x : ℕ) → lacks_not a x ≡ true → lacks_not (a ++ b) x ≡ true
+lacks_not_more a b x h = rw list_any-append (grind (arith, h))
+
+covered_extended : (a xs ys : List ℕ) → Covered a ys → Covered (extend a xs) ys
+covered_extended a xs ys h =
+    let b : List ℕ = lacking a xs in
+    rw (extend_is a xs) (All-weaker (λ y. lacks_not a y ≡ true) (λ y. lacks_not (a ++ b) y ≡ true) (λ y k. lacks_not_more a b y k) ys h)
+
+has_pushed : (a : List ℕ) (x : ℕ) → lacks_not (a ++ x ∷ []) x ≡ true
+has_pushed a x = rw list_any-append (grind (arith, common_steps))
+
+-- after it is extended a list has all of them
+covered_by_self : (a xs : List ℕ) → Covered (extend a xs) xs
+covered_by_self a [] = tt
+covered_by_self a (x ∷ xs) =
+    let all : (b : List ℕ) → lacks_not b x ≡ true → Covered (extend b xs) (x ∷ xs) = λ b h. ((covered_extended b xs (x ∷ []) (h, tt)).0, covered_by_self b xs) in
+    (elim (lacks_not a x) as (λ v. lacks_not a x ≡ v → Covered (cond v (extend a xs) (extend (a ++ x ∷ []) xs)) (x ∷ xs))
+    [ true ↦ λ h. all a h | false ↦ λ h. all (a ++ x ∷ []) (has_pushed a x) ]) refl
+
+-- an element that leads to nothing new may be left out
+left_out : (f : ℕ → List ℕ) (a : List ℕ) (x : ℕ) (ys : List ℕ) → Covered a (f x) → extend a (flat_map f (without x ys)) ≡ extend a (flat_map f ys)
+left_out f a x [] h = refl
+left_out f a x (y ∷ ys) h =
+    elim (cases_Bool (y == x)) [
+      | inl e ↦ let same : f y ≡ f x = ap f (eqb-true y x e) in rw (e, same, extend-append a (f x) (flat_map f ys), covered_stays a (f x) h) (left_out f a x ys h)
+      | inr e ↦
+          rw (e, extend-append a (f y) (flat_map f (without x ys)), extend-append a (f y) (flat_map f ys)) (left_out f (extend a (f y)) x ys (covered_extended a (f y) (f x) h))
+    ]
+
+-- what comes again leads to nothing new
+once_is_enough : (f : ℕ → List ℕ) (a xs : List ℕ) → extend a (flat_map f (first_kept xs)) ≡ extend a (flat_map f xs)
+once_is_enough f a [] = refl
+once_is_enough f a (x ∷ xs) =
+    let b : List ℕ = extend a (f x) in
+    extend-append a (f x) (flat_map f (without x (first_kept xs)))
+    ∙ left_out f b x (first_kept xs) (covered_by_self a (f x))
+    ∙ once_is_enough f b xs
+    ∙ sym (extend-append a (f x) (flat_map f xs))
+
+extend_kept : (f : ℕ → List ℕ) → f 0 ≡ [] → (a xs : List ℕ) → extend a (flat_map f (extend [] xs)) ≡ extend a (flat_map f xs)
+extend_kept f none a xs = ap (λ (o : List ℕ). extend a (flat_map f o)) (extend_nothing xs) ∙ left_out f a 0 (first_kept xs) (rw none tt) ∙ once_is_enough f a xs
 
 -- ---- levels
 
@@ -189,7 +148,7 @@ pub kept_step : (ns : Seen) (root n : ℕ) (order : List ℕ) → order ≡ exte
 kept_step ns root n order kept =
     let f = found_of ns in
     ap (λ (o : List ℕ). extend (alone root) (flat_map f o)) kept
-    ∙ extend_seen f refl [] (alone root) (levels ns root n) tt
+    ∙ extend_kept f refl (alone root) (levels ns root n)
     ∙ sym (extend-append [] (root ∷ []) (flat_map f (levels ns root n)))
     ∙ ap (extend []) (sym (levels_shift ns root n))
 
@@ -198,20 +157,17 @@ pub grown_step : (f : ℕ → List ℕ) (root : ℕ) (order added : List ℕ) �
     → extend order added ≡ extend (alone root) (flat_map f (take (length order) (extend order added)))
 grown_step f root order added e = e ∙ ap (λ (o : List ℕ). extend (alone root) (flat_map f o)) (sym (extended_front order added order (length order) (omega arith) (take-length order)))
 
-pub is_breadth : (ns : Seen) (root n : ℕ) (order : List ℕ) → length ns.objects ≤ n → n ≤ length ns.objects → order ≡ extend [] (levels ns root n) → order ≡ breadth ns root
+pub is_breadth : (ns : Seen) (root n : ℕ) (order : List ℕ) → n ≡ length ns.objects → order ≡ extend [] (levels ns root n) → order ≡ breadth ns root
 unfolding breadth
-is_breadth ns root n order low high kept =
-    let e : n ≡ length ns.objects = omega arith in
-    kept ∙ extend_nothing (levels ns root n) ∙ ap (λ (k : ℕ). without 0 (first_kept (levels ns root k))) e
-
--- a search of two lists
-pub find_either : {X : Type 0} (p : X → Bool) → (xs ys : List X) → find p (xs ++ ys) ≡ option_or (find p xs) (find p ys)
-find_either p xs ys = find-append p xs ys
+is_breadth ns root n order many kept = kept ∙ extend_nothing (levels ns root n) ∙ ap (λ (k : ℕ). without 0 (first_kept (levels ns root k))) many
 
 -- a search of one list and then of another
 pub first_of_two : (pick : ℕ → Option ℕ) (xs ys : List ℕ) → first_with pick (xs ++ ys) ≡ option_or (first_with pick xs) (first_with pick ys)
 first_of_two pick [] ys = refl
-first_of_two pick (x ∷ xs) ys = elim (pick x) as (λ (i : Option ℕ). (elim i as (λ o. Option (ℕ × ℕ)) [ Some n ↦ Some (x, n) | None ↦ first_with pick (xs ++ ys) ]) ≡ option_or (elim i as (λ o. Option (ℕ × ℕ)) [ Some n ↦ Some (x, n) | None ↦ first_with pick xs ]) (first_with pick ys)) [ Some n ↦ refl | None ↦ first_of_two pick xs ys ]
+first_of_two pick (x ∷ xs) ys =
+    let or : Option ℕ → Option (ℕ × ℕ) → Option (ℕ × ℕ) = λ i rest. elim i as (λ o. Option (ℕ × ℕ)) [ Some n ↦ Some (x, n) | None ↦ rest ] in
+    elim (pick x) as (λ i. or i (first_with pick (xs ++ ys)) ≡ option_or (or i (first_with pick xs)) (first_with pick ys))
+    [ Some n ↦ refl | None ↦ first_of_two pick xs ys ]
 
 -- ---- a list that leads to itself
 
@@ -237,51 +193,36 @@ begins_all : (front all : List ℕ) → Begins front all → length all ≤ leng
 begins_all front all b le = sym (begins_take front all b) ∙ take_all (length front) all le
 
 reach_more : (f : ℕ → List ℕ) (first xs ys : List ℕ) → Begins (reach f first xs) (reach f first (xs ++ ys))
-reach_more f first xs ys =
-    let more = extend_begins (reach f first xs) (flat_map f ys) in
-    (more.0, ap (extend first) (flat_map-append f xs ys) ∙ extend-append first (flat_map f xs) (flat_map f ys) ∙ more.1)
+reach_more f first xs ys = (
+  lacking (reach f first xs) (flat_map f ys),
+  ap (extend first) (flat_map-append f xs ys) ∙ extend-append first (flat_map f xs) (flat_map f ys) ∙ extend_is (reach f first xs) (flat_map f ys),
+)
 
-order_begins : (f : ℕ → List ℕ) (first : List ℕ) (n : ℕ) (all : List ℕ) → IsQueue f first all → Begins (order_to f first n) all
-order_begins f first zero all q = let more = extend_begins first (flat_map f all) in (more.0, q.whole ∙ more.1)
-order_begins f first (suc n) all q =
-    let b = order_begins f first n all q in
-    let next = reach_more f first (order_to f first n) b.0 in
-    (next.0, q.whole ∙ ap (reach f first) b.1 ∙ next.1)
+module _ (f : ℕ → List ℕ) (first all : List ℕ) (q : IsQueue f first all) where
+  order_begins : (n : ℕ) → Begins (order_to f first n) all
+  order_begins zero = (lacking first (flat_map f all), q.whole ∙ extend_is first (flat_map f all))
+  order_begins (suc n) =
+      let b = order_begins n in
+      let next = reach_more f first (order_to f first n) b.0 in
+      (next.0, q.whole ∙ ap (reach f first) b.1 ∙ next.1)
 
--- each level adds an element, until all are there
-order_long : (f : ℕ → List ℕ) (first : List ℕ) (n : ℕ) (all : List ℕ) → IsQueue f first all → n ≤ length all → n ≤ length (order_to f first n)
-order_long f first zero all q le = omega arith
-order_long f first (suc n) all q le =
-    let order : List ℕ = order_to f first n in
-    let long : n ≤ length order = order_long f first n all q (omega arith) in
-    let b : Begins order all = order_begins f first n all q in
-    elim (cases_Bool (nat_lt (length order) (length all))) [
-      | inl h ↦
-          let more : length order < length (reach f first (take (length order) all)) = q.grows (length order) (grind (arith, h)) in
-          let P : List ℕ → Type 0 = λ xs. length order < length (reach f first xs) in
-          let grew : length order < length (reach f first order) = subst P (begins_take order all b) more in
-          omega (arith, grew, long)
-      | inr h ↦
-          let now : reach f first order ≡ all = ap (reach f first) (begins_all order all b (grind (arith, h))) ∙ sym q.whole in
-          let Q : List ℕ → Type 0 = λ xs. suc n ≤ length xs in
-          subst Q (sym now) le
-    ]
+  -- each level adds an element, until all are there
+  order_grows : (n : ℕ) → (n ≤ length (order_to f first n)) ⊎ (length all ≤ length (order_to f first n))
+  order_grows zero = inl (omega arith)
+  order_grows (suc n) =
+      let order : List ℕ = order_to f first n in
+      let b : Begins order all = order_begins n in
+      elim (cases_lt (length order) (length all)) [
+        | inl lt ↦
+            let more : length order < length (reach f first order) = subst (λ (xs : List ℕ). length order < length (reach f first xs)) (begins_take order all b) (q.grows (length order) lt) in
+            elim (order_grows n) [ inl long ↦ inl (omega arith) | inr done ↦ absurd (omega arith) ]
+        | inr done ↦
+            let same : reach f first order ≡ all = ap (reach f first) (begins_all order all b done) ∙ sym q.whole in
+            inr (rw same (omega arith))
+      ]
 
-more_levels : (f : ℕ → List ℕ) (first all : List ℕ) (n : ℕ) → IsQueue f first all → order_to f first n ≡ all → order_to f first (suc n) ≡ all
-more_levels f first all n q e = ap (reach f first) e ∙ sym q.whole
-
-pub queue_order : (f : ℕ → List ℕ) (first all : List ℕ) (n : ℕ) → IsQueue f first all → length all ≤ n → order_to f first n ≡ all
-queue_order f first all zero q le =
-    let long : zero ≤ length (order_to f first zero) = omega arith in
-    begins_all (order_to f first zero) all (order_begins f first zero all q) (omega arith)
-queue_order f first all (suc n) q le =
-    elim (cases_Bool (nat_le (length all) n)) [
-      | inl h ↦ more_levels f first all n q (queue_order f first all n q (grind (arith, h)))
-      | inr h ↦
-          let same : length all ≡ suc n = grind (arith, h) in
-          begins_all (order_to f first (suc n)) all (order_begins f first (suc n) all q)
-          (let long : suc n ≤ length (order_to f first (suc n)) = order_long f first (suc n) all q (omega arith) in omega arith)
-    ]
+  pub queue_order : (n : ℕ) → length all ≤ n → order_to f first n ≡ all
+  queue_order n le = begins_all (order_to f first n) all (order_begins n) (elim (order_grows n) [ inl long ↦ omega arith | inr done ↦ done ])
 
 -- ---- the part of a list from a number on
 
@@ -292,53 +233,38 @@ new_has : (next x : ℕ) (xs : List ℕ) → is_new next x ≡ true → has (new
 new_has next x [] new = refl
 new_has next x (y ∷ ys) new = grind (arith, common_steps, new_has next x ys new)
 
-new_lacks : (next x : ℕ) (xs : List ℕ) → is_new next x ≡ true → lacks_not (new_of next xs) x ≡ lacks_not xs x
-new_lacks next x xs new = ap (λ (b : Bool). x == 0 || b) (new_has next x xs new)
-
-new_push : (next x : ℕ) (xs : List ℕ) → is_new next x ≡ true → new_of next (xs ++ x ∷ []) ≡ new_of next xs ++ x ∷ []
-new_push next x xs new = filter-append (is_new next) xs (x ∷ []) ∙ rw new refl
-
-old_push : (next x : ℕ) (xs : List ℕ) → is_new next x ≡ false → new_of next (xs ++ x ∷ []) ≡ new_of next xs
-old_push next x xs old = filter-append (is_new next) xs (x ∷ []) ∙ rw old (append-nil (new_of next xs))
+new_extend_one : (next x : ℕ) (a : List ℕ) → new_of next (extend a (x ∷ [])) ≡ extend (new_of next a) (new_of next (x ∷ []))
+new_extend_one next x a = grind (arith, common_steps, new_has next x a, filter-append (is_new next) a (x ∷ []))
 
 -- the new part of an order is an order of the new parts
 pub new_extend : (next : ℕ) (a xs : List ℕ) → new_of next (extend a xs) ≡ extend (new_of next a) (new_of next xs)
 new_extend next a [] = refl
 new_extend next a (x ∷ xs) =
+    let one : List ℕ = new_of next (x ∷ []) in
+    ap (new_of next) (extend-append a (x ∷ []) xs)
+    ∙ new_extend next (extend a (x ∷ [])) xs
+    ∙ ap (λ (l : List ℕ). extend l (new_of next xs)) (new_extend_one next x a)
+    ∙ sym (ap (extend (new_of next a)) (filter-append (is_new next) (x ∷ []) xs) ∙ extend-append (new_of next a) one (new_of next xs))
+
+pub new_flat : (next : ℕ) (f : ℕ → List ℕ) (xs : List ℕ) → flat_map (λ s. new_of next (f s)) xs ≡ new_of next (flat_map f xs)
+new_flat next f [] = refl
+new_flat next f (x ∷ xs) = ap (λ (l : List ℕ). new_of next (f x) ++ l) (new_flat next f xs) ∙ sym (filter-append (is_new next) (f x) (flat_map f xs))
+
+-- where old ones lead to nothing, what is led to by the new part is all
+flat_new : (next : ℕ) (f : ℕ → List ℕ) → ((s : ℕ) → is_new next s ≡ false → f s ≡ []) → (xs : List ℕ) → flat_map f (new_of next xs) ≡ flat_map f xs
+flat_new next f none [] = refl
+flat_new next f none (x ∷ xs) =
     elim (cases_Bool (is_new next x)) [
-      | inl new ↦
-          (elim (lacks_not a x) as (λ v. lacks_not a x ≡ v → new_of next (cond v (extend a xs) (extend (a ++ x ∷ []) xs)) ≡ extend (new_of next a) (cond (is_new next x) (x ∷ new_of next xs) (new_of next xs))) [
-            | true ↦ λ e. let known : lacks_not (new_of next a) x ≡ true = new_lacks next x a new ∙ e in rw (new, known) (new_extend next a xs)
-            | false ↦ λ e.
-                let lacks : lacks_not (new_of next a) x ≡ false = new_lacks next x a new ∙ e in
-                rw (new, lacks) (new_extend next (a ++ x ∷ []) xs ∙ ap (λ (l : List ℕ). extend l (new_of next xs)) (new_push next x a new))
-          ]) refl
-      | inr old ↦
-          elim (lacks_not a x) as (λ v. new_of next (cond v (extend a xs) (extend (a ++ x ∷ []) xs)) ≡ extend (new_of next a) (cond (is_new next x) (x ∷ new_of next xs) (new_of next xs))) [
-            | true ↦ rw old (new_extend next a xs)
-            | false ↦ rw old (new_extend next (a ++ x ∷ []) xs ∙ ap (λ (l : List ℕ). extend l (new_of next xs)) (old_push next x a old))
-          ]
+      | inl new ↦ rw new (ap (λ (l : List ℕ). f x ++ l) (flat_new next f none xs))
+      | inr old ↦ rw (old, none x old) (flat_new next f none xs)
     ]
-
--- what is led to by a list, of which the old part leads to nothing new
-pub new_flat : (next : ℕ) (f : ℕ → List ℕ) → ((s : ℕ) → is_new next s ≡ false → new_of next (f s) ≡ []) → (xs : List ℕ) → new_of next (flat_map f xs) ≡ flat_map (λ s. new_of next (f s)) (new_of next xs)
-new_flat next f none [] = refl
-new_flat next f none (x ∷ xs) =
-    filter-append (is_new next) (f x) (flat_map f xs)
-    ∙ ap (λ (l : List ℕ). new_of next (f x) ++ l) (new_flat next f none xs)
-    ∙ elim (cases_Bool (is_new next x)) [
-      | inl new ↦ rw new refl
-      | inr old ↦ rw (old, none x old) refl
-    ]
-
-pub new_flat_all : (next : ℕ) (f : ℕ → List ℕ) (xs : List ℕ) → flat_map (λ s. new_of next (f s)) xs ≡ new_of next (flat_map f xs)
-new_flat_all next f [] = refl
-new_flat_all next f (x ∷ xs) = ap (λ (l : List ℕ). new_of next (f x) ++ l) (new_flat_all next f xs) ∙ sym (filter-append (is_new next) (f x) (flat_map f xs))
 
 -- so the new part of each order is the order of what leads to new ones
 pub new_order : (next : ℕ) (f : ℕ → List ℕ) (first : List ℕ) → ((s : ℕ) → is_new next s ≡ false → new_of next (f s) ≡ []) → (n : ℕ)
     → new_of next (order_to f first n) ≡ order_to (λ s. new_of next (f s)) (new_of next first) n
 new_order next f first none zero = refl
 new_order next f first none (suc n) =
-    new_extend next first (flat_map f (order_to f first n))
-    ∙ ap (extend (new_of next first)) (new_flat next f none (order_to f first n) ∙ ap (flat_map (λ s. new_of next (f s))) (new_order next f first none n))
+    let g = λ (s : ℕ). new_of next (f s) in
+    let order : List ℕ = order_to f first n in
+    new_extend next first (flat_map f order)
+    ∙ ap (extend (new_of next first)) (sym (new_flat next f order) ∙ sym (flat_new next g none order) ∙ ap (flat_map g) (new_order next f first none n))

@@ -1,7 +1,9 @@
 -- What holds of every walk, name by name, and what the names of a load found, in words of its own.
-use Rattle.std.proofs.Common.{◌≡◌, ◌≤◌, ◌<◌, ◌+◌, ◌||◌, ◌&&◌, ℕ, zero, suc, true, false, cond, List, [], ◌∷◌, ◌++◌, length, Option, Some, None, Result, Ok, Err, refl, sym, ap, subst, ◌∙◌, arith, add-suc, add-zero, add-one, append_assoc, append-nil, length-append}
+use Rattle.std.proofs.Common.{◌≡◌, ◌≤◌, ◌<◌, ◌+◌, ◌||◌, ◌&&◌, ℕ, zero, suc, true, false, cond, inl, inr, Option, Some, None, Result, Ok, Err}
+use Rattle.std.proofs.Common.{List, [], ◌∷◌, ◌++◌, length, refl, sym, ap, subst, ◌∙◌, arith, add-suc, add-zero, add-one, append_assoc, append-nil, length-append}
 use Rattle.std.specs.Prelude.{flat_map}
 use Rattle.std.specs.List.{slice_get, AllByRecursion}
+use Rattle.std.proofs.ByRecursion.{All-push}
 use Rattle.std.specs.Option.{option_or}
 use Rattle.std.specs.Str.{bytes_eq}
 use Rattle.std.proofs.lemmas.Grind.{flat_map-append}
@@ -14,7 +16,7 @@ use Rattle.scope_rule.specs.declared.arrival.Arrival.{Arrival}
 use Rattle.scope_rule.specs.Finding.{here, absent, at_path, is_path, with_path, with_soname, candidates}
 use Rattle.scope_rule.specs.Load.{Load, Walk, Stop, refuses, waits, Found, present, fresh, nowhere, stops, needed_by, preload_of, asks, paths_of, use_of, among, or_else, find_path, find_paths, find_opened, finds, start, with_found, with_arrival, take_found, take_name, next_name, step, then_step, walk, Brings, Stops, IsRoot}
 use Rattle.scope_rule.specs.Loads.{Begins, IsFound, IsRead, IsMissing, WaitsForOne, ReadsNothing, alone, at_first, named_there}
-use Rattle.scope_rule.proofs.Lists.{position_none, begins_at, all_push, all_weaker, Pushed, before, last, pushed_at}
+use Rattle.scope_rule.proofs.Lists.{position_none, begins_at, Pushed, pushed_at}
 use Rattle.scope_rule.proofs.Ways.{NoneThere, IsSerial, linker, old, new, ended_by, serial_found, new_found, used_or_else}
 
 -- ---- names
@@ -29,8 +31,8 @@ asks_more load (o ∷ xs) ys = (
       ∙ sym (append_assoc (load.name ∷ preload_of load) (flat_map needed_by (o ∷ xs)) (flat_map needed_by ys)),
 )
 
-asks_front : (load : Load) (xs ys : List Arrival) → Begins xs ys → Begins (asks load xs) (asks load ys)
-asks_front load xs ys b = let P : List Arrival → Type 0 = λ l. Begins (asks load xs) (asks load l) in subst P (sym b.1) (asks_more load xs b.0)
+still_asked : (load : Load) (xs ys : List Arrival) (n : ℕ) (name : List ℕ) → Begins xs ys → slice_get (asks load xs) n ≡ Some name → slice_get (asks load ys) n ≡ Some name
+still_asked load xs ys n name b e = rw b.1 (begins_at (asks load xs) (asks load (xs ++ b.0)) n name (asks_more load xs b.0) e)
 
 pub asks_longer : (load : Load) (xs ys : List Arrival) → length (asks load xs) ≤ length (asks load (xs ++ ys))
 asks_longer load xs ys =
@@ -56,33 +58,6 @@ pub record Stays (load : Load) (P : Walk → Type 0) : Type 0 where
   pub old : (w : Walk) (name : List ℕ) (serial : ℕ) → next_name load w ≡ Some name → finds load (length w.found) w.arrivals name ≡ present serial → P w → P (with_found w serial)
   pub new : (w : Walk) (name : List ℕ) (o : Arrival) → next_name load w ≡ Some name → finds load (length w.found) w.arrivals name ≡ fresh o → P w → P (with_arrival load w o)
 
-module _ (load : Load) (P : Walk → Type 0) (stays : Stays load P) where
-  abbrev Holds : Result Walk Stop → Type 0
-  Holds (Ok w) = P w
-  Holds (Err why) = Unit {0}
-
-  found_holds : (w : Walk) (name : List ℕ) (found : Found) → next_name load w ≡ Some name → finds load (length w.found) w.arrivals name ≡ found → P w → Holds (take_found load w name found)
-  found_holds w name (present serial) at is h = stays.old w name serial at is h
-  found_holds w name (fresh o) at is h = stays.new w name o at is h
-  found_holds w name nowhere at is h = tt
-  found_holds w name (stops why) at is h = tt
-
-  name_holds : (w : Walk) (name : Option (List ℕ)) → next_name load w ≡ name → P w → Holds (take_name load w name)
-  name_holds w (Some name) at h = found_holds w name (finds load (length w.found) w.arrivals name) at refl h
-  name_holds w None at h = h
-
-  then_holds : (r : Result Walk Stop) → Holds r → Holds (then_step load r)
-  unfolding step
-  then_holds (Ok w) h = name_holds w (next_name load w) refl h
-  then_holds (Err why) h = tt
-
-  holds : (n : ℕ) → Holds (walk load n)
-  holds zero = stays.first
-  holds (suc n) = then_holds (walk load n) (holds n)
-
-  pub walk_stays : (n : ℕ) (w : Walk) → walk load n ≡ Ok w → P w
-  walk_stays n w e = subst Holds e (holds n)
-
 -- where a walk stops: so far it went, and then the next name ended it
 record StopsAt (load : Load) (why : Stop) : Type 0 where
   pub steps : ℕ
@@ -92,51 +67,71 @@ record StopsAt (load : Load) (why : Stop) : Type 0 where
   pub next : next_name load before ≡ Some name
   pub ends : take_found load before name (finds load (length before.found) before.arrivals name) ≡ Err why
 
-name_stops : (load : Load) (n : ℕ) (w : Walk) (why : Stop) (name : Option (List ℕ)) → walk load n ≡ Ok w → next_name load w ≡ name → take_name load w name ≡ Err why → StopsAt load why
-name_stops load n w why (Some name) walked at e = record { steps = n; before = w; name = name; walked = walked; next = at; ends = e }
-name_stops load n w why None walked at e = absurd cc
+module _ (load : Load) (P : Walk → Type 0) (stays : Stays load P) where
+  abbrev Holds : Result Walk Stop → Type 0
+  Holds (Ok w) = P w
+  Holds (Err why) = StopsAt load why
 
-then_stops : (load : Load) (n : ℕ) (r : Result Walk Stop) (why : Stop) → walk load n ≡ r → (r ≡ halt why → StopsAt load why) → then_step load r ≡ halt why → StopsAt load why
-unfolding step
-then_stops load n (Ok w) why is earlier e = name_stops load n w why (next_name load w) is refl e
-then_stops load n (Err own) why is earlier e = earlier e
+  found_holds : (n : ℕ) (w : Walk) (name : List ℕ) (found : Found) → walk load n ≡ Ok w → next_name load w ≡ Some name
+      → finds load (length w.found) w.arrivals name ≡ found → P w → Holds (take_found load w name found)
+  found_holds n w name (present serial) walked at is h = stays.old w name serial at is h
+  found_holds n w name (fresh o) walked at is h = stays.new w name o at is h
+  found_holds n w name nowhere walked at is h = record { steps = n; before = w; name = name; walked = walked; next = at; ends = rw is refl }
+  found_holds n w name (stops why) walked at is h = record { steps = n; before = w; name = name; walked = walked; next = at; ends = rw is refl }
+
+  name_holds : (n : ℕ) (w : Walk) (name : Option (List ℕ)) → walk load n ≡ Ok w → next_name load w ≡ name → P w → Holds (take_name load w name)
+  name_holds n w (Some name) walked at h = found_holds n w name (finds load (length w.found) w.arrivals name) walked at refl h
+  name_holds n w None walked at h = h
+
+  then_holds : (n : ℕ) (r : Result Walk Stop) → walk load n ≡ r → Holds r → Holds (then_step load r)
+  unfolding step
+  then_holds n (Ok w) walked h = name_holds n w (next_name load w) walked refl h
+  then_holds n (Err why) walked h = h
+
+  holds : (n : ℕ) → Holds (walk load n)
+  holds zero = stays.first
+  holds (suc n) = then_holds n (walk load n) refl (holds n)
+
+  pub walk_stays : (n : ℕ) (w : Walk) → walk load n ≡ Ok w → P w
+  walk_stays n w e = subst Holds e (holds n)
 
 stops_at : (load : Load) (n : ℕ) (why : Stop) → walk load n ≡ Err why → StopsAt load why
-stops_at load zero why e = absurd cc
-stops_at load (suc n) why e = then_stops load n (walk load n) why refl (stops_at load n why) e
+stops_at load n why e =
+    let nothing : Stays load (λ v. Unit {0}) = record { first = tt; old = λ w name serial at is h. tt; new = λ w name o at is h. tt } in
+    subst (Holds load (λ v. Unit {0}) nothing) e (holds load (λ v. Unit {0}) nothing n)
 
 -- ---- a load comes to one thing, however many names are counted
 
--- further names change nothing
-abbrev Settled : Load → ℕ → Result Walk Stop → Type 0
-Settled load n r = (more : ℕ) → walk load (n + more) ≡ r
+-- the load comes to this, and further names change nothing
+abbrev Settles : Load → Result Walk Stop → Type 0
+Settles load r = (n : ℕ) × ((more : ℕ) → walk load (n + more) ≡ r)
 
-settled : (load : Load) (n : ℕ) (r : Result Walk Stop) → walk load n ≡ r → then_step load r ≡ r → Settled load n r
+settled : (load : Load) (n : ℕ) (r : Result Walk Stop) → walk load n ≡ r → then_step load r ≡ r → (more : ℕ) → walk load (n + more) ≡ r
 settled load n r e still zero = rw add-zero e
 settled load n r e still (suc more) = rw (add-suc, settled load n r e still more) still
 
-settled_same : (load : Load) (m n : ℕ) (r s : Result Walk Stop) → Settled load m r → Settled load n s → r ≡ s
-settled_same load m n r s one two =
-    let same : m + n ≡ n + m = omega arith in
-    sym (one n) ∙ ap (walk load) same ∙ two m
+settles_once : (load : Load) (r s : Result Walk Stop) → Settles load r → Settles load s → r ≡ s
+settles_once load r s one two =
+    let same : one.0 + two.0 ≡ two.0 + one.0 = omega arith in
+    sym (one.1 two.0) ∙ ap (walk load) same ∙ two.1 one.0
 
-brought : (load : Load) (w : Walk) (b : Brings load w) → Settled load b.steps (done w)
+brought : (load : Load) (w : Walk) → Brings load w → Settles load (done w)
 unfolding step
 brought load w b =
     let none : next_name load w ≡ None = slice_get_past (asks load w.arrivals) (length w.found) b.all in
-    settled load b.steps (done w) b.are (rw none refl)
+    (b.steps, settled load b.steps (done w) b.are (rw none refl))
 
-stopped : (load : Load) (why : Stop) (s : Stops load why) → Settled load s.steps (halt why)
-stopped load why s = settled load s.steps (halt why) s.is refl
+stopped : (load : Load) (why : Stop) → Stops load why → Settles load (halt why)
+stopped load why s = (s.steps, settled load s.steps (halt why) s.is refl)
 
 pub one_walk : (load : Load) (first second : Walk) → Brings load first → Brings load second → first ≡ second
-one_walk load first second b c = let e : done first ≡ done second = settled_same load b.steps c.steps (done first) (done second) (brought load first b) (brought load second c) in cc
+one_walk load first second b c = let e : done first ≡ done second = settles_once load (done first) (done second) (brought load first b) (brought load second c) in cc
 
 pub one_stop : (load : Load) (first second : Stop) → Stops load first → Stops load second → first ≡ second
-one_stop load first second b c = let e : halt first ≡ halt second = settled_same load b.steps c.steps (halt first) (halt second) (stopped load first b) (stopped load second c) in cc
+one_stop load first second b c = let e : halt first ≡ halt second = settles_once load (halt first) (halt second) (stopped load first b) (stopped load second c) in cc
 
 pub not_both : (load : Load) (w : Walk) (why : Stop) → Brings load w → Stops load why → ⊥
-not_both load w why b c = let e : done w ≡ halt why = settled_same load b.steps c.steps (done w) (halt why) (brought load w b) (stopped load why c) in absurd cc
+not_both load w why b c = let e : done w ≡ halt why = settles_once load (done w) (halt why) (brought load w b) (stopped load why c) in absurd cc
 
 -- ---- how a load stops
 
@@ -172,30 +167,18 @@ reads_nothing load w none b =
       new = λ v name o at is h. let n = new_found load (length v.found) v.arrivals name o is in absurd (let d : absent ≡ here o.object o.table = sym (none o.path) ∙ n.read in cc);
     }) b.steps w b.are
 
-read_still : (load : Load) (arrivals more : List Arrival) (o : Arrival) → IsRead load arrivals o → IsRead load (arrivals ++ more) o
-read_still load arrivals more o r = record {
-  number = r.number;
-  name = r.name;
-  asked = begins_at (asks load arrivals) (asks load (arrivals ++ more)) r.number r.name (asks_more load arrivals more) r.asked;
-  place = r.place;
-  candidate = r.candidate;
-  earlier = r.earlier;
-  unknown = r.unknown;
-  read = r.read;
-}
-
 pub arrivals_read : (load : Load) (w : Walk) → Brings load w → AllByRecursion (IsRead load w.arrivals) w.arrivals
 arrivals_read load w b =
-    walk_stays load (λ v. AllByRecursion (IsRead load v.arrivals) v.arrivals) (record {
-      first = tt;
+    walk_stays load (λ v. (all : List Arrival) → Begins v.arrivals all → AllByRecursion (IsRead load all) v.arrivals) (record {
+      first = λ all begins. tt;
       old = λ v name serial at is h. h;
-      new = λ v name o at is h.
+      new = λ v name o at is h. λ all begins.
           let n = new_found load (length v.found) v.arrivals name o is in
-          let all : List Arrival = v.arrivals ++ o ∷ [] in
-          let own : IsRead load v.arrivals o = record { number = length v.found; name = name; asked = at; place = n.place; candidate = n.candidate; earlier = n.earlier; unknown = n.unknown; read = n.read } in
-          all_push (IsRead load all) v.arrivals o
-          (all_weaker (IsRead load v.arrivals) (IsRead load all) v.arrivals (λ x r. read_still load v.arrivals (o ∷ []) x r) h) (read_still load v.arrivals (o ∷ []) o own);
-    }) b.steps w b.are
+          let front : Begins v.arrivals all = (o ∷ begins.0, begins.1 ∙ append_assoc v.arrivals (o ∷ []) begins.0) in
+          let asked : slice_get (asks load all) (length v.found) ≡ Some name = still_asked load v.arrivals all (length v.found) name front at in
+          All-push (IsRead load all) v.arrivals o (h all front)
+          (record { number = length v.found; name = name; asked = asked; place = n.place; candidate = n.candidate; earlier = n.earlier; unknown = n.unknown; read = n.read });
+    }) b.steps w b.are w.arrivals ([], sym (append-nil w.arrivals))
 
 -- no two new objects have one path
 abbrev PathsDiffer : List Arrival → Type 0
@@ -213,10 +196,10 @@ differ_push : (arrivals : List Arrival) (o : Arrival) → at_path arrivals o.pat
 differ_push arrivals o none h i j a b at_i at_j same = cases (pushed_at arrivals o i a at_i) (pushed_at arrivals o j b at_j)
   where
     cases : Pushed arrivals o i a → Pushed arrivals o j b → i ≡ j
-    cases (before x) (before y) = h i j a b x y same
-    cases (before x) (last end is) = absurd (lacks_path arrivals o.path i a none x (same ∙ ap (λ (z : Arrival). z.path) (sym is)))
-    cases (last end is) (before y) = absurd (lacks_path arrivals o.path j b none y (sym same ∙ ap (λ (z : Arrival). z.path) (sym is)))
-    cases (last end is) (last end2 is2) = end ∙ sym end2
+    cases (inl x) (inl y) = h i j a b x y same
+    cases (inl x) (inr y) = absurd (lacks_path arrivals o.path i a none x (same ∙ ap (λ (z : Arrival). z.path) (sym y.1)))
+    cases (inr x) (inl y) = absurd (lacks_path arrivals o.path j b none y (sym same ∙ ap (λ (z : Arrival). z.path) (sym x.1)))
+    cases (inr x) (inr y) = x.0 ∙ sym y.0
 
 pub paths_differ : (load : Load) (w : Walk) → Brings load w → PathsDiffer w.arrivals
 paths_differ load w b =
@@ -228,41 +211,39 @@ paths_differ load w b =
 
 -- ---- each name by itself
 
-record AllFound (load : Load) (w : Walk) : Type 0 where
-  pub walked : walk load (length w.found) ≡ Ok w
-  pub each : (place serial : ℕ) → slice_get w.found place ≡ Some serial → IsFound load w place serial
+-- so far each name found what it finds, whatever comes after
+record AllFound (load : Load) (v : Walk) : Type 0 where
+  pub walked : walk load (length v.found) ≡ Ok v
+  pub each : (w : Walk) → Begins v.arrivals w.arrivals → (place serial : ℕ) → slice_get v.found place ≡ Some serial → IsFound load w place serial
 
-module _ (load : Load) (v w : Walk) (name : List ℕ) (found : Found) (serial : ℕ) (at : next_name load v ≡ Some name) (is : finds load (length v.found) v.arrivals name ≡ found) (taken : take_found load v name found ≡ Ok w) (longer : w.found ≡ v.found ++ serial ∷ []) (more : Begins v.arrivals w.arrivals) (h : AllFound load v) where
-  walked_on : walk load (length w.found) ≡ Ok w
-  unfolding step
-  walked_on =
-      let many : length w.found ≡ suc (length v.found) = ap length longer ∙ length-append v.found (serial ∷ []) ∙ add-one (length v.found) in
-      rw (many, h.walked, at, is) taken
-
-  asked_on : (place : ℕ) (n : List ℕ) → slice_get (asks load v.arrivals) place ≡ Some n → slice_get (asks load w.arrivals) place ≡ Some n
-  asked_on place n e = begins_at (asks load v.arrivals) (asks load w.arrivals) place n (asks_front load v.arrivals w.arrivals more) e
-
-  found_on : (place one : ℕ) → Pushed v.found serial place one → IsFound load w place one
-  found_on place one (before there) =
-      let f = h.each place one there in
-      record { name = f.name; asked = asked_on place f.name f.asked; before = f.before; walked = f.walked; after = f.after; by_finding = f.by_finding; found_after = f.found_after }
-  found_on place one (last end same) =
-      let own : IsFound load w (length v.found) serial = record { name = name; asked = asked_on (length v.found) name at; before = v; walked = h.walked; after = w; by_finding = rw is taken; found_after = longer } in
-      subst (λ (p : ℕ). IsFound load w p one) (sym end) (subst (λ (s : ℕ). IsFound load w (length v.found) s) same own)
-
-  all_found : AllFound load w
-  all_found = record {
-    walked = walked_on;
-    each = λ place one e. found_on place one (pushed_at v.found serial place one (let P : List ℕ → Type 0 = λ l. slice_get l place ≡ Some one in subst P longer e));
-  }
+one_more_found : (load : Load) (v after : Walk) (name : List ℕ) (serial : ℕ) (more : List Arrival) → next_name load v ≡ Some name
+    → take_found load v name (finds load (length v.found) v.arrivals name) ≡ Ok after → after.found ≡ v.found ++ serial ∷ [] → after.arrivals ≡ v.arrivals ++ more → AllFound load v → AllFound load after
+unfolding step
+one_more_found load v after name serial more at taken longer grown h = record {
+  walked =
+      let many : length after.found ≡ suc (length v.found) = ap length longer ∙ length-append v.found (serial ∷ []) ∙ add-one (length v.found) in
+      rw (many, h.walked, at) taken;
+  each = λ w begins place one there.
+      let front : Begins v.arrivals w.arrivals = (more ++ begins.0, begins.1 ∙ ap (λ (l : List Arrival). l ++ begins.0) grown ∙ append_assoc v.arrivals more begins.0) in
+      let own : IsFound load w (length v.found) serial = record {
+        name = name;
+        asked = still_asked load v.arrivals w.arrivals (length v.found) name front at;
+        before = v;
+        walked = h.walked;
+        after = after;
+        by_finding = taken;
+        found_after = longer;
+      } in
+      elim (pushed_at v.found serial place one (rw longer at there)) [ inl earlier ↦ h.each w front place one earlier | inr last ↦ rw (last.0, ← last.1) own ];
+}
 
 pub each_is_found : (load : Load) (w : Walk) → Brings load w → (place serial : ℕ) → slice_get w.found place ≡ Some serial → IsFound load w place serial
 each_is_found load w b =
     (walk_stays load (AllFound load) (record {
-      first = record { walked = refl; each = λ place serial e. absurd cc };
-      old = λ v name serial at is h. all_found load v (with_found v serial) name (present serial) serial at is refl refl ([], sym (append-nil v.arrivals)) h;
-      new = λ v name o at is h. all_found load v (with_arrival load v o) name (fresh o) (load.next + length v.arrivals) at is refl refl (o ∷ [], refl) h;
-    }) b.steps w b.are).each
+      first = record { walked = refl; each = λ w begins place serial e. absurd cc };
+      old = λ v name serial at is h. one_more_found load v (with_found v serial) name serial [] at (rw is refl) refl (sym (append-nil v.arrivals)) h;
+      new = λ v name o at is h. one_more_found load v (with_arrival load v o) name (load.next + length v.arrivals) (o ∷ []) at (rw is refl) refl refl h;
+    }) b.steps w b.are).each w ([], sym (append-nil w.arrivals))
 
 -- ---- the root, where nothing was there
 

@@ -2,6 +2,7 @@
 use Rattle.std.proofs.Common.{◌≡◌, ◌+◌, ◌<◌, ◌==◌, ℕ, true, false, cond, List, [], ◌∷◌, ◌++◌, length, take, Option, Some, None, Ok, Err, Result, refl, sym, subst, append-nil, append_assoc, ◌∙◌, arith}
 use Rattle.std.specs.List.{slice_get, AllByRecursion}
 use Rattle.std.specs.Str.{bytes_eq}
+use Rattle.std.proofs.ByRecursion.{All-push}
 use Rattle.std.proofs.Math.Seq.{take-append_seam}
 use Rattle.std.proofs.lemmas.Grind.{common_steps}
 use Rattle.ld_base.specs.declared.fault.DlFault.TheVariants as faults
@@ -13,7 +14,7 @@ use Rattle.scope_rule.specs.declared.arrival.Arrival.{Arrival}
 use Rattle.scope_rule.specs.Finding.{Reading, here, unaccepted, absent, failed, is_named, linker_name, with_soname, with_path, at_soname, at_path, is_path, candidates}
 use Rattle.scope_rule.specs.Load.{Load, Walk, Stop, refuses, waits, Found, present, fresh, nowhere, stops, use_in, use_of, by_reading, among, or_else, find_path, find_paths, find_opened, find_needed, find_root, finds, paths_of, take_found}
 use Rattle.scope_rule.specs.Loads.{IsIn, WaitsForOne}
-use Rattle.scope_rule.proofs.Lists.{found_in, placed_in, all_push, seam_at}
+use Rattle.scope_rule.proofs.Lists.{found_in, placed_in, seam_at}
 
 -- the paths all read as absent
 abbrev pub NoneThere : Load → List (List ℕ) → Type 0
@@ -99,7 +100,7 @@ module _ (load : Load) (number : ℕ) (arrivals : List Arrival) (name : List ℕ
       let at : slice_get (front ++ path ∷ rest) (length front) ≡ Some path = seam_at front path rest in
       let before : take (length front) (front ++ path ∷ rest) ≡ front = take-append_seam front (path ∷ rest) in
       or_ways (load.reading path ≡ absent) (NoneThere load paths) (find_path load arrivals path) (find_paths load arrivals rest) (path_ways path (length front) (rw is at) (rw (is, before) none))
-      (λ e. paths_ways (front ++ path ∷ []) rest (is ∙ sym (append_assoc front (path ∷ []) rest)) (all_push (λ p. load.reading p ≡ absent) front path none e))
+      (λ e. paths_ways (front ++ path ∷ []) rest (is ∙ sym (append_assoc front (path ∷ []) rest)) (All-push (λ p. load.reading p ≡ absent) front path none e))
 
   opened_ways : paths ≡ candidates load.folders name → W (NoneThere load paths) (find_opened load arrivals name)
   unfolding find_opened

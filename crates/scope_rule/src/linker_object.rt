@@ -9,20 +9,25 @@ pub fn linker_symbol(name: &[u8]) -> Option<u32>
     ensures { result ≡ linker_symbol name.now }
 {
     if name == b"dlopen".as_slice() {
-        Some(1)
-    } else if name == b"dlmopen".as_slice() {
-        Some(2)
-    } else if name == b"dlsym".as_slice() {
-        Some(3)
-    } else if name == b"dlvsym".as_slice() {
-        Some(4)
-    } else if name == b"dlclose".as_slice() {
-        Some(5)
-    } else if name == b"dlerror".as_slice() {
-        Some(6)
-    } else if name == b"__tls_get_addr".as_slice() {
-        Some(7)
-    } else {
-        None
+        return Some(1);
     }
+    if name == b"dlmopen".as_slice() {
+        return Some(2);
+    }
+    if name == b"dlsym".as_slice() {
+        return Some(3);
+    }
+    if name == b"dlvsym".as_slice() {
+        return Some(4);
+    }
+    if name == b"dlclose".as_slice() {
+        return Some(5);
+    }
+    if name == b"dlerror".as_slice() {
+        return Some(6);
+    }
+    if name == b"__tls_get_addr".as_slice() {
+        return Some(7);
+    }
+    None
 }

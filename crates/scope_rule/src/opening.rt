@@ -1,7 +1,8 @@
 //! What an opening makes of a namespace.
 
-ghost use Rattle.std.specs.Prelude.{◌≡◌, ◌==◌, IfOk, map};
+ghost use Rattle.std.specs.Prelude.{◌≡◌, ◌==◌, ◌++◌, IfOk, OnOk, map};
 ghost use Rattle.std.specs.List.{list_any};
+ghost use Rattle.scope_rule.specs.Breadth.{breadth, extend};
 ghost use Rattle.scope_rule.specs.Opening.{global_after, opens_after, raised};
 ghost use Rattle.scope_rule.specs.Seen.{seen};
 
@@ -55,6 +56,19 @@ pub fn opened_lists(
     })
 }
 
+/// Puts what a root leads to at the end of a list that lacks it.
+fn extend_by_breadth(
+    alloc: Global,
+    view: &View,
+    root: Serial,
+    order: &mut Serials,
+) -> Result<(), AllocError>
+    ensures { OnOk result (order.new ≡ extend order.old (breadth (seen view.now) root)) }
+{
+    let libraries = breadth(alloc, view, root)?;
+    extend(order, libraries.as_slice())
+}
+
 /// The global objects after an opening.
 fn global_after(
     alloc: Global,
@@ -65,10 +79,13 @@ fn global_after(
     ensures { IfOk result (λ serials. serials ≡ global_after (seen view.now) root is_global) }
 {
     let mut global = Serials::from_slice(alloc, view.global)?;
-    if is_global {
-        extend(&mut global, breadth(alloc, view, root)?.as_slice())?;
+    if !is_global {
+        return Ok(global);
     }
-    Ok(global)
+    match extend_by_breadth(alloc, view, root, &mut global) {
+        Ok(()) => Ok(global),
+        Err(error) => Err(error),
+    }
 }
 
 /// An opening that counts one more where it is of this root.
@@ -112,9 +129,41 @@ fn opens_after(alloc: Global, root: Serial, opens: &[OpenRec]) -> Result<Opens, 
     Ok(all)
 }
 
+/// Objects, and others behind them.
+fn joined(objects: Added, more: Added) -> Result<Added, AllocError>
+    ensures { IfOk result (λ all. all ≡ objects ++ more) }
+{
+    let mut all = objects.into_vec();
+    all.append(&mut more.into_vec())?;
+    Ok(Added::from(all))
+}
+
 impl Namespace {
-    ghost use Rattle.std.specs.Prelude.{◌≡◌, IfOk};
+    ghost use Rattle.std.specs.Prelude.{◌≡◌, ◌++◌, IfOk};
     ghost use Rattle.scope_rule.specs.Opening.{opened};
+
+    /// Its objects alone.
+    fn into_objects(self) -> Added
+        ensures { result ≡ self.objects }
+    {
+        self.objects
+    }
+
+    /// The namespace with new objects, and with these lists in place of its own.
+    fn with(self, added: Added, lists: OpenedLists) -> Result<Namespace, AllocError>
+        ensures { IfOk result (λ ns. ns ≡ record self { objects = self.objects ++ added; global = lists.global; opens = lists.opens }) }
+    {
+        let id = self.id;
+        match joined(self.into_objects(), added) {
+            Ok(objects) => Ok(Namespace {
+                id,
+                objects,
+                global: lists.global,
+                opens: lists.opens,
+            }),
+            Err(error) => Err(error),
+        }
+    }
 
     /// The namespace after an opening that brought these objects.
     ///
@@ -130,15 +179,9 @@ impl Namespace {
     ) -> Result<Namespace, AllocError>
         ensures { IfOk result (λ ns. ns ≡ opened self added root is_global) }
     {
-        let view = self.view_with(added.as_slice());
-        let OpenedLists { global, opens } = opened_lists(alloc, &view, root, is_global)?;
-        let mut objects = self.objects.into_vec();
-        objects.append(&mut added.into_vec())?;
-        Ok(Namespace {
-            id: self.id,
-            objects: Added::from(objects),
-            global,
-            opens,
-        })
+        match opened_lists(alloc, &self.view_with(added.as_slice()), root, is_global) {
+            Ok(lists) => self.with(added, lists),
+            Err(error) => Err(error),
+        }
     }
 }

@@ -1,6 +1,7 @@
 //! The scope of an object.
 
-ghost use Rattle.std.specs.Prelude.{◌≡◌, ◌++◌, ◌||◌, not, filter, flat_map, OnOk, IfOk};
+ghost use Rattle.std.specs.Prelude.{◌≡◌, ◌++◌, ◌||◌, [], not, filter, flat_map, OnOk, IfOk};
+ghost use Rattle.scope_rule.specs.Breadth.{breadth};
 ghost use Rattle.scope_rule.specs.Loading.{is_dying, is_dying_at};
 ghost use Rattle.scope_rule.specs.Seen.{seen};
 ghost use Rattle.scope_rule.specs.Scope.{opened_with, whole_scope, scope};
@@ -42,24 +43,70 @@ fn append_opens(
     Ok(())
 }
 
-/// Every object that a reference of the owner may be to, those closing too.
-fn whole_scope(alloc: Global, view: &View, owner: &Loaded) -> Result<Serials, AllocError>
-    ensures { IfOk result (λ s. s ≡ whole_scope (seen view.now) owner.now) }
+/// Puts what a root leads to at the end.
+fn append_breadth(
+    alloc: Global,
+    view: &View,
+    root: Serial,
+    scope: &mut Serials,
+) -> Result<(), AllocError>
+    ensures { OnOk result (scope.new ≡ scope.old ++ breadth (seen view.now) root) }
 {
-    let mut scope = Serials::new(alloc);
+    let libraries = breadth(alloc, view, root)?;
+    scope.extend_from_slice(libraries.as_slice())
+}
+
+/// Puts every object that a reference of the owner may be to, those closing too, into an empty list.
+fn fill_scope(
+    alloc: Global,
+    view: &View,
+    owner: &Loaded,
+    scope: &mut Serials,
+) -> Result<(), AllocError>
+    requires { scope.old ≡ [] }
+    ensures { OnOk result (scope.new ≡ whole_scope (seen view.now) owner.now) }
+{
     if owner.object.flags.symbolic {
         scope.push(owner.serial)?;
     }
     if !owner.deep {
         scope.extend_from_slice(view.global)?;
     }
-    append_opens(alloc, view, owner, &mut scope)?;
-    scope.extend_from_slice(breadth(alloc, view, owner.serial)?.as_slice())?;
+    append_opens(alloc, view, owner, scope)?;
+    append_breadth(alloc, view, owner.serial, scope)?;
     if owner.deep {
         scope.extend_from_slice(view.global)?;
     }
-    scope.push(Serial::LINKER)?;
-    Ok(scope)
+    scope.push(Serial::LINKER)
+}
+
+/// Every object that a reference of the owner may be to, those closing too.
+fn whole_scope(alloc: Global, view: &View, owner: &Loaded) -> Result<Serials, AllocError>
+    ensures { IfOk result (λ s. s ≡ whole_scope (seen view.now) owner.now) }
+{
+    let mut scope = Serials::new(alloc);
+    match fill_scope(alloc, view, owner, &mut scope) {
+        Ok(()) => Ok(scope),
+        Err(error) => Err(error),
+    }
+}
+
+/// Of these objects those that the owner sees: one that isn't closing sees none that is.
+fn visible(
+    alloc: Global,
+    view: &View,
+    owner: &Loaded,
+    serials: &[Serial],
+) -> Result<Serials, AllocError>
+    ensures { IfOk result (λ s. s ≡ filter (λ s. is_dying owner.now || not (is_dying_at (seen view.now) s)) serials.now) }
+{
+    let sees_dying = is_dying(owner);
+    let seen: Vec<Serial> = serials
+        .iter()
+        .copied()
+        .filter(|serial| sees_dying || !view.is_dying(*serial))
+        .collect(alloc)?;
+    Ok(Serials::from(seen))
 }
 
 /// Where the references of an object are searched, in order (gABI, "Shared Object Dependencies").
@@ -72,12 +119,5 @@ pub fn scope(alloc: Global, view: &View, owner: &Loaded) -> Result<Serials, Allo
     ensures { IfOk result (λ s. s ≡ scope (seen view.now) owner.now) }
 {
     let whole = whole_scope(alloc, view, owner)?;
-    let sees_dying = is_dying(owner);
-    let seen: Vec<Serial> = whole
-        .as_slice()
-        .iter()
-        .copied()
-        .filter(|serial| sees_dying || !view.is_dying(*serial))
-        .collect(alloc)?;
-    Ok(Serials::from(seen))
+    visible(alloc, view, owner, whole.as_slice())
 }

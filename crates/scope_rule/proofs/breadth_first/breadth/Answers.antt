@@ -3,8 +3,7 @@ use Rattle.std.specs.List.{flat_map}
 use Rattle.scope_rule.specs.Loading.{found_of}
 use Rattle.scope_rule.specs.Seen.{seen}
 use Rattle.scope_rule.specs.Breadth.{levels, extend}
-use Rattle.scope_rule.proofs.Orders.{extended_length}
-use Rattle.scope_rule.proofs.Orders.{alone, level_step, kept_step, grown_step, is_breadth}
+use Rattle.scope_rule.proofs.Orders.{alone, extended_length, level_step, kept_step, grown_step, is_breadth}
 use Rattle.scope_rule.proofs.breadth_first.breadth.Goals as goal
 
 pub loop-preserved : goal.loop-preserved
@@ -29,4 +28,4 @@ pub returns : goal.returns
 returns c =
     let ns = seen c.args.view.now in
     let many : length ns.objects ≡ length c.args.view.now.objects.now + length c.args.view.now.added.now = length-append c.args.view.now.objects.now c.args.view.now.added.now in
-    is_breadth ns c.args.root c.loop.counter c.loop.order (omega arith) (omega arith) c.loop.invariant.kept
+    is_breadth ns c.args.root c.loop.counter c.loop.order (omega arith) c.loop.invariant.kept

@@ -2,8 +2,7 @@ use Rattle.std.proofs.Common.{◌≡◌, ℕ, get_or, arith}
 use Rattle.scope_rule.specs.Loading.{found_of}
 use Rattle.scope_rule.specs.Seen.{seen}
 use Rattle.scope_rule.specs.Breadth.{extend}
-use Rattle.scope_rule.proofs.Orders.{extended_front, extended_length}
-use Rattle.scope_rule.proofs.Orders.{entry_step}
+use Rattle.scope_rule.proofs.Orders.{entry_step, extended_front, extended_length}
 use Rattle.scope_rule.proofs.breadth_first.extend_by_level.Goals as goal
 
 pub loop-i-preserved : goal.loop-i-preserved
