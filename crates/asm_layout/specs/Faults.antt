@@ -1,0 +1,202 @@
+-- Why a line is refused, once each line is a statement: what is tried first comes first.
+use Rattle.std.specs.Prelude.{◌≡◌, ℕ, ◌+◌, ◌^◌, ◌-◌, ◌<◌, ℤ, pos, neg_ℤ, Bool, true, not, ◌||◌, ◌&&◌, ◌==◌}
+use Rattle.std.specs.Prelude.{nat_lt, int_le, int_lt, if◌then◌else◌, List, [], ◌∷◌, length, take, Option, Some, None, slice_get, is_some}
+use Rattle.std.specs.Str.{bytes_eq}
+use Rattle.std.specs.List.{list_any, list_all}
+use Rattle.rv_isa.specs.declared.instr.Instr.{Instr}
+use Rattle.rv_isa.specs.declared.instr.Instr.TheVariants as instrs
+use Rattle.rv_isa.specs.Opcodes.{Upper, Number as Plain, Shift, imm_code}
+use Rattle.rv_isa.specs.Word.{part}
+use Rattle.ld_base.specs.declared.fault.AsmCause.{AsmCause}
+use Rattle.ld_base.specs.declared.fault.AsmCause.TheVariants as causes
+use Rattle.asm_statement.specs.declared.number.Number.{Number}
+use Rattle.asm_statement.specs.declared.directive.Section.{Section}
+use Rattle.asm_statement.specs.declared.directive.Section.TheVariants as sections
+use Rattle.asm_statement.specs.declared.directive.Directive.{Directive}
+use Rattle.asm_statement.specs.declared.directive.Directive.TheVariants as directives
+use Rattle.asm_statement.specs.declared.directive.Doubleword.{Doubleword}
+use Rattle.asm_statement.specs.declared.directive.Doubleword.TheVariants as doublewords
+use Rattle.asm_statement.specs.declared.instruction.AddressOp.{AddressOp}
+use Rattle.asm_statement.specs.declared.instruction.AddressOp.TheVariants as addresses
+use Rattle.asm_statement.specs.declared.instruction.Instruction.{Instruction}
+use Rattle.asm_statement.specs.declared.instruction.Instruction.TheVariants as instructions
+use Rattle.asm_statement.specs.declared.line.Statement.{Statement}
+use Rattle.asm_statement.specs.declared.line.Statement.TheVariants as statements
+use Rattle.asm_statement.specs.declared.line.Line.{Line}
+use Rattle.asm_layout.specs.Numbers.{fits_data, fits_dword, fits_addend, fits_count, fits_li, fits_upper, value_of}
+use Rattle.asm_layout.specs.Places.{place_at, is_section}
+use Rattle.asm_layout.specs.Labels.{is_label, is_taken, defined_by}
+use Rattle.asm_layout.specs.Names.{is_got_plt}
+use Rattle.asm_layout.specs.Uses.{slots}
+use Rattle.asm_layout.specs.Tables.{versions}
+use Rattle.asm_layout.specs.Words.{address_at, target, expanded, operand_number}
+
+-- Numbers and distances
+
+-- whether an instruction's immediate is one that its form can hold: what `encode` of rv_isa asks for
+abbrev pub is_within : ℕ → ℤ → Bool
+is_within width number = int_le (neg_ℤ (pos (2 ^ (width - 1)))) number && int_lt number (pos (2 ^ (width - 1)))
+
+abbrev pub is_distance : ℕ → ℤ → Bool
+is_distance width number = is_within width number && (part number 0 1 == 0)
+
+abbrev pub is_upper : ℤ → Bool
+is_upper number = is_within 32 number && (part number 0 12 == 0)
+
+abbrev pub fits_field : Upper → ℤ → Bool
+fits_field Plain number = is_within 12 number
+fits_field (Shift width constant) number = int_le (pos 0) number && int_lt number (pos (2 ^ width))
+
+unfoldable pub has_form : Instr → Bool
+has_form (instrs.Lui rd number) = is_upper number
+has_form (instrs.Auipc rd number) = is_upper number
+has_form (instrs.Jal rd offset) = is_distance 21 offset
+has_form (instrs.Jalr rd rs1 offset) = is_within 12 offset
+has_form (instrs.Branch op rs1 rs2 offset) = is_distance 13 offset
+has_form (instrs.Load op rd rs1 offset) = is_within 12 offset
+has_form (instrs.Store op rs1 rs2 offset) = is_within 12 offset
+has_form (instrs.Imm op rd rs1 number) = let code = imm_code op in fits_field code.2 number
+has_form (instrs.Op op rd rs1 rs2) = true
+has_form (instrs.Amo op size rd rs1 rs2 aq rl) = true
+has_form (instrs.Lr size rd rs1 aq rl) = true
+has_form (instrs.Sc size rd rs1 rs2 aq rl) = true
+has_form (instrs.Fence word) = true
+has_form instrs.Ecall = true
+has_form instrs.Ebreak = true
+
+-- whether an instruction's number is one that it may have; what its form can hold is asked of what it stands for
+abbrev pub is_number : Option Number → Bool
+is_number None = true
+is_number (Some number) = is_some (value_of number)
+
+abbrev pub number_fits : Instruction → Bool
+number_fits (instructions.Upper op rd number) = fits_upper number
+number_fits (instructions.Li rd number) = fits_li number
+number_fits instruction = is_number (operand_number instruction)
+
+abbrev pub all_have_form : Option (List Instr) → Bool
+all_have_form None = true
+all_have_form (Some words) = list_all has_form words
+
+-- an instruction whose target is missing has no distance
+abbrev pub instruction_fits : List Line → ℕ → Instruction → Bool
+instruction_fits lines k instruction =
+    number_fits instruction && all_have_form (expanded instruction (address_at lines k) (target lines instruction))
+
+abbrev pub dword_fits : Doubleword → Bool
+dword_fits (doublewords.Number number) = fits_dword number
+dword_fits (doublewords.Address name addend) = fits_addend addend
+
+abbrev pub directive_fits : Directive → Bool
+directive_fits (directives.Data size number) = fits_data size number
+directive_fits (directives.Zero number) = fits_count number
+directive_fits (directives.Dword value) = dword_fits value
+directive_fits (directives.Copy name size) = fits_count size
+directive_fits _ = true
+
+abbrev pub statement_fits : List Line → ℕ → Statement → Bool
+statement_fits lines k (statements.Directive directive) = directive_fits directive
+statement_fits lines k (statements.Instruction instruction) = instruction_fits lines k instruction
+
+-- Labels and versions
+
+-- a label, or the start of .got.plt where there is a slot
+abbrev pub is_known : List Line → List ℕ → Bool
+is_known lines name = is_label lines name || (is_got_plt name && nat_lt 0 (length (slots lines)))
+
+-- a name that may be another object's; the start of .got.plt is none
+abbrev pub is_usable : List Line → List ℕ → Bool
+is_usable lines name = is_known lines name || not (is_got_plt name)
+
+abbrev pub address_is_known : List Line → AddressOp → List ℕ → Bool
+address_is_known lines addresses.La name = is_known lines name
+address_is_known lines addresses.Lga name = is_usable lines name
+address_is_known lines addresses.LaTlsGd name = is_usable lines name
+address_is_known lines addresses.LaTlsIe name = is_usable lines name
+
+abbrev pub instruction_is_known : List Line → Instruction → Bool
+instruction_is_known lines (instructions.Jump name) = is_known lines name
+instruction_is_known lines (instructions.Jal rd name) = is_known lines name
+instruction_is_known lines (instructions.BranchZero op rs name) = is_known lines name
+instruction_is_known lines (instructions.Branch op rs1 rs2 name) = is_known lines name
+instruction_is_known lines (instructions.Call name) = is_usable lines name
+instruction_is_known lines (instructions.Tail name) = is_usable lines name
+instruction_is_known lines (instructions.Address op rd name) = address_is_known lines op name
+instruction_is_known lines _ = true
+
+abbrev pub dword_is_known : List Line → Doubleword → Bool
+dword_is_known lines (doublewords.Number number) = true
+dword_is_known lines (doublewords.Address name addend) = is_usable lines name
+
+abbrev pub directive_is_known : List Line → Directive → Bool
+directive_is_known lines (directives.Entry name) = is_known lines name
+directive_is_known lines (directives.Entries array name) = is_known lines name
+directive_is_known lines (directives.Export export name) = is_label lines name
+directive_is_known lines (directives.Symver symver) = is_label lines symver.label && list_any (bytes_eq symver.version) (versions lines)
+directive_is_known lines (directives.Weak name) = is_usable lines name
+directive_is_known lines (directives.Need need) = is_usable lines need.name
+directive_is_known lines (directives.Dword value) = dword_is_known lines value
+directive_is_known lines _ = true
+
+abbrev pub statement_is_known : List Line → Statement → Bool
+statement_is_known lines (statements.Directive directive) = directive_is_known lines directive
+statement_is_known lines (statements.Instruction instruction) = instruction_is_known lines instruction
+
+-- Sections
+
+abbrev pub holds_zeros : Section → Bool
+holds_zeros section = is_section sections.Bss section || is_section sections.Tbss section
+
+abbrev pub holds_addresses : Section → Bool
+holds_addresses section = is_section sections.Relro section || is_section sections.Data section || is_section sections.Tdata section
+
+abbrev pub dword_may_stand : Section → Doubleword → Bool
+dword_may_stand section (doublewords.Number number) = not (holds_zeros section)
+dword_may_stand section (doublewords.Address name addend) = holds_addresses section
+
+abbrev pub directive_may_stand : Section → Directive → Bool
+directive_may_stand section (directives.Data size number) = not (holds_zeros section)
+directive_may_stand section (directives.Asciz text) = not (holds_zeros section)
+directive_may_stand section (directives.Dword value) = dword_may_stand section value
+directive_may_stand section (directives.Copy name size) = is_section sections.Bss section
+directive_may_stand section _ = true
+
+abbrev pub statement_may_stand : Section → Statement → Bool
+statement_may_stand section (statements.Directive directive) = directive_may_stand section directive
+statement_may_stand section (statements.Instruction instruction) = is_section sections.Text section
+
+-- Lines
+
+abbrev pub for_statement : (Statement → Bool) → Option Statement → Bool
+for_statement test None = true
+for_statement test (Some statement) = test statement
+
+abbrev pub first_fault : List (Bool × AsmCause) → Option AsmCause
+first_fault [] = None
+first_fault (test ∷ tests) = if test.0 then first_fault tests else Some test.1
+
+-- the first fault of a line, by its number from 0
+abbrev pub line_fault : List Line → ℕ → Line → Option AsmCause
+line_fault lines k line = first_fault (
+    (for_statement (statement_fits lines k) line.statement, causes.OutOfRange) ∷
+    (not (is_taken (take k lines) (defined_by line)), causes.DoubleLabel) ∷
+    (for_statement (statement_is_known lines) line.statement, causes.UnknownLabel) ∷
+    (for_statement (statement_may_stand (place_at lines k).section) line.statement, causes.WrongSection) ∷ [])
+
+abbrev pub fault_of : List Line → ℕ → Option Line → Option AsmCause
+fault_of lines k None = None
+fault_of lines k (Some line) = line_fault lines k line
+
+unfoldable pub fault_at : List Line → ℕ → Option AsmCause
+fault_at lines k = fault_of lines k (slice_get lines k)
+
+-- no line has a fault
+abbrev pub HasNoFault : List Line → Type 0
+HasNoFault lines = (k : ℕ) → fault_at lines k ≡ None
+
+-- a line, counted from 1, is the first with a fault, and this is its first
+pub record IsFirstFault (lines : List Line) (number : ℕ) (cause : AsmCause) : Type 0 where
+  pub line : ℕ
+  pub counted : number ≡ line + 1
+  pub fault : fault_at lines line ≡ Some cause
+  pub before : (k : ℕ) → k < line → fault_at lines k ≡ None

@@ -1,0 +1,11 @@
+pub mod Examples
+pub mod Faults
+pub mod Labels
+pub mod Names
+pub mod Numbers
+pub mod Parts
+pub mod Places
+pub mod Relr
+pub mod Tables
+pub mod Uses
+pub mod Words

@@ -1,0 +1,55 @@
+//! Sources that are worked by hand.
+
+ghost use Rattle.std.specs.Prelude.{◌≡◌, [], ◌∷◌, Some, None, codes};
+ghost use Rattle.ld_base.specs.declared.fault.AsmCause.TheVariants.{OutOfRange, DoubleLabel, UnknownLabel, WrongSection};
+ghost use Rattle.asm_layout.specs.declared.part.Part.TheVariants as parts;
+ghost use Rattle.asm_layout.specs.Examples.{program, library, twice, too_great, nowhere, misplaced};
+ghost use Rattle.asm_layout.specs.Uses.{slots, imports};
+ghost use Rattle.asm_layout.specs.Parts.{start_of};
+ghost use Rattle.asm_layout.specs.Relr.{relr_words};
+ghost use Rattle.asm_layout.specs.Words.{words_at};
+ghost use Rattle.asm_layout.specs.Faults.{fault_at};
+
+/// A program that calls another object's function: one slot, one undefined symbol, and where its
+/// parts start; the call of the slot and that of its own label as the machine reads them.
+pub fn worked_program()
+    ensures slots { slots program ≡ codes "f" ∷ [] }
+    ensures imports { imports program ≡ codes "f" ∷ [] }
+    ensures symbols { start_of program parts.Symbols ≡ 432 }
+    ensures rela { start_of program parts.Rela ≡ 496 }
+    ensures jmprel { start_of program parts.Jmprel ≡ 544 }
+    ensures plt { start_of program parts.Plt ≡ 0x1000 }
+    ensures text { start_of program parts.Text ≡ 0x1030 }
+    ensures dynamic { start_of program parts.Dynamic ≡ 0x2000 }
+    ensures got_plt { start_of program parts.GotPlt ≡ 0x3000 }
+    ensures data_part { start_of program parts.Data ≡ 0x3018 }
+    ensures slot_call { words_at program 2 ≡ 0x00000097 ∷ 0xff0080e7 ∷ [] }
+    ensures own_call { words_at program 3 ≡ 0x00000097 ∷ 0x00c080e7 ∷ [] }
+    ensures number { words_at program 5 ≡ 0x00500513 ∷ [] }
+    ensures ret { words_at program 6 ≡ 0x00008067 ∷ [] }
+{}
+
+/// A library with a constructor and a thread-local word: what it exports, where its parts start, and
+/// the words that take the offset from the global offset table.
+pub fn worked_library()
+    ensures imports { imports library ≡ [] }
+    ensures rela { start_of library parts.Rela ≡ 488 }
+    ensures relr { start_of library parts.Relr ≡ 512 }
+    ensures rodata { start_of library parts.Rodata ≡ 520 }
+    ensures text { start_of library parts.Text ≡ 0x1000 }
+    ensures dynamic { start_of library parts.Dynamic ≡ 0x2000 }
+    ensures got { start_of library parts.Got ≡ 0x20f0 }
+    ensures init { start_of library parts.InitArray ≡ 0x20f8 }
+    ensures tdata { start_of library parts.Tdata ≡ 0x2100 }
+    ensures offset { words_at library 7 ≡ 0x00001517 ∷ 0x0f053503 ∷ [] }
+    ensures packed { relr_words (0x1000 ∷ 0x1008 ∷ 0x1018 ∷ 0x5000 ∷ []) ≡ 0x1000 ∷ 11 ∷ 0x5000 ∷ [] }
+{}
+
+/// The first fault of four sources, each of one kind.
+pub fn worked_faults()
+    ensures twice { fault_at twice 1 ≡ Some DoubleLabel }
+    ensures first { fault_at twice 0 ≡ None }
+    ensures great { fault_at too_great 0 ≡ Some OutOfRange }
+    ensures nowhere { fault_at nowhere 0 ≡ Some UnknownLabel }
+    ensures misplaced { fault_at misplaced 1 ≡ Some WrongSection }
+{}

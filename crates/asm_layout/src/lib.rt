@@ -1,0 +1,26 @@
+//! What placed code is: definitions over the lines of a source, and the types that they speak of; a
+//! crate without code.
+//!
+//! - `specs/Places`: the place of each line, a section and an offset in it, and how much of each
+//!   section the lines fill.
+//! - `specs/Labels`: the names that lines define, and where.
+//! - `specs/Uses`: which names may be another object's, and what the code needs of them: slots of the
+//!   procedure linkage table, words of the global offset table, undefined symbols.
+//! - `specs/Tables`: what the tables of the object list, so how long they are.
+//! - `specs/Parts`: the parts of the object in the order of their addresses, and where each starts.
+//! - `specs/Words`: the instructions that a line stands for, and their words.
+//! - `specs/Faults`: why a line is refused.
+//!
+//! [`worked_program`], [`worked_library`] and [`worked_faults`] are sources worked by hand: the definitions
+//! compute to what they have to.
+#![tactic(auto)]
+
+mod law;
+mod part;
+mod place;
+mod uses;
+
+pub use law::{worked_faults, worked_library, worked_program};
+pub use part::Part;
+pub use place::Place;
+pub use uses::{Exported, GotKind, GotUse};

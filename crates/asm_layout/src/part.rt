@@ -1,0 +1,54 @@
+//! The parts of an object.
+
+/// A part of an object, in the order in which they stand.
+#[derive(Clone, Copy)]
+pub enum Part {
+    /// The ELF header and the program headers.
+    Head,
+    /// The GNU hash table.
+    GnuHash,
+    /// The SysV hash table.
+    SysvHash,
+    /// The symbol table.
+    Symbols,
+    /// The strings.
+    Strings,
+    /// The versions of the symbols.
+    Versym,
+    /// The versions that are defined.
+    Verdef,
+    /// The versions that are needed.
+    Verneed,
+    /// The relocations, but those of slots.
+    Rela,
+    /// The packed relative relocations.
+    Relr,
+    /// The relocations of the slots.
+    Jmprel,
+    /// `.rodata`.
+    Rodata,
+    /// The procedure linkage table.
+    Plt,
+    /// `.text`.
+    Text,
+    /// The dynamic table.
+    Dynamic,
+    /// The global offset table.
+    Got,
+    /// The functions that are called before all constructors.
+    PreinitArray,
+    /// The constructors.
+    InitArray,
+    /// The destructors.
+    FiniArray,
+    /// `.relro`.
+    Relro,
+    /// `.tdata`.
+    Tdata,
+    /// The slots of the procedure linkage table, with two words before them.
+    GotPlt,
+    /// `.data`.
+    Data,
+    /// `.bss`.
+    Bss,
+}
