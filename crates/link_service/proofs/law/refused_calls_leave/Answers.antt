@@ -1,0 +1,11 @@
+use Rattle.link_service.proofs.Given.{again_appends_nothing, ends_keep, refused_keeps}
+use Rattle.link_service.proofs.law.refused_calls_leave.Goals as goal
+
+pub returns-clause-refused : goal.returns-clause-refused
+returns-clause-refused c = refused_keeps
+
+pub returns-clause-again : goal.returns-clause-again
+returns-clause-again c = again_appends_nothing
+
+pub returns-clause-over : goal.returns-clause-over
+returns-clause-over c = ends_keep

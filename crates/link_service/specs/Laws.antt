@@ -1,0 +1,150 @@
+-- What holds of every call.
+use Rattle.std.specs.Prelude.{◌≡◌, ℕ, ◌≤◌, Bool, true, false, List, [], ◌∷◌, ◌++◌, Option, Some, None, IsTrue}
+use Rattle.ld_base.specs.declared.fault.DlFault.{DlFault}
+use Rattle.ld_base.specs.declared.fault.DlFault.TheVariants as faults
+use Rattle.ld_base.specs.declared.fault.Shown.{Shown}
+use Rattle.ld_base.specs.declared.linking.File.{File}
+use Rattle.ld_base.specs.declared.linking.Loaded.{Loaded}
+use Rattle.link_event.specs.declared.event.Event.{Event}
+use Rattle.link_event.specs.declared.event.Event.TheVariants.{Open}
+use Rattle.link_event.specs.declared.event.OpenAnswer.TheVariants.{Done}
+use Rattle.link_event.specs.declared.event.OpenAsk.{OpenAsk}
+use Rattle.link_event.specs.declared.event.Range.{Range}
+use Rattle.link_event.specs.declared.event.SymAsk.{SymAsk}
+use Rattle.link_event.specs.declared.hart_end.HartEnd.{HartEnd}
+use Rattle.link_event.specs.declared.hart_end.HartEnd.TheVariants as ends
+use Rattle.link_history.specs.After.{after}
+use Rattle.link_history.specs.Allowed.{kept_for}
+use Rattle.link_history.specs.Asking.{AreNamespacesFull, IsBadNamespace, asks_too_long}
+use Rattle.link_history.specs.Flags.{are_flags}
+use Rattle.link_history.specs.Legal.{Lawful, Legal}
+use Rattle.link_history.specs.Lookup.{RefusesSymbol}
+use Rattle.link_history.specs.Opening.{Opens, Refuses}
+use Rattle.link_history.specs.Setting.{Machine, Setting}
+use Rattle.link_history.specs.State.{State}
+use Rattle.link_history.specs.Step.{keep}
+use Rattle.link_service.specs.Answer.{Answer, returns, loading, closing, refused, granted, told, again, over}
+use Rattle.link_service.specs.Call.{Call, resolves, opens, looks_up, closes, unmaps, asks_fault, locates, writes, stops}
+use Rattle.link_service.specs.Gives.{Gives, Serves}
+
+-- ---- legality
+
+abbrev pub GivesLegal : Type 0
+GivesLegal = (w : Setting) (past : List Event) (h : ℕ) (call : Call) (given : List Event) (answer : Answer) → Legal w past → Gives w past h call given answer → Legal w (past ++ given)
+
+abbrev pub GivesLawful : Type 0
+GivesLawful = (m : Machine) (w : Setting) (past : List Event) (h : ℕ) (call : Call) (given : List Event) (answer : Answer) → w.machine ≡ m → Lawful m past → Gives w past h call given answer
+    → Lawful m (past ++ given)
+
+abbrev pub ServesLegal : Type 0
+ServesLegal = (w : Setting) (past : List Event) (h : ℕ) (call : Call) (appended : List Event) (answer : Answer) → Legal w past → Serves w past h call appended answer → Legal w (past ++ appended)
+
+-- ---- what stays
+
+-- a refused call changes the refusal that is kept for its hart, and nothing else
+abbrev pub RefusedKeeps : Type 0
+RefusedKeeps = (w : Setting) (past : List Event) (h : ℕ) (call : Call) (given : List Event) (fault : DlFault) → Gives w past h call given (refused fault)
+    → after (past ++ given) ≡ keep h fault (after past)
+
+-- a hart that tries again has appended nothing
+abbrev pub AgainAppendsNothing : Type 0
+AgainAppendsNothing = (w : Setting) (past : List Event) (h : ℕ) (call : Call) (given : List Event) (for : Shown) → Gives w past h call given (again for) → given ≡ []
+
+-- a call that ends its hart changes nothing else
+abbrev pub EndsKeep : Type 0
+EndsKeep = (w : Setting) (past : List Event) (h : ℕ) (call : Call) (given : List Event) (reason : HartEnd) → Gives w past h call given (over reason) → after (past ++ given) ≡ after past
+
+-- ---- refusals are told
+
+abbrev pub RefusalIsKept : Type 0
+RefusalIsKept = (w : Setting) (past : List Event) (h : ℕ) (call : Call) (given : List Event) (fault : DlFault) → Gives w past h call given (refused fault)
+    → kept_for (after (past ++ given)) h ≡ Some fault
+
+abbrev pub RefusalIsTold : Type 0
+RefusalIsTold = (w : Setting) (past : List Event) (h : ℕ) (given : List Event) (fault : Option DlFault) → Gives w past h asks_fault given (told fault)
+    → (fault ≡ kept_for (after past) h) × (kept_for (after (past ++ given)) h ≡ None)
+
+-- ---- one answer
+
+abbrev pub is_read_fault : DlFault → Bool
+is_read_fault fault = elim fault [ faults.ReadFault path ↦ true | _ ↦ false ]
+
+abbrev pub is_memory : HartEnd → Bool
+is_memory reason = elim reason [ ends.Memory ↦ true | _ ↦ false ]
+
+-- want of memory may come in place of any answer
+abbrev pub is_want : Answer → Bool
+is_want (returns value) = false
+is_want (loading root added) = false
+is_want (closing set) = false
+is_want (refused fault) = false
+is_want (granted grant) = false
+is_want (told fault) = false
+is_want (again for) = false
+is_want (over reason) = is_memory reason
+
+-- so may a read that fails
+abbrev pub is_chance : Answer → Bool
+is_chance (returns value) = false
+is_chance (loading root added) = false
+is_chance (closing set) = false
+is_chance (refused fault) = is_read_fault fault
+is_chance (granted grant) = false
+is_chance (told fault) = false
+is_chance (again for) = false
+is_chance (over reason) = is_memory reason
+
+-- the state settles the call: it isn't an opening, which reads files, and asks dlclose for no handle 0, which none is
+abbrev pub IsPlain : Call → Type 0
+IsPlain (resolves owner eights) = Unit {0}
+IsPlain (opens ask) = ⊥
+IsPlain (looks_up ask) = Unit {0}
+IsPlain (closes handle) = 1 ≤ handle
+IsPlain (unmaps set) = Unit {0}
+IsPlain asks_fault = Unit {0}
+IsPlain (locates number offset) = Unit {0}
+IsPlain (writes bytes) = Unit {0}
+IsPlain (stops reason) = Unit {0}
+
+-- chance apart, such a call has one answer after one history, and appends the same events
+abbrev pub OneAnswer : Type 0
+OneAnswer = (m : Machine) (w : Setting) (past : List Event) (h : ℕ) (call : Call) (given others : List Event) (answer other : Answer) → w.machine ≡ m → Lawful m past → IsPlain call
+    → Gives w past h call given answer → Gives w past h call others other → is_chance answer ≡ false → is_chance other ≡ false → (given ≡ others) × (answer ≡ other)
+
+-- so has an opening, where the files are told
+abbrev pub OneOpening : Type 0
+OneOpening = (w : Setting) (past : List Event) (h : ℕ) (ask : OpenAsk) (files : List File) (given others : List Event) (answer other : Answer)
+    → w.files ≡ Some files → Gives w past h (opens ask) given answer → Gives w past h (opens ask) others other → is_chance answer ≡ false → is_chance other ≡ false
+    → (given ≡ others) × (answer ≡ other)
+
+-- ---- the order of refusals
+
+-- an opening is refused for what it asks, before anything is looked for: for its name, then its flags, then its namespace
+pub data RefusesAsk (s : State) (ask : OpenAsk) : DlFault → Type 0 where
+  long : IsTrue (asks_too_long s ask.name) → RefusesAsk s ask faults.NameTooLong
+  flags : asks_too_long s ask.name ≡ false → are_flags ask.flags ≡ false → RefusesAsk s ask (faults.BadFlags ask.flags)
+  space : (number : ℕ) → asks_too_long s ask.name ≡ false → IsTrue (are_flags ask.flags) → IsBadNamespace s ask.ns ask.name number → RefusesAsk s ask (faults.BadNamespace number)
+  full : asks_too_long s ask.name ≡ false → IsTrue (are_flags ask.flags) → AreNamespacesFull s ask.ns ask.name → RefusesAsk s ask faults.NamespacesFull
+
+-- then it is given this refusal, whatever else would stand
+abbrev pub AskFirst : Type 0
+AskFirst = (w : Setting) (past : List Event) (h : ℕ) (ask : OpenAsk) (given : List Event) (answer : Answer) (fault : DlFault) → RefusesAsk (after past) ask fault → Gives w past h (opens ask) given answer
+    → is_want answer ≡ false → answer ≡ refused fault
+
+-- where the files are told it is given the refusal of its first stage that doesn't pass
+abbrev pub StagesInOrder : Type 0
+StagesInOrder = (w : Setting) (past : List Event) (h : ℕ) (ask : OpenAsk) (files : List File) (given : List Event) (answer : Answer) (fault : DlFault) → w.files ≡ Some files → is_read_fault fault ≡ false
+    → Refuses w (after past) h ask fault → Gives w past h (opens ask) given answer → is_chance answer ≡ false → answer ≡ refused fault
+
+-- and of a look-up's refusals the first is given
+abbrev pub SymbolsInOrder : Type 0
+SymbolsInOrder = (w : Setting) (past : List Event) (h : ℕ) (ask : SymAsk) (given : List Event) (answer : Answer) (fault : DlFault) → RefusesSymbol (after past) h ask fault
+    → Gives w past h (looks_up ask) given answer → is_want answer ≡ false → answer ≡ refused fault
+
+-- ---- success
+
+-- an opening whose stages all pass loads its objects, unless a read fails or memory is wanted
+abbrev pub PassedOpens : Type 0
+PassedOpens = (w : Setting) (past : List Event) (h : ℕ) (ask : OpenAsk) (files : List File) (id root : ℕ) (added : List Loaded) (ranges : List Range) (given : List Event) (answer : Answer)
+    → w.files ≡ Some files → Opens w (after past) h ask id root added ranges → Gives w past h (opens ask) given answer → is_chance answer ≡ false
+    → given ≡ Open h ask (Done id root added ranges) ∷ []

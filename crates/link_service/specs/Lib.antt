@@ -1,0 +1,7 @@
+pub mod Answer
+pub mod Call
+pub mod Ends
+pub mod Gives
+pub mod Laws
+pub mod Waiting
+pub mod Worked

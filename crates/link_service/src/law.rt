@@ -1,0 +1,48 @@
+//! What holds of every call.
+
+ghost use Rattle.link_service.specs.Laws.{AgainAppendsNothing, AskFirst, EndsKeep, GivesLawful, GivesLegal, OneAnswer, OneOpening, PassedOpens};
+ghost use Rattle.link_service.specs.Laws.{RefusalIsKept, RefusalIsTold, RefusedKeeps, ServesLegal, StagesInOrder, SymbolsInOrder};
+
+/// A history that is legal before a call is legal with what the call gives, and with the end of the
+/// hart that it brings.
+pub fn calls_are_legal()
+    ensures gives { GivesLegal }
+    ensures lawful { GivesLawful }
+    ensures serves { ServesLegal }
+{}
+
+/// A call that is refused, that has to be tried again, or that ends its hart leaves everything as it
+/// was, but for the refusal that is kept.
+pub fn refused_calls_leave()
+    ensures refused { RefusedKeeps }
+    ensures again { AgainAppendsNothing }
+    ensures over { EndsKeep }
+{}
+
+/// A refusal is kept for its hart until dlerror tells it, once.
+pub fn refusals_are_told()
+    ensures kept { RefusalIsKept }
+    ensures told { RefusalIsTold }
+{}
+
+/// Want of memory and failed reads apart, the history settles what a call gives, its events and its
+/// answer; of an opening it does so with the files.
+pub fn one_answer()
+    ensures calls { OneAnswer }
+    ensures openings { OneOpening }
+{
+    scope_rule::serials_follow();
+    scope_rule::found_stands();
+    scope_rule::one_outcome();
+}
+
+/// Of refusals that could stand together the first alone is given; and an opening of which none stands
+/// opens.
+pub fn refusals_come_in_order()
+    ensures asked { AskFirst }
+    ensures stages { StagesInOrder }
+    ensures symbols { SymbolsInOrder }
+    ensures passed { PassedOpens }
+{
+    scope_rule::one_outcome();
+}

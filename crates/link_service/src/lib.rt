@@ -1,0 +1,22 @@
+//! What a call of the linker gives: which events it appends, and what it answers, for each service
+//! that a hart may call, in each state.
+//!
+//! `link_history` says which event may come next. This crate says which one comes of a call: of a slot
+//! that is called for the first time, of dlopen, dlmopen, dlsym, dlvsym, dlclose and its unmapping,
+//! dlerror, `__tls_get_addr` and a write, and when such a call ends its hart or has to be tried again.
+//! It is one relation, `Gives` (`specs/Gives.antt`), which the contracts of the calls cite, and so do
+//! the worlds that run harts on them.
+//!
+//! There is no code but laws: functions without a body, whose contract is the law.
+#![tactic(auto)]
+
+mod law;
+mod worked_calls;
+
+pub use law::{
+    calls_are_legal, one_answer, refusals_are_told, refusals_come_in_order, refused_calls_leave,
+};
+pub use worked_calls::{
+    closes_a_held_library, finds_thread_local_storage, grants_what_comes_first,
+    judges_what_is_asked, waits_for_another_hart,
+};
