@@ -1,11 +1,12 @@
 -- Lists: what stands where, and rows of numbers.
 use Rattle.std.proofs.Common.{◌≡◌, ◌≤◌, ◌<◌, ◌+◌, ◌==◌, ◌&&◌, ◌⊎◌, inl, inr, ℕ, zero, suc, Bool, false, nat_le, nat_lt}
-use Rattle.std.proofs.Common.{List, [], ◌∷◌, ◌++◌, length, take, Some, None, refl, sym, ap, subst, ◌∙◌, arith, add-zero}
+use Rattle.std.proofs.Common.{List, [], ◌∷◌, ◌++◌, length, take, Some, None, refl, sym, ap, subst, ◌∙◌, arith, add-one, map-id}
 use Rattle.std.specs.Prelude.{position}
 use Rattle.std.specs.List.{find, position_or_len, range_with_len, slice_get, AllByRecursion}
 use Rattle.std.proofs.ByRecursion.{All-get_or}
 use Rattle.std.proofs.lemmas.Grind.{common_steps}
 use Rattle.std.proofs.lemmas.List.Folds.{find_at}
+use Rattle.std.proofs.lemmas.List.FromFn.{map-range_with_len_more, take-map-range_with_len}
 use Rattle.std.proofs.lemmas.Option.{get_or_from_slice_get, slice_get_within}
 use Rattle.scope_rule.specs.Breadth.{has}
 use Rattle.scope_rule.specs.Loads.{Begins, IsIn}
@@ -53,10 +54,9 @@ all_at P xs n x h e = subst P (get_or_from_slice_get xs n x x e) (All-get_or P x
 -- ---- rows of numbers
 
 pub range_push : (a n : ℕ) → range_with_len a (suc n) ≡ range_with_len a n ++ (a + n) ∷ []
-range_push a zero = rw add-zero refl
-range_push a (suc n) =
-    let shift : (a + 1) + n ≡ a + suc n = omega arith in
-    ap (λ (xs : List ℕ). a ∷ xs) (range_push (a + 1) n ∙ ap (λ (k : ℕ). range_with_len (a + 1) n ++ k ∷ []) shift)
+range_push a n =
+    ap (range_with_len a) (sym (add-one n)) ∙ sym (map-id (range_with_len a (n + 1))) ∙ map-range_with_len_more (λ (x : ℕ). x) a n (a + n) refl
+    ∙ ap (λ (l : List ℕ). l ++ (a + n) ∷ []) (map-id (range_with_len a n))
 
 -- a row has the numbers within its bounds
 pub range_has : (a n x : ℕ) → has (range_with_len a n) x ≡ (nat_le a x && nat_lt x (a + n))
@@ -64,6 +64,4 @@ range_has a zero x = grind (arith, common_steps)
 range_has a (suc n) x = grind (arith, common_steps, range_has (a + 1) n x)
 
 pub range_front : (a n k : ℕ) → k ≤ n → take k (range_with_len a n) ≡ range_with_len a k
-range_front a n zero le = refl
-range_front a zero (suc k) le = absurd (omega arith)
-range_front a (suc n) (suc k) le = ap (λ (xs : List ℕ). a ∷ xs) (range_front (a + 1) n k (omega arith))
+range_front a n k le = ap (take k) (sym (map-id (range_with_len a n))) ∙ take-map-range_with_len (λ (x : ℕ). x) a n k le ∙ map-id (range_with_len a k)

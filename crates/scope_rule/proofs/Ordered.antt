@@ -1,5 +1,5 @@
 -- The new objects of a load come breadth-first.
-use Rattle.std.proofs.Common.{◌≡◌, ◌<◌, ◌≤◌, ◌+◌, ◌==◌, inl, inr, ℕ, zero, suc, Bool, true, false, cond, Option, Some, None, refl, sym, ap, subst, ◌∙◌, arith, add-one}
+use Rattle.std.proofs.Common.{◌≡◌, ◌<◌, ◌≤◌, ◌+◌, ◌==◌, inl, inr, ℕ, zero, suc, Bool, true, false, cond, Option, Some, None, refl, sym, ap, ◌∙◌, arith, add-one}
 use Rattle.std.proofs.Common.{List, [], ◌∷◌, ◌++◌, length, take, drop, get_or, length-append}
 use Rattle.std.specs.Prelude.{flat_map, map}
 use Rattle.std.specs.List.{range_with_len, slice_get, AllByRecursion}
@@ -9,17 +9,19 @@ use Rattle.std.proofs.lemmas.Grind.{common_steps}
 use Rattle.std.proofs.lemmas.List.{take-append-le, take_all}
 use Rattle.std.proofs.lemmas.List.Elements.{filter-append}
 use Rattle.std.proofs.lemmas.List.FromFn.{length-range_with_len}
+use Rattle.std.proofs.lemmas.Option.{slice_get_within}
 use Rattle.ld_base.specs.declared.linking.Loaded.{Loaded}
 use Rattle.scope_rule.specs.declared.arrival.Arrival.{Arrival}
 use Rattle.scope_rule.specs.Breadth.{levels, extend, breadth}
-use Rattle.scope_rule.specs.Load.{Load, Walk, asks, preload_of, start, with_found, with_arrival, next_name, Brings, IsRoot, found_by, records_of}
+use Rattle.scope_rule.specs.Load.{Load, Walk, asks, preload_of, with_arrival, next_name, Brings, IsRoot, found_by, records_of}
 use Rattle.scope_rule.specs.Loading.{with_serial, found_of}
 use Rattle.scope_rule.specs.Loads.{Begins, Closed, new_of}
 use Rattle.scope_rule.specs.Seen.{Seen, with_added}
 use Rattle.scope_rule.proofs.Lists.{all_at, found_in, range_push, range_has, range_front}
-use Rattle.scope_rule.proofs.Orders.{extend-append, extended_length, find_either, alone, kept_step, is_breadth, is_new, reach, order_to, IsQueue, queue_order, new_extend, new_flat, new_order}
+use Rattle.scope_rule.proofs.Orders.{extend-append, extended_length, find_either, alone, kept_step, is_breadth, is_new, reach, order_to}
+use Rattle.scope_rule.proofs.Orders.{IsQueue, queue_order, new_extend, new_flat, new_order}
 use Rattle.scope_rule.proofs.Records.{length-shares, length-records, records_numbered, records_below, record_at, count, joined_shares, count_asked, flat_range}
-use Rattle.scope_rule.proofs.Walks.{asks_longer, next_within, walk_stays}
+use Rattle.scope_rule.proofs.Walks.{asks_longer, walk_stays}
 use Rattle.scope_rule.proofs.Ways.{IsSerial, linker, old, new, serial_found}
 
 -- ---- the new serials so far, first occurrences kept
@@ -74,7 +76,7 @@ ordered_new load w name o le at h =
     let arrivals : List Arrival = w.arrivals ++ o ∷ [] in
     let many : length arrivals ≡ suc n = length-append w.arrivals (o ∷ []) ∙ add-one n in
     let long : length (w.found ++ s ∷ []) ≡ length w.found + 1 = length-append w.found (s ∷ []) in
-    let room : length w.found < length (asks load w.arrivals) = next_within load w name at in
+    let room : length w.found < length (asks load w.arrivals) = slice_get_within (asks load w.arrivals) (length w.found) name at in
     let order : so_far load.next (w.found ++ s ∷ []) ≡ range_with_len load.next (suc n) =
     so_far_more load.next w.found (s ∷ []) ∙ ap (λ (xs : List ℕ). extend xs (new_of load.next (s ∷ []))) h.in_order ∙ next_serial load.next n le in
     record {
@@ -98,11 +100,12 @@ walk_ordered load w le closed b =
       first = record { in_order = refl; ahead = λ k lt. absurd (omega arith); within = omega arith };
       old = λ v name s at is h.
           let n : ℕ = length v.arrivals in
-          let known = known_serial load.next n s le (serial_below load (length v.found) n s le closed (serial_found load (length v.found) v.arrivals name s is)) in
+          let found : IsSerial load (length v.found) n s = serial_found load (length v.found) v.arrivals name s is in
+          let known = known_serial load.next n s le (serial_below load (length v.found) n s le closed found) in
           record {
             in_order = so_far_more load.next v.found (s ∷ []) ∙ ap (λ (xs : List ℕ). extend xs (new_of load.next (s ∷ []))) h.in_order ∙ known;
             ahead = λ k lt. ahead_more load.next (asked load v.arrivals k) k v.found s (h.ahead k lt);
-            within = omega (arith, length-append v.found (s ∷ []), next_within load v name at);
+            within = omega (arith, length-append v.found (s ∷ []), slice_get_within (asks load v.arrivals) (length v.found) name at);
           };
       new = λ v name o at is h. ordered_new load v name o le at h;
     }) b.steps w b.are
@@ -128,7 +131,8 @@ there_old next objects x o closed e =
     let i = found_in (λ (y : Loaded). y.serial == x) objects o e in
     none_new next o.found (all_at (Low next) objects i.0 o closed i.1).1
 
-module _ (load : Load) (deep : Bool) (w : Walk) (s : Seen) (root : ℕ) (le : 1 ≤ load.next) (is : s.objects ≡ load.there) (closed : Closed load.next load.there) where
+module _ (load : Load) (deep : Bool) (w : Walk) (s : Seen) (root : ℕ)
+    (le : 1 ≤ load.next) (is : s.objects ≡ load.there) (closed : Closed load.next load.there) where
   abbrev new_ones : List Loaded
   new_ones = records_of load deep w
 
@@ -158,7 +162,8 @@ module _ (load : Load) (deep : Bool) (w : Walk) (s : Seen) (root : ℕ) (le : 1 
   found_old x small =
       let below : with_serial new_ones x ≡ None = records_below load.hart deep load.next w.arrivals founds x (leb-false load.next x small) in
       let led : Option Loaded → List ℕ = λ o. elim o [ Some y ↦ y.found | None ↦ [] ] in
-      let there : with_serial (s.objects ++ new_ones) x ≡ option_or (with_serial load.there x) None = find_either (λ (o : Loaded). o.serial == x) s.objects new_ones ∙ rw (below, is) refl in
+      let there : with_serial (s.objects ++ new_ones) x ≡ option_or (with_serial load.there x) None =
+      find_either (λ (o : Loaded). o.serial == x) s.objects new_ones ∙ rw (below, is) refl in
       elim (x == 0) as (λ v. new_of load.next (cond v [] (led (with_serial (s.objects ++ new_ones) x))) ≡ []) [
         | true ↦ refl
         | false ↦ rw there ((elim (with_serial load.there x) as (λ o. with_serial load.there x ≡ o → new_of load.next (led (option_or o None)) ≡ [])
@@ -202,7 +207,8 @@ module _ (load : Load) (deep : Bool) (w : Walk) (s : Seen) (root : ℕ) (le : 1 
       sym (kept_step (after load deep w s) root m (extend [] (levels (after load deep w s) root m)) refl)
       ∙ ap (reach leads_to (alone root)) (levels_order m)
 
-  new_breadth : IsQueue leads_on (so_far load.next (root ∷ [])) (range_with_len load.next (length w.arrivals)) → map (λ o. o.serial) new_ones ≡ new_of load.next (breadth (after load deep w s) root)
+  new_breadth : IsQueue leads_on (so_far load.next (root ∷ [])) (range_with_len load.next (length w.arrivals))
+      → map (λ o. o.serial) new_ones ≡ new_of load.next (breadth (after load deep w s) root)
   new_breadth q =
       let many : ℕ = length (s.objects ++ new_ones) in
       let long : length w.arrivals ≤ many = omega (arith, length-append s.objects new_ones, length-records load deep w) in
@@ -210,7 +216,8 @@ module _ (load : Load) (deep : Bool) (w : Walk) (s : Seen) (root : ℕ) (le : 1 
       let last : order_to leads_on (so_far load.next (root ∷ [])) many ≡ row =
       queue_order leads_on (so_far load.next (root ∷ [])) row q many (omega (arith, length-range_with_len load.next (length w.arrivals))) in
       records_numbered load deep w
-      ∙ sym (new_order load.next leads_to (alone root) found_old many ∙ ap (λ (first : List ℕ). order_to leads_on first many) (new_extend load.next [] (root ∷ [])) ∙ last)
+      ∙ sym (new_order load.next leads_to (alone root) found_old many
+      ∙ ap (λ (first : List ℕ). order_to leads_on first many) (new_extend load.next [] (root ∷ [])) ∙ last)
       ∙ ap (new_of load.next) (is_breadth (after load deep w s) root many (order_to leads_to (alone root) many) refl (sym (levels_order many)))
 
 root_first : (xs : List ℕ) (root : ℕ) → slice_get xs 0 ≡ Some root → xs ≡ root ∷ drop 1 xs

@@ -1,6 +1,6 @@
 -- A list that is extended by what it lacks; breadth-first order, a level at a time; and the part of an order from a number on.
 use Rattle.std.proofs.Common.{◌≡◌, ℕ, zero, suc, ◌+◌, ◌<◌, ◌≤◌, ◌==◌, nat_le, Bool, true, false, not, ◌||◌, cond, ◌⊎◌, inl, inr, Option, Some, None}
-use Rattle.std.proofs.Common.{List, [], ◌∷◌, ◌++◌, length, take, drop, get_or, refl, sym, ap, subst, ◌∙◌, append_assoc, append-nil, add-one, drop-cons, arith, rules}
+use Rattle.std.proofs.Common.{List, [], ◌∷◌, ◌++◌, length, take, drop, get_or, refl, sym, ap, ◌∙◌, append_assoc, append-nil, add-one, drop-cons, arith, rules}
 use Rattle.std.proofs.ByRecursion.{All-weaker}
 use Rattle.std.proofs.Math.Seq.{take-length, take-append_seam}
 use Rattle.std.proofs.lemmas.Bool.{cases_Bool, cases_lt, eqb-true}
@@ -86,7 +86,8 @@ has_pushed a x = rw list_any-append (grind (arith, common_steps))
 covered_by_self : (a xs : List ℕ) → Covered (extend a xs) xs
 covered_by_self a [] = tt
 covered_by_self a (x ∷ xs) =
-    let all : (b : List ℕ) → lacks_not b x ≡ true → Covered (extend b xs) (x ∷ xs) = λ b h. ((covered_extended b xs (x ∷ []) (h, tt)).0, covered_by_self b xs) in
+    let all : (b : List ℕ) → lacks_not b x ≡ true → Covered (extend b xs) (x ∷ xs) =
+    λ b h. ((covered_extended b xs (x ∷ []) (h, tt)).0, covered_by_self b xs) in
     (elim (lacks_not a x) as (λ v. lacks_not a x ≡ v → Covered (cond v (extend a xs) (extend (a ++ x ∷ []) xs)) (x ∷ xs))
     [ true ↦ λ h. all a h | false ↦ λ h. all (a ++ x ∷ []) (has_pushed a x) ]) refl
 
@@ -95,9 +96,12 @@ left_out : (f : ℕ → List ℕ) (a : List ℕ) (x : ℕ) (ys : List ℕ) → C
 left_out f a x [] h = refl
 left_out f a x (y ∷ ys) h =
     elim (cases_Bool (y == x)) [
-      | inl e ↦ let same : f y ≡ f x = ap f (eqb-true y x e) in rw (e, same, extend-append a (f x) (flat_map f ys), covered_stays a (f x) h) (left_out f a x ys h)
+      | inl e ↦
+          let same : f y ≡ f x = ap f (eqb-true y x e) in
+          rw (e, same, extend-append a (f x) (flat_map f ys), covered_stays a (f x) h) (left_out f a x ys h)
       | inr e ↦
-          rw (e, extend-append a (f y) (flat_map f (without x ys)), extend-append a (f y) (flat_map f ys)) (left_out f (extend a (f y)) x ys (covered_extended a (f y) (f x) h))
+          rw (e, extend-append a (f y) (flat_map f (without x ys)), extend-append a (f y) (flat_map f ys))
+          (left_out f (extend a (f y)) x ys (covered_extended a (f y) (f x) h))
     ]
 
 -- what comes again leads to nothing new
@@ -214,7 +218,7 @@ module _ (f : ℕ → List ℕ) (first all : List ℕ) (q : IsQueue f first all)
       let b : Begins order all = order_begins n in
       elim (cases_lt (length order) (length all)) [
         | inl lt ↦
-            let more : length order < length (reach f first order) = subst (λ (xs : List ℕ). length order < length (reach f first xs)) (begins_take order all b) (q.grows (length order) lt) in
+            let more : length order < length (reach f first order) = rw (begins_take order all b) at (q.grows (length order) lt) in
             elim (order_grows n) [ inl long ↦ inl (omega arith) | inr done ↦ absurd (omega arith) ]
         | inr done ↦
             let same : reach f first order ≡ all = ap (reach f first) (begins_all order all b done) ∙ sym q.whole in

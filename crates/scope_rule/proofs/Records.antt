@@ -1,5 +1,5 @@
 -- The records of new objects: their serials, what each found, and that what names found is there afterwards.
-use Rattle.std.proofs.Common.{◌≡◌, ◌<◌, ◌≤◌, ◌+◌, ◌==◌, ℕ, zero, suc, Bool, true, false, inl, inr, Some, None, refl, sym, ap, subst, ◌∙◌, arith, add-zero}
+use Rattle.std.proofs.Common.{◌≡◌, ◌<◌, ◌≤◌, ◌+◌, ◌==◌, ℕ, zero, suc, Bool, true, false, inl, inr, Some, None, refl, sym, ap, ◌∙◌, arith, add-zero}
 use Rattle.std.proofs.Common.{List, [], ◌∷◌, ◌++◌, length, take, drop, get_or, length-append}
 use Rattle.std.specs.Prelude.{flat_map, map}
 use Rattle.std.specs.List.{range_with_len, slice_get, AllByRecursion}
@@ -32,7 +32,8 @@ records_numbered load deep w = numbered load.hart deep load.next (length (preloa
 
 pub length-records : (load : Load) (deep : Bool) (w : Walk) → length (records_of load deep w) ≡ length w.arrivals
 length-records load deep w =
-    sym (length-map (records_of load deep w) (λ (o : Loaded). o.serial)) ∙ ap length (records_numbered load deep w) ∙ length-range_with_len load.next (length w.arrivals)
+    sym (length-map (records_of load deep w) (λ (o : Loaded). o.serial))
+    ∙ ap length (records_numbered load deep w) ∙ length-range_with_len load.next (length w.arrivals)
 
 -- ---- looked up by serial
 
@@ -50,8 +51,8 @@ pub record RecordAt (hart : ℕ) (deep : Bool) (serial : ℕ) (all : List Loaded
   pub by_serial : with_serial all (serial + i) ≡ Some (record_of hart deep (serial + i) object found)
   pub by_place : slice_get all i ≡ Some (record_of hart deep (serial + i) object found)
 
-pub record_at : (hart : ℕ) (deep : Bool) (serial : ℕ) (arrivals : List Arrival) (founds : List (List ℕ)) (i : ℕ) → i < length arrivals → length founds ≡ length arrivals
-    → RecordAt hart deep serial (records hart deep serial arrivals founds) i (get_or founds i [])
+pub record_at : (hart : ℕ) (deep : Bool) (serial : ℕ) (arrivals : List Arrival) (founds : List (List ℕ)) (i : ℕ) → i < length arrivals
+    → length founds ≡ length arrivals → RecordAt hart deep serial (records hart deep serial arrivals founds) i (get_or founds i [])
 record_at hart deep serial [] founds i lt e = absurd (omega arith)
 record_at hart deep serial (x ∷ rest) [] i lt e = absurd cc
 record_at hart deep serial (x ∷ rest) (found ∷ founds) zero lt e =
@@ -97,7 +98,8 @@ flat_range f founds a zero le at = refl
 flat_range f [] a (suc k) le at = absurd (omega arith)
 flat_range f (found ∷ founds) a (suc k) le at =
     let here : f a ≡ found = ap f (sym (add-zero a)) ∙ at 0 (omega arith) in
-    let on : (i : ℕ) → i < length founds → f ((a + 1) + i) ≡ get_or founds i [] = λ i lt. (let shift : (a + 1) + i ≡ a + suc i = omega arith in ap f shift) ∙ at (suc i) (omega arith) in
+    let on : (i : ℕ) → i < length founds → f ((a + 1) + i) ≡ get_or founds i [] =
+    λ i lt. (let shift : (a + 1) + i ≡ a + suc i = omega arith in ap f shift) ∙ at (suc i) (omega arith) in
     rw here (ap (λ (xs : List ℕ). found ++ xs) (flat_range f founds (a + 1) k (omega arith) on))
 
 -- ---- what names found is there afterwards
@@ -106,21 +108,22 @@ flat_range f (found ∷ founds) a (suc k) le at =
 abbrev Serial : Load → ℕ → ℕ → Type 0
 Serial load many serial = (number : ℕ) × IsSerial load number many serial
 
-more_new : (load : Load) (number many serial : ℕ) → IsSerial load number many serial → IsSerial load number (many + 1) serial
-more_new load number many serial (linker later is) = linker later is
-more_new load number many serial (old o i same used) = old o i same used
-more_new load number many serial (new i lt is) = new i (omega arith) is
+more_new : (load : Load) (number many more serial : ℕ) → many ≤ more → IsSerial load number many serial → IsSerial load number more serial
+more_new load number many more serial le (linker later is) = linker later is
+more_new load number many more serial le (old o i same used) = old o i same used
+more_new load number many more serial le (new i lt is) = new i (omega arith) is
 
 all_lead : (load : Load) (w : Walk) → Brings load w → AllByRecursion (Serial load (length w.arrivals)) w.found
 all_lead load w b =
-    walk_stays load (λ v. AllByRecursion (Serial load (length v.arrivals)) v.found) (record {
-      first = tt;
-      old = λ v name s at is h. All-push (Serial load (length v.arrivals)) v.found s h (length v.found, serial_found load (length v.found) v.arrivals name s is);
-      new = λ v name o at is h.
-          let n : ℕ = length v.arrivals in
-          let before : AllByRecursion (Serial load (n + 1)) v.found = All-weaker (Serial load n) (Serial load (n + 1)) (λ s l. (l.0, more_new load l.0 n s l.1)) v.found h in
-          rw (length-append v.arrivals (o ∷ [])) (All-push (Serial load (n + 1)) v.found (load.next + n) before (length v.found, new n (omega arith) refl));
-    }) b.steps w b.are
+    walk_stays load (λ v. (many : ℕ) → length v.arrivals ≤ many → AllByRecursion (Serial load many) v.found) (record {
+      first = λ many le. tt;
+      old = λ v name s at is h. λ many le.
+          let k : ℕ = length v.found in
+          All-push (Serial load many) v.found s (h many le) (k, more_new load k (length v.arrivals) many s le (serial_found load k v.arrivals name s is));
+      new = λ v name o at is h. λ many le.
+          let lt : length v.arrivals < many = omega (arith, le, length-append v.arrivals (o ∷ [])) in
+          All-push (Serial load many) v.found (load.next + length v.arrivals) (h many (omega arith)) (length v.found, new (length v.arrivals) lt refl);
+    }) b.steps w b.are (length w.arrivals) (omega arith)
 
 lead_stands : (load : Load) (deep : Bool) (w : Walk) (number serial : ℕ) → IsSerial load number (length w.arrivals) serial → Stands load (load.there ++ records_of load deep w) serial
 lead_stands load deep w number serial (linker later is) = inl is
@@ -128,11 +131,13 @@ lead_stands load deep w number serial (old o i same used) = inr (o, (i.0, front_
 lead_stands load deep w number serial (new i lt is) =
     let at = record_at load.hart deep load.next w.arrivals (found_by load w) i lt (length-shares (length (preload_of load)) (drop 1 w.found) w.arrivals) in
     let own : (load.hart == load.hart) ≡ true = eq-eqb load.hart load.hart refl in
-    inr (record_of load.hart deep (load.next + i) at.object (get_or (found_by load w) i []), behind load.there (records_of load deep w) i _ at.by_place, rw own (ap present (sym is)))
+    let o : Loaded = record_of load.hart deep (load.next + i) at.object (get_or (found_by load w) i []) in
+    inr (o, behind load.there (records_of load deep w) i o at.by_place, rw own (ap present (sym is)))
 
 pub leads_stand : (load : Load) (deep : Bool) (w : Walk) → Brings load w → AllByRecursion (Stands load (load.there ++ records_of load deep w)) w.found
 leads_stand load deep w b =
-    All-weaker (Serial load (length w.arrivals)) (Stands load (load.there ++ records_of load deep w)) (λ s l. lead_stands load deep w l.0 s l.1) w.found (all_lead load w b)
+    let P : ℕ → Type 0 = Stands load (load.there ++ records_of load deep w) in
+    All-weaker (Serial load (length w.arrivals)) P (λ s l. lead_stands load deep w l.0 s l.1) w.found (all_lead load w b)
 
 -- ---- what the objects found is what the names found
 

@@ -1,13 +1,14 @@
 -- What holds of every walk, name by name, and what the names of a load found, in words of its own.
 use Rattle.std.proofs.Common.{◌≡◌, ◌≤◌, ◌<◌, ◌+◌, ◌||◌, ◌&&◌, ℕ, zero, suc, true, false, cond, inl, inr, Option, Some, None, Result, Ok, Err}
-use Rattle.std.proofs.Common.{List, [], ◌∷◌, ◌++◌, length, refl, sym, ap, subst, ◌∙◌, arith, add-suc, add-zero, add-one, append_assoc, append-nil, length-append}
+use Rattle.std.proofs.Common.{List, [], ◌∷◌, ◌++◌, length, refl, sym, ap, subst, ◌∙◌, arith, add-suc, add-zero, add-one}
+use Rattle.std.proofs.Common.{append_assoc, append-nil, length-append}
 use Rattle.std.specs.Prelude.{flat_map}
 use Rattle.std.specs.List.{slice_get, AllByRecursion}
 use Rattle.std.proofs.ByRecursion.{All-push}
 use Rattle.std.specs.Option.{option_or}
 use Rattle.std.specs.Str.{bytes_eq}
 use Rattle.std.proofs.lemmas.Grind.{flat_map-append}
-use Rattle.std.proofs.lemmas.Option.{slice_get_past, slice_get_within}
+use Rattle.std.proofs.lemmas.Option.{slice_get_past}
 use Rattle.std.proofs.lemmas.Slice.Eq.{bytes_eq-Decides}
 use Rattle.ld_base.specs.declared.fault.DlFault.TheVariants as faults
 use Rattle.ld_base.specs.declared.fault.Shown.{Shown}
@@ -31,26 +32,17 @@ asks_more load (o ∷ xs) ys = (
       ∙ sym (append_assoc (load.name ∷ preload_of load) (flat_map needed_by (o ∷ xs)) (flat_map needed_by ys)),
 )
 
-still_asked : (load : Load) (xs ys : List Arrival) (n : ℕ) (name : List ℕ) → Begins xs ys → slice_get (asks load xs) n ≡ Some name → slice_get (asks load ys) n ≡ Some name
+still_asked : (load : Load) (xs ys : List Arrival) (n : ℕ) (name : List ℕ) → Begins xs ys
+    → slice_get (asks load xs) n ≡ Some name → slice_get (asks load ys) n ≡ Some name
 still_asked load xs ys n name b e = rw b.1 (begins_at (asks load xs) (asks load (xs ++ b.0)) n name (asks_more load xs b.0) e)
 
 pub asks_longer : (load : Load) (xs ys : List Arrival) → length (asks load xs) ≤ length (asks load (xs ++ ys))
-asks_longer load xs ys =
-    let b = asks_more load xs ys in
-    let P : List (List ℕ) → Type 0 = λ l. length (asks load xs) ≤ length l in
-    subst P (sym b.1) (omega (arith, length-append (asks load xs) b.0))
-
--- where a name is left, it stands within
-pub next_within : (load : Load) (w : Walk) (name : List ℕ) → next_name load w ≡ Some name → length w.found < length (asks load w.arrivals)
-next_within load w name e = slice_get_within (asks load w.arrivals) (length w.found) name e
+asks_longer load xs ys = let b = asks_more load xs ys in rw b.1 (omega (arith, length-append (asks load xs) b.0))
 
 -- ---- one name after another
 
 abbrev done : Walk → Result Walk Stop
 done w = Ok w
-
-abbrev halt : Stop → Result Walk Stop
-halt why = Err why
 
 -- what the start has, and each name keeps, every walk has
 pub record Stays (load : Load) (P : Walk → Type 0) : Type 0 where
@@ -121,17 +113,17 @@ brought load w b =
     let none : next_name load w ≡ None = slice_get_past (asks load w.arrivals) (length w.found) b.all in
     (b.steps, settled load b.steps (done w) b.are (rw none refl))
 
-stopped : (load : Load) (why : Stop) → Stops load why → Settles load (halt why)
-stopped load why s = (s.steps, settled load s.steps (halt why) s.is refl)
+stopped : (load : Load) (why : Stop) → Stops load why → Settles load (Err why)
+stopped load why s = (s.steps, settled load s.steps (Err why) s.is refl)
 
 pub one_walk : (load : Load) (first second : Walk) → Brings load first → Brings load second → first ≡ second
-one_walk load first second b c = let e : done first ≡ done second = settles_once load (done first) (done second) (brought load first b) (brought load second c) in cc
+one_walk load first second b c = let e = settles_once load (done first) (done second) (brought load first b) (brought load second c) in cc
 
 pub one_stop : (load : Load) (first second : Stop) → Stops load first → Stops load second → first ≡ second
-one_stop load first second b c = let e : halt first ≡ halt second = settles_once load (halt first) (halt second) (stopped load first b) (stopped load second c) in cc
+one_stop load first second b c = let e = settles_once load (Err first) (Err second) (stopped load first b) (stopped load second c) in cc
 
 pub not_both : (load : Load) (w : Walk) (why : Stop) → Brings load w → Stops load why → ⊥
-not_both load w why b c = let e : done w ≡ halt why = settles_once load (done w) (halt why) (brought load w b) (stopped load why c) in absurd cc
+not_both load w why b c = let e : done w ≡ Err why = settles_once load (done w) (Err why) (brought load w b) (stopped load why c) in absurd cc
 
 -- ---- how a load stops
 
@@ -154,8 +146,8 @@ stops_waiting load show s = let at = stops_at load s.steps (waits show) s.is in 
 pub never_waits : (load : Load) (show : Shown) → load.there ≡ [] → Stops load (waits show) → ⊥
 never_waits load show none s =
     let one = stops_waiting load show s in
-    let P : List Loaded → Type 0 = λ xs. slice_get xs one.there.0 ≡ Some one.object in
-    let at : slice_get [] one.there.0 ≡ Some one.object = subst P none one.there.1 in absurd cc
+    let at : slice_get [] one.there.0 ≡ Some one.object =
+    subst (λ (xs : List Loaded). slice_get xs one.there.0 ≡ Some one.object) none one.there.1 in absurd cc
 
 -- ---- new objects
 
@@ -177,7 +169,16 @@ arrivals_read load w b =
           let front : Begins v.arrivals all = (o ∷ begins.0, begins.1 ∙ append_assoc v.arrivals (o ∷ []) begins.0) in
           let asked : slice_get (asks load all) (length v.found) ≡ Some name = still_asked load v.arrivals all (length v.found) name front at in
           All-push (IsRead load all) v.arrivals o (h all front)
-          (record { number = length v.found; name = name; asked = asked; place = n.place; candidate = n.candidate; earlier = n.earlier; unknown = n.unknown; read = n.read });
+          (record {
+            number = length v.found;
+            name = name;
+            asked = asked;
+            place = n.place;
+            candidate = n.candidate;
+            earlier = n.earlier;
+            unknown = n.unknown;
+            read = n.read;
+          });
     }) b.steps w b.are w.arrivals ([], sym (append-nil w.arrivals))
 
 -- no two new objects have one path
@@ -217,14 +218,15 @@ record AllFound (load : Load) (v : Walk) : Type 0 where
   pub each : (w : Walk) → Begins v.arrivals w.arrivals → (place serial : ℕ) → slice_get v.found place ≡ Some serial → IsFound load w place serial
 
 one_more_found : (load : Load) (v after : Walk) (name : List ℕ) (serial : ℕ) (more : List Arrival) → next_name load v ≡ Some name
-    → take_found load v name (finds load (length v.found) v.arrivals name) ≡ Ok after → after.found ≡ v.found ++ serial ∷ [] → after.arrivals ≡ v.arrivals ++ more → AllFound load v → AllFound load after
+    → take_found load v name (finds load (length v.found) v.arrivals name) ≡ Ok after → after.found ≡ v.found ++ serial ∷ []
+    → after.arrivals ≡ v.arrivals ++ more → AllFound load v → AllFound load after
 unfolding step
 one_more_found load v after name serial more at taken longer grown h = record {
   walked =
       let many : length after.found ≡ suc (length v.found) = ap length longer ∙ length-append v.found (serial ∷ []) ∙ add-one (length v.found) in
       rw (many, h.walked, at) taken;
   each = λ w begins place one there.
-      let front : Begins v.arrivals w.arrivals = (more ++ begins.0, begins.1 ∙ ap (λ (l : List Arrival). l ++ begins.0) grown ∙ append_assoc v.arrivals more begins.0) in
+      let front : Begins v.arrivals w.arrivals = (more ++ begins.0, begins.1 ∙ rw grown (append_assoc v.arrivals more begins.0)) in
       let own : IsFound load w (length v.found) serial = record {
         name = name;
         asked = still_asked load v.arrivals w.arrivals (length v.found) name front at;
@@ -252,7 +254,7 @@ root_new load name after root (present serial) none is taken one = absurd (first
   where
     first : IsSerial load 0 0 serial → ⊥
     first (linker later zero_is) = absurd cc
-    first (old o i same used) = let P : List Loaded → Type 0 = λ xs. slice_get xs i.0 ≡ Some o in let at : slice_get [] i.0 ≡ Some o = subst P none i.1 in absurd cc
+    first (old o i same used) = let at : slice_get [] i.0 ≡ Some o = rw none at i.1 in absurd cc
     first (new i lt e) = absurd (omega arith)
 root_new load name after root (fresh o) none is taken one =
     let same : with_arrival load start o ≡ after = cc in
