@@ -143,10 +143,8 @@ fn choose_for(
         return Ok(Choice::Def(owner.serial, index));
     }
     let want = want_of(alloc, &owner.object, symbol)?;
-    match search(alloc, view, owner, symbol.name.as_bytes(), &want, copy) {
-        Ok(found) => Ok(choice_of(symbol, found)),
-        Err(error) => Err(error),
-    }
+    let found = search(alloc, view, owner, symbol.name.as_bytes(), &want, copy)?;
+    Ok(choice_of(symbol, found))
 }
 
 /// The definition that a relocation of `owner` against its symbol of this index is bound to

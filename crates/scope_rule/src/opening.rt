@@ -82,10 +82,8 @@ fn global_after(
     if !is_global {
         return Ok(global);
     }
-    match extend_by_breadth(alloc, view, root, &mut global) {
-        Ok(()) => Ok(global),
-        Err(error) => Err(error),
-    }
+    extend_by_breadth(alloc, view, root, &mut global)?;
+    Ok(global)
 }
 
 /// An opening that counts one more where it is of this root.
@@ -154,15 +152,12 @@ impl Namespace {
         ensures { IfOk result (λ ns. ns ≡ record self { objects = self.objects ++ added; global = lists.global; opens = lists.opens }) }
     {
         let id = self.id;
-        match joined(self.into_objects(), added) {
-            Ok(objects) => Ok(Namespace {
-                id,
-                objects,
-                global: lists.global,
-                opens: lists.opens,
-            }),
-            Err(error) => Err(error),
-        }
+        Ok(Namespace {
+            id,
+            objects: joined(self.into_objects(), added)?,
+            global: lists.global,
+            opens: lists.opens,
+        })
     }
 
     /// The namespace after an opening that brought these objects.
@@ -179,9 +174,7 @@ impl Namespace {
     ) -> Result<Namespace, AllocError>
         ensures { IfOk result (λ ns. ns ≡ opened self added root is_global) }
     {
-        match opened_lists(alloc, &self.view_with(added.as_slice()), root, is_global) {
-            Ok(lists) => self.with(added, lists),
-            Err(error) => Err(error),
-        }
+        let lists = opened_lists(alloc, &self.view_with(added.as_slice()), root, is_global)?;
+        self.with(added, lists)
     }
 }

@@ -85,10 +85,8 @@ fn whole_scope(alloc: Global, view: &View, owner: &Loaded) -> Result<Serials, Al
     ensures { IfOk result (λ s. s ≡ whole_scope (seen view.now) owner.now) }
 {
     let mut scope = Serials::new(alloc);
-    match fill_scope(alloc, view, owner, &mut scope) {
-        Ok(()) => Ok(scope),
-        Err(error) => Err(error),
-    }
+    fill_scope(alloc, view, owner, &mut scope)?;
+    Ok(scope)
 }
 
 /// Of these objects those that the owner sees: one that isn't closing sees none that is.
