@@ -1,5 +1,5 @@
 -- The part on words and locks, over the steps of harts.
-use Rattle.std.proofs.Common.{◌≡◌, ◌≢◌, inl, inr, ℕ, ◌+◌, ◌-◌, ◌%◌, ◌<◌, Bool, true, false, cond, eqb, eqb-true, ◌==◌, Some, None, refl, sym, ap, subst, ◌∙◌, arith, slice_index_or}
+use Rattle.std.proofs.Common.{◌≡◌, ◌≢◌, inl, inr, ℕ, ◌+◌, ◌-◌, ◌%◌, ◌<◌, Bool, true, false, cond, eqb, eqb-true, ◌==◌, Option, Some, None, refl, sym, ap, subst, ◌∙◌, arith, slice_index_or}
 use mathlib.Core.Logic.{dite}
 use native.Mathlib.Decide.{ℕ_discrete}
 use prog.Atomic.{either}
@@ -90,7 +90,7 @@ module _ (word : ℕ → ℕ) (known : ℕ → Kept) (access : Access) (harts : 
       let ours : w.owner d ≡ nobody = is_free (word (value_at d)) c (w.owner d) (known d) at free in
       let writable : (known d).role ≡ Rw = rw_role c (known d).role at.role may in
       let word' : ℕ → ℕ = put word (control_at d) (c + 8) in
-      let b : Access = record { locked = Some d; held = None; last = None } in
+      let b : Access = record { locked = Some d; held = None; last = Some (d, c) } in
       let v : word' (value_at d) ≡ word (value_at d) = put_else word (control_at d) (c + 8) (value_at d) (λ (e : value_at d ≡ control_at d). omega arith) in
       let k : word' (control_at d) ≡ c + 8 = put_here word (control_at d) (c + 8) in
       hart_change word word' known access harts w m d (hart m) b (beside_control word d (c + 8)) (inl ours) (inr refl) writable
@@ -104,11 +104,11 @@ module _ (word : ℕ → ℕ) (known : ℕ → Kept) (access : Access) (harts : 
       (λ e is. let s : d ≡ e = (let q : Some d ≡ Some e = is in cc) in subst (λ n. (known n).role ≡ Rw) s writable)
 
   -- the value of a doubleword that the hart has locked is known, or changes
-  values : (d x : ℕ) → h.access.locked ≡ Some d → After (put word (value_at d) x) (record h.access { held = Some x })
-  values d x is =
+  values : (d x : ℕ) (last : Option (ℕ × ℕ)) → h.access.locked ≡ Some d → After (put word (value_at d) x) (record { locked = h.access.locked; held = Some x; last = last })
+  values d x last is =
       let place : (d < doublewords) × (w.owner d ≡ hart m) = (w.of_hart m).named d (some_locked d is) in
       let word' : ℕ → ℕ = put word (value_at d) x in
-      let b : Access = record h.access { held = Some x } in
+      let b : Access = record { locked = h.access.locked; held = Some x; last = last } in
       let at : WordIs (word (value_at d)) (word (control_at d)) (w.owner d) (known d) = w.each_word d place.0 in
       let k : word' (control_at d) ≡ word (control_at d) = put_else word (value_at d) x (control_at d) (λ (e : control_at d ≡ value_at d). omega arith) in
       let writable : (known d).role ≡ Rw = w.only_rw m d (some_locked d is) in
@@ -175,9 +175,9 @@ module _ (word : ℕ → ℕ) (known : ℕ → Kept) (access : Access) (harts : 
       unmoved word (control_at (ask_place ask)) (λ f. Words f known access (put harts m b))
       (unlocked word known access harts m b w (none_locked ready.1) (glanced_unlocked ask n (lock_bit n == 1) (permits ask (role_in n)) (ask_is_fresh ask n) (heeded h)))
   hart_locks (kinds.Load ask) small few ready aims = unmoved word (value_at (load_place ask)) (λ f. After f nothing_locked) (unlocked word known access harts m nothing_locked w (none_locked ready.1) refl)
-  hart_locks (kinds.Hold ask) small few ready aims = values (store_place ask) (word (value_at (store_place ask))) ready
+  hart_locks (kinds.Hold ask) small few ready aims = values (store_place ask) (word (value_at (store_place ask))) h.access.last ready
   hart_locks (kinds.Lock ask control) small few ready aims = locks ask control ready.0.0.1 ready.1 ready.3 ready.4 (eqb (word (control_at (store_place ask))) control) refl
-  hart_locks (kinds.Store ask x) small few ready aims = values (store_place ask) x ready.0
+  hart_locks (kinds.Store ask x) small few ready aims = values (store_place ask) x None ready.0
   hart_locks (kinds.Unlock d) small few ready aims = unlocks d ready small
   hart_locks kinds.Tally small few ready aims = below 0 (word 0) (omega arith)
   hart_locks (kinds.Begin n) small few ready aims = below (state_at n) ((word (state_at n) + 8) % 18446744073709551616) (low_row n 0 (own n few ready.0) (omega arith))

@@ -9,7 +9,8 @@ use Rattle.ld_base.specs.declared.linking.Role.TheVariants.{Rw, Slot as SlotRole
 use Rattle.guest_rule.specs.declared.entry.Entry.{Entry}
 use Rattle.guest_rule.specs.declared.entry.Exchange.{Exchange}
 use Rattle.guest_rule.specs.declared.entry.Grant.{Grant}
-use Rattle.guest_rule.specs.declared.entry.RowWord.TheVariants.{Lazy}
+use Rattle.guest_rule.specs.declared.entry.RowWord.{RowWord}
+use Rattle.guest_rule.specs.declared.entry.RowWord.TheVariants.{Number, Slot, Lazy, Value, Generation}
 use Rattle.guest_rule.specs.declared.kind.Ask.{Ask}
 use Rattle.guest_rule.specs.declared.kind.StoreAsk.{StoreAsk}
 use Rattle.guest_rule.specs.declared.kind.HartKind.{HartKind}
@@ -21,10 +22,10 @@ use Rattle.guest_rule.specs.declared.view.Offer.{Offer}
 use Rattle.guest_rule.specs.declared.view.Row.{Row}
 use Rattle.guest_rule.specs.declared.view.TrailItem.{TrailItem}
 use Rattle.guest_rule.specs.declared.view.TrailItem.TheVariants.{Took, Exchanged, Done}
-use Rattle.guest_rule.specs.Layout.{harts_at_most, place_of, row_at, state_at, value_at, control_at, index_of, role_in, lock_bit}
+use Rattle.guest_rule.specs.Layout.{address_of, doublewords, IsDoubleword, harts_at_most, place_of, row_at, state_at, value_at, control_at, index_of, role_in, lock_bit}
 use Rattle.guest_rule.specs.Views.{put, entry_of, grant_in, exchanges_by, exchanges_of}
 use Rattle.guest_rule.specs.Operations.{becomes}
-use Rattle.guest_rule.specs.HartSteps.{HartReady, IsMark, hart_word, hart_op, hart_after, glanced, looked, locked_if, arrived_if, heeded, permits, ask_is_fresh, ask_place, load_place, store_place}
+use Rattle.guest_rule.specs.HartSteps.{FindTells, HartReady, IsMark, hart_word, hart_op, hart_after, glanced, looked, locked_if, arrived_if, heeded, permits, ask_is_fresh, ask_place, load_place, store_place}
 use Rattle.guest_rule.specs.Allowed.{IsOf, IsSlot, Stands}
 use Rattle.guest_rule.specs.Calls.{Answered, Rests, RowIs, Still}
 use Rattle.guest_rule.specs.Slots.{Did, Fated, GrantsAre, HasWon, IsOpen, IsPending, Rising, SlotIs, Slots, Winner}
@@ -32,7 +33,7 @@ use Rattle.guest_rule.proofs.Put.{put_here, put_else, put_each, put_same}
 use Rattle.guest_rule.proofs.HartLocks.{unmoved}
 use Rattle.guest_rule.proofs.HartCalls.{answered_if, tried_if, read_entry, still_if, glanced_lane, locked_lane}
 use Rattle.guest_rule.proofs.Rows.{begins, high_awaits, low_rest}
-use Rattle.guest_rule.proofs.SlotFrames.{SameSlots, beside_slots, row_changes}
+use Rattle.guest_rule.proofs.SlotFrames.{place_at, SameSlots, beside_slots, row_changes}
 
 -- ---- trails
 
@@ -297,6 +298,35 @@ module _ (word : ℕ → ℕ) (known : ℕ → Kept) (locked : Option ℕ) (coun
           let it : p ≡ g = is_open.in_row ∙ sym same in
           subst Aim it (record { three = three; is_pending = e; posted = posted; is_open = is_open })
 
+  -- the slot of the grant in the row is a doubleword of guest memory
+  pub find_tells : (i : RowWord) → (o : Option Offer) → h.lane.offer ≡ o → FindTells i o (word (row_at h.number (index_of i)))
+  find_tells Slot (Some o) has = λ mark. let a : Answered state (row h.number) h.lane = answered_if state (row h.number) h.lane o has h.lane.calling r.stage in
+      subst IsDoubleword (sym (r.fields Slot)) (in_memory (sym (a.offer o has).0 ∙ mark) (row h.number).pending refl)
+    where
+      at_three : (n : ℕ) → n ≡ 3 → (g : Grant) (w : Winner) (value : ℕ) → Fated value n w h.number (row h.number) h.lane.tried (exchanges h.number) g → g ≡ grant_in (row h.number)
+      at_three n is g w value f = elim f [
+        | inl f ↦ f.1.in_row
+        | inr f ↦ elim f [
+          | inl f ↦ (let q = f.0 in absurd (omega arith))
+          | inr f ↦ (let q = f.0 in absurd (omega arith))
+        ]
+      ]
+
+      of_slot : (d n : ℕ) → n ≡ address_of d → d < doublewords → IsDoubleword n
+      of_slot d n is low = ((let q = is in omega arith, subst (λ e. e < doublewords) (sym (ap place_of is ∙ place_at d)) low), let q = is in omega arith)
+
+      in_memory : state ≡ 3 → (p : Option Grant) → (row h.number).pending ≡ p → IsDoubleword (row h.number).slot
+      in_memory three None e = absurd (old.closed e three)
+      in_memory three (Some g) e =
+          let d : ℕ = place_of g.entry.slot in
+          let posted : IsPending known locked (word (value_at d)) state (s.winner d) h.number (row h.number) h.lane.tried (exchanges h.number) g = old.pending g e in
+          subst (λ (q : Grant). IsDoubleword q.entry.slot) (at_three state three g (s.winner d) (word (value_at d)) posted.fate) (of_slot d g.entry.slot posted.of_slot.1 posted.of_slot.0.0)
+  find_tells Slot None has = tt
+  find_tells Number o has = tt
+  find_tells Lazy o has = tt
+  find_tells Value o has = tt
+  find_tells Generation o has = tt
+
   -- what is new where the exchange left the value v' and the winner w'
   record Left (g : Grant) (v' : ℕ) (w' : Winner) (e : Exchange) : Type 0 where
     pub slot : SlotIs v' known count row (put exchanges h.number (exchanges h.number ++ e ∷ [])) w' (place_of g.entry.slot)
@@ -357,7 +387,7 @@ module _ (word : ℕ → ℕ) (known : ℕ → Kept) (locked : Option ℕ) (coun
       more j x c = put_each (λ n xs. Contains (exchanges n) x → Contains xs x) exchanges m (exchanges m ++ e ∷ []) (λ n _ c. c) (λ c. Contains-append_left (exchanges m) (e ∷ []) x c) j c
 
       slot_more : (n : ℕ) → SlotIs (word (value_at n)) known count row exchanges (s.winner n) n → SlotIs (word (value_at n)) known count row exchanges' (s.winner n) n
-      slot_more n o = record { since = o.since; image = o.image; bound = o.bound; by = λ j p is. ((o.by j p is).0, (o.by j p is).1, more j (record { grant = p; found = p.lazy }) (o.by j p is).2); leads = o.leads }
+      slot_more n o = record { since = o.since; image = o.image; bound = o.bound; by = λ j p is. ((o.by j p is).0, (o.by j p is).1, more j (record { grant = p; found = p.lazy }) (o.by j p is).2); lazy = o.lazy; leads = o.leads }
 
       did_before : (j : ℕ) (x : Exchange) → (let n = place_of x.grant.entry.slot in Did (word (value_at n)) (known n).lazy (s.winner n) j x) → (let n = place_of x.grant.entry.slot in Did (word' (value_at n)) (known n).lazy (winner' n) j x)
       did_before j x = at (place_of x.grant.entry.slot)
@@ -430,7 +460,7 @@ module _ (word : ℕ → ℕ) (known : ℕ → Kept) (locked : Option ℕ) (coun
       let apart : n ≢ g.lazy = eqb-false n g.lazy miss in
       let o : SlotIs n known count row exchanges (s.winner d) d = s.each_slot d aim.posted.of_slot.0 in
       exchange_leaves g n (s.winner d) ready aim (record {
-        slot = record { since = o.since; image = o.image; bound = o.bound; by = λ j p is. ((o.by j p is).0, (o.by j p is).1, more e j p (o.by j p is).2); leads = o.leads };
+        slot = record { since = o.since; image = o.image; bound = o.bound; by = λ j p is. ((o.by j p is).0, (o.by j p is).1, more e j p (o.by j p is).2); lazy = o.lazy; leads = o.leads };
         did = record { lazy_is = aim.posted.lazy_is; not_lazy = λ q. apart (q ∙ sym aim.posted.lazy_is); won = λ q. absurd (apart q); lost = λ _. (aim.is_open.untried ready.0, refl) };
         fates = λ j low other p lazy f. f;
         before = λ j x did. did;
@@ -459,6 +489,7 @@ module _ (word : ℕ → ℕ) (known : ℕ → Kept) (locked : Option ℕ) (coun
                 subst (λ xs. HasWon xs g) (sym (put_here exchanges h.number (exchanges h.number ++ e ∷ [])))
                     (subst (λ f. Contains (exchanges h.number ++ e ∷ []) (record { grant = g; found = f })) same (Contains-push (exchanges h.number) e)),
               );
+          lazy = λ j p _. sym (o.image none') ∙ (same ∙ aim.posted.lazy_is);
           leads = o.leads;
         };
         did = record { lazy_is = aim.posted.lazy_is; not_lazy = λ q. aim.posted.other (q ∙ sym aim.posted.lazy_is); won = λ _. refl; lost = λ q. absurd (q same) };

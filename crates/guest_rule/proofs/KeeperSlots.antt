@@ -13,14 +13,15 @@ use Rattle.guest_rule.specs.declared.kind.KeeperKind.{KeeperKind}
 use Rattle.guest_rule.specs.declared.kind.KeeperKind.TheVariants as kinds
 use Rattle.guest_rule.specs.declared.view.Fate.{Fate}
 use Rattle.guest_rule.specs.declared.view.Fate.TheVariants.{Won, Lost}
+use Rattle.guest_rule.specs.declared.view.HartView.{HartView}
 use Rattle.guest_rule.specs.declared.view.KeeperView.{KeeperView}
 use Rattle.guest_rule.specs.declared.view.Kept.{Kept}
 use Rattle.guest_rule.specs.declared.view.Row.{Row}
 use Rattle.guest_rule.specs.declared.view.Settled.{Settled}
-use Rattle.guest_rule.specs.Layout.{doublewords, harts_at_most, place_of, row_at, state_at, value_at, control_at, index_of}
+use Rattle.guest_rule.specs.Layout.{doublewords, harts_at_most, address_of, place_of, row_at, state_at, value_at, control_at, index_of}
 use Rattle.guest_rule.specs.Views.{put, grant_in, kept_at, no_row, row_of, with_field, unmapped}
 use Rattle.guest_rule.specs.Operations.{becomes}
-use Rattle.guest_rule.specs.KeeperSteps.{KeeperReady, KeeperLearns, asked, asked_if, awaited_if, handed, heeding, keeper_word, keeper_op, keeper_after, keeps_if, not_found, opened, settled_as}
+use Rattle.guest_rule.specs.KeeperSteps.{HasEnded, KeeperReady, KeeperLearns, asked, asked_if, awaited_if, handed, heeding, keeper_word, keeper_op, keeper_after, keeps_if, not_found, opened, settled_as}
 use Rattle.guest_rule.specs.Allowed.{IsAllowed, IsOf, IsPostable, IsSlot, LeadsTo, Stands}
 use Rattle.guest_rule.specs.Slots.{Did, Fated, GrantsAre, HasLost, HasWon, IsGrant, IsOpen, IsPending, SlotIs, Slots, Winner}
 use Rattle.guest_rule.proofs.Put.{put_here, put_else, put_same, set_put, ext}
@@ -28,7 +29,7 @@ use Rattle.guest_rule.proofs.HartLocks.{unmoved}
 use Rattle.guest_rule.proofs.KeeperCalls.{map_row, map_long}
 use Rattle.guest_rule.proofs.HartLocks.{low_index}
 use Rattle.guest_rule.proofs.Rows.{field_since}
-use Rattle.guest_rule.proofs.SlotFrames.{FewerSlots, SameSlots, beside_slots, fewer, row_changes}
+use Rattle.guest_rule.proofs.SlotFrames.{at_place, FewerSlots, SameSlots, beside_slots, fewer, row_changes}
 
 -- ---- what is known of one hart's grants, over a change of its row that leaves them
 
@@ -200,10 +201,10 @@ module _ (word : ℕ → ℕ) (k : KeeperView) (tried : ℕ → Option Exchange)
       value_same e = put_else word (control_at d) x (value_at e) (λ (q : value_at e ≡ control_at d). omega arith)
 
       was_of : (e : ℕ) (g : Grant) → e ≢ d → IsOf known' e g → IsOf (kept_at k) e g
-      was_of e g apart o = subst (λ (q : Kept). ((e < doublewords) × (q.role ≡ SlotRole)) × (place_of g.entry.slot ≡ e) × (q.since < g.entry.number)) (put_else (kept_at k) d k' e apart) o
+      was_of e g apart o = subst (λ (q : Kept). ((e < doublewords) × (q.role ≡ SlotRole)) × (g.entry.slot ≡ address_of e) × (q.since < g.entry.number)) (put_else (kept_at k) d k' e apart) o
 
       now_of : (e : ℕ) (g : Grant) → e ≢ d → IsOf (kept_at k) e g → IsOf known' e g
-      now_of e g apart o = subst (λ (q : Kept). ((e < doublewords) × (q.role ≡ SlotRole)) × (place_of g.entry.slot ≡ e) × (q.since < g.entry.number)) (sym (put_else (kept_at k) d k' e apart)) o
+      now_of e g apart o = subst (λ (q : Kept). ((e < doublewords) × (q.role ≡ SlotRole)) × (g.entry.slot ≡ address_of e) × (q.since < g.entry.number)) (sym (put_else (kept_at k) d k' e apart)) o
 
       leads' : (v : ℕ) → LeadsTo (kept_at k) v → LeadsTo known' v
       leads' v l = leads_same (kept_at k) d k' v (inl (λ q. absurd (unread q))) l
@@ -214,7 +215,7 @@ module _ (word : ℕ → ℕ) (k : KeeperView) (tried : ℕ → Option Exchange)
       -- no grant so far is newer than the slot
       too_new : (m : ℕ) → m < harts_at_most → (g : Grant) → ((row_of k m).pending ≡ Some g) ⊎ ((f : Fate) × Contains (row_of k m).settled (record { grant = g; fate = f })) → IsOf known' d g → ⊥
       too_new m few g h o = ⊎_elim
-          (λ (e : (row_of k m).pending ≡ Some g). other (ap (λ n. (kept_at k n).role) (sym o.1) ∙ ((s.each_hart m few).pending g e).of_slot.0.1))
+          (λ (e : (row_of k m).pending ≡ Some g). other (ap (λ n. (kept_at k n).role) (sym (at_place g d o.1)) ∙ ((s.each_hart m few).pending g e).of_slot.0.1))
           (λ (c : (f : Fate) × Contains (row_of k m).settled (record { grant = g; fate = f })).
           let old : g.entry.number ≤ length k.events = ((s.each_hart m few).counted g (inr c)).0 in
           let new : length k.events < g.entry.number = subst (λ n. n < g.entry.number) (ap (λ (q : Kept). q.since) here' ∙ since) o.2 in omega arith)
@@ -229,6 +230,7 @@ module _ (word : ℕ → ℕ) (k : KeeperView) (tried : ℕ → Option Exchange)
         image = λ _. value_same d ∙ (value ∙ ap (λ (q : Kept). q.value) (sym here'));
         bound = λ m g q. let z : None ≡ Some (m, g) = sym (put_here s.winner d None) ∙ q in absurd (cc);
         by = λ m g q. let z : None ≡ Some (m, g) = sym (put_here s.winner d None) ∙ q in absurd (cc);
+        lazy = λ m g q. let z : None ≡ Some (m, g) = sym (put_here s.winner d None) ∙ q in absurd (cc);
         leads = λ v a. ⊎_elim
             (λ (e : v ≡ (known' d).value). subst (LeadsTo known') (sym (e ∙ ap (λ (q : Kept). q.value) here')) (leads' k'.value leads))
             (λ (h : (m : ℕ) × (g : Grant) × Stands (row_of k m) g × IsOf known' d g × (v ≡ g.entry.value)). absurd (too_new h.0 (stands_low h.0 h.1 h.2) h.1 (stood h.0 h.1 h.2) h.3))
@@ -243,6 +245,7 @@ module _ (word : ℕ → ℕ) (k : KeeperView) (tried : ℕ → Option Exchange)
             image = λ q. value_same e ∙ (o.image q ∙ ap (λ (q : Kept). q.value) (sym same));
             bound = λ m g q. let b = o.bound m g q in (value_same e ∙ b.0, b.1, b.2 ∙ ap (λ (q : Kept). q.lazy) (sym same));
             by = λ m g q. let b = o.by m g q in (now_of e g apart b.0, b.1, b.2);
+            lazy = λ m g q. ap (λ (q : Kept). q.value) same ∙ (o.lazy m g q ∙ ap (λ (q : Kept). q.lazy) (sym same));
             leads = λ v a. leads' v (o.leads v (⊎_elim
                 (λ (q : v ≡ (known' e).value). inl (q ∙ ap (λ (q : Kept). q.value) same))
                 (λ (h : (m : ℕ) × (g : Grant) × Stands (row_of k m) g × IsOf known' e g × (v ≡ g.entry.value)). inr (h.0, h.1, h.2, was_of e h.1 apart h.3, h.4))
@@ -313,7 +316,7 @@ module _ (word : ℕ → ℕ) (k : KeeperView) (tried : ℕ → Option Exchange)
   unfound : Slots word (kept_at k) k.access.locked (length k.events) (λ j. not_found (row_of k j)) tried exchanges
   unfound = record {
     winner = s.winner;
-    each_slot = λ d here. let o = s.each_slot d here in record { since = o.since; image = o.image; bound = o.bound; by = o.by; leads = o.leads };
+    each_slot = λ d here. let o = s.each_slot d here in record { since = o.since; image = o.image; bound = o.bound; by = o.by; lazy = o.lazy; leads = o.leads };
     each_hart = λ m few. regrant word word (kept_at k) k.access.locked (length k.events) s.winner m (row_of k m) (not_found (row_of k m)) (tried m) (exchanges m)
         (same_here m (not_found (row_of k m)) refl refl refl (λ n low before. before) few) (s.each_hart m few);
     each_exchange = s.each_exchange;
@@ -506,7 +509,7 @@ module _ (word : ℕ → ℕ) (k : KeeperView) (tried : ℕ → Option Exchange)
 
       forth : (d : ℕ) (p : Grant) → IsSlot (kept_at k) d → s.winner d ≡ Some (m, p) → IsOf (kept_at k) d p × Stands (row_of k m) p × HasWon (exchanges m) p → Stands r p
       forth d p here e by = ⊎_elim (λ (q : (row_of k m).pending ≡ Some p). let w : Some g ≡ Some p = sym is ∙ q in let same : g ≡ p = cc in
-          absurd (has_lost.0 (ap s.winner (ap (λ (x : Grant). place_of x.entry.slot) same ∙ by.0.1) ∙ (e ∙ ap (λ x. Some (m, x)) (sym same)))))
+          absurd (has_lost.0 (ap s.winner (ap (λ (x : Grant). place_of x.entry.slot) same ∙ at_place p d by.0.1) ∙ (e ∙ ap (λ x. Some (m, x)) (sym same)))))
           (λ (t : Contains (row_of k m).settled (record { grant = p; fate = Won })). inr (Contains-append_left (row_of k m).settled (record { grant = g; fate = Lost } ∷ []) (record { grant = p; fate = Won }) t)) by.1
   asks m g few is false false false x y z = alike word m (row_of k m) few (λ j low apart. refl) (same_here m (row_of k m) refl refl refl (λ n low before. before) few)
 
@@ -578,7 +581,7 @@ module _ (word : ℕ → ℕ) (k : KeeperView) (tried : ℕ → Option Exchange)
   counts : (x : ℕ) → Slots (put word 0 x) (kept_at k) k.access.locked (length k.events + 1) (row_of k) tried exchanges
   counts x = record {
     winner = now.winner;
-    each_slot = λ d here. let o = now.each_slot d here in let low : (kept_at k d).since ≤ length k.events = o.since in record { since = omega arith; image = o.image; bound = o.bound; by = o.by; leads = o.leads };
+    each_slot = λ d here. let o = now.each_slot d here in let low : (kept_at k d).since ≤ length k.events = o.since in record { since = omega arith; image = o.image; bound = o.bound; by = o.by; lazy = o.lazy; leads = o.leads };
     each_hart = λ m few. let o = now.each_hart m few in record {
       closed = o.closed;
       pending = o.pending;
@@ -651,14 +654,43 @@ module _ (word : ℕ → ℕ) (k : KeeperView) (tried : ℕ → Option Exchange)
 
   -- ---- what the rule tells of slots
 
-  pub ask_tells : (m : ℕ) → KeeperReady (kinds.Ask m) k → KeeperLearns (kinds.Ask m) k (word (state_at m))
-  ask_tells m ready =
-      let g : Grant = ready.1.0 in
-      let d : ℕ = place_of g.entry.slot in
-      let p : IsPending (kept_at k) k.access.locked (word (value_at d)) (word (state_at m)) (s.winner d) m (row_of k m) (tried m) (exchanges m) g = (s.each_hart m ready.0).pending g ready.1.1 in
-      ⊎_elim (λ (o : (word (state_at m) ≡ 3) × IsOpen (s.winner d) m (row_of k m) (tried m) (exchanges m) g). inl (let q = o.0 in omega arith))
-      (λ f. ⊎_elim (λ (a : (word (state_at m) % 8 ≡ 4) × (s.winner d ≡ Some (m, g))). inr (inl a.0)) (λ b. inr (inr b.0)) f)
-      p.fate
+  pub ask_tells : (m : ℕ) → ((c : ℕ) → (row_of k m).since ≡ Some c → word (state_at m) % 8 ≢ 3) → ((j : HartView) → HasEnded k m j → word (state_at m) % 8 ≢ 3)
+      → KeeperReady (kinds.Ask m) k → KeeperLearns (kinds.Ask m) k (word (state_at m))
+  ask_tells m waits ended ready = record {
+    state = stated (word (state_at m)) (pending ready.1.0 ready.1.1).fate;
+    waits = waits;
+    ended = ended;
+    of_slot = λ g is. (pending g is).of_slot;
+    won = λ g is four.
+        let p = pending g is in
+        let d : ℕ = place_of g.entry.slot in
+        let w : s.winner d ≡ Some (m, g) = winning (word (state_at m)) four p.fate in
+        ((s.each_slot d p.of_slot.0).lazy m g w, λ i q few c o. one d w i q few c o);
+  }
+    where
+      pending : (g : Grant) → (row_of k m).pending ≡ Some g
+          → let d = place_of g.entry.slot in IsPending (kept_at k) k.access.locked (word (value_at d)) (word (state_at m)) (s.winner d) m (row_of k m) (tried m) (exchanges m) g
+      pending g is = (s.each_hart m ready.0).pending g is
+
+      stated : (n : ℕ) {value : ℕ} {w : Winner} {g : Grant} → Fated value n w m (row_of k m) (tried m) (exchanges m) g → (n % 8 ≡ 3) ⊎ (n % 8 ≡ 4) ⊎ (n % 8 ≡ 5)
+      stated n f = elim f [
+        | inl o ↦ inl (let q = o.0 in omega arith)
+        | inr f ↦ elim f [ inl a ↦ inr (inl a.0) | inr b ↦ inr (inr b.0) ]
+      ]
+
+      winning : (n : ℕ) {value : ℕ} {w : Winner} {g : Grant} → n % 8 ≡ 4 → Fated value n w m (row_of k m) (tried m) (exchanges m) g → w ≡ Some (m, g)
+      winning n four f = elim f [
+        | inl o ↦ (let q = o.0 in absurd (omega arith))
+        | inr f ↦ elim f [ inl a ↦ a.1 | inr b ↦ (let q = b.0 in absurd (omega arith)) ]
+      ]
+
+      one : (d : ℕ) {g : Grant} → s.winner d ≡ Some (m, g) → (i : ℕ) (p : Grant) → i < harts_at_most → Contains (row_of k i).settled (record { grant = p; fate = Won }) → IsOf (kept_at k) d p → (i ≡ m) × (p ≡ g)
+      one d {g} w i p few c o =
+          let at : place_of p.entry.slot ≡ d = at_place p d o.1 in
+          let h : HasWon (exchanges i) p = (s.each_hart i few).won p c in
+          let did = s.each_exchange i few (record { grant = p; found = p.lazy }) h (subst (λ n. IsOf (kept_at k) n p) (sym at) o) in
+          let z : Some (i, p) ≡ Some (m, g) = sym (did.won refl) ∙ (ap s.winner at ∙ w) in
+          let y : (i, p) ≡ (m, g) = cc in (ap (λ (x : ℕ × Grant). x.0) y, ap (λ (x : ℕ × Grant). x.1) y)
 
   pub saw_tells : (d : ℕ) → KeeperReady (kinds.Saw d) k → KeeperLearns (kinds.Saw d) k (word (value_at d))
   saw_tells d ready = record {
@@ -666,8 +698,8 @@ module _ (word : ℕ → ℕ) (k : KeeperView) (tried : ℕ → Option Exchange)
     lost = λ m g few c o q.
         let l : HasLost (exchanges m) g = (s.each_hart m few).lost g c in
         let did : Did (word (value_at (place_of g.entry.slot))) (kept_at k (place_of g.entry.slot)).lazy (s.winner (place_of g.entry.slot)) m (record { grant = g; found = l.0 }) =
-        s.each_exchange m few (record { grant = g; found = l.0 }) l.2 (subst (λ n. IsOf (kept_at k) n g) (sym o.1) o) in
-        did.not_lazy (ap (λ n. word (value_at n)) o.1 ∙ (q ∙ did.lazy_is));
+        s.each_exchange m few (record { grant = g; found = l.0 }) l.2 (subst (λ n. IsOf (kept_at k) n g) (sym (at_place g d o.1)) o) in
+        did.not_lazy (ap (λ n. word (value_at n)) (at_place g d o.1) ∙ (q ∙ did.lazy_is));
   }
     where
       allowed : (w : Winner) → s.winner d ≡ w → IsAllowed (kept_at k) (row_of k) d (word (value_at d))

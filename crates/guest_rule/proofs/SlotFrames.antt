@@ -1,16 +1,27 @@
 -- The part on slots and grants, over changes that touch few of them.
-use Rattle.std.proofs.Common.{◌≡◌, ◌≢◌, ◌⊎◌, ⊎_elim, inl, inr, ℕ, ◌≤◌, ◌<◌, List, Option, Some, refl, sym, ap, subst, ◌∙◌, arith}
+use Rattle.std.proofs.Common.{◌≡◌, ◌≢◌, ◌⊎◌, ⊎_elim, inl, inr, ℕ, ◌+◌, ◌-◌, ◌*◌, ◌/◌, ◌≤◌, ◌<◌, List, Option, Some, refl, sym, ap, subst, ◌∙◌, arith}
 use mathlib.Core.Logic.{dite}
 use native.Mathlib.Decide.{ℕ_discrete}
 use Rattle.guest_rule.specs.declared.entry.Exchange.{Exchange}
 use Rattle.guest_rule.specs.declared.entry.Grant.{Grant}
 use Rattle.guest_rule.specs.declared.view.Kept.{Kept}
 use Rattle.guest_rule.specs.declared.view.Row.{Row}
-use Rattle.guest_rule.specs.Layout.{harts_at_most, place_of, state_at, value_at}
+use Rattle.guest_rule.specs.Layout.{address_of, first_address, harts_at_most, place_of, state_at, value_at}
 use Rattle.guest_rule.specs.Views.{put}
 use Rattle.guest_rule.specs.Allowed.{IsAllowed, IsOf, IsSlot, LeadsTo, Stands}
 use Rattle.guest_rule.specs.Slots.{Did, Fated, GrantsAre, IsPending, SlotIs, Slots, Winner}
 use Rattle.guest_rule.proofs.Put.{put_here, put_else}
+
+-- the doubleword of a slot's address
+pub place_at : (d : ℕ) → place_of (address_of d) ≡ d
+unfolding place_of
+place_at d = go d (8 * d) refl
+  where
+    go : (d n : ℕ) → n ≡ 8 * d → (n + first_address - first_address) / 8 ≡ d
+    go d n e = omega arith
+
+pub at_place : (g : Grant) (d : ℕ) → g.entry.slot ≡ address_of d → place_of g.entry.slot ≡ d
+at_place g d e = ap place_of e ∙ place_at d
 
 -- the words of slots and the states of rows are as they were
 pub record SameSlots (word word' : ℕ → ℕ) (known : ℕ → Kept) : Type 0 where
@@ -48,6 +59,7 @@ fewer word word' known known' locked locked' count row tried exchanges same less
         image = λ e. v ∙ (old.image e ∙ ap (λ (x : Kept). x.value) (sym k));
         bound = λ m g e. let b = old.bound m g e in (v ∙ b.0, b.1, b.2 ∙ ap (λ (x : Kept). x.lazy) (sym k));
         by = λ m g e. let b = old.by m g e in (now_of known known' d g less.was here b.0, b.1, b.2);
+        lazy = λ m g e. ap (λ (x : Kept). x.value) k ∙ (old.lazy m g e ∙ ap (λ (x : Kept). x.lazy) (sym k));
         leads = λ x a. let was = was_allowed known known' row d x less.was here a in less.leads d x here was (old.leads x was);
       };
   each_hart = λ m few. let old : GrantsAre known locked count word s.winner m (row m) (tried m) (exchanges m) = s.each_hart m few in record {
@@ -105,6 +117,7 @@ row_changes word word' known locked count row tried exchanges m r t few values s
     image = λ e. values d here ∙ old.image e;
     bound = λ j g e. let b = old.bound j g e in (values d here ∙ b.0, b.1, b.2);
     by = λ j g e. let b = old.by j g e in (b.0, stands_still d here j g e b.1, b.2);
+    lazy = old.lazy;
     leads = λ v a. ⊎_elim
         (λ (e : v ≡ (known d).value). old.leads v (inl e))
         (λ (h : (j : ℕ) × (g : Grant) × Stands (put row m r j) g × IsOf known d g × (v ≡ g.entry.value)). leads_still d h.0 h.1 v (old.leads v) h.2 h.3 h.4)

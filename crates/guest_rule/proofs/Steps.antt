@@ -1,5 +1,5 @@
 -- Each kind of step keeps the rule, and what it tells is true.
-use Rattle.std.proofs.Common.{◌≡◌, ◌≢◌, ◌⊎◌, ⊎_elim, inl, inr, ℕ, ◌+◌, ◌*◌, ◌≤◌, ◌<◌, Bool, true, false, eqb, List, [], ◌∷◌, ◌++◌, length, length-append, length-set, set, get_or, Option, Some, None, refl, sym, ap, subst, ◌∙◌, arith, slice_get, slice_index, slice_set, ◌==◌}
+use Rattle.std.proofs.Common.{◌≡◌, ◌≢◌, ◌⊎◌, ⊎_elim, inl, inr, ℕ, ◌+◌, ◌*◌, ◌%◌, ◌≤◌, ◌<◌, Bool, true, false, eqb, List, [], ◌∷◌, ◌++◌, length, length-append, length-set, set, get_or, Option, Some, None, refl, sym, ap, subst, ◌∙◌, arith, slice_get, slice_index, slice_set, ◌==◌}
 use Rattle.link_event.specs.declared.event.Event.{Event}
 use Rattle.guest_rule.specs.declared.entry.Entry.{Entry}
 use Rattle.guest_rule.specs.declared.entry.Exchange.{Exchange}
@@ -19,11 +19,11 @@ use Rattle.guest_rule.specs.declared.view.View.TheVariants.{Keeper, Hart}
 use Rattle.guest_rule.specs.Layout.{doublewords, harts_at_most, table_words, value_at, control_at, state_at, row_at, index_of, place_of, role_in, lock_bit}
 use Rattle.guest_rule.specs.Views.{BeginsWith, after, put, entries_of, exchanges_of, kept_at, row_of}
 use Rattle.guest_rule.specs.Operations.{becomes}
-use Rattle.guest_rule.specs.HartSteps.{HartReady, HartLearns, hart_word, hart_op, hart_after, ask_place, Asked, glanced, looked, locked_if, heeded, permits, ask_is_fresh, store_place}
-use Rattle.guest_rule.specs.KeeperSteps.{HasTakenAll, KeeperReady, KeeperLearns, keeper_word, keeper_op, keeper_after}
+use Rattle.guest_rule.specs.HartSteps.{FindTells, HartReady, HartLearns, hart_word, hart_op, hart_after, ask_place, Asked, glanced, looked, locked_if, heeded, permits, ask_is_fresh, store_place}
+use Rattle.guest_rule.specs.KeeperSteps.{HasEnded, HasTakenAll, KeeperReady, KeeperLearns, keeper_word, keeper_op, keeper_after}
 use Rattle.guest_rule.specs.Seats.{Fits, Seats}
 use Rattle.guest_rule.specs.Words.{Words}
-use Rattle.guest_rule.specs.Calls.{Calls, Rests, RowIs, Stage, Still}
+use Rattle.guest_rule.specs.Calls.{Awaits, Calls, Rests, RowIs, Stage, Still}
 use Rattle.guest_rule.specs.Slots.{Slots}
 use Rattle.guest_rule.specs.Generations.{Generations}
 use Rattle.guest_rule.specs.Rule.{HartKeeps, KeeperKeeps, Parts}
@@ -33,7 +33,7 @@ use Rattle.guest_rule.proofs.HartLocks.{hart_locks, low_index}
 use Rattle.guest_rule.proofs.KeeperLocks.{keeper_locks, look_tells, load_tells, lock_tells}
 use Rattle.guest_rule.proofs.HartCalls.{hart_calls, arrive_tells}
 use Rattle.guest_rule.proofs.KeeperCalls.{keeper_calls, waiting}
-use Rattle.guest_rule.proofs.HartSlots.{aims_at, hart_slots}
+use Rattle.guest_rule.proofs.HartSlots.{aims_at, find_tells, hart_slots}
 use Rattle.guest_rule.proofs.KeeperSlots.{keeper_slots, ask_tells, saw_tells}
 use Rattle.guest_rule.proofs.Marks.{hart_marks, keeper_marks}
 use Rattle.guest_rule.proofs.Rows.{low_rest}
@@ -175,6 +175,9 @@ module _ (word : ℕ → ℕ) (kept : KeeperView) (harts : ℕ → HartView) (p 
       begun xs ys b = let e : length xs ≡ length (ys ++ b.0) = ap length b.1 in let l : length (ys ++ b.0) ≡ length ys + length b.0 = length-append ys b.0 in omega arith
   hart_tells (kinds.Arrive m) ready = subst (λ m. HartLearns (kinds.Arrive m) h (word (state_at m))) (sym ready.0)
       (arrive_tells word (length kept.events) (row_of kept) (after (λ (x : HartView). x.lane) harts) (after (λ (x : HartView). entries_of x.trail) harts) p.calls h few (ap (λ (x : HartView). x.lane) is) (ap (λ (x : HartView). entries_of x.trail) is) (refl, ready.1, ready.2))
+  hart_tells (kinds.Find m i) ready = subst (λ m. FindTells i h.lane.offer (word (row_at m (index_of i)))) (sym ready.0)
+      (find_tells word (kept_at kept) kept.access.locked (length kept.events) (row_of kept) (after (λ (x : HartView). x.lane.tried) harts) (after (λ (x : HartView). exchanges_of x.trail) harts) p.slots
+      h few (ap (λ (x : HartView). x.lane.tried) is) (ap (λ (x : HartView). exchanges_of x.trail) is) (entries_of h.trail) row_is writable i h.lane.offer refl)
   hart_tells kinds.Listen ready = subst (λ (x : HartView). Rattle.guest_rule.specs.HartSteps.HartHeard x.note x) is (p.heard h.number).told
   hart_tells _ ready = tt
 
@@ -215,13 +218,34 @@ module _ (word : ℕ → ℕ) (k : KeeperView) (harts : ℕ → HartView) (p : P
     generations = keeper_marks word k (after (λ (x : HartView). x.trail) harts) p.generations rows_known kind ready;
   }
 
-  -- a hart whose seat was joined
-  taken_all : (m : ℕ) → m < harts_at_most → ((i : ℕ) (j : HartView) → slice_get k.joined i ≡ Some j → harts j.number ≡ j) → HasTakenAll k m (word (state_at m))
-  taken_all m few gone i j there number idle =
-      let is : harts m ≡ j = ap harts (sym number) ∙ gone i j there in
+  -- a hart whose seat was joined while it wasn't calling
+  ended : (m : ℕ) → m < harts_at_most → ((i : ℕ) (j : HartView) → slice_get k.joined i ≡ Some j → harts j.number ≡ j) → (j : HartView) → HasEnded k m j
+      → (harts m ≡ j) × Rests (word (state_at m)) × Still (row_of k m) j.lane
+  ended m few gone j e =
+      let is : harts m ≡ j = ap harts (sym e.1) ∙ gone e.0.0 j e.0.1 in
       let r : RowIs word (length k.events) m (row_of k m) j.lane (entries_of j.trail) = subst (λ (x : HartView). RowIs word (length k.events) m (row_of k m) x.lane (entries_of x.trail)) is (p.calls.each_row m few) in
-      let st : Rests (word (state_at m)) × Still (row_of k m) j.lane = subst (Stage (word (state_at m)) (row_of k m) j.lane) idle r.stage in
-      (st.1.all, r.trail ∙ (ap (λ t. j.lane.taken ++ Rattle.guest_rule.specs.Views.tried_entry t) st.1.no_try ∙ Rattle.std.proofs.Common.append-nil j.lane.taken), low_rest (word (state_at m)) st.0)
+      let st : Rests (word (state_at m)) × Still (row_of k m) j.lane = subst (Stage (word (state_at m)) (row_of k m) j.lane) e.2 r.stage in (is, st.0, st.1)
+
+  taken_all : (m : ℕ) → m < harts_at_most → ((i : ℕ) (j : HartView) → slice_get k.joined i ≡ Some j → harts j.number ≡ j) → (j : HartView) → HasEnded k m j → HasTakenAll (row_of k m) (word (state_at m)) j
+  taken_all m few gone j e =
+      let st = ended m few gone j e in
+      let r : RowIs word (length k.events) m (row_of k m) j.lane (entries_of j.trail) = subst (λ (x : HartView). RowIs word (length k.events) m (row_of k m) x.lane (entries_of x.trail)) st.0 (p.calls.each_row m few) in
+      let g = p.slots.each_hart m few in
+      subst (λ (x : HartView). HasTakenAll (row_of k m) (word (state_at m)) x) st.0 (record {
+        taken = ap (λ (x : HartView). x.lane.taken) st.0 ∙ st.2.all;
+        entries = subst (λ (x : HartView). entries_of x.trail ≡ x.lane.taken) (sym st.0) (r.trail ∙ (ap (λ t. j.lane.taken ++ Rattle.guest_rule.specs.Views.tried_entry t) st.2.no_try ∙ Rattle.std.proofs.Common.append-nil j.lane.taken));
+        idle = low_rest (word (state_at m)) st.1;
+        won = g.won;
+        lost = g.lost;
+        granted = g.granted;
+        rising = g.rising;
+      })
+
+  closed : (n : ℕ) → Rests n → n % 8 ≢ 3
+  closed n rest e = elim rest [ inl a ↦ omega arith | inr a ↦ elim a [ inl b ↦ omega arith | inr b ↦ omega arith ] ]
+
+  awaited : (n : ℕ) → Awaits n → n % 8 ≢ 3
+  awaited n waits e = elim waits [ inl a ↦ omega arith | inr a ↦ elim a [ inl b ↦ omega arith | inr b ↦ omega arith ] ]
 
   pub keeper_tells : ((i : ℕ) (j : HartView) → slice_get k.joined i ≡ Some j → harts j.number ≡ j) → Rattle.guest_rule.specs.KeeperSteps.KeeperHeard k.note k → (kind : KeeperKind) → KeeperReady kind k → KeeperLearns kind k (word (keeper_word kind))
   keeper_tells gone told (keeps.Look d) ready = look_tells word k (after (λ (x : HartView). x.access) harts) p.locks words_known d ready
@@ -229,7 +253,8 @@ module _ (word : ℕ → ℕ) (k : KeeperView) (harts : ℕ → HartView) (p : P
   keeper_tells gone told (keeps.Lock d control) ready = lock_tells word k (after (λ (x : HartView). x.access) harts) p.locks words_known d control ready
   keeper_tells gone told (keeps.Count e) ready = p.calls.counted
   keeper_tells gone told (keeps.Await m) ready = taken_all m ready gone
-  keeper_tells gone told (keeps.Ask m) ready = ask_tells word k (after (λ (x : HartView). x.lane.tried) harts) (after (λ (x : HartView). exchanges_of x.trail) harts) p.slots words_known rows_known m ready
+  keeper_tells gone told (keeps.Ask m) ready = ask_tells word k (after (λ (x : HartView). x.lane.tried) harts) (after (λ (x : HartView). exchanges_of x.trail) harts) p.slots words_known rows_known m
+      (λ c since. awaited (word (state_at m)) ((p.calls.each_row m ready.0).known c since).awaits) (λ j e. closed (word (state_at m)) (ended m ready.0 gone j e).1) ready
   keeper_tells gone told (keeps.Saw d) ready = saw_tells word k (after (λ (x : HartView). x.lane.tried) harts) (after (λ (x : HartView). exchanges_of x.trail) harts) p.slots words_known rows_known d ready
   keeper_tells gone told keeps.Listen ready = told
   keeper_tells gone told _ ready = tt

@@ -1,6 +1,8 @@
 -- The worked steps, by computation.
-use Rattle.std.proofs.Common.{refl}
-use Rattle.guest_rule.specs.Worked.{AnotherHasLocked, ConditionalFails, OneLocks, OneWins, RoleComesAndGoes}
+use Rattle.std.proofs.Common.{◌≡◌, ℕ, true, false, Some, refl, sym, ap, subst, ◌∙◌, inr}
+use Rattle.guest_rule.specs.declared.kind.StoreAsk.TheVariants.{Conditional}
+use Rattle.guest_rule.specs.HartSteps.{is_fresh, last_control}
+use Rattle.guest_rule.specs.Worked.{AnotherHasLocked, ConditionalFails, ConditionalIsRefused, OneLocks, OneWins, RoleComesAndGoes}
 
 pub one_locks : OneLocks
 one_locks = (refl, refl, refl, refl)
@@ -10,6 +12,12 @@ another_has_locked = refl
 
 pub conditional_fails : ConditionalFails
 conditional_fails = (refl, refl)
+
+pub conditional_is_refused : ConditionalIsRefused
+conditional_is_refused = (
+  (λ ready. let found : 19 ≡ ready.2.0 = ap last_control ready.2.1 in let fresh : false ≡ true = ap (λ n. is_fresh (Conditional 0x10000 8 7 0) n) found ∙ ready.2.2 in absurd (cc)),
+  (refl, inr (refl, refl), (19, refl, refl)),
+)
 
 pub one_wins : OneWins
 one_wins = (refl, refl, refl, refl)

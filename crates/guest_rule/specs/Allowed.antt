@@ -5,7 +5,7 @@ use Rattle.guest_rule.specs.declared.entry.Grant.{Grant}
 use Rattle.guest_rule.specs.declared.view.Fate.TheVariants.{Won}
 use Rattle.guest_rule.specs.declared.view.Kept.{Kept}
 use Rattle.guest_rule.specs.declared.view.Row.{Row}
-use Rattle.guest_rule.specs.Layout.{doublewords, place_of, IsInMemory}
+use Rattle.guest_rule.specs.Layout.{address_of, doublewords, place_of, IsInMemory}
 
 -- a value is 0, or lies in an RX word
 abbrev pub LeadsTo : (ℕ → Kept) → ℕ → Type 0
@@ -16,7 +16,7 @@ IsSlot known d = (d < doublewords) × ((known d).role ≡ SlotRole)
 
 -- a grant of a slot that is there: it has the slot's address, and a number above the count at which the slot got its role
 abbrev pub IsOf : (ℕ → Kept) → ℕ → Grant → Type 0
-IsOf known d g = IsSlot known d × (place_of g.entry.slot ≡ d) × ((known d).since < g.entry.number)
+IsOf known d g = IsSlot known d × (g.entry.slot ≡ address_of d) × ((known d).since < g.entry.number)
 
 -- a grant of a hart was posted, and isn't known as lost
 abbrev pub Stands : Row → Grant → Type 0

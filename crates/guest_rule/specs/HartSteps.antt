@@ -12,6 +12,7 @@ use Rattle.rv_hart.specs.declared.bus.Item.TheVariants as items
 use Rattle.ld_base.specs.declared.linking.Role.{Role}
 use Rattle.guest_rule.specs.declared.entry.Exchange.{Exchange}
 use Rattle.guest_rule.specs.declared.entry.RowWord.{RowWord}
+use Rattle.guest_rule.specs.declared.entry.RowWord.TheVariants.{Slot}
 use Rattle.guest_rule.specs.declared.kind.Ask.{Ask}
 use Rattle.guest_rule.specs.declared.kind.Ask.TheVariants.{Load as Loads, Store as Stores}
 use Rattle.guest_rule.specs.declared.kind.LoadAsk.{LoadAsk}
@@ -27,7 +28,7 @@ use Rattle.guest_rule.specs.declared.view.Offer.{Offer}
 use Rattle.guest_rule.specs.declared.view.Told.{Told}
 use Rattle.guest_rule.specs.declared.view.TrailItem.{TrailItem}
 use Rattle.guest_rule.specs.declared.view.TrailItem.TheVariants.{Call, Took, Exchanged, Done, Generation as ReadGeneration}
-use Rattle.guest_rule.specs.Layout.{count_at, generation_at, quiet_at, state_at, row_at, index_of, value_at, control_at, place_of, IsInMemory, role_in, lock_bit, version_in, to_lock}
+use Rattle.guest_rule.specs.Layout.{count_at, generation_at, quiet_at, state_at, row_at, index_of, value_at, control_at, place_of, IsDoubleword, IsInMemory, role_in, lock_bit, version_in, to_lock}
 use Rattle.guest_rule.specs.Views.{BeginsWith, IsRead, IsGranted, fresh_offer, offered, with_offered, known_of, last_block, nothing_locked}
 use Rattle.guest_rule.specs.Operations.{Op, load, store, exchange, add}
 
@@ -177,7 +178,7 @@ abbrev pub looked : Ask → ℕ → HartView → HartView
 looked ask control h = glanced ask control (lock_bit control == 1) (permits ask (role_in control)) (ask_is_fresh ask control) h
 
 abbrev pub locked_if : StoreAsk → ℕ → ℕ → Bool → HartView → HartView
-locked_if ask control found true h = with_access (record { locked = Some (store_place ask); held = None; last = None }) h
+locked_if ask control found true h = with_access (record { locked = Some (store_place ask); held = None; last = Some (store_place ask, control) }) h
 locked_if ask control found false h = given_up (store_refused ask (Again (Locked control found))) h
 
 abbrev pub arrived_if : ℕ → Bool → Lane → Lane
@@ -239,7 +240,9 @@ HartReady (kinds.Hold ask) h = h.access.locked ≡ Some (store_place ask)
 HartReady (kinds.Lock ask control) h =
     IsAsked (store_address ask) (store_size ask) × (h.access.locked ≡ None) × (h.access.last ≡ Some (store_place ask, control)) × (lock_bit control ≡ 0)
     × (may_write (role_in control) ≡ true) × (is_fresh ask control ≡ true)
-HartReady (kinds.Store ask x) h = (h.access.locked ≡ Some (store_place ask)) × Makes ask h.access.held x
+HartReady (kinds.Store ask x) h =
+    (h.access.locked ≡ Some (store_place ask)) × Makes ask h.access.held x
+    × ((control : ℕ) × (h.access.last ≡ Some (store_place ask, control)) × (is_fresh ask control ≡ true))
 HartReady (kinds.Unlock d) h = h.access.locked ≡ Some d
 HartReady kinds.Tally h = h.lane.calling ≡ false
 HartReady (kinds.Begin m) h = (m ≡ h.number) × (h.lane.calling ≡ false)
@@ -257,7 +260,7 @@ hart_after (kinds.Look ask) h n = looked ask n (heeded h)
 hart_after (kinds.Load ask) h n = entered (Call (loaded ask (last_control h.access.last) n)) (with_access nothing_locked (heeded h))
 hart_after (kinds.Hold ask) h n = with_access (record h.access { held = Some n }) (heeded h)
 hart_after (kinds.Lock ask control) h n = locked_if ask control n (eqb n control) (heeded h)
-hart_after (kinds.Store ask x) h n = entered (Call (stored ask (or_zero h.access.held))) (with_access (record h.access { held = Some x }) (heeded h))
+hart_after (kinds.Store ask x) h n = entered (Call (stored ask (or_zero h.access.held))) (with_access (record h.access { held = Some x; last = None }) (heeded h))
 hart_after (kinds.Unlock d) h n = with_access nothing_locked (heeded h)
 hart_after kinds.Tally h n = with_lane_of (record h.lane { seen = n }) (heeded h)
 hart_after (kinds.Begin m) h n = with_lane_of (record h.lane { calling = true }) (heeded h)
@@ -280,8 +283,14 @@ abbrev pub HartHeard : Option Told → HartView → Type 0
 HartHeard None h = Unit {0}
 HartHeard (Some t) h = BeginsWith h.heard t.had × BeginsWith h.heard t.told × BeginsWith (known_of h.lane) t.entries
 
+-- a grant's slot is a doubleword of guest memory
+abbrev pub FindTells : RowWord → Option Offer → ℕ → Type 0
+FindTells Slot (Some o) n = o.mark ≡ 3 → IsDoubleword n
+FindTells _ _ n = Unit {0}
+
 abbrev pub HartLearns : HartKind → HartView → ℕ → Type 0
 HartLearns kinds.Tally h n = length h.heard ≤ n
 HartLearns (kinds.Arrive m) h n = (8 ≤ n) ⊎ IsMark n
+HartLearns (kinds.Find m i) h n = FindTells i h.lane.offer n
 HartLearns kinds.Listen h n = HartHeard h.note h
 HartLearns _ h n = Unit {0}

@@ -2,6 +2,7 @@
 -- and what the rule tells of the number found.
 use Rattle.std.specs.Prelude.{◌≡◌, ◌≢◌, ◌⊎◌, ℕ, ◌+◌, ◌%◌, ◌≤◌, ◌<◌, Bool, true, false, eqb, nat_le, [], ◌∷◌, ◌++◌, length, map, Option, Some, None, slice_get, slice_set, Contains}
 use Rattle.ld_base.specs.declared.linking.Role.TheVariants.{None as NoRole, Ro, Rx, Rw, Slot as SlotRole}
+use Rattle.guest_rule.specs.declared.entry.Exchange.{Exchange}
 use Rattle.guest_rule.specs.declared.entry.Grant.{Grant}
 use Rattle.guest_rule.specs.declared.kind.KeeperKind.{KeeperKind}
 use Rattle.guest_rule.specs.declared.kind.KeeperKind.TheVariants as kinds
@@ -14,8 +15,9 @@ use Rattle.guest_rule.specs.declared.view.Kept.{Kept}
 use Rattle.guest_rule.specs.declared.view.Row.{Row}
 use Rattle.guest_rule.specs.declared.view.Told.{Told}
 use Rattle.guest_rule.specs.Layout.{doublewords, count_at, generation_at, quiet_at, harts_at_most, state_at, row_at, index_of, value_at, control_at, place_of, role_code, lock_bit, to_lock, to_unlock}
-use Rattle.guest_rule.specs.Views.{BeginsWith, entries_of, entry_of, grant_in, kept_at, nothing_locked, row_of, with_field}
+use Rattle.guest_rule.specs.Views.{BeginsWith, entries_of, entry_of, exchanges_of, grant_in, kept_at, nothing_locked, row_of, with_field}
 use Rattle.guest_rule.specs.Allowed.{IsAllowed, IsOf, IsPostable, IsSlot, LeadsTo, NothingEnters}
+use Rattle.guest_rule.specs.Slots.{HasLost, HasWon, IsGrant, Rising}
 use Rattle.guest_rule.specs.Operations.{Op, load, store, exchange, add}
 
 -- ---- views
@@ -174,11 +176,30 @@ abbrev pub KeeperHeard : Option Told → KeeperView → Type 0
 KeeperHeard None k = Unit {0}
 KeeperHeard (Some t) k = BeginsWith k.events t.told × BeginsWith (row_of k t.number).issued t.entries
 
--- a hart whose seat was joined while it wasn't calling has taken all that was issued to it, and its row has no call
-abbrev pub HasTakenAll : KeeperView → ℕ → ℕ → Type 0
-HasTakenAll k m n =
-    (i : ℕ) (j : HartView) → slice_get k.joined i ≡ Some j → j.number ≡ m → j.lane.calling ≡ false
-    → (j.lane.taken ≡ (row_of k m).issued) × (entries_of j.trail ≡ j.lane.taken) × (n < 8)
+-- the hart's seat was joined while it wasn't calling, with this view
+abbrev pub HasEnded : KeeperView → ℕ → HartView → Type 0
+HasEnded k m j = ((i : ℕ) × (slice_get k.joined i ≡ Some j)) × (j.number ≡ m) × (j.lane.calling ≡ false)
+
+-- it has taken all that was issued to it, and its row has no call; the fates of its grants are those of its exchanges
+pub record HasTakenAll (row : Row) (n : ℕ) (j : HartView) : Type 0 where
+  pub taken : j.lane.taken ≡ row.issued
+  pub entries : entries_of j.trail ≡ j.lane.taken
+  pub idle : n < 8
+  pub won : (g : Grant) → Contains row.settled (record { grant = g; fate = Won }) → HasWon (exchanges_of j.trail) g
+  pub lost : (g : Grant) → Contains row.settled (record { grant = g; fate = Lost }) → HasLost (exchanges_of j.trail) g
+  pub granted : (x : Exchange) → Contains (exchanges_of j.trail) x → IsGrant row x.grant
+  pub rising : Rising (exchanges_of j.trail)
+
+-- a row with a grant whose fate isn't known is open, won or lost
+pub record TellsAsk (k : KeeperView) (m n : ℕ) : Type 0 where
+  pub state : (n % 8 ≡ 3) ⊎ (n % 8 ≡ 4) ⊎ (n % 8 ≡ 5)
+  -- a hart that is known to call, or that has ended, has given the grant back
+  pub waits : (c : ℕ) → (row_of k m).since ≡ Some c → n % 8 ≢ 3
+  pub ended : (j : HartView) → HasEnded k m j → n % 8 ≢ 3
+  pub of_slot : (g : Grant) → (row_of k m).pending ≡ Some g → IsOf (kept_at k) (place_of g.entry.slot) g
+  -- the image of a slot that was won has its lazy word, and no other grant of the slot is known as won
+  pub won : (g : Grant) → (row_of k m).pending ≡ Some g → n % 8 ≡ 4 → let d = place_of g.entry.slot in ((kept_at k d).value ≡ (kept_at k d).lazy)
+      × ((i : ℕ) (p : Grant) → i < harts_at_most → Contains (row_of k i).settled (record { grant = p; fate = Won }) → IsOf (kept_at k) d p → (i ≡ m) × (p ≡ g))
 
 -- the word of a slot is one of its allowed values, and not the lazy word where a grant of it was lost
 pub record TellsSlot (k : KeeperView) (d n : ℕ) : Type 0 where
@@ -190,8 +211,8 @@ KeeperLearns (kinds.Look d) k n = (n % 8 ≡ role_code (kept_at k d).role) × ((
 KeeperLearns (kinds.Load d) k n = ((kept_at k d).role ≡ Ro) ⊎ ((kept_at k d).role ≡ Rx) → n ≡ (kept_at k d).value
 KeeperLearns (kinds.Lock d control) k n = (kept_at k d).role ≢ Rw → n ≡ control
 KeeperLearns (kinds.Count e) k n = n ≡ length k.events
-KeeperLearns (kinds.Await m) k n = HasTakenAll k m n
-KeeperLearns (kinds.Ask m) k n = (n % 8 ≡ 3) ⊎ (n % 8 ≡ 4) ⊎ (n % 8 ≡ 5)
+KeeperLearns (kinds.Await m) k n = (j : HartView) → HasEnded k m j → HasTakenAll (row_of k m) n j
+KeeperLearns (kinds.Ask m) k n = TellsAsk k m n
 KeeperLearns (kinds.Saw d) k n = TellsSlot k d n
 KeeperLearns kinds.Listen k n = KeeperHeard k.note k
 KeeperLearns _ k n = Unit {0}

@@ -1,7 +1,7 @@
 -- Where the words of guest memory stand, and what a control word is.
 -- First come the count, the generation, a word that nothing changes, and a row of six words for each of 16 harts. From the
 -- word 128 on, each doubleword has two words: its value, and its control word.
-use Rattle.std.specs.Prelude.{ℕ, ◌+◌, ◌-◌, ◌*◌, ◌/◌, ◌%◌, ◌≤◌, ◌<◌, List, [], ◌∷◌, slice_index_or}
+use Rattle.std.specs.Prelude.{◌≡◌, ℕ, ◌+◌, ◌-◌, ◌*◌, ◌/◌, ◌%◌, ◌≤◌, ◌<◌, List, [], ◌∷◌, slice_index_or}
 use Rattle.ld_base.specs.declared.linking.Role.{Role}
 use Rattle.ld_base.specs.declared.linking.Role.TheVariants.{None as NoRole, Ro, Rx, Rw, Slot as SlotRole}
 use Rattle.guest_rule.specs.declared.entry.RowWord.{RowWord}
@@ -57,9 +57,17 @@ first_address = 0x10000
 unfoldable pub place_of : ℕ → ℕ
 place_of address = (address - first_address) / 8
 
+-- the address of a doubleword
+abbrev pub address_of : ℕ → ℕ
+address_of d = 8 * d + first_address
+
 -- the address is one of guest memory
 abbrev pub IsInMemory : ℕ → Type 0
 IsInMemory address = (first_address ≤ address) × (place_of address < doublewords)
+
+-- the address is that of a doubleword
+abbrev pub IsDoubleword : ℕ → Type 0
+IsDoubleword address = IsInMemory address × (address % 8 ≡ 0)
 
 -- ---- control words: the role in bits 0 to 2, the lock in bit 3, the version above
 

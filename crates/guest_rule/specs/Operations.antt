@@ -14,3 +14,10 @@ becomes load n = n
 becomes (store x) n = x
 becomes (exchange old new) n = either (eqb n old) new n
 becomes (add k) n = (n + k) % 18446744073709551616
+
+-- the operands, as a table of atomic words names them
+abbrev pub operands : Op → ℕ × ℕ
+operands load = (0, 0)
+operands (store x) = (x, 0)
+operands (exchange old new) = (old, new)
+operands (add k) = (k, 0)

@@ -28,6 +28,8 @@ pub record SlotIs (value : ℕ) (known : ℕ → Kept) (count : ℕ) (row : ℕ 
   pub image : winner ≡ None → value ≡ (known d).value
   pub bound : (m : ℕ) (g : Grant) → winner ≡ Some (m, g) → (value ≡ g.entry.value) × (g.entry.value ≢ g.lazy) × (g.lazy ≡ (known d).lazy)
   pub by : (m : ℕ) (g : Grant) → winner ≡ Some (m, g) → IsOf known d g × Stands (row m) g × HasWon (exchanges m) g
+  -- a slot that was won had the lazy word from the start
+  pub lazy : (m : ℕ) (g : Grant) → winner ≡ Some (m, g) → (known d).value ≡ (known d).lazy
   pub leads : (v : ℕ) → IsAllowed known row d v → LeadsTo known v
 
 -- what an exchange leaves for as long as its slot is there: its slot isn't lazy any more

@@ -5,7 +5,7 @@ use Rattle.guest_rule.specs.declared.kind.Kind.{Kind}
 use Rattle.guest_rule.specs.declared.kind.Kind.TheVariants.{Hart as OfHart, Keeper as OfKeeper}
 use Rattle.guest_rule.specs.declared.view.View.{View}
 use Rattle.guest_rule.specs.declared.view.View.TheVariants.{Keeper, Hart}
-use Rattle.guest_rule.specs.Operations.{Op}
+use Rattle.guest_rule.specs.Operations.{Op, operands}
 use Rattle.guest_rule.specs.HartSteps.{HartReady, HartLearns, hart_word, hart_op, hart_after}
 use Rattle.guest_rule.specs.KeeperSteps.{KeeperReady, KeeperLearns, keeper_word, keeper_op, keeper_after}
 
@@ -33,6 +33,10 @@ Learns (OfHart kind) (Hart h) n = HartLearns kind h n
 Learns (OfKeeper kind) (Keeper k) n = KeeperLearns kind k n
 Learns _ _ n = Unit {0}
 
--- what a step tells
+-- the step is one on the kind's word, with its operation's operands
+abbrev pub IsStep : Kind → Step Unit → Type 0
+IsStep kind step = (step.word ≡ word_of kind) × ((step.first, step.second) ≡ operands (op_of kind))
+
+-- what a step tells: that the seat was ready for the kind, that this was its step, the view after it, and what the rule knows
 abbrev pub Tells : Kind → Step Unit → Me Unit View → ℕ → Me Unit View → Type 0
-Tells kind step before found now = (now ≡ (after_step kind before.0 found, [])) × Learns kind before.0 found
+Tells kind step before found now = (now ≡ (after_step kind before.0 found, [])) × Learns kind before.0 found × Ready kind before.0 × IsStep kind step

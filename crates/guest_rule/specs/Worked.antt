@@ -13,7 +13,7 @@ use Rattle.guest_rule.specs.declared.kind.KeeperKind.TheVariants as keeps
 use Rattle.guest_rule.specs.declared.view.TrailItem.TheVariants.{Call, Exchanged}
 use Rattle.guest_rule.specs.Views.{first_hart}
 use Rattle.guest_rule.specs.Operations.{becomes}
-use Rattle.guest_rule.specs.HartSteps.{hart_op, hart_after}
+use Rattle.guest_rule.specs.HartSteps.{HartReady, hart_op, hart_after}
 use Rattle.guest_rule.specs.KeeperSteps.{keeper_op}
 
 -- hart 0 locks an RW doubleword of version 0, whose control word is 3, and unlocks it: version 1. Hart 1, which found 3 before,
@@ -35,6 +35,13 @@ abbrev pub ConditionalFails : Type 0
 ConditionalFails =
     ((hart_after (kinds.Look (Stores (Conditional 0x10000 8 7 0))) (first_hart 1) 19).trail ≡ Call (items.Conditional 0x10000 8 7 0 (Ok false)) ∷ [])
     × ((hart_after (kinds.Look (Stores (Conditional 0x10000 8 7 0))) (first_hart 1) 3).trail ≡ [])
+
+-- nor is it made under a lock that was taken for a plain store, by a hart that found the version 1
+abbrev pub ConditionalIsRefused : Type 0
+ConditionalIsRefused =
+    let locked = hart_after (kinds.Lock (Write 0x10000 8 7) 19) (first_hart 1) 19 in
+    ¬ (HartReady (kinds.Store (Conditional 0x10000 8 7 0) 7) locked)
+    × HartReady (kinds.Store (Write 0x10000 8 7) 7) locked
 
 -- two grants of one slot whose lazy word is 5, with the values 100 and 200: the first exchange wins, the second finds its value
 abbrev pub first_grant : Grant

@@ -2,7 +2,7 @@
 
 use crate::{Kind, View};
 use atomic_table::{Join, Play, Split, TableRule};
-use std::marker::PhantomData;
+use std::marker::{Brand, PhantomData};
 
 /// The rule of a table without slots, whose words are those of guest memory.
 pub struct GuestRule;
@@ -24,8 +24,20 @@ pub trait Aimed {
     ghost kind: { Kind };
 }
 
-/// What a step of a kind tells: the seat's view after it, and what the rule knows of the number found.
-/// There is no other, so that each step is one of the kinds.
+/// Whoever steps picks another kind at the call.
+impl Aimed for Brand {
+    ghost use Rattle.guest_rule.specs.declared.kind.HartKind.TheVariants.{Listen};
+    ghost use Rattle.guest_rule.specs.declared.kind.Kind.TheVariants.{Hart};
+
+    ghost kind = { Hart Listen };
+}
+
+/// What a step of a kind tells: that the seat was ready for the kind and that this was its step, the
+/// view after it, and what the rule knows of the number found.
+///
+/// A step names its word and its operands but not its operation: a crate that steps on this table
+/// does so by four functions alone (a load, a store, a compare-exchange and an add), each of which asks
+/// that its operation is the kind's. Then each step on the table is one of the kinds.
 pub struct Does<A> {
     of: PhantomData<A>,
 }

@@ -1,4 +1,4 @@
-use Rattle.guest_rule.proofs.Worked.{another_has_locked, conditional_fails, one_locks, one_wins, role_comes_and_goes}
+use Rattle.guest_rule.proofs.Worked.{another_has_locked, conditional_fails, conditional_is_refused, one_locks, one_wins, role_comes_and_goes}
 use Rattle.guest_rule.proofs.law.worked_steps.Goals as goal
 
 pub returns-clause-one_locks : goal.returns-clause-one_locks
@@ -9,6 +9,9 @@ returns-clause-another_has_locked c = another_has_locked
 
 pub returns-clause-conditional_fails : goal.returns-clause-conditional_fails
 returns-clause-conditional_fails c = conditional_fails
+
+pub returns-clause-conditional_is_refused : goal.returns-clause-conditional_is_refused
+returns-clause-conditional_is_refused c = conditional_is_refused
 
 pub returns-clause-one_wins : goal.returns-clause-one_wins
 returns-clause-one_wins c = one_wins
