@@ -1,12 +1,13 @@
 -- What the check of versions looks up by name.
-use Rattle.std.proofs.Common.{◌≡◌, ℕ, ◌==◌, ◌+◌, ◌<◌, ◌≤◌, Bool, true, false, not, ◌||◌, List, [], ◌∷◌, ◌++◌, length, get_or, take, Some, None, cond, refl, sym, ap, ◌∙◌, arith}
+use Rattle.std.proofs.Common.{◌≡◌, ℕ, ◌==◌, ◌+◌, ◌<◌, ◌≤◌, Bool, true, false, not, ◌||◌, inl, inr, List, [], ◌∷◌, ◌++◌, length, get_or, take, Some, None, cond, refl, sym, ap, ◌∙◌, arith}
 use Rattle.std.specs.Prelude.{position}
 use Rattle.std.specs.Global.{Vec}
 use Rattle.std.specs.List.{list_any, find, position_or_len}
 use Rattle.std.specs.Option.{option_or, is_some}
 use Rattle.std.specs.Str.{bytes_eq}
 use Rattle.std.proofs.Math.Bool.{or-false}
-use Rattle.std.proofs.lemmas.Bool.{eqb-true}
+use Rattle.std.proofs.ByRecursion.{All-push}
+use Rattle.std.proofs.lemmas.Bool.{cases_Bool, eqb-true}
 use Rattle.std.proofs.lemmas.Cmp.{nat_list_eq_equiv}
 use Rattle.std.proofs.lemmas.Grind.{common_steps}
 use Rattle.std.proofs.lemmas.List.{length-append, length-take-le, take_more}
@@ -20,7 +21,7 @@ use Rattle.ld_base.specs.declared.linking.Loaded.{Loaded}
 use Rattle.ld_base.specs.declared.object.Verdef.{Verdef}
 use Rattle.scope_rule.specs.Needed.{defines}
 use Rattle.load_walk.specs.declared.lookup.Definer.{Definer}
-use Rattle.load_walk.specs.Lookup.{named, place_of, has, defined_at, Knows}
+use Rattle.load_walk.specs.Lookup.{named, place_of, has, defined_at, IsKnown, Knows}
 use Rattle.load_walk.proofs.Missing.{same_path}
 
 -- one more element
@@ -37,44 +38,30 @@ one_further {X} p xs n x lt is =
     ap (λ (ys : List X). position p ys) further ∙ one_more p (take n xs) x ∙ ap (λ (m : ℕ). option_or (position p (take n xs)) (cond (p x) (Some m) None)) all
 
 -- a new name takes its place: by its own bytes
-place_added : (places : List (Vec ℕ × ℕ)) (name : Vec ℕ) (other : List ℕ) (n : ℕ) → is_some (place_of places name.items) ≡ false → place_of (insert_entry same_path places name n) other ≡ option_or (place_of places other) (cond (bytes_eq name.items other) (Some n) None)
+pub place_added : (places : List (Vec ℕ × ℕ)) (name : Vec ℕ) (other : List ℕ) (n : ℕ) → is_some (place_of places name.items) ≡ false → place_of (insert_entry same_path places name n) other ≡ option_or (place_of places other) (cond (bytes_eq name.items other) (Some n) None)
 place_added [] name other n new = rw (nat_list_eq_equiv.symm name.items other) refl
 place_added ((key, place) ∷ places) name other n new =
-    let P : Bool → Type 0 = λ same. is_some (cond same (Some place) (place_of places name.items)) ≡ false → place_of (cond same ((key, n) ∷ places) ((key, place) ∷ insert_entry same_path places name n)) other ≡ option_or (cond (bytes_eq other key.items) (Some place) (place_of places other)) (cond (bytes_eq name.items other) (Some n) None) in
-    let here : Bool → Type 0 = λ same. cond same (Some place) (place_of (insert_entry same_path places name n) other) ≡ option_or (cond same (Some place) (place_of places other)) (cond (bytes_eq name.items other) (Some n) None) in
-    let cases : (same : Bool) → P same = λ same. elim same as P [
-      | true ↦ λ absent. absurd (cc absent)
-      | false ↦ λ absent. elim (bytes_eq other key.items) as here [ true ↦ refl | false ↦ place_added places name other n absent ]
-    ] in
-    cases (bytes_eq name.items key.items) new
-
--- the same, by bytes that are its own
-pub place_noted : (places : List (Vec ℕ × ℕ)) (name : Vec ℕ) (bytes other : List ℕ) (n : ℕ) → name.items ≡ bytes → is_some (place_of places bytes) ≡ false → place_of (insert_entry same_path places name n) other ≡ option_or (place_of places other) (cond (bytes_eq bytes other) (Some n) None)
-place_noted places name bytes other n is new =
-    place_added places name other n (rw is new) ∙ ap (λ (spelled : List ℕ). option_or (place_of places other) (cond (bytes_eq spelled other) (Some n) None)) is
+    elim (cases_Bool (bytes_eq name.items key.items)) [
+      | inl same ↦ absurd (let there : true ≡ false = rw same at new in cc)
+      | inr apart ↦ rw apart (elim (bytes_eq other key.items) as (λ v. cond v (Some place) (place_of (insert_entry same_path places name n) other) ≡ option_or (cond v (Some place) (place_of places other)) (cond (bytes_eq name.items other) (Some n) None))
+          [ true ↦ refl | false ↦ place_added places name other n (rw apart at new) ])
+    ]
 
 -- a name that is there already adds nothing
 known_name : (names : List (Vec ℕ)) (name : Vec ℕ) (bytes : List ℕ) → list_any (same_path name) names ≡ true → named names bytes ≡ (named names bytes || bytes_eq bytes name.items)
 known_name names name bytes there =
-    let P : Bool → Type 0 = λ same. bytes_eq bytes name.items ≡ same → named names bytes ≡ (named names bytes || same) in
-    let cases : (same : Bool) → P same = λ same. elim same as P [
-      | true ↦ λ is.
-          let e : bytes ≡ name.items = (bytes_eq-Decides bytes name.items).0 is in
-          let all : named names bytes ≡ true = rw e there in
-          rw all refl
-      | false ↦ λ is. sym (or-false (named names bytes))
-    ] in
-    cases (bytes_eq bytes name.items) refl
+    elim (cases_Bool (bytes_eq bytes name.items)) [
+      | inl same ↦ let all : named names bytes ≡ true = rw ((bytes_eq-Decides bytes name.items).0 same) there in rw all refl
+      | inr other ↦ rw (other, or-false) refl
+    ]
 
 -- an insertion adds its name
 pub named_inserted : (names : List (Vec ℕ)) (name : Vec ℕ) (bytes : List ℕ) → named (insert_key same_path names name) bytes ≡ (named names bytes || bytes_eq bytes name.items)
 named_inserted names name bytes =
-    let P : Bool → Type 0 = λ there. list_any (same_path name) names ≡ there → named (cond there names (names ++ name ∷ [])) bytes ≡ (named names bytes || bytes_eq bytes name.items) in
-    let cases : (there : Bool) → P there = λ there. elim there as P [
-      | true ↦ λ is. known_name names name bytes is
-      | false ↦ λ is. list_any-append (λ (n : Vec ℕ). bytes_eq bytes n.items) names (name ∷ []) ∙ ap (λ b. named names bytes || b) (or-false (bytes_eq bytes name.items))
-    ] in
-    cases (list_any (same_path name) names) refl
+    elim (cases_Bool (list_any (same_path name) names)) [
+      | inl there ↦ rw there (known_name names name bytes there)
+      | inr new ↦ rw new (list_any-append (λ (n : Vec ℕ). bytes_eq bytes n.items) names (name ∷ []) ∙ ap (λ b. named names bytes || b) (or-false (bytes_eq bytes name.items)))
+    ]
 
 -- the name of an entry that isn't of the base
 pub defines_name : (verdef : Verdef) (version name : List ℕ) → name ≡ verdef.name → is_base verdef ≡ false → bytes_eq version name ≡ defines version verdef
@@ -84,17 +71,11 @@ defines_name verdef version name is own = rw (is, nat_list_eq_equiv.symm version
 pub known_answers : (objects : List Loaded) (known : List Definer) (serial : ℕ) (definer : Definer) → Knows objects known → find (λ d. d.serial == serial) known ≡ Some definer → (version : List ℕ) → has definer.defined version ≡ defined_at objects serial version
 known_answers objects [] serial definer knows found version = cc
 known_answers objects (d ∷ rest) serial definer knows found version =
-    let P : Bool → Type 0 = λ same. (d.serial == serial) ≡ same → cond same (Some d) (find (λ d. d.serial == serial) rest) ≡ Some definer → has definer.defined version ≡ defined_at objects serial version in
-    let cases : (same : Bool) → P same = λ same. elim same as P [
-      | true ↦ λ is at.
-          let here : d ≡ definer = cc in
-          let number : d.serial ≡ serial = eqb-true d.serial serial is in
-          rw (← here, ← number) (knows.0 version)
-      | false ↦ λ is at. known_answers objects rest serial definer knows.1 at version
-    ] in
-    cases (d.serial == serial) refl found
+    elim (cases_Bool (d.serial == serial)) [
+      | inl same ↦ let here : d ≡ definer = (let at : Some d ≡ Some definer = rw same at found in cc) in rw (← here, ← eqb-true d.serial serial same) (knows.0 version)
+      | inr other ↦ known_answers objects rest serial definer knows.1 (rw other at found) version
+    ]
 
 -- one more is known
 pub known_more : (objects : List Loaded) (known : List Definer) (definer : Definer) → Knows objects known → ((version : List ℕ) → has definer.defined version ≡ defined_at objects definer.serial version) → Knows objects (known ++ definer ∷ [])
-known_more objects [] definer knows here = (here, tt)
-known_more objects (d ∷ rest) definer knows here = (knows.0, known_more objects rest definer knows.1 here)
+known_more objects known definer knows here = All-push (IsKnown objects) known definer knows here

@@ -4,6 +4,7 @@ use Rattle.std.specs.Global.{Vec}
 use Rattle.std.specs.List.{AllByRecursion, IsDistinct, list_any}
 use Rattle.std.specs.Set.{distinct_count, is_member, unique_keys}
 use Rattle.std.specs.Str.{bytes_eq}
+use Rattle.std.proofs.ByRecursion.{All-weaker}
 use Rattle.std.proofs.lemmas.Bool.{cases_Bool}
 use Rattle.std.proofs.lemmas.Cmp.{nat_list_eq_equiv}
 use Rattle.std.proofs.lemmas.Grind.{common_steps}
@@ -71,14 +72,11 @@ unique_distinct [] = tt
 unique_distinct (x ∷ xs) = (elim (is_member bytes_eq xs x) as (λ v. is_member bytes_eq xs x ≡ v → IsDistinct bytes_eq (cond v (unique_keys bytes_eq xs) (x ∷ unique_keys bytes_eq xs))) [ true ↦ λ e. unique_distinct xs | false ↦ λ e. (lacks_unique x xs e, unique_distinct xs) ]) refl
 
 unique_in : (xs ys : List (List ℕ)) → AllIn xs ys → (q : List ℕ) → is_member bytes_eq (unique_keys bytes_eq xs) q ≡ true → is_member bytes_eq ys q ≡ true
-unique_in [] ys all q = λ e. absurd cc
-unique_in (x ∷ xs) ys all q =
-    elim (is_member bytes_eq xs x) as (λ v. is_member bytes_eq (cond v (unique_keys bytes_eq xs) (x ∷ unique_keys bytes_eq xs)) q ≡ true → is_member bytes_eq ys q ≡ true) [
-      | true ↦ unique_in xs ys all.1 q
-      | false ↦ λ e. elim (cases_Bool (bytes_eq q x)) [
-        | inl same ↦ subst (λ (p : List ℕ). is_member bytes_eq ys p ≡ true) (sym ((bytes_eq-Decides q x).0 same)) all.0
-        | inr other ↦ unique_in xs ys all.1 q (grind (arith, e, other))
-      ]
+unique_in [] ys all q e = absurd cc
+unique_in (x ∷ xs) ys all q e =
+    elim (cases_Bool (bytes_eq q x)) [
+      | inl same ↦ rw ((bytes_eq-Decides q x).0 same) all.0
+      | inr other ↦ unique_in xs ys all.1 q (grind (arith, e, other))
     ]
 
 -- as many as stand in a list, each counted once, it has at least
@@ -90,19 +88,15 @@ as_many xs ys all = length-le_from_is_member nat_list_eq_equiv (unique_keys byte
 -- what a reading gives, but for a failure where it would have a miss
 abbrev firm : Reading → Reading
 firm absent = failed
-firm (here o table) = here o table
-firm (unaccepted broken) = unaccepted broken
-firm failed = failed
+firm r = r
 
 -- nothing at the missed paths alone
 abbrev pub strictly : (List ℕ → Reading) → Walker → List ℕ → Reading
 strictly reading w path = cond (is_member bytes_eq w.missed path) absent (firm (reading path))
 
 firm_there : (r : Reading) → firm r ≢ absent
-firm_there (here o table) e = absurd cc
-firm_there (unaccepted broken) e = absurd cc
 firm_there absent e = absurd cc
-firm_there failed e = absurd cc
+firm_there r e = absurd cc
 
 -- a path that reads so as absent was missed
 pub all_missed : (reading : List ℕ → Reading) (w : Walker) (paths : List (List ℕ)) → AllByRecursion (λ path. strictly reading w path ≡ absent) paths → AllIn paths w.missed
@@ -125,9 +119,8 @@ object_strictly reading w o agrees read =
       | false ↦ λ e. rw read refl
     ]) refl
 
-objects_strictly : (reading : List ℕ → Reading) (w : Walker) (arrivals : List Arrival) → Agrees reading w → AllByRecursion (λ o. reading o.path ≡ here o.object o.table) arrivals → AllByRecursion (λ o. strictly reading w o.path ≡ here o.object o.table) arrivals
-objects_strictly reading w [] agrees h = tt
-objects_strictly reading w (o ∷ rest) agrees h = (object_strictly reading w o agrees h.0, objects_strictly reading w rest agrees h.1)
-
 pub strictly_agrees : (reading : List ℕ → Reading) (w : Walker) → Agrees reading w → Agrees (strictly reading w) w
-strictly_agrees reading w agrees = record { objects = objects_strictly reading w w.arrivals agrees agrees.objects; missed = missed_strictly reading w [] w.missed refl }
+strictly_agrees reading w agrees = record {
+  objects = All-weaker (λ o. reading o.path ≡ here o.object o.table) (λ o. strictly reading w o.path ≡ here o.object o.table) (λ o read. object_strictly reading w o agrees read) w.arrivals agrees.objects;
+  missed = missed_strictly reading w [] w.missed refl;
+}

@@ -1,14 +1,14 @@
 -- What a whole load comes to.
-use Rattle.std.proofs.Common.{◌≡◌, ◌≤◌, ◌+◌, inl, inr, ℕ, Bool, List, [], ◌∷◌, ◌++◌, drop, take, length, refl, arith, add-zero, append_assoc, append-nil, length-append, Option, Some, None, Result, Ok, Err, sym, ap, subst, ◌∙◌}
+use Rattle.std.proofs.Common.{◌≡◌, ◌≤◌, ◌+◌, inr, ℕ, Bool, List, [], ◌∷◌, ◌++◌, drop, take, length, refl, arith, add-zero, append_assoc, append-nil, length-append, Option, Some, None, Result, Ok, Err, sym, ap, subst, ◌∙◌}
 use Rattle.std.specs.List.{AllByRecursion}
 use Rattle.std.specs.Prelude.{IfOk, IfErr}
 use Rattle.std.proofs.lemmas.List.{drop-drop}
 use Rattle.std.specs.Result.{IsErrOf}
+use Rattle.std.proofs.lemmas.Result.{IfErr-at_err}
 use Rattle.ld_base.specs.declared.fault.DlFault.{DlFault}
 use Rattle.ld_base.specs.declared.fault.DlFault.TheVariants as dl
 use Rattle.ld_base.specs.declared.fault.Shown.{Shown}
 use Rattle.ld_base.specs.declared.linking.Loaded.{Loaded}
-use Rattle.ld_base.specs.declared.object.Verneed.{Verneed}
 use Rattle.library_source.specs.Count.{Rises}
 use Rattle.library_source.specs.Files.{Over}
 use Rattle.scope_rule.specs.declared.arrival.Arrival.{Arrival}
@@ -62,16 +62,16 @@ records_read reading hart deep serial more serials (o ∷ rest) h = (h.0, record
 
 -- the fault of a version is one of a version
 abbrev IsVersion : DlFault → Type 0
-IsVersion fault = (path : List ℕ) × (file : List ℕ) × (name : List ℕ) × (fault ≡ dl.MissingVersion path file name)
-
-first_is : (o : Loaded) (lack : Option Verneed) (rest : Option DlFault) (fault : DlFault) → (rest ≡ Some fault → IsVersion fault)
-    → (elim lack as (λ x. Option DlFault) [ Some v ↦ Some (dl.MissingVersion o.path v.file v.name) | None ↦ rest ]) ≡ Some fault → IsVersion fault
-first_is o (Some v) rest fault others e = (o.path, v.file, v.name, let s : Some (dl.MissingVersion o.path v.file v.name) ≡ Some fault = e in let d : dl.MissingVersion o.path v.file v.name ≡ fault = cc in sym d)
-first_is o None rest fault others e = others e
+IsVersion (dl.MissingVersion path file name) = Unit {0}
+IsVersion fault = ⊥
 
 version_is : (objects added : List Loaded) (fault : DlFault) → missing_version objects added ≡ Some fault → IsVersion fault
 version_is objects [] fault e = absurd cc
-version_is objects (o ∷ rest) fault e = first_is o (first_lack objects o) (missing_version objects rest) fault (version_is objects rest fault) e
+version_is objects (o ∷ rest) fault e =
+    (elim (first_lack objects o) as (λ l. elim l as (λ x. Option DlFault) [ Some v ↦ Some (dl.MissingVersion o.path v.file v.name) | None ↦ missing_version objects rest ] ≡ Some fault → IsVersion fault) [
+      | Some v ↦ λ is. let same : dl.MissingVersion o.path v.file v.name ≡ fault = cc in subst IsVersion same tt
+      | None ↦ version_is objects rest fault
+    ]) e
 
 -- ---- what the load answers
 
@@ -82,19 +82,13 @@ pub record Answers (verdict : Verdict) (ask : LoadAsk) (ns : Namespace) (first n
   pub waits : (shown : Shown) → IsErrOf r (faults.Wait shown) → Over first.files (HasToWait verdict ask ns.objects shown)
   pub read_fault : (path : List ℕ) → IsErrOf r (faults.Refused (dl.ReadFault path)) → Rises first.faults now.faults
 
-abbrev err : LoadFault → Result LoadPlan LoadFault
-err fault = Err fault
-
-same_fault : (a b : LoadFault) → err a ≡ err b → a ≡ b
-same_fault a b e = cc
-
 module _ (verdict : Verdict) (ask : LoadAsk) (ns : Namespace) (first now : Source) where
-  pub faulted_answers : (fault : LoadFault) → FaultIs verdict ask ns.objects first now fault → Answers verdict ask ns first now (err fault)
+  pub faulted_answers : (fault : LoadFault) → FaultIs verdict ask ns.objects first now fault → Answers verdict ask ns first now (Err fault)
   faulted_answers fault is = record {
     plan = tt;
-    refused = λ f e. (subst (FaultIs verdict ask ns.objects first now) (same_fault fault (faults.Refused f) e) is).0;
-    waits = λ shown e. subst (FaultIs verdict ask ns.objects first now) (same_fault fault (faults.Wait shown) e) is;
-    read_fault = λ path e. (subst (FaultIs verdict ask ns.objects first now) (same_fault fault (faults.Refused (dl.ReadFault path)) e) is).1 path refl;
+    refused = λ f e. (IfErr-at_err (FaultIs verdict ask ns.objects first now) e is).0;
+    waits = λ shown e. IfErr-at_err (FaultIs verdict ask ns.objects first now) e is;
+    read_fault = λ path e. (IfErr-at_err (FaultIs verdict ask ns.objects first now) e is).1 path refl;
   }
 
   -- a load that was gone through
@@ -117,19 +111,25 @@ module _ (verdict : Verdict) (ask : LoadAsk) (ns : Namespace) (first now : Sourc
       };
     }
 
-    lacks_is : (fault : DlFault) → version_fault ns.objects added ≡ Some fault → Over first.files (IsRefused verdict ask ns.objects first.misses now.misses fault)
-    lacks_is fault lacks = record {
-      files = stage.over.files;
-      are = stage.over.are;
-      holds = record {
-        stops = inr (record {
-          walk = walk_of w;
-          brings = brings_all ask ns.objects w reading stage.walker all stage.over.holds;
-          lacks = subst (λ (xs : List Loaded). version_fault ns.objects xs ≡ Some fault) gathers.are lacks;
-        });
-        missed = λ name e. let v = version_is (ns.objects ++ added) added fault lacks in absurd (let d : dl.MissingLibrary name ≡ dl.MissingVersion v.0 v.1 v.2 = sym e ∙ v.3 in cc);
-      };
-    }
+    incomplete_is : (fault : LoadFault) → Incomplete ns added fault → FaultIs verdict ask ns.objects first now fault
+    incomplete_is (faults.Refused fault) lacks =
+        let version : IsVersion fault = version_is (ns.objects ++ added) added fault lacks in (
+          record {
+            files = stage.over.files;
+            are = stage.over.are;
+            holds = record {
+              stops = inr (record {
+                walk = walk_of w;
+                brings = brings_all ask ns.objects w reading stage.walker all stage.over.holds;
+                lacks = rw (← gathers.are) lacks;
+              });
+              missed = λ name e. absurd (subst IsVersion e version);
+            };
+          },
+          λ path e. absurd (subst IsVersion e version),
+        )
+    incomplete_is (faults.Wait shown) no_way = absurd no_way
+    incomplete_is faults.Memory t = tt
 
     pub complete_answers : (r : Result LoadPlan LoadFault) → IfOk r (λ plan. Completes ns root added plan) → IfErr r (λ fault. Incomplete ns added fault) → Answers verdict ask ns first now r
     complete_answers (Ok plan) completes incomplete = record {
@@ -138,14 +138,7 @@ module _ (verdict : Verdict) (ask : LoadAsk) (ns : Namespace) (first now : Sourc
       waits = λ shown e. absurd cc;
       read_fault = λ path e. absurd cc;
     }
-    complete_answers (Err fault) completes incomplete = record {
-      plan = tt;
-      refused = λ f e. lacks_is f (subst (Incomplete ns added) (same_fault fault (faults.Refused f) e) incomplete);
-      waits = λ shown e. absurd (subst (Incomplete ns added) (same_fault fault (faults.Wait shown) e) incomplete);
-      read_fault = λ path e.
-          let v = version_is (ns.objects ++ added) added (dl.ReadFault path) (subst (Incomplete ns added) (same_fault fault (faults.Refused (dl.ReadFault path)) e) incomplete) in
-          absurd (let d : dl.ReadFault path ≡ dl.MissingVersion v.0 v.1 v.2 = v.3 in cc);
-    }
+    complete_answers (Err fault) completes incomplete = faulted_answers fault (incomplete_is fault incomplete)
 
 -- ---- what is seen of a namespace with new objects
 

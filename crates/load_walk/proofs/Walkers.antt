@@ -6,14 +6,13 @@ use Rattle.std.proofs.lemmas.Bool.{and_right, ne_eqb}
 use Rattle.std.proofs.lemmas.Grind.{flat_map-append}
 use Rattle.ld_base.specs.declared.fault.DlFault.{DlFault}
 use Rattle.ld_base.specs.declared.fault.DlFault.TheVariants as dl
-use Rattle.ld_base.specs.declared.fault.Shown.{Shown}
 use Rattle.ld_base.specs.declared.fault.Shown.TheVariants as shown
 use Rattle.ld_base.specs.declared.linking.State.{State}
 use Rattle.ld_base.specs.declared.linking.State.TheVariants as states
 use Rattle.ld_base.specs.declared.linking.Loaded.{Loaded}
 use Rattle.scope_rule.specs.declared.arrival.Arrival.{Arrival}
 use Rattle.scope_rule.specs.Finding.{Reading, here, absent}
-use Rattle.scope_rule.specs.Load.{Load, Walk, Stop, Found, present, fresh, stops, refuses, waits, use_in, use_of, needed_by, preload_of, asks, by_reading, finds, take_found, with_found, with_arrival, next_name, step, walk, Brings, Stops}
+use Rattle.scope_rule.specs.Load.{Load, Walk, Stop, Found, present, fresh, nowhere, stops, refuses, waits, use_in, use_of, needed_by, preload_of, asks, by_reading, finds, take_found, with_found, with_arrival, next_name, step, walk, Brings, Stops}
 use Rattle.load_walk.specs.Files.{load_of}
 use Rattle.load_walk.specs.Walking.{EndsSo, walk_of, Agrees, IsWalker, IsToRead, Means, EndsFor, EndsWith, Looks, more_names, grown}
 use Rattle.load_walk.specs.declared.ask.LoadAsk.{LoadAsk}
@@ -23,9 +22,6 @@ use Rattle.load_walk.specs.declared.finding.Finding.{Finding}
 use Rattle.load_walk.specs.declared.finding.Finding.TheVariants as finding
 use Rattle.load_walk.specs.declared.walker.Next.TheVariants as next
 use Rattle.load_walk.specs.declared.walker.Walker.{Walker}
-
-abbrev pub gone : Walk → Result Walk Stop
-gone w = Ok w
 
 -- ---- the next name
 
@@ -76,7 +72,7 @@ pub starts : (ask : LoadAsk) (there : List Loaded) → IsWalker ask there (recor
 starts ask there = record { names = λ reading. refl; steps = λ reading agrees. refl }
 
 -- the walk after one more serial
-walk_on : (load : Load) (w after : Walk) (s : ℕ) → walk load (length w.found) ≡ gone w → step load w ≡ gone after → after.found ≡ w.found ++ s ∷ [] → walk load (length after.found) ≡ gone after
+walk_on : (load : Load) (w after : Walk) (s : ℕ) → walk load (length w.found) ≡ Ok w → step load w ≡ Ok after → after.found ≡ w.found ++ s ∷ [] → walk load (length after.found) ≡ Ok after
 walk_on load w after s walked stepped is =
     let many : length after.found ≡ suc (length w.found) = ap length is ∙ length-append w.found (s ∷ []) ∙ add-one (length w.found) in
     rw (many, walked) stepped
@@ -89,17 +85,9 @@ found_on ask there w serial is looks = record {
       walk_on (load_of ask there reading) (walk_of w) (with_found (walk_of w) serial) serial (is.steps reading before) (looks reading before) refl;
 }
 
-pub all_push : {X : Type 0} (P : X → Type 0) (xs : List X) (x : X) → AllByRecursion P xs → P x → AllByRecursion P (xs ++ x ∷ [])
-all_push P [] x h k = (k, tt)
-all_push P (y ∷ ys) x h k = (h.0, all_push P ys x h.1 k)
-
-pub all_front : {X : Type 0} (P : X → Type 0) (xs ys : List X) → AllByRecursion P (xs ++ ys) → AllByRecursion P xs
-all_front P [] ys h = tt
-all_front P (x ∷ xs) ys h = (h.0, all_front P xs ys h.1)
-
-pub all_last : {X : Type 0} (P : X → Type 0) (xs : List X) (x : X) → AllByRecursion P (xs ++ x ∷ []) → P x
-all_last P [] x h = h.0
-all_last P (y ∷ ys) x h = all_last P ys x h.1
+all_parts : {X : Type 0} (P : X → Type 0) (xs ys : List X) → AllByRecursion P (xs ++ ys) → AllByRecursion P xs × AllByRecursion P ys
+all_parts P [] ys h = (tt, h)
+all_parts P (x ∷ xs) ys h = let rest = all_parts P xs ys h.1 in ((h.0, rest.0), rest.1)
 
 abbrev pub missed_on : Walker → List ℕ → Walker
 missed_on w path = record w { missed = w.missed ++ path ∷ [] }
@@ -107,7 +95,7 @@ missed_on w path = record w { missed = w.missed ++ path ∷ [] }
 pub misses_on : (ask : LoadAsk) (there : List Loaded) (w : Walker) (path : List ℕ) → IsWalker ask there w → IsWalker ask there (missed_on w path)
 misses_on ask there w path is = record {
   names = is.names;
-  steps = λ reading agrees. is.steps reading (record { objects = agrees.objects; missed = all_front (λ p. reading p ≡ absent) w.missed (path ∷ []) agrees.missed });
+  steps = λ reading agrees. is.steps reading (record { objects = agrees.objects; missed = (all_parts (λ p. reading p ≡ absent) w.missed (path ∷ []) agrees.missed).0 });
 }
 
 -- what one more new object asks for
@@ -136,9 +124,9 @@ pub grows_on : (ask : LoadAsk) (there : List Loaded) (w : Walker) (o : Arrival) 
 grows_on ask there w o is to_read = record {
   names = λ reading. asks_one_more ask there reading w o (is.names reading);
   steps = λ reading agrees.
-      let P : Arrival → Type 0 = λ x. reading x.path ≡ here x.object x.table in
-      let before : Agrees reading w = record { objects = all_front P w.arrivals (o ∷ []) agrees.objects; missed = agrees.missed } in
-      let at : reading o.path ≡ here o.object o.table = all_last P w.arrivals o agrees.objects in
+      let parts = all_parts (λ x. reading x.path ≡ here x.object x.table) w.arrivals (o ∷ []) agrees.objects in
+      let before : Agrees reading w = record { objects = parts.0; missed = agrees.missed } in
+      let at : reading o.path ≡ here o.object o.table = parts.1.0 in
       let read : finds (load_of ask there reading) (length w.found) w.arrivals to_read.name ≡ fresh o = to_read.gives reading before (λ none. absurd (let d : here o.object o.table ≡ absent = sym at ∙ none in cc)) ∙ ap (by_reading o.path) at in
       let load : Load = load_of ask there reading in
       walk_on load (walk_of w) (with_arrival load (walk_of w) o) (ask.next + length w.arrivals) (is.steps reading before)
@@ -161,24 +149,14 @@ ends_stops load w why e = record {
 }
 
 -- what is to be read ends the load
-pub read_ends : (ask : LoadAsk) (there : List Loaded) (w : Walker) (path : List ℕ) (reading : List ℕ → Reading) (why : Stop) → IsWalker ask there w → IsToRead ask there w path → Agrees reading w → reading path ≢ absent → by_reading path (reading path) ≡ stops why → Stops (load_of ask there reading) why
-read_ends ask there w path reading why is to_read agrees there_is e =
+pub read_ends : (ask : LoadAsk) (there : List Loaded) (w : Walker) (path : List ℕ) (reading : List ℕ → Reading) (why : Stop) → IsWalker ask there w → IsToRead ask there w path → Agrees reading w → by_reading path (reading path) ≡ stops why → Stops (load_of ask there reading) why
+read_ends ask there w path reading why is to_read agrees e =
+    let there_is : reading path ≢ absent = λ none. absurd (let d : nowhere ≡ stops why = sym (ap (by_reading path) none) ∙ e in cc) in
     ends_stops (load_of ask there reading) (walk_of w) why
     (ends_for (load_of ask there reading) (walk_of w) to_read.name why (is.steps reading agrees) (asked ask there w reading to_read.name is to_read.next)
     (ap (take_found (load_of ask there reading) (walk_of w) to_read.name) (to_read.gives reading agrees there_is ∙ e)))
 
 -- ---- where nothing is read
-
--- why an object that is there ends a load, as a fault says it
-pub unread_ends : (load : Load) (o : Loaded) (fault : LoadFault) (f : DlFault) → ((why : Stop) → use_of load.hart o ≡ stops why → Stops load why) → EndsSo fault (use_of load.hart o) → fault ≡ faults.Refused f → Stops load (refuses f)
-unread_ends load o fault f law ends e = law (refuses f) (so f (subst (λ (x : LoadFault). EndsSo x (use_of load.hart o)) e ends))
-  where
-    so : (g : DlFault) → EndsSo (faults.Refused g) (use_of load.hart o) → use_of load.hart o ≡ stops (refuses g)
-    so (dl.ReadFault path) is = absurd is
-    so g is = is
-
-pub unread_waits : (load : Load) (o : Loaded) (fault : LoadFault) (shown : Shown) → ((why : Stop) → use_of load.hart o ≡ stops why → Stops load why) → EndsSo fault (use_of load.hart o) → fault ≡ faults.Wait shown → Stops load (waits shown)
-unread_waits load o fault shown law ends e = law (waits shown) (subst (λ (x : LoadFault). EndsSo x (use_of load.hart o)) e ends)
 
 -- an object that is there is no missing library
 missing_use : (hart : ℕ) (o : Loaded) (state : State) (name : List ℕ) → use_in hart o state ≡ stops (refuses (dl.MissingLibrary name)) → ⊥
@@ -186,5 +164,14 @@ missing_use hart o (states.Initialising h) name = elim (h == hart) as (λ v. con
 missing_use hart o states.Ready name = λ e. absurd cc
 missing_use hart o (states.Dying h) name = elim (h == hart) as (λ v. cond v (stops (refuses (dl.ClosingHere o.path))) (stops (waits (shown.Closing o.serial))) ≡ stops (refuses (dl.MissingLibrary name)) → ⊥) [ true ↦ λ e. absurd cc | false ↦ λ e. absurd cc ]
 
-pub never_missing : (load : Load) (o : Loaded) (fault : LoadFault) (name : List ℕ) → EndsSo fault (use_of load.hart o) → fault ≡ faults.Refused (dl.MissingLibrary name) → ⊥
-never_missing load o fault name ends e = missing_use load.hart o o.state name (subst (λ (x : LoadFault). EndsSo x (use_of load.hart o)) e ends)
+-- why an object that is there ends a load, as a fault says it
+abbrev pub EndsUnread : Load → LoadFault → Type 0
+EndsUnread load (faults.Refused fault) = Stops load (refuses fault) × ((name : List ℕ) → fault ≡ dl.MissingLibrary name → ⊥)
+EndsUnread load (faults.Wait shown) = Stops load (waits shown)
+EndsUnread load faults.Memory = Unit {0}
+
+pub ends_unread : (load : Load) (o : Loaded) (fault : LoadFault) → ((why : Stop) → use_of load.hart o ≡ stops why → Stops load why) → EndsSo fault (use_of load.hart o) → EndsUnread load fault
+ends_unread load o (faults.Refused (dl.ReadFault path)) law ends = absurd ends
+ends_unread load o (faults.Refused fault) law ends = (law (refuses fault) ends, λ name e. missing_use load.hart o o.state name (ends ∙ ap (λ (f : DlFault). stops (refuses f)) e))
+ends_unread load o (faults.Wait shown) law ends = law (waits shown) ends
+ends_unread load o faults.Memory law ends = tt

@@ -1,7 +1,7 @@
 -- What the check of versions looks up by name.
 use Rattle.std.specs.Prelude.{◌≡◌, ℕ, ◌==◌, ◌||◌, Bool, true, List, [], ◌∷◌, Option, Some, None, find, position}
 use Rattle.std.specs.Global.{Vec}
-use Rattle.std.specs.List.{list_any}
+use Rattle.std.specs.List.{list_any, AllByRecursion}
 use Rattle.std.specs.Map.{lookup}
 use Rattle.std.specs.Str.{bytes_eq}
 use Rattle.ld_base.specs.declared.linking.Loaded.{Loaded}
@@ -31,6 +31,8 @@ abbrev pub defined_at : List Loaded → ℕ → List ℕ → Bool
 defined_at objects serial version = elim (find (λ d. d.serial == serial) objects) [ Some d ↦ defines_version d.object version | None ↦ true ]
 
 -- what is known of an object's versions is so
+abbrev pub IsKnown : List Loaded → Definer → Type 0
+IsKnown objects d = (version : List ℕ) → has d.defined version ≡ defined_at objects d.serial version
+
 abbrev pub Knows : List Loaded → List Definer → Type 0
-Knows objects [] = Unit {0}
-Knows objects (d ∷ rest) = ((version : List ℕ) → has d.defined version ≡ defined_at objects d.serial version) × Knows objects rest
+Knows objects known = AllByRecursion (IsKnown objects) known

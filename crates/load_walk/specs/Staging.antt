@@ -1,12 +1,13 @@
 -- How far a load has come with its library.
-use Rattle.std.specs.Prelude.{◌≡◌, ◌≤◌, ℕ, Bool, true, List, length, Option, Result, Ok, Err}
+use Rattle.std.specs.Prelude.{◌≡◌, ◌≤◌, ℕ, Bool, true, List, length, Option, None, Result, Ok, Err}
 use Rattle.ld_base.specs.declared.fault.DlFault.TheVariants as dl
 use Rattle.ld_base.specs.declared.fault.NotAccepted.{NotAccepted}
 use Rattle.ld_base.specs.declared.linking.File.{File}
 use Rattle.ld_base.specs.declared.linking.Loaded.{Loaded}
 use Rattle.library_source.specs.Count.{Rises, RisesBy}
-use Rattle.library_source.specs.Files.{Over}
+use Rattle.library_source.specs.Files.{Over, file_at}
 use Rattle.scope_rule.specs.declared.arrival.Arrival.{Arrival}
+use Rattle.scope_rule.specs.Finding.{at_path}
 use Rattle.load_walk.specs.Files.{Verdict, is_program, reading_of}
 use Rattle.load_walk.specs.Plan.{HasToWait, IsRefused}
 use Rattle.load_walk.specs.Walking.{Agrees, IsWalker, grown}
@@ -30,6 +31,10 @@ pub record Stays (first now : Source) : Type 0 where
   pub faults : first.faults ≤ now.faults
   pub misses : first.misses ≤ now.misses
 
+-- where the library doesn't tell its files, these have nothing but what was read
+abbrev pub Alone : Option (List File) → Walker → List File → Type 0
+Alone told w files = told ≡ None → (path : List ℕ) → at_path w.arrivals path ≡ None → file_at files path ≡ None
+
 -- a load that began with the library so, and has come so far: each missed path was counted, and what was read is what some files
 -- give, the library's own where it tells them
 pub record Stage (verdict : Verdict) (ask : LoadAsk) (there : List Loaded) (first now : Source) (w : Walker) : Type 0 where
@@ -37,6 +42,7 @@ pub record Stage (verdict : Verdict) (ask : LoadAsk) (there : List Loaded) (firs
   pub stays : Stays first now
   pub count : RisesBy (length w.missed) first.misses now.misses
   pub over : Over first.files (λ files. Agrees (reading_of verdict files ask) w)
+  pub alone : Alone first.files w over.files
 
 -- why the load ended, over the files that it read; a failed read is one that the library counted
 abbrev pub FaultIs : Verdict → LoadAsk → List Loaded → Source → Source → LoadFault → Type 0

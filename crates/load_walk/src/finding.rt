@@ -16,7 +16,7 @@ use std::alloc::{AllocError, Global};
 const LINKER_NAME: &[u8] = b"ldso.so.1";
 
 /// What the search of a name comes to.
-#[derive(Debug, Drop)]
+#[derive(Drop)]
 pub(crate) enum Finding {
     /// The serial of the object that the name finds.
     Found(Serial),
@@ -99,14 +99,28 @@ fn path_in(alloc: Global, folder: &[u8], name: &[u8]) -> Result<Name, AllocError
     Ok(Name::from(path))
 }
 
+/// Puts the paths of a name in folders, in order, into an empty list.
+fn fill_paths(
+    alloc: Global,
+    folders: &[Name],
+    name: &[u8],
+    paths: &mut Names,
+) -> Result<(), AllocError>
+    requires { paths.old ≡ [] }
+    ensures { OnOk result (paths.new ≡ in_folders folders.now name.now) }
+{
+    for folder in folders {
+        paths.push(path_in(alloc, folder.as_bytes(), name)?)?;
+    }
+    Ok(())
+}
+
 /// The paths of a name in folders, in order.
 fn in_folders(alloc: Global, folders: &[Name], name: &[u8]) -> Result<Names, AllocError>
     ensures { IfOk result (λ paths. paths ≡ in_folders folders.now name.now) }
 {
     let mut paths = Names::new(alloc);
-    for folder in folders {
-        paths.push(path_in(alloc, folder.as_bytes(), name)?)?;
-    }
+    fill_paths(alloc, folders, name, &mut paths)?;
     Ok(paths)
 }
 
@@ -131,7 +145,7 @@ pub(crate) fn candidates(alloc: Global, folders: &[Name], name: &[u8]) -> Result
 
 impl Walker {
     ghost use Rattle.std.specs.Prelude.{◌≡◌, ◌<◌, ◌+◌, ℕ, List, length, IfSome};
-    ghost use Rattle.scope_rule.specs.Finding.{Reading};
+    ghost use Rattle.scope_rule.specs.Finding.{Reading, candidates};
     ghost use Rattle.scope_rule.specs.Load.{find_path, find_paths, find_opened, find_needed, find_root, finds, present};
     ghost use Rattle.load_walk.specs.Walking.{Means, Searches};
 
@@ -187,6 +201,20 @@ impl Walker {
         Ok(Finding::Nowhere)
     }
 
+    /// What the paths find that a name may have.
+    fn find_candidates(
+        &self,
+        alloc: Global,
+        ns: &Namespace,
+        ask: &LoadAsk,
+        name: &[u8],
+    ) -> Result<Finding, LoadFault>
+        ensures { Searches ask.now ns.now.objects self.now result (λ load. find_paths load self.now.arrivals (candidates load.folders name.now)) }
+    {
+        let paths = candidates(alloc, ask.folders.as_slice(), name)?;
+        self.find_paths(alloc, ns, ask, paths.as_slice())
+    }
+
     /// What a name finds, as dlopen takes it.
     #[tactic(auto, unfolding(scope_rule::specs::Load::find_opened))]
     fn find_opened(
@@ -198,9 +226,8 @@ impl Walker {
     ) -> Result<Finding, LoadFault>
         ensures { Searches ask.now ns.now.objects self.now result (λ load. find_opened load self.now.arrivals name.now) }
     {
-        let paths = candidates(alloc, ask.folders.as_slice(), name)?;
         if is_path(name) {
-            return self.find_paths(alloc, ns, ask, paths.as_slice());
+            return self.find_candidates(alloc, ns, ask, name);
         }
         if let Some(object) = with_soname(ns.objects.as_slice(), name) {
             return Ok(Finding::Found(use_of(alloc, ask.hart, object)?));
@@ -208,7 +235,7 @@ impl Walker {
         if let Some(place) = at_soname(self.arrivals.as_slice(), name) {
             return self.new_at(ask, place);
         }
-        self.find_paths(alloc, ns, ask, paths.as_slice())
+        self.find_candidates(alloc, ns, ask, name)
     }
 
     /// What a name finds, as an object needs it.

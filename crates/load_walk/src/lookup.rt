@@ -11,7 +11,7 @@ use ld_base::{Name, Object, Serial, Verdef};
 use std::alloc::{AllocError, Global};
 
 /// The first place of each name of a list.
-#[derive(Debug, Drop)]
+#[derive(Drop)]
 pub struct Places {
     firsts: IndexMap<Vec<u8>, usize>,
 }
@@ -54,14 +54,14 @@ fn add_place(
 }
 
 /// The versions that an object defines.
-#[derive(Debug, Drop)]
+#[derive(Drop)]
 pub struct Defined {
     every: bool,
     names: IndexSet<Vec<u8>>,
 }
 
 /// An object in which versions were looked up.
-#[derive(Debug, Drop)]
+#[derive(Drop)]
 pub struct Definer {
     pub serial: Serial,
     pub defined: Defined,

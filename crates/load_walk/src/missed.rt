@@ -9,7 +9,7 @@ use std::alloc::{AllocError, Global};
 use std::marker::Model;
 
 /// Paths at which there was no file, in the order of first sight.
-#[derive(Debug, Drop)]
+#[derive(Drop)]
 pub struct Missed {
     paths: IndexSet<Vec<u8>>,
 }

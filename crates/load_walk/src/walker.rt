@@ -16,7 +16,7 @@ const SERIAL_LIMIT: u64 = 1 << 62;
 pub type Arrivals = Sequence<Arrival>;
 
 /// A load part way.
-#[derive(Debug, Drop)]
+#[derive(Drop)]
 pub(crate) struct Walker {
     /// The names that are asked for, so far as the new objects tell.
     pub names: Names,
@@ -29,7 +29,7 @@ pub(crate) struct Walker {
 }
 
 /// What comes next of a load.
-#[derive(Debug, Drop)]
+#[derive(Drop)]
 pub(crate) enum Next {
     /// The next name finds the object with this serial.
     Found(Serial),
@@ -77,7 +77,7 @@ impl Walker {
     }
 
     /// What comes next.
-    #[tactic(auto, using(crate::proofs::Walkers::looks_found, crate::proofs::Walkers::looks_missing, crate::proofs::Walkers::looks_ends))]
+    #[tactic(auto, using(crate::proofs::Walkers::looks_missing))]
     pub fn look(&self, alloc: Global, ns: &Namespace, ask: &LoadAsk) -> Result<Next, LoadFault>
         requires { IsWalker ask.now ns.now.objects self.now }
         ensures { Looks ask.now ns.now.objects self.now result }
@@ -155,7 +155,9 @@ impl Walker {
     ) -> Result<(), AllocError>
         ensures { OnOk result (self.new ≡ grown ask.now self.old arrival) }
     {
-        self.announce(alloc, ask, &arrival)?;
-        self.arrivals.push(arrival)
+        // The object goes into the list in any case, so that no exit drops it here.
+        let announced = self.announce(alloc, ask, &arrival);
+        self.arrivals.push(arrival)?;
+        announced
     }
 }

@@ -12,3 +12,11 @@ returns-in_ok-push-in-Found g c = λ first stage. (rw c.in_ok-push-in-Found.ensu
 
 pub returns-in_ok-read_next-in-Read : goal.returns-in_ok-read_next-in-Read
 returns-in_ok-read_next-in-Read g c = λ first stage. (c.in_ok-read_next-in-Read.ensures _ first stage (rw c.in-Read.is at c.in_ok-serial.ensures), λ e. absurd cc)
+
+pub returns-in_err-read_next-in-Read : goal.returns-in_err-read_next-in-Read
+returns-in_err-read_next-in-Read g c = λ first stage.
+    let p = err_from_is_err_and c.from_residual-in_err-read_next-in-Read.result c.from_residual-in_err-read_next-in-Read.ensures.1 in
+    rw (p.1, p.2) (c.in_err-read_next-in-Read.ensures _ first stage (rw c.in-Read.is at c.in_ok-serial.ensures))
+
+pub returns-in-Done : goal.returns-in-Done
+returns-in-Done g c = λ first stage. (stage, λ e. rw c.in-Done.is at c.in_ok-serial.ensures)

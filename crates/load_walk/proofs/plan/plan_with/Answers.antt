@@ -12,11 +12,8 @@ returns-in_err-drive-clause-refused g c =
     let p = err_from_is_err_and c.from_residual-in_err-drive.result c.from_residual-in_err-drive.ensures.1 in
     rw (p.1, p.2) (faulted_answers _ c.args.ask.now c.args.ns.now (source_of g.L.Library.files g.L.Library.faults g.L.Library.misses c.args.library.now) (source_of g.L.Library.files g.L.Library.faults g.L.Library.misses c.drive.new.library) c.in_err-drive.field-0.0 c.in_err-drive.ensures.is).refused
 
-pub returns-clause-plan : goal.returns-clause-plan
-returns-clause-plan g c = (complete_answers _ _ _ _ _ _ _ _ c.in_ok-drive.ensures.0 c.in_ok-drive.ensures.1 c.in_ok-root.ensures c.complete.result c.complete.ensures.plan c.complete.ensures.fault).plan
-
-pub returns-clause-refused : goal.returns-clause-refused
-returns-clause-refused g c = (complete_answers _ _ _ _ _ _ _ _ c.in_ok-drive.ensures.0 c.in_ok-drive.ensures.1 c.in_ok-root.ensures c.complete.result c.complete.ensures.plan c.complete.ensures.fault).refused
-
-pub returns-clause-read_fault : goal.returns-clause-read_fault
-returns-clause-read_fault g c = (complete_answers _ _ _ _ _ _ _ _ c.in_ok-drive.ensures.0 c.in_ok-drive.ensures.1 c.in_ok-root.ensures c.complete.result c.complete.ensures.plan c.complete.ensures.fault).read_fault
+pub returns : goal.returns
+returns g c =
+    let a = complete_answers _ _ _ _ _ _ _ _ c.in_ok-drive.ensures.0 c.in_ok-drive.ensures.1 c.in_ok-root.ensures c.complete.result c.complete.ensures.plan c.complete.ensures.fault in
+    let s = c.in_ok-drive.ensures.0.stays in
+    record { plan = a.plan; refused = a.refused; waits = a.waits; read_fault = a.read_fault; files = s.files; faults = s.faults; misses = s.misses }
