@@ -207,15 +207,15 @@ closes_libq = may_close refused 3 0 1 refl refl refl refl refl refl
 
 finishes_libq : ByClosing both_closed 0 3
 unfolding loaded initialise lower die
-finishes_libq = may_finish both_closed 0 3 1 refl refl refl
+finishes_libq = may_finish both_closed 0 3 0 refl refl refl
 
 finishes_libp : ByClosing libq_done 0 2
 unfolding loaded initialise lower die
-finishes_libp = may_finish libq_done 0 2 1 refl refl refl
+finishes_libp = may_finish libq_done 0 2 0 refl refl refl
 
 unmaps : AllowedIn setting [] libp_done (Unmapped 0 (2 ∷ 3 ∷ []))
 unfolding loaded initialise lower die
-unmaps = may_unmap libp_done 0 1 2 (3 ∷ []) refl refl refl refl refl
+unmaps = may_unmap libp_done 0 0 2 (3 ∷ []) refl refl refl refl refl
 
 closes_no_more : AllowedIn setting [] both_gone (Close 0 3 (closes.Refused (BadHandle 3)))
 unfolding loaded initialise lower die unmap

@@ -1,8 +1,8 @@
 -- A closing, an unmapping and a constructor keep what leads where.
 use Rattle.std.proofs.Common.{◌≡◌, ◌⊎◌, inl, inr, ⊎_elim, ℕ, ◌-◌, Bool, true, false, not, eqb, List, [], ◌∷◌, ◌++◌, map, refl, sym, ap, subst, ◌∙◌}
-use Rattle.std.specs.Prelude.{if◌then◌else◌, ◌==◌}
+use Rattle.std.specs.Prelude.{if◌then◌else◌, ◌==◌, ◌&&◌}
 use Rattle.std.specs.List.{Contains, flat_map}
-use Rattle.std.proofs.lemmas.Bool.{true≢false}
+use Rattle.std.proofs.lemmas.Bool.{and_from, true≢false}
 use Rattle.std.proofs.lemmas.List.Elements.{Contains-append_left, Contains-append_right}
 use Rattle.ld_base.specs.declared.linking.Loaded.{Loaded}
 use Rattle.ld_base.specs.declared.linking.State.{State as Doing}
@@ -19,11 +19,11 @@ use Rattle.scope_rule.specs.Seen.{seen_in}
 use Rattle.scope_rule.specs.declared.namespace.Namespace.{Namespace}
 use Rattle.scope_rule.specs.declared.namespace.OpenRec.{OpenRec}
 use Rattle.link_history.specs.State.{State}
-use Rattle.link_history.specs.Objects.{has, mapped, startup_serials}
+use Rattle.link_history.specs.Objects.{has, mapped, serial_of, startup_serials}
 use Rattle.link_history.specs.Grants.{chosen_target, is_bound, is_open, target_of}
 use Rattle.link_history.specs.Links.{Needed, bound_edges, chosen_edges, edges, edges_to, found_edges, granted_roots, opened_roots, roots, stays, staying_roots}
 use Rattle.link_history.specs.Step.{dying_in, dying_object, lowered_in, lowered_open, ready_in, ready_object, ready_state}
-use Rattle.link_history.proofs.Lists.{from_filter, from_map, in_flat, in_map, here}
+use Rattle.link_history.proofs.Lists.{from_filter, from_map, in_flat, in_has, in_map, here}
 use Rattle.link_history.proofs.Good.{ChoseBy, HeldBy, Inside, Keeps, Leads, is_live}
 
 -- ---- changes of namespaces
@@ -103,7 +103,7 @@ keeps_ready serial = record {
 
 -- ---- what is needed
 
-unfold_edges : (s : State) (e : Edge) → Contains (flat_map found_edges (mapped s) ++ flat_map chosen_edges s.chosen ++ flat_map bound_edges s.grants) e → Contains (edges s) e
+unfold_edges : (s : State) (e : Edge) → Contains (flat_map found_edges (mapped s) ++ flat_map chosen_edges s.chosen ++ flat_map (bound_edges (map serial_of (mapped s))) s.grants) e → Contains (edges s) e
 unfolding edges
 unfold_edges s e h = h
 
@@ -124,14 +124,14 @@ needed_by_edge s from d needed there = on (record { source = from; target = d })
 found_edge : (s : State) (ns : Namespace) (o : Loaded) (d : ℕ) → Inside s.namespaces ns o → Contains o.found d → Contains (edges s) (record { source = o.serial; target = d })
 found_edge s ns o d inside h =
     unfold_edges s _
-    (Contains-append_left (flat_map found_edges (mapped s) ++ flat_map chosen_edges s.chosen) (flat_map bound_edges s.grants) _
+    (Contains-append_left (flat_map found_edges (mapped s) ++ flat_map chosen_edges s.chosen) (flat_map (bound_edges (map serial_of (mapped s))) s.grants) _
     (Contains-append_left (flat_map found_edges (mapped s)) (flat_map chosen_edges s.chosen) _
     (in_flat found_edges (mapped s) o _ (in_flat (λ (n : Namespace). n.objects) s.namespaces ns o inside.0 inside.1) (in_edges_to o.serial o.found d h))))
 
 chosen_edge : (s : State) (c : Chosen) (d : ℕ) → Contains s.chosen c → Contains (flat_map chosen_target c.choices) d → Contains (edges s) (record { source = c.owner; target = d })
 chosen_edge s c d there h =
     unfold_edges s _
-    (Contains-append_left (flat_map found_edges (mapped s) ++ flat_map chosen_edges s.chosen) (flat_map bound_edges s.grants) _
+    (Contains-append_left (flat_map found_edges (mapped s) ++ flat_map chosen_edges s.chosen) (flat_map (bound_edges (map serial_of (mapped s))) s.grants) _
     (Contains-append_right (flat_map found_edges (mapped s)) (flat_map chosen_edges s.chosen) _
     (in_flat chosen_edges s.chosen c _ there (in_edges_to c.owner (flat_map chosen_target c.choices) d h))))
 
@@ -139,11 +139,12 @@ in_bound_edges : (g : Granting) (d : ℕ) (b : Bool) → b ≡ true → Contains
 in_bound_edges g d true e h = in_edges_to g.owner (target_of g.choice) d h
 in_bound_edges g d false e h = absurd (true≢false (sym e))
 
-bound_edge : (s : State) (g : Granting) (d : ℕ) → Contains s.grants g → is_bound g ≡ true → Contains (target_of g.choice) d → Contains (edges s) (record { source = g.owner; target = d })
-bound_edge s g d there bound h =
+bound_edge : (s : State) (g : Granting) (d : ℕ) → Contains s.grants g → is_bound g ≡ true → Contains (map serial_of (mapped s)) g.owner → Contains (target_of g.choice) d → Contains (edges s) (record { source = g.owner; target = d })
+bound_edge s g d there bound owner h =
     unfold_edges s _
-    (Contains-append_right (flat_map found_edges (mapped s) ++ flat_map chosen_edges s.chosen) (flat_map bound_edges s.grants) _
-    (in_flat bound_edges s.grants g _ there (in_bound_edges g d (is_bound g) bound h)))
+    (Contains-append_right (flat_map found_edges (mapped s) ++ flat_map chosen_edges s.chosen) (flat_map (bound_edges (map serial_of (mapped s))) s.grants) _
+    (in_flat (bound_edges (map serial_of (mapped s))) s.grants g _ there
+    (in_bound_edges g d (is_bound g && has (map serial_of (mapped s)) g.owner) (and_from (is_bound g) (has (map serial_of (mapped s)) g.owner) bound (in_has (map serial_of (mapped s)) g.owner owner)) h)))
 
 in_granted_roots : (g : Granting) (d : ℕ) (b : Bool) → b ≡ true → Contains (g.owner ∷ target_of g.choice) d → Contains (if b then g.owner ∷ target_of g.choice else []) d
 in_granted_roots g d true e h = h
@@ -200,7 +201,8 @@ needed_on s ns o d inside leads needed = ⊎_elim
     (λ (i : HeldBy s.grants o.serial d). ⊎_elim
     (λ (e : i.0.standing ≡ Open). granted_root s i.0 d i.1 (ap (λ (st : Standing). elim st [ Open ↦ true | Bound ↦ false | Lost saw ↦ false ]) e) (Contains-append_right (i.0.owner ∷ []) (target_of i.0.choice) d i.4))
     (λ (e : i.0.standing ≡ Bound). needed_by_edge s i.0.owner d (subst (Needed s) (sym i.2) needed)
-    (bound_edge s i.0 d i.1 (ap (λ (st : Standing). elim st [ Open ↦ false | Bound ↦ true | Lost saw ↦ false ]) e) i.4))
+    (bound_edge s i.0 d i.1 (ap (λ (st : Standing). elim st [ Open ↦ false | Bound ↦ true | Lost saw ↦ false ]) e)
+    (subst (Contains (map serial_of (mapped s))) (sym i.2) (in_map serial_of (mapped s) o (in_flat (λ (n : Namespace). n.objects) s.namespaces ns o inside.0 inside.1))) i.4))
     (open_or_bound i.0.standing i.3))
     h)
     leads

@@ -1,7 +1,8 @@
 -- Nothing outside a dying set leads into it.
 use Rattle.std.proofs.Common.{◌≡◌, ◌⊎◌, inl, inr, ⊎_elim, ℕ, ◌<◌, ◌≤◌, Bool, true, false, List, [], ◌∷◌, ◌++◌, map, refl, sym, ap, subst, ◌∙◌, arith}
 use Rattle.std.specs.List.{Contains, flat_map}
-use Rattle.std.proofs.lemmas.List.Elements.{Contains-push_cases}
+use Rattle.std.proofs.lemmas.List.{append-nil}
+use Rattle.std.proofs.lemmas.List.Elements.{Contains-push, Contains-push_cases}
 use Rattle.ld_base.specs.declared.linking.Loaded.{Loaded}
 use Rattle.ld_base.specs.declared.object.Reloc.{Reloc}
 use Rattle.link_event.specs.declared.state.Chosen.{Chosen}
@@ -18,7 +19,8 @@ use Rattle.scope_rule.specs.declared.namespace.Namespace.{Namespace}
 use Rattle.scope_rule.specs.declared.namespace.OpenRec.{OpenRec}
 use Rattle.link_history.specs.State.{State}
 use Rattle.link_history.specs.Grants.{chosen_target, target_of}
-use Rattle.link_history.proofs.Lists.{from_map}
+use Rattle.link_history.specs.Step.{closing_of}
+use Rattle.link_history.proofs.Lists.{from_map, none_in}
 use Rattle.link_history.proofs.Scopes.{Closed, Reach, breadth_in, choice_in, scope_in}
 
 -- the part of a state that says which objects lead to which
@@ -232,18 +234,28 @@ pub record Sealed (c : Core) (set : List ℕ) : Type 0 where
   pub dies : (ns : Namespace) (o : Loaded) → Inside c.namespaces ns o → Contains set o.serial → is_dying o ≡ true
   pub low : (d : ℕ) → Contains set d → d < c.next
 
-abbrev pub closing_of : ℕ → List ℕ → Closing
-closing_of hart set = record { hart = hart; set = set }
+abbrev pub closing_by : ℕ → List ℕ → Closing
+closing_by hart set = record { hart = hart; set = set }
+
+-- a closing is an old one or the new one
+pub closing_cases : (closings : List Closing) (hart : ℕ) (set : List ℕ) (k : Closing) → Contains (closings ++ closing_of hart set) k → Contains closings k ⊎ (closing_by hart set ≡ k)
+closing_cases closings hart [] k there = inl (subst (λ (ks : List Closing). Contains ks k) (append-nil closings) there)
+closing_cases closings hart (d ∷ rest) k there = Contains-push_cases closings (closing_by hart (d ∷ rest)) k there
+
+-- one that takes something is there
+pub closing_there : (closings : List Closing) (hart : ℕ) (set : List ℕ) (d : ℕ) → Contains set d → Contains (closings ++ closing_of hart set) (closing_by hart set)
+closing_there closings hart [] d h = absurd (none_in d h)
+closing_there closings hart (x ∷ rest) d h = Contains-push closings (closing_by hart (x ∷ rest))
 
 -- what holds of each old closing and of the new one's set holds of each closing's
 each_closing : (closings : List Closing) (hart : ℕ) (set : List ℕ) (P : List ℕ → Type 0) → ((k : Closing) → Contains closings k → P k.set) → P set
-    → (k : Closing) → Contains (closings ++ closing_of hart set ∷ []) k → P k.set
+    → (k : Closing) → Contains (closings ++ closing_of hart set) k → P k.set
 each_closing closings hart set P old new k there = ⊎_elim
     (λ (h : Contains closings k). old k h)
-    (λ (e : closing_of hart set ≡ k). subst (λ (q : Closing). P q.set) e new)
-    (Contains-push_cases closings (closing_of hart set) k there)
+    (λ (e : closing_by hart set ≡ k). subst (λ (q : Closing). P q.set) e new)
+    (closing_cases closings hart set k there)
 
-pub good_closing : (c : Core) (hart : ℕ) (set : List ℕ) → Good c → Sealed c set → Good (record c { closings = c.closings ++ closing_of hart set ∷ [] })
+pub good_closing : (c : Core) (hart : ℕ) (set : List ℕ) → Good c → Sealed c set → Good (record c { closings = c.closings ++ closing_of hart set })
 good_closing c hart set good tight = record {
   leads = λ ns o d inside leads. ⊎_elim
       (λ (e : d ≡ 0). inl e)

@@ -5,7 +5,7 @@ use Rattle.std.specs.List.{Contains, filter, list_any}
 use Rattle.std.specs.Str.{bytes_eq}
 use Rattle.std.proofs.lemmas.Bool.{and_from, and_parts, eq-eqb, not-true, true≢false}
 use Rattle.std.proofs.lemmas.Slice.Eq.{bytes_eq-Decides}
-use Rattle.std.proofs.lemmas.List.Elements.{Contains-append_cases, Contains-append_left, Contains-push, Contains-push_cases}
+use Rattle.std.proofs.lemmas.List.Elements.{Contains-append_cases, Contains-append_left}
 use Rattle.ld_base.specs.declared.linking.Loaded.{Loaded}
 use Rattle.ld_base.specs.declared.linking.State.{State as Doing}
 use Rattle.ld_base.specs.declared.linking.State.TheVariants as states
@@ -20,13 +20,13 @@ use Rattle.link_history.specs.State.{State, empty_namespace, start}
 use Rattle.link_history.specs.Objects.{has, has_id, is_ready}
 use Rattle.link_history.specs.Flags.{is_global}
 use Rattle.link_history.specs.Links.{Needed, stays}
-use Rattle.link_history.specs.Step.{changed_at, die, dying_in, dying_object, gone_in, initialise, is_closing, is_left, loaded, lower, lowered_in, namespace_before, open_done, ready_in, ready_object, ready_state, unmap, with_namespace}
+use Rattle.link_history.specs.Step.{changed_at, closing_of, die, dying_in, dying_object, gone_in, initialise, is_closing, is_left, loaded, lower, lowered_in, namespace_before, open_done, ready_in, ready_object, ready_state, unmap, with_namespace}
 use Rattle.link_history.specs.After.{after}
 use Rattle.link_history.specs.Laws.{EachDiesOnce}
 use Rattle.link_history.specs.Legal.{Lawful}
 use Rattle.link_history.specs.Setting.{Machine}
 use Rattle.link_history.proofs.Lists.{from_filter, from_map, has_in, in_filter, in_has, in_map, none_in, only_in}
-use Rattle.link_history.proofs.Good.{Core, Good, closing_of, core, each_mapped}
+use Rattle.link_history.proofs.Good.{Core, Good, core, each_mapped, closing_by, closing_cases, closing_there}
 use Rattle.link_history.proofs.Dying.{staying_root}
 use Rattle.link_history.proofs.Closed.{Dies, closes_dies, dies_node, each_left, fewer_closings, good_lower, stayed}
 use Rattle.link_history.proofs.Opened.{before_of, members}
@@ -146,20 +146,20 @@ unfolding die
 once_die s hart ns set good once dies = record {
   dead = λ k d there h. ⊎_elim
       (λ (old : Contains s.closings k). was_dead k d old h)
-      (λ (e : closing_of hart set ≡ k). subst (λ (q : Closing). Contains q.set d → Dead (map (dying_in hart set) s.namespaces) d q.hart) e (now_dead d) h)
-      (Contains-push_cases s.closings (closing_of hart set) k there);
+      (λ (e : closing_by hart set ≡ k). subst (λ (q : Closing). Contains q.set d → Dead (map (dying_in hart set) s.namespaces) d q.hart) e (now_dead d) h)
+      (closing_cases s.closings hart set k there);
   once = λ k l d there there' h h'. ⊎_elim
       (λ (old : Contains s.closings k). ⊎_elim
       (λ (old' : Contains s.closings l). once.once k l d old old' h h')
-      (λ (e : closing_of hart set ≡ l). absurd (not_both k d old h (subst (λ (q : Closing). Contains q.set d) (sym e) h')))
-      (Contains-push_cases s.closings (closing_of hart set) l there'))
-      (λ (e : closing_of hart set ≡ k). ⊎_elim
+      (λ (e : closing_by hart set ≡ l). absurd (not_both k d old h (subst (λ (q : Closing). Contains q.set d) (sym e) h')))
+      (closing_cases s.closings hart set l there'))
+      (λ (e : closing_by hart set ≡ k). ⊎_elim
       (λ (old' : Contains s.closings l). absurd (not_both l d old' h' (subst (λ (q : Closing). Contains q.set d) (sym e) h)))
-      (λ (e' : closing_of hart set ≡ l). sym e ∙ e')
-      (Contains-push_cases s.closings (closing_of hart set) l there'))
-      (Contains-push_cases s.closings (closing_of hart set) k there);
+      (λ (e' : closing_by hart set ≡ l). sym e ∙ e')
+      (closing_cases s.closings hart set l there'))
+      (closing_cases s.closings hart set k there);
   only = λ ms o h there inside e. each_mapped (dying_in hart set) s.namespaces
-      (λ n. Contains n.objects o → (k : Closing) × Contains (s.closings ++ closing_of hart set ∷ []) k × (k.hart ≡ h) × Contains k.set o.serial)
+      (λ n. Contains n.objects o → (k : Closing) × Contains (s.closings ++ closing_of hart set) k × (k.hart ≡ h) × Contains k.set o.serial)
       (λ ls at i. let was = from_map (dying_object hart set) ls.objects o i in whose ls was.0 o h at was.1 was.2 e (has set was.0.serial) refl) ms there inside;
 }
   where
@@ -190,16 +190,16 @@ once_die s hart ns set good once dies = record {
         )
 
     whose : (ls : Namespace) (was o : Loaded) (h : ℕ) → Contains s.namespaces ls → Contains ls.objects was → dying_object hart set was ≡ o → o.state ≡ states.Dying h
-        → (t : Bool) → has set was.serial ≡ t → (k : Closing) × Contains (s.closings ++ closing_of hart set ∷ []) k × (k.hart ≡ h) × Contains k.set o.serial
+        → (t : Bool) → has set was.serial ≡ t → (k : Closing) × Contains (s.closings ++ closing_of hart set) k × (k.hart ≡ h) × Contains k.set o.serial
     whose ls was o h at i same e true in_set =
         let is : record was { state = states.Dying hart } ≡ o = sym (ap (λ (t : Bool). if t then record was { state = states.Dying hart } else was) in_set) ∙ same in
         let by : states.Dying hart ≡ states.Dying h = ap (λ (q : Loaded). q.state) is ∙ e in
         let same_hart : hart ≡ h = cc in
-        (closing_of hart set, Contains-push s.closings (closing_of hart set), same_hart, subst (Contains set) (ap (λ (q : Loaded). q.serial) is) (has_in set was.serial in_set))
+        (closing_by hart set, closing_there s.closings hart set was.serial (has_in set was.serial in_set), same_hart, subst (Contains set) (ap (λ (q : Loaded). q.serial) is) (has_in set was.serial in_set))
     whose ls was o h at i same e false in_set =
         let is : was ≡ o = sym (ap (λ (t : Bool). if t then record was { state = states.Dying hart } else was) in_set) ∙ same in
         let old = once.only ls was h at i (ap (λ (q : Loaded). q.state) is ∙ e) in
-        (old.0, Contains-append_left s.closings (closing_of hart set ∷ []) old.0 old.1, old.2, subst (Contains old.0.set) (ap (λ (q : Loaded). q.serial) is) old.3)
+        (old.0, Contains-append_left s.closings (closing_of hart set) old.0 old.1, old.2, subst (Contains old.0.set) (ap (λ (q : Loaded). q.serial) is) old.3)
 
 once_unmap : (s : State) (hart : ℕ) (set : List ℕ) (l : Closing) → Contains s.closings l → l.hart ≡ hart → l.set ≡ set → Once (core s) → Once (core (unmap hart set s))
 unfolding unmap

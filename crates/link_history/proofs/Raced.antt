@@ -284,19 +284,19 @@ closes_libg = may_close first_bound 4 0 1 refl refl refl refl refl refl
 
 closing_libg : ByClosing libg_closed 1 4
 unfolding loaded initialise lower die
-closing_libg = may_finish libg_closed 1 4 1 refl refl refl
+closing_libg = may_finish libg_closed 1 4 0 refl refl refl
 
 closing_libo : ByClosing libg_finished 1 2
 unfolding loaded initialise lower die
-closing_libo = may_finish libg_finished 1 2 1 refl refl refl
+closing_libo = may_finish libg_finished 1 2 0 refl refl refl
 
 closing_libf : ByClosing libo_finished 1 3
 unfolding loaded initialise lower die
-closing_libf = may_finish libo_finished 1 3 1 refl refl refl
+closing_libf = may_finish libo_finished 1 3 0 refl refl refl
 
 unmaps : AllowedIn setting [] libf_finished (Unmapped 1 (2 ∷ 3 ∷ 4 ∷ []))
 unfolding loaded initialise lower die
-unmaps = may_unmap libf_finished 1 1 2 (3 ∷ 4 ∷ []) refl refl refl refl refl
+unmaps = may_unmap libf_finished 1 0 2 (3 ∷ 4 ∷ []) refl refl refl refl refl
 
 pub closed_legal : Legal setting closed_under_grant
 unfolding loaded initialise lower die

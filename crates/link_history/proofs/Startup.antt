@@ -3,7 +3,7 @@ use Rattle.std.proofs.Common.{◌≡◌, ◌⊎◌, inl, inr, ⊎_elim, ℕ, ◌
 use Rattle.std.specs.Prelude.{if◌then◌else◌}
 use Rattle.std.specs.List.{Contains, filter, list_any}
 use Rattle.std.proofs.lemmas.Bool.{cases_Bool, eqb-true}
-use Rattle.std.proofs.lemmas.List.Elements.{Contains-append_right, Contains-push, Contains-push_cases}
+use Rattle.std.proofs.lemmas.List.Elements.{Contains-append_right, Contains-push}
 use Rattle.ld_base.specs.declared.linking.Loaded.{Loaded}
 use Rattle.link_event.specs.declared.event.Event.{Event}
 use Rattle.link_event.specs.declared.event.OpenAsk.{OpenAsk}
@@ -23,7 +23,7 @@ use Rattle.link_history.specs.Legal.{Lawful}
 use Rattle.link_history.specs.Opening.{Opens}
 use Rattle.link_history.specs.Setting.{Machine, Setting}
 use Rattle.link_history.proofs.Lists.{any_in, from_map, in_filter, in_map, none_in}
-use Rattle.link_history.proofs.Good.{core, Core, Free, Has, Keeps, closing_of, has_kept}
+use Rattle.link_history.proofs.Good.{core, Core, Free, Has, Keeps, closing_by, closing_cases, has_kept}
 use Rattle.link_history.proofs.Dying.{keeps_dying, keeps_lowered, keeps_ready, startup_root}
 use Rattle.link_history.proofs.Closed.{closes_dies, dies_node, fewer_closings, stays_there}
 use Rattle.link_history.proofs.Brought.{LoadLaws}
@@ -108,9 +108,9 @@ startup_law = record {
         based_by (dying_in hart set) (keeps_dying hart set) (map (lowered_in handle) s.namespaces) d (based_by (lowered_in handle) (keeps_lowered handle) s.namespaces d old.0),
         λ k there. ⊎_elim
             (λ (i : Contains s.closings k). old.1 k i)
-            (λ (e : closing_of hart set ≡ k). subst (λ (q : Closing). Contains q.set d → ⊥) e
+            (λ (e : closing_by hart set ≡ k). subst (λ (q : Closing). Contains q.set d → ⊥) e
             (λ (i : Contains set d). (dies_node (lower handle s) (lowered_in handle closes.namespace) set (closes_dies s handle set closes) d i).1 (startup_root (lower handle s) d h)))
-            (Contains-push_cases s.closings (closing_of hart set) k there),
+            (closing_cases s.closings hart set k there),
       );
   unmaps = λ s hart set good steady may d h.
       let old = steady d h in (

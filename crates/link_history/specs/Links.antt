@@ -1,5 +1,5 @@
 -- What holds an object in memory: the graph of a state (dlopen(3), dlclose(3)).
-use Rattle.std.specs.Prelude.{ℕ, Bool, not, ◌||◌, Some, List, [], ◌∷◌, ◌++◌, map, flat_map, filter, if◌then◌else◌}
+use Rattle.std.specs.Prelude.{ℕ, Bool, not, ◌&&◌, ◌||◌, Some, List, [], ◌∷◌, ◌++◌, map, flat_map, filter, if◌then◌else◌}
 use Rattle.ld_base.specs.declared.linking.Loaded.{Loaded}
 use Rattle.link_event.specs.declared.state.Chosen.{Chosen}
 use Rattle.link_event.specs.declared.state.Granting.{Granting}
@@ -11,7 +11,7 @@ use Rattle.scope_rule.specs.Breadth.{breadth}
 use Rattle.scope_rule.specs.Seen.{seen_in}
 use Rattle.scope_rule.specs.declared.namespace.Namespace.{Namespace}
 use Rattle.link_history.specs.State.{State}
-use Rattle.link_history.specs.Objects.{has, is_ready, mapped, startup_serials}
+use Rattle.link_history.specs.Objects.{has, is_ready, mapped, serial_of, startup_serials}
 use Rattle.link_history.specs.Grants.{chosen_target, is_bound, is_open, target_of}
 
 -- edges from one serial
@@ -28,12 +28,12 @@ found_edges o = edges_to o.serial o.found
 abbrev pub chosen_edges : Chosen → List Edge
 chosen_edges c = edges_to c.owner (flat_map chosen_target c.choices)
 
--- to the target of a bound grant
-abbrev pub bound_edges : Granting → List Edge
-bound_edges g = if is_bound g then edges_to g.owner (target_of g.choice) else []
+-- to the target of a bound grant, while the slot's object is one of those that are mapped
+abbrev pub bound_edges : List ℕ → Granting → List Edge
+bound_edges serials g = if is_bound g && has serials g.owner then edges_to g.owner (target_of g.choice) else []
 
 unfoldable pub edges : State → List Edge
-edges s = flat_map found_edges (mapped s) ++ flat_map chosen_edges s.chosen ++ flat_map bound_edges s.grants
+edges s = flat_map found_edges (mapped s) ++ flat_map chosen_edges s.chosen ++ flat_map (bound_edges (map serial_of (mapped s))) s.grants
 
 -- ---- the roots
 

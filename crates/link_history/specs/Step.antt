@@ -128,10 +128,15 @@ dying_in hart set ns = record ns {
   global = filter (λ d. not (has set d)) ns.global;
 }
 
+-- a closing waits for its objects, where it has some
+abbrev pub closing_of : ℕ → List ℕ → List Closing
+closing_of hart [] = []
+closing_of hart (d ∷ rest) = record { hart = hart; set = d ∷ rest } ∷ []
+
 unfoldable pub die : ℕ → List ℕ → State → State
 die hart set s = record s {
   namespaces = map (dying_in hart set) s.namespaces;
-  closings = s.closings ++ record { hart = hart; set = set } ∷ [];
+  closings = s.closings ++ closing_of hart set;
 }
 
 -- ---- an unmapping

@@ -46,7 +46,8 @@ use Rattle.link_service.specs.Worked.{fp_on, granted_to, libn_by, libo_by, named
 use Rattle.link_service.proofs.Given.{gives_legal}
 use Rattle.link_service.proofs.Opened.{OutcomeLaws}
 use Rattle.link_service.proofs.Readings.{reading_told, told_reads}
-use Rattle.link_service.proofs.Told.{ask_first, no_such_module, one_opening, symbols_in_order, two_events}
+use Rattle.link_service.proofs.Told.{one_opening}
+use Rattle.link_service.proofs.InOrder.{ask_first, no_such_module, symbols_in_order, two_events}
 
 -- ---- two libraries that hold each other
 

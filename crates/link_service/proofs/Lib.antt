@@ -1,5 +1,11 @@
+pub mod Answered
+pub mod Callers
+pub mod Decide
+pub mod Every
 pub mod Examples
 pub mod Given
+pub mod InOrder
+pub mod Looked
 pub mod Opened
 pub mod Readings
 pub mod Stored

@@ -201,7 +201,7 @@ same_first {s} {h} {ask} {e} {f} {d} {c} {value} {other} x y =
       ap returns values,
     )
 
-same_looked_up : (w : Setting) (past : List Event) (h : ℕ) (ask : SymAsk) {given others : List Event} {answer other : Answer} → LookedUp w past h ask given answer → LookedUp w past h ask others other
+pub same_looked_up : (w : Setting) (past : List Event) (h : ℕ) (ask : SymAsk) {given others : List Event} {answer other : Answer} → LookedUp w past h ask given answer → LookedUp w past h ask others other
     → (given ≡ others) × (answer ≡ other)
 same_looked_up w past h ask (finds serial index value a) (finds other at address b) =
     let one = same_found (after past) h ask serial index value other at address a b in (
@@ -292,7 +292,7 @@ same_full : {s : State} {h number pages other : ℕ} → HasNoRoom s h number pa
 same_full {s} {h} {number} {pages} {other} x y =
     same_lack s h y.of.serial pages other (subst (λ (n : ℕ). HasNoBlock s h n pages) (same_module s number x.of y.of x.there y.there) x.none) y.none
 
-same_located : (w : Setting) (past : List Event) (h number offset : ℕ) {given others : List Event} {answer other : Answer} → Located w past h number offset given answer
+pub same_located : (w : Setting) (past : List Event) (h number offset : ℕ) {given others : List Event} {answer other : Answer} → Located w past h number offset given answer
     → Located w past h number offset others other → (given ≡ others) × (answer ≡ other)
 same_located w past h number offset (in_new block e x) (in_new other f y) = let same = same_new x y in (ap (λ (v : Event). v ∷ []) same.0, ap (λ (n : ℕ). returns (variable_at n offset)) same.1)
 same_located w past h number offset (in_new block e x) (in_old other y) = absurd (new_not_old x y)
@@ -462,7 +462,7 @@ one w past h (locates number offset) given others answer other apart stand plain
 one w past h (writes bytes) given others answer other apart stand plain a b = (a.0 ∙ sym b.0, a.1 ∙ sym b.1)
 one w past h (stops reason) given others answer other apart stand plain a b = (a.0 ∙ sym b.0, a.1 ∙ sym b.1)
 
-ample_of : (answer : Answer) → is_chance answer ≡ false → is_want answer ≡ false
+pub ample_of : (answer : Answer) → is_chance answer ≡ false → is_want answer ≡ false
 ample_of (returns value) e = refl
 ample_of (loading root added) e = refl
 ample_of (closing set) e = refl
@@ -477,11 +477,11 @@ pub one_answer : LoadLaws → (m : Machine) (w : Setting) (past : List Event) (h
 one_answer laws m w past h call given others answer other same lawful plain a b ample also =
     one w past h call given others answer other (apart laws m past lawful) (openings_stand laws m past lawful) plain (invert a (ample_of answer ample)) (invert b (ample_of other also))
 
-comes_to : {w : Setting} {past : List Event} {h : ℕ} {ask : OpenAsk} {given : List Event} {answer : Answer} → Gives w past h (opens ask) given answer → is_want answer ≡ false → ComesTo w (after past) h ask given answer
+pub comes_to : {w : Setting} {past : List Event} {h : ℕ} {ask : OpenAsk} {given : List Event} {answer : Answer} → Gives w past h (opens ask) given answer → is_want answer ≡ false → ComesTo w (after past) h ask given answer
 unfolding Inverts
 comes_to gives ample = invert gives ample
 
-looked_up : {w : Setting} {past : List Event} {h : ℕ} {ask : SymAsk} {given : List Event} {answer : Answer} → Gives w past h (looks_up ask) given answer → is_want answer ≡ false → LookedUp w past h ask given answer
+pub looked_up : {w : Setting} {past : List Event} {h : ℕ} {ask : SymAsk} {given : List Event} {answer : Answer} → Gives w past h (looks_up ask) given answer → is_want answer ≡ false → LookedUp w past h ask given answer
 unfolding Inverts
 looked_up gives ample = invert gives ample
 
@@ -490,37 +490,6 @@ pub one_opening : OutcomeLaws → (w : Setting) (past : List Event) (h : ℕ) (a
 one_opening laws w past h ask files given others answer other tells a b ample also =
     same_opening laws w (after past) h ask files given others answer other tells ample also (comes_to a (ample_of answer ample)) (comes_to b (ample_of other also))
 
--- ---- refusals in their order, and success
-
-pub ask_first : (w : Setting) (past : List Event) (h : ℕ) (ask : OpenAsk) (given : List Event) (answer : Answer) (fault : DlFault) → RefusesAsk (after past) ask fault → Gives w past h (opens ask) given answer
-    → is_want answer ≡ false → answer ≡ refused fault
-ask_first w past h ask given answer fault stands gives ample = refused_asked w (after past) h ask given answer fault stands (comes_to gives ample)
-
-pub stages_in_order : OutcomeLaws → (w : Setting) (past : List Event) (h : ℕ) (ask : OpenAsk) (files : List File) (given : List Event) (answer : Answer) (fault : DlFault) → w.files ≡ Some files
-    → is_read_fault fault ≡ false → Refuses w (after past) h ask fault → Gives w past h (opens ask) given answer → is_chance answer ≡ false → answer ≡ refused fault
-stages_in_order laws w past h ask files given answer fault tells sound stands gives ample =
-    refused_first laws w (after past) h ask files given answer fault tells sound stands ample (comes_to gives (ample_of answer ample))
-
-pub symbols_in_order : (w : Setting) (past : List Event) (h : ℕ) (ask : SymAsk) (given : List Event) (answer : Answer) (fault : DlFault) → RefusesSymbol (after past) h ask fault
-    → Gives w past h (looks_up ask) given answer → is_want answer ≡ false → answer ≡ refused fault
-symbols_in_order w past h ask given answer fault stands gives ample = (same_looked_up w past h ask (looked_up gives ample) (refuses fault stands)).1
-
-pub passed : OutcomeLaws → (w : Setting) (past : List Event) (h : ℕ) (ask : OpenAsk) (files : List File) (id root : ℕ) (added : List Loaded) (ranges : List Range) (given : List Event) (answer : Answer)
-    → w.files ≡ Some files → Opens w (after past) h ask id root added ranges → Gives w past h (opens ask) given answer → is_chance answer ≡ false
-    → given ≡ events.Open h ask (openings.Done id root added ranges) ∷ []
-passed laws w past h ask files id root added ranges given answer tells all gives ample =
-    passed_opens laws w (after past) h ask files id root added ranges given answer tells all ample (comes_to gives (ample_of answer ample))
-
--- a block comes before its symbol
-pub two_events : (w : Setting) (past : List Event) (h : ℕ) (ask : SymAsk) (e f d : Event) (value other : ℕ) → FindsFirst w past h ask e f value → Gives w past h (looks_up ask) (d ∷ []) (returns other) → ⊥
-two_events w past h ask e f d value other first gives =
-    let same : d ∷ [] ≡ e ∷ f ∷ [] = (same_looked_up w past h ask (looked_up gives refl) (finds_first e f value first)).0 in
-    let counts : 1 ≡ 2 = ap length same in
-    omega (arith, counts)
-
--- a module that isn't there has no variables
-pub no_such_module : (w : Setting) (past : List Event) (h number offset : ℕ) (given : List Event) (value : ℕ) → IsBadModule (after past) number → Gives w past h (locates number offset) given (returns value) → ⊥
+pub located : {w : Setting} {past : List Event} {h number offset : ℕ} {given : List Event} {answer : Answer} → Gives w past h (locates number offset) given answer → is_want answer ≡ false → Located w past h number offset given answer
 unfolding Inverts
-no_such_module w past h number offset given value none gives =
-    let same : returns value ≡ over (ends.BadModule number) = (same_located w past h number offset (invert gives refl) (is_bad none)).1 in
-    cc
+located gives ample = invert gives ample

@@ -19,12 +19,13 @@ use Rattle.link_history.specs.Asking.{AreNamespacesFull, IsBadNamespace, asks_to
 use Rattle.link_history.specs.Flags.{are_flags}
 use Rattle.link_history.specs.Legal.{Lawful, Legal}
 use Rattle.link_history.specs.Lookup.{RefusesSymbol}
+use Rattle.link_history.specs.Objects.{has_namespace}
 use Rattle.link_history.specs.Opening.{Opens, Refuses}
 use Rattle.link_history.specs.Setting.{Machine, Setting}
 use Rattle.link_history.specs.State.{State}
 use Rattle.link_history.specs.Step.{keep}
 use Rattle.link_service.specs.Answer.{Answer, returns, loading, closing, refused, granted, told, again, over}
-use Rattle.link_service.specs.Call.{Call, resolves, opens, looks_up, closes, unmaps, asks_fault, locates, writes, stops}
+use Rattle.link_service.specs.Call.{Call, resolves, opens, looks_up, closes, unmaps, asks_fault, locates, writes, stops, caller_namespace}
 use Rattle.link_service.specs.Gives.{Gives, Serves}
 
 -- ---- legality
@@ -148,3 +149,9 @@ abbrev pub PassedOpens : Type 0
 PassedOpens = (w : Setting) (past : List Event) (h : ℕ) (ask : OpenAsk) (files : List File) (id root : ℕ) (added : List Loaded) (ranges : List Range) (given : List Event) (answer : Answer)
     → w.files ≡ Some files → Opens w (after past) h ask id root added ranges → Gives w past h (opens ask) given answer → is_chance answer ≡ false
     → given ≡ Open h ask (Done id root added ranges) ∷ []
+
+-- ---- callers
+
+-- a caller's namespace is there
+abbrev pub CallersAreThere : Type 0
+CallersAreThere = (m : Machine) (events : List Event) → Lawful m events → (ra : ℕ) → IsTrue (has_namespace (after events) (caller_namespace (after events) ra))

@@ -1,5 +1,6 @@
 pub mod Answer
 pub mod Call
+pub mod Complete
 pub mod Ends
 pub mod Gives
 pub mod Laws

@@ -1,6 +1,7 @@
 //! What holds of every call.
 
-ghost use Rattle.link_service.specs.Laws.{AgainAppendsNothing, AskFirst, EndsKeep, GivesLawful, GivesLegal, OneAnswer, OneOpening, PassedOpens};
+ghost use Rattle.link_service.specs.Complete.{Complete};
+ghost use Rattle.link_service.specs.Laws.{AgainAppendsNothing, AskFirst, CallersAreThere, EndsKeep, GivesLawful, GivesLegal, OneAnswer, OneOpening, PassedOpens};
 ghost use Rattle.link_service.specs.Laws.{RefusalIsKept, RefusalIsTold, RefusedKeeps, ServesLegal, StagesInOrder, SymbolsInOrder};
 
 /// A history that is legal before a call is legal with what the call gives, and with the end of the
@@ -45,4 +46,22 @@ pub fn refusals_come_in_order()
     ensures passed { PassedOpens }
 {
     scope_rule::one_outcome();
+}
+
+/// Each call that a hart may make has an answer, other than want of memory; what an opening comes to
+/// depends on the files besides.
+pub fn calls_are_answered()
+    ensures { Complete }
+{
+    scope_rule::serials_follow();
+    scope_rule::found_stands();
+    tls_blocks::modules_stay_numbered();
+}
+
+/// The namespace of each caller is there.
+pub fn callers_are_there()
+    ensures { CallersAreThere }
+{
+    scope_rule::serials_follow();
+    scope_rule::found_stands();
 }

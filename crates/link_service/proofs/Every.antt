@@ -1,0 +1,40 @@
+-- Each call that a hart may make has an answer.
+use Rattle.std.proofs.Common.{◌≡◌, ℕ, List, [], ◌∷◌, length, refl}
+use Rattle.link_event.specs.declared.event.Event.{Event}
+use Rattle.link_event.specs.declared.event.Event.TheVariants as events
+use Rattle.link_history.specs.After.{after}
+use Rattle.link_history.specs.Allowed.{kept_for}
+use Rattle.link_history.specs.Laws.{AreApart, ModulesAreTidy}
+use Rattle.link_history.specs.Legal.{Lawful}
+use Rattle.link_history.specs.Setting.{Machine, Setting}
+use Rattle.link_history.proofs.Alone.{apart}
+use Rattle.link_history.proofs.Brought.{LoadLaws}
+use Rattle.link_history.proofs.Moduled.{NumberLaws}
+use Rattle.link_history.proofs.Offsets.{modules_tidy}
+use Rattle.link_service.specs.Answer.{Answer, over, returns, told}
+use Rattle.link_service.specs.Call.{Call, resolves, opens, looks_up, closes, unmaps, asks_fault, locates, writes, stops}
+use Rattle.link_service.specs.Complete.{HasAnswer, MayMake}
+use Rattle.link_service.specs.Ends.EndsAs.{asked}
+use Rattle.link_service.specs.Gives.Answers.{is_told, is_written}
+use Rattle.link_service.specs.Gives.Gives.{by_event, to_end}
+use Rattle.link_service.proofs.Answered.{closes_answered, locates_answered, resolves_answered, unmaps_answered}
+use Rattle.link_service.proofs.Looked.{looks_up_answered}
+
+answered : (w : Setting) (past : List Event) (h : ℕ) (call : Call) → AreApart (after past) → ModulesAreTidy (after past) → MayMake (after past) h call → HasAnswer w past h call
+answered w past h (resolves owner eights) alone tidy may = resolves_answered w past h owner eights may
+answered w past h (opens ask) alone tidy may = absurd may
+answered w past h (looks_up ask) alone tidy may = looks_up_answered w past h ask may
+answered w past h (closes handle) alone tidy may = closes_answered w past h handle
+answered w past h (unmaps set) alone tidy may = unmaps_answered w past h set may
+answered w past h asks_fault alone tidy may = record {
+  given = events.Told h (kept_for (after past) h) ∷ [];
+  answer = told (kept_for (after past) h);
+  gives = by_event _ _ _ (is_told (kept_for (after past) h)) refl;
+  ample = refl;
+}
+answered w past h (locates number offset) alone tidy may = locates_answered w past h number offset alone tidy
+answered w past h (writes bytes) alone tidy may = record { given = events.Wrote h bytes ∷ []; answer = returns (length bytes); gives = by_event _ _ _ (is_written bytes) may; ample = refl }
+answered w past h (stops reason) alone tidy may = record { given = []; answer = over reason; gives = to_end _ _ (asked reason); ample = may }
+
+pub complete : NumberLaws → LoadLaws → (m : Machine) (w : Setting) (past : List Event) (h : ℕ) (call : Call) → w.machine ≡ m → Lawful m past → MayMake (after past) h call → HasAnswer w past h call
+complete numbers laws m w past h call same lawful may = answered w past h call (apart laws m past lawful) (modules_tidy numbers laws m past lawful) may

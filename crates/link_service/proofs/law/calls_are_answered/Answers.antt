@@ -1,0 +1,7 @@
+use Rattle.link_service.proofs.Every.{complete}
+use Rattle.link_service.proofs.law.calls_are_answered.Goals as goal
+
+pub returns : goal.returns
+returns c = complete
+    (record { more = c.modules_stay_numbered.ensures.more; fewer = c.modules_stay_numbered.ensures.fewer })
+    (record { serials = c.serials_follow.ensures; leads = c.found_stands.ensures.names; founds = c.found_stands.ensures.founds })
