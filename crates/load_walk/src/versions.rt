@@ -98,6 +98,27 @@ fn lacks_version(
     Ok(!is_defined_at(alloc, view, known, serial, version)?)
 }
 
+/// The first version that an object needs and that isn't there, by the places of its names.
+fn lack_among<'a>(
+    alloc: Global,
+    view: &View,
+    known: &mut Sequence<Definer>,
+    object: &'a Loaded,
+    places: &Places,
+) -> Result<Option<&'a Verneed>, AllocError>
+    requires known { Knows (seen view.now).objects known.old }
+    requires places { ArePlacesOf object.now.object.needed places.now }
+    ensures knows { OnOk result (Knows (seen view.now).objects known.new) }
+    ensures lack { IfOk result (λ lack. option_copied lack ≡ first_lack (seen view.now).objects object.now) }
+{
+    for need in object.object.verneeds.as_slice() {
+        if lacks_version(alloc, view, known, object, places, need)? {
+            return Ok(Some(need));
+        }
+    }
+    Ok(None)
+}
+
 /// The first version that an object needs and that isn't there.
 fn first_lack<'a>(
     alloc: Global,
@@ -110,12 +131,7 @@ fn first_lack<'a>(
     ensures lack { IfOk result (λ lack. option_copied lack ≡ first_lack (seen view.now).objects object.now) }
 {
     let places = Places::of(alloc, object.object.needed.as_slice())?;
-    for need in object.object.verneeds.as_slice() {
-        if lacks_version(alloc, view, known, object, &places, need)? {
-            return Ok(Some(need));
-        }
-    }
-    Ok(None)
+    lack_among(alloc, view, known, object, &places)
 }
 
 /// The refusal of an object that needs a version that isn't there.
@@ -128,6 +144,24 @@ fn version_fault(alloc: Global, object: &Loaded, need: &Verneed) -> Result<DlFau
     Ok(DlFault::MissingVersion(path, file, name))
 }
 
+/// The first refusal of new objects, in load order, from what is known of versions.
+fn first_fault(
+    alloc: Global,
+    view: &View,
+    known: &mut Sequence<Definer>,
+    added: &[Loaded],
+) -> Result<Option<DlFault>, AllocError>
+    requires { Knows (seen view.now).objects known.old }
+    ensures { IfOk result (λ fault. fault ≡ missing_version (seen view.now).objects added.now) }
+{
+    for object in added {
+        if let Some(need) = first_lack(alloc, view, known, object)? {
+            return Ok(Some(version_fault(alloc, object, need)?));
+        }
+    }
+    Ok(None)
+}
+
 /// The first refusal of new objects, in load order, for a version that isn't there.
 pub(crate) fn missing_version(
     alloc: Global,
@@ -137,10 +171,5 @@ pub(crate) fn missing_version(
     ensures { IfOk result (λ fault. fault ≡ missing_version (seen view.now).objects added.now) }
 {
     let mut known = Sequence::new(alloc);
-    for object in added {
-        if let Some(need) = first_lack(alloc, view, &mut known, object)? {
-            return Ok(Some(version_fault(alloc, object, need)?));
-        }
-    }
-    Ok(None)
+    first_fault(alloc, view, &mut known, added)
 }

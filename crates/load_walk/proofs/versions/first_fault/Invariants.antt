@@ -2,7 +2,7 @@ use Rattle.std.proofs.Common.{◌≡◌, drop}
 use Rattle.scope_rule.specs.Needed.{missing_version}
 use Rattle.scope_rule.specs.Seen.{seen}
 use Rattle.load_walk.specs.Lookup.{Knows}
-use Rattle.load_walk.proofs.versions.missing_version.Given as goal
+use Rattle.load_walk.proofs.versions.first_fault.Given as goal
 
 -- the search of the rest is the search of the whole
 abbrev pub invariant-loop-object : goal.invariant-loop-object

@@ -3,7 +3,7 @@ use Rattle.std.specs.List.{find}
 use Rattle.scope_rule.specs.Needed.{lacks_version, first_lack}
 use Rattle.scope_rule.specs.Seen.{seen}
 use Rattle.load_walk.specs.Lookup.{Knows}
-use Rattle.load_walk.proofs.versions.first_lack.Given as goal
+use Rattle.load_walk.proofs.versions.lack_among.Given as goal
 
 -- the search of the rest is the search of the whole
 abbrev pub invariant-loop-need : goal.invariant-loop-need
