@@ -6,7 +6,7 @@ use Rattle.std.specs.List.{list_any, list_all}
 use Rattle.rv_isa.specs.declared.instr.Instr.{Instr}
 use Rattle.rv_isa.specs.declared.instr.Instr.TheVariants as instrs
 use Rattle.rv_isa.specs.Opcodes.{Upper, Number as Plain, Shift, imm_code}
-use Rattle.rv_isa.specs.Word.{part}
+use Rattle.rv_isa.specs.Word.{bits, part}
 use Rattle.ld_base.specs.declared.fault.AsmCause.{AsmCause}
 use Rattle.ld_base.specs.declared.fault.AsmCause.TheVariants as causes
 use Rattle.asm_statement.specs.declared.number.Number.{Number}
@@ -47,6 +47,12 @@ abbrev pub fits_field : Upper → ℤ → Bool
 fits_field Plain number = is_within 12 number
 fits_field (Shift width constant) number = int_le (pos 0) number && int_lt number (pos (2 ^ width))
 
+abbrev pub is_atomic_size : ℕ → Bool
+is_atomic_size size = (size == 4) || (size == 8)
+
+abbrev pub is_fence : ℕ → Bool
+is_fence word = nat_lt word (2 ^ 32) && ((bits 0 7 word == 0x0f) && (bits 12 3 word == 0))
+
 unfoldable pub has_form : Instr → Bool
 has_form (instrs.Lui rd number) = is_upper number
 has_form (instrs.Auipc rd number) = is_upper number
@@ -57,10 +63,10 @@ has_form (instrs.Load op rd rs1 offset) = is_within 12 offset
 has_form (instrs.Store op rs1 rs2 offset) = is_within 12 offset
 has_form (instrs.Imm op rd rs1 number) = let code = imm_code op in fits_field code.2 number
 has_form (instrs.Op op rd rs1 rs2) = true
-has_form (instrs.Amo op size rd rs1 rs2 aq rl) = true
-has_form (instrs.Lr size rd rs1 aq rl) = true
-has_form (instrs.Sc size rd rs1 rs2 aq rl) = true
-has_form (instrs.Fence word) = true
+has_form (instrs.Amo op size rd rs1 rs2 aq rl) = is_atomic_size size
+has_form (instrs.Lr size rd rs1 aq rl) = is_atomic_size size
+has_form (instrs.Sc size rd rs1 rs2 aq rl) = is_atomic_size size
+has_form (instrs.Fence word) = is_fence word
 has_form instrs.Ecall = true
 has_form instrs.Ebreak = true
 

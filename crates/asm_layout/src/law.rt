@@ -1,6 +1,8 @@
-//! Sources that are worked by hand.
+//! Sources that are worked by hand, and what the test of an instruction's numbers tells.
 
-ghost use Rattle.std.specs.Prelude.{◌≡◌, [], ◌∷◌, Some, None, codes};
+ghost use Rattle.std.specs.Prelude.{◌≡◌, [], ◌∷◌, Some, None, codes, Decides};
+ghost use Rattle.rv_isa.specs.declared.instr.Instr.{Instr};
+ghost use Rattle.rv_isa.specs.Encoding.{HasForm};
 ghost use Rattle.ld_base.specs.declared.fault.AsmCause.TheVariants.{OutOfRange, DoubleLabel, UnknownLabel, WrongSection};
 ghost use Rattle.asm_layout.specs.declared.part.Part.TheVariants as parts;
 ghost use Rattle.asm_layout.specs.Examples.{program, library, twice, too_great, nowhere, misplaced};
@@ -8,7 +10,7 @@ ghost use Rattle.asm_layout.specs.Uses.{slots, imports};
 ghost use Rattle.asm_layout.specs.Parts.{start_of};
 ghost use Rattle.asm_layout.specs.Relr.{relr_words};
 ghost use Rattle.asm_layout.specs.Words.{words_at};
-ghost use Rattle.asm_layout.specs.Faults.{fault_at};
+ghost use Rattle.asm_layout.specs.Faults.{fault_at, has_form};
 
 /// A program that calls another object's function: one slot, one undefined symbol, and where its
 /// parts start; the call of the slot and that of its own label as the machine reads them.
@@ -52,4 +54,10 @@ pub fn worked_faults()
     ensures great { fault_at too_great 0 ≡ Some OutOfRange }
     ensures nowhere { fault_at nowhere 0 ≡ Some UnknownLabel }
     ensures misplaced { fault_at misplaced 1 ≡ Some WrongSection }
+{}
+
+/// An instruction passes the test exactly where its numbers are ones that its form can hold, as the
+/// table of instructions has it.
+pub fn forms_are_those_of_the_table()
+    ensures { (instr : Instr) → Decides (has_form instr) (HasForm instr) }
 {}

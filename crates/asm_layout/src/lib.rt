@@ -12,7 +12,8 @@
 //! - `specs/Faults`: why a line is refused.
 //!
 //! [`worked_program`], [`worked_library`] and [`worked_faults`] are sources worked by hand: the definitions
-//! compute to what they have to.
+//! compute to what they have to. [`forms_are_those_of_the_table`]: a number is out of range exactly where the
+//! instruction's form in `rv_isa` can't hold it.
 #![tactic(auto)]
 
 mod law;
@@ -20,7 +21,7 @@ mod part;
 mod place;
 mod uses;
 
-pub use law::{worked_faults, worked_library, worked_program};
+pub use law::{forms_are_those_of_the_table, worked_faults, worked_library, worked_program};
 pub use part::Part;
 pub use place::Place;
 pub use uses::{Exported, GotKind, GotUse};
