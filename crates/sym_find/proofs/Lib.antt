@@ -1,0 +1,5 @@
+pub mod Found
+pub mod GnuWalks
+pub mod Kept
+pub mod Marked
+pub mod SysvWalks

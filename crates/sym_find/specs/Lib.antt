@@ -1,0 +1,4 @@
+pub mod Best
+pub mod Found
+pub mod Reference
+pub mod Walks

@@ -1,0 +1,130 @@
+//! Finding a symbol by the hash table of its object.
+
+ghost use Rattle.std.specs.Prelude.{◌≡◌, ◌↔◌, ℕ, IfSome, Some, ◌&&◌, true};
+ghost use Rattle.ld_base.specs.Pick.{is_offer, names_no_version, pick_of};
+ghost use Rattle.ld_base.specs.Taken.{Exports, fits};
+ghost use Rattle.ld_base.specs.declared.object.Symbol.{Symbol};
+ghost use Rattle.sym_find.specs.Best.{Keeps, Knows, passes};
+ghost use Rattle.sym_find.specs.Found.{Finds};
+ghost use Rattle.sym_find.specs.Reference.{want_as};
+ghost use Rattle.sym_hash.specs.Reached.{IsTableOf, Reached};
+
+use crate::best::{Best, Search, Test};
+use crate::carriers::Carriers;
+use crate::reference::{Asked, Sought};
+use crate::{gnu, sysv};
+use ld_base::{HashTable, Object, Want, one_pick};
+
+/// The index whose version every reference takes, and the first that an object gives (Drepper, "ELF
+/// Symbol Versioning").
+const GLOBAL: u16 = 1;
+
+const FIRST_DEFINED: u16 = 2;
+
+/// Finding a symbol by the hash table of its object.
+pub trait Find {
+    /// The index of the definition that a reference to the name takes in the object of this table, or
+    /// none: what `pick` gives, of the symbols that the table leads to (gABI, "Hash Table").
+    ///
+    /// The GNU table is walked where there is one, else the System V table. It takes no memory.
+    fn find(&self, object: &Object, name: &[u8], want: &Want) -> Option<u32>;
+
+    /// The same for a reference whose hashes are known.
+    fn find_sought(&self, object: &Object, sought: &Sought) -> Option<u32>;
+}
+
+/// What is kept of the symbols that a table leads to.
+fn walk(table: &HashTable, sought: &Sought, search: &Search) -> Best
+    ensures { Knows search.now (Reached table.now sought.now.name) result }
+{
+    match (&table.gnu, &table.sysv) {
+        (Some(gnu), _) => gnu::best(gnu, sought.gnu(), search),
+        (None, Some(sysv)) => sysv::best(sysv, sought.sysv(), search),
+        (None, None) => Best::new(),
+    }
+}
+
+/// What is kept of those whose version passes a test.
+fn kept(table: &HashTable, object: &Object, sought: &Sought, test: Test) -> Best
+    ensures { ((s : Symbol) → fits object.now sought.now.name sought.now.want s ≡ (is_offer object.now sought.now.name s && passes test.entry s))
+        → Keeps object.now sought.now.name sought.now.want (Reached table.now sought.now.name) result }
+{
+    let search = Search {
+        object,
+        name: sought.name(),
+        test,
+    };
+    walk(table, sought, &search)
+}
+
+/// What is kept for a reference that names a version.
+fn kept_of_version(table: &HashTable, object: &Object, sought: &Sought, version: &[u8]) -> Best
+    requires versions { object.now.has_versym ≡ true }
+    requires want { sought.now.want ≡ Want.Version version.now }
+    ensures { Keeps object.now sought.now.name sought.now.want (Reached table.now sought.now.name) result }
+{
+    let carriers = Carriers::new(object, version);
+    kept(table, object, sought, Test::Version(&carriers))
+}
+
+/// What is kept for dlvsym.
+fn kept_of_just(table: &HashTable, object: &Object, sought: &Sought, version: &[u8]) -> Best
+    requires versions { object.now.has_versym ≡ true }
+    requires want { sought.now.want ≡ Want.Dlvsym version.now }
+    ensures { Keeps object.now sought.now.name sought.now.want (Reached table.now sought.now.name) result }
+{
+    let carriers = Carriers::new(object, version);
+    kept(table, object, sought, Test::Just(&carriers))
+}
+
+/// What is kept for a reference to an object with versions.
+fn kept_with_versions(table: &HashTable, object: &Object, sought: &Sought) -> Best
+    requires versions { object.now.has_versym ≡ true }
+    ensures { Keeps object.now sought.now.name sought.now.want (Reached table.now sought.now.name) result }
+{
+    match sought.asked() {
+        Asked::Version(version) => kept_of_version(table, object, sought, version),
+        Asked::Plain => kept(table, object, sought, Test::Base(FIRST_DEFINED)),
+        Asked::Dlsym => kept(table, object, sought, Test::Base(GLOBAL)),
+        Asked::Dlvsym(version) => kept_of_just(table, object, sought, version),
+    }
+}
+
+/// What is kept for a reference.
+fn kept_for(table: &HashTable, object: &Object, sought: &Sought) -> Best
+    ensures { Keeps object.now sought.now.name sought.now.want (Reached table.now sought.now.name) result }
+{
+    if object.has_versym {
+        kept_with_versions(table, object, sought)
+    } else {
+        kept(table, object, sought, Test::Any)
+    }
+}
+
+/// Whether a definition that is alone in sight is taken.
+fn may_be_alone(object: &Object, sought: &Sought) -> bool
+    ensures { result ≡ (object.now.has_versym && names_no_version sought.now.want) }
+{
+    object.has_versym && sought.asked().names_no_version()
+}
+
+impl Find for HashTable {
+    fn find(&self, object: &Object, name: &[u8], want: &Want) -> Option<u32>
+        ensures found { (k : ℕ) → (result ≡ Some k) ↔ Finds self.now object.now name.now want.now k }
+        ensures reached { IfSome result (λ k. Exports object.now (is_offer object.now name.now) k × Reached self.now name.now k) }
+        ensures picks { IsTableOf self.now object.now → result ≡ pick_of object.now name.now want.now }
+    {
+        self.find_sought(object, &Sought::new(name, Asked::of(want)))
+    }
+
+    fn find_sought(&self, object: &Object, sought: &Sought) -> Option<u32>
+        ensures found { (k : ℕ) → (result ≡ Some k) ↔ Finds self.now object.now sought.now.name sought.now.want k }
+        ensures reached { IfSome result (λ k. Exports object.now (is_offer object.now sought.now.name) k × Reached self.now sought.now.name k) }
+        ensures picks { IsTableOf self.now object.now → result ≡ pick_of object.now sought.now.name sought.now.want }
+    {
+        one_pick();
+        let best = kept_for(self, object, sought);
+        let only = may_be_alone(object, sought);
+        best.taken(only)
+    }
+}
