@@ -1,8 +1,8 @@
 -- Each call has an answer.
-use Rattle.std.proofs.Common.{◌≡◌, ◌⊎◌, inl, inr, ⊎_elim, ℕ, ◌+◌, ◌*◌, ◌≤◌, Bool, true, false, not, eqb, leb, List, [], ◌∷◌, length, map, Option, Some, None, refl, sym, ap, subst, ◌∙◌, arith}
-use Rattle.std.specs.Prelude.{IsSome, IsTrue, max, ◌/◌, ◌%◌, ◌^◌, ◌&&◌, ◌||◌, ◌<◌}
-use Rattle.std.specs.List.{Contains, find, flat_map, list_any, slice_get}
-use Rattle.std.specs.Option.{is_some, option_map}
+use Rattle.std.proofs.Common.{◌≡◌, ◌⊎◌, inl, inr, ⊎_elim, ℕ, ◌+◌, ◌*◌, ◌≤◌, Bool, true, false, eqb, leb, List, [], ◌∷◌, length, map, Option, Some, None, refl, sym, ap, subst, ◌∙◌, arith}
+use Rattle.std.specs.Prelude.{IsSome, max, ◌/◌, ◌%◌, ◌&&◌, ◌||◌, ◌<◌}
+use Rattle.std.specs.List.{Contains, list_any, slice_get}
+use Rattle.std.specs.Option.{is_some}
 use Rattle.std.proofs.Math.Nat.{le-max_left}
 use Rattle.std.proofs.lemmas.Bool.{and_from, and_parts, cases_Bool, cases_lt, eq-eqb, eqb-true, leb-true, or_cases, or_left, or_right, true≢false}
 use Rattle.ld_base.specs.declared.fault.DlFault.TheVariants as faults
@@ -12,7 +12,6 @@ use Rattle.ld_base.specs.declared.linking.Loaded.{Loaded}
 use Rattle.ld_base.specs.declared.object.Reloc.{Reloc}
 use Rattle.ld_base.specs.declared.object.TlsSeg.{TlsSeg}
 use Rattle.address_space.specs.Pages.{Fits, IsFirstFit}
-use Rattle.link_event.specs.declared.event.CloseAnswer.TheVariants as closings
 use Rattle.link_event.specs.declared.event.Event.{Event}
 use Rattle.link_event.specs.declared.event.Event.TheVariants as events
 use Rattle.link_event.specs.declared.hart_end.HartEnd.TheVariants as ends
@@ -28,11 +27,11 @@ use Rattle.scope_rule.specs.declared.namespace.Namespace.{Namespace}
 use Rattle.tls_blocks.specs.Numbers.{module_at}
 use Rattle.link_history.specs.Addresses.{address, leads_to_code}
 use Rattle.link_history.specs.After.{after}
-use Rattle.link_history.specs.Allowed.{Closes, IsBadHandle, IsOpened, closable, kept_for}
+use Rattle.link_history.specs.Allowed.{Closes, IsOpened, closable}
 use Rattle.link_history.specs.Areas.{free_pages}
 use Rattle.link_history.specs.Bound.{lazy_word}
 use Rattle.link_history.specs.Grants.{is_open, is_open_standing, target_of}
-use Rattle.link_history.specs.Laws.{AreApart, IsIn, IsModule, ModulesAreTidy}
+use Rattle.link_history.specs.Laws.{AreApart, IsModule, ModulesAreTidy}
 use Rattle.link_history.specs.Links.{edges, roots}
 use Rattle.link_history.specs.Lookup.{HasNoBlock, MayHaveBlock, WantsBlock}
 use Rattle.link_history.specs.Objects.{IsMapped, has, mapped, object_at, serial_of}
@@ -43,18 +42,17 @@ use Rattle.link_history.specs.Step.{lower}
 use Rattle.link_history.specs.Storage.{block_align, block_pages, module_of, residue, tls_block}
 use Rattle.link_history.proofs.Lists.{any_in, first_or_later, found_in, from_flat, has_in, here, in_any, in_flat, in_has, later, none_in, not_found}
 use Rattle.link_history.proofs.Played.{bad_handle}
-use Rattle.link_service.specs.Answer.{Answer, returns, closing, refused, granted, told, again, over}
-use Rattle.link_service.specs.Call.{Call, resolves, opens, looks_up, closes, unmaps, asks_fault, locates, writes, stops}
+use Rattle.link_service.specs.Answer.{returns, granted, again, over}
+use Rattle.link_service.specs.Call.{resolves, closes, unmaps, locates}
 use Rattle.link_service.specs.Complete.{HasAnswer, HasStorage}
-use Rattle.link_service.specs.Ends.{HasNoRoom, IsBadModule, IsUnloaded, LacksSlot}
-use Rattle.link_service.specs.Ends.EndsAs.{unloaded, no_slot, bad_module, no_room, asked}
-use Rattle.link_service.specs.Gives.{Gives, variable_at}
-use Rattle.link_service.specs.Gives.Answers.{dies, stays, is_found, is_granted, is_not_closed, is_not_code, is_not_found, is_told, is_unmapped, is_unresolved, is_written}
-use Rattle.link_service.specs.Gives.Gives.{by_event, by_first_block, in_new_block, in_block, to_again, to_end}
+use Rattle.link_service.specs.Ends.{LacksSlot}
+use Rattle.link_service.specs.Ends.EndsAs.{unloaded, no_slot, bad_module, no_room}
+use Rattle.link_service.specs.Gives.{variable_at}
+use Rattle.link_service.specs.Gives.Answers.{dies, stays, is_granted, is_not_closed, is_not_code, is_unmapped, is_unresolved}
+use Rattle.link_service.specs.Gives.Gives.{by_event, in_new_block, in_block, to_again, to_end}
 use Rattle.link_service.specs.Waiting.{HasFinished, Touches}
 use Rattle.link_service.specs.Waiting.Shows.{by_grant}
 use Rattle.link_service.proofs.Decide.{first_fit, unneeded}
-use Rattle.link_service.proofs.Unique.{not_both}
 
 -- ---- a slot
 

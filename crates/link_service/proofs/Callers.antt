@@ -1,7 +1,7 @@
 -- A caller's namespace is there: the base never ends.
-use Rattle.std.proofs.Common.{◌≡◌, ℕ, Bool, true, false, eqb, List, [], ◌∷◌, ◌++◌, map, length, Option, Some, None, refl, sym, ap, subst, ◌∙◌}
+use Rattle.std.proofs.Common.{◌≡◌, ℕ, Bool, true, false, eqb, List, [], ◌∷◌, ◌++◌, map, Option, Some, None, refl, subst, ◌∙◌}
 use Rattle.std.specs.Prelude.{if◌then◌else◌}
-use Rattle.std.specs.List.{Contains, filter, find, list_any}
+use Rattle.std.specs.List.{Contains, list_any}
 use Rattle.std.specs.Option.{option_map_or}
 use Rattle.std.proofs.lemmas.Bool.{eq-eqb, or_left}
 use Rattle.std.proofs.lemmas.List.Elements.{Contains-append_left}
@@ -18,7 +18,6 @@ use Rattle.link_history.specs.Setting.{Machine}
 use Rattle.link_history.specs.State.{Linked, State, empty_namespace}
 use Rattle.link_history.specs.Step.{die, dying_in, gone_in, initialise, is_left, loaded, lower, lowered_in, ready_in, unmap}
 use Rattle.link_history.proofs.Brought.{LoadLaws}
-use Rattle.link_history.proofs.Good.{Core, core}
 use Rattle.link_history.proofs.Lists.{found_in, here, in_any, in_filter, in_map}
 use Rattle.link_history.proofs.Steps.{Law, by_law}
 use Rattle.link_service.specs.Call.{caller_namespace}

@@ -1,7 +1,7 @@
 -- What can be decided of a state: what is reached, what fits, what holds a set.
-use Rattle.std.proofs.Common.{◌≡◌, ◌⊎◌, inl, inr, ⊎_elim, ℕ, zero, suc, ◌+◌, ◌*◌, ◌<◌, ◌≤◌, Bool, true, false, not, eqb, List, [], ◌∷◌, map, filter, length, Option, Some, None, refl, sym, ap, subst, ◌∙◌, arith}
+use Rattle.std.proofs.Common.{◌≡◌, ◌⊎◌, inl, inr, ⊎_elim, ℕ, zero, suc, ◌+◌, ◌*◌, ◌<◌, ◌≤◌, Bool, true, false, eqb, List, [], ◌∷◌, filter, refl, sym, subst, ◌∙◌, arith}
 use Rattle.std.specs.Prelude.{◌%◌}
-use Rattle.std.specs.List.{Contains, list_any}
+use Rattle.std.specs.List.{Contains}
 use Rattle.std.proofs.lemmas.Bool.{cases_Bool, cases_lt, eq-eqb, eqb-true, true≢false}
 use Rattle.address_space.specs.Pages.{AllFree, Fits, IsFirstFit, page_size}
 use Rattle.link_graph.specs.declared.graph.Edge.{Edge}

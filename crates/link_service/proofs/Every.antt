@@ -11,7 +11,7 @@ use Rattle.link_history.proofs.Alone.{apart}
 use Rattle.link_history.proofs.Brought.{LoadLaws}
 use Rattle.link_history.proofs.Moduled.{NumberLaws}
 use Rattle.link_history.proofs.Offsets.{modules_tidy}
-use Rattle.link_service.specs.Answer.{Answer, over, returns, told}
+use Rattle.link_service.specs.Answer.{over, returns, told}
 use Rattle.link_service.specs.Call.{Call, resolves, opens, looks_up, closes, unmaps, asks_fault, locates, writes, stops}
 use Rattle.link_service.specs.Complete.{HasAnswer, MayMake}
 use Rattle.link_service.specs.Ends.EndsAs.{asked}

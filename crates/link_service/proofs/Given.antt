@@ -13,7 +13,9 @@ use Rattle.link_event.specs.declared.state.Kept.{Kept}
 use Rattle.link_history.specs.After.{after}
 use Rattle.link_history.specs.Allowed.{Allowed, MayEnd, kept_for}
 use Rattle.link_history.specs.Legal.{Lawful, Legal}
+use Rattle.link_history.specs.Memory.{role_at, word_at}
 use Rattle.link_history.specs.Setting.{Machine, Setting}
+use Rattle.link_history.specs.Storage.{tls_block, tp_of}
 use Rattle.link_history.specs.State.{State}
 use Rattle.link_history.specs.Step.{keep, step, tell}
 use Rattle.link_history.proofs.History.{after_push, lawful_push, legal_push}
@@ -120,6 +122,21 @@ appends (to_end call reason ends) = tt
 pub refused_keeps : (w : Setting) (past : List Event) (h : ℕ) (call : Call) (given : List Event) (fault : DlFault) → Gives w past h call given (refused fault)
     → after (past ++ given) ≡ keep h fault (after past)
 refused_keeps w past h call given fault gives = left gives
+
+kept_role : (h : ℕ) (fault : DlFault) (s : State) (a : ℕ) → role_at (keep h fault s) a ≡ role_at s a
+unfolding role_at
+kept_role h fault s a = refl
+
+kept_word : (h : ℕ) (fault : DlFault) (s : State) (a : ℕ) → word_at (keep h fault s) a ≡ word_at s a
+unfolding word_at tls_block tp_of
+kept_word h fault s a = refl
+
+pub refused_leaves_memory : (w : Setting) (past : List Event) (h : ℕ) (call : Call) (given : List Event) (fault : DlFault) (a : ℕ) → Gives w past h call given (refused fault)
+    → (role_at (after (past ++ given)) a ≡ role_at (after past) a) × (word_at (after (past ++ given)) a ≡ word_at (after past) a)
+refused_leaves_memory w past h call given fault a gives = (
+  ap (λ (s : State). role_at s a) (refused_keeps w past h call given fault gives) ∙ kept_role h fault (after past) a,
+  ap (λ (s : State). word_at s a) (refused_keeps w past h call given fault gives) ∙ kept_word h fault (after past) a,
+)
 
 pub again_appends_nothing : (w : Setting) (past : List Event) (h : ℕ) (call : Call) (given : List Event) (for : Shown) → Gives w past h call given (again for) → given ≡ []
 again_appends_nothing w past h call given for gives = appends gives

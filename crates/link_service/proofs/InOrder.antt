@@ -1,61 +1,26 @@
 -- Of refusals the first is given, and an opening that passes opens.
-use Rattle.std.proofs.Common.{◌≡◌, ⊎_elim, ℕ, ◌+◌, ◌*◌, ◌≤◌, Bool, true, false, List, [], ◌∷◌, ◌++◌, length, map, Option, Some, None, refl, sym, ap, subst, ◌∙◌, arith}
-use Rattle.std.specs.List.{Contains, slice_get}
-use Rattle.std.proofs.lemmas.Bool.{true≢false}
+use Rattle.std.proofs.Common.{◌≡◌, ℕ, false, List, [], ◌∷◌, length, Some, refl, ap, arith}
 use Rattle.ld_base.specs.declared.fault.DlFault.{DlFault}
-use Rattle.ld_base.specs.declared.fault.Shown.{Shown}
-use Rattle.ld_base.specs.declared.fault.Shown.TheVariants as shown
-use Rattle.ld_base.specs.declared.linking.Choice.{Choice}
-use Rattle.ld_base.specs.declared.linking.Choice.TheVariants.{Def, WeakZero, Missing}
 use Rattle.ld_base.specs.declared.linking.File.{File}
 use Rattle.ld_base.specs.declared.linking.Loaded.{Loaded}
-use Rattle.link_event.specs.declared.event.CloseAnswer.TheVariants as closings
 use Rattle.link_event.specs.declared.event.Event.{Event}
 use Rattle.link_event.specs.declared.event.Event.TheVariants as events
 use Rattle.link_event.specs.declared.event.OpenAnswer.TheVariants as openings
 use Rattle.link_event.specs.declared.event.OpenAsk.{OpenAsk}
 use Rattle.link_event.specs.declared.event.Range.{Range}
-use Rattle.link_event.specs.declared.event.SymAnswer.TheVariants as symbols
 use Rattle.link_event.specs.declared.event.SymAsk.{SymAsk}
-use Rattle.link_event.specs.declared.hart_end.HartEnd.{HartEnd}
 use Rattle.link_event.specs.declared.hart_end.HartEnd.TheVariants as ends
-use Rattle.link_event.specs.declared.state.Module.{Module}
-use Rattle.link_event.specs.declared.state.Standing.TheVariants.{Open}
-use Rattle.link_history.specs.Addresses.{address, leads_to_code}
 use Rattle.link_history.specs.After.{after}
-use Rattle.link_history.specs.Allowed.{Allowed, Closes, IsBadHandle, IsOpened, IsUnresolved, MayUnmap, kept_for}
-use Rattle.link_history.specs.Laws.{AreApart, IsIn, OpeningsStand}
-use Rattle.link_history.specs.Legal.{Lawful}
-use Rattle.link_history.specs.Links.{IsUnneeded, edges, roots}
-use Rattle.link_history.specs.Lookup.{FindsSymbol, HasNoBlock, MayAnswer, MayHaveBlock, RefusesSymbol, is_storage_symbol, search}
-use Rattle.link_history.specs.Lookup.RefusesSymbol.{name_too_long, bad_handle, missing, no_room as no_pages}
-use Rattle.link_history.specs.Objects.{serial_of}
+use Rattle.link_history.specs.Lookup.{RefusesSymbol}
 use Rattle.link_history.specs.Opening.{Opens, Refuses}
-use Rattle.link_history.specs.Setting.{Machine, Setting}
-use Rattle.link_history.specs.Slots.{IsSlot, lazy_of}
-use Rattle.link_history.specs.State.{State}
-use Rattle.link_history.specs.Step.{lower, step}
-use Rattle.link_history.specs.Storage.{tls_block}
-use Rattle.tls_blocks.specs.Numbers.{module_at}
-use Rattle.scope_rule.specs.Loading.{is_dying}
-use Rattle.scope_rule.specs.declared.namespace.Namespace.{Namespace}
-use Rattle.link_history.proofs.Alone.{apart}
-use Rattle.link_history.proofs.Brought.{LoadLaws}
-use Rattle.link_history.proofs.History.{after_push}
-use Rattle.link_history.proofs.Openings.{openings_stand}
-use Rattle.link_service.specs.Answer.{Answer, returns, loading, closing, refused, granted, told, again, over}
-use Rattle.link_service.specs.Call.{Call, resolves, opens, looks_up, closes, unmaps, asks_fault, locates, writes, stops}
-use Rattle.link_service.specs.Ends.{EndsAs, HasNoRoom, IsBadModule, IsUnloaded, LacksSlot}
-use Rattle.link_service.specs.Ends.EndsAs.{unloaded, no_slot, bad_module, no_room, no_memory, asked}
-use Rattle.link_service.specs.Gives.{Answers, FindsFirst, GetsBlock, Gives, HasBlock, variable_at}
-use Rattle.link_service.specs.Gives.Answers.{is_loaded, is_there, is_absent, is_not_opened, dies, stays, is_not_closed, is_unmapped, is_granted, is_unresolved, is_not_code, is_found, is_not_found, is_told, is_written}
-use Rattle.link_service.specs.Gives.Gives.{by_event, by_first_block, in_new_block, in_block, to_again, to_end}
-use Rattle.link_service.specs.Laws.{IsPlain, RefusesAsk, is_chance, is_memory, is_read_fault, is_want}
-use Rattle.link_service.specs.Waiting.{IsHeldBy, Shows}
-use Rattle.link_service.specs.Waiting.Shows.{by_load, by_grant}
-use Rattle.link_service.proofs.Opened.{ComesTo, OutcomeLaws, from_absent, from_opens, from_refuses, from_waits, missing as missing_end, not_opened, opened, passed_opens, refused_asked, refused_first, same_opening, waiting}
-use Rattle.link_service.proofs.Unique.{block_or_none, both_found, eight_times, found_or_refused, has_found, long_or_short, no_search, not_both, not_yet, same_block, same_found, same_lack, same_refusal, same_slot, same_symbol, same_unneeded}
-use Rattle.link_service.proofs.Told.{LookedUp, ample_of, comes_to, located, looked_up, same_located, same_looked_up}
+use Rattle.link_history.specs.Setting.{Setting}
+use Rattle.link_service.specs.Answer.{Answer, returns, refused, over}
+use Rattle.link_service.specs.Call.{opens, looks_up, locates}
+use Rattle.link_service.specs.Ends.{IsBadModule}
+use Rattle.link_service.specs.Gives.{FindsFirst, Gives}
+use Rattle.link_service.specs.Laws.{RefusesAsk, is_chance, is_read_fault, is_want}
+use Rattle.link_service.proofs.Opened.{OutcomeLaws, passed_opens, refused_asked, refused_first}
+use Rattle.link_service.proofs.Told.{ample_of, comes_to, located, looked_up, same_located, same_looked_up}
 use Rattle.link_service.proofs.Told.LookedUp.{finds_first, refuses}
 use Rattle.link_service.proofs.Told.Located.{is_bad}
 

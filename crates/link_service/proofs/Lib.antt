@@ -8,6 +8,7 @@ pub mod InOrder
 pub mod Looked
 pub mod Opened
 pub mod Readings
+pub mod Rooted
 pub mod Stored
 pub mod Told
 pub mod Unique

@@ -1,7 +1,7 @@
 -- Each look-up of a symbol has an answer.
 use Rattle.std.proofs.Common.{◌≡◌, ◌⊎◌, inl, inr, ⊎_elim, ℕ, ◌+◌, ◌≤◌, Bool, true, false, eqb, List, [], ◌∷◌, ◌++◌, length, Option, Some, None, refl, sym, ap, subst, ◌∙◌, arith, cond}
 use Rattle.std.specs.Prelude.{IsSome, IsTrue, if◌then◌else◌, ◌%◌, ◌^◌, ◌&&◌}
-use Rattle.std.specs.List.{Contains, find, list_any}
+use Rattle.std.specs.List.{find}
 use Rattle.std.specs.Option.{option_map, option_map_or}
 use Rattle.std.proofs.lemmas.Bool.{and_from, cases_Bool, eq-eqb, leb-true, true≢false}
 use Rattle.ld_base.specs.declared.fault.DlFault.{DlFault}
@@ -19,7 +19,7 @@ use Rattle.ld_base.specs.declared.linking.Choice.TheVariants.{Def}
 use Rattle.link_history.specs.Addresses.{address}
 use Rattle.link_history.specs.After.{after}
 use Rattle.link_history.specs.Asking.{is_too_long}
-use Rattle.link_history.specs.Lookup.{FindsSymbol, HasNoBlock, IsAddressBy, IsShort, IsTooLong, MayAnswer, MayHaveBlock, RefusesSymbol, found_default, found_on_handle, is_storage_symbol, is_version_long, opened_in, search, symbol_value, wanted_of}
+use Rattle.link_history.specs.Lookup.{HasNoBlock, IsAddressBy, IsShort, IsTooLong, MayAnswer, MayHaveBlock, RefusesSymbol, found_default, found_on_handle, is_storage_symbol, is_version_long, opened_in, search, symbol_value, wanted_of}
 use Rattle.link_history.specs.Lookup.IsTooLong.{name as long_name, version as long_version}
 use Rattle.link_history.specs.Lookup.RefusesSymbol.{name_too_long, bad_handle, missing, no_room}
 use Rattle.link_history.specs.Objects.{has_id, has_namespace, namespace_of}
@@ -33,7 +33,6 @@ use Rattle.link_history.proofs.Lookups.{find_behind}
 use Rattle.link_service.specs.Answer.{returns, refused}
 use Rattle.link_service.specs.Call.{looks_up}
 use Rattle.link_service.specs.Complete.{FitsSymbol, HasAnswer}
-use Rattle.link_service.specs.Gives.{Gives}
 use Rattle.link_service.specs.Gives.Answers.{is_found, is_not_found}
 use Rattle.link_service.specs.Gives.Gives.{by_event, by_first_block}
 use Rattle.link_service.proofs.Answered.{block_or_full}

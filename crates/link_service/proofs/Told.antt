@@ -12,9 +12,7 @@ use Rattle.ld_base.specs.declared.linking.Loaded.{Loaded}
 use Rattle.link_event.specs.declared.event.CloseAnswer.TheVariants as closings
 use Rattle.link_event.specs.declared.event.Event.{Event}
 use Rattle.link_event.specs.declared.event.Event.TheVariants as events
-use Rattle.link_event.specs.declared.event.OpenAnswer.TheVariants as openings
 use Rattle.link_event.specs.declared.event.OpenAsk.{OpenAsk}
-use Rattle.link_event.specs.declared.event.Range.{Range}
 use Rattle.link_event.specs.declared.event.SymAnswer.TheVariants as symbols
 use Rattle.link_event.specs.declared.event.SymAsk.{SymAsk}
 use Rattle.link_event.specs.declared.hart_end.HartEnd.{HartEnd}
@@ -30,7 +28,6 @@ use Rattle.link_history.specs.Links.{IsUnneeded, edges, roots}
 use Rattle.link_history.specs.Lookup.{FindsSymbol, HasNoBlock, MayAnswer, MayHaveBlock, RefusesSymbol, is_storage_symbol, search}
 use Rattle.link_history.specs.Lookup.RefusesSymbol.{name_too_long, bad_handle, missing, no_room as no_pages}
 use Rattle.link_history.specs.Objects.{serial_of}
-use Rattle.link_history.specs.Opening.{Opens, Refuses}
 use Rattle.link_history.specs.Setting.{Machine, Setting}
 use Rattle.link_history.specs.Slots.{IsSlot, lazy_of}
 use Rattle.link_history.specs.State.{State}
@@ -43,6 +40,8 @@ use Rattle.link_history.proofs.Alone.{apart}
 use Rattle.link_history.proofs.Brought.{LoadLaws}
 use Rattle.link_history.proofs.History.{after_push}
 use Rattle.link_history.proofs.Openings.{openings_stand}
+use Rattle.scope_rule.specs.declared.namespace.OpenRec.{OpenRec}
+use Rattle.link_service.proofs.Rooted.{FindLaw, rooted_after}
 use Rattle.link_service.specs.Answer.{Answer, returns, loading, closing, refused, granted, told, again, over}
 use Rattle.link_service.specs.Call.{Call, resolves, opens, looks_up, closes, unmaps, asks_fault, locates, writes, stops}
 use Rattle.link_service.specs.Ends.{EndsAs, HasNoRoom, IsBadModule, IsUnloaded, LacksSlot}
@@ -50,10 +49,10 @@ use Rattle.link_service.specs.Ends.EndsAs.{unloaded, no_slot, bad_module, no_roo
 use Rattle.link_service.specs.Gives.{Answers, FindsFirst, GetsBlock, Gives, HasBlock, variable_at}
 use Rattle.link_service.specs.Gives.Answers.{is_loaded, is_there, is_absent, is_not_opened, dies, stays, is_not_closed, is_unmapped, is_granted, is_unresolved, is_not_code, is_found, is_not_found, is_told, is_written}
 use Rattle.link_service.specs.Gives.Gives.{by_event, by_first_block, in_new_block, in_block, to_again, to_end}
-use Rattle.link_service.specs.Laws.{IsPlain, RefusesAsk, is_chance, is_memory, is_read_fault, is_want}
+use Rattle.link_service.specs.Laws.{IsPlain, is_chance, is_memory, is_want}
 use Rattle.link_service.specs.Waiting.{IsHeldBy, Shows}
 use Rattle.link_service.specs.Waiting.Shows.{by_load, by_grant}
-use Rattle.link_service.proofs.Opened.{ComesTo, OutcomeLaws, from_absent, from_opens, from_refuses, from_waits, missing as missing_end, not_opened, opened, passed_opens, refused_asked, refused_first, same_opening, waiting}
+use Rattle.link_service.proofs.Opened.{ComesTo, OutcomeLaws, from_absent, from_opens, from_refuses, from_waits, missing as missing_end, not_opened, opened, same_opening, waiting}
 use Rattle.link_service.proofs.Unique.{block_or_none, both_found, eight_times, found_or_refused, has_found, long_or_short, no_search, not_both, not_yet, same_block, same_found, same_lack, same_refusal, same_slot, same_symbol, same_unneeded}
 
 -- ---- a slot
@@ -327,37 +326,40 @@ pub data Closed (s : State) (h handle : ℕ) : List Event → Answer → Type 0 
   gone : (given : List Event) (answer : Answer) → Gone s h handle given answer → Closed s h handle given answer
   bad : (fault : DlFault) → IsBadHandle s handle fault → Closed s h handle (events.Close h handle (closings.Refused fault) ∷ []) (refused fault)
 
+abbrev RootsAreSome : State → Type 0
+RootsAreSome s = (ns : Namespace) (r : OpenRec) → Contains s.namespaces ns → Contains ns.opens r → 1 ≤ r.root
+
 abbrev ThereBy : State → ℕ → Namespace → Type 0
 ThereBy s handle n = (o : Loaded) × IsIn s n o × (o.serial ≡ handle)
 
-same_home : (s : State) (handle : ℕ) → AreApart s → OpeningsStand s → 1 ≤ handle → (ns ms : Namespace) → IsOpened s handle ns → IsOpened s handle ms → ns ≡ ms
-same_home s handle apart stand some ns ms a b = at ns a (in_there ns a) (in_there ms b)
+same_home : (s : State) (handle : ℕ) → AreApart s → OpeningsStand s → RootsAreSome s → (ns ms : Namespace) → IsOpened s handle ns → IsOpened s handle ms → ns ≡ ms
+same_home s handle apart stand rooted ns ms a b = at ns a (in_there ns a) (in_there ms b)
   where
     in_there : (n : Namespace) → IsOpened s handle n → ThereBy s handle n
     in_there n x = ⊎_elim
-        (λ (e : x.opening.root ≡ 0). absurd (let of : x.opening.root ≡ handle = x.of in let zero_is : x.opening.root ≡ 0 = e in omega (arith, some, of, zero_is)))
+        (λ (e : x.opening.root ≡ 0). absurd (let some : 1 ≤ x.opening.root = rooted n x.opening x.there x.inside in let zero_is : x.opening.root ≡ 0 = e in omega (arith, some, zero_is)))
         (λ (lives : (o : Loaded) × Contains n.objects o × (o.serial ≡ x.opening.root) × (is_dying o ≡ false)). (lives.0, record { there = x.there; inside = lives.1 }, lives.2 ∙ x.of))
         (stand.root n x.opening x.there x.inside)
 
     at : (n : Namespace) → IsOpened s handle n → ThereBy s handle n → ThereBy s handle ms → n ≡ ms
     at n x i j = apart.objects n ms i.0 j.0 i.1 j.1 (i.2 ∙ sym j.2)
 
-same_dying : (s : State) (handle : ℕ) → AreApart s → OpeningsStand s → 1 ≤ handle → (set other : List ℕ) → Closes s handle set → Closes s handle other → set ≡ other
-same_dying s handle apart stand some set other a b =
+same_dying : (s : State) (handle : ℕ) → AreApart s → OpeningsStand s → RootsAreSome s → (set other : List ℕ) → Closes s handle set → Closes s handle other → set ≡ other
+same_dying s handle apart stand rooted set other a b =
     same_unneeded (edges (lower handle s)) (roots (lower handle s)) (map serial_of b.namespace.objects) set other
-    (subst (λ (n : Namespace). IsUnneeded (lower handle s) (map serial_of n.objects) set) (same_home s handle apart stand some a.namespace b.namespace a.opened b.opened) a.exactly)
+    (subst (λ (n : Namespace). IsUnneeded (lower handle s) (map serial_of n.objects) set) (same_home s handle apart stand rooted a.namespace b.namespace a.opened b.opened) a.exactly)
     b.exactly
 
-same_closed : (s : State) (h handle : ℕ) → AreApart s → OpeningsStand s → 1 ≤ handle → {given others : List Event} {answer other : Answer} → Closed s h handle given answer → Closed s h handle others other
+same_closed : (s : State) (h handle : ℕ) → AreApart s → OpeningsStand s → RootsAreSome s → {given others : List Event} {answer other : Answer} → Closed s h handle given answer → Closed s h handle others other
     → (given ≡ others) × (answer ≡ other)
-same_closed s h handle apart stand some (gone given answer a) (gone others other b) =
-    let sets : a.set ≡ b.set = same_dying s handle apart stand some a.set b.set a.closes b.closes in (
+same_closed s h handle apart stand rooted (gone given answer a) (gone others other b) =
+    let sets : a.set ≡ b.set = same_dying s handle apart stand rooted a.set b.set a.closes b.closes in (
       a.events_are ∙ ap (λ (x : List ℕ). events.Close h handle (closings.Done x) ∷ []) sets ∙ sym b.events_are,
       a.answer_is ∙ ap close_answer sets ∙ sym b.answer_is,
     )
-same_closed s h handle apart stand some (gone given answer a) (bad fault b) = absurd (b.none a.closes.namespace a.closes.opened)
-same_closed s h handle apart stand some (bad fault a) (gone others other b) = absurd (a.none b.closes.namespace b.closes.opened)
-same_closed s h handle apart stand some (bad fault a) (bad other b) =
+same_closed s h handle apart stand rooted (gone given answer a) (bad fault b) = absurd (b.none a.closes.namespace a.closes.opened)
+same_closed s h handle apart stand rooted (bad fault a) (gone others other b) = absurd (a.none b.closes.namespace b.closes.opened)
+same_closed s h handle apart stand rooted (bad fault a) (bad other b) =
     let same : fault ≡ other = a.is ∙ sym b.is in
     (ap (λ (x : DlFault). events.Close h handle (closings.Refused x) ∷ []) same, ap refused same)
 
@@ -449,18 +451,18 @@ invert (in_block number offset block has) ample = in_old block has
 invert {w} {past} (to_again call for shows) ample = invert_wait w past shows
 invert {w} {past} (to_end call reason comes) ample = invert_end w past comes ample
 
-one : (w : Setting) (past : List Event) (h : ℕ) (call : Call) (given others : List Event) (answer other : Answer) → AreApart (after past) → OpeningsStand (after past) → IsPlain call
+one : (w : Setting) (past : List Event) (h : ℕ) (call : Call) (given others : List Event) (answer other : Answer) → AreApart (after past) → OpeningsStand (after past) → RootsAreSome (after past) → IsPlain call
     → Inverts w past h call given answer → Inverts w past h call others other → (given ≡ others) × (answer ≡ other)
 unfolding Inverts
-one w past h (resolves owner eights) given others answer other apart stand plain a b = same_resolved (after past) h owner eights apart a b
-one w past h (opens ask) given others answer other apart stand plain a b = absurd plain
-one w past h (looks_up ask) given others answer other apart stand plain a b = same_looked_up w past h ask a b
-one w past h (closes handle) given others answer other apart stand plain a b = same_closed (after past) h handle apart stand plain a b
-one w past h (unmaps set) given others answer other apart stand plain a b = same_unmapping (after past) h set a b
-one w past h asks_fault given others answer other apart stand plain a b = (a.0 ∙ sym b.0, a.1 ∙ sym b.1)
-one w past h (locates number offset) given others answer other apart stand plain a b = same_located w past h number offset a b
-one w past h (writes bytes) given others answer other apart stand plain a b = (a.0 ∙ sym b.0, a.1 ∙ sym b.1)
-one w past h (stops reason) given others answer other apart stand plain a b = (a.0 ∙ sym b.0, a.1 ∙ sym b.1)
+one w past h (resolves owner eights) given others answer other apart stand rooted plain a b = same_resolved (after past) h owner eights apart a b
+one w past h (opens ask) given others answer other apart stand rooted plain a b = absurd plain
+one w past h (looks_up ask) given others answer other apart stand rooted plain a b = same_looked_up w past h ask a b
+one w past h (closes handle) given others answer other apart stand rooted plain a b = same_closed (after past) h handle apart stand rooted a b
+one w past h (unmaps set) given others answer other apart stand rooted plain a b = same_unmapping (after past) h set a b
+one w past h asks_fault given others answer other apart stand rooted plain a b = (a.0 ∙ sym b.0, a.1 ∙ sym b.1)
+one w past h (locates number offset) given others answer other apart stand rooted plain a b = same_located w past h number offset a b
+one w past h (writes bytes) given others answer other apart stand rooted plain a b = (a.0 ∙ sym b.0, a.1 ∙ sym b.1)
+one w past h (stops reason) given others answer other apart stand rooted plain a b = (a.0 ∙ sym b.0, a.1 ∙ sym b.1)
 
 pub ample_of : (answer : Answer) → is_chance answer ≡ false → is_want answer ≡ false
 ample_of (returns value) e = refl
@@ -472,10 +474,11 @@ ample_of (told fault) e = refl
 ample_of (again for) e = refl
 ample_of (over reason) e = e
 
-pub one_answer : LoadLaws → (m : Machine) (w : Setting) (past : List Event) (h : ℕ) (call : Call) (given others : List Event) (answer other : Answer) → w.machine ≡ m → Lawful m past → IsPlain call
+pub one_answer : LoadLaws → FindLaw → (m : Machine) (w : Setting) (past : List Event) (h : ℕ) (call : Call) (given others : List Event) (answer other : Answer) → w.machine ≡ m → Lawful m past → IsPlain call
     → Gives w past h call given answer → Gives w past h call others other → is_chance answer ≡ false → is_chance other ≡ false → (given ≡ others) × (answer ≡ other)
-one_answer laws m w past h call given others answer other same lawful plain a b ample also =
-    one w past h call given others answer other (apart laws m past lawful) (openings_stand laws m past lawful) plain (invert a (ample_of answer ample)) (invert b (ample_of other also))
+one_answer laws law m w past h call given others answer other same lawful plain a b ample also =
+    one w past h call given others answer other (apart laws m past lawful) (openings_stand laws m past lawful) (rooted_after laws law m past lawful) plain
+    (invert a (ample_of answer ample)) (invert b (ample_of other also))
 
 pub comes_to : {w : Setting} {past : List Event} {h : ℕ} {ask : OpenAsk} {given : List Event} {answer : Answer} → Gives w past h (opens ask) given answer → is_want answer ≡ false → ComesTo w (after past) h ask given answer
 unfolding Inverts

@@ -1,5 +1,5 @@
 -- Each call that a hart may make has an answer other than want of memory.
-use Rattle.std.specs.Prelude.{◌≡◌, ℕ, ◌≤◌, true, false, List, length, Option, Some, None, IsSome, IsTrue}
+use Rattle.std.specs.Prelude.{◌≡◌, ℕ, ◌≤◌, false, List, length, Some, None, IsSome, IsTrue}
 use Rattle.ld_base.specs.declared.linking.Loaded.{Loaded}
 use Rattle.ld_base.specs.declared.object.TlsSeg.{TlsSeg}
 use Rattle.link_event.specs.declared.event.Event.{Event}
@@ -56,4 +56,5 @@ pub record HasAnswer (w : Setting) (past : List Event) (h : ℕ) (call : Call) :
   pub ample : is_want answer ≡ false
 
 abbrev pub Complete : Type 0
-Complete = (m : Machine) (w : Setting) (past : List Event) (h : ℕ) (call : Call) → w.machine ≡ m → Lawful m past → MayMake (after past) h call → HasAnswer w past h call
+Complete = (m : Machine) (w : Setting) (past : List Event) (h : ℕ) (call : Call) → w.machine ≡ m → Lawful m past
+    → MayMake (after past) h call → HasAnswer w past h call

@@ -35,10 +35,12 @@ use Rattle.link_service.specs.Waiting.{Shows}
 pub data Answers (h : ℕ) : Call → Event → Answer → Type 0 where
   is_loaded : (ask : OpenAsk) (id root : ℕ) (first : Loaded) (rest : List Loaded) (ranges : List Range)
       → Answers h (opens ask) (events.Open h ask (openings.Done id root (first ∷ rest) ranges)) (loading root (first ∷ rest))
-  is_there : (ask : OpenAsk) (id root : ℕ) (ranges : List Range) → Answers h (opens ask) (events.Open h ask (openings.Done id root [] ranges)) (returns root)
+  is_there : (ask : OpenAsk) (id root : ℕ) (ranges : List Range)
+      → Answers h (opens ask) (events.Open h ask (openings.Done id root [] ranges)) (returns root)
   is_absent : (ask : OpenAsk) → Answers h (opens ask) (events.Open h ask openings.Absent) (returns 0)
   is_not_opened : (ask : OpenAsk) (fault : DlFault) → Answers h (opens ask) (events.Open h ask (openings.Refused fault)) (refused fault)
-  dies : (handle first : ℕ) (rest : List ℕ) → Answers h (closes handle) (events.Close h handle (closings.Done (first ∷ rest))) (closing (first ∷ rest))
+  dies : (handle first : ℕ) (rest : List ℕ)
+      → Answers h (closes handle) (events.Close h handle (closings.Done (first ∷ rest))) (closing (first ∷ rest))
   stays : (handle : ℕ) → Answers h (closes handle) (events.Close h handle (closings.Done [])) (returns 0)
   is_not_closed : (handle : ℕ) (fault : DlFault) → Answers h (closes handle) (events.Close h handle (closings.Refused fault)) (refused fault)
   is_unmapped : (set : List ℕ) → Answers h (unmaps set) (events.Unmapped h set) (returns 0)
@@ -89,9 +91,12 @@ pub record FindsFirst (w : Setting) (past : List Event) (hart : ℕ) (ask : SymA
 -- what a call of the hart gives after these events: what it appends, but for its hart's end, and its answer
 pub data Gives (w : Setting) (past : List Event) (h : ℕ) : Call → List Event → Answer → Type 0 where
   by_event : (call : Call) (e : Event) (answer : Answer) → Answers h call e answer → Allowed w past e → Gives w past h call (e ∷ []) answer
-  by_first_block : (ask : SymAsk) (e f : Event) (value : ℕ) → FindsFirst w past h ask e f value → Gives w past h (looks_up ask) (e ∷ f ∷ []) (returns value)
-  in_new_block : (number offset block : ℕ) (e : Event) → GetsBlock w past h number block e → Gives w past h (locates number offset) (e ∷ []) (returns (variable_at block offset))
-  in_block : (number offset block : ℕ) → HasBlock (after past) h number block → Gives w past h (locates number offset) [] (returns (variable_at block offset))
+  by_first_block : (ask : SymAsk) (e f : Event) (value : ℕ) → FindsFirst w past h ask e f value
+      → Gives w past h (looks_up ask) (e ∷ f ∷ []) (returns value)
+  in_new_block : (number offset block : ℕ) (e : Event) → GetsBlock w past h number block e
+      → Gives w past h (locates number offset) (e ∷ []) (returns (variable_at block offset))
+  in_block : (number offset block : ℕ) → HasBlock (after past) h number block
+      → Gives w past h (locates number offset) [] (returns (variable_at block offset))
   to_again : (call : Call) (for : Shown) → Shows w (after past) h call for → Gives w past h call [] (again for)
   to_end : (call : Call) (reason : HartEnd) → EndsAs (after past) h call reason → Gives w past h call [] (over reason)
 

@@ -1,5 +1,5 @@
 -- What holds of every call.
-use Rattle.std.specs.Prelude.{◌≡◌, ℕ, ◌≤◌, Bool, true, false, List, [], ◌∷◌, ◌++◌, Option, Some, None, IsTrue}
+use Rattle.std.specs.Prelude.{◌≡◌, ℕ, Bool, true, false, List, [], ◌∷◌, ◌++◌, Option, Some, None, IsTrue}
 use Rattle.ld_base.specs.declared.fault.DlFault.{DlFault}
 use Rattle.ld_base.specs.declared.fault.DlFault.TheVariants as faults
 use Rattle.ld_base.specs.declared.fault.Shown.{Shown}
@@ -19,6 +19,7 @@ use Rattle.link_history.specs.Asking.{AreNamespacesFull, IsBadNamespace, asks_to
 use Rattle.link_history.specs.Flags.{are_flags}
 use Rattle.link_history.specs.Legal.{Lawful, Legal}
 use Rattle.link_history.specs.Lookup.{RefusesSymbol}
+use Rattle.link_history.specs.Memory.{role_at, word_at}
 use Rattle.link_history.specs.Objects.{has_namespace}
 use Rattle.link_history.specs.Opening.{Opens, Refuses}
 use Rattle.link_history.specs.Setting.{Machine, Setting}
@@ -31,14 +32,17 @@ use Rattle.link_service.specs.Gives.{Gives, Serves}
 -- ---- legality
 
 abbrev pub GivesLegal : Type 0
-GivesLegal = (w : Setting) (past : List Event) (h : ℕ) (call : Call) (given : List Event) (answer : Answer) → Legal w past → Gives w past h call given answer → Legal w (past ++ given)
+GivesLegal = (w : Setting) (past : List Event) (h : ℕ) (call : Call) (given : List Event) (answer : Answer) → Legal w past
+    → Gives w past h call given answer → Legal w (past ++ given)
 
 abbrev pub GivesLawful : Type 0
-GivesLawful = (m : Machine) (w : Setting) (past : List Event) (h : ℕ) (call : Call) (given : List Event) (answer : Answer) → w.machine ≡ m → Lawful m past → Gives w past h call given answer
+GivesLawful = (m : Machine) (w : Setting) (past : List Event) (h : ℕ) (call : Call) (given : List Event) (answer : Answer) → w.machine ≡ m
+    → Lawful m past → Gives w past h call given answer
     → Lawful m (past ++ given)
 
 abbrev pub ServesLegal : Type 0
-ServesLegal = (w : Setting) (past : List Event) (h : ℕ) (call : Call) (appended : List Event) (answer : Answer) → Legal w past → Serves w past h call appended answer → Legal w (past ++ appended)
+ServesLegal = (w : Setting) (past : List Event) (h : ℕ) (call : Call) (appended : List Event) (answer : Answer) → Legal w past
+    → Serves w past h call appended answer → Legal w (past ++ appended)
 
 -- ---- what stays
 
@@ -47,13 +51,21 @@ abbrev pub RefusedKeeps : Type 0
 RefusedKeeps = (w : Setting) (past : List Event) (h : ℕ) (call : Call) (given : List Event) (fault : DlFault) → Gives w past h call given (refused fault)
     → after (past ++ given) ≡ keep h fault (after past)
 
+-- memory is as it was
+abbrev pub RefusedLeavesMemory : Type 0
+RefusedLeavesMemory = (w : Setting) (past : List Event) (h : ℕ) (call : Call) (given : List Event) (fault : DlFault) (a : ℕ)
+    → Gives w past h call given (refused fault)
+    → (role_at (after (past ++ given)) a ≡ role_at (after past) a) × (word_at (after (past ++ given)) a ≡ word_at (after past) a)
+
 -- a hart that tries again has appended nothing
 abbrev pub AgainAppendsNothing : Type 0
-AgainAppendsNothing = (w : Setting) (past : List Event) (h : ℕ) (call : Call) (given : List Event) (for : Shown) → Gives w past h call given (again for) → given ≡ []
+AgainAppendsNothing = (w : Setting) (past : List Event) (h : ℕ) (call : Call) (given : List Event) (for : Shown)
+    → Gives w past h call given (again for) → given ≡ []
 
 -- a call that ends its hart changes nothing else
 abbrev pub EndsKeep : Type 0
-EndsKeep = (w : Setting) (past : List Event) (h : ℕ) (call : Call) (given : List Event) (reason : HartEnd) → Gives w past h call given (over reason) → after (past ++ given) ≡ after past
+EndsKeep = (w : Setting) (past : List Event) (h : ℕ) (call : Call) (given : List Event) (reason : HartEnd)
+    → Gives w past h call given (over reason) → after (past ++ given) ≡ after past
 
 -- ---- refusals are told
 
@@ -95,12 +107,12 @@ is_chance (told fault) = false
 is_chance (again for) = false
 is_chance (over reason) = is_memory reason
 
--- the state settles the call: it isn't an opening, which reads files, and asks dlclose for no handle 0, which none is
+-- the state settles the call: it isn't an opening, which reads files
 abbrev pub IsPlain : Call → Type 0
 IsPlain (resolves owner eights) = Unit {0}
 IsPlain (opens ask) = ⊥
 IsPlain (looks_up ask) = Unit {0}
-IsPlain (closes handle) = 1 ≤ handle
+IsPlain (closes handle) = Unit {0}
 IsPlain (unmaps set) = Unit {0}
 IsPlain asks_fault = Unit {0}
 IsPlain (locates number offset) = Unit {0}
@@ -109,13 +121,16 @@ IsPlain (stops reason) = Unit {0}
 
 -- chance apart, such a call has one answer after one history, and appends the same events
 abbrev pub OneAnswer : Type 0
-OneAnswer = (m : Machine) (w : Setting) (past : List Event) (h : ℕ) (call : Call) (given others : List Event) (answer other : Answer) → w.machine ≡ m → Lawful m past → IsPlain call
-    → Gives w past h call given answer → Gives w past h call others other → is_chance answer ≡ false → is_chance other ≡ false → (given ≡ others) × (answer ≡ other)
+OneAnswer = (m : Machine) (w : Setting) (past : List Event) (h : ℕ) (call : Call) (given others : List Event) (answer other : Answer)
+    → w.machine ≡ m → Lawful m past → IsPlain call
+    → Gives w past h call given answer → Gives w past h call others other → is_chance answer ≡ false → is_chance other ≡ false
+    → (given ≡ others) × (answer ≡ other)
 
 -- so has an opening, where the files are told
 abbrev pub OneOpening : Type 0
 OneOpening = (w : Setting) (past : List Event) (h : ℕ) (ask : OpenAsk) (files : List File) (given others : List Event) (answer other : Answer)
-    → w.files ≡ Some files → Gives w past h (opens ask) given answer → Gives w past h (opens ask) others other → is_chance answer ≡ false → is_chance other ≡ false
+    → w.files ≡ Some files → Gives w past h (opens ask) given answer → Gives w past h (opens ask) others other → is_chance answer ≡ false
+    → is_chance other ≡ false
     → (given ≡ others) × (answer ≡ other)
 
 -- ---- the order of refusals
@@ -124,29 +139,35 @@ OneOpening = (w : Setting) (past : List Event) (h : ℕ) (ask : OpenAsk) (files 
 pub data RefusesAsk (s : State) (ask : OpenAsk) : DlFault → Type 0 where
   long : IsTrue (asks_too_long s ask.name) → RefusesAsk s ask faults.NameTooLong
   flags : asks_too_long s ask.name ≡ false → are_flags ask.flags ≡ false → RefusesAsk s ask (faults.BadFlags ask.flags)
-  space : (number : ℕ) → asks_too_long s ask.name ≡ false → IsTrue (are_flags ask.flags) → IsBadNamespace s ask.ns ask.name number → RefusesAsk s ask (faults.BadNamespace number)
-  full : asks_too_long s ask.name ≡ false → IsTrue (are_flags ask.flags) → AreNamespacesFull s ask.ns ask.name → RefusesAsk s ask faults.NamespacesFull
+  space : (number : ℕ) → asks_too_long s ask.name ≡ false → IsTrue (are_flags ask.flags) → IsBadNamespace s ask.ns ask.name number
+      → RefusesAsk s ask (faults.BadNamespace number)
+  full : asks_too_long s ask.name ≡ false → IsTrue (are_flags ask.flags) → AreNamespacesFull s ask.ns ask.name
+      → RefusesAsk s ask faults.NamespacesFull
 
 -- then it is given this refusal, whatever else would stand
 abbrev pub AskFirst : Type 0
-AskFirst = (w : Setting) (past : List Event) (h : ℕ) (ask : OpenAsk) (given : List Event) (answer : Answer) (fault : DlFault) → RefusesAsk (after past) ask fault → Gives w past h (opens ask) given answer
+AskFirst = (w : Setting) (past : List Event) (h : ℕ) (ask : OpenAsk) (given : List Event) (answer : Answer) (fault : DlFault)
+    → RefusesAsk (after past) ask fault → Gives w past h (opens ask) given answer
     → is_want answer ≡ false → answer ≡ refused fault
 
 -- where the files are told it is given the refusal of its first stage that doesn't pass
 abbrev pub StagesInOrder : Type 0
-StagesInOrder = (w : Setting) (past : List Event) (h : ℕ) (ask : OpenAsk) (files : List File) (given : List Event) (answer : Answer) (fault : DlFault) → w.files ≡ Some files → is_read_fault fault ≡ false
+StagesInOrder = (w : Setting) (past : List Event) (h : ℕ) (ask : OpenAsk) (files : List File) (given : List Event) (answer : Answer)
+    (fault : DlFault) → w.files ≡ Some files → is_read_fault fault ≡ false
     → Refuses w (after past) h ask fault → Gives w past h (opens ask) given answer → is_chance answer ≡ false → answer ≡ refused fault
 
 -- and of a look-up's refusals the first is given
 abbrev pub SymbolsInOrder : Type 0
-SymbolsInOrder = (w : Setting) (past : List Event) (h : ℕ) (ask : SymAsk) (given : List Event) (answer : Answer) (fault : DlFault) → RefusesSymbol (after past) h ask fault
+SymbolsInOrder = (w : Setting) (past : List Event) (h : ℕ) (ask : SymAsk) (given : List Event) (answer : Answer) (fault : DlFault)
+    → RefusesSymbol (after past) h ask fault
     → Gives w past h (looks_up ask) given answer → is_want answer ≡ false → answer ≡ refused fault
 
 -- ---- success
 
 -- an opening whose stages all pass loads its objects, unless a read fails or memory is wanted
 abbrev pub PassedOpens : Type 0
-PassedOpens = (w : Setting) (past : List Event) (h : ℕ) (ask : OpenAsk) (files : List File) (id root : ℕ) (added : List Loaded) (ranges : List Range) (given : List Event) (answer : Answer)
+PassedOpens = (w : Setting) (past : List Event) (h : ℕ) (ask : OpenAsk) (files : List File) (id root : ℕ) (added : List Loaded)
+    (ranges : List Range) (given : List Event) (answer : Answer)
     → w.files ≡ Some files → Opens w (after past) h ask id root added ranges → Gives w past h (opens ask) given answer → is_chance answer ≡ false
     → given ≡ Open h ask (Done id root added ranges) ∷ []
 
@@ -154,4 +175,5 @@ PassedOpens = (w : Setting) (past : List Event) (h : ℕ) (ask : OpenAsk) (files
 
 -- a caller's namespace is there
 abbrev pub CallersAreThere : Type 0
-CallersAreThere = (m : Machine) (events : List Event) → Lawful m events → (ra : ℕ) → IsTrue (has_namespace (after events) (caller_namespace (after events) ra))
+CallersAreThere = (m : Machine) (events : List Event) → Lawful m events → (ra : ℕ)
+    → IsTrue (has_namespace (after events) (caller_namespace (after events) ra))

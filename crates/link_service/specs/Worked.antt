@@ -45,7 +45,8 @@ abbrev pub FindsGlobal : Type 0
 FindsGlobal = Gives cycle.setting one_closed 0 (looks_up (fp_on 0)) (Sym 0 (fp_on 0) (Found 2 2 0x24030) ∷ []) (returns 0x24030)
 
 abbrev pub FindsNoHandle : Type 0
-FindsNoHandle = Gives cycle.setting (one_closed ++ Sym 0 (fp_on 0) (Found 2 2 0x24030) ∷ []) 0 (looks_up (fp_on 2)) (Sym 0 (fp_on 2) (symbols.Refused (BadHandle 2)) ∷ []) (refused (BadHandle 2))
+FindsNoHandle = Gives cycle.setting (one_closed ++ Sym 0 (fp_on 0) (Found 2 2 0x24030) ∷ []) 0 (looks_up (fp_on 2)) (Sym 0 (fp_on 2)
+    (symbols.Refused (BadHandle 2)) ∷ []) (refused (BadHandle 2))
 
 abbrev pub FindsOnClosed : Type 0
 FindsOnClosed = (given : List Event) (value : ℕ) → Gives cycle.setting one_closed 0 (looks_up (fp_on 2)) given (returns value) → ⊥
@@ -60,10 +61,12 @@ abbrev pub started : List Event
 started = apart.startup ∷ Init 0 1 ∷ []
 
 abbrev pub RefusesFlags : ℕ → Type 0
-RefusesFlags flags = Gives apart.setting started 0 (opens (libn_by flags)) (Open 0 (libn_by flags) (openings.Refused (BadFlags flags)) ∷ []) (refused (BadFlags flags))
+RefusesFlags flags = Gives apart.setting started 0 (opens (libn_by flags)) (Open 0 (libn_by flags) (openings.Refused (BadFlags flags)) ∷ [])
+    (refused (BadFlags flags))
 
 abbrev pub OpensByFlags : ℕ → Type 0
-OpensByFlags flags = (given : List Event) (root : ℕ) (added : List Loaded) → Gives apart.setting started 0 (opens (libn_by flags)) given (loading root added) → ⊥
+OpensByFlags flags = (given : List Event) (root : ℕ) (added : List Loaded)
+    → Gives apart.setting started 0 (opens (libn_by flags)) given (loading root added) → ⊥
 
 -- with RTLD_NOLOAD what isn't there is absent, and no fault
 abbrev pub IsAbsent : Type 0
@@ -122,7 +125,8 @@ abbrev pub FindsInBlock : Type 0
 FindsInBlock = Gives late.setting opened 0 (looks_up (late.v_of 2)) (Tls 0 2 0x36000 ∷ Sym 0 (late.v_of 2) (Found 2 1 0x36010) ∷ []) (returns 0x36010)
 
 abbrev pub FindsWithoutBlock : Type 0
-FindsWithoutBlock = (value : ℕ) → Gives late.setting opened 0 (looks_up (late.v_of 2)) (Sym 0 (late.v_of 2) (Found 2 1 value) ∷ []) (returns value) → ⊥
+FindsWithoutBlock = (value : ℕ)
+    → Gives late.setting opened 0 (looks_up (late.v_of 2)) (Sym 0 (late.v_of 2) (Found 2 1 value) ∷ []) (returns value) → ⊥
 
 -- the variable, of the offset that a relocation gives it, stands in the block that is there; and no module is numbered 2
 abbrev pub with_block : List Event

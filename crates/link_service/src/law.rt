@@ -1,8 +1,9 @@
 //! What holds of every call.
 
 ghost use Rattle.link_service.specs.Complete.{Complete};
-ghost use Rattle.link_service.specs.Laws.{AgainAppendsNothing, AskFirst, CallersAreThere, EndsKeep, GivesLawful, GivesLegal, OneAnswer, OneOpening, PassedOpens};
-ghost use Rattle.link_service.specs.Laws.{RefusalIsKept, RefusalIsTold, RefusedKeeps, ServesLegal, StagesInOrder, SymbolsInOrder};
+ghost use Rattle.link_service.specs.Laws.{AgainAppendsNothing, AskFirst, CallersAreThere, EndsKeep, GivesLawful, GivesLegal, OneAnswer, OneOpening};
+ghost use Rattle.link_service.specs.Laws.{PassedOpens};
+ghost use Rattle.link_service.specs.Laws.{RefusalIsKept, RefusalIsTold, RefusedKeeps, RefusedLeavesMemory, ServesLegal, StagesInOrder, SymbolsInOrder};
 
 /// A history that is legal before a call is legal with what the call gives, and with the end of the
 /// hart that it brings.
@@ -16,6 +17,7 @@ pub fn calls_are_legal()
 /// was, but for the refusal that is kept.
 pub fn refused_calls_leave()
     ensures refused { RefusedKeeps }
+    ensures memory { RefusedLeavesMemory }
     ensures again { AgainAppendsNothing }
     ensures over { EndsKeep }
 {}
@@ -34,6 +36,7 @@ pub fn one_answer()
 {
     scope_rule::serials_follow();
     scope_rule::found_stands();
+    scope_rule::names_find();
     scope_rule::one_outcome();
 }
 

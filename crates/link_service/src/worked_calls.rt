@@ -1,7 +1,9 @@
 //! Worked calls: what they give, and what they don't.
 
-ghost use Rattle.link_service.specs.Worked.{AnotherOpens, AnotherWaits, ClosesOne, DiesAlone, FindsGlobal, FindsInBlock, FindsNoHandle, FindsOnClosed, FindsWithoutBlock};
-ghost use Rattle.link_service.specs.Worked.{GrantsGlobal, GrantsTheFirst, IsAbsent, IsBadModule, IsMissing, ItselfOpens, LocatesInBlock, LocatesInOther, OpensByFlags};
+ghost use Rattle.link_service.specs.Worked.{AnotherOpens, AnotherWaits, ClosesOne, DiesAlone, FindsGlobal, FindsInBlock, FindsNoHandle};
+ghost use Rattle.link_service.specs.Worked.{FindsOnClosed, FindsWithoutBlock};
+ghost use Rattle.link_service.specs.Worked.{GrantsGlobal, GrantsTheFirst, IsAbsent, IsBadModule, IsMissing, ItselfOpens, LocatesInBlock};
+ghost use Rattle.link_service.specs.Worked.{LocatesInOther, OpensByFlags};
 ghost use Rattle.link_service.specs.Worked.{RefusesFlags, RefusesName, RefusesShorter};
 
 /// Of two libraries that hold each other the first is closed: nothing dies with it, and its function

@@ -1,8 +1,11 @@
-use Rattle.link_service.proofs.Given.{again_appends_nothing, ends_keep, refused_keeps}
+use Rattle.link_service.proofs.Given.{again_appends_nothing, ends_keep, refused_keeps, refused_leaves_memory}
 use Rattle.link_service.proofs.law.refused_calls_leave.Goals as goal
 
 pub returns-clause-refused : goal.returns-clause-refused
 returns-clause-refused c = refused_keeps
+
+pub returns-clause-memory : goal.returns-clause-memory
+returns-clause-memory c = refused_leaves_memory
 
 pub returns-clause-again : goal.returns-clause-again
 returns-clause-again c = again_appends_nothing
