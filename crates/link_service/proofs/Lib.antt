@@ -6,6 +6,7 @@ pub mod Examples
 pub mod Given
 pub mod InOrder
 pub mod Looked
+pub mod OneOrder
 pub mod Opened
 pub mod Readings
 pub mod Rooted

@@ -27,6 +27,8 @@ use Rattle.link_history.specs.State.{State}
 use Rattle.link_history.specs.Step.{keep}
 use Rattle.link_service.specs.Answer.{Answer, returns, loading, closing, refused, granted, told, again, over}
 use Rattle.link_service.specs.Call.{Call, resolves, opens, looks_up, closes, unmaps, asks_fault, locates, writes, stops, caller_namespace}
+use Rattle.link_event.specs.declared.handed.Function.{Function}
+use Rattle.link_service.specs.Functions.{AreConstructors, AreDestructors, AreStartConstructors}
 use Rattle.link_service.specs.Gives.{Gives, Serves}
 
 -- ---- legality
@@ -177,3 +179,17 @@ PassedOpens = (w : Setting) (past : List Event) (h : ℕ) (ask : OpenAsk) (files
 abbrev pub CallersAreThere : Type 0
 CallersAreThere = (m : Machine) (events : List Event) → Lawful m events → (ra : ℕ)
     → IsTrue (has_namespace (after events) (caller_namespace (after events) ra))
+
+-- ---- functions
+
+abbrev pub OneInitialisation : Type 0
+OneInitialisation = (s : State) (news : List ℕ) (functions others : List Function) → AreConstructors s news functions
+    → AreConstructors s news others → functions ≡ others
+
+abbrev pub OneStart : Type 0
+OneStart = (s : State) (news : List ℕ) (functions others : List Function) → AreStartConstructors s news functions
+    → AreStartConstructors s news others → functions ≡ others
+
+abbrev pub OneFinalisation : Type 0
+OneFinalisation = (s : State) (set : List ℕ) (functions others : List Function) → AreDestructors s set functions
+    → AreDestructors s set others → functions ≡ others

@@ -2,6 +2,7 @@ pub mod Answer
 pub mod Call
 pub mod Complete
 pub mod Ends
+pub mod Functions
 pub mod Gives
 pub mod Laws
 pub mod Waiting

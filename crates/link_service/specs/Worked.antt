@@ -1,9 +1,11 @@
 -- Worked calls, in the states of worked histories, each with an answer that it doesn't give.
-use Rattle.std.specs.Prelude.{ℕ, List, [], ◌∷◌, ◌++◌, replicate, Some, None, codes}
+use Rattle.std.specs.Prelude.{◌≡◌, ℕ, true, List, [], ◌∷◌, ◌++◌, map, pos, replicate, Some, None, codes}
 use Rattle.ld_base.specs.declared.fault.DlFault.TheVariants.{BadFlags, BadHandle, MissingLibrary, NameTooLong}
 use Rattle.ld_base.specs.declared.fault.Shown.TheVariants.{Initialising}
-use Rattle.ld_base.specs.declared.linking.Choice.TheVariants.{Def}
+use Rattle.ld_base.specs.declared.linking.Choice.TheVariants.{Def, WeakZero}
 use Rattle.ld_base.specs.declared.linking.Loaded.{Loaded}
+use Rattle.ld_base.specs.declared.object.Object.{Object}
+use Rattle.ld_base.specs.declared.object.Reloc.{Reloc}
 use Rattle.link_event.specs.declared.event.CloseAnswer.TheVariants as closings
 use Rattle.link_event.specs.declared.event.Event.{Event}
 use Rattle.link_event.specs.declared.event.Event.TheVariants.{Close, Grant, Init, Open, Sym, Tls}
@@ -13,14 +15,19 @@ use Rattle.link_event.specs.declared.event.SymAnswer.TheVariants.{Found}
 use Rattle.link_event.specs.declared.event.SymAsk.{SymAsk}
 use Rattle.link_event.specs.declared.event.SymAnswer.TheVariants as symbols
 use Rattle.link_event.specs.declared.hart_end.HartEnd.TheVariants.{BadModule}
+use Rattle.link_event.specs.declared.handed.Function.{Function}
 use Rattle.link_event.specs.declared.state.Granting.{Granting}
 use Rattle.link_event.specs.declared.state.Standing.TheVariants as standings
 use Rattle.link_history.specs.Cycle as cycle
 use Rattle.link_history.specs.Late as late
 use Rattle.link_history.specs.Namespaces as apart
+use Rattle.link_history.specs.Parts.{code, object, slots}
 use Rattle.link_history.specs.Race as race
+use Rattle.link_history.specs.State.{Linked}
+use Rattle.relocator.specs.declared.binding.Binding.{Binding}
 use Rattle.link_service.specs.Answer.{again, closing, granted, loading, over, refused, returns}
 use Rattle.link_service.specs.Call.{closes, locates, looks_up, opens, resolves}
+use Rattle.link_service.specs.Functions.{constructors, destructors, left, object_of, passed}
 use Rattle.link_service.specs.Gives.{Gives}
 
 -- ---- two libraries that hold each other
@@ -140,3 +147,35 @@ IsBadModule = Gives late.setting with_block 0 (locates 2 0) [] (over (BadModule 
 
 abbrev pub LocatesInOther : Type 0
 LocatesInOther = (given : List Event) (value : ℕ) → Gives late.setting with_block 0 (locates 2 0) given (returns value) → ⊥
+
+-- ---- constructors and destructors
+
+-- an object with DT_INIT and DT_FINI, and one array for both directions, whose entries relocations give
+abbrev pub relative : ℕ → ℕ → Reloc
+relative place to = record { place = place; kind = 3; symbol = 0; addend = pos to }
+
+abbrev pub with_functions : Object
+with_functions = record (object [] (code ∷ slots ∷ []) [] []) {
+  init = Some 0x1000;
+  init_array = Some (record { start = 0x3000; size = 16 });
+  fini = Some 0x1040;
+  fini_array = Some (record { start = 0x3000; size = 16 });
+  relocs = relative 0x3000 0x1010 ∷ relative 0x3008 0x1020 ∷ [];
+}
+
+abbrev pub no_choice : Binding
+no_choice = record { bound = true; choice = WeakZero; value = 0; size = 0; object = None; copied = [] }
+
+abbrev pub at_base : Linked
+at_base = record { serial = 2; object = with_functions; base = 0x10000; bindings = no_choice ∷ no_choice ∷ []; places = [] }
+
+-- DT_INIT comes before the array, DT_FINI behind it, which runs backwards
+abbrev pub RunsInOrder : Type 0
+RunsInOrder = (constructors at_base ≡ 0x11000 ∷ 0x11010 ∷ 0x11020 ∷ []) × (destructors at_base ≡ 0x11020 ∷ 0x11010 ∷ 0x11040 ∷ [])
+
+-- of an opening's functions two objects in front have none, and pass at once
+abbrev pub running : List Function
+running = record { object = 4; addresses = [] } ∷ record { object = 3; addresses = [] } ∷ record { object = 2; addresses = constructors at_base } ∷ record { object = 5; addresses = [] } ∷ []
+
+abbrev pub PassesTwo : Type 0
+PassesTwo = (passed running ≡ 4 ∷ 3 ∷ []) × (map object_of (left running) ≡ 2 ∷ 5 ∷ [])

@@ -2,7 +2,7 @@
 
 ghost use Rattle.link_service.specs.Complete.{Complete};
 ghost use Rattle.link_service.specs.Laws.{AgainAppendsNothing, AskFirst, CallersAreThere, EndsKeep, GivesLawful, GivesLegal, OneAnswer, OneOpening};
-ghost use Rattle.link_service.specs.Laws.{PassedOpens};
+ghost use Rattle.link_service.specs.Laws.{OneFinalisation, OneInitialisation, OneStart, PassedOpens};
 ghost use Rattle.link_service.specs.Laws.{RefusalIsKept, RefusalIsTold, RefusedKeeps, RefusedLeavesMemory, ServesLegal, StagesInOrder, SymbolsInOrder};
 
 /// A history that is legal before a call is legal with what the call gives, and with the end of the
@@ -68,3 +68,10 @@ pub fn callers_are_there()
     scope_rule::serials_follow();
     scope_rule::found_stands();
 }
+
+/// The state settles which functions an opening brings, startup's too, and a closing, and their order.
+pub fn one_list_of_functions()
+    ensures opening { OneInitialisation }
+    ensures startup { OneStart }
+    ensures closing { OneFinalisation }
+{}

@@ -14,8 +14,8 @@ mod law;
 mod worked_calls;
 
 pub use law::{
-    callers_are_there, calls_are_answered, calls_are_legal, one_answer, refusals_are_told,
-    refusals_come_in_order, refused_calls_leave,
+    callers_are_there, calls_are_answered, calls_are_legal, one_answer, one_list_of_functions,
+    refusals_are_told, refusals_come_in_order, refused_calls_leave,
 };
 pub use worked_calls::{
     closes_a_held_library, finds_thread_local_storage, grants_what_comes_first,

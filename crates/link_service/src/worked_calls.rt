@@ -4,6 +4,7 @@ ghost use Rattle.link_service.specs.Worked.{AnotherOpens, AnotherWaits, ClosesOn
 ghost use Rattle.link_service.specs.Worked.{FindsOnClosed, FindsWithoutBlock};
 ghost use Rattle.link_service.specs.Worked.{GrantsGlobal, GrantsTheFirst, IsAbsent, IsBadModule, IsMissing, ItselfOpens, LocatesInBlock};
 ghost use Rattle.link_service.specs.Worked.{LocatesInOther, OpensByFlags};
+ghost use Rattle.link_service.specs.Worked.{PassesTwo, RunsInOrder};
 ghost use Rattle.link_service.specs.Worked.{RefusesFlags, RefusesName, RefusesShorter};
 
 /// Of two libraries that hold each other the first is closed: nothing dies with it, and its function
@@ -56,4 +57,11 @@ pub fn finds_thread_local_storage()
     ensures located { LocatesInBlock }
     ensures bad_module { IsBadModule }
     ensures not_in_other { LocatesInOther }
+{}
+
+/// An object's constructors are DT_INIT and then its array's entries as they were relocated, its
+/// destructors the array backwards and then DT_FINI. Objects without functions pass until one has some.
+pub fn runs_functions_in_order()
+    ensures runs { RunsInOrder }
+    ensures passes { PassesTwo }
 {}
