@@ -1,0 +1,63 @@
+//! The memory as a hart's bus.
+
+ghost use Rattle.std.specs.Prelude.{◌≡◌, ◌<◌, ◌*◌, ◌^◌, IfOk};
+ghost use Rattle.rv_isa.specs.Encoding.{IsAtomicSize};
+ghost use Rattle.rv_hart.specs.Buses.{HasValue, IsSize, Permits, may_fetch, may_read, may_write};
+
+use crate::{HartSeat, Memory, Naming};
+use rv_hart::{Bus, BusFault};
+use rv_isa::AmoOp;
+
+/// A memory as the bus of the hart whose seat this is.
+#[derive(Drop)]
+pub struct TableBus<'a, J: Naming> {
+    memory: &'a Memory<J>,
+    seat: &'a mut HartSeat<J>,
+}
+
+impl<'a, J: Naming> TableBus<'a, J> {
+    pub fn new(memory: &'a Memory<J>, seat: &'a mut HartSeat<J>) -> Self
+        ensures { (result.memory ≡ memory.entry) × (result.seat ≡ seat.entry) }
+    {
+        TableBus { memory, seat }
+    }
+}
+
+impl<'a, J: Naming> Bus for TableBus<'a, J> {
+    ghost use Rattle.std.specs.Prelude.{◌≡◌};
+    ghost use Rattle.rv_hart.specs.declared.bus.Item.{Item};
+    ghost use Rattle.word_memory.specs.Accesses.{Calls};
+
+    ghost does = { λ before item after. (after.seat.ghost_name ≡ before.seat.ghost_name) × Calls before.seat.now item after.seat.now };
+
+    fn fetch(&mut self, address: u64) -> Result<u32, BusFault> {
+        self.seat.fetch(self.memory, address)
+    }
+
+    fn read(&mut self, address: u64, size: u8) -> Result<u64, BusFault> {
+        self.seat.read(self.memory, address, size)
+    }
+
+    fn write(&mut self, address: u64, size: u8, value: u64) -> Result<(), BusFault> {
+        self.seat.write(self.memory, address, size, value)
+    }
+
+    fn amo(&mut self, address: u64, size: u8, op: AmoOp, value: u64) -> Result<u64, BusFault> {
+        self.seat.amo(self.memory, address, size, op, value)
+    }
+
+    fn reserve(&mut self, address: u64, size: u8) -> Result<(u64, u64), BusFault> {
+        self.seat.reserve(self.memory, address, size)
+    }
+
+    fn conditional(
+        &mut self,
+        address: u64,
+        size: u8,
+        value: u64,
+        version: u64,
+    ) -> Result<bool, BusFault> {
+        self.seat
+            .conditional(self.memory, address, size, value, version)
+    }
+}

@@ -1,0 +1,91 @@
+//! A hart's seat in the middle of an access: its steps, one by one.
+
+ghost use Rattle.std.specs.Prelude.{◌≡◌, ◌<◌};
+ghost use Rattle.guest_rule.specs.Layout.{table_words};
+ghost use Rattle.guest_rule.specs.Operations.{load, store, exchange, add};
+ghost use Rattle.guest_rule.specs.HartSteps.{HartLearns, HartReady, hart_after, hart_op, hart_word};
+
+use crate::steps::{add_as, exchange_as, load_as, store_as};
+use crate::{Memory, Naming};
+use atomic_table::Seat;
+use guest_rule::{HartKind, View};
+use std::marker::{Brand, Model, PhantomData};
+
+/// Contracts see it as its view.
+#[derive(Drop)]
+pub(crate) struct Hand<J: Naming> {
+    seat: Seat<(), View>,
+    of: PhantomData<J>,
+}
+
+impl<J: Naming> Model for Hand<J> {
+    ghost use Rattle.std.specs.Prelude.{◌≡◌, []};
+    ghost use Rattle.guest_rule.specs.declared.view.HartView.{HartView};
+    ghost use Rattle.guest_rule.specs.declared.view.View.TheVariants.{Hart};
+    ghost use Rattle.word_memory.specs.Holding.{hart_of};
+
+    ghost Value = { HartView };
+
+    ghost view = { λ s. hart_of s.seat.me.0 };
+
+    ghost invariant = { λ s. (s.seat.table_id ≡ J.table) × (s.seat.me ≡ (Hart (hart_of s.seat.me.0), [])) };
+}
+
+impl<J: Naming> Hand<J> {
+    /// Loads a word.
+    pub(crate) fn load_word(&mut self, memory: &Memory<J>, word: usize, kind: HartKind) -> u64
+        requires word { (word ≡ hart_word kind) × (word < table_words) }
+        requires kind { hart_op kind ≡ load }
+        requires ready { HartReady kind self.old }
+        ensures view { self.new ≡ hart_after kind self.old result }
+        ensures learns { HartLearns kind self.old result }
+    {
+        load_as::<J, Brand, HartKind>(memory, &mut self.seat, word, &kind)
+    }
+
+    /// Stores a number in a word.
+    pub(crate) fn store_word(&mut self, memory: &Memory<J>, word: usize, new: u64, kind: HartKind)
+        requires word { (word ≡ hart_word kind) × (word < table_words) }
+        requires kind { hart_op kind ≡ store new }
+        requires ready { HartReady kind self.old }
+        ensures view { self.new ≡ hart_after kind self.old new }
+        ensures learns { HartLearns kind self.old new }
+    {
+        store_as::<J, Brand, HartKind>(memory, &mut self.seat, word, new, &kind)
+    }
+
+    /// Stores `new` in a word that is `old`.
+    pub(crate) fn exchange_word(
+        &mut self,
+        memory: &Memory<J>,
+        word: usize,
+        old: u64,
+        new: u64,
+        kind: HartKind,
+    ) -> u64
+        requires word { (word ≡ hart_word kind) × (word < table_words) }
+        requires kind { hart_op kind ≡ exchange old new }
+        requires ready { HartReady kind self.old }
+        ensures view { self.new ≡ hart_after kind self.old result }
+        ensures learns { HartLearns kind self.old result }
+    {
+        exchange_as::<J, Brand, HartKind>(memory, &mut self.seat, word, old, new, &kind)
+    }
+
+    /// Adds to a word.
+    pub(crate) fn add_word(
+        &mut self,
+        memory: &Memory<J>,
+        word: usize,
+        more: u64,
+        kind: HartKind,
+    ) -> u64
+        requires word { (word ≡ hart_word kind) × (word < table_words) }
+        requires kind { hart_op kind ≡ add more }
+        requires ready { HartReady kind self.old }
+        ensures view { self.new ≡ hart_after kind self.old result }
+        ensures learns { HartLearns kind self.old result }
+    {
+        add_as::<J, Brand, HartKind>(memory, &mut self.seat, word, more, &kind)
+    }
+}

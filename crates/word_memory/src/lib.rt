@@ -1,0 +1,26 @@
+//! Guest memory as atomic words that harts on threads share.
+//!
+//! [`Memory`] is a table of atomic words under the rule of `guest_rule`: of each doubleword its value
+//! and its control word, the rows between the linker and the harts, the count and the generation.
+//! Whoever steps on it has a seat: a [`HartSeat`] for each hart, and one for the linker's keeper. Each
+//! step is one of the kinds of `guest_rule`: the four functions of the module `steps` are the only
+//! ones that touch the table, and each asks that its word and its operation are those of the kind.
+//!
+//! [`TableBus`] is that memory as a hart's bus. It appends each call to the trail in the seat's view at
+//! the step that found the answer or made the store.
+//!
+//! No call of a bus takes memory or waits: a doubleword that another seat has locked, or that changed
+//! under the call, is answered by `Again`.
+#![tactic(auto)]
+
+mod access;
+mod bus;
+mod hand;
+mod layout;
+mod memory;
+mod seat;
+mod steps;
+
+pub use bus::TableBus;
+pub use memory::{Memory, Naming};
+pub use seat::HartSeat;
