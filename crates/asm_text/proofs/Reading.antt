@@ -1,8 +1,8 @@
 -- The lines that are read, and those that are left.
 use Rattle.std.proofs.Common.{◌≡◌, ℕ, ◌+◌, List, [], ◌∷◌, ◌++◌, ◌-◌, ◌<◌, ◌≤◌, map, take, drop, length, slice_index_or, Result, Ok, Err, refl, sym, ap, append_assoc, append-nil, arith}
 use Rattle.std.proofs.lemmas.List.{take_rest}
-use Rattle.asm_text.specs.Lines.{read_line, read_lines, behind}
-use Rattle.asm_text.specs.declared.statement.Line.{Line}
+use Rattle.asm_grammar.specs.Reading.{read_line, read_lines, behind}
+use Rattle.asm_statement.specs.declared.line.Line.{Line}
 use Rattle.ld_base.specs.declared.fault.AsmCause.{AsmCause}
 
 pushed : (done : List Line) (read : Line) (rest : Result (List Line) (ℕ × AsmCause)) → behind done (behind (read ∷ []) rest) ≡ behind (done ++ read ∷ []) rest

@@ -1,3 +1,1 @@
-pub mod Directives
-pub mod Lines
-pub mod Operands
+pub mod Faults

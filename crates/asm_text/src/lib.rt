@@ -9,15 +9,8 @@
 //! memory.
 #![tactic(auto)]
 
-mod directives;
-mod fault;
 mod lines;
-mod operands;
-mod statement;
 
-pub use fault::AsmFault;
+pub use asm_statement::AsmFault;
 pub use ld_base::AsmCause;
 pub use lines::parse;
-pub use statement::{
-    Directive, Doubleword, Instruction, Line, Need, Statement, Statements, Symver,
-};

@@ -2,32 +2,31 @@
 
 ghost use Rattle.std.specs.Prelude.{◌≡◌, false, Ok, option_map, IfOk, IfErr, map, length, ◌≤◌};
 ghost use Rattle.std.specs.List.{list_all};
-ghost use Rattle.asm_text.specs.Lines.{is_printed, uncommented, labelled, worded, keyword_of, statement, read_statement, read_text, line_of};
-ghost use Rattle.asm_text.specs.Lines.{read_line, read_lines, lines_of, statements_of, is_quoted_after, before_comment, TellsOf, TellsOfLine};
-ghost use Rattle.asm_text.specs.Lines.{TellsOfLines};
+ghost use Rattle.asm_grammar.specs.Lines.{is_printed, is_quoted_after};
+ghost use Rattle.asm_grammar.specs.Reading.{before_comment, uncommented, labelled, worded, statement, read_statement, read_text, line_of};
+ghost use Rattle.asm_grammar.specs.Reading.{read_line, read_lines, lines_of, statements_of};
+ghost use Rattle.std.specs.Option.{ok_or};
+ghost use Rattle.asm_words.specs.DirectiveWords.{directive_word};
+ghost use Rattle.asm_words.specs.Mnemonics.{mnemonic};
+ghost use Rattle.asm_grammar.specs.Operands.{operands_of, instruction};
+ghost use Rattle.asm_grammar.specs.Directives.{directive};
+ghost use Rattle.asm_statement.specs.declared.line.Statement.TheVariants as statements;
+ghost use Rattle.ld_base.specs.declared.fault.AsmCause.TheVariants as causes;
+ghost use Rattle.asm_grammar.specs.Grammar.{SaysSource};
+ghost use Rattle.asm_text.specs.Faults.{TellsOfLine, TellsOfLines, TellsOfSource, TellsOf};
 
-use crate::directives::directive;
-use crate::fault::AsmFault;
-use ld_base::AsmCause;
-use crate::operands::{instruction, operands_of};
-use crate::statement::{Line, Statement, Statements};
+use asm_operands::{directive, instruction, operands_of};
+use asm_statement::{AsmFault, Line, Statement, Statements};
 use asm_words::{
     DirectiveWord, Form, after_blanks, cut, cut_blank, directive_word, is_name, mnemonic, trimmed,
 };
-use ld_base::Name;
+use ld_base::{AsmCause, Name};
 use std::alloc::{AllocError, Global};
 
 /// How many bytes a source may have.
 const LONGEST_SOURCE: usize = 1 << 20;
 
-/// The word with which a statement begins.
-#[derive(Clone, Copy)]
-enum Keyword {
-    Directive(DirectiveWord),
-    Instruction(Form),
-}
-
-#[tactic(auto, unfolding(crate::specs::Lines::is_printed))]
+#[tactic(auto, unfolding(asm_grammar::specs::Lines::is_printed))]
 fn is_printed(byte: u8) -> bool
     ensures { result ≡ is_printed byte }
 {
@@ -81,50 +80,63 @@ fn worded(text: &[u8]) -> (&[u8], &[u8])
     }
 }
 
-#[tactic(auto, unfolding(crate::specs::Lines::keyword_of))]
-fn keyword_of(word: &[u8]) -> Option<Keyword>
-    ensures { result ≡ keyword_of word.now }
+fn directive_of(
+    alloc: Global,
+    word: DirectiveWord,
+    text: &[u8],
+) -> Result<Result<Statement, AsmCause>, AllocError>
+    ensures { IfOk result (λ s. s ≡ ok_or (option_map statements.Directive (directive word text.now)) causes.BadOperand) }
 {
-    match directive_word(word) {
-        Some(word) => Some(Keyword::Directive(word)),
-        None => Some(Keyword::Instruction(mnemonic(word)?)),
+    match directive(alloc, word, text)? {
+        Some(directive) => Ok(Ok(Statement::Directive(directive))),
+        None => Ok(Err(AsmCause::BadOperand)),
     }
 }
 
-#[tactic(auto, unfolding(crate::specs::Lines::statement))]
-fn statement(alloc: Global, keyword: Keyword, text: &[u8]) -> Result<Option<Statement>, AllocError>
-    ensures { IfOk result (λ s. s ≡ statement keyword text.now) }
+fn instruction_of(
+    alloc: Global,
+    form: Form,
+    text: &[u8],
+) -> Result<Result<Statement, AsmCause>, AllocError>
+    ensures { IfOk result (λ s. s ≡ ok_or (option_map statements.Instruction (instruction form (operands_of text.now))) causes.BadOperand) }
 {
-    match keyword {
-        Keyword::Directive(word) => match directive(alloc, word, text)? {
-            Some(directive) => Ok(Some(Statement::Directive(directive))),
-            None => Ok(None),
-        },
-        Keyword::Instruction(form) => {
-            let operands = operands_of(alloc, text)?;
-            match instruction(alloc, form, operands.as_slice())? {
-                Some(instruction) => Ok(Some(Statement::Instruction(instruction))),
-                None => Ok(None),
-            }
-        }
+    let operands = operands_of(alloc, text)?;
+    match instruction(alloc, form, operands.as_slice())? {
+        Some(instruction) => Ok(Ok(Statement::Instruction(instruction))),
+        None => Ok(Err(AsmCause::BadOperand)),
     }
 }
 
-#[tactic(auto, unfolding(crate::specs::Lines::read_statement))]
+#[tactic(auto, unfolding(asm_grammar::specs::Reading::statement))]
+fn statement(
+    alloc: Global,
+    word: &[u8],
+    text: &[u8],
+) -> Result<Result<Statement, AsmCause>, AllocError>
+    ensures { IfOk result (λ s. s ≡ statement (directive_word word.now) (mnemonic word.now) text.now) }
+{
+    if let Some(word) = directive_word(word) {
+        return directive_of(alloc, word, text);
+    }
+    match mnemonic(word) {
+        Some(form) => instruction_of(alloc, form, text),
+        None => Ok(Err(AsmCause::UnknownWord)),
+    }
+}
+
+#[tactic(auto, unfolding(asm_grammar::specs::Reading::read_statement))]
 fn read_statement(alloc: Global, text: &[u8]) -> Result<Result<Statement, AsmCause>, AllocError>
     ensures { IfOk result (λ s. s ≡ read_statement text.now) }
 {
-    let (first, operands) = worded(text);
-    if !is_name(first) {
-        return Ok(Err(AsmCause::BadStatement));
+    let (word, operands) = worded(text);
+    if is_name(word) {
+        statement(alloc, word, operands)
+    } else {
+        Ok(Err(AsmCause::BadStatement))
     }
-    let Some(keyword) = keyword_of(first) else {
-        return Ok(Err(AsmCause::UnknownWord));
-    };
-    Ok(statement(alloc, keyword, operands)?.ok_or(AsmCause::BadOperand))
 }
 
-#[tactic(auto, unfolding(crate::specs::Lines::read_text))]
+#[tactic(auto, unfolding(asm_grammar::specs::Reading::read_text))]
 fn read_text(alloc: Global, text: &[u8]) -> Result<Result<Option<Statement>, AsmCause>, AllocError>
     ensures { IfOk result (λ s. s ≡ read_text text.now) }
 {
@@ -146,7 +158,7 @@ fn label_name(alloc: Global, label: Option<&[u8]>) -> Result<Option<Name>, Alloc
     }
 }
 
-#[tactic(auto, unfolding(crate::specs::Lines::line_of))]
+#[tactic(auto, unfolding(asm_grammar::specs::Reading::line_of))]
 fn line_of(
     alloc: Global,
     label: Option<&[u8]>,
@@ -167,7 +179,7 @@ fn are_printed(line: &[u8]) -> bool
     line.iter().all(|byte| is_printed(*byte))
 }
 
-#[tactic(auto, unfolding(crate::specs::Lines::read_line))]
+#[tactic(auto, unfolding(asm_grammar::specs::Reading::read_line))]
 fn read_line(alloc: Global, line: &[u8]) -> Result<Result<Line, AsmCause>, AllocError>
     ensures { IfOk result (λ read. read ≡ read_line line.now) }
 {
@@ -211,20 +223,28 @@ fn read_lines(alloc: Global, lines: &[&[u8]]) -> Result<Statements, AsmFault>
     Ok(statements)
 }
 
-/// The statements of a source, line by line.
-///
-/// # Errors
-///
-/// The first line that is none of the grammar, and why, or line 0 for a source of more than 1 MiB;
-/// or want of memory.
-#[tactic(auto, unfolding(crate::specs::Lines::statements_of))]
-pub fn parse(alloc: Global, source: &[u8]) -> Result<Statements, AsmFault>
+#[tactic(auto, unfolding(asm_grammar::specs::Reading::statements_of))]
+fn read_source(alloc: Global, source: &[u8]) -> Result<Statements, AsmFault>
     ensures statements { IfOk result (λ statements. statements_of source.now ≡ Ok statements) }
-    ensures refused { IfErr result (TellsOf source.now) }
+    ensures refused { IfErr result (TellsOfSource source.now) }
 {
     if source.len() > LONGEST_SOURCE {
         return Err(AsmFault::At(0, AsmCause::TooBig));
     }
     let lines = lines_of(alloc, source)?;
     read_lines(alloc, lines.as_slice())
+}
+
+/// The statements of a source, line by line.
+///
+/// # Errors
+///
+/// The first line that is none of the grammar, and why, or line 0 for a source of more than 1 MiB;
+/// or want of memory.
+pub fn parse(alloc: Global, source: &[u8]) -> Result<Statements, AsmFault>
+    ensures says { IfOk result (SaysSource source.now) }
+    ensures refused { IfErr result (TellsOf source.now) }
+{
+    asm_grammar::one_source();
+    read_source(alloc, source)
 }

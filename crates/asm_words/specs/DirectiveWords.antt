@@ -1,26 +1,35 @@
 -- The words of directives.
 use Rattle.std.specs.Prelude.{ℕ, List, [], ◌∷◌, Option, codes}
 use Rattle.asm_words.specs.Table.{named}
-use Rattle.asm_words.specs.declared.operation.Section.TheVariants as sections
-use Rattle.asm_words.specs.declared.operation.Named.TheVariants as nameds
-use Rattle.asm_words.specs.declared.operation.Sized.TheVariants as sizeds
+use Rattle.asm_statement.specs.declared.directive.Section.TheVariants as sections
+use Rattle.asm_statement.specs.declared.directive.Export.TheVariants as exports
+use Rattle.asm_statement.specs.declared.directive.Array.TheVariants as arrays
+use Rattle.asm_statement.specs.declared.directive.DataSize.TheVariants as sizes
+use Rattle.asm_words.specs.declared.directive_words.NameWord.TheVariants as names
+use Rattle.asm_words.specs.declared.directive_words.NumberWord.TheVariants as numbers
+use Rattle.asm_words.specs.declared.directive_words.LoneWord.TheVariants as lones
 use Rattle.asm_words.specs.declared.directive_words.DirectiveWord.{DirectiveWord}
 use Rattle.asm_words.specs.declared.directive_words.DirectiveWord.TheVariants as directives
 
 -- directives
 abbrev pub directive_word_rows : List (List ℕ × DirectiveWord)
 directive_word_rows =
-    (codes ".text", directives.Section sections.Text) ∷ (codes ".rodata", directives.Section sections.Rodata) ∷ (codes ".relro", directives.Section sections.Relro) ∷
-    (codes ".data", directives.Section sections.Data) ∷ (codes ".bss", directives.Section sections.Bss) ∷ (codes ".tdata", directives.Section sections.Tdata) ∷
-    (codes ".tbss", directives.Section sections.Tbss) ∷ (codes ".soname", directives.Named nameds.Soname) ∷ (codes ".needed", directives.Named nameds.Needed) ∷
-    (codes ".entry", directives.Named nameds.Entry) ∷ (codes ".global", directives.Named nameds.Global) ∷ (codes ".weak", directives.Named nameds.Weak) ∷
-    (codes ".hidden", directives.Named nameds.Hidden) ∷ (codes ".protected", directives.Named nameds.Protected) ∷ (codes ".version", directives.Named nameds.Version) ∷
-    (codes ".preinit", directives.Named nameds.Preinit) ∷ (codes ".init", directives.Named nameds.Init) ∷ (codes ".fini", directives.Named nameds.Fini) ∷
-    (codes ".word", directives.Sized sizeds.Word) ∷ (codes ".half", directives.Sized sizeds.Half) ∷ (codes ".byte", directives.Sized sizeds.Byte) ∷
-    (codes ".zero", directives.Sized sizeds.Zero) ∷ (codes ".kind", directives.Kind) ∷ (codes ".hash", directives.Hash) ∷
-    (codes ".flags", directives.Flags) ∷ (codes ".symver", directives.Symver) ∷ (codes ".need", directives.Need) ∷
-    (codes ".dword", directives.Dword) ∷ (codes ".asciz", directives.Asciz) ∷ (codes ".align", directives.Align) ∷
-    (codes ".relr", directives.Relr) ∷ (codes ".copy", directives.Copy) ∷
+    (codes ".text", directives.Lone (lones.Section sections.Text)) ∷ (codes ".rodata", directives.Lone (lones.Section sections.Rodata)) ∷
+    (codes ".relro", directives.Lone (lones.Section sections.Relro)) ∷ (codes ".data", directives.Lone (lones.Section sections.Data)) ∷
+    (codes ".bss", directives.Lone (lones.Section sections.Bss)) ∷ (codes ".tdata", directives.Lone (lones.Section sections.Tdata)) ∷
+    (codes ".tbss", directives.Lone (lones.Section sections.Tbss)) ∷ (codes ".soname", directives.Name names.Soname) ∷
+    (codes ".needed", directives.Name names.Needed) ∷ (codes ".entry", directives.Name names.Entry) ∷
+    (codes ".global", directives.Name (names.Export exports.Global)) ∷ (codes ".hidden", directives.Name (names.Export exports.Hidden)) ∷
+    (codes ".protected", directives.Name (names.Export exports.Protected)) ∷ (codes ".weak", directives.Name names.Weak) ∷
+    (codes ".version", directives.Name names.Version) ∷ (codes ".preinit", directives.Name (names.Entries arrays.Preinit)) ∷
+    (codes ".init", directives.Name (names.Entries arrays.Init)) ∷ (codes ".fini", directives.Name (names.Entries arrays.Fini)) ∷
+    (codes ".word", directives.Number (numbers.Data sizes.Word)) ∷ (codes ".half", directives.Number (numbers.Data sizes.Half)) ∷
+    (codes ".byte", directives.Number (numbers.Data sizes.Byte)) ∷ (codes ".zero", directives.Number numbers.Zero) ∷
+    (codes ".relr", directives.Lone lones.Relr) ∷ (codes ".kind", directives.Kind) ∷
+    (codes ".hash", directives.Hash) ∷ (codes ".flags", directives.Flags) ∷
+    (codes ".symver", directives.Symver) ∷ (codes ".need", directives.Need) ∷
+    (codes ".dword", directives.Dword) ∷ (codes ".asciz", directives.Asciz) ∷
+    (codes ".align", directives.Align) ∷ (codes ".copy", directives.Copy) ∷
     []
 
 unfoldable pub directive_word : List ℕ → Option DirectiveWord

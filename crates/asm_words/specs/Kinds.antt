@@ -1,21 +1,25 @@
 -- Words that stand as operands.
-use Rattle.std.specs.Prelude.{ℕ, List, [], ◌∷◌, Option, codes}
+use Rattle.std.specs.Prelude.{ℕ, Bool, true, false, List, [], ◌∷◌, Option, codes}
+use Rattle.std.specs.Option.{option_map}
+use Rattle.asm_statement.specs.declared.instruction.FenceSet.{FenceSet}
 use Rattle.asm_words.specs.Table.{named}
-use Rattle.asm_words.specs.declared.operation.ObjectKind.{ObjectKind}
-use Rattle.asm_words.specs.declared.operation.ObjectKind.TheVariants as kinds
-use Rattle.asm_words.specs.declared.operation.HashKind.{HashKind}
-use Rattle.asm_words.specs.declared.operation.HashKind.TheVariants as hashes
+use Rattle.asm_statement.specs.declared.directive.ObjectKind.{ObjectKind}
+use Rattle.asm_statement.specs.declared.directive.ObjectKind.TheVariants as kinds
+use Rattle.asm_statement.specs.declared.directive.HashKind.{HashKind}
+use Rattle.asm_statement.specs.declared.directive.HashKind.TheVariants as hashes
 
--- what a fence orders: input 8, output 4, reads 2 and writes 1, their letters in this order
-abbrev pub fence_set_rows : List (List ℕ × ℕ)
+-- what a fence orders: input, output, reads and writes, their letters in this order
+abbrev pub fence_set_rows : List (List ℕ × (Bool × Bool × Bool × Bool))
 fence_set_rows =
-    (codes "i", 8) ∷ (codes "o", 4) ∷ (codes "io", 12) ∷ (codes "r", 2) ∷ (codes "ir", 10) ∷
-    (codes "or", 6) ∷ (codes "ior", 14) ∷ (codes "w", 1) ∷ (codes "iw", 9) ∷ (codes "ow", 5) ∷
-    (codes "iow", 13) ∷ (codes "rw", 3) ∷ (codes "irw", 11) ∷ (codes "orw", 7) ∷ (codes "iorw", 15) ∷
+    (codes "i", (true, false, false, false)) ∷ (codes "o", (false, true, false, false)) ∷ (codes "io", (true, true, false, false)) ∷
+    (codes "r", (false, false, true, false)) ∷ (codes "ir", (true, false, true, false)) ∷ (codes "or", (false, true, true, false)) ∷
+    (codes "ior", (true, true, true, false)) ∷ (codes "w", (false, false, false, true)) ∷ (codes "iw", (true, false, false, true)) ∷
+    (codes "ow", (false, true, false, true)) ∷ (codes "iow", (true, true, false, true)) ∷ (codes "rw", (false, false, true, true)) ∷
+    (codes "irw", (true, false, true, true)) ∷ (codes "orw", (false, true, true, true)) ∷ (codes "iorw", (true, true, true, true)) ∷
     []
 
-unfoldable pub fence_set : List ℕ → Option ℕ
-fence_set word = named word fence_set_rows
+unfoldable pub fence_set : List ℕ → Option FenceSet
+fence_set word = option_map (λ letters. record { input = letters.0; output = letters.1; reads = letters.2; writes = letters.3 }) (named word fence_set_rows)
 
 -- kinds of objects
 abbrev pub kind_rows : List (List ℕ × ObjectKind)

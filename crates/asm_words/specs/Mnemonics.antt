@@ -1,13 +1,16 @@
--- Mnemonics (Unprivileged ISA 20191213, chapters 24 and 25).
-use Rattle.std.specs.Prelude.{ℕ, true, false, List, [], ◌∷◌, Option, Some, codes}
-use Rattle.std.specs.Option.{option_or}
+-- Mnemonics: Unprivileged ISA 20191213, chapters 24 and 25; `lga`, `la.tls.gd` and `la.tls.ie` are of the RISC-V Assembly Programmer's Manual.
+use Rattle.std.specs.Prelude.{ℕ, Bool, true, false, List, [], ◌∷◌, Option, Some, codes}
+use Rattle.std.specs.Option.{option_map, option_or}
+use Rattle.std.specs.Str.{byte}
 use Rattle.asm_words.specs.Table.{named}
 use Rattle.asm_words.specs.Text.{cut, ◌>>=◌}
-use Rattle.asm_words.specs.declared.operation.Access.{Access}
-use Rattle.asm_words.specs.declared.operation.PlainOp.TheVariants as plains
-use Rattle.asm_words.specs.declared.operation.TargetOp.TheVariants as targets
-use Rattle.asm_words.specs.declared.operation.NumberOp.TheVariants as numbers
-use Rattle.asm_words.specs.declared.operation.NameOp.TheVariants as names
+use Rattle.asm_statement.specs.declared.instruction.Access.{Access}
+use Rattle.asm_statement.specs.declared.instruction.Width.{Width}
+use Rattle.asm_statement.specs.declared.instruction.Width.TheVariants as widths
+use Rattle.asm_statement.specs.declared.instruction.PlainOp.TheVariants as plains
+use Rattle.asm_statement.specs.declared.instruction.UpperOp.TheVariants as uppers
+use Rattle.asm_statement.specs.declared.instruction.ZeroBranchOp.TheVariants as zeros
+use Rattle.asm_statement.specs.declared.instruction.AddressOp.TheVariants as addresses
 use Rattle.rv_isa.specs.declared.operation.BranchOp.TheVariants as branches
 use Rattle.rv_isa.specs.declared.operation.LoadOp.TheVariants as loads
 use Rattle.rv_isa.specs.declared.operation.StoreOp.TheVariants as stores
@@ -16,32 +19,37 @@ use Rattle.rv_isa.specs.declared.operation.RegOp.TheVariants as ops
 use Rattle.rv_isa.specs.declared.operation.AmoOp.TheVariants as amos
 use Rattle.asm_words.specs.declared.mnemonics.Atomic.{Atomic}
 use Rattle.asm_words.specs.declared.mnemonics.Atomic.TheVariants as atomics
+use Rattle.asm_words.specs.declared.mnemonics.TargetForm.TheVariants as targets
+use Rattle.asm_words.specs.declared.mnemonics.AddressForm.TheVariants as labels
+use Rattle.asm_words.specs.declared.mnemonics.MemoryForm.{MemoryForm}
+use Rattle.asm_words.specs.declared.mnemonics.MemoryForm.TheVariants as memories
+use Rattle.asm_words.specs.declared.mnemonics.RegisterForm.TheVariants as registers
 use Rattle.asm_words.specs.declared.mnemonics.Form.{Form}
 use Rattle.asm_words.specs.declared.mnemonics.Form.TheVariants as forms
 
 -- the mnemonics of one word
 abbrev pub word_form_rows : List (List ℕ × Form)
 word_form_rows =
-    (codes "ecall", forms.Plain plains.Ecall) ∷ (codes "ebreak", forms.Plain plains.Ebreak) ∷ (codes "nop", forms.Plain plains.Nop) ∷ (codes "ret", forms.Plain plains.Ret) ∷
-    (codes "j", forms.Target targets.J) ∷ (codes "call", forms.Target targets.Call) ∷ (codes "tail", forms.Target targets.Tail) ∷ (codes "lui", forms.WithNumber numbers.Lui) ∷
-    (codes "auipc", forms.WithNumber numbers.Auipc) ∷ (codes "li", forms.WithNumber numbers.Li) ∷ (codes "jal", forms.WithName names.Jal) ∷ (codes "beqz", forms.WithName names.Beqz) ∷
-    (codes "bnez", forms.WithName names.Bnez) ∷ (codes "la", forms.WithName names.La) ∷ (codes "lga", forms.WithName names.Lga) ∷ (codes "la.tls.gd", forms.WithName names.LaTlsGd) ∷
-    (codes "la.tls.ie", forms.WithName names.LaTlsIe) ∷ (codes "jalr", forms.Jalr) ∷ (codes "mv", forms.Mv) ∷ (codes "jr", forms.Jr) ∷
-    (codes "fence", forms.Fence) ∷ (codes "beq", forms.Branch branches.Beq) ∷ (codes "bne", forms.Branch branches.Bne) ∷ (codes "blt", forms.Branch branches.Blt) ∷
-    (codes "bge", forms.Branch branches.Bge) ∷ (codes "bltu", forms.Branch branches.Bltu) ∷ (codes "bgeu", forms.Branch branches.Bgeu) ∷ (codes "lb", forms.Load loads.Lb) ∷
-    (codes "lh", forms.Load loads.Lh) ∷ (codes "lw", forms.Load loads.Lw) ∷ (codes "ld", forms.Load loads.Ld) ∷ (codes "lbu", forms.Load loads.Lbu) ∷
-    (codes "lhu", forms.Load loads.Lhu) ∷ (codes "lwu", forms.Load loads.Lwu) ∷ (codes "sb", forms.Store stores.Sb) ∷ (codes "sh", forms.Store stores.Sh) ∷
-    (codes "sw", forms.Store stores.Sw) ∷ (codes "sd", forms.Store stores.Sd) ∷ (codes "addi", forms.Imm imms.Addi) ∷ (codes "slti", forms.Imm imms.Slti) ∷
-    (codes "sltiu", forms.Imm imms.Sltiu) ∷ (codes "xori", forms.Imm imms.Xori) ∷ (codes "ori", forms.Imm imms.Ori) ∷ (codes "andi", forms.Imm imms.Andi) ∷
-    (codes "slli", forms.Imm imms.Slli) ∷ (codes "srli", forms.Imm imms.Srli) ∷ (codes "srai", forms.Imm imms.Srai) ∷ (codes "addiw", forms.Imm imms.Addiw) ∷
-    (codes "slliw", forms.Imm imms.Slliw) ∷ (codes "srliw", forms.Imm imms.Srliw) ∷ (codes "sraiw", forms.Imm imms.Sraiw) ∷ (codes "add", forms.Op ops.Add) ∷
-    (codes "sub", forms.Op ops.Sub) ∷ (codes "sll", forms.Op ops.Sll) ∷ (codes "slt", forms.Op ops.Slt) ∷ (codes "sltu", forms.Op ops.Sltu) ∷
-    (codes "xor", forms.Op ops.Xor) ∷ (codes "srl", forms.Op ops.Srl) ∷ (codes "sra", forms.Op ops.Sra) ∷ (codes "or", forms.Op ops.Or) ∷
-    (codes "and", forms.Op ops.And) ∷ (codes "mul", forms.Op ops.Mul) ∷ (codes "mulh", forms.Op ops.Mulh) ∷ (codes "mulhsu", forms.Op ops.Mulhsu) ∷
-    (codes "mulhu", forms.Op ops.Mulhu) ∷ (codes "div", forms.Op ops.Div) ∷ (codes "divu", forms.Op ops.Divu) ∷ (codes "rem", forms.Op ops.Rem) ∷
-    (codes "remu", forms.Op ops.Remu) ∷ (codes "addw", forms.Op ops.Addw) ∷ (codes "subw", forms.Op ops.Subw) ∷ (codes "sllw", forms.Op ops.Sllw) ∷
-    (codes "srlw", forms.Op ops.Srlw) ∷ (codes "sraw", forms.Op ops.Sraw) ∷ (codes "mulw", forms.Op ops.Mulw) ∷ (codes "divw", forms.Op ops.Divw) ∷
-    (codes "divuw", forms.Op ops.Divuw) ∷ (codes "remw", forms.Op ops.Remw) ∷ (codes "remuw", forms.Op ops.Remuw) ∷
+    (codes "ecall", forms.Register (registers.Plain plains.Ecall)) ∷ (codes "ebreak", forms.Register (registers.Plain plains.Ebreak)) ∷ (codes "nop", forms.Register (registers.Plain plains.Nop)) ∷ (codes "ret", forms.Register (registers.Plain plains.Ret)) ∷
+    (codes "j", forms.Target targets.Jump) ∷ (codes "call", forms.Target targets.Call) ∷ (codes "tail", forms.Target targets.Tail) ∷ (codes "lui", forms.Register (registers.Upper uppers.Lui)) ∷
+    (codes "auipc", forms.Register (registers.Upper uppers.Auipc)) ∷ (codes "li", forms.Register registers.Li) ∷ (codes "jal", forms.Address labels.Jal) ∷ (codes "beqz", forms.Address (labels.BranchZero zeros.Beqz)) ∷
+    (codes "bnez", forms.Address (labels.BranchZero zeros.Bnez)) ∷ (codes "la", forms.Address (labels.Address addresses.La)) ∷ (codes "lga", forms.Address (labels.Address addresses.Lga)) ∷ (codes "la.tls.gd", forms.Address (labels.Address addresses.LaTlsGd)) ∷
+    (codes "la.tls.ie", forms.Address (labels.Address addresses.LaTlsIe)) ∷ (codes "jalr", forms.Register registers.Jalr) ∷ (codes "mv", forms.Register registers.Mv) ∷ (codes "jr", forms.Register registers.Jr) ∷
+    (codes "fence", forms.Register registers.Fence) ∷ (codes "beq", forms.Branch branches.Beq) ∷ (codes "bne", forms.Branch branches.Bne) ∷ (codes "blt", forms.Branch branches.Blt) ∷
+    (codes "bge", forms.Branch branches.Bge) ∷ (codes "bltu", forms.Branch branches.Bltu) ∷ (codes "bgeu", forms.Branch branches.Bgeu) ∷ (codes "lb", forms.Memory (memories.Load loads.Lb)) ∷
+    (codes "lh", forms.Memory (memories.Load loads.Lh)) ∷ (codes "lw", forms.Memory (memories.Load loads.Lw)) ∷ (codes "ld", forms.Memory (memories.Load loads.Ld)) ∷ (codes "lbu", forms.Memory (memories.Load loads.Lbu)) ∷
+    (codes "lhu", forms.Memory (memories.Load loads.Lhu)) ∷ (codes "lwu", forms.Memory (memories.Load loads.Lwu)) ∷ (codes "sb", forms.Memory (memories.Store stores.Sb)) ∷ (codes "sh", forms.Memory (memories.Store stores.Sh)) ∷
+    (codes "sw", forms.Memory (memories.Store stores.Sw)) ∷ (codes "sd", forms.Memory (memories.Store stores.Sd)) ∷ (codes "addi", forms.Register (registers.Imm imms.Addi)) ∷ (codes "slti", forms.Register (registers.Imm imms.Slti)) ∷
+    (codes "sltiu", forms.Register (registers.Imm imms.Sltiu)) ∷ (codes "xori", forms.Register (registers.Imm imms.Xori)) ∷ (codes "ori", forms.Register (registers.Imm imms.Ori)) ∷ (codes "andi", forms.Register (registers.Imm imms.Andi)) ∷
+    (codes "slli", forms.Register (registers.Imm imms.Slli)) ∷ (codes "srli", forms.Register (registers.Imm imms.Srli)) ∷ (codes "srai", forms.Register (registers.Imm imms.Srai)) ∷ (codes "addiw", forms.Register (registers.Imm imms.Addiw)) ∷
+    (codes "slliw", forms.Register (registers.Imm imms.Slliw)) ∷ (codes "srliw", forms.Register (registers.Imm imms.Srliw)) ∷ (codes "sraiw", forms.Register (registers.Imm imms.Sraiw)) ∷ (codes "add", forms.Register (registers.Op ops.Add)) ∷
+    (codes "sub", forms.Register (registers.Op ops.Sub)) ∷ (codes "sll", forms.Register (registers.Op ops.Sll)) ∷ (codes "slt", forms.Register (registers.Op ops.Slt)) ∷ (codes "sltu", forms.Register (registers.Op ops.Sltu)) ∷
+    (codes "xor", forms.Register (registers.Op ops.Xor)) ∷ (codes "srl", forms.Register (registers.Op ops.Srl)) ∷ (codes "sra", forms.Register (registers.Op ops.Sra)) ∷ (codes "or", forms.Register (registers.Op ops.Or)) ∷
+    (codes "and", forms.Register (registers.Op ops.And)) ∷ (codes "mul", forms.Register (registers.Op ops.Mul)) ∷ (codes "mulh", forms.Register (registers.Op ops.Mulh)) ∷ (codes "mulhsu", forms.Register (registers.Op ops.Mulhsu)) ∷
+    (codes "mulhu", forms.Register (registers.Op ops.Mulhu)) ∷ (codes "div", forms.Register (registers.Op ops.Div)) ∷ (codes "divu", forms.Register (registers.Op ops.Divu)) ∷ (codes "rem", forms.Register (registers.Op ops.Rem)) ∷
+    (codes "remu", forms.Register (registers.Op ops.Remu)) ∷ (codes "addw", forms.Register (registers.Op ops.Addw)) ∷ (codes "subw", forms.Register (registers.Op ops.Subw)) ∷ (codes "sllw", forms.Register (registers.Op ops.Sllw)) ∷
+    (codes "srlw", forms.Register (registers.Op ops.Srlw)) ∷ (codes "sraw", forms.Register (registers.Op ops.Sraw)) ∷ (codes "mulw", forms.Register (registers.Op ops.Mulw)) ∷ (codes "divw", forms.Register (registers.Op ops.Divw)) ∷
+    (codes "divuw", forms.Register (registers.Op ops.Divuw)) ∷ (codes "remw", forms.Register (registers.Op ops.Remw)) ∷ (codes "remuw", forms.Register (registers.Op ops.Remuw)) ∷
     []
 
 unfoldable pub word_form : List ℕ → Option Form
@@ -58,30 +66,30 @@ atomic_part_rows =
 unfoldable pub atomic_part : List ℕ → Option Atomic
 atomic_part word = named word atomic_part_rows
 
--- how they reach it, after that point
-abbrev pub access_rows : List (List ℕ × Access)
+-- how they reach it, after that point: the width, whether it acquires, and whether it releases
+abbrev pub access_rows : List (List ℕ × (Width × Bool × Bool))
 access_rows =
-    (codes "w", record { size = 4; aq = false; rl = false }) ∷ (codes "d", record { size = 8; aq = false; rl = false }) ∷
-    (codes "w.aq", record { size = 4; aq = true; rl = false }) ∷ (codes "d.aq", record { size = 8; aq = true; rl = false }) ∷
-    (codes "w.rl", record { size = 4; aq = false; rl = true }) ∷ (codes "d.rl", record { size = 8; aq = false; rl = true }) ∷
-    (codes "w.aqrl", record { size = 4; aq = true; rl = true }) ∷ (codes "d.aqrl", record { size = 8; aq = true; rl = true }) ∷
+    (codes "w", (widths.Word, false, false)) ∷ (codes "d", (widths.Doubleword, false, false)) ∷
+    (codes "w.aq", (widths.Word, true, false)) ∷ (codes "d.aq", (widths.Doubleword, true, false)) ∷
+    (codes "w.rl", (widths.Word, false, true)) ∷ (codes "d.rl", (widths.Doubleword, false, true)) ∷
+    (codes "w.aqrl", (widths.Word, true, true)) ∷ (codes "d.aqrl", (widths.Doubleword, true, true)) ∷
     []
 
 unfoldable pub access : List ℕ → Option Access
-access word = named word access_rows
+access word = option_map (λ how. record { width = how.0; aq = how.1; rl = how.2 }) (named word access_rows)
 
 -- the instruction that reaches memory so
-abbrev pub atomic_form : Atomic → Access → Form
-atomic_form atomics.Lr access = forms.Lr access
-atomic_form atomics.Sc access = forms.Sc access
-atomic_form (atomics.Amo op) access = forms.Amo op access
+abbrev pub atomic_form : Atomic → Access → MemoryForm
+atomic_form atomics.Lr access = memories.Lr access
+atomic_form atomics.Sc access = memories.Sc access
+atomic_form (atomics.Amo op) access = memories.Amo op access
 
 unfoldable pub pointed_form : List ℕ → Option Form
 pointed_form word = do
-  parts ← cut 46 word
+  parts ← cut (byte ".") word
   what ← atomic_part parts.0
   how ← access parts.1
-  Some (atomic_form what how)
+  Some (forms.Memory (atomic_form what how))
 
 -- a mnemonic
 unfoldable pub mnemonic : List ℕ → Option Form

@@ -3,15 +3,41 @@
 ghost use Rattle.std.specs.Prelude.{◌≡◌};
 ghost use Rattle.asm_words.specs.DirectiveWords.{directive_word};
 
-use crate::operation::{Named, Section, Sized};
 use crate::table::named;
+use asm_statement::{Array, DataSize, Export, Section};
 
-/// The word of a directive.
+/// A directive that takes a name, and nothing else.
+#[derive(Clone, Copy)]
+pub enum NameWord {
+    Soname,
+    Needed,
+    Entry,
+    Export(Export),
+    Weak,
+    Version,
+    Entries(Array),
+}
+
+/// A directive that takes a number, and nothing else.
+#[derive(Clone, Copy)]
+pub enum NumberWord {
+    Data(DataSize),
+    Zero,
+}
+
+/// A directive that takes nothing.
+#[derive(Clone, Copy)]
+pub enum LoneWord {
+    Section(Section),
+    Relr,
+}
+
+/// The word of a directive, by the form of its operands.
 #[derive(Clone, Copy)]
 pub enum DirectiveWord {
-    Named(Named),
-    Sized(Sized),
-    Section(Section),
+    Name(NameWord),
+    Number(NumberWord),
+    Lone(LoneWord),
     Kind,
     Hash,
     Flags,
@@ -20,33 +46,81 @@ pub enum DirectiveWord {
     Dword,
     Asciz,
     Align,
-    Relr,
     Copy,
 }
 
 const DIRECTIVES: [(&[u8], DirectiveWord); 32] = [
-    (b".text", DirectiveWord::Section(Section::Text)),
-    (b".rodata", DirectiveWord::Section(Section::Rodata)),
-    (b".relro", DirectiveWord::Section(Section::Relro)),
-    (b".data", DirectiveWord::Section(Section::Data)),
-    (b".bss", DirectiveWord::Section(Section::Bss)),
-    (b".tdata", DirectiveWord::Section(Section::Tdata)),
-    (b".tbss", DirectiveWord::Section(Section::Tbss)),
-    (b".soname", DirectiveWord::Named(Named::Soname)),
-    (b".needed", DirectiveWord::Named(Named::Needed)),
-    (b".entry", DirectiveWord::Named(Named::Entry)),
-    (b".global", DirectiveWord::Named(Named::Global)),
-    (b".weak", DirectiveWord::Named(Named::Weak)),
-    (b".hidden", DirectiveWord::Named(Named::Hidden)),
-    (b".protected", DirectiveWord::Named(Named::Protected)),
-    (b".version", DirectiveWord::Named(Named::Version)),
-    (b".preinit", DirectiveWord::Named(Named::Preinit)),
-    (b".init", DirectiveWord::Named(Named::Init)),
-    (b".fini", DirectiveWord::Named(Named::Fini)),
-    (b".word", DirectiveWord::Sized(Sized::Word)),
-    (b".half", DirectiveWord::Sized(Sized::Half)),
-    (b".byte", DirectiveWord::Sized(Sized::Byte)),
-    (b".zero", DirectiveWord::Sized(Sized::Zero)),
+    (
+        b".text",
+        DirectiveWord::Lone(LoneWord::Section(Section::Text)),
+    ),
+    (
+        b".rodata",
+        DirectiveWord::Lone(LoneWord::Section(Section::Rodata)),
+    ),
+    (
+        b".relro",
+        DirectiveWord::Lone(LoneWord::Section(Section::Relro)),
+    ),
+    (
+        b".data",
+        DirectiveWord::Lone(LoneWord::Section(Section::Data)),
+    ),
+    (
+        b".bss",
+        DirectiveWord::Lone(LoneWord::Section(Section::Bss)),
+    ),
+    (
+        b".tdata",
+        DirectiveWord::Lone(LoneWord::Section(Section::Tdata)),
+    ),
+    (
+        b".tbss",
+        DirectiveWord::Lone(LoneWord::Section(Section::Tbss)),
+    ),
+    (b".soname", DirectiveWord::Name(NameWord::Soname)),
+    (b".needed", DirectiveWord::Name(NameWord::Needed)),
+    (b".entry", DirectiveWord::Name(NameWord::Entry)),
+    (
+        b".global",
+        DirectiveWord::Name(NameWord::Export(Export::Global)),
+    ),
+    (
+        b".hidden",
+        DirectiveWord::Name(NameWord::Export(Export::Hidden)),
+    ),
+    (
+        b".protected",
+        DirectiveWord::Name(NameWord::Export(Export::Protected)),
+    ),
+    (b".weak", DirectiveWord::Name(NameWord::Weak)),
+    (b".version", DirectiveWord::Name(NameWord::Version)),
+    (
+        b".preinit",
+        DirectiveWord::Name(NameWord::Entries(Array::Preinit)),
+    ),
+    (
+        b".init",
+        DirectiveWord::Name(NameWord::Entries(Array::Init)),
+    ),
+    (
+        b".fini",
+        DirectiveWord::Name(NameWord::Entries(Array::Fini)),
+    ),
+    (
+        b".word",
+        DirectiveWord::Number(NumberWord::Data(DataSize::Word)),
+    ),
+    (
+        b".half",
+        DirectiveWord::Number(NumberWord::Data(DataSize::Half)),
+    ),
+    (
+        b".byte",
+        DirectiveWord::Number(NumberWord::Data(DataSize::Byte)),
+    ),
+    (b".zero", DirectiveWord::Number(NumberWord::Zero)),
+    (b".relr", DirectiveWord::Lone(LoneWord::Relr)),
     (b".kind", DirectiveWord::Kind),
     (b".hash", DirectiveWord::Hash),
     (b".flags", DirectiveWord::Flags),
@@ -55,7 +129,6 @@ const DIRECTIVES: [(&[u8], DirectiveWord); 32] = [
     (b".dword", DirectiveWord::Dword),
     (b".asciz", DirectiveWord::Asciz),
     (b".align", DirectiveWord::Align),
-    (b".relr", DirectiveWord::Relr),
     (b".copy", DirectiveWord::Copy),
 ];
 

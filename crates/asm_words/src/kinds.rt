@@ -3,25 +3,26 @@
 ghost use Rattle.std.specs.Prelude.{◌≡◌};
 ghost use Rattle.asm_words.specs.Kinds.{fence_set, kind, hash};
 
-use crate::operation::{HashKind, ObjectKind};
 use crate::table::named;
+use asm_statement::{FenceSet, HashKind, ObjectKind};
 
-const FENCE_SETS: [(&[u8], u8); 15] = [
-    (b"i", 8),
-    (b"o", 4),
-    (b"io", 12),
-    (b"r", 2),
-    (b"ir", 10),
-    (b"or", 6),
-    (b"ior", 14),
-    (b"w", 1),
-    (b"iw", 9),
-    (b"ow", 5),
-    (b"iow", 13),
-    (b"rw", 3),
-    (b"irw", 11),
-    (b"orw", 7),
-    (b"iorw", 15),
+/// Input, output, reads and writes, by their letters.
+const FENCE_SETS: [(&[u8], (bool, bool, bool, bool)); 15] = [
+    (b"i", (true, false, false, false)),
+    (b"o", (false, true, false, false)),
+    (b"io", (true, true, false, false)),
+    (b"r", (false, false, true, false)),
+    (b"ir", (true, false, true, false)),
+    (b"or", (false, true, true, false)),
+    (b"ior", (true, true, true, false)),
+    (b"w", (false, false, false, true)),
+    (b"iw", (true, false, false, true)),
+    (b"ow", (false, true, false, true)),
+    (b"iow", (true, true, false, true)),
+    (b"rw", (false, false, true, true)),
+    (b"irw", (true, false, true, true)),
+    (b"orw", (false, true, true, true)),
+    (b"iorw", (true, true, true, true)),
 ];
 
 const KINDS: [(&[u8], ObjectKind); 3] = [
@@ -36,12 +37,18 @@ const HASHES: [(&[u8], HashKind); 3] = [
     (b"both", HashKind::Both),
 ];
 
-/// What a fence orders, as four bits: input, output, reads, writes.
+/// What a fence orders on one of its sides.
 #[tactic(auto, unfolding(crate::specs::Kinds::fence_set))]
-pub fn fence_set(word: &[u8]) -> Option<u8>
+pub fn fence_set(word: &[u8]) -> Option<FenceSet>
     ensures { result ≡ fence_set word.now }
 {
-    named(&FENCE_SETS, word)
+    let (input, output, reads, writes) = named(&FENCE_SETS, word)?;
+    Some(FenceSet {
+        input,
+        output,
+        reads,
+        writes,
+    })
 }
 
 /// A kind of object.

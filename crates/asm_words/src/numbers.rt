@@ -4,14 +4,7 @@ ghost use Rattle.std.specs.Prelude.{◌≡◌, ◌≤◌, Some, option_map};
 ghost use Rattle.asm_words.specs.Number.{digit, digit_below, number_in, unsigned, kept, number};
 ghost use Rattle.asm_words.specs.Magnitude.{after_digit, magnitude};
 
-/// A number as it is written.
-#[derive(Clone, Copy)]
-pub struct Number {
-    /// Whether a minus sign stands before it.
-    pub is_negative: bool,
-    /// What follows the sign, or None where that is 2^64 or more.
-    pub magnitude: Option<u64>,
-}
+use asm_statement::Number;
 
 fn digit(byte: u8) -> Option<u8>
     ensures { result ≡ digit byte }

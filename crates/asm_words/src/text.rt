@@ -5,8 +5,9 @@ ghost use Rattle.asm_words.specs.Text.{is_blank, after_blanks, before_blanks, tr
 
 use std::alloc::{AllocError, Global};
 
+/// Whether this is a space or a tab.
 #[tactic(auto, unfolding(crate::specs::Text::is_blank))]
-fn is_blank(byte: u8) -> bool
+pub fn is_blank(byte: u8) -> bool
     ensures { result ≡ is_blank byte }
 {
     byte == b' ' || byte == b'\t'

@@ -1,5 +1,5 @@
 use Rattle.std.proofs.Common.{◌≡◌, ◌+◌, false, length}
-use Rattle.asm_text.specs.Lines.{before_comment}
+use Rattle.asm_grammar.specs.Reading.{before_comment}
 use Rattle.asm_text.proofs.lines.before_comment.Given as goal
 
 -- the comment begins where that of what is left does

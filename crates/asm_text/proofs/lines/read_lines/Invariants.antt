@@ -1,5 +1,5 @@
 use Rattle.std.proofs.Common.{◌≡◌, ◌+◌, map, length}
-use Rattle.asm_text.specs.Lines.{read_lines, behind}
+use Rattle.asm_grammar.specs.Reading.{read_lines, behind}
 use Rattle.asm_text.proofs.lines.read_lines.Given as goal
 
 -- the statements so far stand before those of the lines that are left

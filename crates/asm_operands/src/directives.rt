@@ -1,27 +1,31 @@
 //! The operands of directives.
 
-ghost use Rattle.std.specs.Prelude.{◌≡◌, IfOk, map};
+ghost use Rattle.std.specs.Prelude.{◌≡◌, ◌==◌, IfOk, map, length, if◌then◌else◌, Some, None};
+ghost use Rattle.asm_words.specs.Number.{number};
+ghost use Rattle.asm_words.specs.Kinds.{kind, hash};
+ghost use Rattle.asm_statement.specs.declared.directive.Directive.TheVariants as the;
 ghost use Rattle.std.specs.Option.{option_map};
-ghost use Rattle.asm_text.specs.Directives.{is_flag, stands_in, are_flags, flags, two_names, versioned, after_at, symver, need_of, need_file, need};
-ghost use Rattle.asm_text.specs.Directives.{pieces_of, sum, doubleword, quoted, asciz, is_power, alignment, copy, alone, plain, directive};
+ghost use Rattle.asm_grammar.specs.Directives.{is_flag, stands_in, flags, two_names, versioned, after_at, symver, need_of, need_file, need};
+ghost use Rattle.asm_grammar.specs.Directives.{sum, doubleword, quoted, asciz, alignment, copy, named, sized, lone, directive};
+ghost use Rattle.asm_words.specs.Text.{trimmed};
+ghost use Rattle.std.specs.List.{list_all};
 
-use crate::operands::zero;
-use crate::statement::{Directive, Doubleword, Need, Symver};
+use crate::instructions::zero;
+use crate::parts::{operands_of, words_of};
+use asm_statement::{Alignment, Directive, Doubleword, Need, Number, Symver};
 use asm_words::{
-    DirectiveWord, after_blanks, cut, cut_blank, hash, kind, name_of, number_of, parts_of, trimmed,
+    DirectiveWord, LoneWord, NameWord, NumberWord, after_blanks, cut, cut_blank, hash, kind,
+    name_of, number_of, trimmed,
 };
 use ld_base::{Bytes, Name, ObjFlags};
 use std::alloc::{AllocError, Global};
 
-#[tactic(auto, unfolding(crate::specs::Directives::is_flag))]
+#[tactic(auto, unfolding(asm_grammar::specs::Directives::is_flag))]
 fn is_flag(word: &[u8]) -> bool
     ensures { result ≡ is_flag word.now }
 {
     let nodelete = b"nodelete".as_slice();
-    word.is_empty()
-        || word == b"symbolic".as_slice()
-        || word == b"now".as_slice()
-        || word == nodelete
+    word == b"symbolic".as_slice() || word == b"now".as_slice() || word == nodelete
 }
 
 fn stands_in(mut words: &[&[u8]], word: &[u8]) -> bool
@@ -37,7 +41,7 @@ fn stands_in(mut words: &[&[u8]], word: &[u8]) -> bool
 }
 
 fn are_flags(mut words: &[&[u8]]) -> bool
-    ensures { result ≡ are_flags (map (λ word. word.now) words.now) }
+    ensures { result ≡ list_all is_flag (map (λ word. word.now) words.now) }
 {
     while let [word, rest @ ..] = words {
         if !is_flag(word) {
@@ -48,11 +52,11 @@ fn are_flags(mut words: &[&[u8]]) -> bool
     true
 }
 
-#[tactic(auto, unfolding(crate::specs::Directives::flags))]
+#[tactic(auto, unfolding(asm_grammar::specs::Directives::flags))]
 fn flags(words: &[&[u8]]) -> Option<Directive>
     ensures { result ≡ flags (map (λ word. word.now) words.now) }
 {
-    if !are_flags(words) {
+    if words.is_empty() || !are_flags(words) {
         return None;
     }
     Some(Directive::Flags(ObjFlags {
@@ -74,7 +78,7 @@ fn two_names(alloc: Global, first: &[u8], second: &[u8]) -> Result<Option<(Name,
     }
 }
 
-#[tactic(auto, unfolding(crate::specs::Directives::versioned))]
+#[tactic(auto, unfolding(asm_grammar::specs::Directives::versioned))]
 fn versioned(alloc: Global, text: &[u8]) -> Result<Option<(Name, Name)>, AllocError>
     ensures { IfOk result (λ names. names ≡ versioned text.now) }
 {
@@ -93,9 +97,9 @@ fn after_at(text: &[u8]) -> (bool, &[u8])
     }
 }
 
-#[tactic(auto, unfolding(crate::specs::Directives::symver))]
+#[tactic(auto, unfolding(asm_grammar::specs::Directives::symver))]
 fn symver(alloc: Global, operands: &[&[u8]]) -> Result<Option<Directive>, AllocError>
-    ensures { IfOk result (λ s. s ≡ symver (map (λ operand. operand.now) operands.now)) }
+    ensures { IfOk result (λ s. s ≡ symver (map (λ operand. trimmed operand.now) operands.now)) }
 {
     let [label, text] = operands else {
         return Ok(None);
@@ -118,7 +122,7 @@ fn symver(alloc: Global, operands: &[&[u8]]) -> Result<Option<Directive>, AllocE
     })))
 }
 
-#[tactic(auto, unfolding(crate::specs::Directives::need_of))]
+#[tactic(auto, unfolding(asm_grammar::specs::Directives::need_of))]
 fn need_of(
     alloc: Global,
     is_weak: bool,
@@ -153,7 +157,7 @@ fn need_file(alloc: Global, text: &[u8], rest: &[u8]) -> Result<Option<Directive
     }
 }
 
-#[tactic(auto, unfolding(crate::specs::Directives::need))]
+#[tactic(auto, unfolding(asm_grammar::specs::Directives::need))]
 fn need(alloc: Global, text: &[u8]) -> Result<Option<Directive>, AllocError>
     ensures { IfOk result (λ n. n ≡ need text.now) }
 {
@@ -163,30 +167,23 @@ fn need(alloc: Global, text: &[u8]) -> Result<Option<Directive>, AllocError>
     }
 }
 
-fn pieces_of(alloc: Global, text: &[u8]) -> Result<Vec<&[u8]>, AllocError>
-    ensures { IfOk result (λ parts. map (λ part. part.now) parts.items ≡ pieces_of text.now) }
-{
-    text.split(|byte| *byte == b' ' || *byte == b'\t')
-        .collect(alloc)
-}
-
-#[tactic(auto, unfolding(crate::specs::Directives::sum))]
+#[tactic(auto, unfolding(asm_grammar::specs::Directives::sum))]
 fn sum(alloc: Global, text: &[u8]) -> Result<Option<Directive>, AllocError>
     ensures { IfOk result (λ d. d ≡ sum text.now) }
 {
     let Some((base, addend)) = cut(text, b'+') else {
         return Ok(None);
     };
-    let Some(addend) = number_of(addend) else {
+    let Some(addend) = number_of(trimmed(addend)) else {
         return Ok(None);
     };
-    match name_of(alloc, base)? {
+    match name_of(alloc, trimmed(base))? {
         Some(base) => Ok(Some(Directive::Dword(Doubleword::Address(base, addend)))),
         None => Ok(None),
     }
 }
 
-#[tactic(auto, unfolding(crate::specs::Directives::doubleword))]
+#[tactic(auto, unfolding(asm_grammar::specs::Directives::doubleword))]
 fn doubleword(alloc: Global, text: &[u8]) -> Result<Option<Directive>, AllocError>
     ensures { IfOk result (λ d. d ≡ doubleword text.now) }
 {
@@ -199,7 +196,7 @@ fn doubleword(alloc: Global, text: &[u8]) -> Result<Option<Directive>, AllocErro
     }
 }
 
-#[tactic(auto, unfolding(crate::specs::Directives::quoted))]
+#[tactic(auto, unfolding(asm_grammar::specs::Directives::quoted))]
 fn quoted(text: &[u8]) -> Option<&[u8]>
     ensures { option_map (λ inner. inner.now) result ≡ quoted text.now }
 {
@@ -221,27 +218,22 @@ fn asciz(alloc: Global, text: &[u8]) -> Result<Option<Directive>, AllocError>
     }
 }
 
-fn is_power(magnitude: u64) -> bool
-    ensures { result ≡ is_power magnitude }
-{
-    matches!(
-        magnitude,
-        1 | 2 | 4 | 8 | 16 | 32 | 64 | 128 | 256 | 512 | 1024 | 2048 | 4096
-    )
-}
-
-#[tactic(auto, unfolding(crate::specs::Directives::alignment))]
-fn alignment(text: &[u8]) -> Option<u64>
+#[tactic(auto, unfolding(asm_grammar::specs::Directives::alignment))]
+fn alignment(text: &[u8]) -> Option<Alignment>
     ensures { result ≡ alignment text.now }
 {
     let value = number_of(text)?;
     let magnitude = value.magnitude?;
-    (!value.is_negative && is_power(magnitude)).then_some(magnitude)
+    if value.is_negative {
+        None
+    } else {
+        Alignment::from_bytes(magnitude)
+    }
 }
 
-#[tactic(auto, unfolding(crate::specs::Directives::copy))]
+#[tactic(auto, unfolding(asm_grammar::specs::Directives::copy))]
 fn copy(alloc: Global, operands: &[&[u8]]) -> Result<Option<Directive>, AllocError>
-    ensures { IfOk result (λ d. d ≡ copy (map (λ operand. operand.now) operands.now)) }
+    ensures { IfOk result (λ d. d ≡ copy (map (λ operand. trimmed operand.now) operands.now)) }
 {
     let [label, size] = operands else {
         return Ok(None);
@@ -255,35 +247,80 @@ fn copy(alloc: Global, operands: &[&[u8]]) -> Result<Option<Directive>, AllocErr
     }
 }
 
-fn alone(text: &[u8], directive: Directive) -> Option<Directive>
-    ensures { result ≡ alone text.now directive }
+#[tactic(auto, unfolding(asm_grammar::specs::Directives::named))]
+fn named(word: NameWord, name: Name) -> Directive
+    ensures { result ≡ named word name }
+{
+    match word {
+        NameWord::Soname => Directive::Soname(name),
+        NameWord::Needed => Directive::Needed(name),
+        NameWord::Entry => Directive::Entry(name),
+        NameWord::Export(export) => Directive::Export(export, name),
+        NameWord::Weak => Directive::Weak(name),
+        NameWord::Version => Directive::Version(name),
+        NameWord::Entries(array) => Directive::Entries(array, name),
+    }
+}
+
+fn sized(word: NumberWord, value: Number) -> Directive
+    ensures { result ≡ sized word value }
+{
+    match word {
+        NumberWord::Data(size) => Directive::Data(size, value),
+        NumberWord::Zero => Directive::Zero(value),
+    }
+}
+
+fn lone(word: LoneWord) -> Directive
+    ensures { result ≡ lone word }
+{
+    match word {
+        LoneWord::Section(section) => Directive::Section(section),
+        LoneWord::Relr => Directive::Relr,
+    }
+}
+
+fn numbered(word: NumberWord, text: &[u8]) -> Option<Directive>
+    ensures { result ≡ option_map (sized word) (number text.now) }
+{
+    Some(sized(word, number_of(text)?))
+}
+
+fn alone(word: LoneWord, text: &[u8]) -> Option<Directive>
+    ensures { result ≡ (if length text.now == 0 then Some (lone word) else None) }
 {
     if text.is_empty() {
-        Some(directive)
+        Some(lone(word))
     } else {
         None
     }
 }
 
-/// A directive that takes no name, with its operands.
-#[tactic(auto, unfolding(crate::specs::Directives::plain))]
-fn plain(word: DirectiveWord, text: &[u8]) -> Option<Directive>
-    ensures { result ≡ plain word text.now }
+fn object_kind(text: &[u8]) -> Option<Directive>
+    ensures { result ≡ option_map the.Kind (kind text.now) }
 {
-    match word {
-        DirectiveWord::Sized(word) => Some(Directive::Sized(word, number_of(text)?)),
-        DirectiveWord::Section(section) => alone(text, Directive::Section(section)),
-        DirectiveWord::Kind => Some(Directive::Kind(kind(text)?)),
-        DirectiveWord::Hash => Some(Directive::Hash(hash(text)?)),
-        DirectiveWord::Align => Some(Directive::Align(alignment(text)?)),
-        DirectiveWord::Relr => alone(text, Directive::Relr),
-        _ => None,
-    }
+    Some(Directive::Kind(kind(text)?))
 }
 
-/// A directive with its operands.
-#[tactic(auto, unfolding(crate::specs::Directives::directive))]
-pub(crate) fn directive(
+fn hash_kind(text: &[u8]) -> Option<Directive>
+    ensures { result ≡ option_map the.Hash (hash text.now) }
+{
+    Some(Directive::Hash(hash(text)?))
+}
+
+fn align(text: &[u8]) -> Option<Directive>
+    ensures { result ≡ option_map the.Align (alignment text.now) }
+{
+    Some(Directive::Align(alignment(text)?))
+}
+
+/// The directive of a word with its operands; None where they aren't what it asks for.
+///
+/// # Errors
+///
+/// Want of memory.
+#[tactic(auto, unfolding(asm_grammar::specs::Directives::directive))]
+pub fn directive(
     alloc: Global,
     word: DirectiveWord,
     text: &[u8],
@@ -291,26 +328,29 @@ pub(crate) fn directive(
     ensures { IfOk result (λ d. d ≡ directive word text.now) }
 {
     match word {
-        DirectiveWord::Named(word) => match name_of(alloc, text)? {
-            Some(name) => Ok(Some(Directive::Named(word, name))),
+        DirectiveWord::Name(word) => match name_of(alloc, text)? {
+            Some(name) => Ok(Some(named(word, name))),
             None => Ok(None),
         },
-        DirectiveWord::Flags if text.is_empty() => Ok(None),
+        DirectiveWord::Number(word) => Ok(numbered(word, text)),
+        DirectiveWord::Lone(word) => Ok(alone(word, text)),
+        DirectiveWord::Kind => Ok(object_kind(text)),
+        DirectiveWord::Hash => Ok(hash_kind(text)),
         DirectiveWord::Flags => {
-            let words = pieces_of(alloc, text)?;
+            let words = words_of(alloc, text)?;
             Ok(flags(words.as_slice()))
         }
         DirectiveWord::Symver => {
-            let operands = parts_of(alloc, text)?;
+            let operands = operands_of(alloc, text)?;
             symver(alloc, operands.as_slice())
         }
         DirectiveWord::Need => need(alloc, text),
         DirectiveWord::Dword => doubleword(alloc, text),
         DirectiveWord::Asciz => asciz(alloc, text),
+        DirectiveWord::Align => Ok(align(text)),
         DirectiveWord::Copy => {
-            let operands = parts_of(alloc, text)?;
+            let operands = operands_of(alloc, text)?;
             copy(alloc, operands.as_slice())
         }
-        other => Ok(plain(other, text)),
     }
 }

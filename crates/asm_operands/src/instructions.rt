@@ -1,14 +1,21 @@
 //! The operands of instructions.
 
 ghost use Rattle.std.specs.Prelude.{◌≡◌, IfOk, map};
-ghost use Rattle.asm_text.specs.Operands.{zero, operands_of, parenthesised, offset, address, base, jump_target, register_operand, number_operand};
-ghost use Rattle.asm_text.specs.Operands.{name_operand, one_register, two_registers, three_registers, registers_number, register_number};
-ghost use Rattle.asm_text.specs.Operands.{register_address, register_base, registers_base, jump, fence, one_name, register_name, registers_name};
-ghost use Rattle.asm_text.specs.Operands.{without_name, of_memory, instruction};
 ghost use Rattle.std.specs.Option.{option_map};
+ghost use Rattle.asm_words.specs.Text.{trimmed};
+ghost use Rattle.asm_words.specs.Registers.{register};
+ghost use Rattle.asm_words.specs.Number.{number};
+ghost use Rattle.asm_words.specs.Names.{name};
+ghost use Rattle.asm_grammar.specs.Operands.{zero, everything, parenthesised, offset, address, base, jump_target};
+ghost use Rattle.asm_grammar.specs.Operands.{one_register, two_registers, three_registers, registers_number, register_number};
+ghost use Rattle.asm_grammar.specs.Operands.{register_address, register_base, registers_base, jump, fence, one_name, register_name, registers_name};
+ghost use Rattle.asm_grammar.specs.Operands.{of_registers, of_memory, targeted, addressed, instruction};
 
-use crate::statement::Instruction;
-use asm_words::{Form, Number, cut, fence_set, name_of, number_of, parts_of, register, trimmed};
+use asm_statement::{Fence, FenceSet, Instruction, Number};
+use asm_words::{
+    AddressForm, Form, MemoryForm, RegisterForm, TargetForm, cut, fence_set, name_of, number_of,
+    register, trimmed,
+};
 use ld_base::Name;
 use rv_isa::Reg;
 use std::alloc::{AllocError, Global};
@@ -22,18 +29,7 @@ pub(crate) fn zero() -> Number
     }
 }
 
-/// The operands between the commas of a text.
-pub(crate) fn operands_of(alloc: Global, text: &[u8]) -> Result<Vec<&[u8]>, AllocError>
-    ensures { IfOk result (λ parts. map (λ part. part.now) parts.items ≡ operands_of text.now) }
-{
-    if text.is_empty() {
-        Ok(Vec::new(alloc))
-    } else {
-        parts_of(alloc, text)
-    }
-}
-
-#[tactic(auto, unfolding(crate::specs::Operands::parenthesised))]
+#[tactic(auto, unfolding(asm_grammar::specs::Operands::parenthesised))]
 fn parenthesised(text: &[u8]) -> Option<(&[u8], &[u8])>
     ensures { option_map (λ p. (p.0.now, p.1.now)) result ≡ parenthesised text.now }
 {
@@ -56,7 +52,7 @@ fn offset(text: &[u8]) -> Option<Number>
     }
 }
 
-#[tactic(auto, unfolding(crate::specs::Operands::address))]
+#[tactic(auto, unfolding(asm_grammar::specs::Operands::address))]
 fn address(text: &[u8]) -> Option<(Number, Reg)>
     ensures { result ≡ address text.now }
 {
@@ -64,7 +60,7 @@ fn address(text: &[u8]) -> Option<(Number, Reg)>
     Some((offset(front)?, register(inner)?))
 }
 
-#[tactic(auto, unfolding(crate::specs::Operands::base))]
+#[tactic(auto, unfolding(asm_grammar::specs::Operands::base))]
 fn base(text: &[u8]) -> Option<Reg>
     ensures { result ≡ base text.now }
 {
@@ -86,25 +82,25 @@ fn jump_target(text: &[u8]) -> Option<(Number, Reg)>
 }
 
 fn register_operand(text: &[u8]) -> Option<Reg>
-    ensures { result ≡ register_operand text.now }
+    ensures { result ≡ register (trimmed text.now) }
 {
     register(trimmed(text))
 }
 
 pub(crate) fn number_operand(text: &[u8]) -> Option<Number>
-    ensures { result ≡ number_operand text.now }
+    ensures { result ≡ number (trimmed text.now) }
 {
     number_of(trimmed(text))
 }
 
 pub(crate) fn name_operand(alloc: Global, text: &[u8]) -> Result<Option<Name>, AllocError>
-    ensures { IfOk result (λ n. n ≡ name_operand text.now) }
+    ensures { IfOk result (λ n. n ≡ name (trimmed text.now)) }
 {
     name_of(alloc, trimmed(text))
 }
 
 fn one_register(operands: &[&[u8]]) -> Option<Reg>
-    ensures { result ≡ one_register (map (λ operand. operand.now) operands.now) }
+    ensures { result ≡ one_register (map (λ operand. trimmed operand.now) operands.now) }
 {
     match operands {
         [rd] => register_operand(rd),
@@ -113,7 +109,7 @@ fn one_register(operands: &[&[u8]]) -> Option<Reg>
 }
 
 fn two_registers(operands: &[&[u8]]) -> Option<(Reg, Reg)>
-    ensures { result ≡ two_registers (map (λ operand. operand.now) operands.now) }
+    ensures { result ≡ two_registers (map (λ operand. trimmed operand.now) operands.now) }
 {
     match operands {
         [first, second] => Some((register_operand(first)?, register_operand(second)?)),
@@ -122,7 +118,7 @@ fn two_registers(operands: &[&[u8]]) -> Option<(Reg, Reg)>
 }
 
 fn three_registers(operands: &[&[u8]]) -> Option<(Reg, Reg, Reg)>
-    ensures { result ≡ three_registers (map (λ operand. operand.now) operands.now) }
+    ensures { result ≡ three_registers (map (λ operand. trimmed operand.now) operands.now) }
 {
     match operands {
         [rd, rs1, rs2] => Some((
@@ -135,7 +131,7 @@ fn three_registers(operands: &[&[u8]]) -> Option<(Reg, Reg, Reg)>
 }
 
 fn registers_number(operands: &[&[u8]]) -> Option<(Reg, Reg, Number)>
-    ensures { result ≡ registers_number (map (λ operand. operand.now) operands.now) }
+    ensures { result ≡ registers_number (map (λ operand. trimmed operand.now) operands.now) }
 {
     match operands {
         [rd, rs1, value] => Some((
@@ -148,7 +144,7 @@ fn registers_number(operands: &[&[u8]]) -> Option<(Reg, Reg, Number)>
 }
 
 fn register_number(operands: &[&[u8]]) -> Option<(Reg, Number)>
-    ensures { result ≡ register_number (map (λ operand. operand.now) operands.now) }
+    ensures { result ≡ register_number (map (λ operand. trimmed operand.now) operands.now) }
 {
     match operands {
         [rd, value] => Some((register_operand(rd)?, number_operand(value)?)),
@@ -157,12 +153,12 @@ fn register_number(operands: &[&[u8]]) -> Option<(Reg, Number)>
 }
 
 fn register_address(operands: &[&[u8]]) -> Option<(Reg, Number, Reg)>
-    ensures { result ≡ register_address (map (λ operand. operand.now) operands.now) }
+    ensures { result ≡ register_address (map (λ operand. trimmed operand.now) operands.now) }
 {
     match operands {
         [first, place] => {
             let first = register_operand(first)?;
-            let (distance, base) = address(place)?;
+            let (distance, base) = address(trimmed(place))?;
             Some((first, distance, base))
         }
         _ => None,
@@ -170,29 +166,29 @@ fn register_address(operands: &[&[u8]]) -> Option<(Reg, Number, Reg)>
 }
 
 fn register_base(operands: &[&[u8]]) -> Option<(Reg, Reg)>
-    ensures { result ≡ register_base (map (λ operand. operand.now) operands.now) }
+    ensures { result ≡ register_base (map (λ operand. trimmed operand.now) operands.now) }
 {
     match operands {
-        [rd, rs1] => Some((register_operand(rd)?, base(rs1)?)),
+        [rd, rs1] => Some((register_operand(rd)?, base(trimmed(rs1))?)),
         _ => None,
     }
 }
 
 fn registers_base(operands: &[&[u8]]) -> Option<(Reg, Reg, Reg)>
-    ensures { result ≡ registers_base (map (λ operand. operand.now) operands.now) }
+    ensures { result ≡ registers_base (map (λ operand. trimmed operand.now) operands.now) }
 {
     match operands {
         [rd, rs2, rs1] => {
             let rd = register_operand(rd)?;
             let rs2 = register_operand(rs2)?;
-            Some((rd, base(rs1)?, rs2))
+            Some((rd, base(trimmed(rs1))?, rs2))
         }
         _ => None,
     }
 }
 
 fn jump(operands: &[&[u8]]) -> Option<(Reg, Reg, Number)>
-    ensures { result ≡ jump (map (λ operand. operand.now) operands.now) }
+    ensures { result ≡ jump (map (λ operand. trimmed operand.now) operands.now) }
 {
     match operands {
         [rd, target] => {
@@ -204,18 +200,35 @@ fn jump(operands: &[&[u8]]) -> Option<(Reg, Reg, Number)>
     }
 }
 
-fn fence(operands: &[&[u8]]) -> Option<(u8, u8)>
-    ensures { result ≡ fence (map (λ operand. operand.now) operands.now) }
+fn everything() -> FenceSet
+    ensures { result ≡ everything }
+{
+    FenceSet {
+        input: true,
+        output: true,
+        reads: true,
+        writes: true,
+    }
+}
+
+fn fence(operands: &[&[u8]]) -> Option<Fence>
+    ensures { result ≡ fence (map (λ operand. trimmed operand.now) operands.now) }
 {
     match operands {
-        [] => Some((15, 15)),
-        [before, after] => Some((fence_set(trimmed(before))?, fence_set(trimmed(after))?)),
+        [] => Some(Fence {
+            before: everything(),
+            after: everything(),
+        }),
+        [before, after] => Some(Fence {
+            before: fence_set(trimmed(before))?,
+            after: fence_set(trimmed(after))?,
+        }),
         _ => None,
     }
 }
 
 fn one_name(alloc: Global, operands: &[&[u8]]) -> Result<Option<Name>, AllocError>
-    ensures { IfOk result (λ n. n ≡ one_name (map (λ operand. operand.now) operands.now)) }
+    ensures { IfOk result (λ n. n ≡ one_name (map (λ operand. trimmed operand.now) operands.now)) }
 {
     match operands {
         [target] => name_operand(alloc, target),
@@ -224,7 +237,7 @@ fn one_name(alloc: Global, operands: &[&[u8]]) -> Result<Option<Name>, AllocErro
 }
 
 fn register_name(alloc: Global, operands: &[&[u8]]) -> Result<Option<(Reg, Name)>, AllocError>
-    ensures { IfOk result (λ p. p ≡ register_name (map (λ operand. operand.now) operands.now)) }
+    ensures { IfOk result (λ p. p ≡ register_name (map (λ operand. trimmed operand.now) operands.now)) }
 {
     let [rd, target] = operands else {
         return Ok(None);
@@ -239,7 +252,7 @@ fn register_name(alloc: Global, operands: &[&[u8]]) -> Result<Option<(Reg, Name)
 }
 
 fn registers_name(alloc: Global, operands: &[&[u8]]) -> Result<Option<(Reg, Reg, Name)>, AllocError>
-    ensures { IfOk result (λ p. p ≡ registers_name (map (λ operand. operand.now) operands.now)) }
+    ensures { IfOk result (λ p. p ≡ registers_name (map (λ operand. trimmed operand.now) operands.now)) }
 {
     let [first, second, target] = operands else {
         return Ok(None);
@@ -256,94 +269,118 @@ fn registers_name(alloc: Global, operands: &[&[u8]]) -> Result<Option<(Reg, Reg,
     }
 }
 
-/// The instruction of a form with its operands, none of them a name.
-#[tactic(auto, unfolding(crate::specs::Operands::without_name))]
-fn without_name(form: Form, operands: &[&[u8]]) -> Option<Instruction>
-    ensures { result ≡ without_name form (map (λ operand. operand.now) operands.now) }
+/// An instruction of registers and numbers.
+#[tactic(auto, unfolding(asm_grammar::specs::Operands::of_registers))]
+fn of_registers(form: RegisterForm, operands: &[&[u8]]) -> Option<Instruction>
+    ensures { result ≡ of_registers form (map (λ operand. trimmed operand.now) operands.now) }
 {
     match form {
-        Form::Plain(op) if operands.is_empty() => Some(Instruction::Plain(op)),
-        Form::WithNumber(op) => {
+        RegisterForm::Plain(op) => operands.is_empty().then_some(Instruction::Plain(op)),
+        RegisterForm::Upper(op) => {
             let (rd, value) = register_number(operands)?;
-            Some(Instruction::WithNumber(op, rd, value))
+            Some(Instruction::Upper(op, rd, value))
         }
-        Form::Imm(op) => {
+        RegisterForm::Li => {
+            let (rd, value) = register_number(operands)?;
+            Some(Instruction::Li(rd, value))
+        }
+        RegisterForm::Imm(op) => {
             let (rd, rs1, value) = registers_number(operands)?;
             Some(Instruction::Imm(op, rd, rs1, value))
         }
-        Form::Op(op) => {
+        RegisterForm::Op(op) => {
             let (rd, rs1, rs2) = three_registers(operands)?;
             Some(Instruction::Op(op, rd, rs1, rs2))
         }
-        Form::Jalr => {
+        RegisterForm::Jalr => {
             let (rd, rs1, distance) = jump(operands)?;
             Some(Instruction::Jalr(rd, rs1, distance))
         }
-        Form::Mv => {
+        RegisterForm::Mv => {
             let (rd, rs1) = two_registers(operands)?;
             Some(Instruction::Mv(rd, rs1))
         }
-        Form::Jr => Some(Instruction::Jr(one_register(operands)?)),
-        Form::Fence => {
-            let (before, after) = fence(operands)?;
-            Some(Instruction::Fence(before, after))
-        }
-        _ => None,
+        RegisterForm::Jr => Some(Instruction::Jr(one_register(operands)?)),
+        RegisterForm::Fence => Some(Instruction::Fence(fence(operands)?)),
     }
 }
 
-/// The instruction of a form that reaches memory, with its operands.
-#[tactic(auto, unfolding(crate::specs::Operands::of_memory))]
-fn of_memory(form: Form, operands: &[&[u8]]) -> Option<Instruction>
-    ensures { result ≡ of_memory form (map (λ operand. operand.now) operands.now) }
+/// An instruction that reaches memory.
+#[tactic(auto, unfolding(asm_grammar::specs::Operands::of_memory))]
+fn of_memory(form: MemoryForm, operands: &[&[u8]]) -> Option<Instruction>
+    ensures { result ≡ of_memory form (map (λ operand. trimmed operand.now) operands.now) }
 {
     match form {
-        Form::Load(op) => {
+        MemoryForm::Load(op) => {
             let (rd, distance, rs1) = register_address(operands)?;
             Some(Instruction::Load(op, rd, rs1, distance))
         }
-        Form::Store(op) => {
+        MemoryForm::Store(op) => {
             let (rs2, distance, rs1) = register_address(operands)?;
             Some(Instruction::Store(op, rs1, rs2, distance))
         }
-        Form::Amo(op, access) => {
+        MemoryForm::Amo(op, access) => {
             let (rd, rs1, rs2) = registers_base(operands)?;
             Some(Instruction::Amo(op, access, rd, rs1, rs2))
         }
-        Form::Lr(access) => {
+        MemoryForm::Lr(access) => {
             let (rd, rs1) = register_base(operands)?;
             Some(Instruction::Lr(access, rd, rs1))
         }
-        Form::Sc(access) => {
+        MemoryForm::Sc(access) => {
             let (rd, rs1, rs2) = registers_base(operands)?;
             Some(Instruction::Sc(access, rd, rs1, rs2))
         }
-        other => without_name(other, operands),
     }
 }
 
-/// The instruction of a form with its operands.
-#[tactic(auto, unfolding(crate::specs::Operands::instruction))]
-pub(crate) fn instruction(
+fn targeted(form: TargetForm, target: Name) -> Instruction
+    ensures { result ≡ targeted form target }
+{
+    match form {
+        TargetForm::Jump => Instruction::Jump(target),
+        TargetForm::Call => Instruction::Call(target),
+        TargetForm::Tail => Instruction::Tail(target),
+    }
+}
+
+fn addressed(form: AddressForm, register: Reg, target: Name) -> Instruction
+    ensures { result ≡ addressed form (register, target) }
+{
+    match form {
+        AddressForm::Jal => Instruction::Jal(register, target),
+        AddressForm::BranchZero(op) => Instruction::BranchZero(op, register, target),
+        AddressForm::Address(op) => Instruction::Address(op, register, target),
+    }
+}
+
+/// The instruction of a form with its operands; None where they aren't of that form.
+///
+/// # Errors
+///
+/// Want of memory.
+#[tactic(auto, unfolding(asm_grammar::specs::Operands::instruction))]
+pub fn instruction(
     alloc: Global,
     form: Form,
     operands: &[&[u8]],
 ) -> Result<Option<Instruction>, AllocError>
-    ensures { IfOk result (λ i. i ≡ instruction form (map (λ operand. operand.now) operands.now)) }
+    ensures { IfOk result (λ i. i ≡ instruction form (map (λ operand. trimmed operand.now) operands.now)) }
 {
     match form {
-        Form::Target(op) => match one_name(alloc, operands)? {
-            Some(target) => Ok(Some(Instruction::Target(op, target))),
+        Form::Target(form) => match one_name(alloc, operands)? {
+            Some(target) => Ok(Some(targeted(form, target))),
             None => Ok(None),
         },
-        Form::WithName(op) => match register_name(alloc, operands)? {
-            Some((rd, target)) => Ok(Some(Instruction::WithName(op, rd, target))),
+        Form::Address(form) => match register_name(alloc, operands)? {
+            Some((register, target)) => Ok(Some(addressed(form, register, target))),
             None => Ok(None),
         },
         Form::Branch(op) => match registers_name(alloc, operands)? {
             Some((rs1, rs2, target)) => Ok(Some(Instruction::Branch(op, rs1, rs2, target))),
             None => Ok(None),
         },
-        other => Ok(of_memory(other, operands)),
+        Form::Memory(form) => Ok(of_memory(form, operands)),
+        Form::Register(form) => Ok(of_registers(form, operands)),
     }
 }

@@ -1,0 +1,4 @@
+pub mod Lines
+pub mod Sources
+pub mod Texts
+pub mod Verdicts

@@ -1,0 +1,32 @@
+//! Texts that are operands or words.
+
+ghost use Rattle.std.specs.Prelude.{◌≡◌, IfOk, map};
+ghost use Rattle.asm_words.specs.Text.{trimmed};
+ghost use Rattle.asm_grammar.specs.Operands.{operands_of};
+ghost use Rattle.asm_grammar.specs.Directives.{words_of};
+
+use asm_words::{is_blank, parts_of};
+use std::alloc::{AllocError, Global};
+
+/// The operands between the commas of a text, with the blanks around them.
+///
+/// # Errors
+///
+/// Want of memory.
+pub fn operands_of(alloc: Global, text: &[u8]) -> Result<Vec<&[u8]>, AllocError>
+    ensures { IfOk result (λ parts. map (λ part. trimmed part.now) parts.items ≡ operands_of text.now) }
+{
+    if text.is_empty() {
+        Ok(Vec::new(alloc))
+    } else {
+        parts_of(alloc, text)
+    }
+}
+
+pub(crate) fn words_of(alloc: Global, text: &[u8]) -> Result<Vec<&[u8]>, AllocError>
+    ensures { IfOk result (λ words. map (λ word. word.now) words.items ≡ words_of text.now) }
+{
+    text.split(|byte| is_blank(*byte))
+        .filter(|word| !word.is_empty())
+        .collect(alloc)
+}
