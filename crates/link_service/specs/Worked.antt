@@ -174,8 +174,11 @@ abbrev pub RunsInOrder : Type 0
 RunsInOrder = (constructors at_base ≡ 0x11000 ∷ 0x11010 ∷ 0x11020 ∷ []) × (destructors at_base ≡ 0x11020 ∷ 0x11010 ∷ 0x11040 ∷ [])
 
 -- of an opening's functions two objects in front have none, and pass at once
+abbrev pub functions : ℕ → List ℕ → Function
+functions of addresses = record { object = of; addresses = addresses }
+
 abbrev pub running : List Function
-running = record { object = 4; addresses = [] } ∷ record { object = 3; addresses = [] } ∷ record { object = 2; addresses = constructors at_base } ∷ record { object = 5; addresses = [] } ∷ []
+running = functions 4 [] ∷ functions 3 [] ∷ functions 2 (constructors at_base) ∷ functions 5 [] ∷ []
 
 abbrev pub PassesTwo : Type 0
 PassesTwo = (passed running ≡ 4 ∷ 3 ∷ []) × (map object_of (left running) ≡ 2 ∷ 5 ∷ [])

@@ -19,5 +19,5 @@ pub use law::{
 };
 pub use worked_calls::{
     closes_a_held_library, finds_thread_local_storage, grants_what_comes_first,
-    judges_what_is_asked, waits_for_another_hart,
+    judges_what_is_asked, runs_functions_in_order, waits_for_another_hart,
 };
