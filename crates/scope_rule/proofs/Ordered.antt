@@ -1,5 +1,5 @@
 -- The new objects of a load come breadth-first.
-use Rattle.std.proofs.Common.{◌≡◌, ◌<◌, ◌≤◌, ◌+◌, ◌==◌, inl, inr, ℕ, zero, suc, Bool, true, false, cond, Option, Some, None, refl, sym, ap, ◌∙◌, arith, add-one}
+use Rattle.std.proofs.Common.{◌≡◌, ◌<◌, ◌≤◌, ◌+◌, ◌==◌, nat_le, inl, inr, ℕ, zero, suc, Bool, true, false, cond, Option, Some, None, refl, sym, ap, ◌∙◌, arith, add-one}
 use Rattle.std.proofs.Common.{List, [], ◌∷◌, ◌++◌, length, take, drop, get_or, length-append}
 use Rattle.std.specs.Prelude.{flat_map, map}
 use Rattle.std.specs.List.{range_with_len, slice_get, AllByRecursion}
@@ -18,7 +18,7 @@ use Rattle.scope_rule.specs.Loading.{with_serial, found_of}
 use Rattle.scope_rule.specs.Loads.{Begins, Closed, new_of}
 use Rattle.scope_rule.specs.Seen.{Seen, with_added}
 use Rattle.scope_rule.proofs.Lists.{all_at, found_in, range_push, range_has, range_front}
-use Rattle.scope_rule.proofs.Orders.{extend-append, extended_length, find_either, alone, kept_step, is_breadth, is_new, reach, order_to}
+use Rattle.scope_rule.proofs.Orders.{extend-append, extended_length, find_either, alone, kept_step, is_breadth, reach, order_to}
 use Rattle.scope_rule.proofs.Orders.{IsQueue, queue_order, new_extend, new_flat, new_order}
 use Rattle.scope_rule.proofs.Records.{length-shares, length-records, records_numbered, records_below, record_at, count, joined_shares, count_asked, flat_range}
 use Rattle.scope_rule.proofs.Walks.{asks_longer, walk_stays}
@@ -30,7 +30,7 @@ abbrev so_far : ℕ → List ℕ → List ℕ
 so_far next serials = extend [] (new_of next serials)
 
 so_far_more : (next : ℕ) (xs ys : List ℕ) → so_far next (xs ++ ys) ≡ extend (so_far next xs) (new_of next ys)
-so_far_more next xs ys = ap (extend []) (filter-append (is_new next) xs ys) ∙ extend-append [] (new_of next xs) (new_of next ys)
+so_far_more next xs ys = ap (extend []) (filter-append (nat_le next) xs ys) ∙ extend-append [] (new_of next xs) (new_of next ys)
 
 -- how many names the first k objects ask for, with the load's own
 abbrev asked : Load → List Arrival → ℕ → ℕ
@@ -124,7 +124,7 @@ there_below next (o ∷ rest) x closed le =
 
 none_new : (next : ℕ) (xs : List ℕ) → AllByRecursion (λ s. s < next) xs → new_of next xs ≡ []
 none_new next [] h = refl
-none_new next (x ∷ xs) h = let old : is_new next x ≡ false = lt-leb next x h.0 in rw old (none_new next xs h.1)
+none_new next (x ∷ xs) h = let old : nat_le next x ≡ false = lt-leb next x h.0 in rw old (none_new next xs h.1)
 
 there_old : (next : ℕ) (objects : List Loaded) (x : ℕ) (o : Loaded) → Closed next objects → with_serial objects x ≡ Some o → new_of next o.found ≡ []
 there_old next objects x o closed e =
@@ -158,7 +158,7 @@ module _ (load : Load) (deep : Bool) (w : Walk) (s : Seen) (root : ℕ)
       rw (other, find_either (λ (o : Loaded). o.serial == x) s.objects new_ones, none, at.by_serial) refl
 
   -- an old one leads to nothing new
-  found_old : (x : ℕ) → is_new load.next x ≡ false → leads_on x ≡ []
+  found_old : (x : ℕ) → nat_le load.next x ≡ false → leads_on x ≡ []
   found_old x small =
       let below : with_serial new_ones x ≡ None = records_below load.hart deep load.next w.arrivals founds x (leb-false load.next x small) in
       let led : Option Loaded → List ℕ = λ o. elim o [ Some y ↦ y.found | None ↦ [] ] in

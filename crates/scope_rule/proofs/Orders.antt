@@ -230,15 +230,12 @@ module _ (f : ℕ → List ℕ) (first all : List ℕ) (q : IsQueue f first all)
 
 -- ---- the part of a list from a number on
 
-abbrev pub is_new : ℕ → ℕ → Bool
-is_new next s = nat_le next s
-
-new_has : (next x : ℕ) (xs : List ℕ) → is_new next x ≡ true → has (new_of next xs) x ≡ has xs x
+new_has : (next x : ℕ) (xs : List ℕ) → nat_le next x ≡ true → has (new_of next xs) x ≡ has xs x
 new_has next x [] new = refl
 new_has next x (y ∷ ys) new = grind (arith, common_steps, new_has next x ys new)
 
 new_extend_one : (next x : ℕ) (a : List ℕ) → new_of next (extend a (x ∷ [])) ≡ extend (new_of next a) (new_of next (x ∷ []))
-new_extend_one next x a = grind (arith, common_steps, new_has next x a, filter-append (is_new next) a (x ∷ []))
+new_extend_one next x a = grind (arith, common_steps, new_has next x a, filter-append (nat_le next) a (x ∷ []))
 
 -- the new part of an order is an order of the new parts
 pub new_extend : (next : ℕ) (a xs : List ℕ) → new_of next (extend a xs) ≡ extend (new_of next a) (new_of next xs)
@@ -248,23 +245,23 @@ new_extend next a (x ∷ xs) =
     ap (new_of next) (extend-append a (x ∷ []) xs)
     ∙ new_extend next (extend a (x ∷ [])) xs
     ∙ ap (λ (l : List ℕ). extend l (new_of next xs)) (new_extend_one next x a)
-    ∙ sym (ap (extend (new_of next a)) (filter-append (is_new next) (x ∷ []) xs) ∙ extend-append (new_of next a) one (new_of next xs))
+    ∙ sym (ap (extend (new_of next a)) (filter-append (nat_le next) (x ∷ []) xs) ∙ extend-append (new_of next a) one (new_of next xs))
 
 pub new_flat : (next : ℕ) (f : ℕ → List ℕ) (xs : List ℕ) → flat_map (λ s. new_of next (f s)) xs ≡ new_of next (flat_map f xs)
 new_flat next f [] = refl
-new_flat next f (x ∷ xs) = ap (λ (l : List ℕ). new_of next (f x) ++ l) (new_flat next f xs) ∙ sym (filter-append (is_new next) (f x) (flat_map f xs))
+new_flat next f (x ∷ xs) = ap (λ (l : List ℕ). new_of next (f x) ++ l) (new_flat next f xs) ∙ sym (filter-append (nat_le next) (f x) (flat_map f xs))
 
 -- where old ones lead to nothing, what is led to by the new part is all
-flat_new : (next : ℕ) (f : ℕ → List ℕ) → ((s : ℕ) → is_new next s ≡ false → f s ≡ []) → (xs : List ℕ) → flat_map f (new_of next xs) ≡ flat_map f xs
+flat_new : (next : ℕ) (f : ℕ → List ℕ) → ((s : ℕ) → nat_le next s ≡ false → f s ≡ []) → (xs : List ℕ) → flat_map f (new_of next xs) ≡ flat_map f xs
 flat_new next f none [] = refl
 flat_new next f none (x ∷ xs) =
-    elim (cases_Bool (is_new next x)) [
+    elim (cases_Bool (nat_le next x)) [
       | inl new ↦ rw new (ap (λ (l : List ℕ). f x ++ l) (flat_new next f none xs))
       | inr old ↦ rw (old, none x old) (flat_new next f none xs)
     ]
 
 -- so the new part of each order is the order of what leads to new ones
-pub new_order : (next : ℕ) (f : ℕ → List ℕ) (first : List ℕ) → ((s : ℕ) → is_new next s ≡ false → new_of next (f s) ≡ []) → (n : ℕ)
+pub new_order : (next : ℕ) (f : ℕ → List ℕ) (first : List ℕ) → ((s : ℕ) → nat_le next s ≡ false → new_of next (f s) ≡ []) → (n : ℕ)
     → new_of next (order_to f first n) ≡ order_to (λ s. new_of next (f s)) (new_of next first) n
 new_order next f first none zero = refl
 new_order next f first none (suc n) =
