@@ -1,0 +1,12 @@
+pub mod Answered
+pub mod Digits
+pub mod Ended
+pub mod Evented
+pub mod Law
+pub mod Listed
+pub mod Looped
+pub mod Parts
+pub mod Refusals
+pub mod Spelled
+pub mod Stepped
+pub mod Worded

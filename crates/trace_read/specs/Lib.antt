@@ -1,0 +1,15 @@
+pub mod Answers
+pub mod Ends
+pub mod Events
+pub mod Faults
+pub mod Fits
+pub mod Gives
+pub mod Lines
+pub mod Lists
+pub mod Loops
+pub mod Names
+pub mod Numbers
+pub mod Pieces
+pub mod Read
+pub mod Said
+pub mod Steps

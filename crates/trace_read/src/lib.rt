@@ -1,0 +1,20 @@
+//! The lines of a run's history, read back.
+//!
+//! [`read_event`] reads the line that `trace_text` writes of an event: what the line says of it, or
+//! that no event has this line. It goes over each byte a few times, whatever the line is.
+#![tactic(auto)]
+
+mod answers;
+mod ends;
+mod events;
+mod fault;
+mod faults;
+mod lists;
+mod names;
+mod numbers;
+mod pieces;
+mod read;
+mod steps;
+
+pub use fault::TraceFault;
+pub use read::read_event;
