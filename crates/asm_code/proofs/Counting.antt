@@ -28,11 +28,13 @@ unfolding filling section_after
 same_section s lines = same_from s lines (sections.Text, 0)
 
 filled_push : (s : Section) (lines : List Line) (line : Line)
-    → filled s (lines ++ line ∷ []) ≡ (if is_section s (section_after lines) then filled s lines + size_at (filled s lines) line.statement else filled s lines)
+    → filled s (lines ++ line ∷ [])
+    ≡ (if is_section s (section_after lines) then filled s lines + size_at (filled s lines) line.statement else filled s lines)
 unfolding filling
 filled_push s lines line =
     ap (λ (after : Section × ℕ). after.1) (fold-append (λ before line. grown s line before) (sections.Text, 0) lines (line ∷ []))
-    ∙ ap (λ (section : Section). if is_section s section then filled s lines + size_at (filled s lines) line.statement else filled s lines) (same_section s lines)
+    ∙ ap (λ (section : Section). if is_section s section then filled s lines + size_at (filled s lines) line.statement else filled s lines)
+    (same_section s lines)
 
 -- what a line makes of what the lines before it leave
 pub counted_more : (lines : List Line) (line : Line) (old new : Counter) → Counts lines old → Advances line old new → Counts (lines ++ line ∷ []) new
@@ -42,14 +44,16 @@ counted_more lines line old new counts more = record {
 }
 
 -- the same at the line behind the first n
-pub counted_line : (lines : List Line) (n : ℕ) (line : Line) (old new : Counter) → n < length lines → line ≡ get_or lines n line → Counts (take n lines) old
+pub counted_line : (lines : List Line) (n : ℕ) (line : Line) (old new : Counter) → n < length lines → line ≡ get_or lines n line
+    → Counts (take n lines) old
     → Advances line old new → Counts (take (n + 1) lines) new
 counted_line lines n line old new lt is counts more =
     let further : take (n + 1) lines ≡ take n lines ++ line ∷ [] = take_more lines n line lt ∙ ap (λ (y : Line). take n lines ++ y ∷ []) (sym is) in
     rw further (counted_more (take n lines) line old new counts more)
 
 -- the place of a line is what those before it leave
-pub place_counted : (lines : List Line) (n : ℕ) (counter : Counter) (offset : ℕ) → Counts (take n lines) counter → offset ≡ filled_of counter counter.section
+pub place_counted : (lines : List Line) (n : ℕ) (counter : Counter) (offset : ℕ) → Counts (take n lines) counter
+    → offset ≡ filled_of counter counter.section
     → record { section = counter.section; offset = offset } ≡ place_at lines n
 place_counted lines n counter offset counts is =
     let there : counter.section ≡ section_after (take n lines) = counts.section in

@@ -1,2 +1,4 @@
+pub mod Among
 pub mod Counting
 pub mod Noted
+pub mod Preempt

@@ -1,5 +1,6 @@
 -- The lines that define names, one name and one line more.
-use Rattle.std.proofs.Common.{◌≡◌, ℕ, zero, suc, ◌+◌, ◌<◌, ◌≤◌, Bool, true, false, not, ◌||◌, List, [], ◌∷◌, ◌++◌, length, get_or, take, Some, None, cond, refl, sym, ap, ◌∙◌, arith}
+use Rattle.std.proofs.Common.{◌≡◌, ℕ, zero, suc, ◌+◌, ◌<◌, ◌≤◌, Bool, true, false, not, ◌||◌, List, [], ◌∷◌, ◌++◌}
+use Rattle.std.proofs.Common.{length, get_or, take, Some, None, cond, refl, sym, ap, ◌∙◌, arith}
 use Rattle.std.specs.Prelude.{Option, position, nat_lt}
 use Rattle.std.specs.Global.{Vec}
 use Rattle.std.specs.List.{list_any, position_or_len}
@@ -20,7 +21,8 @@ use Rattle.asm_code.specs.Lines.{line_of}
 abbrev pub same_key : Vec ℕ → Vec ℕ → Bool
 same_key one other = bytes_eq one.items other.items
 
-one_more : {X : Type 0} (p : X → Bool) (xs : List X) (x : X) → position p (xs ++ x ∷ []) ≡ option_or (position p xs) (cond (p x) (Some (length xs)) None)
+one_more : {X : Type 0} (p : X → Bool) (xs : List X) (x : X)
+    → position p (xs ++ x ∷ []) ≡ option_or (position p xs) (cond (p x) (Some (length xs)) None)
 one_more p xs x =
     let within : position_or_len p xs ≤ length xs = prefix_len-le-length (λ y. not (p y)) xs in
     rw (position_or_len_push p xs x) (grind (arith, common_steps, length-append xs (x ∷ [])))
@@ -51,7 +53,8 @@ line_added ((key, line) ∷ lines) name other n new =
     cases (bytes_eq name.items key.items) new
 
 -- the same, by bytes that are its own
-pub line_noted : (lines : List (Vec ℕ × ℕ)) (name : Vec ℕ) (bytes other : List ℕ) (n : ℕ) → name.items ≡ bytes → is_some (line_of lines bytes) ≡ false
+pub line_noted : (lines : List (Vec ℕ × ℕ)) (name : Vec ℕ) (bytes other : List ℕ) (n : ℕ) → name.items ≡ bytes
+    → is_some (line_of lines bytes) ≡ false
     → line_of (insert_entry same_key lines name n) other ≡ option_or (line_of lines other) (cond (bytes_eq other bytes) (Some n) None)
 line_noted lines name bytes other n is new =
     line_added lines name other n (rw is new)
@@ -64,7 +67,10 @@ any_before p [] (suc k) within = absurd (omega arith)
 any_before p (x ∷ xs) (suc k) within =
     let P : Bool → Type 0 = λ passes. (passes || list_any p (take k xs)) ≡ nat_lt (cond (not passes) (1 + position_or_len p xs) 0) (suc k) in
     let rest : list_any p (take k xs) ≡ nat_lt (position_or_len p xs) k = any_before p xs k (omega arith) in
-    let cases : (passes : Bool) → P passes = λ passes. elim passes as P [ true ↦ sym (below_any k) | false ↦ rest ∙ further (position_or_len p xs) k ] in
+    let cases : (passes : Bool) → P passes = λ passes. elim passes as P [
+      | true ↦ sym (below_any k)
+      | false ↦ rest ∙ further (position_or_len p xs) k
+    ] in
     cases (p x)
   where
     further : (a b : ℕ) → nat_lt a b ≡ nat_lt (1 + a) (suc b)

@@ -18,7 +18,8 @@ pub record Counts (lines : List Line) (counter : Counter) : Type 0 where
 -- what one line makes of it
 pub record Advances (line : Line) (old new : Counter) : Type 0 where
   pub section : new.section ≡ next_section old.section line
-  pub filled : (s : Section) → filled_of new s ≡ (if is_section s old.section then filled_of old s + size_at (filled_of old s) line.statement else filled_of old s)
+  pub filled : (s : Section) → filled_of new s
+      ≡ (if is_section s old.section then filled_of old s + size_at (filled_of old s) line.statement else filled_of old s)
 
 -- a list has the place of each of the first lines
 pub record ArePlacesTo (lines : List Line) (count : ℕ) (places : List Place) : Type 0 where

@@ -3,13 +3,15 @@
 //! lines say of the object as a whole.
 //!
 //! [`places_of`] tells where each line stands: in which section, and at which offset of it. [`Labels`]
-//! finds the first line that defines a name, and tells whether a line defines one that is taken.
+//! finds the first line that defines a name, and tells whether a line defines one that is taken;
+//! [`Exports`] tells which names another object may define.
 //! [`directive_fits`] and [`number_fits`] judge the numbers of statements, [`may_stand`] their sections.
 //! [`of_registers`] gives the instruction of the machine for one of registers alone. What all that means
 //! is in `asm_layout`, definitions over the lines.
 #![tactic(auto)]
 
 mod counter;
+mod exports;
 mod fits;
 mod labels;
 mod numbers;
@@ -19,6 +21,7 @@ mod registers;
 mod sections;
 mod sizes;
 
+pub use exports::Exports;
 pub use fits::{directive_fits, number_fits};
 pub use labels::Labels;
 pub use object_words::{hash_of, is_relr, kind_of};

@@ -9,7 +9,9 @@ loop-line-preserved c =
     let counter = c.loop-line.counter in
     let place : Place = record { section = counter.section; offset = c.filled.result } in
     record {
-      counts = counted_line lines n c.line-item.result counter c.in-Some.next c.loop-line-test.true c.line-item.is c.loop-line.invariant.counts c.in-Some.ensures;
+      counts = counted_line lines n c.line-item.result counter c.in-Some.next c.loop-line-test.true c.line-item.is
+          c.loop-line.invariant.counts c.in-Some.ensures;
       places = rw c.in_ok-push.ensures.items
-          (placed_more lines n c.loop-line.places.items place c.loop-line.invariant.places (place_counted lines n counter c.filled.result c.loop-line.invariant.counts c.filled.ensures));
+          (placed_more lines n c.loop-line.places.items place c.loop-line.invariant.places
+          (place_counted lines n counter c.filled.result c.loop-line.invariant.counts c.filled.ensures));
     }
