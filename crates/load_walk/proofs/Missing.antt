@@ -14,7 +14,7 @@ use Rattle.std.proofs.lemmas.Map.Made.{length-le_from_is_member}
 use Rattle.std.proofs.lemmas.Slice.Eq.{bytes_eq-Decides}
 use Rattle.indexmap.specs.IndexSet.{insert_key}
 use Rattle.scope_rule.specs.declared.arrival.Arrival.{Arrival}
-use Rattle.scope_rule.specs.Finding.{Reading, here, unaccepted, absent, failed, with_path, at_path}
+use Rattle.scope_rule.specs.Finding.{Reading, here, absent, failed, with_path, at_path}
 use Rattle.scope_rule.specs.Load.{Load, nowhere, find_path}
 use Rattle.load_walk.specs.Walking.{Agrees}
 use Rattle.load_walk.specs.declared.walker.Walker.{Walker}

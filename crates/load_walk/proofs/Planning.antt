@@ -14,7 +14,7 @@ use Rattle.library_source.specs.Files.{Over}
 use Rattle.scope_rule.specs.declared.arrival.Arrival.{Arrival}
 use Rattle.scope_rule.specs.Finding.{Reading, here}
 use Rattle.scope_rule.specs.Load.{record_of, records, shares}
-use Rattle.scope_rule.specs.Needed.{first_lack, missing_version, version_fault}
+use Rattle.scope_rule.specs.Needed.{first_lack, missing_version}
 use Rattle.scope_rule.specs.Breadth.{breadth}
 use Rattle.scope_rule.specs.Seen.{Seen}
 use Rattle.scope_rule.specs.declared.namespace.Namespace.{Namespace}
