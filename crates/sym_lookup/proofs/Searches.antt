@@ -1,0 +1,88 @@
+-- Searches through lists that are made once.
+use Rattle.std.proofs.Common.{◌≡◌, ◌∙◌, ap, sym, ℕ, Bool, true, false, cond, List, [], ◌∷◌, refl}
+use Rattle.std.specs.Prelude.{◌==◌, ◌&&◌, not, filter, find, map, Option, Some, None}
+use Rattle.ld_base.specs.declared.linking.Loaded.{Loaded}
+use Rattle.ld_base.specs.declared.linking.Choice.TheVariants.{Def}
+use Rattle.ld_base.specs.declared.linking.Want.{Want}
+use Rattle.ld_base.specs.declared.object.Symbol.{Symbol}
+use Rattle.ld_base.specs.Pick.{pick_of}
+use Rattle.sym_hash.specs.Reached.{IsTableOf}
+use Rattle.scope_rule.specs.Choose.{choice_of, choose_for, first_with, is_own, pick_at, searched, want_of}
+use Rattle.scope_rule.specs.Loading.{object_of, with_serial}
+use Rattle.scope_rule.specs.Scope.{scope}
+use Rattle.scope_rule.specs.Seen.{Seen}
+use Rattle.sym_lookup.specs.Lists.{HaveTables, list_of, lists_of, outside, scope_in, scope_on}
+use Rattle.sym_lookup.specs.declared.lists.SearchList.{SearchList}
+
+module _ (pick : ℕ → Option ℕ) (serial : ℕ) (rest : List ℕ) where
+  first_none : pick serial ≡ None → first_with pick (serial ∷ rest) ≡ first_with pick rest
+  first_none none = rw (none, first_with) refl
+
+  first_some : (index : ℕ) → pick serial ≡ Some index → first_with pick (serial ∷ rest) ≡ Some (serial, index)
+  first_some index some = rw (some, first_with) refl
+
+abbrev others : ℕ → List ℕ → List ℕ
+others owner scope = filter (λ s. not (s == owner)) scope
+
+-- one object more, left out or not
+one_more : (owner : ℕ) (pick : ℕ → Option ℕ) (serial : ℕ) (rest : List ℕ) (own : Bool) → (serial == owner) ≡ own → first_with (outside true owner pick) rest ≡ first_with pick (others owner rest)
+    → first_with (outside true owner pick) (serial ∷ rest) ≡ first_with pick (others owner (serial ∷ rest))
+one_more owner pick serial rest true own later =
+    let gone : others owner (serial ∷ rest) ≡ others owner rest = ap (λ b. cond (not b) (serial ∷ others owner rest) (others owner rest)) own in
+    first_none (outside true owner pick) serial rest (ap (λ b. cond (true && b) None (pick serial)) own) ∙ later ∙ ap (first_with pick) (sym gone)
+one_more owner pick serial rest false own later = by_pick (pick serial) refl
+  where
+    same : outside true owner pick serial ≡ pick serial
+    same = ap (λ b. cond (true && b) None (pick serial)) own
+
+    kept : others owner (serial ∷ rest) ≡ serial ∷ others owner rest
+    kept = ap (λ b. cond (not b) (serial ∷ others owner rest) (others owner rest)) own
+
+    by_pick : (found : Option ℕ) → pick serial ≡ found → first_with (outside true owner pick) (serial ∷ rest) ≡ first_with pick (others owner (serial ∷ rest))
+    by_pick None is = first_none (outside true owner pick) serial rest (same ∙ is) ∙ later ∙ sym (ap (first_with pick) kept ∙ first_none pick serial (others owner rest) is)
+    by_pick (Some index) is = first_some (outside true owner pick) serial rest index (same ∙ is) ∙ sym (ap (first_with pick) kept ∙ first_some pick serial (others owner rest) index is)
+
+-- leaving an object out of a search is searching the others
+outside_is : (owner : ℕ) (pick : ℕ → Option ℕ) (scope : List ℕ) → first_with (outside true owner pick) scope ≡ first_with pick (others owner scope)
+outside_is owner pick [] = refl
+outside_is owner pick (serial ∷ rest) = one_more owner pick serial rest (serial == owner) refl (outside_is owner pick rest)
+
+pub searched_is : (s : Seen) (o : Loaded) (pick : ℕ → Option ℕ) (copy : Bool) (list : List ℕ) → list ≡ scope s o → first_with (outside copy o.serial pick) list ≡ first_with pick (searched s o copy)
+searched_is s o pick true list is = ap (first_with (outside true o.serial pick)) is ∙ outside_is o.serial pick (scope s o)
+searched_is s o pick false list is = ap (first_with pick) is
+
+-- the list of an object that is there is its scope
+one_list : (s : Seen) (x : Loaded) (rest : List Loaded) (owner : ℕ) (o : Loaded) (own : Bool) → cond own (Some x) (with_serial rest owner) ≡ Some o → (with_serial rest owner ≡ Some o → scope_in (map (list_of s) rest) owner ≡ scope s o)
+    → scope_on (cond own (Some (list_of s x)) (find (λ l. l.owner == owner) (map (list_of s) rest))) ≡ scope s o
+one_list s x rest owner o true found later = (let same : x ≡ o = cc found in ap (scope s) same)
+one_list s x rest owner o false found later = later found
+
+list_found : (s : Seen) (objects : List Loaded) (owner : ℕ) (o : Loaded) → with_serial objects owner ≡ Some o → scope_in (map (list_of s) objects) owner ≡ scope s o
+list_found s [] owner o found = absurd (cc found)
+list_found s (x ∷ rest) owner o found = one_list s x rest owner o (x.serial == owner) found (list_found s rest owner o)
+
+-- the choice for a symbol that no other object may define, and for another
+pub own_choice : (s : Seen) (o : Loaded) (index : ℕ) (symbol : Symbol) (copy : Bool) → (not copy && is_own symbol) ≡ true → Def o.serial index ≡ choose_for s o index symbol copy
+unfolding choose_for
+own_choice s o index symbol copy own = rw own refl
+
+pub searched_choice : (s : Seen) (o : Loaded) (index : ℕ) (symbol : Symbol) (copy : Bool) (name : List ℕ) (w : Want) (list : List ℕ) (found : Option (ℕ × ℕ)) → (not copy && is_own symbol) ≡ false
+    → name ≡ symbol.name → w ≡ want_of o.object symbol → list ≡ scope s o → found ≡ first_with (outside copy o.serial (pick_at s name w)) list → choice_of symbol found ≡ choose_for s o index symbol copy
+unfolding choose_for
+searched_choice s o index symbol copy name w list found other named wants listed is =
+    let all : found ≡ first_with (pick_at s symbol.name (want_of o.object symbol)) (searched s o copy) =
+    is
+    ∙ searched_is s o (pick_at s name w) copy list listed
+    ∙ ap (λ n. first_with (pick_at s n w) (searched s o copy)) named
+    ∙ ap (λ (x : Want). first_with (pick_at s symbol.name x) (searched s o copy)) wants in
+    rw other (ap (choice_of symbol) all)
+
+-- what an object that is there has, by its own table
+pub found_there : (s : Seen) (name : List ℕ) (w : Want) (serial : ℕ) (o : Loaded) (found : Option ℕ) → HaveTables s → (serial == 0) ≡ false → object_of s serial ≡ Some o → (IsTableOf o.table o.object → found ≡ pick_of o.object name w)
+    → found ≡ pick_at s name w serial
+unfolding pick_at
+found_there s name w serial o found tables other there picks = rw (other, there) (picks (tables serial o there))
+
+-- the list of an object that is there, of those that are made
+pub listed : (s : Seen) (lists : List SearchList) (owner : ℕ) (o : Loaded) (list : List ℕ) → lists ≡ lists_of s → list ≡ scope_in lists owner → object_of s owner ≡ Some o → list ≡ scope s o
+listed s lists owner o list are is there = is ∙ ap (λ (all : List SearchList). scope_in all owner) are ∙ list_found s s.objects owner o there

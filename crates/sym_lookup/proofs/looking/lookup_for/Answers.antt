@@ -1,0 +1,13 @@
+use Rattle.std.proofs.Common.{◌∙◌, sym}
+use Rattle.scope_rule.specs.Seen.{seen}
+use Rattle.sym_lookup.proofs.Searches.{own_choice, searched_choice}
+use Rattle.sym_lookup.proofs.looking.lookup_for.Goals as goal
+
+pub returns-then-stays_own : goal.returns-then-stays_own
+returns-then-stays_own c = own_choice (seen c.args.view.now) c.args.owner.now c.args.index c.args.symbol.now c.args.copy (sym c.stays_own.ensures ∙ c.if-stays_own.true)
+
+pub returns-else-stays_own : goal.returns-else-stays_own
+returns-else-stays_own c =
+    c.choice_of.ensures
+    ∙ searched_choice (seen c.args.view.now) c.args.owner.now c.args.index c.args.symbol.now c.args.copy c.new-sought.result.name c.new-sought.result.want c.args.list.now c.first_found-found.result
+    (sym c.stays_own.ensures ∙ c.if-stays_own.false) (c.new-sought.ensures.name ∙ c.as_bytes.ensures) (c.new-sought.ensures.want ∙ c.asked_of.ensures) c.requires.scope c.first_found-found.ensures
