@@ -12,6 +12,7 @@ pub mod Dangling
 pub mod Dying
 pub mod Entering
 pub mod Executing
+pub mod Finalised
 pub mod Frame
 pub mod Good
 pub mod Granted

@@ -141,6 +141,11 @@ pub record InitialisedOnce (s : State) : Type 0 where
   pub undone : (ns : Namespace) (o : Loaded) → IsIn s ns o → ¬ (Contains s.inits o.serial) → (hart : ℕ) × (o.state ≡ states.Initialising hart)
   pub once : (i j d : ℕ) → slice_get s.inits i ≡ Some d → slice_get s.inits j ≡ Some d → i ≡ j
 
+-- an object is finalised once, after it was initialised
+pub record FinalisedOnce (s : State) : Type 0 where
+  pub once : (i j d : ℕ) → slice_get s.finis i ≡ Some d → slice_get s.finis j ≡ Some d → i ≡ j
+  pub initialised : (d : ℕ) → Contains s.finis d → Contains s.inits d
+
 -- an object of the namespace that isn't dying, or the linker's own
 abbrev pub Lives : Namespace → ℕ → Type 0
 Lives ns d = (d ≡ 0) ⊎ ((o : Loaded) × Contains ns.objects o × (o.serial ≡ d) × (is_dying o ≡ false))

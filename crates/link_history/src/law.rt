@@ -15,7 +15,7 @@ ghost use Rattle.link_history.specs.Accepted.{AcceptsOnly};
 ghost use Rattle.link_history.specs.After.{after};
 ghost use Rattle.link_history.specs.Allowed.{Allowed};
 ghost use Rattle.link_history.specs.Changes.{ChangesMemory};
-ghost use Rattle.link_history.specs.Laws.{AreApart, ClosesSpare, EachDiesOnce, GrantsAreHeld, GrantsAreTidy, ImagesAreInstalled, ImagesAreMapped};
+ghost use Rattle.link_history.specs.Laws.{AreApart, ClosesSpare, EachDiesOnce, FinalisedOnce, GrantsAreHeld, GrantsAreTidy, ImagesAreInstalled, ImagesAreMapped};
 ghost use Rattle.link_history.specs.Laws.{ImagesArePlaced, ImagesAreTied, InitialisedOnce, LoadsEnterCode, LostSawTheValue, ModulesAreTidy};
 ghost use Rattle.link_history.specs.Laws.{NoneIsLazy, NothingDangles, NothingLeftOut, OpeningsStand, RangesAreApart, RangesAreOwned, ScopesAreWhole};
 ghost use Rattle.link_history.specs.Laws.{SerialsAreInOrder, SlotsBegin, SlotsEnterCode, SlotsLeadToRx, StartupStays, TakesLeast};
@@ -97,6 +97,11 @@ pub fn initialised_once()
     scope_rule::serials_follow();
     scope_rule::found_stands();
 }
+
+/// An object's destructors run once, after its constructors have run.
+pub fn finalised_once()
+    ensures { (m : Machine) (events : List Event) → Lawful m events → FinalisedOnce (after events) }
+{}
 
 /// Each opening counts, and what is opened or global is mapped and isn't dying.
 pub fn openings_stand()

@@ -1,0 +1,5 @@
+use Rattle.link_history.proofs.Finalised.{finalised_once}
+use Rattle.link_history.proofs.law.finalised_once.Goals as goal
+
+pub returns : goal.returns
+returns c = finalised_once
