@@ -32,6 +32,7 @@ inserted names name bytes =
     → is_among (cond there names (names ++ name ∷ [])) bytes ≡ (is_among names bytes || bytes_eq bytes name.items) in
     let cases : (there : Bool) → P there = λ there. elim there as P [
       | true ↦ λ is. known_name names name bytes is
-      | false ↦ λ is. list_any-append (λ (n : Vec ℕ). bytes_eq bytes n.items) names (name ∷ []) ∙ ap (λ b. is_among names bytes || b) (or-false (bytes_eq bytes name.items))
+      | false ↦ λ is. list_any-append (λ (n : Vec ℕ). bytes_eq bytes n.items) names (name ∷ [])
+          ∙ ap (λ b. is_among names bytes || b) (or-false (bytes_eq bytes name.items))
     ] in
     cases (list_any (same_key name) names) refl

@@ -13,10 +13,12 @@ use Rattle.asm_layout.specs.Names.{is_got_plt, is_exported, is_kept, is_library,
 use Rattle.asm_code.proofs.Noted.{any_before}
 
 -- a name is a label where a line is found for it
-pub label_found : (lines : List Line) (name : List ℕ) (found : Option ℕ) → found ≡ position (defines name) lines → is_some found ≡ is_label lines name
+pub label_found : (lines : List Line) (name : List ℕ) (found : Option ℕ)
+    → found ≡ position (defines name) lines → is_some found ≡ is_label lines name
 label_found lines name found is =
     let first = position_or_len (defines name) lines in
-    let all : list_any (defines name) (take (length lines) lines) ≡ nat_lt first (length lines) = any_before (defines name) lines (length lines) (omega arith) in
+    let all : list_any (defines name) (take (length lines) lines) ≡ nat_lt first (length lines) =
+    any_before (defines name) lines (length lines) (omega arith) in
     let P : Bool → Type 0 = λ there. is_some (cond there (Some first) None) ≡ there in
     let cases : (there : Bool) → P there = λ there. elim there as P [ true ↦ refl | false ↦ refl ] in
     ap is_some is ∙ cases (nat_lt first (length lines)) ∙ sym all ∙ ap (list_any (defines name)) (take_all (length lines) lines (omega arith))

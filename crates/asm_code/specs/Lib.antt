@@ -1,3 +1,4 @@
 pub mod Counts
 pub mod Exported
 pub mod Lines
+pub mod Slots
