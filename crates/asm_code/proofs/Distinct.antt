@@ -43,7 +43,10 @@ pub spelled_insert : (names : List (Vec ℕ)) (name : Vec ℕ) → spelled (inse
 spelled_insert names name =
     let P : Bool → Type 0 = λ there.
     spelled (cond there names (names ++ name ∷ [])) ≡ (if there then spelled names else spelled names ++ name.items ∷ []) in
-    let cases : (there : Bool) → P there = λ there. elim there as P [ true ↦ refl | false ↦ map-append (λ (n : Vec ℕ). n.items) names (name ∷ []) ] in
+    let cases : (there : Bool) → P there = λ there. elim there as P [
+      | true ↦ refl
+      | false ↦ map-append (λ (n : Vec ℕ). n.items) names (name ∷ [])
+    ] in
     rw (← any_spelled names name) (cases (list_any (same_key name) names))
 
 -- the names that lines give, one line more
@@ -53,5 +56,8 @@ distinct_further {X} f xs n x lt is =
     let further : take (n + 1) xs ≡ take n xs ++ x ∷ [] = take_more xs n x lt ∙ ap (λ (y : X). take n xs ++ y ∷ []) (sym is) in
     let before = filter_map f (take n xs) in
     let P : Option (List ℕ) → Type 0 = λ o. distinct_names (before ++ cons_option o []) ≡ added (distinct_names before) o in
-    let cases : (o : Option (List ℕ)) → P o = λ o. elim o as P [ None ↦ ap distinct_names (append-nil before) | Some name ↦ distinct_push before name ] in
+    let cases : (o : Option (List ℕ)) → P o = λ o. elim o as P [
+      | None ↦ ap distinct_names (append-nil before)
+      | Some name ↦ distinct_push before name
+    ] in
     ap (λ (ys : List X). distinct_names (filter_map f ys)) further ∙ ap distinct_names (filter_map-append f (take n xs) (x ∷ [])) ∙ cases (f x)
