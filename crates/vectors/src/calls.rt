@@ -3,7 +3,7 @@
 //! To add a call, write a function that takes its arguments from [`Words`] and gives the answer as
 //! text, beside those of its topic, and name it here.
 
-use crate::{hashes, instructions, pages};
+use crate::{finding, hashes, instructions, pages};
 use address_space::Regions;
 use std::alloc::Global;
 use test_file::{Calls, Fault, Words};
@@ -31,6 +31,9 @@ impl Calls for PlainCalls {
             "sysv_hash" => hashes::sysv(alloc, rest),
             "gnu_hash" => hashes::gnu(alloc, rest),
             "linker_symbol" => hashes::linker(alloc, rest),
+            "pick" => finding::picked(alloc, rest),
+            "find_gnu" => finding::in_gnu(alloc, &mut words),
+            "find_sysv" => finding::in_sysv(alloc, &mut words),
             "instruction" => instructions::instruction(alloc, &mut words),
             "compute" => instructions::computed(alloc, &mut words),
             "all_free" => pages::all_free(alloc, &mut self.regions),
