@@ -1,5 +1,6 @@
 -- Answers of the linker's calls are read back.
-use Rattle.std.proofs.Common.{◌≡◌, ℕ, ◌^◌, Bool, true, false, List, [], ◌∷◌, ◌++◌, Option, Some, None, option_map, refl, sym, ap, ◌∙◌, subst, inl, inr, codes, bytes_eq, All}
+use Rattle.std.proofs.Common.{◌≡◌, ℕ, ◌^◌, Bool, true, false, List, [], ◌∷◌, ◌++◌, Option, Some, None, option_map, refl, sym}
+use Rattle.std.proofs.Common.{ap, ◌∙◌, subst, inl, inr, codes, bytes_eq, All}
 use Rattle.std.proofs.lemmas.Bool.{cases_Bool, true≢false, false_from_ne_true}
 use Rattle.std.proofs.lemmas.Option.{none-some, same_Some}
 use Rattle.std.proofs.lemmas.Slice.Eq.{bytes_eq-Decides}
@@ -24,7 +25,8 @@ use Rattle.trace_read.specs.Numbers.{numeral, digit}
 use Rattle.trace_read.specs.Pieces.{◌>>=◌, behind, labelled}
 use Rattle.trace_read.proofs.Parts.{Reads, bound, mapped, free, free-append, behind-there, behind-back, labelled_reads, pair_reads, if_true, if_false}
 use Rattle.trace_read.proofs.Refusals.{fault_reads}
-use Rattle.trace_read.proofs.Worded.{decimal_reads, decimal32_reads, decimal_free, decimal32_free, hexadecimal_reads, definition_reads, definition_free, serials_reads, new_lines_reads, variant-back}
+use Rattle.trace_read.proofs.Worded.{decimal_reads, decimal32_reads, decimal_free, decimal32_free, hexadecimal_reads, definition_reads}
+use Rattle.trace_read.proofs.Worded.{definition_free, serials_reads, new_lines_reads, variant-back}
 
 -- a namespace that is asked for
 
@@ -79,7 +81,8 @@ module _ {A : Type 0} (refused done : List ℕ → Option A) where
 
 -- an opening
 
-done_reads : Reads done_parts (λ p. (codes "in=" ++ decimal p.0) ++ 32 ∷ ((codes "root=" ++ decimal p.1.0) ++ 32 ∷ (codes "new=" ++ new_lines_text p.1.1))) (λ p. Fits32 p.0 × (Fits64 p.1.0 × All NewLineFits p.1.1))
+done_reads : Reads done_parts (λ p. (codes "in=" ++ decimal p.0) ++ 32 ∷
+    ((codes "root=" ++ decimal p.1.0) ++ 32 ∷ (codes "new=" ++ new_lines_text p.1.1))) (λ p. Fits32 p.0 × (Fits64 p.1.0 × All NewLineFits p.1.1))
 done_reads = pair_reads (labelled_reads decimal32_reads (codes "in="))
     (pair_reads (labelled_reads decimal_reads (codes "root=")) (labelled_reads new_lines_reads (codes "new=")) 32 (λ n h. decimal_free 32 refl n h))
     32 (λ n h. decimal32_free 32 refl n h)
@@ -92,7 +95,8 @@ IsOpen w answer = OpenFits answer × (open_line_text answer ≡ w)
 
 open-there : (answer : OpenLine) → OpenFits answer → open_answer (open_line_text answer) ≡ Some answer
 unfolding open_answer
-open-there (opens.Done ns root added) h = ok_there refused_open opened _ ∙ ap (option_map (λ p. opens.Done p.0 p.1.0 p.1.1)) (done_reads.there (ns, (root, added)) h)
+open-there (opens.Done ns root added) h =
+    ok_there refused_open opened _ ∙ ap (option_map (λ p. opens.Done p.0 p.1.0 p.1.1)) (done_reads.there (ns, (root, added)) h)
 open-there opens.Absent h = refl
 open-there (opens.Refused fault) h = no_there refused_open opened (fault_text fault) ∙ ap (option_map opens.Refused) (fault_reads.there fault h)
 
@@ -101,8 +105,10 @@ unfolding open_answer
 open-back w answer e = elim (cases_Bool (bytes_eq w (codes "absent"))) [
   | inl t ↦ subst (IsOpen w) (same_Some _ _ (if_true _ _ _ t e)) (tt, sym ((bytes_eq-Decides w (codes "absent")).0 t))
   | inr f ↦ no_or_ok-back refused_open opened w answer (if_false _ _ _ f e)
-      (λ rest er same. subst (λ x. IsOpen x answer) same (variant-back fault_reads opens.Refused open_line_text OpenFits (codes "no ") (λ a h. h) (λ a. refl) rest answer er))
-      (λ rest er same. subst (λ x. IsOpen x answer) same (variant-back done_reads _ open_line_text OpenFits (codes "ok ") (λ a h. h) (λ a. refl) rest answer er))
+      (λ rest er same. subst (λ x. IsOpen x answer) same
+      (variant-back fault_reads opens.Refused open_line_text OpenFits (codes "no ") (λ a h. h) (λ a. refl) rest answer er))
+      (λ rest er same. subst (λ x. IsOpen x answer) same
+      (variant-back done_reads _ open_line_text OpenFits (codes "ok ") (λ a h. h) (λ a. refl) rest answer er))
 ]
 
 pub open_reads : Reads open_answer open_line_text OpenFits
@@ -130,8 +136,10 @@ close-there (closes.Refused fault) h = no_there refused_close done_close (fault_
 close-back : (w : List ℕ) (answer : CloseAnswer) → close_answer w ≡ Some answer → IsClose w answer
 unfolding close_answer
 close-back w answer e = no_or_ok-back refused_close done_close w answer e
-    (λ rest er same. subst (λ x. IsClose x answer) same (variant-back fault_reads closes.Refused close_answer_text CloseFits (codes "no ") (λ a h. h) (λ a. refl) rest answer er))
-    (λ rest er same. subst (λ x. IsClose x answer) same (variant-back dying_reads closes.Done close_answer_text CloseFits (codes "ok ") (λ a h. h) (λ a. refl) rest answer er))
+    (λ rest er same. subst (λ x. IsClose x answer) same
+    (variant-back fault_reads closes.Refused close_answer_text CloseFits (codes "no ") (λ a h. h) (λ a. refl) rest answer er))
+    (λ rest er same. subst (λ x. IsClose x answer) same
+    (variant-back dying_reads closes.Done close_answer_text CloseFits (codes "ok ") (λ a h. h) (λ a. refl) rest answer er))
 
 pub close_reads : Reads close_answer close_answer_text CloseFits
 close_reads = record { there = close-there; back = close-back }
@@ -149,14 +157,17 @@ IsSym w answer = SymFits answer × (sym_answer_text answer ≡ w)
 
 sym-there : (answer : SymAnswer) → SymFits answer → sym_answer (sym_answer_text answer) ≡ Some answer
 unfolding sym_answer
-sym-there (syms.Found serial index address) h = ok_there refused_sym found _ ∙ ap (option_map (λ p. syms.Found p.0.0 p.0.1 p.1)) (found_reads.there ((serial, index), address) h)
+sym-there (syms.Found serial index address) h =
+    ok_there refused_sym found _ ∙ ap (option_map (λ p. syms.Found p.0.0 p.0.1 p.1)) (found_reads.there ((serial, index), address) h)
 sym-there (syms.Refused fault) h = no_there refused_sym found (fault_text fault) ∙ ap (option_map syms.Refused) (fault_reads.there fault h)
 
 sym-back : (w : List ℕ) (answer : SymAnswer) → sym_answer w ≡ Some answer → IsSym w answer
 unfolding sym_answer
 sym-back w answer e = no_or_ok-back refused_sym found w answer e
-    (λ rest er same. subst (λ x. IsSym x answer) same (variant-back fault_reads syms.Refused sym_answer_text SymFits (codes "no ") (λ a h. h) (λ a. refl) rest answer er))
-    (λ rest er same. subst (λ x. IsSym x answer) same (variant-back found_reads _ sym_answer_text SymFits (codes "ok ") (λ a h. h) (λ a. refl) rest answer er))
+    (λ rest er same. subst (λ x. IsSym x answer) same
+    (variant-back fault_reads syms.Refused sym_answer_text SymFits (codes "no ") (λ a h. h) (λ a. refl) rest answer er))
+    (λ rest er same. subst (λ x. IsSym x answer) same
+    (variant-back found_reads _ sym_answer_text SymFits (codes "ok ") (λ a h. h) (λ a. refl) rest answer er))
 
 pub sym_reads : Reads sym_answer sym_answer_text SymFits
 sym_reads = record { there = sym-there; back = sym-back }

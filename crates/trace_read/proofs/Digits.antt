@@ -1,8 +1,11 @@
 -- Digits are read back.
-use Rattle.std.proofs.Common.{◌≡◌, ◌≢◌, ℕ, zero, suc, ◌+◌, ◌-◌, ◌*◌, ◌/◌, ◌%◌, ◌^◌, ◌<◌, ◌≤◌, Bool, true, false, not, ◌&&◌, ◌||◌, ◌==◌, nat_lt, nat_le, cond, List, [], ◌∷◌, ◌++◌, length, Option, Some, None}
+use Rattle.std.proofs.Common.{◌≡◌, ◌≢◌, ℕ, zero, suc, ◌+◌, ◌-◌, ◌*◌, ◌/◌, ◌%◌, ◌^◌, ◌<◌, ◌≤◌, Bool}
+use Rattle.std.proofs.Common.{true, false, not, ◌&&◌, ◌||◌, ◌==◌, nat_lt, nat_le, cond, List, [], ◌∷◌, ◌++◌, length, Option}
+use Rattle.std.proofs.Common.{Some, None}
 use Rattle.std.proofs.Common.{refl, sym, ap, ◌∙◌, subst, arith, append_assoc, append-nil, inl, inr, codes, div-lt_iff_lt-mul, pow-suc, one-mul}
 use native.Mathlib.Nat.{pow-zero}
-use Rattle.std.proofs.lemmas.Bool.{and_parts, and_from, eqb-true, eqb-false, eq-eqb, ne_eqb, cases_Bool, cases_lt, lt-ltb, le-ltb, ltb-true, ltb-false, leb-true, le-leb, lt-leb, or_left, or_right, true≢false}
+use Rattle.std.proofs.lemmas.Bool.{and_parts, and_from, eqb-true, eqb-false, eq-eqb, ne_eqb, cases_Bool, cases_lt, lt-ltb, le-ltb, ltb-true}
+use Rattle.std.proofs.lemmas.Bool.{ltb-false, leb-true, le-leb, lt-leb, or_left, or_right, true≢false}
 use Rattle.std.proofs.lemmas.Option.{none-some, same_Some, cond_some}
 use Rattle.std.specs.Fmt.{digits, digits_onto, digit_glyph}
 use Rattle.std.specs.Int.{is_in_range}
@@ -32,8 +35,10 @@ value_letter c low high = rw (le-leb 48 c (omega arith), lt-leb c 57 (omega arit
 
 value_glyph : (d : ℕ) → d < 16 → digit_value (digit_glyph false d) ≡ Some d
 value_glyph d h = elim (cases_lt d 10) [
-  | inl less ↦ ap digit_value (glyph_decimal d less) ∙ value_decimal (48 + d) (omega arith) (omega arith) ∙ ap (λ n. Some n) {x = 48 + d - 48} {y = d} (omega arith)
-  | inr more ↦ ap digit_value (glyph_letter d more) ∙ value_letter (87 + d) (omega arith) (omega arith) ∙ ap (λ n. Some n) {x = 87 + d - 87} {y = d} (omega arith)
+  | inl less ↦ ap digit_value (glyph_decimal d less) ∙ value_decimal (48 + d) (omega arith) (omega arith)
+      ∙ ap (λ n. Some n) {x = 48 + d - 48} {y = d} (omega arith)
+  | inr more ↦ ap digit_value (glyph_letter d more) ∙ value_letter (87 + d) (omega arith) (omega arith)
+      ∙ ap (λ n. Some n) {x = 87 + d - 87} {y = d} (omega arith)
 ]
 
 glyph_value : (c d : ℕ) → digit_value c ≡ Some d → (c ≡ digit_glyph false d) × (d < 16)
@@ -126,7 +131,9 @@ module _ (base : ℕ) (is : IsBase base) where
   onto_append zero n acc = refl
   onto_append (suc k) n acc = elim (cases_Bool (n / base == 0)) [
     | inl t ↦ rw t refl
-    | inr f ↦ rw f (onto_append k (n / base) (digit_glyph false (n % base) ∷ acc) ∙ sym (ap (λ x. x ++ acc) (onto_append k (n / base) (digit_glyph false (n % base) ∷ [])) ∙ append_assoc _ (digit_glyph false (n % base) ∷ []) acc))
+    | inr f ↦ rw f (onto_append k (n / base) (digit_glyph false (n % base) ∷ acc) ∙ sym
+        (ap (λ x. x ++ acc) (onto_append k (n / base) (digit_glyph false (n % base) ∷ [])) ∙ append_assoc _
+        (digit_glyph false (n % base) ∷ []) acc))
   ]
 
   -- one turn more changes nothing
@@ -143,10 +150,12 @@ module _ (base : ℕ) (is : IsBase base) where
   onto_one : (k n : ℕ) → n < base → digits_onto (suc k) base false n [] ≡ digit_glyph false n ∷ []
   onto_one k n h = let s = is.small n h in rw (eq-eqb (n / base) 0 s.0, s.1) refl
 
-  onto_step : (k n : ℕ) → base ≤ n → n / base < base ^ suc k → digits_onto (suc (suc k)) base false n [] ≡ digits_onto (suc (suc k)) base false (n / base) [] ++ digit_glyph false (n % base) ∷ []
+  onto_step : (k n : ℕ) → base ≤ n → n / base < base ^ suc k
+      → digits_onto (suc (suc k)) base false n [] ≡ digits_onto (suc (suc k)) base false (n / base) [] ++ digit_glyph false (n % base) ∷ []
   onto_step k n h fits =
       rw (ne_eqb (n / base) 0 (λ e. omega (arith, is.left n h)))
-      (onto_append (suc k) (n / base) (digit_glyph false (n % base) ∷ []) ∙ sym (ap (λ x. x ++ digit_glyph false (n % base) ∷ []) (onto_longer k (n / base) [] fits)))
+      (onto_append (suc k) (n / base) (digit_glyph false (n % base) ∷ []) ∙ sym
+      (ap (λ x. x ++ digit_glyph false (n % base) ∷ []) (onto_longer k (n / base) [] fits)))
 
   pub digits_one : (n : ℕ) → n < base → digits base false n ≡ digit_glyph false n ∷ []
   unfolding digits
@@ -180,7 +189,8 @@ module _ (base : ℕ) (is : IsBase base) where
 
   -- the number that digits make
 
-  continued_last : (v m c : ℕ) (ds : List ℕ) → continued base v ds ≡ Some m → continued base v (ds ++ c ∷ []) ≡ (digit base c >>= (λ d. below (2 ^ 64) (m * base + d) >>= (λ n. Some n)))
+  continued_last : (v m c : ℕ) (ds : List ℕ) → continued base v ds ≡ Some m
+      → continued base v (ds ++ c ∷ []) ≡ (digit base c >>= (λ d. below (2 ^ 64) (m * base + d) >>= (λ n. Some n)))
   continued_last v m c [] e = ap (λ x. digit base c >>= (λ d. below (2 ^ 64) (x * base + d) >>= (λ n. Some n))) (same_Some _ _ e)
   continued_last v m c (b ∷ ds) e =
       bound (digit base b) _ m e (λ d ed e1.
@@ -189,8 +199,10 @@ module _ (base : ℕ) (is : IsBase base) where
 
   continued_digits : (n : ℕ) → n < 2 ^ 64 → continued base 0 (digits base false n) ≡ Some n
   continued_digits = by_digits (λ n ds. continued base 0 ds ≡ Some n)
-      (λ n h. rw (digit-there base n is.high h, below-there (2 ^ 64) (0 * base + n) (omega (arith, is.high))) (ap (λ x. Some x) {x = 0 * base + n} {y = n} (omega arith)))
-      (λ n ds h fits p. continued_last 0 (n / base) _ ds p ∙ rw (digit-there base (n % base) is.high (is.rest n), is.whole n, below-there (2 ^ 64) n fits) refl)
+      (λ n h. rw (digit-there base n is.high h, below-there (2 ^ 64) (0 * base + n) (omega (arith, is.high))) (ap (λ x. Some x) {x =
+      0 * base + n} {y = n} (omega arith)))
+      (λ n ds h fits p. continued_last 0 (n / base) _ ds p ∙ rw
+      (digit-there base (n % base) is.high (is.rest n), is.whole n, below-there (2 ^ 64) n fits) refl)
 
   abbrev Begins : ℕ → List ℕ → Type 0
   Begins n [] = ⊥
@@ -208,7 +220,8 @@ module _ (base : ℕ) (is : IsBase base) where
       next n [] h fits p = absurd p
       next n (c ∷ cs) h fits p = λ _. p (is.left n h)
 
-  numeral_of : (n : ℕ) (ds : List ℕ) → (0 < n → Begins n ds) → (n < base → ds ≡ digit_glyph false n ∷ []) → continued base 0 ds ≡ Some n → n < 2 ^ 64 → numeral base ds ≡ Some n
+  numeral_of : (n : ℕ) (ds : List ℕ) → (0 < n → Begins n ds) → (n < base → ds ≡ digit_glyph false n ∷ []) → continued base 0 ds ≡ Some n
+      → n < 2 ^ 64 → numeral base ds ≡ Some n
   unfolding numeral
   numeral_of n [] b one e fits = elim (cases_lt 0 n) [
     | inl some ↦ absurd (b some)
@@ -224,7 +237,8 @@ module _ (base : ℕ) (is : IsBase base) where
     | inr none ↦ absurd (omega (arith, ap length (one (omega (arith, is.some)))))
   ]
 
-  grown : (v n : ℕ) (rest : List ℕ) → 0 < v → v < 2 ^ 64 → continued base v rest ≡ Some n → (n < 2 ^ 64) × (digits base false n ≡ digits base false v ++ rest)
+  grown : (v n : ℕ) (rest : List ℕ) → 0 < v → v < 2 ^ 64 → continued base v rest ≡ Some n
+      → (n < 2 ^ 64) × (digits base false n ≡ digits base false v ++ rest)
   grown v n [] some fits e = let same = same_Some _ _ e in (omega (arith, same), sym (ap (digits base false) same) ∙ sym (append-nil (digits base false v)))
   grown v n (c ∷ rest) some fits e =
       bound (digit base c) _ n e (λ d ed e1.

@@ -1,5 +1,6 @@
 -- Ends of harts are read back.
-use Rattle.std.proofs.Common.{◌≡◌, ℕ, ◌^◌, Bool, true, false, List, [], ◌∷◌, ◌++◌, Option, Some, None, option_map, if◌then◌else◌, refl, sym, ap, ◌∙◌, subst, inl, inr, codes, bytes_eq}
+use Rattle.std.proofs.Common.{◌≡◌, ℕ, ◌^◌, Bool, true, false, List, [], ◌∷◌, ◌++◌, Option, Some, None, option_map}
+use Rattle.std.proofs.Common.{if◌then◌else◌, refl, sym, ap, ◌∙◌, subst, inl, inr, codes, bytes_eq}
 use Rattle.std.proofs.lemmas.Option.{none-some, same_Some}
 use Rattle.std.proofs.lemmas.Slice.Eq.{bytes_eq-Decides}
 use Rattle.std.specs.Fmt.{decimal}
@@ -90,15 +91,20 @@ end-there : (end : HartEnd) → EndFits end → end_of (end_text end) ≡ Some e
 unfolding end_text
 end-there (ends.Exit code) h = behind_word words.Exit _ _ (ap (option_map ends.Exit) (decimal_reads.there code h))
 end-there ends.FuelOut h = fuel
-end-there (ends.NotMapped pc address) h = behind_word words.NotMapped _ _ (ap (option_map (λ p. ends.NotMapped p.0 p.1)) (pc_and_address_reads.there (pc, address) h))
-end-there (ends.SlotStore pc address) h = behind_word words.SlotStore _ _ (ap (option_map (λ p. ends.SlotStore p.0 p.1)) (pc_and_address_reads.there (pc, address) h))
-end-there (ends.BadInstruction pc word) h = behind_word words.BadInstruction _ _ (ap (option_map (λ p. ends.BadInstruction p.0 p.1)) (pc_and_word_reads.there (pc, word) h))
-end-there (ends.Misaligned pc address) h = behind_word words.Misaligned _ _ (ap (option_map (λ p. ends.Misaligned p.0 p.1)) (pc_and_address_reads.there (pc, address) h))
+end-there (ends.NotMapped pc address) h =
+    behind_word words.NotMapped _ _ (ap (option_map (λ p. ends.NotMapped p.0 p.1)) (pc_and_address_reads.there (pc, address) h))
+end-there (ends.SlotStore pc address) h =
+    behind_word words.SlotStore _ _ (ap (option_map (λ p. ends.SlotStore p.0 p.1)) (pc_and_address_reads.there (pc, address) h))
+end-there (ends.BadInstruction pc word) h =
+    behind_word words.BadInstruction _ _ (ap (option_map (λ p. ends.BadInstruction p.0 p.1)) (pc_and_word_reads.there (pc, word) h))
+end-there (ends.Misaligned pc address) h =
+    behind_word words.Misaligned _ _ (ap (option_map (λ p. ends.Misaligned p.0 p.1)) (pc_and_address_reads.there (pc, address) h))
 end-there (ends.Break pc) h = behind_word words.Break _ _ (ap (option_map ends.Break) (hexadecimal_reads.there pc h))
 end-there (ends.BadModule number) h = behind_word words.BadModule _ _ (ap (option_map ends.BadModule) (decimal_reads.there number h))
 end-there (ends.Unloaded serial) h = behind_word words.Unloaded _ _ (ap (option_map ends.Unloaded) (hexadecimal_reads.there serial h))
 end-there (ends.NoSlot serial eights) h = behind_word words.NoSlot _ _ (ap (option_map (λ p. ends.NoSlot p.0 p.1)) (eights_reads.there (serial, eights) h))
-end-there (ends.Unresolved serial slot) h = behind_word words.Unresolved _ _ (ap (option_map (λ p. ends.Unresolved p.0 p.1)) (slot_reads.there (serial, slot) h))
+end-there (ends.Unresolved serial slot) h =
+    behind_word words.Unresolved _ _ (ap (option_map (λ p. ends.Unresolved p.0 p.1)) (slot_reads.there (serial, slot) h))
 end-there (ends.NotCode serial slot) h = behind_word words.NotCode _ _ (ap (option_map (λ p. ends.NotCode p.0 p.1)) (slot_reads.there (serial, slot) h))
 end-there (ends.AddressSpaceFull pages) h = behind_word words.AddressSpaceFull _ _ (ap (option_map ends.AddressSpaceFull) (decimal_reads.there pages h))
 end-there ends.Memory h = memory
@@ -119,7 +125,8 @@ behind-back words.Unloaded w end e = variant-back hexadecimal_reads ends.Unloade
 behind-back words.NoSlot w end e = variant-back eights_reads _ end_text EndFits (codes "no-slot ") (λ a h. h) (λ a. refl) w end e
 behind-back words.Unresolved w end e = variant-back slot_reads _ end_text EndFits (codes "unresolved ") (λ a h. h) (λ a. refl) w end e
 behind-back words.NotCode w end e = variant-back slot_reads _ end_text EndFits (codes "not-code ") (λ a h. h) (λ a. refl) w end e
-behind-back words.AddressSpaceFull w end e = variant-back decimal_reads ends.AddressSpaceFull end_text EndFits (codes "address-space-full ") (λ a h. h) (λ a. refl) w end e
+behind-back words.AddressSpaceFull w end e =
+    variant-back decimal_reads ends.AddressSpaceFull end_text EndFits (codes "address-space-full ") (λ a h. h) (λ a. refl) w end e
 
 bare-back : (w : List ℕ) (end : HartEnd) → bare_end w ≡ Some end → IsEnd w end
 unfolding end_text

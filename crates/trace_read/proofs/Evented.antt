@@ -1,5 +1,7 @@
 -- Lines of events are read back.
-use Rattle.std.proofs.Common.{◌≡◌, ℕ, ◌<◌, ◌^◌, ◌==◌, ◌-◌, ◌+◌, Bool, true, false, List, [], ◌∷◌, ◌++◌, length, take, drop, Option, Some, None, option_map, flat_map, refl, sym, ap, ◌∙◌, subst, inl, inr, codes, bytes_eq, arith, All}
+use Rattle.std.proofs.Common.{◌≡◌, ℕ, ◌<◌, ◌^◌, ◌==◌, ◌-◌, ◌+◌, Bool, true, false, List, [], ◌∷◌, ◌++◌}
+use Rattle.std.proofs.Common.{length, take, drop, Option, Some, None, option_map, flat_map, refl, sym, ap, ◌∙◌, subst, inl, inr, codes}
+use Rattle.std.proofs.Common.{bytes_eq, arith, All}
 use Rattle.std.proofs.Common.{take_at, drop_at, take-append-drop, length-append}
 use Rattle.std.proofs.lemmas.Bool.{cases_Bool, eq-eqb, eqb-true, true≢false, false_from_ne_true}
 use Rattle.std.proofs.lemmas.Option.{none-some, same_Some, cond_some}
@@ -20,7 +22,8 @@ use Rattle.trace_read.specs.declared.steps.StepWord.TheVariants as steps
 use Rattle.trace_read.specs.Answers.{asked, open_answer, close_answer, sym_answer}
 use Rattle.trace_read.specs.Events.{event_words, event_word, counted, some_fault, event_behind, event_by, event_of}
 use Rattle.trace_read.specs.Faults.{fault_of, bare_fault}
-use Rattle.trace_read.specs.Fits.{Fits32, Fits64, Fits64IfSome, AreBytes, AreBytesIfSome, FaultFits, FaultFitsIfSome, OpenFits, CloseFits, SymFits, IsWritable}
+use Rattle.trace_read.specs.Fits.{Fits32, Fits64, Fits64IfSome, AreBytes, AreBytesIfSome, FaultFits, FaultFitsIfSome, OpenFits, CloseFits, SymFits}
+use Rattle.trace_read.specs.Fits.{IsWritable}
 use Rattle.trace_read.specs.Lines.{open_line_text, words_of, line_of}
 use Rattle.trace_read.specs.Lists.{hexadecimal, list_of}
 use Rattle.trace_read.specs.Names.{bytes_of, name_of, some_name}
@@ -32,9 +35,11 @@ use Rattle.trace_read.proofs.Answered.{asked_reads, asked_free, open_reads, clos
 use Rattle.trace_read.proofs.Parts.{Reads, bound, mapped, free, free-append, cut-there, cut-none, cut-back, labelled_reads, pair_reads, if_true, if_false}
 use Rattle.trace_read.proofs.Refusals.{fault_reads}
 use Rattle.trace_read.proofs.Spelled.{bytes_reads, name_reads, some_name_reads, name_free, some_name_free}
-use Rattle.trace_read.proofs.Stepped.{hart_reads, hart_free, step-back, grant-there, bound-there, lost-there, unresolved-there, tls-there, init-there, fini-there, ended-there}
+use Rattle.trace_read.proofs.Stepped.{hart_reads, hart_free, step-back, grant-there, bound-there, lost-there, unresolved-there, tls-there}
+use Rattle.trace_read.proofs.Stepped.{init-there, fini-there, ended-there}
 use Rattle.trace_read.proofs.Stepped.{spelled as step_spelled, word_there as step_word_there, word_back as step_word_back}
-use Rattle.trace_read.proofs.Worded.{decimal_reads, decimal32_reads, decimal_free, decimal32_free, hexadecimal_reads, hex_free, serials_reads, named-back, variant-back}
+use Rattle.trace_read.proofs.Worded.{decimal_reads, decimal32_reads, decimal_free, decimal32_free, hexadecimal_reads, hex_free, serials_reads}
+use Rattle.trace_read.proofs.Worded.{named-back, variant-back}
 
 -- bytes with their count
 
@@ -44,7 +49,8 @@ WroteFits bytes = AreBytes bytes × Fits64 (length bytes)
 abbrev counted_text : List ℕ → List ℕ
 counted_text bytes = (codes "n=" ++ decimal (length bytes)) ++ 32 ∷ flat_map byte_digits bytes
 
-parts_reads : Reads (pair 32 (labelled (numeral 10) (codes "n=")) (bytes_of None)) (λ p. (codes "n=" ++ decimal p.0) ++ 32 ∷ (flat_map byte_digits p.1)) (λ p. Fits64 p.0 × AreBytes p.1)
+parts_reads : Reads (pair 32 (labelled (numeral 10) (codes "n=")) (bytes_of None)) (λ p. (codes "n=" ++ decimal p.0) ++ 32 ∷ (flat_map byte_digits p.1))
+    (λ p. Fits64 p.0 × AreBytes p.1)
 parts_reads = pair_reads (labelled_reads decimal_reads (codes "n=")) bytes_reads 32 (λ n h. decimal_free 32 refl n h)
 
 counted-there : (bytes : List ℕ) → WroteFits bytes → counted (counted_text bytes) ≡ Some bytes
@@ -88,14 +94,17 @@ some_fault_reads = record { there = forward; back = backward }
 
     backward : (w : List ℕ) (fault : Option DlFault) → some_fault w ≡ Some fault → FaultFitsIfSome fault × (fault_or_none fault ≡ w)
     backward w fault e = elim (cases_Bool (bytes_eq w (45 ∷ []))) [
-      | inl t ↦ subst (λ x. FaultFitsIfSome x × (fault_or_none x ≡ w)) (same_Some _ _ (if_true _ _ _ t e)) (tt, sym ((bytes_eq-Decides w (45 ∷ [])).0 t))
+      | inl t ↦ subst (λ x. FaultFitsIfSome x × (fault_or_none x ≡ w)) (same_Some _ _ (if_true _ _ _ t e))
+          (tt, sym ((bytes_eq-Decides w (45 ∷ [])).0 t))
       | inr f ↦ variant-back fault_reads Some fault_or_none FaultFitsIfSome [] (λ a h. h) (λ a. refl) w fault (if_false _ _ _ f e)
     ]
 
 -- what follows the first word
 
-open_parts : Reads (pair 32 hart (pair 32 (labelled asked (codes "ns=")) (pair 32 (labelled some_name (codes "name=")) (pair 32 (labelled hexadecimal (codes "flags=")) open_answer))))
-    (λ p. hart_word p.0 ++ 32 ∷ ((codes "ns=" ++ asked_text p.1.0) ++ 32 ∷ ((codes "name=" ++ name_or_none p.1.1.0) ++ 32 ∷ ((codes "flags=" ++ hex_text p.1.1.1.0) ++ 32 ∷ open_line_text p.1.1.1.1))))
+open_parts : Reads (pair 32 hart
+    (pair 32 (labelled asked (codes "ns=")) (pair 32 (labelled some_name (codes "name=")) (pair 32 (labelled hexadecimal (codes "flags=")) open_answer))))
+    (λ p. hart_word p.0 ++ 32 ∷ ((codes "ns=" ++ asked_text p.1.0) ++ 32 ∷
+    ((codes "name=" ++ name_or_none p.1.1.0) ++ 32 ∷ ((codes "flags=" ++ hex_text p.1.1.1.0) ++ 32 ∷ open_line_text p.1.1.1.1))))
     (λ p. Fits32 p.0 × (Fits64IfSome p.1.0 × (AreBytesIfSome p.1.1.0 × (Fits64 p.1.1.1.0 × OpenFits p.1.1.1.1))))
 open_parts =
     pair_reads hart_reads (pair_reads (labelled_reads asked_reads (codes "ns=")) (pair_reads (labelled_reads some_name_reads (codes "name="))
@@ -103,14 +112,22 @@ open_parts =
     32 (λ n h. some_name_free 32 refl refl refl refl n h)) 32 (λ n h. asked_free n h)) 32 hart_free
 
 close_parts : Reads (pair 32 hart (pair 32 (labelled hexadecimal (codes "handle=")) close_answer))
-    (λ p. hart_word p.0 ++ 32 ∷ ((codes "handle=" ++ hex_text p.1.0) ++ 32 ∷ close_answer_text p.1.1)) (λ p. Fits32 p.0 × (Fits64 p.1.0 × CloseFits p.1.1))
-close_parts = pair_reads hart_reads (pair_reads (labelled_reads hexadecimal_reads (codes "handle=")) close_reads 32 (λ n h. hex_free 32 refl refl n h)) 32 hart_free
+    (λ p. hart_word p.0 ++ 32 ∷ ((codes "handle=" ++ hex_text p.1.0) ++ 32 ∷ close_answer_text p.1.1))
+    (λ p. Fits32 p.0 × (Fits64 p.1.0 × CloseFits p.1.1))
+close_parts =
+    pair_reads hart_reads (pair_reads (labelled_reads hexadecimal_reads (codes "handle=")) close_reads 32 (λ n h. hex_free 32 refl refl n h)) 32 hart_free
 
-unmapped_parts : Reads (pair 32 hart (labelled (list_of (numeral 10)) (codes "set="))) (λ p. hart_word p.0 ++ 32 ∷ (codes "set=" ++ serials_text p.1)) (λ p. Fits32 p.0 × All Fits64 p.1)
+unmapped_parts : Reads (pair 32 hart (labelled (list_of (numeral 10)) (codes "set="))) (λ p. hart_word p.0 ++ 32 ∷ (codes "set=" ++ serials_text p.1))
+    (λ p. Fits32 p.0 × All Fits64 p.1)
 unmapped_parts = pair_reads hart_reads (labelled_reads serials_reads (codes "set=")) 32 hart_free
 
-sym_parts : Reads (pair 32 hart (pair 32 (labelled (decimal_in (2 ^ 32)) (codes "ns=")) (pair 32 (labelled hexadecimal (codes "handle=")) (pair 32 (labelled name_of (codes "name=")) (pair 32 (labelled some_name (codes "ver=")) sym_answer)))))
-    (λ p. hart_word p.0 ++ 32 ∷ ((codes "ns=" ++ decimal p.1.0) ++ 32 ∷ ((codes "handle=" ++ hex_text p.1.1.0) ++ 32 ∷ ((codes "name=" ++ name_text p.1.1.1.0) ++ 32 ∷ ((codes "ver=" ++ name_or_none p.1.1.1.1.0) ++ 32 ∷ sym_answer_text p.1.1.1.1.1)))))
+sym_parts : Reads (pair 32 hart
+    (pair 32 (labelled (decimal_in (2 ^ 32)) (codes "ns="))
+    (pair 32 (labelled hexadecimal (codes "handle="))
+    (pair 32 (labelled name_of (codes "name=")) (pair 32 (labelled some_name (codes "ver=")) sym_answer)))))
+    (λ p. hart_word p.0 ++ 32 ∷ ((codes "ns=" ++ decimal p.1.0) ++ 32 ∷
+    ((codes "handle=" ++ hex_text p.1.1.0) ++ 32 ∷
+    ((codes "name=" ++ name_text p.1.1.1.0) ++ 32 ∷ ((codes "ver=" ++ name_or_none p.1.1.1.1.0) ++ 32 ∷ sym_answer_text p.1.1.1.1.1)))))
     (λ p. Fits32 p.0 × (Fits32 p.1.0 × (Fits64 p.1.1.0 × (AreBytes p.1.1.1.0 × (AreBytesIfSome p.1.1.1.1.0 × SymFits p.1.1.1.1.1)))))
 sym_parts =
     pair_reads hart_reads (pair_reads (labelled_reads decimal32_reads (codes "ns=")) (pair_reads (labelled_reads hexadecimal_reads (codes "handle="))
@@ -176,11 +193,13 @@ no_event_word steps.Init = refl
 no_event_word steps.Fini = refl
 no_event_word steps.Ended = refl
 
-behind_word : (k : EventWord) (rest : List ℕ) (event : EventLine) → event_behind k rest ≡ Some event → event_of (spelled k ++ 32 ∷ rest) ≡ Some event
+behind_word : (k : EventWord) (rest : List ℕ) (event : EventLine) → event_behind k rest ≡ Some event
+    → event_of (spelled k ++ 32 ∷ rest) ≡ Some event
 unfolding event_of
 behind_word k rest event e = rw (cut-there 32 (spelled k) rest (word_free k), word_there k) e
 
-behind_step : (k : StepWord) (rest : List ℕ) (event : EventLine) → step_behind k rest ≡ Some event → event_of (step_spelled k ++ 32 ∷ rest) ≡ Some event
+behind_step : (k : StepWord) (rest : List ℕ) (event : EventLine) → step_behind k rest ≡ Some event
+    → event_of (step_spelled k ++ 32 ∷ rest) ≡ Some event
 unfolding event_of
 behind_step k rest event e = rw (cut-there 32 (step_spelled k) rest (step_word_free k), no_event_word k, step_word_there k) e
 
@@ -195,7 +214,8 @@ event-there (lines.Grant g hart o s choice value) h = behind_step steps.Grant _ 
 event-there (lines.Bound g) h = behind_step steps.Bound _ _ (bound-there g h)
 event-there (lines.Lost g saw) h = behind_step steps.Lost _ _ (lost-there g saw h)
 event-there (lines.Unresolved hart o s choice) h = behind_step steps.Unresolved _ _ (unresolved-there hart o s choice h)
-event-there (lines.Sym hart ask answer) h = behind_word words.Sym _ _ (rw (sym_parts.there (hart, (ask.ns, (ask.handle, (ask.name, (ask.version, answer))))) h) refl)
+event-there (lines.Sym hart ask answer) h =
+    behind_word words.Sym _ _ (rw (sym_parts.there (hart, (ask.ns, (ask.handle, (ask.name, (ask.version, answer))))) h) refl)
 event-there (lines.Tls hart o address) h = behind_step steps.Tls _ _ (tls-there hart o address h)
 event-there (lines.Init hart o) h = behind_step steps.Init _ _ (init-there hart o h)
 event-there (lines.Fini hart o) h = behind_step steps.Fini _ _ (fini-there hart o h)
@@ -225,7 +245,8 @@ event-back : (w : List ℕ) (event : EventLine) → event_of w ≡ Some event �
 unfolding event_of
 event-back w event e = bound (cut 32 w) _ event e (λ p ep e1. by p ep (event_word p.0) refl e1)
   where
-    by : (p : List ℕ × List ℕ) → cut 32 w ≡ Some p → (o : Option EventWord) → event_word p.0 ≡ o → event_by p.1 o (step_word p.0) ≡ Some event → IsEvent w event
+    by : (p : List ℕ × List ℕ) → cut 32 w ≡ Some p → (o : Option EventWord) → event_word p.0 ≡ o
+        → event_by p.1 o (step_word p.0) ≡ Some event → IsEvent w event
     by p ep (Some k) eo e =
         let it = behind-back k p.1 event e in
         (it.0, it.1 ∙ ap (λ x. x ++ 32 ∷ p.1) (word_back p.0 k eo) ∙ cut-back 32 w p ep)

@@ -1,5 +1,6 @@
 -- What is read of a line, in the words of events.
-use Rattle.std.proofs.Common.{◌≡◌, ℕ, List, [], ◌∷◌, ◌++◌, map, flat_map, Option, Some, None, Result, Ok, Err, IfOk, IfErr, refl, sym, ap, ◌∙◌, subst, codes}
+use Rattle.std.proofs.Common.{◌≡◌, ℕ, List, [], ◌∷◌, ◌++◌, map, flat_map, Option, Some, None, Result, Ok, Err, IfOk, IfErr, refl}
+use Rattle.std.proofs.Common.{sym, ap, ◌∙◌, subst, codes}
 use Rattle.std.proofs.lemmas.Option.{none-some, same_Some}
 use Rattle.ld_base.specs.declared.linking.Loaded.{Loaded}
 use Rattle.link_event.specs.declared.event.Event.{Event}
@@ -26,11 +27,13 @@ pub has_line : (line : List ℕ) (r : Result EventLine TraceFault) → Gives (re
 has_line line (Ok event) g = let it = line-back line event g in record { fits = it.0; text = it.1 }
 has_line line (Err fault) g = tt
 
-pub only_one : (line : List ℕ) (r : Result EventLine TraceFault) → Gives (read_line line) r → IfOk r (λ event. (other : EventLine) → HasLine line other → other ≡ event)
+pub only_one : (line : List ℕ) (r : Result EventLine TraceFault) → Gives (read_line line) r
+    → IfOk r (λ event. (other : EventLine) → HasLine line other → other ≡ event)
 only_one line (Ok event) g = λ other h. same_Some _ _ (sym (read_so line other h) ∙ g)
 only_one line (Err fault) g = tt
 
-pub no_line : (line : List ℕ) (r : Result EventLine TraceFault) → Gives (read_line line) r → IfErr r (λ fault. fault ≡ faults.NotALine → (event : EventLine) → HasLine line event → ⊥)
+pub no_line : (line : List ℕ) (r : Result EventLine TraceFault) → Gives (read_line line) r
+    → IfErr r (λ fault. fault ≡ faults.NotALine → (event : EventLine) → HasLine line event → ⊥)
 no_line line (Ok event) g = tt
 no_line line (Err fault) g = λ same event h.
     let none : read_line line ≡ None = subst (Misses (read_line line)) same g in
@@ -70,13 +73,15 @@ same_words (events.Told hart (Some fault)) = refl
 same_words (events.Ended hart end) = refl
 
 pub inverts : (line : List ℕ) (r : Result EventLine TraceFault) → Gives (read_line line) r
-    → (event : Event) → IsWritable (said_of event) → line ≡ line_text event → IfOk r (λ read. read ≡ said_of event) × IfErr r (λ fault. fault ≡ faults.Memory)
+    → (event : Event) → IsWritable (said_of event) → line ≡ line_text event
+    → IfOk r (λ read. read ≡ said_of event) × IfErr r (λ fault. fault ≡ faults.Memory)
 inverts line r g event fits text = by r g
   where
     known : read_line line ≡ Some (said_of event)
     known = read_so line (said_of event) (record { fits = fits; text = text ∙ ap (λ w. w ++ 10 ∷ []) (sym (same_words event)) })
 
-    by : (r : Result EventLine TraceFault) → Gives (read_line line) r → IfOk r (λ read. read ≡ said_of event) × IfErr r (λ fault. fault ≡ faults.Memory)
+    by : (r : Result EventLine TraceFault) → Gives (read_line line) r
+        → IfOk r (λ read. read ≡ said_of event) × IfErr r (λ fault. fault ≡ faults.Memory)
     by (Ok read) g = (same_Some _ _ (sym g ∙ known), tt)
     by (Err faults.NotALine) g = absurd (none-some (said_of event) (sym g ∙ known))
     by (Err faults.Memory) g = (tt, refl)

@@ -1,5 +1,6 @@
 -- Lists are read back.
-use Rattle.std.proofs.Common.{◌≡◌, ◌≢◌, ℕ, zero, suc, ◌+◌, ◌<◌, ◌^◌, Bool, true, false, not, ◌&&◌, ◌==◌, eqb, List, [], ◌∷◌, ◌++◌, length, map, Option, Some, None, option_map, flat_map}
+use Rattle.std.proofs.Common.{◌≡◌, ◌≢◌, ℕ, zero, suc, ◌+◌, ◌<◌, ◌^◌, Bool, true, false, not, ◌&&◌, ◌==◌, eqb}
+use Rattle.std.proofs.Common.{List, [], ◌∷◌, ◌++◌, length, map, Option, Some, None, option_map, flat_map}
 use Rattle.std.proofs.Common.{All, refl, sym, ap, ◌∙◌, subst, arith, inl, inr, codes, bytes_eq, append-nil, append_assoc, count_by}
 use Rattle.std.specs.List.{slice_split, join_with_byte}
 use Rattle.std.proofs.lemmas.Bool.{and_parts, cases_Bool, not-true, true≢false, false_from_ne_true, eq-eqb}
@@ -57,12 +58,14 @@ module _ {A : Type 0} {read : List ℕ → Option A} {text : A → List ℕ} {Fi
         minus = false_from_ne_true _ (λ same.
             let at : listed text (x ∷ xs) ≡ 45 ∷ [] = (bytes_eq-Decides (listed text (x ∷ xs)) (45 ∷ [])).0 same in
             let none : each read ((45 ∷ []) ∷ []) ≡ None = rw no_minus refl in
-            none-some (x ∷ xs) (sym none ∙ sym (ap (λ t. each read (parts_of t)) at) ∙ ap (each read) (parts-there x xs h) ∙ each-there (x ∷ xs) h))
+            none-some (x ∷ xs) (sym none ∙ sym (ap (λ t. each read (parts_of t)) at) ∙ ap (each read) (parts-there x xs h) ∙ each-there
+            (x ∷ xs) h))
 
     list-back : (w : List ℕ) (xs : List A) → list_of read w ≡ Some xs → All Fits xs × (listed text xs ≡ w)
     unfolding list_of
     list-back w xs e = elim (cases_Bool (bytes_eq w (45 ∷ []))) [
-      | inl t ↦ subst (λ ys. All Fits ys × (listed text ys ≡ w)) (same_Some _ _ (if_true _ _ _ t e)) (All-nil Fits, sym ((bytes_eq-Decides w (45 ∷ [])).0 t))
+      | inl t ↦ subst (λ ys. All Fits ys × (listed text ys ≡ w)) (same_Some _ _ (if_true _ _ _ t e))
+          (All-nil Fits, sym ((bytes_eq-Decides w (45 ∷ [])).0 t))
       | inr f ↦
           let it = each-back (parts_of w) xs (if_false _ _ _ f e) in
           (it.0, by xs it.1)
@@ -76,10 +79,12 @@ module _ {A : Type 0} {read : List ℕ → Option A} {text : A → List ℕ} {Fi
     list_reads = record { there = list-there; back = list-back }
 
   -- the bytes of a list are none of these
-  module _ (mark : ℕ) (no_minus : free mark (45 ∷ []) ≡ true) (no_comma : free mark (44 ∷ []) ≡ true) (bare : (a : A) → Fits a → free mark (text a) ≡ true) where
+  module _ (mark : ℕ) (no_minus : free mark (45 ∷ []) ≡ true) (no_comma : free mark (44 ∷ []) ≡ true)
+      (bare : (a : A) → Fits a → free mark (text a) ≡ true) where
     more_free : (xs : List A) → All Fits xs → free mark (flat_map (λ y. 44 ∷ text y) xs) ≡ true
     more_free [] h = refl
-    more_free (x ∷ xs) h = free-append mark (44 ∷ []) _ no_comma (free-append mark (text x) _ (bare x (All-head Fits x xs h)) (more_free xs (All-tail Fits x xs h)))
+    more_free (x ∷ xs) h =
+        free-append mark (44 ∷ []) _ no_comma (free-append mark (text x) _ (bare x (All-head Fits x xs h)) (more_free xs (All-tail Fits x xs h)))
 
     pub list_free : (xs : List A) → All Fits xs → free mark (listed text xs) ≡ true
     list_free [] h = no_minus

@@ -1,5 +1,7 @@
 -- Loops that read one thing after another.
-use Rattle.std.proofs.Common.{◌≡◌, ℕ, ◌+◌, ◌*◌, ◌==◌, Bool, true, false, cond, List, [], ◌∷◌, ◌++◌, Option, Some, None, option_map, if◌then◌else◌, refl, sym, ap, ◌∙◌, append_assoc, append-nil, map, take, drop, length, ◌-◌, ◌≤◌, slice_index_or, arith}
+use Rattle.std.proofs.Common.{◌≡◌, ℕ, ◌+◌, ◌*◌, ◌==◌, Bool, true, false, cond, List, [], ◌∷◌, ◌++◌, Option, Some}
+use Rattle.std.proofs.Common.{None, option_map, if◌then◌else◌, refl, sym, ap, ◌∙◌, append_assoc, append-nil, map, take, drop, length}
+use Rattle.std.proofs.Common.{◌-◌, ◌≤◌, slice_index_or, arith}
 use Rattle.std.proofs.lemmas.List.{take_rest}
 use Rattle.std.proofs.lemmas.Option.{none-some, same_Some}
 use Rattle.ld_base.specs.Text.{is_plain}
@@ -29,9 +31,12 @@ bind_map a (Some items) = refl
 
 pub each_step : {A : Type 0} (read : List ℕ → Option A) (done : List A) (text : List ℕ) (texts : List (List ℕ)) (a : A) → read text ≡ Some a
     → onto (done ++ a ∷ []) (each read texts) ≡ onto done (each read (text ∷ texts))
-each_step read done text texts a e = longer done a (each read texts) ∙ ap (onto done) (sym (bind_map a (each read texts)) ∙ ap (λ o. o >>= (λ a. each read texts >>= (λ items. Some (a ∷ items)))) (sym e))
+each_step read done text texts a e =
+    longer done a (each read texts)
+    ∙ ap (onto done) (sym (bind_map a (each read texts)) ∙ ap (λ o. o >>= (λ a. each read texts >>= (λ items. Some (a ∷ items)))) (sym e))
 
-pub each_fails : {A : Type 0} (read : List ℕ → Option A) (done : List A) (text : List ℕ) (texts : List (List ℕ)) → read text ≡ None → onto done (each read (text ∷ texts)) ≡ None
+pub each_fails : {A : Type 0} (read : List ℕ → Option A) (done : List A) (text : List ℕ) (texts : List (List ℕ)) → read text ≡ None
+    → onto done (each read (text ∷ texts)) ≡ None
 each_fails read done text texts e = ap (λ o. onto done (o >>= (λ a. each read texts >>= (λ items. Some (a ∷ items))))) e
 
 pub each_stepped : {A B : Type 0} (f : B → List ℕ) (read : List ℕ → Option A) (done new : List A) (a : A) (rest : List B)
@@ -56,7 +61,8 @@ without_digits None dl rest e = refl
 without_digits (Some h) None rest e = refl
 without_digits (Some h) (Some l) rest e = absurd (none-some (16 * h + l) (sym e))
 
-pub bytes_step : (done : List ℕ) (h l b : ℕ) (others : List ℕ) → byte_of h l ≡ Some b → onto (done ++ b ∷ []) (bytes_of None others) ≡ onto done (bytes_of None (h ∷ l ∷ others))
+pub bytes_step : (done : List ℕ) (h l b : ℕ) (others : List ℕ) → byte_of h l ≡ Some b
+    → onto (done ++ b ∷ []) (bytes_of None others) ≡ onto done (bytes_of None (h ∷ l ∷ others))
 bytes_step done h l b others e = longer done b (bytes_of None others) ∙ ap (onto done) (with_digits (digit 16 h) (digit 16 l) (bytes_of None others) b e)
 
 pub bytes_fail : (done : List ℕ) (h l : ℕ) (others : List ℕ) → byte_of h l ≡ None → onto done (bytes_of None (h ∷ l ∷ others)) ≡ None
@@ -69,7 +75,8 @@ bytes_odd done h = by (digit 16 h)
     by None = refl
     by (Some d) = refl
 
-pub bytes_stepped : (done new : List ℕ) (b : ℕ) (rest : List ℕ) → 2 ≤ length rest → byte_of (slice_index_or rest 0 0) (slice_index_or rest 1 0) ≡ Some b → new ≡ done ++ b ∷ []
+pub bytes_stepped : (done new : List ℕ) (b : ℕ) (rest : List ℕ) → 2 ≤ length rest
+    → byte_of (slice_index_or rest 0 0) (slice_index_or rest 1 0) ≡ Some b → new ≡ done ++ b ∷ []
     → onto new (bytes_of None (take (length rest - 2) (drop 2 rest))) ≡ onto done (bytes_of None rest)
 bytes_stepped done new b [] some e p = absurd (omega arith)
 bytes_stepped done new b (h ∷ []) some e p = absurd (omega arith)
@@ -90,7 +97,9 @@ by_digits None dl rest = refl
 by_digits (Some h) None rest = refl
 by_digits (Some h) (Some l) rest = by (is_plain (16 * h + l))
   where
-    by : (t : Bool) → first_then (if t then None else Some (16 * h + l, rest)) ≡ (if t then None else option_map (λ more. (16 * h + l) ∷ more) (unescape plain rest))
+    by : (t : Bool)
+        → first_then (if t then None else Some (16 * h + l, rest)) ≡
+        (if t then None else option_map (λ more. (16 * h + l) ∷ more) (unescape plain rest))
     by true = refl
     by false = refl
 
@@ -114,7 +123,8 @@ name_first c rest = by (c == 37) (is_plain c)
     by false true = refl
     by false false = refl
 
-pub name_step : (done : List ℕ) (c b : ℕ) (others behind : List ℕ) → first_byte c others ≡ Some (b, behind) → onto (done ++ b ∷ []) (unescape plain behind) ≡ onto done (unescape plain (c ∷ others))
+pub name_step : (done : List ℕ) (c b : ℕ) (others behind : List ℕ) → first_byte c others ≡ Some (b, behind)
+    → onto (done ++ b ∷ []) (unescape plain behind) ≡ onto done (unescape plain (c ∷ others))
 name_step done c b others behind e = longer done b (unescape plain behind) ∙ ap (onto done) (sym (ap first_then e) ∙ name_first c others)
 
 pub name_fails : (done : List ℕ) (c : ℕ) (others : List ℕ) → first_byte c others ≡ None → onto done (unescape plain (c ∷ others)) ≡ None

@@ -1,5 +1,7 @@
 -- Pieces of a line are read back.
-use Rattle.std.proofs.Common.{◌≡◌, ℕ, suc, ◌+◌, Bool, true, false, cond, not, ◌&&◌, ◌==◌, eqb, List, [], ◌∷◌, ◌++◌, length, take, drop, Option, Some, None, option_map, bytes_eq, refl, sym, ap, ◌∙◌, arith, take_at, drop_at, append_assoc}
+use Rattle.std.proofs.Common.{◌≡◌, ℕ, suc, ◌+◌, Bool, true, false, cond, not, ◌&&◌, ◌==◌, eqb, List, [], ◌∷◌, ◌++◌}
+use Rattle.std.proofs.Common.{length, take, drop, Option, Some, None, option_map, bytes_eq, refl, sym, ap, ◌∙◌, arith, take_at, drop_at}
+use Rattle.std.proofs.Common.{append_assoc}
 use Rattle.std.proofs.Common.{take-append-drop, drop_of_length-le, append-nil, subst}
 use Rattle.std.proofs.lemmas.Bool.{and_parts, and_from, eqb-true, eqb-false, eq-eqb, not-true, cond-true, cond-false}
 use Rattle.std.proofs.lemmas.Option.{none-some, same_Some, cond_some}
@@ -11,7 +13,8 @@ pub record Reads {A : Type 0} (read : List ℕ → Option A) (text : A → List 
   pub there : (a : A) → Fits a → read (text a) ≡ Some a
   pub back : (w : List ℕ) (a : A) → read w ≡ Some a → Fits a × (text a ≡ w)
 
-pub bound : {A B P : Type 0} (o : Option A) (f : A → Option B) (b : B) → (o >>= f) ≡ Some b → ((a : A) → o ≡ Some a → f a ≡ Some b → P) → P
+pub bound : {A B P : Type 0} (o : Option A) (f : A → Option B) (b : B) → (o >>= f) ≡ Some b → ((a : A) → o ≡ Some a → f a ≡ Some b → P)
+    → P
 bound None f b e k = absurd (none-some b e)
 bound (Some a) f b e k = k a refl e
 
@@ -35,7 +38,8 @@ pub behind-back : (label w rest : List ℕ) → behind label w ≡ Some rest →
 unfolding behind
 behind-back label w rest e =
     let p = cond_some (bytes_eq (take (length label) w) label) (drop (length label) w) rest e in
-    sym (ap (λ front. front ++ rest) ((bytes_eq-Decides _ _).0 p.0)) ∙ sym (ap (λ r. take (length label) w ++ r) p.1) ∙ take-append-drop (length label) w
+    sym (ap (λ front. front ++ rest) ((bytes_eq-Decides _ _).0 p.0)) ∙ sym (ap (λ r. take (length label) w ++ r) p.1)
+    ∙ take-append-drop (length label) w
 
 -- no byte of a text is a mark
 abbrev pub free : ℕ → List ℕ → Bool
@@ -75,7 +79,8 @@ around_cons : {P : Type 0} (c : ℕ) (front rest : List ℕ) (p : List ℕ × Li
 around_cons c front [] p e k = absurd (none-some p e)
 around_cons c front (mark ∷ behind) p e k = k front behind refl (same_Some _ _ e)
 
-whole_cons : (mark c : ℕ) (cs : List ℕ) (p : List ℕ × List ℕ) → ((q : List ℕ × List ℕ) → cut_at (until_mark mark cs) cs ≡ Some q → q.0 ++ mark ∷ q.1 ≡ cs)
+whole_cons : (mark c : ℕ) (cs : List ℕ) (p : List ℕ × List ℕ)
+    → ((q : List ℕ × List ℕ) → cut_at (until_mark mark cs) cs ≡ Some q → q.0 ++ mark ∷ q.1 ≡ cs)
     → cut_at (until_mark mark (c ∷ cs)) (c ∷ cs) ≡ Some p → p.0 ++ mark ∷ p.1 ≡ c ∷ cs
 unfolding is_mark
 whole_cons mark c cs p rest e = by (c == mark) refl
@@ -88,7 +93,8 @@ whole_cons mark c cs p rest e = by (c == mark) refl
         let here : Some ([], cs) ≡ Some p = subst (λ n. cut_at n (c ∷ cs) ≡ Some p) (cond-true (c == mark) 0 (until_mark mark cs + 1) t) e in
         subst (λ x. x.0 ++ mark ∷ x.1 ≡ c ∷ cs) (same_Some _ _ here) (ap (λ m. m ∷ cs) (sym (eqb-true c mark t)))
     by false t =
-        let on : cut_at (until_mark mark cs + 1) (c ∷ cs) ≡ Some p = subst (λ n. cut_at n (c ∷ cs) ≡ Some p) (cond-false (c == mark) 0 (until_mark mark cs + 1) t) e in
+        let on : cut_at (until_mark mark cs + 1) (c ∷ cs) ≡ Some p = subst (λ n. cut_at n (c ∷ cs) ≡ Some p)
+        (cond-false (c == mark) 0 (until_mark mark cs + 1) t) e in
         around_cons c _ _ p (sym (next (until_mark mark cs)) ∙ on) (λ a b found same.
         subst (λ x. x.0 ++ mark ∷ x.1 ≡ c ∷ cs) same (ap (λ t. c ∷ t) (rest (a, b) found)))
 
@@ -106,10 +112,13 @@ module _ {A : Type 0} {read : List ℕ → Option A} {text : A → List ℕ} {Fi
   pub labelled_reads : (label : List ℕ) → Reads (labelled read label) (λ a. label ++ text a) Fits
   labelled_reads label = record {
     there = λ a h. rw (behind-there label (text a)) (r.there a h);
-    back = λ w a e. bound (behind label w) read a e (λ rest eb er. let it = r.back rest a er in (it.0, ap (λ t. label ++ t) it.1 ∙ behind-back label w rest eb));
+    back =
+        λ w a e. bound (behind label w) read a e
+        (λ rest eb er. let it = r.back rest a er in (it.0, ap (λ t. label ++ t) it.1 ∙ behind-back label w rest eb));
   }
 
-  module _ {B : Type 0} {second : List ℕ → Option B} {other : B → List ℕ} {FitsB : B → Type 0} (s : Reads second other FitsB) (mark : ℕ) (bare : (a : A) → Fits a → free mark (text a) ≡ true) where
+  module _ {B : Type 0} {second : List ℕ → Option B} {other : B → List ℕ} {FitsB : B → Type 0} (s : Reads second other FitsB) (mark : ℕ)
+      (bare : (a : A) → Fits a → free mark (text a) ≡ true) where
     pub pair_reads : Reads (pair mark read second) (λ p. text p.0 ++ mark ∷ other p.1) (λ p. Fits p.0 × FitsB p.1)
     pair_reads = record {
       there = λ p h. rw (cut-there mark (text p.0) (other p.1) (bare p.0 h.0), r.there p.0 h.0, s.there p.1 h.1) refl;
@@ -117,7 +126,8 @@ module _ {A : Type 0} {read : List ℕ → Option A} {text : A → List ℕ} {Fi
           bound (before mark read w) _ p e (λ q eq er.
           bound (cut mark w) _ q eq (λ c ec ea.
           bound (read c.0) _ q ea (λ a ef at.
-          let on : (second c.1 >>= (λ b. Some (a, b))) ≡ Some p = subst (λ x. (second x.1 >>= (λ b. Some (x.0, b))) ≡ Some p) (sym (same_Some _ _ at)) er in
+          let on : (second c.1 >>= (λ b. Some (a, b))) ≡ Some p = subst (λ x. (second x.1 >>= (λ b. Some (x.0, b))) ≡ Some p)
+          (sym (same_Some _ _ at)) er in
           bound (second c.1) _ p on (λ b eb same.
           let front = r.back c.0 a ef in
           let rest = s.back c.1 b eb in
@@ -128,8 +138,11 @@ module _ {A : Type 0} {read : List ℕ → Option A} {text : A → List ℕ} {Fi
     module _ (rest : Option B → List ℕ) (FitsRest : Option B → Type 0) (none : rest None ≡ []) (some : (b : B) → rest (Some b) ≡ mark ∷ other b)
         (nothing : FitsRest None) (fits : (b : B) → FitsRest (Some b) → FitsB b) (fitting : (b : B) → FitsB b → FitsRest (Some b)) where
       forward : (a : A) (o : Option B) → Fits a → FitsRest o → with_option mark read second (text a ++ rest o) ≡ Some (a, o)
-      forward a None h k = ap (λ t. with_option mark read second (text a ++ t)) none ∙ rw (append-nil (text a), cut-none mark (text a) (bare a h), r.there a h) refl
-      forward a (Some b) h k = ap (λ t. with_option mark read second (text a ++ t)) (some b) ∙ rw (cut-there mark (text a) (other b) (bare a h), r.there a h, s.there b (fits b k)) refl
+      forward a None h k =
+          ap (λ t. with_option mark read second (text a ++ t)) none ∙ rw (append-nil (text a), cut-none mark (text a) (bare a h), r.there a h) refl
+      forward a (Some b) h k =
+          ap (λ t. with_option mark read second (text a ++ t)) (some b)
+          ∙ rw (cut-there mark (text a) (other b) (bare a h), r.there a h, s.there b (fits b k)) refl
 
       backward : (w : List ℕ) (p : A × Option B) (c : Option (List ℕ × List ℕ)) → cut mark w ≡ c → option_by read second w c ≡ Some p
           → (Fits p.0 × FitsRest p.1) × (text p.0 ++ rest p.1 ≡ w)

@@ -1,5 +1,6 @@
 -- Refusals are read back.
-use Rattle.std.proofs.Common.{◌≡◌, ℕ, ◌^◌, Bool, true, false, List, [], ◌∷◌, ◌++◌, Option, Some, None, option_map, if◌then◌else◌, refl, sym, ap, ◌∙◌, subst, inl, inr, codes, bytes_eq, append_assoc}
+use Rattle.std.proofs.Common.{◌≡◌, ℕ, ◌^◌, Bool, true, false, List, [], ◌∷◌, ◌++◌, Option, Some, None, option_map}
+use Rattle.std.proofs.Common.{if◌then◌else◌, refl, sym, ap, ◌∙◌, subst, inl, inr, codes, bytes_eq, append_assoc}
 use Rattle.std.proofs.lemmas.Option.{none-some, same_Some}
 use Rattle.std.proofs.lemmas.Slice.Eq.{bytes_eq-Decides}
 use Rattle.ld_base.specs.declared.fault.DlFault.{DlFault}
@@ -65,18 +66,23 @@ word_back : (w : List ℕ) (k : FaultWord) → fault_word w ≡ Some k → spell
 unfolding fault_word
 word_back w k e = named-back spelled w fault_words k e (refl, (refl, (refl, (refl, (refl, (refl, (refl, (refl, (refl, (refl, (refl, (refl, tt))))))))))))
 
-behind_word : (k : FaultWord) (rest : List ℕ) (fault : DlFault) → fault_behind k rest ≡ Some fault → fault_of (spelled k ++ 32 ∷ rest) ≡ Some fault
+behind_word : (k : FaultWord) (rest : List ℕ) (fault : DlFault) → fault_behind k rest ≡ Some fault
+    → fault_of (spelled k ++ 32 ∷ rest) ≡ Some fault
 unfolding fault_of
 behind_word k rest fault e = rw (cut-there 32 (spelled k) rest (word_free k), word_there k) e
 
-not_accepted_reads : Reads (pair 32 name_of (pair 32 (decimal_in (2 ^ 8)) (numeral 10))) (λ p. name_text p.0 ++ 32 ∷ (decimal p.1.0 ++ 32 ∷ decimal p.1.1)) (λ p. AreBytes p.0 × (Fits8 p.1.0 × Fits64 p.1.1))
+not_accepted_reads : Reads (pair 32 name_of (pair 32 (decimal_in (2 ^ 8)) (numeral 10)))
+    (λ p. name_text p.0 ++ 32 ∷ (decimal p.1.0 ++ 32 ∷ decimal p.1.1)) (λ p. AreBytes p.0 × (Fits8 p.1.0 × Fits64 p.1.1))
 not_accepted_reads = pair_reads name_reads (pair_reads decimal8_reads decimal_reads 32 (decimal8_free 32 refl)) 32 (name_free 32 refl refl refl)
 
-missing_version_reads : Reads (pair 32 name_of (pair 32 name_of name_of)) (λ p. name_text p.0 ++ 32 ∷ (name_text p.1.0 ++ 32 ∷ name_text p.1.1)) (λ p. AreBytes p.0 × (AreBytes p.1.0 × AreBytes p.1.1))
+missing_version_reads : Reads (pair 32 name_of (pair 32 name_of name_of)) (λ p. name_text p.0 ++ 32 ∷ (name_text p.1.0 ++ 32 ∷ name_text p.1.1))
+    (λ p. AreBytes p.0 × (AreBytes p.1.0 × AreBytes p.1.1))
 missing_version_reads = pair_reads name_reads (pair_reads name_reads name_reads 32 (name_free 32 refl refl refl)) 32 (name_free 32 refl refl refl)
 
-missing_symbol_reads : Reads (pair 32 some_name (pair 32 name_of some_name)) (λ p. name_or_none p.0 ++ 32 ∷ (name_text p.1.0 ++ 32 ∷ name_or_none p.1.1)) (λ p. AreBytesIfSome p.0 × (AreBytes p.1.0 × AreBytesIfSome p.1.1))
-missing_symbol_reads = pair_reads some_name_reads (pair_reads name_reads some_name_reads 32 (name_free 32 refl refl refl)) 32 (some_name_free 32 refl refl refl refl)
+missing_symbol_reads : Reads (pair 32 some_name (pair 32 name_of some_name)) (λ p. name_or_none p.0 ++ 32 ∷ (name_text p.1.0 ++ 32 ∷ name_or_none p.1.1))
+    (λ p. AreBytesIfSome p.0 × (AreBytes p.1.0 × AreBytesIfSome p.1.1))
+missing_symbol_reads =
+    pair_reads some_name_reads (pair_reads name_reads some_name_reads 32 (name_free 32 refl refl refl)) 32 (some_name_free 32 refl refl refl refl)
 
 not_code_reads : Reads (pair 32 name_of name_of) (λ p. name_text p.0 ++ 32 ∷ name_text p.1) (λ p. AreBytes p.0 × AreBytes p.1)
 not_code_reads = pair_reads name_reads name_reads 32 (name_free 32 refl refl refl)
@@ -93,16 +99,21 @@ name_too_long = rw (cut-none 32 (codes "name-too-long") refl) refl
 regroup : (a b c : List ℕ) → a ++ 32 ∷ b ++ 32 ∷ c ≡ a ++ 32 ∷ (b ++ 32 ∷ c)
 regroup a b c = append_assoc a (32 ∷ b) (32 ∷ c)
 
-three_there : (k : FaultWord) (a b c : List ℕ) (fault : DlFault) → fault_behind k (a ++ 32 ∷ (b ++ 32 ∷ c)) ≡ Some fault → fault_of (spelled k ++ 32 ∷ (a ++ 32 ∷ b ++ 32 ∷ c)) ≡ Some fault
+three_there : (k : FaultWord) (a b c : List ℕ) (fault : DlFault) → fault_behind k (a ++ 32 ∷ (b ++ 32 ∷ c)) ≡ Some fault
+    → fault_of (spelled k ++ 32 ∷ (a ++ 32 ∷ b ++ 32 ∷ c)) ≡ Some fault
 three_there k a b c fault e = ap (λ t. fault_of (spelled k ++ 32 ∷ t)) (regroup a b c) ∙ behind_word k (a ++ 32 ∷ (b ++ 32 ∷ c)) fault e
 
 fault-there : (fault : DlFault) → FaultFits fault → fault_of (fault_text fault) ≡ Some fault
 unfolding fault_text
 fault-there (faults.MissingLibrary name) h = behind_word words.MissingLibrary _ _ (ap (option_map faults.MissingLibrary) (name_reads.there name h))
 fault-there (faults.ReadFault path) h = behind_word words.ReadFault _ _ (ap (option_map faults.ReadFault) (name_reads.there path h))
-fault-there (faults.NotAccepted path broken) h = three_there words.NotAccepted (name_text path) (decimal broken.rule) (decimal broken.number) _ (rw (not_accepted_reads.there (path, (broken.rule, broken.number)) h) refl)
-fault-there (faults.MissingVersion o file version) h = three_there words.MissingVersion (name_text o) (name_text file) (name_text version) _ (rw (missing_version_reads.there (o, (file, version)) h) refl)
-fault-there (faults.MissingSymbol o name version) h = three_there words.MissingSymbol (name_or_none o) (name_text name) (name_or_none version) _ (rw (missing_symbol_reads.there (o, (name, version)) h) refl)
+fault-there (faults.NotAccepted path broken) h =
+    three_there words.NotAccepted (name_text path) (decimal broken.rule) (decimal broken.number) _
+    (rw (not_accepted_reads.there (path, (broken.rule, broken.number)) h) refl)
+fault-there (faults.MissingVersion o file version) h =
+    three_there words.MissingVersion (name_text o) (name_text file) (name_text version) _ (rw (missing_version_reads.there (o, (file, version)) h) refl)
+fault-there (faults.MissingSymbol o name version) h =
+    three_there words.MissingSymbol (name_or_none o) (name_text name) (name_or_none version) _ (rw (missing_symbol_reads.there (o, (name, version)) h) refl)
 fault-there (faults.NotCode o name) h = behind_word words.NotCode _ _ (rw (not_code_reads.there (o, name) h) refl)
 fault-there (faults.NeedsStaticTls o) h = behind_word words.NeedsStaticTls _ _ (ap (option_map faults.NeedsStaticTls) (name_reads.there o h))
 fault-there (faults.AddressSpaceFull pages) h = behind_word words.AddressSpaceFull _ _ (ap (option_map faults.AddressSpaceFull) (decimal_reads.there pages h))
@@ -118,18 +129,31 @@ IsFault w fault = FaultFits fault × (fault_text fault ≡ w)
 
 behind-back : (k : FaultWord) (w : List ℕ) (fault : DlFault) → fault_behind k w ≡ Some fault → IsFault (spelled k ++ 32 ∷ w) fault
 unfolding fault_text
-behind-back words.MissingLibrary w fault e = variant-back name_reads faults.MissingLibrary fault_text FaultFits (codes "missing-library ") (λ a h. h) (λ a. refl) w fault e
+behind-back words.MissingLibrary w fault e =
+    variant-back name_reads faults.MissingLibrary fault_text FaultFits (codes "missing-library ") (λ a h. h) (λ a. refl) w fault e
 behind-back words.ReadFault w fault e = variant-back name_reads faults.ReadFault fault_text FaultFits (codes "read-fault ") (λ a h. h) (λ a. refl) w fault e
-behind-back words.NotAccepted w fault e = variant-back not_accepted_reads _ fault_text FaultFits (codes "not-accepted ") (λ a h. h) (λ a. ap (λ t. codes "not-accepted " ++ t) (regroup (name_text a.0) (decimal a.1.0) (decimal a.1.1))) w fault e
-behind-back words.MissingVersion w fault e = variant-back missing_version_reads _ fault_text FaultFits (codes "missing-version ") (λ a h. h) (λ a. ap (λ t. codes "missing-version " ++ t) (regroup (name_text a.0) (name_text a.1.0) (name_text a.1.1))) w fault e
-behind-back words.MissingSymbol w fault e = variant-back missing_symbol_reads _ fault_text FaultFits (codes "missing-symbol ") (λ a h. h) (λ a. ap (λ t. codes "missing-symbol " ++ t) (regroup (name_or_none a.0) (name_text a.1.0) (name_or_none a.1.1))) w fault e
+behind-back words.NotAccepted w fault e =
+    variant-back not_accepted_reads _ fault_text FaultFits (codes "not-accepted ") (λ a h. h)
+    (λ a. ap (λ t. codes "not-accepted " ++ t) (regroup (name_text a.0) (decimal a.1.0) (decimal a.1.1))) w fault e
+behind-back words.MissingVersion w fault e =
+    variant-back missing_version_reads _ fault_text FaultFits (codes "missing-version ") (λ a h. h)
+    (λ a. ap (λ t. codes "missing-version " ++ t) (regroup (name_text a.0) (name_text a.1.0) (name_text a.1.1))) w fault e
+behind-back words.MissingSymbol w fault e =
+    variant-back missing_symbol_reads _ fault_text FaultFits (codes "missing-symbol ") (λ a h. h)
+    (λ a. ap (λ t. codes "missing-symbol " ++ t) (regroup (name_or_none a.0) (name_text a.1.0) (name_or_none a.1.1))) w fault e
 behind-back words.NotCode w fault e = variant-back not_code_reads _ fault_text FaultFits (codes "not-code ") (λ a h. h) (λ a. refl) w fault e
-behind-back words.NeedsStaticTls w fault e = variant-back name_reads faults.NeedsStaticTls fault_text FaultFits (codes "needs-static-tls ") (λ a h. h) (λ a. refl) w fault e
-behind-back words.AddressSpaceFull w fault e = variant-back decimal_reads faults.AddressSpaceFull fault_text FaultFits (codes "address-space-full ") (λ a h. h) (λ a. refl) w fault e
-behind-back words.BadHandle w fault e = variant-back hexadecimal_reads faults.BadHandle fault_text FaultFits (codes "bad-handle ") (λ a h. h) (λ a. refl) w fault e
-behind-back words.BadFlags w fault e = variant-back hexadecimal_reads faults.BadFlags fault_text FaultFits (codes "bad-flags ") (λ a h. h) (λ a. refl) w fault e
-behind-back words.ClosingHere w fault e = variant-back name_reads faults.ClosingHere fault_text FaultFits (codes "closing-here ") (λ a h. h) (λ a. refl) w fault e
-behind-back words.BadNamespace w fault e = variant-back hexadecimal_reads faults.BadNamespace fault_text FaultFits (codes "bad-namespace ") (λ a h. h) (λ a. refl) w fault e
+behind-back words.NeedsStaticTls w fault e =
+    variant-back name_reads faults.NeedsStaticTls fault_text FaultFits (codes "needs-static-tls ") (λ a h. h) (λ a. refl) w fault e
+behind-back words.AddressSpaceFull w fault e =
+    variant-back decimal_reads faults.AddressSpaceFull fault_text FaultFits (codes "address-space-full ") (λ a h. h) (λ a. refl) w fault e
+behind-back words.BadHandle w fault e =
+    variant-back hexadecimal_reads faults.BadHandle fault_text FaultFits (codes "bad-handle ") (λ a h. h) (λ a. refl) w fault e
+behind-back words.BadFlags w fault e =
+    variant-back hexadecimal_reads faults.BadFlags fault_text FaultFits (codes "bad-flags ") (λ a h. h) (λ a. refl) w fault e
+behind-back words.ClosingHere w fault e =
+    variant-back name_reads faults.ClosingHere fault_text FaultFits (codes "closing-here ") (λ a h. h) (λ a. refl) w fault e
+behind-back words.BadNamespace w fault e =
+    variant-back hexadecimal_reads faults.BadNamespace fault_text FaultFits (codes "bad-namespace ") (λ a h. h) (λ a. refl) w fault e
 
 bare-back : (w : List ℕ) (fault : DlFault) → bare_fault w ≡ Some fault → IsFault w fault
 unfolding fault_text

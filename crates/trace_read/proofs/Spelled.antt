@@ -1,5 +1,7 @@
 -- Names and bytes are read back.
-use Rattle.std.proofs.Common.{◌≡◌, ◌≢◌, ℕ, zero, suc, ◌+◌, ◌-◌, ◌*◌, ◌/◌, ◌%◌, ◌<◌, ◌≤◌, Bool, true, false, not, ◌&&◌, ◌||◌, ◌==◌, nat_le, cond, List, [], ◌∷◌, ◌++◌, length, Option, Some, None, option_map, flat_map}
+use Rattle.std.proofs.Common.{◌≡◌, ◌≢◌, ℕ, zero, suc, ◌+◌, ◌-◌, ◌*◌, ◌/◌, ◌%◌, ◌<◌, ◌≤◌, Bool, true}
+use Rattle.std.proofs.Common.{false, not, ◌&&◌, ◌||◌, ◌==◌, nat_le, cond, List, [], ◌∷◌, ◌++◌, length, Option, Some, None}
+use Rattle.std.proofs.Common.{option_map, flat_map}
 use Rattle.std.proofs.Common.{refl, sym, ap, ◌∙◌, subst, arith, inl, inr, codes, bytes_eq}
 use Rattle.std.proofs.lemmas.Bool.{and_parts, and_from, eqb-true, eqb-false, eq-eqb, ne_eqb, cases_Bool, leb-true, true≢false, false_from_ne_true}
 use Rattle.std.proofs.lemmas.List.Elements.{All-nil, All-cons, All-head, All-tail}
@@ -85,18 +87,21 @@ escaped_text c p = rw p refl
 unescape_plain : (c : ℕ) (w name : List ℕ) → is_plain c ≡ true → unescape plain w ≡ Some name → unescape plain (c ∷ w) ≡ Some (c ∷ name)
 unescape_plain c w name p e = rw (p, plain-ne c 37 p refl, e) refl
 
-unescape_high : (h c l : ℕ) (w name : List ℕ) → digit 16 c ≡ Some l → is_plain (16 * h + l) ≡ false → unescape plain w ≡ Some name → unescape (high h) (c ∷ w) ≡ Some ((16 * h + l) ∷ name)
+unescape_high : (h c l : ℕ) (w name : List ℕ) → digit 16 c ≡ Some l → is_plain (16 * h + l) ≡ false → unescape plain w ≡ Some name
+    → unescape (high h) (c ∷ w) ≡ Some ((16 * h + l) ∷ name)
 unescape_high h c l w name el off e = rw (el, off, e) refl
 
 unescape-there : (name : List ℕ) → AreBytes name → unescape plain (flat_map byte_text name) ≡ Some name
 unescape-there [] h = refl
 unescape-there (c ∷ cs) h = elim (cases_Bool (is_plain c)) [
-  | inl p ↦ ap (λ t. unescape plain (t ++ flat_map byte_text cs)) (plain_text c p) ∙ unescape_plain c (flat_map byte_text cs) cs p (unescape-there cs (All-tail IsByte c cs h))
+  | inl p ↦ ap (λ t. unescape plain (t ++ flat_map byte_text cs)) (plain_text c p)
+      ∙ unescape_plain c (flat_map byte_text cs) cs p (unescape-there cs (All-tail IsByte c cs h))
   | inr p ↦
       let whole = together c in
       ap (λ t. unescape plain (t ++ flat_map byte_text cs)) (escaped_text c p)
       ∙ ap (λ o. o >>= (λ h. unescape (high h) (hex_digit (c % 16) ∷ flat_map byte_text cs))) (high_digit c (All-head IsByte c cs h))
-      ∙ unescape_high (c / 16) (hex_digit (c % 16)) (c % 16) (flat_map byte_text cs) cs (low_digit c) (ap is_plain whole ∙ p) (unescape-there cs (All-tail IsByte c cs h))
+      ∙ unescape_high (c / 16) (hex_digit (c % 16)) (c % 16) (flat_map byte_text cs) cs (low_digit c) (ap is_plain whole ∙ p)
+      (unescape-there cs (All-tail IsByte c cs h))
       ∙ ap (λ b. Some (b ∷ cs)) whole
 ]
 
@@ -111,7 +116,8 @@ IsDigit plain = Unit {0}
 IsDigit percent = Unit {0}
 IsDigit (high h) = h < 16
 
-unescape-back : (w : List ℕ) (s : Stage) (name : List ℕ) → IsDigit s → unescape s w ≡ Some name → AreBytes name × (flat_map byte_text name ≡ read_of s ++ w)
+unescape-back : (w : List ℕ) (s : Stage) (name : List ℕ) → IsDigit s → unescape s w ≡ Some name
+    → AreBytes name × (flat_map byte_text name ≡ read_of s ++ w)
 unescape-back [] plain name d e = subst (λ x. AreBytes x × (flat_map byte_text x ≡ [])) (same_Some _ _ e) (All-nil IsByte, refl)
 unescape-back [] percent name d e = absurd (none-some name e)
 unescape-back [] (high h) name d e = absurd (none-some name e)
@@ -171,7 +177,8 @@ unfolding name_of name_text
 name-there [] h = refl
 name-there (c ∷ cs) h = elim (cases_Bool (bytes_eq (c ∷ cs) (45 ∷ []))) [
   | inl t ↦ rw (filled c cs, t) (ap (λ n. Some n) (sym ((bytes_eq-Decides (c ∷ cs) (45 ∷ [])).0 t)))
-  | inr f ↦ rw (filled c cs, f) (name_by (flat_map byte_text (c ∷ cs)) (c ∷ cs) (unescape-there (c ∷ cs) h) (λ e. cons-nil e) (λ e. true≢false (sym ((bytes_eq-Decides (c ∷ cs) (45 ∷ [])).1 e) ∙ f)))
+  | inr f ↦ rw (filled c cs, f) (name_by (flat_map byte_text (c ∷ cs)) (c ∷ cs) (unescape-there (c ∷ cs) h) (λ e. cons-nil e)
+      (λ e. true≢false (sym ((bytes_eq-Decides (c ∷ cs) (45 ∷ [])).1 e) ∙ f)))
 ]
   where
     cons-nil : {x : ℕ} {xs : List ℕ} → x ∷ xs ≡ [] → ⊥
@@ -196,7 +203,8 @@ name-back w name e = elim (cases_Bool (bytes_eq w (37 ∷ []))) [
     plainly : (w name : List ℕ) → (length w == 0 || bytes_eq w (45 ∷ [])) ≡ false → flat_map byte_text name ≡ w → name_text name ≡ w
     plainly w [] k e = absurd (true≢false (sym (ap (λ x. length x == 0 || bytes_eq x (45 ∷ [])) (sym e)) ∙ k))
     plainly w (c ∷ cs) k e = elim (cases_Bool (bytes_eq (c ∷ cs) (45 ∷ []))) [
-      | inl t ↦ absurd (true≢false (sym (ap (λ x. length x == 0 || bytes_eq x (45 ∷ [])) (sym e ∙ ap (flat_map byte_text) ((bytes_eq-Decides (c ∷ cs) (45 ∷ [])).0 t))) ∙ k))
+      | inl t ↦ absurd (true≢false (sym
+          (ap (λ x. length x == 0 || bytes_eq x (45 ∷ [])) (sym e ∙ ap (flat_map byte_text) ((bytes_eq-Decides (c ∷ cs) (45 ∷ [])).0 t))) ∙ k))
       | inr f ↦ rw (filled c cs, f) e
     ]
 
@@ -221,14 +229,16 @@ some_name_reads = record { there = forward; back = backward }
 
     backward : (w : List ℕ) (name : Option (List ℕ)) → some_name w ≡ Some name → AreBytesIfSome name × (name_or_none name ≡ w)
     backward w name e = elim (cases_Bool (bytes_eq w (45 ∷ []))) [
-      | inl t ↦ subst (λ x. AreBytesIfSome x × (name_or_none x ≡ w)) (same_Some _ _ (if_true _ _ _ t e)) (tt, sym ((bytes_eq-Decides w (45 ∷ [])).0 t))
+      | inl t ↦ subst (λ x. AreBytesIfSome x × (name_or_none x ≡ w)) (same_Some _ _ (if_true _ _ _ t e))
+          (tt, sym ((bytes_eq-Decides w (45 ∷ [])).0 t))
       | inr f ↦ mapped _ (name_of w) name (if_false _ _ _ f e) (λ n en same.
           subst (λ x. AreBytesIfSome x × (name_or_none x ≡ w)) same (name-back w n en))
     ]
 
 -- no byte of a name's text is a mark
 
-module _ (mark : ℕ) (no_plain : is_plain mark ≡ false) (no_digit : is_digit_byte mark ≡ false) (escapes : free mark (37 ∷ 50 ∷ 100 ∷ []) ≡ true) where
+module _ (mark : ℕ) (no_plain : is_plain mark ≡ false) (no_digit : is_digit_byte mark ≡ false)
+    (escapes : free mark (37 ∷ 50 ∷ 100 ∷ []) ≡ true) where
   no_percent : free mark (37 ∷ []) ≡ true
   no_percent = and_from _ _ (and_parts _ _ escapes).0 refl
 
@@ -244,7 +254,8 @@ module _ (mark : ℕ) (no_plain : is_plain mark ≡ false) (no_digit : is_digit_
 
   escaped_free : (name : List ℕ) → AreBytes name → free mark (flat_map byte_text name) ≡ true
   escaped_free [] h = refl
-  escaped_free (c ∷ cs) h = free-append mark (byte_text c) (flat_map byte_text cs) (byte_free c (All-head IsByte c cs h)) (escaped_free cs (All-tail IsByte c cs h))
+  escaped_free (c ∷ cs) h =
+      free-append mark (byte_text c) (flat_map byte_text cs) (byte_free c (All-head IsByte c cs h)) (escaped_free cs (All-tail IsByte c cs h))
 
   pub name_free : (name : List ℕ) → AreBytes name → free mark (name_text name) ≡ true
   unfolding name_text

@@ -1,5 +1,6 @@
 -- Events whose lines have numbers alone are read back.
-use Rattle.std.proofs.Common.{◌≡◌, ℕ, ◌<◌, ◌^◌, Bool, true, false, List, [], ◌∷◌, ◌++◌, Option, Some, None, option_map, refl, sym, ap, ◌∙◌, subst, inl, inr, codes, bytes_eq, arith}
+use Rattle.std.proofs.Common.{◌≡◌, ℕ, ◌<◌, ◌^◌, Bool, true, false, List, [], ◌∷◌, ◌++◌, Option, Some, None, option_map}
+use Rattle.std.proofs.Common.{refl, sym, ap, ◌∙◌, subst, inl, inr, codes, bytes_eq, arith}
 use Rattle.std.proofs.lemmas.Bool.{cases_Bool, true≢false, false_from_ne_true}
 use Rattle.std.proofs.lemmas.Option.{none-some, same_Some}
 use Rattle.std.proofs.lemmas.Slice.Eq.{bytes_eq-Decides}
@@ -27,7 +28,8 @@ use Rattle.trace_read.proofs.Answered.{found_reads}
 use Rattle.trace_read.proofs.Digits.{digits_one, sixteen}
 use Rattle.trace_read.proofs.Ended.{end_reads}
 use Rattle.trace_read.proofs.Parts.{Reads, bound, mapped, free, free-append, labelled_reads, pair_reads, if_true, if_false}
-use Rattle.trace_read.proofs.Worded.{decimal_reads, decimal32_reads, decimal_free, decimal32_free, hexadecimal_reads, definition_reads, named-back, variant-back}
+use Rattle.trace_read.proofs.Worded.{decimal_reads, decimal32_reads, decimal_free, decimal32_free, hexadecimal_reads, definition_reads, named-back}
+use Rattle.trace_read.proofs.Worded.{variant-back}
 
 -- words with labels
 
@@ -72,8 +74,12 @@ granted-there (choices.Def serial index) value h = rw (false_from_ne_true _ off,
     text = definition_text serial index ++ 32 ∷ hex_text value
 
     off : bytes_eq text (codes "weak 0x0") ≡ true → ⊥
-    off same = none-some ((serial, index), value) (sym no_definition ∙ sym (ap found_parts ((bytes_eq-Decides text (codes "weak 0x0")).0 same)) ∙ found_reads.there ((serial, index), value) h)
-granted-there choices.WeakZero value h = ap (λ v. granted (codes "weak " ++ hex_text v)) h ∙ ap granted weak_text ∙ ap (λ v. Some (choices.WeakZero, v)) (sym h)
+    off same =
+        none-some ((serial, index), value)
+        (sym no_definition ∙ sym (ap found_parts ((bytes_eq-Decides text (codes "weak 0x0")).0 same)) ∙ found_reads.there
+        ((serial, index), value) h)
+granted-there choices.WeakZero value h =
+    ap (λ v. granted (codes "weak " ++ hex_text v)) h ∙ ap granted weak_text ∙ ap (λ v. Some (choices.WeakZero, v)) (sym h)
 granted-there choices.Missing value h = absurd h
 
 abbrev GrantFits : Choice × ℕ → Type 0
@@ -85,7 +91,8 @@ grant_text p = granted_text p.0 p.1
 granted-back : (w : List ℕ) (p : Choice × ℕ) → granted w ≡ Some p → GrantFits p × (grant_text p ≡ w)
 unfolding granted
 granted-back w p e = elim (cases_Bool (bytes_eq w (codes "weak 0x0"))) [
-  | inl t ↦ subst (λ x. GrantFits x × (grant_text x ≡ w)) (same_Some _ _ (if_true _ _ _ t e)) (refl, weak_text ∙ sym ((bytes_eq-Decides w (codes "weak 0x0")).0 t))
+  | inl t ↦ subst (λ x. GrantFits x × (grant_text x ≡ w)) (same_Some _ _ (if_true _ _ _ t e))
+      (refl, weak_text ∙ sym ((bytes_eq-Decides w (codes "weak 0x0")).0 t))
   | inr f ↦ variant-back found_reads _ grant_text GrantFits [] (λ a h. h) (λ a. refl) w p (if_false _ _ _ f e)
 ]
 
@@ -106,7 +113,8 @@ refused-there choices.Missing h = refl
 refused-back : (w : List ℕ) (choice : Choice) → refused w ≡ Some choice → RefusedFits choice × (unresolved_text choice ≡ w)
 unfolding refused
 refused-back w choice e = elim (cases_Bool (bytes_eq w (codes "missing"))) [
-  | inl t ↦ subst (λ x. RefusedFits x × (unresolved_text x ≡ w)) (same_Some _ _ (if_true _ _ _ t e)) (tt, sym ((bytes_eq-Decides w (codes "missing")).0 t))
+  | inl t ↦ subst (λ x. RefusedFits x × (unresolved_text x ≡ w)) (same_Some _ _ (if_true _ _ _ t e))
+      (tt, sym ((bytes_eq-Decides w (codes "missing")).0 t))
   | inr f ↦ variant-back not_code_reads _ unresolved_text RefusedFits [] (λ a h. h) (λ a. refl) w choice (if_false _ _ _ f e)
 ]
 
@@ -116,19 +124,25 @@ refused_reads = record { there = refused-there; back = refused-back }
 -- what follows the first word
 
 granted_step : Reads (pair 32 «grant» (pair 32 hart (pair 32 object (pair 32 slot (labelled granted (codes "-> "))))))
-    (λ p. grant_word p.0 ++ 32 ∷ (hart_word p.1.0 ++ 32 ∷ (object_word p.1.1.0 ++ 32 ∷ (slot_word p.1.1.1.0 ++ 32 ∷ (codes "-> " ++ grant_text p.1.1.1.1)))))
+    (λ p. grant_word p.0 ++ 32 ∷ (hart_word p.1.0 ++ 32 ∷
+    (object_word p.1.1.0 ++ 32 ∷ (slot_word p.1.1.1.0 ++ 32 ∷ (codes "-> " ++ grant_text p.1.1.1.1)))))
     (λ p. Fits64 p.0 × (Fits32 p.1.0 × (Fits64 p.1.1.0 × (Fits32 p.1.1.1.0 × GrantFits p.1.1.1.1))))
 granted_step =
-    pair_reads grant_reads (pair_reads hart_reads (pair_reads object_reads (pair_reads slot_reads (labelled_reads granted_reads (codes "-> ")) 32 slot_free) 32 object_free) 32 hart_free) 32 grant_free
+    pair_reads grant_reads (pair_reads hart_reads
+    (pair_reads object_reads (pair_reads slot_reads
+    (labelled_reads granted_reads (codes "-> ")) 32 slot_free) 32 object_free) 32 hart_free) 32 grant_free
 
-lost_step : Reads (pair 32 «grant» (labelled hexadecimal (codes "saw="))) (λ p. grant_word p.0 ++ 32 ∷ (codes "saw=" ++ hex_text p.1)) (λ p. Fits64 p.0 × Fits64 p.1)
+lost_step : Reads (pair 32 «grant» (labelled hexadecimal (codes "saw="))) (λ p. grant_word p.0 ++ 32 ∷ (codes "saw=" ++ hex_text p.1))
+    (λ p. Fits64 p.0 × Fits64 p.1)
 lost_step = pair_reads grant_reads (labelled_reads hexadecimal_reads (codes "saw=")) 32 grant_free
 
-unresolved_step : Reads (pair 32 hart (pair 32 object (pair 32 slot refused))) (λ p. hart_word p.0 ++ 32 ∷ (object_word p.1.0 ++ 32 ∷ (slot_word p.1.1.0 ++ 32 ∷ unresolved_text p.1.1.1)))
+unresolved_step : Reads (pair 32 hart (pair 32 object (pair 32 slot refused)))
+    (λ p. hart_word p.0 ++ 32 ∷ (object_word p.1.0 ++ 32 ∷ (slot_word p.1.1.0 ++ 32 ∷ unresolved_text p.1.1.1)))
     (λ p. Fits32 p.0 × (Fits64 p.1.0 × (Fits32 p.1.1.0 × RefusedFits p.1.1.1)))
 unresolved_step = pair_reads hart_reads (pair_reads object_reads (pair_reads slot_reads refused_reads 32 slot_free) 32 object_free) 32 hart_free
 
-tls_step : Reads (pair 32 hart (pair 32 object hexadecimal)) (λ p. hart_word p.0 ++ 32 ∷ (object_word p.1.0 ++ 32 ∷ hex_text p.1.1)) (λ p. Fits32 p.0 × (Fits64 p.1.0 × Fits64 p.1.1))
+tls_step : Reads (pair 32 hart (pair 32 object hexadecimal)) (λ p. hart_word p.0 ++ 32 ∷ (object_word p.1.0 ++ 32 ∷ hex_text p.1.1))
+    (λ p. Fits32 p.0 × (Fits64 p.1.0 × Fits64 p.1.1))
 tls_step = pair_reads hart_reads (pair_reads object_reads hexadecimal_reads 32 object_free) 32 hart_free
 
 object_step : Reads hart_and_object (λ p. hart_word p.0 ++ 32 ∷ object_word p.1) (λ p. Fits32 p.0 × Fits64 p.1)
@@ -181,20 +195,25 @@ step-back words.Ended w event e = variant-back ended_step _ words_of IsWritable 
 -- each kind
 
 pub grant-there : (g h o s : ℕ) (choice : Choice) (value : ℕ) → IsWritable (lines.Grant g h o s choice value)
-    → step_behind words.Grant (grant_word g ++ 32 ∷ (hart_word h ++ 32 ∷ (object_word o ++ 32 ∷ (slot_word s ++ 32 ∷ (codes "-> " ++ granted_text choice value))))) ≡ Some (lines.Grant g h o s choice value)
+    → step_behind words.Grant (grant_word g ++ 32 ∷
+    (hart_word h ++ 32 ∷ (object_word o ++ 32 ∷ (slot_word s ++ 32 ∷ (codes "-> " ++ granted_text choice value))))) ≡ Some
+    (lines.Grant g h o s choice value)
 grant-there g h o s choice value fits = rw (granted_step.there (g, (h, (o, (s, (choice, value))))) fits) refl
 
 pub bound-there : (g : ℕ) → Fits64 g → step_behind words.Bound (grant_word g) ≡ Some (lines.Bound g)
 bound-there g fits = rw (grant_reads.there g fits) refl
 
-pub lost-there : (g saw : ℕ) → Fits64 g × Fits64 saw → step_behind words.Lost (grant_word g ++ 32 ∷ (codes "saw=" ++ hex_text saw)) ≡ Some (lines.Lost g saw)
+pub lost-there : (g saw : ℕ) → Fits64 g × Fits64 saw
+    → step_behind words.Lost (grant_word g ++ 32 ∷ (codes "saw=" ++ hex_text saw)) ≡ Some (lines.Lost g saw)
 lost-there g saw fits = rw (lost_step.there (g, saw) fits) refl
 
 pub unresolved-there : (h o s : ℕ) (choice : Choice) → IsWritable (lines.Unresolved h o s choice)
-    → step_behind words.Unresolved (hart_word h ++ 32 ∷ (object_word o ++ 32 ∷ (slot_word s ++ 32 ∷ unresolved_text choice))) ≡ Some (lines.Unresolved h o s choice)
+    → step_behind words.Unresolved (hart_word h ++ 32 ∷ (object_word o ++ 32 ∷ (slot_word s ++ 32 ∷ unresolved_text choice))) ≡ Some
+    (lines.Unresolved h o s choice)
 unresolved-there h o s choice fits = rw (unresolved_step.there (h, (o, (s, choice))) fits) refl
 
-pub tls-there : (h o a : ℕ) → IsWritable (lines.Tls h o a) → step_behind words.Tls (hart_word h ++ 32 ∷ (object_word o ++ 32 ∷ hex_text a)) ≡ Some (lines.Tls h o a)
+pub tls-there : (h o a : ℕ) → IsWritable (lines.Tls h o a)
+    → step_behind words.Tls (hart_word h ++ 32 ∷ (object_word o ++ 32 ∷ hex_text a)) ≡ Some (lines.Tls h o a)
 tls-there h o a fits = rw (tls_step.there (h, (o, a)) fits) refl
 
 pub init-there : (h o : ℕ) → IsWritable (lines.Init h o) → step_behind words.Init (hart_word h ++ 32 ∷ object_word o) ≡ Some (lines.Init h o)
@@ -203,5 +222,6 @@ init-there h o fits = rw (object_step.there (h, o) fits) refl
 pub fini-there : (h o : ℕ) → IsWritable (lines.Fini h o) → step_behind words.Fini (hart_word h ++ 32 ∷ object_word o) ≡ Some (lines.Fini h o)
 fini-there h o fits = rw (object_step.there (h, o) fits) refl
 
-pub ended-there : (h : ℕ) (end : HartEnd) → IsWritable (lines.Ended h end) → step_behind words.Ended (hart_word h ++ 32 ∷ end_text end) ≡ Some (lines.Ended h end)
+pub ended-there : (h : ℕ) (end : HartEnd) → IsWritable (lines.Ended h end)
+    → step_behind words.Ended (hart_word h ++ 32 ∷ end_text end) ≡ Some (lines.Ended h end)
 ended-there h end fits = rw (ended_step.there (h, end) fits) refl

@@ -1,5 +1,6 @@
 -- What words with numbers and names are read back as.
-use Rattle.std.proofs.Common.{◌≡◌, ℕ, ◌+◌, ◌<◌, ◌≤◌, ◌^◌, Bool, true, false, ◌==◌, List, [], ◌∷◌, ◌++◌, Option, Some, None, option_map, refl, sym, ap, ◌∙◌, subst, arith, inl, inr, codes, bytes_eq, append_assoc, All}
+use Rattle.std.proofs.Common.{◌≡◌, ℕ, ◌+◌, ◌<◌, ◌≤◌, ◌^◌, Bool, true, false, ◌==◌, List, [], ◌∷◌, ◌++◌}
+use Rattle.std.proofs.Common.{Option, Some, None, option_map, refl, sym, ap, ◌∙◌, subst, arith, inl, inr, codes, bytes_eq, append_assoc, All}
 use Rattle.std.proofs.lemmas.Bool.{and_from, cases_Bool, true≢false}
 use Rattle.std.proofs.lemmas.Option.{none-some, same_Some}
 use Rattle.std.proofs.lemmas.Slice.Eq.{bytes_eq-Decides}
@@ -58,7 +59,8 @@ decimal32_free mark off n h = decimal_free mark off n (omega arith)
 pub decimal8_free : (mark : ℕ) → is_digit_byte mark ≡ false → (n : ℕ) → Fits8 n → free mark (decimal n) ≡ true
 decimal8_free mark off n h = decimal_free mark off n (omega arith)
 
-pub hex_free : (mark : ℕ) → is_digit_byte mark ≡ false → free mark (codes "0x") ≡ true → (n : ℕ) → Fits64 n → free mark (hex_text n) ≡ true
+pub hex_free : (mark : ℕ) → is_digit_byte mark ≡ false → free mark (codes "0x") ≡ true → (n : ℕ) → Fits64 n
+    → free mark (hex_text n) ≡ true
 hex_free mark off front n h = free-append mark (codes "0x") (digits 16 false n) front (digits_free 16 sixteen mark off n h)
 
 -- a definition
@@ -83,7 +85,8 @@ made_reads {read = read} {text = text} {Fits = Fits} r make parts made split = r
 }
 
 -- the same texts
-pub told_so : {A : Type 0} {read : List ℕ → Option A} {text other : A → List ℕ} {Fits : A → Type 0} → ((a : A) → text a ≡ other a) → Reads read text Fits → Reads read other Fits
+pub told_so : {A : Type 0} {read : List ℕ → Option A} {text other : A → List ℕ} {Fits : A → Type 0} → ((a : A) → text a ≡ other a)
+    → Reads read text Fits → Reads read other Fits
 told_so {read = read} same r = record {
   there = λ a h. ap read (sym (same a)) ∙ r.there a h;
   back = λ w a e. let it = r.back w a e in (it.0, sym (same a) ∙ it.1);
@@ -102,7 +105,8 @@ ModuleFits place = Fits64 place.number × Fits64IfSome place.offset
 
 pub place_reads : Reads place module_text ModuleFits
 place_reads =
-    made_reads (with_option_reads decimal_reads hexadecimal_reads 43 (decimal_free 43 refl) offset_text Fits64IfSome refl (λ n. refl) tt (λ n h. h) (λ n h. h))
+    made_reads (with_option_reads decimal_reads hexadecimal_reads 43 (decimal_free 43 refl) offset_text Fits64IfSome refl (λ n. refl) tt (λ n h. h)
+    (λ n h. h))
     place_of_parts (λ place. (place.number, place.offset)) (λ place. refl) (λ p. refl)
 
 -- four texts with two marks between, taken together from the right or from the left
@@ -116,11 +120,13 @@ new_line_reads = told_so (λ o. regroup (decimal o.serial) (name_text o.path) (h
     new_line_of_parts (λ o. (o.serial, (o.path, (o.base, o.«module»)))) (λ o. refl) (λ p. refl))
   where
     mapped_reads : Reads (with_option 47 hexadecimal place) (λ p. hex_text p.0 ++ place_text p.1) (λ p. Fits64 p.0 × PlaceFits p.1)
-    mapped_reads = with_option_reads hexadecimal_reads place_reads 47 (hex_free 47 refl refl) place_text PlaceFits refl (λ p. refl) tt (λ p h. h) (λ p h. h)
+    mapped_reads =
+        with_option_reads hexadecimal_reads place_reads 47 (hex_free 47 refl refl) place_text PlaceFits refl (λ p. refl) tt (λ p h. h) (λ p h. h)
 
 place_free : (m : Option TlsPlace) → PlaceFits m → free 44 (place_text m) ≡ true
 place_free None h = refl
-place_free (Some place) h = free-append 44 (decimal place.number) (offset_text place.offset) (decimal_free 44 refl place.number h.0) (offset_free place.offset h.1)
+place_free (Some place) h =
+    free-append 44 (decimal place.number) (offset_text place.offset) (decimal_free 44 refl place.number h.0) (offset_free place.offset h.1)
   where
     offset_free : (offset : Option ℕ) → Fits64IfSome offset → free 44 (offset_text offset) ≡ true
     offset_free None h = refl

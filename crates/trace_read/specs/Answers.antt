@@ -18,7 +18,8 @@ unfoldable pub asked : List ℕ → Option (Option ℕ)
 asked text = if bytes_eq text (codes "new") then Some None else option_map Some (numeral 10 text)
 
 abbrev pub done_parts : List ℕ → Option (ℕ × (ℕ × List NewLine))
-done_parts text = pair 32 (labelled (decimal_in (2 ^ 32)) (codes "in=")) (pair 32 (labelled (numeral 10) (codes "root=")) (labelled (list_of new_line) (codes "new="))) text
+done_parts text =
+    pair 32 (labelled (decimal_in (2 ^ 32)) (codes "in=")) (pair 32 (labelled (numeral 10) (codes "root=")) (labelled (list_of new_line) (codes "new="))) text
 
 abbrev pub opened : List ℕ → Option OpenLine
 opened text = option_map (λ p. opens.Done p.0 p.1.0 p.1.1) (done_parts text)
@@ -37,7 +38,9 @@ open_answer text =
     else no_or_ok (λ rest. option_map opens.Refused (fault_of rest)) opened text
 
 unfoldable pub close_answer : List ℕ → Option CloseAnswer
-close_answer text = no_or_ok (λ rest. option_map closes.Refused (fault_of rest)) (λ rest. option_map closes.Done (labelled (list_of (numeral 10)) (codes "dying=") rest)) text
+close_answer text =
+    no_or_ok (λ rest. option_map closes.Refused (fault_of rest))
+    (λ rest. option_map closes.Done (labelled (list_of (numeral 10)) (codes "dying=") rest)) text
 
 abbrev pub found_parts : List ℕ → Option ((ℕ × ℕ) × ℕ)
 found_parts text = pair 32 definition hexadecimal text

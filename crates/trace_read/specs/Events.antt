@@ -32,7 +32,8 @@ event_word text = named text event_words
 
 abbrev pub open_event : List ℕ → Option EventLine
 open_event text = option_map (λ p. lines.Open p.0 (record { ns = p.1.0; name = p.1.1.0; flags = p.1.1.1.0 }) p.1.1.1.1)
-    (pair 32 hart (pair 32 (labelled asked (codes "ns=")) (pair 32 (labelled some_name (codes "name=")) (pair 32 (labelled hexadecimal (codes "flags=")) open_answer))) text)
+    (pair 32 hart (pair 32 (labelled asked (codes "ns="))
+    (pair 32 (labelled some_name (codes "name=")) (pair 32 (labelled hexadecimal (codes "flags=")) open_answer))) text)
 
 abbrev pub close_event : List ℕ → Option EventLine
 close_event text = option_map (λ p. lines.Close p.0 p.1.0 p.1.1) (pair 32 hart (pair 32 (labelled hexadecimal (codes "handle=")) close_answer) text)

@@ -37,7 +37,8 @@ bare_fault text =
     else (if bytes_eq text (codes "name-too-long") then Some faults.NameTooLong else None)
 
 abbrev pub not_accepted : List ℕ → Option DlFault
-not_accepted text = option_map (λ p. faults.NotAccepted p.0 (record { rule = p.1.0; number = p.1.1 })) (pair 32 name_of (pair 32 (decimal_in (2 ^ 8)) (numeral 10)) text)
+not_accepted text =
+    option_map (λ p. faults.NotAccepted p.0 (record { rule = p.1.0; number = p.1.1 })) (pair 32 name_of (pair 32 (decimal_in (2 ^ 8)) (numeral 10)) text)
 
 abbrev pub missing_version : List ℕ → Option DlFault
 missing_version text = option_map (λ p. faults.MissingVersion p.0 p.1.0 p.1.1) (pair 32 name_of (pair 32 name_of name_of) text)

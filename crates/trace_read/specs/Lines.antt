@@ -12,7 +12,8 @@ use Rattle.link_event.specs.declared.event_line.OpenLine.TheVariants as opens
 use Rattle.trace_text.specs.Said.{said, hart_word, object_word}
 use Rattle.trace_text.specs.Lists.{place_text, byte_digits, serials_text}
 use Rattle.trace_text.specs.Ends.{end_text}
-use Rattle.trace_text.specs.Lines.{refused_text, asked_text, close_answer_text, sym_text, granted_text, unresolved_text, grant_word, slot_word, told_text, unmapped_text}
+use Rattle.trace_text.specs.Lines.{refused_text, asked_text, close_answer_text, sym_text, granted_text, unresolved_text, grant_word, slot_word}
+use Rattle.trace_text.specs.Lines.{told_text, unmapped_text}
 use Rattle.trace_read.specs.Fits.{IsWritable}
 
 -- a new object: its serial, its path, where it is mapped, and its module
@@ -31,7 +32,8 @@ open_line_text (opens.Refused fault) = refused_text fault
 
 abbrev pub open_words : ℕ → OpenAsk → OpenLine → List ℕ
 open_words hart ask answer =
-    said (codes "open" ∷ hart_word hart ∷ (codes "ns=" ++ asked_text ask.ns) ∷ (codes "name=" ++ name_or_none ask.name) ∷ (codes "flags=" ++ hex_text ask.flags) ∷ [])
+    said (codes "open" ∷ hart_word hart ∷ (codes "ns=" ++ asked_text ask.ns) ∷ (codes "name=" ++ name_or_none ask.name) ∷
+    (codes "flags=" ++ hex_text ask.flags) ∷ [])
     (open_line_text answer)
 
 -- an event, without the line feed

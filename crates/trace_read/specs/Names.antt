@@ -38,7 +38,8 @@ unescape percent [] = None
 unescape (high h) [] = None
 unescape plain (c ∷ rest) = if c == 37 then unescape percent rest else (if is_plain c then option_map (λ name. c ∷ name) (unescape plain rest) else None)
 unescape percent (c ∷ rest) = digit 16 c >>= λ h. unescape (high h) rest
-unescape (high h) (c ∷ rest) = digit 16 c >>= λ l. if is_plain (16 * h + l) then None else option_map (λ name. (16 * h + l) ∷ name) (unescape plain rest)
+unescape (high h) (c ∷ rest) =
+    digit 16 c >>= λ l. if is_plain (16 * h + l) then None else option_map (λ name. (16 * h + l) ∷ name) (unescape plain rest)
 
 unfoldable pub name_of : List ℕ → Option (List ℕ)
 name_of text =

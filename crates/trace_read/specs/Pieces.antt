@@ -50,7 +50,8 @@ abbrev pub pair : {A B : Type 0} → ℕ → (List ℕ → Option A) → (List �
 pair mark first second text = before mark first text >>= λ p. second p.1 >>= λ b. Some (p.0, b)
 
 -- a value, and another one where a mark follows
-abbrev pub option_by : {A B : Type 0} → (List ℕ → Option A) → (List ℕ → Option B) → List ℕ → Option (List ℕ × List ℕ) → Option (A × Option B)
+abbrev pub option_by : {A B : Type 0} → (List ℕ → Option A) → (List ℕ → Option B) → List ℕ → Option (List ℕ × List ℕ)
+    → Option (A × Option B)
 option_by first second text None = first text >>= λ a. Some (a, None)
 option_by first second text (Some p) = first p.0 >>= λ a. second p.1 >>= λ b. Some (a, Some b)
 

@@ -54,7 +54,9 @@ refused text =
     else option_map (λ p. choices.Def p.0 p.1) (labelled definition (codes "not-code ") text)
 
 abbrev pub grant_step : List ℕ → Option EventLine
-grant_step text = option_map (λ p. lines.Grant p.0 p.1.0 p.1.1.0 p.1.1.1.0 p.1.1.1.1.0 p.1.1.1.1.1) (pair 32 «grant» (pair 32 hart (pair 32 object (pair 32 slot (labelled granted (codes "-> "))))) text)
+grant_step text =
+    option_map (λ p. lines.Grant p.0 p.1.0 p.1.1.0 p.1.1.1.0 p.1.1.1.1.0 p.1.1.1.1.1)
+    (pair 32 «grant» (pair 32 hart (pair 32 object (pair 32 slot (labelled granted (codes "-> "))))) text)
 
 abbrev pub lost_step : List ℕ → Option EventLine
 lost_step text = option_map (λ p. lines.Lost p.0 p.1) (pair 32 «grant» (labelled hexadecimal (codes "saw=")) text)
