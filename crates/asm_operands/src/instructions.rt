@@ -11,6 +11,7 @@ ghost use Rattle.asm_grammar.specs.Operands.{one_register, two_registers, three_
 ghost use Rattle.asm_grammar.specs.Operands.{register_address, register_base, registers_base, jump, fence, one_name, register_name, registers_name};
 ghost use Rattle.asm_grammar.specs.Operands.{of_registers, of_memory, targeted, addressed, instruction};
 
+use asm_parts::zero;
 use asm_statement::{Fence, FenceSet, Instruction, Number};
 use asm_words::{
     AddressForm, Form, MemoryForm, RegisterForm, TargetForm, cut, fence_set, name_of, number_of,
@@ -19,15 +20,6 @@ use asm_words::{
 use ld_base::Name;
 use rv_isa::Reg;
 use std::alloc::{AllocError, Global};
-
-pub(crate) fn zero() -> Number
-    ensures { result ≡ zero }
-{
-    Number {
-        is_negative: false,
-        magnitude: Some(0),
-    }
-}
 
 #[tactic(auto, unfolding(asm_grammar::specs::Operands::parenthesised))]
 fn parenthesised(text: &[u8]) -> Option<(&[u8], &[u8])>
@@ -87,13 +79,13 @@ fn register_operand(text: &[u8]) -> Option<Reg>
     register(trimmed(text))
 }
 
-pub(crate) fn number_operand(text: &[u8]) -> Option<Number>
+fn number_operand(text: &[u8]) -> Option<Number>
     ensures { result ≡ number (trimmed text.now) }
 {
     number_of(trimmed(text))
 }
 
-pub(crate) fn name_operand(alloc: Global, text: &[u8]) -> Result<Option<Name>, AllocError>
+fn name_operand(alloc: Global, text: &[u8]) -> Result<Option<Name>, AllocError>
     ensures { IfOk result (λ n. n ≡ name (trimmed text.now)) }
 {
     name_of(alloc, trimmed(text))

@@ -15,7 +15,9 @@ ghost use Rattle.ld_base.specs.declared.fault.AsmCause.TheVariants as causes;
 ghost use Rattle.asm_grammar.specs.Grammar.{SaysSource};
 ghost use Rattle.asm_text.specs.Faults.{TellsOfLine, TellsOfLines, TellsOfSource, TellsOf};
 
-use asm_operands::{directive, instruction, operands_of};
+use asm_directives::directive;
+use asm_operands::instruction;
+use asm_parts::operands_of;
 use asm_statement::{AsmFault, Line, Statement, Statements};
 use asm_words::{
     DirectiveWord, Form, after_blanks, cut, cut_blank, directive_word, is_name, mnemonic, trimmed,

@@ -1,6 +1,6 @@
 use Rattle.std.proofs.Common.{◌∙◌, sym}
-use Rattle.asm_operands.proofs.Trimmed.{of_parts}
-use Rattle.asm_operands.proofs.parts.operands_of.Goals as goal
+use Rattle.asm_parts.proofs.Trimmed.{of_parts}
+use Rattle.asm_parts.proofs.parts.operands_of.Goals as goal
 
 pub returns-else-is_empty : goal.returns-else-is_empty
 returns-else-is_empty c =

@@ -1,6 +1,6 @@
 use Rattle.std.proofs.Common.{◌≡◌, length, map}
 use Rattle.asm_grammar.specs.Directives.{stands_in}
-use Rattle.asm_operands.proofs.directives.stands_in.Given as goal
+use Rattle.asm_directives.proofs.directives.stands_in.Given as goal
 
 -- the words that are left decide
 abbrev pub invariant-loop-words : goal.invariant-loop-words

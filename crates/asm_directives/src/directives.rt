@@ -10,8 +10,7 @@ ghost use Rattle.asm_grammar.specs.Directives.{sum, doubleword, quoted, asciz, a
 ghost use Rattle.asm_words.specs.Text.{trimmed};
 ghost use Rattle.std.specs.List.{list_all};
 
-use crate::instructions::zero;
-use crate::parts::{operands_of, words_of};
+use asm_parts::{operands_of, words_of, zero};
 use asm_statement::{Alignment, Directive, Doubleword, Need, Number, Symver};
 use asm_words::{
     DirectiveWord, LoneWord, NameWord, NumberWord, after_blanks, cut, cut_blank, hash, kind,

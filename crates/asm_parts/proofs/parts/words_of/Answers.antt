@@ -2,7 +2,7 @@ use Rattle.std.proofs.Common.{◌==◌, not, length, rules, tests}
 use Rattle.std.proofs.lemmas.Iterator.Consumers.{map_from_collect, YieldsList-from_filter, YieldsList-at}
 use Rattle.std.proofs.lemmas.Iterator.Splits.{YieldsList-from_slice_split}
 use Rattle.asm_words.specs.Text.{is_blank}
-use Rattle.asm_operands.proofs.parts.words_of.Goals as goal
+use Rattle.asm_parts.proofs.parts.words_of.Goals as goal
 
 pub returns : goal.returns
 returns c = map_from_collect _ c.collect.ensures.ran

@@ -1,7 +1,7 @@
 use Rattle.std.proofs.Common.{◌≡◌, length, map}
 use Rattle.std.specs.List.{list_all}
 use Rattle.asm_grammar.specs.Directives.{is_flag}
-use Rattle.asm_operands.proofs.directives.are_flags.Given as goal
+use Rattle.asm_directives.proofs.directives.are_flags.Given as goal
 
 -- the words that are left decide
 abbrev pub invariant-loop-words : goal.invariant-loop-words
