@@ -6,76 +6,100 @@ use std::alloc::{AllocError, Global};
 use std::fs;
 use std::test::Fail;
 
-fn file(alloc: Global, path: &[u8], bytes: &[u8]) -> Result<File, AllocError> {
-    Ok(File {
-        path: Name::new(alloc, path)?,
-        bytes: Bytes::from_slice(alloc, bytes)?,
-    })
+fn push_file(
+    alloc: Global,
+    files: &mut Files,
+    path: &[u8],
+    bytes: &[u8],
+) -> Result<(), AllocError> {
+    let path = Name::new(alloc, path)?;
+    let bytes = Bytes::from_slice(alloc, bytes)?;
+    files.push(File { path, bytes })
+}
+
+fn push_files(alloc: Global, files: &mut Files) -> Result<(), AllocError> {
+    push_file(alloc, files, b"a", b"first")?;
+    push_file(alloc, files, b"b", b"other")?;
+    push_file(alloc, files, b"a", b"second")
+}
+
+/// A library whose second read fails.
+fn library(alloc: Global) -> Result<MemLibrary, AllocError> {
+    let mut files = Files::new(alloc);
+    push_files(alloc, &mut files)?;
+    let fail = Calls::from_slice(alloc, &[2])?;
+    Ok(MemLibrary::new(alloc, files, fail))
 }
 
 /// Shows that a library may go to another thread.
 fn is_send<L: Library + Send>(_library: &L) {}
 
+/// Whether a library gives these bytes at a path.
+fn gives<L: Library>(library: &mut L, path: &[u8], bytes: &[u8]) -> bool {
+    match library.read(path) {
+        Ok(read) => read.as_slice() == bytes,
+        Err(_) => false,
+    }
+}
+
+/// Whether a library gives this error at a path.
+fn fails<L: Library>(library: &mut L, path: &[u8], error: ReadError) -> bool {
+    match library.read(path) {
+        Ok(_) => false,
+        Err(given) => given == error,
+    }
+}
+
 #[test]
 fn a_library_in_memory_gives_its_first_file_of_a_path(rt: HostRuntime) -> Result<(), Fail> {
-    let alloc = rt.alloc();
-    let mut files = Files::new(alloc);
-    files.push(file(alloc, b"a", b"first")?)?;
-    files.push(file(alloc, b"b", b"other")?)?;
-    files.push(file(alloc, b"a", b"second")?)?;
-    let mut library = MemLibrary::new(alloc, files, Calls::from_slice(alloc, &[2])?);
+    let mut library = library(rt.alloc())?;
     is_send(&library);
-    assert_eq!(rt; library.read(b"a")?.as_slice(), b"first".as_slice());
-    assert_eq!(rt; library.read(b"a").err(), Some(ReadError::Failed));
-    assert_eq!(rt; library.read(b"b")?.as_slice(), b"other".as_slice());
-    assert_eq!(rt; library.read(b"c").err(), Some(ReadError::Missing));
+    assert!(rt; gives(&mut library, b"a", b"first"));
+    assert!(rt; fails(&mut library, b"a", ReadError::Failed));
+    assert!(rt; gives(&mut library, b"b", b"other"));
+    assert!(rt; fails(&mut library, b"c", ReadError::Missing));
     assert_eq!(rt; (library.faults(), library.misses()), (1, 1));
     Ok(())
+}
+
+/// Whether a sink takes all of a text.
+fn takes<K: Sink>(sink: &mut K, text: &[u8]) -> bool {
+    put_all(sink, text).is_ok()
 }
 
 #[test]
 fn a_sink_in_memory_takes_all_of_a_text(rt: HostRuntime) -> Result<(), Fail> {
     let alloc = rt.alloc();
     let mut sink = MemSink::new(alloc, Calls::from_slice(alloc, &[2])?);
-    put_all(&mut sink, b"one ")?;
+    assert!(rt; takes(&mut sink, b"one "));
     assert_eq!(rt; put_all(&mut sink, b"two ").err(), Some(WriteError::Failed));
-    put_all(&mut sink, b"three")?;
+    assert!(rt; takes(&mut sink, b"three"));
     assert_eq!(rt; sink.bytes(), b"one three".as_slice());
     Ok(())
 }
 
 #[test]
 fn a_folder_gives_real_files(rt: HostRuntime) -> Result<(), Fail> {
-    let alloc = rt.alloc();
-    let mut library = FolderLibrary::new(rt, alloc);
+    let mut library = FolderLibrary::new(rt, rt.alloc());
     is_send(&library);
-    fs::write(&rt, "real", b"some bytes")?;
-    assert_eq!(rt; library.read(b"real")?.as_slice(), b"some bytes".as_slice());
-    fs::remove_file(&rt, "real")?;
-    assert_eq!(rt;
-        library.read(b"real").err(),
-        Some(ReadError::Missing),
-        "removed"
-    );
-    assert_eq!(rt;
-        library.read(b"\xff").err(),
-        Some(ReadError::Missing),
+    let written = fs::write(&rt, "real", b"some bytes").is_ok();
+    assert!(rt; written && gives(&mut library, b"real", b"some bytes"));
+    let removed = fs::remove_file(&rt, "real").is_ok();
+    assert!(rt; removed && fails(&mut library, b"real", ReadError::Missing));
+    assert!(rt;
+        fails(&mut library, b"\xff", ReadError::Missing),
         "no UTF-8"
     );
-    assert_eq!(rt;
-        library.read(b".").err(),
-        Some(ReadError::Failed),
-        "a folder"
-    );
-    assert_eq!(rt; library.read(b"/dev/zero")?.len(), READ_LIMIT);
+    assert!(rt; fails(&mut library, b".", ReadError::Failed), "a folder");
+    let zeros = library.read(b"/dev/zero").map(|bytes| bytes.len()).ok();
+    assert_eq!(rt; zeros, Some(READ_LIMIT));
     Ok(())
 }
 
 #[test]
 fn a_writer_takes_what_it_has_room_for(rt: HostRuntime) -> Result<(), Fail> {
-    let alloc = rt.alloc();
-    let mut text = Vec::new(alloc);
-    put_all(&mut IoSink::new(&mut text), b"whole")?;
+    let mut text = Vec::new(rt.alloc());
+    assert!(rt; takes(&mut IoSink::new(&mut text), b"whole"));
     assert_eq!(rt; text.as_slice(), b"whole".as_slice());
     let mut room = [0u8; 3];
     let answer = put_all(&mut IoSink::new(&mut room[..]), b"part");
