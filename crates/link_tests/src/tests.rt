@@ -1,5 +1,2 @@
 mod basics;
-mod loads;
-mod objects;
-mod scopes;
 mod sources;

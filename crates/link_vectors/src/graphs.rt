@@ -1,15 +1,15 @@
 //! Objects and what leads from one to another.
 //!
-//! A list is written with commas, as `1,2`, or as `-` where it is empty; an edge as `1>2`. What may fail
-//! is made one at a time, and handed on: a list that is kept over many calls that may fail is dear to
-//! prove.
+//! An edge is written as `1>2`. What may fail is made one at a time, and handed on: a list that is
+//! kept over many calls that may fail is dear to prove.
 
+use crate::lists::{push_serials, serial, serials, written};
 use close_mark::unneeded;
 use init_order::{components_of, fini_order, init_order};
 use ld_base::{Serial, Serials};
 use link_graph::{Edge, Edges, Graph};
 use std::alloc::Global;
-use test_file::{Fault, Words, show_some, whole};
+use test_file::{Fault, Words, show_some};
 
 /// The nodes that no chain of edges leads to from a root: of nodes, edges and roots.
 pub fn unneeded_of(alloc: Global, words: &mut Words) -> Result<String, Fault> {
@@ -74,26 +74,6 @@ fn read_graph(graph: &mut Graph, nodes: &str, edges: &str, roots: &str) -> Resul
     push_serials(&mut graph.roots, roots)
 }
 
-fn serial(word: &str) -> Result<Serial, Fault> {
-    Ok(Serial::new(whole(word).ok_or(Fault::Unclear)?))
-}
-
-fn serials(alloc: Global, list: &str) -> Result<Serials, Fault> {
-    let mut serials = Serials::new(alloc);
-    push_serials(&mut serials, list)?;
-    Ok(serials)
-}
-
-fn push_serials(serials: &mut Serials, list: &str) -> Result<(), Fault> {
-    if list == "-" {
-        return Ok(());
-    }
-    for word in list.split(',') {
-        serials.push(serial(word)?)?;
-    }
-    Ok(())
-}
-
 fn push_edges(edges: &mut Edges, list: &str) -> Result<(), Fault> {
     if list == "-" {
         return Ok(());
@@ -110,26 +90,4 @@ fn edge(word: &str) -> Result<Edge, Fault> {
         source: serial(source)?,
         target: serial(target)?,
     })
-}
-
-/// A list of serials, as it is written.
-fn written(alloc: Global, serials: &[Serial]) -> Result<String, Fault> {
-    let mut text = String::new(alloc);
-    match serials.split_first() {
-        Some((first, rest)) => {
-            let first = first.number();
-            write!(text, "{first}")?;
-            write_more(&mut text, rest)?;
-        }
-        None => text.push_str("-")?,
-    }
-    Ok(text)
-}
-
-fn write_more(text: &mut String, serials: &[Serial]) -> Result<(), Fault> {
-    for serial in serials {
-        let number = serial.number();
-        write!(text, ",{number}")?;
-    }
-    Ok(())
 }

@@ -3,7 +3,7 @@
 //! The object and its bindings are those of `relocator/specs/Example.antt`, and that they are is
 //! proved: so they are what `make_image` and `relocate` ask for.
 
-ghost use Rattle.std.specs.Prelude.{◌≡◌, IfOk};
+ghost use Rattle.std.specs.Prelude.{◌≡◌, [], IfOk, OnOk};
 ghost use Rattle.relocator.specs.Example.{bytes_of_data, code, data_segment, defined, example, example_base, example_bindings, example_places};
 ghost use Rattle.relocator.specs.Example.{example_serial, lazily, own, symbol, undefined};
 
@@ -23,6 +23,10 @@ const BASE: u64 = 0x30000;
 pub fn word(alloc: Global, words: &mut Words) -> Result<String, Fault> {
     let place = words.number()?;
     let image = relocated(alloc)?;
+    word_at(alloc, &image, place)
+}
+
+fn word_at(alloc: Global, image: &Image, place: u64) -> Result<String, Fault> {
     let offset = place.wrapping_add(BASE).wrapping_sub(image.start);
     let index = usize::try_from(offset / 8).map_err(|_| Fault::Unclear)?;
     match image.words.as_slice().get(index) {
@@ -61,19 +65,25 @@ fn bound_image(alloc: Global, object: &Object, bindings: &Bindings) -> Result<Im
 fn object(alloc: Global) -> Result<Object, AllocError>
     ensures { IfOk result (λ o. o ≡ example) }
 {
+    let segments = segments(alloc)?;
+    let symbols = symbols(alloc)?;
+    let relocs = relocs(alloc)?;
+    let slots = [reloc(5, 0x3010, 1, 0), reloc(5, 0x3018, 1, 0)];
+    let plt_relocs = Relocs::from_slice(alloc, &slots)?;
+    let relr = Places::from_slice(alloc, &[0x3040, 0x3088])?;
     Ok(Object {
         kind: Kind::Dyn,
         entry: 0,
         soname: None,
         needed: Names::new(alloc),
-        segments: segments(alloc)?,
-        symbols: symbols(alloc)?,
+        segments,
+        symbols,
         first_exported: 1,
         has_versym: false,
         verdefs: Sequence::new(alloc),
         verneeds: Sequence::new(alloc),
-        relocs: relocs(alloc)?,
-        plt_relocs: Relocs::from_slice(alloc, &[reloc(5, 0x3010, 1, 0), reloc(5, 0x3018, 1, 0)])?,
+        relocs,
+        plt_relocs,
         pltgot: Some(0x3000),
         preinit: None,
         init: None,
@@ -90,7 +100,7 @@ fn object(alloc: Global) -> Result<Object, AllocError>
             bind_now: false,
             nodelete: false,
         },
-        relr: Places::from_slice(alloc, &[0x3040, 0x3088])?,
+        relr,
         dynamic: 0,
     })
 }
@@ -213,6 +223,16 @@ fn bindings(alloc: Global) -> Result<Bindings, AllocError>
     ensures { IfOk result (λ b. b ≡ example_bindings) }
 {
     let mut bindings = Bindings::new(alloc);
+    match push_bindings(alloc, &mut bindings) {
+        Ok(()) => Ok(bindings),
+        Err(error) => Err(error),
+    }
+}
+
+fn push_bindings(alloc: Global, bindings: &mut Bindings) -> Result<(), AllocError>
+    requires { bindings.old ≡ [] }
+    ensures { OnOk result (bindings.new ≡ example_bindings) }
+{
     bindings.push(defined(alloc, 0x40000, 8, &[])?)?;
     bindings.push(undefined(alloc))?;
     bindings.push(defined(alloc, 0x10, 8, &[])?)?;
@@ -224,8 +244,7 @@ fn bindings(alloc: Global) -> Result<Bindings, AllocError>
     bindings.push(undefined(alloc))?;
     bindings.push(defined(alloc, u64::MAX, 8, &[])?)?;
     bindings.push(lazily(alloc))?;
-    bindings.push(defined(alloc, 0x45678, 8, &[])?)?;
-    Ok(bindings)
+    bindings.push(defined(alloc, 0x45678, 8, &[])?)
 }
 
 fn defined(alloc: Global, value: u64, size: u64, copied: &[u8]) -> Result<Binding, AllocError>

@@ -1,5 +1,6 @@
-//! Calls of the functions that link, over plain data, and the values that they have to give: graphs of
-//! objects, thread-local storage, images.
+//! Calls of the functions that link, over plain data, and the values that they have to give: matching
+//! within an object, searches and loads beside other objects, graphs of objects, thread-local storage,
+//! images.
 //!
 //! The lines stand in plain files, which the words of the program name: docs/EXAMPLES.md says how to
 //! write one. For each file one line says that all its calls hold, or how many do; each that doesn't is
@@ -9,21 +10,22 @@
 mod calls;
 mod graphs;
 mod images;
+mod lists;
+mod loads;
+mod matching;
+mod objects;
+mod scene;
 mod tls;
 
 use calls::LinkCalls;
 use std::{env, io};
-use test_file::{Sheet, text_at};
+use test_file::said_of;
 
 fn main(rt: HostRuntime) -> io::Result<()> {
     let alloc = rt.alloc();
     for path in env::args(&rt)?.skip(1) {
-        let text = match text_at(&rt, alloc, path.as_str())? {
-            Some(text) => {
-                Sheet::new(alloc, LinkCalls::new(alloc)).read(path.as_str(), text.as_str())?
-            }
-            None => format!(in alloc; "{path}: can't be read\n")?,
-        };
+        let calls = LinkCalls::new(alloc);
+        let text = said_of(&rt, alloc, path.as_str(), calls)?;
         print!(rt; "{text}")?;
     }
     Ok(())

@@ -18,6 +18,6 @@ pub use answer::{show, show_some};
 pub use fault::Fault;
 pub use number::whole;
 pub use report::Report;
-pub use sheet::{Calls, Sheet};
+pub use sheet::{Calls, Sheet, said_of};
 pub use source::{text_at, without_remark};
 pub use words::Words;

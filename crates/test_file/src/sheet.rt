@@ -1,7 +1,8 @@
 //! A file of calls, read line by line.
 
-use crate::{Fault, Report, whole, without_remark};
+use crate::{Fault, Report, text_at, whole, without_remark};
 use std::alloc::{AllocError, Global};
+use std::rt::Files;
 
 /// The calls that the lines of a file may name.
 pub trait Calls {
@@ -25,14 +26,22 @@ impl<C: Calls + Drop> Sheet<C> {
 
     /// Makes all calls, and says which of them don't hold.
     pub fn read(mut self, path: &str, text: &str) -> Result<String, AllocError> {
+        let read = self.read_lines(path, text);
+        let Sheet { report, .. } = self;
+        match read {
+            Ok(()) => report.close(path),
+            Err(error) => Err(error),
+        }
+    }
+
+    fn read_lines(&mut self, path: &str, text: &str) -> Result<(), AllocError> {
         for (index, line) in text.lines().enumerate() {
             let line = without_remark(line.trim());
             if !line.is_empty() {
                 self.read_line(path, index.saturating_add(1), line)?;
             }
         }
-        let Sheet { report, .. } = self;
-        report.close(path)
+        Ok(())
     }
 
     fn read_line(&mut self, path: &str, number: usize, line: &str) -> Result<(), AllocError> {
@@ -53,6 +62,19 @@ impl<C: Calls + Drop> Sheet<C> {
             self.report.differs(path, number, answer.as_str())?;
         }
         Ok(())
+    }
+}
+
+/// What is said of the file of calls at a path.
+pub fn said_of<R: Files + Clone + Drop + Send, C: Calls + Drop>(
+    rt: &R,
+    alloc: Global,
+    path: &str,
+    calls: C,
+) -> Result<String, AllocError> {
+    match text_at(rt, alloc, path)? {
+        Some(text) => Sheet::new(alloc, calls).read(path, text.as_str()),
+        None => format!(in alloc; "{path}: can't be read\n"),
     }
 }
 
