@@ -1,9 +1,12 @@
 -- The least number that passes a test.
-use Rattle.std.proofs.Common.{◌≡◌, ℕ, zero, suc, ◌+◌, ◌<◌, ◌≤◌, Bool, true, false, arith, add-one, refl, inl, inr}
+use Rattle.std.proofs.Common.{◌≡◌, ◌∙◌, sym, ℕ, zero, suc, ◌+◌, ◌<◌, ◌≤◌, Bool, true, false, arith, add-one, refl, inl, inr}
 use Rattle.std.proofs.Math.Nat.{eq-or-lt_of_le}
 use Rattle.std.specs.Prelude.{Option, Some, None, if◌then◌else◌}
 use Rattle.std.specs.Option.{option_or}
+use Rattle.std.specs.Bool.{Decides}
+use Rattle.std.proofs.lemmas.Bool.{true≢false}
 use Rattle.acceptance.specs.Least.{least_below}
+use Rattle.acceptance.proofs.Finds.{Finds}
 
 -- one number more that fails
 pub least_kept : (test : ℕ → Bool) (i : ℕ) → least_below test i ≡ None → test i ≡ false → least_below test (i + 1) ≡ None
@@ -56,3 +59,13 @@ last_or test n k (Some i) here below first passes found =
 pub least_at : (test : ℕ → Bool) (n k : ℕ) → least_below test n ≡ Some k → IsLeast test n k
 least_at test zero k found = cc
 least_at test (suc n) k found = last_or test n k (least_below test n) (test n) (least_at test n) refl refl found
+
+-- the least below n is the first that is bad, where all that are bad are below n
+pub finds_least : (test : ℕ → Bool) (Bad : ℕ → Type 0) (n : ℕ) → ((k : ℕ) → Decides (test k) (Bad k)) → ((k : ℕ) → Bad k → k < n) → Finds Bad (least_below test n)
+finds_least test Bad n each within = by (least_below test n) refl
+  where
+    by : (o : Option ℕ) → least_below test n ≡ o → Finds Bad o
+    by None none = λ k bad. absurd (true≢false (sym ((each k).1 bad) ∙ least_none test n k none (within k bad)))
+    by (Some k) found =
+        let least = least_at test n k found in
+        record { bad = (each k).0 least.passes; before = λ j below bad. absurd (true≢false (sym ((each j).1 bad) ∙ least.before j below)) }

@@ -1,3 +1,5 @@
+pub mod Answers
+pub mod Finds
 pub mod Firsts
 pub mod Leasts
 pub mod Read

@@ -84,6 +84,11 @@ pub bind_ok : {A B E : Type 0} (r : Result A E) (f : A → Result B E) (y : B) �
 bind_ok (Ok x) f y e = (x, refl, e)
 bind_ok (Err d) f y e = absurd cc
 
+-- a step that failed, or one after it
+pub bind_err : {A B E : Type 0} (r : Result A E) (f : A → Result B E) (e : E) → (r >>= f) ≡ Err e → (r ≡ Err e) ⊎ ((x : A) × (r ≡ Ok x) × (f x ≡ Err e))
+bind_err (Ok x) f e err = inr (x, refl, err)
+bind_err (Err d) f e err = inl cc
+
 pub slice_get-front : {X : Type 0} (xs : List X) (last : X) (i : ℕ) (x : X) → slice_get xs i ≡ Some x → slice_get (xs ++ last ∷ []) i ≡ Some x
 slice_get-front [] last i x e = absurd cc
 slice_get-front (y ∷ ys) last zero x e = e

@@ -1,4 +1,4 @@
--- The least rule that is broken.
+-- The least rule that is broken, and the first number that is bad.
 use Rattle.std.specs.Prelude.{ℕ, ◌<◌}
 use Rattle.ld_base.specs.declared.fault.NotAccepted.{NotAccepted}
 
@@ -10,3 +10,8 @@ pub record IsFirstBroken (Breaks : ℕ → ℕ → Type 0) (fault : NotAccepted)
 -- no rule is broken
 abbrev pub NoneBroken : (ℕ → ℕ → Type 0) → Type 0
 NoneBroken Breaks = (rule number : ℕ) → Breaks rule number → ⊥
+
+-- the first number of which Bad holds
+pub record IsFirst (Bad : ℕ → Type 0) (k : ℕ) : Type 0 where
+  pub bad : Bad k
+  pub before : (j : ℕ) → j < k → Bad j → ⊥

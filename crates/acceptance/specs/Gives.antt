@@ -13,3 +13,9 @@ Faults faults.Memory meant = Unit {0}
 abbrev pub Gives : {X : Type 0} → Result X ReadFault → Result X NotAccepted → Type 0
 Gives (Ok x) meant = meant ≡ Ok x
 Gives (Err fault) meant = Faults fault meant
+
+-- what a reader answers: a value that the bytes spell, or the rule that they break first; want of memory says nothing of them
+abbrev pub Answers : {X : Type 0} → (X → Type 0) → (NotAccepted → Type 0) → Result X ReadFault → Type 0
+Answers Spells Breaks (Ok x) = Spells x
+Answers Spells Breaks (Err (faults.NotAccepted fault)) = Breaks fault
+Answers Spells Breaks (Err faults.Memory) = Unit {0}

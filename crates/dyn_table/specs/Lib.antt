@@ -1,3 +1,4 @@
+pub mod Bits
 pub mod HashWords
 pub mod Name
 pub mod Reloc

@@ -13,10 +13,11 @@ use Rattle.dyn_table.specs.Name.{string_at, IsStringAt}
 use Rattle.dyn_table.specs.Symbol.{symbol_name}
 use Rattle.dyn_table.specs.Tag.{has_tag}
 use Rattle.dyn_table.specs.TagNumbers.{dt_needed, dt_soname}
-use Rattle.elf_dynamic.specs.Breaks.{IsFirst, Lacks, LacksName, LacksSymbolName, NamesString}
+use Rattle.acceptance.specs.First.{IsFirst}
+use Rattle.elf_dynamic.specs.Breaks.{Lacks, LacksName, LacksSymbolName, NamesString}
 use Rattle.elf_dynamic.specs.Parts.{LacksString}
 use Rattle.elf_dynamic.specs.Rules.{bad_string, lacks_string, name_offsets}
-use Rattle.elf_dynamic.proofs.Finds.{any_at, one_first, same_some}
+use Rattle.acceptance.proofs.Finds.{any_at, one_first, same_some}
 use Rattle.elf_dynamic.proofs.Tests.{eq_decides}
 
 -- ---- a search for what stands at the first number

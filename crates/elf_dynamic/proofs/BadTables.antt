@@ -14,7 +14,8 @@ use Rattle.ld_base.specs.declared.parts.Tag.{Tag}
 use Rattle.elf_head.specs.Readable.{readable}
 use Rattle.dyn_table.specs.Tag.{has, last_of, value_of}
 use Rattle.dyn_table.specs.TagNumbers.{dt_fini_array, dt_fini_arraysz, dt_gnu_hash, dt_hash, dt_init_array, dt_init_arraysz, dt_jmprel, dt_pltgot, dt_pltrel, dt_pltrelsz, dt_preinit_array, dt_preinit_arraysz, dt_rela, dt_relaent, dt_relasz, dt_relr, dt_relrent, dt_relrsz, dt_strsz, dt_strtab, dt_syment, dt_symtab, dt_verdef, dt_verdefnum, dt_verneed, dt_verneednum}
-use Rattle.elf_dynamic.specs.Breaks.{AreAddresses, AreSlots, HasEntries, IsArray, IsBadTable, IsFirst, IsHeld, LacksSymbols, Needs}
+use Rattle.acceptance.specs.First.{IsFirst}
+use Rattle.elf_dynamic.specs.Breaks.{AreAddresses, AreSlots, HasEntries, IsArray, IsBadTable, IsHeld, LacksSymbols, Needs}
 use Rattle.elf_dynamic.specs.Breaks.IsArray.{init, fini, preinit}
 use Rattle.elf_dynamic.specs.Breaks.IsBadTable.{lacks, no_hash, bad_hash, no_strings, no_symbols, bad_symbols, bad_rela, bad_slots, bad_array, bad_packed, bad_gnu_hash}
 use Rattle.elf_dynamic.specs.Breaks.LacksSymbols.{none as no_symbol, not_held}
@@ -24,7 +25,7 @@ use Rattle.elf_dynamic.specs.Rules.{are_addresses, bad_table, first_bad, has_bad
 use Rattle.elf_dynamic.specs.Tables.{rela_span, span_of}
 use Rattle.elf_dynamic.proofs.Ascending.{bad_finds, head_of, Ascends, Passes}
 use Rattle.elf_dynamic.proofs.Features.{stands_decides}
-use Rattle.elf_dynamic.proofs.Finds.{finds_is, finds_like, same_some, Finds}
+use Rattle.acceptance.proofs.Finds.{finds_is, finds_like, same_some, Finds}
 use Rattle.elf_dynamic.proofs.Spans.{range_is, rela_is}
 use Rattle.elf_dynamic.proofs.Tests.{eq_decides, is_decides}
 

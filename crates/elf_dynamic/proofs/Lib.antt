@@ -8,7 +8,6 @@ pub mod Both
 pub mod Counting
 pub mod Ends
 pub mod Features
-pub mod Finds
 pub mod Judging
 pub mod Keeping
 pub mod Kept

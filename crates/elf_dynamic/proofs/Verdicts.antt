@@ -3,30 +3,28 @@ use Rattle.std.proofs.Common.{◌≡◌, ◌↔◌, ◌⊎◌, ◌∙◌, ℕ, z
 use Rattle.std.specs.List.{slice_get}
 use Rattle.std.specs.Option.{option_map_or}
 use Rattle.ld_base.specs.declared.fault.NotAccepted.{NotAccepted}
-use Rattle.ld_base.specs.declared.fault.ReadFault.{ReadFault}
-use Rattle.ld_base.specs.declared.fault.ReadFault.TheVariants as faults
 use Rattle.ld_base.specs.declared.parts.DynParts.{DynParts}
 use Rattle.ld_base.specs.declared.parts.Head.{Head}
 use Rattle.ld_base.specs.declared.parts.Tag.{Tag}
 use Rattle.acceptance.proofs.Firsts.{accepts, refuses, Breaking, Listed}
-use Rattle.acceptance.specs.Gives.{Gives}
 use Rattle.dyn_table.specs.HashWords.{hash_words}
 use Rattle.dyn_table.specs.Name.{string_at, IsStringAt}
 use Rattle.dyn_table.specs.Tag.{last_of, tags_of, EndsAtNull}
 use Rattle.dyn_table.specs.TagNumbers.{dt_pltgot, dt_symtab}
-use Rattle.elf_dynamic.specs.Breaks.{named, HasFeature, IsBadRelocAt, IsBadSlotAt, IsBadSymbolAt, IsBadTable, IsFirst, Lacks, LacksName, LacksSymbolName, LacksSymbols}
+use Rattle.acceptance.specs.First.{IsFirst}
+use Rattle.elf_dynamic.specs.Breaks.{named, HasFeature, IsBadRelocAt, IsBadSlotAt, IsBadSymbolAt, IsBadTable, Lacks, LacksName, LacksSymbolName, LacksSymbols}
 use Rattle.elf_dynamic.specs.Parts.{AreParts, AreTags}
 use Rattle.elf_dynamic.specs.Relr.{begins_odd, relr_places, relr_words}
 use Rattle.elf_dynamic.specs.Rules.{dynamic_verdict, no_dynamic, other_ranges, rules_of, tables_verdict}
 use Rattle.elf_dynamic.specs.Rules.{bad_reloc as reloc_rule, bad_slot as slot_rule, bad_string as string_rule, bad_symbol as symbol_rule, bad_table as table_rule, refused_feature as feature_rule}
 use Rattle.elf_dynamic.specs.Tables.{bare_in, count_in, dynamic_tags, parts_in, plt_relocs, rela_relocs, relr_bytes, strings_in, symbol_bytes}
-use Rattle.elf_dynamic.specs.Verdict.{Answers, Breaks, BreaksFirst, SpellsDynamic, TablesBreak}
+use Rattle.elf_dynamic.specs.Verdict.{Breaks, BreaksFirst, SpellsDynamic, TablesBreak}
 use Rattle.elf_dynamic.specs.Verdict.Breaks.{no_table, by_tables}
 use Rattle.elf_dynamic.specs.Verdict.TablesBreak.{bad_table, lacks_symbols, bad_name, bad_symbol_name, bad_symbol, bad_reloc, has_feature, bad_slot}
 use Rattle.elf_dynamic.proofs.BadNames.{string_first, StandsFirst}
 use Rattle.elf_dynamic.proofs.BadTables.{table_first}
 use Rattle.elf_dynamic.proofs.Features.{feature_finds}
-use Rattle.elf_dynamic.proofs.Finds.{finds_is, finds_like, same_some, Finds}
+use Rattle.acceptance.proofs.Finds.{finds_is, finds_like, same_some, Finds}
 use Rattle.elf_dynamic.proofs.ReadParts.{read, say_in, tags_are, Reads}
 use Rattle.elf_dynamic.proofs.Relocs.{reloc_finds, symbol_finds, unnamed, unnamed_sizes}
 use Rattle.elf_dynamic.proofs.SlotReasons.{slot_finds}
@@ -192,10 +190,3 @@ module _ (tags_law : (bytes : List ℕ) (tags : List Tag) → (tags_of bytes ≡
   pub refused : (fault : NotAccepted) → (dynamic_verdict bytes head program ≡ Err fault) ↔ BreaksFirst bytes head program fault
   unfolding dynamic_verdict
   refused fault = refused_at (dynamic_tags bytes head.headers) fault refl
-
--- what a reader gives is what it has to answer
-pub answers : (bytes : List ℕ) (head : Head) (program : Bool) (meant : Result DynParts NotAccepted) → ((parts : DynParts) → (meant ≡ Ok parts) ↔ SpellsDynamic bytes head program parts)
-    → ((fault : NotAccepted) → (meant ≡ Err fault) ↔ BreaksFirst bytes head program fault) → (result : Result DynParts ReadFault) → Gives result meant → Answers bytes head program result
-answers bytes head program meant spells breaks (Ok parts) given = (spells parts).0 given
-answers bytes head program meant spells breaks (Err (faults.NotAccepted fault)) given = (breaks fault).0 given
-answers bytes head program meant spells breaks (Err faults.Memory) given = tt

@@ -23,11 +23,6 @@ use Rattle.elf_dynamic.specs.Named.{doubleword, named_by, slot_ranges}
 use Rattle.elf_dynamic.specs.Parts.{IsRange, IsRela, LacksString, Stands}
 use Rattle.elf_dynamic.specs.Ranges.{is_executable, is_writable, IsPlace, IsWritable, LiesIn, Share}
 
--- the first number of which Bad holds
-pub record IsFirst (Bad : ℕ → Type 0) (k : ℕ) : Type 0 where
-  pub bad : Bad k
-  pub before : (j : ℕ) → j < k → Bad j → ⊥
-
 -- ---- rule 11: the tables
 
 -- all its bytes are in the file

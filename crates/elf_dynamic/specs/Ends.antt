@@ -1,4 +1,4 @@
--- Ranges that lie apart, as a map from where each begins to where it ends.
+-- Ranges that lie apart, as a map from where each begins to where it ends: for loops of this crate alone.
 use Rattle.std.specs.Prelude.{◌≡◌, ℕ, ◌<◌, ◌≤◌, Some}
 use Rattle.std.specs.BTreeMap.{BTreeMap, get}
 use Rattle.std.specs.Ordering.{nat_cmp}

@@ -1,4 +1,4 @@
--- The features of rule 15 by their numbers.
+-- The features of rule 15 by their numbers: for the code of this crate alone.
 use Rattle.std.specs.Prelude.{ℕ}
 use Rattle.elf_dynamic.specs.declared.feature.Feature.{Feature}
 use Rattle.elf_dynamic.specs.declared.feature.Feature.TheVariants as features

@@ -16,6 +16,7 @@ use Rattle.ld_base.specs.declared.parts.SysvPart.{SysvPart}
 use Rattle.ld_base.specs.declared.parts.Tag.{Tag}
 use Rattle.acceptance.specs.Entries.{AreEntries}
 use Rattle.elf_head.specs.Readable.{file_bytes}
+use Rattle.dyn_table.specs.Bits.{has_bit}
 use Rattle.dyn_table.specs.HashWords.{hash_words}
 use Rattle.dyn_table.specs.Name.{IsStringAt}
 use Rattle.dyn_table.specs.Reloc.{reloc_at}
@@ -74,10 +75,6 @@ AreRelocs part relocs = AreEntries (λ i r. r ≡ reloc_at part (24 * i)) (lengt
 -- the words of packed relocations in these bytes
 abbrev pub AreWords : List ℕ → List ℕ → Type 0
 AreWords part words = AreEntries (λ i word. word ≡ field 8 part (8 * i)) (length part / 8) words
-
--- the word has this bit
-abbrev pub has_bit : ℕ → ℕ → Bool
-has_bit word i = word / 2 ^ i % 2 == 1
 
 -- the bits from 1 to 63 that a word has
 unfoldable pub bits_of : ℕ → List ℕ

@@ -2,7 +2,7 @@
 use Rattle.std.specs.Prelude.{ℕ, ◌+◌, ◌-◌, ◌*◌, ◌/◌, ◌%◌, ◌==◌, Bool, false, if◌then◌else◌, List, [], ◌∷◌, ◌++◌, length, map, fold}
 use Rattle.ld_base.specs.Field.{field}
 use Rattle.acceptance.specs.Table.{table}
-pub use Rattle.elf_dynamic.specs.Parts.{has_bit}
+pub use Rattle.dyn_table.specs.Bits.{has_bit}
 unfoldable pub use Rattle.elf_dynamic.specs.Parts.{bits_of}
 
 -- the 64-bit words of the table's bytes

@@ -1,4 +1,4 @@
--- Ranges that tell of low memory what others tell.
+-- Ranges that tell of low memory what others tell: for loops of this crate alone.
 use Rattle.std.specs.Prelude.{◌≡◌, ◌+◌, ◌-◌, ◌^◌, ◌≤◌, min, List}
 use Rattle.ld_base.specs.declared.object.Span.{Span}
 use Rattle.elf_dynamic.specs.Rules.{times_named}

@@ -1,15 +1,13 @@
 -- What it is for the dynamic table and the tables that it names to say something, and to break a rule.
-use Rattle.std.specs.Prelude.{ℕ, Bool, List, ◌++◌, length, Result, Ok, Err}
+use Rattle.std.specs.Prelude.{ℕ, Bool, List, ◌++◌, length}
 use Rattle.ld_base.specs.declared.fault.NotAccepted.{NotAccepted}
-use Rattle.ld_base.specs.declared.fault.ReadFault.{ReadFault}
-use Rattle.ld_base.specs.declared.fault.ReadFault.TheVariants as faults
 use Rattle.ld_base.specs.declared.parts.DynParts.{DynParts}
 use Rattle.ld_base.specs.declared.parts.Head.{Head}
 use Rattle.ld_base.specs.declared.parts.Tag.{Tag}
-use Rattle.acceptance.specs.First.{IsFirstBroken, NoneBroken}
+use Rattle.acceptance.specs.First.{IsFirst, IsFirstBroken, NoneBroken}
 use Rattle.dyn_table.specs.HashWords.{hash_words}
 use Rattle.dyn_table.specs.TagNumbers.{dt_symtab}
-use Rattle.elf_dynamic.specs.Breaks.{named, HasFeature, IsBadRelocAt, IsBadSlotAt, IsBadSymbolAt, IsBadTable, IsFirst, Lacks, LacksName, LacksSymbolName, LacksSymbols}
+use Rattle.elf_dynamic.specs.Breaks.{named, HasFeature, IsBadRelocAt, IsBadSlotAt, IsBadSymbolAt, IsBadTable, Lacks, LacksName, LacksSymbolName, LacksSymbols}
 use Rattle.elf_dynamic.specs.Parts.{AreParts, AreTags}
 
 -- tables that say these parts break the rule with this number
@@ -44,9 +42,3 @@ BreaksFirst bytes head program fault = IsFirstBroken (Breaks bytes head program)
 -- the parts of a file with this head, as the program's or as another object's
 abbrev pub ArePartsOf : List ℕ → Head → DynParts → Type 0
 ArePartsOf bytes head parts = (program : Bool) × SpellsDynamic bytes head program parts
-
--- what a reader answers: the parts that the tables spell, or the rule that they break first; want of memory says nothing of them
-abbrev pub Answers : List ℕ → Head → Bool → Result DynParts ReadFault → Type 0
-Answers bytes head program (Ok parts) = SpellsDynamic bytes head program parts
-Answers bytes head program (Err (faults.NotAccepted fault)) = BreaksFirst bytes head program fault
-Answers bytes head program (Err faults.Memory) = Unit {0}

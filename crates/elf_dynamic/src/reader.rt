@@ -3,7 +3,7 @@
 ghost use Rattle.std.specs.Prelude.{◌≡◌, ◌∷◌, [], ◌*◌, ◌<◌, ◌≤◌, ◌^◌, Ok, Err, IfOk, IsTrue, MatchResult, None, ℕ, List, length, map, option_map};
 ghost use Rattle.std.specs.Option.{option_map_or};
 ghost use Rattle.acceptance.specs.Broken.{first_broken};
-ghost use Rattle.acceptance.specs.Gives.{Faults, Gives};
+ghost use Rattle.acceptance.specs.Gives.{Answers, Faults, Gives};
 ghost use Rattle.elf_head.specs.Readable.{readable};
 ghost use Rattle.elf_head.specs.Rules.{head_verdict};
 ghost use Rattle.ld_base.specs.declared.fault.ReadFault.TheVariants as faults;
@@ -12,7 +12,7 @@ ghost use Rattle.elf_dynamic.specs.Counted.{counted_in, rules_from_names};
 ghost use Rattle.elf_dynamic.specs.Judged.{ArePlaces};
 ghost use Rattle.elf_dynamic.specs.Relr.{relr_places};
 ghost use Rattle.elf_dynamic.specs.Rules.{bad_table, dynamic_verdict, rules_on, tables_verdict};
-ghost use Rattle.elf_dynamic.specs.Verdict.{Answers};
+ghost use Rattle.elf_dynamic.specs.Verdict.{BreaksFirst, SpellsDynamic};
 ghost use Rattle.dyn_table.specs.HashWords.{hash_words};
 ghost use Rattle.dyn_table.specs.Name.{string_in};
 ghost use Rattle.dyn_table.specs.Tag.{last_of, value_of, values_of};
@@ -388,7 +388,7 @@ pub fn read_dynamic(
     program: bool,
 ) -> Result<DynParts, ReadFault>
     requires { head_verdict bytes.now ≡ Ok head.now }
-    ensures answers { Answers bytes.now head.now program result }
+    ensures answers { Answers (SpellsDynamic bytes.now head.now program) (BreaksFirst bytes.now head.now program) result }
     ensures verdict { Gives result (dynamic_verdict bytes.now head.now program) }
 {
     one_verdict();

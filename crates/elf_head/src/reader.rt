@@ -1,15 +1,16 @@
 //! Reading the head.
 
-ghost use Rattle.std.specs.Prelude.{◌≡◌, IfOk};
-ghost use Rattle.ld_base.specs.declared.fault.NotAccepted.{NotAccepted};
+ghost use Rattle.std.specs.Prelude.{◌≡◌};
 ghost use Rattle.acceptance.specs.Broken.{first_broken};
-ghost use Rattle.acceptance.specs.Gives.{Gives};
+ghost use Rattle.acceptance.specs.Gives.{Answers, Gives};
 ghost use Rattle.elf_head.specs.Header.{headers_of};
-ghost use Rattle.elf_head.specs.Rules.{file_rules, head_broken, head_of, head_verdict};
+ghost use Rattle.elf_head.specs.Rules.{file_rules, head_of, head_verdict};
+ghost use Rattle.elf_head.specs.Verdict.{BreaksFirst, SpellsHead};
 
 use crate::elf_header::{broken_header_rule, kind_of};
 use crate::program_headers::read_headers;
 use crate::segments::bad_segment;
+use crate::verdict::one_verdict;
 use ld_base::{Head, Header, NotAccepted, ReadFault, field64};
 use std::alloc::Global;
 
@@ -21,11 +22,18 @@ const MAX_FILE: usize = 8 << 20;
 /// # Errors
 ///
 /// The first of the rules 1 to 9 that the file breaks, with its number, or want of memory.
-#[tactic(auto, using(crate::proofs::Verdicts::verdicts), unfolding(crate::specs::Rules::head_of))]
 pub fn read_head(alloc: Global, bytes: &[u8]) -> Result<Head, ReadFault>
-    ensures accepted { IfOk result (λ head. (head_broken bytes.now ≡ None) × (head ≡ head_of bytes.now)) }
-    ensures refused { (broken : NotAccepted) → result ≡ Err (ReadFault.NotAccepted broken) → head_broken bytes.now ≡ Some broken }
-    ensures exact { Gives result (head_verdict bytes.now) }
+    ensures answers { Answers (SpellsHead bytes.now) (BreaksFirst bytes.now) result }
+    ensures verdict { Gives result (head_verdict bytes.now) }
+{
+    one_verdict();
+    read_rules(alloc, bytes)
+}
+
+/// Reads the head as the rules are tried, one after the other.
+#[tactic(auto, using(crate::proofs::Verdicts::verdicts), unfolding(crate::specs::Rules::head_of))]
+fn read_rules(alloc: Global, bytes: &[u8]) -> Result<Head, ReadFault>
+    ensures { Gives result (head_verdict bytes.now) }
 {
     if let Some(broken) = broken_header_rule(bytes) {
         return Err(ReadFault::NotAccepted(broken));

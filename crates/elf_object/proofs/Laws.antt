@@ -14,9 +14,8 @@ use Rattle.acceptance.specs.Gives.{Gives}
 use Rattle.elf_head.specs.Rules.{head_verdict}
 use Rattle.elf_head.specs.Verdict.{SpellsHead}
 use Rattle.elf_head.specs.Verdict.{BreaksFirst as HeadBreaks}
-use Rattle.acceptance.proofs.Reading.{bind_ok}
+use Rattle.acceptance.proofs.Reading.{bind_err, bind_ok}
 use Rattle.acceptance.specs.Entries.{◌>>=◌}
-use Rattle.dyn_table.specs.HashWords.{hash_words}
 use Rattle.elf_dynamic.specs.Rules.{dynamic_verdict}
 use Rattle.elf_dynamic.specs.Verdict.{SpellsDynamic}
 use Rattle.elf_dynamic.specs.Verdict.{BreaksFirst as DynamicBreaks}
@@ -24,7 +23,7 @@ use Rattle.elf_dynamic.specs.Keeps.{Keeps}
 use Rattle.elf_versions.specs.Spells.{SpellsVersions}
 use Rattle.elf_versions.specs.Spells.{BreaksFirst as VersionsBreak}
 use Rattle.elf_versions.specs.Verdict.{versions_verdict}
-use Rattle.sym_hash.specs.Breaks.{BreaksHash}
+use Rattle.sym_hash.specs.Breaks.{BreaksHash, IsHashTable}
 use Rattle.sym_hash.specs.Reached.{IsTableFor, IsTableOf}
 use Rattle.sym_hash.specs.Verdict.{hash_verdict}
 use Rattle.elf_object.proofs.Named.{parts_name}
@@ -54,16 +53,11 @@ pub record Readings : Type 0 where
   pub kept_parts : (bytes : List ℕ) (head : Head) (program : Bool) (parts : DynParts) → SpellsDynamic bytes head program parts → Keeps bytes head.headers parts
   pub versions : (bytes : List ℕ) (head : Head) (parts : DynParts) (versions : Versions) → (versions_verdict bytes head parts ≡ Ok versions) ↔ SpellsVersions bytes head parts versions
   pub bad_versions : (bytes : List ℕ) (head : Head) (parts : DynParts) (fault : NotAccepted) → (versions_verdict bytes head parts ≡ Err fault) ↔ VersionsBreak bytes head parts fault
-  pub table : (bytes : List ℕ) (head : Head) (parts : DynParts) (t : HashTable) → (hash_verdict bytes head parts ≡ Ok t) ↔ ((t ≡ hash_words bytes head.headers parts.tags) × IsTableFor t parts.symbols parts.first_exported)
+  pub table : (bytes : List ℕ) (head : Head) (parts : DynParts) (t : HashTable) → (hash_verdict bytes head parts ≡ Ok t) ↔ IsHashTable bytes head parts t
   pub bad_table : (bytes : List ℕ) (head : Head) (parts : DynParts) (fault : NotAccepted) → (hash_verdict bytes head parts ≡ Err fault) ↔ BreaksHash bytes head parts fault
   pub same_table : SameTable
 
 -- ---- steps
-
--- a step that failed, or what follows it
-bind_err : {A B : Type 0} (r : Result A NotAccepted) (f : A → Result B NotAccepted) (e : NotAccepted) → (r >>= f) ≡ Err e → (r ≡ Err e) ⊎ ((x : A) × (r ≡ Ok x) × (f x ≡ Err e))
-bind_err (Ok x) f e err = inr (x, refl, err)
-bind_err (Err d) f e err = inl cc
 
 abbrev read : Object × HashTable → Result (Object × HashTable) NotAccepted
 read x = Ok x
@@ -171,8 +165,7 @@ module _ (r : Readings) (bytes : List ℕ) (program : Bool) where
         is_head = (r.head bytes got.head).0 got.is_head;
         are_parts = (r.parts bytes got.head program got.parts).0 got.are_parts;
         are_versions = (r.versions bytes got.head got.parts got.versions).0 got.are_versions;
-        words = table.0;
-        is_table = table.1;
+        is_table = table;
         say = subst (Say bytes got.head got.parts got.versions) got.is (says bytes got.head got.parts got.versions);
       }
 
@@ -186,7 +179,7 @@ module _ (r : Readings) (bytes : List ℕ) (program : Bool) where
       is_head = (r.head bytes s.head).1 s.is_head;
       are_parts = (r.parts bytes s.head program s.parts).1 s.are_parts;
       are_versions = (r.versions bytes s.head s.parts s.versions).1 s.are_versions;
-      is_table = (r.table bytes s.head s.parts s.table).1 (s.words, s.is_table);
+      is_table = (r.table bytes s.head s.parts s.table).1 s.is_table;
       is = said bytes s.head s.parts s.versions o s.say;
     }),
   )
@@ -245,3 +238,21 @@ module _ (r : Readings) (bytes : List ℕ) (program : Bool) where
       let named : list_all (λ x. nat_lt x.symbol (length (with_versions got.parts.symbols got.versions.versym))) (got.parts.relocs ++ got.parts.plt_relocs) ≡ true =
       subst (λ n. list_all (λ x. nat_lt x.symbol n) (got.parts.relocs ++ got.parts.plt_relocs) ≡ true) (sym (length-versions got.parts.symbols got.versions.versym)) (parts_name bytes got.head.headers got.parts (r.kept_parts bytes got.head program got.parts spelled)) in
       subst (λ (x : Object). names_own_symbols x ≡ true) got.is named
+
+  -- ---- one of the two
+
+  pub spelled_or_broken : ((o : Object) × Spells bytes program o) ⊎ ((fault : NotAccepted) × Broken bytes program fault)
+  spelled_or_broken = by (object_verdict bytes program) refl
+    where
+      by : (verdict : Result (Object × HashTable) NotAccepted) → object_verdict bytes program ≡ verdict → ((o : Object) × Spells bytes program o) ⊎ ((fault : NotAccepted) × Broken bytes program fault)
+      by (Ok (o, t)) e = inl (o, verdict_spells o t e)
+      by (Err fault) e = inr (fault, refused_from fault e)
+
+  pub never_both : (o : Object) (fault : NotAccepted) → Spells bytes program o → Broken bytes program fault → ⊥
+  never_both o fault spells broken = no_err (o, (spells_verdict o spells).0) fault (sym (spells_verdict o spells).1 ∙ refused_is fault broken)
+
+  pub one_broken : (first second : NotAccepted) → Broken bytes program first → Broken bytes program second → first ≡ second
+  one_broken first second b c = same_err (sym (refused_is first b) ∙ refused_is second c)
+    where
+      same_err : {x y : NotAccepted} → ◌≡◌ {A = Result (Object × HashTable) NotAccepted} (Err x) (Err y) → x ≡ y
+      same_err e = cc

@@ -8,13 +8,11 @@ use Rattle.ld_base.specs.declared.parts.Head.{Head}
 use Rattle.ld_base.specs.declared.parts.Versions.{Versions}
 use Rattle.elf_head.specs.Verdict.{SpellsHead}
 use Rattle.elf_head.specs.Verdict.{BreaksFirst as HeadBreaks}
-use Rattle.dyn_table.specs.HashWords.{hash_words}
 use Rattle.elf_dynamic.specs.Verdict.{SpellsDynamic}
 use Rattle.elf_dynamic.specs.Verdict.{BreaksFirst as DynamicBreaks}
 use Rattle.elf_versions.specs.Spells.{SpellsVersions}
 use Rattle.elf_versions.specs.Spells.{BreaksFirst as VersionsBreak}
-use Rattle.sym_hash.specs.Breaks.{BreaksHash}
-use Rattle.sym_hash.specs.Reached.{IsTableFor}
+use Rattle.sym_hash.specs.Breaks.{BreaksHash, IsHashTable}
 use Rattle.elf_object.specs.Object.{with_versions}
 use Rattle.elf_object.specs.Segments.{dynamic_of, relro_of, segments_of, tls_of}
 
@@ -53,8 +51,7 @@ pub record Spells (bytes : List ℕ) (program : Bool) (o : Object) : Type 0 wher
   pub is_head : SpellsHead bytes head
   pub are_parts : SpellsDynamic bytes head program parts
   pub are_versions : SpellsVersions bytes head parts versions
-  pub words : table ≡ hash_words bytes head.headers parts.tags
-  pub is_table : IsTableFor table parts.symbols parts.first_exported
+  pub is_table : IsHashTable bytes head parts table
   pub say : Say bytes head parts versions o
 
 -- Broken: the part that breaks a rule first; each part before it breaks none

@@ -1,11 +1,12 @@
 //! Reading an object.
 
 ghost use Rattle.std.specs.Prelude.{◌≡◌, Ok, IfOk};
-ghost use Rattle.acceptance.specs.Gives.{Gives};
+ghost use Rattle.acceptance.specs.Gives.{Answers, Gives};
 ghost use Rattle.elf_head.specs.Rules.{head_verdict};
 ghost use Rattle.sym_hash.specs.Reached.{IsTableOf};
 ghost use Rattle.elf_versions.specs.Verdict.{versions_verdict};
 ghost use Rattle.elf_object.specs.Object.{object_of, with_versions};
+ghost use Rattle.elf_object.specs.Spells.{Broken, Spells};
 ghost use Rattle.elf_object.specs.Verdict.{object_verdict};
 
 use crate::law::one_object;
@@ -123,7 +124,8 @@ pub fn read_object(
     bytes: &[u8],
     program: bool,
 ) -> Result<(Object, HashTable), ReadFault>
-    ensures object { Gives result (object_verdict bytes.now program) }
+    ensures answers { Answers (λ read. Spells bytes.now program read.0) (Broken bytes.now program) result }
+    ensures verdict { Gives result (object_verdict bytes.now program) }
     ensures table { IfOk result (λ read. IsTableOf read.1 read.0) }
 {
     one_object();

@@ -1,23 +1,27 @@
 -- The verdict on all version tables, and the relations that say what it means.
-use Rattle.std.proofs.Common.{◌≡◌, ◌↔◌, ◌⊎◌, ℕ, ◌<◌, ◌≤◌, Bool, true, false, cond, List, length, get_or, Option, Some, None, Result, Ok, Err, refl, arith, inl, inr}
-use Rattle.std.specs.Prelude.{is_some, nat_lt}
+use Rattle.std.proofs.Common.{◌≡◌, ◌↔◌, ◌⊎◌, ◌∙◌, ap, sym, subst, ℕ, ◌%◌, ◌==◌, ◌<◌, ◌≤◌, ◌||◌, Bool, true, false, List, [], ◌∷◌, ◌++◌, map, length, Option, Some, None, Result, Ok, Err, refl, inl, inr}
+use Rattle.std.specs.Prelude.{is_some, nat_le, not}
+use Rattle.std.specs.Bool.{Decides}
 use Rattle.std.specs.Option.{option_map_or}
-use Rattle.std.specs.List.{position_or_len}
-use Rattle.std.proofs.lemmas.Bool.{cases_order, ltb-true, ltb-false}
-use Rattle.std.proofs.lemmas.List.Sums.{fails_before_first, passes_at_first}
-use Rattle.std.proofs.lemmas.Option.{cond_some, get_or_from_slice_get, slice_get-get_or, slice_get_within}
+use Rattle.std.specs.List.{list_any, slice_get}
+use Rattle.std.proofs.lemmas.Bool.{le-leb, leb-true}
+use Rattle.std.proofs.lemmas.Bool.Decides.{Decides-and, Decides-at, Decides-eqb, Decides-not, Decides-or}
+use Rattle.ld_base.specs.declared.object.Verdef.{Verdef}
+use Rattle.ld_base.specs.declared.object.Verneed.{Verneed}
 use Rattle.ld_base.specs.declared.fault.NotAccepted.{NotAccepted}
 use Rattle.ld_base.specs.declared.parts.DynParts.{DynParts}
 use Rattle.ld_base.specs.declared.parts.Head.{Head}
 use Rattle.ld_base.specs.declared.parts.Versions.{Versions}
-use Rattle.acceptance.proofs.Reading.{bind_ok, ok_is}
+use Rattle.acceptance.proofs.Reading.{bind_err, bind_ok, ok_is}
+use Rattle.acceptance.proofs.Finds.{any_at, finds_is, finds_none, finds_position, Finds}
+use Rattle.acceptance.specs.First.{IsFirst}
 use Rattle.acceptance.specs.Entries.{◌>>=◌}
 use Rattle.dyn_table.specs.Tag.{last_of}
 use Rattle.dyn_table.specs.TagNumbers.{dt_versym, dt_verdef, dt_verneed}
 use Rattle.elf_versions.proofs.Faults.{fails_with, verdefs_fail, verneeds_fail, versym_fails}
 use Rattle.elf_versions.proofs.Laws.{Strings, verdefs_are, verdefs_read, verneeds_are, verneeds_read, versym_is, versym_read}
 use Rattle.elf_versions.specs.Index.{indexes_of, is_unknown, unknown_index}
-use Rattle.elf_versions.specs.Spells.{BreaksFirst, IsUnknownAt, Say, SpellsVersions}
+use Rattle.elf_versions.specs.Spells.{BreaksFirst, HasIndex, IsUnknown, IsUnknownAt, Say, SpellsVersions}
 use Rattle.elf_versions.specs.Spells.BreaksFirst.{bad_versym, bad_verdefs, bad_verneeds, unknown}
 use Rattle.elf_versions.specs.Verdef.{verdefs_of}
 use Rattle.elf_versions.specs.Verdict.{bad_index, source_of, tables_of, versions_in, versions_verdict, with_indexes}
@@ -26,55 +30,44 @@ use Rattle.elf_versions.specs.Versym.{versym_of}
 
 -- ---- the first symbol whose index isn't there
 
-not_taken : {X : Type 0} (b : Bool) (x : X) → cond b (Some x) None ≡ None → b ≡ false
-not_taken true x e = cc
-not_taken false x e = refl
+any_append : {X : Type 0} (p : X → Bool) (xs ys : List X) → list_any p (xs ++ ys) ≡ (list_any p xs || list_any p ys)
+any_append p [] ys = refl
+any_append p (x ∷ xs) ys = ap (λ b. p x || b) (any_append p xs ys) ∙ either (p x) (list_any p xs) (list_any p ys)
+  where
+    either : (a b c : Bool) → (a || (b || c)) ≡ ((a || b) || c)
+    either true b c = refl
+    either false b c = refl
 
-known_from : (v : Versions) → unknown_index v ≡ None → (symbol : ℕ) → IsUnknownAt v symbol → ⊥
+any_map : {X : Type 0} (f : X → ℕ) (p : ℕ → Bool) (xs : List X) → list_any p (map f xs) ≡ list_any (λ x. p (f x)) xs
+any_map f p [] = refl
+any_map f p (x ∷ xs) = ap (λ b. p (f x) || b) (any_map f p xs)
+
+-- an element of the list has the number k
+numbered : {X : Type 0} (f : X → ℕ) (k : ℕ) (xs : List X) → Decides (list_any (λ i. i == k) (map f xs)) ((i : ℕ) × (x : X) × (slice_get xs i ≡ Some x) × (f x ≡ k))
+numbered f k xs =
+    Decides-at (list_any (λ i. i == k) (map f xs)) (list_any (λ x. f x == k) xs) (any_map f (λ i. i == k) xs)
+    (any_at (λ x. f x == k) (λ x. f x ≡ k) (λ x. Decides-eqb (f x) k) xs)
+
+has_index : (v : Versions) (k : ℕ) → Decides (list_any (λ i. i == k) (indexes_of v.verdefs v.verneeds)) (HasIndex v k)
+has_index v k =
+    let defined = list_any (λ i. i == k) (map (λ (d : Verdef). d.index) v.verdefs) in
+    let needed = list_any (λ i. i == k) (map (λ (n : Verneed). n.index) v.verneeds) in
+    Decides-at (list_any (λ i. i == k) (indexes_of v.verdefs v.verneeds)) (defined || needed)
+    (any_append (λ i. i == k) (map (λ (d : Verdef). d.index) v.verdefs) (map (λ (n : Verneed). n.index) v.verneeds))
+    (Decides-or defined needed (numbered (λ (d : Verdef). d.index) k v.verdefs) (numbered (λ (n : Verneed). n.index) k v.verneeds))
+
+decides : (v : Versions) (entry : ℕ) → Decides (is_unknown (indexes_of v.verdefs v.verneeds) entry) (IsUnknown v entry)
+decides v entry =
+    let index = entry % 0x8000 in
+    let found = list_any (λ i. i == index) (indexes_of v.verdefs v.verneeds) in
+    Decides-and (nat_le 2 index) (not found) (leb-true 2 index, le-leb 2 index) (Decides-not found (has_index v index))
+
+found : (v : Versions) → Finds (IsUnknownAt v) (unknown_index v)
 unfolding unknown_index
-known_from v none symbol at =
-    let test = is_unknown (indexes_of v.verdefs v.verneeds) in
-    let past : length v.versym ≤ position_or_len test v.versym = ltb-false (position_or_len test v.versym) (length v.versym) (not_taken (nat_lt (position_or_len test v.versym) (length v.versym)) (position_or_len test v.versym) none) in
-    let within = slice_get_within v.versym symbol at.0 at.1 in
-    let fails = fails_before_first test v.versym symbol 0 (omega arith) in
-    let is = get_or_from_slice_get v.versym symbol at.0 0 at.1 in
-    let passes : test at.0 ≡ true = at.2 in
-    cc
+found v = finds_position (is_unknown (indexes_of v.verdefs v.verneeds)) (IsUnknown v) (decides v) v.versym
 
-record IsFirst (v : Versions) (symbol : ℕ) : Type 0 where
-  here : IsUnknownAt v symbol
-  before : (j : ℕ) → j < symbol → IsUnknownAt v j → ⊥
-
-first_from : (v : Versions) (symbol : ℕ) → unknown_index v ≡ Some symbol → IsFirst v symbol
-unfolding unknown_index
-first_from v symbol found =
-    let test = is_unknown (indexes_of v.verdefs v.verneeds) in
-    let place = position_or_len test v.versym in
-    let c = cond_some (nat_lt place (length v.versym)) place symbol found in
-    let within : place < length v.versym = ltb-true place (length v.versym) c.0 in
-    let passes : test (get_or v.versym place 0) ≡ true = passes_at_first test v.versym 0 within in
-    rw (← c.1) (record {
-      here = (get_or v.versym place 0, slice_get-get_or v.versym place 0 within, passes);
-      before = λ j below at.
-          let fails = fails_before_first test v.versym j 0 below in
-          let is = get_or_from_slice_get v.versym j at.0 0 at.1 in
-          let taken : test at.0 ≡ true = at.2 in
-          cc;
-    })
-
-known_is : (v : Versions) (found : Option ℕ) → unknown_index v ≡ found → ((symbol : ℕ) → IsUnknownAt v symbol → ⊥) → unknown_index v ≡ None
-known_is v None is known = is
-known_is v (Some symbol) is known = absurd (known symbol (first_from v symbol is).here)
-
-first_is : (v : Versions) (symbol : ℕ) (found : Option ℕ) → unknown_index v ≡ found → IsFirst v symbol → unknown_index v ≡ Some symbol
-first_is v symbol None is first = absurd (known_from v is symbol first.here)
-first_is v symbol (Some other) is first =
-    let found = first_from v other is in
-    elim (cases_order symbol other) [
-      | inl same ↦ rw same is
-      | inr (inl below) ↦ absurd (found.before symbol below first.here)
-      | inr (inr above) ↦ absurd (first.before other above found.here)
-    ]
+first_is : (v : Versions) (symbol : ℕ) → (unknown_index v ≡ Some symbol) ↔ IsFirst (IsUnknownAt v) symbol
+first_is v symbol = finds_is (IsUnknownAt v) (unknown_index v) symbol (found v)
 
 with_ok : (v w : Versions) (found : Option ℕ) → option_map_or (λ symbol. Err (bad_index symbol)) found (Ok v) ≡ Ok w → (v ≡ w) × (found ≡ None)
 with_ok v w None e = (ok_is NotAccepted v w e, refl)
@@ -83,11 +76,6 @@ with_ok v w (Some symbol) e = absurd cc
 with_err : (v : Versions) (fault : NotAccepted) (found : Option ℕ) → option_map_or (λ symbol. Err (bad_index symbol)) found (Ok v) ≡ Err fault → (symbol : ℕ) × (found ≡ Some symbol) × (bad_index symbol ≡ fault)
 with_err v fault None e = absurd cc
 with_err v fault (Some symbol) e = (symbol, refl, cc)
-
--- a step that failed, or one after it
-bind_err : {A B : Type 0} (r : Result A NotAccepted) (f : A → Result B NotAccepted) (e : NotAccepted) → (r >>= f) ≡ Err e → (r ≡ Err e) ⊎ ((x : A) × (r ≡ Ok x) × (f x ≡ Err e))
-bind_err (Ok x) f e err = inr (x, refl, err)
-bind_err (Err d) f e err = inl cc
 
 not_both : {A : Type 0} {r : Result A NotAccepted} {x : A} {e : NotAccepted} → r ≡ Err e → r ≡ Ok x → ⊥
 not_both err ok = cc
@@ -129,8 +117,8 @@ module _ (strings : Strings) (bytes : List ℕ) (head : Head) (parts : DynParts)
         let w = with_ok t.0 v (unknown_index t.0) t.2 in
         let read : tables_of bytes head.headers parts.tags (length parts.symbols) ≡ Ok v = rw (← w.0) t.1 in
         let none : unknown_index v ≡ None = rw (← w.0) w.1 in
-        record { say = says v read; known = known_from v none },
-    λ s. rw (said v s.say, known_is v (unknown_index v) refl s.known) refl,
+        record { say = says v read; known = subst (Finds (IsUnknownAt v)) none (found v) },
+    λ s. rw (said v s.say, finds_none (IsUnknownAt v) (unknown_index v) (found v) s.known) refl,
   )
 
   refused_from : (fault : NotAccepted) → versions_verdict bytes head parts ≡ Err fault → BreaksFirst bytes head parts fault
@@ -141,8 +129,7 @@ module _ (strings : Strings) (bytes : List ℕ) (head : Head) (parts : DynParts)
       elim (bind_err (tables_of bytes head.headers parts.tags count) _ fault e) [
         | inr v ↦
             let w = with_err v.0 fault (unknown_index v.0) v.2 in
-            let first = first_from v.0 w.0 w.1 in
-            rw (← w.2) (unknown v.0 (says v.0 v.1) w.0 first.here first.before)
+            rw (← w.2) (unknown v.0 (says v.0 v.1) w.0 ((first_is v.0 w.0).0 w.1))
         | inl t ↦ elim (bind_err (versym_of (src dt_versym) parts.tags count) _ fault t) [
           | inl bad ↦ rw (versym_fails (src dt_versym) parts.tags count fault bad) (bad_versym (λ entries is. not_both bad (versym_read (src dt_versym) parts.tags count entries is)))
           | inr s ↦ elim (bind_err (verdefs_of (src dt_verdef) parts.tags) _ fault s.2) [
@@ -176,8 +163,7 @@ module _ (strings : Strings) (bytes : List ℕ) (head : Head) (parts : DynParts)
         verdefs_read strings (src dt_verdef) parts.tags ds verdefs,
         fails_with dt_verneed (verneeds_of (src dt_verneed) parts.tags) (verneeds_fail (src dt_verneed) parts.tags) (λ x is. never x (verneeds_are strings (src dt_verneed) parts.tags x is)),
       ) refl
-  refused_is fault (unknown v say symbol here before) =
-      rw (said v say, first_is v symbol (unknown_index v) refl (record { here = here; before = before })) refl
+  refused_is fault (unknown v say symbol first) = rw (said v say, (first_is v symbol).1 first) refl
 
   pub refused : (fault : NotAccepted) → (versions_verdict bytes head parts ≡ Err fault) ↔ BreaksFirst bytes head parts fault
   refused fault = (refused_from fault, refused_is fault)

@@ -1,4 +1,4 @@
--- Which version indexes there are (Drepper, "ELF Symbol Versioning").
+-- Which version indexes there are, as tests for the code of this crate alone.
 use Rattle.std.specs.Prelude.{ℕ, ◌%◌, ◌==◌, ◌&&◌, Bool, not, nat_le, List, ◌++◌, map, Option, position}
 use Rattle.std.specs.List.{list_any}
 use Rattle.ld_base.specs.declared.object.Verdef.{Verdef}

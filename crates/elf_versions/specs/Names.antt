@@ -1,4 +1,4 @@
--- Records of version tables with the strings at the offsets that they tell.
+-- Records of version tables with the strings at the offsets that they tell: for the code of this crate alone.
 use Rattle.std.specs.Prelude.{ℕ, List}
 use Rattle.ld_base.specs.declared.object.Verdef.{Verdef}
 use Rattle.ld_base.specs.declared.object.Verneed.{Verneed}

@@ -10,13 +10,13 @@ use Rattle.ld_base.specs.declared.parts.Head.{Head}
 use Rattle.ld_base.specs.declared.parts.Tag.{Tag}
 use Rattle.ld_base.specs.declared.parts.Versions.{Versions}
 use Rattle.elf_head.specs.Readable.{file_bytes}
+use Rattle.acceptance.specs.First.{IsFirst}
 use Rattle.acceptance.specs.Table.{table}
 use Rattle.acceptance.specs.Entries.{AreEntries}
 use Rattle.dyn_table.specs.Name.{IsStringAt}
 use Rattle.dyn_table.specs.Tag.{last_of}
 use Rattle.dyn_table.specs.TagNumbers.{dt_versym, dt_verdef, dt_verdefnum, dt_verneed, dt_verneednum}
 use Rattle.elf_versions.specs.Need.{Need}
-use Rattle.elf_versions.specs.Index.{indexes_of, is_unknown}
 use Rattle.elf_versions.specs.Linked.{place}
 use Rattle.elf_versions.specs.Record.{bad_table, distance, value_of}
 use Rattle.elf_versions.specs.Source.{Source}
@@ -105,9 +105,18 @@ pub record Say (bytes : List ℕ) (head : Head) (parts : DynParts) (v : Versions
   pub verdefs : AreVerdefs (source_of bytes head.headers parts.tags dt_verdef) parts.tags v.verdefs
   pub verneeds : AreVerneeds (source_of bytes head.headers parts.tags dt_verneed) parts.tags v.verneeds
 
--- the entry of this symbol has an index that no version has
+-- a version that is defined or needed has this index
+abbrev pub HasIndex : Versions → ℕ → Type 0
+HasIndex v index = ((i : ℕ) × (d : Verdef) × (slice_get v.verdefs i ≡ Some d) × (d.index ≡ index))
+    ⊎ ((i : ℕ) × (n : Verneed) × (slice_get v.verneeds i ≡ Some n) × (n.index ≡ index))
+
+-- an entry, less its bit 0x8000, is an index of 2 or more that no version has
+abbrev pub IsUnknown : Versions → ℕ → Type 0
+IsUnknown v entry = (2 ≤ entry % 0x8000) × (HasIndex v (entry % 0x8000) → ⊥)
+
+-- the entry of this symbol is unknown
 abbrev pub IsUnknownAt : Versions → ℕ → Type 0
-IsUnknownAt v symbol = (entry : ℕ) × (slice_get v.versym symbol ≡ Some entry) × IsTrue (is_unknown (indexes_of v.verdefs v.verneeds) entry)
+IsUnknownAt v symbol = (entry : ℕ) × (slice_get v.versym symbol ≡ Some entry) × IsUnknown v entry
 
 -- no rule is broken, and the tables say this
 pub record SpellsVersions (bytes : List ℕ) (head : Head) (parts : DynParts) (v : Versions) : Type 0 where
@@ -122,4 +131,4 @@ pub data BreaksFirst (bytes : List ℕ) (head : Head) (parts : DynParts) : NotAc
   bad_verneeds : (entries : List ℕ) → IsVersym (source_of bytes head.headers parts.tags dt_versym) parts.tags (length parts.symbols) entries
       → (ds : List Verdef) → AreVerdefs (source_of bytes head.headers parts.tags dt_verdef) parts.tags ds
       → ((ns : List Verneed) → AreVerneeds (source_of bytes head.headers parts.tags dt_verneed) parts.tags ns → ⊥) → BreaksFirst bytes head parts (bad_table dt_verneed)
-  unknown : (v : Versions) → Say bytes head parts v → (symbol : ℕ) → IsUnknownAt v symbol → ((before : ℕ) → before < symbol → IsUnknownAt v before → ⊥) → BreaksFirst bytes head parts (bad_index symbol)
+  unknown : (v : Versions) → Say bytes head parts v → (symbol : ℕ) → IsFirst (IsUnknownAt v) symbol → BreaksFirst bytes head parts (bad_index symbol)

@@ -1,12 +1,14 @@
 //! Reading the versions of an object.
 
 ghost use Rattle.std.specs.Prelude.{◌≡◌, Ok, length};
-ghost use Rattle.acceptance.specs.Gives.{Gives};
+ghost use Rattle.acceptance.specs.Gives.{Answers, Gives};
 ghost use Rattle.elf_head.specs.Rules.{head_verdict};
+ghost use Rattle.elf_versions.specs.Spells.{BreaksFirst, SpellsVersions};
 ghost use Rattle.elf_versions.specs.Verdict.{strings_of, tables_of, versions_in, versions_verdict};
 
 use crate::index::unknown_index;
 use crate::judged::JudgedVersions;
+use crate::law::one_verdict;
 use crate::records::Records;
 use crate::verdef::read_verdefs;
 use crate::verneed::read_verneeds;
@@ -94,6 +96,21 @@ pub fn judge_versions<'a>(
 ///
 /// The first of the rules 17 and 18 that the tables break, with its number, or want of memory.
 pub fn read_versions(
+    alloc: Global,
+    bytes: &[u8],
+    head: &Head,
+    parts: &DynParts,
+) -> Result<Versions, ReadFault>
+    requires { head_verdict bytes.now ≡ Ok head.now }
+    ensures answers { Answers (SpellsVersions bytes.now head.now parts.now) (BreaksFirst bytes.now head.now parts.now) result }
+    ensures verdict { Gives result (versions_verdict bytes.now head.now parts.now) }
+{
+    one_verdict();
+    read_judged(alloc, bytes, head, parts)
+}
+
+/// Judges the tables, and copies their names.
+fn read_judged(
     alloc: Global,
     bytes: &[u8],
     head: &Head,

@@ -1,5 +1,5 @@
 -- The verdict on hash tables and the relations that say what it means.
-use Rattle.std.proofs.Common.{◌≡◌, ◌↔◌, ◌⊎◌, ◌∙◌, sym, ap, ℕ, zero, suc, ◌<◌, ◌≤◌, Bool, true, false, List, [], ◌∷◌, length, get_or, refl, arith, inl, inr}
+use Rattle.std.proofs.Common.{◌≡◌, ◌↔◌, ◌⊎◌, ◌∙◌, sym, ap, subst, ℕ, zero, suc, ◌<◌, ◌≤◌, Bool, true, false, List, [], ◌∷◌, length, get_or, refl, arith, inl, inr}
 use Rattle.std.specs.Prelude.{Option, Some, None, Ok, Err, Contains, IsTrue, ◌&&◌, not, nat_le, if◌then◌else◌}
 use Rattle.std.specs.Option.{option_map_or, option_or}
 use Rattle.std.specs.List.{list_all, slice_get}
@@ -14,9 +14,10 @@ use Rattle.ld_base.specs.declared.parts.GnuPart.{GnuPart}
 use Rattle.ld_base.specs.declared.parts.HashTable.{HashTable}
 use Rattle.ld_base.specs.declared.parts.Head.{Head}
 use Rattle.ld_base.specs.declared.parts.SysvPart.{SysvPart}
-use Rattle.acceptance.proofs.Leasts.{least_all, least_at, least_found, least_none}
+use Rattle.acceptance.proofs.Finds.{finds_is, finds_none, Finds}
+use Rattle.acceptance.proofs.Leasts.{finds_least}
 use Rattle.acceptance.proofs.Firsts.{accepts, none_at, refuses, Breaking, Listed}
-use Rattle.acceptance.specs.First.{NoneBroken}
+use Rattle.acceptance.specs.First.{IsFirst, NoneBroken}
 use Rattle.dyn_table.specs.HashWords.{hash_words}
 use Rattle.sym_hash.proofs.Chains.{gnu_from, gnu_is, walk_from, walk_is}
 use Rattle.sym_hash.proofs.Links.{ends_leads, leads_end, sysv_from, sysv_is}
@@ -108,43 +109,17 @@ missed_within t symbols first i m = slice_get_within symbols i m.symbol m.stands
 -- ---- the verdict
 
 -- the first symbol that is missed
-pub record IsFirst (t : HashTable) (symbols : List Symbol) (first i : ℕ) : Type 0 where
-  pub here : IsMissedAt t symbols first i
-  pub before : (j : ℕ) → j < i → IsMissedAt t symbols first j → ⊥
-
-first_from : (t : HashTable) (symbols : List Symbol) (first i : ℕ) → first_missed (reaches t) symbols first ≡ Some i → IsFirst t symbols first i
+missed_found : (t : HashTable) (symbols : List Symbol) (first : ℕ) → Finds (IsMissedAt t symbols first) (first_missed (reaches t) symbols first)
 unfolding first_missed
-first_from t symbols first i found =
-    let least = least_at (is_missed (reaches t) symbols first) (length symbols) i found in
-    record {
-      here = missed_from t symbols first i least.passes;
-      before = λ j below m. (let off = least.before j below in let on = missed_is t symbols first j m in cc);
-    }
+missed_found t symbols first =
+    finds_least (is_missed (reaches t) symbols first) (IsMissedAt t symbols first) (length symbols)
+    (λ i. (missed_from t symbols first i, missed_is t symbols first i)) (missed_within t symbols first)
 
-first_is : (t : HashTable) (symbols : List Symbol) (first i : ℕ) → IsFirst t symbols first i → first_missed (reaches t) symbols first ≡ Some i
-unfolding first_missed
-first_is t symbols first i f =
-    let test = is_missed (reaches t) symbols first in
-    let none = least_all test i (λ j below. off (test j) (λ on. f.before j below (missed_from t symbols first j on))) in
-    least_found test i (length symbols) none (missed_is t symbols first i f.here) (missed_within t symbols first i f.here)
-  where
-    off : (b : Bool) → (b ≡ true → ⊥) → b ≡ false
-    off true never = absurd (never refl)
-    off false never = refl
+first_is : (t : HashTable) (symbols : List Symbol) (first i : ℕ) → (first_missed (reaches t) symbols first ≡ Some i) ↔ IsFirst (IsMissedAt t symbols first) i
+first_is t symbols first i = finds_is (IsMissedAt t symbols first) (first_missed (reaches t) symbols first) i (missed_found t symbols first)
 
 none_from : (t : HashTable) (symbols : List Symbol) (first : ℕ) → first_missed (reaches t) symbols first ≡ None → (i : ℕ) → IsMissedAt t symbols first i → ⊥
-unfolding first_missed
-none_from t symbols first none i m =
-    let off = least_none (is_missed (reaches t) symbols first) (length symbols) i none (missed_within t symbols first i m) in
-    let on = missed_is t symbols first i m in
-    both off on
-  where
-    both : {b : Bool} → b ≡ false → b ≡ true → ⊥
-    both off on = cc
-
-none_is : (t : HashTable) (symbols : List Symbol) (first : ℕ) (found : Option ℕ) → first_missed (reaches t) symbols first ≡ found → ((i : ℕ) → IsMissedAt t symbols first i → ⊥) → found ≡ None
-none_is t symbols first None is never = refl
-none_is t symbols first (Some i) is never = absurd (never i (first_from t symbols first i is).here)
+none_from t symbols first none = subst (Finds (IsMissedAt t symbols first)) none (missed_found t symbols first)
 
 -- each exported definition is reached, where none is missed
 reached_all : (t : HashTable) (symbols : List Symbol) (first : ℕ) → ((i : ℕ) → IsMissedAt t symbols first i → ⊥) → (i : ℕ) (s : Symbol) → first ≤ i → slice_get symbols i ≡ Some s → IsTrue (is_visible_definition s) → Reached t s.name i
@@ -179,7 +154,7 @@ table_is : (t : HashTable) (symbols : List Symbol) (first : ℕ) → IsTableFor 
 unfolding unmet
 table_is t symbols first is =
     let ends = walks_are t.gnu t.sysv (length symbols) is.ends in
-    let none = none_is t symbols first (first_missed (reaches t) symbols first) refl (never_missed t symbols first is) in
+    let none = finds_none (IsMissedAt t symbols first) (first_missed (reaches t) symbols first) (missed_found t symbols first) (never_missed t symbols first is) in
     rw (ends, none) refl
 
 unmet_from : (t : HashTable) (symbols : List Symbol) (first number : ℕ) → unmet t symbols first ≡ Some number → Breaks t symbols first 19 number
@@ -188,8 +163,7 @@ unmet_from t symbols first number e =
     elim (unmet_number (walks_end t (length symbols)) (first_missed (reaches t) symbols first) number e) [
       | inl walk ↦ rw walk.1 (no_end (λ ends. (let is = walks_are t.gnu t.sysv (length symbols) ends in let off = walk.0 in cc)))
       | inr symbol ↦
-          let f = first_from t symbols first number symbol.1 in
-          not_reached (walks_from t.gnu t.sysv (length symbols) symbol.0) number f.here f.before
+          not_reached (walks_from t.gnu t.sysv (length symbols) symbol.0) number ((first_is t symbols first number).0 symbol.1)
     ]
 
 unmet_walk : (t : HashTable) (symbols : List Symbol) (first : ℕ) → (WalksEnd t (length symbols) → ⊥) → unmet t symbols first ≡ Some 0
@@ -200,14 +174,14 @@ unmet_walk t symbols first never =
       | inr off ↦ rw off refl
     ]
 
-unmet_symbol : (t : HashTable) (symbols : List Symbol) (first i : ℕ) → WalksEnd t (length symbols) → IsFirst t symbols first i → unmet t symbols first ≡ Some i
+unmet_symbol : (t : HashTable) (symbols : List Symbol) (first i : ℕ) → WalksEnd t (length symbols) → IsFirst (IsMissedAt t symbols first) i → unmet t symbols first ≡ Some i
 unfolding unmet
-unmet_symbol t symbols first i ends f = rw (walks_are t.gnu t.sysv (length symbols) ends, first_is t symbols first i f) refl
+unmet_symbol t symbols first i ends f = rw (walks_are t.gnu t.sysv (length symbols) ends, (first_is t symbols first i).1 f) refl
 
 -- the rule is broken with the number by which it is unmet
 listed : (t : HashTable) (symbols : List Symbol) (first : ℕ) → Listed 19 (unmet t symbols first ∷ []) (Breaks t symbols first)
 listed t symbols first rule number (no_end never) = (0, refl, ap Some (unmet_walk t symbols first never))
-listed t symbols first rule number (not_reached ends i here before) = (0, refl, ap Some (unmet_symbol t symbols first i ends (record { here = here; before = before })))
+listed t symbols first rule number (not_reached ends i missed) = (0, refl, ap Some (unmet_symbol t symbols first i ends missed))
 
 breaking : (t : HashTable) (symbols : List Symbol) (first : ℕ) → Breaking 19 (unmet t symbols first ∷ []) (Breaks t symbols first)
 breaking t symbols first zero number found = unmet_from t symbols first number (cc)

@@ -1,4 +1,4 @@
--- Following many links of a System V chain at once, and counting them.
+-- Following many links of a System V chain at once, and counting them: for the code of this crate alone.
 use Rattle.std.specs.Prelude.{◌≡◌, ◌<◌, Some, unwrap_or, ℕ, zero, suc, ◌+◌, ◌-◌, ◌/◌, ◌%◌, ◌^◌, ◌==◌, ◌&&◌, Bool, not, nat_lt, nat_le, min, if◌then◌else◌, List, length, slice_index}
 use Rattle.std.specs.List.{slice_get}
 use Rattle.std.specs.Option.{option_map_or}

@@ -1,8 +1,9 @@
--- GNU hash tables: buckets, chains and the bloom filter.
+-- GNU hash tables: buckets, chains and the bloom filter, as tests for the code of this crate alone.
 use Rattle.std.specs.Prelude.{◌≡◌, ℕ, ◌-◌, ◌/◌, ◌%◌, ◌^◌, ◌==◌, ◌&&◌, ◌||◌, Bool, false, not, nat_lt, nat_le, List, length, take, drop, slice_index}
 use Rattle.std.specs.List.{list_any, list_all, slice_get}
 use Rattle.std.specs.Option.{option_map_or}
 use Rattle.ld_base.specs.declared.parts.GnuPart.{GnuPart}
+pub use Rattle.dyn_table.specs.Bits.{has_bit}
 pub use Rattle.dyn_table.specs.HashWords.{is_end}
 use Rattle.sym_hash.specs.Hash.{gnu_hash}
 
@@ -17,10 +18,6 @@ walk_ends g count bucket = bucket == 0 || (nat_le g.symoffset bucket && ends_bet
 -- every walk ends inside so many symbols
 unfoldable pub gnu_walks_end : GnuPart → ℕ → Bool
 gnu_walks_end g count = list_all (walk_ends g count) g.buckets
-
--- the bit of a word
-abbrev pub has_bit : ℕ → ℕ → Bool
-has_bit word bit = word / 2 ^ bit % 2 == 1
 
 -- the word of the bloom filter for a hash
 abbrev pub bloom_word : GnuPart → ℕ → ℕ
@@ -49,7 +46,3 @@ gnu_leads g hash i = in_bloom g hash && walk_reaches g (gnu_bucket g hash) i && 
 -- the symbol is found under a name
 abbrev pub gnu_reaches : GnuPart → List ℕ → ℕ → Bool
 gnu_reaches g name i = gnu_leads g (gnu_hash name) i
-
--- how the ends stand before a symbol: from each chain word on there is one, of those before the symbol, where the word is below a number
-abbrev pub EndsBelow : GnuPart → ℕ → ℕ → Type 0
-EndsBelow g past ended = (k : ℕ) → list_any is_end (drop k (take (past - g.symoffset) g.chain)) ≡ nat_lt k ended

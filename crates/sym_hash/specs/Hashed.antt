@@ -1,11 +1,13 @@
 -- Symbols by the hashes of their names: for the reader of this crate alone.
-use Rattle.std.specs.Prelude.{◌≡◌, ℕ, ◌&&◌, Bool, false, not, nat_le, List, length, Option, Some, None, if◌then◌else◌, slice_index}
+use Rattle.std.specs.Prelude.{◌≡◌, ℕ, ◌-◌, ◌&&◌, Bool, false, not, nat_le, nat_lt, List, length, take, drop, Option, Some, None, if◌then◌else◌, slice_index}
 use Rattle.std.specs.Option.{option_map_or, option_or}
-use Rattle.std.specs.List.{slice_get}
+use Rattle.std.specs.List.{list_any, slice_get}
 use Rattle.ld_base.specs.Symbol.{is_visible_definition}
 use Rattle.ld_base.specs.declared.object.Symbol.{Symbol}
+use Rattle.ld_base.specs.declared.parts.GnuPart.{GnuPart}
 use Rattle.ld_base.specs.declared.parts.HashTable.{HashTable}
 use Rattle.acceptance.specs.Least.{least_below}
+use Rattle.dyn_table.specs.HashWords.{is_end}
 use Rattle.sym_hash.specs.Gnu.{gnu_leads}
 use Rattle.sym_hash.specs.Hash.{gnu_hash, sysv_hash}
 use Rattle.sym_hash.specs.Sysv.{sysv_leads}
@@ -36,3 +38,7 @@ pub record AreHashed (hash : List ℕ → ℕ) (symbols bare : List Symbol) (has
   pub count : length bare ≡ length symbols
   pub each : (i : ℕ) (s : Symbol) → slice_get symbols i ≡ Some s → (b : Symbol) × (slice_get bare i ≡ Some b) × (is_visible_definition b ≡ is_visible_definition s)
   pub hashed : (i : ℕ) (s : Symbol) → slice_get symbols i ≡ Some s → slice_get hashes i ≡ Some (hash s.name)
+
+-- how the ends stand before a symbol: from each chain word on there is one, of those before the symbol, where the word is below a number
+abbrev pub EndsBelow : GnuPart → ℕ → ℕ → Type 0
+EndsBelow g past ended = (k : ℕ) → list_any is_end (drop k (take (past - g.symoffset) g.chain)) ≡ nat_lt k ended

@@ -1,4 +1,4 @@
--- System V hash tables: buckets and chains (gABI, "Hash Table").
+-- System V hash tables, buckets and chains (gABI, "Hash Table"), as tests for the code of this crate alone.
 use Rattle.std.specs.Prelude.{ℕ, zero, suc, ◌%◌, ◌==◌, ◌&&◌, ◌||◌, Bool, false, not, nat_lt, List, length, slice_index}
 use Rattle.std.specs.List.{list_all}
 use Rattle.ld_base.specs.declared.parts.SysvPart.{SysvPart}

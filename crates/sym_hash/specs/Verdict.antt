@@ -1,4 +1,4 @@
--- Whether the hash tables lead to all that an object exports.
+-- Whether the hash tables lead to all that an object exports, as a test for the code of this crate alone.
 use Rattle.std.specs.Prelude.{ℕ, ◌&&◌, Bool, true, false, not, nat_le, List, [], ◌∷◌, length, Option, Some, None, Result, Ok, Err, if◌then◌else◌}
 use Rattle.std.specs.Option.{option_map_or, option_or}
 use Rattle.std.specs.List.{slice_get}

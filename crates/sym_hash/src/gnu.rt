@@ -5,8 +5,8 @@ ghost use Rattle.std.specs.Prelude.{◌||◌, None, Some, if◌then◌else◌, n
 ghost use Rattle.std.specs.List.{list_all, list_any};
 ghost use Rattle.std.specs.Option.{option_or};
 ghost use Rattle.ld_base.specs.Symbol.{is_visible_definition};
-ghost use Rattle.sym_hash.specs.Gnu.{EndsBelow, gnu_leads, gnu_walks_end, has_bit, has_word, in_bloom, is_end, walk_reaches};
-ghost use Rattle.sym_hash.specs.Hashed.{first_lost};
+ghost use Rattle.sym_hash.specs.Gnu.{gnu_leads, gnu_walks_end, has_bit, has_word, in_bloom, is_end, walk_reaches};
+ghost use Rattle.sym_hash.specs.Hashed.{first_lost, EndsBelow};
 
 use ld_base::{GnuPart, Symbol};
 

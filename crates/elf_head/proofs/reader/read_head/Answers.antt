@@ -1,19 +1,10 @@
-use Rattle.std.proofs.Common.{◌≡◌, ◌∙◌, sym, rules}
-use Rattle.std.specs.Prelude.{None, Some}
-use Rattle.elf_head.proofs.Verdicts.{broken_by_file, refused_verdict}
-use Rattle.acceptance.specs.Broken.{first_broken}
-use Rattle.elf_head.specs.Rules.{file_rules, header_rules}
+use Rattle.acceptance.proofs.Answers.{answers}
+use Rattle.elf_head.specs.Rules.{head_verdict}
+use Rattle.elf_head.specs.Verdict.{BreaksFirst, SpellsHead}
 use Rattle.elf_head.proofs.reader.read_head.Goals as goal
 
-pub returns-in-Some-broken_file_rule-clause-refused : goal.returns-in-Some-broken_file_rule-clause-refused
-returns-in-Some-broken_file_rule-clause-refused c broken same =
-    let none : first_broken 1 (header_rules c.args.bytes.now) ≡ None = search rules in
-    let found : first_broken 8 (file_rules c.args.bytes.now) ≡ Some broken = sym c.broken_file_rule.ensures ∙ c.in-Some-broken_file_rule.is ∙ cc in
-    broken_by_file c.args.bytes.now broken none found
-
-pub returns-in-Some-broken_file_rule-clause-exact : goal.returns-in-Some-broken_file_rule-clause-exact
-returns-in-Some-broken_file_rule-clause-exact c =
-    let none : first_broken 1 (header_rules c.args.bytes.now) ≡ None = search rules in
-    let broken = c.in-Some-broken_file_rule.broken in
-    let found : first_broken 8 (file_rules c.args.bytes.now) ≡ Some broken = sym c.broken_file_rule.ensures ∙ c.in-Some-broken_file_rule.is in
-    refused_verdict c.args.bytes.now broken (broken_by_file c.args.bytes.now broken none found)
+pub returns-clause-answers : goal.returns-clause-answers
+returns-clause-answers c =
+    let bytes = c.args.bytes.now in
+    answers (SpellsHead bytes) (BreaksFirst bytes) (head_verdict bytes)
+    (λ head. (c.one_verdict.ensures.accepted bytes head).0) (λ fault. (c.one_verdict.ensures.refused bytes fault).0) c.read_rules.result c.read_rules.ensures

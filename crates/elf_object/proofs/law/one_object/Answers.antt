@@ -1,4 +1,4 @@
-use Rattle.elf_object.proofs.Laws.{Readings, verdict_spells, spells_verdict, one_spelled, refused_from, refused_is, table_of_read, names_of_read}
+use Rattle.elf_object.proofs.Laws.{Readings, verdict_spells, spells_verdict, one_spelled, refused_from, refused_is, spelled_or_broken, never_both, one_broken, table_of_read, names_of_read}
 use Rattle.elf_object.proofs.law.one_object.Goals as goal
 
 readings : goal.After-one_verdict-4 → Readings
@@ -30,3 +30,12 @@ returns-clause-table c = table_of_read (readings c)
 
 pub returns-clause-names : goal.returns-clause-names
 returns-clause-names c = names_of_read (readings c)
+
+pub returns-clause-exactly : goal.returns-clause-exactly
+returns-clause-exactly c = spelled_or_broken (readings c)
+
+pub returns-clause-never_both : goal.returns-clause-never_both
+returns-clause-never_both c = never_both (readings c)
+
+pub returns-clause-one_fault : goal.returns-clause-one_fault
+returns-clause-one_fault c = one_broken (readings c)

@@ -1,6 +1,7 @@
 use Rattle.std.proofs.Common.{◌≡◌, None, slice_index}
 use Rattle.acceptance.specs.Least.{least_below}
-use Rattle.sym_hash.specs.Gnu.{EndsBelow, gnu_leads}
+use Rattle.sym_hash.specs.Gnu.{gnu_leads}
+use Rattle.sym_hash.specs.Hashed.{EndsBelow}
 use Rattle.sym_hash.specs.Hashed.{is_lost}
 use Rattle.sym_hash.proofs.gnu.first_lost.Given as goal
 

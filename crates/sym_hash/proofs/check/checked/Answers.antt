@@ -3,7 +3,7 @@ use Rattle.dyn_table.specs.HashWords.{hash_words}
 use Rattle.sym_hash.proofs.Missed.{own_hashes}
 use Rattle.sym_hash.specs.Hashed.{hash_by, AreHashed}
 use Rattle.sym_hash.specs.Verdict.{table_verdict}
-use Rattle.sym_hash.proofs.lookup.HashTableLookup.check.Goals as goal
+use Rattle.sym_hash.proofs.check.checked.Goals as goal
 
 pub returns : goal.returns
 unfolding table_verdict

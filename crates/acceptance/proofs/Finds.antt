@@ -6,7 +6,7 @@ use Rattle.std.specs.List.{list_any, position_or_len, slice_get}
 use Rattle.std.specs.Option.{option_or}
 use Rattle.std.proofs.lemmas.Bool.{cases_Bool, cases_lt, lt-ltb, le-ltb}
 use Rattle.std.proofs.lemmas.Bool.Decides.{Decides-like, Decides-or}
-use Rattle.elf_dynamic.specs.Breaks.{IsFirst}
+use Rattle.acceptance.specs.First.{IsFirst}
 
 abbrev pub Finds : (ℕ → Type 0) → Option ℕ → Type 0
 Finds Bad None = (k : ℕ) → Bad k → ⊥
@@ -30,6 +30,11 @@ finds_is Bad (Some j) k f = (λ e. subst (IsFirst Bad) (same_some e) f, λ first
 pub finds_like : (A B : ℕ → Type 0) → ((k : ℕ) → A k → B k) → ((k : ℕ) → B k → A k) → (o : Option ℕ) → Finds A o → Finds B o
 finds_like A B to from None none = λ k b. none k (from k b)
 finds_like A B to from (Some k) f = record { bad = to k f.bad; before = λ j below b. f.before j below (from j b) }
+
+-- where nothing is bad, nothing is found
+pub finds_none : (Bad : ℕ → Type 0) (o : Option ℕ) → Finds Bad o → ((k : ℕ) → Bad k → ⊥) → o ≡ None
+finds_none Bad None f none = refl
+finds_none Bad (Some k) f none = absurd (none k f.bad)
 
 -- where nothing is first, nothing is
 pub never : (Bad : ℕ → Type 0) → ((k : ℕ) → IsFirst Bad k → ⊥) → (k : ℕ) → Bad k → ⊥
