@@ -150,10 +150,10 @@ fn judge(alloc: Global, tables: Tables, program: bool) -> Result<Judged, ReadFau
     requires few { length tables.relocs.now < 2 ^ 32 }
     ensures { MatchResult result
         (λ judged. (first_broken 13 (rules_on tables.entry.bytes.now tables.entry.head.now program tables.entry.tags.now
-            tables.entry.symbols.now tables.entry.relocs.now tables.entry.slots.now tables.entry.packed.now) ≡ None)
+        tables.entry.symbols.now tables.entry.relocs.now tables.entry.slots.now tables.entry.packed.now) ≡ None)
         × ArePlaces judged (relr_places tables.entry.packed.now))
         (λ fault. Faults fault (option_map_or Err (first_broken 13 (rules_on tables.entry.bytes.now tables.entry.head.now program
-            tables.entry.tags.now tables.entry.symbols.now tables.entry.relocs.now tables.entry.slots.now tables.entry.packed.now)) (Ok (tt {0})))) }
+        tables.entry.tags.now tables.entry.symbols.now tables.entry.relocs.now tables.entry.slots.now tables.entry.packed.now)) (Ok (tt {0})))) }
 {
     let headers = tables.head.headers.as_slice();
     if let Some(symbol) = bad_symbol(headers, tables.symbols) {

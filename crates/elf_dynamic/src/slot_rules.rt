@@ -93,7 +93,7 @@ fn first_bad_slot(slots: Slots, named: &Marks, naming: &Naming) -> Option<usize>
     requires told { TellsOf naming.now (slot_ranges slots.symbols.now slots.relocs.now) }
     ensures { (others : List Span) → AreMarks named.now.words.items others
         → result ≡ position (is_bad_slot slots.entry.bytes.now slots.entry.head.now.headers slots.entry.symbols.now others
-            (slot_ranges slots.entry.symbols.now slots.entry.relocs.now)) slots.entry.relocs.now }
+        (slot_ranges slots.entry.symbols.now slots.entry.relocs.now)) slots.entry.relocs.now }
 {
     for (index, slot) in slots.relocs.iter().enumerate() {
         if is_bad_slot(slots, named, naming, *slot) {

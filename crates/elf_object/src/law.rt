@@ -1,6 +1,6 @@
 //! What it is to be an object.
 
-ghost use Rattle.std.specs.Prelude.{◌≡◌, ◌↔◌, ◌⊎◌, ⊥, ℕ, Bool, Ok, Err, List, IsTrue};
+ghost use Rattle.std.specs.Prelude.{◌≡◌, ◌↔◌, ◌⊎◌, ℕ, Bool, Ok, Err, List, IsTrue};
 ghost use Rattle.ld_base.specs.declared.fault.NotAccepted.{NotAccepted};
 ghost use Rattle.ld_base.specs.declared.object.Object.{Object};
 ghost use Rattle.ld_base.specs.declared.parts.HashTable.{HashTable};

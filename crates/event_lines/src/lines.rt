@@ -20,7 +20,10 @@ impl Calls for Lines {
     fn answer(&mut self, line: &str) -> Result<String, Fault> {
         match line.strip_prefix("event ") {
             Some(rest) => written(self.alloc, rest),
-            None => kind_of(self.alloc, line.strip_prefix("line ").ok_or(Fault::Unclear)?),
+            None => kind_of(
+                self.alloc,
+                line.strip_prefix("line ").ok_or(Fault::Unclear)?,
+            ),
         }
     }
 }
