@@ -93,38 +93,16 @@ fn searched(alloc: Global, view: &View, owner: &Loaded, copy: bool) -> Result<Se
     ensures { IfOk result (λ s. s ≡ searched (seen view.now) owner.now copy) }
 {
     let scope = scope(alloc, view, owner)?;
-    if copy {
-        others(alloc, owner.serial, scope.as_slice())
-    } else {
-        Ok(scope)
+    if !copy {
+        return Ok(scope);
     }
-}
-
-/// These objects, less one.
-fn others(alloc: Global, one: Serial, serials: &[Serial]) -> Result<Serials, AllocError>
-    ensures { IfOk result (λ s. s ≡ filter (λ serial. not (serial == one)) serials.now) }
-{
-    let others: Vec<Serial> = serials
+    let others: Vec<Serial> = scope
+        .as_slice()
         .iter()
         .copied()
-        .filter(|serial| *serial != one)
+        .filter(|serial| *serial != owner.serial)
         .collect(alloc)?;
     Ok(Serials::from(others))
-}
-
-/// The first definition of a name and a version where a reference of the owner is searched.
-fn search(
-    alloc: Global,
-    view: &View,
-    owner: &Loaded,
-    name: &[u8],
-    want: &Want,
-    copy: bool,
-) -> Result<Option<(Serial, u32)>, AllocError>
-    ensures { IfOk result (λ found. found ≡ first_with (pick_at (seen view.now) name.now want.now) (searched (seen view.now) owner.now copy)) }
-{
-    let scope = searched(alloc, view, owner, copy)?;
-    Ok(first_with(view, name, want, scope.as_slice()))
 }
 
 /// The same as [`choose`], of an object and its symbol at an index.
@@ -143,7 +121,8 @@ fn choose_for(
         return Ok(Choice::Def(owner.serial, index));
     }
     let want = want_of(alloc, &owner.object, symbol)?;
-    let found = search(alloc, view, owner, symbol.name.as_bytes(), &want, copy)?;
+    let scope = searched(alloc, view, owner, copy)?;
+    let found = first_with(view, symbol.name.as_bytes(), &want, scope.as_slice());
     Ok(choice_of(symbol, found))
 }
 
