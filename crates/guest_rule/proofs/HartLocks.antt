@@ -178,7 +178,7 @@ module _ (word : ℕ → ℕ) (known : ℕ → Kept) (access : Access) (harts : 
   hart_locks (kinds.Hold ask) small few ready aims = values (store_place ask) (word (value_at (store_place ask))) h.access.last ready
   hart_locks (kinds.Lock ask control) small few ready aims = locks ask control ready.0.0.1 ready.1 ready.3 ready.4 (eqb (word (control_at (store_place ask))) control) refl
   hart_locks (kinds.Store ask x) small few ready aims = values (store_place ask) x None ready.0
-  hart_locks (kinds.Unlock d) small few ready aims = unlocks d ready small
+  hart_locks (kinds.Unlock d) small few ready aims = unlocks d ready.0 small
   hart_locks kinds.Tally small few ready aims = below 0 (word 0) (omega arith)
   hart_locks (kinds.Begin n) small few ready aims = below (state_at n) ((word (state_at n) + 8) % 18446744073709551616) (low_row n 0 (own n few ready.0) (omega arith))
   hart_locks (kinds.Arrive n) small few ready aims = below (state_at n) (word (state_at n)) (low_row n 0 (own n few ready.0) (omega arith))

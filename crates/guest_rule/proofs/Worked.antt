@@ -1,8 +1,9 @@
 -- The worked steps, by computation.
-use Rattle.std.proofs.Common.{◌≡◌, ℕ, true, false, Some, refl, sym, ap, subst, ◌∙◌, inr}
+use Rattle.std.proofs.Common.{◌≡◌, ◌≤◌, ◌<◌, ℕ, arith, true, false, Some, refl, sym, ap, subst, ◌∙◌, inr}
 use Rattle.guest_rule.specs.declared.kind.StoreAsk.TheVariants.{Conditional}
 use Rattle.guest_rule.specs.HartSteps.{is_fresh, last_control}
-use Rattle.guest_rule.specs.Worked.{AnotherHasLocked, ConditionalFails, ConditionalIsRefused, OneLocks, OneWins, RoleComesAndGoes}
+use Rattle.guest_rule.specs.Layout.{doublewords, place_of}
+use Rattle.guest_rule.specs.Worked.{AnotherHasLocked, ConditionalFails, ConditionalIsRefused, OneLocks, OneWins, RoleComesAndGoes, StoreIsOwed}
 
 pub one_locks : OneLocks
 one_locks = (refl, refl, refl, refl)
@@ -13,10 +14,20 @@ another_has_locked = refl
 pub conditional_fails : ConditionalFails
 conditional_fails = (refl, refl)
 
+first_low : place_of 0x10000 < doublewords
+unfolding doublewords place_of
+first_low = omega arith
+
 pub conditional_is_refused : ConditionalIsRefused
 conditional_is_refused = (
   (λ ready. let found : 19 ≡ ready.2.0 = ap last_control ready.2.1 in let fresh : false ≡ true = ap (λ n. is_fresh (Conditional 0x10000 8 7 0) n) found ∙ ready.2.2 in absurd (cc)),
-  (refl, inr (refl, refl), (19, refl, refl)),
+  (refl, inr (refl, refl), (19, refl, refl), ((omega arith, first_low), inr (inr (inr refl)), refl)),
+)
+
+pub store_is_owed : StoreIsOwed
+store_is_owed = (
+  (λ ready. let stored = ready.1 in absurd (cc)),
+  (λ ready. let inside : 0x10000 ≤ 0x8 = ready.3.0.0 in absurd (omega arith)),
 )
 
 pub one_wins : OneWins

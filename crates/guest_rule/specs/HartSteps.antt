@@ -242,8 +242,8 @@ HartReady (kinds.Lock ask control) h =
     × (may_write (role_in control) ≡ true) × (is_fresh ask control ≡ true)
 HartReady (kinds.Store ask x) h =
     (h.access.locked ≡ Some (store_place ask)) × Makes ask h.access.held x
-    × ((control : ℕ) × (h.access.last ≡ Some (store_place ask, control)) × (is_fresh ask control ≡ true))
-HartReady (kinds.Unlock d) h = h.access.locked ≡ Some d
+    × ((control : ℕ) × (h.access.last ≡ Some (store_place ask, control)) × (is_fresh ask control ≡ true)) × IsAsked (store_address ask) (store_size ask)
+HartReady (kinds.Unlock d) h = (h.access.locked ≡ Some d) × (h.access.last ≡ None)
 HartReady kinds.Tally h = h.lane.calling ≡ false
 HartReady (kinds.Begin m) h = (m ≡ h.number) × (h.lane.calling ≡ false)
 HartReady (kinds.Arrive m) h = (m ≡ h.number) × (h.lane.calling ≡ true) × (h.lane.offer ≡ None)

@@ -43,6 +43,12 @@ ConditionalIsRefused =
     ¬ (HartReady (kinds.Store (Conditional 0x10000 8 7 0) 7) locked)
     × HartReady (kinds.Store (Write 0x10000 8 7) 7) locked
 
+-- under a lock a store is owed, and it is one to guest memory: an address below it would be taken for the first doubleword
+abbrev pub StoreIsOwed : Type 0
+StoreIsOwed =
+    let locked = hart_after (kinds.Lock (Write 0x10000 8 7) 19) (first_hart 1) 19 in
+    ¬ (HartReady (kinds.Unlock 0) locked) × ¬ (HartReady (kinds.Store (Write 0x8 8 7) 7) locked)
+
 -- two grants of one slot whose lazy word is 5, with the values 100 and 200: the first exchange wins, the second finds its value
 abbrev pub first_grant : Grant
 first_grant = record { entry = record { mark = 3; number = 1; slot = 0x10000; value = 100; generation = 0 }; lazy = 5 }

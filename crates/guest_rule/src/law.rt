@@ -13,7 +13,7 @@ ghost use Rattle.guest_rule.specs.KeeperSteps.{KeeperReady};
 ghost use Rattle.guest_rule.specs.Rule.{HartKeeps, IsGuest, KeeperKeeps};
 ghost use Rattle.guest_rule.specs.Joining.{HasNote, HasRoom, JoinKeeps, MayTake, SplitKeeps, new_hart, note_of, takes_in, with_hart};
 ghost use Rattle.guest_rule.specs.Start.{first_keeper, first_words};
-ghost use Rattle.guest_rule.specs.Worked.{AnotherHasLocked, ConditionalFails, ConditionalIsRefused, OneLocks, OneWins, RoleComesAndGoes};
+ghost use Rattle.guest_rule.specs.Worked.{AnotherHasLocked, ConditionalFails, ConditionalIsRefused, OneLocks, OneWins, RoleComesAndGoes, StoreIsOwed};
 
 /// The rule holds at the start.
 pub fn rule_begins()
@@ -50,6 +50,7 @@ pub fn worked_steps()
     ensures another_has_locked { AnotherHasLocked }
     ensures conditional_fails { ConditionalFails }
     ensures conditional_is_refused { ConditionalIsRefused }
+    ensures store_is_owed { StoreIsOwed }
     ensures one_wins { OneWins }
     ensures roles { RoleComesAndGoes }
 {}

@@ -1,7 +1,10 @@
 -- Each call that a hart may make has an answer.
-use Rattle.std.proofs.Common.{◌≡◌, ℕ, List, [], ◌∷◌, length, refl}
+use Rattle.std.proofs.Common.{◌≡◌, ℕ, false, List, [], ◌∷◌, length, refl}
 use Rattle.link_event.specs.declared.event.Event.{Event}
 use Rattle.link_event.specs.declared.event.Event.TheVariants as events
+use Rattle.link_event.specs.declared.hart_end.HartEnd.{HartEnd}
+use Rattle.link_event.specs.declared.hart_end.HartEnd.TheVariants as ends
+use Rattle.std.specs.Prelude.{IsTrue}
 use Rattle.link_history.specs.After.{after}
 use Rattle.link_history.specs.Allowed.{kept_for}
 use Rattle.link_history.specs.Laws.{AreApart, ModulesAreTidy}
@@ -14,11 +17,29 @@ use Rattle.link_history.proofs.Offsets.{modules_tidy}
 use Rattle.link_service.specs.Answer.{over, returns, told}
 use Rattle.link_service.specs.Call.{Call, resolves, opens, looks_up, closes, unmaps, asks_fault, locates, writes, stops}
 use Rattle.link_service.specs.Complete.{HasAnswer, MayMake}
+use Rattle.link_service.specs.Ends.{is_own_end}
 use Rattle.link_service.specs.Ends.EndsAs.{asked}
+use Rattle.link_service.specs.Laws.{is_memory}
 use Rattle.link_service.specs.Gives.Answers.{is_told, is_written}
 use Rattle.link_service.specs.Gives.Gives.{by_event, to_end}
 use Rattle.link_service.proofs.Answered.{closes_answered, locates_answered, resolves_answered, unmaps_answered}
 use Rattle.link_service.proofs.Looked.{looks_up_answered}
+
+own_ample : (reason : HartEnd) → IsTrue (is_own_end reason) → is_memory reason ≡ false
+own_ample (ends.Exit code) own = refl
+own_ample ends.FuelOut own = refl
+own_ample (ends.NotMapped pc address) own = refl
+own_ample (ends.SlotStore pc address) own = refl
+own_ample (ends.BadInstruction pc word) own = refl
+own_ample (ends.Misaligned pc address) own = refl
+own_ample (ends.Break pc) own = refl
+own_ample (ends.BadModule number) own = refl
+own_ample (ends.Unloaded owner) own = refl
+own_ample (ends.NoSlot owner eights) own = refl
+own_ample (ends.Unresolved owner slot) own = refl
+own_ample (ends.NotCode owner slot) own = refl
+own_ample (ends.AddressSpaceFull pages) own = refl
+own_ample ends.Memory own = absurd (cc)
 
 answered : (w : Setting) (past : List Event) (h : ℕ) (call : Call) → AreApart (after past) → ModulesAreTidy (after past) → MayMake (after past) h call → HasAnswer w past h call
 answered w past h (resolves owner eights) alone tidy may = resolves_answered w past h owner eights may
@@ -34,7 +55,7 @@ answered w past h asks_fault alone tidy may = record {
 }
 answered w past h (locates number offset) alone tidy may = locates_answered w past h number offset alone tidy
 answered w past h (writes bytes) alone tidy may = record { given = events.Wrote h bytes ∷ []; answer = returns (length bytes); gives = by_event _ _ _ (is_written bytes) may; ample = refl }
-answered w past h (stops reason) alone tidy may = record { given = []; answer = over reason; gives = to_end _ _ (asked reason); ample = may }
+answered w past h (stops reason) alone tidy may = record { given = []; answer = over reason; gives = to_end _ _ (asked reason may); ample = own_ample reason may }
 
 pub complete : NumberLaws → LoadLaws → (m : Machine) (w : Setting) (past : List Event) (h : ℕ) (call : Call) → w.machine ≡ m → Lawful m past → MayMake (after past) h call → HasAnswer w past h call
 complete numbers laws m w past h call same lawful may = answered w past h call (apart laws m past lawful) (modules_tidy numbers laws m past lawful) may

@@ -435,7 +435,7 @@ invert_end w past (no_slot owner eights lack) ample = lacks lack
 invert_end w past (bad_module number offset none) ample = is_bad none
 invert_end w past (no_room number offset pages none) ample = is_full pages none
 invert_end w past (no_memory call takes) ample = absurd (true≢false ample)
-invert_end w past (asked reason) ample = (refl, refl)
+invert_end w past (asked reason own) ample = (refl, refl)
 
 invert_wait : (w : Setting) (past : List Event) {h : ℕ} {call : Call} {for : Shown} → Shows w (after past) h call for → Inverts w past h call [] (again for)
 unfolding Inverts

@@ -17,7 +17,8 @@ use Rattle.link_history.specs.Storage.{module_of}
 use Rattle.link_service.specs.Answer.{Answer}
 use Rattle.link_service.specs.Call.{Call, resolves, opens, looks_up, closes, unmaps, asks_fault, locates, writes, stops}
 use Rattle.link_service.specs.Gives.{Gives}
-use Rattle.link_service.specs.Laws.{is_memory, is_want}
+use Rattle.link_service.specs.Ends.{is_own_end}
+use Rattle.link_service.specs.Laws.{is_want}
 use Rattle.link_service.specs.Waiting.{HasFinished}
 
 -- the object has a module, and a segment of thread-local storage
@@ -47,7 +48,7 @@ MayMake s h (unmaps set) = HasFinished s h set
 MayMake s h asks_fault = Unit {0}
 MayMake s h (locates number offset) = Unit {0}
 MayMake s h (writes bytes) = MayWrite bytes
-MayMake s h (stops reason) = is_memory reason ≡ false
+MayMake s h (stops reason) = IsTrue (is_own_end reason)
 
 pub record HasAnswer (w : Setting) (past : List Event) (h : ℕ) (call : Call) : Type 0 where
   pub given : List Event

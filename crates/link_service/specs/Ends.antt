@@ -41,6 +41,23 @@ takes_memory (locates number offset) = true
 takes_memory (writes bytes) = true
 takes_memory (stops reason) = false
 
+-- the ends that a hart's own turns bring, its exit, its fuel, its accesses and its instructions; the others come of calls
+abbrev pub is_own_end : HartEnd → Bool
+is_own_end (ends.Exit code) = true
+is_own_end ends.FuelOut = true
+is_own_end (ends.NotMapped pc address) = true
+is_own_end (ends.SlotStore pc address) = true
+is_own_end (ends.BadInstruction pc word) = true
+is_own_end (ends.Misaligned pc address) = true
+is_own_end (ends.Break pc) = true
+is_own_end (ends.BadModule number) = false
+is_own_end (ends.Unloaded owner) = false
+is_own_end (ends.NoSlot owner eights) = false
+is_own_end (ends.Unresolved owner slot) = false
+is_own_end (ends.NotCode owner slot) = false
+is_own_end (ends.AddressSpaceFull pages) = false
+is_own_end ends.Memory = false
+
 -- the call of the hart comes to this end
 pub data EndsAs (s : State) (hart : ℕ) : Call → HartEnd → Type 0 where
   unloaded : (owner eights : ℕ) → IsUnloaded s owner → EndsAs s hart (resolves owner eights) (ends.Unloaded owner)
@@ -48,4 +65,4 @@ pub data EndsAs (s : State) (hart : ℕ) : Call → HartEnd → Type 0 where
   bad_module : (number offset : ℕ) → IsBadModule s number → EndsAs s hart (locates number offset) (ends.BadModule number)
   no_room : (number offset pages : ℕ) → HasNoRoom s hart number pages → EndsAs s hart (locates number offset) (ends.AddressSpaceFull pages)
   no_memory : (call : Call) → IsTrue (takes_memory call) → EndsAs s hart call ends.Memory
-  asked : (reason : HartEnd) → EndsAs s hart (stops reason) reason
+  asked : (reason : HartEnd) → IsTrue (is_own_end reason) → EndsAs s hart (stops reason) reason

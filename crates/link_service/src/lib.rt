@@ -7,6 +7,10 @@
 //! It is one relation, `Gives` (`specs/Gives.antt`), which the contracts of the calls cite, and so do
 //! the worlds that run harts on them.
 //!
+//! What comes of the return of a function that the linker called, a constructor's or a destructor's, is
+//! for the worlds, which know what a hart was about; so are the parts of a call before it is made, as
+//! the copying of names.
+//!
 //! There is no code but laws: functions without a body, whose contract is the law.
 #![tactic(auto)]
 

@@ -79,6 +79,7 @@ impl<J: Naming> Hand<J> {
     fn unlock(&mut self, memory: &Memory<J>, at: usize)
         requires at { at < doublewords }
         requires locked { self.old.access.locked ≡ Some at }
+        requires stored { self.old.access.last ≡ None }
         ensures { self.new ≡ with_access nothing_locked (heeded self.old) }
     {
         self.add_word(memory, control_word(at), LOCK, HartKind::Unlock(at as u64));

@@ -1,4 +1,4 @@
-use Rattle.guest_rule.proofs.Worked.{another_has_locked, conditional_fails, conditional_is_refused, one_locks, one_wins, role_comes_and_goes}
+use Rattle.guest_rule.proofs.Worked.{another_has_locked, conditional_fails, conditional_is_refused, one_locks, one_wins, role_comes_and_goes, store_is_owed}
 use Rattle.guest_rule.proofs.law.worked_steps.Goals as goal
 
 pub returns-clause-one_locks : goal.returns-clause-one_locks
@@ -18,3 +18,6 @@ returns-clause-one_wins c = one_wins
 
 pub returns-clause-roles : goal.returns-clause-roles
 returns-clause-roles c = role_comes_and_goes
+
+pub returns-clause-store_is_owed : goal.returns-clause-store_is_owed
+returns-clause-store_is_owed c = store_is_owed
