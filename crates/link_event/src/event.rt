@@ -169,6 +169,3 @@ pub enum Event {
         end: HartEnd,
     },
 }
-
-/// Events, the first of a run first.
-pub type Journal = Sequence<Event>;

@@ -7,18 +7,19 @@
 //! elements are plain types here too, so that a definition of the state and the code that keeps it
 //! hold the same lists.
 //!
-//! There is no code: a contract sees each type as the record of its fields.
+//! A contract sees each type as the record of its fields. [`Journal`] alone has code: it keeps room for
+//! the events that are owed, so that the calls which append them take no memory.
 #![tactic(auto)]
 
 mod event;
 mod event_line;
 mod handed;
 mod hart_end;
+mod journal;
 mod state;
 
 pub use event::{
-    Ask, CloseAnswer, Event, Journal, OpenAnswer, OpenAsk, Purpose, Range, Ranges, SymAnswer,
-    SymAsk,
+    Ask, CloseAnswer, Event, OpenAnswer, OpenAsk, Purpose, Range, Ranges, SymAnswer, SymAsk,
 };
 pub use event_line::{EventLine, NewLine, NewLines, OpenLine};
 pub use handed::{
@@ -26,6 +27,7 @@ pub use handed::{
     Offer, Opening, Removed,
 };
 pub use hart_end::{Ends, HartEnd};
+pub use journal::Journal;
 pub use state::{
     Block, Blocks, BoundChoices, BoundValues, Chosen, ChosenList, Closing, Closings, Ending,
     Endings, Granting, Grantings, Kept, KeptList, Loading, Loadings, Module, Modules, Standing,
