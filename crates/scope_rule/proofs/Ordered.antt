@@ -12,13 +12,13 @@ use Rattle.std.proofs.lemmas.List.FromFn.{length-range_with_len}
 use Rattle.std.proofs.lemmas.Option.{slice_get_within}
 use Rattle.ld_base.specs.declared.linking.Loaded.{Loaded}
 use Rattle.scope_rule.specs.declared.arrival.Arrival.{Arrival}
-use Rattle.scope_rule.specs.Breadth.{levels, extend, breadth}
+use Rattle.scope_rule.specs.Breadth.{extend, breadth, order_to}
 use Rattle.scope_rule.specs.Load.{Load, Walk, asks, preload_of, with_arrival, next_name, Brings, IsRoot, found_by, records_of}
 use Rattle.scope_rule.specs.Loading.{with_serial, found_of}
 use Rattle.scope_rule.specs.Loads.{Begins, Closed, new_of}
 use Rattle.scope_rule.specs.Seen.{Seen, with_added}
 use Rattle.scope_rule.proofs.Lists.{all_at, found_in, range_push, range_has, range_front}
-use Rattle.scope_rule.proofs.Orders.{extend-append, extended_length, find_either, alone, kept_step, is_breadth, reach, order_to}
+use Rattle.scope_rule.proofs.Orders.{extend-append, extended_length, find_either, alone, breadth_grows, reach}
 use Rattle.scope_rule.proofs.Orders.{IsQueue, queue_order, new_extend, new_flat, new_order}
 use Rattle.scope_rule.proofs.Records.{length-shares, length-records, records_numbered, records_below, record_at, count, joined_shares, count_asked, flat_range}
 use Rattle.scope_rule.proofs.Walks.{asks_longer, walk_stays}
@@ -200,13 +200,6 @@ module _ (load : Load) (deep : Bool) (w : Walk) (s : Seen) (root : ℕ)
             rw (front, front_reaches k (omega arith) root_first) (h.ahead k less);
       }
 
-  -- the levels are the orders
-  levels_order : (m : ℕ) → extend [] (levels (after load deep w s) root m) ≡ order_to leads_to (alone root) m
-  levels_order zero = refl
-  levels_order (suc m) =
-      sym (kept_step (after load deep w s) root m (extend [] (levels (after load deep w s) root m)) refl)
-      ∙ ap (reach leads_to (alone root)) (levels_order m)
-
   new_breadth : IsQueue leads_on (so_far load.next (root ∷ [])) (range_with_len load.next (length w.arrivals))
       → map (λ o. o.serial) new_ones ≡ new_of load.next (breadth (after load deep w s) root)
   new_breadth q =
@@ -218,7 +211,7 @@ module _ (load : Load) (deep : Bool) (w : Walk) (s : Seen) (root : ℕ)
       records_numbered load deep w
       ∙ sym (new_order load.next leads_to (alone root) found_old many
       ∙ ap (λ (first : List ℕ). order_to leads_on first many) (new_extend load.next [] (root ∷ [])) ∙ last)
-      ∙ ap (new_of load.next) (is_breadth (after load deep w s) root many (order_to leads_to (alone root) many) refl (sym (levels_order many)))
+      ∙ ap (new_of load.next) (sym (breadth_grows (after load deep w s) root))
 
 root_first : (xs : List ℕ) (root : ℕ) → slice_get xs 0 ≡ Some root → xs ≡ root ∷ drop 1 xs
 root_first [] root e = absurd cc

@@ -10,7 +10,7 @@ use Rattle.std.proofs.lemmas.List.Elements.{filter-append}
 use Rattle.std.proofs.lemmas.List.Folds.{list_any-append}
 use Rattle.std.specs.List.{filter, flat_map, AllByRecursion}
 use Rattle.std.specs.Option.{option_or}
-use Rattle.scope_rule.specs.Breadth.{has, without, first_kept, extend, level, levels, breadth}
+use Rattle.scope_rule.specs.Breadth.{has, without, first_kept, extend, level, levels, breadth, order_to}
 use Rattle.scope_rule.specs.Choose.{first_with}
 use Rattle.scope_rule.specs.Loading.{found_of}
 use Rattle.scope_rule.specs.Loads.{new_of, Begins}
@@ -165,6 +165,18 @@ pub is_breadth : (ns : Seen) (root n : ℕ) (order : List ℕ) → n ≡ length 
 unfolding breadth
 is_breadth ns root n order many kept = kept ∙ extend_nothing (levels ns root n) ∙ ap (λ (k : ℕ). without 0 (first_kept (levels ns root k))) many
 
+-- the orders of the levels are those that grow
+pub levels_order : (ns : Seen) (root m : ℕ) → extend [] (levels ns root m) ≡ order_to (found_of ns) (alone root) m
+levels_order ns root zero = refl
+levels_order ns root (suc m) =
+    sym (kept_step ns root m (extend [] (levels ns root m)) refl)
+    ∙ ap (λ (o : List ℕ). extend (alone root) (flat_map (found_of ns) o)) (levels_order ns root m)
+
+pub breadth_grows : (ns : Seen) (root : ℕ) → breadth ns root ≡ order_to (found_of ns) (alone root) (length ns.objects)
+breadth_grows ns root =
+    let many : ℕ = length ns.objects in
+    sym (is_breadth ns root many (order_to (found_of ns) (alone root) many) refl (sym (levels_order ns root many)))
+
 -- a search of one list and then of another
 pub first_of_two : (pick : ℕ → Option ℕ) (xs ys : List ℕ) → first_with pick (xs ++ ys) ≡ option_or (first_with pick xs) (first_with pick ys)
 first_of_two pick [] ys = refl
@@ -178,11 +190,6 @@ first_of_two pick (x ∷ xs) ys =
 -- the first elements, and what the elements lead to
 abbrev pub reach : (ℕ → List ℕ) → List ℕ → List ℕ → List ℕ
 reach f first xs = extend first (flat_map f xs)
-
--- the order of so many levels
-abbrev pub order_to : (ℕ → List ℕ) → List ℕ → ℕ → List ℕ
-order_to f first zero = first
-order_to f first (suc n) = reach f first (order_to f first n)
 
 -- a list leads to itself, and each front of it to more than it has
 pub record IsQueue (f : ℕ → List ℕ) (first all : List ℕ) : Type 0 where

@@ -35,3 +35,8 @@ extend order (x ∷ xs) = if x == 0 || has order x then extend order xs else ext
 -- Breadth: the levels of a root, down to as many as there are objects, first occurrences kept, the linker's own object left out
 unfoldable pub breadth : Seen → ℕ → List ℕ
 breadth ns root = without 0 (first_kept (levels ns root (length ns.objects)))
+
+-- the order of so many levels: each level puts at the end of the first elements what the order so far leads to and they lack
+abbrev pub order_to : (ℕ → List ℕ) → List ℕ → ℕ → List ℕ
+order_to f first zero = first
+order_to f first (suc n) = extend first (flat_map f (order_to f first n))

@@ -29,8 +29,9 @@ pub use arrival::Arrival;
 pub use breadth_first::breadth;
 pub use choosing::{choose, choose_in, choose_reloc, want_of};
 pub use law::{
-    finds_loaded, found_stands, loads_breadth_first, missing_library, names_find, never_waits,
-    one_outcome, reads_candidates, reads_nothing, root_is_new, serials_follow, waits_for_one,
+    breadth_grows, finds_loaded, found_stands, loads_breadth_first, missing_library, names_find,
+    never_waits, one_outcome, reads_candidates, reads_nothing, root_is_new, serials_follow,
+    waits_for_one,
 };
 pub use linker_object::linker_symbol;
 pub use namespace::{Namespace, OpenRec, Opens};
