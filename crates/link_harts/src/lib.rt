@@ -1,0 +1,11 @@
+//! What the linker keeps of each hart: the refusal that it hasn't been told yet, and how it ended.
+//!
+//! [`KeptFaults`] has the refusals, one a hart at most. [`HartEnds`] has the ends, with room for each
+//! that may still come, so that a hart's end takes no memory.
+#![tactic(auto)]
+
+mod ends;
+mod kept;
+
+pub use ends::HartEnds;
+pub use kept::KeptFaults;
