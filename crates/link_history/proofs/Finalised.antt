@@ -44,7 +44,7 @@ left_of_list s set d h =
     let part = from_filter (λ (o : ℕ). not (has s.finis o)) s.inits d (from_reverse (unfinished s) d kept.0) in
     record { initialised = part.0; unfinished = not-true (has s.finis d) part.1 }
 
-finished_now : (w : Setting) (past : List Event) (s : State) (hart d : ℕ) → ByClosing s hart d ⊎ AtTheEnd w past s hart d → IsLeft s d
+pub finished_now : (w : Setting) (past : List Event) (s : State) (hart d : ℕ) → ByClosing s hart d ⊎ AtTheEnd w past s hart d → IsLeft s d
 finished_now w past s hart d may = ⊎_elim
     (λ (c : ByClosing s hart d). left_of_list s c.closing.set d (at_in (finis_of s c.closing.set) 0 d c.next))
     (λ (e : AtTheEnd w past s hart d). record { initialised = has_in s.inits d e.initialised; unfinished = e.unfinished })

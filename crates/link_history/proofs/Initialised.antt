@@ -216,12 +216,14 @@ done_open loads m w past lawful hart ask id root added ranges may done =
     }
 
 -- an object that is next is one of its loading
-next_low : LoadLaws → (m : Machine) (past : List Event) → Lawful m past → (hart object : ℕ) → MayInitialise (after past) hart object → object < (after past).next
-next_low loads m past lawful hart object may =
-    (in_order_after loads m past lawful).low may.loading object may.there (⊎_elim
+pub of_loading : (s : State) (hart object : ℕ) → (may : MayInitialise s hart object) → Contains may.loading.serials object
+of_loading s hart object may = ⊎_elim
     (λ (a : Contains (filter (λ o. not (eqb o 1)) may.loading.serials) object). (from_filter (λ o. not (eqb o 1)) may.loading.serials object a).0)
     (λ (b : Contains (filter (λ o. eqb o 1) may.loading.serials) object). (from_filter (λ o. eqb o 1) may.loading.serials object b).0)
-    (Contains-append_cases (filter (λ o. not (eqb o 1)) may.loading.serials) (filter (λ o. eqb o 1) may.loading.serials) object (at_in _ may.next.place object may.next.stands)))
+    (Contains-append_cases (filter (λ o. not (eqb o 1)) may.loading.serials) (filter (λ o. eqb o 1) may.loading.serials) object (at_in _ may.next.place object may.next.stands))
+
+next_low : LoadLaws → (m : Machine) (past : List Event) → Lawful m past → (hart object : ℕ) → MayInitialise (after past) hart object → object < (after past).next
+next_low loads m past lawful hart object may = (in_order_after loads m past lawful).low may.loading object may.there (of_loading (after past) hart object may)
 
 lowered_done : (s : State) (handle : ℕ) → DoneState s → DoneState (lower handle s)
 unfolding lower

@@ -3,6 +3,7 @@ pub mod Alone
 pub mod Arrived
 pub mod AtLoad
 pub mod Beginning
+pub mod Begun
 pub mod Brought
 pub mod Chains
 pub mod Changed
@@ -34,9 +35,12 @@ pub mod Once
 pub mod Opened
 pub mod Openings
 pub mod Owned
+pub mod Owing
 pub mod Pages
 pub mod Placed
 pub mod Played
+pub mod Positive
+pub mod Program
 pub mod Raced
 pub mod Ranges
 pub mod Saw
@@ -49,4 +53,5 @@ pub mod Steps
 pub mod Tidy
 pub mod Tied
 pub mod Unbound
+pub mod WasRead
 pub mod Worked

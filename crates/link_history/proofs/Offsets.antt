@@ -66,7 +66,7 @@ first_come [] hart [] none a h = absurd (none_in a h)
 first_come [] hart (o ∷ rest) none a h = in_has (map serial_of (o ∷ rest)) a.serial (in_map serial_of (o ∷ rest) a h)
 first_come (l ∷ loadings) hart added none a h = absurd (true≢false (sym none))
 
-none_loaded : (loadings : List Loading) → is_none_loaded loadings ≡ true → (l : Loading) → Contains loadings l → ⊥
+pub none_loaded : (loadings : List Loading) → is_none_loaded loadings ≡ true → (l : Loading) → Contains loadings l → ⊥
 none_loaded [] none l h = none_in l h
 none_loaded (k ∷ loadings) none l h = true≢false (sym none)
 

@@ -20,8 +20,10 @@ pub mod Memory
 pub mod Namespaces
 pub mod Objects
 pub mod Opening
+pub mod Owed
 pub mod Parts
 pub mod Race
+pub mod Read
 pub mod Relocating
 pub mod Setting
 pub mod Slots

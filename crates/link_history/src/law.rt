@@ -1,6 +1,6 @@
 //! What holds in each state of a lawful history.
 
-ghost use Rattle.std.specs.Prelude.{◌≡◌, ◌≢◌, ℕ, List, ◌∷◌, ◌++◌, [], take, map, length};
+ghost use Rattle.std.specs.Prelude.{◌≡◌, ◌≢◌, ◌≤◌, ◌+◌, ℕ, List, ◌∷◌, ◌++◌, [], take, map, length, Contains};
 ghost use Rattle.std.specs.List.{range_with_len};
 ghost use Rattle.ld_base.specs.declared.linking.Choice.{Choice};
 ghost use Rattle.ld_base.specs.declared.linking.Choice.TheVariants.{Missing, WeakZero};
@@ -22,6 +22,8 @@ ghost use Rattle.link_history.specs.Laws.{SerialsAreInOrder, SlotsBegin, SlotsEn
 ghost use Rattle.link_history.specs.Exits.{exits, initialised_by_another, setting, unmapped_unclosed};
 ghost use Rattle.link_history.specs.Legal.{Lawful, Legal, Whole};
 ghost use Rattle.link_history.specs.Objects.{serial_of};
+ghost use Rattle.link_history.specs.Owed.{IsOwed, brings, owed};
+ghost use Rattle.link_history.specs.Read.{BeginsUntouched, ObjectsAreRead, WasRead};
 ghost use Rattle.link_history.specs.Setting.{Machine, Setting};
 ghost use Rattle.link_history.specs.Step.{lower, step};
 
@@ -200,6 +202,38 @@ pub fn modules_are_tidy()
     scope_rule::serials_follow();
     scope_rule::found_stands();
     tls_blocks::modules_stay_numbered();
+}
+
+/// Each mapped object was read: the machine's verdict on some bytes is the object with its hash
+/// table. The program alone was read as one. And each new object of an opening was read so.
+pub fn objects_are_read()
+    ensures mapped { (m : Machine) (events : List Event) → Lawful m events → ObjectsAreRead m (after events) }
+    ensures new { (m : Machine) (w : Setting) (past : List Event) (hart id root : ℕ) (ask : OpenAsk) (added : List Loaded) (ranges : List Range) → w.machine ≡ m → Lawful m past →
+        Allowed w past (Open hart ask (Done id root added ranges)) → (o : Loaded) → Contains added o → WasRead m o }
+{
+    scope_rule::serials_follow();
+    scope_rule::found_stands();
+    scope_rule::reads_candidates();
+}
+
+/// Before startup's opening nothing is mapped, reserved or granted: the state is that before the
+/// first event, but for refusals that are kept and harts that have ended.
+pub fn nothing_comes_before_startup()
+    ensures { (m : Machine) (events : List Event) → Lawful m events → BeginsUntouched (after events) }
+{
+    scope_rule::serials_follow();
+    scope_rule::found_stands();
+}
+
+/// Room for events: each of those that come without being asked for takes one from the number that is
+/// owed, and no event raises it by more than it brings.
+pub fn events_are_owed()
+    ensures spends { (m : Machine) (w : Setting) (harts : ℕ) (past : List Event) (e : Event) → w.machine ≡ m → Lawful m past → Allowed w past e →
+        IsOwed harts (after past) e → owed harts (after (past ++ e ∷ [])) + 1 ≤ owed harts (after past) }
+    ensures rises { (harts : ℕ) (past : List Event) (e : Event) → owed harts (after (past ++ e ∷ [])) ≤ owed harts (after past) + brings e }
+{
+    scope_rule::serials_follow();
+    scope_rule::found_stands();
 }
 
 /// Each mapped object has its image, of its record and its base, and each image is of a mapped
