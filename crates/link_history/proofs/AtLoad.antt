@@ -58,7 +58,7 @@ get_map f (x ∷ xs) (suc k) y e = get_map f xs k y e
 
 -- ---- no relocation is refused
 
-first_none : {X : Type 0} (fault : X → Option DlFault) (xs : List X) → first_fault fault xs ≡ None → (x : X) → Contains xs x → fault x ≡ None
+pub first_none : {X : Type 0} (fault : X → Option DlFault) (xs : List X) → first_fault fault xs ≡ None → (x : X) → Contains xs x → fault x ≡ None
 first_none fault [] none x h = absurd (none_in x h)
 first_none {X} fault (y ∷ xs) none x h = at (λ n i. first_none fault xs n x i) (fault y) refl none
   where
@@ -66,7 +66,7 @@ first_none {X} fault (y ∷ xs) none x h = at (λ n i. first_none fault xs n x i
     at again (Some why) e n = absurd (let d : Some why ≡ None = n in cc)
     at again None e n = ⊎_elim (λ (same : y ≡ x). sym (ap fault same) ∙ e) (λ (i : Contains xs x). again n i) (first_or_later y xs x h)
 
-second_none : (f g : Option DlFault) → option_or f g ≡ None → g ≡ None
+pub second_none : (f g : Option DlFault) → option_or f g ≡ None → g ≡ None
 second_none (Some why) g e = absurd (let d : Some why ≡ None = e in cc)
 second_none None g e = e
 
@@ -79,7 +79,7 @@ leads s o r choice none = at (is_missing choice) (leads_to_code s (lazy_word o r
     at false true e n = e
     at false false e n = absurd (let d : Some (not_code o r) ≡ None = n in cc)
 
-slots_lead : (s : State) (ns : Seen) (now : Bool) (added : List Loaded) → relocation_fault s ns now added ≡ None → (o : Loaded) (r : Reloc) → Contains added o → Contains o.object.plt_relocs r
+pub slots_lead : (s : State) (ns : Seen) (now : Bool) (added : List Loaded) → relocation_fault s ns now added ≡ None → (o : Loaded) (r : Reloc) → Contains added o → Contains o.object.plt_relocs r
     → binds_now now o.object ≡ true → leads_to_code s (lazy_word o r) (choice_at ns o r) ≡ true
 unfolding relocation_fault
 slots_lead s ns now added none o r new inside binds =
@@ -141,7 +141,7 @@ new_load s ns now added none o new slot v at =
               sym value_is ∙ not_lazy s (lazy_word o r) choice code (value_is ∙ same ∙ ap (lazy_word o) (sym one));
         }
 
-opens_none : (w : Setting) (s : State) (hart : ℕ) (ask : OpenAsk) (id root : ℕ) (added : List Loaded) (ranges : List Range) (name : Option (List ℕ)) → OpensName w s hart ask name id root added ranges
+pub opens_none : (w : Setting) (s : State) (hart : ℕ) (ask : OpenAsk) (id root : ℕ) (added : List Loaded) (ranges : List Range) (name : Option (List ℕ)) → OpensName w s hart ask name id root added ranges
     → refused s hart ask id root added ranges ≡ None
 unfolding relocation_fault
 opens_none w s hart ask id root added ranges (Some name) loads = loads.relocated

@@ -52,7 +52,7 @@ records_doing hart deep serial (a ∷ os) (found ∷ founds) o h = ⊎_elim
     (λ (i : Contains (records hart deep (serial + 1) os founds) o). records_doing hart deep (serial + 1) os founds o i)
     (first_or_later (record_of hart deep serial a found) (records hart deep (serial + 1) os founds) o h)
 
-new_doing : (w : Setting) (s : State) (hart : ℕ) (ask : OpenAsk) (id root : ℕ) (added : List Loaded) (ranges : List Range) (name : Option (List ℕ)) → OpensName w s hart ask name id root added ranges
+pub new_doing : (w : Setting) (s : State) (hart : ℕ) (ask : OpenAsk) (id root : ℕ) (added : List Loaded) (ranges : List Range) (name : Option (List ℕ)) → OpensName w s hart ask name id root added ranges
     → (a : Loaded) → Contains added a → a.state ≡ states.Initialising hart
 new_doing w s hart ask id root added ranges (Some name) loads a h =
     let load = load_of w s hart id name loads.finds.reading in

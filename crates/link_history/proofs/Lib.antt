@@ -13,8 +13,10 @@ pub mod Dangling
 pub mod Dying
 pub mod Entering
 pub mod Executing
+pub mod Few
 pub mod Finalised
 pub mod Frame
+pub mod FullBindings
 pub mod Good
 pub mod Granted
 pub mod History
@@ -29,6 +31,7 @@ pub mod Lookups
 pub mod Map
 pub mod Matched
 pub mod Modular
+pub mod Members
 pub mod Moduled
 pub mod Offsets
 pub mod Once
@@ -53,5 +56,6 @@ pub mod Steps
 pub mod Tidy
 pub mod Tied
 pub mod Unbound
+pub mod Uninitialised
 pub mod WasRead
 pub mod Worked

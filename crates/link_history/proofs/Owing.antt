@@ -1,9 +1,10 @@
 -- How many events are owed: each of them takes one from the number, and no event brings more than it says.
-use Rattle.std.proofs.Common.{◌≡◌, ⊎_elim, ℕ, zero, suc, ◌+◌, ◌-◌, ◌<◌, ◌≤◌, ◌&&◌, Bool, true, false, not, eqb, List, [], ◌∷◌, ◌++◌, map, length, refl, sym, ap, subst, ◌∙◌, arith}
+use Rattle.std.proofs.Common.{◌≡◌, ⊎_elim, ℕ, ◌+◌, ◌-◌, ◌<◌, ◌≤◌, ◌&&◌, Bool, true, false, not, cond, eqb, List, [], ◌∷◌, ◌++◌, map, length, refl, sym, ap, subst, ◌∙◌, arith}
 use Rattle.std.specs.Prelude.{if◌then◌else◌}
-use Rattle.std.specs.List.{Contains, filter}
+use Rattle.std.specs.List.{Contains, filter, range_with_len, sum_by}
 use Rattle.std.specs.Str.{bytes_eq}
-use Rattle.std.proofs.lemmas.Bool.{and_from, eq-eqb, eqb-true, true≢false}
+use Rattle.std.proofs.lemmas.Bool.{and_from, eq-eqb}
+use Rattle.std.proofs.lemmas.List.Sums.{sum_by-cons, sum_by_push}
 use Rattle.std.proofs.lemmas.Slice.Eq.{bytes_eq-Decides}
 use Rattle.link_event.specs.declared.event.CloseAnswer.{CloseAnswer}
 use Rattle.link_event.specs.declared.event.CloseAnswer.TheVariants as closes
@@ -22,13 +23,14 @@ use Rattle.link_history.specs.After.{after}
 use Rattle.link_history.specs.Allowed.{AllowedIn, MayUnmap}
 use Rattle.link_history.specs.Grants.{is_open, is_open_standing}
 use Rattle.link_history.specs.Legal.{Lawful}
-use Rattle.link_history.specs.Owed.{IsOwed, brings, ends_at_most, ends_left, is_end_of, owed, times_ended}
+use Rattle.link_history.specs.Owed.{IsOwed, brings, ends_at_most, ends_left, owed, times_ended}
 use Rattle.link_history.specs.Setting.{Machine, Setting}
 use Rattle.link_history.specs.Slots.{IsOpenGrant}
 use Rattle.link_history.specs.Step.{closing_of, die, initialise, is_closing, loaded, lower, settled_as, step, unmap}
 use Rattle.link_history.proofs.Brought.{LoadLaws}
 use Rattle.link_history.proofs.Finalised.{finished_now}
 use Rattle.link_history.proofs.Lists.{first_or_later, none_in}
+use Rattle.link_history.proofs.Pages.{range_has}
 use Rattle.link_history.proofs.Positive.{fewer_finis, fewer_inits}
 
 -- ---- counts
@@ -121,43 +123,47 @@ module _ (number : ℕ) (standing : Standing) (shut : is_open_standing standing 
 
 -- ---- ends
 
-times_push : (hart : ℕ) (endings : List Ending) (e : Ending) → times_ended hart endings ≤ times_ended hart (endings ++ e ∷ [])
-times_push hart endings e = let sum = counted_push (is_end_of hart) endings (e ∷ []) in omega (arith, sum)
+most_sum : (f g : ℕ → ℕ) → ((k : ℕ) → g k ≤ f k) → (xs : List ℕ) → sum_by g xs ≤ sum_by f xs
+most_sum f g most [] = omega arith
+most_sum f g most (x ∷ xs) =
+    let rest : sum_by g xs ≤ sum_by f xs = most_sum f g most xs in
+    let first : g x ≤ f x = most x in
+    omega (arith, rest, first, sum_by-cons g x xs, sum_by-cons f x xs)
 
-times_more : (endings : List Ending) (e : Ending) → times_ended e.hart (endings ++ e ∷ []) ≡ times_ended e.hart endings + 1
-times_more endings e =
-    let sum = counted_push (is_end_of e.hart) endings (e ∷ []) in
-    let own : length (filter (is_end_of e.hart) (e ∷ [])) ≡ 1 = rw (eq-eqb e.hart e.hart refl) refl in
-    omega (arith, sum, own)
+less_sum : (f g : ℕ → ℕ) → ((k : ℕ) → g k ≤ f k) → (at : ℕ) → g at + 1 ≤ f at → (xs : List ℕ) → Contains xs at → sum_by g xs + 1 ≤ sum_by f xs
+less_sum f g most at less [] h = absurd (none_in at h)
+less_sum f g most at less (x ∷ xs) h = ⊎_elim
+    (λ (e : x ≡ at).
+    let rest : sum_by g xs ≤ sum_by f xs = most_sum f g most xs in
+    let first : g x + 1 ≤ f x = subst (λ (n : ℕ). g n + 1 ≤ f n) (sym e) less in
+    omega (arith, rest, first, sum_by-cons g x xs, sum_by-cons f x xs))
+    (λ (i : Contains xs at).
+    let rest : sum_by g xs + 1 ≤ sum_by f xs = less_sum f g most at less xs i in
+    let first : g x ≤ f x = most x in
+    omega (arith, rest, first, sum_by-cons g x xs, sum_by-cons f x xs))
+    (first_or_later x xs at h)
+
+times_push : (hart : ℕ) (endings : List Ending) (e : Ending) → times_ended hart (endings ++ e ∷ []) ≡ times_ended hart endings + cond (eqb e.hart hart) 1 0
+times_push hart endings e = sum_by_push (λ (x : Ending). cond (eqb x.hart hart) 1 0) endings e
+
+fewer_ends : (endings : List Ending) (e : Ending) (hart : ℕ) → ends_at_most hart - times_ended hart (endings ++ e ∷ []) ≤ ends_at_most hart - times_ended hart endings
+fewer_ends endings e hart = let more = times_push hart endings e in omega (arith, more)
 
 ends_most : (harts : ℕ) (endings : List Ending) (e : Ending) → ends_left harts (endings ++ e ∷ []) ≤ ends_left harts endings
-ends_most zero endings e = omega arith
-ends_most (suc hart) endings e =
-    let rest = ends_most hart endings e in
-    let more = times_push hart endings e in
-    omega (arith, rest, more)
+ends_most harts endings e =
+    most_sum (λ hart. ends_at_most hart - times_ended hart endings) (λ hart. ends_at_most hart - times_ended hart (endings ++ e ∷ [])) (fewer_ends endings e) (range_with_len 0 harts)
 
 ends_less : (harts : ℕ) (endings : List Ending) (e : Ending) → e.hart < harts → times_ended e.hart endings < ends_at_most e.hart → ends_left harts (endings ++ e ∷ []) + 1 ≤ ends_left harts endings
-ends_less zero endings e low may = absurd (omega (arith, low))
-ends_less (suc hart) endings e low may = by (eqb e.hart hart) refl (λ below. ends_less hart endings e below may)
+ends_less harts endings e low may =
+    less_sum (λ hart. ends_at_most hart - times_ended hart endings) (λ hart. ends_at_most hart - times_ended hart (endings ++ e ∷ [])) (fewer_ends endings e) e.hart own
+    (range_with_len 0 harts) (range_has 0 harts e.hart (omega arith) (omega (arith, low)))
   where
-    own : (h : ℕ) → e.hart ≡ h → ends_left h (endings ++ e ∷ []) ≤ ends_left h endings
-        → ends_left h (endings ++ e ∷ []) + (ends_at_most h - times_ended h (endings ++ e ∷ [])) + 1 ≤ ends_left h endings + (ends_at_most h - times_ended h endings)
-    own h same rest =
-        let more : times_ended h (endings ++ e ∷ []) ≡ times_ended h endings + 1 = subst (λ (n : ℕ). times_ended n (endings ++ e ∷ []) ≡ times_ended n endings + 1) same (times_more endings e) in
-        let left : times_ended h endings < ends_at_most h = subst (λ (n : ℕ). times_ended n endings < ends_at_most n) same may in
-        omega (arith, rest, more, left)
+    lower : (all before behind : ℕ) → behind ≡ before + 1 → before < all → (all - behind) + 1 ≤ all - before
+    lower all before behind more below = omega (arith, more, below)
 
-    before : (a b : ℕ) → (a ≡ b → ⊥) → a < suc b → a < b
-    before a b differ low = omega (arith, low, differ)
-
-    by : (t : Bool) → eqb e.hart hart ≡ t → (e.hart < hart → ends_left hart (endings ++ e ∷ []) + 1 ≤ ends_left hart endings)
-        → ends_left (suc hart) (endings ++ e ∷ []) + 1 ≤ ends_left (suc hart) endings
-    by true is less = own hart (eqb-true e.hart hart is) (ends_most hart endings e)
-    by false is less =
-        let rest = less (before e.hart hart (λ (same : e.hart ≡ hart). true≢false (sym (eq-eqb e.hart hart same) ∙ is)) low) in
-        let more = times_push hart endings e in
-        omega (arith, rest, more)
+    own : (ends_at_most e.hart - times_ended e.hart (endings ++ e ∷ [])) + 1 ≤ ends_at_most e.hart - times_ended e.hart endings
+    own = lower (ends_at_most e.hart) (times_ended e.hart endings) (times_ended e.hart (endings ++ e ∷ []))
+        (times_push e.hart endings e ∙ ap (λ (b : Bool). times_ended e.hart endings + cond b 1 0) (eq-eqb e.hart e.hart refl)) may
 
 -- ---- each event
 

@@ -1,5 +1,5 @@
 -- What holds in each state of a lawful history.
-use Rattle.std.specs.Prelude.{◌≡◌, ◌≢◌, ℕ, ◌+◌, ◌*◌, ◌^◌, ◌<◌, ◌≤◌, ◌⊎◌, ◌==◌, if◌then◌else◌, Contains, drop, find, flat_map, length, map, List, Option, IsTrue, Some, None, false, ◌∷◌, ◌++◌}
+use Rattle.std.specs.Prelude.{◌≡◌, ◌≢◌, ℕ, ◌+◌, ◌-◌, ◌*◌, ◌^◌, ◌<◌, ◌≤◌, ◌⊎◌, ◌==◌, if◌then◌else◌, Contains, drop, find, flat_map, length, map, List, Option, IsTrue, Some, None, false, ◌∷◌, ◌++◌}
 use Rattle.std.specs.List.{slice_get}
 use Rattle.std.specs.Option.{is_some, option_and_then}
 use Rattle.address_space.specs.Pages.{guest_pages, is_within, IsGuestRange}
@@ -14,7 +14,7 @@ use Rattle.ld_base.specs.declared.object.Reloc.{Reloc}
 use Rattle.link_event.specs.declared.event.Purpose.TheVariants as purposes
 use Rattle.link_event.specs.declared.event.Range.{Range}
 use Rattle.relocator.specs.declared.binding.Binding.{Binding}
-use Rattle.relocator.specs.Bindings.{AreCopied, chosen as object_of}
+use Rattle.relocator.specs.Bindings.{AreBindings, AreCopied, chosen as object_of}
 use Rattle.relocator.specs.Relocated.{image_word, moved_word}
 use Rattle.seg_image.specs.declared.image.Image.{Image}
 use Rattle.seg_image.specs.Images.{IsImage}
@@ -34,6 +34,7 @@ use Rattle.scope_rule.specs.declared.namespace.Namespace.{Namespace}
 use Rattle.scope_rule.specs.declared.namespace.OpenRec.{OpenRec}
 use Rattle.tls_blocks.specs.Numbers.{AreNumbered, IsLeastFree}
 use Rattle.link_history.specs.Bound.{lazy_word}
+use Rattle.link_history.specs.Setting.{Machine}
 use Rattle.link_history.specs.Slots.{value_at_load}
 use Rattle.link_history.specs.State.{Linked, State}
 use Rattle.link_history.specs.Storage.{module_of_place, with_modules}
@@ -140,6 +141,18 @@ pub record InitialisedOnce (s : State) : Type 0 where
   pub doing : (ns : Namespace) (o : Loaded) (hart : ℕ) → IsIn s ns o → o.state ≡ states.Initialising hart → IsStarting s o hart
   pub undone : (ns : Namespace) (o : Loaded) → IsIn s ns o → ¬ (Contains s.inits o.serial) → (hart : ℕ) × (o.state ≡ states.Initialising hart)
   pub once : (i j d : ℕ) → slice_get s.inits i ≡ Some d → slice_get s.inits j ≡ Some d → i ≡ j
+
+-- the object of a serial is mapped, and is being initialised by the hart
+pub record IsInitialising (s : State) (d hart : ℕ) : Type 0 where
+  pub namespace : Namespace
+  pub object : Loaded
+  pub inside : IsIn s namespace object
+  pub is : object.serial ≡ d
+  pub doing : object.state ≡ states.Initialising hart
+
+-- what was loaded and isn't initialised yet is mapped, and is being initialised by the hart that loaded it
+abbrev pub UninitialisedStay : State → Type 0
+UninitialisedStay s = (l : Loading) (d : ℕ) → Contains s.loadings l → Contains l.serials d → ¬ (Contains s.inits d) → IsInitialising s d l.hart
 
 -- an object is finalised once, after it was initialised
 pub record FinalisedOnce (s : State) : Type 0 where
@@ -295,6 +308,14 @@ pub record IsTied (s : State) (i : Linked) : Type 0 where
 abbrev pub ImagesAreTied : State → Type 0
 ImagesAreTied s = (i : Linked) → Contains s.images i → IsTied s i
 
+-- and they are those that relocating the object asks for
+abbrev pub ImagesAreBound : State → Type 0
+ImagesAreBound s = (i : Linked) → Contains s.images i → AreBindings i.object i.bindings
+
+-- a list has each element of another
+abbrev pub HasAll : {X : Type 0} → List X → List X → Type 0
+HasAll {X} xs ys = (x : X) → Contains ys x → Contains xs x
+
 -- where a slot of an image stands
 abbrev pub slot_address : Linked → Reloc → ℕ
 slot_address i r = guest_address i.base r.place
@@ -325,6 +346,11 @@ pub record ModulesAreTidy (s : State) : Type 0 where
   pub one : (m n : Module) → Contains s.modules m → Contains s.modules n → m.serial ≡ n.serial → m ≡ n
   -- a module is static where startup loaded its object
   pub offset : (m : Module) → Contains s.modules m → is_some m.offset ≡ has (startup_serials s) m.serial
+
+-- each object brings one module at most, so that modules are added and removed seldom enough to count; and static blocks fit into guest memory
+pub record ModulesAreFew (m : Machine) (s : State) : Type 0 where
+  pub changes : s.generation + length s.modules ≤ 2 * (s.next - 1)
+  pub statics : 1 ≤ m.harts → s.statics.tp + s.statics.size ≤ 4096 * 2047
 
 -- new modules take their numbers in load order, each the least that is free then
 abbrev pub TakesLeast : State → List Loaded → Type 0

@@ -1,6 +1,7 @@
 -- Events that are sure to come, or may come without being asked for: room for them is kept from the event on that brings them, so that none wants
 -- memory when it comes.
-use Rattle.std.specs.Prelude.{ℕ, zero, suc, ◌+◌, ◌-◌, ◌*◌, ◌<◌, Bool, ◌==◌, if◌then◌else◌, List, length, filter}
+use Rattle.std.specs.Prelude.{ℕ, ◌+◌, ◌-◌, ◌*◌, ◌<◌, Bool, ◌==◌, if◌then◌else◌, List, length, filter, count_by, sum_by}
+use Rattle.std.specs.List.{range_with_len}
 use Rattle.link_event.specs.declared.event.CloseAnswer.{CloseAnswer}
 use Rattle.link_event.specs.declared.event.CloseAnswer.TheVariants as closes
 use Rattle.link_event.specs.declared.event.Event.{Event}
@@ -23,12 +24,11 @@ is_end_of hart e = e.hart == hart
 
 -- how often a hart has ended
 abbrev pub times_ended : ℕ → List Ending → ℕ
-times_ended hart endings = length (filter (is_end_of hart) endings)
+times_ended hart endings = count_by (is_end_of hart) endings
 
 -- the ends that are left to so many harts
 abbrev pub ends_left : ℕ → List Ending → ℕ
-ends_left zero endings = 0
-ends_left (suc hart) endings = ends_left hart endings + (ends_at_most hart - times_ended hart endings)
+ends_left harts endings = sum_by (λ hart. ends_at_most hart - times_ended hart endings) (range_with_len 0 harts)
 
 -- ---- all of them
 

@@ -7,18 +7,20 @@ ghost use Rattle.ld_base.specs.declared.linking.Choice.TheVariants.{Missing, Wea
 ghost use Rattle.ld_base.specs.declared.linking.Loaded.{Loaded};
 ghost use Rattle.link_event.specs.declared.event.Event.{Event};
 ghost use Rattle.link_event.specs.declared.event.CloseAnswer.TheVariants.{Done as Closed};
-ghost use Rattle.link_event.specs.declared.event.Event.TheVariants.{Close, Grant, Open, Unresolved};
+ghost use Rattle.link_event.specs.declared.event.Event.TheVariants.{Close, Grant, Init, Open, Unresolved};
 ghost use Rattle.link_event.specs.declared.event.OpenAnswer.TheVariants.{Done};
 ghost use Rattle.link_event.specs.declared.event.OpenAsk.{OpenAsk};
 ghost use Rattle.link_event.specs.declared.event.Range.{Range};
+ghost use Rattle.link_graph.specs.declared.graph.Edge.{Edge};
+ghost use Rattle.link_graph.specs.Reached.{Reached, Unneeded};
 ghost use Rattle.link_history.specs.Accepted.{AcceptsOnly};
 ghost use Rattle.link_history.specs.After.{after};
 ghost use Rattle.link_history.specs.Allowed.{Allowed};
 ghost use Rattle.link_history.specs.Changes.{ChangesMemory};
-ghost use Rattle.link_history.specs.Laws.{AreApart, ClosesSpare, EachDiesOnce, FinalisedOnce, GrantsAreHeld, GrantsAreTidy, ImagesAreInstalled, ImagesAreMapped};
-ghost use Rattle.link_history.specs.Laws.{ImagesArePlaced, ImagesAreTied, InitialisedOnce, LoadsEnterCode, LostSawTheValue, ModulesAreTidy};
+ghost use Rattle.link_history.specs.Laws.{AreApart, ClosesSpare, EachDiesOnce, FinalisedOnce, GrantsAreHeld, GrantsAreTidy, HasAll, ImagesAreBound, ImagesAreInstalled, ImagesAreMapped};
+ghost use Rattle.link_history.specs.Laws.{ImagesArePlaced, ImagesAreTied, InitialisedOnce, IsInitialising, LoadsEnterCode, LostSawTheValue, ModulesAreFew, ModulesAreTidy};
 ghost use Rattle.link_history.specs.Laws.{NoneIsLazy, NothingDangles, NothingLeftOut, OpeningsStand, RangesAreApart, RangesAreOwned, ScopesAreWhole};
-ghost use Rattle.link_history.specs.Laws.{SerialsAreInOrder, SlotsBegin, SlotsEnterCode, SlotsLeadToRx, StartupStays, TakesLeast};
+ghost use Rattle.link_history.specs.Laws.{SerialsAreInOrder, SlotsBegin, SlotsEnterCode, SlotsLeadToRx, StartupStays, TakesLeast, UninitialisedStay};
 ghost use Rattle.link_history.specs.Exits.{exits, initialised_by_another, setting, unmapped_unclosed};
 ghost use Rattle.link_history.specs.Legal.{Lawful, Legal, Whole};
 ghost use Rattle.link_history.specs.Objects.{serial_of};
@@ -95,6 +97,16 @@ pub fn serials_are_in_order()
 /// have run, and they run once.
 pub fn initialised_once()
     ensures { (m : Machine) (events : List Event) → Lawful m events → InitialisedOnce (after events) }
+{
+    scope_rule::serials_follow();
+    scope_rule::found_stands();
+}
+
+/// What was loaded and isn't initialised yet is mapped, and is being initialised by the hart that
+/// loaded it; so is an object that may be initialised next.
+pub fn uninitialised_stay()
+    ensures stay { (m : Machine) (events : List Event) → Lawful m events → UninitialisedStay (after events) }
+    ensures next { (m : Machine) (w : Setting) (past : List Event) (hart object : ℕ) → Lawful m past → Allowed w past (Init hart object) → IsInitialising (after past) object hart }
 {
     scope_rule::serials_follow();
     scope_rule::found_stands();
@@ -204,6 +216,15 @@ pub fn modules_are_tidy()
     tls_blocks::modules_stay_numbered();
 }
 
+/// Each object brings one module at most, so modules are added and removed at most twice as often as
+/// objects were loaded; and the static blocks fit into guest memory.
+pub fn modules_are_few()
+    ensures { (m : Machine) (events : List Event) → Lawful m events → ModulesAreFew m (after events) }
+{
+    scope_rule::serials_follow();
+    scope_rule::found_stands();
+}
+
 /// Each mapped object was read: the machine's verdict on some bytes is the object with its hash
 /// table. The program alone was read as one. And each new object of an opening was read so.
 pub fn objects_are_read()
@@ -277,6 +298,14 @@ pub fn images_are_tied()
     scope_rule::reads_candidates();
 }
 
+/// The bindings of each image are those that relocating its object asks for: one a relocation, whose
+/// choice isn't missing, with the bytes that a copy takes.
+pub fn images_are_bound()
+    ensures { (m : Machine) (events : List Event) → AcceptsOnly m → Lawful m events → ImagesAreBound (after events) }
+{
+    scope_rule::reads_candidates();
+}
+
 /// Each slot begins with the value that it got when its object was loaded, or else with the word that
 /// leads to its entry of the procedure linkage table; and its role is that of a slot.
 pub fn slots_begin()
@@ -309,6 +338,14 @@ pub fn closed_are_spare()
     scope_rule::serials_follow();
     scope_rule::found_stands();
 }
+
+/// What is reached, and so what nothing needs, depends on the members of edges and roots alone: neither
+/// on their order nor on how often one stands there.
+pub fn members_decide()
+    ensures reached { (edges more : List Edge) (roots others : List ℕ) → HasAll more edges → HasAll others roots → (d : ℕ) → Reached edges roots d → Reached more others d }
+    ensures unneeded { (edges more : List Edge) (roots others nodes set : List ℕ) → HasAll more edges → HasAll edges more → HasAll others roots → HasAll roots others →
+        Unneeded edges roots nodes set → Unneeded more others nodes set }
+{}
 
 /// The worked history of a program that starts, exits and is finalised is legal and whole. With one
 /// event of another hart's, or an unmapping in place of the destructors, it isn't legal.
