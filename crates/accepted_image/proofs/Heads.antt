@@ -12,7 +12,7 @@ use Rattle.elf_head.specs.Verdict.Breaks.{bad_segment_at}
 use Rattle.accepted_image.proofs.Lists.{any_of, take_get}
 
 module _ (bytes : List ℕ) (head : Head) (s : SpellsHead bytes head) where
-  headers_are : head.headers ≡ headers_of bytes
+  pub headers_are : head.headers ≡ headers_of bytes
   unfolding headers_of
   headers_are =
       let count = length-table (header_at bytes) (table_start bytes) 56 (header_count bytes) in
@@ -20,7 +20,7 @@ module _ (bytes : List ℕ) (head : Head) (s : SpellsHead bytes head) where
       (λ i within. s.headers i (omega (arith, count)) ∙ sym (get-table (header_at bytes) (table_start bytes) 56 (header_count bytes) i (omega (arith, count))))
 
   -- no header is bad
-  none_bad : (n j : ℕ) → j < n → is_bad_at (length bytes) (headers_of bytes) j ≡ false
+  pub none_bad : (n j : ℕ) → j < n → is_bad_at (length bytes) (headers_of bytes) j ≡ false
   none_bad zero j below = absurd (omega arith)
   none_bad (suc n) j below =
       elim (cases_Bool (is_bad_at (length bytes) (headers_of bytes) j)) [

@@ -20,14 +20,13 @@ use Rattle.elf_head.specs.Verdict.{SpellsHead}
 use Rattle.elf_dynamic.specs.Breaks.{LeadsToCode}
 use Rattle.elf_dynamic.specs.Keeps.{IsSlot, Keeps}
 use Rattle.elf_object.specs.Segments.{segment_at as segment_of, segments_of}
-use Rattle.seg_image.specs.Accepted.{Accepted}
 use Rattle.seg_image.specs.Pages.{end_of, segment_at, start_of}
 use Rattle.seg_image.specs.Words.{byte_in, file_byte, file_word, word_of}
-use Rattle.link_history.specs.Accepted.{IsAccepted, IsExecutable}
+use Rattle.link_history.specs.Accepted.{IsExecutable}
 use Rattle.accepted_image.proofs.Accepting.{fits, to_segment}
 use Rattle.accepted_image.proofs.Lists.{find_get, same_some, Passing}
 
-element_at : (r : Reloc) (rs : List Reloc) → Contains rs r → (k : ℕ) × (slice_get rs k ≡ Some r)
+pub element_at : (r : Reloc) (rs : List Reloc) → Contains rs r → (k : ℕ) × (slice_get rs k ≡ Some r)
 element_at r rs (k, within, is) = (k, slice_get-get_or rs k r within ∙ ap Some is)
 
 -- eight bytes make the number of their field
@@ -103,13 +102,9 @@ module _ (bytes : List ℕ) (head : Head) (o : Object) (is_head : SpellsHead byt
         executable = code.flagged;
       })
 
-  pub is_accepted_object : Accepted o → (parts : DynParts) → Keeps bytes head.headers parts → o.plt_relocs ≡ parts.plt_relocs → IsAccepted o
-  is_accepted_object accepted parts kept slots =
-      record {
-        image = accepted;
-        jump = λ r among. (its_slot r among).type;
-        lazy = λ r among. leads r.place (its_slot r among).code;
-      }
+  -- the slots by themselves
+  pub are_slots : (parts : DynParts) → Keeps bytes head.headers parts → o.plt_relocs ≡ parts.plt_relocs → (r : Reloc) → Contains o.plt_relocs r → (r.kind ≡ 5) × IsExecutable o (file_word o r.place)
+  are_slots parts kept slots r among = ((its_slot r among).type, leads r.place (its_slot r among).code)
     where
       its_slot : (r : Reloc) → Contains o.plt_relocs r → IsSlot bytes head.headers parts.symbols r
       its_slot r among =

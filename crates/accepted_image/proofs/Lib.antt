@@ -1,4 +1,5 @@
 pub mod Accepting
+pub mod Fields
 pub mod Heads
 pub mod LazyWords
 pub mod Lists

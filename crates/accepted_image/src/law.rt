@@ -1,7 +1,8 @@
 //! From files to images.
 
-ghost use Rattle.std.specs.Prelude.{◌≡◌, ℕ, Bool, Ok, List};
+ghost use Rattle.std.specs.Prelude.{◌≡◌, ◌≢◌, ℕ, Bool, false, Ok, List, Contains};
 ghost use Rattle.ld_base.specs.declared.object.Object.{Object};
+ghost use Rattle.ld_base.specs.declared.object.Reloc.{Reloc};
 ghost use Rattle.ld_base.specs.declared.parts.HashTable.{HashTable};
 ghost use Rattle.elf_object.specs.Spells.{Spells};
 ghost use Rattle.elf_object.specs.Verdict.{object_verdict};
@@ -26,13 +27,15 @@ pub fn one_image()
     one_object();
 }
 
-/// Such an object has what the history's laws of memory ask: each slot's relocation is of the type of
-/// slots, and the word that the file has for the slot leads to code. So a machine whose verdict is the
-/// reader's accepts no other objects.
+/// Such an object has what the history's laws ask: each slot's relocation is of the type of slots, and
+/// the word that the file has for the slot leads to code; a variable of thread-local storage has a
+/// segment, and this segment and the arrays of functions are well formed. So a machine whose verdict is
+/// the reader's accepts no other objects. And no library has a relocation that copies (R_RISCV_COPY is 4).
 pub fn accepted_object()
     ensures spelled { (bytes : List ℕ) (program : Bool) (o : Object) → Spells bytes program o → IsAccepted o }
     ensures read { (bytes : List ℕ) (program : Bool) (o : Object) (table : HashTable) → object_verdict bytes program ≡ Ok (o, table) → IsAccepted o }
     ensures machine { (m : Machine) → m.verdict ≡ object_verdict → AcceptsOnly m }
+    ensures library { (bytes : List ℕ) (o : Object) (table : HashTable) → object_verdict bytes false ≡ Ok (o, table) → (r : Reloc) → Contains o.relocs r → r.kind ≢ 4 }
 {
     elf_head::one_verdict();
     accepted_head();
