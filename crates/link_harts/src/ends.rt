@@ -1,7 +1,7 @@
 //! The ends of harts.
 
 ghost use Rattle.std.specs.Prelude.{◌≡◌, ◌<◌, ◌≤◌, [], ◌∷◌, ◌++◌, IfOk};
-ghost use Rattle.link_harts.specs.Ends.{allowance, ends_of};
+ghost use Rattle.link_history.specs.Owed.{ends_at_most, times_ended};
 
 use ld_base::HartId;
 use link_event::{Ending, HartEnd};
@@ -18,13 +18,14 @@ pub struct HartEnds {
 impl Model for HartEnds {
     ghost use Rattle.std.specs.Prelude.{◌+◌, ◌≤◌};
     ghost use Rattle.std.specs.Vec.{vec_capacity, vec_len};
-    ghost use Rattle.link_harts.specs.Ends.{EndsOfHarts, owed_ends};
+    ghost use Rattle.link_history.specs.Owed.{ends_left};
+    ghost use Rattle.link_harts.specs.Ends.{EndsOfHarts};
 
     ghost Value = { EndsOfHarts };
 
     ghost view = { λ e. record { harts = e.harts; endings = e.endings.items } };
 
-    ghost invariant = { λ e. vec_len e.endings + owed_ends e.harts e.endings.items ≤ vec_capacity e.endings };
+    ghost invariant = { λ e. vec_len e.endings + ends_left e.harts e.endings.items ≤ vec_capacity e.endings };
 }
 
 impl HartEnds {
@@ -60,7 +61,7 @@ impl HartEnds {
     /// A hart ends.
     pub fn push(&mut self, hart: HartId, end: HartEnd)
         requires one_of_them { hart < self.old.harts }
-        requires may { ends_of hart self.old.endings < allowance hart }
+        requires may { times_ended hart self.old.endings < ends_at_most hart }
         ensures harts { self.new.harts ≡ self.old.harts }
         ensures endings { self.new.endings ≡ self.old.endings ++ record { hart = hart; «end» = «end» } ∷ [] }
     {

@@ -6,6 +6,8 @@
 
 mod ends;
 mod kept;
+mod law;
 
 pub use ends::HartEnds;
 pub use kept::KeptFaults;
+pub use law::each_hart_ends;

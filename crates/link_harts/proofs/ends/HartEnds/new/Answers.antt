@@ -1,10 +1,10 @@
 use Rattle.std.proofs.Common.{◌≡◌, ◌+◌, ap, ◌∙◌, arith}
-use Rattle.link_harts.specs.Ends.{owed_ends}
-use Rattle.link_harts.proofs.Owed.{owed_first}
+use Rattle.link_history.specs.Owed.{ends_left}
+use Rattle.link_harts.proofs.Owed.{left_first}
 use Rattle.link_harts.proofs.ends.HartEnds.new.Goals as goal
 
 pub invariant_of-result : goal.invariant_of-result
 invariant_of-result c =
-    let owed : owed_ends c.args.harts c.in_ok-endings.endings.items ≡ c.args.harts + 1 =
-    ap (owed_ends c.args.harts) c.in_ok-endings.ensures.items ∙ owed_first c.args.harts c.requires in
+    let owed : ends_left c.args.harts c.in_ok-endings.endings.items ≡ c.args.harts + 1 =
+    ap (ends_left c.args.harts) c.in_ok-endings.ensures.items ∙ left_first c.args.harts c.requires in
     omega (arith, owed, c.in_ok-endings.ensures.len, c.in_ok-endings.ensures.exact)
