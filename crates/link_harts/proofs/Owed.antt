@@ -1,91 +1,90 @@
 -- How the number of ends that are left falls.
-use Rattle.std.proofs.Common.{◌≡◌, ◌⊎◌, ⊎_elim, ℕ, zero, suc, ◌+◌, ◌-◌, ◌<◌, ◌≤◌, Bool, true, false, cond, eqb, List, [], ◌∷◌, ◌++◌, length, refl, sym, ap, ◌∙◌, arith}
-use Rattle.std.specs.List.{filter}
+use Rattle.std.proofs.Common.{◌≡◌, ⊎_elim, ℕ, zero, suc, ◌+◌, ◌-◌, ◌<◌, ◌≤◌, Bool, true, false, cond, eqb, List, [], ◌∷◌, ◌++◌, refl, sym, ap, ◌∙◌, arith}
+use Rattle.std.specs.List.{range_with_len, sum_by}
 use Rattle.std.proofs.lemmas.Bool.{cases_Bool, eqb-true, eqb-false, eq-eqb}
-use Rattle.std.proofs.lemmas.List.{length-append}
-use Rattle.std.proofs.lemmas.List.Elements.{filter-append}
+use Rattle.std.proofs.lemmas.List.Sums.{sum_by-cons, sum_by_push}
 use Rattle.link_event.specs.declared.state.Ending.{Ending}
 use Rattle.link_history.specs.Owed.{ends_at_most, ends_left, is_end_of, times_ended}
 
+-- ---- sums over the numbers of harts
+
+same_sum : (f g : ℕ → ℕ) (a n : ℕ) → ((k : ℕ) → a ≤ k → g k ≡ f k) → sum_by g (range_with_len a n) ≡ sum_by f (range_with_len a n)
+same_sum f g a zero same = refl
+same_sum f g a (suc n) same =
+    sum_by-cons g a (range_with_len (a + 1) n)
+    ∙ ap (λ x. x + sum_by g (range_with_len (a + 1) n)) (same a (omega arith))
+    ∙ ap (λ x. f a + x) (same_sum f g (a + 1) n (λ k le. same k (omega arith)))
+    ∙ sym (sum_by-cons f a (range_with_len (a + 1) n))
+
+falls_at : (f g : ℕ → ℕ) (at : ℕ) → g at + 1 ≡ f at → ((k : ℕ) → (k ≡ at → ⊥) → g k ≡ f k) → (a n : ℕ) → a ≤ at → at < a + n
+    → sum_by g (range_with_len a n) + 1 ≡ sum_by f (range_with_len a n)
+falls_at f g at falls same a zero low high = absurd (omega (arith, low, high))
+falls_at f g at falls same a (suc n) low high = ⊎_elim
+    (λ (here : eqb a at ≡ true).
+    let is : a ≡ at = eqb-true a at here in
+    let first : g a + 1 ≡ f a = ap (λ k. g k + 1) is ∙ falls ∙ ap f (sym is) in
+    let rest : sum_by g (range_with_len (a + 1) n) ≡ sum_by f (range_with_len (a + 1) n) =
+    same_sum f g (a + 1) n (λ k le. same k (λ e. omega (arith, le, e, is))) in
+    omega (arith, first, rest, sum_by-cons g a (range_with_len (a + 1) n), sum_by-cons f a (range_with_len (a + 1) n)))
+    (λ (other : eqb a at ≡ false).
+    let first : g a ≡ f a = same a (eqb-false a at other) in
+    let differs : a ≡ at → ⊥ = eqb-false a at other in
+    let rest : sum_by g (range_with_len (a + 1) n) + 1 ≡ sum_by f (range_with_len (a + 1) n) =
+    falls_at f g at falls same (a + 1) n (above a at low differs) (omega (arith, high)) in
+    omega (arith, first, rest, sum_by-cons g a (range_with_len (a + 1) n), sum_by-cons f a (range_with_len (a + 1) n)))
+    (cases_Bool (eqb a at))
+  where
+    above : (x y : ℕ) → x ≤ y → (x ≡ y → ⊥) → x + 1 ≤ y
+    above x y le differs = omega (arith, le, differs)
+
 -- ---- one end more
 
-times_push : (hart : ℕ) (endings : List Ending) (e : Ending) → times_ended hart (endings ++ e ∷ []) ≡ times_ended hart endings + length (filter (is_end_of hart) (e ∷ []))
-times_push hart endings e = ap length (filter-append (is_end_of hart) endings (e ∷ [])) ∙ length-append (filter (is_end_of hart) endings) (filter (is_end_of hart) (e ∷ []))
-
-times_same : (hart : ℕ) (endings : List Ending) (e : Ending) → eqb e.hart hart ≡ false → times_ended hart (endings ++ e ∷ []) ≡ times_ended hart endings
-times_same hart endings e isnt = times_push hart endings e ∙ ap (λ (b : Bool). times_ended hart endings + length (cond b (e ∷ []) [])) isnt ∙ plain (times_ended hart endings)
-  where
-    plain : (n : ℕ) → n + 0 ≡ n
-    plain n = omega arith
-
-times_more : (endings : List Ending) (e : Ending) → times_ended e.hart (endings ++ e ∷ []) ≡ times_ended e.hart endings + 1
-times_more endings e = times_push e.hart endings e ∙ ap (λ (b : Bool). times_ended e.hart endings + length (cond b (e ∷ []) [])) (eq-eqb e.hart e.hart refl)
-
-left_same : (harts : ℕ) (endings : List Ending) (e : Ending) → harts ≤ e.hart → ends_left harts (endings ++ e ∷ []) ≡ ends_left harts endings
-left_same zero endings e above = refl
-left_same (suc hart) endings e above =
-    let rest : ends_left hart (endings ++ e ∷ []) ≡ ends_left hart endings = left_same hart endings e (omega (arith, above)) in
-    let one : times_ended hart (endings ++ e ∷ []) ≡ times_ended hart endings = ⊎_elim
-    (λ (is : eqb e.hart hart ≡ true). absurd (omega (arith, above, eqb-true e.hart hart is)))
-    (λ (isnt : eqb e.hart hart ≡ false). times_same hart endings e isnt)
-    (cases_Bool (eqb e.hart hart)) in
-    ap (λ n. n + (ends_at_most hart - times_ended hart (endings ++ e ∷ []))) rest ∙ ap (λ n. ends_left hart endings + (ends_at_most hart - n)) one
+end_push : (hart : ℕ) (endings : List Ending) (e : Ending) → times_ended hart (endings ++ e ∷ []) ≡ times_ended hart endings + cond (eqb e.hart hart) 1 0
+end_push hart endings e = sum_by_push (λ (x : Ending). cond (eqb x.hart hart) 1 0) endings e
 
 -- the end of one of the harts, which may end
-left_falls : (harts : ℕ) (endings : List Ending) (e : Ending) → e.hart < harts → times_ended e.hart endings < ends_at_most e.hart
+pub left_falls : (harts : ℕ) (endings : List Ending) (e : Ending) → e.hart < harts → times_ended e.hart endings < ends_at_most e.hart
     → ends_left harts (endings ++ e ∷ []) + 1 ≡ ends_left harts endings
-left_falls zero endings e one may = absurd (omega (arith, one))
-left_falls (suc hart) endings e one may = ⊎_elim
-    (λ (is : eqb e.hart hart ≡ true).
-    let same : e.hart ≡ hart = eqb-true e.hart hart is in
-    let rest : ends_left hart (endings ++ e ∷ []) ≡ ends_left hart endings = left_same hart endings e (omega (arith, same)) in
-    let more : times_ended hart (endings ++ e ∷ []) ≡ times_ended hart endings + 1 =
-    ap (λ n. times_ended n (endings ++ e ∷ [])) (sym same) ∙ times_more endings e ∙ ap (λ n. times_ended n endings + 1) same in
-    let below : times_ended hart endings < ends_at_most hart = lower (ends_at_most hart) (times_ended hart endings) (ends_at_most e.hart) (times_ended e.hart endings)
-    (ap ends_at_most same) (ap (λ n. times_ended n endings) same) may in
-    joined (ends_left hart endings) (ends_left hart (endings ++ e ∷ [])) (ends_at_most hart) (times_ended hart endings) (times_ended hart (endings ++ e ∷ [])) rest more below)
-    (λ (isnt : eqb e.hart hart ≡ false).
-    let differs : e.hart ≡ hart → ⊥ = eqb-false e.hart hart isnt in
-    let rest : ends_left hart (endings ++ e ∷ []) + 1 ≡ ends_left hart endings = left_falls hart endings e (under e.hart hart one differs) may in
-    let one_same : times_ended hart (endings ++ e ∷ []) ≡ times_ended hart endings = times_same hart endings e isnt in
-    apart (ends_left hart endings) (ends_left hart (endings ++ e ∷ [])) (ends_at_most hart - times_ended hart endings) (ends_at_most hart - times_ended hart (endings ++ e ∷ []))
-    rest (ap (λ n. ends_at_most hart - n) one_same))
-    (cases_Bool (eqb e.hart hart))
+left_falls harts endings e one may =
+    falls_at (λ hart. ends_at_most hart - times_ended hart endings) (λ hart. ends_at_most hart - times_ended hart (endings ++ e ∷ [])) e.hart here others 0 harts (omega arith) (omega (arith, one))
   where
-    lower : (x y u v : ℕ) → u ≡ x → v ≡ y → v < u → y < x
-    lower x y u v p q lt = omega (arith, p, q, lt)
+    lower : (all before behind : ℕ) → behind ≡ before + 1 → before < all → (all - behind) + 1 ≡ all - before
+    lower all before behind more below = omega (arith, more, below)
 
-    joined : (before behind all m n : ℕ) → behind ≡ before → n ≡ m + 1 → m < all → behind + (all - n) + 1 ≡ before + (all - m)
-    joined before behind all m n same more below = omega (arith, same, more, below)
+    here : (ends_at_most e.hart - times_ended e.hart (endings ++ e ∷ [])) + 1 ≡ ends_at_most e.hart - times_ended e.hart endings
+    here = lower (ends_at_most e.hart) (times_ended e.hart endings) (times_ended e.hart (endings ++ e ∷ []))
+        (end_push e.hart endings e ∙ ap (λ (b : Bool). times_ended e.hart endings + cond b 1 0) (eq-eqb e.hart e.hart refl)) may
 
-    apart : (before behind m n : ℕ) → behind + 1 ≡ before → n ≡ m → behind + n + 1 ≡ before + m
-    apart before behind m n falls same = omega (arith, falls, same)
-
-    under : (x y : ℕ) → x < suc y → (x ≡ y → ⊥) → x < y
-    under x y le differs = omega (arith, le, differs)
+    others : (k : ℕ) → (k ≡ e.hart → ⊥) → ends_at_most k - times_ended k (endings ++ e ∷ []) ≡ ends_at_most k - times_ended k endings
+    others k differs = ⊎_elim
+        (λ (is : eqb e.hart k ≡ true). absurd (differs (sym (eqb-true e.hart k is))))
+        (λ (isnt : eqb e.hart k ≡ false).
+        ap (λ n. ends_at_most k - n) (end_push k endings e ∙ ap (λ (b : Bool). times_ended k endings + cond b 1 0) isnt ∙ plain (times_ended k endings)))
+        (cases_Bool (eqb e.hart k))
+      where
+        plain : (n : ℕ) → n + 0 ≡ n
+        plain n = omega arith
 
 -- ---- at the start
+
+ones : (f : ℕ → ℕ) (a n : ℕ) → ((k : ℕ) → a ≤ k → f k ≡ 1) → sum_by f (range_with_len a n) ≡ n
+ones f a zero each = refl
+ones f a (suc n) each =
+    let rest : sum_by f (range_with_len (a + 1) n) ≡ n = ones f (a + 1) n (λ k le. each k (omega arith)) in
+    omega (arith, rest, each a (omega arith), sum_by-cons f a (range_with_len (a + 1) n))
 
 -- each hart ends, and hart 0 twice
 pub left_first : (harts : ℕ) → 1 ≤ harts → ends_left harts [] ≡ harts + 1
 left_first zero some = absurd (omega (arith, some))
-left_first (suc hart) some = ⊎_elim
-    (λ (is : eqb hart 0 ≡ true).
-    let none : hart ≡ 0 = eqb-true hart 0 is in
-    let rest : ends_left hart [] ≡ 0 = ap (λ n. ends_left n []) none in
-    let two : ends_at_most hart ≡ 2 = ap (λ (b : Bool). cond b 2 1) is in
-    sums (ends_left hart []) (ends_at_most hart) hart 0 2 rest two (omega (arith, none)))
-    (λ (isnt : eqb hart 0 ≡ false).
-    let rest : ends_left hart [] ≡ hart + 1 = left_first hart (above hart (eqb-false hart 0 isnt)) in
-    let one : ends_at_most hart ≡ 1 = ap (λ (b : Bool). cond b 2 1) isnt in
-    sums (ends_left hart []) (ends_at_most hart) hart (hart + 1) 1 rest one (omega arith))
-    (cases_Bool (eqb hart 0))
+left_first (suc n) some =
+    let rest : sum_by (λ hart. ends_at_most hart - times_ended hart []) (range_with_len 1 n) ≡ n = ones (λ hart. ends_at_most hart - times_ended hart []) 1 n one in
+    omega (arith, rest, sum_by-cons (λ hart. ends_at_most hart - times_ended hart []) 0 (range_with_len 1 n))
   where
-    sums : (x y h a b : ℕ) → x ≡ a → y ≡ b → a + b ≡ h + 2 → x + (y - 0) ≡ suc h + 1
-    sums x y h a b p q all = omega (arith, p, q, all)
-
-    above : (h : ℕ) → (h ≡ 0 → ⊥) → 1 ≤ h
-    above h differs = omega (arith, differs)
+    one : (k : ℕ) → 1 ≤ k → ends_at_most k - times_ended k [] ≡ 1
+    one k le = ⊎_elim
+        (λ (is : eqb k 0 ≡ true). absurd (omega (arith, le, eqb-true k 0 is)))
+        (λ (isnt : eqb k 0 ≡ false). ap (λ (b : Bool). cond b 2 1 - 0) isnt)
+        (cases_Bool (eqb k 0))
 
 -- ---- room
 
