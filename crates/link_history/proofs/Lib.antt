@@ -10,6 +10,7 @@ pub mod Changed
 pub mod Closed
 pub mod Cycled
 pub mod Dangling
+pub mod Defined
 pub mod Dying
 pub mod Entering
 pub mod Executing

@@ -82,6 +82,18 @@ pub record IsShort (ask : SymAsk) : Type 0 where
 
 -- ---- a new block
 
+-- the object has a module, and a segment of thread-local storage
+pub record HasStorage (s : State) (serial : ℕ) : Type 0 where
+  pub object : Loaded
+  pub mapped : object_at s serial ≡ Some object
+  pub seg : TlsSeg
+  pub storage : object.object.tls ≡ Some seg
+  pub has_module : IsSome (module_of s serial)
+
+-- a variable of thread-local storage that a look-up finds is defined by an object that has some
+abbrev pub SymbolsAreStored : State → Type 0
+SymbolsAreStored s = (ask : SymAsk) (serial index : ℕ) → search s ask ≡ Some (Some (serial, index)) → IsTrue (is_storage_symbol s serial index) → HasStorage s serial
+
 -- a late module of which the hart has no block yet
 pub record WantsBlock (s : State) (hart serial : ℕ) (seg : TlsSeg) : Type 0 where
   pub object : Loaded

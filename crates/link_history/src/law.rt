@@ -23,6 +23,7 @@ ghost use Rattle.link_history.specs.Laws.{NoneIsLazy, NothingDangles, NothingLef
 ghost use Rattle.link_history.specs.Laws.{SerialsAreInOrder, SlotsBegin, SlotsEnterCode, SlotsLeadToRx, StartupStays, TakesLeast, UninitialisedStay};
 ghost use Rattle.link_history.specs.Exits.{exits, initialised_by_another, setting, unmapped_unclosed};
 ghost use Rattle.link_history.specs.Legal.{Lawful, Legal, Whole};
+ghost use Rattle.link_history.specs.Lookup.{SymbolsAreStored};
 ghost use Rattle.link_history.specs.Objects.{serial_of};
 ghost use Rattle.link_history.specs.Owed.{IsOwed, brings, owed};
 ghost use Rattle.link_history.specs.Read.{BeginsUntouched, ObjectsAreRead, WasRead};
@@ -255,6 +256,16 @@ pub fn events_are_owed()
 {
     scope_rule::serials_follow();
     scope_rule::found_stands();
+}
+
+/// A variable of thread-local storage that a look-up finds is defined by an object that has a module.
+pub fn symbols_are_stored()
+    ensures { (m : Machine) (events : List Event) → AcceptsOnly m → Lawful m events → SymbolsAreStored (after events) }
+{
+    scope_rule::serials_follow();
+    scope_rule::found_stands();
+    scope_rule::reads_candidates();
+    tls_blocks::modules_stay_numbered();
 }
 
 /// Each mapped object has its image, of its record and its base, and each image is of a mapped

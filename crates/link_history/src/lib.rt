@@ -25,5 +25,5 @@ pub use law::{
     no_slot_dangles, none_is_lazy, nothing_comes_before_startup, nothing_left_out,
     objects_are_apart, objects_are_read, openings_stand, program_exits, ranges_apart,
     ranges_are_owned, serials_are_in_order, slots_begin, slots_enter_code, slots_lead_to_rx,
-    startup_stays, uninitialised_stay,
+    startup_stays, symbols_are_stored, uninitialised_stay,
 };

@@ -33,7 +33,7 @@ use Rattle.link_history.specs.Bound.{lazy_word}
 use Rattle.link_history.specs.Grants.{is_open, is_open_standing, target_of}
 use Rattle.link_history.specs.Laws.{AreApart, IsModule, ModulesAreTidy}
 use Rattle.link_history.specs.Links.{edges, roots}
-use Rattle.link_history.specs.Lookup.{HasNoBlock, MayHaveBlock, WantsBlock}
+use Rattle.link_history.specs.Lookup.{HasStorage, HasNoBlock, MayHaveBlock, WantsBlock}
 use Rattle.link_history.specs.Objects.{IsMapped, has, mapped, object_at, serial_of}
 use Rattle.link_history.specs.Setting.{Setting}
 use Rattle.link_history.specs.Slots.{HasNoGrant, IsSlot}
@@ -44,7 +44,7 @@ use Rattle.link_history.proofs.Lists.{any_in, first_or_later, found_in, from_fla
 use Rattle.link_history.proofs.Played.{bad_handle}
 use Rattle.link_service.specs.Answer.{returns, granted, again, over}
 use Rattle.link_service.specs.Call.{resolves, closes, unmaps, locates}
-use Rattle.link_service.specs.Complete.{HasAnswer, HasStorage}
+use Rattle.link_service.specs.Complete.{HasAnswer}
 use Rattle.link_service.specs.Ends.{LacksSlot}
 use Rattle.link_service.specs.Ends.EndsAs.{unloaded, no_slot, bad_module, no_room}
 use Rattle.link_service.specs.Gives.{variable_at}

@@ -5,13 +5,17 @@ use Rattle.link_event.specs.declared.event.Event.TheVariants as events
 use Rattle.link_event.specs.declared.hart_end.HartEnd.{HartEnd}
 use Rattle.link_event.specs.declared.hart_end.HartEnd.TheVariants as ends
 use Rattle.std.specs.Prelude.{IsTrue}
+use Rattle.link_history.specs.Accepted.{AcceptsOnly}
 use Rattle.link_history.specs.After.{after}
 use Rattle.link_history.specs.Allowed.{kept_for}
 use Rattle.link_history.specs.Laws.{AreApart, ModulesAreTidy}
 use Rattle.link_history.specs.Legal.{Lawful}
+use Rattle.link_history.specs.Lookup.{SymbolsAreStored}
 use Rattle.link_history.specs.Setting.{Machine, Setting}
+use Rattle.link_history.proofs.Accepting.{ReadLaw}
 use Rattle.link_history.proofs.Alone.{apart}
 use Rattle.link_history.proofs.Brought.{LoadLaws}
+use Rattle.link_history.proofs.Defined.{symbols_stored}
 use Rattle.link_history.proofs.Moduled.{NumberLaws}
 use Rattle.link_history.proofs.Offsets.{modules_tidy}
 use Rattle.link_service.specs.Answer.{over, returns, told}
@@ -41,21 +45,23 @@ own_ample (ends.NotCode owner slot) own = refl
 own_ample (ends.AddressSpaceFull pages) own = refl
 own_ample ends.Memory own = absurd (cc)
 
-answered : (w : Setting) (past : List Event) (h : ℕ) (call : Call) → AreApart (after past) → ModulesAreTidy (after past) → MayMake (after past) h call → HasAnswer w past h call
-answered w past h (resolves owner eights) alone tidy may = resolves_answered w past h owner eights may
-answered w past h (opens ask) alone tidy may = absurd may
-answered w past h (looks_up ask) alone tidy may = looks_up_answered w past h ask may
-answered w past h (closes handle) alone tidy may = closes_answered w past h handle
-answered w past h (unmaps set) alone tidy may = unmaps_answered w past h set may
-answered w past h asks_fault alone tidy may = record {
+answered : (w : Setting) (past : List Event) (h : ℕ) (call : Call) → AreApart (after past) → ModulesAreTidy (after past) → SymbolsAreStored (after past) → MayMake (after past) h call → HasAnswer w past h call
+answered w past h (resolves owner eights) alone tidy symbols may = resolves_answered w past h owner eights may
+answered w past h (opens ask) alone tidy symbols may = absurd may
+answered w past h (looks_up ask) alone tidy symbols may = looks_up_answered w past h ask symbols may
+answered w past h (closes handle) alone tidy symbols may = closes_answered w past h handle
+answered w past h (unmaps set) alone tidy symbols may = unmaps_answered w past h set may
+answered w past h asks_fault alone tidy symbols may = record {
   given = events.Told h (kept_for (after past) h) ∷ [];
   answer = told (kept_for (after past) h);
   gives = by_event _ _ _ (is_told (kept_for (after past) h)) refl;
   ample = refl;
 }
-answered w past h (locates number offset) alone tidy may = locates_answered w past h number offset alone tidy
-answered w past h (writes bytes) alone tidy may = record { given = events.Wrote h bytes ∷ []; answer = returns (length bytes); gives = by_event _ _ _ (is_written bytes) may; ample = refl }
-answered w past h (stops reason) alone tidy may = record { given = []; answer = over reason; gives = to_end _ _ (asked reason may); ample = own_ample reason may }
+answered w past h (locates number offset) alone tidy symbols may = locates_answered w past h number offset alone tidy
+answered w past h (writes bytes) alone tidy symbols may = record { given = events.Wrote h bytes ∷ []; answer = returns (length bytes); gives = by_event _ _ _ (is_written bytes) may; ample = refl }
+answered w past h (stops reason) alone tidy symbols may = record { given = []; answer = over reason; gives = to_end _ _ (asked reason may); ample = own_ample reason may }
 
-pub complete : NumberLaws → LoadLaws → (m : Machine) (w : Setting) (past : List Event) (h : ℕ) (call : Call) → w.machine ≡ m → Lawful m past → MayMake (after past) h call → HasAnswer w past h call
-complete numbers laws m w past h call same lawful may = answered w past h call (apart laws m past lawful) (modules_tidy numbers laws m past lawful) may
+pub complete : NumberLaws → LoadLaws → ReadLaw → (m : Machine) (w : Setting) (past : List Event) (h : ℕ) (call : Call) → w.machine ≡ m → AcceptsOnly m → Lawful m past → MayMake (after past) h call
+    → HasAnswer w past h call
+complete numbers laws read m w past h call same only lawful may =
+    answered w past h call (apart laws m past lawful) (modules_tidy numbers laws m past lawful) (symbols_stored numbers laws read m only past lawful) may

@@ -19,7 +19,7 @@ use Rattle.ld_base.specs.declared.linking.Choice.TheVariants.{Def}
 use Rattle.link_history.specs.Addresses.{address}
 use Rattle.link_history.specs.After.{after}
 use Rattle.link_history.specs.Asking.{is_too_long}
-use Rattle.link_history.specs.Lookup.{HasNoBlock, IsAddressBy, IsShort, IsTooLong, MayAnswer, MayHaveBlock, RefusesSymbol, found_default, found_on_handle, is_storage_symbol, is_version_long, opened_in, search, symbol_value, wanted_of}
+use Rattle.link_history.specs.Lookup.{SymbolsAreStored, HasNoBlock, IsAddressBy, IsShort, IsTooLong, MayAnswer, MayHaveBlock, RefusesSymbol, found_default, found_on_handle, is_storage_symbol, is_version_long, opened_in, search, symbol_value, wanted_of}
 use Rattle.link_history.specs.Lookup.IsTooLong.{name as long_name, version as long_version}
 use Rattle.link_history.specs.Lookup.RefusesSymbol.{name_too_long, bad_handle, missing, no_room}
 use Rattle.link_history.specs.Objects.{has_id, has_namespace, namespace_of}
@@ -170,8 +170,8 @@ first_use w past h ask serial index block there short found storage some none ma
     value : ℕ
     value = (block + symbol_value (after past) serial index) % 2 ^ 64
 
-pub looks_up_answered : (w : Setting) (past : List Event) (h : ℕ) (ask : SymAsk) → FitsSymbol (after past) ask → HasAnswer w past h (looks_up ask)
-looks_up_answered w past h ask fits = ⊎_elim
+pub looks_up_answered : (w : Setting) (past : List Event) (h : ℕ) (ask : SymAsk) → SymbolsAreStored (after past) → FitsSymbol (after past) ask → HasAnswer w past h (looks_up ask)
+looks_up_answered w past h ask symbols fits = ⊎_elim
     (λ (long : IsTooLong ask). refusing w past h ask faults.NameTooLong fits.namespace (name_too_long long))
     (λ (short : IsShort ask). by short (search (after past) ask) refl)
     (too_long ask (after past) fits)
@@ -182,9 +182,9 @@ looks_up_answered w past h ask fits = ⊎_elim
         (subst (λ (b : Bool). IsAddressBy b (after past) h serial index ((block + symbol_value (after past) serial index) % 2 ^ 64)) (sym t) (block, e, refl))
     stored short serial index at t None e = ⊎_elim
         (λ (x : (block : ℕ) × MayHaveBlock (after past) h serial block).
-        first_use w past h ask serial index x.0 fits.namespace short at t (fits.stored serial index at t).has_module e x.1)
+        first_use w past h ask serial index x.0 fits.namespace short at t (symbols ask serial index at t).has_module e x.1)
         (λ (x : (pages : ℕ) × HasNoBlock (after past) h serial pages). refusing w past h ask (faults.AddressSpaceFull x.0) fits.namespace (no_room serial index x.0 short at t x.1))
-        (block_or_full (after past) h serial (fits.stored serial index at t) e)
+        (block_or_full (after past) h serial (symbols ask serial index at t) e)
 
     found_at : IsShort ask → (serial index : ℕ) → search (after past) ask ≡ Some (Some (serial, index)) → HasAnswer w past h (looks_up ask)
     found_at short serial index at = ⊎_elim

@@ -1,19 +1,16 @@
 -- Each call that a hart may make has an answer other than want of memory.
-use Rattle.std.specs.Prelude.{◌≡◌, ℕ, ◌≤◌, false, List, length, Some, None, IsSome, IsTrue}
-use Rattle.ld_base.specs.declared.linking.Loaded.{Loaded}
-use Rattle.ld_base.specs.declared.object.TlsSeg.{TlsSeg}
+use Rattle.std.specs.Prelude.{◌≡◌, ℕ, ◌≤◌, false, List, length, Some, None, IsTrue}
 use Rattle.link_event.specs.declared.event.Event.{Event}
 use Rattle.link_event.specs.declared.event.SymAsk.{SymAsk}
+use Rattle.link_history.specs.Accepted.{AcceptsOnly}
 use Rattle.link_history.specs.After.{after}
 use Rattle.link_history.specs.Allowed.{MayWrite}
 use Rattle.link_history.specs.Asking.{is_too_long}
 use Rattle.link_history.specs.Legal.{Lawful}
-use Rattle.link_history.specs.Lookup.{is_storage_symbol, search}
-use Rattle.link_history.specs.Objects.{has_namespace, object_at}
+use Rattle.link_history.specs.Objects.{has_namespace}
 use Rattle.link_history.specs.Setting.{Machine, Setting}
 use Rattle.link_history.specs.Slots.{HasNoGrant}
 use Rattle.link_history.specs.State.{State}
-use Rattle.link_history.specs.Storage.{module_of}
 use Rattle.link_service.specs.Answer.{Answer}
 use Rattle.link_service.specs.Call.{Call, resolves, opens, looks_up, closes, unmaps, asks_fault, locates, writes, stops}
 use Rattle.link_service.specs.Gives.{Gives}
@@ -21,22 +18,12 @@ use Rattle.link_service.specs.Ends.{is_own_end}
 use Rattle.link_service.specs.Laws.{is_want}
 use Rattle.link_service.specs.Waiting.{HasFinished}
 
--- the object has a module, and a segment of thread-local storage
-pub record HasStorage (s : State) (serial : ℕ) : Type 0 where
-  pub object : Loaded
-  pub mapped : object_at s serial ≡ Some object
-  pub seg : TlsSeg
-  pub storage : object.object.tls ≡ Some seg
-  pub has_module : IsSome (module_of s serial)
-
--- what a look-up is asked: of a caller's namespace, by a name and a version of which 256 bytes at most are known; and a variable of thread-local
--- storage is defined by an object that has some, as the rules of acceptance ask
+-- what a look-up is asked: of a caller's namespace, by a name and a version of which 256 bytes at most are known
 pub record FitsSymbol (s : State) (ask : SymAsk) : Type 0 where
   pub namespace : IsTrue (has_namespace s ask.ns)
   pub name : length ask.name ≤ 256
   pub alone : IsTrue (is_too_long ask.name) → ask.version ≡ None
   pub version : (text : List ℕ) → ask.version ≡ Some text → length text ≤ 256
-  pub stored : (serial index : ℕ) → search s ask ≡ Some (Some (serial, index)) → IsTrue (is_storage_symbol s serial index) → HasStorage s serial
 
 -- what holds where a hart makes the call; what an opening comes to depends on what it reads besides
 abbrev pub MayMake : State → ℕ → Call → Type 0
@@ -57,5 +44,5 @@ pub record HasAnswer (w : Setting) (past : List Event) (h : ℕ) (call : Call) :
   pub ample : is_want answer ≡ false
 
 abbrev pub Complete : Type 0
-Complete = (m : Machine) (w : Setting) (past : List Event) (h : ℕ) (call : Call) → w.machine ≡ m → Lawful m past
+Complete = (m : Machine) (w : Setting) (past : List Event) (h : ℕ) (call : Call) → w.machine ≡ m → AcceptsOnly m → Lawful m past
     → MayMake (after past) h call → HasAnswer w past h call

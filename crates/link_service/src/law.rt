@@ -58,6 +58,7 @@ pub fn calls_are_answered()
 {
     scope_rule::serials_follow();
     scope_rule::found_stands();
+    scope_rule::reads_candidates();
     tls_blocks::modules_stay_numbered();
 }
 

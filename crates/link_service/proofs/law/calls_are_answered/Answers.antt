@@ -5,3 +5,4 @@ pub returns : goal.returns
 returns c = complete
     (record { more = c.modules_stay_numbered.ensures.more; fewer = c.modules_stay_numbered.ensures.fewer })
     (record { serials = c.serials_follow.ensures; leads = c.found_stands.ensures.names; founds = c.found_stands.ensures.founds })
+    c.reads_candidates.ensures.candidates
