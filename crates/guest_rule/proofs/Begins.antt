@@ -6,13 +6,14 @@ use lib.ListN.{get_elem?}
 use Rattle.guest_rule.specs.declared.entry.Grant.{Grant}
 use Rattle.guest_rule.specs.declared.entry.RowWord.{RowWord}
 use Rattle.guest_rule.specs.declared.entry.RowWord.TheVariants.{Number, Slot, Lazy, Value, Generation}
+use Rattle.guest_rule.specs.declared.view.KeeperView.{KeeperView}
 use Rattle.guest_rule.specs.declared.view.Kept.{Kept}
 use Rattle.guest_rule.specs.declared.view.Row.{Row}
 use Rattle.guest_rule.specs.declared.view.View.{View}
 use Rattle.guest_rule.specs.declared.view.View.TheVariants.{Keeper}
 use Rattle.guest_rule.specs.Layout.{doublewords, harts_at_most, table_words}
 use Rattle.guest_rule.specs.Views.{field_of, first_hart, kept_at, no_row, nothing_locked, row_of, unmapped}
-use Rattle.guest_rule.specs.Start.{first_keeper, first_words}
+use Rattle.guest_rule.specs.Start.{first_keeper, first_words, IsFirst}
 use Rattle.guest_rule.specs.Seats.{Fits}
 use Rattle.guest_rule.specs.Words.{nobody, keeper, hart, LockIs, Owner, Words}
 use Rattle.guest_rule.specs.Calls.{Calls, RowIs}
@@ -83,7 +84,23 @@ first_slots = record {
     ungranted g h = Rattle.std.proofs.Common.⊎_elim (λ (e : None ≡ Some g). absurd (let q : None ≡ Some g = e in cc))
         (λ (c : (f : Rattle.guest_rule.specs.declared.view.Fate.Fate) × Contains [] (record { grant = g; fate = f })). nothing (record { grant = g; fate = c.0 }) c.1) h
 
-first_parts : Parts (slice_index first_words) first_keeper first_hart
+abbrev start : KeeperView
+start = record {
+  words = replicate doublewords unmapped;
+  events = [];
+  generation = 0;
+  harts = 0;
+  rows = replicate harts_at_most no_row;
+  access = nothing_locked;
+  joined = [];
+  note = None;
+}
+
+first_is : first_keeper ≡ start
+unfolding first_keeper
+first_is = refl
+
+first_parts : Parts (slice_index first_words) start first_hart
 first_parts = record {
   heard = λ m. record { numbered = refl; heard = ([], refl); told = tt };
   locks = subst (λ (p : (ℕ → ℕ) × (ℕ → Kept)). Words p.0 p.1 nothing_locked (λ m. nothing_locked)) (λ i. (words i, knowledge i)) first_words_part;
@@ -95,15 +112,15 @@ first_parts = record {
     words : (λ i. 0) ≡ slice_index first_words
     words = ext (λ i. 0) (slice_index first_words) (all_same table_words 0)
 
-    knowledge : (λ d. unmapped) ≡ kept_at first_keeper
-    knowledge = ext (λ d. unmapped) (kept_at first_keeper) (all_same doublewords unmapped)
+    knowledge : (λ d. unmapped) ≡ kept_at start
+    knowledge = ext (λ d. unmapped) (kept_at start) (all_same doublewords unmapped)
 
-    rows : (λ m. no_row) ≡ row_of first_keeper
-    rows = ext (λ m. no_row) (row_of first_keeper) (all_same harts_at_most no_row)
+    rows : (λ m. no_row) ≡ row_of start
+    rows = ext (λ m. no_row) (row_of start) (all_same harts_at_most no_row)
 
-pub begins : IsGuest first_words (Keeper first_keeper ∷ [])
-begins = record {
-  kept = first_keeper;
+begun : IsGuest first_words (Keeper start ∷ [])
+begun = record {
+  kept = start;
   keeper = 0;
   seat_of = λ m. 0;
   hart = first_hart;
@@ -121,6 +138,22 @@ begins = record {
   parts = first_parts;
 }
   where
-    one : (seat : ℕ) (v : View) → get_elem? (Keeper first_keeper ∷ []) seat ≡ some v → Fits first_keeper 0 (λ m. 0) first_hart seat v
-    one zero v e = subst (Fits first_keeper 0 (λ m. 0) first_hart 0) (some-injective (Keeper first_keeper) v e) (refl, refl)
+    one : (seat : ℕ) (v : View) → get_elem? (Keeper start ∷ []) seat ≡ some v → Fits start 0 (λ m. 0) first_hart seat v
+    one zero v e = subst (Fits start 0 (λ m. 0) first_hart 0) (some-injective (Keeper start) v e) (refl, refl)
     one (suc seat) v e = absurd (some-ne-none v (sym e))
+
+pub begins : IsGuest first_words (Keeper first_keeper ∷ [])
+begins = subst (λ k. IsGuest first_words (Keeper k ∷ [])) (sym first_is) begun
+
+pub is_first : IsFirst first_keeper
+is_first = subst IsFirst (sym first_is) (record {
+  long = (length-replicate doublewords unmapped, length-replicate harts_at_most no_row);
+  no_roles = λ d. sym (all_same doublewords unmapped d);
+  no_rows = λ m. sym (all_same harts_at_most no_row m);
+  no_events = refl;
+  no_harts = refl;
+  no_modules = refl;
+  access = refl;
+  none_joined = refl;
+  no_note = refl;
+})

@@ -75,18 +75,19 @@ given_back won = cond won 4 5
 restate : (known : ℕ → Kept) (locked : Option ℕ) (count : ℕ) (word word' : ℕ → ℕ) (winner : ℕ → Winner) (m : ℕ) (row : Row) (t t' : Option Exchange) (xs : List Exchange)
     → ((d : ℕ) → IsSlot known d → word' (value_at d) ≡ word (value_at d)) → (row.pending ≡ None → word' (state_at m) ≢ 3)
     → ((g : Grant) → row.pending ≡ Some g → (value : ℕ) (w : Winner) → (value ≡ word (value_at (place_of g.entry.slot))) → (w ≡ winner (place_of g.entry.slot)) → IsOf known (place_of g.entry.slot) g
-    → Fated value (word (state_at m)) w m row t xs g → Fated value (word' (state_at m)) w m row t' xs g)
+    → Fated value (word (state_at m)) w m t xs g → Fated value (word' (state_at m)) w m t' xs g)
     → GrantsAre known locked count word winner m row t xs → GrantsAre known locked count word' winner m row t' xs
 restate known locked count word word' winner m row t t' xs values closed' fates old = record {
   closed = closed';
   pending = λ g e.
       let d : ℕ = place_of g.entry.slot in
       let p : IsPending known locked (word (value_at d)) (word (state_at m)) (winner d) m row t xs g = old.pending g e in record {
+        in_row = p.in_row;
         of_slot = p.of_slot;
         free = p.free;
         lazy_is = p.lazy_is;
         other = p.other;
-        fate = subst (λ v. Fated v (word' (state_at m)) (winner d) m row t' xs g) (sym (values d p.of_slot.0)) (fates g e (word (value_at d)) (winner d) refl refl p.of_slot p.fate);
+        fate = subst (λ v. Fated v (word' (state_at m)) (winner d) m t' xs g) (sym (values d p.of_slot.0)) (fates g e (word (value_at d)) (winner d) refl refl p.of_slot p.fate);
       };
   won = old.won;
   lost = old.lost;
@@ -159,13 +160,13 @@ module _ (word : ℕ → ℕ) (known : ℕ → Kept) (locked : Option ℕ) (coun
       states_step x (hart_after (kinds.Begin h.number) h state) refl
       (restate known locked count word (put word (state_at h.number) x) s.winner h.number (row h.number) h.lane.tried h.lane.tried (exchanges h.number) (values_stay x)
       (λ none' e. let q : x ≡ 3 = sym (state_is x) ∙ e in omega arith)
-      (λ g e value w _ _ _ f. subst (λ n. Fated value n w h.number (row h.number) h.lane.tried (exchanges h.number) g) (sym (state_is x)) (begun state x refl low rests.0 w g value f))
+      (λ g e value w _ _ _ f. subst (λ n. Fated value n w h.number h.lane.tried (exchanges h.number) g) (sym (state_is x)) (begun state x refl low rests.0 w g value f))
       old)
     where
       three : (n : ℕ) → Rests n → n ≡ 3 → ⊥
       three n rest e = elim rest [ inl a ↦ omega arith | inr a ↦ elim a [ inl b ↦ omega arith | inr b ↦ omega arith ] ]
 
-      begun : (n x : ℕ) → x ≡ (n + 8) % 18446744073709551616 → n < 8 → Rests n → (w : Winner) (g : Grant) (value : ℕ) → Fated value n w h.number (row h.number) h.lane.tried (exchanges h.number) g → Fated value x w h.number (row h.number) h.lane.tried (exchanges h.number) g
+      begun : (n x : ℕ) → x ≡ (n + 8) % 18446744073709551616 → n < 8 → Rests n → (w : Winner) (g : Grant) (value : ℕ) → Fated value n w h.number h.lane.tried (exchanges h.number) g → Fated value x w h.number h.lane.tried (exchanges h.number) g
       begun n x is low rest w g value f = elim f [
         | inl o ↦ absurd (three n rest o.0)
         | inr f ↦ elim f [
@@ -187,7 +188,7 @@ module _ (word : ℕ → ℕ) (known : ℕ → Kept) (locked : Option ℕ) (coun
       (λ g p value w _ _ _ f. absurd (unfated state a.mark other w g value f))
       old)
     where
-      unfated : (n : ℕ) → IsMark n → n ≢ 3 → (w : Winner) (g : Grant) (value : ℕ) → Fated value n w h.number (row h.number) h.lane.tried (exchanges h.number) g → ⊥
+      unfated : (n : ℕ) → IsMark n → n ≢ 3 → (w : Winner) (g : Grant) (value : ℕ) → Fated value n w h.number h.lane.tried (exchanges h.number) g → ⊥
       unfated n mark other w g value f = elim f [
         | inl o ↦ other o.0
         | inr f ↦ elim f [
@@ -211,7 +212,7 @@ module _ (word : ℕ → ℕ) (known : ℕ → Kept) (locked : Option ℕ) (coun
       states_step y h' (push_quiet h.trail Done refl)
       (restate known locked count word (put word (state_at h.number) y) s.winner h.number (row h.number) h.lane.tried h'.lane.tried (exchanges h.number) (values_stay y)
       (λ none' t. not_open won (sym (state_is y) ∙ t))
-      (λ g p value w value_is w_is o f. subst (λ n. Fated value n w h.number (row h.number) h'.lane.tried (exchanges h.number) g) (sym (state_is y))
+      (λ g p value w value_is w_is o f. subst (λ n. Fated value n w h.number h'.lane.tried (exchanges h.number) g) (sym (state_is y))
       (fated h'.lane.tried won (sym won_is) g value w value_is w_is o (opened state three w g value f)))
       old)
     where
@@ -219,7 +220,7 @@ module _ (word : ℕ → ℕ) (known : ℕ → Kept) (locked : Option ℕ) (coun
       not_open true e = omega arith
       not_open false e = omega arith
 
-      opened : (n : ℕ) → n ≡ 3 → (w : Winner) (g : Grant) (value : ℕ) → Fated value n w h.number (row h.number) h.lane.tried (exchanges h.number) g → IsOpen w h.number (row h.number) h.lane.tried (exchanges h.number) g
+      opened : (n : ℕ) → n ≡ 3 → (w : Winner) (g : Grant) (value : ℕ) → Fated value n w h.number h.lane.tried (exchanges h.number) g → IsOpen w h.number h.lane.tried (exchanges h.number) g
       opened n three w g value f = elim f [
         | inl o ↦ o.1
         | inr f ↦ elim f [
@@ -229,7 +230,7 @@ module _ (word : ℕ → ℕ) (known : ℕ → Kept) (locked : Option ℕ) (coun
       ]
 
       fated : (t : Option Exchange) (won : Bool) → eqb x.found x.grant.lazy ≡ won → (g : Grant) (value : ℕ) (w : Winner) → value ≡ word (value_at (place_of g.entry.slot)) → w ≡ s.winner (place_of g.entry.slot) → IsOf known (place_of g.entry.slot) g
-          → IsOpen w h.number (row h.number) h.lane.tried (exchanges h.number) g → Fated value (cond won 4 5) w h.number (row h.number) t (exchanges h.number) g
+          → IsOpen w h.number h.lane.tried (exchanges h.number) g → Fated value (cond won 4 5) w h.number t (exchanges h.number) g
       fated t won won_is g value w value_is w_is o is_open = go won won_is
         where
           made : (x.grant ≡ g) × Contains (exchanges h.number) x
@@ -239,7 +240,7 @@ module _ (word : ℕ → ℕ) (known : ℕ → Kept) (locked : Option ℕ) (coun
           did = subst (λ (q : Grant). Did (word (value_at (place_of q.entry.slot))) (known (place_of q.entry.slot)).lazy (s.winner (place_of q.entry.slot)) h.number x) made.0
               (s.each_exchange h.number few x made.1 (subst (λ (q : Grant). IsOf known (place_of q.entry.slot) q) (sym made.0) o))
 
-          go : (won : Bool) → eqb x.found x.grant.lazy ≡ won → Fated value (cond won 4 5) w h.number (row h.number) t (exchanges h.number) g
+          go : (won : Bool) → eqb x.found x.grant.lazy ≡ won → Fated value (cond won 4 5) w h.number t (exchanges h.number) g
           go true e = inr (inl (refl, w_is ∙ (did.won (eqb-true x.found x.grant.lazy e) ∙ ap (λ q. Some (h.number, q)) made.0)))
           go false e =
               let apart : x.found ≢ x.grant.lazy = eqb-false x.found x.grant.lazy e in
@@ -258,7 +259,7 @@ module _ (word : ℕ → ℕ) (known : ℕ → Kept) (locked : Option ℕ) (coun
     pub three : state ≡ 3
     pub is_pending : (row h.number).pending ≡ Some g
     pub posted : let d = place_of g.entry.slot in IsPending known locked (word (value_at d)) state (s.winner d) h.number (row h.number) h.lane.tried (exchanges h.number) g
-    pub is_open : IsOpen (s.winner (place_of g.entry.slot)) h.number (row h.number) h.lane.tried (exchanges h.number) g
+    pub is_open : IsOpen (s.winner (place_of g.entry.slot)) h.number h.lane.tried (exchanges h.number) g
 
   pub aims_at : (g : Grant) → HartReady (kinds.Exchange g) h → Aim g
   aims_at g ready = at (row h.number).pending refl
@@ -281,7 +282,7 @@ module _ (word : ℕ → ℕ) (known : ℕ → Kept) (locked : Option ℕ) (coun
       same : g ≡ grant_in (row h.number)
       same i = record { entry = (read.1 ∙ ap (λ s. entry_of s (row h.number)) three) i; lazy = lazy i }
 
-      opened : (n : ℕ) → n ≡ 3 → (p : Grant) (w : Winner) (value : ℕ) → Fated value n w h.number (row h.number) h.lane.tried (exchanges h.number) p → IsOpen w h.number (row h.number) h.lane.tried (exchanges h.number) p
+      opened : (n : ℕ) → n ≡ 3 → (p : Grant) (w : Winner) (value : ℕ) → Fated value n w h.number h.lane.tried (exchanges h.number) p → IsOpen w h.number h.lane.tried (exchanges h.number) p
       opened n is p w value f = elim f [
         | inl f ↦ f.1
         | inr f ↦ elim f [
@@ -294,8 +295,8 @@ module _ (word : ℕ → ℕ) (known : ℕ → Kept) (locked : Option ℕ) (coun
       at None e = absurd (old.closed e three)
       at (Some p) e =
           let posted : IsPending known locked (word (value_at (place_of p.entry.slot))) state (s.winner (place_of p.entry.slot)) h.number (row h.number) h.lane.tried (exchanges h.number) p = old.pending p e in
-          let is_open : IsOpen (s.winner (place_of p.entry.slot)) h.number (row h.number) h.lane.tried (exchanges h.number) p = opened state three p (s.winner (place_of p.entry.slot)) (word (value_at (place_of p.entry.slot))) posted.fate in
-          let it : p ≡ g = is_open.in_row ∙ sym same in
+          let is_open : IsOpen (s.winner (place_of p.entry.slot)) h.number h.lane.tried (exchanges h.number) p = opened state three p (s.winner (place_of p.entry.slot)) (word (value_at (place_of p.entry.slot))) posted.fate in
+          let it : p ≡ g = posted.in_row ∙ sym same in
           subst Aim it (record { three = three; is_pending = e; posted = posted; is_open = is_open })
 
   -- the slot of the grant in the row is a doubleword of guest memory
@@ -303,15 +304,6 @@ module _ (word : ℕ → ℕ) (known : ℕ → Kept) (locked : Option ℕ) (coun
   find_tells Slot (Some o) has = λ mark. let a : Answered state (row h.number) h.lane = answered_if state (row h.number) h.lane o has h.lane.calling r.stage in
       subst IsDoubleword (sym (r.fields Slot)) (in_memory (sym (a.offer o has).0 ∙ mark) (row h.number).pending refl)
     where
-      at_three : (n : ℕ) → n ≡ 3 → (g : Grant) (w : Winner) (value : ℕ) → Fated value n w h.number (row h.number) h.lane.tried (exchanges h.number) g → g ≡ grant_in (row h.number)
-      at_three n is g w value f = elim f [
-        | inl f ↦ f.1.in_row
-        | inr f ↦ elim f [
-          | inl f ↦ (let q = f.0 in absurd (omega arith))
-          | inr f ↦ (let q = f.0 in absurd (omega arith))
-        ]
-      ]
-
       of_slot : (d n : ℕ) → n ≡ address_of d → d < doublewords → IsDoubleword n
       of_slot d n is low = ((let q = is in omega arith, subst (λ e. e < doublewords) (sym (ap place_of is ∙ place_at d)) low), let q = is in omega arith)
 
@@ -320,7 +312,7 @@ module _ (word : ℕ → ℕ) (known : ℕ → Kept) (locked : Option ℕ) (coun
       in_memory three (Some g) e =
           let d : ℕ = place_of g.entry.slot in
           let posted : IsPending known locked (word (value_at d)) state (s.winner d) h.number (row h.number) h.lane.tried (exchanges h.number) g = old.pending g e in
-          subst (λ (q : Grant). IsDoubleword q.entry.slot) (at_three state three g (s.winner d) (word (value_at d)) posted.fate) (of_slot d g.entry.slot posted.of_slot.1 posted.of_slot.0.0)
+          subst (λ (q : Grant). IsDoubleword q.entry.slot) posted.in_row (of_slot d g.entry.slot posted.of_slot.1 posted.of_slot.0.0)
   find_tells Slot None has = tt
   find_tells Number o has = tt
   find_tells Lazy o has = tt
@@ -332,8 +324,8 @@ module _ (word : ℕ → ℕ) (known : ℕ → Kept) (locked : Option ℕ) (coun
     pub slot : SlotIs v' known count row (put exchanges h.number (exchanges h.number ++ e ∷ [])) w' (place_of g.entry.slot)
     pub did : Did v' (known (place_of g.entry.slot)).lazy w' h.number e
     pub fates : (j : ℕ) → j < harts_at_most → j ≢ h.number → (p : Grant) → p.lazy ≡ (known (place_of g.entry.slot)).lazy
-        → Fated (word (value_at (place_of g.entry.slot))) (word (state_at j)) (s.winner (place_of g.entry.slot)) j (row j) (tried j) (exchanges j) p
-        → Fated v' (word (state_at j)) w' j (row j) (tried j) (exchanges j) p
+        → Fated (word (value_at (place_of g.entry.slot))) (word (state_at j)) (s.winner (place_of g.entry.slot)) j (tried j) (exchanges j) p
+        → Fated v' (word (state_at j)) w' j (tried j) (exchanges j) p
     pub before : (j : ℕ) (x : Exchange) → Did (word (value_at (place_of g.entry.slot))) (known (place_of g.entry.slot)).lazy (s.winner (place_of g.entry.slot)) j x → Did v' (known (place_of g.entry.slot)).lazy w' j x
 
   exchange_leaves : (g : Grant) (v' : ℕ) (w' : Winner) → HartReady (kinds.Exchange g) h → Aim g → Left g v' w' (record { grant = g; found = word (value_at (place_of g.entry.slot)) })
@@ -403,11 +395,12 @@ module _ (word : ℕ → ℕ) (known : ℕ → Kept) (locked : Option ℕ) (coun
       others j low apart = let o : GrantsAre known locked count word s.winner j (row j) (tried j) (exchanges j) = s.each_hart j low in record {
         closed = λ none' t. o.closed none' (sym (state_else j low) ∙ t);
         pending = λ p is. let n : ℕ = place_of p.entry.slot in let q : IsPending known locked (word (value_at n)) (word (state_at j)) (s.winner n) j (row j) (tried j) (exchanges j) p = o.pending p is in record {
+          in_row = q.in_row;
           of_slot = q.of_slot;
           free = q.free;
           lazy_is = q.lazy_is;
           other = q.other;
-          fate = subst (λ n'. Fated (word' (value_at n)) n' (winner' n) j (row j) (tried j) (exchanges j) p) (sym (state_else j low)) (fate_at j low apart p n q.lazy_is q.fate);
+          fate = subst (λ n'. Fated (word' (value_at n)) n' (winner' n) j (tried j) (exchanges j) p) (sym (state_else j low)) (fate_at j low apart p n q.lazy_is q.fate);
         };
         won = o.won;
         lost = o.lost;
@@ -416,19 +409,20 @@ module _ (word : ℕ → ℕ) (known : ℕ → Kept) (locked : Option ℕ) (coun
         rising = o.rising;
       }
         where
-          fate_at : (j : ℕ) → j < harts_at_most → j ≢ m → (p : Grant) (n : ℕ) → p.lazy ≡ (known n).lazy → Fated (word (value_at n)) (word (state_at j)) (s.winner n) j (row j) (tried j) (exchanges j) p
-              → Fated (word' (value_at n)) (word (state_at j)) (winner' n) j (row j) (tried j) (exchanges j) p
+          fate_at : (j : ℕ) → j < harts_at_most → j ≢ m → (p : Grant) (n : ℕ) → p.lazy ≡ (known n).lazy → Fated (word (value_at n)) (word (state_at j)) (s.winner n) j (tried j) (exchanges j) p
+              → Fated (word' (value_at n)) (word (state_at j)) (winner' n) j (tried j) (exchanges j) p
           fate_at j low apart p n lazy f = dite (ℕ_discrete n d)
-              (λ (same : n ≡ d). subst (λ n. Fated (word' (value_at n)) (word (state_at j)) (winner' n) j (row j) (tried j) (exchanges j) p) (sym same)
-              (subst (λ (q : ℕ × Winner). Fated q.0 (word (state_at j)) q.1 j (row j) (tried j) (exchanges j) p) (λ i. (sym (put_here word (value_at d) v') i, sym (put_here s.winner d w') i))
-              (left.fates j low apart p (lazy ∙ ap (λ n. (known n).lazy) same) (subst (λ n. Fated (word (value_at n)) (word (state_at j)) (s.winner n) j (row j) (tried j) (exchanges j) p) same f))))
-              (λ (other : n ≢ d). subst (λ (q : ℕ × Winner). Fated q.0 (word (state_at j)) q.1 j (row j) (tried j) (exchanges j) p) (λ i. (sym (value_else n other) i, sym (put_else s.winner d w' n other) i)) f)
+              (λ (same : n ≡ d). subst (λ n. Fated (word' (value_at n)) (word (state_at j)) (winner' n) j (tried j) (exchanges j) p) (sym same)
+              (subst (λ (q : ℕ × Winner). Fated q.0 (word (state_at j)) q.1 j (tried j) (exchanges j) p) (λ i. (sym (put_here word (value_at d) v') i, sym (put_here s.winner d w') i))
+              (left.fates j low apart p (lazy ∙ ap (λ n. (known n).lazy) same) (subst (λ n. Fated (word (value_at n)) (word (state_at j)) (s.winner n) j (tried j) (exchanges j) p) same f))))
+              (λ (other : n ≢ d). subst (λ (q : ℕ × Winner). Fated q.0 (word (state_at j)) q.1 j (tried j) (exchanges j) p) (λ i. (sym (value_else n other) i, sym (put_else s.winner d w' n other) i)) f)
 
       mine' : GrantsAre known locked count word' winner' m (row m) (Some e) (exchanges m ++ e ∷ [])
       mine' = record {
         closed = λ none' t. old.closed none' (sym (state_else m few) ∙ t);
         pending = λ p is. let q : Some g ≡ Some p = sym aim.is_pending ∙ is in let same : g ≡ p = cc in
             subst (λ (p : Grant). let n = place_of p.entry.slot in IsPending known locked (word' (value_at n)) (word' (state_at m)) (winner' n) m (row m) (Some e) (exchanges m ++ e ∷ []) p) same (record {
+              in_row = aim.posted.in_row;
               of_slot = aim.posted.of_slot;
               free = aim.posted.free;
               lazy_is = aim.posted.lazy_is;
@@ -436,7 +430,6 @@ module _ (word : ℕ → ℕ) (known : ℕ → Kept) (locked : Option ℕ) (coun
               fate = inl (
                 state_else m few ∙ aim.three,
                 record {
-                  in_row = aim.is_open.in_row;
                   untried = λ t. let z : Some e ≡ None = t in absurd (cc);
                   new = λ t. let z : Some e ≡ None = t in absurd (cc);
                   made = λ x t. let z : Some e ≡ Some x = t in let same : e ≡ x = cc in subst (λ (x : Exchange). (x.grant ≡ g) × Contains (exchanges m ++ e ∷ []) x) same (refl, Contains-push (exchanges m) e);
@@ -501,10 +494,10 @@ module _ (word : ℕ → ℕ) (known : ℕ → Kept) (locked : Option ℕ) (coun
       nobody n d None is o lazy = is
       nobody n d (Some (j, p)) is o lazy = let b = o.bound j p is in absurd (b.1 (sym b.0 ∙ (lazy ∙ sym b.2)))
 
-      refated : (g : Grant) (d n j : ℕ) → j ≢ h.number → (p : Grant) → p.lazy ≡ g.lazy → g.entry.value ≢ g.lazy → s.winner d ≡ None → Fated n (word (state_at j)) (s.winner d) j (row j) (tried j) (exchanges j) p
-          → Fated g.entry.value (word (state_at j)) (Some (h.number, g)) j (row j) (tried j) (exchanges j) p
+      refated : (g : Grant) (d n j : ℕ) → j ≢ h.number → (p : Grant) → p.lazy ≡ g.lazy → g.entry.value ≢ g.lazy → s.winner d ≡ None → Fated n (word (state_at j)) (s.winner d) j (tried j) (exchanges j) p
+          → Fated g.entry.value (word (state_at j)) (Some (h.number, g)) j (tried j) (exchanges j) p
       refated g d n j apart p lazy other none' f = elim f [
-        | inl o ↦ inl (o.0, record { in_row = o.1.in_row; untried = λ _. not_me g p j apart; new = o.1.new; made = o.1.made })
+        | inl o ↦ inl (o.0, record { untried = λ _. not_me g p j apart; new = o.1.new; made = o.1.made })
         | inr f ↦ elim f [
           | inl a ↦ (let q : None ≡ Some (j, p) = sym none' ∙ a.1 in absurd (cc))
           | inr b ↦ inr (inr (b.0, not_me g p j apart, (λ q. other (q ∙ lazy)), b.3))

@@ -269,7 +269,7 @@ module _ (word : ℕ → ℕ) (k : KeeperView) (lane : ℕ → Lane) (entries : 
       kept_rows d x (eqb (word (control_at d)) control) (put word (control_at d) x) (at_control d x)
   keeper_calls (kinds.Store d x) ready = at_value d x
   keeper_calls (kinds.Unlock d old new lazy) ready = at_control d (becomes (keeper_op (kinds.Unlock d old new lazy)) (word (control_at d)))
-  keeper_calls (kinds.Count e) ready = subst (λ n. Calls (put word 0 ((word 0 + 1) % 18446744073709551616)) n (row_of k) lane entries) (sym (length-append k.events (e ∷ []))) (counts ready)
+  keeper_calls (kinds.Count e) ready = subst (λ n. Calls (put word 0 ((word 0 + 1) % 18446744073709551616)) n (row_of k) lane entries) (sym (length-append k.events (e.value ∷ []))) (counts ready)
   keeper_calls (kinds.Await m) ready = unmoved word (state_at m) (λ f. After f (awaited_if m (nat_le 8 (word (state_at m))) (heeding k))) (awaits m (nat_le 8 (word (state_at m))) ready refl)
   keeper_calls (kinds.Ask m) ready =
       let s : ℕ = word (state_at m) in
@@ -287,4 +287,6 @@ module _ (word : ℕ → ℕ) (k : KeeperView) (lane : ℕ → Lane) (entries : 
   keeper_calls (kinds.RetireSlot d) ready = at_control d (becomes (keeper_op (kinds.RetireSlot d)) (word (control_at d)))
   keeper_calls (kinds.Retire d old) ready = at_control d (becomes (keeper_op (kinds.Retire d old)) (word (control_at d)))
   keeper_calls (kinds.Generation g) ready = far 1 g (λ (e : 1 ≡ 0). omega arith) (inl (omega arith))
+  keeper_calls (kinds.Recall m i) ready = unmoved word (row_at m (index_of i)) (λ f. Calls f (length k.events) (row_of k) lane entries) is
+  keeper_calls kinds.RecallGeneration ready = far 1 (word 1) (λ (e : 1 ≡ 0). omega arith) (inl (omega arith))
   keeper_calls kinds.Listen ready = far 2 (word 2) (λ (e : 2 ≡ 0). omega arith) (inl (omega arith))

@@ -169,6 +169,8 @@ module _ (word : ℕ → ℕ) (k : KeeperView) (harts : ℕ → Access) (w : Wor
       subst (λ (r : Role). Words (put word (control_at d) ((c + (8 + role_code NoRole - role_code r)) % 18446744073709551616)) (λ j. slice_index_or (slice_set k.words d k') j unmapped) nothing_locked harts) (sym ready.1)
       (unlocks d k' ready.0 small tt)
   keeper_locks (kinds.Generation g) small ready = below 1 g (omega arith)
+  keeper_locks (kinds.Recall m i) small ready = below (row_at m (index_of i)) (word (row_at m (index_of i))) (low_row m (index_of i) ready (low_index i))
+  keeper_locks kinds.RecallGeneration small ready = below 1 (word 1) (omega arith)
   keeper_locks kinds.Listen small ready = below 2 (word 2) (omega arith)
 
   -- ---- what the rule tells of words

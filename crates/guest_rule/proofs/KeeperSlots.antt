@@ -55,11 +55,12 @@ regrant word word' known locked count winner m row row' t xs same old = record {
       let d : ℕ = place_of g.entry.slot in
       let e' : row.pending ≡ Some g = sym same.pending ∙ e in
       let p : IsPending known locked (word (value_at d)) (word (state_at m)) (winner d) m row t xs g = old.pending g e' in record {
+        in_row = p.in_row ∙ (same.state g e').1;
         of_slot = p.of_slot;
         free = p.free;
         lazy_is = p.lazy_is;
         other = p.other;
-        fate = subst (λ (q : ℕ × ℕ). Fated q.0 q.1 (winner d) m row' t xs g) (λ i. (sym (same.values d p.of_slot.0) i, sym (same.state g e').0 i)) (fate_same (word (value_at d)) (word (state_at m)) (winner d) g (same.state g e').1 p.fate);
+        fate = subst (λ (q : ℕ × ℕ). Fated q.0 q.1 (winner d) m t xs g) (λ i. (sym (same.values d p.of_slot.0) i, sym (same.state g e').0 i)) p.fate;
       };
   won = λ g c. old.won g (subst (λ l. Contains l (record { grant = g; fate = Won })) same.settled c);
   lost = λ g c. old.lost g (subst (λ l. Contains l (record { grant = g; fate = Lost })) same.settled c);
@@ -67,12 +68,6 @@ regrant word word' known locked count winner m row row' t xs same old = record {
   granted = λ x c. was_grant row' row x.grant (sym same.pending) (sym same.settled) (old.granted x c);
   rising = old.rising;
 }
-  where
-    fate_same : (value state : ℕ) (w : Winner) (g : Grant) → grant_in row ≡ grant_in row' → Fated value state w m row t xs g → Fated value state w m row' t xs g
-    fate_same value state w g e f = ⊎_elim
-        (λ (o : (state ≡ 3) × IsOpen w m row t xs g). inl (o.0, record { in_row = o.1.in_row ∙ e; untried = o.1.untried; new = o.1.new; made = o.1.made }))
-        (λ h. inr h)
-        f
 
 -- ---- where values lead while a role changes
 
@@ -259,11 +254,12 @@ module _ (word : ℕ → ℕ) (k : KeeperView) (tried : ℕ → Option Exchange)
             let n : ℕ = place_of g.entry.slot in
             let p : IsPending (kept_at k) k.access.locked (word (value_at n)) (word (state_at m)) (s.winner n) m (row_of k m) (tried m) (exchanges m) g = o.pending g e in
             let apart : n ≢ d = unposted d is m g few e in record {
+              in_row = p.in_row;
               of_slot = now_of n g apart p.of_slot;
               free = nothing n;
               lazy_is = p.lazy_is ∙ ap (λ (q : Kept). q.lazy) (sym (put_else (kept_at k) d k' n apart));
               other = p.other;
-              fate = subst (λ (q : ℕ × ℕ × Winner). Fated q.0 q.1 q.2 m (row_of k m) (tried m) (exchanges m) g) (λ i. (sym (value_same n) i, sym (state_same m few) i, sym (put_else s.winner d None n apart) i)) p.fate;
+              fate = subst (λ (q : ℕ × ℕ × Winner). Fated q.0 q.1 q.2 m (tried m) (exchanges m) g) (λ i. (sym (value_same n) i, sym (state_same m few) i, sym (put_else s.winner d None n apart) i)) p.fate;
             };
         won = o.won;
         lost = o.lost;
@@ -547,6 +543,7 @@ module _ (word : ℕ → ℕ) (k : KeeperView) (tried : ℕ → Option Exchange)
 
       posted : let d = place_of g.entry.slot in IsPending (kept_at k) k.access.locked (put word (state_at m) 3 (value_at d)) (put word (state_at m) 3 (state_at m)) (s.winner d) m r (tried m) (exchanges m) g
       posted = record {
+        in_row = refl;
         of_slot = postable.of_slot;
         free = λ q. nothing (place_of g.entry.slot) (sym free ∙ q);
         lazy_is = postable.lazy_is;
@@ -554,7 +551,6 @@ module _ (word : ℕ → ℕ) (k : KeeperView) (tried : ℕ → Option Exchange)
         fate = inl (
           put_here word (state_at m) 3,
           record {
-            in_row = refl;
             untried = λ _ e. not_won ((s.each_slot (place_of g.entry.slot) postable.of_slot.0).by m g e).1;
             new = λ _ x t. newest x.grant (old.granted x t);
             made = λ x t. let q : None ≡ Some x = sym untried ∙ t in absurd (cc);
@@ -632,7 +628,7 @@ module _ (word : ℕ → ℕ) (k : KeeperView) (tried : ℕ → Option Exchange)
   keeper_slots place held still (kinds.Lock d control) ready = locks d (becomes (keeper_op (kinds.Lock d control)) (word (control_at d))) (eqb (word (control_at d)) control) ready.4
   keeper_slots place held still (kinds.Store d x) ready = stores d x (place d ready.0) ready.0 ready.1
   keeper_slots place held still (kinds.Unlock d old new lazy) ready = unlock d (becomes (keeper_op (kinds.Unlock d old new lazy)) (word (control_at d))) old new lazy (held d (kept_at k d).value ready.0 ready.5) ready (place d ready.0)
-  keeper_slots place held still (kinds.Count e) ready = subst (λ n. Slots (put word 0 ((word 0 + 1) % 18446744073709551616)) (kept_at k) k.access.locked n (row_of k) tried exchanges) (sym (length-append k.events (e ∷ []))) (counts ((word 0 + 1) % 18446744073709551616))
+  keeper_slots place held still (kinds.Count e) ready = subst (λ n. Slots (put word 0 ((word 0 + 1) % 18446744073709551616)) (kept_at k) k.access.locked n (row_of k) tried exchanges) (sym (length-append k.events (e.value ∷ []))) (counts ((word 0 + 1) % 18446744073709551616))
   keeper_slots place held still (kinds.Await m) ready = unmoved word (state_at m) (λ f. After f (awaited_if m (nat_le 8 (word (state_at m))) (heeding k))) (awaits m (nat_le 8 (word (state_at m))) ready)
   keeper_slots place held still (kinds.Ask m) ready =
       let n : ℕ = word (state_at m) in
@@ -650,6 +646,8 @@ module _ (word : ℕ → ℕ) (k : KeeperView) (tried : ℕ → Option Exchange)
   keeper_slots place held still (kinds.Retire d old) ready = unlocks d (becomes (keeper_op (kinds.Retire d old)) (word (control_at d))) (record (kept_at k d) { role = NoRole }) (place d ready.0) ready.0 (λ e. absurd (cc))
       (λ e v here a. inr (ready.3 e v here a))
   keeper_slots place held still (kinds.Generation g) ready = beside (put word 1 g) (low_word 1 g (omega arith))
+  keeper_slots place held still (kinds.Recall m i) ready = beside (put word (row_at m (index_of i)) (word (row_at m (index_of i)))) (same_word (row_at m (index_of i)))
+  keeper_slots place held still kinds.RecallGeneration ready = beside (put word 1 (word 1)) (low_word 1 (word 1) (omega arith))
   keeper_slots place held still kinds.Listen ready = beside (put word 2 (word 2)) (low_word 2 (word 2) (omega arith))
 
   -- ---- what the rule tells of slots
@@ -660,6 +658,7 @@ module _ (word : ℕ → ℕ) (k : KeeperView) (tried : ℕ → Option Exchange)
     state = stated (word (state_at m)) (pending ready.1.0 ready.1.1).fate;
     waits = waits;
     ended = ended;
+    in_row = λ g is. (pending g is).in_row;
     of_slot = λ g is. (pending g is).of_slot;
     won = λ g is four.
         let p = pending g is in
@@ -672,13 +671,13 @@ module _ (word : ℕ → ℕ) (k : KeeperView) (tried : ℕ → Option Exchange)
           → let d = place_of g.entry.slot in IsPending (kept_at k) k.access.locked (word (value_at d)) (word (state_at m)) (s.winner d) m (row_of k m) (tried m) (exchanges m) g
       pending g is = (s.each_hart m ready.0).pending g is
 
-      stated : (n : ℕ) {value : ℕ} {w : Winner} {g : Grant} → Fated value n w m (row_of k m) (tried m) (exchanges m) g → (n % 8 ≡ 3) ⊎ (n % 8 ≡ 4) ⊎ (n % 8 ≡ 5)
+      stated : (n : ℕ) {value : ℕ} {w : Winner} {g : Grant} → Fated value n w m (tried m) (exchanges m) g → (n % 8 ≡ 3) ⊎ (n % 8 ≡ 4) ⊎ (n % 8 ≡ 5)
       stated n f = elim f [
         | inl o ↦ inl (let q = o.0 in omega arith)
         | inr f ↦ elim f [ inl a ↦ inr (inl a.0) | inr b ↦ inr (inr b.0) ]
       ]
 
-      winning : (n : ℕ) {value : ℕ} {w : Winner} {g : Grant} → n % 8 ≡ 4 → Fated value n w m (row_of k m) (tried m) (exchanges m) g → w ≡ Some (m, g)
+      winning : (n : ℕ) {value : ℕ} {w : Winner} {g : Grant} → n % 8 ≡ 4 → Fated value n w m (tried m) (exchanges m) g → w ≡ Some (m, g)
       winning n four f = elim f [
         | inl o ↦ (let q = o.0 in absurd (omega arith))
         | inr f ↦ elim f [ inl a ↦ a.1 | inr b ↦ (let q = b.0 in absurd (omega arith)) ]

@@ -16,4 +16,6 @@ pub mod Begins
 pub mod Joining
 pub mod Table
 pub mod Worked
+pub mod Unlocking
+pub mod Lanes
 pub mod Clauses

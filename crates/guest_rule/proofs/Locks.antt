@@ -195,10 +195,10 @@ lock_word v c o me k w free apart = record {
     bit : (c : ℕ) → lock_bit c ≡ 0 → lock_bit (c + 8) ≡ 1
     bit c e = omega arith
 
-unlocked_role : (c o n : ℕ) → c % 8 ≡ o → lock_bit c ≡ 1 → c < 18446744073709551616 → o < 5 → n < 5 → (c + (8 + n - o)) % 18446744073709551616 % 8 ≡ n
+pub unlocked_role : (c o n : ℕ) → c % 8 ≡ o → lock_bit c ≡ 1 → c < 18446744073709551616 → o < 5 → n < 5 → (c + (8 + n - o)) % 18446744073709551616 % 8 ≡ n
 unlocked_role c o n role bit low old new = omega arith
 
-unlocked_bit : (c o n : ℕ) → c % 8 ≡ o → lock_bit c ≡ 1 → c < 18446744073709551616 → o < 5 → n < 5 → lock_bit ((c + (8 + n - o)) % 18446744073709551616) ≡ 0
+pub unlocked_bit : (c o n : ℕ) → c % 8 ≡ o → lock_bit c ≡ 1 → c < 18446744073709551616 → o < 5 → n < 5 → lock_bit ((c + (8 + n - o)) % 18446744073709551616) ≡ 0
 unlocked_bit c o n role bit low old new = omega arith
 
 pub code_low : (r : Role) → role_code r < 5

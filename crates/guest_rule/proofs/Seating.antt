@@ -14,7 +14,7 @@ use Rattle.guest_rule.specs.declared.view.Slip.TheVariants.{OfHart, OfKeeper}
 use Rattle.guest_rule.specs.declared.view.View.{View}
 use Rattle.guest_rule.specs.declared.view.View.TheVariants.{Keeper, Hart, Note, Spent}
 use Rattle.guest_rule.specs.Layout.{harts_at_most}
-use Rattle.guest_rule.specs.Views.{BeginsWith, put, no_row, row_of, with_field, entry_of}
+use Rattle.guest_rule.specs.Views.{BeginsWith, IsLong, put, no_row, row_of, with_field, entry_of}
 use Rattle.guest_rule.specs.KeeperSteps.{KeeperReady, asked, asked_if, awaited_if, handed, heeding, keeper_after, keeper_word, keeps_if, not_found, opened, settled_as}
 use Rattle.guest_rule.specs.Seats.{Fits, Heard, HartFits, Issued, Seats}
 use Rattle.guest_rule.proofs.Put.{put_here, put_else, put_each, set_put}
@@ -161,7 +161,7 @@ keeper_grows (kinds.Load d) k n long ready = plain k (keeper_after (kinds.Load d
 keeper_grows (kinds.Lock d control) k n long ready = kept_grows d (eqb n control) k
 keeper_grows (kinds.Store d x) k n long ready = plain k (keeper_after (kinds.Store d x) k n) refl refl refl (length-set k.words d _) refl refl
 keeper_grows (kinds.Unlock d old new lazy) k n long ready = plain k (keeper_after (kinds.Unlock d old new lazy) k n) refl refl refl (length-set k.words d _) refl refl
-keeper_grows (kinds.Count e) k n long ready = record { harts = refl; joined = refl; note = refl; words = refl; rows = refl; events = begins_push k.events e; issued = λ m. begins_itself (row_of k m).issued }
+keeper_grows (kinds.Count e) k n long ready = record { harts = refl; joined = refl; note = refl; words = refl; rows = refl; events = begins_push k.events e.value; issued = λ m. begins_itself (row_of k m).issued }
 keeper_grows (kinds.Await m) k n long ready = awaited_grows m (nat_le 8 n) k (subst (λ x. m < x) (sym long) ready)
 keeper_grows (kinds.Ask m) k n long ready = row_grows k k.rows m (asked n (row_of k m)) (subst (λ x. m < x) (sym long) ready.0) refl (λ j. refl)
     (subst (λ l. BeginsWith l (row_of k m).issued) (sym (asked_issued (eqb (n % 8) 3) (eqb (n % 8) 4) (eqb (n % 8) 5) (row_of k m))) (begins_itself (row_of k m).issued))
@@ -173,4 +173,9 @@ keeper_grows (kinds.Open m) k n long ready = row_grows k k.rows m (opened (row_o
 keeper_grows (kinds.RetireSlot d) k n long ready = plain k (keeper_after (kinds.RetireSlot d) k n) refl refl refl (length-set k.words d _) refl refl
 keeper_grows (kinds.Retire d old) k n long ready = plain k (keeper_after (kinds.Retire d old) k n) refl refl refl (length-set k.words d _) refl refl
 keeper_grows (kinds.Generation g) k n long ready = plain k (keeper_after (kinds.Generation g) k n) refl refl refl refl refl refl
+keeper_grows (kinds.Recall m i) k n long ready = plain k (keeper_after (kinds.Recall m i) k n) refl refl refl refl refl refl
+keeper_grows kinds.RecallGeneration k n long ready = plain k (keeper_after kinds.RecallGeneration k n) refl refl refl refl refl refl
 keeper_grows kinds.Listen k n long ready = plain k (keeper_after kinds.Listen k n) refl refl refl refl refl refl
+
+pub stays_long : (kind : KeeperKind) (k : KeeperView) (n : ℕ) → KeeperReady kind k → IsLong k → IsLong (keeper_after kind k n)
+stays_long kind k n ready long = let g = keeper_grows kind k n long.1 ready in (g.words ∙ long.0, g.rows ∙ long.1)

@@ -68,11 +68,12 @@ fewer word word' known known' locked locked' count row tried exchanges same less
         let d : ℕ = place_of g.entry.slot in
         let p : IsPending known locked (word (value_at d)) (word (state_at m)) (s.winner d) m (row m) (tried m) (exchanges m) g = old.pending g e in
         let now : IsSlot known' d × (locked' ≢ Some d) = less.posted m g few e p.of_slot.0 in record {
+          in_row = p.in_row;
           of_slot = now_of known known' d g less.was now.0 p.of_slot;
           free = now.1;
           lazy_is = p.lazy_is ∙ ap (λ (x : Kept). x.lazy) (sym (less.was d now.0).1);
           other = p.other;
-          fate = subst (λ (q : ℕ × ℕ). Fated q.0 q.1 (s.winner d) m (row m) (tried m) (exchanges m) g) (λ i. (sym (same.values d p.of_slot.0) i, sym (same.states m few) i)) p.fate;
+          fate = subst (λ (q : ℕ × ℕ). Fated q.0 q.1 (s.winner d) m (tried m) (exchanges m) g) (λ i. (sym (same.values d p.of_slot.0) i, sym (same.states m few) i)) p.fate;
         };
     won = old.won;
     lost = old.lost;
@@ -152,11 +153,12 @@ row_changes word word' known locked count row tried exchanges m r t few values s
       pending = λ g e.
           let d : ℕ = place_of g.entry.slot in
           let p : IsPending known locked (word (value_at d)) (word (state_at j)) (s.winner d) j (row j) (tried j) (exchanges j) g = old.pending g e in record {
+            in_row = p.in_row;
             of_slot = p.of_slot;
             free = p.free;
             lazy_is = p.lazy_is;
             other = p.other;
-            fate = subst (λ (q : ℕ × ℕ). Fated q.0 q.1 (s.winner d) j (row j) (tried j) (exchanges j) g) (λ i. (sym (values d p.of_slot.0) i, sym state i)) p.fate;
+            fate = subst (λ (q : ℕ × ℕ). Fated q.0 q.1 (s.winner d) j (tried j) (exchanges j) g) (λ i. (sym (values d p.of_slot.0) i, sym state i)) p.fate;
           };
       won = old.won;
       lost = old.lost;

@@ -272,6 +272,16 @@ hart_after (kinds.Finish m won) h n = entered Done (with_lane_of (finished h.lan
 hart_after (kinds.Generation number) h n = entered (ReadGeneration n number (last_block n number h.lane.taken)) (heeded h)
 hart_after kinds.Listen h n = heeded h
 
+-- the kinds that leave what the hart has locked as it is, and what it keeps of an access
+abbrev pub HartLeaves : HartKind → Type 0
+HartLeaves (kinds.Look ask) = ⊥
+HartLeaves (kinds.Load ask) = ⊥
+HartLeaves (kinds.Hold ask) = ⊥
+HartLeaves (kinds.Lock ask control) = ⊥
+HartLeaves (kinds.Store ask x) = ⊥
+HartLeaves (kinds.Unlock d) = ⊥
+HartLeaves _ = Unit {0}
+
 -- ---- what the rule tells
 
 -- a row that is the hart's to read has one of these states

@@ -15,7 +15,7 @@ use Rattle.guest_rule.specs.declared.view.Kept.{Kept}
 use Rattle.guest_rule.specs.declared.view.Row.{Row}
 use Rattle.guest_rule.specs.declared.view.Told.{Told}
 use Rattle.guest_rule.specs.Layout.{doublewords, count_at, generation_at, quiet_at, harts_at_most, state_at, row_at, index_of, value_at, control_at, place_of, role_code, lock_bit, to_lock, to_unlock}
-use Rattle.guest_rule.specs.Views.{BeginsWith, entries_of, entry_of, exchanges_of, grant_in, kept_at, nothing_locked, row_of, with_field}
+use Rattle.guest_rule.specs.Views.{BeginsWith, entries_of, entry_of, exchanges_of, field_of, grant_in, kept_at, nothing_locked, row_of, with_field}
 use Rattle.guest_rule.specs.Allowed.{IsAllowed, IsOf, IsPostable, IsSlot, LeadsTo, NothingEnters}
 use Rattle.guest_rule.specs.Slots.{HasLost, HasWon, IsGrant, Rising}
 use Rattle.guest_rule.specs.Operations.{Op, load, store, exchange, add}
@@ -90,6 +90,8 @@ keeper_word (kinds.Open m) = state_at m
 keeper_word (kinds.RetireSlot d) = control_at d
 keeper_word (kinds.Retire d old) = control_at d
 keeper_word (kinds.Generation g) = generation_at
+keeper_word (kinds.Recall m i) = row_at m (index_of i)
+keeper_word kinds.RecallGeneration = generation_at
 keeper_word kinds.Listen = quiet_at
 
 abbrev pub keeper_op : KeeperKind → Op
@@ -108,6 +110,8 @@ keeper_op (kinds.Open m) = store 3
 keeper_op (kinds.RetireSlot d) = add (to_unlock SlotRole NoRole)
 keeper_op (kinds.Retire d old) = add (to_unlock old NoRole)
 keeper_op (kinds.Generation g) = store g
+keeper_op (kinds.Recall m i) = load
+keeper_op kinds.RecallGeneration = load
 keeper_op kinds.Listen = load
 
 -- the hart is known to call since this count, and the fate of its last grant is known
@@ -147,6 +151,8 @@ KeeperReady (kinds.RetireSlot d) k = (k.access.locked ≡ Some d) × ((kept_at k
 KeeperReady (kinds.Retire d old) k =
     (k.access.locked ≡ Some d) × (old ≡ (kept_at k d).role) × (old ≢ SlotRole) × NothingEnters (kept_at k) (row_of k) d
 KeeperReady (kinds.Generation g) k = k.generation < g
+KeeperReady (kinds.Recall m i) k = m < harts_at_most
+KeeperReady kinds.RecallGeneration k = Unit {0}
 KeeperReady kinds.Listen k = Unit {0}
 
 -- its view after, by the number found. Each step ends what is kept of a note
@@ -157,7 +163,7 @@ keeper_after (kinds.Lock d control) k n = keeps_if d (eqb n control) (heeding k)
 keeper_after (kinds.Store d x) k n = accessing (record { locked = k.access.locked; held = Some x; last = None }) (with_kept d (record (kept_at k d) { value = x }) (heeding k))
 keeper_after (kinds.Unlock d old new lazy) k n =
     accessing nothing_locked (with_kept d (record { role = new; value = (kept_at k d).value; lazy = lazy; since = length k.events }) (heeding k))
-keeper_after (kinds.Count e) k n = record (heeding k) { events = k.events ++ e ∷ [] }
+keeper_after (kinds.Count e) k n = record (heeding k) { events = k.events ++ e.value ∷ [] }
 keeper_after (kinds.Await m) k n = awaited_if m (nat_le 8 n) (heeding k)
 keeper_after (kinds.Ask m) k n = with_row m (asked n (row_of k m)) (heeding k)
 keeper_after (kinds.Saw d) k n = heeding k
@@ -167,7 +173,20 @@ keeper_after (kinds.Open m) k n = with_row m (opened (row_of k m)) (heeding k)
 keeper_after (kinds.RetireSlot d) k n = accessing nothing_locked (with_kept d (record (kept_at k d) { role = NoRole }) (heeding k))
 keeper_after (kinds.Retire d old) k n = accessing nothing_locked (with_kept d (record (kept_at k d) { role = NoRole }) (heeding k))
 keeper_after (kinds.Generation g) k n = record (heeding k) { generation = g }
+keeper_after (kinds.Recall m i) k n = heeding k
+keeper_after kinds.RecallGeneration k n = heeding k
 keeper_after kinds.Listen k n = heeding k
+
+-- the kinds that leave what the keeper has locked as it is
+abbrev pub KeeperLeaves : KeeperKind → Type 0
+KeeperLeaves (kinds.Look d) = ⊥
+KeeperLeaves (kinds.Load d) = ⊥
+KeeperLeaves (kinds.Lock d control) = ⊥
+KeeperLeaves (kinds.Store d x) = ⊥
+KeeperLeaves (kinds.Unlock d old new lazy) = ⊥
+KeeperLeaves (kinds.RetireSlot d) = ⊥
+KeeperLeaves (kinds.Retire d old) = ⊥
+KeeperLeaves _ = Unit {0}
 
 -- ---- what the rule tells
 
@@ -190,12 +209,13 @@ pub record HasTakenAll (row : Row) (n : ℕ) (j : HartView) : Type 0 where
   pub granted : (x : Exchange) → Contains (exchanges_of j.trail) x → IsGrant row x.grant
   pub rising : Rising (exchanges_of j.trail)
 
--- a row with a grant whose fate isn't known is open, won or lost
+-- a row with a grant whose fate isn't known is open, won or lost, and has the grant's words
 pub record TellsAsk (k : KeeperView) (m n : ℕ) : Type 0 where
   pub state : (n % 8 ≡ 3) ⊎ (n % 8 ≡ 4) ⊎ (n % 8 ≡ 5)
   -- a hart that is known to call, or that has ended, has given the grant back
   pub waits : (c : ℕ) → (row_of k m).since ≡ Some c → n % 8 ≢ 3
   pub ended : (j : HartView) → HasEnded k m j → n % 8 ≢ 3
+  pub in_row : (g : Grant) → (row_of k m).pending ≡ Some g → g ≡ grant_in (row_of k m)
   pub of_slot : (g : Grant) → (row_of k m).pending ≡ Some g → IsOf (kept_at k) (place_of g.entry.slot) g
   -- the image of a slot that was won has its lazy word, and no other grant of the slot is known as won
   pub won : (g : Grant) → (row_of k m).pending ≡ Some g → n % 8 ≡ 4 → let d = place_of g.entry.slot in ((kept_at k d).value ≡ (kept_at k d).lazy)
@@ -214,5 +234,7 @@ KeeperLearns (kinds.Count e) k n = n ≡ length k.events
 KeeperLearns (kinds.Await m) k n = (j : HartView) → HasEnded k m j → HasTakenAll (row_of k m) n j
 KeeperLearns (kinds.Ask m) k n = TellsAsk k m n
 KeeperLearns (kinds.Saw d) k n = TellsSlot k d n
+KeeperLearns (kinds.Recall m i) k n = n ≡ field_of i (row_of k m)
+KeeperLearns kinds.RecallGeneration k n = n ≡ k.generation
 KeeperLearns kinds.Listen k n = KeeperHeard k.note k
 KeeperLearns _ k n = Unit {0}

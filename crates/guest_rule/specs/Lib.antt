@@ -14,4 +14,5 @@ pub mod Start
 pub mod Joining
 pub mod Table
 pub mod Worked
+pub mod Unlocking
 pub mod Clauses

@@ -40,26 +40,26 @@ pub record Did (value lazy : ℕ) (winner : Winner) (m : ℕ) (x : Exchange) : T
   pub lost : x.found ≢ x.grant.lazy → (winner ≢ Some (m, x.grant)) × (value ≡ x.found)
 
 -- a grant in a row that its hart hasn't given back
-pub record IsOpen (winner : Winner) (m : ℕ) (row : Row) (tried : Option Exchange) (exchanges : List Exchange) (g : Grant) : Type 0 where
-  pub in_row : g ≡ grant_in row
+pub record IsOpen (winner : Winner) (m : ℕ) (tried : Option Exchange) (exchanges : List Exchange) (g : Grant) : Type 0 where
   pub untried : tried ≡ None → winner ≢ Some (m, g)
   pub new : tried ≡ None → (x : Exchange) → Contains exchanges x → x.grant.entry.number < g.entry.number
   pub made : (x : Exchange) → tried ≡ Some x → (x.grant ≡ g) × Contains exchanges x
 
 -- what came of a grant: its row is open, or says won, or says lost; and so it is
-abbrev pub Fated : ℕ → ℕ → Winner → ℕ → Row → Option Exchange → List Exchange → Grant → Type 0
-Fated value state winner m row tried exchanges g =
-    ((state ≡ 3) × IsOpen winner m row tried exchanges g)
+abbrev pub Fated : ℕ → ℕ → Winner → ℕ → Option Exchange → List Exchange → Grant → Type 0
+Fated value state winner m tried exchanges g =
+    ((state ≡ 3) × IsOpen winner m tried exchanges g)
     ⊎ ((state % 8 ≡ 4) × (winner ≡ Some (m, g)))
     ⊎ ((state % 8 ≡ 5) × (winner ≢ Some (m, g)) × (value ≢ g.lazy) × HasLost exchanges g)
 
--- a grant whose fate the keeper doesn't know: its slot is there, and the keeper hasn't locked it
+-- a grant whose fate the keeper doesn't know: it is the row's, its slot is there, and the keeper hasn't locked it
 pub record IsPending (known : ℕ → Kept) (locked : Option ℕ) (value state : ℕ) (winner : Winner) (m : ℕ) (row : Row) (tried : Option Exchange) (exchanges : List Exchange) (g : Grant) : Type 0 where
+  pub in_row : g ≡ grant_in row
   pub of_slot : IsOf known (place_of g.entry.slot) g
   pub free : locked ≢ Some (place_of g.entry.slot)
   pub lazy_is : g.lazy ≡ (known (place_of g.entry.slot)).lazy
   pub other : g.entry.value ≢ g.lazy
-  pub fate : Fated value state winner m row tried exchanges g
+  pub fate : Fated value state winner m tried exchanges g
 
 -- a grant was posted to the row's hart
 abbrev pub IsGrant : Row → Grant → Type 0

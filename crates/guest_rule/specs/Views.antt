@@ -1,5 +1,5 @@
 -- What is read of views.
-use Rattle.std.specs.Prelude.{◌≡◌, ℕ, Bool, true, false, ◌&&◌, cond, eqb, List, [], ◌∷◌, ◌++◌, Option, Some, None, slice_index_or, if◌then◌else◌, ◌==◌}
+use Rattle.std.specs.Prelude.{◌≡◌, ℕ, Bool, true, false, ◌&&◌, cond, eqb, List, [], ◌∷◌, ◌++◌, length, Option, Some, None, slice_index_or, if◌then◌else◌, ◌==◌}
 use Rattle.std.specs.List.{flat_map}
 use Rattle.ld_base.specs.declared.linking.Role.TheVariants.{None as NoRole}
 use Rattle.guest_rule.specs.declared.entry.Entry.{Entry}
@@ -16,6 +16,7 @@ use Rattle.guest_rule.specs.declared.view.Offer.{Offer}
 use Rattle.guest_rule.specs.declared.view.Row.{Row}
 use Rattle.guest_rule.specs.declared.view.TrailItem.{TrailItem}
 use Rattle.guest_rule.specs.declared.view.TrailItem.TheVariants.{Call, Took, Exchanged, Done, Generation as ReadGeneration}
+use Rattle.guest_rule.specs.Layout.{doublewords, harts_at_most, IsDoubleword}
 
 -- ---- functions of a number
 
@@ -46,6 +47,10 @@ unmapped = record { role = NoRole; value = 0; lazy = 0; since = 0 }
 
 abbrev pub kept_at : KeeperView → ℕ → Kept
 kept_at k d = slice_index_or k.words d unmapped
+
+-- the keeper knows of each doubleword, and of each row
+abbrev pub IsLong : KeeperView → Type 0
+IsLong k = (length k.words ≡ doublewords) × (length k.rows ≡ harts_at_most)
 
 abbrev pub no_row : Row
 no_row = record { number = 0; slot = 0; lazy = 0; value = 0; generation = 0; issued = []; since = None; pending = None; settled = []; found_open = false }
@@ -120,6 +125,13 @@ known_of lane = lane.taken ++ read_of lane.offer
 abbrev pub tried_entry : Option Exchange → List Entry
 tried_entry None = []
 tried_entry (Some x) = x.grant.entry ∷ []
+
+-- what a hart's own view says of its calls: outside a call it has no offer, an exchange is that of a grant in its row, and such a
+-- grant's slot is a doubleword of guest memory
+pub record IsLane (lane : Lane) : Type 0 where
+  pub idle : lane.calling ≡ false → lane.offer ≡ None
+  pub tried : (x : Exchange) → lane.tried ≡ Some x → (o : Offer) × (lane.offer ≡ Some o) × (o.mark ≡ 3)
+  pub slot : (o : Offer) (s : ℕ) → lane.offer ≡ Some o → o.mark ≡ 3 → o.slot ≡ Some s → IsDoubleword s
 
 -- ---- trails
 

@@ -4,7 +4,7 @@
 #[derive(Clone, Copy, Debug, PartialEq, Eq)]
 pub struct Entry {
     /// 1: an event. 2: a TLS answer that is no event. 3: a grant. 6: the call is to be tried again.
-    pub mark: u64,
+    pub mark: u8,
     /// The event's number, or the count.
     pub number: u64,
     /// The slot's address of a grant, the module of a TLS answer, the cause of mark 6.

@@ -1,6 +1,6 @@
 //! What holds of the rule.
 
-ghost use Rattle.std.specs.Prelude.{ℕ, List, [], ◌∷◌, slice_index};
+ghost use Rattle.std.specs.Prelude.{◌≡◌, ℕ, List, [], ◌∷◌, slice_index};
 ghost use Rattle.guest_rule.specs.declared.kind.HartKind.{HartKind};
 ghost use Rattle.guest_rule.specs.declared.kind.KeeperKind.{KeeperKind};
 ghost use Rattle.guest_rule.specs.declared.view.HartView.{HartView};
@@ -8,16 +8,19 @@ ghost use Rattle.guest_rule.specs.declared.view.KeeperView.{KeeperView};
 ghost use Rattle.guest_rule.specs.declared.view.View.{View};
 ghost use Rattle.guest_rule.specs.declared.view.View.TheVariants.{Keeper};
 ghost use Rattle.guest_rule.specs.Clauses.{Clauses};
-ghost use Rattle.guest_rule.specs.HartSteps.{HartReady};
-ghost use Rattle.guest_rule.specs.KeeperSteps.{KeeperReady};
+ghost use Rattle.guest_rule.specs.HartSteps.{HartLearns, HartLeaves, HartReady, hart_after};
+ghost use Rattle.guest_rule.specs.KeeperSteps.{KeeperLeaves, KeeperReady, keeper_after};
 ghost use Rattle.guest_rule.specs.Rule.{HartKeeps, IsGuest, KeeperKeeps};
 ghost use Rattle.guest_rule.specs.Joining.{HasNote, HasRoom, JoinKeeps, MayTake, SplitKeeps, new_hart, note_of, takes_in, with_hart};
-ghost use Rattle.guest_rule.specs.Start.{first_keeper, first_words};
+ghost use Rattle.guest_rule.specs.Start.{first_keeper, first_words, IsFirst};
+ghost use Rattle.guest_rule.specs.Unlocking.{HartsUnlock, OnlyOwnersChange, UnlocksRaise};
+ghost use Rattle.guest_rule.specs.Views.{IsLane, IsLong, first_lane};
 ghost use Rattle.guest_rule.specs.Worked.{AnotherHasLocked, ConditionalFails, ConditionalIsRefused, OneLocks, OneWins, RoleComesAndGoes, StoreIsOwed};
 
-/// The rule holds at the start.
+/// The rule holds at the start, when the keeper knows of no role and of nothing that was handed over.
 pub fn rule_begins()
-    ensures { IsGuest first_words (Keeper first_keeper ∷ []) }
+    ensures begins { IsGuest first_words (Keeper first_keeper ∷ []) }
+    ensures first { IsFirst first_keeper }
 {}
 
 /// Whatever the words and the other views are, a step of a hart whose view is ready for it keeps the
@@ -26,9 +29,26 @@ pub fn hart_steps_keep()
     ensures { (kind : HartKind) (seat : ℕ) (h : HartView) → HartReady kind h → HartKeeps kind seat h }
 {}
 
-/// The same of a step of the keeper.
+/// The same of a step of the keeper; and it leaves the lengths of what the keeper knows.
 pub fn keeper_steps_keep()
-    ensures { (kind : KeeperKind) (seat : ℕ) (k : KeeperView) → KeeperReady kind k → KeeperKeeps kind seat k }
+    ensures keeps { (kind : KeeperKind) (seat : ℕ) (k : KeeperView) → KeeperReady kind k → KeeperKeeps kind seat k }
+    ensures long { (kind : KeeperKind) (k : KeeperView) (n : ℕ) → KeeperReady kind k → IsLong k → IsLong (keeper_after kind k n) }
+{}
+
+/// An unlock raises the version by one. A doubleword is changed by the seat that has locked it alone,
+/// but that it is locked, and that a slot is exchanged.
+pub fn owners_change()
+    ensures raise { UnlocksRaise }
+    ensures harts { HartsUnlock }
+    ensures owners { OnlyOwnersChange }
+{}
+
+/// What a hart's own view says of its calls holds after each of its steps.
+pub fn lanes_stay()
+    ensures first { IsLane first_lane }
+    ensures stays { (kind : HartKind) (h : HartView) (n : ℕ) → HartReady kind h → HartLearns kind h n → IsLane h.lane → IsLane (hart_after kind h n).lane }
+    ensures harts { (kind : HartKind) (h : HartView) (n : ℕ) → HartLeaves kind → (hart_after kind h n).access ≡ h.access }
+    ensures keeper { (kind : KeeperKind) (k : KeeperView) (n : ℕ) → KeeperLeaves kind → (keeper_after kind k n).access ≡ k.access }
 {}
 
 /// A hart's seat may be made from the keeper's while there are fewer than 16, and a note from either

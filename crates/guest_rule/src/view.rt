@@ -36,7 +36,7 @@ pub struct Access {
 /// What a hart has read of its row while it is its own.
 #[derive(Clone, Copy)]
 pub struct Offer {
-    pub mark: u64,
+    pub mark: u8,
     pub number: Option<u64>,
     pub slot: Option<u64>,
     pub lazy: Option<u64>,

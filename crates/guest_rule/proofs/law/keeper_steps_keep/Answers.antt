@@ -1,5 +1,9 @@
+use Rattle.guest_rule.proofs.Seating.{stays_long}
 use Rattle.guest_rule.proofs.Steps.{keeper_keeps}
 use Rattle.guest_rule.proofs.law.keeper_steps_keep.Goals as goal
 
-pub returns : goal.returns
-returns c = keeper_keeps
+pub returns-clause-keeps : goal.returns-clause-keeps
+returns-clause-keeps c = keeper_keeps
+
+pub returns-clause-long : goal.returns-clause-long
+returns-clause-long c = stays_long
