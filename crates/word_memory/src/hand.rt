@@ -5,7 +5,7 @@ ghost use Rattle.guest_rule.specs.Layout.{table_words};
 ghost use Rattle.guest_rule.specs.Operations.{load, store, exchange, add};
 ghost use Rattle.guest_rule.specs.HartSteps.{HartLearns, HartReady, hart_after, hart_op, hart_word};
 
-use crate::steps::{add_as, exchange_as, load_as, store_as};
+use crate::memory::steps::{add_as, exchange_as, load_as, store_as};
 use crate::{Memory, Naming};
 use atomic_table::Seat;
 use guest_rule::{HartKind, View};

@@ -19,7 +19,6 @@ mod hand;
 mod layout;
 mod memory;
 mod seat;
-mod steps;
 
 pub use bus::TableBus;
 pub use memory::{Memory, Naming};

@@ -3,6 +3,9 @@
 ghost use Rattle.std.specs.Prelude.{◌≡◌};
 ghost use Rattle.guest_rule.specs.Layout.{table_words};
 
+pub(crate) mod seats;
+pub(crate) mod steps;
+
 use atomic_table::Table;
 use guest_rule::{GuestRule, View};
 use std::alloc::Global;
@@ -25,7 +28,7 @@ impl Naming for Brand {
 /// Guest memory, and the words between the linker and the harts.
 #[derive(Drop)]
 pub struct Memory<J: Naming> {
-    pub(crate) table: Table<(), View, (), GuestRule, Global>,
+    table: Table<(), View, (), GuestRule, Global>,
     of: PhantomData<J>,
     ghost named: { table.shared.table_id ≡ J.table },
     ghost wide: { J.table.words ≡ table_words },

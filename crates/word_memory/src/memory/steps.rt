@@ -1,7 +1,8 @@
 //! The four functions that step on the table.
 //!
-//! Nothing else in this crate does, so that each step is one of the kinds of `guest_rule`: a step of the
-//! table names its word and its operands, and each of these asks that its operation is the kind's.
+//! Nothing else does, and nothing outside this module's parent could, so that each step is one of the
+//! kinds of `guest_rule`: a step of the table names its word and its operands, and each of these asks
+//! that its operation is the kind's.
 
 ghost use Rattle.std.specs.Prelude.{◌≡◌, ◌<◌, []};
 ghost use Rattle.guest_rule.specs.Layout.{table_words};
