@@ -15,6 +15,7 @@ use Rattle.guest_rule.specs.declared.view.View.{View}
 use Rattle.guest_rule.specs.declared.view.View.TheVariants.{Hart}
 use Rattle.guest_rule.specs.Layout.{role_in, lock_bit}
 use Rattle.guest_rule.specs.Views.{first_hart, nothing_locked}
+use Rattle.word_memory.specs.Accesses.{IsShown}
 use Rattle.guest_rule.specs.HartSteps.{ask_is_fresh, ask_place, entered, failed, is_fresh, load_refused, loaded, permits, refused, stored, store_place, store_refused, with_access}
 
 -- the view of a hart's seat
@@ -57,7 +58,7 @@ HasOperands (Conditional a size v version) = IsAtomicSize size × (v < 2 ^ (8 * 
 -- what memory may refuse, by the role or the lock that was found
 abbrev pub Refuses : Ask → BusFault → Type 0
 Refuses ask (RoleFault role) = permits ask role ≡ false
-Refuses ask (Again shown) = Unit {0}
+Refuses ask (Again shown) = IsShown shown
 Refuses ask Misaligned = ⊥
 
 -- a control word was found that permits the access, unless it is a conditional store that comes too late

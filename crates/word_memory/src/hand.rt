@@ -1,10 +1,14 @@
 //! A hart's seat in the middle of an access: its steps, one by one.
 
-ghost use Rattle.std.specs.Prelude.{◌≡◌, ◌<◌};
+ghost use Rattle.std.specs.Prelude.{◌≡◌, ◌<◌, []};
 ghost use Rattle.guest_rule.specs.Layout.{table_words};
 ghost use Rattle.guest_rule.specs.Operations.{load, store, exchange, add};
+ghost use Rattle.guest_rule.specs.declared.view.View.TheVariants.{Hart};
+ghost use Rattle.guest_rule.specs.Joining.{MayTake, note_of, takes_in};
+ghost use Rattle.word_memory.specs.Holding.{hart_of};
 ghost use Rattle.guest_rule.specs.HartSteps.{HartLearns, HartReady, hart_after, hart_op, hart_word};
 
+use crate::memory::seats::{join_seat, split_note};
 use crate::memory::steps::{add_as, exchange_as, load_as, store_as};
 use crate::{Memory, Naming};
 use atomic_table::Seat;
@@ -87,5 +91,42 @@ impl<J: Naming> Hand<J> {
         ensures learns { HartLearns kind self.old result }
     {
         add_as::<J, Brand, HartKind>(memory, &mut self.seat, word, more, &kind)
+    }
+
+    /// The seat of a hart that has done nothing yet.
+    pub(crate) fn new(seat: Seat<(), View>) -> Self
+        requires table { seat.table_id ≡ J.table }
+        requires hart { seat.me ≡ (Hart (hart_of seat.me.0), []) }
+        ensures { result ≡ hart_of seat.me.0 }
+    {
+        Hand {
+            seat,
+            of: PhantomData,
+        }
+    }
+
+    /// The seat, to be joined into the keeper's.
+    pub(crate) fn into_seat(self) -> Seat<(), View>
+        ensures { (result.table_id ≡ J.table) × (result.me ≡ (Hart self, [])) }
+    {
+        let Hand { seat, of: _ } = self;
+        seat
+    }
+
+    /// A note of what it knows.
+    pub(crate) fn note(&mut self, memory: &Memory<J>) -> Seat<(), View>
+        ensures seat { self.new ≡ self.old }
+        ensures note { (result.table_id ≡ J.table) × (result.me ≡ (note_of (Hart self.old), [])) }
+    {
+        split_note(memory, &mut self.seat)
+    }
+
+    /// Takes in a note.
+    pub(crate) fn take(&mut self, memory: &Memory<J>, other: Seat<(), View>)
+        requires table { (other.table_id ≡ J.table) × (other.me.1 ≡ []) }
+        requires may { MayTake (Hart self.old) other.me.0 }
+        ensures { self.new ≡ hart_of (takes_in (Hart self.old) other.me.0) }
+    {
+        join_seat(memory, &mut self.seat, other);
     }
 }

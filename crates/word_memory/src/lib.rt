@@ -15,6 +15,7 @@
 
 mod access;
 mod bus;
+mod desk;
 mod hand;
 mod layout;
 mod memory;
