@@ -59,7 +59,7 @@ glanced_note ask control false false c h = refl
 glanced_note ask control false true false h = refl
 glanced_note ask control false true true h = refl
 
-record SameHart (h h' : HartView) : Type 0 where
+pub record SameHart (h h' : HartView) : Type 0 where
   pub number : h'.number ≡ h.number
   pub heard : h'.heard ≡ h.heard
   pub note : h'.note ≡ None
@@ -68,7 +68,7 @@ locked_same : (ask : StoreAsk) (c n : ℕ) (b : Bool) (h : HartView) → SameHar
 locked_same ask c n true h = record { number = refl; heard = refl; note = refl }
 locked_same ask c n false h = record { number = refl; heard = refl; note = refl }
 
-same_hart : (kind : HartKind) (h : HartView) (n : ℕ) → SameHart h (hart_after kind h n)
+pub same_hart : (kind : HartKind) (h : HartView) (n : ℕ) → SameHart h (hart_after kind h n)
 same_hart (kinds.Look ask) h n = record {
   number = glanced_number ask n (lock_bit n == 1) (permits ask (role_in n)) (ask_is_fresh ask n) (heeded h);
   heard = glanced_heard ask n (lock_bit n == 1) (permits ask (role_in n)) (ask_is_fresh ask n) (heeded h);

@@ -3,6 +3,8 @@ use Rattle.std.specs.Prelude.{◌≡◌, ◌≢◌, ◌⊎◌, ℕ, ◌+◌, ◌
 use Rattle.ld_base.specs.declared.linking.Role.{Role}
 use Rattle.ld_base.specs.declared.linking.Role.TheVariants.{None as NoRole, Rx, Slot as SlotRole}
 use Rattle.link_event.specs.declared.event.Event.{Event}
+use Rattle.guest_rule.specs.declared.kind.KeeperKind.{KeeperKind}
+use Rattle.guest_rule.specs.declared.kind.KeeperKind.TheVariants as kinds
 use Rattle.guest_rule.specs.declared.view.HartView.{HartView}
 use Rattle.guest_rule.specs.declared.view.KeeperView.{KeeperView}
 use Rattle.guest_rule.specs.declared.view.Kept.{Kept}
@@ -39,6 +41,11 @@ set_as d x role lazy k = with_kept d (record { role = role; value = x; lazy = la
 -- the doubleword has no role any more
 abbrev pub retired : ℕ → KeeperView → KeeperView
 retired d k = with_kept d (record (kept_at k d) { role = NoRole }) k
+
+-- the kind of step that takes it away
+abbrev pub retiring : ℕ → Role → KeeperKind
+retiring d SlotRole = kinds.RetireSlot d
+retiring d old = kinds.Retire d old
 
 -- an event more
 abbrev pub counted : Event → KeeperView → KeeperView

@@ -42,34 +42,25 @@ impl<J: Naming> Model for Desk<J> {
 
 impl<J: Naming> Desk<J> {
     /// Loads a word.
-    pub(crate) fn load_word(
-        &mut self,
-        memory: &Memory<J>,
-        word: usize,
-        kind: KeeperKind,
-    ) -> u64
+    pub(crate) fn load_word(&mut self, memory: &Memory<J>, word: usize, kind: KeeperKind) -> u64
         requires word { (word ≡ keeper_word kind) × (word < table_words) }
         requires kind { keeper_op kind ≡ load }
         requires ready { KeeperReady kind self.old }
         ensures view { self.new ≡ keeper_after kind self.old result }
         ensures learns { KeeperLearns kind self.old result }
+        ensures long { IsLong self.old }
     {
         load_as::<J, Brand, KeeperKind>(memory, &mut self.seat, word, &kind)
     }
 
     /// Stores a number in a word.
-    pub(crate) fn store_word(
-        &mut self,
-        memory: &Memory<J>,
-        word: usize,
-        new: u64,
-        kind: KeeperKind,
-    )
+    pub(crate) fn store_word(&mut self, memory: &Memory<J>, word: usize, new: u64, kind: KeeperKind)
         requires word { (word ≡ keeper_word kind) × (word < table_words) }
         requires kind { keeper_op kind ≡ store new }
         requires ready { KeeperReady kind self.old }
         ensures view { self.new ≡ keeper_after kind self.old new }
         ensures learns { KeeperLearns kind self.old new }
+        ensures long { IsLong self.old }
     {
         store_as::<J, Brand, KeeperKind>(memory, &mut self.seat, word, new, &kind)
     }

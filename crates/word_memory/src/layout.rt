@@ -2,7 +2,7 @@
 
 ghost use Rattle.std.specs.Prelude.{◌≡◌, ◌≢◌, ◌+◌, ◌<◌, ◌*◌, ◌==◌, IfOk, IfErr};
 ghost use Rattle.rv_hart.specs.Buses.{IsSize, may_fetch, may_read, may_write};
-ghost use Rattle.guest_rule.specs.Layout.{control_at, doublewords, first_address, lock_bit, place_of, role_in, table_words, value_at, version_in};
+ghost use Rattle.guest_rule.specs.Layout.{IsDoubleword, control_at, doublewords, first_address, lock_bit, place_of, role_code, role_in, table_words, value_at, version_in};
 ghost use Rattle.guest_rule.specs.HartSteps.{IsAsked, ask_is_fresh, is_fresh, permits};
 ghost use Rattle.word_memory.specs.Accesses.{IsUnasked};
 
@@ -45,6 +45,16 @@ pub(crate) fn place(address: u64, size: u8) -> Result<usize, BusFault>
     Ok(at as usize)
 }
 
+/// The doubleword of an address.
+#[tactic(auto, unfolding(guest_rule::specs::Layout::doublewords, guest_rule::specs::Layout::place_of))]
+pub(crate) fn place_at(address: u64) -> usize
+    requires { IsDoubleword address }
+    ensures place { result ≡ place_of address }
+    ensures inside { result < doublewords }
+{
+    ((address - FIRST_ADDRESS) / 8) as usize
+}
+
 /// The word that holds a doubleword's value.
 #[tactic(auto, unfolding(guest_rule::specs::Layout::doublewords))]
 pub(crate) fn value_word(at: usize) -> usize
@@ -80,6 +90,20 @@ pub(crate) fn role_of(control: u64) -> Role
     match roles.get((control % 8) as usize) {
         Some(role) => *role,
         None => Role::None,
+    }
+}
+
+/// A role as control words have it.
+pub(crate) fn code_of(role: Role) -> u64
+    ensures code { result ≡ role_code role }
+    ensures low { result < 5 }
+{
+    match role {
+        Role::None => 0,
+        Role::Ro => 1,
+        Role::Rx => 2,
+        Role::Rw => 3,
+        Role::Slot => 4,
     }
 }
 

@@ -17,10 +17,14 @@ mod access;
 mod bus;
 mod desk;
 mod hand;
+mod keeper;
+mod keeping;
 mod layout;
 mod memory;
 mod seat;
+mod telling;
 
 pub use bus::TableBus;
+pub use keeper::{KeeperSeat, count_up, join_hart, retire, set_generation, set_word, tell};
 pub use memory::{Memory, Naming};
-pub use seat::HartSeat;
+pub use seat::{HartSeat, generation};

@@ -3,12 +3,18 @@
 ghost use Rattle.std.specs.Prelude.{◌≡◌, ◌<◌, ◌*◌, ◌^◌, IfOk};
 ghost use Rattle.rv_isa.specs.Encoding.{IsAtomicSize};
 ghost use Rattle.rv_hart.specs.Buses.{HasValue, IsSize, Permits, may_fetch, may_read, may_write};
+ghost use Rattle.guest_rule.specs.declared.view.TrailItem.TheVariants.{Generation as ReadGeneration};
+ghost use Rattle.guest_rule.specs.HartSteps.{HartLearns, HartLeaves, HartReady, entered, hart_after, hart_op, hart_word};
+ghost use Rattle.guest_rule.specs.Layout.{table_words};
+ghost use Rattle.guest_rule.specs.Operations.{load, store, exchange, add};
+ghost use Rattle.guest_rule.specs.Views.{IsLane, last_block};
 ghost use Rattle.word_memory.specs.Accesses.{Calls};
+ghost use Rattle.word_memory.specs.Holding.{IsIdle};
 
 use crate::hand::Hand;
 use crate::layout::{place, version_of};
 use crate::{Memory, Naming};
-use guest_rule::{LoadAsk, StoreAsk};
+use guest_rule::{HartKind, LoadAsk, StoreAsk};
 use rv_hart::{BusFault, Item, lane};
 use rv_isa::AmoOp;
 use std::marker::Model;
@@ -16,21 +22,116 @@ use std::marker::Model;
 /// A hart's seat at a memory. Contracts see it as its view: what the hart knows, and its trail.
 #[derive(Drop)]
 pub struct HartSeat<J: Naming> {
-    hand: Hand<J>,
+    pub(crate) hand: Hand<J>,
+    number: u64,
 }
 
 impl<J: Naming> Model for HartSeat<J> {
     ghost use Rattle.guest_rule.specs.declared.view.HartView.{HartView};
+    ghost use Rattle.std.specs.Prelude.{◌≡◌, ◌<◌};
+    ghost use Rattle.guest_rule.specs.Views.{IsLane};
     ghost use Rattle.word_memory.specs.Holding.{IsIdle};
 
     ghost Value = { HartView };
 
     ghost view = { λ s. s.hand };
 
-    ghost invariant = { λ s. IsIdle s.hand };
+    ghost invariant = { λ s. (s.number ≡ s.hand.number) × (s.number < 16) × IsIdle s.hand × IsLane s.hand.lane };
+}
+
+/// The generation of the TLS modules. The trail gets it with the number of a module, and with the block
+/// of the last answer taken for both.
+pub fn generation<J: Naming>(memory: &Memory<J>, seat: &mut HartSeat<J>, number: u64) -> u64
+    ensures { seat.new ≡ entered (ReadGeneration result number (last_block result number seat.old.lane.taken)) seat.old }
+{
+    seat.hand.load_word(memory, 1, HartKind::Generation(number))
 }
 
 impl<J: Naming> HartSeat<J> {
+    /// A hart's seat between its accesses.
+    pub(crate) fn new(hand: Hand<J>, number: u64) -> Self
+        requires number { (number ≡ hand.number) × (number < 16) }
+        requires seated { IsIdle hand × IsLane hand.lane }
+        ensures { result ≡ hand }
+    {
+        HartSeat { hand, number }
+    }
+
+    /// The seat in the middle of an access, to be joined into the keeper's.
+    pub(crate) fn into_hand(self) -> Hand<J>
+        ensures { result ≡ self }
+    {
+        let HartSeat { hand, number: _ } = self;
+        hand
+    }
+
+    /// The hart's number.
+    pub fn number(&self) -> u64
+        ensures number { result ≡ self.now.number }
+        ensures low { result < 16 }
+    {
+        self.number
+    }
+
+    /// Loads a word, for a step that locks nothing.
+    pub fn load_word(&mut self, memory: &Memory<J>, word: usize, kind: HartKind) -> u64
+        requires word { (word ≡ hart_word kind) × (word < table_words) }
+        requires kind { hart_op kind ≡ load }
+        requires leaves { HartLeaves kind }
+        requires ready { HartReady kind self.old }
+        ensures view { self.new ≡ hart_after kind self.old result }
+        ensures learns { HartLearns kind self.old result }
+        ensures seated { IsIdle self.old × IsLane self.old.lane }
+    {
+        self.hand.load_word(memory, word, kind)
+    }
+
+    /// Stores a number in a word, for a step that locks nothing.
+    pub fn store_word(&mut self, memory: &Memory<J>, word: usize, new: u64, kind: HartKind)
+        requires word { (word ≡ hart_word kind) × (word < table_words) }
+        requires kind { hart_op kind ≡ store new }
+        requires leaves { HartLeaves kind }
+        requires ready { HartReady kind self.old }
+        ensures view { self.new ≡ hart_after kind self.old new }
+        ensures learns { HartLearns kind self.old new }
+        ensures seated { IsIdle self.old × IsLane self.old.lane }
+    {
+        self.hand.store_word(memory, word, new, kind)
+    }
+
+    /// Stores `new` in a word that is `old`, for a step that locks nothing.
+    pub fn exchange_word(
+        &mut self,
+        memory: &Memory<J>,
+        word: usize,
+        old: u64,
+        new: u64,
+        kind: HartKind,
+    ) -> u64
+        requires word { (word ≡ hart_word kind) × (word < table_words) }
+        requires kind { hart_op kind ≡ exchange old new }
+        requires leaves { HartLeaves kind }
+        requires ready { HartReady kind self.old }
+        ensures view { self.new ≡ hart_after kind self.old result }
+        ensures learns { HartLearns kind self.old result }
+        ensures seated { IsIdle self.old × IsLane self.old.lane }
+    {
+        self.hand.exchange_word(memory, word, old, new, kind)
+    }
+
+    /// Adds to a word, for a step that locks nothing.
+    pub fn add_word(&mut self, memory: &Memory<J>, word: usize, more: u64, kind: HartKind) -> u64
+        requires word { (word ≡ hart_word kind) × (word < table_words) }
+        requires kind { hart_op kind ≡ add more }
+        requires leaves { HartLeaves kind }
+        requires ready { HartReady kind self.old }
+        ensures view { self.new ≡ hart_after kind self.old result }
+        ensures learns { HartLearns kind self.old result }
+        ensures seated { IsIdle self.old × IsLane self.old.lane }
+    {
+        self.hand.add_word(memory, word, more, kind)
+    }
+
     pub(crate) fn fetch(&mut self, memory: &Memory<J>, address: u64) -> Result<u32, BusFault>
         ensures calls { Calls self.old (Item.Fetch address result) self.new }
         ensures permits { Permits may_fetch address 4 result }

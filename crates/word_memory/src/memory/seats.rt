@@ -21,10 +21,7 @@ pub(crate) fn split_hart<J: Naming>(
 }
 
 /// A note is made, and the seat stays as it is.
-pub(crate) fn split_note<J: Naming>(
-    memory: &Memory<J>,
-    seat: &mut Seat<(), View>,
-) -> Seat<(), View>
+pub(crate) fn split_note<J: Naming>(memory: &Memory<J>, seat: &mut Seat<(), View>) -> Seat<(), View>
     requires table { seat.old.table_id ≡ J.table }
     requires noted { (seat.old.me.1 ≡ []) × HasNote seat.old.me.0 }
     ensures seat { (seat.new.table_id ≡ J.table) × (seat.new.me ≡ seat.old.me) }

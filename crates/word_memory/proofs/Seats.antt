@@ -1,0 +1,22 @@
+-- A hart's seat between its steps.
+use Rattle.std.proofs.Common.{◌≡◌, ℕ, ◌<◌, sym, ap, subst, ◌∙◌}
+use Rattle.guest_rule.specs.declared.kind.HartKind.{HartKind}
+use Rattle.guest_rule.specs.declared.view.HartView.{HartView}
+use Rattle.guest_rule.specs.HartSteps.{HartLearns, HartLeaves, HartReady, hart_after}
+use Rattle.guest_rule.specs.Views.{IsLane}
+use Rattle.guest_rule.proofs.Lanes.{hart_leaves, lane_stays}
+use Rattle.guest_rule.proofs.Steps.{same_hart}
+use Rattle.word_memory.specs.Holding.{IsIdle}
+
+abbrev pub IsSeated : ℕ → HartView → Type 0
+IsSeated number h = (number ≡ h.number) × (number < 16) × IsIdle h × IsLane h.lane
+
+-- what a step leaves that locks nothing
+pub stays_seated : (kind : HartKind) (number : ℕ) (h h' : HartView) (n : ℕ) → IsSeated number h → HartLeaves kind → HartReady kind h → HartLearns kind h n → h' ≡ hart_after kind h n → IsSeated number h'
+stays_seated kind number h h' n seated leaves ready learns is =
+    let same = same_hart kind h n in subst (IsSeated number) (sym is) (
+      seated.0 ∙ sym same.number,
+      seated.1,
+      record { access = hart_leaves kind h n leaves ∙ seated.2.access; note = same.note },
+      lane_stays kind h n ready learns seated.3,
+    )

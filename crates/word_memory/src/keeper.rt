@@ -1,0 +1,160 @@
+//! The keeper's seat between its calls, and what it does with doublewords, events and harts.
+
+ghost use Rattle.std.specs.Prelude.{◌≡◌, ◌<◌, ◌+◌, IfErr, IfOk, length};
+ghost use Rattle.ld_base.specs.declared.linking.Role.TheVariants.{Rw};
+ghost use Rattle.guest_rule.specs.Joining.{IsSettled};
+ghost use Rattle.guest_rule.specs.KeeperSteps.{KeeperLearns, KeeperLeaves, KeeperReady, keeper_after, keeper_op, keeper_word};
+ghost use Rattle.guest_rule.specs.Layout.{place_of, table_words};
+ghost use Rattle.guest_rule.specs.Operations.{load, store};
+ghost use Rattle.guest_rule.specs.Views.{BeginsWith, IsLong, first_hart, kept_at, known_of, row_of};
+ghost use Rattle.word_memory.specs.Accesses.{IsShown};
+ghost use Rattle.word_memory.specs.Keeping.{IsResting, MayRetire, MaySet, counted, retired, set_as, with_joined};
+
+use crate::desk::Desk;
+use crate::layout::place_at;
+use crate::{HartSeat, Memory, Naming};
+use guest_rule::KeeperKind;
+use ld_base::{Role, Shown};
+use link_event::Event;
+use std::marker::Model;
+
+/// The keeper's seat at a memory. Contracts see it as its view: what the keeper knows.
+#[derive(Drop)]
+pub struct KeeperSeat<J: Naming> {
+    desk: Desk<J>,
+}
+
+impl<J: Naming> Model for KeeperSeat<J> {
+    ghost use Rattle.guest_rule.specs.declared.view.KeeperView.{KeeperView};
+    ghost use Rattle.word_memory.specs.Keeping.{IsResting};
+
+    ghost Value = { KeeperView };
+
+    ghost view = { λ s. s.desk };
+
+    ghost invariant = { λ s. IsResting s.desk };
+}
+
+/// Gives a doubleword a value and a role; where the role is Slot, the slot has this lazy word.
+///
+/// # Errors
+///
+/// What shows that a hart has locked the doubleword: its role was RW then. Nothing is changed.
+pub fn set_word<J: Naming>(
+    memory: &Memory<J>,
+    keeper: &mut KeeperSeat<J>,
+    address: u64,
+    value: u64,
+    role: Role,
+    lazy: u64,
+) -> Result<(), Shown>
+    requires { MaySet keeper.old address value role }
+    ensures ok { IfOk result (λ _. keeper.new ≡ set_as (place_of address) value role lazy keeper.old) }
+    ensures unchanged { IfErr result (λ shown. keeper.new ≡ keeper.old) }
+    ensures shown { IfErr result IsShown }
+    ensures writable { IfErr result (λ shown. (kept_at keeper.old (place_of address)).role ≡ Rw) }
+{
+    keeper
+        .desk
+        .set(memory, place_at(address), value, role, lazy)
+}
+
+/// Takes a doubleword's role away.
+///
+/// # Errors
+///
+/// What shows that a hart has locked the doubleword: its role was RW then. Nothing is changed.
+pub fn retire<J: Naming>(
+    memory: &Memory<J>,
+    keeper: &mut KeeperSeat<J>,
+    address: u64,
+) -> Result<(), Shown>
+    requires { MayRetire keeper.old address }
+    ensures ok { IfOk result (λ _. keeper.new ≡ retired (place_of address) keeper.old) }
+    ensures unchanged { IfErr result (λ shown. keeper.new ≡ keeper.old) }
+    ensures shown { IfErr result IsShown }
+    ensures writable { IfErr result (λ shown. (kept_at keeper.old (place_of address)).role ≡ Rw) }
+{
+    keeper.desk.retire(memory, place_at(address))
+}
+
+/// Counts an event.
+pub fn count_up<J: Naming>(memory: &Memory<J>, keeper: &mut KeeperSeat<J>, event: &Event)
+    requires { length keeper.old.events < 18446744073709551615 }
+    ensures { keeper.new ≡ counted event.now keeper.old }
+{
+    keeper.desk.count(memory, event);
+}
+
+/// Joins a hart's seat into the keeper's, which keeps the hart's last view.
+pub fn join_hart<J: Naming>(memory: &Memory<J>, keeper: &mut KeeperSeat<J>, seat: HartSeat<J>)
+    ensures { keeper.new ≡ with_joined seat keeper.old }
+{
+    keeper.desk.take(memory, seat.into_hand().into_seat());
+}
+
+/// Tells a hart of the keeper's events, and ties what it knows of its entries to what was issued to it.
+/// The hart isn't calling, or has read its row in full.
+pub fn tell<J: Naming>(memory: &Memory<J>, keeper: &mut KeeperSeat<J>, seat: &mut HartSeat<J>)
+    requires { IsSettled seat.old.lane }
+    ensures heard { seat.new ≡ record seat.old { heard = keeper.old.events } }
+    ensures begun { BeginsWith keeper.old.events seat.old.heard }
+    ensures keeper { keeper.new ≡ keeper.old }
+    ensures issued { known_of seat.old.lane ≡ (row_of keeper.old seat.old.number).issued }
+{
+    keeper.desk.tell(memory, &mut seat.hand);
+}
+
+/// Sets the generation of the TLS modules.
+pub fn set_generation<J: Naming>(memory: &Memory<J>, keeper: &mut KeeperSeat<J>, generation: u64)
+    requires { keeper.old.generation < generation }
+    ensures { keeper.new ≡ record keeper.old { generation = generation } }
+{
+    keeper
+        .desk
+        .store_word(memory, 1, generation, KeeperKind::Generation(generation));
+}
+
+impl<J: Naming> KeeperSeat<J> {
+    /// The first seat of a memory.
+    pub(crate) fn new(desk: Desk<J>) -> Self
+        requires { IsResting desk }
+        ensures { result ≡ desk }
+    {
+        KeeperSeat { desk }
+    }
+
+    /// The seat of the next hart, which has this number.
+    pub(crate) fn make_hart(&mut self, memory: &Memory<J>, number: u64) -> HartSeat<J>
+        requires { (number ≡ self.old.harts) × (number < 16) }
+        ensures keeper { self.new ≡ record self.old { harts = self.old.harts + 1 } }
+        ensures hart { result ≡ first_hart number }
+    {
+        HartSeat::new(self.desk.split_hart(memory), number)
+    }
+
+    /// Loads a word, for a step that locks nothing.
+    pub fn load_word(&mut self, memory: &Memory<J>, word: usize, kind: KeeperKind) -> u64
+        requires word { (word ≡ keeper_word kind) × (word < table_words) }
+        requires kind { keeper_op kind ≡ load }
+        requires leaves { KeeperLeaves kind }
+        requires ready { KeeperReady kind self.old }
+        ensures view { self.new ≡ keeper_after kind self.old result }
+        ensures learns { KeeperLearns kind self.old result }
+        ensures resting { IsResting self.old × IsLong self.old }
+    {
+        self.desk.load_word(memory, word, kind)
+    }
+
+    /// Stores a number in a word, for a step that locks nothing.
+    pub fn store_word(&mut self, memory: &Memory<J>, word: usize, new: u64, kind: KeeperKind)
+        requires word { (word ≡ keeper_word kind) × (word < table_words) }
+        requires kind { keeper_op kind ≡ store new }
+        requires leaves { KeeperLeaves kind }
+        requires ready { KeeperReady kind self.old }
+        ensures view { self.new ≡ keeper_after kind self.old new }
+        ensures resting { IsResting self.old × IsLong self.old }
+    {
+        self.desk.store_word(memory, word, new, kind);
+    }
+}
