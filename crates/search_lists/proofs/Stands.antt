@@ -1,0 +1,135 @@
+-- What stands where.
+use Rattle.std.proofs.Common.{◌≡◌, ℕ, suc, ◌+◌, ◌<◌, ◌≤◌, ◌==◌, Bool, true, false, cond, inl, inr, List, [], ◌∷◌, ◌++◌, length, get_or, map, take, refl, sym, ap, ◌∙◌, append_assoc, length-take-le, arith}
+use Rattle.std.specs.Prelude.{nat_eq, not, ◌||◌, filter, flat_map, position, Option, Some, None}
+use Rattle.std.specs.List.{find, list_any, position_or_len, slice_get}
+use Rattle.std.specs.Option.{option_or, is_some}
+use Rattle.std.proofs.lemmas.Bool.{cases_Bool, eqb-true}
+use Rattle.std.proofs.lemmas.Grind.{common_steps}
+use Rattle.std.proofs.lemmas.List.{length-append, take_more}
+use Rattle.std.proofs.lemmas.List.Folds.{find_at, flat_map-map, position_or_len_push}
+use Rattle.std.proofs.lemmas.List.Quantifiers.{position-Some}
+use Rattle.std.proofs.lemmas.Option.{slice_get-get_or}
+use Rattle.std.proofs.lemmas.List.Sums.{prefix_len-le-length}
+use Rattle.ld_base.specs.declared.linking.Loaded.{Loaded}
+use Rattle.scope_rule.specs.Loading.{is_dying, is_dying_at, object_of, with_serial}
+use Rattle.scope_rule.specs.Breadth.{breadth, has}
+use Rattle.scope_rule.specs.Scope.{opened_with}
+use Rattle.scope_rule.specs.Seen.{Seen}
+use Rattle.scope_rule.specs.declared.namespace.OpenRec.{OpenRec}
+use Rattle.search_lists.specs.Scoping.{opened_of}
+use Rattle.search_lists.specs.Lists.{list_of, lists_of, scope_in, scope_on}
+use Rattle.search_lists.specs.Places.{place_in, serials_of}
+use Rattle.search_lists.specs.declared.lists.SearchList.{SearchList}
+
+-- ---- the first place of a serial
+
+-- of one more at the end
+one_more : (xs : List ℕ) (x q : ℕ) → place_in (xs ++ x ∷ []) q ≡ option_or (place_in xs q) (cond (x == q) (Some (length xs)) None)
+one_more xs x q =
+    let p : ℕ → Bool = λ s. s == q in
+    let within : position_or_len p xs ≤ length xs = prefix_len-le-length (λ y. not (p y)) xs in
+    rw (position_or_len_push p xs x) (grind (arith, common_steps, length-append xs (x ∷ [])))
+
+pub place_added : (xs : List ℕ) (x place q : ℕ) → length xs ≡ place → place_in xs x ≡ None → cond (nat_eq x q) (Some place) (place_in xs q) ≡ place_in (xs ++ x ∷ []) q
+place_added xs x place q long new =
+    elim (cases_Bool (x == q)) [
+      | inl same ↦
+          let e : x ≡ q = eqb-true x q same in
+          let none : place_in xs q ≡ None = ap (place_in xs) (sym e) ∙ new in
+          rw (one_more xs x q, same, none, long) refl
+      | inr other ↦ rw (one_more xs x q, other) (by_place (place_in xs q))
+    ]
+  where
+    by_place : (o : Option ℕ) → o ≡ option_or o None
+    by_place None = refl
+    by_place (Some n) = refl
+
+pub none_from : (o : Option ℕ) → is_some o ≡ false → o ≡ None
+none_from None e = refl
+none_from (Some n) e = absurd (cc e)
+
+-- the serials of objects
+abbrev pub serials : List Loaded → List ℕ
+serials objects = map (λ (o : Loaded). o.serial) objects
+
+abbrev pub serials_so_far : List Loaded → ℕ → List ℕ
+serials_so_far objects k = serials (take k objects)
+
+pub length_serials : (objects : List Loaded) → length (serials objects) ≡ length objects
+length_serials [] = refl
+length_serials (o ∷ rest) = ap suc (length_serials rest)
+
+pub serials_append : (there added : List Loaded) → serials there ++ serials added ≡ serials (there ++ added)
+serials_append [] added = refl
+serials_append (o ∷ rest) added = ap (λ (xs : List ℕ). o.serial ∷ xs) (serials_append rest added)
+
+pub length_so_far : (xs : List ℕ) (objects : List Loaded) (n k : ℕ) → length xs ≡ n → k < length objects → length (xs ++ serials_so_far objects k) ≡ n + k
+length_so_far xs objects n k long lt = omega (arith, length-append xs (serials_so_far objects k), length_serials (take k objects), length-take-le k objects (omega arith))
+
+pub one_serial_more : (xs : List ℕ) (objects : List Loaded) (k : ℕ) (o : Loaded) → k < length objects → o ≡ get_or objects k o → (xs ++ serials_so_far objects k) ++ o.serial ∷ [] ≡ xs ++ serials_so_far objects (k + 1)
+one_serial_more xs objects k o lt is =
+    append_assoc xs (serials_so_far objects k) (o.serial ∷ [])
+    ∙ ap (λ (ys : List ℕ). xs ++ ys) (serials_append (take k objects) (o ∷ []) ∙ ap (λ (x : Loaded). serials (take k objects ++ x ∷ [])) is ∙ ap serials (sym (take_more objects k o lt)))
+
+place_mapped : {X : Type 0} (f : X → ℕ) (xs : List X) (q : ℕ) → place_in (map f xs) q ≡ position (λ x. f x == q) xs
+place_mapped f [] q = refl
+place_mapped f (x ∷ xs) q = grind (arith, common_steps, place_mapped f xs q)
+
+-- the element at its first place is the first
+found_by : {X : Type 0} (p : X → Bool) (xs : List X) (k : ℕ) → position p xs ≡ Some k → slice_get xs k ≡ find p xs
+found_by p xs k e = sym (find_at p xs ∙ ap (slice_get xs) (grind (arith, common_steps)))
+
+none_by : {X : Type 0} (p : X → Bool) (xs : List X) → position p xs ≡ None → None ≡ find p xs
+none_by p [] e = refl
+none_by p (x ∷ xs) e = grind (arith, common_steps, none_by p xs)
+
+pub object_found : (s : Seen) (q k : ℕ) (o : Option Loaded) → place_in (serials_of s) q ≡ Some k → o ≡ slice_get s.objects k → o ≡ object_of s q
+object_found s q k o at is = is ∙ found_by (λ (x : Loaded). x.serial == q) s.objects k (sym (place_mapped (λ (x : Loaded). x.serial) s.objects q) ∙ at)
+
+pub none_found : (s : Seen) (q : ℕ) → place_in (serials_of s) q ≡ None → None ≡ object_of s q
+none_found s q at = none_by (λ (x : Loaded). x.serial == q) s.objects (sym (place_mapped (λ (x : Loaded). x.serial) s.objects q) ∙ at)
+
+abbrev pub owners : List SearchList → List ℕ
+owners lists = map (λ (l : SearchList). l.owner) lists
+
+length_owners : (lists : List SearchList) → length (owners lists) ≡ length lists
+length_owners [] = refl
+length_owners (l ∷ rest) = ap suc (length_owners rest)
+
+pub list_found : (lists : List SearchList) (q k : ℕ) (l : SearchList) → place_in (owners lists) q ≡ Some k → l ≡ get_or lists k l → l.scope ≡ scope_in lists q
+list_found lists q k l at is =
+    let within : k < length lists = omega (arith, (position-Some (λ s. s == q) (owners lists) k 0 at).0, length_owners lists) in
+    let here : slice_get lists k ≡ Some l = slice_get-get_or lists k l within ∙ ap (λ (x : SearchList). Some x) (sym is) in
+    ap scope_on (sym here ∙ found_by (λ (x : SearchList). x.owner == q) lists k (sym (place_mapped (λ (x : SearchList). x.owner) lists q) ∙ at))
+
+pub no_list : (lists : List SearchList) (q : ℕ) → place_in (owners lists) q ≡ None → [] ≡ scope_in lists q
+no_list lists q at = ap scope_on (none_by (λ (x : SearchList). x.owner == q) lists (sym (place_mapped (λ (x : SearchList). x.owner) lists q) ∙ at))
+
+pub owners_of : (s : Seen) → owners (lists_of s) ≡ serials_of s
+owners_of s = of s.objects
+  where
+    of : (objects : List Loaded) → owners (map (list_of s) objects) ≡ map (λ (o : Loaded). o.serial) objects
+    of [] = refl
+    of (o ∷ rest) = ap (λ (xs : List ℕ). o.serial ∷ xs) (of rest)
+
+-- ---- what the openings bring
+
+pub opened_scopes : (s : Seen) (o : Loaded) (opened : List (List ℕ)) → opened ≡ opened_of s → flat_map (λ l. cond (has l o.serial) l []) opened ≡ flat_map (λ r. opened_with s o r.root) s.opens
+opened_scopes s o opened is =
+    ap (flat_map (λ (l : List ℕ). cond (has l o.serial) l [])) is ∙ flat_map-map (λ (l : List ℕ). cond (has l o.serial) l []) (λ (r : OpenRec). breadth s r.root) s.opens
+
+-- ---- where nothing is closing
+
+none_dying : (objects : List Loaded) (q : ℕ) → list_any is_dying objects ≡ false → elim (with_serial objects q) [ Some o ↦ is_dying o | None ↦ false ] ≡ false
+none_dying [] q none = refl
+none_dying (o ∷ rest) q none = grind (arith, common_steps, none_dying rest q)
+
+kept_all : (p : ℕ → Bool) → ((x : ℕ) → p x ≡ true) → (xs : List ℕ) → xs ≡ filter p xs
+kept_all p all [] = refl
+kept_all p all (x ∷ xs) = rw (all x) (ap (λ (ys : List ℕ). x ∷ ys) (kept_all p all xs))
+
+pub sees_all : (s : Seen) (o : Loaded) (xs : List ℕ) → (is_dying o || not (list_any is_dying s.objects)) ≡ true → xs ≡ filter (λ x. is_dying o || not (is_dying_at s x)) xs
+sees_all s o xs sees = kept_all (λ x. is_dying o || not (is_dying_at s x)) each xs
+  where
+    each : (x : ℕ) → (is_dying o || not (is_dying_at s x)) ≡ true
+    each x = grind (arith, common_steps, none_dying s.objects x)

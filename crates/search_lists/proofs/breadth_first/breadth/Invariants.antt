@@ -1,0 +1,15 @@
+use Rattle.std.proofs.Common.{◌≡◌, ◌≤◌, length, take}
+use Rattle.std.specs.List.{flat_map}
+use Rattle.scope_rule.specs.Loading.{found_of}
+use Rattle.scope_rule.specs.Seen.{seen}
+use Rattle.scope_rule.specs.Breadth.{extend, order_to}
+use Rattle.search_lists.proofs.Orders.{alone}
+use Rattle.search_lists.proofs.breadth_first.breadth.Given as goal
+
+-- after n turns the order is that of n levels, and it is what the entries before `start` lead to
+abbrev pub invariant-loop : goal.invariant-loop
+invariant-loop l = record {
+  kept : l.order.keys ≡ order_to (found_of (seen l.view)) (alone l.fn.root) l.counter;
+  grown : l.order.keys ≡ extend (alone l.fn.root) (flat_map (found_of (seen l.view)) (take l.start l.order.keys));
+  within : l.start ≤ length l.order.keys;
+}

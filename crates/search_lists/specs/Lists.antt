@@ -1,0 +1,22 @@
+-- Search lists: where the references of each object are searched.
+use Rattle.std.specs.Prelude.{ℕ, ◌==◌, List, [], map, find, Option, Some, None}
+use Rattle.ld_base.specs.declared.linking.Loaded.{Loaded}
+use Rattle.scope_rule.specs.Scope.{scope}
+use Rattle.scope_rule.specs.Seen.{Seen}
+use Rattle.search_lists.specs.declared.lists.SearchList.{SearchList}
+
+-- the list of an object
+abbrev pub list_of : Seen → Loaded → SearchList
+list_of s o = record { owner = o.serial; scope = scope s o }
+
+-- the lists of what is seen of a namespace: the Scope of each of its objects, in load order
+abbrev pub lists_of : Seen → List SearchList
+lists_of s = map (list_of s) s.objects
+
+-- the scope in the first list of a serial
+abbrev pub scope_on : Option SearchList → List ℕ
+scope_on (Some l) = l.scope
+scope_on None = []
+
+abbrev pub scope_in : List SearchList → ℕ → List ℕ
+scope_in lists owner = scope_on (find (λ l. l.owner == owner) lists)

@@ -1,0 +1,21 @@
+-- Where the objects of a namespace stand: for the code of this crate alone.
+use Rattle.std.specs.Prelude.{◌≡◌, ℕ, ◌==◌, nat_eq, List, map, position, Option}
+use Rattle.std.specs.HashMap.{get}
+use Rattle.scope_rule.specs.Seen.{Seen}
+use Rattle.search_lists.specs.declared.places.Places.{Places}
+
+-- the serials of what is seen of a namespace, in load order
+abbrev pub serials_of : Seen → List ℕ
+serials_of s = map (λ o. o.serial) s.objects
+
+-- the place that is noted for a serial
+abbrev pub place_of : Places → ℕ → Option ℕ
+place_of places serial = get nat_eq places.by_serial serial
+
+-- the first place of a serial
+abbrev pub place_in : List ℕ → ℕ → Option ℕ
+place_in serials serial = position (λ s. s == serial) serials
+
+-- what is noted is the first place of each serial
+abbrev pub ArePlaces : List ℕ → Places → Type 0
+ArePlaces serials places = (serial : ℕ) → place_of places serial ≡ place_in serials serial

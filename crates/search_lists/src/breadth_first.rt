@@ -1,0 +1,89 @@
+//! Breadth-first order, in one step for each name that an object needs.
+
+ghost use Rattle.std.specs.Prelude.{◌≡◌, ◌≤◌, ◌∷◌, [], length, drop, flat_map, IfOk, OnOk};
+ghost use Rattle.scope_rule.specs.Breadth.{breadth, extend};
+ghost use Rattle.scope_rule.specs.Loading.{found_of};
+ghost use Rattle.scope_rule.specs.Seen.{seen};
+ghost use Rattle.search_lists.specs.Places.{ArePlaces, serials_of};
+
+use crate::places::Places;
+use indexmap::IndexSet;
+use ld_base::{Serial, Serials};
+use scope_rule::{View, breadth_grows};
+use std::alloc::{AllocError, Global};
+
+/// Puts a serial at the end if the order lacks it; the linker's own is left out.
+fn extend_by_one(order: &mut IndexSet<Serial>, serial: Serial) -> Result<(), AllocError>
+    ensures { OnOk result (order.new.keys ≡ extend order.old.keys (serial ∷ [])) }
+{
+    if serial != Serial::LINKER {
+        order.insert(serial)?;
+    }
+    Ok(())
+}
+
+/// Puts those serials at the end that the order lacks.
+fn extend(order: &mut IndexSet<Serial>, serials: &[Serial]) -> Result<(), AllocError>
+    ensures { OnOk result (order.new.keys ≡ extend order.old.keys serials.now) }
+{
+    for serial in serials {
+        extend_by_one(order, *serial)?;
+    }
+    Ok(())
+}
+
+/// What the names of an object found.
+fn found_of<'a>(view: &View<'a>, places: &Places, serial: Serial) -> &'a [Serial]
+    requires { ArePlaces (serials_of (seen view.now)) places.now }
+    ensures { result.now ≡ found_of (seen view.now) serial }
+{
+    if serial == Serial::LINKER {
+        return &[];
+    }
+    match places.object(view, serial) {
+        Some(object) => object.found.as_slice(),
+        None => &[],
+    }
+}
+
+/// Puts the next level at the end: what the entries from `start` on found.
+fn extend_by_level(
+    view: &View,
+    places: &Places,
+    order: &mut IndexSet<Serial>,
+    start: usize,
+) -> Result<(), AllocError>
+    requires places { ArePlaces (serials_of (seen view.now)) places.now }
+    requires start { start ≤ length order.old.keys }
+    ensures { OnOk result (order.new.keys ≡ extend order.old.keys (flat_map (found_of (seen view.now)) (drop start order.old.keys))) }
+{
+    let end = order.len();
+    for i in start..end {
+        let serial = order.as_slice()[i];
+        extend(order, found_of(view, places, serial))?;
+    }
+    Ok(())
+}
+
+/// The objects that a root leads to by the names that it and they need, breadth-first, each once
+/// (gABI, "Shared Object Dependencies").
+pub(crate) fn breadth(
+    alloc: Global,
+    view: &View,
+    places: &Places,
+    root: Serial,
+) -> Result<Serials, AllocError>
+    requires { ArePlaces (serials_of (seen view.now)) places.now }
+    ensures { IfOk result (λ order. order ≡ breadth (seen view.now) root) }
+{
+    breadth_grows();
+    let mut order = IndexSet::new(alloc);
+    extend_by_one(&mut order, root)?;
+    let mut start = 0;
+    for _ in 0..view.objects.len() + view.added.len() {
+        let end = order.len();
+        extend_by_level(view, places, &mut order, start)?;
+        start = end;
+    }
+    Serials::from_slice(alloc, order.as_slice())
+}

@@ -1,0 +1,141 @@
+//! Search lists.
+
+ghost use Rattle.std.specs.Prelude.{◌≡◌, ◌++◌, map, IfOk, OnOk};
+ghost use Rattle.scope_rule.specs.Seen.{seen};
+ghost use Rattle.search_lists.specs.Lists.{list_of, lists_of};
+ghost use Rattle.search_lists.specs.Places.{ArePlaces, serials_of};
+ghost use Rattle.search_lists.specs.Scoping.{opened_of};
+
+use crate::places::Places;
+use crate::scoping::{opened_of, scope};
+use ld_base::{Loaded, Sequence, Serial, Serials};
+use scope_rule::{Namespace, View};
+use std::alloc::{AllocError, Global};
+use std::marker::Model;
+
+/// Where the references of an object are searched, in order.
+#[derive(Drop)]
+pub struct SearchList {
+    pub owner: Serial,
+    pub scope: Serials,
+}
+
+/// Where the references of each object of a namespace are searched, made once an opening or closing.
+/// Contracts see it as the lists in load order.
+#[derive(Drop)]
+pub struct SearchLists {
+    lists: Sequence<SearchList>,
+    /// Where the list of each object stands, and so the object.
+    places: Places,
+}
+
+impl Model for SearchLists {
+    ghost use Rattle.std.specs.Prelude.{List, map};
+    ghost use Rattle.search_lists.specs.Places.{ArePlaces};
+    ghost use Rattle.search_lists.specs.declared.lists.SearchList.{SearchList};
+
+    ghost Value = { List SearchList };
+
+    ghost view = { λ s. s.lists };
+
+    ghost invariant = { λ s. ArePlaces (map (λ l. l.owner) s.lists) s.places };
+}
+
+/// Puts the lists of these objects at the end.
+fn append_lists(
+    alloc: Global,
+    view: &View,
+    places: &Places,
+    opened: &[Serials],
+    objects: &[Loaded],
+    lists: &mut Sequence<SearchList>,
+) -> Result<(), AllocError>
+    requires places { ArePlaces (serials_of (seen view.now)) places.now }
+    requires opened { opened.now ≡ opened_of (seen view.now) }
+    ensures { OnOk result (lists.new ≡ lists.old ++ map (list_of (seen view.now)) objects.now) }
+{
+    for object in objects {
+        lists.push(SearchList {
+            owner: object.serial,
+            scope: scope(alloc, view, places, opened, object)?,
+        })?;
+    }
+    Ok(())
+}
+
+/// The lists of what is seen of a namespace.
+fn lists_of(alloc: Global, view: &View, places: &Places) -> Result<Sequence<SearchList>, AllocError>
+    requires { ArePlaces (serials_of (seen view.now)) places.now }
+    ensures { IfOk result (λ lists. lists ≡ lists_of (seen view.now)) }
+{
+    let opened = opened_of(alloc, view, places)?;
+    let mut lists = Sequence::new(alloc);
+    append_lists(
+        alloc,
+        view,
+        places,
+        opened.as_slice(),
+        view.objects,
+        &mut lists,
+    )?;
+    append_lists(
+        alloc,
+        view,
+        places,
+        opened.as_slice(),
+        view.added,
+        &mut lists,
+    )?;
+    Ok(lists)
+}
+
+impl SearchLists {
+    ghost use Rattle.std.specs.Prelude.{◌≡◌, IfOk};
+    ghost use Rattle.std.specs.Option.{option_copied};
+    ghost use Rattle.scope_rule.specs.Loading.{object_of};
+    ghost use Rattle.scope_rule.specs.Seen.{seen, seen_in};
+    ghost use Rattle.search_lists.specs.Lists.{lists_of, scope_in};
+
+    /// The lists of a namespace as it stands.
+    ///
+    /// # Errors
+    ///
+    /// Want of memory.
+    pub fn build(alloc: Global, ns: &Namespace) -> Result<Self, AllocError>
+        ensures { IfOk result (λ lists. lists ≡ lists_of (seen_in ns.now)) }
+    {
+        Self::build_in(alloc, &ns.view())
+    }
+
+    /// The same as [`SearchLists::build`], of what is seen of a namespace.
+    ///
+    /// # Errors
+    ///
+    /// Want of memory.
+    pub fn build_in(alloc: Global, view: &View) -> Result<Self, AllocError>
+        ensures { IfOk result (λ lists. lists ≡ lists_of (seen view.now)) }
+    {
+        let places = Places::of(alloc, view)?;
+        let lists = lists_of(alloc, view, &places)?;
+        Ok(SearchLists { lists, places })
+    }
+
+    /// Where the references of an object are searched: the first list of its serial. Where there is
+    /// none, nothing is searched.
+    pub fn scope(&self, owner: Serial) -> &[Serial]
+        ensures { result.now ≡ scope_in self.now owner }
+    {
+        match self.places.get(owner) {
+            Some(place) => self.lists.as_slice()[place].scope.as_slice(),
+            None => &[],
+        }
+    }
+
+    /// The object with a serial, of what is seen of the namespace whose lists these are.
+    pub fn object<'a>(&self, view: &View<'a>, serial: Serial) -> Option<&'a Loaded>
+        requires { self.now ≡ lists_of (seen view.now) }
+        ensures { option_copied result ≡ object_of (seen view.now) serial }
+    {
+        self.places.object(view, serial)
+    }
+}
