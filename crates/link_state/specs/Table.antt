@@ -1,0 +1,26 @@
+-- What contracts see of the linker's state, and what calls append.
+use Rattle.std.specs.Prelude.{ℕ, List, [], ◌∷◌, ◌++◌}
+use Rattle.ld_base.specs.declared.fault.DlFault.{DlFault}
+use Rattle.link_event.specs.declared.event.Ask.{Ask}
+use Rattle.link_event.specs.declared.event.Ask.TheVariants as asks
+use Rattle.link_event.specs.declared.event.CloseAnswer.TheVariants as closes
+use Rattle.link_event.specs.declared.event.Event.{Event}
+use Rattle.link_event.specs.declared.event.Event.TheVariants as events
+use Rattle.link_event.specs.declared.event.OpenAnswer.TheVariants as opens
+use Rattle.link_event.specs.declared.event.SymAnswer.TheVariants as syms
+
+pub record LinkTable : Type 0 where
+  -- how many harts there are
+  pub harts : ℕ
+  -- the journal: the state is the one after it
+  pub events : List Event
+
+-- with one event more
+abbrev pub appended : LinkTable → Event → LinkTable
+appended table e = record table { events = table.events ++ e ∷ [] }
+
+-- the event of a call that is refused
+abbrev pub refusal : ℕ → Ask → DlFault → Event
+refusal hart (asks.Open ask) fault = events.Open hart ask (opens.Refused fault)
+refusal hart (asks.Sym ask) fault = events.Sym hart ask (syms.Refused fault)
+refusal hart (asks.Close handle) fault = events.Close hart handle (closes.Refused fault)

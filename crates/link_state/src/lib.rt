@@ -1,0 +1,15 @@
+//! The linker's state, which changes in place: each change is an event of its journal.
+//!
+//! [`LinkState`] has the journal of a run so far and the lists that are the state after it
+//! (`link_history`). Contracts see the number of harts and the events; that the lists are those of
+//! the state is the type's own business. Each call appends one event that may come next, or leaves all
+//! as before.
+//!
+//! Not all of the linker's calls are here yet: only those are that change no object, a new state, what
+//! harts write and how they end, and refusals, kept and told.
+#![tactic(auto)]
+
+mod refusing;
+mod state;
+
+pub use state::LinkState;
