@@ -3,6 +3,7 @@ pub mod Callers
 pub mod Decide
 pub mod Every
 pub mod Examples
+pub mod Finishing
 pub mod Given
 pub mod InOrder
 pub mod Looked
@@ -10,6 +11,7 @@ pub mod OneOrder
 pub mod Opened
 pub mod Readings
 pub mod Rooted
+pub mod Starting
 pub mod Stored
 pub mod Told
 pub mod Unique

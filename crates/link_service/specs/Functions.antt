@@ -1,13 +1,14 @@
 -- The functions that an opening, a closing and the end of a run bring: constructors and destructors (gABI, "Initialization and Termination Functions").
-use Rattle.std.specs.Prelude.{◌≡◌, ℕ, ◌+◌, ◌*◌, ◌/◌, List, [], ◌∷◌, ◌++◌, map, reverse, Option, Some, None, Contains}
-use Rattle.std.specs.List.{flat_map, range_with_len}
+use Rattle.std.specs.Prelude.{◌≡◌, ℕ, ◌+◌, ◌*◌, ◌/◌, ◌⊎◌, List, [], ◌∷◌, ◌++◌, map, reverse, take, Option, Some, None, Contains}
+use Rattle.std.specs.List.{flat_map, range_with_len, slice_get}
 use Rattle.ld_base.specs.declared.object.Span.{Span}
 use Rattle.link_event.specs.declared.handed.Function.{Function}
-use Rattle.link_graph.specs.Initialised.{InitOrder, program_last}
+use Rattle.link_event.specs.declared.state.Loading.{Loading}
+use Rattle.link_graph.specs.Initialised.{InitNext, InitOrder, program_last}
 use Rattle.seg_image.specs.Pages.{guest_address}
 use Rattle.link_history.specs.Links.{finis_of, found_edges}
 use Rattle.link_history.specs.Memory.{image_of, word_in}
-use Rattle.link_history.specs.Objects.{mapped}
+use Rattle.link_history.specs.Objects.{mapped, serial_of}
 use Rattle.link_history.specs.State.{Linked, State}
 
 -- ---- of one object, by its image as it was relocated
@@ -69,6 +70,18 @@ pub record AreStartConstructors (s : State) (news : List ℕ) (functions : List 
 pub record AreDestructors (s : State) (set : List ℕ) (functions : List Function) : Type 0 where
   pub order : map object_of functions ≡ finis_of s set
   pub addresses : AreOf s destructors functions
+
+-- at the end of a run those of all mapped objects
+abbrev pub AreFinalDestructors : State → List Function → Type 0
+AreFinalDestructors s functions = AreDestructors s (map serial_of (mapped s)) functions
+
+-- ---- one object after another
+
+-- these objects of a loading aren't initialised yet, in the order in which they will be
+pub record AreLeft (s : State) (loading : Loading) (rest : List ℕ) : Type 0 where
+  pub each : (k o : ℕ) → slice_get rest k ≡ Some o
+      → InitNext (flat_map found_edges (mapped s)) (program_last (Some 1) loading.serials) (s.inits ++ take k rest) o
+  pub all : (d : ℕ) → Contains (program_last (Some 1) loading.serials) d → Contains s.inits d ⊎ Contains rest d
 
 -- ---- what passes at once
 

@@ -1,26 +1,29 @@
 -- What holds of every call.
-use Rattle.std.specs.Prelude.{◌≡◌, ℕ, Bool, true, false, List, [], ◌∷◌, ◌++◌, Option, Some, None, IsTrue}
+use Rattle.std.specs.Prelude.{◌≡◌, ◌≢◌, ℕ, Bool, true, false, List, [], ◌∷◌, ◌++◌, map, Contains, Option, Some, None, IsTrue}
 use Rattle.ld_base.specs.declared.fault.DlFault.{DlFault}
 use Rattle.ld_base.specs.declared.fault.DlFault.TheVariants as faults
 use Rattle.ld_base.specs.declared.fault.Shown.{Shown}
 use Rattle.ld_base.specs.declared.linking.File.{File}
 use Rattle.ld_base.specs.declared.linking.Loaded.{Loaded}
 use Rattle.link_event.specs.declared.event.Event.{Event}
-use Rattle.link_event.specs.declared.event.Event.TheVariants.{Open}
+use Rattle.link_event.specs.declared.event.Event.TheVariants.{Fini, Init, Open}
 use Rattle.link_event.specs.declared.event.OpenAnswer.TheVariants.{Done}
 use Rattle.link_event.specs.declared.event.OpenAsk.{OpenAsk}
 use Rattle.link_event.specs.declared.event.Range.{Range}
 use Rattle.link_event.specs.declared.event.SymAsk.{SymAsk}
 use Rattle.link_event.specs.declared.hart_end.HartEnd.{HartEnd}
 use Rattle.link_event.specs.declared.hart_end.HartEnd.TheVariants as ends
+use Rattle.link_event.specs.declared.state.Closing.{Closing}
+use Rattle.link_event.specs.declared.state.Loading.{Loading}
 use Rattle.link_history.specs.After.{after}
-use Rattle.link_history.specs.Allowed.{kept_for}
+use Rattle.link_history.specs.Allowed.{Allowed, kept_for}
 use Rattle.link_history.specs.Asking.{AreNamespacesFull, IsBadNamespace, asks_too_long}
 use Rattle.link_history.specs.Flags.{are_flags}
 use Rattle.link_history.specs.Legal.{Lawful, Legal}
 use Rattle.link_history.specs.Lookup.{RefusesSymbol}
 use Rattle.link_history.specs.Memory.{role_at, word_at}
-use Rattle.link_history.specs.Objects.{has_namespace}
+use Rattle.link_history.specs.Links.{finis_of}
+use Rattle.link_history.specs.Objects.{has_namespace, serial_of}
 use Rattle.link_history.specs.Opening.{Opens, Refuses}
 use Rattle.link_history.specs.Setting.{Machine, Setting}
 use Rattle.link_history.specs.State.{State}
@@ -28,7 +31,7 @@ use Rattle.link_history.specs.Step.{keep}
 use Rattle.link_service.specs.Answer.{Answer, returns, loading, closing, refused, granted, told, again, over}
 use Rattle.link_service.specs.Call.{Call, resolves, opens, looks_up, closes, unmaps, asks_fault, locates, writes, stops, caller_namespace}
 use Rattle.link_event.specs.declared.handed.Function.{Function}
-use Rattle.link_service.specs.Functions.{AreConstructors, AreDestructors, AreStartConstructors}
+use Rattle.link_service.specs.Functions.{AreConstructors, AreDestructors, AreLeft, AreStartConstructors, left, object_of, passed}
 use Rattle.link_service.specs.Gives.{Gives, Serves}
 
 -- ---- legality
@@ -193,3 +196,44 @@ OneStart = (s : State) (news : List ℕ) (functions others : List Function) → 
 abbrev pub OneFinalisation : Type 0
 OneFinalisation = (s : State) (set : List ℕ) (functions others : List Function) → AreDestructors s set functions
     → AreDestructors s set others → functions ≡ others
+
+-- ---- one object after another
+
+-- with its opening the constructors of new objects are left
+abbrev pub OpeningBegins : Type 0
+OpeningBegins = (m : Machine) (w : Setting) (past : List Event) (h id root : ℕ) (ask : OpenAsk) (first : Loaded) (rest : List Loaded) (ranges : List Range)
+    (functions : List Function) → w.machine ≡ m → Lawful m past → Allowed w past (Open h ask (Done id root (first ∷ rest) ranges))
+    → AreConstructors (after (past ++ Open h ask (Done id root (first ∷ rest) ranges) ∷ [])) (map serial_of (first ∷ rest)) functions
+    → AreLeft (after (past ++ Open h ask (Done id root (first ∷ rest) ranges) ∷ [])) (record { hart = h; serials = map serial_of (first ∷ rest) })
+    (map object_of functions)
+
+-- the first of those that are left may be initialised, and the others are left then
+abbrev pub NextStarts : Type 0
+NextStarts = (m : Machine) (w : Setting) (past : List Event) (loading : Loading) (o : ℕ) (rest : List ℕ) → w.machine ≡ m → Lawful m past
+    → Contains (after past).loadings loading → AreLeft (after past) loading (o ∷ rest)
+    → Allowed w past (Init loading.hart o) × AreLeft (after (past ++ Init loading.hart o ∷ [])) loading rest
+
+-- no event changes which are left, but the initialisation of one of the loading's own objects
+abbrev pub StartsStay : Type 0
+StartsStay = (m : Machine) (w : Setting) (past : List Event) (e : Event) (loading : Loading) (rest : List ℕ) → w.machine ≡ m → Lawful m past
+    → Allowed w past e → Contains (after past).loadings loading → ((h d : ℕ) → e ≡ Init h d → ¬ (Contains loading.serials d))
+    → AreLeft (after past) loading rest → AreLeft (after (past ++ e ∷ [])) loading rest
+
+-- the first of a closing's objects that are left may be finalised, and the others are left then
+abbrev pub NextFinishes : Type 0
+NextFinishes = (m : Machine) (w : Setting) (past : List Event) (closing : Closing) (o : ℕ) (rest : List ℕ) → Lawful m past
+    → Contains (after past).closings closing → finis_of (after past) closing.set ≡ o ∷ rest
+    → Allowed w past (Fini closing.hart o) × (finis_of (after (past ++ Fini closing.hart o ∷ [])) closing.set ≡ rest)
+
+-- no event changes which are left, but that one of its own objects is finalised
+abbrev pub FinishesStay : Type 0
+FinishesStay = (m : Machine) (w : Setting) (past : List Event) (e : Event) (closing : Closing) → w.machine ≡ m → Lawful m past → Allowed w past e
+    → Contains (after past).closings closing → ((h d : ℕ) → e ≡ Fini h d → ¬ (Contains closing.set d))
+    → finis_of (after (past ++ e ∷ [])) closing.set ≡ finis_of (after past) closing.set
+
+-- those that pass stand first, and the others behind them, the first of which has a function
+abbrev pub PassedComeFirst : Type 0
+PassedComeFirst = (functions : List Function) → map object_of functions ≡ passed functions ++ map object_of (left functions)
+
+abbrev pub RunsAFunction : Type 0
+RunsAFunction = (functions rest : List Function) (f : Function) → left functions ≡ f ∷ rest → f.addresses ≢ []

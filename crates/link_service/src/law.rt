@@ -2,7 +2,8 @@
 
 ghost use Rattle.link_service.specs.Complete.{Complete};
 ghost use Rattle.link_service.specs.Laws.{AgainAppendsNothing, AskFirst, CallersAreThere, EndsKeep, GivesLawful, GivesLegal, OneAnswer, OneOpening};
-ghost use Rattle.link_service.specs.Laws.{OneFinalisation, OneInitialisation, OneStart, PassedOpens};
+ghost use Rattle.link_service.specs.Laws.{FinishesStay, NextFinishes, NextStarts, OneFinalisation, OneInitialisation, OneStart, OpeningBegins};
+ghost use Rattle.link_service.specs.Laws.{PassedComeFirst, PassedOpens, RunsAFunction, StartsStay};
 ghost use Rattle.link_service.specs.Laws.{RefusalIsKept, RefusalIsTold, RefusedKeeps, RefusedLeavesMemory, ServesLegal, StagesInOrder, SymbolsInOrder};
 
 /// A history that is legal before a call is legal with what the call gives, and with the end of the
@@ -75,4 +76,32 @@ pub fn one_list_of_functions()
     ensures opening { OneInitialisation }
     ensures startup { OneStart }
     ensures closing { OneFinalisation }
+{}
+
+/// The objects of a closing that are left to be finalised are so one after another: the next may be, and
+/// no other event changes which are left.
+pub fn destructors_follow()
+    ensures next { NextFinishes }
+    ensures stay { FinishesStay }
+{
+    scope_rule::serials_follow();
+    scope_rule::found_stands();
+}
+
+/// The new objects of an opening that are left to be initialised are so one after another: those of its
+/// constructors at first, the next may be, and no event but one of the opening's own objects changes which
+/// are left.
+pub fn constructors_follow()
+    ensures begins { OpeningBegins }
+    ensures next { NextStarts }
+    ensures stay { StartsStay }
+{
+    scope_rule::serials_follow();
+    scope_rule::found_stands();
+}
+
+/// Objects without functions pass until one has some.
+pub fn functions_run_in_order()
+    ensures passed { PassedComeFirst }
+    ensures runs { RunsAFunction }
 {}

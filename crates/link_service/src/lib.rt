@@ -18,7 +18,8 @@ mod law;
 mod worked_calls;
 
 pub use law::{
-    callers_are_there, calls_are_answered, calls_are_legal, one_answer, one_list_of_functions,
+    callers_are_there, calls_are_answered, calls_are_legal, constructors_follow,
+    destructors_follow, functions_run_in_order, one_answer, one_list_of_functions,
     refusals_are_told, refusals_come_in_order, refused_calls_leave,
 };
 pub use worked_calls::{
