@@ -17,7 +17,7 @@ use Rattle.scope_rule.specs.Scope.{opened_with}
 use Rattle.scope_rule.specs.Seen.{Seen}
 use Rattle.scope_rule.specs.declared.namespace.OpenRec.{OpenRec}
 use Rattle.search_lists.specs.Scoping.{opened_of}
-use Rattle.search_lists.specs.Lists.{list_of, lists_of, scope_in, scope_on}
+use Rattle.search_lists.specs.Lists.{at_place, list_of, lists_of, scope_in, scope_on}
 use Rattle.search_lists.specs.Places.{place_in, serials_of}
 use Rattle.search_lists.specs.declared.lists.SearchList.{SearchList}
 
@@ -88,6 +88,11 @@ object_found s q k o at is = is ∙ found_by (λ (x : Loaded). x.serial == q) s.
 
 pub none_found : (s : Seen) (q : ℕ) → place_in (serials_of s) q ≡ None → None ≡ object_of s q
 none_found s q at = none_by (λ (x : Loaded). x.serial == q) s.objects (sym (place_mapped (λ (x : Loaded). x.serial) s.objects q) ∙ at)
+
+-- a place that is the first of a serial has its object
+pub placed : (s : Seen) (q : ℕ) (place : Option ℕ) → place ≡ place_in (serials_of s) q → at_place s place ≡ object_of s q
+placed s q None at = none_found s q (sym at)
+placed s q (Some k) at = object_found s q k (slice_get s.objects k) (sym at) refl
 
 abbrev pub owners : List SearchList → List ℕ
 owners lists = map (λ (l : SearchList). l.owner) lists

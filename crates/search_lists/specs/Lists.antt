@@ -1,5 +1,6 @@
 -- Search lists: where the references of each object are searched.
 use Rattle.std.specs.Prelude.{ℕ, ◌==◌, List, [], map, find, Option, Some, None}
+use Rattle.std.specs.List.{slice_get}
 use Rattle.ld_base.specs.declared.linking.Loaded.{Loaded}
 use Rattle.scope_rule.specs.Scope.{scope}
 use Rattle.scope_rule.specs.Seen.{Seen}
@@ -20,3 +21,8 @@ scope_on None = []
 
 abbrev pub scope_in : List SearchList → ℕ → List ℕ
 scope_in lists owner = scope_on (find (λ l. l.owner == owner) lists)
+
+-- the object at a place in load order, if any
+abbrev pub at_place : Seen → Option ℕ → Option Loaded
+at_place s (Some place) = slice_get s.objects place
+at_place s None = None

@@ -11,3 +11,4 @@ mod places;
 mod scoping;
 
 pub use lists::{SearchList, SearchLists};
+pub use places::object_at;

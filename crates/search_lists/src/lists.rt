@@ -93,8 +93,8 @@ impl SearchLists {
     ghost use Rattle.std.specs.Prelude.{◌≡◌, IfOk};
     ghost use Rattle.std.specs.Option.{option_copied};
     ghost use Rattle.scope_rule.specs.Loading.{object_of};
-    ghost use Rattle.scope_rule.specs.Seen.{seen, seen_in};
-    ghost use Rattle.search_lists.specs.Lists.{lists_of, scope_in};
+    ghost use Rattle.scope_rule.specs.Seen.{Seen, seen, seen_in};
+    ghost use Rattle.search_lists.specs.Lists.{at_place, lists_of, scope_in};
 
     /// The lists of a namespace as it stands.
     ///
@@ -129,6 +129,13 @@ impl SearchLists {
             Some(place) => self.lists.as_slice()[place].scope.as_slice(),
             None => &[],
         }
+    }
+
+    /// The place in load order of the object with a serial, of any namespace whose lists these are.
+    pub fn place(&self, serial: Serial) -> Option<usize>
+        ensures { (s : Seen) → self.now ≡ lists_of s → at_place s result ≡ object_of s serial }
+    {
+        self.places.get(serial)
     }
 
     /// The object with a serial, of what is seen of the namespace whose lists these are.

@@ -18,7 +18,7 @@ pub(crate) struct Places {
 }
 
 /// The object at a place in load order.
-fn object_at<'a>(view: &View<'a>, place: usize) -> Option<&'a Loaded>
+pub fn object_at<'a>(view: &View<'a>, place: usize) -> Option<&'a Loaded>
     ensures { option_copied result ≡ slice_get (seen view.now).objects place }
 {
     if place < view.objects.len() {

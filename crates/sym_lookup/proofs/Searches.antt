@@ -1,7 +1,14 @@
 -- Searches through lists that are made once.
-use Rattle.std.proofs.Common.{◌≡◌, ◌∙◌, ap, sym, ℕ, Bool, true, false, cond, List, [], ◌∷◌, refl}
+use Rattle.std.proofs.Common.{◌≡◌, ◌≢◌, ◌<◌, ◌∙◌, ap, sym, subst, ℕ, Bool, true, false, cond, inl, inr, List, [], ◌∷◌, length, get_or, refl, arith, eq-eqb, get_or-set_other}
+use Rattle.std.specs.List.{AllByRecursion, slice_get}
+use Rattle.std.proofs.Math.ListN.{set}
+use Rattle.std.proofs.lemmas.Bool.{cases_Bool, cases_lt, eqb-true}
+use Rattle.std.proofs.lemmas.Grind.{get_or-set_at}
+use Rattle.std.proofs.lemmas.List.{get_or_past}
+use Rattle.std.proofs.lemmas.Option.{slice_get-get_or}
 use Rattle.std.specs.Prelude.{◌==◌, ◌&&◌, not, filter, find, map, Option, Some, None}
 use Rattle.ld_base.specs.declared.linking.Loaded.{Loaded}
+use Rattle.ld_base.specs.declared.linking.Choice.{Choice}
 use Rattle.ld_base.specs.declared.linking.Choice.TheVariants.{Def}
 use Rattle.ld_base.specs.declared.linking.Want.{Want}
 use Rattle.ld_base.specs.declared.object.Symbol.{Symbol}
@@ -11,8 +18,10 @@ use Rattle.scope_rule.specs.Choose.{choice_of, choose_for, first_with, is_own, p
 use Rattle.scope_rule.specs.Loading.{object_of, with_serial}
 use Rattle.scope_rule.specs.Scope.{scope}
 use Rattle.scope_rule.specs.Seen.{Seen}
-use Rattle.sym_lookup.specs.Lists.{HaveTables, list_of, lists_of, outside, scope_in, scope_on}
-use Rattle.sym_lookup.specs.declared.lists.SearchList.{SearchList}
+use Rattle.search_lists.specs.Lists.{list_of, lists_of, scope_in, scope_on}
+use Rattle.sym_lookup.specs.Looking.{HaveTables, choice_of_symbol, outside}
+use Rattle.sym_lookup.specs.References.{AreKept}
+use Rattle.search_lists.specs.declared.lists.SearchList.{SearchList}
 
 module _ (pick : ℕ → Option ℕ) (serial : ℕ) (rest : List ℕ) where
   first_none : pick serial ≡ None → first_with pick (serial ∷ rest) ≡ first_with pick rest
@@ -86,3 +95,50 @@ found_there s name w serial o found tables other there picks = rw (other, there)
 -- the list of an object that is there, of those that are made
 pub listed : (s : Seen) (lists : List SearchList) (owner : ℕ) (o : Loaded) (list : List ℕ) → lists ≡ lists_of s → list ≡ scope_in lists owner → object_of s owner ≡ Some o → list ≡ scope s o
 listed s lists owner o list are is there = is ∙ ap (λ (all : List SearchList). scope_in all owner) are ∙ list_found s s.objects owner o there
+
+-- ---- tables
+
+-- what is found has what all have
+by_serial : (x : Loaded) (rest : List Loaded) (serial : ℕ) (o : Loaded) (own : Bool) → IsTableOf x.table x.object → (with_serial rest serial ≡ Some o → IsTableOf o.table o.object) → cond own (Some x) (with_serial rest serial) ≡ Some o → IsTableOf o.table o.object
+by_serial x rest serial o true has later here = (let same : x ≡ o = cc here in let P : Loaded → Type 0 = λ y. IsTableOf y.table y.object in subst P same has)
+by_serial x rest serial o false has later there = later there
+
+found_has : (objects : List Loaded) (serial : ℕ) (o : Loaded) → AllByRecursion (λ (x : Loaded). IsTableOf x.table x.object) objects → with_serial objects serial ≡ Some o → IsTableOf o.table o.object
+found_has [] serial o all found = absurd (cc found)
+found_has (x ∷ rest) serial o all found = by_serial x rest serial o (x.serial == serial) all.0 (found_has rest serial o all.1) found
+
+pub tables_there : (s : Seen) → AllByRecursion (λ (x : Loaded). IsTableOf x.table x.object) s.objects → HaveTables s
+tables_there s all serial o there = found_has s.objects serial o all there
+
+-- ---- what is kept
+
+-- the choice for a symbol that is there
+pub symbol_choice : (s : Seen) (o : Loaded) (index : ℕ) (symbol : Symbol) (copy : Bool) (c : Choice) → index < length o.object.symbols → symbol ≡ get_or o.object.symbols index symbol → c ≡ choose_for s o index symbol copy → c ≡ choice_of_symbol s o index copy
+symbol_choice s o index symbol copy c within is chosen =
+    let here : slice_get o.object.symbols index ≡ Some symbol = slice_get-get_or o.object.symbols index symbol within ∙ ap (λ (x : Symbol). Some x) (sym is) in
+    rw (here, choice_of_symbol) chosen
+
+-- nothing is kept at first
+pub none_kept : (s : Seen) (o : Loaded) (kept : List (Option Choice)) (n : ℕ) → length kept ≡ n → ((k : ℕ) → k < n → get_or kept k None ≡ None) → AreKept s o kept
+none_kept s o kept n long none k choice is =
+    elim (cases_lt k n) [
+      | inl lt ↦ absurd (let no : None ≡ Some choice = sym (none k lt) ∙ is in cc no)
+      | inr past ↦ absurd (let no : None ≡ Some choice = sym (get_or_past kept k None (omega arith)) ∙ is in cc no)
+    ]
+
+-- one choice more
+pub one_kept : (s : Seen) (o : Loaded) (kept : List (Option Choice)) (index : ℕ) (choice : Choice) → index < length kept → AreKept s o kept → choice ≡ choice_of_symbol s o index false → AreKept s o (set kept index (Some choice))
+one_kept s o kept index choice within are right k c is =
+    elim (cases_Bool (k == index)) [
+      | inl same ↦
+          let e : k ≡ index = eqb-true k index same in
+          let there : Some choice ≡ Some c = sym (get_or-set_at kept index k (Some choice) None e within) ∙ is in
+          let value : choice ≡ c = cc there in
+          sym value ∙ right ∙ ap (λ (n : ℕ). choice_of_symbol s o n false) (sym e)
+      | inr other ↦
+          let ne : k ≢ index = ne_from k index other in
+          are k c (sym (get_or-set_other kept index k (Some choice) None ne) ∙ is)
+    ]
+  where
+    ne_from : (a b : ℕ) → (a == b) ≡ false → a ≢ b
+    ne_from a b e same = absurd (let no : true ≡ false = sym (eq-eqb a b same) ∙ e in cc no)

@@ -1,12 +1,18 @@
 //! Which definition a reference is bound to, in a hurry.
 //!
-//! [`lookup`] gives what `scope_rule::choose_in` gives. Where the references of each object are searched
-//! is known from [`SearchLists`], which are made once an opening or closing, and each object is searched
-//! by its hash table (`sym_find`). The hashes of a reference's name are computed once.
+//! [`lookup`] gives what `scope_rule::choose` gives, and [`References`] what `scope_rule::choose_reloc`
+//! gives, for all relocations of one object: each symbol is looked up once. Where the references of each
+//! object are searched is known from search lists (`search_lists`), and each object is searched by its
+//! hash table (`sym_find`). The hashes of a reference's name are computed once. None of them takes
+//! memory, but for making [`References`].
 #![tactic(auto)]
 
-mod lists;
+mod law;
 mod looking;
+mod references;
+mod searched;
 
-pub use lists::{SearchList, SearchLists};
-pub use looking::lookup;
+pub use law::tables_are_there;
+pub use looking::{lookup, lookup_in};
+pub use references::References;
+pub use search_lists::{SearchList, SearchLists};

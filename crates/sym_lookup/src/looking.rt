@@ -4,14 +4,16 @@ ghost use Rattle.std.specs.Prelude.{◌≡◌, ◌<◌, ◌&&◌, not, Some, len
 ghost use Rattle.scope_rule.specs.Choose.{choice_of, choose_for, choose_of, first_with, is_own, pick_at, want_of};
 ghost use Rattle.scope_rule.specs.Loading.{object_of};
 ghost use Rattle.scope_rule.specs.Scope.{scope};
-ghost use Rattle.scope_rule.specs.Seen.{seen};
+ghost use Rattle.scope_rule.specs.Seen.{seen, seen_in};
+ghost use Rattle.search_lists.specs.Lists.{lists_of};
 ghost use Rattle.sym_find.specs.Reference.{want_as};
-ghost use Rattle.sym_lookup.specs.Lists.{HaveTables, lists_of, outside};
+ghost use Rattle.sym_lookup.specs.Looking.{HaveTables, outside};
 
-use crate::lists::SearchLists;
+use crate::searched::{Searched, found_outside};
 use ld_base::{Choice, Loaded, Object, Serial, Symbol};
-use scope_rule::{View, linker_symbol};
-use sym_find::{Asked, Find, Sought};
+use scope_rule::{Namespace, View};
+use search_lists::SearchLists;
+use sym_find::{Asked, Sought};
 
 /// What a relocation against a symbol asks for: the version of the symbol's index, if the index names
 /// one (Drepper, "ELF Symbol Versioning").
@@ -27,15 +29,23 @@ fn asked_of<'a>(object: &'a Object, symbol: &Symbol) -> Asked<'a>
     }
 }
 
+/// What a symbol of an object refers to.
+pub(crate) fn sought_of<'a>(object: &'a Object, symbol: &'a Symbol) -> Sought<'a>
+    ensures name { result.name ≡ symbol.now.name }
+    ensures want { result.want ≡ want_of object.now symbol.now }
+{
+    Sought::new(symbol.name.as_bytes(), asked_of(object, symbol))
+}
+
 /// Whether no other object may define the symbol, and the relocation isn't a COPY.
-fn stays_own(symbol: &Symbol, copy: bool) -> bool
+pub(crate) fn stays_own(symbol: &Symbol, copy: bool) -> bool
     ensures { result ≡ (not copy && is_own symbol.now) }
 {
     !copy && (symbol.is_local() || (symbol.is_defined() && symbol.other % 4 != 0))
 }
 
 /// What a search gives for a symbol.
-fn choice_of(symbol: &Symbol, found: Option<(Serial, u32)>) -> Choice
+pub(crate) fn choice_of(symbol: &Symbol, found: Option<(Serial, u32)>) -> Choice
     ensures { result ≡ choice_of symbol.now found }
 {
     match found {
@@ -45,52 +55,25 @@ fn choice_of(symbol: &Symbol, found: Option<(Serial, u32)>) -> Choice
     }
 }
 
-/// What an object of the namespace, or the linker's own, has for a reference.
-#[tactic(auto, unfolding(scope_rule::specs::Choose::pick_at))]
-fn found_at(view: &View, sought: &Sought, serial: Serial) -> Option<u32>
-    requires { HaveTables (seen view.now) }
-    ensures { result ≡ pick_at (seen view.now) sought.now.name sought.now.want serial }
-{
-    if serial == Serial::LINKER {
-        return linker_symbol(sought.name());
-    }
-    match view.object(serial) {
-        Some(loaded) => loaded.table.find_sought(&loaded.object, sought),
-        None => None,
-    }
-}
-
-/// The same, where nothing is looked for in the object itself if the relocation is a COPY.
-fn found_outside(
-    view: &View,
-    sought: &Sought,
-    serial: Serial,
-    owner: Serial,
-    copy: bool,
-) -> Option<u32>
-    requires { HaveTables (seen view.now) }
-    ensures { result ≡ outside copy owner (pick_at (seen view.now) sought.now.name sought.now.want) serial }
-{
-    if copy && serial == owner {
-        None
-    } else {
-        found_at(view, sought, serial)
-    }
-}
-
 /// The first object of the list that has a definition, with its symbol.
 fn first_found(
     view: &View,
+    lists: &SearchLists,
     sought: &Sought,
-    scope: &[Serial],
+    list: &[Serial],
     owner: Serial,
     copy: bool,
 ) -> Option<(Serial, u32)>
-    requires { HaveTables (seen view.now) }
-    ensures { result ≡ first_with (outside copy owner (pick_at (seen view.now) sought.now.name sought.now.want)) scope.now }
+    requires lists { lists.now ≡ lists_of (seen view.now) }
+    requires tables { HaveTables (seen view.now) }
+    ensures { result ≡ first_with (outside copy owner (pick_at (seen view.now) sought.now.name sought.now.want)) list.now }
 {
-    for serial in scope {
-        if let Some(index) = found_outside(view, sought, *serial, owner, copy) {
+    for serial in list {
+        let searched = Searched {
+            serial: *serial,
+            place: lists.place(*serial),
+        };
+        if let Some(index) = found_outside(view, sought, searched, owner, copy) {
             return Some((*serial, index));
         }
     }
@@ -100,12 +83,14 @@ fn first_found(
 /// The choice for a symbol of an object whose references are searched there.
 fn lookup_for(
     view: &View,
+    lists: &SearchLists,
     list: &[Serial],
     owner: &Loaded,
     index: u32,
     symbol: &Symbol,
     copy: bool,
 ) -> Choice
+    requires lists { lists.now ≡ lists_of (seen view.now) }
     requires tables { HaveTables (seen view.now) }
     requires scope { list.now ≡ scope (seen view.now) owner.now }
     ensures { result ≡ choose_for (seen view.now) owner.now index symbol.now copy }
@@ -113,33 +98,49 @@ fn lookup_for(
     if stays_own(symbol, copy) {
         Choice::Def(owner.serial, index)
     } else {
-        let sought = Sought::new(symbol.name.as_bytes(), asked_of(&owner.object, symbol));
-        let found = first_found(view, &sought, list, owner.serial, copy);
+        let sought = sought_of(&owner.object, symbol);
+        let found = first_found(view, lists, &sought, list, owner.serial, copy);
         choice_of(symbol, found)
     }
 }
 
 /// Where the references of an object that is there are searched.
-fn searched<'a>(view: &View, lists: &'a SearchLists, owner: Serial, loaded: &Loaded) -> &'a [Serial]
+pub(crate) fn searched<'a>(
+    view: &View,
+    lists: &'a SearchLists,
+    owner: Serial,
+    loaded: &Loaded,
+) -> &'a [Serial]
     requires lists { lists.now ≡ lists_of (seen view.now) }
     requires there { object_of (seen view.now) owner ≡ Some loaded.now }
     ensures { result.now ≡ scope (seen view.now) loaded.now }
 {
-    lists.of(owner)
+    lists.scope(owner)
 }
 
 /// The definition that a relocation of `owner` against its symbol of this index is bound to, as
-/// `scope_rule::choose_in` gives it. The lists are those of the view, and the table of each of its
+/// `scope_rule::choose` gives it. The lists are those of the namespace, and the table of each of its
 /// objects is that object's. It takes no memory.
-pub fn lookup(view: &View, lists: &SearchLists, owner: Serial, symbol: u32, copy: bool) -> Choice
+pub fn lookup(ns: &Namespace, lists: &SearchLists, owner: Serial, symbol: u32, copy: bool) -> Choice
+    requires lists { lists.now ≡ lists_of (seen_in ns.now) }
+    requires tables { HaveTables (seen_in ns.now) }
+    requires owner_is_there { IsSome (object_of (seen_in ns.now) owner) }
+    requires symbol_is_there { IfSome (object_of (seen_in ns.now) owner) (λ o. symbol < length o.object.symbols) }
+    ensures { result ≡ choose_of (seen_in ns.now) owner symbol copy }
+{
+    lookup_in(&ns.view(), lists, owner, symbol, copy)
+}
+
+/// The same as [`lookup`], of what is seen of a namespace.
+pub fn lookup_in(view: &View, lists: &SearchLists, owner: Serial, symbol: u32, copy: bool) -> Choice
     requires lists { lists.now ≡ lists_of (seen view.now) }
     requires tables { HaveTables (seen view.now) }
     requires owner_is_there { IsSome (object_of (seen view.now) owner) }
     requires symbol_is_there { IfSome (object_of (seen view.now) owner) (λ o. symbol < length o.object.symbols) }
     ensures { result ≡ choose_of (seen view.now) owner symbol copy }
 {
-    let loaded = view.object(owner).unwrap();
+    let loaded = lists.object(view, owner).unwrap();
     let entry = &loaded.object.symbols.as_slice()[symbol as usize];
     let list = searched(view, lists, owner, loaded);
-    lookup_for(view, list, loaded, symbol, entry, copy)
+    lookup_for(view, lists, list, loaded, symbol, entry, copy)
 }

@@ -9,5 +9,5 @@ returns-then-stays_own c = own_choice (seen c.args.view.now) c.args.owner.now c.
 pub returns-else-stays_own : goal.returns-else-stays_own
 returns-else-stays_own c =
     c.choice_of.ensures
-    ∙ searched_choice (seen c.args.view.now) c.args.owner.now c.args.index c.args.symbol.now c.args.copy c.new-sought.result.name c.new-sought.result.want c.args.list.now c.first_found-found.result
-    (sym c.stays_own.ensures ∙ c.if-stays_own.false) (c.new-sought.ensures.name ∙ c.as_bytes.ensures) (c.new-sought.ensures.want ∙ c.asked_of.ensures) c.requires.scope c.first_found-found.ensures
+    ∙ searched_choice (seen c.args.view.now) c.args.owner.now c.args.index c.args.symbol.now c.args.copy c.sought_of-sought.result.name c.sought_of-sought.result.want c.args.list.now c.first_found-found.result
+    (sym c.stays_own.ensures ∙ c.if-stays_own.false) c.sought_of-sought.ensures.name c.sought_of-sought.ensures.want c.requires.scope c.first_found-found.ensures

@@ -1,0 +1,14 @@
+use Rattle.std.proofs.Common.{◌∙◌, map, sym}
+use Rattle.scope_rule.specs.Seen.{seen}
+use Rattle.sym_lookup.specs.declared.searched.Searched.{Searched}
+use Rattle.sym_lookup.proofs.Searches.{own_choice, searched_choice}
+use Rattle.sym_lookup.proofs.references.search_for.Goals as goal
+
+pub returns-then-stays_own : goal.returns-then-stays_own
+returns-then-stays_own c = own_choice (seen c.args.view.now) c.args.owner.now c.args.index c.args.symbol.now c.args.copy (sym c.stays_own.ensures ∙ c.if-stays_own.true)
+
+pub returns-else-stays_own : goal.returns-else-stays_own
+returns-else-stays_own c =
+    c.choice_of.ensures
+    ∙ searched_choice (seen c.args.view.now) c.args.owner.now c.args.index c.args.symbol.now c.args.copy c.sought_of-sought.result.name c.sought_of-sought.result.want (map (λ (x : Searched). x.serial) c.args.searched.now) c.first_searched-found.result
+    (sym c.stays_own.ensures ∙ c.if-stays_own.false) c.sought_of-sought.ensures.name c.sought_of-sought.ensures.want c.requires.serials c.first_searched-found.ensures

@@ -1,0 +1,15 @@
+-- The references of one object.
+use Rattle.std.specs.Prelude.{◌≡◌, ℕ, false, List, Option, Some, None, slice_index_or}
+use Rattle.ld_base.specs.declared.linking.Choice.{Choice}
+use Rattle.ld_base.specs.declared.linking.Loaded.{Loaded}
+use Rattle.scope_rule.specs.Seen.{Seen}
+use Rattle.sym_lookup.specs.Looking.{choice_of_symbol}
+
+-- an object, and what is seen of its namespace
+pub record Referring : Type 0 where
+  pub seen : Seen
+  pub owner : Loaded
+
+-- what is kept for a symbol is its choice
+abbrev pub AreKept : Seen → Loaded → List (Option Choice) → Type 0
+AreKept s o kept = (index : ℕ) (choice : Choice) → slice_index_or kept index None ≡ Some choice → choice ≡ choice_of_symbol s o index false

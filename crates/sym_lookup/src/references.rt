@@ -1,0 +1,240 @@
+//! The references of one object, each symbol looked up once.
+
+ghost use Rattle.std.specs.Prelude.{◌≡◌, ◌<◌, ℕ, Bool, false, length, map, None, Some, slice_index_or, IfOk, OnOk};
+ghost use Rattle.std.specs.List.{AllByRecursion};
+ghost use Rattle.ld_base.specs.declared.linking.Loaded.{Loaded as loaded};
+ghost use Rattle.scope_rule.specs.Choose.{choose_for};
+ghost use Rattle.scope_rule.specs.Scope.{scope};
+ghost use Rattle.scope_rule.specs.Seen.{Seen, seen};
+ghost use Rattle.search_lists.specs.Lists.{lists_of};
+ghost use Rattle.sym_lookup.specs.Looking.{HaveTables, IsSearched, choice_of_symbol};
+ghost use Rattle.sym_lookup.specs.References.{AreKept};
+
+use crate::looking::{choice_of, searched, sought_of, stays_own};
+use crate::searched::{Searched, first_searched};
+use ld_base::{Choice, Loaded, Reloc, Serial, Symbol};
+use scope_rule::View;
+use search_lists::SearchLists;
+use std::alloc::{AllocError, Global};
+use std::marker::Model;
+
+const R_RISCV_NONE: u32 = 0;
+
+const R_RISCV_RELATIVE: u32 = 3;
+
+const R_RISCV_COPY: u32 = 4;
+
+/// The references of one object to the definitions of its namespace. What is found for a symbol is
+/// kept, so that further relocations against it make no search. Contracts see the object, and what is
+/// seen of its namespace.
+#[derive(Drop)]
+pub struct References<'a> {
+    view: View<'a>,
+    owner: &'a Loaded,
+    searched: Vec<Searched>,
+    /// By the index of a symbol, what it was found to be bound to.
+    kept: Vec<Option<Choice>>,
+}
+
+impl<'a> Model for References<'a> {
+    ghost use Rattle.std.specs.Prelude.{◌≡◌, length, map};
+    ghost use Rattle.std.specs.List.{AllByRecursion};
+    ghost use Rattle.scope_rule.specs.Scope.{scope};
+    ghost use Rattle.scope_rule.specs.Seen.{seen};
+    ghost use Rattle.sym_lookup.specs.Looking.{HaveTables, IsSearched};
+    ghost use Rattle.sym_lookup.specs.References.{AreKept, Referring};
+
+    ghost Value = { Referring };
+
+    ghost view = { λ r. record { seen = seen r.view; owner = r.owner.now } };
+
+    ghost invariant = { λ r.
+        HaveTables (seen r.view)
+        × (map (λ x. x.serial) r.searched.items ≡ scope (seen r.view) r.owner.now)
+        × AllByRecursion (IsSearched (seen r.view)) r.searched.items
+        × (length r.kept.items ≡ length r.owner.now.object.symbols)
+        × AreKept (seen r.view) r.owner.now r.kept.items };
+}
+
+/// The objects that are searched, each found once.
+fn found_once(
+    alloc: Global,
+    lists: &SearchLists,
+    serials: &[Serial],
+) -> Result<Vec<Searched>, AllocError>
+    ensures serials { IfOk result (λ found. map (λ x. x.serial) found.items ≡ serials.now) }
+    ensures places { IfOk result (λ found. (s : Seen) → lists.now ≡ lists_of s → AllByRecursion (IsSearched s) found.items) }
+{
+    let mut found = Vec::new(alloc);
+    for serial in serials {
+        found.push(Searched {
+            serial: *serial,
+            place: lists.place(*serial),
+        })?;
+    }
+    Ok(found)
+}
+
+/// Nothing kept, for so many symbols.
+fn nothing_kept(alloc: Global, symbols: u32) -> Result<Vec<Option<Choice>>, AllocError>
+    ensures length { IfOk result (λ kept. length kept.items ≡ symbols) }
+    ensures none { IfOk result (λ kept. (k : ℕ) → k < symbols → slice_index_or kept.items k None ≡ None) }
+{
+    vec![in alloc; None; symbols as usize]
+}
+
+/// The choice for a symbol of an object whose references are searched there.
+fn search_for(
+    view: &View,
+    searched: &[Searched],
+    owner: &Loaded,
+    index: u32,
+    symbol: &Symbol,
+    copy: bool,
+) -> Choice
+    requires tables { HaveTables (seen view.now) }
+    requires serials { map (λ x. x.serial) searched.now ≡ scope (seen view.now) owner.now }
+    requires places { AllByRecursion (IsSearched (seen view.now)) searched.now }
+    ensures { result ≡ choose_for (seen view.now) owner.now index symbol.now copy }
+{
+    if stays_own(symbol, copy) {
+        Choice::Def(owner.serial, index)
+    } else {
+        let sought = sought_of(&owner.object, symbol);
+        let found = first_searched(view, &sought, searched, owner.serial, copy);
+        choice_of(symbol, found)
+    }
+}
+
+/// The same, of the symbol at an index.
+fn search(view: &View, searched: &[Searched], owner: &Loaded, index: u32, copy: bool) -> Choice
+    requires tables { HaveTables (seen view.now) }
+    requires serials { map (λ x. x.serial) searched.now ≡ scope (seen view.now) owner.now }
+    requires places { AllByRecursion (IsSearched (seen view.now)) searched.now }
+    requires symbol { index < length owner.now.object.symbols }
+    ensures { result ≡ choice_of_symbol (seen view.now) owner.now index copy }
+{
+    let symbol = &owner.object.symbols.as_slice()[index as usize];
+    search_for(view, searched, owner, index, symbol, copy)
+}
+
+/// What is kept for a symbol, if anything.
+fn kept_at(kept: &[Option<Choice>], index: u32) -> Option<Choice>
+    requires { index < length kept.now }
+    ensures { result ≡ slice_index_or kept.now index None }
+{
+    kept[index as usize]
+}
+
+/// Keeps the choice for a symbol.
+fn keep(kept: &mut [Option<Choice>], index: u32, choice: &Choice)
+    requires { index < length kept.old }
+    ensures { (s : Seen) (o : loaded) → AreKept s o kept.old → choice.now ≡ choice_of_symbol s o index false → AreKept s o kept.new }
+{
+    kept[index as usize] = Some(*choice);
+}
+
+/// The choice for a symbol, kept or searched for now.
+fn kept_or_searched(
+    view: &View,
+    searched: &[Searched],
+    owner: &Loaded,
+    kept: &mut [Option<Choice>],
+    index: u32,
+) -> Choice
+    requires tables { HaveTables (seen view.now) }
+    requires serials { map (λ x. x.serial) searched.now ≡ scope (seen view.now) owner.now }
+    requires places { AllByRecursion (IsSearched (seen view.now)) searched.now }
+    requires symbol { index < length owner.now.object.symbols }
+    requires length { length kept.old ≡ length owner.now.object.symbols }
+    requires kept { AreKept (seen view.now) owner.now kept.old }
+    ensures choice { result ≡ choice_of_symbol (seen view.now) owner.now index false }
+    ensures kept { AreKept (seen view.now) owner.now kept.new }
+{
+    match kept_at(kept, index) {
+        Some(choice) => choice,
+        None => {
+            let choice = search(view, searched, owner, index, false);
+            keep(kept, index, &choice);
+            choice
+        }
+    }
+}
+
+impl<'a> References<'a> {
+    ghost use Rattle.std.specs.Prelude.{◌≡◌, ◌<◌, Some, false, length, IfOk};
+    ghost use Rattle.scope_rule.specs.Loading.{object_of};
+    ghost use Rattle.scope_rule.specs.Relocation.{choice_at};
+    ghost use Rattle.scope_rule.specs.Seen.{seen};
+    ghost use Rattle.search_lists.specs.Lists.{lists_of};
+    ghost use Rattle.sym_lookup.specs.Looking.{HaveTables, choice_of_symbol};
+
+    /// Those of an object of what is seen of a namespace. The lists are those of the namespace, and
+    /// the table of each of its objects is that object's.
+    ///
+    /// # Errors
+    ///
+    /// Want of memory.
+    pub fn new(
+        alloc: Global,
+        view: &View<'a>,
+        lists: &SearchLists,
+        owner: &'a Loaded,
+    ) -> Result<Self, AllocError>
+        requires lists { lists.now ≡ lists_of (seen view.now) }
+        requires tables { HaveTables (seen view.now) }
+        requires owner_is_there { object_of (seen view.now) owner.now.serial ≡ Some owner.now }
+        ensures { IfOk result (λ references. references ≡ record { seen = seen view.now; owner = owner.now }) }
+    {
+        let list = searched(view, lists, owner.serial, owner);
+        let searched = found_once(alloc, lists, list)?;
+        let kept = nothing_kept(alloc, owner.object.symbols.len())?;
+        Ok(References {
+            view: *view,
+            owner,
+            searched,
+            kept,
+        })
+    }
+
+    /// The choice for a symbol, kept or looked up now.
+    fn of_symbol(&mut self, index: u32) -> Choice
+        requires { index < length self.old.owner.object.symbols }
+        ensures choice { result ≡ choice_of_symbol self.old.seen self.old.owner index false }
+        ensures same { self.new ≡ self.old }
+    {
+        kept_or_searched(
+            &self.view,
+            self.searched.as_slice(),
+            self.owner,
+            self.kept.as_mut_slice(),
+            index,
+        )
+    }
+
+    /// The choice of a relocation of the object when it is loaded, as `scope_rule::choose_reloc` gives
+    /// it (psABI, "Relocations"). It takes no memory.
+    #[tactic(auto, unfolding(scope_rule::specs::Relocation::choice_at))]
+    pub fn choice(&mut self, reloc: &Reloc) -> Choice
+        requires { reloc.now.symbol < length self.old.owner.object.symbols }
+        ensures choice { result ≡ choice_at self.old.seen self.old.owner reloc.now }
+        ensures same { self.new ≡ self.old }
+    {
+        if reloc.kind == R_RISCV_NONE || reloc.kind == R_RISCV_RELATIVE {
+            return Choice::WeakZero;
+        }
+        if reloc.symbol == 0 {
+            return Choice::Def(self.owner.serial, 0);
+        }
+        if reloc.kind == R_RISCV_COPY {
+            return search(
+                &self.view,
+                self.searched.as_slice(),
+                self.owner,
+                reloc.symbol,
+                true,
+            );
+        }
+        self.of_symbol(reloc.symbol)
+    }
+}

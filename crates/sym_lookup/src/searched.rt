@@ -1,0 +1,86 @@
+//! Searching objects for a reference.
+
+ghost use Rattle.std.specs.Prelude.{◌≡◌, map};
+ghost use Rattle.std.specs.List.{AllByRecursion};
+ghost use Rattle.std.specs.Option.{option_copied};
+ghost use Rattle.scope_rule.specs.Choose.{first_with, pick_at};
+ghost use Rattle.scope_rule.specs.Seen.{seen};
+ghost use Rattle.search_lists.specs.Lists.{at_place};
+ghost use Rattle.sym_lookup.specs.Looking.{HaveTables, IsSearched, outside};
+
+use ld_base::{Loaded, Serial};
+use scope_rule::{View, linker_symbol};
+use search_lists::object_at;
+use sym_find::{Find, Sought};
+
+/// An object that is searched: its serial, and its place in load order where it is there.
+#[derive(Clone, Copy)]
+pub(crate) struct Searched {
+    pub(crate) serial: Serial,
+    pub(crate) place: Option<usize>,
+}
+
+/// The object at a place, if any.
+fn object_of<'a>(view: &View<'a>, place: Option<usize>) -> Option<&'a Loaded>
+    ensures { option_copied result ≡ at_place (seen view.now) place }
+{
+    match place {
+        Some(place) => object_at(view, place),
+        None => None,
+    }
+}
+
+/// What an object of the namespace, or the linker's own, has for a reference.
+#[tactic(auto, unfolding(scope_rule::specs::Choose::pick_at))]
+fn found_at(view: &View, sought: &Sought, searched: Searched) -> Option<u32>
+    requires tables { HaveTables (seen view.now) }
+    requires searched { IsSearched (seen view.now) searched }
+    ensures { result ≡ pick_at (seen view.now) sought.now.name sought.now.want searched.serial }
+{
+    if searched.serial == Serial::LINKER {
+        return linker_symbol(sought.name());
+    }
+    match object_of(view, searched.place) {
+        Some(loaded) => loaded.table.find_sought(&loaded.object, sought),
+        None => None,
+    }
+}
+
+/// The same, where nothing is looked for in the object itself if the relocation is a COPY.
+pub(crate) fn found_outside(
+    view: &View,
+    sought: &Sought,
+    searched: Searched,
+    owner: Serial,
+    copy: bool,
+) -> Option<u32>
+    requires tables { HaveTables (seen view.now) }
+    requires searched { IsSearched (seen view.now) searched }
+    ensures { result ≡ outside copy owner (pick_at (seen view.now) sought.now.name sought.now.want) searched.serial }
+{
+    if copy && searched.serial == owner {
+        None
+    } else {
+        found_at(view, sought, searched)
+    }
+}
+
+/// The first of these objects that has a definition, with its symbol.
+pub(crate) fn first_searched(
+    view: &View,
+    sought: &Sought,
+    searched: &[Searched],
+    owner: Serial,
+    copy: bool,
+) -> Option<(Serial, u32)>
+    requires tables { HaveTables (seen view.now) }
+    requires searched { AllByRecursion (IsSearched (seen view.now)) searched.now }
+    ensures { result ≡ first_with (outside copy owner (pick_at (seen view.now) sought.now.name sought.now.want)) (map (λ x. x.serial) searched.now) }
+{
+    for one in searched {
+        if let Some(index) = found_outside(view, sought, *one, owner, copy) {
+            return Some((one.serial, index));
+        }
+    }
+    None
+}
