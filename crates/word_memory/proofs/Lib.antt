@@ -2,4 +2,5 @@ pub mod Hands
 pub mod Desks
 pub mod Held
 pub mod Told
-pub mod Seats
+pub mod Seated
+pub mod Made

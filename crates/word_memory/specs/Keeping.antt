@@ -1,5 +1,5 @@
 -- The view of the keeper, and what its calls leave in it.
-use Rattle.std.specs.Prelude.{◌≡◌, ◌≢◌, ◌⊎◌, ℕ, ◌+◌, ◌<◌, ◌≤◌, ◌&&◌, nat_le, nat_lt, cond, [], ◌∷◌, ◌++◌, length, None, Some}
+use Rattle.std.specs.Prelude.{◌≡◌, ◌≢◌, ◌⊎◌, ℕ, ◌+◌, ◌<◌, ◌≤◌, ◌&&◌, nat_le, nat_lt, zero, suc, cond, List, [], ◌∷◌, ◌++◌, length, None, Some}
 use Rattle.ld_base.specs.declared.linking.Role.{Role}
 use Rattle.ld_base.specs.declared.linking.Role.TheVariants.{None as NoRole, Rx, Slot as SlotRole}
 use Rattle.link_event.specs.declared.event.Event.{Event}
@@ -11,7 +11,7 @@ use Rattle.guest_rule.specs.declared.view.Kept.{Kept}
 use Rattle.guest_rule.specs.declared.view.View.{View}
 use Rattle.guest_rule.specs.declared.view.View.TheVariants.{Keeper}
 use Rattle.guest_rule.specs.Layout.{IsDoubleword, place_of}
-use Rattle.guest_rule.specs.Views.{IsLong, kept_at, no_row, nothing_locked, row_of, unmapped}
+use Rattle.guest_rule.specs.Views.{IsLong, first_hart, kept_at, no_row, nothing_locked, row_of, unmapped}
 use Rattle.guest_rule.specs.Allowed.{LeadsTo, NothingEnters}
 use Rattle.guest_rule.specs.KeeperSteps.{accessing, heeding, Unposted, with_kept}
 use Rattle.guest_rule.specs.Start.{first_keeper}
@@ -90,3 +90,8 @@ pub record IsMade (k : KeeperView) (page harts : ℕ) : Type 0 where
   pub harts_are : k.harts ≡ harts
   pub no_modules : k.generation ≡ 0
   pub none_joined : k.joined ≡ []
+
+-- the views of harts that have done nothing
+abbrev pub new_harts : ℕ → List HartView
+new_harts zero = []
+new_harts (suc n) = new_harts n ++ first_hart n ∷ []

@@ -53,6 +53,7 @@ pub fn set_word<J: Naming>(
     ensures unchanged { IfErr result (λ shown. keeper.new ≡ keeper.old) }
     ensures shown { IfErr result IsShown }
     ensures writable { IfErr result (λ shown. (kept_at keeper.old (place_of address)).role ≡ Rw) }
+    ensures long { IsLong keeper.old }
 {
     keeper
         .desk

@@ -24,6 +24,7 @@ impl<J: Naming> Desk<J> {
         ensures ok { IfOk result (λ control. (self.new ≡ control_found at control self.old) × (lock_bit control ≡ 0)) }
         ensures role { IfOk result (λ control. control % 8 ≡ role_code (kept_at self.old at).role) }
         ensures err { IfErr result (λ shown. (self.new ≡ self.old) × IsShown shown × ((kept_at self.old at).role ≡ Rw)) }
+        ensures long { IsLong self.old }
     {
         let control = self.load_word(memory, control_word(at), KeeperKind::Look(at as u64));
         if is_locked(control) {
@@ -40,6 +41,7 @@ impl<J: Naming> Desk<J> {
         requires slot { (kept_at self.old at).role ≡ SlotRole → Unposted self.old at }
         ensures ok { IfOk result (λ role. (self.new ≡ has_locked at self.old) × (role ≡ (kept_at self.old at).role)) }
         ensures err { IfErr result (λ shown. (self.new ≡ self.old) × IsShown shown × ((kept_at self.old at).role ≡ Rw)) }
+        ensures long { IsLong self.old }
     {
         let control = self.look(memory, at)?;
         let kind = KeeperKind::Lock(at as u64, control);
@@ -72,6 +74,7 @@ impl<J: Naming> Desk<J> {
         requires leads { role ≡ SlotRole → LeadsTo (kept_at self.old) value }
         ensures ok { IfOk result (λ _. self.new ≡ set_as at value role lazy self.old) }
         ensures err { IfErr result (λ shown. (self.new ≡ self.old) × IsShown shown × ((kept_at self.old at).role ≡ Rw)) }
+        ensures long { IsLong self.old }
     {
         let old = self.lock(memory, at)?;
         self.store_word(

@@ -16,6 +16,13 @@ const FIRST_ADDRESS: u64 = 0x10000;
 /// How many doublewords guest memory has.
 const DOUBLEWORDS: u64 = 1 << 20;
 
+/// The linker's own page: its address, how many doublewords a page has, and two ebreaks.
+pub(crate) const LINKER_PAGE: u64 = 0x80_f000;
+
+pub(crate) const PAGE: u64 = 512;
+
+pub(crate) const EBREAKS: u64 = 0x0010_0073_0010_0073;
+
 /// What is added to a control word to lock it, and again to unlock it: that raises the version.
 pub(crate) const LOCK: u64 = 8;
 
@@ -43,6 +50,14 @@ pub(crate) fn place(address: u64, size: u8) -> Result<usize, BusFault>
         return Err(BusFault::Role(Role::None));
     }
     Ok(at as usize)
+}
+
+/// How many words the table has: the count, the generation, rows, and two words a doubleword.
+#[tactic(auto, unfolding(guest_rule::specs::Layout::doublewords))]
+pub(crate) fn table_words() -> usize
+    ensures { result ≡ table_words }
+{
+    2 * DOUBLEWORDS as usize + 128
 }
 
 /// The doubleword of an address.

@@ -26,5 +26,5 @@ mod telling;
 
 pub use bus::TableBus;
 pub use keeper::{KeeperSeat, count_up, join_hart, retire, set_generation, set_word, tell};
-pub use memory::{Memory, Naming};
+pub use memory::{Fresh, HartSeats, Memory, Naming, Seats};
 pub use seat::{HartSeat, generation};

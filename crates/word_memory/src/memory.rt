@@ -3,9 +3,11 @@
 ghost use Rattle.std.specs.Prelude.{◌≡◌};
 ghost use Rattle.guest_rule.specs.Layout.{table_words};
 
+mod making;
 pub(crate) mod seats;
 pub(crate) mod steps;
 
+pub use self::making::{Fresh, HartSeats, Seats};
 use atomic_table::Table;
 use guest_rule::{GuestRule, View};
 use std::alloc::Global;

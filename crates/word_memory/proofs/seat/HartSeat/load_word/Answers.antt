@@ -1,6 +1,6 @@
 use Rattle.std.proofs.Common.{sym, subst}
 use Rattle.guest_rule.specs.HartSteps.{HartLearns, HartReady}
-use Rattle.word_memory.proofs.Seats.{stays_seated}
+use Rattle.word_memory.proofs.Seated.{stays_seated}
 use Rattle.word_memory.proofs.seat.HartSeat.load_word.Goals as goal
 
 pub invariant_of-self : goal.invariant_of-self
