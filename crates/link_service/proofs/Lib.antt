@@ -11,6 +11,7 @@ pub mod OneOrder
 pub mod Opened
 pub mod Readings
 pub mod Rooted
+pub mod Serving
 pub mod Starting
 pub mod Stored
 pub mod Told

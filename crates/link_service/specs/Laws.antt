@@ -1,5 +1,5 @@
 -- What holds of every call.
-use Rattle.std.specs.Prelude.{◌≡◌, ◌≢◌, ℕ, Bool, true, false, List, [], ◌∷◌, ◌++◌, map, Contains, Option, Some, None, IsTrue}
+use Rattle.std.specs.Prelude.{◌≡◌, ◌≢◌, ℕ, Bool, true, false, List, [], ◌∷◌, ◌++◌, length, map, Contains, Option, Some, None, IsTrue}
 use Rattle.ld_base.specs.declared.fault.DlFault.{DlFault}
 use Rattle.ld_base.specs.declared.fault.DlFault.TheVariants as faults
 use Rattle.ld_base.specs.declared.fault.Shown.{Shown}
@@ -33,6 +33,11 @@ use Rattle.link_service.specs.Call.{Call, resolves, opens, looks_up, closes, unm
 use Rattle.link_event.specs.declared.handed.Function.{Function}
 use Rattle.link_service.specs.Functions.{AreConstructors, AreDestructors, AreLeft, AreStartConstructors, left, object_of, passed}
 use Rattle.link_service.specs.Gives.{Gives, Serves}
+use Rattle.link_service.specs.Served.{IsServed}
+use Rattle.link_service.specs.Startup.{FailsToStart, Starts, harts_of}
+use Rattle.link_served.specs.declared.served.Served.{Served}
+use Rattle.link_served.specs.declared.startup.Setup.{Setup}
+use Rattle.link_served.specs.declared.startup.Started.{Started}
 
 -- ---- legality
 
@@ -237,3 +242,22 @@ PassedComeFirst = (functions : List Function) → map object_of functions ≡ pa
 
 abbrev pub RunsAFunction : Type 0
 RunsAFunction = (functions rest : List Function) (f : Function) → left functions ≡ f ∷ rest → f.addresses ≢ []
+
+-- ---- as callers get it
+
+-- a history that is legal before a call is legal with what came of it
+abbrev pub ServedLegal : Type 0
+ServedLegal = (w : Setting) (past : List Event) (h : ℕ) (call : Call) (served : Served) (given : List Event) → Legal w past
+    → IsServed w past h call served given → Legal w (past ++ given)
+
+-- startup's journal is legal, of a run that starts and of one that doesn't
+abbrev pub StartsLegal : Type 0
+StartsLegal = (w : Setting) (setup : Setup) (journal : List Event) (started : Started) → Starts w setup journal started → Legal w journal
+
+abbrev pub FailsLegal : Type 0
+FailsLegal = (w : Setting) (setup : Setup) (fault : DlFault) (journal : List Event) → FailsToStart w setup fault journal → Legal w journal
+
+-- each hart has its place to start
+abbrev pub HartsHaveEntries : Type 0
+HartsHaveEntries = (w : Setting) (setup : Setup) (journal : List Event) (started : Started) → Starts w setup journal started
+    → length started.entries ≡ harts_of setup

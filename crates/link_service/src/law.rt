@@ -5,6 +5,7 @@ ghost use Rattle.link_service.specs.Laws.{AgainAppendsNothing, AskFirst, Callers
 ghost use Rattle.link_service.specs.Laws.{FinishesStay, NextFinishes, NextStarts, OneFinalisation, OneInitialisation, OneStart, OpeningBegins};
 ghost use Rattle.link_service.specs.Laws.{PassedComeFirst, PassedOpens, RunsAFunction, StartsStay};
 ghost use Rattle.link_service.specs.Laws.{RefusalIsKept, RefusalIsTold, RefusedKeeps, RefusedLeavesMemory, ServesLegal, StagesInOrder, SymbolsInOrder};
+ghost use Rattle.link_service.specs.Laws.{FailsLegal, HartsHaveEntries, ServedLegal, StartsLegal};
 
 /// A history that is legal before a call is legal with what the call gives, and with the end of the
 /// hart that it brings.
@@ -12,6 +13,15 @@ pub fn calls_are_legal()
     ensures gives { GivesLegal }
     ensures lawful { GivesLawful }
     ensures serves { ServesLegal }
+{}
+
+/// So it is with what a call's caller gets; and startup's journal is legal, whether the run starts or not,
+/// and where it does each hart has a place to start.
+pub fn served_calls_are_legal()
+    ensures served { ServedLegal }
+    ensures starts { StartsLegal }
+    ensures fails { FailsLegal }
+    ensures entries { HartsHaveEntries }
 {}
 
 /// A call that is refused, that has to be tried again, or that ends its hart leaves everything as it

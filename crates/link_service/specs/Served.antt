@@ -1,0 +1,99 @@
+-- What a hart's calls of dl functions answer, as their caller gets it (dlopen(3), dlsym(3), dlclose(3)).
+use Rattle.std.specs.Prelude.{◌≡◌, ℕ, ◌+◌, ◌*◌, ◌<◌, Bool, not, List, [], ◌∷◌, ◌++◌, length, map, filter, flat_map, Some}
+use Rattle.std.specs.List.{slice_get}
+use Rattle.ld_base.specs.declared.linking.Loaded.{Loaded}
+use Rattle.ld_base.specs.declared.object.Reloc.{Reloc}
+use Rattle.link_event.specs.declared.event.Event.{Event}
+use Rattle.link_event.specs.declared.event.Event.TheVariants.{Open}
+use Rattle.link_event.specs.declared.event.OpenAnswer.TheVariants.{Done as Loads}
+use Rattle.link_event.specs.declared.event.OpenAsk.{OpenAsk}
+use Rattle.link_event.specs.declared.event.Range.{Range}
+use Rattle.link_event.specs.declared.handed.Function.{Function}
+use Rattle.link_served.specs.declared.installs.Installs.{Installs}
+use Rattle.link_served.specs.declared.installs.SlotWord.{SlotWord}
+use Rattle.link_served.specs.declared.served.Served.{Served}
+use Rattle.link_served.specs.declared.served.Served.TheVariants as served
+use Rattle.seg_image.specs.Pages.{guest_address}
+use Rattle.seg_image.specs.declared.image.Image.{Image}
+use Rattle.link_history.specs.After.{after}
+use Rattle.link_history.specs.Bound.{lazy_word}
+use Rattle.link_history.specs.Memory.{is_data_purpose, role_at, word_at}
+use Rattle.link_history.specs.Objects.{serial_of}
+use Rattle.link_history.specs.Setting.{Setting}
+use Rattle.link_history.specs.State.{State}
+use Rattle.link_history.specs.Step.{block_ranges}
+use Rattle.link_service.specs.Answer.{returns, loading, closing, refused, again}
+use Rattle.link_service.specs.Call.{Call}
+use Rattle.link_service.specs.Functions.{AreConstructors, AreDestructors}
+use Rattle.link_service.specs.Gives.{Gives}
+
+-- ---- what guest memory gets
+
+-- the words of a range's pages are those of memory, with their roles
+pub record AreWordsOf (s : State) (r : Range) (image : Image) : Type 0 where
+  pub start : image.start ≡ r.address
+  pub all : length image.words ≡ 512 * r.pages
+  pub each : (k : ℕ) → k < 512 * r.pages
+      → slice_get image.words k ≡ Some (record { value = word_at s (r.address + 8 * k); role = role_at s (r.address + 8 * k) })
+
+-- an image a range, in their order
+abbrev pub AreImages : State → List Range → List Image → Type 0
+AreImages s [] [] = Unit {0}
+AreImages s [] (image ∷ images) = ⊥
+AreImages s (r ∷ ranges) [] = ⊥
+AreImages s (r ∷ ranges) (image ∷ images) = AreWordsOf s r image × AreImages s ranges images
+
+-- the pages of stacks, static areas and blocks
+abbrev pub is_area : Range → Bool
+is_area r = is_data_purpose r.purpose
+
+-- where the slots of an object stand, and what they hold until they are bound
+abbrev pub slot_word : Loaded → Reloc → SlotWord
+slot_word o r = record { address = guest_address o.base r.place; lazy = lazy_word o r }
+
+abbrev pub slots_of : Loaded → List SlotWord
+slots_of o = map (slot_word o) o.object.plt_relocs
+
+-- what new objects with these ranges put into memory, in the state with them
+pub record AreInstalls (s : State) (added : List Loaded) (ranges : List Range) (installs : Installs) : Type 0 where
+  pub images : AreImages s (filter (λ r. not (is_area r)) ranges) installs.images
+  pub slots : installs.slots ≡ flat_map slots_of added
+  pub areas : AreImages s (filter is_area ranges) installs.areas
+
+-- what a hart's new block of an object's module puts there
+abbrev pub AreBlockInstalls : State → ℕ → ℕ → ℕ → Installs → Type 0
+AreBlockInstalls s hart serial address installs = AreInstalls s [] (block_ranges s hart serial address) installs
+
+-- nothing is put there
+pub record InstallsNothing (installs : Installs) : Type 0 where
+  pub images : installs.images ≡ []
+  pub slots : installs.slots ≡ []
+  pub areas : installs.areas ≡ []
+
+-- ---- what a call answers
+
+-- new objects are loaded: what memory gets, and their constructors
+pub record IsOpened (w : Setting) (past : List Event) (h : ℕ) (call : Call) (root : ℕ) (installs : Installs) (functions : List Function) (given : List Event) : Type 0 where
+  pub ask : OpenAsk
+  pub id : ℕ
+  pub added : List Loaded
+  pub ranges : List Range
+  pub is : given ≡ Open h ask (Loads id root added ranges) ∷ []
+  pub gives : Gives w past h call given (loading root added)
+  pub installed : AreInstalls (after (past ++ given)) added ranges installs
+  pub constructed : AreConstructors (after (past ++ given)) (map serial_of added) functions
+
+-- objects die: their destructors
+pub record IsClosing (w : Setting) (past : List Event) (h : ℕ) (call : Call) (set : List ℕ) (functions : List Function) (given : List Event) : Type 0 where
+  pub gives : Gives w past h call given (closing set)
+  pub finalised : AreDestructors (after (past ++ given)) set functions
+
+-- what came of a call of the hart, which appended these events; want of memory leaves all as it was. Which files a call found that wasn't told
+-- any, the call itself shows: there are some of which this came
+abbrev pub IsServed : Setting → List Event → ℕ → Call → Served → List Event → Type 0
+IsServed w past h call (served.Done value) given = Gives w past h call given (returns value)
+IsServed w past h call (served.Opened root installs functions) given = IsOpened w past h call root installs functions given
+IsServed w past h call (served.Closing dying functions) given = IsClosing w past h call dying.list functions given
+IsServed w past h call (served.Refused fault) given = Gives w past h call given (refused fault)
+IsServed w past h call (served.Again for) given = Gives w past h call given (again for)
+IsServed w past h call served.Memory given = given ≡ []
