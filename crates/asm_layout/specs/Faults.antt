@@ -5,31 +5,28 @@ use Rattle.std.specs.Str.{bytes_eq}
 use Rattle.std.specs.List.{list_any, list_all}
 use Rattle.rv_isa.specs.declared.instr.Instr.{Instr}
 use Rattle.rv_isa.specs.declared.instr.Instr.TheVariants as instrs
-use Rattle.rv_isa.specs.Opcodes.{Upper, Number as Plain, Shift, imm_code}
+use Rattle.rv_isa.specs.Opcodes.{Upper as UpperForm, Number as Plain, Shift, imm_code}
 use Rattle.rv_isa.specs.Word.{bits, part}
 use Rattle.ld_base.specs.declared.fault.AsmCause.{AsmCause}
 use Rattle.ld_base.specs.declared.fault.AsmCause.TheVariants as causes
-use Rattle.asm_statement.specs.declared.number.Number.{Number}
 use Rattle.asm_statement.specs.declared.directive.Section.{Section}
 use Rattle.asm_statement.specs.declared.directive.Section.TheVariants as sections
 use Rattle.asm_statement.specs.declared.directive.Directive.{Directive}
 use Rattle.asm_statement.specs.declared.directive.Directive.TheVariants as directives
 use Rattle.asm_statement.specs.declared.directive.Doubleword.{Doubleword}
 use Rattle.asm_statement.specs.declared.directive.Doubleword.TheVariants as doublewords
-use Rattle.asm_statement.specs.declared.instruction.AddressOp.{AddressOp}
-use Rattle.asm_statement.specs.declared.instruction.AddressOp.TheVariants as addresses
 use Rattle.asm_statement.specs.declared.instruction.Instruction.{Instruction}
-use Rattle.asm_statement.specs.declared.instruction.Instruction.TheVariants as instructions
 use Rattle.asm_statement.specs.declared.line.Statement.{Statement}
 use Rattle.asm_statement.specs.declared.line.Statement.TheVariants as statements
 use Rattle.asm_statement.specs.declared.line.Line.{Line}
 use Rattle.asm_layout.specs.Numbers.{fits_data, fits_dword, fits_addend, fits_count, fits_li, fits_upper, value_of}
+use Rattle.asm_layout.specs.Expansions.{Operand, Registers, Immediate, Upper, Word, Label, Code, Entry, operand_of}
 use Rattle.asm_layout.specs.Places.{place_at, is_section}
 use Rattle.asm_layout.specs.Labels.{is_label, is_taken, defined_by}
 use Rattle.asm_layout.specs.Names.{is_got_plt}
 use Rattle.asm_layout.specs.Uses.{slots}
 use Rattle.asm_layout.specs.Tables.{versions}
-use Rattle.asm_layout.specs.Words.{address_at, target, expanded, operand_number}
+use Rattle.asm_layout.specs.Words.{instrs_at}
 
 -- Numbers and distances
 
@@ -43,7 +40,7 @@ is_distance width number = is_within width number && (part number 0 1 == 0)
 abbrev pub is_upper : ℤ → Bool
 is_upper number = is_within 32 number && (part number 0 12 == 0)
 
-abbrev pub fits_field : Upper → ℤ → Bool
+abbrev pub fits_field : UpperForm → ℤ → Bool
 fits_field Plain number = is_within 12 number
 fits_field (Shift width constant) number = int_le (pos 0) number && int_lt number (pos (2 ^ width))
 
@@ -70,15 +67,15 @@ has_form (instrs.Fence word) = is_fence word
 has_form instrs.Ecall = true
 has_form instrs.Ebreak = true
 
--- whether an instruction's number is one that it may have; what its form can hold is asked of what it stands for
-abbrev pub is_number : Option Number → Bool
-is_number None = true
-is_number (Some number) = is_some (value_of number)
-
-abbrev pub number_fits : Instruction → Bool
-number_fits (instructions.Upper op rd number) = fits_upper number
-number_fits (instructions.Li rd number) = fits_li number
-number_fits instruction = is_number (operand_number instruction)
+-- whether the number of an operand is one that may be written; what the form can hold is asked of the instructions
+abbrev pub number_fits : Operand → Bool
+number_fits Registers = true
+number_fits (Immediate number) = is_some (value_of number)
+number_fits (Upper number) = fits_upper number
+number_fits (Word number) = fits_li number
+number_fits (Label name) = true
+number_fits (Code name) = true
+number_fits (Entry kind name) = true
 
 abbrev pub all_have_form : Option (List Instr) → Bool
 all_have_form None = true
@@ -86,8 +83,7 @@ all_have_form (Some words) = list_all has_form words
 
 -- an instruction whose target is missing has no distance
 abbrev pub instruction_fits : List Line → ℕ → Instruction → Bool
-instruction_fits lines k instruction =
-    number_fits instruction && all_have_form (expanded instruction (address_at lines k) (target lines instruction))
+instruction_fits lines k instruction = number_fits (operand_of instruction) && all_have_form (instrs_at lines k instruction)
 
 abbrev pub dword_fits : Doubleword → Bool
 dword_fits (doublewords.Number number) = fits_dword number
@@ -114,21 +110,14 @@ is_known lines name = is_label lines name || (is_got_plt name && nat_lt 0 (lengt
 abbrev pub is_usable : List Line → List ℕ → Bool
 is_usable lines name = is_known lines name || not (is_got_plt name)
 
-abbrev pub address_is_known : List Line → AddressOp → List ℕ → Bool
-address_is_known lines addresses.La name = is_known lines name
-address_is_known lines addresses.Lga name = is_usable lines name
-address_is_known lines addresses.LaTlsGd name = is_usable lines name
-address_is_known lines addresses.LaTlsIe name = is_usable lines name
-
-abbrev pub instruction_is_known : List Line → Instruction → Bool
-instruction_is_known lines (instructions.Jump name) = is_known lines name
-instruction_is_known lines (instructions.Jal rd name) = is_known lines name
-instruction_is_known lines (instructions.BranchZero op rs name) = is_known lines name
-instruction_is_known lines (instructions.Branch op rs1 rs2 name) = is_known lines name
-instruction_is_known lines (instructions.Call name) = is_usable lines name
-instruction_is_known lines (instructions.Tail name) = is_usable lines name
-instruction_is_known lines (instructions.Address op rd name) = address_is_known lines op name
-instruction_is_known lines _ = true
+abbrev pub operand_is_known : List Line → Operand → Bool
+operand_is_known lines Registers = true
+operand_is_known lines (Immediate number) = true
+operand_is_known lines (Upper number) = true
+operand_is_known lines (Word number) = true
+operand_is_known lines (Label name) = is_known lines name
+operand_is_known lines (Code name) = is_usable lines name
+operand_is_known lines (Entry kind name) = is_usable lines name
 
 abbrev pub dword_is_known : List Line → Doubleword → Bool
 dword_is_known lines (doublewords.Number number) = true
@@ -146,7 +135,7 @@ directive_is_known lines _ = true
 
 abbrev pub statement_is_known : List Line → Statement → Bool
 statement_is_known lines (statements.Directive directive) = directive_is_known lines directive
-statement_is_known lines (statements.Instruction instruction) = instruction_is_known lines instruction
+statement_is_known lines (statements.Instruction instruction) = operand_is_known lines (operand_of instruction)
 
 -- Sections
 

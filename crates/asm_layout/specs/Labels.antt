@@ -10,13 +10,13 @@ use Rattle.asm_layout.specs.declared.place.Place.{Place}
 use Rattle.asm_layout.specs.Places.{place_at}
 
 -- the name of a .copy is a label, too
-abbrev pub copied : Option Statement → Option (List ℕ)
-copied (Some (statements.Directive (directives.Copy name size))) = Some name
-copied _ = None
+abbrev pub copy_name : Option Statement → Option (List ℕ)
+copy_name (Some (statements.Directive (directives.Copy name size))) = Some name
+copy_name _ = None
 
 -- the names that a line defines
 abbrev pub defined_by : Line → List (List ℕ)
-defined_by line = option_to_list line.label ++ option_to_list (copied line.statement)
+defined_by line = option_to_list line.label ++ option_to_list (copy_name line.statement)
 
 abbrev pub defines : List ℕ → Line → Bool
 defines name line = list_any (bytes_eq name) (defined_by line)

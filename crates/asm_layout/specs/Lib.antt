@@ -1,4 +1,5 @@
 pub mod Examples
+pub mod Expansions
 pub mod Faults
 pub mod Labels
 pub mod Names

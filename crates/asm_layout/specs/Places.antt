@@ -1,28 +1,24 @@
 -- Places: into which section each line goes, and at which offset.
-use Rattle.std.specs.Prelude.{ℕ, ◌+◌, ◌-◌, ◌*◌, ◌%◌, ◌==◌, Bool, if◌then◌else◌, List, fold, length, take, Option, Some, None}
+use Rattle.std.specs.Prelude.{ℕ, ◌+◌, ◌-◌, ◌*◌, ◌%◌, pos, ◌==◌, Bool, if◌then◌else◌, List, fold, length, take, Option, Some, None}
 use Rattle.asm_statement.specs.declared.directive.Section.{Section}
 use Rattle.asm_statement.specs.declared.directive.Section.TheVariants as sections
 use Rattle.asm_statement.specs.declared.directive.Directive.{Directive}
 use Rattle.asm_statement.specs.declared.directive.Directive.TheVariants as directives
 use Rattle.asm_statement.specs.declared.instruction.Instruction.{Instruction}
-use Rattle.asm_statement.specs.declared.instruction.Instruction.TheVariants as instructions
 use Rattle.asm_statement.specs.declared.line.Statement.{Statement}
 use Rattle.asm_statement.specs.declared.line.Statement.TheVariants as statements
 use Rattle.asm_statement.specs.declared.line.Line.{Line}
 use Rattle.asm_layout.specs.declared.place.Place.{Place}
-use Rattle.asm_layout.specs.Numbers.{bytes_of, count_of, fits_addi}
+use Rattle.asm_layout.specs.Numbers.{bytes_of, count_of}
+use Rattle.asm_layout.specs.Expansions.{expansion}
 
 -- how many bytes stand between an offset and the next multiple of an alignment
 abbrev pub padding : ℕ → ℕ → ℕ
 padding offset alignment = (alignment - offset % alignment) % alignment
 
--- how many instructions an instruction stands for
+-- how many instructions an instruction stands for, whatever its number or its distance
 unfoldable pub words_in : Instruction → ℕ
-words_in (instructions.Call name) = 2
-words_in (instructions.Tail name) = 2
-words_in (instructions.Address op rd name) = 2
-words_in (instructions.Li rd number) = if fits_addi number then 1 else 2
-words_in _ = 1
+words_in instruction = length ((expansion instruction).instrs (pos 0))
 
 -- how many bytes a directive puts at an offset of its section
 unfoldable pub directive_size : ℕ → Directive → ℕ
@@ -69,13 +65,13 @@ abbrev pub is_section : Section → Section → Bool
 is_section one other = section_number one == section_number other
 
 -- what a line adds to what a section holds, where it is the line's
-abbrev pub grown : Section → Line → Section × ℕ → Section × ℕ
-grown section line before =
+abbrev pub growth : Section → Line → Section × ℕ → Section × ℕ
+growth section line before =
     (next_section before.0 line, (if is_section section before.0 then before.1 + size_at before.1 line.statement else before.1))
 
 -- the section behind lines, and how many bytes they put into one
 unfoldable pub filling : Section → List Line → Section × ℕ
-filling section lines = fold (λ before line. grown section line before) (sections.Text, 0) lines
+filling section lines = fold (λ before line. growth section line before) (sections.Text, 0) lines
 
 abbrev pub filled : Section → List Line → ℕ
 filled section lines = (filling section lines).1

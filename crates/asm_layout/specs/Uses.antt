@@ -3,16 +3,14 @@ use Rattle.std.specs.Prelude.{ℕ, Bool, true, false, ◌&&◌, if◌then◌else
 use Rattle.std.specs.Prelude.{Option, Some, None, option_map, reverse}
 use Rattle.std.specs.Str.{bytes_eq}
 use Rattle.std.specs.List.{list_any}
+use Rattle.std.proofs.Math.Bool.{beq}
 use Rattle.asm_statement.specs.declared.directive.Directive.{Directive}
 use Rattle.asm_statement.specs.declared.directive.Directive.TheVariants as directives
 use Rattle.asm_statement.specs.declared.directive.Doubleword.{Doubleword}
 use Rattle.asm_statement.specs.declared.directive.Doubleword.TheVariants as doublewords
 use Rattle.asm_statement.specs.declared.directive.Export.TheVariants as visibilities
 use Rattle.asm_statement.specs.declared.directive.Need.{Need}
-use Rattle.asm_statement.specs.declared.instruction.AddressOp.{AddressOp}
-use Rattle.asm_statement.specs.declared.instruction.AddressOp.TheVariants as addresses
-use Rattle.asm_statement.specs.declared.instruction.Instruction.{Instruction}
-use Rattle.asm_statement.specs.declared.instruction.Instruction.TheVariants as instructions
+use Rattle.asm_statement.specs.declared.directive.Symver.{Symver}
 use Rattle.asm_statement.specs.declared.line.Statement.{Statement}
 use Rattle.asm_statement.specs.declared.line.Statement.TheVariants as statements
 use Rattle.asm_statement.specs.declared.line.Line.{Line}
@@ -20,6 +18,7 @@ use Rattle.asm_layout.specs.declared.uses.GotKind.{GotKind}
 use Rattle.asm_layout.specs.declared.uses.GotKind.TheVariants as gots
 use Rattle.asm_layout.specs.declared.uses.GotUse.{GotUse}
 use Rattle.asm_layout.specs.declared.uses.Exported.{Exported}
+use Rattle.asm_layout.specs.Expansions.{Operand, Registers, Immediate, Upper, Word, Label, Code, Entry, operand_of}
 use Rattle.asm_layout.specs.Labels.{is_label}
 use Rattle.asm_layout.specs.Names.{is_foreign, is_preemptible}
 
@@ -35,11 +34,45 @@ distinct same xs = distinct_after same [] xs
 abbrev pub distinct_names : List (List ℕ) → List (List ℕ)
 distinct_names names = distinct bytes_eq names
 
+-- the name whose code an instruction goes to
+abbrev pub code_name : Operand → Option (List ℕ)
+code_name (Code name) = Some name
+code_name Registers = None
+code_name (Immediate number) = None
+code_name (Upper number) = None
+code_name (Word number) = None
+code_name (Label name) = None
+code_name (Entry kind name) = None
+
+-- what an instruction takes from the global offset table
+abbrev pub entry_of : Operand → Option GotUse
+entry_of (Entry kind name) = Some (record { kind = kind; name = name })
+entry_of Registers = None
+entry_of (Immediate number) = None
+entry_of (Upper number) = None
+entry_of (Word number) = None
+entry_of (Label name) = None
+entry_of (Code name) = None
+
+-- the name that an instruction mentions so that another object may define it
+abbrev pub foreign_name : Operand → Option (List ℕ)
+foreign_name (Code name) = Some name
+foreign_name (Entry kind name) = Some name
+foreign_name Registers = None
+foreign_name (Immediate number) = None
+foreign_name (Upper number) = None
+foreign_name (Word number) = None
+foreign_name (Label name) = None
+
+-- what a line's instruction needs
+abbrev pub line_operand : Option Statement → Operand
+line_operand (Some (statements.Instruction instruction)) = operand_of instruction
+line_operand (Some (statements.Directive directive)) = Registers
+line_operand None = Registers
+
 -- the name that a line calls or goes to by way of a slot, where another object may define it
-abbrev pub called : Option Statement → Option (List ℕ)
-called (Some (statements.Instruction (instructions.Call name))) = Some name
-called (Some (statements.Instruction (instructions.Tail name))) = Some name
-called _ = None
+abbrev pub callee : Option Statement → Option (List ℕ)
+callee statement = code_name (line_operand statement)
 
 abbrev pub if_preemptible : List Line → Option (List ℕ) → Option (List ℕ)
 if_preemptible lines None = None
@@ -47,18 +80,11 @@ if_preemptible lines (Some name) = if is_preemptible lines name then Some name e
 
 -- the names that have a slot, in the order of their slots
 unfoldable pub slots : List Line → List (List ℕ)
-slots lines = distinct_names (filter_map (λ line. if_preemptible lines (called line.statement)) lines)
+slots lines = distinct_names (filter_map (λ line. if_preemptible lines (callee line.statement)) lines)
 
 -- what a line takes from the global offset table
-abbrev pub got_of : AddressOp → Option GotKind
-got_of addresses.La = None
-got_of addresses.Lga = Some gots.Address
-got_of addresses.LaTlsGd = Some gots.Pair
-got_of addresses.LaTlsIe = Some gots.Offset
-
 abbrev pub got_use : Option Statement → Option GotUse
-got_use (Some (statements.Instruction (instructions.Address op rd name))) = option_map (λ kind. record { kind = kind; name = name }) (got_of op)
-got_use _ = None
+got_use statement = entry_of (line_operand statement)
 
 abbrev pub same_kind : GotKind → GotKind → Bool
 same_kind gots.Address gots.Address = true
@@ -74,64 +100,28 @@ unfoldable pub got_uses : List Line → List GotUse
 got_uses lines = distinct same_use (filter_map (λ line. got_use line.statement) lines)
 
 -- the name that a statement mentions so that another object may define it
-abbrev pub mentioned_by_address : AddressOp → List ℕ → Option (List ℕ)
-mentioned_by_address op name = option_map (λ kind. name) (got_of op)
+abbrev pub dword_mention : Doubleword → Option (List ℕ)
+dword_mention (doublewords.Number number) = None
+dword_mention (doublewords.Address name addend) = Some name
 
-abbrev pub mentioned_by_instruction : Instruction → Option (List ℕ)
-mentioned_by_instruction (instructions.Call name) = Some name
-mentioned_by_instruction (instructions.Tail name) = Some name
-mentioned_by_instruction (instructions.Address op rd name) = mentioned_by_address op name
-mentioned_by_instruction _ = None
+abbrev pub directive_mention : Directive → Option (List ℕ)
+directive_mention (directives.Dword value) = dword_mention value
+directive_mention (directives.Need need) = Some need.name
+directive_mention (directives.Weak name) = Some name
+directive_mention _ = None
 
-abbrev pub mentioned_by_dword : Doubleword → Option (List ℕ)
-mentioned_by_dword (doublewords.Number number) = None
-mentioned_by_dword (doublewords.Address name addend) = Some name
+abbrev pub mention : Option Statement → Option (List ℕ)
+mention None = None
+mention (Some (statements.Directive directive)) = directive_mention directive
+mention (Some (statements.Instruction instruction)) = foreign_name (operand_of instruction)
 
-abbrev pub mentioned_by_directive : Directive → Option (List ℕ)
-mentioned_by_directive (directives.Dword value) = mentioned_by_dword value
-mentioned_by_directive (directives.Need need) = Some need.name
-mentioned_by_directive (directives.Weak name) = Some name
-mentioned_by_directive _ = None
-
-abbrev pub mentioned : Option Statement → Option (List ℕ)
-mentioned None = None
-mentioned (Some (statements.Directive directive)) = mentioned_by_directive directive
-mentioned (Some (statements.Instruction instruction)) = mentioned_by_instruction instruction
-
-abbrev pub mentions : List Line → List (List ℕ)
-mentions lines = filter_map (λ line. mentioned line.statement) lines
+abbrev pub if_foreign : List Line → Option (List ℕ) → Option (List ℕ)
+if_foreign lines None = None
+if_foreign lines (Some name) = if is_foreign lines name then Some name else None
 
 -- the undefined symbols, by first mention
 unfoldable pub imports : List Line → List (List ℕ)
-imports lines = distinct_names (filter (is_foreign lines) (mentions lines))
-
--- the symbol that a statement exports: a label by its own name, a label under a name and a version, a copy
-abbrev pub unversioned : List ℕ → Exported
-unversioned name = record { label = name; name = name; version = None }
-
-abbrev pub exported_by_directive : Directive → Option Exported
-exported_by_directive (directives.Export visibilities.Global name) = Some (unversioned name)
-exported_by_directive (directives.Weak name) = Some (unversioned name)
-exported_by_directive (directives.Symver symver) = Some (record { label = symver.label; name = symver.name; version = Some symver.version })
-exported_by_directive (directives.Copy name size) = Some (unversioned name)
-exported_by_directive _ = None
-
-abbrev pub exported_by : Option Statement → Option Exported
-exported_by None = None
-exported_by (Some (statements.Directive directive)) = exported_by_directive directive
-exported_by (Some (statements.Instruction instruction)) = None
-
-abbrev pub same_version : Option (List ℕ) → Option (List ℕ) → Bool
-same_version None None = true
-same_version (Some one) (Some other) = bytes_eq one other
-same_version _ _ = false
-
-abbrev pub same_export : Exported → Exported → Bool
-same_export one other = bytes_eq one.name other.name && same_version one.version other.version
-
--- the symbols that other objects may find, in the order of their lines
-unfoldable pub exports : List Line → List Exported
-exports lines = distinct same_export (filter (λ exported. is_label lines exported.label) (filter_map (λ line. exported_by line.statement) lines))
+imports lines = distinct_names (filter_map (λ line. if_foreign lines (mention line.statement)) lines)
 
 -- what references need of versions: of the lines of one name the last counts, and its place is that of the first
 abbrev pub needed_by : Option Statement → Option Need
@@ -146,3 +136,56 @@ last_need needs name = find (λ need. bytes_eq name need.name) (reverse needs)
 
 unfoldable pub needs : List Line → List Need
 needs lines = filter_map (last_need (all_needs lines)) (distinct_names (map (λ need. need.name) (all_needs lines)))
+
+-- the version of a label that has one by what references to it need: that of a copy
+abbrev pub copies : List ℕ → Option Statement → Bool
+copies name (Some (statements.Directive (directives.Copy copy size))) = bytes_eq name copy
+copies name _ = false
+
+abbrev pub is_copy_label : List Line → List ℕ → Bool
+is_copy_label lines name = list_any (λ line. copies name line.statement) lines
+
+abbrev pub needed_version : List Line → List ℕ → Option (List ℕ)
+needed_version lines name = option_map (λ need. need.version) (last_need (all_needs lines) name)
+
+abbrev pub own_version : List Line → List ℕ → Option (List ℕ)
+own_version lines name = if is_copy_label lines name then needed_version lines name else None
+
+-- the symbol that a statement exports: a label by its own name, a label under a name and a version, a copy
+abbrev pub own_symbol : List Line → List ℕ → Exported
+own_symbol lines name = record { label = name; name = name; version = own_version lines name; is_default = true }
+
+abbrev pub version_symbol : Symver → Exported
+version_symbol symver = record { label = symver.label; name = symver.name; version = Some symver.version; is_default = symver.is_default }
+
+abbrev pub exported_by_directive : List Line → Directive → Option Exported
+exported_by_directive lines (directives.Export visibilities.Global name) = Some (own_symbol lines name)
+exported_by_directive lines (directives.Weak name) = Some (own_symbol lines name)
+exported_by_directive lines (directives.Copy name size) = Some (own_symbol lines name)
+exported_by_directive lines (directives.Symver symver) = Some (version_symbol symver)
+exported_by_directive lines _ = None
+
+abbrev pub exported_by : List Line → Option Statement → Option Exported
+exported_by lines None = None
+exported_by lines (Some (statements.Directive directive)) = exported_by_directive lines directive
+exported_by lines (Some (statements.Instruction instruction)) = None
+
+-- a symbol of a label; a name that is none exports nothing
+abbrev pub if_labelled : List Line → Option Exported → Option Exported
+if_labelled lines None = None
+if_labelled lines (Some exported) = if is_label lines exported.label then Some exported else None
+
+abbrev pub same_version : Option (List ℕ) → Option (List ℕ) → Bool
+same_version None None = true
+same_version (Some one) (Some other) = bytes_eq one other
+same_version None (Some other) = false
+same_version (Some one) None = false
+
+abbrev pub same_export : Exported → Exported → Bool
+same_export one other =
+    bytes_eq one.label other.label && bytes_eq one.name other.name && same_version one.version other.version
+    && beq one.is_default other.is_default
+
+-- the symbols that other objects may find, in the order of the lines that first export them
+unfoldable pub exports : List Line → List Exported
+exports lines = distinct same_export (filter_map (λ line. if_labelled lines (exported_by lines line.statement)) lines)

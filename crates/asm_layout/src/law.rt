@@ -1,10 +1,13 @@
 //! Sources that are worked by hand, and what the test of an instruction's numbers tells.
 
-ghost use Rattle.std.specs.Prelude.{◌≡◌, [], ◌∷◌, Some, None, codes, Decides};
+ghost use Rattle.std.specs.Prelude.{◌≡◌, ℤ, [], ◌∷◌, length, Some, None, codes, Decides};
 ghost use Rattle.rv_isa.specs.declared.instr.Instr.{Instr};
 ghost use Rattle.rv_isa.specs.Encoding.{HasForm};
 ghost use Rattle.ld_base.specs.declared.fault.AsmCause.TheVariants.{OutOfRange, DoubleLabel, UnknownLabel, WrongSection};
 ghost use Rattle.asm_layout.specs.declared.part.Part.TheVariants as parts;
+ghost use Rattle.asm_statement.specs.declared.instruction.Instruction.{Instruction};
+ghost use Rattle.asm_layout.specs.Expansions.{expansion};
+ghost use Rattle.asm_layout.specs.Places.{words_in};
 ghost use Rattle.asm_layout.specs.Examples.{program, library, twice, too_great, nowhere, misplaced};
 ghost use Rattle.asm_layout.specs.Uses.{slots, imports};
 ghost use Rattle.asm_layout.specs.Parts.{start_of};
@@ -60,4 +63,9 @@ pub fn worked_faults()
 /// table of instructions has it.
 pub fn forms_are_those_of_the_table()
     ensures { (instr : Instr) → Decides (has_form instr) (HasForm instr) }
+{}
+
+/// An instruction stands for as many words as its line has room for, whatever its number or its distance.
+pub fn words_have_their_room()
+    ensures { (instruction : Instruction) (value : ℤ) → length ((expansion instruction).instrs value) ≡ words_in instruction }
 {}

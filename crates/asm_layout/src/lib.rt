@@ -1,6 +1,8 @@
 //! What placed code is: definitions over the lines of a source, and the types that they speak of; a
 //! crate without code.
 //!
+//! - `specs/Expansions`: the table of instructions: what each needs to be known, and which instructions of
+//!   the machine it stands for.
 //! - `specs/Places`: the place of each line, a section and an offset in it, and how much of each
 //!   section the lines fill.
 //! - `specs/Labels`: the names that lines define, and where.
@@ -8,12 +10,13 @@
 //!   procedure linkage table, words of the global offset table, undefined symbols.
 //! - `specs/Tables`: what the tables of the object list, so how long they are.
 //! - `specs/Parts`: the parts of the object in the order of their addresses, and where each starts.
-//! - `specs/Words`: the instructions that a line stands for, and their words.
+//! - `specs/Words`: the addresses of names, and the words of a line.
 //! - `specs/Faults`: why a line is refused.
 //!
 //! [`worked_program`], [`worked_library`] and [`worked_faults`] are sources worked by hand: the definitions
 //! compute to what they have to. [`forms_are_those_of_the_table`]: a number is out of range exactly where the
-//! instruction's form in `rv_isa` can't hold it.
+//! instruction's form in `rv_isa` can't hold it. [`words_have_their_room`]: the table gives an instruction as many
+//! words as its line's place has room for.
 #![tactic(auto)]
 
 mod law;
@@ -21,7 +24,9 @@ mod part;
 mod place;
 mod uses;
 
-pub use law::{forms_are_those_of_the_table, worked_faults, worked_library, worked_program};
+pub use law::{
+    forms_are_those_of_the_table, words_have_their_room, worked_faults, worked_library, worked_program,
+};
 pub use part::Part;
 pub use place::Place;
 pub use uses::{Exported, GotKind, GotUse};

@@ -31,4 +31,6 @@ pub struct Exported {
     pub name: Name,
     /// Its version, where it has one.
     pub version: Option<Name>,
+    /// Whether references without a version find it.
+    pub is_default: bool,
 }

@@ -2,6 +2,7 @@
 use Rattle.std.proofs.Common.{refl}
 use Rattle.asm_layout.specs.Faults.{has_form, fault_at}
 use Rattle.asm_layout.specs.Labels.{label}
+use Rattle.asm_layout.specs.Expansions.{expansion}
 use Rattle.asm_layout.specs.Names.{kind_of, is_preemptible}
 use Rattle.asm_layout.specs.Parts.{section_align, bound_count, relative_places, dynamic_count, header_count, align_of, written_size, relr_size}
 use Rattle.asm_layout.specs.Parts.{size_of, starts, section_start}
@@ -11,16 +12,16 @@ use Rattle.asm_layout.specs.Tables.{soname, needed, hash_of, flags_of, versions,
 use Rattle.asm_layout.specs.Tables.{strings_size, gnu_hash_size, sysv_hash_size, symbols_size, versym_size, verdef_size, verneed_size, got_size}
 use Rattle.asm_layout.specs.Tables.{array_size}
 use Rattle.asm_layout.specs.Uses.{distinct, slots, got_uses, imports, exports, needs}
-use Rattle.asm_layout.specs.Words.{label_address, slot_address, call_address, got_address, target, expanded, words_at}
+use Rattle.asm_layout.specs.Words.{label_address, slot_address, call_address, got_address, target, operand_value, words_at}
 use Rattle.rv_isa.specs.Word.{bits}
 use Rattle.asm_layout.proofs.law.worked_faults.Goals as goal
 
 pub returns : goal.returns
-unfolding has_form fault_at label kind_of is_preemptible section_align bound_count relative_places dynamic_count header_count align_of written_size
+unfolding expansion has_form fault_at label kind_of is_preemptible section_align bound_count relative_places dynamic_count header_count align_of written_size
     relr_size size_of starts section_start words_in directive_size section_after filling relr_words soname needed hash_of flags_of versions
     needed_files needed_versions entries is_relr strings strings_size gnu_hash_size sysv_hash_size symbols_size versym_size verdef_size
-    verneed_size got_size array_size distinct slots got_uses imports exports needs label_address slot_address call_address got_address target
-    expanded words_at bits
+    verneed_size got_size array_size distinct slots got_uses imports exports needs label_address slot_address call_address got_address target operand_value
+    words_at bits
 returns c = record {
   twice = refl;
   first = refl;

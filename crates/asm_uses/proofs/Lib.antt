@@ -1,0 +1,4 @@
+pub mod Among
+pub mod Distinct
+pub mod Noted
+pub mod Preempt

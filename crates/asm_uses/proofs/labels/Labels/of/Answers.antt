@@ -1,0 +1,10 @@
+use Rattle.std.proofs.Common.{◌∙◌, sym}
+use Rattle.asm_layout.specs.Labels.{defines}
+use Rattle.asm_uses.proofs.Noted.{one_further}
+use Rattle.asm_uses.proofs.labels.Labels.of.Goals as goal
+
+pub loop-number-preserved : goal.loop-number-preserved
+loop-number-preserved c = λ bytes.
+    c.in_ok-add_line.ensures bytes
+    ∙ rw (c.loop-number.invariant bytes)
+    (sym (one_further (defines bytes) c.as_slice-line-items.result.now c.loop-number.number c.line-item.result c.loop-number-test.true c.line-item.is))

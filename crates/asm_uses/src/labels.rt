@@ -1,0 +1,108 @@
+//! The lines that define names.
+
+ghost use Rattle.std.specs.Prelude.{◌≡◌, ◌≤◌, ℕ, List, length, take, Some, None, IfOk, OnOk, option_map, if◌then◌else◌};
+ghost use Rattle.std.specs.Option.{option_or};
+ghost use Rattle.asm_statement.specs.declared.line.Line.{Line};
+ghost use Rattle.asm_layout.specs.Labels.{copy_name, defined_by, defines, is_label, is_taken};
+ghost use Rattle.asm_uses.specs.Numbers.{number_of};
+ghost use Rattle.asm_uses.specs.Lines.{AreLabelsOf};
+
+use crate::first_numbers::FirstNumbers;
+use asm_statement::{Directive, Line, Statement, Statements};
+use std::alloc::{AllocError, Global};
+use std::marker::Model;
+
+/// The names that lines define, each with the first line that defines it. Contracts see a list of both.
+#[derive(Drop)]
+pub struct Labels {
+    lines: FirstNumbers,
+}
+
+impl Model for Labels {
+    ghost use Rattle.std.specs.Prelude.{List, ℕ};
+
+    ghost Value = { List (List ℕ × ℕ) };
+
+    ghost view = { λ l. l.lines };
+}
+
+impl Labels {
+    /// Those of the lines of a source.
+    ///
+    /// # Errors
+    ///
+    /// Want of memory.
+    pub fn of(alloc: Global, statements: &Statements) -> Result<Self, AllocError>
+        ensures { IfOk result (λ labels. AreLabelsOf statements.now labels) }
+    {
+        let mut lines = FirstNumbers::new(alloc);
+        for (number, line) in statements.as_slice().iter().enumerate() {
+            add_line(alloc, &mut lines, line, number)?;
+        }
+        Ok(Labels { lines })
+    }
+
+    /// The first line that defines the name, counted from 0.
+    pub fn line(&self, name: &[u8]) -> Option<usize>
+        ensures { result ≡ number_of self.now name.now }
+    {
+        self.lines.get(name)
+    }
+
+    /// Whether a line before this one, counted from 0, defines the name.
+    fn is_before(&self, name: &[u8], number: usize) -> bool
+        ensures { (lines : List Line) → AreLabelsOf lines self.now → number ≤ length lines → result ≡ is_label (take number lines) name.now }
+    {
+        match self.line(name) {
+            Some(line) => line < number,
+            None => false,
+        }
+    }
+
+    /// Whether a line with this number, counted from 0, defines a name that an earlier line defines,
+    /// or one name twice.
+    pub fn is_double(&self, line: &Line, number: usize) -> bool
+        ensures { (lines : List Line) → AreLabelsOf lines self.now → number ≤ length lines
+            → result ≡ is_taken (take number lines) (defined_by line.now) }
+    {
+        match (&line.label, copy_name(line)) {
+            (Some(label), Some(copy)) => {
+                self.is_before(label.as_bytes(), number)
+                    || label.as_bytes() == copy
+                    || self.is_before(copy, number)
+            }
+            (Some(label), None) => self.is_before(label.as_bytes(), number),
+            (None, Some(copy)) => self.is_before(copy, number),
+            (None, None) => false,
+        }
+    }
+}
+
+/// The name of the copy that a line makes.
+pub(crate) fn copy_name(line: &Line) -> Option<&[u8]>
+    ensures { option_map (λ name. name.now) result ≡ copy_name line.now.statement }
+{
+    match &line.statement {
+        Some(Statement::Directive(Directive::Copy(name, _))) => Some(name.as_bytes()),
+        _ => None,
+    }
+}
+
+/// Notes the names that a line defines.
+fn add_line(
+    alloc: Global,
+    lines: &mut FirstNumbers,
+    line: &Line,
+    number: usize,
+) -> Result<(), AllocError>
+    ensures { OnOk result ((other : List ℕ) →
+        number_of lines.new other ≡ option_or (number_of lines.old other) (if defines other line.now then Some number else None)) }
+{
+    if let Some(name) = &line.label {
+        lines.note(alloc, name.as_bytes(), number)?;
+    }
+    if let Some(name) = copy_name(line) {
+        lines.note(alloc, name, number)?;
+    }
+    Ok(())
+}
