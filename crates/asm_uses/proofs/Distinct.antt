@@ -1,11 +1,11 @@
 -- Things that are each once, one more.
 use Rattle.std.proofs.Common.{◌≡◌, ℕ, ◌+◌, ◌<◌, length, get_or, take, Bool, true, false, ◌||◌, List, [], ◌∷◌, ◌++◌}
 use Rattle.std.proofs.Common.{cond, refl, sym, ap, ◌∙◌, append-nil, append_assoc, Some, None}
-use Rattle.std.specs.Prelude.{if◌then◌else◌, Option, filter_map, map}
+use Rattle.std.specs.Prelude.{if◌then◌else◌, Option, filter_map, map, position, not, nat_lt}
 use Rattle.std.specs.Global.{Vec}
-use Rattle.std.specs.List.{list_any, cons_option}
+use Rattle.std.specs.List.{list_any, cons_option, position_or_len}
 use Rattle.std.specs.Str.{bytes_eq}
-use Rattle.std.proofs.lemmas.List.{map-append, take_more}
+use Rattle.std.proofs.lemmas.List.{map-append, length-map, take_more}
 use Rattle.std.proofs.lemmas.List.Elements.{filter_map-append}
 use Rattle.indexmap.specs.IndexSet.{insert_key}
 use Rattle.asm_layout.specs.Uses.{distinct_after, distinct}
@@ -40,9 +40,25 @@ same_key one other = bytes_eq one.items other.items
 abbrev pub spelled : List (Vec ℕ) → List (List ℕ)
 spelled names = map (λ name. name.items) names
 
+pub any_spelled_as : (names : List (Vec ℕ)) (bytes : List ℕ) → list_any (λ name. bytes_eq bytes name.items) names ≡ list_any (bytes_eq bytes) (spelled names)
+any_spelled_as [] bytes = refl
+any_spelled_as (key ∷ names) bytes = ap (λ (rest : Bool). bytes_eq bytes key.items || rest) (any_spelled_as names bytes)
+
 any_spelled : (names : List (Vec ℕ)) (name : Vec ℕ) → list_any (same_key name) names ≡ list_any (bytes_eq name.items) (spelled names)
-any_spelled [] name = refl
-any_spelled (key ∷ names) name = ap (λ (rest : Bool). bytes_eq name.items key.items || rest) (any_spelled names name)
+any_spelled names name = any_spelled_as names name.items
+
+-- the place of a name is that of its key
+first_spelled : (names : List (Vec ℕ)) (bytes : List ℕ)
+    → position_or_len (λ name. bytes_eq bytes name.items) names ≡ position_or_len (bytes_eq bytes) (spelled names)
+first_spelled [] bytes = refl
+first_spelled (key ∷ names) bytes = ap (λ (n : ℕ). cond (not (bytes_eq bytes key.items)) (1 + n) 0) (first_spelled names bytes)
+
+pub position_spelled : (names : List (Vec ℕ)) (bytes : List ℕ)
+    → position (λ name. bytes_eq bytes name.items) names ≡ position (bytes_eq bytes) (spelled names)
+position_spelled names bytes =
+    let first = position_or_len (bytes_eq bytes) (spelled names) in
+    ap (λ (n : ℕ). cond (nat_lt n (length names)) (Some n) None) (first_spelled names bytes)
+    ∙ ap (λ (m : ℕ). cond (nat_lt first m) (Some first) None) (sym (length-map names (λ (name : Vec ℕ). name.items)))
 
 pub spelled_insert : (names : List (Vec ℕ)) (name : Vec ℕ) → spelled (insert_key same_key names name) ≡ added bytes_eq (spelled names) name.items
 spelled_insert names name =

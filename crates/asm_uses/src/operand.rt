@@ -42,6 +42,7 @@ fn of_address(op: AddressOp, name: &Name) -> Operand<'_>
 
 impl<'a> Operand<'a> {
     /// What an instruction needs.
+    #[tactic(auto, unfolding(asm_layout::specs::Expansions::expansion))]
     pub fn of(instruction: &'a Instruction) -> Self
         ensures { operand_as result ≡ operand_of instruction.now }
     {
