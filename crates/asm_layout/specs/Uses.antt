@@ -1,6 +1,6 @@
 -- What the code and the data need of names, each thing once and by first use.
-use Rattle.std.specs.Prelude.{ℕ, Bool, true, false, ◌&&◌, if◌then◌else◌, List, [], ◌∷◌, ◌++◌, map, filter, filter_map, find}
-use Rattle.std.specs.Prelude.{Option, Some, None, option_map, reverse}
+use Rattle.std.specs.Prelude.{ℕ, Bool, true, false, ◌&&◌, if◌then◌else◌, List, [], ◌∷◌, ◌++◌, filter_map, find, fold}
+use Rattle.std.specs.Prelude.{Option, Some, None, option_map}
 use Rattle.std.specs.Str.{bytes_eq}
 use Rattle.std.specs.List.{list_any}
 use Rattle.std.proofs.Math.Bool.{beq}
@@ -124,18 +124,21 @@ unfoldable pub imports : List Line → List (List ℕ)
 imports lines = distinct_names (filter_map (λ line. if_foreign lines (mention line.statement)) lines)
 
 -- what references need of versions: of the lines of one name the last counts, and its place is that of the first
-abbrev pub needed_by : Option Statement → Option Need
-needed_by (Some (statements.Directive (directives.Need need))) = Some need
-needed_by _ = None
+abbrev pub directive_need : Directive → Option Need
+directive_need (directives.Need need) = Some need
+directive_need _ = None
 
-abbrev pub all_needs : List Line → List Need
-all_needs lines = filter_map (λ line. needed_by line.statement) lines
+abbrev pub need_of : Option Statement → Option Need
+need_of None = None
+need_of (Some (statements.Directive directive)) = directive_need directive
+need_of (Some (statements.Instruction instruction)) = None
 
-abbrev pub last_need : List Need → List ℕ → Option Need
-last_need needs name = find (λ need. bytes_eq name need.name) (reverse needs)
+abbrev pub with_need : List Need → Need → List Need
+with_need [] need = need ∷ []
+with_need (first ∷ needs) need = if bytes_eq need.name first.name then need ∷ needs else first ∷ with_need needs need
 
 unfoldable pub needs : List Line → List Need
-needs lines = filter_map (last_need (all_needs lines)) (distinct_names (map (λ need. need.name) (all_needs lines)))
+needs lines = fold with_need [] (filter_map (λ line. need_of line.statement) lines)
 
 -- the version of a label that has one by what references to it need: that of a copy
 abbrev pub copies : List ℕ → Option Statement → Bool
@@ -146,7 +149,7 @@ abbrev pub is_copy_label : List Line → List ℕ → Bool
 is_copy_label lines name = list_any (λ line. copies name line.statement) lines
 
 abbrev pub needed_version : List Line → List ℕ → Option (List ℕ)
-needed_version lines name = option_map (λ need. need.version) (last_need (all_needs lines) name)
+needed_version lines name = option_map (λ need. need.version) (find (λ need. bytes_eq name need.name) (needs lines))
 
 abbrev pub own_version : List Line → List ℕ → Option (List ℕ)
 own_version lines name = if is_copy_label lines name then needed_version lines name else None

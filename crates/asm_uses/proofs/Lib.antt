@@ -1,4 +1,6 @@
 pub mod Among
 pub mod Distinct
+pub mod Needed
 pub mod Noted
 pub mod Preempt
+pub mod Words

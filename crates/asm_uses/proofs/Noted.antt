@@ -30,7 +30,8 @@ pub looked_up : (lines : List (Vec ℕ × ℕ)) (bytes : List ℕ) → lookup (�
 looked_up [] bytes = refl
 looked_up ((key, line) ∷ lines) bytes = ap (λ (rest : Option ℕ). cond (bytes_eq bytes key.items) (Some line) rest) (looked_up lines bytes)
 
-one_more : {X : Type 0} (p : X → Bool) (xs : List X) (x : X)
+-- the first that passes, one element more
+pub one_more : {X : Type 0} (p : X → Bool) (xs : List X) (x : X)
     → position p (xs ++ x ∷ []) ≡ option_or (position p xs) (cond (p x) (Some (length xs)) None)
 one_more p xs x =
     let within : position_or_len p xs ≤ length xs = prefix_len-le-length (λ y. not (p y)) xs in
@@ -73,6 +74,10 @@ number_noted lines name bytes other n is new =
     ∙ ap (λ (same : Bool). option_or (number_of (spelled_pairs lines) other) (cond same (Some n) None))
     (nat_list_eq_equiv.symm name.items other ∙ ap (bytes_eq other) is)
 
+pub none_stays : (found : Option ℕ) → found ≡ option_or found None
+none_stays None = refl
+none_stays (Some k) = refl
+
 -- a name that has a number keeps it
 pub number_kept : (numbers : List (List ℕ × ℕ)) (bytes other : List ℕ) (n : ℕ) → is_some (number_of numbers bytes) ≡ true
     → number_of numbers other ≡ option_or (number_of numbers other) (cond (bytes_eq other bytes) (Some n) None)
@@ -90,10 +95,6 @@ number_kept numbers bytes other n has =
     some_stays : (found : Option ℕ) → is_some found ≡ true → found ≡ option_or found (Some n)
     some_stays None has = absurd (cc has)
     some_stays (Some k) has = refl
-
-    none_stays : (found : Option ℕ) → found ≡ option_or found None
-    none_stays None = refl
-    none_stays (Some k) = refl
 
 -- whether one of the first elements passes: the first that does is one of them
 pub any_before : {X : Type 0} (p : X → Bool) (xs : List X) (k : ℕ) → k ≤ length xs → list_any p (take k xs) ≡ nat_lt (position_or_len p xs) k

@@ -1,4 +1,7 @@
+pub mod Exports
+pub mod Got
 pub mod Lines
+pub mod Needs
 pub mod Numbers
 pub mod Once
 pub mod Operands

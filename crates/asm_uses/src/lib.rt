@@ -4,14 +4,19 @@
 //! taken. [`Preemption`] tells which names another object may define.
 #![tactic(auto)]
 
+mod export_set;
 mod first_numbers;
+mod got;
 mod labels;
 mod name_set;
+mod names;
+mod need_map;
 mod object_words;
 mod operand;
 mod preemption;
 
 pub use first_numbers::FirstNumbers;
+pub use got::Got;
 pub use labels::Labels;
 pub use name_set::NameSet;
 pub use object_words::{hash_of, is_relr, kind_of};

@@ -1,0 +1,34 @@
+use Rattle.std.proofs.Common.{List, ℕ, ◌∙◌, ap, sym}
+use Rattle.std.specs.Prelude.{filter_map}
+use Rattle.std.specs.Str.{bytes_eq}
+use Rattle.std.proofs.lemmas.List.{take_all}
+use Rattle.asm_statement.specs.declared.line.Line.{Line}
+use Rattle.asm_layout.specs.Uses.{mention, if_foreign, imports}
+use Rattle.asm_layout.specs.Uses.{distinct, distinct_names}
+use Rattle.asm_uses.specs.Lines.{AreLabelsOf}
+use Rattle.asm_uses.specs.Once.{added_if}
+use Rattle.asm_uses.proofs.Distinct.{distinct_further}
+use Rattle.asm_uses.proofs.names.imports_of.Goals as goal
+
+pub loop-line-init : goal.loop-line-init
+unfolding distinct
+loop-line-init c = c.new-names.ensures
+
+pub loop-line-preserved : goal.loop-line-preserved
+loop-line-preserved c =
+    let lines = c.as_slice-line-items.result.now in
+    let labels : AreLabelsOf lines c.args.labels.now = rw c.as_slice-line-items.ensures c.requires in
+    c.in_ok-add_found.ensures
+    ∙ ap (added_if bytes_eq c.loop-line.names) (c.import.ensures lines labels)
+    ∙ ap (λ (names : List (List ℕ)). added_if bytes_eq names (if_foreign lines (mention c.line-item.result.statement))) c.loop-line.invariant
+    ∙ sym (distinct_further bytes_eq (λ line. if_foreign lines (mention line.statement)) lines c.loop-line.line-index c.line-item.result
+    c.loop-line-test.true c.line-item.is)
+
+pub returns : goal.returns
+unfolding imports
+returns c =
+    let lines = c.as_slice-line-items.result.now in
+    let all = take_all c.loop-line.line-index lines c.loop-line-test.false in
+    c.loop-line.invariant
+    ∙ ap (λ (front : List Line). distinct_names (filter_map (λ line. if_foreign lines (mention line.statement)) front)) all
+    ∙ ap imports c.as_slice-line-items.ensures
