@@ -3,6 +3,7 @@ use Rattle.std.specs.Prelude.{ℕ, Bool, true, false, ◌&&◌, if◌then◌else
 use Rattle.std.specs.Prelude.{Option, Some, None, option_map}
 use Rattle.std.specs.Str.{bytes_eq}
 use Rattle.std.specs.List.{list_any}
+use Rattle.std.specs.Option.{option_eq}
 use Rattle.std.proofs.Math.Bool.{beq}
 use Rattle.asm_statement.specs.declared.directive.Directive.{Directive}
 use Rattle.asm_statement.specs.declared.directive.Directive.TheVariants as directives
@@ -178,16 +179,10 @@ abbrev pub if_labelled : List Line → Option Exported → Option Exported
 if_labelled lines None = None
 if_labelled lines (Some exported) = if is_label lines exported.label then Some exported else None
 
-abbrev pub same_version : Option (List ℕ) → Option (List ℕ) → Bool
-same_version None None = true
-same_version (Some one) (Some other) = bytes_eq one other
-same_version None (Some other) = false
-same_version (Some one) None = false
-
 abbrev pub same_export : Exported → Exported → Bool
 same_export one other =
-    bytes_eq one.label other.label && bytes_eq one.name other.name && same_version one.version other.version
-    && beq one.is_default other.is_default
+    bytes_eq one.label other.label
+    && (bytes_eq one.name other.name && (option_eq bytes_eq one.version other.version && beq one.is_default other.is_default))
 
 -- the symbols that other objects may find, in the order of the lines that first export them
 unfoldable pub exports : List Line → List Exported

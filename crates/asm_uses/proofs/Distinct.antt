@@ -70,6 +70,23 @@ spelled_insert names name =
     ] in
     rw (← any_spelled names name) (cases (list_any (same_key name) names))
 
+-- the same of any keys that are compared by what they stand for
+any_mapped : {K A : Type 0} (eq : K → K → Bool) (same : A → A → Bool) (f : K → A) → ((k e : K) → eq k e ≡ same (f k) (f e))
+    → (keys : List K) (key : K) → list_any (eq key) keys ≡ list_any (same (f key)) (map f keys)
+any_mapped eq same f are [] key = refl
+any_mapped eq same f are (first ∷ keys) key = rw (are key first, any_mapped eq same f are keys key) refl
+
+pub mapped_insert : {K A : Type 0} (eq : K → K → Bool) (same : A → A → Bool) (f : K → A) → ((k e : K) → eq k e ≡ same (f k) (f e))
+    → (keys : List K) (key : K) → map f (insert_key eq keys key) ≡ added same (map f keys) (f key)
+mapped_insert {K} {A} eq same f are keys key =
+    let P : Bool → Type 0 = λ there.
+    map f (cond there keys (keys ++ key ∷ [])) ≡ (if there then map f keys else map f keys ++ f key ∷ []) in
+    let cases : (there : Bool) → P there = λ there. elim there as P [
+      | true ↦ refl
+      | false ↦ map-append f keys (key ∷ [])
+    ] in
+    rw (← any_mapped eq same f are keys key) (cases (list_any (eq key) keys))
+
 -- what lines give, one line more
 pub distinct_further : {X A : Type 0} (same : A → A → Bool) (f : X → Option A) (xs : List X) (n : ℕ) (x : X) → n < length xs → x ≡ get_or xs n x
     → distinct same (filter_map f (take (n + 1) xs)) ≡ added_if same (distinct same (filter_map f (take n xs))) (f x)

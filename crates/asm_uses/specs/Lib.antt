@@ -7,3 +7,4 @@ pub mod Once
 pub mod Operands
 pub mod Preemption
 pub mod Spelled
+pub mod Uses

@@ -1,11 +1,11 @@
 //! The symbols that other objects may find.
 
-ghost use Rattle.std.specs.Prelude.{◌≡◌, [], List, IfOk, OnOk, option_map};
+ghost use Rattle.std.specs.Prelude.{◌≡◌, [], ℕ, List, IfOk, OnOk, option_map};
 ghost use Rattle.std.specs.List.{list_any};
 ghost use Rattle.std.specs.Str.{bytes_eq};
 ghost use Rattle.asm_statement.specs.declared.line.Line.{Line};
-ghost use Rattle.asm_layout.specs.Uses.{copies, exported_by, exports, if_labelled, is_copy_label, needs, own_symbol, own_version, same_export};
-ghost use Rattle.asm_uses.specs.Exports.{export_as, exported_as};
+ghost use Rattle.asm_layout.specs.Uses.{copies, exported_by, exported_by_directive, exports, if_labelled, is_copy_label, needs as needs_of, own_symbol, own_version, same_export};
+ghost use Rattle.asm_uses.specs.Exports.{export_as, exported_as, IsSourceOf};
 ghost use Rattle.asm_uses.specs.Lines.{AreLabelsOf};
 ghost use Rattle.asm_uses.specs.Once.{added, added_if};
 
@@ -79,4 +79,187 @@ fn key_of(alloc: Global, lent: Lent<'_>) -> Result<Key, AllocError>
         version: version_of(alloc, lent.version)?,
         is_default: lent.is_default,
     })
+}
+
+impl ExportSet {
+    /// No symbols.
+    fn new(alloc: Global) -> Self
+        ensures { result ≡ [] }
+    {
+        ExportSet {
+            keys: IndexSet::new(alloc),
+        }
+    }
+
+    /// Puts a symbol behind the others, unless it is one of them.
+    fn add(&mut self, alloc: Global, symbol: Lent<'_>) -> Result<(), AllocError>
+        ensures { OnOk result (self.new ≡ added same_export self.old (export_as symbol.entry)) }
+    {
+        let key = key_of(alloc, symbol)?;
+        self.keys.insert(key)?;
+        Ok(())
+    }
+
+    /// The same of a symbol that may be there.
+    fn add_found(&mut self, alloc: Global, symbol: Option<Lent<'_>>) -> Result<(), AllocError>
+        ensures { OnOk result (self.new ≡ added_if same_export self.old (option_map export_as symbol.entry)) }
+    {
+        match symbol {
+            Some(symbol) => self.add(alloc, symbol),
+            None => Ok(()),
+        }
+    }
+}
+
+impl<'a> Source<'a> {
+    /// The version that a label carries: that of a copy is the one that references need.
+    fn own_version(self, name: &[u8]) -> Option<&'a [u8]>
+        ensures { (lines : List Line) → IsSourceOf lines self.entry → option_map (λ v. v.now) result ≡ own_version lines name.now }
+    {
+        if self.copies.contains(name) {
+            self.needs.version(name)
+        } else {
+            None
+        }
+    }
+
+    /// The symbol of a label by its own name.
+    fn own_symbol(self, name: &'a [u8]) -> Lent<'a>
+        ensures { (lines : List Line) → IsSourceOf lines self.entry → export_as result ≡ own_symbol lines name.entry.now }
+    {
+        Lent {
+            label: name,
+            name,
+            version: self.own_version(name),
+            is_default: true,
+        }
+    }
+
+    /// The symbol that a directive exports.
+    fn exported_by(self, directive: &'a Directive) -> Option<Lent<'a>>
+        ensures { (lines : List Line) → IsSourceOf lines self.entry
+            → option_map export_as result ≡ exported_by_directive lines directive.entry.now }
+    {
+        match directive {
+            Directive::Export(Export::Global, name)
+            | Directive::Weak(name)
+            | Directive::Copy(name, _) => Some(self.own_symbol(name.as_bytes())),
+            Directive::Symver(symver) => Some(Lent {
+                label: symver.label.as_bytes(),
+                name: symver.name.as_bytes(),
+                version: Some(symver.version.as_bytes()),
+                is_default: symver.is_default,
+            }),
+            _ => None,
+        }
+    }
+
+    /// The symbol that a line exports, whether its label is one or not.
+    fn exported_line(self, line: &'a Line) -> Option<Lent<'a>>
+        ensures { (lines : List Line) → IsSourceOf lines self.entry
+            → option_map export_as result ≡ exported_by lines line.entry.now.statement }
+    {
+        match &line.statement {
+            Some(Statement::Directive(directive)) => self.exported_by(directive),
+            Some(Statement::Instruction(_)) | None => None,
+        }
+    }
+
+    /// The symbol of a label that a line exports.
+    fn symbol(self, line: &'a Line) -> Option<Lent<'a>>
+        ensures { (lines : List Line) → IsSourceOf lines self.entry
+            → option_map export_as result ≡ if_labelled lines (exported_by lines line.entry.now.statement) }
+    {
+        let symbol = self.exported_line(line)?;
+        match self.labels.line(symbol.label) {
+            Some(_) => Some(symbol),
+            None => None,
+        }
+    }
+}
+
+/// The symbols that other objects may find, in the order of the lines that first export them.
+///
+/// # Errors
+///
+/// Want of memory.
+fn symbols_of(alloc: Global, statements: &Statements, source: Source<'_>) -> Result<ExportSet, AllocError>
+    requires { IsSourceOf statements.now source }
+    ensures { IfOk result (λ set. set ≡ exports statements.now) }
+{
+    let mut set = ExportSet::new(alloc);
+    for line in statements.as_slice() {
+        set.add_found(alloc, source.symbol(line))?;
+    }
+    Ok(set)
+}
+
+/// The names of the copies that lines make.
+fn copies_of(alloc: Global, statements: &Statements) -> Result<NameSet, AllocError>
+    ensures { IfOk result (λ names. (name : List ℕ) → list_any (bytes_eq name) names ≡ is_copy_label statements.now name) }
+{
+    let mut names = NameSet::new(alloc);
+    for line in statements.as_slice() {
+        names.add_found(alloc, copy_name(line))?;
+    }
+    Ok(names)
+}
+
+fn name_of(alloc: Global, version: &Option<Vec<u8>>) -> Result<Option<Name>, AllocError>
+    ensures { IfOk result (λ name. name ≡ option_map (λ n. n.items) version.now) }
+{
+    match version {
+        Some(version) => Ok(Some(Name::new(alloc, version.as_slice())?)),
+        None => Ok(None),
+    }
+}
+
+/// The symbol of a key.
+fn exported_of(alloc: Global, key: &Key) -> Result<Exported, AllocError>
+    ensures { IfOk result (λ exported. exported ≡ exported_as key.now) }
+{
+    Ok(Exported {
+        label: Name::new(alloc, key.label.as_slice())?,
+        name: Name::new(alloc, key.name.as_slice())?,
+        version: name_of(alloc, &key.version)?,
+        is_default: key.is_default,
+    })
+}
+
+impl ExportSet {
+    /// The symbols as a list.
+    fn to_list(&self, alloc: Global) -> Result<Sequence<Exported>, AllocError>
+        ensures { IfOk result (λ list. list ≡ self.now) }
+    {
+        let mut list = Sequence::new(alloc);
+        for key in self.keys.as_slice() {
+            list.push(exported_of(alloc, key)?)?;
+        }
+        Ok(list)
+    }
+}
+
+/// The symbols that other objects may find, in the order of the lines that first export them.
+///
+/// # Errors
+///
+/// Want of memory.
+pub(crate) fn exports_of(
+    alloc: Global,
+    statements: &Statements,
+    labels: &Labels,
+    needs: &NeedMap,
+) -> Result<Sequence<Exported>, AllocError>
+    requires labels { AreLabelsOf statements.now labels.now }
+    requires needs { needs.now ≡ needs_of statements.now }
+    ensures { IfOk result (λ list. list ≡ exports statements.now) }
+{
+    let copies = copies_of(alloc, statements)?;
+    let source = Source {
+        labels,
+        copies: &copies,
+        needs,
+    };
+    let set = symbols_of(alloc, statements, source)?;
+    set.to_list(alloc)
 }

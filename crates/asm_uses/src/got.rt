@@ -1,6 +1,6 @@
 //! The global offset table.
 
-ghost use Rattle.std.specs.Prelude.{◌≡◌, [], List, IfOk, OnOk, option_map, if◌then◌else◌};
+ghost use Rattle.std.specs.Prelude.{◌≡◌, [], List, OnOk, option_map, if◌then◌else◌};
 ghost use Rattle.asm_statement.specs.declared.line.Line.{Line};
 ghost use Rattle.asm_layout.specs.declared.uses.GotUse.{GotUse as Use};
 ghost use Rattle.asm_layout.specs.Uses.{got_use, got_uses, same_use};
@@ -58,7 +58,7 @@ fn use_of(line: &Line) -> Option<(GotKind, &[u8])>
 
 impl Got {
     /// A table without words.
-    fn new(alloc: Global) -> Self
+    pub(crate) fn new(alloc: Global) -> Self
         ensures { IsGotOf [] result }
     {
         Got {
@@ -121,18 +121,18 @@ impl Got {
         }
     }
 
-    /// That of the lines of a source.
+    /// Fills in that of the lines of a source.
     ///
     /// # Errors
     ///
     /// Want of memory.
-    pub(crate) fn of(alloc: Global, statements: &Statements) -> Result<Self, AllocError>
-        ensures { IfOk result (IsGotOf (got_uses statements.now)) }
+    pub(crate) fn fill(&mut self, alloc: Global, statements: &Statements) -> Result<(), AllocError>
+        requires { IsGotOf [] self.old }
+        ensures { OnOk result (IsGotOf (got_uses statements.now) self.new) }
     {
-        let mut got = Got::new(alloc);
         for line in statements.as_slice() {
-            got.add_line(alloc, line)?;
+            self.add_line(alloc, line)?;
         }
-        Ok(got)
+        Ok(())
     }
 }

@@ -1,6 +1,6 @@
 //! The lines that define names.
 
-ghost use Rattle.std.specs.Prelude.{◌≡◌, ◌≤◌, ℕ, List, length, take, Some, None, IfOk, OnOk, option_map, if◌then◌else◌};
+ghost use Rattle.std.specs.Prelude.{◌≡◌, ◌≤◌, [], ℕ, List, length, take, Some, None, OnOk, option_map, if◌then◌else◌};
 ghost use Rattle.std.specs.Option.{option_or};
 ghost use Rattle.asm_statement.specs.declared.line.Line.{Line};
 ghost use Rattle.asm_layout.specs.Labels.{copy_name, defined_by, defines, is_label, is_taken};
@@ -27,19 +27,25 @@ impl Model for Labels {
 }
 
 impl Labels {
-    /// Those of the lines of a source.
+    /// No names.
+    pub(crate) fn new(alloc: Global) -> Self
+        ensures { result ≡ [] }
+    {
+        Labels {
+            lines: FirstNumbers::new(alloc),
+        }
+    }
+
+    /// Fills in those of the lines of a source.
     ///
     /// # Errors
     ///
     /// Want of memory.
-    pub fn of(alloc: Global, statements: &Statements) -> Result<Self, AllocError>
-        ensures { IfOk result (λ labels. AreLabelsOf statements.now labels) }
+    pub(crate) fn fill(&mut self, alloc: Global, statements: &Statements) -> Result<(), AllocError>
+        requires { self.old ≡ [] }
+        ensures { OnOk result (AreLabelsOf statements.now self.new) }
     {
-        let mut lines = FirstNumbers::new(alloc);
-        for (number, line) in statements.as_slice().iter().enumerate() {
-            add_line(alloc, &mut lines, line, number)?;
-        }
-        Ok(Labels { lines })
+        fill_lines(alloc, &mut self.lines, statements)
     }
 
     /// The first line that defines the name, counted from 0.
@@ -103,6 +109,17 @@ fn add_line(
     }
     if let Some(name) = copy_name(line) {
         lines.note(alloc, name, number)?;
+    }
+    Ok(())
+}
+
+/// Notes the names that the lines of a source define.
+fn fill_lines(alloc: Global, lines: &mut FirstNumbers, statements: &Statements) -> Result<(), AllocError>
+    requires { lines.old ≡ [] }
+    ensures { OnOk result (AreLabelsOf statements.now lines.new) }
+{
+    for (number, line) in statements.as_slice().iter().enumerate() {
+        add_line(alloc, lines, line, number)?;
     }
     Ok(())
 }

@@ -1,6 +1,6 @@
 //! Names that the object has to list: slots, undefined symbols, versions.
 
-ghost use Rattle.std.specs.Prelude.{◌≡◌, List, IfOk, option_map};
+ghost use Rattle.std.specs.Prelude.{◌≡◌, [], List, OnOk, option_map};
 ghost use Rattle.asm_statement.specs.declared.line.Line.{Line};
 ghost use Rattle.asm_layout.specs.Uses.{callee, directive_mention, dword_mention, foreign_name, if_foreign, if_preemptible, imports, line_operand, mention, slots};
 ghost use Rattle.asm_layout.specs.Tables.{version_defined, versions};
@@ -42,26 +42,27 @@ fn slot_name<'a>(labels: &Labels, preemption: &Preemption, line: &'a Line) -> Op
     }
 }
 
-/// The names that have a slot, in the order of their slots.
+/// Fills in the names that have a slot, in the order of their slots.
 ///
 /// # Errors
 ///
 /// Want of memory.
-pub(crate) fn slots_of(
+pub(crate) fn fill_slots(
     alloc: Global,
+    names: &mut NameSet,
     statements: &Statements,
     labels: &Labels,
     preemption: &Preemption,
-) -> Result<NameSet, AllocError>
+) -> Result<(), AllocError>
+    requires empty { names.old ≡ [] }
     requires labels { AreLabelsOf statements.now labels.now }
     requires preemption { IsPreemptionOf statements.now preemption.now }
-    ensures { IfOk result (λ names. names ≡ slots statements.now) }
+    ensures { OnOk result (names.new ≡ slots statements.now) }
 {
-    let mut names = NameSet::new(alloc);
     for line in statements.as_slice() {
         names.add_found(alloc, slot_name(labels, preemption, line))?;
     }
-    Ok(names)
+    Ok(())
 }
 
 fn dword_mention(value: &Doubleword) -> Option<&[u8]>
@@ -120,20 +121,25 @@ fn import<'a>(labels: &Labels, line: &'a Line) -> Option<&'a [u8]>
     }
 }
 
-/// The undefined symbols, by first mention.
+/// Fills in the undefined symbols, by first mention.
 ///
 /// # Errors
 ///
 /// Want of memory.
-pub(crate) fn imports_of(alloc: Global, statements: &Statements, labels: &Labels) -> Result<NameSet, AllocError>
-    requires { AreLabelsOf statements.now labels.now }
-    ensures { IfOk result (λ names. names ≡ imports statements.now) }
+pub(crate) fn fill_imports(
+    alloc: Global,
+    names: &mut NameSet,
+    statements: &Statements,
+    labels: &Labels,
+) -> Result<(), AllocError>
+    requires empty { names.old ≡ [] }
+    requires labels { AreLabelsOf statements.now labels.now }
+    ensures { OnOk result (names.new ≡ imports statements.now) }
 {
-    let mut names = NameSet::new(alloc);
     for line in statements.as_slice() {
         names.add_found(alloc, import(labels, line))?;
     }
-    Ok(names)
+    Ok(())
 }
 
 fn version_defined(line: &Line) -> Option<&[u8]>
@@ -145,17 +151,21 @@ fn version_defined(line: &Line) -> Option<&[u8]>
     }
 }
 
-/// The versions that the object defines, in order.
+/// Fills in the versions that the object defines, in order.
 ///
 /// # Errors
 ///
 /// Want of memory.
-pub(crate) fn versions_of(alloc: Global, statements: &Statements) -> Result<NameSet, AllocError>
-    ensures { IfOk result (λ names. names ≡ versions statements.now) }
+pub(crate) fn fill_versions(
+    alloc: Global,
+    names: &mut NameSet,
+    statements: &Statements,
+) -> Result<(), AllocError>
+    requires { names.old ≡ [] }
+    ensures { OnOk result (names.new ≡ versions statements.now) }
 {
-    let mut names = NameSet::new(alloc);
     for line in statements.as_slice() {
         names.add_found(alloc, version_defined(line))?;
     }
-    Ok(names)
+    Ok(())
 }

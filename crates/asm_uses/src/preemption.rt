@@ -1,6 +1,6 @@
 //! Which names another object may define.
 
-ghost use Rattle.std.specs.Prelude.{◌≡◌, ◌&&◌, not, ℕ, List, IfOk, option_map};
+ghost use Rattle.std.specs.Prelude.{◌≡◌, [], ◌&&◌, not, ℕ, List, OnOk, option_map};
 ghost use Rattle.asm_statement.specs.declared.line.Line.{Line};
 ghost use Rattle.asm_layout.specs.Names.{is_library, is_got_plt, is_foreign, is_preemptible, statement_exports, statement_keeps};
 ghost use Rattle.asm_uses.specs.Lines.{AreLabelsOf};
@@ -71,26 +71,34 @@ fn kept_name(line: &Line) -> Option<&[u8]>
 }
 
 impl Preemption {
-    /// That of the lines of a source.
+    /// That of no lines.
+    pub(crate) fn new(alloc: Global) -> Self
+        ensures exported { result.exported ≡ [] }
+        ensures kept { result.kept ≡ [] }
+    {
+        Preemption {
+            is_library: true,
+            exported: NameSet::new(alloc),
+            kept: NameSet::new(alloc),
+        }
+    }
+
+    /// Fills in that of the lines of a source.
     ///
     /// # Errors
     ///
     /// Want of memory.
-    pub fn of(alloc: Global, statements: &Statements) -> Result<Self, AllocError>
-        ensures { IfOk result (IsPreemptionOf statements.now) }
+    pub(crate) fn fill(&mut self, alloc: Global, statements: &Statements) -> Result<(), AllocError>
+        requires exported { self.old.exported ≡ [] }
+        requires kept { self.old.kept ≡ [] }
+        ensures { OnOk result (IsPreemptionOf statements.now self.new) }
     {
-        let mut exported = NameSet::new(alloc);
-        let mut kept = NameSet::new(alloc);
         for line in statements.as_slice() {
-            exported.add_found(alloc, exported_name(line))?;
-            kept.add_found(alloc, kept_name(line))?;
+            self.exported.add_found(alloc, exported_name(line))?;
+            self.kept.add_found(alloc, kept_name(line))?;
         }
-        let is_library = is_library(kind_of(statements));
-        Ok(Preemption {
-            is_library,
-            exported,
-            kept,
-        })
+        self.is_library = is_library(kind_of(statements));
+        Ok(())
     }
 
     /// Whether the name of a label is open to others: a library exports it, and doesn't keep it.

@@ -7,11 +7,11 @@ use Rattle.asm_layout.specs.Tables.{version_defined, versions}
 use Rattle.asm_layout.specs.Uses.{distinct, distinct_names}
 use Rattle.asm_uses.specs.Once.{added_if}
 use Rattle.asm_uses.proofs.Distinct.{distinct_further}
-use Rattle.asm_uses.proofs.names.versions_of.Goals as goal
+use Rattle.asm_uses.proofs.names.fill_versions.Goals as goal
 
 pub loop-line-init : goal.loop-line-init
 unfolding distinct
-loop-line-init c = c.new-names.ensures
+loop-line-init c = c.requires
 
 pub loop-line-preserved : goal.loop-line-preserved
 loop-line-preserved c =

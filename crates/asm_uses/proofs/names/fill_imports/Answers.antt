@@ -8,16 +8,16 @@ use Rattle.asm_layout.specs.Uses.{distinct, distinct_names}
 use Rattle.asm_uses.specs.Lines.{AreLabelsOf}
 use Rattle.asm_uses.specs.Once.{added_if}
 use Rattle.asm_uses.proofs.Distinct.{distinct_further}
-use Rattle.asm_uses.proofs.names.imports_of.Goals as goal
+use Rattle.asm_uses.proofs.names.fill_imports.Goals as goal
 
 pub loop-line-init : goal.loop-line-init
 unfolding distinct
-loop-line-init c = c.new-names.ensures
+loop-line-init c = c.requires.empty
 
 pub loop-line-preserved : goal.loop-line-preserved
 loop-line-preserved c =
     let lines = c.as_slice-line-items.result.now in
-    let labels : AreLabelsOf lines c.args.labels.now = rw c.as_slice-line-items.ensures c.requires in
+    let labels : AreLabelsOf lines c.args.labels.now = rw c.as_slice-line-items.ensures c.requires.labels in
     c.in_ok-add_found.ensures
     ∙ ap (added_if bytes_eq c.loop-line.names) (c.import.ensures lines labels)
     ∙ ap (λ (names : List (List ℕ)). added_if bytes_eq names (if_foreign lines (mention c.line-item.result.statement))) c.loop-line.invariant

@@ -4,11 +4,11 @@ use Rattle.std.proofs.lemmas.List.{take_all}
 use Rattle.asm_layout.specs.Uses.{distinct, same_use, got_use, got_uses}
 use Rattle.asm_uses.specs.Got.{IsGotOf}
 use Rattle.asm_uses.proofs.Distinct.{distinct_further}
-use Rattle.asm_uses.proofs.got.Got.of.Goals as goal
+use Rattle.asm_uses.proofs.got.Got.fill.Goals as goal
 
 pub loop-line-init : goal.loop-line-init
 unfolding distinct
-loop-line-init c = c.new-got.ensures
+loop-line-init c = c.requires
 
 pub loop-line-preserved : goal.loop-line-preserved
 loop-line-preserved c =

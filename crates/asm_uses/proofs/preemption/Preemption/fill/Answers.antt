@@ -6,7 +6,7 @@ use Rattle.asm_layout.specs.Names.{is_exported, is_kept, is_library, statement_e
 use Rattle.asm_uses.specs.Preemption.{is_among}
 use Rattle.asm_uses.proofs.Among.{among_added_if}
 use Rattle.asm_uses.proofs.Preempt.{any_further}
-use Rattle.asm_uses.proofs.preemption.Preemption.of.Goals as goal
+use Rattle.asm_uses.proofs.preemption.Preemption.fill.Goals as goal
 
 pub loop-line-preserved : goal.loop-line-preserved
 loop-line-preserved c =
@@ -15,11 +15,11 @@ loop-line-preserved c =
     let line = c.line-item.result in
     record {
       exported = λ name. ap (λ (names : List (List ℕ)). is_among names name) c.in_ok-add_found.ensures
-          ∙ among_added_if c.loop-line.exported (option_map (λ n. n.now) c.exported_name.result) name
+          ∙ among_added_if c.loop-line.self.exported (option_map (λ n. n.now) c.exported_name.result) name
           ∙ rw (c.loop-line.invariant.exported name, ← c.exported_name.ensures name)
           (sym (any_further (λ line. statement_exports name line.statement) lines n line c.loop-line-test.true c.line-item.is));
       kept = λ name. ap (λ (names : List (List ℕ)). is_among names name) c.in_ok-add_found-2.ensures
-          ∙ among_added_if c.loop-line.kept (option_map (λ n. n.now) c.kept_name.result) name
+          ∙ among_added_if c.loop-line.self.kept (option_map (λ n. n.now) c.kept_name.result) name
           ∙ rw (c.loop-line.invariant.kept name, ← c.kept_name.ensures name)
           (sym (any_further (λ line. statement_keeps name line.statement) lines n line c.loop-line-test.true c.line-item.is));
     }
@@ -28,7 +28,7 @@ pub returns : goal.returns
 returns c =
     let all = take_all c.loop-line.line-index c.as_slice-line-items.result.now c.loop-line-test.false ∙ c.as_slice-line-items.ensures in
     record {
-      kind = c.is_library-is_library.ensures ∙ ap is_library c.kind_of.ensures;
+      kind = c.is_library-self.ensures ∙ ap is_library c.kind_of.ensures;
       exported = λ name. c.loop-line.invariant.exported name ∙ ap (λ (lines : List Line). is_exported lines name) all;
       kept = λ name. c.loop-line.invariant.kept name ∙ ap (λ (lines : List Line). is_kept lines name) all;
     }

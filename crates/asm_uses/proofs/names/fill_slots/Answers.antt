@@ -9,11 +9,11 @@ use Rattle.asm_uses.specs.Lines.{AreLabelsOf}
 use Rattle.asm_uses.specs.Preemption.{IsPreemptionOf}
 use Rattle.asm_uses.specs.Once.{added_if}
 use Rattle.asm_uses.proofs.Distinct.{distinct_further}
-use Rattle.asm_uses.proofs.names.slots_of.Goals as goal
+use Rattle.asm_uses.proofs.names.fill_slots.Goals as goal
 
 pub loop-line-init : goal.loop-line-init
 unfolding distinct
-loop-line-init c = c.new-names.ensures
+loop-line-init c = c.requires.empty
 
 pub loop-line-preserved : goal.loop-line-preserved
 loop-line-preserved c =

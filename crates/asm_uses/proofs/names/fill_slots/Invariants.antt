@@ -2,7 +2,7 @@ use Rattle.std.proofs.Common.{◌≡◌, take}
 use Rattle.std.specs.Prelude.{filter_map}
 use Rattle.asm_layout.specs.Uses.{callee, if_preemptible, slots}
 use Rattle.asm_layout.specs.Uses.{distinct_names}
-use Rattle.asm_uses.proofs.names.slots_of.Given as goal
+use Rattle.asm_uses.proofs.names.fill_slots.Given as goal
 
 -- the names of the lines so far
 abbrev pub invariant-loop-line : goal.invariant-loop-line
