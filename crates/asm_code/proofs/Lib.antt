@@ -1,5 +1,0 @@
-pub mod Among
-pub mod Counting
-pub mod Distinct
-pub mod Noted
-pub mod Preempt

@@ -1,4 +1,1 @@
-pub mod Counts
-pub mod Exported
-pub mod Lines
-pub mod Slots
+pub mod Encoded

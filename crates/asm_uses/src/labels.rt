@@ -55,6 +55,16 @@ impl Labels {
         self.lines.get(name)
     }
 
+    /// Whether a line defines the name.
+    pub fn contains(&self, name: &[u8]) -> bool
+        ensures { (lines : List Line) → AreLabelsOf lines self.now → result ≡ is_label lines name.now }
+    {
+        match self.line(name) {
+            Some(_) => true,
+            None => false,
+        }
+    }
+
     /// Whether a line before this one, counted from 0, defines the name.
     fn is_before(&self, name: &[u8], number: usize) -> bool
         ensures { (lines : List Line) → AreLabelsOf lines self.now → number ≤ length lines → result ≡ is_label (take number lines) name.now }
