@@ -1,5 +1,5 @@
 -- The words of instructions.
-use Rattle.std.specs.Prelude.{◌≤ℤ◌, ◌<ℤ◌, ◌^◌, ◌-◌, ℕ, ℤ, pos, neg_ℤ, if◌then◌else◌, List, [], ◌∷◌, map, Option, Some, None}
+use Rattle.std.specs.Prelude.{◌≤ℤ◌, ◌^◌, ◌-◌, ℕ, ℤ, pos, neg_ℤ, if◌then◌else◌, List, [], ◌∷◌, map, Option, Some, None}
 use Rattle.std.specs.List.{list_all}
 use Rattle.rv_isa.specs.declared.instr.Instr.{Instr}
 use Rattle.rv_isa.specs.Encoding.{word_of}

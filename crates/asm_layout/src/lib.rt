@@ -25,7 +25,8 @@ mod place;
 mod uses;
 
 pub use law::{
-    forms_are_those_of_the_table, words_have_their_room, worked_faults, worked_library, worked_program,
+    forms_are_those_of_the_table, words_have_their_room, worked_faults, worked_library,
+    worked_program,
 };
 pub use part::Part;
 pub use place::Place;

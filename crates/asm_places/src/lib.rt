@@ -12,6 +12,7 @@ mod sizes;
 
 pub use counter::Counter;
 pub use numbers::{
-    count_of, fits_addend, fits_addi, fits_count, fits_data, fits_dword, fits_li, fits_upper, value_of,
+    count_of, fits_addend, fits_addi, fits_count, fits_data, fits_dword, fits_li, fits_upper,
+    value_of,
 };
 pub use places::Places;

@@ -1,6 +1,6 @@
 -- Needs by name, one more.
 use Rattle.std.proofs.Common.{◌≡◌, ℕ, ◌+◌, ◌<◌, Bool, true, false, List, [], ◌∷◌, ◌++◌, length, get_or, take, Some, None, cond, refl, sym, ap, ◌∙◌}
-use Rattle.std.specs.Prelude.{Option, if◌then◌else◌, option_map, filter_map, find, fold, map}
+use Rattle.std.specs.Prelude.{Option, filter_map, find, fold}
 use Rattle.std.specs.Global.{Vec}
 use Rattle.std.specs.List.{cons_option}
 use Rattle.std.specs.Map.{lookup}

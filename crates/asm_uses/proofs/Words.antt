@@ -1,5 +1,5 @@
 -- The words of the global offset table, one use more.
-use Rattle.std.proofs.Common.{◌≡◌, ℕ, ◌+◌, ◌≤◌, ◌<◌, Bool, true, false, ◌&&◌, List, [], ◌∷◌, ◌++◌, length, take, Some, None}
+use Rattle.std.proofs.Common.{◌≡◌, ℕ, ◌+◌, ◌≤◌, Bool, true, false, ◌&&◌, List, [], ◌∷◌, ◌++◌, length, Some, None}
 use Rattle.std.proofs.Common.{cond, refl, sym, ap, ◌∙◌, arith}
 use Rattle.std.specs.Prelude.{Option, if◌then◌else◌, option_map, position, sum_by, nat_lt}
 use Rattle.std.specs.List.{list_any, position_or_len}
@@ -16,7 +16,6 @@ use Rattle.asm_layout.specs.Tables.{got_words}
 use Rattle.asm_layout.specs.Words.{words_before}
 use Rattle.asm_uses.specs.declared.got.Got.{Got}
 use Rattle.asm_uses.specs.Numbers.{number_of}
-use Rattle.asm_uses.specs.Once.{added}
 use Rattle.asm_uses.specs.Got.{numbers_in, IsGotOf, Notes}
 use Rattle.asm_uses.proofs.Noted.{one_more, none_stays, any_before}
 

@@ -1,11 +1,10 @@
 -- What the global offset table has of names, as it is looked up.
-use Rattle.std.specs.Prelude.{◌≡◌, ℕ, List, Option, Some, None, option_map, position, sum_by, if◌then◌else◌}
+use Rattle.std.specs.Prelude.{◌≡◌, ℕ, List, Some, None, option_map, position, sum_by, if◌then◌else◌}
 use Rattle.std.specs.Option.{option_or}
-use Rattle.std.specs.Str.{bytes_eq}
 use Rattle.asm_layout.specs.declared.uses.GotKind.{GotKind}
 use Rattle.asm_layout.specs.declared.uses.GotKind.TheVariants as gots
 use Rattle.asm_layout.specs.declared.uses.GotUse.{GotUse}
-use Rattle.asm_layout.specs.Uses.{same_kind, same_use}
+use Rattle.asm_layout.specs.Uses.{same_use}
 use Rattle.asm_layout.specs.Tables.{got_words}
 use Rattle.asm_layout.specs.Words.{words_before}
 use Rattle.asm_uses.specs.declared.got.Got.{Got}

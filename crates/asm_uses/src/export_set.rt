@@ -183,7 +183,11 @@ impl<'a> Source<'a> {
 /// # Errors
 ///
 /// Want of memory.
-fn symbols_of(alloc: Global, statements: &Statements, source: Source<'_>) -> Result<ExportSet, AllocError>
+fn symbols_of(
+    alloc: Global,
+    statements: &Statements,
+    source: Source<'_>,
+) -> Result<ExportSet, AllocError>
     requires { IsSourceOf statements.now source }
     ensures { IfOk result (λ set. set ≡ exports statements.now) }
 {

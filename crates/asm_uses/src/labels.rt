@@ -124,7 +124,11 @@ fn add_line(
 }
 
 /// Notes the names that the lines of a source define.
-fn fill_lines(alloc: Global, lines: &mut FirstNumbers, statements: &Statements) -> Result<(), AllocError>
+fn fill_lines(
+    alloc: Global,
+    lines: &mut FirstNumbers,
+    statements: &Statements,
+) -> Result<(), AllocError>
     requires { lines.old ≡ [] }
     ensures { OnOk result (AreLabelsOf statements.now lines.new) }
 {

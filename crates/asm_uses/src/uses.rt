@@ -75,7 +75,13 @@ impl Uses {
     {
         self.labels.fill(alloc, statements)?;
         self.preemption.fill(alloc, statements)?;
-        fill_slots(alloc, &mut self.slots, statements, &self.labels, &self.preemption)?;
+        fill_slots(
+            alloc,
+            &mut self.slots,
+            statements,
+            &self.labels,
+            &self.preemption,
+        )?;
         self.got.fill(alloc, statements)?;
         fill_imports(alloc, &mut self.imports, statements, &self.labels)?;
         fill_versions(alloc, &mut self.versions, statements)?;

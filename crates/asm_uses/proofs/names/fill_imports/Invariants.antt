@@ -1,6 +1,6 @@
 use Rattle.std.proofs.Common.{◌≡◌, take}
 use Rattle.std.specs.Prelude.{filter_map}
-use Rattle.asm_layout.specs.Uses.{mention, if_foreign, imports}
+use Rattle.asm_layout.specs.Uses.{mention, if_foreign}
 use Rattle.asm_layout.specs.Uses.{distinct_names}
 use Rattle.asm_uses.proofs.names.fill_imports.Given as goal
 

@@ -1,6 +1,6 @@
 use Rattle.std.proofs.Common.{◌≡◌, take}
 use Rattle.std.specs.Prelude.{filter_map}
-use Rattle.asm_layout.specs.Uses.{callee, if_preemptible, slots}
+use Rattle.asm_layout.specs.Uses.{callee, if_preemptible}
 use Rattle.asm_layout.specs.Uses.{distinct_names}
 use Rattle.asm_uses.proofs.names.fill_slots.Given as goal
 

@@ -1,6 +1,6 @@
 use Rattle.std.proofs.Common.{◌≡◌, take}
 use Rattle.std.specs.Prelude.{filter_map}
-use Rattle.asm_layout.specs.Tables.{version_defined, versions}
+use Rattle.asm_layout.specs.Tables.{version_defined}
 use Rattle.asm_layout.specs.Uses.{distinct_names}
 use Rattle.asm_uses.proofs.names.fill_versions.Given as goal
 

@@ -1,6 +1,3 @@
-use Rattle.std.proofs.Common.{List}
-use Rattle.std.proofs.lemmas.List.{take_all}
-use Rattle.asm_statement.specs.declared.line.Line.{Line}
 use Rattle.asm_layout.specs.declared.place.Place.{Place}
 use Rattle.asm_places.proofs.Counting.{counted_line, place_counted, placed_more}
 use Rattle.asm_places.proofs.places.Places.of.Goals as goal

@@ -1,8 +1,6 @@
 use Rattle.std.proofs.Common.{◌≡◌, true, false, Some, None, refl, ◌∙◌, sym}
-
-use Rattle.asm_layout.specs.declared.uses.Exported.{Exported}
 use Rattle.asm_layout.specs.Labels.{is_label}
-use Rattle.asm_layout.specs.Uses.{if_labelled, exported_by}
+use Rattle.asm_layout.specs.Uses.{exported_by}
 use Rattle.asm_uses.specs.Exports.{export_as}
 use Rattle.asm_uses.proofs.Preempt.{label_found}
 use Rattle.asm_uses.proofs.export_set.Source.symbol.Goals as goal

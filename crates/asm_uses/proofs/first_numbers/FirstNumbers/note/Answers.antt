@@ -1,4 +1,4 @@
-use Rattle.std.proofs.Common.{◌≡◌, Bool, true, false, ◌∙◌, ap, sym}
+use Rattle.std.proofs.Common.{◌≡◌, true, ◌∙◌, ap, sym}
 use Rattle.std.specs.Option.{is_some}
 use Rattle.asm_uses.specs.Numbers.{number_of}
 use Rattle.asm_uses.specs.Spelled.{spelled_pairs}

@@ -1,12 +1,11 @@
-use Rattle.std.proofs.Common.{◌≡◌, ℕ, Bool, true, false, ◌++◌, ◌+◌, List, [], ◌∷◌, refl, ap, sym, ◌∙◌, subst}
-use Rattle.std.specs.Prelude.{if◌then◌else◌}
+use Rattle.std.proofs.Common.{◌≡◌, ℕ, true, false, ◌++◌, ◌+◌, List, [], ◌∷◌, refl, ap, sym, ◌∙◌}
 use Rattle.std.specs.List.{list_any}
 use Rattle.std.specs.Option.{is_some}
 use Rattle.asm_layout.specs.declared.uses.GotUse.{GotUse}
 use Rattle.asm_layout.specs.Uses.{same_use}
 use Rattle.asm_layout.specs.declared.uses.GotKind.TheVariants as gots
 use Rattle.asm_layout.specs.Tables.{got_words}
-use Rattle.asm_uses.specs.Got.{IsGotOf, Notes}
+use Rattle.asm_uses.specs.Got.{Notes}
 use Rattle.asm_uses.proofs.Words.{got_known, got_more}
 use Rattle.asm_uses.proofs.got.Got.add.Goals as goal
 

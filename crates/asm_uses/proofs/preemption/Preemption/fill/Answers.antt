@@ -1,5 +1,5 @@
-use Rattle.std.proofs.Common.{List, ℕ, Some, None, ◌∙◌, ap, sym}
-use Rattle.std.specs.Prelude.{Option, option_map}
+use Rattle.std.proofs.Common.{List, ℕ, ◌∙◌, ap, sym}
+use Rattle.std.specs.Prelude.{option_map}
 use Rattle.std.proofs.lemmas.List.{take_all}
 use Rattle.asm_statement.specs.declared.line.Line.{Line}
 use Rattle.asm_layout.specs.Names.{is_exported, is_kept, is_library, statement_exports, statement_keeps}
