@@ -1,5 +1,5 @@
 -- What contracts see of the linker's state, and what calls append.
-use Rattle.std.specs.Prelude.{ℕ, List, [], ◌∷◌, ◌++◌}
+use Rattle.std.specs.Prelude.{ℕ, Bool, true, false, List, [], ◌∷◌, ◌++◌}
 use Rattle.ld_base.specs.declared.fault.DlFault.{DlFault}
 use Rattle.link_event.specs.declared.event.Ask.{Ask}
 use Rattle.link_event.specs.declared.event.Ask.TheVariants as asks
@@ -24,3 +24,8 @@ abbrev pub refusal : ℕ → Ask → DlFault → Event
 refusal hart (asks.Open ask) fault = events.Open hart ask (opens.Refused fault)
 refusal hart (asks.Sym ask) fault = events.Sym hart ask (syms.Refused fault)
 refusal hart (asks.Close handle) fault = events.Close hart handle (closes.Refused fault)
+
+-- the event of a grant that is settled: its slot got its value, or had the word that was seen
+abbrev pub settled : ℕ → Bool → ℕ → Event
+settled grant true saw = events.Bound grant
+settled grant false saw = events.Lost grant saw

@@ -5,11 +5,14 @@
 //! the state is the type's own business. Each call appends one event that may come next, or leaves all
 //! as before.
 //!
-//! Not all of the linker's calls are here yet: only those are that change no object, a new state, what
-//! harts write and how they end, and refusals, kept and told.
+//! Not all of the linker's calls are here yet. Those are that load, close and look up nothing: a new
+//! state, what harts write and how they end, refusals, kept and told, grants that are settled, and
+//! objects whose constructors or destructors have run.
 #![tactic(auto)]
 
+mod reading;
 mod refusing;
+mod running;
 mod state;
 
 pub use state::LinkState;

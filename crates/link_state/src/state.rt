@@ -1,19 +1,26 @@
 //! The state.
 
 ghost use Rattle.std.specs.Prelude.{◌≡◌, ◌<◌, ◌≤◌, [], IfOk, OnOk, OnErr};
-ghost use Rattle.link_event.specs.declared.event.Event.TheVariants.{Ended, Told, Wrote};
+ghost use Rattle.std.specs.Option.{option_copied};
+ghost use Rattle.link_event.specs.declared.event.Event.TheVariants.{Ended, Fini, Init, Told, Wrote};
 ghost use Rattle.link_history.specs.After.{after};
 ghost use Rattle.link_history.specs.Allowed.{MayWrite, kept_for};
 ghost use Rattle.link_history.specs.Legal.{Lawful};
+ghost use Rattle.link_history.specs.Objects.{namespace_of};
 ghost use Rattle.link_history.specs.Owed.{ends_at_most, times_ended};
 ghost use Rattle.lawful_journal.specs.Following.{MayFollow, machine_of};
-ghost use Rattle.link_state.specs.Table.{appended, refusal};
+ghost use Rattle.link_state.specs.Table.{appended, refusal, settled};
 
+use crate::reading::namespace_in;
 use crate::refusing::{copy_of, make_room, refusal};
+use crate::running::{base_namespaces, settled};
 use lawful_journal::LawfulJournal;
-use ld_base::{Bytes, DlFault, HartId};
+use ld_base::{Bytes, DlFault, GrantNo, HartId, NsId, Serial};
 use link_event::{Ask, Event, HartEnd, Journal};
 use link_harts::{HartEnds, KeptFaults};
+use link_history::{events_are_owed, finalised_once, legal_step_by_step};
+use link_pending::{OpenGrants, Unfinished, make_ready};
+use scope_rule::Namespace;
 use std::alloc::{AllocError, Global};
 use std::marker::Model;
 
@@ -24,18 +31,21 @@ pub struct LinkState {
     journal: LawfulJournal,
     ends: HartEnds,
     kept: KeptFaults,
+    settling: OpenGrants,
+    unfinished: Unfinished,
+    namespaces: Vec<Namespace>,
 }
 
 impl Model for LinkState {
     ghost use Rattle.link_history.specs.After.{after};
     ghost use Rattle.link_state.specs.Table.{LinkTable};
-    ghost use Rattle.link_state.specs.Holding.{Holds};
+    ghost use Rattle.link_state.specs.Holding.{HoldsAll};
 
     ghost Value = { LinkTable };
 
     ghost view = { λ s. record { harts = s.journal.harts; events = s.journal.events } };
 
-    ghost invariant = { λ s. Holds (after s.journal.events) s.journal.harts s.ends s.kept };
+    ghost invariant = { λ s. HoldsAll (after s.journal.events) s.journal.harts s.ends s.kept s.settling s.unfinished s.namespaces.items };
 }
 
 impl LinkState {
@@ -50,13 +60,16 @@ impl LinkState {
         ensures events { IfOk result (λ s. s.events ≡ []) }
     {
         let ends = HartEnds::new(alloc, harts)?;
+        let namespaces = base_namespaces(alloc)?;
         let journal = LawfulJournal::new(alloc, harts)?;
-        let kept = KeptFaults::new(alloc);
         Ok(LinkState {
             alloc,
             journal,
             ends,
-            kept,
+            kept: KeptFaults::new(alloc),
+            settling: OpenGrants::new(alloc),
+            unfinished: Unfinished::new(alloc),
+            namespaces,
         })
     }
 
@@ -75,6 +88,13 @@ impl LinkState {
     {
         let LinkState { journal, .. } = self;
         journal.into_journal()
+    }
+
+    /// The namespace with a number.
+    pub fn namespace(&self, ns: NsId) -> Option<&Namespace>
+        ensures { option_copied result ≡ namespace_of (after self.now.events) ns }
+    {
+        namespace_in(self.namespaces.as_slice(), ns)
     }
 
     /// A hart wrote some bytes.
@@ -133,6 +153,44 @@ impl LinkState {
             }
             Err(error) => Err(error),
         }
+    }
+
+    /// A grant is settled: its slot got its value, or had the word that its hart saw.
+    pub fn settle(&mut self, grant: GrantNo, won: bool, saw: u64)
+        requires { MayFollow self.old.harts self.old.events (settled grant won saw) }
+        ensures { self.new ≡ appended self.old (settled grant won saw) }
+    {
+        self.settling.settle(grant);
+        self.journal.push_owed(settled(grant, won, saw));
+    }
+
+    /// The constructors of an object have run: it is ready.
+    pub fn initialised(&mut self, hart: HartId, serial: Serial)
+        requires { MayFollow self.old.harts self.old.events (Init hart serial) }
+        ensures { self.new ≡ appended self.old (Init hart serial) }
+    {
+        legal_step_by_step();
+        events_are_owed();
+        finalised_once();
+        let _ = self.journal.journal();
+        make_ready(self.alloc, self.namespaces.as_mut_slice(), serial);
+        self.unfinished.push(serial);
+        self.journal.push_owed(Event::Init {
+            hart,
+            object: serial,
+        });
+    }
+
+    /// The destructors of an object have run.
+    pub fn finalised(&mut self, hart: HartId, serial: Serial)
+        requires { MayFollow self.old.harts self.old.events (Fini hart serial) }
+        ensures { self.new ≡ appended self.old (Fini hart serial) }
+    {
+        self.unfinished.remove(serial);
+        self.journal.push_owed(Event::Fini {
+            hart,
+            object: serial,
+        });
     }
 
     /// A hart ends: once, and hart 0 once more, in the final destructors.

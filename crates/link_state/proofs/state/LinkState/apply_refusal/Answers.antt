@@ -10,9 +10,10 @@ pub invariant_of-self : goal.invariant_of-self
 invariant_of-self c =
     let holds : Holds (keep c.args.hart c.args.fault (after c.self.inside.journal.events)) c.self.inside.journal.harts c.self.inside.ends c.keep.new.self =
     holds_keep (after c.self.inside.journal.events) c.self.inside.journal.harts c.args.hart c.self.inside.ends c.make_room.new.kept.kept c.keep.new.self c.args.fault c.in-Ok.copy
-    c.self.invariant.same c.self.invariant.endings (c.make_room.ensures.kept ∙ c.self.invariant.faults) c.in-Ok.ensures.copy c.keep.ensures in
+    c.self.invariant.of_harts.same c.self.invariant.of_harts.endings (c.make_room.ensures.kept ∙ c.self.invariant.of_harts.faults) c.in-Ok.ensures.copy c.keep.ensures in
     let state : after c.push.new.self.events ≡ keep c.args.hart c.args.fault (after c.self.inside.journal.events) =
     c.push.ensures.state ∙ ap (step (after c.make_room.new.journal.events)) c.refusal.ensures ∙ refused_step (after c.make_room.new.journal.events) c.args.hart c.args.ask c.args.fault
     ∙ ap (λ (es : List Event). keep c.args.hart c.args.fault (after es)) c.make_room.ensures.events in
     holds_after (keep c.args.hart c.args.fault (after c.self.inside.journal.events)) (after c.push.new.self.events) c.self.inside.journal.harts c.push.new.self.harts c.self.inside.ends c.keep.new.self
-    state (c.push.ensures.harts ∙ c.make_room.ensures.harts) holds
+    c.self.inside.settling c.self.inside.unfinished c.self.inside.namespaces.items
+    state (c.push.ensures.harts ∙ c.make_room.ensures.harts) (record { of_harts = holds; running = c.self.invariant.running })
