@@ -1,2 +1,3 @@
+pub mod Bits
 pub mod Marked
 pub mod Taken

@@ -1,5 +1,6 @@
 pub mod FaultText
 pub mod Field
+pub mod Marks
 pub mod Pick
 pub mod Symbol
 pub mod Taken

@@ -16,6 +16,7 @@ mod sequence;
 mod symbols;
 mod text;
 
+pub use carriers::Carriers;
 pub use fault::{AsmCause, DlFault, NotAccepted, ReadFault, Shown};
 pub use field::{field16, field32, field64};
 pub use law::one_pick;

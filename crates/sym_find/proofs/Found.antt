@@ -1,7 +1,7 @@
 -- What a search by a table finds, of what its walk keeps.
 use Rattle.std.proofs.Common.{◌≡◌, ◌↔◌, ◌∙◌, ap, sym, subst, ℕ, ◌<◌, Bool, true, false, List, refl, arith, inl, inr}
 use Rattle.std.specs.Prelude.{◌==◌, ◌&&◌, ◌||◌, not, IfSome, Option, Some, None}
-use Rattle.std.specs.List.{slice_index_or}
+use Rattle.ld_base.specs.Marks.{is_marked}
 use Rattle.std.specs.Str.{bytes_eq}
 use Rattle.std.proofs.lemmas.Bool.{and_parts}
 use Rattle.std.proofs.lemmas.Slice.Eq.{bytes_eq-Decides}
@@ -54,15 +54,15 @@ module _ (o : Object) (name : List ℕ) (s : Symbol) where
       twice true = refl
       twice false = refl
 
-  pub fits_version : (w : Want) (version : List ℕ) (marks : List Bool) → o.has_versym ≡ true → w ≡ want.Version version → ((index : ℕ) → index < 0x8000 → slice_index_or marks index false ≡ carries o version index)
-      → fits o name w s ≡ (is_offer o name s && (slice_index_or marks (version_index s) false || s.version == 1))
+  pub fits_version : (w : Want) (version : List ℕ) (marks : List ℕ) → o.has_versym ≡ true → w ≡ want.Version version → ((index : ℕ) → index < 0x8000 → is_marked marks index ≡ carries o version index)
+      → fits o name w s ≡ (is_offer o name s && (is_marked marks (version_index s) || s.version == 1))
   fits_version w version marks some is marked =
-      fits_wanted w (slice_index_or marks (version_index s) false || s.version == 1) some (ap (λ (x : Want). is_wanted o x s) is ∙ ap (λ b. b || s.version == 1) (sym (marked (version_index s) (omega arith))))
+      fits_wanted w (is_marked marks (version_index s) || s.version == 1) some (ap (λ (x : Want). is_wanted o x s) is ∙ ap (λ b. b || s.version == 1) (sym (marked (version_index s) (omega arith))))
 
-  pub fits_just : (w : Want) (version : List ℕ) (marks : List Bool) → o.has_versym ≡ true → w ≡ want.Dlvsym version → ((index : ℕ) → index < 0x8000 → slice_index_or marks index false ≡ carries o version index)
-      → fits o name w s ≡ (is_offer o name s && slice_index_or marks (version_index s) false)
+  pub fits_just : (w : Want) (version : List ℕ) (marks : List ℕ) → o.has_versym ≡ true → w ≡ want.Dlvsym version → ((index : ℕ) → index < 0x8000 → is_marked marks index ≡ carries o version index)
+      → fits o name w s ≡ (is_offer o name s && is_marked marks (version_index s))
   fits_just w version marks some is marked =
-      fits_wanted w (slice_index_or marks (version_index s) false) some (ap (λ (x : Want). is_wanted o x s) is ∙ sym (marked (version_index s) (omega arith)))
+      fits_wanted w (is_marked marks (version_index s)) some (ap (λ (x : Want). is_wanted o x s) is ∙ sym (marked (version_index s) (omega arith)))
 
 -- tests that are the same export the same
 same_exports : (o : Object) (test other : Symbol → Bool) → ((s : Symbol) → test s ≡ other s) → (k : ℕ) → Exports o test k → Exports o other k

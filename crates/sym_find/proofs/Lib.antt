@@ -1,5 +1,4 @@
 pub mod Found
 pub mod GnuWalks
 pub mod Kept
-pub mod Marked
 pub mod SysvWalks

@@ -1,10 +1,11 @@
 -- What a walk over candidates keeps: for the walks of this crate alone.
 use Rattle.std.specs.Prelude.{◌≡◌, ◌≢◌, ℕ, Bool, false, ◌&&◌, ◌||◌, ◌==◌, nat_le, min, if◌then◌else◌, List, Option, Some, None}
-use Rattle.std.specs.List.{slice_get, slice_index_or}
+use Rattle.std.specs.List.{slice_get}
 use Rattle.std.specs.Option.{option_map_or, option_or}
 use Rattle.ld_base.specs.declared.linking.Want.{Want}
 use Rattle.ld_base.specs.declared.object.Object.{Object}
 use Rattle.ld_base.specs.declared.object.Symbol.{Symbol}
+use Rattle.ld_base.specs.Marks.{is_marked}
 use Rattle.ld_base.specs.Pick.{is_offer}
 use Rattle.ld_base.specs.Symbol.{version_index}
 use Rattle.ld_base.specs.Taken.{fits, in_sight, Exports}
@@ -20,8 +21,8 @@ use Rattle.sym_find.specs.declared.best.Test.TheVariants as test
 abbrev pub passes : Test → Symbol → Bool
 passes test.Any s = Bool.true
 passes (test.Base last) s = version_index s == 1 || version_index s == last
-passes (test.Just carriers) s = slice_index_or carriers.now.marks (version_index s) false
-passes (test.Version carriers) s = slice_index_or carriers.now.marks (version_index s) false || s.version == 1
+passes (test.Just carriers) s = is_marked carriers.now (version_index s)
+passes (test.Version carriers) s = is_marked carriers.now (version_index s) || s.version == 1
 
 -- the definitions that fit a search, and those that it has in sight
 abbrev pub fitting : Search → Symbol → Bool

@@ -5,8 +5,7 @@ ghost use Rattle.ld_base.specs.Pick.{is_offer};
 ghost use Rattle.ld_base.specs.Symbol.{is_hidden_version};
 ghost use Rattle.sym_find.specs.Best.{after, least, made, nothing, passes, seen_too, taken};
 
-use crate::carriers::Carriers;
-use ld_base::{Object, Symbol};
+use ld_base::{Carriers, Object, Symbol};
 
 /// Which versions of a definition are wanted.
 #[derive(Clone, Copy)]

@@ -10,10 +10,9 @@ ghost use Rattle.sym_find.specs.Reference.{want_as};
 ghost use Rattle.sym_hash.specs.Reached.{IsTableOf, Reached};
 
 use crate::best::{Best, Search, Test};
-use crate::carriers::Carriers;
 use crate::reference::{Asked, Sought};
 use crate::{gnu, sysv};
-use ld_base::{HashTable, Object, Want, one_pick};
+use ld_base::{Carriers, HashTable, Object, Want, one_pick};
 
 /// The index whose version every reference takes, and the first that an object gives (Drepper, "ELF
 /// Symbol Versioning").

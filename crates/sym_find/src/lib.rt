@@ -7,7 +7,6 @@
 #![tactic(auto)]
 
 mod best;
-mod carriers;
 mod finding;
 mod gnu;
 mod reference;

@@ -1,6 +1,6 @@
-use Rattle.std.proofs.lemmas.List.{get_or-replicate}
-use Rattle.std.proofs.Common.{false}
+use Rattle.std.proofs.Common.{arith}
+use Rattle.ld_base.proofs.Bits.{none_marked}
 use Rattle.ld_base.proofs.carriers.Carriers.none.Goals as goal
 
 pub returns : goal.returns
-returns c = λ k below. get_or-replicate 0x8000 k false false below
+returns c = λ k below. none_marked 512 k (omega arith)
