@@ -45,6 +45,7 @@ pub mod Placed
 pub mod Played
 pub mod Positive
 pub mod Program
+pub mod ProgramStays
 pub mod Raced
 pub mod Ranges
 pub mod Saw

@@ -57,7 +57,7 @@ abbrev Offsets : State → Type 0
 Offsets s = (x : Module) → Contains s.modules x → is_some x.offset ≡ has (startup_serials s) x.serial
 
 -- startup's serials stay
-first_stay : (loadings more : List Loading) → is_none_loaded loadings ≡ false → first_serials (loadings ++ more) ≡ first_serials loadings
+pub first_stay : (loadings more : List Loading) → is_none_loaded loadings ≡ false → first_serials (loadings ++ more) ≡ first_serials loadings
 first_stay [] more some = absurd (true≢false some)
 first_stay (l ∷ rest) more some = refl
 

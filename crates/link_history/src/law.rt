@@ -1,6 +1,6 @@
 //! What holds in each state of a lawful history.
 
-ghost use Rattle.std.specs.Prelude.{◌≡◌, ◌≢◌, ◌≤◌, ◌+◌, ℕ, List, ◌∷◌, ◌++◌, [], take, map, length, Contains};
+ghost use Rattle.std.specs.Prelude.{◌≡◌, ◌≢◌, ◌≤◌, ◌+◌, ℕ, List, ◌∷◌, ◌++◌, [], take, map, length, Contains, false};
 ghost use Rattle.std.specs.List.{range_with_len};
 ghost use Rattle.ld_base.specs.declared.linking.Choice.{Choice};
 ghost use Rattle.ld_base.specs.declared.linking.Choice.TheVariants.{Missing, WeakZero};
@@ -24,7 +24,8 @@ ghost use Rattle.link_history.specs.Laws.{SerialsAreInOrder, SlotsBegin, SlotsEn
 ghost use Rattle.link_history.specs.Exits.{exits, initialised_by_another, setting, unmapped_unclosed};
 ghost use Rattle.link_history.specs.Legal.{Lawful, Legal, Whole};
 ghost use Rattle.link_history.specs.Lookup.{SymbolsAreStored};
-ghost use Rattle.link_history.specs.Objects.{serial_of};
+ghost use Rattle.link_history.specs.Objects.{is_startup, serial_of};
+ghost use Rattle.link_history.specs.Opening.{HasProgram};
 ghost use Rattle.link_history.specs.Owed.{IsOwed, brings, owed};
 ghost use Rattle.link_history.specs.Read.{BeginsUntouched, ObjectsAreRead, WasRead};
 ghost use Rattle.link_history.specs.Setting.{Machine, Setting};
@@ -221,6 +222,14 @@ pub fn modules_are_tidy()
 /// objects were loaded; and the static blocks fit into guest memory.
 pub fn modules_are_few()
     ensures { (m : Machine) (events : List Event) → Lawful m events → ModulesAreFew m (after events) }
+{
+    scope_rule::serials_follow();
+    scope_rule::found_stands();
+}
+
+/// Once startup has loaded the program, it is there, and isn't dying.
+pub fn program_stays()
+    ensures { (m : Machine) (events : List Event) → Lawful m events → is_startup (after events) ≡ false → HasProgram (after events) }
 {
     scope_rule::serials_follow();
     scope_rule::found_stands();

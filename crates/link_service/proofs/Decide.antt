@@ -151,7 +151,7 @@ least_of P decide (y ∷ xs) = by (decide y) (least_of P decide xs)
 
 -- ---- room
 
-all_free : (free : List ℕ) (address pages : ℕ) → Decided (AllFree free address pages)
+pub all_free : (free : List ℕ) (address pages : ℕ) → Decided (AllFree free address pages)
 all_free free address zero = inl (λ k lt. absurd (omega (arith, lt)))
 all_free free address (suc pages) = by (all_free free address pages) (contains free (address + page_size * pages))
   where

@@ -28,6 +28,7 @@ use Rattle.link_service.specs.Gives.Answers.{is_told, is_written}
 use Rattle.link_service.specs.Gives.Gives.{by_event, to_end}
 use Rattle.link_service.proofs.Answered.{closes_answered, locates_answered, resolves_answered, unmaps_answered}
 use Rattle.link_service.proofs.Looked.{looks_up_answered}
+use Rattle.link_service.proofs.OpenAnswered.{opens_answered}
 
 own_ample : (reason : HartEnd) → IsTrue (is_own_end reason) → is_memory reason ≡ false
 own_ample (ends.Exit code) own = refl
@@ -45,23 +46,23 @@ own_ample (ends.NotCode owner slot) own = refl
 own_ample (ends.AddressSpaceFull pages) own = refl
 own_ample ends.Memory own = absurd (cc)
 
-answered : (w : Setting) (past : List Event) (h : ℕ) (call : Call) → AreApart (after past) → ModulesAreTidy (after past) → SymbolsAreStored (after past) → MayMake (after past) h call → HasAnswer w past h call
-answered w past h (resolves owner eights) alone tidy symbols may = resolves_answered w past h owner eights may
-answered w past h (opens ask) alone tidy symbols may = absurd may
-answered w past h (looks_up ask) alone tidy symbols may = looks_up_answered w past h ask symbols may
-answered w past h (closes handle) alone tidy symbols may = closes_answered w past h handle
-answered w past h (unmaps set) alone tidy symbols may = unmaps_answered w past h set may
-answered w past h asks_fault alone tidy symbols may = record {
+answered : LoadLaws → (m : Machine) (w : Setting) (past : List Event) (h : ℕ) (call : Call) → Lawful m past → AreApart (after past) → ModulesAreTidy (after past) → SymbolsAreStored (after past) → MayMake w (after past) h call → HasAnswer w past h call
+answered laws m w past h (resolves owner eights) lawful alone tidy symbols may = resolves_answered w past h owner eights may
+answered laws m w past h (opens ask) lawful alone tidy symbols may = opens_answered laws m w past h ask lawful may
+answered laws m w past h (looks_up ask) lawful alone tidy symbols may = looks_up_answered w past h ask symbols may
+answered laws m w past h (closes handle) lawful alone tidy symbols may = closes_answered w past h handle
+answered laws m w past h (unmaps set) lawful alone tidy symbols may = unmaps_answered w past h set may
+answered laws m w past h asks_fault lawful alone tidy symbols may = record {
   given = events.Told h (kept_for (after past) h) ∷ [];
   answer = told (kept_for (after past) h);
   gives = by_event _ _ _ (is_told (kept_for (after past) h)) refl;
   ample = refl;
 }
-answered w past h (locates number offset) alone tidy symbols may = locates_answered w past h number offset alone tidy
-answered w past h (writes bytes) alone tidy symbols may = record { given = events.Wrote h bytes ∷ []; answer = returns (length bytes); gives = by_event _ _ _ (is_written bytes) may; ample = refl }
-answered w past h (stops reason) alone tidy symbols may = record { given = []; answer = over reason; gives = to_end _ _ (asked reason may); ample = own_ample reason may }
+answered laws m w past h (locates number offset) lawful alone tidy symbols may = locates_answered w past h number offset alone tidy
+answered laws m w past h (writes bytes) lawful alone tidy symbols may = record { given = events.Wrote h bytes ∷ []; answer = returns (length bytes); gives = by_event _ _ _ (is_written bytes) may; ample = refl }
+answered laws m w past h (stops reason) lawful alone tidy symbols may = record { given = []; answer = over reason; gives = to_end _ _ (asked reason may); ample = own_ample reason may }
 
-pub complete : NumberLaws → LoadLaws → ReadLaw → (m : Machine) (w : Setting) (past : List Event) (h : ℕ) (call : Call) → w.machine ≡ m → AcceptsOnly m → Lawful m past → MayMake (after past) h call
+pub complete : NumberLaws → LoadLaws → ReadLaw → (m : Machine) (w : Setting) (past : List Event) (h : ℕ) (call : Call) → w.machine ≡ m → AcceptsOnly m → Lawful m past → MayMake w (after past) h call
     → HasAnswer w past h call
 complete numbers laws read m w past h call same only lawful may =
-    answered w past h call (apart laws m past lawful) (modules_tidy numbers laws m past lawful) (symbols_stored numbers laws read m only past lawful) may
+    answered laws m w past h call lawful (apart laws m past lawful) (modules_tidy numbers laws m past lawful) (symbols_stored numbers laws read m only past lawful) may

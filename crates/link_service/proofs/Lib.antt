@@ -8,7 +8,9 @@ pub mod Given
 pub mod InOrder
 pub mod Looked
 pub mod OneOrder
+pub mod OpenAnswered
 pub mod Opened
+pub mod Placing
 pub mod Readings
 pub mod Rooted
 pub mod Serving

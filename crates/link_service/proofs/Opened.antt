@@ -191,7 +191,7 @@ by_unbased w s added =
     ∙ ap (λ (xs : List Area). xs ++ other_areas (is_startup s) (statics_with (map unbased added) s.statics) w.machine.harts added) (object_areas added)
     ∙ ap (λ (xs : List Area). map object_area (map unbased added) ++ xs) (others_same (is_startup s) (statics_with (map unbased added) s.statics) w.machine.harts added)
 
-same_wanted : (w : Setting) (s : State) (added other : List Loaded) → map unbased added ≡ map unbased other → wanted w s added ≡ wanted w s other
+pub same_wanted : (w : Setting) (s : State) (added other : List Loaded) → map unbased added ≡ map unbased other → wanted w s added ≡ wanted w s other
 same_wanted w s added other same = by_unbased w s added ∙ ap (wanted w s) same ∙ sym (by_unbased w s other)
 
 full_or_placed : (w : Setting) (s : State) (hart : ℕ) (ask : OpenAsk) (id root : ℕ) (news : List Loaded) (pages : ℕ) (end : End) → Full w s id news pages → Placed w s hart ask id root news end → ⊥

@@ -1,6 +1,6 @@
 //! What holds of every call.
 
-ghost use Rattle.link_service.specs.Complete.{Complete};
+ghost use Rattle.link_service.specs.Complete.{Complete, OpensUnlessRefused};
 ghost use Rattle.link_service.specs.Laws.{AgainAppendsNothing, AskFirst, CallersAreThere, EndsKeep, GivesLawful, GivesLegal, OneAnswer, OneOpening};
 ghost use Rattle.link_service.specs.Laws.{FinishesStay, NextFinishes, NextStarts, OneFinalisation, OneInitialisation, OneStart, OpeningBegins};
 ghost use Rattle.link_service.specs.Laws.{PassedComeFirst, PassedOpens, RunsAFunction, StartsStay};
@@ -62,10 +62,12 @@ pub fn refusals_come_in_order()
     scope_rule::one_outcome();
 }
 
-/// Each call that a hart may make has an answer, other than want of memory; what an opening comes to
-/// depends on the files besides.
+/// Each call that a hart may make has an answer, other than want of memory; an opening has one once its
+/// load comes to an end. And one opens whose names are found and whose versions are there, unless there is
+/// no room or a relocation is refused.
 pub fn calls_are_answered()
-    ensures { Complete }
+    ensures all { Complete }
+    ensures opens { OpensUnlessRefused }
 {
     scope_rule::serials_follow();
     scope_rule::found_stands();

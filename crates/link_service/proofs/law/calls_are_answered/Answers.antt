@@ -1,8 +1,12 @@
 use Rattle.link_service.proofs.Every.{complete}
+use Rattle.link_service.proofs.OpenAnswered.{opens_unless}
 use Rattle.link_service.proofs.law.calls_are_answered.Goals as goal
 
-pub returns : goal.returns
-returns c = complete
+pub returns-clause-all : goal.returns-clause-all
+returns-clause-all c = complete
     (record { more = c.modules_stay_numbered.ensures.more; fewer = c.modules_stay_numbered.ensures.fewer })
     (record { serials = c.serials_follow.ensures; leads = c.found_stands.ensures.names; founds = c.found_stands.ensures.founds })
     c.reads_candidates.ensures.candidates
+
+pub returns-clause-opens : goal.returns-clause-opens
+returns-clause-opens c = opens_unless

@@ -1,0 +1,5 @@
+use Rattle.link_history.proofs.ProgramStays.{program_stays}
+use Rattle.link_history.proofs.law.program_stays.Goals as goal
+
+pub returns : goal.returns
+returns c = program_stays (record { serials = c.serials_follow.ensures; leads = c.found_stands.ensures.names; founds = c.found_stands.ensures.founds })
