@@ -1,0 +1,57 @@
+-- What changes guest memory: an event, a store, an exchange.
+use Rattle.std.specs.Prelude.{◌≡◌, ◌≢◌, ℕ, not, ◌==◌, List, filter, Contains, IsTrue}
+use Rattle.ld_base.specs.declared.linking.Role.TheVariants.{None as NoRole, Rw}
+use Rattle.link_event.specs.declared.event.Event.{Event}
+use Rattle.link_event.specs.declared.event.Event.TheVariants as events
+use Rattle.link_event.specs.declared.event.Range.{Range}
+use Rattle.link_event.specs.declared.state.Granting.{Granting}
+use Rattle.link_event.specs.declared.state.Standing.TheVariants.{Open}
+use Rattle.link_history.specs.State.{State}
+use Rattle.link_history.specs.Changes.{IsUntouched, reserved, taken}
+use Rattle.link_history.specs.Memory.{covers, role_at, word_at}
+use Rattle.link_history.specs.Step.{step}
+use Rattle.memory_holds.specs.Holds.{IsSlotAt, lazy_at}
+use Rattle.memory_holds.specs.Memory.{IsDoubleword, Memory}
+
+-- ---- an event
+
+-- what is reserved gets the roles and the words of the state after it, what is taken away loses its role, and all else stays
+pub record Remade (s : State) (e : Event) (old new : Memory) : Type 0 where
+  pub kept : (a : ℕ) → IsDoubleword a → IsUntouched s e a → (new.value a ≡ old.value a) × (new.role a ≡ old.role a)
+  pub given : (r : Range) (a : ℕ) → IsDoubleword a → Contains (reserved s e) r → IsTrue (covers a r) → (new.value a ≡ word_at (step s e) a) × (new.role a ≡ role_at (step s e) a)
+  pub gone : (r : Range) (a : ℕ) → IsDoubleword a → Contains (taken s e) r → IsTrue (covers a r) → new.role a ≡ NoRole
+
+-- the grants that have won and aren't settled, after an event
+abbrev pub won_after : Event → List ℕ → List ℕ
+won_after (events.Bound number) won = filter (λ n. not (n == number)) won
+won_after other won = won
+
+-- a grant is bound only if it won, and lost only if it didn't
+abbrev pub SettlesRightly : List ℕ → Event → Type 0
+SettlesRightly won (events.Bound number) = Contains won number
+SettlesRightly won (events.Lost number saw) = ¬ (Contains won number)
+SettlesRightly won other = Unit {0}
+
+-- ---- a store
+
+-- a doubleword that may be written changes alone
+pub record Stores (old new : Memory) (a : ℕ) : Type 0 where
+  pub may : old.role a ≡ Rw
+  pub others : (b : ℕ) → IsDoubleword b → b ≢ a → new.value b ≡ old.value b
+  pub role : (b : ℕ) → IsDoubleword b → new.role b ≡ old.role b
+
+-- ---- an exchange
+
+-- an open grant, and the address of its slot
+pub record MayExchange (s : State) (a : ℕ) (g : Granting) : Type 0 where
+  pub place : IsDoubleword a
+  pub there : Contains s.grants g
+  pub open_yet : g.standing ≡ Open
+  pub of : IsSlotAt s a g.owner g.slot
+
+-- it found the lazy word and left the grant's value
+pub record Wins (s : State) (a : ℕ) (g : Granting) (old new : Memory) : Type 0 where
+  pub found : old.value a ≡ lazy_at s a
+  pub left : new.value a ≡ g.value
+  pub others : (b : ℕ) → IsDoubleword b → b ≢ a → new.value b ≡ old.value b
+  pub role : (b : ℕ) → IsDoubleword b → new.role b ≡ old.role b
