@@ -1,6 +1,9 @@
 -- A hart's seat between its steps.
 use Rattle.std.proofs.Common.{◌≡◌, ℕ, ◌<◌, sym, ap, subst, ◌∙◌}
+use Rattle.guest_rule.specs.declared.entry.Grant.{Grant}
 use Rattle.guest_rule.specs.declared.kind.HartKind.{HartKind}
+use Rattle.guest_rule.specs.declared.kind.HartKind.TheVariants as kinds
+use Rattle.guest_rule.specs.Layout.{IsDoubleword}
 use Rattle.guest_rule.specs.declared.view.HartView.{HartView}
 use Rattle.guest_rule.specs.HartSteps.{HartLearns, HartLeaves, HartReady, hart_after}
 use Rattle.guest_rule.specs.Views.{IsLane}
@@ -20,3 +23,7 @@ stays_seated kind number h h' n seated leaves ready learns is =
       record { access = hart_leaves kind h n leaves ∙ seated.2.access; note = same.note },
       lane_stays kind h n ready learns seated.3,
     )
+
+-- the slot of a grant that was read is a doubleword of guest memory
+pub grant_slot : (h : HartView) (g : Grant) → IsLane h.lane → HartReady (kinds.Exchange g) h → IsDoubleword g.entry.slot
+grant_slot h g lane ready = lane.slot ready.2.0 g.entry.slot ready.2.1 (ready.2.2.0.mark_is ∙ ready.1) ready.2.2.0.slot_is

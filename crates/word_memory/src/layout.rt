@@ -2,11 +2,11 @@
 
 ghost use Rattle.std.specs.Prelude.{◌≡◌, ◌≢◌, ◌+◌, ◌<◌, ◌*◌, ◌==◌, IfOk, IfErr};
 ghost use Rattle.rv_hart.specs.Buses.{IsSize, may_fetch, may_read, may_write};
-ghost use Rattle.guest_rule.specs.Layout.{IsDoubleword, control_at, doublewords, first_address, lock_bit, place_of, role_code, role_in, table_words, value_at, version_in};
+ghost use Rattle.guest_rule.specs.Layout.{IsDoubleword, control_at, doublewords, first_address, index_of, lock_bit, place_of, role_code, role_in, row_at, state_at, table_words, value_at, version_in};
 ghost use Rattle.guest_rule.specs.HartSteps.{IsAsked, ask_is_fresh, is_fresh, permits};
 ghost use Rattle.word_memory.specs.Accesses.{IsUnasked};
 
-use guest_rule::{Ask, LoadAsk, StoreAsk};
+use guest_rule::{Ask, LoadAsk, RowWord, StoreAsk};
 use ld_base::Role;
 use rv_hart::BusFault;
 
@@ -62,7 +62,7 @@ pub(crate) fn table_words() -> usize
 
 /// The doubleword of an address.
 #[tactic(auto, unfolding(guest_rule::specs::Layout::doublewords, guest_rule::specs::Layout::place_of))]
-pub(crate) fn place_at(address: u64) -> usize
+pub fn place_at(address: u64) -> usize
     requires { IsDoubleword address }
     ensures place { result ≡ place_of address }
     ensures inside { result < doublewords }
@@ -72,7 +72,7 @@ pub(crate) fn place_at(address: u64) -> usize
 
 /// The word that holds a doubleword's value.
 #[tactic(auto, unfolding(guest_rule::specs::Layout::doublewords))]
-pub(crate) fn value_word(at: usize) -> usize
+pub fn value_word(at: usize) -> usize
     requires { at < doublewords }
     ensures word { result ≡ value_at at }
     ensures inside { result < table_words }
@@ -88,6 +88,38 @@ pub(crate) fn control_word(at: usize) -> usize
     ensures inside { result < table_words }
 {
     2 * at + 129
+}
+
+/// The word of a hart's row that says where its call stands.
+pub fn state_word(hart: u64) -> usize
+    requires { hart < 16 }
+    ensures word { result ≡ state_at hart }
+    ensures inside { result < table_words }
+{
+    6 * hart as usize + 8
+}
+
+/// Another word of a hart's row.
+pub fn row_word(hart: u64, word: RowWord) -> usize
+    requires { hart < 16 }
+    ensures word { result ≡ row_at hart (index_of word) }
+    ensures inside { result < table_words }
+{
+    state_word(hart) + place_in_row(word)
+}
+
+// Where a word stands in its row, after the state.
+fn place_in_row(word: RowWord) -> usize
+    ensures place { result ≡ index_of word }
+    ensures low { result < 6 }
+{
+    match word {
+        RowWord::Number => 1,
+        RowWord::Slot => 2,
+        RowWord::Lazy => 3,
+        RowWord::Value => 4,
+        RowWord::Generation => 5,
+    }
 }
 
 /// Whether somebody has locked the doubleword.

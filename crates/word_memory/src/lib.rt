@@ -26,5 +26,6 @@ mod telling;
 
 pub use bus::TableBus;
 pub use keeper::{KeeperSeat, count_up, join_hart, retire, set_generation, set_word, tell};
+pub use layout::{place_at, row_word, state_word, value_word};
 pub use memory::{Fresh, HartSeats, Memory, Naming, Seats};
 pub use seat::{HartSeat, generation};

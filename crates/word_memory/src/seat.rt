@@ -6,15 +6,15 @@ ghost use Rattle.rv_hart.specs.Buses.{HasValue, IsSize, Permits, may_fetch, may_
 ghost use Rattle.guest_rule.specs.declared.view.TrailItem.TheVariants.{Generation as ReadGeneration};
 ghost use Rattle.guest_rule.specs.HartSteps.{HartLearns, HartLeaves, HartReady, entered, hart_after, hart_op, hart_word};
 ghost use Rattle.guest_rule.specs.Layout.{table_words};
-ghost use Rattle.guest_rule.specs.Operations.{load, store, exchange, add};
+ghost use Rattle.guest_rule.specs.Operations.{load, store, add};
 ghost use Rattle.guest_rule.specs.Views.{IsLane, last_block};
 ghost use Rattle.word_memory.specs.Accesses.{Calls};
 ghost use Rattle.word_memory.specs.Holding.{IsIdle};
 
 use crate::hand::Hand;
-use crate::layout::{place, version_of};
+use crate::layout::{place, place_at, value_word, version_of};
 use crate::{Memory, Naming};
-use guest_rule::{HartKind, LoadAsk, StoreAsk};
+use guest_rule::{Grant, HartKind, LoadAsk, StoreAsk};
 use rv_hart::{BusFault, Item, lane};
 use rv_isa::AmoOp;
 use std::marker::Model;
@@ -99,24 +99,17 @@ impl<J: Naming> HartSeat<J> {
         self.hand.store_word(memory, word, new, kind)
     }
 
-    /// Stores `new` in a word that is `old`, for a step that locks nothing.
-    pub fn exchange_word(
-        &mut self,
-        memory: &Memory<J>,
-        word: usize,
-        old: u64,
-        new: u64,
-        kind: HartKind,
-    ) -> u64
-        requires word { (word ≡ hart_word kind) × (word < table_words) }
-        requires kind { hart_op kind ≡ exchange old new }
-        requires leaves { HartLeaves kind }
-        requires ready { HartReady kind self.old }
-        ensures view { self.new ≡ hart_after kind self.old result }
-        ensures learns { HartLearns kind self.old result }
+    /// Exchanges the slot of the grant that it has read, and answers the word found.
+    pub fn exchange(&mut self, memory: &Memory<J>, grant: Grant) -> u64
+        requires { HartReady (HartKind.Exchange grant) self.old }
+        ensures view { self.new ≡ hart_after (HartKind.Exchange grant) self.old result }
         ensures seated { IsIdle self.old × IsLane self.old.lane }
     {
-        self.hand.exchange_word(memory, word, old, new, kind)
+        let _ = &self.hand;
+        let word = value_word(place_at(grant.entry.slot));
+        let kind = HartKind::Exchange(grant);
+        self.hand
+            .exchange_word(memory, word, grant.lazy, grant.entry.value, kind)
     }
 
     /// Adds to a word, for a step that locks nothing.
