@@ -1,0 +1,3 @@
+pub mod Harts
+pub mod Rows
+pub mod Grants

@@ -1,0 +1,145 @@
+//! Grants: a hart exchanges a slot's word, and the keeper asks what came of it.
+
+ghost use Rattle.std.specs.Prelude.{◌≡◌, ◌<◌, ◌%◌, ℕ, None, Some};
+ghost use Rattle.rv_hart.specs.declared.bus.Item.{Item};
+ghost use Rattle.guest_rule.specs.declared.entry.Grant.{Grant};
+ghost use Rattle.guest_rule.specs.KeeperSteps.{TellsAsk, TellsSlot, with_row};
+ghost use Rattle.guest_rule.specs.Views.{fresh_offer, kept_at, row_of};
+ghost use Rattle.guest_rule.specs.Allowed.{IsSlot};
+ghost use Rattle.guest_rule.specs.Layout.{IsDoubleword, place_of};
+ghost use Rattle.word_memory.specs.Accesses.{Calls};
+ghost use Rattle.slot_bind.specs.Grants.{IsBound, Saw, Says, asked_row, exchange_of, exchanged, given_back, leads_to};
+ghost use Rattle.slot_bind.specs.Rows.{full_offer, with_offer};
+
+use crate::read_row;
+use guest_rule::{Grant, HartKind, KeeperKind, RowWord};
+use ld_base::HartId;
+use rv_hart::{Bus, BusFault};
+use word_memory::{
+    HartSeat, KeeperSeat, Memory, Naming, TableBus, place_at, row_word, state_word, value_word,
+};
+
+/// What came of an exchange.
+#[derive(Clone, Copy, Debug, PartialEq, Eq)]
+pub enum Bound {
+    /// The slot held its lazy word.
+    Won,
+    /// The slot held this word.
+    Lost(u64),
+}
+
+/// What a hart's row says of its grant.
+#[derive(Clone, Copy, Debug, PartialEq, Eq)]
+pub enum Asked {
+    Open,
+    Won,
+    /// The slot's word.
+    Lost(u64),
+}
+
+/// The word of a slot, read as any other doubleword is.
+pub fn look<J: Naming>(
+    memory: &Memory<J>,
+    seat: &mut HartSeat<J>,
+    slot: u64,
+) -> Result<u64, BusFault>
+    ensures { Calls seat.old (Item.Read slot 8 result) seat.new }
+{
+    TableBus::new(memory, seat).read(slot, 8)
+}
+
+/// Reads the grant in the row that was found with mark 3.
+pub fn take<J: Naming>(memory: &Memory<J>, seat: &mut HartSeat<J>) -> Grant
+    requires { seat.old.lane.offer ≡ Some (fresh_offer 3) }
+    ensures read { seat.new ≡ with_offer (full_offer result) seat.old }
+    ensures mark { result.entry.mark ≡ 3 }
+{
+    read_row(memory, seat, 3)
+}
+
+/// Exchanges the slot's word for the grant's value where it is the lazy word.
+#[tactic(auto, using(crate::proofs::Grants::bind_ready, crate::proofs::Grants::binds))]
+pub fn bind<J: Naming>(memory: &Memory<J>, seat: &mut HartSeat<J>, offer: &Grant) -> Bound
+    requires offer { seat.old.lane.offer ≡ Some (full_offer offer.now) }
+    requires mark { offer.now.entry.mark ≡ 3 }
+    requires untried { seat.old.lane.tried ≡ None }
+    ensures exchanged { seat.new ≡ exchanged (exchange_of offer.now result) seat.old }
+    ensures bound { IsBound offer.now result }
+{
+    let found = seat.exchange(memory, *offer);
+    if found == offer.lazy {
+        Bound::Won
+    } else {
+        Bound::Lost(found)
+    }
+}
+
+/// Gives the row of a grant back whose exchange was made, and answers where the hart goes on.
+#[tactic(auto, using(crate::proofs::Grants::done_ready, crate::proofs::Grants::gives_back))]
+pub fn done<J: Naming>(
+    memory: &Memory<J>,
+    seat: &mut HartSeat<J>,
+    offer: Grant,
+    bound: Bound,
+) -> u64
+    requires tried { seat.old.lane.tried ≡ Some (exchange_of offer bound) }
+    requires bound { IsBound offer bound }
+    ensures back { seat.new ≡ given_back (exchange_of offer bound) seat.old }
+    ensures next { result ≡ leads_to offer bound }
+{
+    let number = seat.number();
+    let won = matches!(bound, Bound::Won);
+    let state = if won { 4 } else { 5 };
+    seat.store_word(
+        memory,
+        state_word(number),
+        state,
+        HartKind::Finish(number, won),
+    );
+    match bound {
+        Bound::Won => offer.entry.value,
+        Bound::Lost(found) => found,
+    }
+}
+
+// The word of the slot in the hart's row.
+#[tactic(auto, using(crate::proofs::Grants::recalls, crate::proofs::Grants::slot_at))]
+fn saw<J: Naming>(memory: &Memory<J>, keeper: &mut KeeperSeat<J>, hart: u64) -> u64
+    requires low { hart < 16 }
+    requires slot { IsSlot (kept_at keeper.old) (place_of (row_of keeper.old hart).slot) }
+    requires at { IsDoubleword (row_of keeper.old hart).slot }
+    ensures keeper { keeper.new ≡ keeper.old }
+    ensures saw { TellsSlot keeper.old (place_of (row_of keeper.old hart).slot) result }
+{
+    let kind = KeeperKind::Recall(hart, RowWord::Slot);
+    let slot = keeper.load_word(memory, row_word(hart, RowWord::Slot), kind);
+    let at = place_at(slot);
+    keeper.load_word(memory, value_word(at), KeeperKind::Saw(at as u64))
+}
+
+/// What the hart's row says of its last grant, whose fate the keeper doesn't know yet.
+pub fn ask<J: Naming>(memory: &Memory<J>, keeper: &mut KeeperSeat<J>, hart: HartId) -> Asked
+    requires low { hart < 16 }
+    requires posted { (g : Grant) × ((row_of keeper.old hart).pending ≡ Some g) }
+    ensures row { keeper.new ≡ with_row hart (asked_row result (row_of keeper.old hart)) keeper.old }
+    ensures told { (state : ℕ) × Says state result × TellsAsk keeper.old hart state }
+    ensures saw { (g : Grant) → (row_of keeper.old hart).pending ≡ Some g → Saw keeper.new g result }
+{
+    ask_row(memory, keeper, u64::from(hart.number()))
+}
+
+#[tactic(auto, using(crate::proofs::Grants::ask_slot, crate::proofs::Grants::asks, crate::proofs::Grants::lost_state))]
+fn ask_row<J: Naming>(memory: &Memory<J>, keeper: &mut KeeperSeat<J>, hart: u64) -> Asked
+    requires low { hart < 16 }
+    requires posted { (g : Grant) × ((row_of keeper.old hart).pending ≡ Some g) }
+    ensures row { keeper.new ≡ with_row hart (asked_row result (row_of keeper.old hart)) keeper.old }
+    ensures told { (state : ℕ) × Says state result × TellsAsk keeper.old hart state }
+    ensures saw { (g : Grant) → (row_of keeper.old hart).pending ≡ Some g → Saw keeper.new g result }
+{
+    let state = keeper.load_word(memory, state_word(hart), KeeperKind::Ask(hart));
+    match state % 8 {
+        3 => Asked::Open,
+        4 => Asked::Won,
+        _ => Asked::Lost(saw(memory, keeper, hart)),
+    }
+}
