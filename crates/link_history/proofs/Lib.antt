@@ -20,7 +20,9 @@ pub mod Frame
 pub mod FullBindings
 pub mod Good
 pub mod Granted
+pub mod HeldEdges
 pub mod History
+pub mod Holders
 pub mod Imaged
 pub mod InRow
 pub mod Initialised

@@ -39,7 +39,7 @@ use Rattle.link_history.specs.Slots.{value_at_load}
 use Rattle.link_history.specs.State.{Linked, State}
 use Rattle.link_history.specs.Storage.{module_of_place, with_modules}
 use Rattle.link_history.specs.Grants.{chosen_target, target_of}
-use Rattle.link_history.specs.Memory.{role_at, word_at}
+use Rattle.link_history.specs.Memory.{holds, image_at, role_at, word_at}
 use Rattle.link_history.specs.Objects.{IsMapped, object_at, startup_serials, has}
 
 -- a mapped object, with its namespace
@@ -271,6 +271,13 @@ pub record IsRangeOf (ranges : List Range) (i : Linked) : Type 0 where
 
 abbrev pub ImagesArePlaced : State → Type 0
 ImagesArePlaced s = (i : Linked) → Contains s.images i → IsRangeOf s.ranges i
+
+-- a mapped object whose pages hold an address is the one whose image is there, and the only one
+pub record HoldersAreImages (s : State) : Type 0 where
+  pub image : (ns : Namespace) (o : Loaded) (a : ℕ) → a < 2 ^ 64 → IsIn s ns o → IsTrue (holds o a) → (i : Linked) × (image_at s a ≡ Some i) × (i.serial ≡ o.serial)
+  pub one : (ns ms : Namespace) (o p : Loaded) (a : ℕ) → a < 2 ^ 64 → IsIn s ns o → IsIn s ms p → IsTrue (holds o a) → IsTrue (holds p a) → o ≡ p
+  pub object : (i : Linked) (a : ℕ) → image_at s a ≡ Some i → (ns : Namespace) × (o : Loaded) × IsIn s ns o × (o.serial ≡ i.serial) × IsTrue (holds o a)
+  pub none : (ns : Namespace) (o : Loaded) (a : ℕ) → image_at s a ≡ None → IsIn s ns o → holds o a ≡ false
 
 -- the words of an image that was relocated by its record are those of memory, with their roles
 abbrev pub ImagesAreInstalled : State → Type 0

@@ -11,6 +11,7 @@ pub mod Exits
 pub mod FirstMatch
 pub mod Flags
 pub mod Grants
+pub mod Held
 pub mod Late
 pub mod Laws
 pub mod Legal

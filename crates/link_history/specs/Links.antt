@@ -35,6 +35,10 @@ bound_edges serials g = if is_bound g && has serials g.owner then edges_to g.own
 unfoldable pub edges : State → List Edge
 edges s = flat_map found_edges (mapped s) ++ flat_map chosen_edges s.chosen ++ flat_map (bound_edges (map serial_of (mapped s))) s.grants
 
+-- those but the ones to what names found
+abbrev pub held_edges : State → List Edge
+held_edges s = flat_map chosen_edges s.chosen ++ flat_map (bound_edges (map serial_of (mapped s))) s.grants
+
 -- ---- the roots
 
 -- what an opening leads to

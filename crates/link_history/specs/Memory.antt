@@ -1,6 +1,7 @@
 -- Guest memory as a state has it: the role of each address, and the word that was put there first.
 use Rattle.std.specs.Prelude.{ℕ, ◌+◌, ◌-◌, ◌*◌, Bool, true, false, ◌&&◌, ◌==◌, nat_le, nat_lt, if◌then◌else◌, find, Option, Some, None}
 use Rattle.std.specs.Option.{option_map_or, option_and_then}
+use Rattle.ld_base.specs.declared.linking.Loaded.{Loaded}
 use Rattle.ld_base.specs.declared.linking.Role.{Role}
 use Rattle.ld_base.specs.declared.linking.Role.TheVariants.{None as NoRole, Rx, Rw}
 use Rattle.ld_base.specs.declared.object.TlsSeg.{TlsSeg}
@@ -19,6 +20,10 @@ use Rattle.link_history.specs.Storage.{tls_block}
 -- the address lies in the pages of the object
 abbrev pub is_in : Linked → ℕ → Bool
 is_in m a = let v = own_address m.base a in nat_le (low_of m.object) v && nat_lt v (low_of m.object + 4096 * pages_of m.object)
+
+-- the address lies in the pages of a mapped object
+abbrev pub holds : Loaded → ℕ → Bool
+holds o a = let v = own_address o.base a in nat_le (low_of o.object) v && nat_lt v (low_of o.object + 4096 * pages_of o.object)
 
 abbrev pub image_at : State → ℕ → Option Linked
 image_at s a = find (λ m. is_in m a) s.images

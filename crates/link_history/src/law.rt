@@ -1,6 +1,6 @@
 //! What holds in each state of a lawful history.
 
-ghost use Rattle.std.specs.Prelude.{◌≡◌, ◌≢◌, ◌≤◌, ◌+◌, ℕ, List, ◌∷◌, ◌++◌, [], take, map, length, Contains, false};
+ghost use Rattle.std.specs.Prelude.{◌≡◌, ◌≢◌, ◌≤◌, ◌+◌, ℕ, List, ◌∷◌, ◌++◌, [], take, map, flat_map, length, Contains, false};
 ghost use Rattle.std.specs.List.{range_with_len};
 ghost use Rattle.ld_base.specs.declared.linking.Choice.{Choice};
 ghost use Rattle.ld_base.specs.declared.linking.Choice.TheVariants.{Missing, WeakZero};
@@ -17,14 +17,17 @@ ghost use Rattle.link_history.specs.Accepted.{AcceptsOnly};
 ghost use Rattle.link_history.specs.After.{after};
 ghost use Rattle.link_history.specs.Allowed.{Allowed};
 ghost use Rattle.link_history.specs.Changes.{ChangesMemory};
-ghost use Rattle.link_history.specs.Laws.{AreApart, ClosesSpare, EachDiesOnce, FinalisedOnce, GrantsAreHeld, GrantsAreTidy, HasAll, ImagesAreBound, ImagesAreInstalled, ImagesAreMapped};
+ghost use Rattle.link_history.specs.Laws.{AreApart, ClosesSpare, EachDiesOnce, FinalisedOnce, GrantsAreHeld, GrantsAreTidy, HasAll, HoldersAreImages, ImagesAreBound, ImagesAreInstalled, ImagesAreMapped};
 ghost use Rattle.link_history.specs.Laws.{ImagesArePlaced, ImagesAreTied, InitialisedOnce, IsInitialising, LoadsEnterCode, LostSawTheValue, ModulesAreFew, ModulesAreTidy};
 ghost use Rattle.link_history.specs.Laws.{NoneIsLazy, NothingDangles, NothingLeftOut, OpeningsStand, RangesAreApart, RangesAreOwned, ScopesAreWhole};
 ghost use Rattle.link_history.specs.Laws.{SerialsAreInOrder, SlotsBegin, SlotsEnterCode, SlotsLeadToRx, StartupStays, TakesLeast, UninitialisedStay};
 ghost use Rattle.link_history.specs.Exits.{exits, initialised_by_another, setting, unmapped_unclosed};
 ghost use Rattle.link_history.specs.Legal.{Lawful, Legal, Whole};
 ghost use Rattle.link_history.specs.Lookup.{SymbolsAreStored};
-ghost use Rattle.link_history.specs.Objects.{is_startup, serial_of};
+ghost use Rattle.link_history.specs.Held.{EdgesFollow};
+ghost use Rattle.link_history.specs.Links.{edges, found_edges, held_edges};
+ghost use Rattle.link_history.specs.Objects.{is_startup, mapped, serial_of};
+ghost use Rattle.link_history.specs.State.{State};
 ghost use Rattle.link_history.specs.Opening.{HasProgram};
 ghost use Rattle.link_history.specs.Owed.{IsOwed, brings, owed};
 ghost use Rattle.link_history.specs.Read.{BeginsUntouched, ObjectsAreRead, WasRead};
@@ -288,6 +291,16 @@ pub fn images_are_placed()
     ensures { (m : Machine) (events : List Event) → Lawful m events → ImagesArePlaced (after events) }
 {}
 
+/// A mapped object whose pages hold an address is the one whose image is there, and the only one.
+pub fn holders_are_images()
+    ensures { (m : Machine) (events : List Event) → AcceptsOnly m → Lawful m events → HoldersAreImages (after events) }
+{
+    scope_rule::serials_follow();
+    scope_rule::found_stands();
+    scope_rule::reads_candidates();
+    seg_image::pages_hold_segments();
+}
+
 /// Each word of an object's relocated image is the word of memory at its address, with its role.
 pub fn images_are_installed()
     ensures { (m : Machine) (events : List Event) → AcceptsOnly m → Lawful m events → ImagesAreInstalled (after events) }
@@ -354,6 +367,17 @@ pub fn memory_changes()
 pub fn closed_are_spare()
     ensures { (m : Machine) (w : Setting) (past : List Event) (hart handle : ℕ) (set : List ℕ) → w.machine ≡ m → Lawful m past →
         Allowed w past (Close hart handle (Closed set)) → ClosesSpare (lower handle (after past)) set }
+{
+    scope_rule::serials_follow();
+    scope_rule::found_stands();
+}
+
+/// The edges of a state are those to what names found, and those that relocations and bound slots are. Of
+/// these an event takes away or brings only some: an unmapping those from its objects; an opening what its
+/// new objects' relocations choose, and a settling what its slot leads to.
+pub fn edges_follow()
+    ensures are { (s : State) → edges s ≡ flat_map found_edges (mapped s) ++ held_edges s }
+    ensures follow { (m : Machine) (w : Setting) (past : List Event) (e : Event) → Lawful m past → Allowed w past e → EdgesFollow (after past) e }
 {
     scope_rule::serials_follow();
     scope_rule::found_stands();
