@@ -2,14 +2,11 @@
 //!
 //! [`OpenGrants`] has the grants that aren't settled yet. [`Unfinished`] has the objects whose
 //! constructors have run and whose destructors haven't, with room for those that are loaded, so that
-//! the end of an object's constructors takes no memory; [`make_ready`] says of the object that they
-//! have run.
+//! the end of an object's constructors takes no memory.
 #![tactic(auto)]
 
 mod grants;
-mod ready;
 mod unfinished;
 
 pub use grants::OpenGrants;
-pub use ready::make_ready;
 pub use unfinished::Unfinished;

@@ -1,7 +1,7 @@
 use Rattle.std.proofs.Common.{◌<◌, length, arith}
 use Rattle.link_history.specs.Step.{ready_in}
-use Rattle.link_pending.proofs.Mapped.{changed_more}
-use Rattle.link_pending.proofs.ready.make_ready.Goals as goal
+use Rattle.namespace_changes.proofs.Mapped.{changed_more}
+use Rattle.namespace_changes.proofs.ready.make_ready.Goals as goal
 
 pub loop-namespace-preserved : goal.loop-namespace-preserved
 loop-namespace-preserved c =

@@ -1,6 +1,6 @@
 use Rattle.std.proofs.Common.{◌≡◌, ◌++◌, map, take, drop}
 use Rattle.link_history.specs.Step.{ready_object}
-use Rattle.link_pending.proofs.ready.make_ready_among.Given as goal
+use Rattle.namespace_changes.proofs.ready.make_ready_among.Given as goal
 
 -- those in front are changed
 abbrev pub invariant-loop-object : goal.invariant-loop-object
