@@ -1,6 +1,10 @@
+pub mod Distinct
+pub mod Entered
 pub mod Exchanged
 pub mod Images
 pub mod Kept
+pub mod Settled
 pub mod Slots
+pub mod Stayed
 pub mod Stored
 pub mod Taking

@@ -1,3 +1,4 @@
+pub mod Enters
 pub mod Holds
 pub mod Memory
 pub mod Remade

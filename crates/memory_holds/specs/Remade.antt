@@ -1,17 +1,25 @@
 -- What changes guest memory: an event, a store, an exchange.
-use Rattle.std.specs.Prelude.{◌≡◌, ◌≢◌, ℕ, not, ◌==◌, List, filter, Contains, IsTrue}
-use Rattle.ld_base.specs.declared.linking.Role.TheVariants.{None as NoRole, Rw}
+use Rattle.std.specs.Prelude.{◌≡◌, ◌≢◌, ℕ, not, ◌==◌, List, filter, if◌then◌else◌, Contains, IsTrue}
+use Rattle.ld_base.specs.declared.linking.Role.TheVariants.{None as NoRole, Rw, Rx}
 use Rattle.link_event.specs.declared.event.Event.{Event}
 use Rattle.link_event.specs.declared.event.Event.TheVariants as events
 use Rattle.link_event.specs.declared.event.Range.{Range}
 use Rattle.link_event.specs.declared.state.Granting.{Granting}
 use Rattle.link_event.specs.declared.state.Standing.TheVariants.{Open}
 use Rattle.link_history.specs.State.{State}
+use Rattle.link_history.specs.Addresses.{is_linkers_page}
 use Rattle.link_history.specs.Changes.{IsUntouched, reserved, taken}
-use Rattle.link_history.specs.Memory.{covers, role_at, word_at}
+use Rattle.link_history.specs.Memory.{covers, ebreaks, role_at, word_at}
 use Rattle.link_history.specs.Step.{step}
 use Rattle.memory_holds.specs.Holds.{IsSlotAt, lazy_at}
 use Rattle.memory_holds.specs.Memory.{IsDoubleword, Memory}
+
+-- ---- before the first event
+
+-- the linker's own page alone has a role, and ebreaks in it
+pub record Begins (memory : Memory) : Type 0 where
+  pub role : (a : ℕ) → IsDoubleword a → memory.role a ≡ (if is_linkers_page a then Rx else NoRole)
+  pub code : (a : ℕ) → IsDoubleword a → IsTrue (is_linkers_page a) → memory.value a ≡ ebreaks
 
 -- ---- an event
 

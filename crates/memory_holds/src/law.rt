@@ -1,17 +1,27 @@
 //! What keeps memory as the journal says.
 
-ghost use Rattle.std.specs.Prelude.{◌≡◌, ℕ, List, [], ◌∷◌, ◌++◌};
+ghost use Rattle.std.specs.Prelude.{◌≡◌, ◌≢◌, ℕ, ◌^◌, ◌<◌, List, [], ◌∷◌, ◌++◌, Contains};
+ghost use Rattle.ld_base.specs.declared.linking.Role.TheVariants.{Slot};
 ghost use Rattle.link_event.specs.declared.event.Event.{Event};
 ghost use Rattle.link_event.specs.declared.state.Granting.{Granting};
 ghost use Rattle.link_history.specs.Accepted.{AcceptsOnly};
 ghost use Rattle.link_history.specs.After.{after};
 ghost use Rattle.link_history.specs.Allowed.{Allowed};
+ghost use Rattle.link_history.specs.Changes.{reserved, taken};
 ghost use Rattle.link_history.specs.Legal.{Lawful};
+ghost use Rattle.link_history.specs.Memory.{role_at};
 ghost use Rattle.link_history.specs.Setting.{Machine, Setting};
+ghost use Rattle.link_history.specs.Slots.{MayBind, MayLose};
 ghost use Rattle.link_history.specs.State.{State};
-ghost use Rattle.memory_holds.specs.Holds.{Holds};
-ghost use Rattle.memory_holds.specs.Memory.{IsSame, Memory};
-ghost use Rattle.memory_holds.specs.Remade.{MayExchange, Remade, SettlesRightly, Stores, Wins, won_after};
+ghost use Rattle.memory_holds.specs.Enters.{Enters, LoadsFit, SlotStays};
+ghost use Rattle.memory_holds.specs.Holds.{Holds, lazy_at};
+ghost use Rattle.memory_holds.specs.Memory.{IsDoubleword, IsSame, Memory};
+ghost use Rattle.memory_holds.specs.Remade.{Begins, MayExchange, Remade, SettlesRightly, Stores, Wins, won_after};
+
+/// Before the first event memory is as it should be where the linker's own page alone has a role.
+pub fn memory_begins()
+    ensures { (memory : Memory) → Begins memory → Holds (after []) [] memory }
+{}
 
 /// A store to a word that harts may write keeps memory as it should be, and so does an access that
 /// changes nothing.
@@ -22,9 +32,10 @@ pub fn stores_keep()
 
 /// Each event keeps memory as it should be, where memory is remade by it: an opening and a block put
 /// their words, an unmapping takes its words away. Of the grants that have won and aren't settled a
-/// bound one goes.
+/// bound one goes. By an event that neither reserves nor takes away memory is remade where it stays.
 pub fn events_keep()
-    ensures { (m : Machine) (w : Setting) (past : List Event) (e : Event) (won : List ℕ) (old new : Memory) → w.machine ≡ m → AcceptsOnly m → Lawful m past → Allowed w past e →
+    ensures quiet { (s : State) (e : Event) (old new : Memory) → reserved s e ≡ [] → taken s e ≡ [] → IsSame old new → Remade s e old new }
+    ensures kept { (m : Machine) (w : Setting) (past : List Event) (e : Event) (won : List ℕ) (old new : Memory) → w.machine ≡ m → AcceptsOnly m → Lawful m past → Allowed w past e →
         SettlesRightly won e → Holds (after past) won old → Remade (after past) e old new → Holds (after (past ++ e ∷ [])) (won_after e won) new }
 {
     scope_rule::serials_follow();
@@ -47,4 +58,50 @@ pub fn exchanges_keep()
     link_history::slots_begin();
     link_history::none_is_lazy();
     link_history::images_are_mapped();
+}
+
+/// What a slot holds says how a grant that is done may be settled: as bound where it won, and as lost
+/// where it didn't and the slot isn't lazy, with the word that the slot holds.
+pub fn grants_settle()
+    ensures bound { (m : Machine) (events : List Event) (won : List ℕ) (a : ℕ) (g : Granting) (memory : Memory) → AcceptsOnly m → Lawful m events → LoadsFit (after events) →
+        Holds (after events) won memory → MayExchange (after events) a g → Contains won g.number → MayBind (after events) g.number }
+    ensures lost { (m : Machine) (events : List Event) (won : List ℕ) (a : ℕ) (g : Granting) (memory : Memory) → AcceptsOnly m → Lawful m events → LoadsFit (after events) →
+        Holds (after events) won memory → MayExchange (after events) a g → ¬ (Contains won g.number) → memory.value a ≢ lazy_at (after events) a →
+        MayLose (after events) g.number (memory.value a) }
+{
+    scope_rule::serials_follow();
+    scope_rule::found_stands();
+    scope_rule::reads_candidates();
+    link_history::slots_begin();
+    link_history::none_is_lazy();
+    link_history::images_are_mapped();
+}
+
+/// Each slot of a mapped object holds 0 or an address in an RX word.
+pub fn slots_enter()
+    ensures { (m : Machine) (events : List Event) (won : List ℕ) (memory : Memory) (a : ℕ) → AcceptsOnly m → Lawful m events → LoadsFit (after events) →
+        Holds (after events) won memory → IsDoubleword a → role_at (after events) a ≡ Slot → memory.value a < 2 ^ 64 → Enters (after events) (memory.value a) }
+{
+    scope_rule::serials_follow();
+    scope_rule::found_stands();
+    scope_rule::reads_candidates();
+    link_history::slots_begin();
+    link_history::slots_lead_to_rx();
+    link_history::images_are_mapped();
+}
+
+/// A slot reads the same through every event, as long as its object is mapped, and through every store;
+/// and one that isn't lazy through every exchange.
+pub fn slots_stay()
+    ensures event { (m : Machine) (w : Setting) (past : List Event) (e : Event) (old new : Memory) (a : ℕ) → w.machine ≡ m → AcceptsOnly m → Lawful m past → Allowed w past e →
+        Remade (after past) e old new → IsDoubleword a → role_at (after past) a ≡ Slot → role_at (after (past ++ e ∷ [])) a ≡ Slot →
+        SlotStays (after past) (after (past ++ e ∷ [])) old new a }
+    ensures store { (old new : Memory) (a b : ℕ) → Stores old new b → IsDoubleword a → old.role a ≡ Slot → new.value a ≡ old.value a }
+    ensures exchange { (s : State) (g : Granting) (old new : Memory) (a b : ℕ) → Wins s b g old new → IsDoubleword a → old.value a ≢ lazy_at s a → new.value a ≡ old.value a }
+{
+    scope_rule::serials_follow();
+    scope_rule::found_stands();
+    scope_rule::reads_candidates();
+    seg_image::pages_hold_segments();
+    link_history::memory_changes();
 }

@@ -11,4 +11,6 @@
 
 mod law;
 
-pub use law::{events_keep, exchanges_keep, stores_keep};
+pub use law::{
+    events_keep, exchanges_keep, grants_settle, memory_begins, slots_enter, slots_stay, stores_keep,
+};

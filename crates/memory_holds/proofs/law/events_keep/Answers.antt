@@ -13,11 +13,15 @@ use Rattle.memory_holds.specs.Holds.{Holds}
 use Rattle.memory_holds.specs.Remade.{won_after}
 use Rattle.memory_holds.proofs.Images.{images_back}
 use Rattle.memory_holds.proofs.Kept.{holds_after}
+use Rattle.memory_holds.proofs.Stayed.{quiet}
 use Rattle.memory_holds.proofs.Taking.{taking_after}
 use Rattle.memory_holds.proofs.law.events_keep.Goals as goal
 
-pub returns : goal.returns
-returns c m w past e won old left is only lawful may rightly holds by =
+pub returns-clause-quiet : goal.returns-clause-quiet
+returns-clause-quiet c = quiet
+
+pub returns-clause-kept : goal.returns-clause-kept
+returns-clause-kept c m w past e won old left is only lawful may rightly holds by =
     let pages : PageLaws = record { low = c.pages_hold_segments.ensures.low; high = c.pages_hold_segments.ensures.high; from = c.pages_hold_segments.ensures.from; to = c.pages_hold_segments.ensures.to; some = c.pages_hold_segments.ensures.some; few = c.pages_hold_segments.ensures.few; one = c.pages_hold_segments.ensures.one } in
     let loads : LoadLaws = record { serials = c.serials_follow.ensures; leads = c.found_stands.ensures.names; founds = c.found_stands.ensures.founds } in
     let now : Mapped (after past) = mapped_after loads c.reads_candidates.ensures.candidates m only past lawful in
