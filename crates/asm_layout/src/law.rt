@@ -4,14 +4,14 @@ ghost use Rattle.std.specs.Prelude.{◌≡◌, ℤ, [], ◌∷◌, length, Some,
 ghost use Rattle.rv_isa.specs.declared.instr.Instr.{Instr};
 ghost use Rattle.rv_isa.specs.Encoding.{HasForm};
 ghost use Rattle.ld_base.specs.declared.fault.AsmCause.TheVariants.{OutOfRange, DoubleLabel, UnknownLabel, WrongSection};
-ghost use Rattle.asm_layout.specs.declared.part.Part.TheVariants as parts;
+ghost use Rattle.elf_write.specs.declared.part.Part.TheVariants as parts;
 ghost use Rattle.asm_statement.specs.declared.instruction.Instruction.{Instruction};
 ghost use Rattle.asm_layout.specs.Expansions.{expansion};
 ghost use Rattle.asm_layout.specs.Places.{words_in};
 ghost use Rattle.asm_layout.specs.Examples.{program, library, twice, too_great, nowhere, misplaced};
 ghost use Rattle.asm_layout.specs.Uses.{slots, imports};
 ghost use Rattle.asm_layout.specs.Parts.{start_of};
-ghost use Rattle.asm_layout.specs.Relr.{relr_words};
+ghost use Rattle.elf_write.specs.Relr.{relr_words};
 ghost use Rattle.asm_layout.specs.Words.{words_at};
 ghost use Rattle.asm_layout.specs.Faults.{fault_at, has_form};
 

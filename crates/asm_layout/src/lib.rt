@@ -20,7 +20,6 @@
 #![tactic(auto)]
 
 mod law;
-mod part;
 mod place;
 mod uses;
 
@@ -28,6 +27,5 @@ pub use law::{
     forms_are_those_of_the_table, words_have_their_room, worked_faults, worked_library,
     worked_program,
 };
-pub use part::Part;
 pub use place::Place;
 pub use uses::{Exported, GotKind, GotUse};
