@@ -7,6 +7,7 @@ pub mod Hashed
 pub mod Labels
 pub mod Names
 pub mod Numbers
+pub mod Object
 pub mod Parts
 pub mod Places
 pub mod Spots

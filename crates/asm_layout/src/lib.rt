@@ -24,8 +24,8 @@ mod place;
 mod uses;
 
 pub use law::{
-    forms_are_those_of_the_table, words_have_their_room, worked_faults, worked_library,
-    worked_program,
+    forms_are_those_of_the_table, words_have_their_room, worked_bytes, worked_faults,
+    worked_library, worked_program,
 };
 pub use place::Place;
 pub use uses::{Exported, GotKind, GotUse};
