@@ -9,7 +9,7 @@ use Rattle.asm_statement.specs.declared.line.Statement.{Statement}
 use Rattle.asm_statement.specs.declared.line.Statement.TheVariants as statements
 use Rattle.asm_statement.specs.declared.line.Line.{Line}
 use Rattle.asm_layout.specs.Fixes.{fixes_of}
-use Rattle.asm_layout.specs.Hashed.{gnu_of, sysv_of}
+use Rattle.hash_build.specs.Hashed.{gnu_of, sysv_of}
 use Rattle.asm_layout.specs.Names.{kind_of, is_executable}
 use Rattle.asm_layout.specs.Spots.{label_spot, sections_of}
 use Rattle.asm_layout.specs.Symbols.{sorted_exports, first_export, symbol_index, import_entries, export_entries}
@@ -80,8 +80,8 @@ contents_of lines = record {
   needed = offsets_from (needed_at lines) (needed lines);
   flags = flags_of lines;
   symbols = import_entries lines (imports_at lines) (imports lines) ++ export_entries lines (exports_at lines) (sorted_exports lines);
-  gnu = if has_gnu (hash_of lines) then Some (gnu_of (first_export lines) (map (λ exported. gnu_hash exported.name) (sorted_exports lines))) else None;
-  sysv = if has_sysv (hash_of lines) then Some (sysv_of (first_export lines) (map (λ exported. sysv_hash exported.name) (sorted_exports lines))) else None;
+  gnu = if has_gnu (hash_of lines) then Some (gnu_of (word (first_export lines)) (map (λ exported. gnu_hash exported.name) (sorted_exports lines))) else None;
+  sysv = if has_sysv (hash_of lines) then Some (sysv_of (word (first_export lines)) (map (λ exported. sysv_hash exported.name) (sorted_exports lines))) else None;
   has_versions = has_versions lines;
   versions = records_for (unwrap_or (soname lines) []) (unwrap_or (soname_offset (soname lines)) 0) (versions_at lines) (versions lines);
   files = need_records lines 0 (files_at lines) (needed_files lines);

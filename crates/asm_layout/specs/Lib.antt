@@ -3,7 +3,6 @@ pub mod Examples
 pub mod Expansions
 pub mod Faults
 pub mod Fixes
-pub mod Hashed
 pub mod Labels
 pub mod Names
 pub mod Numbers

@@ -1,5 +1,5 @@
 -- The bytes of the object that a source denotes.
-use Rattle.std.specs.Prelude.{ℕ, ◌+◌, ◌*◌, ℤ, pos, negsuc, ◌-ℤ◌, Bool, nat_lt, if◌then◌else◌, List, [], ◌∷◌, ◌++◌, map, flat_map, replicate, length, Option, Some, None}
+use Rattle.std.specs.Prelude.{ℕ, ◌+◌, ◌*◌, ℤ, pos, negsuc, ◌-ℤ◌, nat_lt, if◌then◌else◌, List, [], ◌∷◌, ◌++◌, flat_map, replicate, length, Option, Some, None}
 use Rattle.std.specs.Int.{w8, w16, w32, w64, to_le_bytes}
 use Rattle.rv_isa.specs.declared.instr.Instr.{Instr}
 use Rattle.rv_isa.specs.declared.instr.Instr.TheVariants as instrs
@@ -28,7 +28,7 @@ use Rattle.asm_layout.specs.declared.place.Place.{Place}
 use Rattle.asm_layout.specs.Contents.{contents_of}
 use Rattle.asm_layout.specs.Expansions.{upper, lower}
 use Rattle.asm_layout.specs.Fixes.{address_fix, addend_of}
-use Rattle.asm_layout.specs.Hashed.{numbers}
+use Rattle.std.specs.List.{range_with_len}
 use Rattle.asm_layout.specs.Numbers.{count_of}
 use Rattle.asm_layout.specs.Parts.{start_of}
 use Rattle.asm_layout.specs.Places.{place_at, padding, is_section}
@@ -55,7 +55,7 @@ slot_code plt got_plt slot = instr_bytes (plt_slot (pos (got_plt + 16 + 8 * slot
 
 unfoldable pub plt_bytes : ℕ → ℕ → ℕ → List ℕ
 plt_bytes plt got_plt slots =
-    if nat_lt 0 slots then instr_bytes (plt_begin (pos got_plt -ℤ pos plt)) ++ flat_map (slot_code plt got_plt) (numbers slots) else []
+    if nat_lt 0 slots then instr_bytes (plt_begin (pos got_plt -ℤ pos plt)) ++ flat_map (slot_code plt got_plt) (range_with_len 0 slots) else []
 
 -- the bytes of a line: a number's lowest, zeros up to an alignment, an address as far as the file has it
 abbrev pub data_bytes : DataSize → ℕ → List ℕ

@@ -15,7 +15,7 @@ use Rattle.asm_statement.specs.declared.line.Statement.TheVariants as statements
 use Rattle.asm_statement.specs.declared.line.Line.{Line}
 use Rattle.asm_layout.specs.declared.place.Place.{Place}
 use Rattle.asm_layout.specs.declared.uses.Exported.{Exported}
-use Rattle.asm_layout.specs.Hashed.{bucket_count, by_bucket}
+use Rattle.hash_build.specs.Hashed.{bucket_count, by_bucket}
 use Rattle.asm_layout.specs.Labels.{label, defines, defined_by}
 use Rattle.asm_layout.specs.Numbers.{count_of}
 use Rattle.asm_layout.specs.Places.{place_at, is_section, filled}
