@@ -1,5 +1,5 @@
 -- The bytes of the object that a source denotes.
-use Rattle.std.specs.Prelude.{ℕ, ◌+◌, ◌*◌, ℤ, pos, negsuc, ◌-ℤ◌, nat_lt, if◌then◌else◌, List, [], ◌∷◌, ◌++◌, flat_map, replicate, length, Option, Some, None}
+use Rattle.std.specs.Prelude.{Bool, ℕ, ◌+◌, ◌*◌, ℤ, pos, negsuc, ◌-ℤ◌, nat_lt, if◌then◌else◌, List, [], ◌∷◌, ◌++◌, flat_map, replicate, length, is_some, Option, Some, None}
 use Rattle.std.specs.Int.{w8, w16, w32, w64, to_le_bytes}
 use Rattle.rv_isa.specs.declared.instr.Instr.{Instr}
 use Rattle.rv_isa.specs.declared.instr.Instr.TheVariants as instrs
@@ -10,7 +10,7 @@ use Rattle.rv_isa.specs.Encoding.{word_of}
 use Rattle.elf_write.specs.declared.contents.SectionBytes.{SectionBytes}
 use Rattle.elf_write.specs.declared.part.Part.TheVariants as parts
 use Rattle.elf_write.specs.declared.starts.Starts.{Starts}
-use Rattle.elf_write.specs.Records.{file_word}
+use Rattle.elf_write.specs.Records.{file_word, file_size}
 use Rattle.elf_write.specs.Starts.{starts_of}
 use Rattle.elf_write.specs.Values.{object_bytes}
 use Rattle.asm_statement.specs.declared.directive.DataSize.{DataSize}
@@ -105,3 +105,14 @@ code_of lines starts = record {
 -- the object of lines without a fault
 unfoldable pub object_of : List Line → List ℕ
 object_of lines = let starts = starts_of (contents_of lines) in object_bytes starts (contents_of lines) (code_of lines starts)
+
+-- too big: a file of more than 8 MiB; its line is that of the last statement, 0 where there is none
+unfoldable pub is_too_big : List Line → Bool
+is_too_big lines = nat_lt 8_388_608 (file_size (starts_of (contents_of lines)))
+
+abbrev pub last_from : ℕ → ℕ → List Line → ℕ
+last_from number last [] = last
+last_from number last (line ∷ rest) = last_from (number + 1) (if is_some line.statement then number else last) rest
+
+unfoldable pub last_statement : List Line → ℕ
+last_statement lines = last_from 1 0 lines

@@ -17,6 +17,7 @@ use Rattle.asm_layout.specs.declared.place.Place.{Place}
 use Rattle.asm_layout.specs.declared.uses.Exported.{Exported}
 use Rattle.hash_build.specs.Hashed.{bucket_count, by_bucket}
 use Rattle.asm_layout.specs.Labels.{label, defines, defined_by}
+use Rattle.asm_layout.specs.Names.{is_exported}
 use Rattle.asm_layout.specs.Numbers.{count_of}
 use Rattle.asm_layout.specs.Places.{place_at, is_section, filled}
 use Rattle.asm_layout.specs.Spots.{label_spot}
@@ -46,14 +47,14 @@ weakens name _ = false
 abbrev pub binding : List Line → List ℕ → ℕ
 binding lines name = if list_any (λ line. weakens name line.statement) lines then 2 else 1
 
--- visibility: STV_HIDDEN (2) or STV_PROTECTED (3), by the last line that names the label, else STV_DEFAULT (0)
+-- visibility: STV_HIDDEN (2) or STV_PROTECTED (3), by the last line that names a label that .global or .weak exports, else STV_DEFAULT (0)
 abbrev pub visibility_given : List ℕ → ℕ → Option Statement → ℕ
 visibility_given name visibility (Some (statements.Directive (directives.Export visibilities.Hidden kept))) = if bytes_eq name kept then 2 else visibility
 visibility_given name visibility (Some (statements.Directive (directives.Export visibilities.Protected kept))) = if bytes_eq name kept then 3 else visibility
 visibility_given name visibility _ = visibility
 
 abbrev pub visibility : List Line → List ℕ → ℕ
-visibility lines name = fold (λ given line. visibility_given name given line.statement) 0 lines
+visibility lines name = if is_exported lines name then fold (λ given line. visibility_given name given line.statement) 0 lines else 0
 
 -- type: STT_FUNC (2) in .text, STT_TLS (6) in the thread's block, else STT_OBJECT (1)
 abbrev pub type_in : Section → ℕ
@@ -69,7 +70,7 @@ abbrev pub type_at : Option Place → ℕ
 type_at None = 0
 type_at (Some place) = type_in place.section
 
--- how far a label's symbol reaches: to the next line of its section that defines a name, or to the section's end; a copy has its own size
+-- how far a label's symbol reaches: to the next line of its section that defines a name, or to the section's end; a copy has its own size, and a label beside it none
 abbrev pub defines_in : List Line → Section → ℕ → Line → Bool
 defines_in lines section k line = is_section section (place_at lines k).section && not (length (defined_by line) == 0)
 
@@ -82,7 +83,7 @@ abbrev pub size_behind : List Line → ℕ → ℕ
 size_behind lines k = next_offset lines (place_at lines k).section (k + 1) (drop (k + 1) lines) - (place_at lines k).offset
 
 abbrev pub copy_size : List ℕ → Option Statement → Option ℕ
-copy_size name (Some (statements.Directive (directives.Copy copy size))) = if bytes_eq name copy then Some (count_of size) else None
+copy_size name (Some (statements.Directive (directives.Copy copy size))) = Some (if bytes_eq name copy then count_of size else 0)
 copy_size name _ = None
 
 abbrev pub size_of_line : List Line → List ℕ → ℕ → Option Line → ℕ

@@ -26,7 +26,7 @@ use Rattle.elf_write.specs.declared.field.Field.TheVariants.{Byte, Half, Word, D
 use Rattle.elf_write.specs.declared.part.Part.{Part}
 use Rattle.elf_write.specs.declared.starts.Starts.{Starts}
 use Rattle.elf_write.specs.declared.part.Part.TheVariants as parts
-use Rattle.elf_write.specs.Parts.{number_of}
+use Rattle.elf_write.specs.Parts.{same_part}
 use Rattle.elf_write.specs.Starts.{start_in, size_in, address_in, padding, page, wrapped}
 
 -- the ELF header: ELFCLASS64, ELFDATA2LSB, EV_CURRENT; ET_EXEC is 2, ET_DYN 3; EM_RISCV is 243; the program headers stand behind it; no sections
@@ -42,7 +42,7 @@ head_fields kind entry headers =
 
 -- a thread-local place counts from where .tdata starts
 abbrev pub is_tls : Part → Bool
-is_tls part = (number_of part == 20) || (number_of part == 21)
+is_tls part = same_part parts.Tdata part || same_part parts.Tbss part
 
 abbrev pub offset_in : Starts → Spot → ℕ
 offset_in starts spot = wrapped (2 ^ 64 + address_in starts spot - start_in starts parts.Tdata)
@@ -187,6 +187,16 @@ end_of starts start parts = fold (end_behind starts) start parts
 
 abbrev pub file_end : Starts → SegmentKind → ℕ
 file_end starts segment = end_of starts (start_in starts (first_part segment)) (parts_with_bytes segment)
+
+-- how many bytes the file has: up to the last part that isn't empty
+abbrev pub file_parts : List Part
+file_parts =
+    parts.Head ∷ parts.GnuHash ∷ parts.SysvHash ∷ parts.Symbols ∷ parts.Strings ∷ parts.Versym ∷ parts.Verdef ∷ parts.Verneed
+    ∷ parts.Rela ∷ parts.Relr ∷ parts.Jmprel ∷ parts.Rodata ∷ parts.Plt ∷ parts.Text ∷ parts.Dynamic ∷ parts.Got
+    ∷ parts.PreinitArray ∷ parts.InitArray ∷ parts.FiniArray ∷ parts.Relro ∷ parts.Tdata ∷ parts.GotPlt ∷ parts.Data ∷ []
+
+unfoldable pub file_size : Starts → ℕ
+file_size starts = end_of starts (start_in starts parts.Head) file_parts - start_in starts parts.Head
 
 -- where its memory ends: .bss is of the last segment, .tbss of the block, and the pages that become read-only are whole
 abbrev pub block_end : Starts → Sections → ℕ

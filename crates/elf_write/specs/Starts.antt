@@ -1,10 +1,11 @@
 -- Where the parts of an object start.
-use Rattle.std.specs.Prelude.{ℕ, ◌+◌, ◌-◌, ◌*◌, ◌%◌, ◌^◌, ◌==◌, if◌then◌else◌, List, [], ◌∷◌, ◌++◌, map, filter, length, slice_index}
+use Rattle.std.specs.Prelude.{ℕ, ◌+◌, ◌-◌, ◌*◌, ◌%◌, ◌^◌, ◌==◌, max, if◌then◌else◌, List, [], ◌∷◌, ◌++◌, map, filter, length, slice_index}
 use Rattle.ld_base.specs.declared.object.Kind.{Kind}
 use Rattle.ld_base.specs.declared.object.Kind.TheVariants.{Exec, Dyn}
 use Rattle.elf_write.specs.declared.contents.Contents.{Contents}
 use Rattle.elf_write.specs.declared.contents.Extent.{Extent}
 use Rattle.elf_write.specs.declared.contents.Fix.{Fix}
+use Rattle.elf_write.specs.declared.contents.Sections.{Sections}
 use Rattle.elf_write.specs.declared.contents.Spot.{Spot}
 use Rattle.elf_write.specs.declared.part.Part.{Part}
 use Rattle.elf_write.specs.declared.starts.Starts.{Starts}
@@ -25,6 +26,10 @@ starts_from behind (extent ∷ rest) = (behind + padding behind extent.align) �
 abbrev pub page : ℕ
 page = 4096
 
+-- an empty .tdata stands where .tbss may begin
+abbrev pub tls_start_align : Sections → ℕ
+tls_start_align sections = if sections.tdata.size == 0 then max sections.tdata.align sections.tbss.align else sections.tdata.align
+
 -- what a part's start is a multiple of; a segment begins on a page
 unfoldable pub align_of : Contents → Part → ℕ
 align_of contents parts.Plt = page
@@ -33,7 +38,7 @@ align_of contents parts.GotPlt = page
 align_of contents parts.Rodata = contents.sections.rodata.align
 align_of contents parts.Text = contents.sections.text.align
 align_of contents parts.Relro = contents.sections.relro.align
-align_of contents parts.Tdata = contents.sections.tdata.align
+align_of contents parts.Tdata = tls_start_align contents.sections
 align_of contents parts.Tbss = contents.sections.tbss.align
 align_of contents parts.Data = contents.sections.data.align
 align_of contents parts.Bss = contents.sections.bss.align

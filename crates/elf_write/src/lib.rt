@@ -27,4 +27,5 @@ pub use field::Field;
 pub use object::object_bytes;
 pub use part::Part;
 pub use records::file_word;
+pub use segments::file_size;
 pub use starts::Starts;

@@ -1,42 +1,52 @@
 //! The words of packed relative relocations (gABI, "Relative Relocation Table").
 
 ghost use Rattle.std.specs.Prelude.{◌≡◌, ◌++◌, ◌<◌, ◌^◌, ℕ, suc, OnOk, IfOk, Some, None, List};
-ghost use Rattle.elf_write.specs.Relr.{is_in_map, bit_of, map_of, mapped_count, words_within, relr_words};
+ghost use Rattle.elf_write.specs.Relr.{is_in_map, bit_of, with_place, map_of, mapped_count, words_within, relr_words};
 ghost use Rattle.elf_write.specs.Packing.{left};
 
 use std::alloc::{AllocError, Global};
 
 /// How many bytes an odd word stands for.
-const REACH: u64 = 504;
+const REACH: u128 = 504;
 
-fn is_in_map(base: u64, place: u64) -> bool
+fn is_in_map(base: u128, place: u64) -> bool
     ensures { result ≡ is_in_map base place }
 {
+    let place = u128::from(place);
     base <= place && place - base < REACH && (place - base) % 8 == 0
 }
 
-fn bit_of(base: u64, place: u64) -> u64
+fn bit_of(base: u128, place: u64) -> u64
     ensures { result ≡ bit_of base place }
 {
     if is_in_map(base, place) {
-        1 << (1 + (place - base) / 8)
+        1 << (1 + (u128::from(place) - base) / 8)
     } else {
         0
     }
 }
 
+/// An odd word with one place more.
+#[tactic(auto, unfolding(crate::specs::Relr::with_place))]
+fn with_place(base: u128, word: u64, place: u64) -> u64
+    ensures { result ≡ with_place base word place }
+{
+    word | bit_of(base, place)
+}
+
 /// The odd word of these places.
-fn map_of(base: u64, places: &[u64]) -> u64
+fn map_of(base: u128, places: &[u64]) -> u64
     ensures { result ≡ map_of base places.now }
 {
-    places.iter().fold(
-        1,
-        |word: u64, place| word.wrapping_add(bit_of(base, *place)),
-    )
+    let mut word = 1;
+    for place in places {
+        word = with_place(base, word, *place);
+    }
+    word
 }
 
 /// How many of the places an odd word can name.
-fn mapped_count(base: u64, places: &[u64]) -> usize
+fn mapped_count(base: u128, places: &[u64]) -> usize
     ensures { result ≡ mapped_count base places.now }
 {
     places
@@ -49,7 +59,7 @@ fn mapped_count(base: u64, places: &[u64]) -> usize
 #[derive(Drop)]
 pub(crate) struct Packing<'a> {
     pub words: Vec<u64>,
-    pub base: Option<u64>,
+    pub base: Option<u128>,
     pub places: &'a [u64],
 }
 
@@ -73,7 +83,7 @@ impl<'a> Packing<'a> {
                 words.push(*place)?;
                 Ok(Packing {
                     words,
-                    base: Some(place.wrapping_add(8)),
+                    base: Some(u128::from(*place) + 8),
                     places: rest,
                 })
             }
@@ -86,10 +96,13 @@ impl<'a> Packing<'a> {
                         places,
                     });
                 }
+                let Some(next) = base.checked_add(REACH) else {
+                    return Err(AllocError);
+                };
                 words.push(map_of(base, &places[..count]))?;
                 Ok(Packing {
                     words,
-                    base: Some(base.wrapping_add(REACH)),
+                    base: Some(next),
                     places: &places[count..],
                 })
             }

@@ -2,7 +2,7 @@
 
 ghost use Rattle.std.specs.Prelude.{◌≡◌, ◌≤◌, ◌<◌, ◌^◌, ◌*◌, map};
 ghost use Rattle.elf_write.specs.Parts.{number_of};
-ghost use Rattle.elf_write.specs.Records.{header_type, header_flags, first_part, parts_with_bytes, end_behind, end_of, file_end};
+ghost use Rattle.elf_write.specs.Records.{header_type, header_flags, first_part, parts_with_bytes, end_behind, end_of, file_end, file_size};
 ghost use Rattle.elf_write.specs.Records.{block_end, page_end, memory_end, header_align, header_of};
 ghost use Rattle.elf_write.specs.Starts.{padding};
 
@@ -110,6 +110,42 @@ fn file_end(starts: &Starts, segment: SegmentKind) -> u64
         SegmentKind::Dynamic => end_of(starts, start, &[Part::Dynamic]),
         SegmentKind::Tls => end_of(starts, start, &[Part::Tdata]),
     }
+}
+
+/// The parts that have bytes of the file.
+const FILE_PARTS: [Part; 23] = [
+    Part::Head,
+    Part::GnuHash,
+    Part::SysvHash,
+    Part::Symbols,
+    Part::Strings,
+    Part::Versym,
+    Part::Verdef,
+    Part::Verneed,
+    Part::Rela,
+    Part::Relr,
+    Part::Jmprel,
+    Part::Rodata,
+    Part::Plt,
+    Part::Text,
+    Part::Dynamic,
+    Part::Got,
+    Part::PreinitArray,
+    Part::InitArray,
+    Part::FiniArray,
+    Part::Relro,
+    Part::Tdata,
+    Part::GotPlt,
+    Part::Data,
+];
+
+/// How many bytes the file of an object has whose parts start so.
+#[tactic(auto, unfolding(crate::specs::Records::file_size))]
+pub fn file_size(starts: &Starts) -> u64
+    ensures { result ≡ file_size starts.now }
+{
+    let start = starts.part(Part::Head);
+    end_of(starts, start, &FILE_PARTS).saturating_sub(start)
 }
 
 /// Where a thread's block ends.

@@ -3,9 +3,9 @@
 ghost use Rattle.std.specs.Prelude.{◌≡◌, ◌<◌, ◌^◌, ◌∷◌, ◌++◌, IfOk, IfSome, length, map, Some};
 ghost use Rattle.std.specs.Option.{option_map_or};
 ghost use Rattle.elf_write.specs.Sizes.{gnu_size, sysv_size, versym_size, plt_size, got_plt_size, plain_size, segments_of, dynamic_entries};
-ghost use Rattle.elf_write.specs.Starts.{align_of, plain_extent};
+ghost use Rattle.elf_write.specs.Starts.{tls_start_align, align_of, plain_extent};
 
-use crate::contents::{Contents, Extent};
+use crate::contents::{Contents, Extent, Sections};
 use crate::dynamic::{count_in, dynamic_entries, listed_count, segments_of};
 use crate::part::Part;
 use ld_base::{GnuPart, Sequence, SysvPart};
@@ -13,6 +13,17 @@ use std::alloc::{AllocError, Global};
 
 /// The bytes of a page.
 const PAGE: u64 = 4096;
+
+/// What the start of `.tdata` is a multiple of; an empty one stands where `.tbss` may begin.
+fn tls_start_align(sections: &Sections) -> u64
+    ensures { result ≡ tls_start_align sections.now }
+{
+    if sections.tdata.size == 0 {
+        sections.tdata.align.max(sections.tbss.align)
+    } else {
+        sections.tdata.align
+    }
+}
 
 /// What the start of a part is a multiple of.
 #[tactic(auto, unfolding(crate::specs::Starts::align_of))]
@@ -24,7 +35,7 @@ fn align_of(contents: &Contents, part: Part) -> u64
         Part::Rodata => contents.sections.rodata.align,
         Part::Text => contents.sections.text.align,
         Part::Relro => contents.sections.relro.align,
-        Part::Tdata => contents.sections.tdata.align,
+        Part::Tdata => tls_start_align(&contents.sections),
         Part::Tbss => contents.sections.tbss.align,
         Part::Data => contents.sections.data.align,
         Part::Bss => contents.sections.bss.align,
