@@ -1,24 +1,30 @@
 -- A caller's namespace is there: the base never ends.
-use Rattle.std.proofs.Common.{◌≡◌, ℕ, Bool, true, false, eqb, List, [], ◌∷◌, ◌++◌, map, Option, Some, None, refl, subst, ◌∙◌}
-use Rattle.std.specs.Prelude.{if◌then◌else◌}
+use Rattle.std.proofs.Common.{◌≡◌, ℕ, ◌<◌, Bool, true, false, eqb, List, [], ◌∷◌, ◌++◌, map, Option, Some, None, refl, sym, ap, subst, ◌∙◌}
+use Rattle.std.specs.Prelude.{◌^◌, if◌then◌else◌}
 use Rattle.std.specs.List.{Contains, list_any}
 use Rattle.std.specs.Option.{option_map_or}
-use Rattle.std.proofs.lemmas.Bool.{eq-eqb, or_left}
+use Rattle.std.proofs.lemmas.Bool.{eq-eqb, eqb-true, or_left, true≢false}
 use Rattle.std.proofs.lemmas.List.Elements.{Contains-append_left}
 use Rattle.ld_base.specs.declared.linking.Loaded.{Loaded}
 use Rattle.link_event.specs.declared.event.Event.{Event}
 use Rattle.scope_rule.specs.Opening.{opened}
 use Rattle.scope_rule.specs.declared.namespace.Namespace.{Namespace}
+use Rattle.link_history.specs.Accepted.{AcceptsOnly}
 use Rattle.link_history.specs.After.{after}
+use Rattle.link_history.specs.Laws.{AreApart, IsIn}
 use Rattle.link_history.specs.Flags.{is_global}
 use Rattle.link_history.specs.Legal.{Lawful}
-use Rattle.link_history.specs.Memory.{image_at}
+use Rattle.link_history.specs.Memory.{holds, image_at}
 use Rattle.link_history.specs.Objects.{has_id, has_namespace, has_object, home}
 use Rattle.link_history.specs.Setting.{Machine}
 use Rattle.link_history.specs.State.{Linked, State, empty_namespace}
 use Rattle.link_history.specs.Step.{die, dying_in, gone_in, initialise, is_left, loaded, lower, lowered_in, ready_in, unmap}
 use Rattle.link_history.proofs.Brought.{LoadLaws}
-use Rattle.link_history.proofs.Lists.{found_in, here, in_any, in_filter, in_map}
+use Rattle.link_history.proofs.Lists.{any_in, found_in, here, in_any, in_filter, in_map, not_found}
+use Rattle.link_history.proofs.Accepting.{ReadLaw}
+use Rattle.link_history.proofs.Alone.{apart}
+use Rattle.link_history.proofs.Holders.{holders}
+use Rattle.link_history.proofs.Lazy.{PageLaws}
 use Rattle.link_history.proofs.Steps.{Law, by_law}
 use Rattle.link_service.specs.Call.{caller_namespace}
 
@@ -77,3 +83,36 @@ caller_there s b ra = of_image s b (image_at s ra)
 
 pub callers_are_there : LoadLaws → (m : Machine) (events : List Event) → Lawful m events → (ra : ℕ) → has_namespace (after events) (caller_namespace (after events) ra) ≡ true
 callers_are_there laws m events lawful ra = caller_there (after events) (by_law laws (λ c. Base c.namespaces) base_law m events lawful).1 ra
+
+-- ---- whose namespace it is
+
+home_of : (s : State) → AreApart s → (ns : Namespace) (o : Loaded) → IsIn s ns o → home s o.serial ≡ Some ns
+home_of s alone ns o inside = by (home s o.serial) refl
+  where
+    by : (found : Option Namespace) → home s o.serial ≡ found → home s o.serial ≡ Some ns
+    by None e = absurd (true≢false (sym (in_any (λ (p : Loaded). eqb p.serial o.serial) ns.objects o inside.inside (eq-eqb o.serial o.serial refl)) ∙ not_found (has_object o.serial) s.namespaces ns e inside.there))
+    by (Some ms) e =
+        let found = found_in (has_object o.serial) s.namespaces ms e in
+        let at = any_in (λ (p : Loaded). eqb p.serial o.serial) ms.objects found.1 in
+        let same : ms ≡ ns = alone.objects ms ns at.0 o (record { there = found.0; inside = at.1 }) inside (eqb-true at.0.serial o.serial at.2) in
+        e ∙ ap (λ (n : Namespace). Some n) same
+
+pub callers_hold : PageLaws → LoadLaws → ReadLaw → (m : Machine) (events : List Event) → AcceptsOnly m → Lawful m events → (ns : Namespace) (o : Loaded) (ra : ℕ) → ra < 2 ^ 64 → IsIn (after events) ns o
+    → holds o ra ≡ true → caller_namespace (after events) ra ≡ ns.id
+unfolding caller_namespace
+callers_hold pages loads read m events only lawful ns o ra word inside e =
+    let at = (holders pages loads read m only events lawful).image ns o ra word inside e in
+    let found = home_of (after events) (apart loads m events lawful) ns o inside in
+    ap (λ (f : Option Linked). option_map_or (λ i. option_map_or (λ n. n.id) (home (after events) i.serial) 0) f 0) at.1
+    ∙ ap (λ (d : ℕ). option_map_or (λ (n : Namespace). n.id) (home (after events) d) 0) at.2 ∙ ap (λ (f : Option Namespace). option_map_or (λ n. n.id) f 0) found
+
+pub others_base : PageLaws → LoadLaws → ReadLaw → (m : Machine) (events : List Event) → AcceptsOnly m → Lawful m events → (ra : ℕ)
+    → ((ns : Namespace) (o : Loaded) → IsIn (after events) ns o → holds o ra ≡ false) → caller_namespace (after events) ra ≡ 0
+unfolding caller_namespace
+others_base pages loads read m events only lawful ra none = by (image_at (after events) ra) refl
+  where
+    by : (found : Option Linked) → image_at (after events) ra ≡ found → option_map_or (λ i. option_map_or (λ n. n.id) (home (after events) i.serial) 0) found 0 ≡ 0
+    by None e = refl
+    by (Some i) e =
+        let at = (holders pages loads read m only events lawful).object i ra e in
+        absurd (true≢false (sym at.4 ∙ none at.0 at.1 at.2))

@@ -1,5 +1,10 @@
 -- The worked calls.
-use Rattle.std.proofs.Common.{◌≡◌, ℕ, false, List, [], ◌∷◌, None, refl, sym}
+use Rattle.std.proofs.Common.{◌≡◌, ℕ, false, List, [], ◌∷◌, None, Some, refl, sym, ap, subst, ◌∙◌, arith}
+use Rattle.std.specs.List.{Contains}
+use Rattle.ld_base.specs.declared.linking.Loaded.{Loaded}
+use Rattle.scope_rule.specs.declared.namespace.Namespace.{Namespace}
+use Rattle.link_history.specs.Objects.{IsMapped}
+use Rattle.link_history.proofs.Lists.{here, only_in}
 use Rattle.std.specs.Prelude.{codes, map, replicate}
 use Rattle.std.proofs.lemmas.Bool.{true≢false}
 use Rattle.ld_base.specs.declared.fault.DlFault.TheVariants.{BadFlags, BadHandle, MissingLibrary, NameTooLong}
@@ -7,11 +12,11 @@ use Rattle.ld_base.specs.declared.fault.Shown.TheVariants.{Initialising}
 use Rattle.ld_base.specs.declared.linking.Choice.TheVariants.{Def}
 use Rattle.ld_base.specs.declared.linking.File.{File}
 use Rattle.link_event.specs.declared.event.CloseAnswer.TheVariants as closings
-use Rattle.link_event.specs.declared.event.Event.TheVariants.{Close, Grant, Open, Sym, Tls}
+use Rattle.link_event.specs.declared.event.Event.TheVariants.{Close, Grant, Open, Sym, Tls, Told, Unmapped}
 use Rattle.link_event.specs.declared.event.OpenAnswer.TheVariants as openings
 use Rattle.link_event.specs.declared.event.SymAnswer.TheVariants.{Found}
 use Rattle.link_event.specs.declared.event.SymAnswer.TheVariants as symbols
-use Rattle.link_event.specs.declared.hart_end.HartEnd.TheVariants.{BadModule}
+use Rattle.link_event.specs.declared.hart_end.HartEnd.TheVariants.{BadModule, NoSlot, Unloaded}
 use Rattle.scope_rule.specs.Load.{find_opened, find_path, finds, step as load_step}
 use Rattle.link_history.specs.After.{after, after_from}
 use Rattle.link_history.specs.Cycle as cycle
@@ -31,16 +36,17 @@ use Rattle.link_history.proofs.History.{legal_take}
 use Rattle.link_history.proofs.Lately.{late_legal}
 use Rattle.link_history.proofs.Played.{loads}
 use Rattle.link_history.proofs.Raced.{first_not_granted, race_legal}
-use Rattle.link_service.specs.Answer.{again, granted, loading, refused, returns}
-use Rattle.link_service.specs.Call.{closes, locates, looks_up, opens, resolves}
-use Rattle.link_service.specs.Ends.EndsAs.{bad_module}
+use Rattle.link_service.specs.Answer.{again, closing, granted, loading, refused, returns, told}
+use Rattle.link_service.specs.Call.{asks_fault, closes, locates, looks_up, opens, resolves, unmaps}
+use Rattle.link_service.specs.Ends.EndsAs.{bad_module, no_slot, unloaded}
 use Rattle.link_service.specs.Gives.{FindsFirst, Gives}
-use Rattle.link_service.specs.Gives.Answers.{is_absent, is_found, is_granted, is_not_found, is_not_opened, is_there, stays}
+use Rattle.link_service.specs.Gives.Answers.{dies, is_absent, is_found, is_granted, is_not_closed, is_not_found, is_not_opened, is_there, is_told, is_unmapped, stays}
 use Rattle.link_service.specs.Gives.Gives.{by_event, by_first_block, in_block, to_again, to_end}
 use Rattle.link_service.specs.Laws.{RefusesAsk}
 use Rattle.link_service.specs.Laws.RefusesAsk.{flags as by_flags}
 use Rattle.link_service.specs.Waiting.Shows.{by_load}
 use Rattle.link_service.specs.Worked.{AnotherOpens, AnotherWaits, ClosesOne, DiesAlone, FindsGlobal, FindsInBlock, FindsNoHandle, FindsOnClosed, FindsWithoutBlock, GrantsGlobal, GrantsTheFirst}
+use Rattle.link_service.specs.Worked.{ClosesAgain, DiesBoth, EndsUnloaded, EndsWithoutSlot, TellsBadHandle, UnmapsBoth}
 use Rattle.link_service.specs.Worked.{IsAbsent, IsBadModule, IsMissing, ItselfOpens, LocatesInBlock, LocatesInOther, OpensByFlags, RefusesFlags, RefusesName, RefusesShorter}
 use Rattle.link_service.specs.Worked.{fp_on, granted_to, libn_by, libo_by, named, one_closed, opened, started, starting, with_block}
 use Rattle.link_service.proofs.Given.{gives_legal}
@@ -74,6 +80,44 @@ finds_on_closed given value gives =
     let same : returns value ≡ refused (BadHandle 2) = symbols_in_order cycle.setting one_closed 0 (fp_on 2) given (returns value) (BadHandle 2)
     (bad_handle (record { name = refl; version = refl }) refl refl) gives refl in
     cc
+
+-- ---- both die
+
+pub dies_both : DiesBoth
+unfolding Legal
+dies_both = by_event (closes 3) (Close 0 3 (closings.Done (2 ∷ 3 ∷ []))) (closing (2 ∷ 3 ∷ [])) (dies 3 2 (3 ∷ [])) (cycle_legal 13 (Close 0 3 (closings.Done (2 ∷ 3 ∷ []))) refl)
+
+pub unmaps_both : UnmapsBoth
+unfolding Legal
+unmaps_both = by_event (unmaps (2 ∷ 3 ∷ [])) (Unmapped 0 (2 ∷ 3 ∷ [])) (returns 0) (is_unmapped (2 ∷ 3 ∷ [])) (cycle_legal 16 (Unmapped 0 (2 ∷ 3 ∷ [])) refl)
+
+pub closes_again : ClosesAgain
+unfolding Legal
+closes_again = by_event (closes 3) (Close 0 3 (closings.Refused (BadHandle 3))) (refused (BadHandle 3)) (is_not_closed 3 (BadHandle 3)) (cycle_legal 17 (Close 0 3 (closings.Refused (BadHandle 3))) refl)
+
+pub tells_bad_handle : TellsBadHandle
+unfolding Legal
+tells_bad_handle = by_event asks_fault (Told 0 (Some (BadHandle 3))) (told (Some (BadHandle 3))) (is_told (Some (BadHandle 3))) (cycle_legal 18 (Told 0 (Some (BadHandle 3))) refl)
+
+-- ---- slots that aren't there
+
+-- the program is the only object
+only_program : (serial : ℕ) → IsMapped (after started) serial → serial ≡ 1
+unfolding after_from loaded initialise
+only_program serial m =
+    let ns = only_in _ m.namespace m.there in
+    let o = only_in _ m.object (subst (λ (n : Namespace). Contains n.objects m.object) (sym ns) m.inside) in
+    sym m.is ∙ ap (λ (q : Loaded). q.serial) (sym o)
+
+pub ends_unloaded : EndsUnloaded
+ends_unloaded = to_end (resolves 99 0) (Unloaded 99) (unloaded 99 0 (λ m. let same : 99 ≡ 1 = only_program 99 m in omega (arith, same)))
+
+pub ends_without_slot : EndsWithoutSlot
+unfolding after_from loaded initialise
+ends_without_slot = to_end (resolves 1 792) (NoSlot 1 792) (no_slot 1 792 (record {
+  mapped = record { namespace = _; object = _; there = here _ []; inside = here _ []; is = refl };
+  none = λ slot is. refl;
+}))
 
 -- ---- what an opening asks for
 

@@ -10,6 +10,7 @@ pub mod Looked
 pub mod OneOrder
 pub mod OpenAnswered
 pub mod Opened
+pub mod Own
 pub mod Placing
 pub mod Readings
 pub mod Rooted

@@ -1,5 +1,5 @@
 -- What holds of every call.
-use Rattle.std.specs.Prelude.{◌≡◌, ◌≢◌, ℕ, Bool, true, false, List, [], ◌∷◌, ◌++◌, length, map, Contains, Option, Some, None, IsTrue}
+use Rattle.std.specs.Prelude.{◌≡◌, ◌≢◌, ◌⊎◌, ℕ, ◌^◌, ◌<◌, ◌≤◌, Bool, true, false, List, [], ◌∷◌, ◌++◌, length, map, Contains, Option, Some, None, IsTrue}
 use Rattle.ld_base.specs.declared.fault.DlFault.{DlFault}
 use Rattle.ld_base.specs.declared.fault.DlFault.TheVariants as faults
 use Rattle.ld_base.specs.declared.fault.Shown.{Shown}
@@ -7,6 +7,7 @@ use Rattle.ld_base.specs.declared.linking.File.{File}
 use Rattle.ld_base.specs.declared.linking.Loaded.{Loaded}
 use Rattle.link_event.specs.declared.event.Event.{Event}
 use Rattle.link_event.specs.declared.event.Event.TheVariants.{Fini, Init, Open}
+use Rattle.link_event.specs.declared.event.Event.TheVariants as event
 use Rattle.link_event.specs.declared.event.OpenAnswer.TheVariants.{Done}
 use Rattle.link_event.specs.declared.event.OpenAsk.{OpenAsk}
 use Rattle.link_event.specs.declared.event.Range.{Range}
@@ -15,13 +16,16 @@ use Rattle.link_event.specs.declared.hart_end.HartEnd.{HartEnd}
 use Rattle.link_event.specs.declared.hart_end.HartEnd.TheVariants as ends
 use Rattle.link_event.specs.declared.state.Closing.{Closing}
 use Rattle.link_event.specs.declared.state.Loading.{Loading}
+use Rattle.scope_rule.specs.declared.namespace.Namespace.{Namespace}
+use Rattle.link_history.specs.Accepted.{AcceptsOnly}
 use Rattle.link_history.specs.After.{after}
+use Rattle.link_history.specs.Laws.{IsIn}
 use Rattle.link_history.specs.Allowed.{Allowed, kept_for}
 use Rattle.link_history.specs.Asking.{AreNamespacesFull, IsBadNamespace, asks_too_long}
 use Rattle.link_history.specs.Flags.{are_flags}
 use Rattle.link_history.specs.Legal.{Lawful, Legal}
 use Rattle.link_history.specs.Lookup.{RefusesSymbol}
-use Rattle.link_history.specs.Memory.{role_at, word_at}
+use Rattle.link_history.specs.Memory.{holds, role_at, word_at}
 use Rattle.link_history.specs.Links.{finis_of}
 use Rattle.link_history.specs.Objects.{has_namespace, serial_of}
 use Rattle.link_history.specs.Opening.{Opens, Refuses}
@@ -187,6 +191,44 @@ PassedOpens = (w : Setting) (past : List Event) (h : ℕ) (ask : OpenAsk) (files
 abbrev pub CallersAreThere : Type 0
 CallersAreThere = (m : Machine) (events : List Event) → Lawful m events → (ra : ℕ)
     → IsTrue (has_namespace (after events) (caller_namespace (after events) ra))
+
+-- it is that of the object whose pages hold the return address, and the base where none does
+abbrev pub CallersAreHolders : Type 0
+CallersAreHolders = (m : Machine) (events : List Event) → AcceptsOnly m → Lawful m events → (ns : Namespace) (o : Loaded) (ra : ℕ) → ra < 2 ^ 64
+    → IsIn (after events) ns o → IsTrue (holds o ra) → caller_namespace (after events) ra ≡ ns.id
+
+abbrev pub OthersAreBase : Type 0
+OthersAreBase = (m : Machine) (events : List Event) → AcceptsOnly m → Lawful m events → (ra : ℕ)
+    → ((ns : Namespace) (o : Loaded) → IsIn (after events) ns o → holds o ra ≡ false) → caller_namespace (after events) ra ≡ 0
+
+-- ---- what is appended
+
+-- the hart whose event it is; a settling is of its grant's
+abbrev pub hart_of : Event → Option ℕ
+hart_of (event.Open hart ask answer) = Some hart
+hart_of (event.Close hart handle answer) = Some hart
+hart_of (event.Unmapped hart set) = Some hart
+hart_of (event.Grant number hart owner slot choice value) = Some hart
+hart_of (event.Bound number) = None
+hart_of (event.Lost number saw) = None
+hart_of (event.Unresolved hart owner slot choice) = Some hart
+hart_of (event.Sym hart ask answer) = Some hart
+hart_of (event.Tls hart owner address) = Some hart
+hart_of (event.Init hart object) = Some hart
+hart_of (event.Fini hart object) = Some hart
+hart_of (event.Wrote hart bytes) = Some hart
+hart_of (event.Told hart fault) = Some hart
+hart_of (event.Ended hart reason) = Some hart
+
+-- a call appends events of its own hart alone
+abbrev pub EventsAreOwn : Type 0
+EventsAreOwn = (w : Setting) (past : List Event) (h : ℕ) (call : Call) (given : List Event) (answer : Answer) → Gives w past h call given answer
+    → (e : Event) → Contains given e → hart_of e ≡ Some h
+
+-- and one at most, but for a look-up, which may give its hart a block before
+abbrev pub FewEvents : Type 0
+FewEvents = (w : Setting) (past : List Event) (h : ℕ) (call : Call) (given : List Event) (answer : Answer) → Gives w past h call given answer
+    → (length given ≤ 1) ⊎ ((ask : SymAsk) × (call ≡ looks_up ask) × (length given ≡ 2))
 
 -- ---- functions
 

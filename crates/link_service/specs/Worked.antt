@@ -8,13 +8,13 @@ use Rattle.ld_base.specs.declared.object.Object.{Object}
 use Rattle.ld_base.specs.declared.object.Reloc.{Reloc}
 use Rattle.link_event.specs.declared.event.CloseAnswer.TheVariants as closings
 use Rattle.link_event.specs.declared.event.Event.{Event}
-use Rattle.link_event.specs.declared.event.Event.TheVariants.{Close, Grant, Init, Open, Sym, Tls}
+use Rattle.link_event.specs.declared.event.Event.TheVariants.{Close, Fini, Grant, Init, Open, Sym, Tls, Told, Unmapped}
 use Rattle.link_event.specs.declared.event.OpenAnswer.TheVariants as openings
 use Rattle.link_event.specs.declared.event.OpenAsk.{OpenAsk}
 use Rattle.link_event.specs.declared.event.SymAnswer.TheVariants.{Found}
 use Rattle.link_event.specs.declared.event.SymAsk.{SymAsk}
 use Rattle.link_event.specs.declared.event.SymAnswer.TheVariants as symbols
-use Rattle.link_event.specs.declared.hart_end.HartEnd.TheVariants.{BadModule}
+use Rattle.link_event.specs.declared.hart_end.HartEnd.TheVariants.{BadModule, NoSlot, Unloaded}
 use Rattle.link_event.specs.declared.handed.Function.{Function}
 use Rattle.link_event.specs.declared.state.Granting.{Granting}
 use Rattle.link_event.specs.declared.state.Standing.TheVariants as standings
@@ -25,8 +25,8 @@ use Rattle.link_history.specs.Parts.{code, object, slots}
 use Rattle.link_history.specs.Race as race
 use Rattle.link_history.specs.State.{Linked}
 use Rattle.relocator.specs.declared.binding.Binding.{Binding}
-use Rattle.link_service.specs.Answer.{again, closing, granted, loading, over, refused, returns}
-use Rattle.link_service.specs.Call.{closes, locates, looks_up, opens, resolves}
+use Rattle.link_service.specs.Answer.{again, closing, granted, loading, over, refused, returns, told}
+use Rattle.link_service.specs.Call.{asks_fault, closes, locates, looks_up, opens, resolves, unmaps}
 use Rattle.link_service.specs.Functions.{constructors, destructors, left, object_of, passed}
 use Rattle.link_service.specs.Gives.{Gives}
 
@@ -57,6 +57,33 @@ FindsNoHandle = Gives cycle.setting (one_closed ++ Sym 0 (fp_on 0) (Found 2 2 0x
 
 abbrev pub FindsOnClosed : Type 0
 FindsOnClosed = (given : List Event) (value : ℕ) → Gives cycle.setting one_closed 0 (looks_up (fp_on 2)) given (returns value) → ⊥
+
+-- ---- both die
+
+-- then the second is closed, and both die
+abbrev pub before_both : List Event
+before_both = one_closed ++ Sym 0 (fp_on 0) (Found 2 2 0x24030) ∷ Sym 0 (fp_on 2) (symbols.Refused (BadHandle 2)) ∷ []
+
+abbrev pub DiesBoth : Type 0
+DiesBoth = Gives cycle.setting before_both 0 (closes 3) (Close 0 3 (closings.Done (2 ∷ 3 ∷ [])) ∷ []) (closing (2 ∷ 3 ∷ []))
+
+-- once their destructors have run they are unmapped
+abbrev pub both_finished : List Event
+both_finished = before_both ++ Close 0 3 (closings.Done (2 ∷ 3 ∷ [])) ∷ Fini 0 3 ∷ Fini 0 2 ∷ []
+
+abbrev pub UnmapsBoth : Type 0
+UnmapsBoth = Gives cycle.setting both_finished 0 (unmaps (2 ∷ 3 ∷ [])) (Unmapped 0 (2 ∷ 3 ∷ []) ∷ []) (returns 0)
+
+-- then the handle is bad, which the hart is told
+abbrev pub both_gone : List Event
+both_gone = both_finished ++ Unmapped 0 (2 ∷ 3 ∷ []) ∷ []
+
+abbrev pub ClosesAgain : Type 0
+ClosesAgain = Gives cycle.setting both_gone 0 (closes 3) (Close 0 3 (closings.Refused (BadHandle 3)) ∷ []) (refused (BadHandle 3))
+
+abbrev pub TellsBadHandle : Type 0
+TellsBadHandle = Gives cycle.setting (both_gone ++ Close 0 3 (closings.Refused (BadHandle 3)) ∷ []) 0 asks_fault (Told 0 (Some (BadHandle 3)) ∷ [])
+    (told (Some (BadHandle 3)))
 
 -- ---- what an opening asks for
 
@@ -120,6 +147,15 @@ GrantsGlobal = Gives race.setting race.before 1 (resolves 2 0) (Grant 4 1 2 0 (D
 
 abbrev pub GrantsTheFirst : Type 0
 GrantsTheFirst = Gives race.setting race.before 1 (resolves 2 0) (Grant 4 1 2 0 (Def 3 1) 0x39000 ∷ []) (granted (granted_to 1 3 0x39000))
+
+-- ---- slots that aren't there
+
+-- no object 99 is mapped, and the program has no slot 99
+abbrev pub EndsUnloaded : Type 0
+EndsUnloaded = Gives apart.setting started 0 (resolves 99 0) [] (over (Unloaded 99))
+
+abbrev pub EndsWithoutSlot : Type 0
+EndsWithoutSlot = Gives apart.setting started 0 (resolves 1 792) [] (over (NoSlot 1 792))
 
 -- ---- thread-local storage
 

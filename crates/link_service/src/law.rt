@@ -5,7 +5,7 @@ ghost use Rattle.link_service.specs.Laws.{AgainAppendsNothing, AskFirst, Callers
 ghost use Rattle.link_service.specs.Laws.{FinishesStay, NextFinishes, NextStarts, OneFinalisation, OneInitialisation, OneStart, OpeningBegins};
 ghost use Rattle.link_service.specs.Laws.{PassedComeFirst, PassedOpens, RunsAFunction, StartsStay};
 ghost use Rattle.link_service.specs.Laws.{RefusalIsKept, RefusalIsTold, RefusedKeeps, RefusedLeavesMemory, ServesLegal, StagesInOrder, SymbolsInOrder};
-ghost use Rattle.link_service.specs.Laws.{FailsLegal, HartsHaveEntries, ServedLegal, StartsLegal};
+ghost use Rattle.link_service.specs.Laws.{CallersAreHolders, EventsAreOwn, FailsLegal, FewEvents, HartsHaveEntries, OthersAreBase, ServedLegal, StartsLegal};
 
 /// A history that is legal before a call is legal with what the call gives, and with the end of the
 /// hart that it brings.
@@ -75,13 +75,24 @@ pub fn calls_are_answered()
     tls_blocks::modules_stay_numbered();
 }
 
-/// The namespace of each caller is there.
+/// The namespace of each caller is there. It is that of the object whose pages hold the return address, and
+/// the base where none does.
 pub fn callers_are_there()
-    ensures { CallersAreThere }
+    ensures there { CallersAreThere }
+    ensures holders { CallersAreHolders }
+    ensures base { OthersAreBase }
 {
     scope_rule::serials_follow();
     scope_rule::found_stands();
+    scope_rule::reads_candidates();
+    seg_image::pages_hold_segments();
 }
+
+/// A call appends events of its own hart, and one at most; but a look-up may give its hart a block before.
+pub fn events_are_own()
+    ensures own { EventsAreOwn }
+    ensures few { FewEvents }
+{}
 
 /// The state settles which functions an opening brings, startup's too, and a closing, and their order.
 pub fn one_list_of_functions()

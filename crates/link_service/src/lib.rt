@@ -19,10 +19,10 @@ mod worked_calls;
 
 pub use law::{
     callers_are_there, calls_are_answered, calls_are_legal, constructors_follow,
-    destructors_follow, functions_run_in_order, one_answer, one_list_of_functions,
+    destructors_follow, events_are_own, functions_run_in_order, one_answer, one_list_of_functions,
     refusals_are_told, refusals_come_in_order, refused_calls_leave, served_calls_are_legal,
 };
 pub use worked_calls::{
-    closes_a_held_library, finds_thread_local_storage, grants_what_comes_first,
-    judges_what_is_asked, runs_functions_in_order, waits_for_another_hart,
+    closes_a_held_library, closes_both_libraries, ends_without_a_slot, finds_thread_local_storage,
+    grants_what_comes_first, judges_what_is_asked, runs_functions_in_order, waits_for_another_hart,
 };

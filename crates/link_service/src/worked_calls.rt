@@ -1,5 +1,6 @@
 //! Worked calls: what they give, and what they don't.
 
+ghost use Rattle.link_service.specs.Worked.{ClosesAgain, DiesBoth, EndsUnloaded, EndsWithoutSlot, TellsBadHandle, UnmapsBoth};
 ghost use Rattle.link_service.specs.Worked.{AnotherOpens, AnotherWaits, ClosesOne, DiesAlone, FindsGlobal, FindsInBlock, FindsNoHandle};
 ghost use Rattle.link_service.specs.Worked.{FindsOnClosed, FindsWithoutBlock};
 ghost use Rattle.link_service.specs.Worked.{GrantsGlobal, GrantsTheFirst, IsAbsent, IsBadModule, IsMissing, ItselfOpens, LocatesInBlock};
@@ -15,6 +16,21 @@ pub fn closes_a_held_library()
     ensures found { FindsGlobal }
     ensures no_handle { FindsNoHandle }
     ensures on_closed { FindsOnClosed }
+{}
+
+/// Then the second is closed: both die, and once their destructors have run they are unmapped in one
+/// service. The handle is bad then, which the hart is told.
+pub fn closes_both_libraries()
+    ensures dies { DiesBoth }
+    ensures unmaps { UnmapsBoth }
+    ensures again { ClosesAgain }
+    ensures told { TellsBadHandle }
+{}
+
+/// A hart that calls through a slot of no object, or through no slot, runs no further.
+pub fn ends_without_a_slot()
+    ensures unloaded { EndsUnloaded }
+    ensures no_slot { EndsWithoutSlot }
 {}
 
 /// What an opening asks for is judged before anything is looked for: both or neither of RTLD_LAZY and
