@@ -1,4 +1,5 @@
 pub mod Answered
+pub mod Asks
 pub mod Callers
 pub mod Decide
 pub mod Every

@@ -1,6 +1,6 @@
 -- What a hart asks the linker for (dlopen(3), dlsym(3); psABI, "Program Linkage Table"; ELF Handling For Thread-Local Storage).
-use Rattle.std.specs.Prelude.{ℕ, Bool, true, false, ◌==◌, if◌then◌else◌, List, Option, Some, None}
-use Rattle.std.specs.Option.{option_map_or}
+use Rattle.std.specs.Prelude.{ℕ, Bool, true, false, ◌==◌, if◌then◌else◌, List, take, Option, Some, None}
+use Rattle.std.specs.Option.{option_map, option_map_or}
 use Rattle.link_event.specs.declared.event.OpenAsk.{OpenAsk}
 use Rattle.link_event.specs.declared.event.SymAsk.{SymAsk}
 use Rattle.link_event.specs.declared.hart_end.HartEnd.{HartEnd}
@@ -35,24 +35,28 @@ pub data Call : Type 0 where
 unfoldable pub caller_namespace : State → ℕ → ℕ
 caller_namespace s ra = option_map_or (λ m. option_map_or (λ ns. ns.id) (home s m.serial) 0) (image_at s ra) 0
 
+-- of a name that is too long as many bytes are known as show that it is
+abbrev pub known : List ℕ → List ℕ
+known name = take 256 name
+
 abbrev pub dlopen : State → ℕ → Option (List ℕ) → ℕ → Call
-dlopen s ra name flags = opens (record { ns = Some (caller_namespace s ra); name = name; flags = flags })
+dlopen s ra name flags = opens (record { ns = Some (caller_namespace s ra); name = option_map known name; flags = flags })
 
 -- LM_ID_NEWLM asks for a namespace of its own
 abbrev pub asked_namespace : ℕ → Option ℕ
 asked_namespace ns = if ns == new_namespace then None else Some ns
 
 abbrev pub dlmopen : ℕ → Option (List ℕ) → ℕ → Call
-dlmopen ns name flags = opens (record { ns = asked_namespace ns; name = name; flags = flags })
+dlmopen ns name flags = opens (record { ns = asked_namespace ns; name = option_map known name; flags = flags })
 
 abbrev pub dlsym : State → ℕ → ℕ → List ℕ → Call
-dlsym s ra handle name = looks_up (record { ns = caller_namespace s ra; handle = handle; name = name; version = None })
+dlsym s ra handle name = looks_up (record { ns = caller_namespace s ra; handle = handle; name = known name; version = None })
 
 -- beside a name that is too long no version is asked for
 abbrev pub asked_version : Bool → List ℕ → Option (List ℕ)
 asked_version true version = None
-asked_version false version = Some version
+asked_version false version = Some (known version)
 
 abbrev pub dlvsym : State → ℕ → ℕ → List ℕ → List ℕ → Call
 dlvsym s ra handle name version =
-    looks_up (record { ns = caller_namespace s ra; handle = handle; name = name; version = asked_version (is_too_long name) version })
+    looks_up (record { ns = caller_namespace s ra; handle = handle; name = known name; version = asked_version (is_too_long name) version })

@@ -20,7 +20,7 @@ use Rattle.link_history.specs.Setting.{Machine, Readings, Setting, load_of}
 use Rattle.link_history.specs.Slots.{HasNoGrant}
 use Rattle.link_history.specs.State.{State}
 use Rattle.link_service.specs.Answer.{Answer}
-use Rattle.link_service.specs.Call.{Call, resolves, opens, looks_up, closes, unmaps, asks_fault, locates, writes, stops}
+use Rattle.link_service.specs.Call.{Call, caller_namespace, dlsym, dlvsym, resolves, opens, looks_up, closes, unmaps, asks_fault, locates, writes, stops}
 use Rattle.link_service.specs.Gives.{Gives}
 use Rattle.link_service.specs.Ends.{is_own_end}
 use Rattle.link_service.specs.Laws.{is_want}
@@ -73,3 +73,12 @@ OpensUnlessRefused = (w : Setting) (past : List Event) (h : ℕ) (ask : OpenAsk)
     → IsNamed (after past) ask name id → Finds w (after past) h ask name id root news → version_fault (there (after past) id) news ≡ None
     → ((pages : ℕ) → ¬ (HasNoPages w (after past) h ask name id pages)) → ((fault : DlFault) → ¬ (IsUnrelocated w (after past) h ask name id fault))
     → (added : List Loaded) × (ranges : List Range) × Opens w (after past) h ask id root added ranges
+
+-- what dlsym and dlvsym ask fits, where the caller's namespace is there
+abbrev pub DlsymFits : Type 0
+DlsymFits = (s : State) (ra handle : ℕ) (name : List ℕ) → IsTrue (has_namespace s (caller_namespace s ra))
+    → (ask : SymAsk) → dlsym s ra handle name ≡ looks_up ask → FitsSymbol s ask
+
+abbrev pub DlvsymFits : Type 0
+DlvsymFits = (s : State) (ra handle : ℕ) (name version : List ℕ) → IsTrue (has_namespace s (caller_namespace s ra))
+    → (ask : SymAsk) → dlvsym s ra handle name version ≡ looks_up ask → FitsSymbol s ask

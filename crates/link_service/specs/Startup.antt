@@ -21,13 +21,15 @@ use Rattle.link_event.specs.declared.handed.HartEntry.{HartEntry}
 use Rattle.link_served.specs.declared.startup.Setup.{Setup}
 use Rattle.link_served.specs.declared.startup.Started.{Started}
 use Rattle.seg_image.specs.Pages.{guest_address}
-use Rattle.link_history.specs.Addresses.{is_code_of}
+use Rattle.link_history.specs.Addresses.{is_rx}
 use Rattle.link_history.specs.After.{after}
 use Rattle.link_history.specs.Allowed.{Allowed}
+use Rattle.link_history.specs.Memory.{role_at}
 use Rattle.link_history.specs.Objects.{object_at, serial_of}
 use Rattle.link_history.specs.Setting.{Setting}
 use Rattle.link_history.specs.State.{State}
 use Rattle.link_history.specs.Storage.{tp_of}
+use Rattle.link_service.specs.Call.{known}
 use Rattle.link_service.specs.Functions.{AreStartConstructors}
 use Rattle.link_service.specs.Served.{AreInstalls}
 
@@ -51,7 +53,7 @@ program_ask setup = record { ns = Some 0; name = Some setup.program; flags = if 
 
 -- and the name of a hart's first function is looked up among the global ones (RTLD_DEFAULT)
 abbrev pub hart_ask : List ℕ → SymAsk
-hart_ask name = record { ns = 0; handle = 0; name = name; version = None }
+hart_ask name = record { ns = 0; handle = 0; name = known name; version = None }
 
 -- ---- where harts start
 
@@ -59,10 +61,14 @@ hart_ask name = record { ns = 0; handle = 0; name = name; version = None }
 abbrev pub found_at : ℕ → List ℕ → ℕ → ℕ → ℕ → Event
 found_at h name serial index value = Sym h (hart_ask name) (symbols.Found serial index value)
 
+-- the address lies in executable words
+abbrev pub is_executable : State → ℕ → Bool
+is_executable s a = is_rx (role_at s a)
+
 -- a hart's name is found, in executable words
 pub record FindsStart (w : Setting) (past : List Event) (h : ℕ) (name : List ℕ) (serial index value : ℕ) : Type 0 where
   pub may : Allowed w past (found_at h name serial index value)
-  pub code : IsTrue (is_code_of (after past) serial value)
+  pub code : IsTrue (is_executable (after past) value)
 
 -- the harts from one with this number on start at these names: the events of their look-ups, and the addresses
 pub data FindHarts (w : Setting) : List Event → ℕ → List (List ℕ) → List Event → List ℕ → Type 0 where
@@ -76,7 +82,7 @@ pub data LacksHart (w : Setting) (program : List ℕ) : List Event → ℕ → L
   is_refused : (past : List Event) (h : ℕ) (name : List ℕ) (names : List (List ℕ)) (fault : DlFault) → Allowed w past (Sym h (hart_ask name) (symbols.Refused fault))
       → LacksHart w program past h (name ∷ names) (Sym h (hart_ask name) (symbols.Refused fault) ∷ []) fault
   is_not_code : (past : List Event) (h : ℕ) (name : List ℕ) (names : List (List ℕ)) (serial index value : ℕ) → Allowed w past (found_at h name serial index value)
-      → is_code_of (after past) serial value ≡ false
+      → is_executable (after past) value ≡ false
       → LacksHart w program past h (name ∷ names) (found_at h name serial index value ∷ []) (NotCode program name)
   one_more : (past : List Event) (h : ℕ) (name : List ℕ) (names : List (List ℕ)) (serial index value : ℕ) (events : List Event) (fault : DlFault)
       → FindsStart w past h name serial index value → LacksHart w program (past ++ found_at h name serial index value ∷ []) (h + 1) names events fault

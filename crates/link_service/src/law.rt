@@ -1,6 +1,6 @@
 //! What holds of every call.
 
-ghost use Rattle.link_service.specs.Complete.{Complete, OpensUnlessRefused};
+ghost use Rattle.link_service.specs.Complete.{Complete, DlsymFits, DlvsymFits, OpensUnlessRefused};
 ghost use Rattle.link_service.specs.Laws.{AgainAppendsNothing, AskFirst, CallersAreThere, EndsKeep, GivesLawful, GivesLegal, OneAnswer, OneOpening};
 ghost use Rattle.link_service.specs.Laws.{FinishesStay, NextFinishes, NextStarts, OneFinalisation, OneInitialisation, OneStart, OpeningBegins};
 ghost use Rattle.link_service.specs.Laws.{PassedComeFirst, PassedOpens, RunsAFunction, StartsStay};
@@ -64,10 +64,12 @@ pub fn refusals_come_in_order()
 
 /// Each call that a hart may make has an answer, other than want of memory; an opening has one once its
 /// load comes to an end. And one opens whose names are found and whose versions are there, unless there is
-/// no room or a relocation is refused.
+/// no room or a relocation is refused. What dlsym and dlvsym ask for is such a call, whatever the names.
 pub fn calls_are_answered()
     ensures all { Complete }
     ensures opens { OpensUnlessRefused }
+    ensures dlsym { DlsymFits }
+    ensures dlvsym { DlvsymFits }
 {
     scope_rule::serials_follow();
     scope_rule::found_stands();

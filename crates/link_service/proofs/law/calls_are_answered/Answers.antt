@@ -1,3 +1,4 @@
+use Rattle.link_service.proofs.Asks.{dlsym_fits, dlvsym_fits}
 use Rattle.link_service.proofs.Every.{complete}
 use Rattle.link_service.proofs.OpenAnswered.{opens_unless}
 use Rattle.link_service.proofs.law.calls_are_answered.Goals as goal
@@ -10,3 +11,9 @@ returns-clause-all c = complete
 
 pub returns-clause-opens : goal.returns-clause-opens
 returns-clause-opens c = opens_unless
+
+pub returns-clause-dlsym : goal.returns-clause-dlsym
+returns-clause-dlsym c = dlsym_fits
+
+pub returns-clause-dlvsym : goal.returns-clause-dlvsym
+returns-clause-dlvsym c = dlvsym_fits
