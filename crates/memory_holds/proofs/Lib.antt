@@ -1,3 +1,4 @@
+pub mod Called
 pub mod Distinct
 pub mod Entered
 pub mod Exchanged

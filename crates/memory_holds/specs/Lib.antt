@@ -1,4 +1,5 @@
 pub mod Enters
+pub mod FirstCall
 pub mod Holds
 pub mod Memory
 pub mod Remade

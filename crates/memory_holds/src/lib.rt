@@ -9,8 +9,10 @@
 //! run is held to the journal by them, be it of plain words or of words that harts share.
 #![tactic(auto)]
 
+mod example;
 mod law;
 
+pub use example::first_call_is_held;
 pub use law::{
     events_keep, exchanges_keep, grants_settle, memory_begins, slots_enter, slots_stay, stores_keep,
 };
