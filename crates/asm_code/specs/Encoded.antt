@@ -27,3 +27,7 @@ MayBe (Word number) value = (neg_ℤ (pos (2 ^ 31)) ≤ℤ value) × (value ≤�
 MayBe (Label name) value = Unit {0}
 MayBe (Code name) value = Unit {0}
 MayBe (Entry kind name) value = Unit {0}
+
+-- a number that is far from the ends of 128 bits
+abbrev pub IsModest : ℤ → Type 0
+IsModest number = (neg_ℤ (pos (2 ^ 100)) ≤ℤ number) × (number ≤ℤ pos (2 ^ 100))

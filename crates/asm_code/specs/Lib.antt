@@ -1,1 +1,2 @@
+pub mod Atlas
 pub mod Encoded

@@ -5,11 +5,15 @@
 //! lines.
 #![tactic(auto)]
 
+mod atlas;
 mod fits;
 mod forms;
+mod instructions;
 mod line_words;
+mod registers;
 mod sections;
 
+pub use atlas::Bases;
 pub use fits::{directive_fits, number_fits};
 pub use line_words::LineWords;
 pub use sections::may_stand;
