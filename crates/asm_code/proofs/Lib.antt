@@ -1,2 +1,4 @@
+pub mod Between
 pub mod Names
 pub mod Wide
+pub mod Wording

@@ -1,6 +1,6 @@
 -- A number that 32 bits don't hold fits no form.
-use Rattle.std.proofs.Common.{◌≡◌, ℕ, ◌^◌, ◌-◌, ◌==◌, ◌&&◌, Bool, true, false, ℤ, pos, neg_ℤ, int_le, int_lt, List, [], ◌∷◌, None, refl, sym, ap, ◌∙◌, arith}
-use Rattle.std.specs.Prelude.{Option, if◌then◌else◌, map, Some}
+use Rattle.std.proofs.Common.{◌≡◌, ℕ, ◌^◌, ◌==◌, ◌&&◌, Bool, false, ℤ, pos, int_le, int_lt, List, [], ◌∷◌, None, refl, ap, arith}
+use Rattle.std.specs.Prelude.{if◌then◌else◌, map, Some}
 use Rattle.std.specs.List.{list_all}
 use Rattle.std.proofs.lemmas.Int.{ints}
 use Rattle.rv_isa.specs.declared.instr.Instr.{Instr}
@@ -13,7 +13,7 @@ use Rattle.rv_isa.specs.declared.operation.ImmOp.TheVariants as imms
 use Rattle.rv_isa.specs.Encoding.{word_of}
 use Rattle.rv_isa.specs.Opcodes.{imm_code}
 use Rattle.rv_isa.specs.Word.{part}
-use Rattle.asm_layout.specs.Faults.{has_form, is_within, is_distance, fits_field}
+use Rattle.asm_layout.specs.Faults.{has_form, is_within, fits_field}
 use Rattle.asm_code.specs.Encoded.{encoded}
 
 wide_12 : (value : ℤ) → is_within 32 value ≡ false → is_within 12 value ≡ false

@@ -5,8 +5,8 @@ use Rattle.rv_isa.specs.declared.instr.Instr.{Instr}
 use Rattle.rv_isa.specs.Encoding.{word_of}
 use Rattle.asm_layout.specs.Expansions.{Operand, Registers, Immediate, Upper, Word, Label, Code, Entry}
 use Rattle.asm_layout.specs.Faults.{has_form}
-use Rattle.asm_code.specs.declared.line_words.LineWords.{LineWords}
-use Rattle.asm_code.specs.declared.line_words.LineWords.TheVariants as the
+use Rattle.asm_code.specs.declared.encoding.LineWords.{LineWords}
+use Rattle.asm_code.specs.declared.encoding.LineWords.TheVariants as the
 
 -- the words of a line as a list
 abbrev pub word_list : LineWords → List ℕ

@@ -1,2 +1,4 @@
 pub mod Atlas
+pub mod Code
 pub mod Encoded
+pub mod Here

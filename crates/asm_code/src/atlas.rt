@@ -1,12 +1,13 @@
 //! Where names are.
 
-ghost use Rattle.std.specs.Prelude.{◌≡◌, ◌+◌, ◌*◌, ◌^◌, ◌<◌, List, length, IfSome, Some, ℕ};
+ghost use Rattle.std.specs.Prelude.{◌≡◌, ◌+◌, ◌*◌, ◌^◌, ◌<◌, List, length, IfSome, Some, ℕ, ℤ, true};
 ghost use Rattle.asm_statement.specs.declared.line.Line.{Line};
 ghost use Rattle.asm_layout.specs.Places.{place_at, section_number};
 ghost use Rattle.asm_layout.specs.Words.{address, address_at, got_plt_address, label_address, slot_address, call_address, got_address, operand_value, distance};
+ghost use Rattle.asm_layout.specs.Faults.{number_fits};
 ghost use Rattle.asm_uses.specs.Operands.{operand_as};
 ghost use Rattle.asm_code.specs.Atlas.{section_base, IsAtlasOf};
-ghost use Rattle.asm_code.specs.Encoded.{IsModest};
+ghost use Rattle.asm_code.specs.Encoded.{IsModest, MayBe};
 
 use asm_layout::{GotKind, Place};
 use asm_places::{Places, value_of};
@@ -76,7 +77,7 @@ fn word_address(base: u64, word: usize) -> u128
 
 impl<'a> Atlas<'a> {
     /// The address of a place.
-    fn address(self, place: Place) -> u128
+    pub fn address(self, place: Place) -> u128
         ensures value { (lines : List Line) → IsAtlasOf lines self.entry → result ≡ address lines place }
         ensures bound { result < 2 ^ 65 }
     {
@@ -92,7 +93,7 @@ impl<'a> Atlas<'a> {
     }
 
     /// The address of a line, counted from 0.
-    fn line_address(self, line: usize) -> Option<u128>
+    pub fn line_address(self, line: usize) -> Option<u128>
         ensures value { (lines : List Line) → IsAtlasOf lines self.entry → line < length lines → result ≡ Some (address_at lines line) }
         ensures bound { IfSome result (λ address. address < 2 ^ 65) }
     {
@@ -175,10 +176,11 @@ impl<'a> Atlas<'a> {
 
     /// The number of an instruction at an address, or its distance from there.
     #[tactic(auto, unfolding(asm_layout::specs::Words::operand_value, asm_layout::specs::Words::target))]
-    fn value(self, here: u128, operand: Operand<'_>) -> Option<i128>
+    pub fn value(self, here: u128, operand: Operand<'_>) -> Option<i128>
         requires { here < 2 ^ 70 }
         ensures value { (lines : List Line) → IsAtlasOf lines self.entry → result ≡ operand_value lines here (operand_as operand.entry) }
         ensures modest { IfSome result IsModest }
+        ensures range { number_fits (operand_as operand.entry) ≡ true → (v : ℤ) → result ≡ Some v → MayBe (operand_as operand.entry) v }
     {
         match operand {
             Operand::Registers => Some(0),

@@ -7,7 +7,7 @@ ghost use Rattle.rv_isa.specs.Word.{bits, part};
 ghost use Rattle.asm_layout.specs.Faults.{has_form, is_within, is_distance, is_upper, fits_field, is_atomic_size, is_fence};
 ghost use Rattle.asm_code.specs.Encoded.{encoded, word_list};
 
-use crate::line_words::LineWords;
+use crate::encoding::LineWords;
 use rv_isa::{ImmOp, Instr, encode};
 
 /// Whether a signed number has twelve bits.

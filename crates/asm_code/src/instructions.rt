@@ -8,8 +8,8 @@ ghost use Rattle.asm_layout.specs.Numbers.{fits_addi};
 ghost use Rattle.asm_layout.specs.Faults.{is_within, is_upper};
 ghost use Rattle.asm_code.specs.Encoded.{encoded, word_list, IsModest, MayBe};
 
+use crate::encoding::LineWords;
 use crate::forms::{one, two};
-use crate::line_words::LineWords;
 use crate::registers::fixed;
 use asm_places::fits_addi;
 use asm_statement::{AddressOp, Instruction, Number, UpperOp, ZeroBranchOp};

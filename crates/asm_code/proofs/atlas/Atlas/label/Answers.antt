@@ -1,4 +1,4 @@
-use Rattle.std.proofs.Common.{Some, None, ◌∙◌}
+use Rattle.std.proofs.Common.{◌∙◌}
 use Rattle.asm_layout.specs.Labels.{defines}
 use Rattle.asm_code.proofs.Names.{position_below, label_there, label_missing}
 use Rattle.asm_code.proofs.atlas.Atlas.label.Goals as goal
