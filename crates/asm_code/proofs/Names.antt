@@ -5,7 +5,7 @@ use Rattle.std.specs.List.{position_or_len}
 use Rattle.std.specs.Str.{bytes_eq}
 use Rattle.std.proofs.lemmas.Bool.Decides.{nat_tests}
 use Rattle.asm_statement.specs.declared.line.Line.{Line}
-use Rattle.asm_layout.specs.declared.part.Part.TheVariants as parts
+use Rattle.elf_write.specs.declared.part.Part.TheVariants as parts
 use Rattle.asm_layout.specs.declared.uses.GotUse.{GotUse}
 use Rattle.asm_layout.specs.Labels.{defines, label}
 use Rattle.asm_layout.specs.Names.{is_preemptible}

@@ -2,7 +2,7 @@
 use Rattle.std.specs.Prelude.{◌≡◌, ℕ, List, slice_index}
 use Rattle.asm_statement.specs.declared.directive.Section.{Section}
 use Rattle.asm_statement.specs.declared.line.Line.{Line}
-use Rattle.asm_layout.specs.declared.part.Part.TheVariants as parts
+use Rattle.elf_write.specs.declared.part.Part.TheVariants as parts
 use Rattle.asm_layout.specs.Places.{section_number}
 use Rattle.asm_layout.specs.Parts.{start_of, section_start}
 use Rattle.asm_places.specs.Counts.{ArePlacesOf}
