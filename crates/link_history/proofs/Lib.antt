@@ -5,6 +5,7 @@ pub mod AtLoad
 pub mod Beginning
 pub mod Begun
 pub mod Brought
+pub mod Calling
 pub mod Chains
 pub mod Changed
 pub mod Closed

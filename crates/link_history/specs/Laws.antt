@@ -39,7 +39,7 @@ use Rattle.link_history.specs.Slots.{value_at_load}
 use Rattle.link_history.specs.State.{Linked, State}
 use Rattle.link_history.specs.Storage.{module_of_place, with_modules}
 use Rattle.link_history.specs.Grants.{chosen_target, target_of}
-use Rattle.link_history.specs.Memory.{holds, image_at, role_at, word_at}
+use Rattle.link_history.specs.Memory.{holds, image_at, image_of, role_at, word_at}
 use Rattle.link_history.specs.Objects.{IsMapped, object_at, startup_serials, has}
 
 -- a mapped object, with its namespace
@@ -253,6 +253,13 @@ pub record IsImageOf (images : List Linked) (o : Loaded) : Type 0 where
   pub image : Linked
   pub there : Contains images image
   pub serial : image.serial ≡ o.serial
+  pub object : image.object ≡ o.object
+  pub base : image.base ≡ o.base
+
+-- the image that is found by an object's serial is of its record and its base
+pub record FindsImage (s : State) (o : Loaded) : Type 0 where
+  pub image : Linked
+  pub found : image_of s o.serial ≡ Some image
   pub object : image.object ≡ o.object
   pub base : image.base ≡ o.base
 

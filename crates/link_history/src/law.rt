@@ -1,7 +1,7 @@
 //! What holds in each state of a lawful history.
 
 ghost use Rattle.std.specs.Prelude.{◌≡◌, ◌≢◌, ◌≤◌, ◌+◌, ℕ, List, ◌∷◌, ◌++◌, [], take, map, flat_map, length, Contains, false};
-ghost use Rattle.std.specs.List.{range_with_len};
+ghost use Rattle.std.specs.List.{filter, range_with_len};
 ghost use Rattle.ld_base.specs.declared.linking.Choice.{Choice};
 ghost use Rattle.ld_base.specs.declared.linking.Choice.TheVariants.{Missing, WeakZero};
 ghost use Rattle.ld_base.specs.declared.linking.Loaded.{Loaded};
@@ -17,7 +17,7 @@ ghost use Rattle.link_history.specs.Accepted.{AcceptsOnly};
 ghost use Rattle.link_history.specs.After.{after};
 ghost use Rattle.link_history.specs.Allowed.{Allowed};
 ghost use Rattle.link_history.specs.Changes.{ChangesMemory};
-ghost use Rattle.link_history.specs.Laws.{AreApart, ClosesSpare, EachDiesOnce, FinalisedOnce, GrantsAreHeld, GrantsAreTidy, HasAll, HoldersAreImages, ImagesAreBound, ImagesAreInstalled, ImagesAreMapped};
+ghost use Rattle.link_history.specs.Laws.{AreApart, ClosesSpare, EachDiesOnce, FinalisedOnce, FindsImage, GrantsAreHeld, GrantsAreTidy, HasAll, HoldersAreImages, ImagesAreBound, ImagesAreInstalled, ImagesAreMapped};
 ghost use Rattle.link_history.specs.Laws.{ImagesArePlaced, ImagesAreTied, InitialisedOnce, IsInitialising, LoadsEnterCode, LostSawTheValue, ModulesAreFew, ModulesAreTidy};
 ghost use Rattle.link_history.specs.Laws.{NoneIsLazy, NothingDangles, NothingLeftOut, OpeningsStand, RangesAreApart, RangesAreOwned, ScopesAreWhole};
 ghost use Rattle.link_history.specs.Laws.{SerialsAreInOrder, SlotsBegin, SlotsEnterCode, SlotsLeadToRx, StartupStays, TakesLeast, UninitialisedStay};
@@ -25,8 +25,8 @@ ghost use Rattle.link_history.specs.Exits.{exits, initialised_by_another, settin
 ghost use Rattle.link_history.specs.Legal.{Lawful, Legal, Whole};
 ghost use Rattle.link_history.specs.Lookup.{SymbolsAreStored};
 ghost use Rattle.link_history.specs.Held.{EdgesFollow};
-ghost use Rattle.link_history.specs.Links.{edges, found_edges, held_edges};
-ghost use Rattle.link_history.specs.Objects.{is_startup, mapped, serial_of};
+ghost use Rattle.link_history.specs.Links.{edges, finis_of, found_edges, held_edges};
+ghost use Rattle.link_history.specs.Objects.{has, is_startup, mapped, serial_of};
 ghost use Rattle.link_history.specs.State.{State};
 ghost use Rattle.link_history.specs.Opening.{HasProgram};
 ghost use Rattle.link_history.specs.Owed.{IsOwed, brings, owed};
@@ -230,6 +230,16 @@ pub fn modules_are_few()
     scope_rule::found_stands();
 }
 
+/// Once startup has loaded something, no later opening is startup's.
+pub fn startup_is_past()
+    ensures { (events more : List Event) → is_startup (after events) ≡ false → is_startup (after (events ++ more)) ≡ false }
+{}
+
+/// Those of a set that are finalised are some of those of a larger set, in the same order.
+pub fn fewer_are_finalised()
+    ensures { (s : State) (all set : List ℕ) → HasAll all set → finis_of s set ≡ filter (has set) (finis_of s all) }
+{}
+
 /// Once startup has loaded the program, it is there, and isn't dying.
 pub fn program_stays()
     ensures { (m : Machine) (events : List Event) → Lawful m events → is_startup (after events) ≡ false → HasProgram (after events) }
@@ -285,6 +295,14 @@ pub fn symbols_are_stored()
 pub fn images_are_mapped()
     ensures { (m : Machine) (events : List Event) → Lawful m events → ImagesAreMapped (after events) }
 {}
+
+/// The image of a mapped object is found by its serial number.
+pub fn images_are_found()
+    ensures { (m : Machine) (events : List Event) → Lawful m events → (o : Loaded) → Contains (mapped (after events)) o → FindsImage (after events) o }
+{
+    scope_rule::serials_follow();
+    scope_rule::found_stands();
+}
 
 /// The pages of each image are reserved for its object, at the address that its base gives them.
 pub fn images_are_placed()

@@ -1,0 +1,5 @@
+use Rattle.link_history.proofs.Calling.{startup_is_past}
+use Rattle.link_history.proofs.law.startup_is_past.Goals as goal
+
+pub returns : goal.returns
+returns c = startup_is_past
