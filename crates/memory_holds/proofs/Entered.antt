@@ -1,6 +1,6 @@
 -- Each slot holds 0 or an address in an RX word.
-use Rattle.std.proofs.Common.{◌≡◌, ◌≢◌, inl, inr, ℕ, ◌^◌, ◌<◌, List, Option, Some, None, refl, sym, subst, ◌∙◌}
-use Rattle.ld_base.specs.declared.linking.Role.TheVariants.{Slot}
+use Rattle.std.proofs.Common.{◌≡◌, ◌⊎◌, ⊎_elim, ◌≢◌, inl, inr, ℕ, ◌^◌, ◌<◌, List, Option, Some, None, refl, sym, subst, ◌∙◌}
+use Rattle.ld_base.specs.declared.linking.Role.TheVariants.{Rx, Slot}
 use Rattle.link_event.specs.declared.state.Granting.{Granting}
 use Rattle.link_event.specs.declared.state.Standing.TheVariants.{Bound, Lost, Open}
 use Rattle.link_history.specs.State.{State}
@@ -8,28 +8,34 @@ use Rattle.link_history.specs.Laws.{ImagesAreMapped, SlotsBegin, SlotsLeadToRx}
 use Rattle.link_history.specs.Memory.{role_at, word_at}
 use Rattle.link_history.specs.Objects.{IsMapped}
 use Rattle.link_history.specs.Slots.{value_at_load}
+use Rattle.link_history.proofs.Lazy.{PageLaws}
 use Rattle.link_history.proofs.Map.{Mapped}
 use Rattle.memory_holds.specs.Enters.{Enters, LoadsFit}
 use Rattle.memory_holds.specs.Holds.{Holds, IsSlotAt, SlotHolds, Took, TookAt}
 use Rattle.memory_holds.specs.Holds.SlotHolds.{exchanged, first}
-use Rattle.memory_holds.specs.Memory.{IsDoubleword, Memory}
+use Rattle.memory_holds.specs.Memory.{IsDoubleword, Memory, doubleword_of}
 use Rattle.memory_holds.proofs.Exchanged.{fits}
 use Rattle.memory_holds.proofs.Settled.{first_bound, first_lazy}
 use Rattle.memory_holds.proofs.Slots.{image_in, loaded_at, slot_there}
+use Rattle.memory_holds.proofs.Whole.{code_whole}
+
+-- it is 0, or the state says that it may be executed
+abbrev Leads : State → ℕ → Type 0
+Leads s value = (value ≡ 0) ⊎ (role_at s value ≡ Rx)
 
 module _ (s : State) (m : Mapped s) (begins : SlotsBegin s) (mapped : ImagesAreMapped s) (leads : SlotsLeadToRx s) (fit : LoadsFit s) (won : List ℕ) (a : ℕ) (word : a < 2 ^ 64) where
   -- the first word
-  first_enters : (owner slot : ℕ) (is : IsSlotAt s a owner slot) (value : Option ℕ) → value_at_load s owner slot ≡ value → Enters s (word_at s a)
+  first_enters : (owner slot : ℕ) (is : IsSlotAt s a owner slot) (value : Option ℕ) → value_at_load s owner slot ≡ value → Leads s (word_at s a)
   first_enters owner slot is (Some value) got =
       let at = loaded_at s m begins mapped a word owner slot is in
-      subst (Enters s) (sym (first_bound s m begins fit a word owner slot is value got))
+      subst (Leads s) (sym (first_bound s m begins fit a word owner slot is value got))
       (leads.at_load at.namespace at.object slot value at.inside (subst (λ (n : ℕ). value_at_load s n slot ≡ Some value) (sym at.serial) got) (fit owner slot value got))
   first_enters owner slot is None got =
       let at = loaded_at s m begins mapped a word owner slot is in
-      subst (Enters s) (sym (first_lazy s m begins a word owner slot is got ∙ at.lazy)) (inr (leads.lazy at.namespace at.object slot at.reloc at.inside at.at))
+      subst (Leads s) (sym (first_lazy s m begins a word owner slot is got ∙ at.lazy)) (inr (leads.lazy at.namespace at.object slot at.reloc at.inside at.at))
 
   -- the value of a grant
-  granted_enters : (g : Granting) → TookAt s won a g → g.value < 2 ^ 64 → Enters s g.value
+  granted_enters : (g : Granting) → TookAt s won a g → g.value < 2 ^ 64 → Leads s g.value
   granted_enters g at low =
       let there = image_in s m begins a word g.owner g.slot at.of in
       leads.granted g at.there (λ saw. kept at.took saw) (subst (IsMapped s) at.of.serial (mapped.image at.of.image there)) low
@@ -38,12 +44,17 @@ module _ (s : State) (m : Mapped s) (begins : SlotsBegin s) (mapped : ImagesAreM
       kept (inl bound) saw lost = let no : Bound ≡ Lost saw = sym bound ∙ lost in cc
       kept (inr both) saw lost = let no : Open ≡ Lost saw = sym both.0 ∙ lost in cc
 
-  pub value_enters : (value : ℕ) → value < 2 ^ 64 → (owner slot : ℕ) → IsSlotAt s a owner slot → SlotHolds s won a value → Enters s value
-  value_enters value low owner slot at (first is none) = subst (Enters s) (sym is) (first_enters owner slot at (value_at_load s owner slot) refl)
-  value_enters value low owner slot at (exchanged g took is first_word only) = subst (Enters s) (sym is) (granted_enters g took (subst (λ (n : ℕ). n < 2 ^ 64) is low))
+  pub value_enters : (value : ℕ) → value < 2 ^ 64 → (owner slot : ℕ) → IsSlotAt s a owner slot → SlotHolds s won a value → Leads s value
+  value_enters value low owner slot at (first is none) = subst (Leads s) (sym is) (first_enters owner slot at (value_at_load s owner slot) refl)
+  value_enters value low owner slot at (exchanged g took is first_word only) = subst (Leads s) (sym is) (granted_enters g took (subst (λ (n : ℕ). n < 2 ^ 64) is low))
 
-pub slot_enters : (s : State) → Mapped s → SlotsBegin s → ImagesAreMapped s → SlotsLeadToRx s → LoadsFit s → (won : List ℕ) (memory : Memory) → Holds s won memory
-    → (a : ℕ) → IsDoubleword a → role_at s a ≡ Slot → memory.value a < 2 ^ 64 → Enters s (memory.value a)
-slot_enters s m begins mapped leads fit won memory holds a place role low =
+pub slot_enters : PageLaws → (s : State) → Mapped s → SlotsBegin s → ImagesAreMapped s → SlotsLeadToRx s → LoadsFit s → (won : List ℕ) (memory : Memory) → Holds s won memory
+    → (a : ℕ) → IsDoubleword a → role_at s a ≡ Slot → memory.value a < 2 ^ 64 → Enters memory (memory.value a)
+slot_enters pages s m begins mapped leads fit won memory holds a place role low =
     let is = slot_there s a role in
-    value_enters s m begins mapped leads fit won a (fits a place) (memory.value a) low is.0 is.1 is.2 ((holds.words a place).slot role)
+    ⊎_elim
+    (λ (none : memory.value a ≡ 0). inl none)
+    (λ (rx : role_at s (memory.value a) ≡ Rx).
+    let code = code_whole pages s m (memory.value a) low rx in
+    inr (code.0, (holds.words (doubleword_of (memory.value a)) code.0).role ∙ code.1))
+    (value_enters s m begins mapped leads fit won a (fits a place) (memory.value a) low is.0 is.1 is.2 ((holds.words a place).slot role))

@@ -6,6 +6,8 @@ pub mod Images
 pub mod Kept
 pub mod Settled
 pub mod Slots
+pub mod Standing
 pub mod Stayed
 pub mod Stored
 pub mod Taking
+pub mod Whole

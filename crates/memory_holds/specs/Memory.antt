@@ -1,5 +1,5 @@
 -- Guest memory: the value and the role of each doubleword, by its address.
-use Rattle.std.specs.Prelude.{◌≡◌, ℕ, ◌%◌, ◌≤◌, ◌<◌}
+use Rattle.std.specs.Prelude.{◌≡◌, ℕ, ◌*◌, ◌/◌, ◌%◌, ◌≤◌, ◌<◌}
 use Rattle.ld_base.specs.declared.linking.Role.{Role}
 
 pub record Memory : Type 0 where
@@ -11,6 +11,10 @@ pub record IsDoubleword (a : ℕ) : Type 0 where
   pub low : 0x10000 ≤ a
   pub high : a < 0x810000
   pub whole : a % 8 ≡ 0
+
+-- the doubleword that an address lies in
+abbrev pub doubleword_of : ℕ → ℕ
+doubleword_of a = a / 8 * 8
 
 -- nothing changes
 pub record IsSame (old new : Memory) : Type 0 where

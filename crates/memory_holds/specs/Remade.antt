@@ -57,6 +57,9 @@ pub record MayExchange (s : State) (a : ℕ) (g : Granting) : Type 0 where
   pub open_yet : g.standing ≡ Open
   pub of : IsSlotAt s a g.owner g.slot
 
+abbrev pub HasSlot : State → Granting → Type 0
+HasSlot s g = (a : ℕ) × MayExchange s a g
+
 -- it found the lazy word and left the grant's value
 pub record Wins (s : State) (a : ℕ) (g : Granting) (old new : Memory) : Type 0 where
   pub found : old.value a ≡ lazy_at s a

@@ -1,22 +1,26 @@
 //! What keeps memory as the journal says.
 
-ghost use Rattle.std.specs.Prelude.{◌≡◌, ◌≢◌, ℕ, ◌^◌, ◌<◌, List, [], ◌∷◌, ◌++◌, Contains};
+ghost use Rattle.std.specs.Prelude.{◌≡◌, ◌≢◌, ℕ, ◌^◌, ◌<◌, List, [], ◌∷◌, ◌++◌, Some, Contains};
+ghost use Rattle.std.specs.List.{slice_get};
 ghost use Rattle.ld_base.specs.declared.linking.Role.TheVariants.{Slot};
+ghost use Rattle.ld_base.specs.declared.object.Reloc.{Reloc};
 ghost use Rattle.link_event.specs.declared.event.Event.{Event};
 ghost use Rattle.link_event.specs.declared.state.Granting.{Granting};
+ghost use Rattle.link_event.specs.declared.state.Standing.TheVariants.{Open as GrantOpen};
 ghost use Rattle.link_history.specs.Accepted.{AcceptsOnly};
 ghost use Rattle.link_history.specs.After.{after};
 ghost use Rattle.link_history.specs.Allowed.{Allowed};
 ghost use Rattle.link_history.specs.Changes.{reserved, taken};
+ghost use Rattle.link_history.specs.Laws.{slot_address};
 ghost use Rattle.link_history.specs.Legal.{Lawful};
 ghost use Rattle.link_history.specs.Memory.{role_at};
 ghost use Rattle.link_history.specs.Setting.{Machine, Setting};
 ghost use Rattle.link_history.specs.Slots.{MayBind, MayLose};
-ghost use Rattle.link_history.specs.State.{State};
+ghost use Rattle.link_history.specs.State.{Linked, State};
 ghost use Rattle.memory_holds.specs.Enters.{Enters, LoadsFit, SlotStays};
-ghost use Rattle.memory_holds.specs.Holds.{Holds, lazy_at};
+ghost use Rattle.memory_holds.specs.Holds.{Holds, IsSlotAt, lazy_at};
 ghost use Rattle.memory_holds.specs.Memory.{IsDoubleword, IsSame, Memory};
-ghost use Rattle.memory_holds.specs.Remade.{Begins, MayExchange, Remade, SettlesRightly, Stores, Wins, won_after};
+ghost use Rattle.memory_holds.specs.Remade.{Begins, HasSlot, MayExchange, Remade, SettlesRightly, Stores, Wins, won_after};
 
 /// Before the first event memory is as it should be where the linker's own page alone has a role.
 pub fn memory_begins()
@@ -60,11 +64,29 @@ pub fn exchanges_keep()
     link_history::images_are_mapped();
 }
 
+/// Each slot of a mapped object stands in a doubleword of guest memory, and each open grant is of such a
+/// slot.
+pub fn slots_stand()
+    ensures there { (m : Machine) (events : List Event) (i : Linked) (slot : ℕ) (r : Reloc) → AcceptsOnly m → Lawful m events → Contains (after events).images i →
+        slice_get i.object.plt_relocs slot ≡ Some r → IsSlotAt (after events) (slot_address i r) i.serial slot }
+    ensures whole { (m : Machine) (events : List Event) (i : Linked) (slot : ℕ) (r : Reloc) → AcceptsOnly m → Lawful m events → Contains (after events).images i →
+        slice_get i.object.plt_relocs slot ≡ Some r → IsDoubleword (slot_address i r) }
+    ensures granted { (m : Machine) (events : List Event) (g : Granting) → AcceptsOnly m → Lawful m events → Contains (after events).grants g → g.standing ≡ GrantOpen →
+        HasSlot (after events) g }
+{
+    scope_rule::serials_follow();
+    scope_rule::found_stands();
+    scope_rule::reads_candidates();
+    seg_image::pages_hold_segments();
+    link_history::images_are_mapped();
+    link_history::grants_are_held();
+}
+
 /// What a slot holds says how a grant that is done may be settled: as bound where it won, and as lost
 /// where it didn't and the slot isn't lazy, with the word that the slot holds.
 pub fn grants_settle()
-    ensures bound { (m : Machine) (events : List Event) (won : List ℕ) (a : ℕ) (g : Granting) (memory : Memory) → AcceptsOnly m → Lawful m events → LoadsFit (after events) →
-        Holds (after events) won memory → MayExchange (after events) a g → Contains won g.number → MayBind (after events) g.number }
+    ensures bound { (m : Machine) (events : List Event) (won : List ℕ) (number : ℕ) (memory : Memory) → AcceptsOnly m → Lawful m events → LoadsFit (after events) →
+        Holds (after events) won memory → Contains won number → MayBind (after events) number }
     ensures lost { (m : Machine) (events : List Event) (won : List ℕ) (a : ℕ) (g : Granting) (memory : Memory) → AcceptsOnly m → Lawful m events → LoadsFit (after events) →
         Holds (after events) won memory → MayExchange (after events) a g → ¬ (Contains won g.number) → memory.value a ≢ lazy_at (after events) a →
         MayLose (after events) g.number (memory.value a) }
@@ -72,19 +94,22 @@ pub fn grants_settle()
     scope_rule::serials_follow();
     scope_rule::found_stands();
     scope_rule::reads_candidates();
+    seg_image::pages_hold_segments();
     link_history::slots_begin();
     link_history::none_is_lazy();
     link_history::images_are_mapped();
+    link_history::grants_are_held();
 }
 
 /// Each slot of a mapped object holds 0 or an address in an RX word.
 pub fn slots_enter()
     ensures { (m : Machine) (events : List Event) (won : List ℕ) (memory : Memory) (a : ℕ) → AcceptsOnly m → Lawful m events → LoadsFit (after events) →
-        Holds (after events) won memory → IsDoubleword a → role_at (after events) a ≡ Slot → memory.value a < 2 ^ 64 → Enters (after events) (memory.value a) }
+        Holds (after events) won memory → IsDoubleword a → role_at (after events) a ≡ Slot → memory.value a < 2 ^ 64 → Enters memory (memory.value a) }
 {
     scope_rule::serials_follow();
     scope_rule::found_stands();
     scope_rule::reads_candidates();
+    seg_image::pages_hold_segments();
     link_history::slots_begin();
     link_history::slots_lead_to_rx();
     link_history::images_are_mapped();

@@ -1,5 +1,6 @@
 use Rattle.link_history.specs.After.{after}
 use Rattle.link_history.proofs.Brought.{LoadLaws}
+use Rattle.link_history.proofs.Lazy.{PageLaws}
 use Rattle.link_history.proofs.Map.{Mapped, mapped_after}
 use Rattle.memory_holds.proofs.Entered.{slot_enters}
 use Rattle.memory_holds.proofs.law.slots_enter.Goals as goal
@@ -8,5 +9,6 @@ pub returns : goal.returns
 returns c m events won memory a only lawful fit holds place role low =
     let loads : LoadLaws = record { serials = c.serials_follow.ensures; leads = c.found_stands.ensures.names; founds = c.found_stands.ensures.founds } in
     let now : Mapped (after events) = mapped_after loads c.reads_candidates.ensures.candidates m only events lawful in
-    slot_enters (after events) now (c.slots_begin.ensures m events only lawful) (c.images_are_mapped.ensures m events lawful) (c.slots_lead_to_rx.ensures m events only lawful)
+    let pages : PageLaws = record { low = c.pages_hold_segments.ensures.low; high = c.pages_hold_segments.ensures.high; from = c.pages_hold_segments.ensures.from; to = c.pages_hold_segments.ensures.to; some = c.pages_hold_segments.ensures.some; few = c.pages_hold_segments.ensures.few; one = c.pages_hold_segments.ensures.one } in
+    slot_enters pages (after events) now (c.slots_begin.ensures m events only lawful) (c.images_are_mapped.ensures m events lawful) (c.slots_lead_to_rx.ensures m events only lawful)
     fit won memory holds a place role low
