@@ -54,7 +54,7 @@ same_pair : {X Y : Type 0} (a c : X) (b d : Y) → let p : X × Y = (a, b) in le
 same_pair {X} {Y} a c b d e = let both : (let p : X × Y = (a, b) in let q : X × Y = (c, d) in p ≡ q) = cc in (ap (λ (z : X × Y). z.0) both, ap (λ (z : X × Y). z.1) both)
 
 -- of a relocation of DT_RELA, with its copy
-each_rela : (images : List Linked) (o : Object) (f : Reloc → Binding) (rs : List Reloc) (tail : List Binding) (k : ℕ) (r : Reloc) (b : Binding)
+pub each_rela : (images : List Linked) (o : Object) (f : Reloc → Binding) (rs : List Reloc) (tail : List Binding) (k : ℕ) (r : Reloc) (b : Binding)
     → slice_get (zip rs (copies_made images o rs (map f rs ++ tail))) k ≡ Some (r, b) → Contains rs r × (b ≡ copied_of images o r (f r))
 each_rela images o f [] tail k r b e = absurd (let d : None ≡ Some (r, b) = e in cc)
 each_rela images o f (q ∷ rs) tail zero r b e =

@@ -38,6 +38,7 @@ pub mod Modular
 pub mod Members
 pub mod Moduled
 pub mod Offsets
+pub mod Offsetted
 pub mod Once
 pub mod Opened
 pub mod Openings

@@ -14,6 +14,7 @@ use Rattle.ld_base.specs.declared.object.Reloc.{Reloc}
 use Rattle.link_event.specs.declared.event.Purpose.TheVariants as purposes
 use Rattle.link_event.specs.declared.event.Range.{Range}
 use Rattle.relocator.specs.declared.binding.Binding.{Binding}
+use Rattle.relocator.specs.Storage.{first_without_offset}
 use Rattle.relocator.specs.Bindings.{AreBindings, AreCopied, chosen as object_of}
 use Rattle.relocator.specs.Relocated.{image_word, moved_word}
 use Rattle.seg_image.specs.declared.image.Image.{Image}
@@ -325,6 +326,10 @@ ImagesAreTied s = (i : Linked) → Contains s.images i → IsTied s i
 -- and they are those that relocating the object asks for
 abbrev pub ImagesAreBound : State → Type 0
 ImagesAreBound s = (i : Linked) → Contains s.images i → AreBindings i.object i.bindings
+
+-- no relocation of an image needs an offset in static blocks that its object hasn't
+abbrev pub OffsetsAreThere : State → Type 0
+OffsetsAreThere s = (i : Linked) → Contains s.images i → first_without_offset i.object i.serial i.bindings i.places ≡ None
 
 -- a list has each element of another
 abbrev pub HasAll : {X : Type 0} → List X → List X → Type 0

@@ -19,7 +19,7 @@ ghost use Rattle.link_history.specs.Allowed.{Allowed};
 ghost use Rattle.link_history.specs.Changes.{ChangesMemory};
 ghost use Rattle.link_history.specs.Laws.{AreApart, ClosesSpare, EachDiesOnce, FinalisedOnce, FindsImage, GrantsAreHeld, GrantsAreTidy, HasAll, HoldersAreImages, ImagesAreBound, ImagesAreInstalled, ImagesAreMapped};
 ghost use Rattle.link_history.specs.Laws.{ImagesArePlaced, ImagesAreTied, InitialisedOnce, IsInitialising, LoadsEnterCode, LostSawTheValue, ModulesAreFew, ModulesAreTidy};
-ghost use Rattle.link_history.specs.Laws.{NoneIsLazy, NothingDangles, NothingLeftOut, OpeningsStand, RangesAreApart, RangesAreOwned, ScopesAreWhole};
+ghost use Rattle.link_history.specs.Laws.{NoneIsLazy, NothingDangles, NothingLeftOut, OffsetsAreThere, OpeningsStand, RangesAreApart, RangesAreOwned, ScopesAreWhole};
 ghost use Rattle.link_history.specs.Laws.{SerialsAreInOrder, SlotsBegin, SlotsEnterCode, SlotsLeadToRx, StartupStays, TakesLeast, UninitialisedStay};
 ghost use Rattle.link_history.specs.Exits.{exits, initialised_by_another, setting, unmapped_unclosed};
 ghost use Rattle.link_history.specs.Legal.{Lawful, Legal, Whole};
@@ -247,6 +247,11 @@ pub fn program_stays()
     scope_rule::serials_follow();
     scope_rule::found_stands();
 }
+
+/// Where a relocation of an image asks for its object's offset in each hart's static block, there is one.
+pub fn offsets_are_there()
+    ensures { (m : Machine) (events : List Event) → Lawful m events → OffsetsAreThere (after events) }
+{}
 
 /// Each mapped object was read: the machine's verdict on some bytes is the object with its hash
 /// table. The program alone was read as one. And each new object of an opening was read so.

@@ -24,7 +24,7 @@ pub use law::{
     images_are_tied, initialised_once, legal_step_by_step, loads_enter_code, lost_saw_the_value,
     members_decide, memory_changes, modules_are_few, modules_are_tidy, no_slot_dangles,
     none_is_lazy, nothing_comes_before_startup, nothing_left_out, objects_are_apart,
-    objects_are_read, openings_stand, program_exits, program_stays, ranges_apart, ranges_are_owned,
-    serials_are_in_order, slots_begin, slots_enter_code, slots_lead_to_rx, startup_is_past,
-    startup_stays, symbols_are_stored, uninitialised_stay,
+    objects_are_read, offsets_are_there, openings_stand, program_exits, program_stays,
+    ranges_apart, ranges_are_owned, serials_are_in_order, slots_begin, slots_enter_code,
+    slots_lead_to_rx, startup_is_past, startup_stays, symbols_are_stored, uninitialised_stay,
 };
