@@ -1,6 +1,6 @@
 //! The state.
 
-ghost use Rattle.std.specs.Prelude.{◌≡◌, ◌<◌, ◌≤◌, [], IfOk, OnOk, OnErr};
+ghost use Rattle.std.specs.Prelude.{◌≡◌, ◌<◌, ◌≤◌, [], IfNone, IfOk, IfSome, OnOk, OnErr};
 ghost use Rattle.std.specs.Option.{option_copied};
 ghost use Rattle.link_event.specs.declared.event.Event.TheVariants.{Ended, Fini, Init, Told, Wrote};
 ghost use Rattle.link_history.specs.After.{after};
@@ -9,18 +9,21 @@ ghost use Rattle.link_history.specs.Legal.{Lawful};
 ghost use Rattle.link_history.specs.Objects.{namespace_of};
 ghost use Rattle.link_history.specs.Owed.{ends_at_most, times_ended};
 ghost use Rattle.lawful_journal.specs.Following.{MayFollow, machine_of};
+ghost use Rattle.object_holders.specs.Holders.{HasNone, IsFound};
 ghost use Rattle.link_state.specs.Table.{appended, refusal, settled};
 
 use crate::reading::namespace_in;
 use crate::refusing::{copy_of, make_room, refusal};
 use crate::running::{base_namespaces, settled};
+use accepted_image::one_image;
 use lawful_journal::LawfulJournal;
 use ld_base::{Bytes, DlFault, GrantNo, HartId, NsId, Serial};
 use link_event::{Ask, Event, HartEnd, Journal};
 use link_harts::{HartEnds, KeptFaults};
-use link_history::{events_are_owed, finalised_once, legal_step_by_step};
+use link_history::{events_are_owed, finalised_once, legal_step_by_step, objects_are_read};
 use link_pending::{OpenGrants, Unfinished};
 use namespace_changes::make_ready;
+use object_holders::holder_in;
 use scope_rule::Namespace;
 use std::alloc::{AllocError, Global};
 use std::marker::Model;
@@ -96,6 +99,17 @@ impl LinkState {
         ensures { option_copied result ≡ namespace_of (after self.now.events) ns }
     {
         namespace_in(self.namespaces.as_slice(), ns)
+    }
+
+    /// The mapped object whose pages hold an address, with its namespace.
+    pub fn holder(&self, address: u64) -> Option<(NsId, Serial)>
+        ensures found { IfSome result (λ p. IsFound (after self.now.events).namespaces address p.0 p.1) }
+        ensures none { IfNone result (HasNone (after self.now.events).namespaces address) }
+    {
+        objects_are_read();
+        one_image();
+        let _ = self.journal.journal();
+        holder_in(self.namespaces.as_slice(), address)
     }
 
     /// A hart wrote some bytes.
