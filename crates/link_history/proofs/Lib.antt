@@ -11,6 +11,7 @@ pub mod Changed
 pub mod Closed
 pub mod Cycled
 pub mod Dangling
+pub mod Data
 pub mod Defined
 pub mod Dying
 pub mod Entering

@@ -7,12 +7,13 @@ use Rattle.ld_base.specs.declared.linking.Choice.{Choice}
 use Rattle.ld_base.specs.declared.linking.Choice.TheVariants.{Def, WeakZero, Missing}
 use Rattle.link_history.specs.Addresses.{is_code_in, is_linkers_page}
 use Rattle.ld_base.specs.declared.linking.Loaded.{Loaded}
-use Rattle.ld_base.specs.declared.linking.Role.TheVariants.{Rx, Slot}
+use Rattle.ld_base.specs.declared.linking.Role.TheVariants.{Rw, Rx, Slot}
 use Rattle.ld_base.specs.declared.linking.State.TheVariants as states
 use Rattle.ld_base.specs.declared.linking.TlsPlace.{TlsPlace}
 use Rattle.ld_base.specs.declared.object.Reloc.{Reloc}
 use Rattle.link_event.specs.declared.event.Purpose.TheVariants as purposes
 use Rattle.link_event.specs.declared.event.Range.{Range}
+use Rattle.seg_image.specs.Words.{word_of}
 use Rattle.relocator.specs.declared.binding.Binding.{Binding}
 use Rattle.relocator.specs.Storage.{first_without_offset}
 use Rattle.relocator.specs.Bindings.{AreBindings, AreCopied, chosen as object_of}
@@ -40,7 +41,7 @@ use Rattle.link_history.specs.Slots.{value_at_load}
 use Rattle.link_history.specs.State.{Linked, State}
 use Rattle.link_history.specs.Storage.{module_of_place, with_modules}
 use Rattle.link_history.specs.Grants.{chosen_target, target_of}
-use Rattle.link_history.specs.Memory.{holds, image_at, image_of, role_at, word_at}
+use Rattle.link_history.specs.Memory.{covers, data_at, first_byte, holds, image_at, image_of, is_data_purpose, role_at, word_at}
 use Rattle.link_history.specs.Objects.{IsMapped, object_at, startup_serials, has}
 
 -- a mapped object, with its namespace
@@ -286,6 +287,18 @@ pub record HoldersAreImages (s : State) : Type 0 where
   pub one : (ns ms : Namespace) (o p : Loaded) (a : ℕ) → a < 2 ^ 64 → IsIn s ns o → IsIn s ms p → IsTrue (holds o a) → IsTrue (holds p a) → o ≡ p
   pub object : (i : Linked) (a : ℕ) → image_at s a ≡ Some i → (ns : Namespace) × (o : Loaded) × IsIn s ns o × (o.serial ≡ i.serial) × IsTrue (holds o a)
   pub none : (ns : Namespace) (o : Loaded) (a : ℕ) → image_at s a ≡ None → IsIn s ns o → holds o a ≡ false
+
+-- an address of a range for data: its role, and the word that was put there first
+pub record IsDataAt (s : State) (r : Range) (a : ℕ) : Type 0 where
+  pub linkers : is_linkers_page a ≡ false
+  pub image : image_at s a ≡ None
+  pub area : data_at s a ≡ Some r
+  pub role : role_at s a ≡ Rw
+  pub word : word_at s a ≡ word_of (first_byte s r.purpose) a
+
+-- the pages of stacks, static areas and blocks are data, and nothing else
+abbrev pub AreasAreData : State → Type 0
+AreasAreData s = (r : Range) (a : ℕ) → Contains s.ranges r → IsTrue (is_data_purpose r.purpose) → IsTrue (covers a r) → IsDataAt s r a
 
 -- the words of an image that was relocated by its record are those of memory, with their roles
 abbrev pub ImagesAreInstalled : State → Type 0

@@ -17,7 +17,7 @@ ghost use Rattle.link_history.specs.Accepted.{AcceptsOnly};
 ghost use Rattle.link_history.specs.After.{after};
 ghost use Rattle.link_history.specs.Allowed.{Allowed};
 ghost use Rattle.link_history.specs.Changes.{ChangesMemory};
-ghost use Rattle.link_history.specs.Laws.{AreApart, ClosesSpare, EachDiesOnce, FinalisedOnce, FindsImage, GrantsAreHeld, GrantsAreTidy, HasAll, HoldersAreImages, ImagesAreBound, ImagesAreInstalled, ImagesAreMapped};
+ghost use Rattle.link_history.specs.Laws.{AreApart, AreasAreData, ClosesSpare, EachDiesOnce, FinalisedOnce, FindsImage, GrantsAreHeld, GrantsAreTidy, HasAll, HoldersAreImages, ImagesAreBound, ImagesAreInstalled, ImagesAreMapped};
 ghost use Rattle.link_history.specs.Laws.{ImagesArePlaced, ImagesAreTied, InitialisedOnce, IsInitialising, LoadsEnterCode, LostSawTheValue, ModulesAreFew, ModulesAreTidy};
 ghost use Rattle.link_history.specs.Laws.{NoneIsLazy, NothingDangles, NothingLeftOut, OffsetsAreThere, OpeningsStand, RangesAreApart, RangesAreOwned, ScopesAreWhole};
 ghost use Rattle.link_history.specs.Laws.{SerialsAreInOrder, SlotsBegin, SlotsEnterCode, SlotsLeadToRx, StartupStays, TakesLeast, UninitialisedStay};
@@ -317,6 +317,17 @@ pub fn images_are_placed()
 /// A mapped object whose pages hold an address is the one whose image is there, and the only one.
 pub fn holders_are_images()
     ensures { (m : Machine) (events : List Event) → AcceptsOnly m → Lawful m events → HoldersAreImages (after events) }
+{
+    scope_rule::serials_follow();
+    scope_rule::found_stands();
+    scope_rule::reads_candidates();
+    seg_image::pages_hold_segments();
+}
+
+/// The pages of stacks, static areas and blocks are of no object, and not the linker's: memory has them for
+/// data, with the words that were put there first.
+pub fn areas_are_data()
+    ensures { (m : Machine) (events : List Event) → AcceptsOnly m → Lawful m events → AreasAreData (after events) }
 {
     scope_rule::serials_follow();
     scope_rule::found_stands();
