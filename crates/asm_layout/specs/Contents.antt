@@ -38,8 +38,11 @@ string_names lines =
     option_to_list (soname lines) ++ needed lines ++ imports lines ++ export_names lines ++ versions lines ++ needed_files lines ++ needed_names lines
 
 -- one zero byte, then each name with a zero byte behind it
+unfoldable pub string_bytes : List ℕ → List ℕ
+string_bytes name = name ++ 0 ∷ []
+
 unfoldable pub strings_of : List Line → List ℕ
-strings_of lines = 0 ∷ flat_map (λ name. name ++ 0 ∷ []) (string_names lines)
+strings_of lines = 0 ∷ flat_map string_bytes (string_names lines)
 
 -- where the names of each kind begin
 abbrev pub needed_at : List Line → ℕ
