@@ -4,19 +4,20 @@ use Rattle.ld_base.specs.declared.linking.Role.TheVariants.{Rx, Slot}
 use Rattle.link_event.specs.declared.state.Granting.{Granting}
 use Rattle.link_event.specs.declared.state.Standing.TheVariants.{Bound, Lost, Open}
 use Rattle.link_history.specs.State.{State}
-use Rattle.link_history.specs.Laws.{ImagesAreMapped, SlotsBegin, SlotsLeadToRx}
+use Rattle.link_history.specs.Laws.{ImagesAreMapped, SlotsBegin, SlotsLeadToRx, slot_address}
 use Rattle.link_history.specs.Memory.{role_at, word_at}
 use Rattle.link_history.specs.Objects.{IsMapped}
 use Rattle.link_history.specs.Slots.{value_at_load}
 use Rattle.link_history.proofs.Lazy.{PageLaws}
 use Rattle.link_history.proofs.Map.{Mapped}
-use Rattle.memory_holds.specs.Enters.{Enters, LoadsFit}
+use Rattle.memory_holds.specs.Enters.{Enters, HoldsWords, LoadsFit, SlotTrue}
 use Rattle.memory_holds.specs.Holds.{Holds, IsSlotAt, SlotHolds, Took, TookAt}
 use Rattle.memory_holds.specs.Holds.SlotHolds.{exchanged, first}
 use Rattle.memory_holds.specs.Memory.{IsDoubleword, Memory, doubleword_of}
 use Rattle.memory_holds.proofs.Exchanged.{fits}
 use Rattle.memory_holds.proofs.Settled.{first_bound, first_lazy}
 use Rattle.memory_holds.proofs.Slots.{image_in, loaded_at, slot_there}
+use Rattle.memory_holds.proofs.Standing.{slot_is_doubleword}
 use Rattle.memory_holds.proofs.Whole.{code_whole}
 
 -- it is 0, or the state says that it may be executed
@@ -58,3 +59,11 @@ slot_enters pages s m begins mapped leads fit won memory holds a place role low 
     let code = code_whole pages s m (memory.value a) low rx in
     inr (code.0, (holds.words (doubleword_of (memory.value a)) code.0).role ∙ code.1))
     (value_enters s m begins mapped leads fit won a (fits a place) (memory.value a) low is.0 is.1 is.2 ((holds.words a place).slot role))
+
+pub slots_true : PageLaws → (s : State) → Mapped s → SlotsBegin s → ImagesAreMapped s → SlotsLeadToRx s → LoadsFit s → (won : List ℕ) (memory : Memory) → HoldsWords memory → Holds s won memory → SlotTrue s won memory
+slots_true pages s m begins mapped leads fit won memory words holds = record {
+  holds = λ i slot r there at. (holds.words (slot_address i r) (slot_is_doubleword pages s m i there slot r at)).slot (begins.role i slot r there at);
+  enters = λ i slot r there at.
+      let place = slot_is_doubleword pages s m i there slot r at in
+      slot_enters pages s m begins mapped leads fit won memory holds (slot_address i r) place (begins.role i slot r there at) (words (slot_address i r) place);
+}

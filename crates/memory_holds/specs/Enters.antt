@@ -1,9 +1,12 @@
 -- Where slots lead.
-use Rattle.std.specs.Prelude.{◌≡◌, ℕ, ◌^◌, ◌<◌, ◌⊎◌, Some}
+use Rattle.std.specs.Prelude.{◌≡◌, ℕ, ◌^◌, ◌<◌, ◌⊎◌, List, Some, Contains}
+use Rattle.std.specs.List.{slice_get}
 use Rattle.ld_base.specs.declared.linking.Role.TheVariants.{Rx}
-use Rattle.link_history.specs.State.{State}
+use Rattle.ld_base.specs.declared.object.Reloc.{Reloc}
+use Rattle.link_history.specs.State.{Linked, State}
+use Rattle.link_history.specs.Laws.{slot_address}
 use Rattle.link_history.specs.Slots.{value_at_load}
-use Rattle.memory_holds.specs.Holds.{lazy_at}
+use Rattle.memory_holds.specs.Holds.{SlotHolds, lazy_at}
 use Rattle.memory_holds.specs.Memory.{IsDoubleword, Memory, doubleword_of}
 
 -- the values that slots got when their objects were loaded are words
@@ -18,3 +21,12 @@ Enters memory value = (value ≡ 0) ⊎ (IsDoubleword (doubleword_of value) × (
 pub record SlotStays (s t : State) (old new : Memory) (a : ℕ) : Type 0 where
   pub value : new.value a ≡ old.value a
   pub lazy : lazy_at t a ≡ lazy_at s a
+
+-- each doubleword holds a word
+abbrev pub HoldsWords : Memory → Type 0
+HoldsWords memory = (a : ℕ) → IsDoubleword a → memory.value a < 2 ^ 64
+
+-- each slot of each mapped object holds its first word or the value of the one grant that took it, and leads to code or to 0
+pub record SlotTrue (s : State) (won : List ℕ) (memory : Memory) : Type 0 where
+  pub holds : (i : Linked) (slot : ℕ) (r : Reloc) → Contains s.images i → slice_get i.object.plt_relocs slot ≡ Some r → SlotHolds s won (slot_address i r) (memory.value (slot_address i r))
+  pub enters : (i : Linked) (slot : ℕ) (r : Reloc) → Contains s.images i → slice_get i.object.plt_relocs slot ≡ Some r → Enters memory (memory.value (slot_address i r))

@@ -17,7 +17,7 @@ ghost use Rattle.link_history.specs.Memory.{role_at};
 ghost use Rattle.link_history.specs.Setting.{Machine, Setting};
 ghost use Rattle.link_history.specs.Slots.{MayBind, MayLose};
 ghost use Rattle.link_history.specs.State.{Linked, State};
-ghost use Rattle.memory_holds.specs.Enters.{Enters, LoadsFit, SlotStays};
+ghost use Rattle.memory_holds.specs.Enters.{Enters, HoldsWords, LoadsFit, SlotStays, SlotTrue};
 ghost use Rattle.memory_holds.specs.Holds.{Holds, IsSlotAt, lazy_at};
 ghost use Rattle.memory_holds.specs.Memory.{IsDoubleword, IsSame, Memory};
 ghost use Rattle.memory_holds.specs.Remade.{Begins, HasSlot, MayExchange, Remade, SettlesRightly, Stores, Wins, won_after};
@@ -105,6 +105,21 @@ pub fn grants_settle()
 pub fn slots_enter()
     ensures { (m : Machine) (events : List Event) (won : List ℕ) (memory : Memory) (a : ℕ) → AcceptsOnly m → Lawful m events → LoadsFit (after events) →
         Holds (after events) won memory → IsDoubleword a → role_at (after events) a ≡ Slot → memory.value a < 2 ^ 64 → Enters memory (memory.value a) }
+{
+    scope_rule::serials_follow();
+    scope_rule::found_stands();
+    scope_rule::reads_candidates();
+    seg_image::pages_hold_segments();
+    link_history::slots_begin();
+    link_history::slots_lead_to_rx();
+    link_history::images_are_mapped();
+}
+
+/// Where memory is as it should be, each slot of each mapped object holds its first word or the value of
+/// the one grant that took it, and that is 0 or an address in an RX word.
+pub fn slots_are_true()
+    ensures { (m : Machine) (events : List Event) (won : List ℕ) (memory : Memory) → AcceptsOnly m → Lawful m events → LoadsFit (after events) → HoldsWords memory →
+        Holds (after events) won memory → SlotTrue (after events) won memory }
 {
     scope_rule::serials_follow();
     scope_rule::found_stands();
