@@ -1,8 +1,9 @@
 -- What callers of the linker rely on: nothing is startup's again, images are found by their serials, and fewer destructors are some of more.
-use Rattle.std.proofs.Common.{◌≡◌, ℕ, Bool, true, false, List, [], ◌∷◌, ◌++◌, reverse, Option, Some, None, refl, sym, ap, ◌∙◌}
+use Rattle.std.proofs.Common.{◌≡◌, inr, ℕ, Bool, true, false, not, map, List, [], ◌∷◌, ◌++◌, reverse, Option, Some, None, refl, sym, ap, ◌∙◌}
 use Rattle.std.specs.Prelude.{◌==◌}
 use Rattle.std.specs.List.{Contains, filter}
 use Rattle.std.proofs.lemmas.Bool.{eq-eqb, eqb-true, true≢false}
+use Rattle.std.proofs.lemmas.List.Elements.{Contains-append_left}
 use Rattle.ld_base.specs.declared.linking.Loaded.{Loaded}
 use Rattle.link_event.specs.declared.event.CloseAnswer.TheVariants as closes
 use Rattle.link_event.specs.declared.event.Event.{Event}
@@ -13,16 +14,19 @@ use Rattle.link_event.specs.declared.state.Loading.{Loading}
 use Rattle.scope_rule.specs.declared.namespace.Namespace.{Namespace}
 use Rattle.link_history.specs.State.{State, Linked, start}
 use Rattle.link_history.specs.After.{after, after_from}
+use Rattle.link_graph.specs.Initialised.{is_one_of}
+use Rattle.link_history.specs.Allowed.{Allowed, IsFirst}
 use Rattle.link_history.specs.Laws.{FindsImage, HasAll, IsImageOf}
 use Rattle.link_history.specs.Legal.{Lawful}
 use Rattle.link_history.specs.Links.{finis_of, unfinished}
 use Rattle.link_history.specs.Memory.{image_of}
-use Rattle.link_history.specs.Objects.{has, is_none_loaded, is_startup, mapped}
-use Rattle.link_history.specs.Setting.{Machine}
+use Rattle.link_history.specs.Objects.{IsMapped, has, is_none_loaded, is_startup, mapped, serial_of}
+use Rattle.link_history.specs.Setting.{Machine, Setting, have_exited}
 use Rattle.link_history.specs.Step.{die, initialise, loaded, lower, step, unmap}
 use Rattle.link_history.proofs.Brought.{LoadLaws}
 use Rattle.link_history.proofs.Imaged.{images_mapped}
-use Rattle.link_history.proofs.Lists.{found_in, from_flat, has_in, in_has, not_found}
+use Rattle.link_history.proofs.Finalised.{from_reverse}
+use Rattle.link_history.proofs.Lists.{at_in, from_filter, found_in, from_flat, has_in, in_has, not_found}
 use Rattle.link_history.proofs.Map.{one_image}
 
 -- ---- startup is past
@@ -60,6 +64,49 @@ past_from s (e ∷ events) more later = past_from (step s e) events more later
 
 pub startup_is_past : (events more : List Event) → is_startup (after events) ≡ false → is_startup (after (events ++ more)) ≡ false
 startup_is_past events more later = past_from start events more later
+
+-- ---- what was initialised stays so
+
+inits_step : (s : State) (e : Event) (o : ℕ) → Contains s.inits o → Contains (step s e).inits o
+unfolding die initialise loaded lower unmap
+inits_step s (events.Open hart ask (opens.Done id root added ranges)) o was = was
+inits_step s (events.Open hart ask opens.Absent) o was = was
+inits_step s (events.Open hart ask (opens.Refused fault)) o was = was
+inits_step s (events.Close hart handle (closes.Done set)) o was = was
+inits_step s (events.Close hart handle (closes.Refused fault)) o was = was
+inits_step s (events.Unmapped hart set) o was = was
+inits_step s (events.Grant number hart owner slot choice value) o was = was
+inits_step s (events.Bound number) o was = was
+inits_step s (events.Lost number saw) o was = was
+inits_step s (events.Unresolved hart owner slot choice) o was = was
+inits_step s (events.Sym hart ask (syms.Found serial index value)) o was = was
+inits_step s (events.Sym hart ask (syms.Refused fault)) o was = was
+inits_step s (events.Tls hart owner address) o was = was
+inits_step s (events.Init hart object) o was = Contains-append_left s.inits (object ∷ []) o was
+inits_step s (events.Fini hart object) o was = was
+inits_step s (events.Wrote hart bytes) o was = was
+inits_step s (events.Told hart fault) o was = was
+inits_step s (events.Ended hart reason) o was = was
+
+inits_from : (s : State) (events more : List Event) (o : ℕ) → Contains (after_from s events).inits o → Contains (after_from s (events ++ more)).inits o
+unfolding after_from
+inits_from s [] [] o was = was
+inits_from s [] (e ∷ more) o was = inits_from (step s e) [] more o (inits_step s e o was)
+inits_from s (e ∷ events) more o was = inits_from (step s e) events more o was
+
+-- what was next of all mapped objects, after every hart had ended by exit, may be finalised at the end
+pub finals_follow : (w : Setting) (before since : List Event) (o : ℕ) → have_exited w (after before) ≡ true → IsFirst (finis_of (after before) (map serial_of (mapped (after before)))) o
+    → IsMapped (after (before ++ since)) o → has (after (before ++ since)).finis o ≡ false → Allowed w (before ++ since) (events.Fini 0 o)
+finals_follow w before since o over first mapped_still unfinished_still =
+    let listed = from_filter (is_one_of (map serial_of (mapped (after before)))) (reverse (unfinished (after before))) o (at_in (finis_of (after before) (map serial_of (mapped (after before)))) 0 o first) in
+    let was = from_filter (λ (d : ℕ). not (has (after before).finis d)) (after before).inits o (from_reverse (unfinished (after before)) o listed.0) in
+    inr (record {
+      first_hart = refl;
+      mapped = mapped_still;
+      initialised = in_has (after (before ++ since)).inits o (inits_from start before since o was.0);
+      unfinished = unfinished_still;
+      was = record { before = before; since = since; are = refl; over = over; next = first };
+    })
 
 -- ---- images are found
 

@@ -26,7 +26,7 @@ use Rattle.link_history.proofs.History.{by_lawful}
 use Rattle.link_history.proofs.Lists.{at_in, from_filter, has_in, here, in_has, later, none_in}
 use Rattle.link_history.proofs.Tidy.{get_push}
 
-from_reverse : (xs : List ℕ) (x : ℕ) → Contains (reverse xs) x → Contains xs x
+pub from_reverse : (xs : List ℕ) (x : ℕ) → Contains (reverse xs) x → Contains xs x
 from_reverse [] x h = absurd (none_in x h)
 from_reverse (y ∷ xs) x h = ⊎_elim
     (λ (i : Contains (reverse xs) x). later y xs x (from_reverse xs x i))

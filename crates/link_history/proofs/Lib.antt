@@ -4,6 +4,7 @@ pub mod Arrived
 pub mod AtLoad
 pub mod Beginning
 pub mod Begun
+pub mod Blocked
 pub mod Brought
 pub mod Calling
 pub mod Chains

@@ -21,6 +21,7 @@ use Rattle.relocator.specs.Relocated.{image_word, moved_word}
 use Rattle.seg_image.specs.declared.image.Image.{Image}
 use Rattle.seg_image.specs.Images.{IsImage}
 use Rattle.seg_image.specs.Pages.{guest_address, low_of, own_address, pages_of}
+use Rattle.ld_base.specs.declared.object.TlsSeg.{TlsSeg}
 use Rattle.link_event.specs.declared.state.Block.{Block}
 use Rattle.link_event.specs.declared.state.Chosen.{Chosen}
 use Rattle.link_event.specs.declared.state.Closing.{Closing}
@@ -39,7 +40,8 @@ use Rattle.link_history.specs.Bound.{lazy_word}
 use Rattle.link_history.specs.Setting.{Machine}
 use Rattle.link_history.specs.Slots.{value_at_load}
 use Rattle.link_history.specs.State.{Linked, State}
-use Rattle.link_history.specs.Storage.{module_of_place, with_modules}
+use Rattle.link_history.specs.Step.{block_range}
+use Rattle.link_history.specs.Storage.{module_of_place, residue, with_modules}
 use Rattle.link_history.specs.Grants.{chosen_target, target_of}
 use Rattle.link_history.specs.Memory.{covers, data_at, first_byte, holds, image_at, image_of, is_data_purpose, role_at, word_at}
 use Rattle.link_history.specs.Objects.{IsMapped, object_at, startup_serials, has}
@@ -249,6 +251,20 @@ pub record GrantsAreTidy (s : State) : Type 0 where
       → g.owner ≡ h.owner → g.slot ≡ h.slot → g.number ≡ h.number
   pub one_open : (g h : Granting) → Contains s.grants g → Contains s.grants h → g.standing ≡ Open → h.standing ≡ Open → g.hart ≡ h.hart → g.number ≡ h.number
   pub unbound : (g : Granting) → Contains s.grants g → g.standing ≡ Bound → value_at_load s g.owner g.slot ≡ None
+
+-- a block that a hart got at its first use stands in pages of its own: at its segment's residue behind their start, and whole
+pub record IsBlockPlaced (s : State) (b : Block) : Type 0 where
+  pub seg : TlsSeg
+  pub image : Linked
+  pub there : Contains s.images image
+  pub serial : image.serial ≡ b.serial
+  pub storage : image.object.tls ≡ Some seg
+  pub range : Contains s.ranges (block_range b.hart b.serial b.address seg)
+  pub stands : residue seg ≤ b.address
+  pub covered : (a : ℕ) → b.address ≤ a → a < b.address + seg.memsz → IsTrue (covers a (block_range b.hart b.serial b.address seg))
+
+abbrev pub BlocksArePlaced : State → Type 0
+BlocksArePlaced s = (b : Block) → Contains s.blocks b → IsBlockPlaced s b
 
 -- the image of an object: of its serial, its record and its base
 pub record IsImageOf (images : List Linked) (o : Loaded) : Type 0 where

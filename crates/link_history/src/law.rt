@@ -1,13 +1,13 @@
 //! What holds in each state of a lawful history.
 
-ghost use Rattle.std.specs.Prelude.{◌≡◌, ◌≢◌, ◌≤◌, ◌+◌, ℕ, List, ◌∷◌, ◌++◌, [], take, map, flat_map, length, Contains, false};
+ghost use Rattle.std.specs.Prelude.{◌≡◌, ◌≢◌, ◌≤◌, ◌+◌, ℕ, List, ◌∷◌, ◌++◌, [], take, map, flat_map, length, Contains, IsTrue, false};
 ghost use Rattle.std.specs.List.{filter, range_with_len};
 ghost use Rattle.ld_base.specs.declared.linking.Choice.{Choice};
 ghost use Rattle.ld_base.specs.declared.linking.Choice.TheVariants.{Missing, WeakZero};
 ghost use Rattle.ld_base.specs.declared.linking.Loaded.{Loaded};
 ghost use Rattle.link_event.specs.declared.event.Event.{Event};
 ghost use Rattle.link_event.specs.declared.event.CloseAnswer.TheVariants.{Done as Closed};
-ghost use Rattle.link_event.specs.declared.event.Event.TheVariants.{Close, Grant, Init, Open, Unresolved};
+ghost use Rattle.link_event.specs.declared.event.Event.TheVariants.{Close, Fini, Grant, Init, Open, Unresolved};
 ghost use Rattle.link_event.specs.declared.event.OpenAnswer.TheVariants.{Done};
 ghost use Rattle.link_event.specs.declared.event.OpenAsk.{OpenAsk};
 ghost use Rattle.link_event.specs.declared.event.Range.{Range};
@@ -15,9 +15,9 @@ ghost use Rattle.link_graph.specs.declared.graph.Edge.{Edge};
 ghost use Rattle.link_graph.specs.Reached.{Reached, Unneeded};
 ghost use Rattle.link_history.specs.Accepted.{AcceptsOnly};
 ghost use Rattle.link_history.specs.After.{after};
-ghost use Rattle.link_history.specs.Allowed.{Allowed};
+ghost use Rattle.link_history.specs.Allowed.{Allowed, IsFirst};
 ghost use Rattle.link_history.specs.Changes.{ChangesMemory};
-ghost use Rattle.link_history.specs.Laws.{AreApart, AreasAreData, ClosesSpare, EachDiesOnce, FinalisedOnce, FindsImage, GrantsAreHeld, GrantsAreTidy, HasAll, HoldersAreImages, ImagesAreBound, ImagesAreInstalled, ImagesAreMapped};
+ghost use Rattle.link_history.specs.Laws.{AreApart, AreasAreData, BlocksArePlaced, ClosesSpare, EachDiesOnce, FinalisedOnce, FindsImage, GrantsAreHeld, GrantsAreTidy, HasAll, HoldersAreImages, ImagesAreBound, ImagesAreInstalled, ImagesAreMapped};
 ghost use Rattle.link_history.specs.Laws.{ImagesArePlaced, ImagesAreTied, InitialisedOnce, IsInitialising, LoadsEnterCode, LostSawTheValue, ModulesAreFew, ModulesAreTidy};
 ghost use Rattle.link_history.specs.Laws.{NoneIsLazy, NothingDangles, NothingLeftOut, OffsetsAreThere, OpeningsStand, RangesAreApart, RangesAreOwned, ScopesAreWhole};
 ghost use Rattle.link_history.specs.Laws.{SerialsAreInOrder, SlotsBegin, SlotsEnterCode, SlotsLeadToRx, StartupStays, TakesLeast, UninitialisedStay};
@@ -26,12 +26,12 @@ ghost use Rattle.link_history.specs.Legal.{Lawful, Legal, Whole};
 ghost use Rattle.link_history.specs.Lookup.{SymbolsAreStored};
 ghost use Rattle.link_history.specs.Held.{EdgesFollow};
 ghost use Rattle.link_history.specs.Links.{edges, finis_of, found_edges, held_edges};
-ghost use Rattle.link_history.specs.Objects.{has, is_startup, mapped, serial_of};
+ghost use Rattle.link_history.specs.Objects.{IsMapped, has, is_startup, mapped, serial_of};
 ghost use Rattle.link_history.specs.State.{State};
 ghost use Rattle.link_history.specs.Opening.{HasProgram};
 ghost use Rattle.link_history.specs.Owed.{IsOwed, brings, owed};
 ghost use Rattle.link_history.specs.Read.{BeginsUntouched, ObjectsAreRead, WasRead};
-ghost use Rattle.link_history.specs.Setting.{Machine, Setting};
+ghost use Rattle.link_history.specs.Setting.{Machine, Setting, have_exited};
 ghost use Rattle.link_history.specs.Step.{lower, step};
 
 /// A history grows event by event: the state after one more event is a step on, a legal history is
@@ -323,6 +323,19 @@ pub fn holders_are_images()
     scope_rule::reads_candidates();
     seg_image::pages_hold_segments();
 }
+
+/// What was the next to be finalised of all mapped objects, at a moment after every hart had ended by exit,
+/// hart 0 may finalise at the end, while it is mapped and wasn't finalised.
+pub fn finals_follow()
+    ensures { (w : Setting) (before since : List Event) (o : ℕ) → IsTrue (have_exited w (after before)) → IsFirst (finis_of (after before) (map serial_of (mapped (after before)))) o →
+        IsMapped (after (before ++ since)) o → has (after (before ++ since)).finis o ≡ false → Allowed w (before ++ since) (Fini 0 o) }
+{}
+
+/// Each block of thread-local storage that a hart got at its first use of a module has pages of its own,
+/// in which it stands whole.
+pub fn blocks_are_placed()
+    ensures { (m : Machine) (events : List Event) → Lawful m events → BlocksArePlaced (after events) }
+{}
 
 /// The pages of stacks, static areas and blocks are of no object, and not the linker's: memory has them for
 /// data, with the words that were put there first.

@@ -18,12 +18,12 @@ pub use journals::{
     namespaces_are_apart,
 };
 pub use law::{
-    areas_are_data, closed_are_spare, each_dies_once, edges_follow, events_are_owed,
-    fewer_are_finalised, finalised_once, grants_are_held, grants_are_tidy, grants_choose,
-    holders_are_images, images_are_bound, images_are_found, images_are_installed,
-    images_are_mapped, images_are_placed, images_are_tied, initialised_once, legal_step_by_step,
-    loads_enter_code, lost_saw_the_value, members_decide, memory_changes, modules_are_few,
-    modules_are_tidy, no_slot_dangles, none_is_lazy, nothing_comes_before_startup,
+    areas_are_data, blocks_are_placed, closed_are_spare, each_dies_once, edges_follow,
+    events_are_owed, fewer_are_finalised, finalised_once, finals_follow, grants_are_held,
+    grants_are_tidy, grants_choose, holders_are_images, images_are_bound, images_are_found,
+    images_are_installed, images_are_mapped, images_are_placed, images_are_tied, initialised_once,
+    legal_step_by_step, loads_enter_code, lost_saw_the_value, members_decide, memory_changes,
+    modules_are_few, modules_are_tidy, no_slot_dangles, none_is_lazy, nothing_comes_before_startup,
     nothing_left_out, objects_are_apart, objects_are_read, offsets_are_there, openings_stand,
     program_exits, program_stays, ranges_apart, ranges_are_owned, serials_are_in_order,
     slots_begin, slots_enter_code, slots_lead_to_rx, startup_is_past, startup_stays,

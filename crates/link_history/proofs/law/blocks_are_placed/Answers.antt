@@ -1,0 +1,5 @@
+use Rattle.link_history.proofs.Blocked.{blocks_placed}
+use Rattle.link_history.proofs.law.blocks_are_placed.Goals as goal
+
+pub returns : goal.returns
+returns c = blocks_placed
