@@ -113,7 +113,8 @@ ending h (told fault) = []
 ending h (again for) = []
 ending h (over reason) = events.Ended h reason ∷ []
 
--- what a service appends in its turn: what its call gives, and then the hart's end, where the call ends it
+-- what a call itself appends: what it gives, and then the hart's end, where the call ends it. The Init and Fini of objects without functions,
+-- which pass in the same turn, aren't the call's: NextStarts and NextFinishes are of them
 pub record Serves (w : Setting) (past : List Event) (h : ℕ) (call : Call) (appended : List Event) (answer : Answer) : Type 0 where
   pub given : List Event
   pub gives : Gives w past h call given answer
