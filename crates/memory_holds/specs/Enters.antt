@@ -1,10 +1,14 @@
 -- Where slots lead.
-use Rattle.std.specs.Prelude.{◌≡◌, ℕ, ◌^◌, ◌<◌, ◌⊎◌, List, Some, Contains}
+use Rattle.std.specs.Prelude.{◌≡◌, ℕ, ◌^◌, ◌<◌, ◌⊎◌, Bool, List, Some, Ok, Contains}
 use Rattle.std.specs.List.{slice_get}
 use Rattle.ld_base.specs.declared.linking.Role.TheVariants.{Rx}
+use Rattle.ld_base.specs.declared.object.Object.{Object}
 use Rattle.ld_base.specs.declared.object.Reloc.{Reloc}
+use Rattle.ld_base.specs.declared.object.Symbol.{Symbol}
+use Rattle.ld_base.specs.declared.parts.HashTable.{HashTable}
 use Rattle.link_history.specs.State.{Linked, State}
 use Rattle.link_history.specs.Laws.{slot_address}
+use Rattle.link_history.specs.Setting.{Machine}
 use Rattle.link_history.specs.Slots.{value_at_load}
 use Rattle.memory_holds.specs.Holds.{SlotHolds, lazy_at}
 use Rattle.memory_holds.specs.Memory.{IsDoubleword, Memory, doubleword_of}
@@ -12,6 +16,11 @@ use Rattle.memory_holds.specs.Memory.{IsDoubleword, Memory, doubleword_of}
 -- the values that slots got when their objects were loaded are words
 abbrev pub LoadsFit : State → Type 0
 LoadsFit s = (owner slot value : ℕ) → value_at_load s owner slot ≡ Some value → value < 2 ^ 64
+
+-- of each object that the machine reads the values of symbols are words
+abbrev pub SymbolsFit : Machine → Type 0
+SymbolsFit m = (bytes : List ℕ) (program : Bool) (o : Object) (table : HashTable) → m.verdict bytes program ≡ Ok (o, table)
+    → (i : ℕ) (x : Symbol) → slice_get o.symbols i ≡ Some x → x.value < 2 ^ 64
 
 -- it is 0, or an address in a word that the memory may execute
 abbrev pub Enters : Memory → ℕ → Type 0

@@ -17,7 +17,7 @@ ghost use Rattle.link_history.specs.Memory.{role_at};
 ghost use Rattle.link_history.specs.Setting.{Machine, Setting};
 ghost use Rattle.link_history.specs.Slots.{MayBind, MayLose};
 ghost use Rattle.link_history.specs.State.{Linked, State};
-ghost use Rattle.memory_holds.specs.Enters.{Enters, HoldsWords, LoadsFit, SlotStays, SlotTrue};
+ghost use Rattle.memory_holds.specs.Enters.{Enters, HoldsWords, LoadsFit, SlotStays, SlotTrue, SymbolsFit};
 ghost use Rattle.memory_holds.specs.Holds.{Holds, IsSlotAt, lazy_at};
 ghost use Rattle.memory_holds.specs.Memory.{IsDoubleword, IsSame, Memory};
 ghost use Rattle.memory_holds.specs.Remade.{Begins, HasSlot, MayExchange, Remade, SettlesRightly, Stores, Wins, won_after};
@@ -80,6 +80,14 @@ pub fn slots_stand()
     seg_image::pages_hold_segments();
     link_history::images_are_mapped();
     link_history::grants_are_held();
+}
+
+/// The values that slots got when their objects were loaded are words, where the machine reads no symbol
+/// whose value isn't one.
+pub fn loads_fit()
+    ensures { (m : Machine) (events : List Event) → SymbolsFit m → Lawful m events → LoadsFit (after events) }
+{
+    link_history::objects_are_read();
 }
 
 /// What a slot holds says how a grant that is done may be settled: as bound where it won, and as lost
