@@ -13,7 +13,7 @@ use Rattle.ld_base.specs.declared.object.Reloc.{Reloc}
 use Rattle.ld_base.specs.declared.object.Symbol.{Symbol}
 use Rattle.scope_rule.specs.Choose.{want_of}
 use Rattle.scope_rule.specs.Relocation.{choice_at}
-use Rattle.scope_rule.specs.Seen.{seen_in}
+use Rattle.scope_rule.specs.Seen.{Seen, seen_in}
 use Rattle.scope_rule.specs.declared.namespace.Namespace.{Namespace}
 
 abbrev pub object_line : Loaded → List ℕ
@@ -37,17 +37,17 @@ abbrev pub reference_text : Object → Symbol → List ℕ
 reference_text o s = name_text s.name ++ 32 ∷ name_or_none (version_of (want_of o s))
 
 -- a slot: its object, its number, what it refers to, and its choice
-unfoldable pub slot_line : Namespace → Loaded → ℕ → Reloc → Symbol → List ℕ
-slot_line ns o number r s =
-    codes "slot " ++ decimal o.serial ++ 32 ∷ decimal number ++ 32 ∷ reference_text o.object s ++ codes " -> " ++ choice_text (choice_at (seen_in ns) o r) ++ 10 ∷ []
+unfoldable pub slot_text : Loaded → ℕ → Symbol → Choice → List ℕ
+slot_text o number s choice =
+    codes "slot " ++ decimal o.serial ++ 32 ∷ decimal number ++ 32 ∷ reference_text o.object s ++ codes " -> " ++ choice_text choice ++ 10 ∷ []
 
 -- the line of a numbered slot, whose symbol is there
-abbrev pub numbered_line : Namespace → Loaded → ℕ × Reloc → List ℕ
-numbered_line ns o slot = elim (slice_get o.object.symbols slot.1.symbol) [ Some s ↦ slot_line ns o slot.0 slot.1 s | None ↦ [] ]
+abbrev pub numbered_line : Seen → Loaded → ℕ × Reloc → List ℕ
+numbered_line seen o slot = elim (slice_get o.object.symbols slot.1.symbol) [ Some s ↦ slot_text o slot.0 s (choice_at seen o slot.1) | None ↦ [] ]
 
-abbrev pub slot_lines : Namespace → Loaded → List ℕ
-slot_lines ns o = flat_map (numbered_line ns o) (enumerate_from 0 o.object.plt_relocs)
+abbrev pub slot_lines : Seen → Loaded → List ℕ
+slot_lines seen o = flat_map (numbered_line seen o) (enumerate_from 0 o.object.plt_relocs)
 
 -- the text of a namespace that was bound
 unfoldable pub bound_text : Namespace → List ℕ
-bound_text ns = flat_map object_line ns.objects ++ flat_map (slot_lines ns) ns.objects ++ codes "end 0 bound" ++ 10 ∷ []
+bound_text ns = flat_map object_line ns.objects ++ flat_map (slot_lines (seen_in ns)) ns.objects ++ codes "end 0 bound" ++ 10 ∷ []

@@ -11,7 +11,7 @@ use Rattle.ld_base.specs.declared.object.Reloc.{Reloc}
 use Rattle.ld_base.specs.declared.object.Symbol.{Symbol}
 use Rattle.scope_rule.specs.Choose.{want_of}
 use Rattle.scope_rule.specs.Relocation.{choice_at}
-use Rattle.scope_rule.specs.Seen.{seen_in}
+use Rattle.scope_rule.specs.Seen.{Seen, seen_in}
 use Rattle.scope_rule.specs.declared.namespace.Namespace.{Namespace}
 use Rattle.command_text.specs.Lines.{version_of}
 
@@ -25,19 +25,19 @@ abbrev pub missing_symbol : Loaded → Symbol → DlFault
 missing_symbol o s = dl.MissingSymbol (Some o.path) s.name (version_of (want_of o.object s))
 
 -- what a relocation is refused for
-unfoldable pub refusal_at : Namespace → Loaded → Reloc → Option DlFault
-refusal_at ns o r = if is_missing (choice_at (seen_in ns) o r) then option_map (missing_symbol o) (slice_get o.object.symbols r.symbol) else None
+unfoldable pub refusal_at : Seen → Loaded → Reloc → Option DlFault
+refusal_at seen o r = if is_missing (choice_at seen o r) then option_map (missing_symbol o) (slice_get o.object.symbols r.symbol) else None
 
 -- the first refusal of relocations in order
-abbrev pub first_missing : Namespace → Loaded → List Reloc → Option DlFault
-first_missing ns o [] = None
-first_missing ns o (r ∷ rest) = option_or (refusal_at ns o r) (first_missing ns o rest)
+abbrev pub first_missing : Seen → Loaded → List Reloc → Option DlFault
+first_missing seen o [] = None
+first_missing seen o (r ∷ rest) = option_or (refusal_at seen o r) (first_missing seen o rest)
 
 -- of an object: first of its relocations that aren't slots, and where every slot is wanted then of its slots
-abbrev pub refusal_of : Namespace → Bool → Loaded → Option DlFault
-refusal_of ns now o = option_or (first_missing ns o o.object.relocs) (if now then first_missing ns o o.object.plt_relocs else None)
+abbrev pub refusal_of : Seen → Bool → Loaded → Option DlFault
+refusal_of seen now o = option_or (first_missing seen o o.object.relocs) (if now then first_missing seen o o.object.plt_relocs else None)
 
 -- of the objects in load order, the first refusal
 abbrev pub first_refusal : Namespace → Bool → List Loaded → Option DlFault
 first_refusal ns now [] = None
-first_refusal ns now (o ∷ rest) = option_or (refusal_of ns now o) (first_refusal ns now rest)
+first_refusal ns now (o ∷ rest) = option_or (refusal_of (seen_in ns) now o) (first_refusal ns now rest)

@@ -9,6 +9,7 @@
 
 mod dump_lines;
 mod lines;
+mod references;
 mod refusal;
 mod version_names;
 mod words;

@@ -5,12 +5,17 @@ ghost use Rattle.std.specs.List.{slice_get, enumerate_from, AllByRecursion};
 ghost use Rattle.std.specs.Option.{option_copied};
 ghost use Rattle.std.specs.String.{string_bytes};
 ghost use Rattle.scope_rule.specs.Relocation.{choice_at, names_symbols};
-ghost use Rattle.command_text.specs.Lines.{object_line, choice_text, version_of, slot_line, numbered_line, slot_lines, bound_text};
+ghost use Rattle.scope_rule.specs.Seen.{seen_in};
+ghost use Rattle.search_lists.specs.Lists.{lists_of};
+ghost use Rattle.sym_lookup.specs.Looking.{HaveTables};
+ghost use Rattle.command_text.specs.Lines.{object_line, choice_text, version_of, slot_text, numbered_line, slot_lines, bound_text};
 
-use ld_base::{Choice, Loaded, Name, Reloc, Symbol, Want};
-use scope_rule::{Namespace, choose_reloc, want_of};
+use crate::references::references_at;
+use ld_base::{Choice, Loaded, Name, Symbol, Want};
+use scope_rule::{Namespace, want_of};
 use std::alloc::{AllocError, Global};
 use std::fmt;
+use sym_lookup::{References, SearchLists};
 
 /// A choice, as it is written.
 #[derive(Clone, Copy)]
@@ -49,21 +54,19 @@ fn write_object(text: &mut String, object: &Loaded) -> Result<(), AllocError>
     writeln!(text, "object {serial} {path}")
 }
 
-/// Writes a slot, whose symbol is `symbol`.
-#[tactic(auto, unfolding(crate::specs::Lines::slot_line))]
+/// Writes a slot.
+#[tactic(auto, unfolding(crate::specs::Lines::slot_text))]
 fn write_slot(
     alloc: Global,
     text: &mut String,
-    ns: &Namespace,
     owner: &Loaded,
     number: usize,
-    slot: &Reloc,
     symbol: &Symbol,
+    choice: Choice,
 ) -> Result<(), AllocError>
-    requires { slot.now.symbol < length owner.now.object.symbols }
-    ensures { OnOk result (string_bytes text.new ≡ string_bytes text.old ++ slot_line ns.now owner.now number slot.now symbol.now) }
+    ensures { OnOk result (string_bytes text.new ≡ string_bytes text.old ++ slot_text owner.now number symbol.now choice) }
 {
-    let choice = Chosen(choose_reloc(alloc, &ns.view(), owner, slot)?);
+    let choice = Chosen(choice);
     let want = want_of(alloc, &owner.object, symbol)?;
     let serial = owner.serial.number();
     let name = &symbol.name;
@@ -73,21 +76,42 @@ fn write_slot(
     }
 }
 
-/// Writes the slots of an object, in order.
+/// Writes the slots of an object, whose references these are, in order.
+fn write_each_slot(
+    alloc: Global,
+    text: &mut String,
+    references: &mut References,
+    owner: &Loaded,
+) -> Result<(), AllocError>
+    requires names { names_symbols owner.now.object ≡ true }
+    requires owner { references.old.owner ≡ owner.now }
+    ensures { OnOk result (string_bytes text.new ≡ string_bytes text.old ++ slot_lines references.old.seen owner.now) }
+{
+    for (number, slot) in owner.object.plt_relocs.as_slice().iter().enumerate() {
+        let symbol = &owner.object.symbols.as_slice()[slot.symbol as usize];
+        let choice = references.choice(slot);
+        write_slot(alloc, text, owner, number, symbol, choice)?;
+    }
+    Ok(())
+}
+
+/// Writes the slots of the object at a place in load order.
 fn write_slots(
     alloc: Global,
     text: &mut String,
     ns: &Namespace,
+    lists: &SearchLists,
+    place: usize,
     owner: &Loaded,
 ) -> Result<(), AllocError>
-    requires { names_symbols owner.now.object ≡ true }
-    ensures { OnOk result (string_bytes text.new ≡ string_bytes text.old ++ slot_lines ns.now owner.now) }
+    requires names { names_symbols owner.now.object ≡ true }
+    requires lists { lists.now ≡ lists_of (seen_in ns.now) }
+    requires tables { HaveTables (seen_in ns.now) }
+    requires there { slice_get ns.now.objects place ≡ Some owner.now }
+    ensures { OnOk result (string_bytes text.new ≡ string_bytes text.old ++ slot_lines (seen_in ns.now) owner.now) }
 {
-    for (number, slot) in owner.object.plt_relocs.as_slice().iter().enumerate() {
-        let symbol = &owner.object.symbols.as_slice()[slot.symbol as usize];
-        write_slot(alloc, text, ns, owner, number, slot, symbol)?;
-    }
-    Ok(())
+    let mut references = references_at(alloc, ns, lists, place, owner)?;
+    write_each_slot(alloc, text, &mut references, owner)
 }
 
 fn write_objects(text: &mut String, objects: &[Loaded]) -> Result<(), AllocError>
@@ -99,25 +123,39 @@ fn write_objects(text: &mut String, objects: &[Loaded]) -> Result<(), AllocError
     Ok(())
 }
 
-fn write_all_slots(alloc: Global, text: &mut String, ns: &Namespace) -> Result<(), AllocError>
-    requires { AllByRecursion (λ o. names_symbols o.object ≡ true) ns.now.objects }
-    ensures { OnOk result (string_bytes text.new ≡ string_bytes text.old ++ flat_map (slot_lines ns.now) ns.now.objects) }
+fn write_all_slots(
+    alloc: Global,
+    text: &mut String,
+    ns: &Namespace,
+    lists: &SearchLists,
+) -> Result<(), AllocError>
+    requires names { AllByRecursion (λ o. names_symbols o.object ≡ true) ns.now.objects }
+    requires lists { lists.now ≡ lists_of (seen_in ns.now) }
+    requires tables { HaveTables (seen_in ns.now) }
+    ensures { OnOk result (string_bytes text.new ≡ string_bytes text.old ++ flat_map (slot_lines (seen_in ns.now)) ns.now.objects) }
 {
-    for object in ns.objects.as_slice() {
-        write_slots(alloc, text, ns, object)?;
+    for (place, object) in ns.objects.as_slice().iter().enumerate() {
+        write_slots(alloc, text, ns, lists, place, object)?;
     }
     Ok(())
 }
 
-/// The text of a namespace that is bound.
+/// The text of a namespace that is bound, whose search lists these are and whose objects have their own
+/// tables.
+///
+/// # Errors
+///
+/// Want of memory.
 #[tactic(auto, unfolding(crate::specs::Lines::bound_text))]
-pub fn bound_text(alloc: Global, ns: &Namespace) -> Result<String, AllocError>
-    requires { AllByRecursion (λ o. names_symbols o.object ≡ true) ns.now.objects }
+pub fn bound_text(alloc: Global, ns: &Namespace, lists: &SearchLists) -> Result<String, AllocError>
+    requires names { AllByRecursion (λ o. names_symbols o.object ≡ true) ns.now.objects }
+    requires lists { lists.now ≡ lists_of (seen_in ns.now) }
+    requires tables { HaveTables (seen_in ns.now) }
     ensures { IfOk result (λ text. string_bytes text ≡ bound_text ns.now) }
 {
     let mut text = String::new(alloc);
     write_objects(&mut text, ns.objects.as_slice())?;
-    write_all_slots(alloc, &mut text, ns)?;
+    write_all_slots(alloc, &mut text, ns, lists)?;
     writeln!(text, "end 0 bound")?;
     Ok(text)
 }

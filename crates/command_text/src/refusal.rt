@@ -1,15 +1,21 @@
 //! What `bind` refuses of objects that are all there.
 
-ghost use Rattle.std.specs.Prelude.{◌≡◌, ◌<◌, ◌^◌, length, true, IfOk};
+ghost use Rattle.std.specs.Prelude.{◌≡◌, ◌<◌, ◌^◌, length, true, Some, IfOk};
 ghost use Rattle.std.specs.List.{AllByRecursion};
+ghost use Rattle.std.specs.List.{slice_get};
 ghost use Rattle.scope_rule.specs.Relocation.{names_symbols};
+ghost use Rattle.scope_rule.specs.Seen.{seen_in};
+ghost use Rattle.search_lists.specs.Lists.{lists_of};
+ghost use Rattle.sym_lookup.specs.Looking.{HaveTables};
 ghost use Rattle.command_text.specs.Refusal.{missing_symbol, refusal_at, first_missing, refusal_of, first_refusal};
 ghost use Rattle.command_text.specs.Named.{AreNamed};
 
 use crate::lines::version_of;
+use crate::references::references_at;
 use ld_base::{Choice, DlFault, Loaded, Name, Reloc, Symbol};
-use scope_rule::{Namespace, choose_reloc, want_of};
+use scope_rule::{Namespace, want_of};
 use std::alloc::{AllocError, Global};
+use sym_lookup::{References, SearchLists};
 
 /// The refusal of a reference to a symbol that has no definition.
 fn missing_symbol(alloc: Global, owner: &Loaded, symbol: &Symbol) -> Result<DlFault, AllocError>
@@ -29,14 +35,16 @@ fn missing_symbol(alloc: Global, owner: &Loaded, symbol: &Symbol) -> Result<DlFa
 #[tactic(auto, unfolding(crate::specs::Refusal::refusal_at))]
 fn refusal_at(
     alloc: Global,
-    ns: &Namespace,
+    references: &mut References,
     owner: &Loaded,
     reloc: &Reloc,
 ) -> Result<Option<DlFault>, AllocError>
-    requires { reloc.now.symbol < length owner.now.object.symbols }
-    ensures { IfOk result (λ fault. fault ≡ refusal_at ns.now owner.now reloc.now) }
+    requires symbol { reloc.now.symbol < length owner.now.object.symbols }
+    requires owner { references.old.owner ≡ owner.now }
+    ensures fault { IfOk result (λ fault. fault ≡ refusal_at references.old.seen owner.now reloc.now) }
+    ensures same { references.new ≡ references.old }
 {
-    match choose_reloc(alloc, &ns.view(), owner, reloc)? {
+    match references.choice(reloc) {
         Choice::Missing => {
             let symbol = &owner.object.symbols.as_slice()[reloc.symbol as usize];
             Ok(Some(missing_symbol(alloc, owner, symbol)?))
@@ -48,51 +56,84 @@ fn refusal_at(
 /// The first refusal of relocations in order, if one is refused.
 fn first_missing(
     alloc: Global,
-    ns: &Namespace,
+    references: &mut References,
     owner: &Loaded,
     relocs: &[Reloc],
 ) -> Result<Option<DlFault>, AllocError>
-    requires { AreNamed (length owner.now.object.symbols) relocs.now }
-    ensures { IfOk result (λ fault. fault ≡ first_missing ns.now owner.now relocs.now) }
+    requires named { AreNamed (length owner.now.object.symbols) relocs.now }
+    requires owner { references.old.owner ≡ owner.now }
+    ensures fault { IfOk result (λ fault. fault ≡ first_missing references.old.seen owner.now relocs.now) }
+    ensures same { references.new ≡ references.old }
 {
     for reloc in relocs {
-        if let Some(fault) = refusal_at(alloc, ns, owner, reloc)? {
+        if let Some(fault) = refusal_at(alloc, references, owner, reloc)? {
             return Ok(Some(fault));
         }
     }
     Ok(None)
 }
 
-/// The first refusal of an object: of its relocations that aren't slots, and then, where every slot
-/// is wanted, of its slots.
+/// The first refusal of an object, whose references these are: of its relocations that aren't slots,
+/// and then, where every slot is wanted, of its slots.
 fn refusal_of(
     alloc: Global,
-    ns: &Namespace,
+    references: &mut References,
     now: bool,
     owner: &Loaded,
 ) -> Result<Option<DlFault>, AllocError>
-    requires { names_symbols owner.now.object ≡ true }
-    ensures { IfOk result (λ fault. fault ≡ refusal_of ns.now now owner.now) }
+    requires names { names_symbols owner.now.object ≡ true }
+    requires owner { references.old.owner ≡ owner.now }
+    ensures { IfOk result (λ fault. fault ≡ refusal_of references.old.seen now owner.now) }
 {
     let relocs = owner.object.relocs.as_slice();
-    match first_missing(alloc, ns, owner, relocs)? {
+    match first_missing(alloc, references, owner, relocs)? {
         Some(fault) => Ok(Some(fault)),
-        None if now => first_missing(alloc, ns, owner, owner.object.plt_relocs.as_slice()),
+        None if now => first_missing(alloc, references, owner, owner.object.plt_relocs.as_slice()),
         None => Ok(None),
     }
 }
 
-/// The first refusal of the objects of a namespace in load order.
+/// That of the object at a place in load order.
+fn refusal_in(
+    alloc: Global,
+    ns: &Namespace,
+    lists: &SearchLists,
+    now: bool,
+    place: usize,
+    owner: &Loaded,
+) -> Result<Option<DlFault>, AllocError>
+    requires names { names_symbols owner.now.object ≡ true }
+    requires lists { lists.now ≡ lists_of (seen_in ns.now) }
+    requires tables { HaveTables (seen_in ns.now) }
+    requires there { slice_get ns.now.objects place ≡ Some owner.now }
+    ensures { IfOk result (λ fault. fault ≡ refusal_of (seen_in ns.now) now owner.now) }
+{
+    if !now && owner.object.relocs.is_empty() {
+        return Ok(None);
+    }
+    let mut references = references_at(alloc, ns, lists, place, owner)?;
+    refusal_of(alloc, &mut references, now, owner)
+}
+
+/// The first refusal of the objects of a namespace in load order. The search lists are the
+/// namespace's, and its objects have their own tables.
+///
+/// # Errors
+///
+/// Want of memory.
 pub fn first_refusal(
     alloc: Global,
     ns: &Namespace,
+    lists: &SearchLists,
     now: bool,
 ) -> Result<Option<DlFault>, AllocError>
-    requires { AllByRecursion (λ o. names_symbols o.object ≡ true) ns.now.objects }
+    requires names { AllByRecursion (λ o. names_symbols o.object ≡ true) ns.now.objects }
+    requires lists { lists.now ≡ lists_of (seen_in ns.now) }
+    requires tables { HaveTables (seen_in ns.now) }
     ensures { IfOk result (λ fault. fault ≡ first_refusal ns.now now ns.now.objects) }
 {
-    for object in ns.objects.as_slice() {
-        if let Some(fault) = refusal_of(alloc, ns, now, object)? {
+    for (place, object) in ns.objects.as_slice().iter().enumerate() {
+        if let Some(fault) = refusal_in(alloc, ns, lists, now, place, object)? {
             return Ok(Some(fault));
         }
     }

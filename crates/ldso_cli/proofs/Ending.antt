@@ -50,29 +50,30 @@ use Rattle.ldso_cli.specs.Status.{refused_text}
 pub waits_for_none : ((load : Load) (shown : Shown) → load.there ≡ [] → Stops load (waits shown) → ⊥) → (told : Option (List File)) (bind : Bind) (shown : Shown) → Over told (HasToWait object_verdict (ask_of bind) [] shown) → ⊥
 waits_for_none law told bind shown over = law (program_load bind over.files) shown refl over.holds
 
--- ---- each relocation of an object that was read names one of its symbols
+-- ---- what each object that was read has, with its table
 
 -- what is known of verdicts
-abbrev pub Law : Type 0
-Law = (bytes : List ℕ) (program : Bool) (o : Object) (table : HashTable) → object_verdict bytes program ≡ Ok (o, table) → IsTrue (names_own_symbols o)
+abbrev pub Law : (Object → HashTable → Type 0) → Type 0
+Law P = (bytes : List ℕ) (program : Bool) (o : Object) (table : HashTable) → object_verdict bytes program ≡ Ok (o, table) → P o table
 
 abbrev done : {X : Type 0} → X → Result X NotAccepted
 done x = Ok x
 
-verdict_names : (law : Law) (bytes : List ℕ) (program : Bool) (verdict : Result (Object × HashTable) NotAccepted) (o : Object) (table : HashTable) → object_verdict bytes program ≡ verdict → as_read verdict ≡ here o table → names_symbols o ≡ true
-verdict_names law bytes program (Ok read) o table is e =
+verdict_has : (P : Object → HashTable → Type 0) (law : Law P) (bytes : List ℕ) (program : Bool) (verdict : Result (Object × HashTable) NotAccepted) (o : Object) (table : HashTable) → object_verdict bytes program ≡ verdict → as_read verdict ≡ here o table → P o table
+verdict_has P law bytes program (Ok read) o table is e =
     let same : read.0 ≡ o = cc in
-    subst (λ (x : Object). names_symbols x ≡ true) same (law bytes program read.0 read.1 is)
-verdict_names law bytes program (Err broken) o table is e = absurd cc
+    let table_same : read.1 ≡ table = cc in
+    subst (P o) table_same (subst (λ (x : Object). P x read.1) same (law bytes program read.0 read.1 is))
+verdict_has P law bytes program (Err broken) o table is e = absurd cc
 
-file_names : (law : Law) (ask : LoadAsk) (path : List ℕ) (file : Option (List ℕ)) (o : Object) (table : HashTable) → file_as_read object_verdict ask path file ≡ here o table → names_symbols o ≡ true
-file_names law ask path None o table e = absurd cc
-file_names law ask path (Some bytes) o table e = verdict_names law bytes (is_program ask path) (object_verdict bytes (is_program ask path)) o table refl e
+file_has : (P : Object → HashTable → Type 0) (law : Law P) (ask : LoadAsk) (path : List ℕ) (file : Option (List ℕ)) (o : Object) (table : HashTable) → file_as_read object_verdict ask path file ≡ here o table → P o table
+file_has P law ask path None o table e = absurd cc
+file_has P law ask path (Some bytes) o table e = verdict_has P law bytes (is_program ask path) (object_verdict bytes (is_program ask path)) o table refl e
 
-pub read_names : (law : Law) (files : List File) (ask : LoadAsk) (added : List Loaded) → AllByRecursion (λ o. reading_of object_verdict files ask o.path ≡ here o.object o.table) added → AllByRecursion (λ o. names_symbols o.object ≡ true) added
+pub read_has : (P : Object → HashTable → Type 0) (law : Law P) (files : List File) (ask : LoadAsk) (added : List Loaded) → AllByRecursion (λ o. reading_of object_verdict files ask o.path ≡ here o.object o.table) added → AllByRecursion (λ o. P o.object o.table) added
 unfolding reading_of
-read_names law files ask [] h = tt
-read_names law files ask (o ∷ rest) h = (file_names law ask o.path (file_at files o.path) o.object o.table h.0, read_names law files ask rest h.1)
+read_has P law files ask [] h = tt
+read_has P law files ask (o ∷ rest) h = (file_has P law ask o.path (file_at files o.path) o.object o.table h.0, read_has P law files ask rest h.1)
 
 -- ---- a reference that is refused is no failed read, and no missing library
 
@@ -91,25 +92,26 @@ symbol_no_file : (o : Loaded) (symbol : Option Symbol) → IsNoFile (option_map 
 symbol_no_file o None = none_no_file
 symbol_no_file o (Some s) = record { not_read = λ path e. absurd cc; not_missing = λ name e. absurd cc }
 
-reloc_no_file : (ns : Namespace) (o : Loaded) (r : Reloc) → IsNoFile (refusal_at ns o r)
+reloc_no_file : (s : Seen) (o : Loaded) (r : Reloc) → IsNoFile (refusal_at s o r)
 unfolding refusal_at
-reloc_no_file ns o r =
-    elim (is_missing (choice_at (seen_in ns) o r)) as (λ v. IsNoFile (cond v (option_map (missing_symbol o) (slice_get o.object.symbols r.symbol)) None))
+reloc_no_file s o r =
+    elim (is_missing (choice_at s o r)) as (λ v. IsNoFile (cond v (option_map (missing_symbol o) (slice_get o.object.symbols r.symbol)) None))
     [ true ↦ symbol_no_file o (slice_get o.object.symbols r.symbol) | false ↦ none_no_file ]
 
-relocs_no_file : (ns : Namespace) (o : Loaded) (relocs : List Reloc) → IsNoFile (first_missing ns o relocs)
-relocs_no_file ns o [] = none_no_file
-relocs_no_file ns o (r ∷ rest) = either_no_file (refusal_at ns o r) (first_missing ns o rest) (reloc_no_file ns o r) (relocs_no_file ns o rest)
+relocs_no_file : (s : Seen) (o : Loaded) (relocs : List Reloc) → IsNoFile (first_missing s o relocs)
+relocs_no_file s o [] = none_no_file
+relocs_no_file s o (r ∷ rest) = either_no_file (refusal_at s o r) (first_missing s o rest) (reloc_no_file s o r) (relocs_no_file s o rest)
 
-slots_no_file : (ns : Namespace) (now : Bool) (o : Loaded) → IsNoFile (cond now (first_missing ns o o.object.plt_relocs) None)
-slots_no_file ns true o = relocs_no_file ns o o.object.plt_relocs
-slots_no_file ns false o = none_no_file
+slots_no_file : (s : Seen) (now : Bool) (o : Loaded) → IsNoFile (cond now (first_missing s o o.object.plt_relocs) None)
+slots_no_file s true o = relocs_no_file s o o.object.plt_relocs
+slots_no_file s false o = none_no_file
 
 objects_no_file : (ns : Namespace) (now : Bool) (objects : List Loaded) → IsNoFile (first_refusal ns now objects)
 objects_no_file ns now [] = none_no_file
 objects_no_file ns now (o ∷ rest) =
-    either_no_file (refusal_of ns now o) (first_refusal ns now rest)
-    (either_no_file (first_missing ns o o.object.relocs) (cond now (first_missing ns o o.object.plt_relocs) None) (relocs_no_file ns o o.object.relocs) (slots_no_file ns now o))
+    let s = seen_in ns in
+    either_no_file (refusal_of s now o) (first_refusal ns now rest)
+    (either_no_file (first_missing s o o.object.relocs) (cond now (first_missing s o o.object.plt_relocs) None) (relocs_no_file s o o.object.relocs) (slots_no_file s now o))
     (objects_no_file ns now rest)
 
 -- a refusal of a reference

@@ -3,6 +3,9 @@
 ghost use Rattle.std.specs.Prelude.{◌≡◌, ◌≤◌, IfOk, Some, true};
 ghost use Rattle.std.specs.List.{AllByRecursion};
 ghost use Rattle.scope_rule.specs.Relocation.{names_symbols};
+ghost use Rattle.scope_rule.specs.Seen.{seen_in};
+ghost use Rattle.search_lists.specs.Lists.{lists_of};
+ghost use Rattle.sym_lookup.specs.Looking.{HaveTables};
 ghost use Rattle.command_text.specs.Refusal.{first_refusal};
 ghost use Rattle.ldso_cli.specs.Bind.{ask_of, cause_of, nothing_loaded, objects_text};
 ghost use Rattle.ldso_cli.specs.Command.{Answers};
@@ -17,6 +20,7 @@ use library_source::Library;
 use load_order::{LoadAsk, LoadFault, LoadPlan, plan_load};
 use scope_rule::{Namespace, Opens, loads_breadth_first, never_waits, root_is_new};
 use std::alloc::{AllocError, Global};
+use sym_lookup::{SearchLists, tables_are_there};
 
 /// What is asked of the load of a program.
 fn ask_of(bind: Bind) -> LoadAsk
@@ -51,16 +55,34 @@ fn nothing_loaded(alloc: Global) -> Namespace
     }
 }
 
-/// The answer of objects that are all there.
-fn of_objects(alloc: Global, ns: &Namespace, now: bool) -> Result<Answer, AllocError>
-    requires { AllByRecursion (λ o. names_symbols o.object ≡ true) ns.now.objects }
+/// The answer of objects that are all there, whose search lists these are.
+fn of_lists(
+    alloc: Global,
+    ns: &Namespace,
+    lists: &SearchLists,
+    now: bool,
+) -> Result<Answer, AllocError>
+    requires names { AllByRecursion (λ o. names_symbols o.object ≡ true) ns.now.objects }
+    requires lists { lists.now ≡ lists_of (seen_in ns.now) }
+    requires tables { HaveTables (seen_in ns.now) }
     ensures end { IfOk result (λ answer. answer.end ≡ bare (cause_of (first_refusal ns.now now ns.now.objects))) }
     ensures text { IfOk result (λ answer. answer.text ≡ objects_text ns.now (first_refusal ns.now now ns.now.objects)) }
 {
-    match first_refusal(alloc, ns, now)? {
+    match first_refusal(alloc, ns, lists, now)? {
         Some(fault) => refused(alloc, fault),
-        None => Ok(done(bound_text(alloc, ns)?)),
+        None => Ok(done(bound_text(alloc, ns, lists)?)),
     }
+}
+
+/// The answer of objects that are all there.
+fn of_objects(alloc: Global, ns: &Namespace, now: bool) -> Result<Answer, AllocError>
+    requires names { AllByRecursion (λ o. names_symbols o.object ≡ true) ns.now.objects }
+    requires tables { HaveTables (seen_in ns.now) }
+    ensures end { IfOk result (λ answer. answer.end ≡ bare (cause_of (first_refusal ns.now now ns.now.objects))) }
+    ensures text { IfOk result (λ answer. answer.text ≡ objects_text ns.now (first_refusal ns.now now ns.now.objects)) }
+{
+    let lists = SearchLists::build(alloc, ns)?;
+    of_lists(alloc, ns, &lists, now)
 }
 
 /// Loads the program with all that it needs, and gives the definition of each slot, or the one
@@ -82,6 +104,7 @@ pub(crate) fn bind<L: Library>(
     loads_breadth_first();
     never_waits();
     root_is_new();
+    tables_are_there();
     let now = command.now;
     let ask = ask_of(command);
     let ns = nothing_loaded(alloc);

@@ -1,5 +1,5 @@
 -- What stands where.
-use Rattle.std.proofs.Common.{◌≡◌, ℕ, suc, ◌+◌, ◌<◌, ◌≤◌, ◌==◌, Bool, true, false, cond, inl, inr, List, [], ◌∷◌, ◌++◌, length, get_or, map, take, refl, sym, ap, ◌∙◌, append_assoc, length-take-le, arith}
+use Rattle.std.proofs.Common.{◌≡◌, ℕ, zero, suc, ◌+◌, ◌<◌, ◌≤◌, ◌==◌, Bool, true, false, cond, inl, inr, List, [], ◌∷◌, ◌++◌, length, get_or, map, take, refl, sym, ap, ◌∙◌, append_assoc, length-take-le, arith}
 use Rattle.std.specs.Prelude.{nat_eq, not, ◌||◌, filter, flat_map, position, Option, Some, None}
 use Rattle.std.specs.List.{find, list_any, position_or_len, slice_get}
 use Rattle.std.specs.Option.{option_or, is_some}
@@ -13,7 +13,7 @@ use Rattle.std.proofs.lemmas.List.Sums.{prefix_len-le-length}
 use Rattle.ld_base.specs.declared.linking.Loaded.{Loaded}
 use Rattle.scope_rule.specs.Loading.{is_dying, is_dying_at, object_of, with_serial}
 use Rattle.scope_rule.specs.Breadth.{breadth, has}
-use Rattle.scope_rule.specs.Scope.{opened_with}
+use Rattle.scope_rule.specs.Scope.{opened_with, scope}
 use Rattle.scope_rule.specs.Seen.{Seen}
 use Rattle.scope_rule.specs.declared.namespace.OpenRec.{OpenRec}
 use Rattle.search_lists.specs.Scoping.{opened_of}
@@ -106,6 +106,12 @@ list_found lists q k l at is =
     let within : k < length lists = omega (arith, (position-Some (λ s. s == q) (owners lists) k 0 at).0, length_owners lists) in
     let here : slice_get lists k ≡ Some l = slice_get-get_or lists k l within ∙ ap (λ (x : SearchList). Some x) (sym is) in
     ap scope_on (sym here ∙ found_by (λ (x : SearchList). x.owner == q) lists k (sym (place_mapped (λ (x : SearchList). x.owner) lists q) ∙ at))
+
+-- the list at a place is that of the object there
+pub list_at : (s : Seen) (objects : List Loaded) (k : ℕ) (o : Loaded) (l : Option SearchList) → l ≡ slice_get (map (list_of s) objects) k → slice_get objects k ≡ Some o → scope_on l ≡ scope s o
+list_at s [] k o l is here = absurd cc
+list_at s (x ∷ rest) zero o l is here = (let same : x ≡ o = cc here in ap scope_on is ∙ ap (scope s) same)
+list_at s (x ∷ rest) (suc k) o l is here = list_at s rest k o l is here
 
 pub no_list : (lists : List SearchList) (q : ℕ) → place_in (owners lists) q ≡ None → [] ≡ scope_in lists q
 no_list lists q at = ap scope_on (none_by (λ (x : SearchList). x.owner == q) lists (sym (place_mapped (λ (x : SearchList). x.owner) lists q) ∙ at))

@@ -1,6 +1,8 @@
 //! Search lists.
 
 ghost use Rattle.std.specs.Prelude.{◌≡◌, ◌++◌, map, IfOk, OnOk};
+ghost use Rattle.std.specs.List.{slice_get};
+ghost use Rattle.std.specs.Option.{option_copied};
 ghost use Rattle.scope_rule.specs.Seen.{seen};
 ghost use Rattle.search_lists.specs.Lists.{list_of, lists_of};
 ghost use Rattle.search_lists.specs.Places.{ArePlaces, serials_of};
@@ -89,10 +91,20 @@ fn lists_of(alloc: Global, view: &View, places: &Places) -> Result<Sequence<Sear
     Ok(lists)
 }
 
+/// The list at a place, if there is one.
+fn list_at(lists: &[SearchList], place: usize) -> Option<&SearchList>
+    ensures { option_copied result ≡ slice_get lists.now place }
+{
+    lists.get(place)
+}
+
 impl SearchLists {
-    ghost use Rattle.std.specs.Prelude.{◌≡◌, IfOk};
+    ghost use Rattle.std.specs.Prelude.{◌≡◌, Some, IfOk};
     ghost use Rattle.std.specs.Option.{option_copied};
+    ghost use Rattle.std.specs.List.{slice_get};
+    ghost use Rattle.ld_base.specs.declared.linking.Loaded.{Loaded as loaded};
     ghost use Rattle.scope_rule.specs.Loading.{object_of};
+    ghost use Rattle.scope_rule.specs.Scope.{scope};
     ghost use Rattle.scope_rule.specs.Seen.{Seen, seen, seen_in};
     ghost use Rattle.search_lists.specs.Lists.{at_place, lists_of, scope_in};
 
@@ -127,6 +139,17 @@ impl SearchLists {
     {
         match self.places.get(owner) {
             Some(place) => self.lists.as_slice()[place].scope.as_slice(),
+            None => &[],
+        }
+    }
+
+    /// Where the references of the object at a place in load order are searched, of any namespace whose
+    /// lists these are.
+    pub fn scope_at(&self, place: usize) -> &[Serial]
+        ensures { (s : Seen) (o : loaded) → self.now ≡ lists_of s → slice_get s.objects place ≡ Some o → result.now ≡ scope s o }
+    {
+        match list_at(self.lists.as_slice(), place) {
+            Some(list) => list.scope.as_slice(),
             None => &[],
         }
     }

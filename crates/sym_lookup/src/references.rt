@@ -163,8 +163,10 @@ fn kept_or_searched(
 
 impl<'a> References<'a> {
     ghost use Rattle.std.specs.Prelude.{◌≡◌, ◌<◌, Some, false, length, IfOk};
+    ghost use Rattle.std.specs.List.{slice_get};
     ghost use Rattle.scope_rule.specs.Loading.{object_of};
     ghost use Rattle.scope_rule.specs.Relocation.{choice_at};
+    ghost use Rattle.scope_rule.specs.Scope.{scope};
     ghost use Rattle.scope_rule.specs.Seen.{seen};
     ghost use Rattle.search_lists.specs.Lists.{lists_of};
     ghost use Rattle.sym_lookup.specs.Looking.{HaveTables, choice_of_symbol};
@@ -186,7 +188,48 @@ impl<'a> References<'a> {
         requires owner_is_there { object_of (seen view.now) owner.now.serial ≡ Some owner.now }
         ensures { IfOk result (λ references. references ≡ record { seen = seen view.now; owner = owner.now }) }
     {
-        let list = searched(view, lists, owner.serial, owner);
+        Self::over(
+            alloc,
+            view,
+            lists,
+            searched(view, lists, owner.serial, owner),
+            owner,
+        )
+    }
+
+    /// The same as [`References::new`], of the object at a place in load order.
+    ///
+    /// # Errors
+    ///
+    /// Want of memory.
+    pub fn at(
+        alloc: Global,
+        view: &View<'a>,
+        lists: &SearchLists,
+        place: usize,
+        owner: &'a Loaded,
+    ) -> Result<Self, AllocError>
+        requires lists { lists.now ≡ lists_of (seen view.now) }
+        requires tables { HaveTables (seen view.now) }
+        requires owner_is_there { slice_get (seen view.now).objects place ≡ Some owner.now }
+        ensures { IfOk result (λ references. references ≡ record { seen = seen view.now; owner = owner.now }) }
+    {
+        Self::over(alloc, view, lists, lists.scope_at(place), owner)
+    }
+
+    /// Those of an object whose references are searched there.
+    fn over(
+        alloc: Global,
+        view: &View<'a>,
+        lists: &SearchLists,
+        list: &[Serial],
+        owner: &'a Loaded,
+    ) -> Result<Self, AllocError>
+        requires lists { lists.now ≡ lists_of (seen view.now) }
+        requires tables { HaveTables (seen view.now) }
+        requires scope { list.now ≡ scope (seen view.now) owner.now }
+        ensures { IfOk result (λ references. references ≡ record { seen = seen view.now; owner = owner.now }) }
+    {
         let searched = found_once(alloc, lists, list)?;
         let kept = nothing_kept(alloc, owner.object.symbols.len())?;
         Ok(References {

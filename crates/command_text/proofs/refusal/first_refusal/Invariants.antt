@@ -5,8 +5,8 @@ use Rattle.command_text.specs.Refusal.{first_refusal}
 use Rattle.command_text.proofs.refusal.first_refusal.Given as goal
 
 -- the first refusal of the rest is that of all
-abbrev pub invariant-loop-object : goal.invariant-loop-object
-invariant-loop-object l = record {
-  first : first_refusal l.ns l.now (drop l.object-index l.object-items) ≡ first_refusal l.ns l.now l.ns.objects;
-  rest : AllByRecursion (λ o. names_symbols o.object ≡ true) (drop l.object-index l.object-items);
+abbrev pub invariant-loop-place : goal.invariant-loop-place
+invariant-loop-place l = record {
+  first : first_refusal l.ns l.now (drop l.place l.object-items) ≡ first_refusal l.ns l.now l.ns.objects;
+  rest : AllByRecursion (λ o. names_symbols o.object ≡ true) (drop l.place l.object-items);
 }
