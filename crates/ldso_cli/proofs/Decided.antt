@@ -6,7 +6,7 @@ use Rattle.ld_base.specs.declared.linking.File.{File}
 use Rattle.ld_base.specs.declared.linking.Loaded.{Loaded}
 use Rattle.library_source.specs.Files.{file_at}
 use Rattle.elf_object.specs.Verdict.{object_verdict}
-use Rattle.load_walk.specs.Files.{reading_of, reading_until, load_of, load_over, load_until}
+use Rattle.load_walk.specs.Files.{reading_of, reading_until, load_of, load_until}
 use Rattle.load_walk.specs.Plan.{Lacks, StopsFor}
 use Rattle.load_walk.specs.declared.ask.LoadAsk.{LoadAsk}
 use Rattle.scope_rule.specs.Needed.{version_fault}

@@ -1,6 +1,6 @@
 -- How bind ends.
-use Rattle.std.proofs.Common.{◌≡◌, ◌+◌, ◌≤◌, ℕ, map, Bool, true, false, List, [], ◌∷◌, length, Option, Some, None, Result, Ok, Err, refl, sym, ap, subst, ◌∙◌, inl, inr, cond, arith}
-use Rattle.std.specs.Prelude.{IfOk, IsTrue}
+use Rattle.std.proofs.Common.{◌≡◌, ◌≤◌, ℕ, map, Bool, true, false, List, [], ◌∷◌, length, Option, Some, None, Result, Ok, Err, refl, sym, ap, subst, ◌∙◌, inl, inr, cond, arith}
+use Rattle.std.specs.Prelude.{IfOk}
 use Rattle.std.specs.declared.alloc.AllocError.{AllocError}
 use Rattle.ldso_cli.specs.declared.answer.Answer.{Answer}
 use Rattle.std.specs.List.{AllByRecursion, slice_get}
@@ -16,7 +16,6 @@ use Rattle.ld_base.specs.declared.object.Object.{Object}
 use Rattle.ld_base.specs.declared.object.Reloc.{Reloc}
 use Rattle.ld_base.specs.declared.object.Symbol.{Symbol}
 use Rattle.ld_base.specs.declared.parts.HashTable.{HashTable}
-use Rattle.elf_object.specs.Object.{names_own_symbols}
 use Rattle.elf_object.specs.Verdict.{object_verdict}
 use Rattle.library_source.specs.Count.{Rises}
 use Rattle.library_source.specs.Files.{file_at, Over}
@@ -30,7 +29,7 @@ use Rattle.scope_rule.specs.Load.{Load, Walk, Stops, Brings, IsRoot, records_of,
 use Rattle.scope_rule.specs.Loads.{Closed, new_of}
 use Rattle.scope_rule.specs.Opening.{opened}
 use Rattle.scope_rule.specs.Seen.{Seen, seen_in, with_added}
-use Rattle.scope_rule.specs.Relocation.{choice_at, names_symbols}
+use Rattle.scope_rule.specs.Relocation.{choice_at}
 use Rattle.scope_rule.specs.declared.namespace.Namespace.{Namespace}
 use Rattle.ldso_cli.specs.declared.outcome.Cause.{Cause}
 use Rattle.ldso_cli.specs.declared.outcome.Cause.TheVariants as causes

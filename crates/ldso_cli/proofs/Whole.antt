@@ -1,5 +1,5 @@
 -- Where nothing fails, the words and the files decide the answer.
-use Rattle.std.proofs.Common.{◌≡◌, ◌⊎◌, inl, inr, ℕ, List, Option, Some, None, Result, Ok, Err, refl, sym, ap, subst, ◌∙◌}
+use Rattle.std.proofs.Common.{◌≡◌, inl, inr, ℕ, List, Option, Some, None, Ok, sym, ap, subst, ◌∙◌}
 use Rattle.std.specs.Io.KnownBytes.{append_known}
 use Rattle.ld_base.specs.declared.fault.DlFault.TheVariants as dl
 use Rattle.ld_base.specs.declared.linking.File.{File}
@@ -11,7 +11,6 @@ use Rattle.ldso_cli.proofs.Same.{OneWalk, one_text}
 use Rattle.ldso_cli.specs.Command.{Answers, IsAnswer, Prints}
 use Rattle.ldso_cli.specs.Ends.{ComeToOne, Ends, Handing, IsUndisturbed, RunAt, Written}
 use Rattle.ldso_cli.specs.Status.{status_of}
-use Rattle.ldso_cli.specs.declared.outcome.Cause.{Cause}
 use Rattle.ldso_cli.specs.declared.outcome.Cause.TheVariants as causes
 use Rattle.ldso_cli.specs.declared.outcome.End.{End}
 
