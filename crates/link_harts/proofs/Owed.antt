@@ -4,7 +4,7 @@ use Rattle.std.specs.List.{range_with_len, sum_by}
 use Rattle.std.proofs.lemmas.Bool.{cases_Bool, eqb-true, eqb-false, eq-eqb}
 use Rattle.std.proofs.lemmas.List.Sums.{sum_by-cons, sum_by_push}
 use Rattle.link_event.specs.declared.state.Ending.{Ending}
-use Rattle.link_history.specs.Owed.{ends_at_most, ends_left, is_end_of, times_ended}
+use Rattle.link_history.specs.Owed.{ends_at_most, ends_left, times_ended}
 
 -- ---- sums over the numbers of harts
 
