@@ -1,6 +1,6 @@
 -- Each slot holds 0 or an address in an RX word.
 use Rattle.std.proofs.Common.{◌≡◌, ◌⊎◌, ⊎_elim, ◌≢◌, inl, inr, ℕ, ◌^◌, ◌<◌, List, Option, Some, None, refl, sym, subst, ◌∙◌}
-use Rattle.ld_base.specs.declared.linking.Role.TheVariants.{Rx, Slot}
+use Rattle.ld_base.specs.declared.linking.Role.TheVariants.{Rx}
 use Rattle.link_event.specs.declared.state.Granting.{Granting}
 use Rattle.link_event.specs.declared.state.Standing.TheVariants.{Bound, Lost, Open}
 use Rattle.link_history.specs.State.{State}
@@ -10,28 +10,28 @@ use Rattle.link_history.specs.Objects.{IsMapped}
 use Rattle.link_history.specs.Slots.{value_at_load}
 use Rattle.link_history.proofs.Lazy.{PageLaws}
 use Rattle.link_history.proofs.Map.{Mapped}
-use Rattle.memory_holds.specs.Enters.{Enters, HoldsWords, LoadsFit, SlotTrue}
+use Rattle.memory_holds.specs.Enters.{Enters, LoadFits, SlotTrue}
 use Rattle.memory_holds.specs.Holds.{Holds, IsSlotAt, SlotHolds, Took, TookAt}
 use Rattle.memory_holds.specs.Holds.SlotHolds.{exchanged, first}
 use Rattle.memory_holds.specs.Memory.{IsDoubleword, Memory, doubleword_of}
 use Rattle.memory_holds.proofs.Exchanged.{fits}
 use Rattle.memory_holds.proofs.Settled.{first_bound, first_lazy}
-use Rattle.memory_holds.proofs.Slots.{image_in, loaded_at, slot_there}
-use Rattle.memory_holds.proofs.Standing.{slot_is_doubleword}
+use Rattle.memory_holds.proofs.Slots.{image_in, loaded_at, role_is}
+use Rattle.memory_holds.proofs.Standing.{slot_is_doubleword, slot_stands}
 use Rattle.memory_holds.proofs.Whole.{code_whole}
 
 -- it is 0, or the state says that it may be executed
 abbrev Leads : State → ℕ → Type 0
 Leads s value = (value ≡ 0) ⊎ (role_at s value ≡ Rx)
 
-module _ (s : State) (m : Mapped s) (begins : SlotsBegin s) (mapped : ImagesAreMapped s) (leads : SlotsLeadToRx s) (fit : LoadsFit s) (won : List ℕ) (a : ℕ) (word : a < 2 ^ 64) where
+module _ (s : State) (m : Mapped s) (begins : SlotsBegin s) (mapped : ImagesAreMapped s) (leads : SlotsLeadToRx s) (won : List ℕ) (a : ℕ) (word : a < 2 ^ 64) where
   -- the first word
-  first_enters : (owner slot : ℕ) (is : IsSlotAt s a owner slot) (value : Option ℕ) → value_at_load s owner slot ≡ value → Leads s (word_at s a)
-  first_enters owner slot is (Some value) got =
+  first_enters : (owner slot : ℕ) → LoadFits s owner slot → (is : IsSlotAt s a owner slot) (value : Option ℕ) → value_at_load s owner slot ≡ value → Leads s (word_at s a)
+  first_enters owner slot fit is (Some value) got =
       let at = loaded_at s m begins mapped a word owner slot is in
-      subst (Leads s) (sym (first_bound s m begins fit a word owner slot is value got))
-      (leads.at_load at.namespace at.object slot value at.inside (subst (λ (n : ℕ). value_at_load s n slot ≡ Some value) (sym at.serial) got) (fit owner slot value got))
-  first_enters owner slot is None got =
+      subst (Leads s) (sym (first_bound s m begins a word owner slot fit is value got))
+      (leads.at_load at.namespace at.object slot value at.inside (subst (λ (n : ℕ). value_at_load s n slot ≡ Some value) (sym at.serial) got) (fit value got))
+  first_enters owner slot fit is None got =
       let at = loaded_at s m begins mapped a word owner slot is in
       subst (Leads s) (sym (first_lazy s m begins a word owner slot is got ∙ at.lazy)) (inr (leads.lazy at.namespace at.object slot at.reloc at.inside at.at))
 
@@ -45,25 +45,22 @@ module _ (s : State) (m : Mapped s) (begins : SlotsBegin s) (mapped : ImagesAreM
       kept (inl bound) saw lost = let no : Bound ≡ Lost saw = sym bound ∙ lost in cc
       kept (inr both) saw lost = let no : Open ≡ Lost saw = sym both.0 ∙ lost in cc
 
-  pub value_enters : (value : ℕ) → value < 2 ^ 64 → (owner slot : ℕ) → IsSlotAt s a owner slot → SlotHolds s won a value → Leads s value
-  value_enters value low owner slot at (first is none) = subst (Leads s) (sym is) (first_enters owner slot at (value_at_load s owner slot) refl)
-  value_enters value low owner slot at (exchanged g took is first_word only) = subst (Leads s) (sym is) (granted_enters g took (subst (λ (n : ℕ). n < 2 ^ 64) is low))
+  pub value_enters : (value : ℕ) → value < 2 ^ 64 → (owner slot : ℕ) → LoadFits s owner slot → IsSlotAt s a owner slot → SlotHolds s won a value → Leads s value
+  value_enters value low owner slot fit at (first is none) = subst (Leads s) (sym is) (first_enters owner slot fit at (value_at_load s owner slot) refl)
+  value_enters value low owner slot fit at (exchanged g took is first_word only) = subst (Leads s) (sym is) (granted_enters g took (subst (λ (n : ℕ). n < 2 ^ 64) is low))
 
-pub slot_enters : PageLaws → (s : State) → Mapped s → SlotsBegin s → ImagesAreMapped s → SlotsLeadToRx s → LoadsFit s → (won : List ℕ) (memory : Memory) → Holds s won memory
-    → (a : ℕ) → IsDoubleword a → role_at s a ≡ Slot → memory.value a < 2 ^ 64 → Enters memory (memory.value a)
-slot_enters pages s m begins mapped leads fit won memory holds a place role low =
-    let is = slot_there s a role in
-    ⊎_elim
+pub slot_enters : PageLaws → (s : State) → Mapped s → SlotsBegin s → ImagesAreMapped s → SlotsLeadToRx s → (won : List ℕ) (memory : Memory) → Holds s won memory
+    → (a owner slot : ℕ) → IsDoubleword a → IsSlotAt s a owner slot → LoadFits s owner slot → memory.value a < 2 ^ 64 → Enters memory (memory.value a)
+slot_enters pages s m begins mapped leads won memory holds a owner slot place is fit low = ⊎_elim
     (λ (none : memory.value a ≡ 0). inl none)
     (λ (rx : role_at s (memory.value a) ≡ Rx).
     let code = code_whole pages s m (memory.value a) low rx in
     inr (code.0, (holds.words (doubleword_of (memory.value a)) code.0).role ∙ code.1))
-    (value_enters s m begins mapped leads fit won a (fits a place) (memory.value a) low is.0 is.1 is.2 ((holds.words a place).slot role))
+    (value_enters s m begins mapped leads won a (fits a place) (memory.value a) low owner slot fit is ((holds.words a place).slot (role_is s m begins a (fits a place) owner slot is)))
 
-pub slots_true : PageLaws → (s : State) → Mapped s → SlotsBegin s → ImagesAreMapped s → SlotsLeadToRx s → LoadsFit s → (won : List ℕ) (memory : Memory) → HoldsWords memory → Holds s won memory → SlotTrue s won memory
-slots_true pages s m begins mapped leads fit won memory words holds = record {
+pub slots_true : PageLaws → (s : State) → Mapped s → SlotsBegin s → ImagesAreMapped s → SlotsLeadToRx s → (won : List ℕ) (memory : Memory) → Holds s won memory → SlotTrue s won memory
+slots_true pages s m begins mapped leads won memory holds = record {
   holds = λ i slot r there at. (holds.words (slot_address i r) (slot_is_doubleword pages s m i there slot r at)).slot (begins.role i slot r there at);
-  enters = λ i slot r there at.
-      let place = slot_is_doubleword pages s m i there slot r at in
-      slot_enters pages s m begins mapped leads fit won memory holds (slot_address i r) place (begins.role i slot r there at) (words (slot_address i r) place);
+  enters = λ i slot r there at fit low.
+      slot_enters pages s m begins mapped leads won memory holds (slot_address i r) i.serial slot (slot_is_doubleword pages s m i there slot r at) (slot_stands pages s m i there slot r at) fit low;
 }

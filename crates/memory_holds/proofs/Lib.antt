@@ -2,7 +2,6 @@ pub mod Called
 pub mod Distinct
 pub mod Entered
 pub mod Exchanged
-pub mod Fitting
 pub mod Images
 pub mod Kept
 pub mod Settled

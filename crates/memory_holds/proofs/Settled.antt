@@ -11,7 +11,7 @@ use Rattle.link_history.specs.Memory.{word_at}
 use Rattle.link_history.specs.Slots.{HasBound, IsOthers, MayBind, MayLose, value_at_load}
 use Rattle.link_history.proofs.Map.{Mapped}
 use Rattle.link_history.proofs.Tidy.{Tidy, one_number}
-use Rattle.memory_holds.specs.Enters.{LoadsFit}
+use Rattle.memory_holds.specs.Enters.{LoadFits}
 use Rattle.memory_holds.specs.Holds.{Holds, IsSlotAt, SlotHolds, Took, TookAt, lazy_at}
 use Rattle.memory_holds.specs.Holds.SlotHolds.{exchanged, first}
 use Rattle.memory_holds.specs.Memory.{Memory}
@@ -30,15 +30,15 @@ first_lazy s m begins a word owner slot is none =
     ∙ sym (lazy_is s m begins a word owner slot is)
 
 -- and of one that got a value, that value
-pub first_bound : (s : State) (m : Mapped s) (begins : SlotsBegin s) → LoadsFit s → (a : ℕ) (word : a < 2 ^ 64) (owner slot : ℕ) (is : IsSlotAt s a owner slot) (value : ℕ)
+pub first_bound : (s : State) (m : Mapped s) (begins : SlotsBegin s) → (a : ℕ) (word : a < 2 ^ 64) (owner slot : ℕ) → LoadFits s owner slot → (is : IsSlotAt s a owner slot) (value : ℕ)
     → value_at_load s owner slot ≡ Some value → word_at s a ≡ value
-first_bound s m begins fit a word owner slot is value got =
+first_bound s m begins a word owner slot fit is value got =
     ap (word_at s) (sym (stands s m begins a word owner slot is))
-    ∙ begins.at_load is.image slot value is.reloc (image_in s m begins a word owner slot is) is.at (subst (λ (n : ℕ). value_at_load s n slot ≡ Some value) (sym is.serial) got) (fit owner slot value got)
+    ∙ begins.at_load is.image slot value is.reloc (image_in s m begins a word owner slot is) is.at (subst (λ (n : ℕ). value_at_load s n slot ≡ Some value) (sym is.serial) got) (fit value got)
 
 -- ---- settling
 
-module _ (s : State) (m : Mapped s) (begins : SlotsBegin s) (mapped : ImagesAreMapped s) (lazy : NoneIsLazy s) (tidy : Tidy s.grants) (fit : LoadsFit s) (won : List ℕ) (a : ℕ) (g : Granting)
+module _ (s : State) (m : Mapped s) (begins : SlotsBegin s) (mapped : ImagesAreMapped s) (lazy : NoneIsLazy s) (tidy : Tidy s.grants) (won : List ℕ) (a : ℕ) (g : Granting) (fit : LoadFits s g.owner g.slot)
     (may : MayExchange s a g) (memory : Memory) (holds : Holds s won memory) where
   word : a < 2 ^ 64
   word = fits a may.place
@@ -51,7 +51,7 @@ module _ (s : State) (m : Mapped s) (begins : SlotsBegin s) (mapped : ImagesAreM
   unbound is None got = got
   unbound is (Some value) got =
       let at = loaded_at s m begins mapped a word g.owner g.slot may.of in
-      let same : value ≡ lazy_at s a = sym (first_bound s m begins fit a word g.owner g.slot may.of value got) ∙ is in
+      let same : value ≡ lazy_at s a = sym (first_bound s m begins a word g.owner g.slot fit may.of value got) ∙ is in
       absurd (lazy.at_load at.namespace at.object g.slot value at.reloc at.inside (subst (λ (n : ℕ). value_at_load s n g.slot ≡ Some value) (sym at.serial) got) at.at (same ∙ at.lazy))
 
   -- a bound grant of the slot took it
@@ -111,7 +111,7 @@ module _ (s : State) (m : Mapped s) (begins : SlotsBegin s) (mapped : ImagesAreM
         kept (inr both) saw lost = let no : Open ≡ Lost saw = sym both.0 ∙ lost in cc
 
     found_by : SlotHolds s won a (memory.value a) → (value : Option ℕ) → value_at_load s g.owner g.slot ≡ value → (value_at_load s g.owner g.slot ≡ Some (memory.value a)) ⊎ IsOthers s g (memory.value a)
-    found_by (first is none) (Some value) got = inl (got ∙ ap (λ (v : ℕ). Some v) (sym (is ∙ first_bound s m begins fit a word g.owner g.slot may.of value got)))
+    found_by (first is none) (Some value) got = inl (got ∙ ap (λ (v : ℕ). Some v) (sym (is ∙ first_bound s m begins a word g.owner g.slot fit may.of value got)))
     found_by (first is none) None got = absurd (other (is ∙ first_lazy s m begins a word g.owner g.slot may.of got))
     found_by (exchanged h at is first_word only) value got = inr (others h at is)
 

@@ -17,7 +17,7 @@ ghost use Rattle.link_history.specs.Memory.{role_at};
 ghost use Rattle.link_history.specs.Setting.{Machine, Setting};
 ghost use Rattle.link_history.specs.Slots.{MayBind, MayLose};
 ghost use Rattle.link_history.specs.State.{Linked, State};
-ghost use Rattle.memory_holds.specs.Enters.{Enters, HoldsWords, LoadsFit, SlotStays, SlotTrue, SymbolsFit};
+ghost use Rattle.memory_holds.specs.Enters.{Enters, LoadFits, SlotStays, SlotTrue};
 ghost use Rattle.memory_holds.specs.Holds.{Holds, IsSlotAt, lazy_at};
 ghost use Rattle.memory_holds.specs.Memory.{IsDoubleword, IsSame, Memory};
 ghost use Rattle.memory_holds.specs.Remade.{Begins, HasSlot, MayExchange, Remade, SettlesRightly, Stores, Wins, won_after};
@@ -82,21 +82,13 @@ pub fn slots_stand()
     link_history::grants_are_held();
 }
 
-/// The values that slots got when their objects were loaded are words, where the machine reads no symbol
-/// whose value isn't one.
-pub fn loads_fit()
-    ensures { (m : Machine) (events : List Event) → SymbolsFit m → Lawful m events → LoadsFit (after events) }
-{
-    link_history::objects_are_read();
-}
-
 /// What a slot holds says how a grant that is done may be settled: as bound where it won, and as lost
 /// where it didn't and the slot isn't lazy, with the word that the slot holds.
 pub fn grants_settle()
-    ensures bound { (m : Machine) (events : List Event) (won : List ℕ) (number : ℕ) (memory : Memory) → AcceptsOnly m → Lawful m events → LoadsFit (after events) →
-        Holds (after events) won memory → Contains won number → MayBind (after events) number }
-    ensures lost { (m : Machine) (events : List Event) (won : List ℕ) (a : ℕ) (g : Granting) (memory : Memory) → AcceptsOnly m → Lawful m events → LoadsFit (after events) →
-        Holds (after events) won memory → MayExchange (after events) a g → ¬ (Contains won g.number) → memory.value a ≢ lazy_at (after events) a →
+    ensures bound { (m : Machine) (events : List Event) (won : List ℕ) (g : Granting) (memory : Memory) → AcceptsOnly m → Lawful m events → Contains (after events).grants g →
+        g.standing ≡ GrantOpen → LoadFits (after events) g.owner g.slot → Holds (after events) won memory → Contains won g.number → MayBind (after events) g.number }
+    ensures lost { (m : Machine) (events : List Event) (won : List ℕ) (a : ℕ) (g : Granting) (memory : Memory) → AcceptsOnly m → Lawful m events → MayExchange (after events) a g →
+        LoadFits (after events) g.owner g.slot → Holds (after events) won memory → ¬ (Contains won g.number) → memory.value a ≢ lazy_at (after events) a →
         MayLose (after events) g.number (memory.value a) }
 {
     scope_rule::serials_follow();
@@ -111,8 +103,8 @@ pub fn grants_settle()
 
 /// Each slot of a mapped object holds 0 or an address in an RX word.
 pub fn slots_enter()
-    ensures { (m : Machine) (events : List Event) (won : List ℕ) (memory : Memory) (a : ℕ) → AcceptsOnly m → Lawful m events → LoadsFit (after events) →
-        Holds (after events) won memory → IsDoubleword a → role_at (after events) a ≡ Slot → memory.value a < 2 ^ 64 → Enters memory (memory.value a) }
+    ensures { (m : Machine) (events : List Event) (won : List ℕ) (memory : Memory) (a owner slot : ℕ) → AcceptsOnly m → Lawful m events → Holds (after events) won memory →
+        IsDoubleword a → IsSlotAt (after events) a owner slot → LoadFits (after events) owner slot → memory.value a < 2 ^ 64 → Enters memory (memory.value a) }
 {
     scope_rule::serials_follow();
     scope_rule::found_stands();
@@ -126,7 +118,7 @@ pub fn slots_enter()
 /// Where memory is as it should be, each slot of each mapped object holds its first word or the value of
 /// the one grant that took it, and that is 0 or an address in an RX word.
 pub fn slots_are_true()
-    ensures { (m : Machine) (events : List Event) (won : List ℕ) (memory : Memory) → AcceptsOnly m → Lawful m events → LoadsFit (after events) → HoldsWords memory →
+    ensures { (m : Machine) (events : List Event) (won : List ℕ) (memory : Memory) → AcceptsOnly m → Lawful m events →
         Holds (after events) won memory → SlotTrue (after events) won memory }
 {
     scope_rule::serials_follow();

@@ -1,8 +1,5 @@
-use Rattle.std.proofs.Common.{subst, sym}
-use Rattle.std.specs.List.{Contains}
 use Rattle.link_history.specs.After.{after}
 use Rattle.link_history.proofs.Brought.{LoadLaws}
-use Rattle.link_history.specs.Slots.{MayBind}
 use Rattle.link_history.proofs.Lazy.{PageLaws}
 use Rattle.link_history.proofs.Map.{Mapped, mapped_after}
 use Rattle.link_history.proofs.Tidy.{tidy_after}
@@ -11,19 +8,17 @@ use Rattle.memory_holds.proofs.Settled.{may_bind, may_lose}
 use Rattle.memory_holds.proofs.law.grants_settle.Goals as goal
 
 pub returns-clause-bound : goal.returns-clause-bound
-returns-clause-bound c m events won number memory only lawful fit holds won_it =
+returns-clause-bound c m events won g memory only lawful there open_yet fit holds won_it =
     let pages : PageLaws = record { low = c.pages_hold_segments.ensures.low; high = c.pages_hold_segments.ensures.high; from = c.pages_hold_segments.ensures.from; to = c.pages_hold_segments.ensures.to; some = c.pages_hold_segments.ensures.some; few = c.pages_hold_segments.ensures.few; one = c.pages_hold_segments.ensures.one } in
     let loads : LoadLaws = record { serials = c.serials_follow.ensures; leads = c.found_stands.ensures.names; founds = c.found_stands.ensures.founds } in
     let now : Mapped (after events) = mapped_after loads c.reads_candidates.ensures.candidates m only events lawful in
-    let g = holds.unsettled number won_it in
-    let slot = granted_slots loads pages m events lawful now (c.images_are_mapped.ensures m events lawful) (c.grants_are_held.ensures m events lawful) g.0 g.1.there g.1.open_yet in
-    subst (MayBind (after events)) g.1.numbered
-    (may_bind (after events) now (c.slots_begin.ensures m events only lawful) (c.images_are_mapped.ensures m events lawful) (c.none_is_lazy.ensures m events only lawful) (tidy_after m events lawful)
-    fit won slot.0 g.0 slot.1 memory holds (subst (Contains won) (sym g.1.numbered) won_it))
+    let slot = granted_slots loads pages m events lawful now (c.images_are_mapped.ensures m events lawful) (c.grants_are_held.ensures m events lawful) g there open_yet in
+    may_bind (after events) now (c.slots_begin.ensures m events only lawful) (c.images_are_mapped.ensures m events lawful) (c.none_is_lazy.ensures m events only lawful) (tidy_after m events lawful)
+    won slot.0 g fit slot.1 memory holds won_it
 
 pub returns-clause-lost : goal.returns-clause-lost
-returns-clause-lost c m events won a g memory only lawful fit holds may unwon other =
+returns-clause-lost c m events won a g memory only lawful may fit holds unwon other =
     let loads : LoadLaws = record { serials = c.serials_follow.ensures; leads = c.found_stands.ensures.names; founds = c.found_stands.ensures.founds } in
     let now : Mapped (after events) = mapped_after loads c.reads_candidates.ensures.candidates m only events lawful in
     may_lose (after events) now (c.slots_begin.ensures m events only lawful) (c.images_are_mapped.ensures m events lawful) (c.none_is_lazy.ensures m events only lawful) (tidy_after m events lawful)
-    fit won a g may memory holds unwon other
+    won a g fit may memory holds unwon other
