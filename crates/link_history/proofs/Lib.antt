@@ -60,6 +60,7 @@ pub mod Separate
 pub mod Serials
 pub mod Spare
 pub mod Startup
+pub mod Static
 pub mod Steps
 pub mod Tidy
 pub mod Tied

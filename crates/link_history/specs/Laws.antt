@@ -252,6 +252,20 @@ pub record GrantsAreTidy (s : State) : Type 0 where
   pub one_open : (g h : Granting) → Contains s.grants g → Contains s.grants h → g.standing ≡ Open → h.standing ≡ Open → g.hart ≡ h.hart → g.number ≡ h.number
   pub unbound : (g : Granting) → Contains s.grants g → g.standing ≡ Bound → value_at_load s g.owner g.slot ≡ None
 
+-- a mapped object has a static block, of its segment, at this offset behind tp
+pub record HasStatic (s : State) (o : Loaded) (offset : ℕ) (seg : TlsSeg) : Type 0 where
+  pub namespace : Namespace
+  pub inside : IsIn s namespace o
+  pub place : TlsPlace
+  pub of : o.«module» ≡ Some place
+  pub at : place.offset ≡ Some offset
+  pub storage : o.object.tls ≡ Some seg
+
+-- static blocks end where the state says, and each is apart from those of other objects
+pub record StaticsAreApart (s : State) : Type 0 where
+  pub within : (o : Loaded) (offset : ℕ) (seg : TlsSeg) → HasStatic s o offset seg → offset + seg.memsz ≤ s.statics.size
+  pub apart : (o p : Loaded) (x y : ℕ) (seg tseg : TlsSeg) → HasStatic s o x seg → HasStatic s p y tseg → o.serial ≢ p.serial → (x + seg.memsz ≤ y) ⊎ (y + tseg.memsz ≤ x)
+
 -- a block that a hart got at its first use stands in pages of its own: at its segment's residue behind their start, and whole
 pub record IsBlockPlaced (s : State) (b : Block) : Type 0 where
   pub seg : TlsSeg

@@ -20,7 +20,7 @@ ghost use Rattle.link_history.specs.Changes.{ChangesMemory};
 ghost use Rattle.link_history.specs.Laws.{AreApart, AreasAreData, BlocksArePlaced, ClosesSpare, EachDiesOnce, FinalisedOnce, FindsImage, GrantsAreHeld, GrantsAreTidy, HasAll, HoldersAreImages, ImagesAreBound, ImagesAreInstalled, ImagesAreMapped};
 ghost use Rattle.link_history.specs.Laws.{ImagesArePlaced, ImagesAreTied, InitialisedOnce, IsInitialising, LoadsEnterCode, LostSawTheValue, ModulesAreFew, ModulesAreTidy};
 ghost use Rattle.link_history.specs.Laws.{NoneIsLazy, NothingDangles, NothingLeftOut, OffsetsAreThere, OpeningsStand, RangesAreApart, RangesAreOwned, ScopesAreWhole};
-ghost use Rattle.link_history.specs.Laws.{SerialsAreInOrder, SlotsBegin, SlotsEnterCode, SlotsLeadToRx, StartupStays, TakesLeast, UninitialisedStay};
+ghost use Rattle.link_history.specs.Laws.{SerialsAreInOrder, SlotsBegin, SlotsEnterCode, SlotsLeadToRx, StartupStays, StaticsAreApart, TakesLeast, UninitialisedStay};
 ghost use Rattle.link_history.specs.Exits.{exits, initialised_by_another, setting, unmapped_unclosed};
 ghost use Rattle.link_history.specs.Legal.{Lawful, Legal, Whole};
 ghost use Rattle.link_history.specs.Lookup.{SymbolsAreStored};
@@ -330,6 +330,15 @@ pub fn finals_follow()
     ensures { (w : Setting) (before since : List Event) (o : ℕ) → IsTrue (have_exited w (after before)) → IsFirst (finis_of (after before) (map serial_of (mapped (after before)))) o →
         IsMapped (after (before ++ since)) o → has (after (before ++ since)).finis o ≡ false → Allowed w (before ++ since) (Fini 0 o) }
 {}
+
+/// Static blocks lie behind tp one after another: each is apart from the others, and ends where the state
+/// says that all end.
+pub fn statics_are_apart()
+    ensures { (m : Machine) (events : List Event) → Lawful m events → StaticsAreApart (after events) }
+{
+    scope_rule::serials_follow();
+    scope_rule::found_stands();
+}
 
 /// Each block of thread-local storage that a hart got at its first use of a module has pages of its own,
 /// in which it stands whole.
