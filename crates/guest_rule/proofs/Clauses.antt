@@ -1,19 +1,46 @@
 -- What the rule comes to.
-use Rattle.std.proofs.Common.{◌≡◌, ◌≢◌, ◌⊎◌, ⊎_elim, inl, inr, ℕ, ◌<◌, Option, Some, None, Contains, refl, sym, ap, ◌∙◌, arith}
+use Rattle.std.proofs.Common.{◌≡◌, ◌≢◌, ◌⊎◌, ⊎_elim, inl, inr, ℕ, ◌%◌, ◌≤◌, ◌<◌, Bool, true, false, nat_lt, List, [], ◌∷◌, ◌++◌, length, slice_index, Option, Some, None, Contains, refl, sym, ap, subst, ◌∙◌, arith}
+use Rattle.std.proofs.lemmas.Bool.Decides.{nat_tests}
+use mathlib.Core.Logic.{dite}
+use native.Mathlib.Decide.{ℕ_discrete}
+use mathlib.Core.Option.{some}
+use lib.ListN.{get_elem?}
 use Rattle.ld_base.specs.declared.linking.Role.{Role}
 use Rattle.ld_base.specs.declared.linking.Role.TheVariants.{None as NoRole, Ro, Rx, Rw, Slot as SlotRole}
 use Rattle.guest_rule.specs.declared.entry.Exchange.{Exchange}
 use Rattle.guest_rule.specs.declared.entry.Grant.{Grant}
+use Rattle.guest_rule.specs.declared.entry.RowWord.TheVariants.{Number}
 use Rattle.guest_rule.specs.declared.view.HartView.{HartView}
 use Rattle.guest_rule.specs.declared.view.KeeperView.{KeeperView}
-use Rattle.guest_rule.specs.Layout.{control_at, doublewords, harts_at_most, lock_bit, state_at, value_at}
-use Rattle.guest_rule.specs.Views.{exchanges_of, kept_at, row_of}
-use Rattle.guest_rule.specs.Allowed.{IsAllowed, IsSlot}
+use Rattle.guest_rule.specs.declared.view.Lane.{Lane}
+use Rattle.guest_rule.specs.declared.view.Row.{Row}
+use Rattle.guest_rule.specs.declared.view.View.{View}
+use Rattle.guest_rule.specs.declared.view.View.TheVariants.{Keeper, Hart, Note}
+use Rattle.guest_rule.specs.Layout.{control_at, doublewords, harts_at_most, index_of, lock_bit, place_of, row_at, state_at, value_at}
+use Rattle.guest_rule.specs.Views.{entry_of, exchanges_of, kept_at, row_of}
+use Rattle.guest_rule.specs.Allowed.{IsAllowed, IsOf, IsSlot, Stands}
 use Rattle.guest_rule.specs.Words.{Holds, keeper, hart, nobody, Owner}
-use Rattle.guest_rule.specs.Slots.{Did, Winner}
-use Rattle.guest_rule.specs.Rule.{Parts}
-use Rattle.guest_rule.specs.Clauses.{Clauses, Made, slot_of}
+use Rattle.guest_rule.specs.HartSteps.{IsMark}
+use Rattle.guest_rule.specs.Calls.{Answered, Awaits, IsEvent, Rests, RowIs, Stage, Still}
+use Rattle.guest_rule.specs.Slots.{Did, Fated, HasLost, HasWon, IsPending, SlotIs, Winner}
+use Rattle.guest_rule.specs.Seats.{Fits}
+use Rattle.guest_rule.specs.Rule.{IsGuest, Parts}
+use Rattle.guest_rule.specs.Clauses.{Clauses, CountClauses, EntryClauses, LockClauses, Made, RowClauses, SlotClauses, slot_of}
 use Rattle.guest_rule.proofs.Locks.{is_free}
+use Rattle.guest_rule.proofs.Rows.{not_both, not_rest}
+use Rattle.guest_rule.proofs.SlotFrames.{at_place}
+
+mark_no_rest : (s : ℕ) → IsMark s → Rests s → ⊥
+mark_no_rest s mark rest = elim mark [
+  | inl a ↦ elim rest [ inl r ↦ omega arith | inr r ↦ elim r [ inl r ↦ omega arith | inr r ↦ omega arith ] ]
+  | inr b ↦ elim b [
+    | inl a ↦ elim rest [ inl r ↦ omega arith | inr r ↦ elim r [ inl r ↦ omega arith | inr r ↦ omega arith ] ]
+    | inr c ↦ elim c [
+      | inl a ↦ elim rest [ inl r ↦ omega arith | inr r ↦ elim r [ inl r ↦ omega arith | inr r ↦ omega arith ] ]
+      | inr a ↦ elim rest [ inl r ↦ omega arith | inr r ↦ elim r [ inl r ↦ omega arith | inr r ↦ omega arith ] ]
+    ]
+  ]
+]
 
 module _ (word : ℕ → ℕ) (kept : KeeperView) (harts : ℕ → HartView) (p : Parts word kept harts) where
   did : (m : ℕ) (x : Exchange) → Made kept harts m x → Did (word (value_at (slot_of x))) (kept_at kept (slot_of x)).lazy (p.slots.winner (slot_of x)) m x
@@ -35,19 +62,72 @@ module _ (word : ℕ → ℕ) (kept : KeeperView) (harts : ℕ → HartView) (p 
   allowed d here None e = inl ((p.slots.each_slot d here).image e)
   allowed d here (Some (m, g)) e = let b = (p.slots.each_slot d here).by m g e in inr (m, g, b.1, b.0, ((p.slots.each_slot d here).bound m g e).0)
 
+  -- a hart that won a slot has a row
+  in_reach : (m : ℕ) (g : Grant) → Stands (row_of kept m) g → m < harts_at_most
+  in_reach m g st = go (nat_lt m harts_at_most) refl
+    where
+      go : (b : Bool) → nat_lt m harts_at_most ≡ b → m < harts_at_most
+      go true e = grind (arith, nat_tests)
+      go false e = let high : harts_at_most ≤ m = grind (arith, nat_tests) in absurd (p.slots.no_more m g high st)
+
   winner : (d : ℕ) → IsSlot (kept_at kept) d → word (value_at d) ≢ (kept_at kept d).value → (w : Winner) → p.slots.winner d ≡ w
-      → (m : ℕ) × (x : Exchange) × Contains (exchanges_of (harts m).trail) x × (x.found ≡ x.grant.lazy) × (word (value_at d) ≡ x.grant.entry.value)
+      → (m : ℕ) × (x : Exchange) × Made kept harts m x × (slot_of x ≡ d) × (x.found ≡ x.grant.lazy) × (word (value_at d) ≡ x.grant.entry.value)
   winner d here other None e = absurd (other ((p.slots.each_slot d here).image e))
-  winner d here other (Some (m, g)) e = (m, record { grant = g; found = g.lazy }, ((p.slots.each_slot d here).by m g e).2, refl, ((p.slots.each_slot d here).bound m g e).0)
+  winner d here other (Some (m, g)) e =
+      let b = (p.slots.each_slot d here).by m g e in
+      let at : place_of g.entry.slot ≡ d = at_place g d b.0.1 in
+      (m, record { grant = g; found = g.lazy }, (in_reach m g b.1, b.2, subst (λ n. IsOf (kept_at kept) n g) (sym at) b.0), at, refl, ((p.slots.each_slot d here).bound m g e).0)
 
   granted : (m : ℕ) → m < harts_at_most → word (state_at m) ≡ 3 → (o : Option Grant) → (row_of kept m).pending ≡ o → (g : Grant) × ((row_of kept m).pending ≡ Some g)
   granted m few three None e = absurd ((p.slots.each_hart m few).closed e three)
   granted m few three (Some g) e = (g, e)
 
-  pub clauses : Clauses word kept harts
-  clauses = record {
-    locked = λ d low bit. who d low bit (p.locks.owner d) refl;
-    still = λ d low bit is. let at = p.locks.each_word d low in holds (kept_at kept d).role (word (value_at d)) (kept_at kept d).value is (at.holds (is_free (word (value_at d)) (word (control_at d)) (p.locks.owner d) (kept_at kept d) at bit));
+  stated : (n : ℕ) {value m : ℕ} {w : Winner} {t : Option Exchange} {xs : List Exchange} {g : Grant} → Fated value n w m t xs g → (n ≡ 3) ⊎ (n % 8 ≡ 4) ⊎ (n % 8 ≡ 5)
+  stated n f = ⊎_elim (λ o. inl o.0) (λ f. ⊎_elim (λ a. inr (inl a.0)) (λ b. inr (inr b.0)) f) f
+
+  won : (n : ℕ) {value m : ℕ} {w : Winner} {t : Option Exchange} {xs : List Exchange} {g : Grant} → n % 8 ≡ 4 → Fated value n w m t xs g → w ≡ Some (m, g)
+  won n four f = ⊎_elim (λ o. let q : n ≡ 3 = o.0 in absurd (omega arith)) (λ f. ⊎_elim (λ a. a.1) (λ b. let q : n % 8 ≡ 5 = b.0 in absurd (omega arith)) f) f
+
+  lost : (n : ℕ) {value m : ℕ} {w : Winner} {t : Option Exchange} {xs : List Exchange} {g : Grant} → n % 8 ≡ 5 → Fated value n w m t xs g → (w ≢ Some (m, g)) × (value ≢ g.lazy) × HasLost xs g
+  lost n five f = ⊎_elim (λ o. let q : n ≡ 3 = o.0 in absurd (omega arith)) (λ f. ⊎_elim (λ a. let q : n % 8 ≡ 4 = a.0 in absurd (omega arith)) (λ b. (b.1, b.2, b.3)) f) f
+
+  -- the word of a slot that a grant lost
+  left : (m : ℕ) (g : Grant) (d : ℕ) → IsSlot (kept_at kept) d → (w : Winner) → p.slots.winner d ≡ w → w ≢ Some (m, g)
+      → (word (value_at d) ≡ (kept_at kept d).value) ⊎ ((n : ℕ) × (q : Grant) × Stands (row_of kept n) q × IsOf (kept_at kept) d q × (word (value_at d) ≡ q.entry.value) × ((n ≢ m) ⊎ (q ≢ g)))
+  left m g d here None e apart = inl ((p.slots.each_slot d here).image e)
+  left m g d here (Some (n, q)) e apart =
+      let b = (p.slots.each_slot d here).by n q e in
+      inr (n, q, b.1, b.0, ((p.slots.each_slot d here).bound n q e).0, dite (ℕ_discrete n m) (λ (same : n ≡ m). inr (λ (eq : q ≡ g). apart (λ i. Some (same i, eq i)))) (λ other. inl other))
+
+  pending : (m : ℕ) (g : Grant) → m < harts_at_most → (row_of kept m).pending ≡ Some g
+      → let d = place_of g.entry.slot in IsPending (kept_at kept) kept.access.locked (word (value_at d)) (word (state_at m)) (p.slots.winner d) m (row_of kept m) (harts m).lane.tried (exchanges_of (harts m).trail) g
+  pending m g few e = (p.slots.each_hart m few).pending g e
+
+  row : (m : ℕ) → m < harts_at_most → RowIs word (length kept.events) m (row_of kept m) (harts m).lane (Rattle.guest_rule.specs.Views.entries_of (harts m).trail)
+  row m few = p.calls.each_row m few
+
+  -- a row with a mark is answered
+  marked : (m : ℕ) → m < harts_at_most → IsMark (word (state_at m)) → (b : Bool) → Stage (word (state_at m)) (row_of kept m) (harts m).lane b → Answered (word (state_at m)) (row_of kept m) (harts m).lane
+  marked m few mark false st = absurd (mark_no_rest (word (state_at m)) mark st.0)
+  marked m few mark true st = ⊎_elim (λ w. absurd (not_both (word (state_at m)) mark w.0)) (λ a. a) st
+
+  event_mark : (s : ℕ) → IsEvent s → IsMark s
+  event_mark s e = ⊎_elim (λ (a : s ≡ 1). inl a) (λ (a : s ≡ 3). inr (inr (inl a))) e
+
+  rests : (m : ℕ) → m < harts_at_most → (harts m).lane.calling ≡ false → Rests (word (state_at m)) × Still (row_of kept m) (harts m).lane
+  rests m few idle = subst (Stage (word (state_at m)) (row_of kept m) (harts m).lane) idle (row m few).stage
+
+  -- a row that awaits an answer has nothing that isn't taken
+  awaiting : (m : ℕ) → Awaits (word (state_at m)) → (b : Bool) → Stage (word (state_at m)) (row_of kept m) (harts m).lane b → Still (row_of kept m) (harts m).lane
+  awaiting m waits false st = st.1
+  awaiting m waits true st = ⊎_elim (λ w. w.1) (λ (a : Answered (word (state_at m)) (row_of kept m) (harts m).lane). absurd (not_both (word (state_at m)) a.mark waits)) st
+
+  calls : (m : ℕ) → Awaits (word (state_at m)) → (b : Bool) → (harts m).lane.calling ≡ b → Stage (word (state_at m)) (row_of kept m) (harts m).lane b → b ≡ true
+  calls m waits true e st = refl
+  calls m waits false e st = absurd (not_rest (word (state_at m)) st.0 waits)
+
+  pub slot_clauses : SlotClauses word kept harts
+  slot_clauses = record {
     allowed = λ d here. allowed d here (p.slots.winner d) refl;
     leads = λ d v here a. (p.slots.each_slot d here).leads v a;
     left_by_winner = λ m x made e. ((p.slots.each_slot (slot_of x) made.2.0).bound m x.grant ((did m x made).won e)).0;
@@ -61,7 +141,72 @@ module _ (word : ℕ → ℕ) (kept : KeeperView) (harts : ℕ → HartView) (p 
     some = λ d here other. winner d here other (p.slots.winner d) refl;
     known_won = λ m g few c. (p.slots.each_hart m few).won g c;
     known_lost = λ m g few c. (p.slots.each_hart m few).lost g c;
-    open_row = λ m few three. granted m few three (row_of kept m).pending refl;
-    posted = λ m g few e. let q = (p.slots.each_hart m few).pending g e in (q.of_slot, q.free);
-    entries = λ m few. (p.calls.each_row m few).trail;
   }
+
+  pub row_clauses : RowClauses word kept harts
+  row_clauses = record {
+    fields = λ m few i. (row m few).fields i;
+    idle = λ m few idle. (rests m few idle).0;
+    open_row = λ m few three. granted m few three (row_of kept m).pending refl;
+    pending = λ m g few e. stated (word (state_at m)) (pending m g few e).fate;
+    in_row = λ m g few e. (pending m g few e).in_row;
+    posted = λ m g few e. let q = pending m g few e in (q.of_slot, q.free, q.lazy_is, inr (m, g, inl e, q.of_slot, refl));
+    says_won = λ m g few e four.
+        let q = pending m g few e in
+        let at : p.slots.winner (place_of g.entry.slot) ≡ Some (m, g) = won (word (state_at m)) four q.fate in
+        let here = p.slots.each_slot (place_of g.entry.slot) q.of_slot.0 in ((here.by m g at).2, (here.bound m g at).0);
+    says_lost = λ m g few e five.
+        let q = pending m g few e in
+        let l = lost (word (state_at m)) five q.fate in (l.2, l.1, left m g (place_of g.entry.slot) q.of_slot.0 (p.slots.winner (place_of g.entry.slot)) refl l.0);
+  }
+
+  pub entry_clauses : EntryClauses word kept harts
+  entry_clauses = record {
+    all_taken = λ m few why. ⊎_elim (λ (idle : (harts m).lane.calling ≡ false). (rests m few idle).1.all) (λ (w : Awaits (word (state_at m))). (awaiting m w (harts m).lane.calling (row m few).stage).all) why;
+    last_issued = λ m few mark. (marked m few mark (harts m).lane.calling (row m few).stage).last;
+    entries = λ m few. (row m few).trail;
+    once = λ m few. (p.slots.each_hart m few).rising;
+    granted = λ m x few c. (p.slots.each_hart m few).granted x c;
+    current = p.generations.current;
+    not_later = λ m e few c. p.generations.issued m few e c;
+    kept_answers = λ m few. p.generations.kept m few;
+  }
+
+pub clauses : (words : List ℕ) (views : List View) (g : IsGuest words views) → Clauses words views g.kept g.hart
+clauses words views g = record {
+  locks = record {
+    one_keeper = λ a b k l at there. let x : Fits g.kept g.keeper g.seat_of g.hart a (Keeper k) = g.seats.each a (Keeper k) at in
+        let y : Fits g.kept g.keeper g.seat_of g.hart b (Keeper l) = g.seats.each b (Keeper l) there in (x.1 ∙ sym y.1, x.0);
+    one_number = λ a b h i at there same. let x : Fits g.kept g.keeper g.seat_of g.hart a (Hart h) = g.seats.each a (Hart h) at in
+        let y : Fits g.kept g.keeper g.seat_of g.hart b (Hart i) = g.seats.each b (Hart i) there in sym x.1 ∙ (ap g.seat_of same ∙ y.1);
+    last_view = λ a h at. let x : Fits g.kept g.keeper g.seat_of g.hart a (Hart h) = g.seats.each a (Hart h) at in (x.0, x.2);
+    role = λ d low. (g.parts.locks.each_word d low).role;
+    locked = λ d low bit. who word g.kept g.hart g.parts d low bit (g.parts.locks.owner d) refl;
+    keeper_names = λ d named. let n = g.parts.locks.keepers.named d named in (g.parts.locks.each_word d n.0).taken (λ e. let q : keeper ≡ nobody = sym n.1 ∙ e in absurd (cc));
+    hart_names = λ m d named. let n = (g.parts.locks.of_hart m).named d named in (
+      (g.parts.locks.each_word d n.0).taken (λ e. let q : hart m ≡ nobody = sym n.1 ∙ e in absurd (cc)),
+      g.parts.locks.only_rw m d named,
+      (λ k. let q : hart m ≡ keeper = sym n.1 ∙ (g.parts.locks.keepers.named d k).1 in absurd (cc)),
+    );
+    one_names = λ m n d a b. let q : hart m ≡ hart n = sym ((g.parts.locks.of_hart m).named d a).1 ∙ ((g.parts.locks.of_hart n).named d b).1 in cc;
+    still = λ d low bit is. let at = g.parts.locks.each_word d low in
+        holds word g.kept g.hart g.parts (kept_at g.kept d).role (word (value_at d)) (kept_at g.kept d).value is (at.holds (is_free (word (value_at d)) (word (control_at d)) (g.parts.locks.owner d) (kept_at g.kept d) at bit));
+  };
+  slots = slot_clauses word g.kept g.hart g.parts;
+  counts = record {
+    counted = g.parts.calls.counted;
+    heard = λ m. (g.parts.heard m).heard;
+    noted = λ a events slip at. let x : Fits g.kept g.keeper g.seat_of g.hart a (Note events slip) = g.seats.each a (Note events slip) at in x.0;
+    seen = λ m few. (g.parts.calls.each_row m few).seen;
+    slot_since = λ d here. (g.parts.slots.each_slot d here).since;
+    known = λ m c few e. let q = (g.parts.calls.each_row m few).known c e in
+        (subst (λ b. b ≡ true) (sym (calls word g.kept g.hart g.parts m q.awaits (g.hart m).lane.calling refl (g.parts.calls.each_row m few).stage)) refl, q.seen, q.counted);
+    new = λ m few event. let r = g.parts.calls.each_row m few in
+        subst (λ n. (g.hart m).lane.seen < n) (sym (r.fields Number)) ((marked word g.kept g.hart g.parts m few (event_mark word g.kept g.hart g.parts (word (state_at m)) event) (g.hart m).lane.calling r.stage).new event);
+  };
+  rows = row_clauses word g.kept g.hart g.parts;
+  entries = entry_clauses word g.kept g.hart g.parts;
+}
+  where
+    word : ℕ → ℕ
+    word = slice_index words

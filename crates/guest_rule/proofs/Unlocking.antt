@@ -9,11 +9,11 @@ use Rattle.guest_rule.specs.declared.kind.KeeperKind.{KeeperKind}
 use Rattle.guest_rule.specs.declared.kind.KeeperKind.TheVariants as keepers
 use Rattle.guest_rule.specs.declared.view.HartView.{HartView}
 use Rattle.guest_rule.specs.declared.view.KeeperView.{KeeperView}
-use Rattle.guest_rule.specs.Layout.{control_at, harts_at_most, index_of, lock_bit, role_code, role_in, row_at, to_lock, to_unlock, value_at, version_in}
+use Rattle.guest_rule.specs.Layout.{control_at, harts_at_most, index_of, lock_bit, place_of, role_code, role_in, row_at, to_lock, to_unlock, value_at, version_in}
 use Rattle.guest_rule.specs.Operations.{add, becomes, load}
 use Rattle.guest_rule.specs.HartSteps.{HartReady, hart_op, hart_word, store_place}
 use Rattle.guest_rule.specs.KeeperSteps.{KeeperReady, keeper_op, keeper_word}
-use Rattle.guest_rule.specs.Unlocking.{HartEnters, HartsUnlock, IsUnlocked, KeeperEnters, OnlyOwnersChange, UnlocksRaise}
+use Rattle.guest_rule.specs.Unlocking.{HartEnters, IsUnlocked, KindsUnlock, KeeperEnters, OnlyOwnersChange, UnlocksRaise}
 use Rattle.guest_rule.proofs.Locks.{code_low, unlocked_bit, unlocked_role}
 use Rattle.guest_rule.proofs.HartLocks.{low_index}
 
@@ -37,12 +37,15 @@ unlocks_raise old new n small is bit = record {
   version = raised n (role_code old) (role_code new) is bit small (code_low old) (code_low new);
 }
 
-pub harts_unlock : HartsUnlock
-harts_unlock NoRole = refl
-harts_unlock Ro = refl
-harts_unlock Rx = refl
-harts_unlock Rw = refl
-harts_unlock SlotRole = refl
+hart_adds : (role : Role) → add to_lock ≡ add (to_unlock role role)
+hart_adds NoRole = refl
+hart_adds Ro = refl
+hart_adds Rx = refl
+hart_adds Rw = refl
+hart_adds SlotRole = refl
+
+pub kinds_unlock : KindsUnlock
+kinds_unlock = ((λ d role. hart_adds role), (λ d old new lazy. refl), (λ d. refl), (λ d old. refl))
 
 -- ---- who changes a doubleword
 
@@ -60,27 +63,27 @@ below i d low at = ⊎_elim (λ (q : i ≡ value_at d). omega arith) (λ (q : i 
 in_row : (m i d : ℕ) → m < harts_at_most → i < 6 → (row_at m i ≡ value_at d) ⊎ (row_at m i ≡ control_at d) → ⊥
 in_row m i d few low at = below (row_at m i) d (omega arith) at
 
-harts_change : (kind : HartKind) (h : HartView) (d : ℕ) → h.number < harts_at_most → HartReady kind h → hart_op kind ≢ load → (hart_word kind ≡ value_at d) ⊎ (hart_word kind ≡ control_at d) → (h.access.locked ≡ Some d) ⊎ HartEnters kind
+harts_change : (kind : HartKind) (h : HartView) (d : ℕ) → h.number < harts_at_most → HartReady kind h → hart_op kind ≢ load → (hart_word kind ≡ value_at d) ⊎ (hart_word kind ≡ control_at d) → (h.access.locked ≡ Some d) ⊎ HartEnters kind d
 harts_change (harts.Look ask) h d few ready acts at = absurd (acts refl)
 harts_change (harts.Load ask) h d few ready acts at = absurd (acts refl)
 harts_change (harts.Hold ask) h d few ready acts at = absurd (acts refl)
-harts_change (harts.Lock ask control) h d few ready acts at = inr tt
+harts_change (harts.Lock ask control) h d few ready acts at = inr (ap control_at (same_control d (store_place ask) at))
 harts_change (harts.Store ask x) h d few ready acts at = inl (ready.0 ∙ ap Some (same_value d (store_place ask) at))
 harts_change (harts.Unlock e) h d few ready acts at = inl (ready.0 ∙ ap Some (same_control d e at))
 harts_change harts.Tally h d few ready acts at = absurd (acts refl)
 harts_change (harts.Begin m) h d few ready acts at = absurd (in_row m 0 d (subst (λ n. n < harts_at_most) (sym ready.0) few) (omega arith) at)
 harts_change (harts.Arrive m) h d few ready acts at = absurd (acts refl)
 harts_change (harts.Find m i) h d few ready acts at = absurd (acts refl)
-harts_change (harts.Exchange g) h d few ready acts at = inr tt
+harts_change (harts.Exchange g) h d few ready acts at = inr (ap value_at (same_value d (place_of g.entry.slot) at))
 harts_change (harts.Accept m e) h d few ready acts at = absurd (in_row m 0 d (subst (λ n. n < harts_at_most) (sym ready.0) few) (omega arith) at)
 harts_change (harts.Finish m won) h d few ready acts at = absurd (in_row m 0 d (subst (λ n. n < harts_at_most) (sym ready.0) few) (omega arith) at)
 harts_change (harts.Generation number) h d few ready acts at = absurd (acts refl)
 harts_change harts.Listen h d few ready acts at = absurd (acts refl)
 
-keepers_change : (kind : KeeperKind) (k : KeeperView) (d : ℕ) → KeeperReady kind k → keeper_op kind ≢ load → (keeper_word kind ≡ value_at d) ⊎ (keeper_word kind ≡ control_at d) → (k.access.locked ≡ Some d) ⊎ KeeperEnters kind
+keepers_change : (kind : KeeperKind) (k : KeeperView) (d : ℕ) → KeeperReady kind k → keeper_op kind ≢ load → (keeper_word kind ≡ value_at d) ⊎ (keeper_word kind ≡ control_at d) → (k.access.locked ≡ Some d) ⊎ KeeperEnters kind d
 keepers_change (keepers.Look e) k d ready acts at = absurd (acts refl)
 keepers_change (keepers.Load e) k d ready acts at = absurd (acts refl)
-keepers_change (keepers.Lock e control) k d ready acts at = inr tt
+keepers_change (keepers.Lock e control) k d ready acts at = inr (ap control_at (same_control d e at))
 keepers_change (keepers.Store e x) k d ready acts at = inl (ready.0 ∙ ap Some (same_value d e at))
 keepers_change (keepers.Unlock e old new lazy) k d ready acts at = inl (ready.0 ∙ ap Some (same_control d e at))
 keepers_change (keepers.Count e) k d ready acts at = absurd (below 0 d (omega arith) at)

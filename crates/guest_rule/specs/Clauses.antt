@@ -1,15 +1,48 @@
--- What the rule comes to, in the words of whoever relies on it.
-use Rattle.std.specs.Prelude.{◌≡◌, ◌≢◌, ◌⊎◌, ℕ, ◌++◌, ◌<◌, Some, Contains}
+-- What the rule comes to, in the words of whoever relies on it: of words and locks, slots and exchanges, the count, rows, entries,
+-- and the generation.
+use Rattle.std.specs.Prelude.{◌≡◌, ◌≢◌, ◌⊎◌, ℕ, ◌%◌, ◌≤◌, ◌<◌, Bool, true, false, List, [], ◌∷◌, ◌++◌, length, slice_index, None, Some, Contains}
+use mathlib.Core.Option.{some}
+use lib.ListN.{get_elem?}
 use Rattle.ld_base.specs.declared.linking.Role.TheVariants.{Ro, Rx, Rw}
+use Rattle.link_event.specs.declared.event.Event.{Event}
+use Rattle.guest_rule.specs.declared.entry.Entry.{Entry}
 use Rattle.guest_rule.specs.declared.entry.Exchange.{Exchange}
 use Rattle.guest_rule.specs.declared.entry.Grant.{Grant}
+use Rattle.guest_rule.specs.declared.entry.RowWord.{RowWord}
+use Rattle.guest_rule.specs.declared.entry.RowWord.TheVariants.{Number}
 use Rattle.guest_rule.specs.declared.view.Fate.TheVariants.{Won, Lost}
 use Rattle.guest_rule.specs.declared.view.HartView.{HartView}
 use Rattle.guest_rule.specs.declared.view.KeeperView.{KeeperView}
-use Rattle.guest_rule.specs.Layout.{control_at, doublewords, harts_at_most, lock_bit, place_of, state_at, value_at}
-use Rattle.guest_rule.specs.Views.{entries_of, exchanges_of, kept_at, row_of, tried_entry}
-use Rattle.guest_rule.specs.Slots.{HasLost, HasWon}
-use Rattle.guest_rule.specs.Allowed.{IsAllowed, IsOf, IsSlot, LeadsTo}
+use Rattle.guest_rule.specs.declared.view.Slip.{Slip}
+use Rattle.guest_rule.specs.declared.view.View.{View}
+use Rattle.guest_rule.specs.declared.view.View.TheVariants.{Keeper, Hart, Note}
+use Rattle.guest_rule.specs.Layout.{control_at, count_at, doublewords, generation_at, harts_at_most, index_of, lock_bit, place_of, role_code, row_at, state_at, value_at}
+use Rattle.guest_rule.specs.Views.{BeginsWith, entries_of, entry_of, exchanges_of, field_of, grant_in, kept_at, row_of, tried_entry}
+use Rattle.guest_rule.specs.HartSteps.{IsMark}
+use Rattle.guest_rule.specs.Calls.{Awaits, IsEvent, Rests}
+use Rattle.guest_rule.specs.Generations.{AllKept}
+use Rattle.guest_rule.specs.Slots.{HasLost, HasWon, IsGrant, Rising}
+use Rattle.guest_rule.specs.Allowed.{IsAllowed, IsOf, IsSlot, LeadsTo, Stands}
+
+-- ---- words and locks
+
+pub record LockClauses (word : ℕ → ℕ) (views : List View) (kept : KeeperView) (hart : ℕ → HartView) : Type 0 where
+  -- there is one keeper's view, and no two harts' views have the same number
+  pub one_keeper : (a b : ℕ) (k l : KeeperView) → get_elem? views a ≡ some (Keeper k) → get_elem? views b ≡ some (Keeper l) → (a ≡ b) × (k ≡ kept)
+  pub one_number : (a b : ℕ) (h i : HartView) → get_elem? views a ≡ some (Hart h) → get_elem? views b ≡ some (Hart i) → h.number ≡ i.number → a ≡ b
+  pub last_view : (a : ℕ) (h : HartView) → get_elem? views a ≡ some (Hart h) → (h.number < kept.harts) × (hart h.number ≡ h)
+  -- a control word has the role that the keeper knows
+  pub role : (d : ℕ) → d < doublewords → word (control_at d) % 8 ≡ role_code (kept_at kept d).role
+  -- a lock bit is that of a seat which names the doubleword as locked
+  pub locked : (d : ℕ) → d < doublewords → lock_bit (word (control_at d)) ≡ 1 → (kept.access.locked ≡ Some d) ⊎ ((m : ℕ) × ((hart m).access.locked ≡ Some d) × ((kept_at kept d).role ≡ Rw))
+  -- a doubleword that a seat names has its lock bit, and no other seat names it; a hart's is RW
+  pub keeper_names : (d : ℕ) → kept.access.locked ≡ Some d → lock_bit (word (control_at d)) ≡ 1
+  pub hart_names : (m d : ℕ) → (hart m).access.locked ≡ Some d → (lock_bit (word (control_at d)) ≡ 1) × ((kept_at kept d).role ≡ Rw) × (kept.access.locked ≢ Some d)
+  pub one_names : (m n d : ℕ) → (hart m).access.locked ≡ Some d → (hart n).access.locked ≡ Some d → m ≡ n
+  -- an unlocked RO or RX doubleword has the value that the keeper knows
+  pub still : (d : ℕ) → d < doublewords → lock_bit (word (control_at d)) ≡ 0 → ((kept_at kept d).role ≡ Ro) ⊎ ((kept_at kept d).role ≡ Rx) → word (value_at d) ≡ (kept_at kept d).value
+
+-- ---- slots and exchanges
 
 -- an exchange of a slot that is there, in a hart's trail
 abbrev pub Made : KeeperView → (ℕ → HartView) → ℕ → Exchange → Type 0
@@ -18,11 +51,7 @@ Made kept hart m x = (m < harts_at_most) × Contains (exchanges_of (hart m).trai
 abbrev pub slot_of : Exchange → ℕ
 slot_of x = place_of x.grant.entry.slot
 
-pub record Clauses (word : ℕ → ℕ) (kept : KeeperView) (hart : ℕ → HartView) : Type 0 where
-  -- a lock bit is that of a seat which names the doubleword as locked
-  pub locked : (d : ℕ) → d < doublewords → lock_bit (word (control_at d)) ≡ 1 → (kept.access.locked ≡ Some d) ⊎ ((m : ℕ) × ((hart m).access.locked ≡ Some d) × ((kept_at kept d).role ≡ Rw))
-  -- an unlocked RO or RX doubleword has the value that the keeper knows
-  pub still : (d : ℕ) → d < doublewords → lock_bit (word (control_at d)) ≡ 0 → ((kept_at kept d).role ≡ Ro) ⊎ ((kept_at kept d).role ≡ Rx) → word (value_at d) ≡ (kept_at kept d).value
+pub record SlotClauses (word : ℕ → ℕ) (kept : KeeperView) (hart : ℕ → HartView) : Type 0 where
   -- a slot has one of its allowed values, and each of these is 0 or lies in an RX word
   pub allowed : (d : ℕ) → IsSlot (kept_at kept) d → IsAllowed (kept_at kept) (row_of kept) d (word (value_at d))
   pub leads : (d v : ℕ) → IsSlot (kept_at kept) d → IsAllowed (kept_at kept) (row_of kept) d v → LeadsTo (kept_at kept) v
@@ -33,12 +62,65 @@ pub record Clauses (word : ℕ → ℕ) (kept : KeeperView) (hart : ℕ → Hart
   -- at most one exchange of a slot found the lazy word; where the slot has another word than its image's, one did
   pub one : (m n : ℕ) (x y : Exchange) → Made kept hart m x → Made kept hart n y → slot_of x ≡ slot_of y → x.found ≡ x.grant.lazy → y.found ≡ y.grant.lazy → (m ≡ n) × (x.grant ≡ y.grant)
   pub some : (d : ℕ) → IsSlot (kept_at kept) d → word (value_at d) ≢ (kept_at kept d).value
-      → (m : ℕ) × (x : Exchange) × Contains (exchanges_of (hart m).trail) x × (x.found ≡ x.grant.lazy) × (word (value_at d) ≡ x.grant.entry.value)
+      → (m : ℕ) × (x : Exchange) × Made kept hart m x × (slot_of x ≡ d) × (x.found ≡ x.grant.lazy) × (word (value_at d) ≡ x.grant.entry.value)
   -- a grant that is known as won has an exchange that found the lazy word, and one that is known as lost has one that found another
   pub known_won : (m : ℕ) (g : Grant) → m < harts_at_most → Contains (row_of kept m).settled (record { grant = g; fate = Won }) → HasWon (exchanges_of (hart m).trail) g
   pub known_lost : (m : ℕ) (g : Grant) → m < harts_at_most → Contains (row_of kept m).settled (record { grant = g; fate = Lost }) → HasLost (exchanges_of (hart m).trail) g
-  -- an open row has a grant whose fate isn't known; such a grant is of a slot that is there and that the keeper hasn't locked
+
+-- ---- the count
+
+pub record CountClauses (word : ℕ → ℕ) (views : List View) (kept : KeeperView) (hart : ℕ → HartView) : Type 0 where
+  pub counted : word count_at ≡ length kept.events
+  pub heard : (m : ℕ) → BeginsWith kept.events (hart m).heard
+  pub noted : (a : ℕ) (events : List Event) (slip : Slip) → get_elem? views a ≡ some (Note events slip) → BeginsWith kept.events events
+  pub seen : (m : ℕ) → m < harts_at_most → (hart m).lane.seen ≤ length kept.events
+  pub slot_since : (d : ℕ) → IsSlot (kept_at kept) d → (kept_at kept d).since ≤ length kept.events
+  -- a hart that is known to call is calling, and saw no more than the count at which it became known
+  pub known : (m c : ℕ) → m < harts_at_most → (row_of kept m).since ≡ Some c → ((hart m).lane.calling ≡ true) × ((hart m).lane.seen ≤ c) × (c ≤ length kept.events)
+  -- a row answered by an event, or open, has a number above what its hart saw
+  pub new : (m : ℕ) → m < harts_at_most → IsEvent (word (state_at m)) → (hart m).lane.seen < word (row_at m (index_of Number))
+
+-- ---- rows
+
+pub record RowClauses (word : ℕ → ℕ) (kept : KeeperView) (hart : ℕ → HartView) : Type 0 where
+  -- the words of a row are those that the keeper put there
+  pub fields : (m : ℕ) → m < harts_at_most → (i : RowWord) → word (row_at m (index_of i)) ≡ field_of i (row_of kept m)
+  -- the row of a hart that isn't calling is taken, won or lost
+  pub idle : (m : ℕ) → m < harts_at_most → (hart m).lane.calling ≡ false → Rests (word (state_at m))
+  -- a row is open exactly with a grant whose fate isn't known, while it isn't given back
   pub open_row : (m : ℕ) → m < harts_at_most → word (state_at m) ≡ 3 → (g : Grant) × ((row_of kept m).pending ≡ Some g)
-  pub posted : (m : ℕ) (g : Grant) → m < harts_at_most → (row_of kept m).pending ≡ Some g → let d = place_of g.entry.slot in IsOf (kept_at kept) d g × (kept.access.locked ≢ Some d)
+  pub pending : (m : ℕ) (g : Grant) → m < harts_at_most → (row_of kept m).pending ≡ Some g → let s = word (state_at m) in (s ≡ 3) ⊎ (s % 8 ≡ 4) ⊎ (s % 8 ≡ 5)
+  -- such a grant is the row's; its slot is there with its lazy word, the keeper hasn't locked it, and its value is allowed there
+  pub in_row : (m : ℕ) (g : Grant) → m < harts_at_most → (row_of kept m).pending ≡ Some g → g ≡ grant_in (row_of kept m)
+  pub posted : (m : ℕ) (g : Grant) → m < harts_at_most → (row_of kept m).pending ≡ Some g → let d = place_of g.entry.slot in
+      IsOf (kept_at kept) d g × (kept.access.locked ≢ Some d) × (g.lazy ≡ (kept_at kept d).lazy) × IsAllowed (kept_at kept) (row_of kept) d g.entry.value
+  -- a row that says won: its exchange found the lazy word, and the slot has its value
+  pub says_won : (m : ℕ) (g : Grant) → m < harts_at_most → (row_of kept m).pending ≡ Some g → word (state_at m) % 8 ≡ 4 → let d = place_of g.entry.slot in
+      HasWon (exchanges_of (hart m).trail) g × (word (value_at d) ≡ g.entry.value)
+  -- a row that says lost: its exchange found another word, and the slot has its image's or the value of another grant that stands
+  pub says_lost : (m : ℕ) (g : Grant) → m < harts_at_most → (row_of kept m).pending ≡ Some g → word (state_at m) % 8 ≡ 5 → let d = place_of g.entry.slot in
+      HasLost (exchanges_of (hart m).trail) g × (word (value_at d) ≢ g.lazy)
+      × ((word (value_at d) ≡ (kept_at kept d).value) ⊎ ((n : ℕ) × (p : Grant) × Stands (row_of kept n) p × IsOf (kept_at kept) d p × (word (value_at d) ≡ p.entry.value) × ((n ≢ m) ⊎ (p ≢ g))))
+
+-- ---- entries, and the generation
+
+pub record EntryClauses (word : ℕ → ℕ) (kept : KeeperView) (hart : ℕ → HartView) : Type 0 where
+  -- what was issued is what was taken, and the row's entry where the row is the hart's
+  pub all_taken : (m : ℕ) → m < harts_at_most → ((hart m).lane.calling ≡ false) ⊎ Awaits (word (state_at m)) → (hart m).lane.taken ≡ (row_of kept m).issued
+  pub last_issued : (m : ℕ) → m < harts_at_most → IsMark (word (state_at m)) → (row_of kept m).issued ≡ (hart m).lane.taken ++ entry_of (word (state_at m)) (row_of kept m) ∷ []
   -- a trail's entries are those taken, and the grant of an exchange that isn't given back
   pub entries : (m : ℕ) → m < harts_at_most → entries_of (hart m).trail ≡ (hart m).lane.taken ++ tried_entry (hart m).lane.tried
+  -- an exchange stands once in a trail, and is that of a grant of its hart
+  pub once : (m : ℕ) → m < harts_at_most → Rising (exchanges_of (hart m).trail)
+  pub granted : (m : ℕ) (x : Exchange) → m < harts_at_most → Contains (exchanges_of (hart m).trail) x → IsGrant (row_of kept m) x.grant
+  -- the generation word is the keeper's, no entry is of a later one, and each kept answer stands after its entry
+  pub current : word generation_at ≡ kept.generation
+  pub not_later : (m : ℕ) (e : Entry) → m < harts_at_most → Contains (row_of kept m).issued e → e.generation ≤ kept.generation
+  pub kept_answers : (m : ℕ) → m < harts_at_most → AllKept [] (hart m).trail
+
+pub record Clauses (words : List ℕ) (views : List View) (kept : KeeperView) (hart : ℕ → HartView) : Type 0 where
+  pub locks : LockClauses (slice_index words) views kept hart
+  pub slots : SlotClauses (slice_index words) kept hart
+  pub counts : CountClauses (slice_index words) views kept hart
+  pub rows : RowClauses (slice_index words) kept hart
+  pub entries : EntryClauses (slice_index words) kept hart

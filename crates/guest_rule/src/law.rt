@@ -1,6 +1,6 @@
 //! What holds of the rule.
 
-ghost use Rattle.std.specs.Prelude.{◌≡◌, ℕ, List, [], ◌∷◌, slice_index};
+ghost use Rattle.std.specs.Prelude.{◌≡◌, ℕ, List, [], ◌∷◌};
 ghost use Rattle.guest_rule.specs.declared.kind.HartKind.{HartKind};
 ghost use Rattle.guest_rule.specs.declared.kind.KeeperKind.{KeeperKind};
 ghost use Rattle.guest_rule.specs.declared.view.HartView.{HartView};
@@ -13,7 +13,7 @@ ghost use Rattle.guest_rule.specs.KeeperSteps.{KeeperLeaves, KeeperReady, keeper
 ghost use Rattle.guest_rule.specs.Rule.{HartKeeps, IsGuest, KeeperKeeps};
 ghost use Rattle.guest_rule.specs.Joining.{HasNote, HasRoom, JoinKeeps, MayTake, SplitKeeps, new_hart, note_of, takes_in, with_hart};
 ghost use Rattle.guest_rule.specs.Start.{first_keeper, first_words, IsFirst};
-ghost use Rattle.guest_rule.specs.Unlocking.{HartsUnlock, OnlyOwnersChange, UnlocksRaise};
+ghost use Rattle.guest_rule.specs.Unlocking.{KindsUnlock, OnlyOwnersChange, UnlocksRaise};
 ghost use Rattle.guest_rule.specs.Views.{IsLane, IsLong, first_lane};
 ghost use Rattle.guest_rule.specs.Worked.{AnotherHasLocked, ConditionalFails, ConditionalIsRefused, OneLocks, OneWins, RoleComesAndGoes, StoreIsOwed};
 
@@ -39,7 +39,7 @@ pub fn keeper_steps_keep()
 /// but that it is locked, and that a slot is exchanged.
 pub fn owners_change()
     ensures raise { UnlocksRaise }
-    ensures harts { HartsUnlock }
+    ensures kinds { KindsUnlock }
     ensures owners { OnlyOwnersChange }
 {}
 
@@ -75,8 +75,8 @@ pub fn worked_steps()
     ensures roles { RoleComesAndGoes }
 {}
 
-/// What the rule comes to: who has locked what, what RO and RX words hold, and that a slot has the
-/// word that its one winner left.
+/// What the rule comes to: who has locked what and what unlocked words hold, that a slot has the word
+/// that its one winner left, what the count, rows and entries say, and the generation.
 pub fn rule_comes_to()
-    ensures { (words : List ℕ) (views : List View) (g : IsGuest words views) → Clauses (slice_index words) g.kept g.hart }
+    ensures { (words : List ℕ) (views : List View) (g : IsGuest words views) → Clauses words views g.kept g.hart }
 {}
