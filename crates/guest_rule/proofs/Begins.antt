@@ -129,6 +129,7 @@ begun = record {
     here = refl;
     each = one;
     gone = λ i j e. let q : None ≡ Some j = e in absurd (cc);
+    there = λ m low. absurd (omega (arith, low));
     unborn = λ m high. refl;
     few = omega arith;
     words_known = length-replicate doublewords unmapped;

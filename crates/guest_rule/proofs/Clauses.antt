@@ -180,6 +180,7 @@ clauses words views g = record {
     one_number = λ a b h i at there same. let x : Fits g.kept g.keeper g.seat_of g.hart a (Hart h) = g.seats.each a (Hart h) at in
         let y : Fits g.kept g.keeper g.seat_of g.hart b (Hart i) = g.seats.each b (Hart i) there in sym x.1 ∙ (ap g.seat_of same ∙ y.1);
     last_view = λ a h at. let x : Fits g.kept g.keeper g.seat_of g.hart a (Hart h) = g.seats.each a (Hart h) at in (x.0, x.2);
+    stands = λ m low. ⊎_elim (λ e. inl (g.seat_of m, e)) (λ j. inr j) (g.seats.there m low);
     role = λ d low. (g.parts.locks.each_word d low).role;
     locked = λ d low bit. who word g.kept g.hart g.parts d low bit (g.parts.locks.owner d) refl;
     keeper_names = λ d named. let n = g.parts.locks.keepers.named d named in (g.parts.locks.each_word d n.0).taken (λ e. let q : keeper ≡ nobody = sym n.1 ∙ e in absurd (cc));

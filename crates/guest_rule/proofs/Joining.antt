@@ -32,7 +32,7 @@ use Rattle.guest_rule.specs.Rule.{IsGuest, Parts}
 use Rattle.guest_rule.specs.Joining.{HasNote, HasRoom, IsSettled, JoinKeeps, MayTake, new_hart, note_of, SplitKeeps, takes_in, with_hart}
 use Rattle.guest_rule.proofs.Put.{field_stays, put_else, put_each, put_here}
 use Rattle.guest_rule.proofs.HartCalls.{answered_if, read_entry}
-use Rattle.guest_rule.proofs.Seating.{begins_itself, hart_seats, set_found}
+use Rattle.guest_rule.proofs.Seating.{begins_itself, hart_seats, no_keeper, set_found}
 
 -- ---- lists
 
@@ -41,6 +41,19 @@ at_end [] a b zero e = inr (some-injective a b e, refl)
 at_end [] a b (suc j) e = absurd (some-ne-none b (sym e))
 at_end (x ∷ xs) a b zero e = inl e
 at_end (x ∷ xs) a b (suc j) e = ⊎_elim (λ h. inl h) (λ (t : (a ≡ b) × (j ≡ length xs)). inr (t.0, ap suc t.1)) (at_end xs a b j e)
+
+at_last : {A : Type 0} (l : List A) (a : A) → get_elem? (l ++ a ∷ []) (length l) ≡ some a
+at_last [] a = refl
+at_last (x ∷ xs) a = at_last xs a
+
+get_last : {A : Type 0} (l : List A) (a : A) → slice_get (l ++ a ∷ []) (length l) ≡ Some a
+get_last [] a = refl
+get_last (x ∷ xs) a = get_last xs a
+
+get_longer : {A : Type 0} (l : List A) (a b : A) (i : ℕ) → slice_get l i ≡ Some b → slice_get (l ++ a ∷ []) i ≡ Some b
+get_longer [] a b i e = let q : None ≡ Some b = e in absurd (cc)
+get_longer (x ∷ xs) a b zero e = e
+get_longer (x ∷ xs) a b (suc i) e = get_longer xs a b i e
 
 -- of two lists that one list begins with, the longer begins with both
 record Longer (A : Type 0) (xs a b : List A) : Type 0 where
@@ -107,6 +120,7 @@ add_note views kept keeper seat_of hart events slip begins issued s = record {
   here = at_longer views (Note events slip ∷ []) keeper (Keeper kept) s.here;
   each = λ seat v e. ⊎_elim (λ (was : get_elem? views seat ≡ some v). s.each seat v was) (λ (t : (Note events slip ≡ v) × (seat ≡ length views)). subst (Fits kept keeper seat_of hart seat) t.0 (begins, issued)) (at_end views (Note events slip) v seat e);
   gone = s.gone;
+  there = λ m low. ⊎_elim (λ (e : get_elem? views (seat_of m) ≡ some (Hart (hart m))). inl (at_longer views (Note events slip ∷ []) (seat_of m) (Hart (hart m)) e)) (λ j. inr j) (s.there m low);
   unborn = s.unborn;
   few = s.few;
   words_known = s.words_known;
@@ -132,6 +146,14 @@ add_hart views k keeper seat_of hart room s = record {
       (omega arith, put_here seat_of k.harts (length views) ∙ sym (t.1 ∙ length-set views keeper (Keeper k')), s.unborn k.harts (omega arith)))
       (at_end (set views keeper (Keeper k')) (Hart (first_hart k.harts)) v seat e);
   gone = λ i j e. let g = s.gone i j e in let low : j.number < k.harts = g.0 in (omega arith, put_else seat_of k.harts (length views) j.number (λ (q : j.number ≡ k.harts). omega arith) ∙ g.1, g.2);
+  there = λ m low. dite (ℕ_discrete m k.harts)
+      (λ (new : m ≡ k.harts). inl (ap (get_elem? (set views keeper (Keeper k') ++ Hart (first_hart k.harts) ∷ [])) (ap seat_of' new ∙ (put_here seat_of k.harts (length views) ∙ sym (length-set views keeper (Keeper k'))))
+      ∙ (at_last (set views keeper (Keeper k')) (Hart (first_hart k.harts)) ∙ ap (λ x. some (Hart x)) (sym (ap hart new ∙ s.unborn k.harts (omega arith))))))
+      (λ (old : m ≢ k.harts). ⊎_elim
+      (λ (e : get_elem? views (seat_of m) ≡ some (Hart (hart m))). inl (ap (get_elem? (set views keeper (Keeper k') ++ Hart (first_hart k.harts) ∷ [])) (put_else seat_of k.harts (length views) m old)
+      ∙ at_longer (set views keeper (Keeper k')) (Hart (first_hart k.harts) ∷ []) (seat_of m) (Hart (hart m)) (set_else views keeper (seat_of m) (Keeper k') (no_keeper views k keeper (seat_of m) (hart m) s.here e) ∙ e)))
+      (λ j. inr j)
+      (s.there m (omega arith)));
   unborn = λ m high. s.unborn m (omega arith);
   few = omega arith;
   words_known = s.words_known;
@@ -152,11 +174,12 @@ add_hart views k keeper seat_of hart room s = record {
     others seat Spent other f = tt
 
 -- a seat is spent that isn't the keeper's, nor a hart's
-spend : (views : List View) (kept : KeeperView) (keeper : ℕ) (seat_of : ℕ → ℕ) (hart : ℕ → HartView) (other : ℕ) → keeper ≢ other → Seats views kept keeper seat_of hart → Seats (set views other Spent) kept keeper seat_of hart
-spend views kept keeper seat_of hart other apart s = record {
+spend : (views : List View) (kept : KeeperView) (keeper : ℕ) (seat_of : ℕ → ℕ) (hart : ℕ → HartView) (other : ℕ) → keeper ≢ other → ((h : HartView) → get_elem? views other ≢ some (Hart h)) → Seats views kept keeper seat_of hart → Seats (set views other Spent) kept keeper seat_of hart
+spend views kept keeper seat_of hart other apart no_hart s = record {
   here = set_else views other keeper Spent apart ∙ s.here;
   each = λ seat v e. ⊎_elim (λ (t : (seat ≡ other) × (Spent ≡ v)). subst (Fits kept keeper seat_of hart seat) t.1 tt) (λ (t : (seat ≢ other) × (get_elem? views seat ≡ some v)). s.each seat v t.1) (at_set views other seat Spent v e);
   gone = s.gone;
+  there = λ m low. ⊎_elim (λ (e : get_elem? views (seat_of m) ≡ some (Hart (hart m))). inl (set_else views other (seat_of m) Spent (λ q. no_hart (hart m) (ap (get_elem? views) (sym q) ∙ e)) ∙ e)) (λ j. inr j) (s.there m low);
   unborn = s.unborn;
   few = s.few;
   words_known = s.words_known;
@@ -174,6 +197,7 @@ keeps_note views k keeper seat_of hart t told s = record {
       (λ (q : (seat ≢ keeper) × (get_elem? views seat ≡ some v)). others seat v q.0 (s.each seat v q.1))
       (at_set views keeper seat (Keeper (record k { note = Some t })) v e);
   gone = s.gone;
+  there = λ m low. ⊎_elim (λ (e : get_elem? views (seat_of m) ≡ some (Hart (hart m))). inl (set_else views keeper (seat_of m) (Keeper (record k { note = Some t })) (no_keeper views k keeper (seat_of m) (hart m) s.here e) ∙ e)) (λ j. inr j) (s.there m low);
   unborn = s.unborn;
   few = s.few;
   words_known = s.words_known;
@@ -195,9 +219,9 @@ get_push (x ∷ xs) a b zero e = inl e
 get_push (x ∷ xs) a b (suc i) e = get_push xs a b i e
 
 -- a hart's seat is joined into the keeper's
-take_hart : (views : List View) (k : KeeperView) (keeper : ℕ) (seat_of : ℕ → ℕ) (hart : ℕ → HartView) (other : ℕ) (h : HartView) → other ≢ keeper → get_elem? views other ≡ some (Hart h) → Seats views k keeper seat_of hart
+take_hart : (views : List View) (k : KeeperView) (keeper : ℕ) (seat_of : ℕ → ℕ) (hart : ℕ → HartView) (other : ℕ) (h : HartView) → ((m : ℕ) → (hart m).number ≡ m) → other ≢ keeper → get_elem? views other ≡ some (Hart h) → Seats views k keeper seat_of hart
     → Seats (set (set views keeper (Keeper (record k { joined = k.joined ++ h ∷ [] }))) other Spent) (record k { joined = k.joined ++ h ∷ [] }) keeper (put seat_of h.number keeper) hart
-take_hart views k keeper seat_of hart other h apart there s = record {
+take_hart views k keeper seat_of hart other h numbered apart there s = record {
   here = set_else (set views keeper (Keeper k')) other keeper Spent (λ e. apart (sym e)) ∙ set_found views keeper (Keeper k') (Keeper k) s.here;
   each = λ seat v e. ⊎_elim
       (λ (t : (seat ≡ other) × (Spent ≡ v)). subst (Fits k' keeper seat_of' hart seat) t.1 tt)
@@ -216,6 +240,13 @@ take_hart views k keeper seat_of hart other h apart there s = record {
       ))
       (λ (new : h ≡ j). subst (λ (x : HartView). (x.number < k.harts) × (put seat_of h.number keeper x.number ≡ keeper) × (hart x.number ≡ x)) new (fits.0, put_here seat_of h.number keeper, fits.2))
       (get_push k.joined h j i e);
+  there = λ m low. dite (ℕ_discrete m h.number)
+      (λ (me : m ≡ h.number). inr (length k.joined, get_last k.joined h ∙ ap Some (sym (ap hart me ∙ fits.2))))
+      (λ (apart' : m ≢ h.number). ⊎_elim
+      (λ (e : get_elem? views (seat_of m) ≡ some (Hart (hart m))). inl (ap (get_elem? (set (set views keeper (Keeper k')) other Spent)) (put_else seat_of h.number keeper m apart')
+      ∙ (set_else (set views keeper (Keeper k')) other (seat_of m) Spent (away m apart' e) ∙ (set_else views keeper (seat_of m) (Keeper k') (no_keeper views k keeper (seat_of m) (hart m) s.here e) ∙ e))))
+      (λ (j : (i : ℕ) × (slice_get k.joined i ≡ Some (hart m))). inr (j.0, get_longer k.joined h (hart m) j.0 j.1))
+      (s.there m low));
   unborn = s.unborn;
   few = s.few;
   words_known = s.words_known;
@@ -228,6 +259,10 @@ take_hart views k keeper seat_of hart other h apart there s = record {
 
     seat_of' : ℕ → ℕ
     seat_of' = put seat_of h.number keeper
+
+    away : (m : ℕ) → m ≢ h.number → get_elem? views (seat_of m) ≡ some (Hart (hart m)) → seat_of m ≢ other
+    away m apart' e here = let q : Hart (hart m) ≡ Hart h = some-injective (Hart (hart m)) (Hart h) (sym e ∙ (ap (get_elem? views) here ∙ there)) in
+        let same : hart m ≡ h = cc in apart' (sym (numbered m) ∙ ap (λ (x : HartView). x.number) same)
 
     fits : Fits k keeper seat_of hart other (Hart h)
     fits = s.each other (Hart h) there
@@ -326,7 +361,7 @@ join_keeps seat (Keeper k) other (Hart h) may words views g at apart there =
       hart = g.hart;
       wide = g.wide;
       seats = subst (λ i. Seats (set (set views i (Keeper k')) other Spent) k' g.keeper (put g.seat_of h.number g.keeper) g.hart) (sym fits.1)
-          (take_hart views k g.keeper g.seat_of g.hart other h (λ e. apart (e ∙ sym fits.1)) was (subst (λ k. Seats views k g.keeper g.seat_of g.hart) (sym fits.0) g.seats));
+          (take_hart views k g.keeper g.seat_of g.hart other h (λ m. (g.parts.heard m).numbered) (λ e. apart (e ∙ sym fits.1)) was (subst (λ k. Seats views k g.keeper g.seat_of g.hart) (sym fits.0) g.seats));
       parts = same_parts (slice_index words) k k' g.hart refl refl refl refl refl (subst (λ k. Parts (slice_index words) k g.hart) (sym fits.0) g.parts);
     }
 join_keeps seat (Keeper k) other (Note events (OfHart m entries)) may words views g at apart there =
@@ -334,6 +369,7 @@ join_keeps seat (Keeper k) other (Note events (OfHart m entries)) may words view
     let k' : KeeperView = record k { note = Some t } in
     let fits : Fits g.kept g.keeper g.seat_of g.hart seat (Keeper k) = g.seats.each seat (Keeper k) at in
     let was : get_elem? views other ≡ some (Note events (OfHart m entries)) = sym (set_else views seat other (Keeper k') apart) ∙ there in
+    let there' : get_elem? (set views g.keeper (Keeper k')) other ≡ some (Note events (OfHart m entries)) = subst (λ i. get_elem? (set views i (Keeper k')) other ≡ some (Note events (OfHart m entries))) fits.1 there in
     let seats : Seats views k g.keeper g.seat_of g.hart = subst (λ k. Seats views k g.keeper g.seat_of g.hart) (sym fits.0) g.seats in record {
       kept = k';
       keeper = g.keeper;
@@ -342,6 +378,7 @@ join_keeps seat (Keeper k) other (Note events (OfHart m entries)) may words view
       wide = g.wide;
       seats = subst (λ i. Seats (set (set views i (Keeper k')) other Spent) k' g.keeper g.seat_of g.hart) (sym fits.1)
           (spend (set views g.keeper (Keeper k')) k' g.keeper g.seat_of g.hart other (λ e. apart (sym e ∙ sym fits.1))
+          (λ h q. let z : Note events (OfHart m entries) ≡ Hart h = some-injective (Note events (OfHart m entries)) (Hart h) (sym there' ∙ q) in absurd (cc))
           (keeps_note views k g.keeper g.seat_of g.hart t (seats.each other (Note events (OfHart m entries)) was) seats));
       parts = same_parts (slice_index words) k k' g.hart refl refl refl refl refl (subst (λ k. Parts (slice_index words) k g.hart) (sym fits.0) g.parts);
     }
@@ -364,7 +401,8 @@ join_keeps seat (Hart h) other (Note events (OfKeeper rows)) may words views g a
       wide = g.wide;
       seats = spend (set views seat (Hart h')) g.kept g.keeper g.seat_of (put g.hart h.number h') other
           (λ e. let q : Keeper g.kept ≡ Note events (OfKeeper rows) = some-injective (Keeper g.kept) (Note events (OfKeeper rows)) (sym g.seats.here ∙ (ap (get_elem? views) e ∙ was)) in absurd (cc))
-          (hart_seats views g.kept g.keeper g.seat_of g.hart g.seats seat h h' at refl);
+          (λ x q. let z : Note events (OfKeeper rows) ≡ Hart x = some-injective (Note events (OfKeeper rows)) (Hart x) (sym there ∙ q) in absurd (cc))
+          (hart_seats views g.kept g.keeper g.seat_of g.hart g.seats (λ m. (g.parts.heard m).numbered) seat h h' at refl);
       parts = told_parts (slice_index words) g.kept g.hart h.number h' (ap (λ (x : HartView). x.access) fits.2) (ap (λ (x : HartView). x.lane) fits.2) (ap (λ (x : HartView). x.trail) fits.2)
           (record {
             numbered = refl;

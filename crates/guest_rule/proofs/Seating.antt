@@ -1,5 +1,7 @@
 -- Who the seats are, over steps.
-use Rattle.std.proofs.Common.{◌≡◌, ◌≢◌, ⊎_elim, ℕ, zero, suc, ◌≤◌, ◌<◌, Bool, true, false, eqb, nat_le, List, [], ◌∷◌, ◌++◌, append_assoc, append-nil, length, length-set, map, set, Some, None, refl, sym, ap, subst, ◌∙◌, arith, slice_get, slice_index_or, ◌%◌}
+use Rattle.std.proofs.Common.{◌≡◌, ◌≢◌, ◌⊎◌, ⊎_elim, inl, inr, ℕ, zero, suc, ◌≤◌, ◌<◌, Bool, true, false, eqb, nat_le, List, [], ◌∷◌, ◌++◌, append_assoc, append-nil, length, length-set, map, set, Some, None, refl, sym, ap, subst, ◌∙◌, arith, slice_get, slice_index_or, ◌%◌}
+use mathlib.Core.Logic.{dite}
+use native.Mathlib.Decide.{ℕ_discrete}
 use mathlib.Core.Option.{some, some-injective, some-ne-none}
 use lib.ListN.{get_elem?}
 use Rattle.atomic_table.proofs.Lists.{at_set, set_else}
@@ -38,17 +40,27 @@ begins_on xs ys zs a b = (b.0 ++ a.0, a.1 ∙ (ap (λ l. l ++ a.0) b.1 ∙ appen
 begins_push : {A : Type 0} (xs : List A) (x : A) → BeginsWith (xs ++ x ∷ []) xs
 begins_push xs x = (x ∷ [], refl)
 
+-- a hart's seat isn't the keeper's
+pub no_keeper : (views : List View) (k : KeeperView) (keeper seat : ℕ) (h : HartView) → get_elem? views keeper ≡ some (Keeper k) → get_elem? views seat ≡ some (Hart h) → seat ≢ keeper
+no_keeper views k keeper seat h here at e = let q : Keeper k ≡ Hart h = some-injective (Keeper k) (Hart h) (sym here ∙ (ap (get_elem? views) (sym e) ∙ at)) in absurd (cc)
+
 -- ---- a hart steps
 
 module _ (views : List View) (kept : KeeperView) (keeper : ℕ) (seat_of : ℕ → ℕ) (hart : ℕ → HartView) (s : Seats views kept keeper seat_of hart) where
-  pub hart_seats : (id : ℕ) (h h' : HartView) → get_elem? views id ≡ some (Hart h) → h'.number ≡ h.number → Seats (set views id (Hart h')) kept keeper seat_of (put hart h.number h')
-  hart_seats id h h' at same = record {
+  pub hart_seats : ((m : ℕ) → (hart m).number ≡ m) → (id : ℕ) (h h' : HartView) → get_elem? views id ≡ some (Hart h) → h'.number ≡ h.number → Seats (set views id (Hart h')) kept keeper seat_of (put hart h.number h')
+  hart_seats numbered id h h' at same = record {
     here = set_else views id keeper (Hart h') apart ∙ s.here;
     each = λ seat v e. ⊎_elim
         (λ (t : (seat ≡ id) × (Hart h' ≡ v)). subst (λ (p : ℕ × View). Fits kept keeper seat_of (put hart h.number h') p.0 p.1) (λ i. (sym t.0 i, t.1 i)) mine)
         (λ (t : (seat ≢ id) × (get_elem? views seat ≡ some v)). others seat v t.0 (s.each seat v t.1))
         (at_set views id seat (Hart h') v e);
     gone = λ i j e. let g = s.gone i j e in (g.0, g.1, put_else hart h.number h' j.number (λ q. apart (sym g.1 ∙ (ap seat_of q ∙ fits.1))) ∙ g.2);
+    there = λ m low. dite (ℕ_discrete m h.number)
+        (λ (me : m ≡ h.number). inl (ap (get_elem? (set views id (Hart h'))) (ap seat_of me ∙ fits.1) ∙ (set_found views id (Hart h') (Hart h) at ∙ ap (λ x. some (Hart x)) (sym (ap (put hart h.number h') me ∙ put_here hart h.number h')))))
+        (λ (other : m ≢ h.number). ⊎_elim
+        (λ (e : get_elem? views (seat_of m) ≡ some (Hart (hart m))). inl (set_else views id (seat_of m) (Hart h') (away m other e) ∙ (e ∙ ap (λ x. some (Hart x)) (sym (put_else hart h.number h' m other)))))
+        (λ (j : (i : ℕ) × (slice_get kept.joined i ≡ Some (hart m))). inr (j.0, j.1 ∙ ap Some (sym (put_else hart h.number h' m other))))
+        (s.there m low));
     unborn = λ m high. let low : h.number < kept.harts = fits.0 in put_else hart h.number h' m (λ (q : m ≡ h.number). omega arith) ∙ s.unborn m high;
     few = s.few;
     words_known = s.words_known;
@@ -58,6 +70,10 @@ module _ (views : List View) (kept : KeeperView) (keeper : ℕ) (seat_of : ℕ �
     where
       fits : Fits kept keeper seat_of hart id (Hart h)
       fits = s.each id (Hart h) at
+
+      away : (m : ℕ) → m ≢ h.number → get_elem? views (seat_of m) ≡ some (Hart (hart m)) → seat_of m ≢ id
+      away m other e here = let q : Hart (hart m) ≡ Hart h = some-injective (Hart (hart m)) (Hart h) (sym e ∙ (ap (get_elem? views) here ∙ at)) in
+          let same : hart m ≡ h = cc in other (sym (numbered m) ∙ ap (λ (x : HartView). x.number) same)
 
       apart : keeper ≢ id
       apart e = let q : Keeper kept ≡ Hart h = some-injective (Keeper kept) (Hart h) (sym s.here ∙ (ap (get_elem? views) e ∙ at)) in absurd (cc)
@@ -99,6 +115,10 @@ keeper_seats views k k' keeper seat_of hart s g = record {
       (λ (t : (seat ≢ keeper) × (get_elem? views seat ≡ some v)). others seat v t.0 (s.each seat v t.1))
       (at_set views keeper seat (Keeper k') v e);
   gone = λ i j e. let o = s.gone i j (subst (λ l. slice_get l i ≡ Some j) g.joined e) in (subst (λ n. j.number < n) (sym g.harts) o.0, o.1, o.2);
+  there = λ m low. ⊎_elim
+      (λ (e : get_elem? views (seat_of m) ≡ some (Hart (hart m))). inl (set_else views keeper (seat_of m) (Keeper k') (no_keeper views k keeper (seat_of m) (hart m) s.here e) ∙ e))
+      (λ (j : (i : ℕ) × (slice_get k.joined i ≡ Some (hart m))). inr (j.0, subst (λ l. slice_get l j.0 ≡ Some (hart m)) (sym g.joined) j.1))
+      (s.there m (subst (λ n. m < n) g.harts low));
   unborn = λ m high. s.unborn m (subst (λ n. n ≤ m) g.harts high);
   few = subst (λ n. n ≤ harts_at_most) (sym g.harts) s.few;
   words_known = g.words ∙ s.words_known;

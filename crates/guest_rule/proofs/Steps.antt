@@ -273,7 +273,7 @@ hart_keeps kind seat h ready words views g at small = (
     seat_of = g.seat_of;
     hart = put g.hart h.number h';
     wide = length-set words (hart_word kind) x ∙ g.wide;
-    seats = hart_seats views g.kept g.keeper g.seat_of g.hart g.seats seat h h' at (same_hart kind h n).number;
+    seats = hart_seats views g.kept g.keeper g.seat_of g.hart g.seats (λ m. (g.parts.heard m).numbered) seat h h' at (same_hart kind h n).number;
     parts = subst (λ (f : ℕ → ℕ). Parts f g.kept (put g.hart h.number h')) (set_put words (hart_word kind) x 0 (subst (λ m. hart_word kind < m) (sym g.wide) (hart_low (slice_index words) g.kept g.hart g.parts h few fits.2 kind ready)))
         (hart_parts (slice_index words) g.kept g.hart g.parts h few fits.2 kind ready small);
   },

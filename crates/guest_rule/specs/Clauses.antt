@@ -1,6 +1,6 @@
 -- What the rule comes to, in the words of whoever relies on it: of words and locks, slots and exchanges, the count, rows, entries,
 -- and the generation.
-use Rattle.std.specs.Prelude.{◌≡◌, ◌≢◌, ◌⊎◌, ℕ, ◌%◌, ◌≤◌, ◌<◌, Bool, true, false, List, [], ◌∷◌, ◌++◌, length, slice_index, None, Some, Contains}
+use Rattle.std.specs.Prelude.{◌≡◌, ◌≢◌, ◌⊎◌, ℕ, ◌%◌, ◌≤◌, ◌<◌, Bool, true, false, List, [], ◌∷◌, ◌++◌, length, slice_get, slice_index, None, Some, Contains}
 use mathlib.Core.Option.{some}
 use lib.ListN.{get_elem?}
 use Rattle.ld_base.specs.declared.linking.Role.TheVariants.{Ro, Rx, Rw}
@@ -31,6 +31,8 @@ pub record LockClauses (word : ℕ → ℕ) (views : List View) (kept : KeeperVi
   pub one_keeper : (a b : ℕ) (k l : KeeperView) → get_elem? views a ≡ some (Keeper k) → get_elem? views b ≡ some (Keeper l) → (a ≡ b) × (k ≡ kept)
   pub one_number : (a b : ℕ) (h i : HartView) → get_elem? views a ≡ some (Hart h) → get_elem? views b ≡ some (Hart i) → h.number ≡ i.number → a ≡ b
   pub last_view : (a : ℕ) (h : HartView) → get_elem? views a ≡ some (Hart h) → (h.number < kept.harts) × (hart h.number ≡ h)
+  -- a hart's last view is that of its seat, or is kept since its seat was joined
+  pub stands : (m : ℕ) → m < kept.harts → ((a : ℕ) × (get_elem? views a ≡ some (Hart (hart m)))) ⊎ ((i : ℕ) × (slice_get kept.joined i ≡ Some (hart m)))
   -- a control word has the role that the keeper knows
   pub role : (d : ℕ) → d < doublewords → word (control_at d) % 8 ≡ role_code (kept_at kept d).role
   -- a lock bit is that of a seat which names the doubleword as locked

@@ -1,5 +1,5 @@
 -- Who the seats are. A hart's last view is that of its seat, or the one that the keeper's view keeps since the seat was joined.
-use Rattle.std.specs.Prelude.{◌≡◌, ℕ, ◌≤◌, ◌<◌, List, length, Some, slice_get, slice_index_or}
+use Rattle.std.specs.Prelude.{◌≡◌, ◌⊎◌, ℕ, ◌≤◌, ◌<◌, List, length, Some, slice_get, slice_index_or}
 use mathlib.Core.Option.{some}
 use lib.ListN.{get_elem?}
 use Rattle.link_event.specs.declared.event.Event.{Event}
@@ -31,11 +31,16 @@ Fits kept keeper seat_of hart seat Spent = Unit {0}
 abbrev pub Gone : KeeperView → ℕ → (ℕ → ℕ) → (ℕ → HartView) → HartView → Type 0
 Gone kept keeper seat_of hart j = (j.number < kept.harts) × (seat_of j.number ≡ keeper) × (hart j.number ≡ j)
 
+-- where a hart's last view stands: it is that of its seat, or one that the keeper keeps
+abbrev pub Stands : List View → KeeperView → (ℕ → ℕ) → (ℕ → HartView) → ℕ → Type 0
+Stands views kept seat_of hart m = (get_elem? views (seat_of m) ≡ some (Hart (hart m))) ⊎ ((i : ℕ) × (slice_get kept.joined i ≡ Some (hart m)))
+
 -- `hart` gives each hart's last view, and that of a new hart where no seat was made yet
 pub record Seats (views : List View) (kept : KeeperView) (keeper : ℕ) (seat_of : ℕ → ℕ) (hart : ℕ → HartView) : Type 0 where
   pub here : get_elem? views keeper ≡ some (Keeper kept)
   pub each : (seat : ℕ) (v : View) → get_elem? views seat ≡ some v → Fits kept keeper seat_of hart seat v
   pub gone : (i : ℕ) (j : HartView) → slice_get kept.joined i ≡ Some j → Gone kept keeper seat_of hart j
+  pub there : (m : ℕ) → m < kept.harts → Stands views kept seat_of hart m
   pub unborn : (m : ℕ) → kept.harts ≤ m → hart m ≡ first_hart m
   pub few : kept.harts ≤ harts_at_most
   pub words_known : length kept.words ≡ doublewords
