@@ -39,8 +39,9 @@ pub fn stores_keep()
 /// bound one goes. By an event that neither reserves nor takes away memory is remade where it stays.
 pub fn events_keep()
     ensures quiet { (s : State) (e : Event) (old new : Memory) → reserved s e ≡ [] → taken s e ≡ [] → IsSame old new → Remade s e old new }
-    ensures kept { (m : Machine) (w : Setting) (past : List Event) (e : Event) (won : List ℕ) (old new : Memory) → w.machine ≡ m → AcceptsOnly m → Lawful m past → Allowed w past e →
-        SettlesRightly won e → Holds (after past) won old → Remade (after past) e old new → Holds (after (past ++ e ∷ [])) (won_after e won) new }
+    ensures kept { (m : Machine) (w : Setting) (past : List Event) (e : Event) (won : List ℕ) (old new : Memory) → w.machine ≡ m → AcceptsOnly m →
+        Lawful m past → Allowed w past e → SettlesRightly won e → Holds (after past) won old → Remade (after past) e old new →
+        Holds (after (past ++ e ∷ [])) (won_after e won) new }
 {
     scope_rule::serials_follow();
     scope_rule::found_stands();
@@ -53,8 +54,8 @@ pub fn events_keep()
 /// An exchange of an open grant that finds the lazy word leaves the grant's value, and memory is as it
 /// should be, with one more grant that has won.
 pub fn exchanges_keep()
-    ensures { (m : Machine) (events : List Event) (won : List ℕ) (a : ℕ) (g : Granting) (old new : Memory) → AcceptsOnly m → Lawful m events → MayExchange (after events) a g →
-        Holds (after events) won old → Wins (after events) a g old new → Holds (after events) (g.number ∷ won) new }
+    ensures { (m : Machine) (events : List Event) (won : List ℕ) (a : ℕ) (g : Granting) (old new : Memory) → AcceptsOnly m → Lawful m events →
+        MayExchange (after events) a g → Holds (after events) won old → Wins (after events) a g old new → Holds (after events) (g.number ∷ won) new }
 {
     scope_rule::serials_follow();
     scope_rule::found_stands();
@@ -67,12 +68,14 @@ pub fn exchanges_keep()
 /// Each slot of a mapped object stands in a doubleword of guest memory, and each open grant is of such a
 /// slot.
 pub fn slots_stand()
-    ensures there { (m : Machine) (events : List Event) (i : Linked) (slot : ℕ) (r : Reloc) → AcceptsOnly m → Lawful m events → Contains (after events).images i →
+    ensures there { (m : Machine) (events : List Event) (i : Linked) (slot : ℕ) (r : Reloc) → AcceptsOnly m → Lawful m events →
+        Contains (after events).images i →
         slice_get i.object.plt_relocs slot ≡ Some r → IsSlotAt (after events) (slot_address i r) i.serial slot }
-    ensures whole { (m : Machine) (events : List Event) (i : Linked) (slot : ℕ) (r : Reloc) → AcceptsOnly m → Lawful m events → Contains (after events).images i →
+    ensures whole { (m : Machine) (events : List Event) (i : Linked) (slot : ℕ) (r : Reloc) → AcceptsOnly m → Lawful m events →
+        Contains (after events).images i →
         slice_get i.object.plt_relocs slot ≡ Some r → IsDoubleword (slot_address i r) }
-    ensures granted { (m : Machine) (events : List Event) (g : Granting) → AcceptsOnly m → Lawful m events → Contains (after events).grants g → g.standing ≡ GrantOpen →
-        HasSlot (after events) g }
+    ensures granted { (m : Machine) (events : List Event) (g : Granting) → AcceptsOnly m → Lawful m events → Contains (after events).grants g →
+        g.standing ≡ GrantOpen → HasSlot (after events) g }
 {
     scope_rule::serials_follow();
     scope_rule::found_stands();
@@ -85,10 +88,12 @@ pub fn slots_stand()
 /// What a slot holds says how a grant that is done may be settled: as bound where it won, and as lost
 /// where it didn't and the slot isn't lazy, with the word that the slot holds.
 pub fn grants_settle()
-    ensures bound { (m : Machine) (events : List Event) (won : List ℕ) (g : Granting) (memory : Memory) → AcceptsOnly m → Lawful m events → Contains (after events).grants g →
-        g.standing ≡ GrantOpen → LoadFits (after events) g.owner g.slot → Holds (after events) won memory → Contains won g.number → MayBind (after events) g.number }
-    ensures lost { (m : Machine) (events : List Event) (won : List ℕ) (a : ℕ) (g : Granting) (memory : Memory) → AcceptsOnly m → Lawful m events → MayExchange (after events) a g →
-        LoadFits (after events) g.owner g.slot → Holds (after events) won memory → ¬ (Contains won g.number) → memory.value a ≢ lazy_at (after events) a →
+    ensures bound { (m : Machine) (events : List Event) (won : List ℕ) (g : Granting) (memory : Memory) → AcceptsOnly m → Lawful m events →
+        Contains (after events).grants g → g.standing ≡ GrantOpen → LoadFits (after events) g.owner g.slot →
+        Holds (after events) won memory → Contains won g.number → MayBind (after events) g.number }
+    ensures lost { (m : Machine) (events : List Event) (won : List ℕ) (a : ℕ) (g : Granting) (memory : Memory) → AcceptsOnly m → Lawful m events →
+        MayExchange (after events) a g → LoadFits (after events) g.owner g.slot →
+        Holds (after events) won memory → ¬ (Contains won g.number) → memory.value a ≢ lazy_at (after events) a →
         MayLose (after events) g.number (memory.value a) }
 {
     scope_rule::serials_follow();
@@ -101,10 +106,12 @@ pub fn grants_settle()
     link_history::grants_are_held();
 }
 
-/// Each slot of a mapped object holds 0 or an address in an RX word.
+/// Each slot of a mapped object holds 0 or an address in an RX word, where what it holds, and what it got
+/// when its object was loaded, are words.
 pub fn slots_enter()
-    ensures { (m : Machine) (events : List Event) (won : List ℕ) (memory : Memory) (a owner slot : ℕ) → AcceptsOnly m → Lawful m events → Holds (after events) won memory →
-        IsDoubleword a → IsSlotAt (after events) a owner slot → LoadFits (after events) owner slot → memory.value a < 2 ^ 64 → Enters memory (memory.value a) }
+    ensures { (m : Machine) (events : List Event) (won : List ℕ) (memory : Memory) (a owner slot : ℕ) → AcceptsOnly m → Lawful m events →
+        Holds (after events) won memory → IsDoubleword a → IsSlotAt (after events) a owner slot → LoadFits (after events) owner slot →
+        memory.value a < 2 ^ 64 → Enters memory (memory.value a) }
 {
     scope_rule::serials_follow();
     scope_rule::found_stands();
@@ -133,11 +140,13 @@ pub fn slots_are_true()
 /// A slot reads the same through every event, as long as its object is mapped, and through every store;
 /// and one that isn't lazy through every exchange.
 pub fn slots_stay()
-    ensures event { (m : Machine) (w : Setting) (past : List Event) (e : Event) (old new : Memory) (a : ℕ) → w.machine ≡ m → AcceptsOnly m → Lawful m past → Allowed w past e →
-        Remade (after past) e old new → IsDoubleword a → role_at (after past) a ≡ Slot → role_at (after (past ++ e ∷ [])) a ≡ Slot →
+    ensures event { (m : Machine) (w : Setting) (past : List Event) (e : Event) (old new : Memory) (a : ℕ) → w.machine ≡ m → AcceptsOnly m →
+        Lawful m past → Allowed w past e → Remade (after past) e old new → IsDoubleword a → role_at (after past) a ≡ Slot →
+        role_at (after (past ++ e ∷ [])) a ≡ Slot →
         SlotStays (after past) (after (past ++ e ∷ [])) old new a }
     ensures store { (old new : Memory) (a b : ℕ) → Stores old new b → IsDoubleword a → old.role a ≡ Slot → new.value a ≡ old.value a }
-    ensures exchange { (s : State) (g : Granting) (old new : Memory) (a b : ℕ) → Wins s b g old new → IsDoubleword a → old.value a ≢ lazy_at s a → new.value a ≡ old.value a }
+    ensures exchange { (s : State) (g : Granting) (old new : Memory) (a b : ℕ) → Wins s b g old new → IsDoubleword a → old.value a ≢ lazy_at s a →
+        new.value a ≡ old.value a }
 {
     scope_rule::serials_follow();
     scope_rule::found_stands();
