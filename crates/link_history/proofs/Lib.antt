@@ -61,6 +61,7 @@ pub mod Serials
 pub mod Spare
 pub mod Startup
 pub mod Static
+pub mod StaticAreas
 pub mod Steps
 pub mod Tidy
 pub mod Tied

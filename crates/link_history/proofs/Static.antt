@@ -38,13 +38,13 @@ use Rattle.link_history.proofs.Lists.{first_or_later, from_map, none_in, only_in
 use Rattle.link_history.proofs.Moduled.{have_modules}
 
 -- an object's block
-record Static (o : Loaded) (offset : ℕ) (seg : TlsSeg) : Type 0 where
-  place : TlsPlace
-  of : o.«module» ≡ Some place
-  at : place.offset ≡ Some offset
-  storage : o.object.tls ≡ Some seg
+pub record Static (o : Loaded) (offset : ℕ) (seg : TlsSeg) : Type 0 where
+  pub place : TlsPlace
+  pub of : o.«module» ≡ Some place
+  pub at : place.offset ≡ Some offset
+  pub storage : o.object.tls ≡ Some seg
 
-static_of : (s : State) (o : Loaded) (offset : ℕ) (seg : TlsSeg) → HasStatic s o offset seg → Static o offset seg
+pub static_of : (s : State) (o : Loaded) (offset : ℕ) (seg : TlsSeg) → HasStatic s o offset seg → Static o offset seg
 static_of s o offset seg has = record { place = has.place; of = has.of; at = has.at; storage = has.storage }
 
 -- ---- startup's objects, in their order
@@ -144,7 +144,7 @@ blocks_part modules st (q ∷ rest) have o p first second x y seg other b c apar
     at (inr i) (inr j) deeper = deeper i j
 
 -- later objects have none
-none_later : (modules : List Module) (st : Statics) (added : List Loaded) → HaveModules false modules st added → (o : Loaded) → Contains added o → (offset : ℕ) (seg : TlsSeg) → Static o offset seg → ⊥
+pub none_later : (modules : List Module) (st : Statics) (added : List Loaded) → HaveModules false modules st added → (o : Loaded) → Contains added o → (offset : ℕ) (seg : TlsSeg) → Static o offset seg → ⊥
 none_later modules st [] have o new offset seg b = none_in o new
 none_later modules st (q ∷ rest) have o new offset seg b = ⊎_elim
     (λ (same : q ≡ o). late q.object.tls q.«module» (ap (λ (x : Loaded). x.object.tls) same ∙ b.storage) (ap (λ (x : Loaded). x.«module») same ∙ b.of) have.0)
@@ -167,13 +167,13 @@ record Laid (all : List Namespace) (st : Statics) : Type 0 where
       → o.serial ≢ p.serial → Apart x seg y other
 
 -- an object that was there, as it was but for what it is doing
-abbrev Was : List Namespace → Loaded → Type 0
+abbrev pub Was : List Namespace → Loaded → Type 0
 Was all o = (ns : Namespace) × (q : Loaded) × Contains all ns × Contains ns.objects q × ((q.serial ≡ o.serial) × (q.object ≡ o.object) × (q.«module» ≡ o.«module»))
 
-abbrev Stay : List Namespace → List Namespace → Type 0
+abbrev pub Stay : List Namespace → List Namespace → Type 0
 Stay all more = (ms : Namespace) (o : Loaded) → Contains more ms → Contains ms.objects o → Was all o
 
-static_was : (o q : Loaded) (offset : ℕ) (seg : TlsSeg) → q.object ≡ o.object → q.«module» ≡ o.«module» → Static o offset seg → Static q offset seg
+pub static_was : (o q : Loaded) (offset : ℕ) (seg : TlsSeg) → q.object ≡ o.object → q.«module» ≡ o.«module» → Static o offset seg → Static q offset seg
 static_was o q offset seg object place b = record { place = b.place; of = place ∙ b.of; at = b.at; storage = ap (λ (x : Object). x.tls) object ∙ b.storage }
 
 laid_stay : (all more : List Namespace) (st : Statics) → Stay all more → Laid all st → Laid more st
@@ -185,7 +185,7 @@ laid_stay all more st stay laid = record {
       laid.apart a.0 e.0 a.1 e.1 x y seg other a.2 a.3 e.2 e.3 (static_was o a.1 x seg a.4.1 a.4.2 b) (static_was p e.1 y other e.4.1 e.4.2 c) (λ same. d (sym a.4.0 ∙ same ∙ e.4.0));
 }
 
-stay_map : (change : Namespace → Namespace) (each : Loaded → Loaded) → Leaves each → ((ns : Namespace) → (change ns).objects ≡ map each ns.objects) → (all : List Namespace) → Stay all (map change all)
+pub stay_map : (change : Namespace → Namespace) (each : Loaded → Loaded) → Leaves each → ((ns : Namespace) → (change ns).objects ≡ map each ns.objects) → (all : List Namespace) → Stay all (map change all)
 stay_map change each leaves is all ms o there inside = each_mapped change all (λ n. Contains n.objects o → Was all o)
     (λ ns at h.
     let q = from_map each ns.objects o (subst (λ (os : List Loaded). Contains os o) (is ns) h) in
@@ -193,7 +193,7 @@ stay_map change each leaves is all ms o there inside = each_mapped change all (�
     (ns, q.0, at, q.1, (ap (λ (x : Loaded). x.serial) e, ap (λ (x : Loaded). x.object) e, ap (λ (x : Loaded). x.«module») e)))
     ms there inside
 
-stay_lower : (handle : ℕ) (all : List Namespace) → Stay all (map (lowered_in handle) all)
+pub stay_lower : (handle : ℕ) (all : List Namespace) → Stay all (map (lowered_in handle) all)
 stay_lower handle all ms o there inside = each_mapped (lowered_in handle) all (λ n. Contains n.objects o → Was all o) (λ ns at h. (ns, o, at, h, (refl, refl, refl))) ms there inside
 
 laid_unmap : (hart : ℕ) (set : List ℕ) (s : State) → Laid s.namespaces s.statics → Laid (unmap hart set s).namespaces (unmap hart set s).statics

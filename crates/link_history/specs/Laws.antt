@@ -41,7 +41,7 @@ use Rattle.link_history.specs.Setting.{Machine}
 use Rattle.link_history.specs.Slots.{value_at_load}
 use Rattle.link_history.specs.State.{Linked, State}
 use Rattle.link_history.specs.Step.{block_range}
-use Rattle.link_history.specs.Storage.{module_of_place, residue, with_modules}
+use Rattle.link_history.specs.Storage.{module_of_place, pages_for, residue, tp_of, with_modules}
 use Rattle.link_history.specs.Grants.{chosen_target, target_of}
 use Rattle.link_history.specs.Memory.{covers, data_at, first_byte, holds, image_at, image_of, is_data_purpose, role_at, word_at}
 use Rattle.link_history.specs.Objects.{IsMapped, object_at, startup_serials, has}
@@ -265,6 +265,14 @@ pub record HasStatic (s : State) (o : Loaded) (offset : ℕ) (seg : TlsSeg) : Ty
 pub record StaticsAreApart (s : State) : Type 0 where
   pub within : (o : Loaded) (offset : ℕ) (seg : TlsSeg) → HasStatic s o offset seg → offset + seg.memsz ≤ s.statics.size
   pub apart : (o p : Loaded) (x y : ℕ) (seg tseg : TlsSeg) → HasStatic s o x seg → HasStatic s p y tseg → o.serial ≢ p.serial → (x + seg.memsz ≤ y) ⊎ (y + tseg.memsz ≤ x)
+
+-- a hart's static area has room for all static blocks, and for what stands before them
+pub record StaticAreasHaveRoom (m : Machine) (s : State) : Type 0 where
+  pub pages : (r : Range) (hart : ℕ) → Contains s.ranges r → r.purpose ≡ purposes.StaticTls hart → r.pages ≡ pages_for (s.statics.tp + s.statics.size)
+  pub there : (o : Loaded) (offset : ℕ) (seg : TlsSeg) (hart : ℕ) → HasStatic s o offset seg → hart < m.harts → (r : Range) × Contains s.ranges r × (r.purpose ≡ purposes.StaticTls hart)
+  -- a hart's block of an object stands in it whole
+  pub covered : (o : Loaded) (offset : ℕ) (seg : TlsSeg) (hart : ℕ) → HasStatic s o offset seg → hart < m.harts
+      → (r : Range) × Contains s.ranges r × (r.purpose ≡ purposes.StaticTls hart) × ((a : ℕ) → tp_of s hart + offset ≤ a → a < tp_of s hart + offset + seg.memsz → IsTrue (covers a r))
 
 -- a block that a hart got at its first use stands in pages of its own: at its segment's residue behind their start, and whole
 pub record IsBlockPlaced (s : State) (b : Block) : Type 0 where

@@ -20,7 +20,7 @@ ghost use Rattle.link_history.specs.Changes.{ChangesMemory};
 ghost use Rattle.link_history.specs.Laws.{AreApart, AreasAreData, BlocksArePlaced, ClosesSpare, EachDiesOnce, FinalisedOnce, FindsImage, GrantsAreHeld, GrantsAreTidy, HasAll, HoldersAreImages, ImagesAreBound, ImagesAreInstalled, ImagesAreMapped};
 ghost use Rattle.link_history.specs.Laws.{ImagesArePlaced, ImagesAreTied, InitialisedOnce, IsInitialising, LoadsEnterCode, LostSawTheValue, ModulesAreFew, ModulesAreTidy};
 ghost use Rattle.link_history.specs.Laws.{NoneIsLazy, NothingDangles, NothingLeftOut, OffsetsAreThere, OpeningsStand, RangesAreApart, RangesAreOwned, ScopesAreWhole};
-ghost use Rattle.link_history.specs.Laws.{SerialsAreInOrder, SlotsBegin, SlotsEnterCode, SlotsLeadToRx, StartupStays, StaticsAreApart, TakesLeast, UninitialisedStay};
+ghost use Rattle.link_history.specs.Laws.{SerialsAreInOrder, SlotsBegin, SlotsEnterCode, SlotsLeadToRx, StartupStays, StaticAreasHaveRoom, StaticsAreApart, TakesLeast, UninitialisedStay};
 ghost use Rattle.link_history.specs.Exits.{exits, initialised_by_another, setting, unmapped_unclosed};
 ghost use Rattle.link_history.specs.Legal.{Lawful, Legal, Whole};
 ghost use Rattle.link_history.specs.Lookup.{SymbolsAreStored};
@@ -335,6 +335,15 @@ pub fn finals_follow()
 /// says that all end.
 pub fn statics_are_apart()
     ensures { (m : Machine) (events : List Event) → Lawful m events → StaticsAreApart (after events) }
+{
+    scope_rule::serials_follow();
+    scope_rule::found_stands();
+}
+
+/// Each hart has a static area once an object has a static block, and its block of the object stands in it
+/// whole.
+pub fn static_areas_have_room()
+    ensures { (m : Machine) (events : List Event) → Lawful m events → StaticAreasHaveRoom m (after events) }
 {
     scope_rule::serials_follow();
     scope_rule::found_stands();

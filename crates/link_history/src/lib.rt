@@ -27,5 +27,5 @@ pub use law::{
     nothing_left_out, objects_are_apart, objects_are_read, offsets_are_there, openings_stand,
     program_exits, program_stays, ranges_apart, ranges_are_owned, serials_are_in_order,
     slots_begin, slots_enter_code, slots_lead_to_rx, startup_is_past, startup_stays,
-    statics_are_apart, symbols_are_stored, uninitialised_stay,
+    static_areas_have_room, statics_are_apart, symbols_are_stored, uninitialised_stay,
 };
