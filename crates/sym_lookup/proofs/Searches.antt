@@ -1,12 +1,12 @@
 -- Searches through lists that are made once.
-use Rattle.std.proofs.Common.{◌≡◌, ◌≢◌, ◌<◌, ◌∙◌, ap, sym, subst, ℕ, Bool, true, false, cond, inl, inr, List, [], ◌∷◌, length, get_or, refl, arith, eq-eqb, get_or-set_other}
+use Rattle.std.proofs.Common.{◌≡◌, ◌≢◌, ◌<◌, ◌-◌, ◌∙◌, ap, sym, subst, ℕ, Bool, true, false, cond, inl, inr, List, [], ◌∷◌, length, get_or, refl, arith, eq-eqb, get_or-set_other}
 use Rattle.std.specs.List.{AllByRecursion, slice_get}
 use Rattle.std.proofs.Math.ListN.{set}
 use Rattle.std.proofs.lemmas.Bool.{cases_Bool, cases_lt, eqb-true}
 use Rattle.std.proofs.lemmas.Grind.{get_or-set_at}
 use Rattle.std.proofs.lemmas.List.{get_or_past}
 use Rattle.std.proofs.lemmas.Option.{slice_get-get_or}
-use Rattle.std.specs.Prelude.{◌==◌, ◌&&◌, not, filter, find, map, Option, Some, None}
+use Rattle.std.specs.Prelude.{◌==◌, ◌&&◌, not, filter, find, map, IfSome, Option, Some, None}
 use Rattle.ld_base.specs.declared.linking.Loaded.{Loaded}
 use Rattle.ld_base.specs.declared.linking.Choice.{Choice}
 use Rattle.ld_base.specs.declared.linking.Choice.TheVariants.{Def}
@@ -20,7 +20,7 @@ use Rattle.scope_rule.specs.Scope.{scope}
 use Rattle.scope_rule.specs.Seen.{Seen}
 use Rattle.search_lists.specs.Lists.{list_of, lists_of, scope_in, scope_on}
 use Rattle.sym_lookup.specs.Looking.{HaveTables, choice_of_symbol, outside}
-use Rattle.sym_lookup.specs.References.{AreKept}
+use Rattle.sym_lookup.specs.References.{AreKept, IsAlike}
 use Rattle.search_lists.specs.declared.lists.SearchList.{SearchList}
 
 module _ (pick : ℕ → Option ℕ) (serial : ℕ) (rest : List ℕ) where
@@ -142,3 +142,41 @@ one_kept s o kept index choice within are right k c is =
   where
     ne_from : (a b : ℕ) → (a == b) ≡ false → a ≢ b
     ne_from a b e same = absurd (let no : true ≡ false = sym (eq-eqb a b same) ∙ e in cc no)
+
+-- ---- alike symbols
+
+-- a symbol with another value and size
+abbrev with_size : Symbol → ℕ → ℕ → Symbol
+with_size y value size = record y { value = value; size = size }
+
+abbrev symbol_of : List ℕ → ℕ → ℕ → ℕ → ℕ → ℕ → ℕ → Symbol
+symbol_of name info other shndx value size version = record { name = name; info = info; other = other; shndx = shndx; value = value; size = size; version = version }
+
+same_fields : (x y : Symbol) → IsAlike x y → x ≡ with_size y x.value x.size
+same_fields x y alike =
+    ap (λ (n : List ℕ). symbol_of n x.info x.other x.shndx x.value x.size x.version) alike.name
+    ∙ ap (λ (n : ℕ). symbol_of y.name n x.other x.shndx x.value x.size x.version) alike.info
+    ∙ ap (λ (n : ℕ). symbol_of y.name y.info n x.shndx x.value x.size x.version) alike.visibility
+    ∙ ap (λ (n : ℕ). symbol_of y.name y.info y.other n x.value x.size x.version) alike.shndx
+    ∙ ap (λ (n : ℕ). symbol_of y.name y.info y.other y.shndx x.value x.size n) alike.version
+
+choice_same : (y : Symbol) (value size : ℕ) (found : Option (ℕ × ℕ)) → choice_of (with_size y value size) found ≡ choice_of y found
+choice_same y value size None = refl
+choice_same y value size (Some m) = refl
+
+-- neither decides, where another object may define the symbol
+sizes_apart : (s : Seen) (o : Loaded) (i j : ℕ) (y : Symbol) (value size : ℕ) → (not false && is_own y) ≡ false → choose_for s o i (with_size y value size) false ≡ choose_for s o j y false
+unfolding choose_for
+sizes_apart s o i j y value size other = rw other (choice_same y value size (first_with (pick_at s y.name (want_of o.object y)) (searched s o false)))
+
+-- so what is kept for the symbol before is the choice
+pub before_choice : (s : Seen) (o : Loaded) (kept : List (Option Choice)) (index : ℕ) (symbol before : Symbol) (r : Option Choice) → index < length o.object.symbols → (index ≡ 0 → ⊥) → symbol ≡ get_or o.object.symbols index symbol → before ≡ get_or o.object.symbols (index - 1) before
+    → IsAlike before symbol → (not false && is_own symbol) ≡ false → r ≡ get_or kept (index - 1) None → AreKept s o kept → IfSome r (λ c. c ≡ choice_of_symbol s o index false)
+before_choice s o kept index symbol before None within some here there alike other is are = tt
+before_choice s o kept index symbol before (Some c) within some here there alike other is are =
+    let first : choose_for s o (index - 1) before false ≡ choice_of_symbol s o (index - 1) false = symbol_choice s o (index - 1) before false (choose_for s o (index - 1) before false) (omega arith) there refl in
+    are (index - 1) c (sym is)
+    ∙ sym first
+    ∙ ap (λ (z : Symbol). choose_for s o (index - 1) z false) (same_fields before symbol alike)
+    ∙ sizes_apart s o (index - 1) index symbol before.value before.size other
+    ∙ symbol_choice s o index symbol false (choose_for s o index symbol false) within here refl

@@ -2,6 +2,7 @@
 use Rattle.std.specs.Prelude.{◌≡◌, ℕ, false, List, Option, Some, None, slice_index_or}
 use Rattle.ld_base.specs.declared.linking.Choice.{Choice}
 use Rattle.ld_base.specs.declared.linking.Loaded.{Loaded}
+use Rattle.ld_base.specs.declared.object.Symbol.{Symbol}
 use Rattle.scope_rule.specs.Seen.{Seen}
 use Rattle.sym_lookup.specs.Looking.{choice_of_symbol}
 
@@ -13,3 +14,11 @@ pub record Referring : Type 0 where
 -- what is kept for a symbol is its choice
 abbrev pub AreKept : Seen → Loaded → List (Option Choice) → Type 0
 AreKept s o kept = (index : ℕ) (choice : Choice) → slice_index_or kept index None ≡ Some choice → choice ≡ choice_of_symbol s o index false
+
+-- two symbols of an object refer to the same, if another object may define them
+pub record IsAlike (one other : Symbol) : Type 0 where
+  pub info : one.info ≡ other.info
+  pub version : one.version ≡ other.version
+  pub shndx : one.shndx ≡ other.shndx
+  pub visibility : one.other ≡ other.other
+  pub name : one.name ≡ other.name

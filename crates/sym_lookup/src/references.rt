@@ -1,6 +1,6 @@
 //! The references of one object, each symbol looked up once.
 
-ghost use Rattle.std.specs.Prelude.{◌≡◌, ◌<◌, ℕ, Bool, false, length, map, None, Some, slice_index_or, IfOk, OnOk};
+ghost use Rattle.std.specs.Prelude.{◌≡◌, ◌<◌, ℕ, Bool, false, length, map, None, Some, slice_index_or, IfOk, IfSome, IsTrue, OnOk};
 ghost use Rattle.std.specs.List.{AllByRecursion};
 ghost use Rattle.ld_base.specs.declared.linking.Loaded.{Loaded as loaded};
 ghost use Rattle.scope_rule.specs.Choose.{choose_for};
@@ -8,7 +8,7 @@ ghost use Rattle.scope_rule.specs.Scope.{scope};
 ghost use Rattle.scope_rule.specs.Seen.{Seen, seen};
 ghost use Rattle.search_lists.specs.Lists.{lists_of};
 ghost use Rattle.sym_lookup.specs.Looking.{HaveTables, IsSearched, choice_of_symbol};
-ghost use Rattle.sym_lookup.specs.References.{AreKept};
+ghost use Rattle.sym_lookup.specs.References.{AreKept, IsAlike};
 
 use crate::looking::{choice_of, searched, sought_of, stays_own};
 use crate::searched::{Searched, first_searched};
@@ -134,6 +134,58 @@ fn keep(kept: &mut [Option<Choice>], index: u32, choice: &Choice)
     kept[index as usize] = Some(*choice);
 }
 
+/// Whether two symbols of an object refer to the same.
+fn is_alike(one: &Symbol, other: &Symbol) -> bool
+    ensures { IsTrue result → IsAlike one.now other.now }
+{
+    one.info == other.info
+        && one.version == other.version
+        && one.shndx == other.shndx
+        && one.other == other.other
+        && one.name.is(other.name.as_bytes())
+}
+
+/// What is kept for the symbol before, if that refers to the same and another object may define it:
+/// so a name that many symbols have one after another is searched once.
+fn kept_before(owner: &Loaded, kept: &[Option<Choice>], index: u32) -> Option<Choice>
+    requires symbol { index < length owner.now.object.symbols }
+    requires length { length kept.now ≡ length owner.now.object.symbols }
+    ensures { (s : Seen) → AreKept s owner.now kept.now → IfSome result (λ c. c ≡ choice_of_symbol s owner.now index false) }
+{
+    if index == 0 {
+        return None;
+    }
+    let symbols = owner.object.symbols.as_slice();
+    let symbol = &symbols[index as usize];
+    let before = &symbols[index as usize - 1];
+    if stays_own(symbol, false) || !is_alike(before, symbol) {
+        return None;
+    }
+    kept_at(kept, index - 1)
+}
+
+/// The choice for a symbol of which none is kept.
+fn search_once(
+    view: &View,
+    searched: &[Searched],
+    owner: &Loaded,
+    kept: &[Option<Choice>],
+    index: u32,
+) -> Choice
+    requires tables { HaveTables (seen view.now) }
+    requires serials { map (λ x. x.serial) searched.now ≡ scope (seen view.now) owner.now }
+    requires places { AllByRecursion (IsSearched (seen view.now)) searched.now }
+    requires symbol { index < length owner.now.object.symbols }
+    requires length { length kept.now ≡ length owner.now.object.symbols }
+    requires kept { AreKept (seen view.now) owner.now kept.now }
+    ensures { result ≡ choice_of_symbol (seen view.now) owner.now index false }
+{
+    match kept_before(owner, kept, index) {
+        Some(choice) => choice,
+        None => search(view, searched, owner, index, false),
+    }
+}
+
 /// The choice for a symbol, kept or searched for now.
 fn kept_or_searched(
     view: &View,
@@ -154,7 +206,7 @@ fn kept_or_searched(
     match kept_at(kept, index) {
         Some(choice) => choice,
         None => {
-            let choice = search(view, searched, owner, index, false);
+            let choice = search_once(view, searched, owner, kept, index);
             keep(kept, index, &choice);
             choice
         }
