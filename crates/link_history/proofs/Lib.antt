@@ -5,6 +5,7 @@ pub mod AtLoad
 pub mod Beginning
 pub mod Begun
 pub mod Blocked
+pub mod BlocksApart
 pub mod Brought
 pub mod Calling
 pub mod Chains

@@ -43,7 +43,7 @@ use Rattle.link_history.specs.State.{Linked, State}
 use Rattle.link_history.specs.Step.{block_range}
 use Rattle.link_history.specs.Storage.{module_of_place, pages_for, residue, tp_of, with_modules}
 use Rattle.link_history.specs.Grants.{chosen_target, target_of}
-use Rattle.link_history.specs.Memory.{covers, data_at, first_byte, holds, image_at, image_of, is_data_purpose, role_at, word_at}
+use Rattle.link_history.specs.Memory.{covers, data_at, first_byte, holds, image_at, image_of, is_data_purpose, is_in_block, role_at, word_at}
 use Rattle.link_history.specs.Objects.{IsMapped, object_at, startup_serials, has}
 
 -- a mapped object, with its namespace
@@ -337,6 +337,11 @@ pub record IsDataAt (s : State) (r : Range) (a : ℕ) : Type 0 where
 -- the pages of stacks, static areas and blocks are data, and nothing else
 abbrev pub AreasAreData : State → Type 0
 AreasAreData s = (r : Range) (a : ℕ) → Contains s.ranges r → IsTrue (is_data_purpose r.purpose) → IsTrue (covers a r) → IsDataAt s r a
+
+-- no address is in two blocks, of one hart or of two
+abbrev pub BlocksAreApart : Machine → State → Type 0
+BlocksAreApart m s = (h k a : ℕ) (x y : Module) → h < m.harts → k < m.harts → Contains s.modules x → Contains s.modules y
+    → IsTrue (is_in_block s h a x) → IsTrue (is_in_block s k a y) → (h ≡ k) × (x ≡ y)
 
 -- the words of an image that was relocated by its record are those of memory, with their roles
 abbrev pub ImagesAreInstalled : State → Type 0

@@ -17,7 +17,7 @@ ghost use Rattle.link_history.specs.Accepted.{AcceptsOnly};
 ghost use Rattle.link_history.specs.After.{after};
 ghost use Rattle.link_history.specs.Allowed.{Allowed, IsFirst};
 ghost use Rattle.link_history.specs.Changes.{ChangesMemory};
-ghost use Rattle.link_history.specs.Laws.{AreApart, AreasAreData, BlocksArePlaced, ClosesSpare, EachDiesOnce, FinalisedOnce, FindsImage, GrantsAreHeld, GrantsAreTidy, HasAll, HoldersAreImages, ImagesAreBound, ImagesAreInstalled, ImagesAreMapped};
+ghost use Rattle.link_history.specs.Laws.{AreApart, AreasAreData, BlocksAreApart, BlocksArePlaced, ClosesSpare, EachDiesOnce, FinalisedOnce, FindsImage, GrantsAreHeld, GrantsAreTidy, HasAll, HoldersAreImages, ImagesAreBound, ImagesAreInstalled, ImagesAreMapped};
 ghost use Rattle.link_history.specs.Laws.{ImagesArePlaced, ImagesAreTied, InitialisedOnce, IsInitialising, LoadsEnterCode, LostSawTheValue, ModulesAreFew, ModulesAreTidy};
 ghost use Rattle.link_history.specs.Laws.{NoneIsLazy, NothingDangles, NothingLeftOut, OffsetsAreThere, OpeningsStand, RangesAreApart, RangesAreOwned, ScopesAreWhole};
 ghost use Rattle.link_history.specs.Laws.{SerialsAreInOrder, SlotsBegin, SlotsEnterCode, SlotsLeadToRx, StartupStays, StaticAreasHaveRoom, StaticsAreApart, TakesLeast, UninitialisedStay};
@@ -354,6 +354,15 @@ pub fn static_areas_have_room()
 pub fn blocks_are_placed()
     ensures { (m : Machine) (events : List Event) → Lawful m events → BlocksArePlaced (after events) }
 {}
+
+/// Blocks of thread-local storage are apart: no address is in two of one hart, and none in blocks of two.
+pub fn blocks_are_apart()
+    ensures { (m : Machine) (events : List Event) → Lawful m events → BlocksAreApart m (after events) }
+{
+    scope_rule::serials_follow();
+    scope_rule::found_stands();
+    tls_blocks::modules_stay_numbered();
+}
 
 /// The pages of stacks, static areas and blocks are of no object, and not the linker's: memory has them for
 /// data, with the words that were put there first.
