@@ -21,6 +21,7 @@ pub mod Executing
 pub mod Few
 pub mod Finalised
 pub mod Frame
+pub mod FreePages
 pub mod FullBindings
 pub mod Good
 pub mod Granted

@@ -15,6 +15,8 @@ ghost use Rattle.link_graph.specs.declared.graph.Edge.{Edge};
 ghost use Rattle.link_graph.specs.Reached.{Reached, Unneeded};
 ghost use Rattle.link_history.specs.Accepted.{AcceptsOnly};
 ghost use Rattle.link_history.specs.After.{after};
+ghost use Rattle.address_space.specs.Pages.{without};
+ghost use Rattle.link_history.specs.Areas.{Area, AreGiven, free_pages};
 ghost use Rattle.link_history.specs.Allowed.{Allowed, IsFirst};
 ghost use Rattle.link_history.specs.Changes.{ChangesMemory};
 ghost use Rattle.link_history.specs.Laws.{AreApart, AreasAreData, BlocksAreApart, BlocksArePlaced, ClosesSpare, EachDiesOnce, FinalisedOnce, FindsImage, GrantsAreHeld, GrantsAreTidy, HasAll, HoldersAreImages, ImagesAreBound, ImagesAreInstalled, ImagesAreMapped};
@@ -363,6 +365,13 @@ pub fn blocks_are_apart()
     scope_rule::found_stands();
     tls_blocks::modules_stay_numbered();
 }
+
+/// The pages that are left free, when some are given for what is wanted, are those that neither the ranges
+/// before nor the new ones have.
+pub fn free_pages_follow()
+    ensures one { (ranges : List Range) (r : Range) → without (free_pages ranges) r.address r.pages ≡ free_pages (ranges ++ r ∷ []) }
+    ensures all { (ranges new : List Range) (wanted : List Area) (left : List ℕ) → AreGiven (free_pages ranges) wanted new left → left ≡ free_pages (ranges ++ new) }
+{}
 
 /// The pages of stacks, static areas and blocks are of no object, and not the linker's: memory has them for
 /// data, with the words that were put there first.
