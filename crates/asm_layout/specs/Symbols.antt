@@ -21,7 +21,7 @@ use Rattle.asm_layout.specs.Names.{is_exported}
 use Rattle.asm_layout.specs.Numbers.{count_of}
 use Rattle.asm_layout.specs.Places.{place_at, is_section, filled}
 use Rattle.asm_layout.specs.Spots.{label_spot}
-use Rattle.asm_layout.specs.Uses.{imports, exports, needs, same_export, own_symbol, is_copy_label}
+use Rattle.asm_layout.specs.Uses.{imports, exports, needs, same_export, own_symbol}
 use Rattle.asm_layout.specs.Versions.{defined_index, needed_index, has_versions, half, word}
 
 -- the exported symbols as they stand in the table: by the buckets of their hashes, and in a bucket by their lines
@@ -104,7 +104,7 @@ need_index lines name = option_map_or (λ need. needed_index lines need.file nee
 abbrev pub own_index : List Line → Exported → Option (List ℕ) → ℕ
 own_index lines exported None = 1
 own_index lines exported (Some version) =
-    if is_copy_label lines exported.label then need_index lines exported.label else defined_index lines version
+    if exported.is_needed then need_index lines exported.label else defined_index lines version
 
 abbrev pub hidden_bit : Bool → ℕ
 hidden_bit true = 0

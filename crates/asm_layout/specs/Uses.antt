@@ -3,7 +3,7 @@ use Rattle.std.specs.Prelude.{ℕ, Bool, true, false, ◌&&◌, if◌then◌else
 use Rattle.std.specs.Prelude.{Option, Some, None, option_map}
 use Rattle.std.specs.Str.{bytes_eq}
 use Rattle.std.specs.List.{list_any}
-use Rattle.std.specs.Option.{option_eq}
+use Rattle.std.specs.Option.{option_eq, is_some}
 use Rattle.std.proofs.Math.Bool.{beq}
 use Rattle.asm_statement.specs.declared.directive.Directive.{Directive}
 use Rattle.asm_statement.specs.declared.directive.Directive.TheVariants as directives
@@ -155,16 +155,32 @@ needed_version lines name = option_map (λ need. need.version) (find (λ need. b
 abbrev pub own_version : List Line → List ℕ → Option (List ℕ)
 own_version lines name = if is_copy_label lines name then needed_version lines name else None
 
--- the symbol that a statement exports: a label by its own name, a label under a name and a version, a copy
+-- the symbol that a statement exports: a label by its own name, a label under a name and a version that the object defines, a copy
 abbrev pub own_symbol : List Line → List ℕ → Exported
-own_symbol lines name = record { label = name; name = name; version = own_version lines name; is_default = true }
+own_symbol lines name = record {
+  label = name;
+  name = name;
+  version = own_version lines name;
+  is_needed = is_some (own_version lines name);
+  is_default = true;
+}
 
 abbrev pub version_symbol : Symver → Exported
-version_symbol symver = record { label = symver.label; name = symver.name; version = Some symver.version; is_default = symver.is_default }
+version_symbol symver = record {
+  label = symver.label;
+  name = symver.name;
+  version = Some symver.version;
+  is_needed = false;
+  is_default = symver.is_default;
+}
+
+-- a copy is exported by its own line alone
+abbrev pub label_symbol : List Line → List ℕ → Option Exported
+label_symbol lines name = if is_copy_label lines name then None else Some (own_symbol lines name)
 
 abbrev pub exported_by_directive : List Line → Directive → Option Exported
-exported_by_directive lines (directives.Export visibilities.Global name) = Some (own_symbol lines name)
-exported_by_directive lines (directives.Weak name) = Some (own_symbol lines name)
+exported_by_directive lines (directives.Export visibilities.Global name) = label_symbol lines name
+exported_by_directive lines (directives.Weak name) = label_symbol lines name
 exported_by_directive lines (directives.Copy name size) = Some (own_symbol lines name)
 exported_by_directive lines (directives.Symver symver) = Some (version_symbol symver)
 exported_by_directive lines _ = None
@@ -182,7 +198,8 @@ if_labelled lines (Some exported) = if is_label lines exported.label then Some e
 abbrev pub same_export : Exported → Exported → Bool
 same_export one other =
     bytes_eq one.label other.label
-    && (bytes_eq one.name other.name && (option_eq bytes_eq one.version other.version && beq one.is_default other.is_default))
+    && (bytes_eq one.name other.name && (option_eq bytes_eq one.version other.version
+    && (beq one.is_needed other.is_needed && beq one.is_default other.is_default)))
 
 -- the symbols that other objects may find, in the order of the lines that first export them
 unfoldable pub exports : List Line → List Exported

@@ -31,6 +31,8 @@ pub struct Exported {
     pub name: Name,
     /// Its version, where it has one.
     pub version: Option<Name>,
+    /// Whether that is a version which the object needs, as that of a copy, and not one that it defines.
+    pub is_needed: bool,
     /// Whether references without a version find it.
     pub is_default: bool,
 }

@@ -15,6 +15,7 @@ exported_as key = record {
   label = key.label.items;
   name = key.name.items;
   version = option_map (λ version. version.items) key.version;
+  is_needed = key.is_needed;
   is_default = key.is_default;
 }
 
@@ -23,6 +24,7 @@ export_as lent = record {
   label = lent.label.now;
   name = lent.name.now;
   version = option_map (λ version. version.now) lent.version;
+  is_needed = lent.is_needed;
   is_default = lent.is_default;
 }
 

@@ -4,7 +4,7 @@ ghost use Rattle.std.specs.Prelude.{◌≡◌, [], ℕ, List, IfOk, OnOk, option
 ghost use Rattle.std.specs.List.{list_any};
 ghost use Rattle.std.specs.Str.{bytes_eq};
 ghost use Rattle.asm_statement.specs.declared.line.Line.{Line};
-ghost use Rattle.asm_layout.specs.Uses.{copies, exported_by, exported_by_directive, exports, if_labelled, is_copy_label, needs as needs_of, own_symbol, own_version, same_export};
+ghost use Rattle.asm_layout.specs.Uses.{copies, exported_by, exported_by_directive, exports, if_labelled, is_copy_label, needs as needs_of, label_symbol, own_symbol, own_version, same_export};
 ghost use Rattle.asm_uses.specs.Exports.{export_as, exported_as, IsSourceOf};
 ghost use Rattle.asm_uses.specs.Lines.{AreLabelsOf};
 ghost use Rattle.asm_uses.specs.Once.{added, added_if};
@@ -25,6 +25,7 @@ struct Lent<'a> {
     label: &'a [u8],
     name: &'a [u8],
     version: Option<&'a [u8]>,
+    is_needed: bool,
     is_default: bool,
 }
 
@@ -34,6 +35,7 @@ struct Key {
     label: Vec<u8>,
     name: Vec<u8>,
     version: Option<Vec<u8>>,
+    is_needed: bool,
     is_default: bool,
 }
 
@@ -77,6 +79,7 @@ fn key_of(alloc: Global, lent: Lent<'_>) -> Result<Key, AllocError>
         label: Vec::from_slice(alloc, lent.label)?,
         name: Vec::from_slice(alloc, lent.name)?,
         version: version_of(alloc, lent.version)?,
+        is_needed: lent.is_needed,
         is_default: lent.is_default,
     })
 }
@@ -127,11 +130,25 @@ impl<'a> Source<'a> {
     fn own_symbol(self, name: &'a [u8]) -> Lent<'a>
         ensures { (lines : List Line) → IsSourceOf lines self.entry → export_as result ≡ own_symbol lines name.entry.now }
     {
+        let version = self.own_version(name);
         Lent {
             label: name,
             name,
-            version: self.own_version(name),
+            version,
+            is_needed: version.is_some(),
             is_default: true,
+        }
+    }
+
+    /// The symbol of a label by its own name, unless it is a copy's.
+    fn label_symbol(self, name: &'a [u8]) -> Option<Lent<'a>>
+        ensures { (lines : List Line) → IsSourceOf lines self.entry
+            → option_map export_as result ≡ label_symbol lines name.entry.now }
+    {
+        if self.copies.contains(name) {
+            None
+        } else {
+            Some(self.own_symbol(name))
         }
     }
 
@@ -141,13 +158,15 @@ impl<'a> Source<'a> {
             → option_map export_as result ≡ exported_by_directive lines directive.entry.now }
     {
         match directive {
-            Directive::Export(Export::Global, name)
-            | Directive::Weak(name)
-            | Directive::Copy(name, _) => Some(self.own_symbol(name.as_bytes())),
+            Directive::Export(Export::Global, name) | Directive::Weak(name) => {
+                self.label_symbol(name.as_bytes())
+            }
+            Directive::Copy(name, _) => Some(self.own_symbol(name.as_bytes())),
             Directive::Symver(symver) => Some(Lent {
                 label: symver.label.as_bytes(),
                 name: symver.name.as_bytes(),
                 version: Some(symver.version.as_bytes()),
+                is_needed: false,
                 is_default: symver.is_default,
             }),
             _ => None,
@@ -226,6 +245,7 @@ fn exported_of(alloc: Global, key: &Key) -> Result<Exported, AllocError>
         label: Name::new(alloc, key.label.as_slice())?,
         name: Name::new(alloc, key.name.as_slice())?,
         version: name_of(alloc, &key.version)?,
+        is_needed: key.is_needed,
         is_default: key.is_default,
     })
 }

@@ -23,7 +23,7 @@ same_version (Some one) (Some other) = refl
 same_symbol : (one other : Key) → eq-value.it one other ≡ same_export (exported_as one) (exported_as other)
 same_symbol one other =
     ap (λ (same : Bool). bytes_eq one.label.items other.label.items
-    && (bytes_eq one.name.items other.name.items && (same && beq one.is_default other.is_default)))
+    && (bytes_eq one.name.items other.name.items && (same && (beq one.is_needed other.is_needed && beq one.is_default other.is_default))))
     (same_version one.version other.version)
 
 pub returns : goal.returns
