@@ -2,3 +2,4 @@ pub mod Atlas
 pub mod Code
 pub mod Encoded
 pub mod Here
+pub mod Single
