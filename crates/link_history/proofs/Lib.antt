@@ -56,6 +56,7 @@ pub mod Program
 pub mod ProgramStays
 pub mod Raced
 pub mod Ranges
+pub mod Released
 pub mod Saw
 pub mod Scopes
 pub mod Separate

@@ -2,7 +2,7 @@
 use Rattle.std.specs.Prelude.{◌≡◌, ℕ, ◌+◌, Bool, true, false, not, max, if◌then◌else◌, List, [], ◌∷◌, ◌++◌, map, filter, fold}
 use Rattle.std.specs.List.{list_any, range_with_len}
 use Rattle.std.specs.Option.{option_map_or, is_some}
-use Rattle.address_space.specs.Pages.{AllFree, Fits, IsFirstFit, guest_pages, is_within, without}
+use Rattle.address_space.specs.Pages.{AllFree, Fits, IsFirstFit, guest_pages, is_within, together_with, without}
 use Rattle.ld_base.specs.declared.linking.Loaded.{Loaded}
 use Rattle.ld_base.specs.declared.object.Kind.{Kind}
 use Rattle.ld_base.specs.declared.object.Kind.TheVariants as kinds
@@ -17,6 +17,11 @@ use Rattle.link_history.specs.Storage.{pages_for}
 -- the pages that no range has
 unfoldable pub free_pages : List Range → List ℕ
 free_pages ranges = filter (λ page. not (list_any (λ r. is_within r.address r.pages page) ranges)) guest_pages
+
+-- the free pages and those of ranges that go, one after another
+abbrev pub released : List ℕ → List Range → List ℕ
+released free [] = free
+released free (r ∷ rest) = released (together_with free r.address r.pages) rest
 
 -- pages may stand anywhere at a multiple of their alignment, or at one address
 pub data Where : Type 0 where

@@ -1,6 +1,6 @@
 //! What holds in each state of a lawful history.
 
-ghost use Rattle.std.specs.Prelude.{◌≡◌, ◌≢◌, ◌≤◌, ◌+◌, ℕ, List, ◌∷◌, ◌++◌, [], take, map, flat_map, length, Contains, IsTrue, false};
+ghost use Rattle.std.specs.Prelude.{not, ◌≡◌, ◌≢◌, ◌≤◌, ◌+◌, ℕ, List, ◌∷◌, ◌++◌, [], take, map, flat_map, length, Contains, IsTrue, false};
 ghost use Rattle.std.specs.List.{filter, range_with_len};
 ghost use Rattle.ld_base.specs.declared.linking.Choice.{Choice};
 ghost use Rattle.ld_base.specs.declared.linking.Choice.TheVariants.{Missing, WeakZero};
@@ -16,7 +16,7 @@ ghost use Rattle.link_graph.specs.Reached.{Reached, Unneeded};
 ghost use Rattle.link_history.specs.Accepted.{AcceptsOnly};
 ghost use Rattle.link_history.specs.After.{after};
 ghost use Rattle.address_space.specs.Pages.{without};
-ghost use Rattle.link_history.specs.Areas.{Area, AreGiven, free_pages};
+ghost use Rattle.link_history.specs.Areas.{Area, AreGiven, free_pages, released};
 ghost use Rattle.link_history.specs.Allowed.{Allowed, IsFirst};
 ghost use Rattle.link_history.specs.Changes.{ChangesMemory};
 ghost use Rattle.link_history.specs.Laws.{AreApart, AreasAreData, BlocksAreApart, BlocksArePlaced, ClosesSpare, EachDiesOnce, FinalisedOnce, FindsImage, GrantsAreHeld, GrantsAreTidy, HasAll, HoldersAreImages, ImagesAreBound, ImagesAreInstalled, ImagesAreMapped};
@@ -34,7 +34,7 @@ ghost use Rattle.link_history.specs.Opening.{HasProgram};
 ghost use Rattle.link_history.specs.Owed.{IsOwed, brings, owed};
 ghost use Rattle.link_history.specs.Read.{BeginsUntouched, ObjectsAreRead, WasRead};
 ghost use Rattle.link_history.specs.Setting.{Machine, Setting, have_exited};
-ghost use Rattle.link_history.specs.Step.{lower, step};
+ghost use Rattle.link_history.specs.Step.{goes_with, lower, step};
 
 /// A history grows event by event: the state after one more event is a step on, a legal history is
 /// legal with one more event that is allowed, and each of its beginnings is.
@@ -371,6 +371,13 @@ pub fn blocks_are_apart()
 pub fn free_pages_follow()
     ensures one { (ranges : List Range) (r : Range) → without (free_pages ranges) r.address r.pages ≡ free_pages (ranges ++ r ∷ []) }
     ensures all { (ranges new : List Range) (wanted : List Area) (left : List ℕ) → AreGiven (free_pages ranges) wanted new left → left ≡ free_pages (ranges ++ new) }
+{}
+
+/// Where the pages of the ranges that go with an unmapping are given back, one range after another, the
+/// pages that are free are those that no other range has.
+pub fn released_are_free()
+    ensures { (m : Machine) (events : List Event) → Lawful m events → (set : List ℕ) →
+        released (free_pages (after events).ranges) (filter (goes_with set) (after events).ranges) ≡ free_pages (filter (λ r. not (goes_with set r)) (after events).ranges) }
 {}
 
 /// The pages of stacks, static areas and blocks are of no object, and not the linker's: memory has them for

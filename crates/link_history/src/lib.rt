@@ -26,7 +26,7 @@ pub use law::{
     members_decide, memory_changes, modules_are_few, modules_are_tidy, no_slot_dangles,
     none_is_lazy, nothing_comes_before_startup, nothing_left_out, objects_are_apart,
     objects_are_read, offsets_are_there, openings_stand, program_exits, program_stays,
-    ranges_apart, ranges_are_owned, serials_are_in_order, slots_begin, slots_enter_code,
-    slots_lead_to_rx, startup_is_past, startup_stays, static_areas_have_room, statics_are_apart,
-    symbols_are_stored, uninitialised_stay,
+    ranges_apart, ranges_are_owned, released_are_free, serials_are_in_order, slots_begin,
+    slots_enter_code, slots_lead_to_rx, startup_is_past, startup_stays, static_areas_have_room,
+    statics_are_apart, symbols_are_stored, uninitialised_stay,
 };
