@@ -1,0 +1,24 @@
+//! Lines of the assembler, and what they have to give: the words of instructions, and refusals.
+//!
+//! The lines stand in plain files, which the words of the program name: docs/EXAMPLES.md says how to
+//! write one. For each file one line says that all its calls hold, or how many do; each that doesn't is
+//! shown before it, with what it gives.
+#![tactic(auto)]
+
+mod lines;
+
+use lines::Lines;
+use std::{env, io};
+use test_file::{Sheet, text_at};
+
+fn main(rt: HostRuntime) -> io::Result<()> {
+    let alloc = rt.alloc();
+    for path in env::args(&rt)?.skip(1) {
+        let text = match text_at(&rt, alloc, path.as_str())? {
+            Some(text) => Sheet::new(alloc, Lines { alloc }).read(path.as_str(), text.as_str())?,
+            None => format!(in alloc; "{path}: can't be read\n")?,
+        };
+        print!(rt; "{text}")?;
+    }
+    Ok(())
+}
