@@ -1,8 +1,8 @@
 //! Where the references of each object of a namespace are searched.
 //!
 //! [`SearchLists`] are made once an opening or closing, of a namespace as it stands or as an opening
-//! will leave it, in time linear in their length: what each opening brings is gathered once, and an
-//! object is known by its serial in one step.
+//! will leave it. What each opening brings is gathered once, and an object is known by its serial in
+//! one step.
 #![tactic(auto)]
 
 mod breadth_first;
