@@ -1,5 +1,6 @@
 -- What holds of every call.
 use Rattle.std.specs.Prelude.{◌≡◌, ◌≢◌, ◌⊎◌, ℕ, ◌^◌, ◌<◌, ◌≤◌, Bool, true, false, List, [], ◌∷◌, ◌++◌, length, map, Contains, Option, Some, None, IsTrue}
+use Rattle.std.specs.Option.{option_map}
 use Rattle.ld_base.specs.declared.fault.DlFault.{DlFault}
 use Rattle.ld_base.specs.declared.fault.DlFault.TheVariants as faults
 use Rattle.ld_base.specs.declared.fault.Shown.{Shown}
@@ -37,7 +38,7 @@ use Rattle.link_service.specs.Call.{Call, resolves, opens, looks_up, closes, unm
 use Rattle.link_event.specs.declared.handed.Function.{Function}
 use Rattle.link_service.specs.Functions.{AreConstructors, AreDestructors, AreLeft, AreStartConstructors, left, object_of, passed}
 use Rattle.link_service.specs.Gives.{Gives, Serves}
-use Rattle.link_service.specs.Served.{IsServed}
+use Rattle.link_service.specs.Served.{IsServed, IsTold, answer_text}
 use Rattle.link_service.specs.Startup.{FailsToStart, Starts, harts_of}
 use Rattle.link_served.specs.declared.served.Served.{Served}
 use Rattle.link_served.specs.declared.startup.Setup.{Setup}
@@ -90,6 +91,11 @@ RefusalIsKept = (w : Setting) (past : List Event) (h : ℕ) (call : Call) (given
 abbrev pub RefusalIsTold : Type 0
 RefusalIsTold = (w : Setting) (past : List Event) (h : ℕ) (given : List Event) (fault : Option DlFault) → Gives w past h asks_fault given (told fault)
     → (fault ≡ kept_for (after past) h) × (kept_for (after (past ++ given)) h ≡ None)
+
+-- what dlerror answers is the text of the fault that is kept
+abbrev pub TextIsOfKept : Type 0
+TextIsOfKept = (w : Setting) (past : List Event) (h : ℕ) (text : Option (List ℕ)) (given : List Event) → IsTold w past h text given
+    → text ≡ option_map answer_text (kept_for (after past) h)
 
 -- ---- one answer
 

@@ -1,6 +1,9 @@
 -- What a hart's calls of dl functions answer, as their caller gets it (dlopen(3), dlsym(3), dlclose(3)).
-use Rattle.std.specs.Prelude.{◌≡◌, ℕ, ◌+◌, ◌*◌, ◌<◌, Bool, not, List, [], ◌∷◌, ◌++◌, length, map, filter, flat_map, Some}
+use Rattle.std.specs.Prelude.{◌≡◌, ℕ, ◌+◌, ◌*◌, ◌<◌, Bool, not, List, [], ◌∷◌, ◌++◌, length, map, filter, flat_map, take, Option, Some}
 use Rattle.std.specs.List.{slice_get}
+use Rattle.std.specs.Option.{option_map}
+use Rattle.ld_base.specs.FaultText.{fault_text}
+use Rattle.ld_base.specs.declared.fault.DlFault.{DlFault}
 use Rattle.ld_base.specs.declared.linking.Loaded.{Loaded}
 use Rattle.ld_base.specs.declared.object.Reloc.{Reloc}
 use Rattle.link_event.specs.declared.event.Event.{Event}
@@ -22,8 +25,8 @@ use Rattle.link_history.specs.Objects.{serial_of}
 use Rattle.link_history.specs.Setting.{Setting}
 use Rattle.link_history.specs.State.{State}
 use Rattle.link_history.specs.Step.{block_ranges}
-use Rattle.link_service.specs.Answer.{returns, loading, closing, refused, again}
-use Rattle.link_service.specs.Call.{Call}
+use Rattle.link_service.specs.Answer.{returns, loading, closing, refused, told, again}
+use Rattle.link_service.specs.Call.{Call, asks_fault}
 use Rattle.link_service.specs.Functions.{AreConstructors, AreDestructors}
 use Rattle.link_service.specs.Gives.{Gives}
 
@@ -87,6 +90,16 @@ pub record IsOpened (w : Setting) (past : List Event) (h : ℕ) (call : Call) (r
 pub record IsClosing (w : Setting) (past : List Event) (h : ℕ) (call : Call) (set : List ℕ) (functions : List Function) (given : List Event) : Type 0 where
   pub gives : Gives w past h call given (closing set)
   pub finalised : AreDestructors (after (past ++ given)) set functions
+
+-- the text that dlerror answers: its first 511 bytes
+abbrev pub answer_text : DlFault → List ℕ
+answer_text fault = take 511 (fault_text fault)
+
+-- dlerror tells the fault that is kept for the hart, where there is one
+pub record IsTold (w : Setting) (past : List Event) (h : ℕ) (text : Option (List ℕ)) (given : List Event) : Type 0 where
+  pub fault : Option DlFault
+  pub gives : Gives w past h asks_fault given (told fault)
+  pub is : text ≡ option_map answer_text fault
 
 -- what came of a call of the hart, which appended these events; want of memory leaves all as it was. Which files a call found that wasn't told
 -- any, the call itself shows: there are some of which this came

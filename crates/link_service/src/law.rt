@@ -4,7 +4,7 @@ ghost use Rattle.link_service.specs.Complete.{Complete, DlsymFits, DlvsymFits, O
 ghost use Rattle.link_service.specs.Laws.{AgainAppendsNothing, AskFirst, CallersAreThere, EndsKeep, GivesLawful, GivesLegal, OneAnswer, OneOpening};
 ghost use Rattle.link_service.specs.Laws.{FinishesStay, NextFinishes, NextStarts, OneFinalisation, OneInitialisation, OneStart, OpeningBegins};
 ghost use Rattle.link_service.specs.Laws.{PassedComeFirst, PassedOpens, RunsAFunction, StartsStay};
-ghost use Rattle.link_service.specs.Laws.{RefusalIsKept, RefusalIsTold, RefusedKeeps, RefusedLeavesMemory, ServesLegal, StagesInOrder, SymbolsInOrder};
+ghost use Rattle.link_service.specs.Laws.{RefusalIsKept, RefusalIsTold, TextIsOfKept, RefusedKeeps, RefusedLeavesMemory, ServesLegal, StagesInOrder, SymbolsInOrder};
 ghost use Rattle.link_service.specs.Laws.{CallersAreHolders, EventsAreOwn, FailsLegal, FewEvents, HartsHaveEntries, OthersAreBase, ServedLegal, StartsLegal};
 
 /// A history that is legal before a call is legal with what the call gives, and with the end of the
@@ -37,6 +37,7 @@ pub fn refused_calls_leave()
 pub fn refusals_are_told()
     ensures kept { RefusalIsKept }
     ensures told { RefusalIsTold }
+    ensures text { TextIsOfKept }
 {}
 
 /// Want of memory and failed reads apart, the history settles what a call gives, its events and its
