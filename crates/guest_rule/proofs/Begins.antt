@@ -94,6 +94,8 @@ start = record {
   access = nothing_locked;
   joined = [];
   note = None;
+  shown = None;
+  saw = None;
 }
 
 first_is : first_keeper ≡ start

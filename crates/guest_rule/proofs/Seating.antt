@@ -178,7 +178,7 @@ awaited_grows m true k low = row_grows k (map not_found k.rows) m (record (not_f
 pub keeper_grows : (kind : KeeperKind) (k : KeeperView) (n : ℕ) → length k.rows ≡ harts_at_most → KeeperReady kind k → Grows k (keeper_after kind k n)
 keeper_grows (kinds.Look d) k n long ready = plain k (keeper_after (kinds.Look d) k n) refl refl refl refl refl refl
 keeper_grows (kinds.Load d) k n long ready = plain k (keeper_after (kinds.Load d) k n) refl refl refl refl refl refl
-keeper_grows (kinds.Lock d control) k n long ready = kept_grows d (eqb n control) k
+keeper_grows (kinds.Lock d control) k n long ready = let g = kept_grows d (eqb n control) k in record { harts = g.harts; joined = g.joined; note = g.note; words = g.words; rows = g.rows; events = g.events; issued = g.issued }
 keeper_grows (kinds.Store d x) k n long ready = plain k (keeper_after (kinds.Store d x) k n) refl refl refl (length-set k.words d _) refl refl
 keeper_grows (kinds.Unlock d old new lazy) k n long ready = plain k (keeper_after (kinds.Unlock d old new lazy) k n) refl refl refl (length-set k.words d _) refl refl
 keeper_grows (kinds.Count e) k n long ready = record { harts = refl; joined = refl; note = refl; words = refl; rows = refl; events = begins_push k.events e.value; issued = λ m. begins_itself (row_of k m).issued }

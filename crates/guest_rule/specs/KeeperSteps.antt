@@ -46,6 +46,11 @@ keeps_if d false k = accessing nothing_locked k
 abbrev pub not_found : Row → Row
 not_found r = record r { found_open = false }
 
+-- two control words show another seat's lock, unless the doubleword is found as it should be
+abbrev pub shown_if : Bool → ℕ → ℕ → Option (ℕ × ℕ) → Option (ℕ × ℕ)
+shown_if true a b old = old
+shown_if false a b old = Some (a, b)
+
 -- the hart is found calling: no row was found open since
 abbrev pub awaited_if : ℕ → Bool → KeeperView → KeeperView
 awaited_if m true k = with_row m (record (not_found (row_of k m)) { since = Some (length k.events) }) (record k { rows = map not_found k.rows })
@@ -157,16 +162,17 @@ KeeperReady kinds.Listen k = Unit {0}
 
 -- its view after, by the number found. Each step ends what is kept of a note
 abbrev pub keeper_after : KeeperKind → KeeperView → ℕ → KeeperView
-keeper_after (kinds.Look d) k n = accessing (record { locked = None; held = None; last = last_if d n (eqb (lock_bit n) 0) }) (heeding k)
+keeper_after (kinds.Look d) k n =
+    let free = eqb (lock_bit n) 0 in record (accessing (record { locked = None; held = None; last = last_if d n free }) (heeding k)) { shown = shown_if free n n k.shown }
 keeper_after (kinds.Load d) k n = accessing nothing_locked (heeding k)
-keeper_after (kinds.Lock d control) k n = keeps_if d (eqb n control) (heeding k)
+keeper_after (kinds.Lock d control) k n = record (keeps_if d (eqb n control) (heeding k)) { shown = shown_if (eqb n control) control n k.shown }
 keeper_after (kinds.Store d x) k n = accessing (record { locked = k.access.locked; held = Some x; last = None }) (with_kept d (record (kept_at k d) { value = x }) (heeding k))
 keeper_after (kinds.Unlock d old new lazy) k n =
     accessing nothing_locked (with_kept d (record { role = new; value = (kept_at k d).value; lazy = lazy; since = length k.events }) (heeding k))
 keeper_after (kinds.Count e) k n = record (heeding k) { events = k.events ++ e.value ∷ [] }
 keeper_after (kinds.Await m) k n = awaited_if m (nat_le 8 n) (heeding k)
 keeper_after (kinds.Ask m) k n = with_row m (asked n (row_of k m)) (heeding k)
-keeper_after (kinds.Saw d) k n = heeding k
+keeper_after (kinds.Saw d) k n = record (heeding k) { saw = Some (d, n) }
 keeper_after (kinds.Fill m i x) k n = with_row m (with_field i x (row_of k m)) (heeding k)
 keeper_after (kinds.Hand m mark) k n = with_row m (handed mark (row_of k m)) (heeding k)
 keeper_after (kinds.Open m) k n = with_row m (opened (row_of k m)) (heeding k)

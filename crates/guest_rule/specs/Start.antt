@@ -17,6 +17,8 @@ first_keeper = record {
   access = nothing_locked;
   joined = [];
   note = None;
+  shown = None;
+  saw = None;
 }
 
 -- what that view says of anything

@@ -9,7 +9,7 @@ use Rattle.guest_rule.specs.declared.view.KeeperView.{KeeperView}
 use Rattle.guest_rule.specs.declared.view.Row.{Row}
 use Rattle.guest_rule.specs.Allowed.{IsOf, IsSlot}
 use Rattle.guest_rule.specs.HartSteps.{HartReady, entered, finished, hart_after, with_lane_of}
-use Rattle.guest_rule.specs.KeeperSteps.{KeeperLearns, TellsAsk, asked, asked_if, heeding, keeper_after, with_row}
+use Rattle.guest_rule.specs.KeeperSteps.{KeeperLearns, TellsAsk, TellsSlot, asked, asked_if, heeding, keeper_after, with_row}
 use Rattle.guest_rule.specs.Layout.{address_of, doublewords, IsDoubleword, place_of}
 use Rattle.guest_rule.specs.Views.{IsLong, grant_in, kept_at, row_of}
 use Rattle.guest_rule.specs.declared.view.TrailItem.TheVariants.{Done}
@@ -21,7 +21,7 @@ use Rattle.slot_bind.specs.declared.slot.Asked.TheVariants.{Open, Won as SaysWon
 use Rattle.slot_bind.specs.declared.slot.Bound.{Bound}
 use Rattle.slot_bind.specs.declared.slot.Bound.TheVariants.{Won, Lost}
 use Rattle.slot_bind.specs.Rows.{full_offer}
-use Rattle.slot_bind.specs.Grants.{IsBound, Says, asked_row, exchange_of, exchanged, found_by, given_back}
+use Rattle.slot_bind.specs.Grants.{IsBound, Says, asked_row, asked_view, exchange_of, exchanged, found_by, given_back, with_saw}
 use Rattle.slot_bind.proofs.Harts.{idle_heeded}
 use Rattle.slot_bind.proofs.Rows.{row_here}
 
@@ -54,6 +54,9 @@ gives_back h h' m n won g b idle tried is = is ∙ (ap (λ h. entered Done (with
 
 pub recalls : (k k' : KeeperView) (m n : ℕ) → IsResting k → k' ≡ keeper_after (keepers.Recall m Slot) k n → k' ≡ k
 recalls k k' m n r is = is ∙ heeds k r
+
+pub saws : (k k1 k' : KeeperView) (d n : ℕ) → k1 ≡ k → IsResting k → k' ≡ keeper_after (keepers.Saw d) k1 n → k' ≡ with_saw d n k
+saws k k1 k' d n same r is = is ∙ (ap (λ k. with_saw d n (heeding k)) same ∙ ap (with_saw d n) (heeds k r))
 
 place_at : (d : ℕ) → place_of (address_of d) ≡ d
 unfolding place_of
@@ -88,10 +91,12 @@ row_slot n r = go (eqb (n % 8) 3) (eqb (n % 8) 4) (eqb (n % 8) 5)
     go false false true = settles Rattle.guest_rule.specs.declared.view.Fate.TheVariants.Lost r.pending
     go false false false = refl
 
+same_slot : (k k1 : KeeperView) (m n : ℕ) → IsLong k → m < 16 → k1 ≡ keeper_after (keepers.Ask m) k n → (row_of k1 m).slot ≡ (row_of k m).slot
+same_slot k k1 m n long low is =
+    ap (λ k. (row_of k m).slot) is ∙ (ap (λ (r : Row). r.slot) (row_here (heeding k) m (asked n (row_of k m)) (subst (λ x. m < x) (sym long.1) low)) ∙ row_slot n (row_of k m))
+
 pub asked_slot : (k k1 : KeeperView) (m n : ℕ) (g : Grant) → IsLong k → m < 16 → k1 ≡ keeper_after (keepers.Ask m) k n → TellsAsk k m n → (row_of k m).pending ≡ Some g → (row_of k1 m).slot ≡ g.entry.slot
-asked_slot k k1 m n g long low is told pending =
-    ap (λ k. (row_of k m).slot) is ∙ (ap (λ (r : Row). r.slot) (row_here (heeding k) m (asked n (row_of k m)) (subst (λ x. m < x) (sym long.1) low))
-    ∙ (row_slot n (row_of k m) ∙ sym (ap (λ (g : Grant). g.entry.slot) (told.in_row g pending))))
+asked_slot k k1 m n g long low is told pending = same_slot k k1 m n long low is ∙ sym (ap (λ (g : Grant). g.entry.slot) (told.in_row g pending))
 
 -- what is asked of the slot in it
 pub record AskSlot (k1 : KeeperView) (m : ℕ) : Type 0 where
@@ -105,3 +110,14 @@ ask_slot k k1 m n long low is told posted =
       slot = subst (λ (f : ℕ → Rattle.guest_rule.specs.declared.view.Kept.Kept). IsSlot f (place_of (row_of k1 m).slot)) (sym (ap kept_at is)) (subst (λ s. IsSlot (kept_at k) (place_of s)) (sym same) of_slot.0);
       at = subst IsDoubleword (sym same) (slot_at k (place_of posted.0.entry.slot) posted.0 of_slot);
     }
+
+-- the slot of a lost grant was looked at
+pub lost_view : (k k1 k2 : KeeperView) (m n word : ℕ) → IsResting k → IsLong k → m < 16 → TellsAsk k m n → k1 ≡ keeper_after (keepers.Ask m) k n → n % 8 ≡ 5 → k2 ≡ with_saw (place_of (row_of k1 m).slot) word k1
+    → k2 ≡ asked_view m (SaysLost word) k
+lost_view k k1 k2 m n word r long low told is lost saw =
+    saw ∙ (ap (λ s. with_saw (place_of s) word k1) (same_slot k k1 m n long low is) ∙ ap (with_saw (place_of (row_of k m).slot) word) (asks k k1 m n (SaysLost word) r told is lost))
+
+pub lost_word : (k k1 k2 : KeeperView) (m n word : ℕ) (g : Grant) → IsLong k → m < 16 → k1 ≡ keeper_after (keepers.Ask m) k n → TellsAsk k m n → (row_of k m).pending ≡ Some g
+    → k2 ≡ with_saw (place_of (row_of k1 m).slot) word k1 → TellsSlot k1 (place_of (row_of k1 m).slot) word → TellsSlot k2 (place_of g.entry.slot) word
+lost_word k k1 k2 m n word g long low is told pending saw tells =
+    subst (λ s. TellsSlot k2 (place_of s) word) (asked_slot k k1 m n g long low is told pending) (subst (λ k. TellsSlot k (place_of (row_of k1 m).slot) word) (sym saw) (record { allowed = tells.allowed; lost = tells.lost }))

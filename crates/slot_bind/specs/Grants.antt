@@ -74,11 +74,24 @@ Says state Open = state % 8 ≡ 3
 Says state SaysWon = state % 8 ≡ 4
 Says state (SaysLost saw) = state % 8 ≡ 5
 
--- the keeper's view after it
+-- the hart's row after it
 abbrev pub asked_row : Asked → Row → Row
 asked_row Open r = record r { found_open = true }
 asked_row SaysWon r = settled_as FateWon r.pending r
 asked_row (SaysLost saw) r = settled_as FateLost r.pending r
+
+-- the keeper looked at a slot, and found this word
+abbrev pub with_saw : ℕ → ℕ → KeeperView → KeeperView
+with_saw d word k = record k { saw = Some (d, word) }
+
+-- a slot is looked at for a lost grant alone
+abbrev pub saw_if : ℕ → Asked → KeeperView → KeeperView
+saw_if d (SaysLost word) k = with_saw d word k
+saw_if d _ k = k
+
+-- the keeper's view after it
+abbrev pub asked_view : ℕ → Asked → KeeperView → KeeperView
+asked_view m answer k = saw_if (place_of (row_of k m).slot) answer (with_row m (asked_row answer (row_of k m)) k)
 
 -- of a lost grant the slot's word was found
 abbrev pub Saw : KeeperView → Grant → Asked → Type 0

@@ -3,12 +3,12 @@
 ghost use Rattle.std.specs.Prelude.{◌≡◌, ◌<◌, ◌%◌, ℕ, None, Some};
 ghost use Rattle.rv_hart.specs.declared.bus.Item.{Item};
 ghost use Rattle.guest_rule.specs.declared.entry.Grant.{Grant};
-ghost use Rattle.guest_rule.specs.KeeperSteps.{TellsAsk, TellsSlot, with_row};
+ghost use Rattle.guest_rule.specs.KeeperSteps.{TellsAsk, TellsSlot};
 ghost use Rattle.guest_rule.specs.Views.{fresh_offer, kept_at, row_of};
 ghost use Rattle.guest_rule.specs.Allowed.{IsSlot};
 ghost use Rattle.guest_rule.specs.Layout.{IsDoubleword, place_of};
 ghost use Rattle.word_memory.specs.Accesses.{Calls};
-ghost use Rattle.slot_bind.specs.Grants.{IsBound, Saw, Says, asked_row, exchange_of, exchanged, given_back, leads_to};
+ghost use Rattle.slot_bind.specs.Grants.{IsBound, Saw, Says, asked_view, exchange_of, exchanged, given_back, leads_to, with_saw};
 ghost use Rattle.slot_bind.specs.Rows.{full_offer, with_offer};
 
 use crate::read_row;
@@ -102,13 +102,13 @@ pub fn done<J: Naming>(
     }
 }
 
-// The word of the slot in the hart's row.
-#[tactic(auto, using(crate::proofs::Grants::recalls, crate::proofs::Grants::slot_at))]
+// Looks at the slot in the hart's row, and answers its word.
+#[tactic(auto, using(crate::proofs::Grants::recalls, crate::proofs::Grants::saws, crate::proofs::Grants::slot_at))]
 fn saw<J: Naming>(memory: &Memory<J>, keeper: &mut KeeperSeat<J>, hart: u64) -> u64
     requires low { hart < 16 }
     requires slot { IsSlot (kept_at keeper.old) (place_of (row_of keeper.old hart).slot) }
     requires at { IsDoubleword (row_of keeper.old hart).slot }
-    ensures keeper { keeper.new ≡ keeper.old }
+    ensures keeper { keeper.new ≡ with_saw (place_of (row_of keeper.old hart).slot) result keeper.old }
     ensures saw { TellsSlot keeper.old (place_of (row_of keeper.old hart).slot) result }
 {
     let kind = KeeperKind::Recall(hart, RowWord::Slot);
@@ -117,22 +117,23 @@ fn saw<J: Naming>(memory: &Memory<J>, keeper: &mut KeeperSeat<J>, hart: u64) -> 
     keeper.load_word(memory, value_word(at), KeeperKind::Saw(at as u64))
 }
 
-/// What the hart's row says of its last grant, whose fate the keeper doesn't know yet.
+/// What the hart's row says of its last grant, whose fate the keeper doesn't know yet. Where it is lost,
+/// the grant's slot is looked at for its word.
 pub fn ask<J: Naming>(memory: &Memory<J>, keeper: &mut KeeperSeat<J>, hart: HartId) -> Asked
     requires low { hart < 16 }
     requires posted { (g : Grant) × ((row_of keeper.old hart).pending ≡ Some g) }
-    ensures row { keeper.new ≡ with_row hart (asked_row result (row_of keeper.old hart)) keeper.old }
+    ensures asked { keeper.new ≡ asked_view hart result keeper.old }
     ensures told { (state : ℕ) × Says state result × TellsAsk keeper.old hart state }
     ensures saw { (g : Grant) → (row_of keeper.old hart).pending ≡ Some g → Saw keeper.new g result }
 {
     ask_row(memory, keeper, u64::from(hart.number()))
 }
 
-#[tactic(auto, using(crate::proofs::Grants::ask_slot, crate::proofs::Grants::asks, crate::proofs::Grants::lost_state))]
+#[tactic(auto, using(crate::proofs::Grants::ask_slot, crate::proofs::Grants::asks, crate::proofs::Grants::lost_state, crate::proofs::Grants::lost_view))]
 fn ask_row<J: Naming>(memory: &Memory<J>, keeper: &mut KeeperSeat<J>, hart: u64) -> Asked
     requires low { hart < 16 }
     requires posted { (g : Grant) × ((row_of keeper.old hart).pending ≡ Some g) }
-    ensures row { keeper.new ≡ with_row hart (asked_row result (row_of keeper.old hart)) keeper.old }
+    ensures asked { keeper.new ≡ asked_view hart result keeper.old }
     ensures told { (state : ℕ) × Says state result × TellsAsk keeper.old hart state }
     ensures saw { (g : Grant) → (row_of keeper.old hart).pending ≡ Some g → Saw keeper.new g result }
 {

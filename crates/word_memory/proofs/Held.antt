@@ -3,6 +3,7 @@ use Rattle.std.proofs.Common.{◌≡◌, ◌≢◌, ◌⊎◌, ⊎_elim, inl, in
 use Rattle.std.proofs.lemmas.Bool.Decides.{nat_tests}
 use mathlib.Core.Logic.{dite}
 use native.Mathlib.Decide.{ℕ_discrete}
+use Rattle.ld_base.specs.declared.fault.Shown.TheVariants.{Locked}
 use Rattle.ld_base.specs.declared.linking.Role.{Role}
 use Rattle.ld_base.specs.declared.linking.Role.TheVariants.{None as NoRole, Ro, Rx, Rw, Slot as SlotRole}
 use Rattle.guest_rule.specs.declared.kind.KeeperKind.TheVariants as kinds
@@ -12,10 +13,10 @@ use Rattle.guest_rule.specs.Layout.{control_at, doublewords, lock_bit, place_of,
 use Rattle.guest_rule.specs.Views.{IsLong, kept_at, nothing_locked, put, row_of, unmapped}
 use Rattle.guest_rule.specs.Allowed.{LeadsTo, NothingEnters}
 use Rattle.guest_rule.specs.Operations.{add}
-use Rattle.guest_rule.specs.KeeperSteps.{KeeperLearns, KeeperReady, Unposted, accessing, heeding, keeper_after, keeper_op, keeper_word, keeps_if, last_if, with_kept}
+use Rattle.guest_rule.specs.KeeperSteps.{KeeperLearns, KeeperReady, Unposted, accessing, heeding, keeper_after, keeper_op, keeper_word, keeps_if, last_if, shown_if, with_kept}
 use Rattle.guest_rule.proofs.Put.{put_else, put_here, set_put}
 use Rattle.guest_rule.proofs.Unlocking.{role_is}
-use Rattle.word_memory.specs.Keeping.{IsResting, control_found, has_locked, retired, retiring, set_as}
+use Rattle.word_memory.specs.Keeping.{IsResting, control_found, has_locked, retired, retiring, set_as, was_shown}
 
 set_twice : {A : Type 0} (l : List A) (i : ℕ) (a b : A) → set (set l i a) i b ≡ set l i b
 set_twice [] i a b = refl
@@ -34,14 +35,15 @@ heeds k r i = record k { note = sym r.note i }
 bit_of : (n : ℕ) → (lock_bit n == 1) ≡ false → lock_bit n ≡ 0
 bit_of n e = grind (arith, nat_tests)
 
-free_last : (d n : ℕ) → lock_bit n ≡ 0 → last_if d n (eqb (lock_bit n) 0) ≡ Some (d, n)
-free_last d n e = ap (λ b. last_if d n (eqb b 0)) e
+-- the view by the lock bit that was found
+abbrev found : ℕ → ℕ → KeeperView → ℕ → KeeperView
+found d n k bit = record (accessing (record { locked = None; held = None; last = last_if d n (eqb bit 0) }) (heeding k)) { shown = shown_if (eqb bit 0) n n k.shown }
 
 pub looks_free : (d n : ℕ) (k k' : KeeperView) → IsResting k → k' ≡ keeper_after (kinds.Look d) k n → lock_bit n ≡ 0 → k' ≡ control_found d n k
-looks_free d n k k' r is free = is ∙ (ap (λ l. accessing (record { locked = None; held = None; last = l }) (heeding k)) (free_last d n free) ∙ ap (λ k. accessing (record { locked = None; held = None; last = Some (d, n) }) k) (heeds k r))
+looks_free d n k k' r is free = is ∙ (ap (found d n k) free ∙ ap (λ k. accessing (record { locked = None; held = None; last = Some (d, n) }) k) (heeds k r))
 
-pub looks_locked : (d n : ℕ) (k k' : KeeperView) → IsResting k → k' ≡ keeper_after (kinds.Look d) k n → lock_bit n ≡ 1 → k' ≡ k
-looks_locked d n k k' r is locked = is ∙ (ap (λ b. accessing (record { locked = None; held = None; last = last_if d n (eqb b 0) }) (heeding k)) locked ∙ rests k r)
+pub looks_locked : (d n : ℕ) (k k' : KeeperView) → IsResting k → k' ≡ keeper_after (kinds.Look d) k n → lock_bit n ≡ 1 → k' ≡ was_shown (Locked n n) k
+looks_locked d n k k' r is locked = is ∙ (ap (found d n k) locked ∙ ap (was_shown (Locked n n)) (rests k r))
 
 -- only an RW doubleword is found locked
 pub looks_rw : (d n : ℕ) (k : KeeperView) → KeeperLearns (kinds.Look d) k n → lock_bit n ≡ 1 → (kept_at k d).role ≡ Rw
@@ -56,26 +58,30 @@ looks_rw d n k learns locked = only (kept_at k d).role learns.1
 
 -- ---- a lock
 
+-- the view by whether the control word was found as it was
+abbrev tried : ℕ → ℕ → ℕ → KeeperView → Bool → KeeperView
+tried d control n k b = record (keeps_if d b (heeding (control_found d control k))) { shown = shown_if b control n k.shown }
+
 pub lock_ready : (d control : ℕ) (k k1 : KeeperView) → d < doublewords → k1 ≡ control_found d control k → lock_bit control ≡ 0 → ((kept_at k d).role ≡ SlotRole → Unposted k d) → KeeperReady (kinds.Lock d control) k1
 lock_ready d control k k1 low is free slot = subst (KeeperReady (kinds.Lock d control)) (sym is) (low, refl, refl, free, slot)
 
 pub locks : (d control n : ℕ) (k k1 k' : KeeperView) → IsResting k → k1 ≡ control_found d control k → k' ≡ keeper_after (kinds.Lock d control) k1 n → n ≡ control → k' ≡ has_locked d k
-locks d control n k k1 k' r found is same = is ∙ (ap (λ k. keeper_after (kinds.Lock d control) k n) found ∙ (kept n same ∙ ap (λ k. has_locked d k) (heeds k r)))
+locks d control n k k1 k' r was is same = is ∙ (ap (λ k. keeper_after (kinds.Lock d control) k n) was ∙ (kept n same ∙ ap (λ k. has_locked d k) (heeds k r)))
   where
     yes : (a b : ℕ) → a ≡ b → eqb a b ≡ true
     yes a b e = eq-eqb a b e
 
-    kept : (n : ℕ) → n ≡ control → keeps_if d (eqb n control) (heeding (control_found d control k)) ≡ has_locked d (heeding k)
-    kept n same = ap (λ b. keeps_if d b (heeding (control_found d control k))) (yes n control same)
+    kept : (n : ℕ) → n ≡ control → tried d control n k (eqb n control) ≡ has_locked d (heeding k)
+    kept n same = ap (tried d control n k) (yes n control same)
 
-pub locks_not : (d control n : ℕ) (k k1 k' : KeeperView) → IsResting k → k1 ≡ control_found d control k → k' ≡ keeper_after (kinds.Lock d control) k1 n → n ≢ control → k' ≡ k
-locks_not d control n k k1 k' r found is other = is ∙ (ap (λ k. keeper_after (kinds.Lock d control) k n) found ∙ (kept n other ∙ rests k r))
+pub locks_not : (d control n : ℕ) (k k1 k' : KeeperView) → IsResting k → k1 ≡ control_found d control k → k' ≡ keeper_after (kinds.Lock d control) k1 n → n ≢ control → k' ≡ was_shown (Locked control n) k
+locks_not d control n k k1 k' r was is other = is ∙ (ap (λ k. keeper_after (kinds.Lock d control) k n) was ∙ (kept n other ∙ ap (was_shown (Locked control n)) (rests k r)))
   where
     no' : (a b : ℕ) → a ≢ b → eqb a b ≡ false
     no' a b e = ne_eqb a b e
 
-    kept : (n : ℕ) → n ≢ control → keeps_if d (eqb n control) (heeding (control_found d control k)) ≡ accessing nothing_locked (heeding k)
-    kept n other = ap (λ b. keeps_if d b (heeding (control_found d control k))) (no' n control other)
+    kept : (n : ℕ) → n ≢ control → tried d control n k (eqb n control) ≡ was_shown (Locked control n) (accessing nothing_locked (heeding k))
+    kept n other = ap (tried d control n k) (no' n control other)
 
 -- only an RW doubleword's control word changes under the keeper
 pub locks_rw : (d control n : ℕ) (k k1 : KeeperView) → k1 ≡ control_found d control k → KeeperLearns (kinds.Lock d control) k1 n → n ≢ control → (kept_at k d).role ≡ Rw

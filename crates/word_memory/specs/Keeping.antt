@@ -1,5 +1,7 @@
 -- The view of the keeper, and what its calls leave in it.
 use Rattle.std.specs.Prelude.{◌≡◌, ◌≢◌, ◌⊎◌, ℕ, ◌+◌, ◌<◌, ◌≤◌, ◌&&◌, nat_le, nat_lt, zero, suc, cond, List, [], ◌∷◌, ◌++◌, length, None, Some}
+use Rattle.ld_base.specs.declared.fault.Shown.{Shown}
+use Rattle.ld_base.specs.declared.fault.Shown.TheVariants.{Locked}
 use Rattle.ld_base.specs.declared.linking.Role.{Role}
 use Rattle.ld_base.specs.declared.linking.Role.TheVariants.{None as NoRole, Rx, Slot as SlotRole}
 use Rattle.link_event.specs.declared.event.Event.{Event}
@@ -33,6 +35,11 @@ control_found d control k = accessing (record { locked = None; held = None; last
 -- the doubleword is locked
 abbrev pub has_locked : ℕ → KeeperView → KeeperView
 has_locked d k = accessing (record { locked = Some d; held = None; last = None }) k
+
+-- two control words showed another seat's lock
+abbrev pub was_shown : Shown → KeeperView → KeeperView
+was_shown (Locked a b) k = record k { shown = Some (a, b) }
+was_shown _ k = k
 
 -- the doubleword has this value, role and lazy word from now on
 abbrev pub set_as : ℕ → ℕ → Role → ℕ → KeeperView → KeeperView

@@ -8,7 +8,7 @@ ghost use Rattle.guest_rule.specs.Layout.{place_of, table_words};
 ghost use Rattle.guest_rule.specs.Operations.{load, store};
 ghost use Rattle.guest_rule.specs.Views.{BeginsWith, IsLong, first_hart, kept_at, known_of, row_of};
 ghost use Rattle.word_memory.specs.Accesses.{IsShown};
-ghost use Rattle.word_memory.specs.Keeping.{IsResting, MayRetire, MaySet, counted, retired, set_as, with_joined};
+ghost use Rattle.word_memory.specs.Keeping.{IsResting, MayRetire, MaySet, counted, retired, set_as, was_shown, with_joined};
 
 use crate::desk::Desk;
 use crate::layout::place_at;
@@ -39,7 +39,8 @@ impl<J: Naming> Model for KeeperSeat<J> {
 ///
 /// # Errors
 ///
-/// What shows that a hart has locked the doubleword: its role was RW then. Nothing is changed.
+/// What shows that a hart has locked the doubleword: its role was RW then. Nothing is changed, but that
+/// the keeper saw it.
 pub fn set_word<J: Naming>(
     memory: &Memory<J>,
     keeper: &mut KeeperSeat<J>,
@@ -50,7 +51,7 @@ pub fn set_word<J: Naming>(
 ) -> Result<(), Shown>
     requires { MaySet keeper.old address value role }
     ensures ok { IfOk result (λ _. keeper.new ≡ set_as (place_of address) value role lazy keeper.old) }
-    ensures unchanged { IfErr result (λ shown. keeper.new ≡ keeper.old) }
+    ensures seen { IfErr result (λ shown. keeper.new ≡ was_shown shown keeper.old) }
     ensures shown { IfErr result IsShown }
     ensures writable { IfErr result (λ shown. (kept_at keeper.old (place_of address)).role ≡ Rw) }
     ensures long { IsLong keeper.old }
@@ -64,7 +65,8 @@ pub fn set_word<J: Naming>(
 ///
 /// # Errors
 ///
-/// What shows that a hart has locked the doubleword: its role was RW then. Nothing is changed.
+/// What shows that a hart has locked the doubleword: its role was RW then. Nothing is changed, but that
+/// the keeper saw it.
 pub fn retire<J: Naming>(
     memory: &Memory<J>,
     keeper: &mut KeeperSeat<J>,
@@ -72,7 +74,7 @@ pub fn retire<J: Naming>(
 ) -> Result<(), Shown>
     requires { MayRetire keeper.old address }
     ensures ok { IfOk result (λ _. keeper.new ≡ retired (place_of address) keeper.old) }
-    ensures unchanged { IfErr result (λ shown. keeper.new ≡ keeper.old) }
+    ensures seen { IfErr result (λ shown. keeper.new ≡ was_shown shown keeper.old) }
     ensures shown { IfErr result IsShown }
     ensures writable { IfErr result (λ shown. (kept_at keeper.old (place_of address)).role ≡ Rw) }
 {
