@@ -46,10 +46,10 @@ keeps_if d false k = accessing nothing_locked k
 abbrev pub not_found : Row → Row
 not_found r = record r { found_open = false }
 
--- two control words show another seat's lock, unless the doubleword is found as it should be
-abbrev pub shown_if : Bool → ℕ → ℕ → Option (ℕ × ℕ) → Option (ℕ × ℕ)
-shown_if true a b old = old
-shown_if false a b old = Some (a, b)
+-- two control words of a doubleword show another seat's lock, unless it is found as it should be
+abbrev pub shown_if : ℕ → Bool → ℕ → ℕ → Option (ℕ × ℕ × ℕ) → Option (ℕ × ℕ × ℕ)
+shown_if d true a b old = old
+shown_if d false a b old = Some (d, a, b)
 
 -- the hart is found calling: no row was found open since
 abbrev pub awaited_if : ℕ → Bool → KeeperView → KeeperView
@@ -163,9 +163,9 @@ KeeperReady kinds.Listen k = Unit {0}
 -- its view after, by the number found. Each step ends what is kept of a note
 abbrev pub keeper_after : KeeperKind → KeeperView → ℕ → KeeperView
 keeper_after (kinds.Look d) k n =
-    let free = eqb (lock_bit n) 0 in record (accessing (record { locked = None; held = None; last = last_if d n free }) (heeding k)) { shown = shown_if free n n k.shown }
+    let free = eqb (lock_bit n) 0 in record (accessing (record { locked = None; held = None; last = last_if d n free }) (heeding k)) { shown = shown_if d free n n k.shown }
 keeper_after (kinds.Load d) k n = accessing nothing_locked (heeding k)
-keeper_after (kinds.Lock d control) k n = record (keeps_if d (eqb n control) (heeding k)) { shown = shown_if (eqb n control) control n k.shown }
+keeper_after (kinds.Lock d control) k n = record (keeps_if d (eqb n control) (heeding k)) { shown = shown_if d (eqb n control) control n k.shown }
 keeper_after (kinds.Store d x) k n = accessing (record { locked = k.access.locked; held = Some x; last = None }) (with_kept d (record (kept_at k d) { value = x }) (heeding k))
 keeper_after (kinds.Unlock d old new lazy) k n =
     accessing nothing_locked (with_kept d (record { role = new; value = (kept_at k d).value; lazy = lazy; since = length k.events }) (heeding k))

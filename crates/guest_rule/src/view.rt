@@ -134,9 +134,9 @@ pub struct KeeperView {
     /// The last views of the harts whose seats were joined.
     pub joined: LinkedList<HartView>,
     pub note: Option<Told>,
-    /// What last showed another seat's lock: a control word that had it, twice, or the one that was
-    /// looked at and another that was found after it.
-    pub shown: Option<(u64, u64)>,
+    /// The doubleword that was last found locked by another seat, and what showed it: a control word
+    /// that had the lock, twice, or the one that was looked at and another that was found after it.
+    pub shown: Option<(u64, u64, u64)>,
     /// The doubleword of the slot that was looked at last, and the word found.
     pub saw: Option<(u64, u64)>,
 }

@@ -37,13 +37,13 @@ bit_of n e = grind (arith, nat_tests)
 
 -- the view by the lock bit that was found
 abbrev found : ℕ → ℕ → KeeperView → ℕ → KeeperView
-found d n k bit = record (accessing (record { locked = None; held = None; last = last_if d n (eqb bit 0) }) (heeding k)) { shown = shown_if (eqb bit 0) n n k.shown }
+found d n k bit = record (accessing (record { locked = None; held = None; last = last_if d n (eqb bit 0) }) (heeding k)) { shown = shown_if d (eqb bit 0) n n k.shown }
 
 pub looks_free : (d n : ℕ) (k k' : KeeperView) → IsResting k → k' ≡ keeper_after (kinds.Look d) k n → lock_bit n ≡ 0 → k' ≡ control_found d n k
 looks_free d n k k' r is free = is ∙ (ap (found d n k) free ∙ ap (λ k. accessing (record { locked = None; held = None; last = Some (d, n) }) k) (heeds k r))
 
-pub looks_locked : (d n : ℕ) (k k' : KeeperView) → IsResting k → k' ≡ keeper_after (kinds.Look d) k n → lock_bit n ≡ 1 → k' ≡ was_shown (Locked n n) k
-looks_locked d n k k' r is locked = is ∙ (ap (found d n k) locked ∙ ap (was_shown (Locked n n)) (rests k r))
+pub looks_locked : (d n : ℕ) (k k' : KeeperView) → IsResting k → k' ≡ keeper_after (kinds.Look d) k n → lock_bit n ≡ 1 → k' ≡ was_shown d (Locked n n) k
+looks_locked d n k k' r is locked = is ∙ (ap (found d n k) locked ∙ ap (was_shown d (Locked n n)) (rests k r))
 
 -- only an RW doubleword is found locked
 pub looks_rw : (d n : ℕ) (k : KeeperView) → KeeperLearns (kinds.Look d) k n → lock_bit n ≡ 1 → (kept_at k d).role ≡ Rw
@@ -60,7 +60,7 @@ looks_rw d n k learns locked = only (kept_at k d).role learns.1
 
 -- the view by whether the control word was found as it was
 abbrev tried : ℕ → ℕ → ℕ → KeeperView → Bool → KeeperView
-tried d control n k b = record (keeps_if d b (heeding (control_found d control k))) { shown = shown_if b control n k.shown }
+tried d control n k b = record (keeps_if d b (heeding (control_found d control k))) { shown = shown_if d b control n k.shown }
 
 pub lock_ready : (d control : ℕ) (k k1 : KeeperView) → d < doublewords → k1 ≡ control_found d control k → lock_bit control ≡ 0 → ((kept_at k d).role ≡ SlotRole → Unposted k d) → KeeperReady (kinds.Lock d control) k1
 lock_ready d control k k1 low is free slot = subst (KeeperReady (kinds.Lock d control)) (sym is) (low, refl, refl, free, slot)
@@ -74,13 +74,13 @@ locks d control n k k1 k' r was is same = is ∙ (ap (λ k. keeper_after (kinds.
     kept : (n : ℕ) → n ≡ control → tried d control n k (eqb n control) ≡ has_locked d (heeding k)
     kept n same = ap (tried d control n k) (yes n control same)
 
-pub locks_not : (d control n : ℕ) (k k1 k' : KeeperView) → IsResting k → k1 ≡ control_found d control k → k' ≡ keeper_after (kinds.Lock d control) k1 n → n ≢ control → k' ≡ was_shown (Locked control n) k
-locks_not d control n k k1 k' r was is other = is ∙ (ap (λ k. keeper_after (kinds.Lock d control) k n) was ∙ (kept n other ∙ ap (was_shown (Locked control n)) (rests k r)))
+pub locks_not : (d control n : ℕ) (k k1 k' : KeeperView) → IsResting k → k1 ≡ control_found d control k → k' ≡ keeper_after (kinds.Lock d control) k1 n → n ≢ control → k' ≡ was_shown d (Locked control n) k
+locks_not d control n k k1 k' r was is other = is ∙ (ap (λ k. keeper_after (kinds.Lock d control) k n) was ∙ (kept n other ∙ ap (was_shown d (Locked control n)) (rests k r)))
   where
     no' : (a b : ℕ) → a ≢ b → eqb a b ≡ false
     no' a b e = ne_eqb a b e
 
-    kept : (n : ℕ) → n ≢ control → tried d control n k (eqb n control) ≡ was_shown (Locked control n) (accessing nothing_locked (heeding k))
+    kept : (n : ℕ) → n ≢ control → tried d control n k (eqb n control) ≡ was_shown d (Locked control n) (accessing nothing_locked (heeding k))
     kept n other = ap (tried d control n k) (no' n control other)
 
 -- only an RW doubleword's control word changes under the keeper

@@ -36,10 +36,10 @@ control_found d control k = accessing (record { locked = None; held = None; last
 abbrev pub has_locked : ℕ → KeeperView → KeeperView
 has_locked d k = accessing (record { locked = Some d; held = None; last = None }) k
 
--- two control words showed another seat's lock
-abbrev pub was_shown : Shown → KeeperView → KeeperView
-was_shown (Locked a b) k = record k { shown = Some (a, b) }
-was_shown _ k = k
+-- two control words of a doubleword showed another seat's lock
+abbrev pub was_shown : ℕ → Shown → KeeperView → KeeperView
+was_shown d (Locked a b) k = record k { shown = Some (d, a, b) }
+was_shown d _ k = k
 
 -- the doubleword has this value, role and lazy word from now on
 abbrev pub set_as : ℕ → ℕ → Role → ℕ → KeeperView → KeeperView

@@ -51,7 +51,7 @@ pub fn set_word<J: Naming>(
 ) -> Result<(), Shown>
     requires { MaySet keeper.old address value role }
     ensures ok { IfOk result (λ _. keeper.new ≡ set_as (place_of address) value role lazy keeper.old) }
-    ensures seen { IfErr result (λ shown. keeper.new ≡ was_shown shown keeper.old) }
+    ensures seen { IfErr result (λ shown. keeper.new ≡ was_shown (place_of address) shown keeper.old) }
     ensures shown { IfErr result IsShown }
     ensures writable { IfErr result (λ shown. (kept_at keeper.old (place_of address)).role ≡ Rw) }
     ensures long { IsLong keeper.old }
@@ -74,7 +74,7 @@ pub fn retire<J: Naming>(
 ) -> Result<(), Shown>
     requires { MayRetire keeper.old address }
     ensures ok { IfOk result (λ _. keeper.new ≡ retired (place_of address) keeper.old) }
-    ensures seen { IfErr result (λ shown. keeper.new ≡ was_shown shown keeper.old) }
+    ensures seen { IfErr result (λ shown. keeper.new ≡ was_shown (place_of address) shown keeper.old) }
     ensures shown { IfErr result IsShown }
     ensures writable { IfErr result (λ shown. (kept_at keeper.old (place_of address)).role ≡ Rw) }
 {

@@ -23,7 +23,7 @@ impl<J: Naming> Desk<J> {
         requires resting { IsResting self.old }
         ensures ok { IfOk result (λ control. (self.new ≡ control_found at control self.old) × (lock_bit control ≡ 0)) }
         ensures role { IfOk result (λ control. control % 8 ≡ role_code (kept_at self.old at).role) }
-        ensures err { IfErr result (λ shown. (self.new ≡ was_shown shown self.old) × IsShown shown × ((kept_at self.old at).role ≡ Rw)) }
+        ensures err { IfErr result (λ shown. (self.new ≡ was_shown at shown self.old) × IsShown shown × ((kept_at self.old at).role ≡ Rw)) }
         ensures long { IsLong self.old }
     {
         let control = self.load_word(memory, control_word(at), KeeperKind::Look(at as u64));
@@ -40,7 +40,7 @@ impl<J: Naming> Desk<J> {
         requires resting { IsResting self.old }
         requires slot { (kept_at self.old at).role ≡ SlotRole → Unposted self.old at }
         ensures ok { IfOk result (λ role. (self.new ≡ has_locked at self.old) × (role ≡ (kept_at self.old at).role)) }
-        ensures err { IfErr result (λ shown. (self.new ≡ was_shown shown self.old) × IsShown shown × ((kept_at self.old at).role ≡ Rw)) }
+        ensures err { IfErr result (λ shown. (self.new ≡ was_shown at shown self.old) × IsShown shown × ((kept_at self.old at).role ≡ Rw)) }
         ensures long { IsLong self.old }
     {
         let control = self.look(memory, at)?;
@@ -73,7 +73,7 @@ impl<J: Naming> Desk<J> {
         requires was { ((kept_at self.old at).role ≡ NoRole) ⊎ (((kept_at self.old at).role ≡ role) × (role ≢ SlotRole)) }
         requires leads { role ≡ SlotRole → LeadsTo (kept_at self.old) value }
         ensures ok { IfOk result (λ _. self.new ≡ set_as at value role lazy self.old) }
-        ensures err { IfErr result (λ shown. (self.new ≡ was_shown shown self.old) × IsShown shown × ((kept_at self.old at).role ≡ Rw)) }
+        ensures err { IfErr result (λ shown. (self.new ≡ was_shown at shown self.old) × IsShown shown × ((kept_at self.old at).role ≡ Rw)) }
         ensures long { IsLong self.old }
     {
         let old = self.lock(memory, at)?;
@@ -101,7 +101,7 @@ impl<J: Naming> Desk<J> {
         requires slot { (kept_at self.old at).role ≡ SlotRole → Unposted self.old at }
         requires other { (kept_at self.old at).role ≢ SlotRole → NothingEnters (kept_at self.old) (row_of self.old) at }
         ensures ok { IfOk result (λ _. self.new ≡ retired at self.old) }
-        ensures err { IfErr result (λ shown. (self.new ≡ was_shown shown self.old) × IsShown shown × ((kept_at self.old at).role ≡ Rw)) }
+        ensures err { IfErr result (λ shown. (self.new ≡ was_shown at shown self.old) × IsShown shown × ((kept_at self.old at).role ≡ Rw)) }
     {
         let old = self.lock(memory, at)?;
         let more = LOCK - code_of(old);

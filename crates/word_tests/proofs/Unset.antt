@@ -39,15 +39,15 @@ may_set k n value role low some other unset = record {
   leads = λ e. absurd (other e);
 }
 
-same_words : (k : KeeperView) (d : ℕ) (shown : Shown) → (kept_at (was_shown shown k) d).role ≡ (kept_at k d).role
-same_words k d (Locked a b) = refl
-same_words k d (Initialising s) = refl
-same_words k d (Closing s) = refl
-same_words k d (OpenGrant g) = refl
+same_words : (k : KeeperView) (at d : ℕ) (shown : Shown) → (kept_at (was_shown at shown k) d).role ≡ (kept_at k d).role
+same_words k at d (Locked a b) = refl
+same_words k at d (Initialising s) = refl
+same_words k at d (Closing s) = refl
+same_words k at d (OpenGrant g) = refl
 
 pub unset_more : (k k' : KeeperView) (n value : ℕ) (role : Role) (r : Result Unit Shown) → n < 64 → AreUnset k n → IsLong k
-    → IfOk r (λ _. k' ≡ set_as (place_of (0x10000 + 8 * n)) value role 0 k) → IfErr r (λ shown. k' ≡ was_shown shown k) → AreUnset k' (n + 1)
-unset_more k k' n value role (Err shown) low unset long ok same d from few = ap (λ k. (kept_at k d).role) same ∙ (same_words k d shown ∙ unset d (omega arith) few)
+    → IfOk r (λ _. k' ≡ set_as (place_of (0x10000 + 8 * n)) value role 0 k) → IfErr r (λ shown. k' ≡ was_shown (place_of (0x10000 + 8 * n)) shown k) → AreUnset k' (n + 1)
+unset_more k k' n value role (Err shown) low unset long ok same d from few = ap (λ k. (kept_at k d).role) same ∙ (same_words k (place_of (0x10000 + 8 * n)) d shown ∙ unset d (omega arith) few)
 unset_more k k' n value role (Ok t) low unset long ok same d from few =
     ap (λ k. (kept_at k d).role) ok ∙ (ap (λ (x : Kept). x.role) (kept_else k (place_of (0x10000 + 8 * n)) (record { role = role; value = value; lazy = 0; since = length k.events }) inside d apart) ∙ unset d (omega arith) few)
   where
