@@ -53,6 +53,10 @@ extend_is a (x ∷ xs) =
       | inr h ↦ rw h (extend_is (a ++ x ∷ []) xs ∙ append_assoc a (x ∷ []) (lacking (a ++ x ∷ []) xs) ∙ rw (fresh_pushed a x (first_kept xs)) refl)
     ]
 
+-- so it stands at the front
+pub extend_begins : (a xs : List ℕ) → Begins a (extend a xs)
+extend_begins a xs = (lacking a xs, extend_is a xs)
+
 extend_nothing : (xs : List ℕ) → extend [] xs ≡ without 0 (first_kept xs)
 extend_nothing xs = extend_is [] xs ∙ search rules
 

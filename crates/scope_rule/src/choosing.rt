@@ -10,16 +10,11 @@ ghost use Rattle.scope_rule.specs.Relocation.{choice_at};
 
 use crate::linker_object::linker_symbol;
 use crate::namespace::Namespace;
+use crate::relocation::{has_no_symbol, is_copy};
 use crate::scoping::scope;
 use crate::view::View;
 use ld_base::{Choice, Loaded, Name, Object, Reloc, Serial, Serials, Symbol, Want, pick};
 use std::alloc::{AllocError, Global};
-
-const R_RISCV_NONE: u32 = 0;
-
-const R_RISCV_RELATIVE: u32 = 3;
-
-const R_RISCV_COPY: u32 = 4;
 
 /// What an object of the namespace, or the linker's own, has for a name and a version.
 #[tactic(auto, unfolding(crate::specs::Choose::pick_at))]
@@ -71,14 +66,14 @@ pub fn want_of(alloc: Global, object: &Object, symbol: &Symbol) -> Result<Want, 
 }
 
 /// Whether no other object may define the symbol.
-fn is_own(symbol: &Symbol) -> bool
+pub fn is_own(symbol: &Symbol) -> bool
     ensures { result ≡ is_own symbol.now }
 {
     symbol.is_local() || (symbol.is_defined() && symbol.other % 4 != 0)
 }
 
 /// What a search gives for a symbol.
-fn choice_of(symbol: &Symbol, found: Option<(Serial, u32)>) -> Choice
+pub fn choice_of(symbol: &Symbol, found: Option<(Serial, u32)>) -> Choice
     ensures { result ≡ choice_of symbol.now found }
 {
     match found {
@@ -184,19 +179,12 @@ pub fn choose_reloc(
     requires symbol_is_there { reloc.now.symbol < length owner.now.object.symbols }
     ensures { IfOk result (λ c. c ≡ choice_at (seen view.now) owner.now reloc.now) }
 {
-    if reloc.kind == R_RISCV_NONE || reloc.kind == R_RISCV_RELATIVE {
+    if has_no_symbol(reloc) {
         return Ok(Choice::WeakZero);
     }
     if reloc.symbol == 0 {
         return Ok(Choice::Def(owner.serial, 0));
     }
     let symbol = &owner.object.symbols.as_slice()[reloc.symbol as usize];
-    choose_for(
-        alloc,
-        view,
-        owner,
-        reloc.symbol,
-        symbol,
-        reloc.kind == R_RISCV_COPY,
-    )
+    choose_for(alloc, view, owner, reloc.symbol, symbol, is_copy(reloc))
 }

@@ -10,7 +10,7 @@ ghost use Rattle.scope_rule.specs.Breadth.{breadth, extend, order_to};
 ghost use Rattle.scope_rule.specs.Finding.{absent};
 ghost use Rattle.scope_rule.specs.Load.{Load, Walk, Stop, Brings, Stops, IsRoot, finds, present, take_found, paths_of, records_of, refuses, stops, use_of, waits};
 ghost use Rattle.scope_rule.specs.Loading.{found_of};
-ghost use Rattle.scope_rule.specs.Loads.{Closed, IsFound, IsMissing, IsRead, ReadsNothing, Stands, WaitsForOne, alone, named_there, new_of};
+ghost use Rattle.scope_rule.specs.Loads.{Begins, Closed, IsFound, IsMissing, IsRead, ReadsNothing, Stands, WaitsForOne, alone, named_there, new_of};
 ghost use Rattle.scope_rule.specs.Seen.{Seen, with_added};
 
 /// A load comes to one walk, or stops for one reason.
@@ -106,4 +106,12 @@ pub fn never_waits()
 #[tactic(auto, using(crate::proofs::Orders::breadth_grows))]
 pub fn breadth_grows()
     ensures { (s : Seen) (root : ℕ) → breadth s root ≡ order_to (found_of s) (extend [] (root ∷ [])) (length s.objects) }
+{}
+
+/// An order is extended by two lists as by the one and then the other, and stands at the front of what
+/// it is extended to.
+#[tactic(auto, using(crate::proofs::Orders::extend_begins))]
+pub fn extends_at_the_end()
+    ensures one_by_one { (order xs ys : List ℕ) → extend order (xs ++ ys) ≡ extend (extend order xs) ys }
+    ensures begins { (order xs : List ℕ) → Begins order (extend order xs) }
 {}

@@ -21,21 +21,23 @@ mod law;
 mod linker_object;
 mod namespace;
 mod opening;
+mod relocation;
 mod scoping;
 mod searching;
 mod view;
 
 pub use arrival::Arrival;
 pub use breadth_first::breadth;
-pub use choosing::{choose, choose_in, choose_reloc, want_of};
+pub use choosing::{choice_of, choose, choose_in, choose_reloc, is_own, want_of};
 pub use law::{
-    breadth_grows, finds_loaded, found_stands, loads_breadth_first, missing_library, names_find,
-    never_waits, one_outcome, reads_candidates, reads_nothing, root_is_new, serials_follow,
-    waits_for_one,
+    breadth_grows, extends_at_the_end, finds_loaded, found_stands, loads_breadth_first,
+    missing_library, names_find, never_waits, one_outcome, reads_candidates, reads_nothing,
+    root_is_new, serials_follow, waits_for_one,
 };
 pub use linker_object::linker_symbol;
 pub use namespace::{Namespace, OpenRec, Opens};
 pub use opening::{OpenedLists, opened_lists};
+pub use relocation::{has_no_symbol, is_copy};
 pub use scoping::scope;
 pub use searching::{search_breadth, search_global};
-pub use view::View;
+pub use view::{View, is_dying};

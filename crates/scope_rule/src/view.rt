@@ -86,7 +86,7 @@ fn with_serial(objects: &[Loaded], serial: Serial) -> Option<&Loaded>
 }
 
 /// Whether its destructors run.
-pub(crate) fn is_dying(object: &Loaded) -> bool
+pub fn is_dying(object: &Loaded) -> bool
     ensures { result ≡ is_dying object.now }
 {
     matches!(object.state, State::Dying(_))
