@@ -85,7 +85,7 @@ fn plain_word(object: &Object, segment: &Segment, address: u64) -> Word
 }
 
 /// The word that the file gives for an address of a segment's pages.
-fn segment_word(segment: &Segment, address: u64) -> u64
+pub(crate) fn segment_word(segment: &Segment, address: u64) -> u64
     requires { address < 2 ^ 63 }
     ensures { result ≡ word_of (byte_in segment.now) address }
 {
@@ -123,21 +123,21 @@ fn segment_role(object: &Object, segment: &Segment, address: u64) -> Role
 }
 
 /// Whether the segment's bytes may be run (PF_X).
-fn is_executable(segment: &Segment) -> bool
+pub(crate) fn is_executable(segment: &Segment) -> bool
     ensures { result ≡ is_executable segment.now }
 {
     segment.flags % 2 == 1
 }
 
 /// Whether the segment's bytes may be written (PF_W).
-fn is_writable(segment: &Segment) -> bool
+pub(crate) fn is_writable(segment: &Segment) -> bool
     ensures { result ≡ is_writable segment.now }
 {
     segment.flags / 2 % 2 == 1
 }
 
 /// Whether a doubleword lies wholly inside the range that is read-only once it is relocated.
-fn is_relro(object: &Object, address: u64) -> bool
+pub(crate) fn is_relro(object: &Object, address: u64) -> bool
     requires { address < 2 ^ 63 }
     ensures { result ≡ is_relro object.now address }
 {

@@ -150,6 +150,23 @@ impl TlsModules {
         self.generation += 1;
     }
 
+    /// The same modules once more, in memory of their own.
+    ///
+    /// # Errors
+    ///
+    /// Want of memory.
+    pub fn copy(&self, alloc: Global) -> Result<Self, AllocError>
+        ensures modules { IfOk result (λ m. m.modules ≡ self.now.modules) }
+        ensures size { IfOk result (λ m. m.size ≡ self.now.size) }
+        ensures tp { IfOk result (λ m. m.tp ≡ self.now.tp) }
+        ensures generation { IfOk result (λ m. m.generation ≡ self.now.generation) }
+    {
+        Ok(TlsModules {
+            modules: Vec::from_slice(alloc, self.modules.as_slice())?,
+            ..*self
+        })
+    }
+
     /// Where the last static block ends, behind tp.
     pub fn static_size(&self) -> u64
         ensures { result ≡ self.now.size }
