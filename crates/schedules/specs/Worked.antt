@@ -1,0 +1,21 @@
+-- Worked schedules of two harts, and texts that are none.
+use Rattle.std.specs.Prelude.{ℕ, List, [], ◌∷◌, codes}
+use Rattle.schedules.specs.Grammar.{SaysTurns}
+use Rattle.schedules.specs.declared.schedule.TurnItem.{TurnItem}
+
+abbrev pub turns : ℕ → ℕ → TurnItem
+turns hart count = record { hart = hart; count = count }
+
+-- two harts race: eighteen turns of the first, 29 of the second, and two of the first
+abbrev pub Race : Type 0
+Race = SaysTurns 2 (codes "0*18,1*29,0*2") (turns 0 18 ∷ turns 1 29 ∷ turns 0 2 ∷ [])
+
+abbrev pub InOrder : Type 0
+InOrder = SaysTurns 1 (codes "rr") []
+
+abbrev pub Once : Type 0
+Once = SaysTurns 2 (codes "1,0") (turns 1 1 ∷ turns 0 1 ∷ [])
+
+-- nothing is said by these: a hart that isn't there, no turn, a zero before a number, an empty item, nothing at all
+abbrev pub SaysNothing : ℕ → List ℕ → Type 0
+SaysNothing harts text = (items : List TurnItem) → SaysTurns harts text items → ⊥
