@@ -3,7 +3,8 @@ use Rattle.std.proofs.Common.{◌≡◌, ◌↔◌, ◌∙◌, ap, sym, subst, �
 use Rattle.std.specs.Prelude.{◌==◌, ◌&&◌, ◌||◌, not, IfSome, Option, Some, None}
 use Rattle.ld_base.specs.Marks.{is_marked}
 use Rattle.std.specs.Str.{bytes_eq}
-use Rattle.std.proofs.lemmas.Bool.{and_parts}
+use Rattle.std.specs.List.{slice_get}
+use Rattle.std.proofs.lemmas.Bool.{and_from, and_parts}
 use Rattle.std.proofs.lemmas.Slice.Eq.{bytes_eq-Decides}
 use Rattle.ld_base.specs.declared.linking.Want.{Want}
 use Rattle.ld_base.specs.declared.linking.Want.TheVariants as want
@@ -16,7 +17,7 @@ use Rattle.ld_base.specs.Pick.{carries, is_offer, is_wanted, names_no_version, p
 use Rattle.ld_base.specs.Symbol.{is_hidden_version, is_visible_definition, version_index}
 use Rattle.ld_base.specs.Taken.{Exports, Takes, fits, in_sight}
 use Rattle.sym_hash.specs.Reached.{IsTableOf, Reached, ReachedByGnu, ReachedBySysv}
-use Rattle.sym_find.specs.Best.{FirstOf, Keeps, Knows, OnlyOf, nothing, only_of, taken}
+use Rattle.sym_find.specs.Best.{FirstOf, Keeps, KeepsAll, Knows, OnlyOf, nothing, only_of, taken}
 use Rattle.sym_find.specs.Found.{Finds, Least, Offers, Only}
 use Rattle.sym_find.specs.declared.best.Best.{Best}
 use Rattle.sym_find.specs.declared.best.Search.{Search}
@@ -38,9 +39,6 @@ by_none t name w none empty = knows_nothing w (Reached t name) (λ k r. rw (none
 -- ---- which versions are wanted
 
 module _ (o : Object) (name : List ℕ) (s : Symbol) where
-  pub fits_any : (w : Want) → o.has_versym ≡ false → fits o name w s ≡ (is_offer o name s && true)
-  fits_any w none = ap (λ b. is_offer o name s && (not b || is_wanted o w s)) none
-
   fits_wanted : (w : Want) (wanted : Bool) → o.has_versym ≡ true → is_wanted o w s ≡ wanted → fits o name w s ≡ (is_offer o name s && wanted)
   fits_wanted w wanted some is = ap (λ b. is_offer o name s && (not b || is_wanted o w s)) some ∙ ap (λ b. is_offer o name s && b) is
 
@@ -77,6 +75,43 @@ keeps o name w led b fit sight fitting seen first only = record {
       only_same (λ k. Exports o sight k × led k) (λ k. Exports o (in_sight o name) k × led k)
       (λ k has. (same_exports o sight (in_sight o name) (λ s. sym (seen s)) k has.0, has.1)) (λ k has. (same_exports o (in_sight o name) sight seen k has.0, has.1)) b.sight (only none);
 }
+
+-- ---- where the first of the name decides
+
+module _ (o : Object) (name : List ℕ) (w : Want) (led : ℕ → Type 0) where
+  abbrev Named : ℕ → Type 0
+  Named k = Exports o (is_offer o name) k × led k
+
+  abbrev Fitting : ℕ → Type 0
+  Fitting k = Exports o (fits o name w) k × led k
+
+  named_of : (k : ℕ) → Fitting k → Named k
+  named_of k ((from, s, at, fit), has) = ((from, s, at, (and_parts (is_offer o name s) (not o.has_versym || is_wanted o w s) fit).0), has)
+
+  first_decides : (first : Option ℕ) → FirstOf Named first → IfSome first (λ k. (s : Symbol) → slice_get o.symbols k ≡ Some s → (not o.has_versym || is_wanted o w s) ≡ true) → FirstOf Fitting first
+  first_decides None none wanted = λ k has. none k (named_of k has)
+  first_decides (Some k) (((from, s, at, offer), has), least) wanted = (
+    ((from, s, at, and_from (is_offer o name s) (not o.has_versym || is_wanted o w s) offer (wanted s at)), has),
+    λ j other. least j (named_of j other),
+  )
+
+  pub decided : (b : Best) → KeepsAll o name led b → IfSome b.first (λ k. (s : Symbol) → slice_get o.symbols k ≡ Some s → (not o.has_versym || is_wanted o w s) ≡ true) → Keeps o name w led b
+  decided b all wanted = record { first = first_decides b.first all.first wanted; sight = all.sight }
+
+-- all that a search of any version keeps
+pub keeps_all : (o : Object) (name : List ℕ) (led : ℕ → Type 0) (b : Best) (fit sight : Symbol → Bool) → ((s : Symbol) → is_offer o name s ≡ fit s) → ((s : Symbol) → in_sight o name s ≡ sight s)
+    → FirstOf (λ k. Exports o fit k × led k) b.first → (b.first ≡ None → OnlyOf (λ k. Exports o sight k × led k) b.sight) → KeepsAll o name led b
+keeps_all o name led b fit sight fitting seen first only = record {
+  first = first_same (λ k. Exports o fit k × led k) (λ k. Exports o (is_offer o name) k × led k)
+      (λ k has. (same_exports o fit (is_offer o name) (λ s. sym (fitting s)) k has.0, has.1)) (λ k has. (same_exports o (is_offer o name) fit fitting k has.0, has.1)) b.first first;
+  sight = λ none.
+      only_same (λ k. Exports o sight k × led k) (λ k. Exports o (in_sight o name) k × led k)
+      (λ k has. (same_exports o sight (in_sight o name) (λ s. sym (seen s)) k has.0, has.1)) (λ k has. (same_exports o (in_sight o name) sight seen k has.0, has.1)) b.sight (only none);
+}
+
+pub with_true : (b : Bool) → b ≡ (b && true)
+with_true true = refl
+with_true false = refl
 
 -- ---- what is taken of it
 

@@ -10,7 +10,7 @@ use Rattle.ld_base.specs.declared.object.Symbol.{Symbol}
 use Rattle.ld_base.specs.Pick.{is_offer}
 use Rattle.ld_base.specs.Symbol.{is_hidden_version}
 use Rattle.ld_base.specs.Taken.{Exports}
-use Rattle.sym_find.specs.Best.{FirstOf, Knows, OnlyOf, after, exports, fitting, least, made, nothing, passes, seen_too, sighted}
+use Rattle.sym_find.specs.Best.{FirstOf, Knows, OnlyOf, after, exports, fitting, least, made, nothing, passes, precedes, seen_too, sighted}
 use Rattle.sym_find.specs.declared.best.Best.{Best}
 use Rattle.sym_find.specs.declared.best.Search.{Search}
 use Rattle.sym_find.specs.declared.best.Sight.{Sight}
@@ -112,6 +112,24 @@ module _ (w : Search) (led more : ℕ → Type 0) (b : Best) (to : (k : ℕ) →
     first = first_early (Fits led) (Fits more) (λ k has. (has.0, to k has.1)) (λ k j has other. elim (from k j has.1 other.1) [ inl own ↦ inl (other.0, own) | inr behind ↦ inr behind ]) b.first some knows.first;
     sight = λ none. absurd (no_first b.first none some);
   }
+
+  -- ones that aren't before a symbol, where one before it fits
+  pub knows_past : (at : ℕ) → precedes b at ≡ true → ((k : ℕ) → w.object.now.first_exported ≤ k → more k → led k ⊎ (at ≤ k)) → Knows w more b
+  knows_past at past from = record {
+    first = first_past b.first past knows.first;
+    sight = λ none. absurd (no_first b.first none (some_first b.first past));
+  }
+    where
+      some_first : (found : Option ℕ) → option_map_or (λ first. nat_le first at) found false ≡ true → is_some found ≡ true
+      some_first None is = absurd (cc)
+      some_first (Some k) is = refl
+
+      first_past : (found : Option ℕ) → option_map_or (λ first. nat_le first at) found false ≡ true → FirstOf (Fits led) found → FirstOf (Fits more) found
+      first_past None is none = absurd (cc)
+      first_past (Some k) is (has, first) = (
+        (has.0, to k has.1),
+        λ j other. elim (from j other.0.0 other.1) [ inl own ↦ first j (other.0, own) | inr behind ↦ (let low = leb-true k at is in omega arith) ],
+      )
 
   -- one more
   pub knows_after : (at : ℕ) → more at → ((k : ℕ) → more k → led k ⊎ (k ≡ at)) → Knows w more (after w b at)

@@ -1,19 +1,19 @@
 -- Walks of a System V table.
-use Rattle.std.proofs.Common.{◌≡◌, ◌≢◌, sym, subst, ℕ, suc, ◌+◌, ◌-◌, ◌%◌, ◌≤◌, List, length, refl, arith, inl, inr}
-use Rattle.std.specs.Prelude.{◌⊎◌, Some, None, slice_index}
+use Rattle.std.proofs.Common.{◌≡◌, ◌≢◌, sym, subst, ℕ, suc, ◌+◌, ◌-◌, ◌%◌, ◌≤◌, Bool, true, false, List, length, refl, arith, inl, inr}
+use Rattle.std.specs.Prelude.{◌⊎◌, ◌==◌, ◌||◌, if◌then◌else◌, Some, None, slice_index}
 use Rattle.std.specs.List.{slice_get}
-use Rattle.std.proofs.lemmas.Bool.{cases_lt}
+use Rattle.std.proofs.lemmas.Bool.{cases_lt, eq-eqb, eqb-true, or_cases}
 use Rattle.std.proofs.lemmas.List.{get_or_past}
 use Rattle.std.proofs.lemmas.Option.{get_or_from_slice_get, slice_get-get_or}
 use Rattle.ld_base.specs.declared.parts.SysvPart.{SysvPart}
 use Rattle.sym_hash.specs.Hash.{sysv_hash}
 use Rattle.sym_hash.specs.Reached.{Leads, ReachedBySysv}
 use Rattle.sym_hash.specs.Reached.Leads.{here, on}
-use Rattle.sym_find.specs.Best.{Knows, after, nothing}
+use Rattle.sym_find.specs.Best.{Knows, after, nothing, precedes}
 use Rattle.sym_find.specs.Walks.{Linked}
 use Rattle.sym_find.specs.declared.best.Best.{Best}
 use Rattle.sym_find.specs.declared.best.Search.{Search}
-use Rattle.sym_find.proofs.Kept.{knows_after, knows_nothing, knows_same}
+use Rattle.sym_find.proofs.Kept.{knows_after, knows_nothing, knows_past, knows_same}
 
 -- how far a walk has come: so many links lead from the bucket, and what they all lead to is led to from here
 pub record Way (chain : List ℕ) (bucket passed at : ℕ) : Type 0 where
@@ -62,23 +62,29 @@ module _ (chain : List ℕ) (bucket passed at : ℕ) (way : Way chain bucket pas
   linked_before : (k : ℕ) → Linked chain bucket passed k → Linked chain bucket (passed + 1) k
   linked_before k l = let few = l.few in record { links = l.links; few = omega arith; leads = l.leads; some = l.some }
 
-  pub linked_more : (w : Search) (b : Best) → at ≢ 0 → Knows w (Linked chain bucket passed) b → Knows w (Linked chain bucket (passed + 1)) (after w b at)
-  linked_more w b some knows =
-      knows_after w (Linked chain bucket passed) (Linked chain bucket (passed + 1)) b linked_before knows at (record { links = passed; few = omega arith; leads = way.come some; some = some }) one_of
+  one_of : (k : ℕ) → Linked chain bucket (passed + 1) k → Linked chain bucket passed k ⊎ (k ≡ at)
+  one_of k l =
+      elim (cases_lt l.links passed) [
+        | inl before ↦ inl (record { links = l.links; few = before; leads = l.leads; some = l.some })
+        | inr last ↦
+            inr
+            (let few = l.few in
+            let none : l.links - passed ≡ 0 = omega arith in
+            at_once chain at (l.links - passed) k none (way.rest l.links k last l.some l.leads))
+      ]
+
+  pub linked_more : (w : Search) (b : Best) → at ≢ 0 → Knows w (Linked chain bucket passed) b → Knows w (Linked chain bucket (passed + 1)) (if precedes b at then b else after w b at)
+  linked_more w b some knows = by_first (precedes b at) refl
     where
-      one_of : (k : ℕ) → Linked chain bucket (passed + 1) k → Linked chain bucket passed k ⊎ (k ≡ at)
-      one_of k l =
-          elim (cases_lt l.links passed) [
-            | inl before ↦ inl (record { links = l.links; few = before; leads = l.leads; some = l.some })
-            | inr last ↦
-                inr
-                (let few = l.few in
-                let none : l.links - passed ≡ 0 = omega arith in
-                at_once chain at (l.links - passed) k none (way.rest l.links k last l.some l.leads))
-          ]
+      by_first : (past : Bool) → precedes b at ≡ past → Knows w (Linked chain bucket (passed + 1)) (if past then b else after w b at)
+      by_first true past =
+          knows_past w (Linked chain bucket passed) (Linked chain bucket (passed + 1)) b linked_before knows at past
+          (λ k low l. elim (one_of k l) [ inl before ↦ inl before | inr is ↦ inr (omega arith) ])
+      by_first false past =
+          knows_after w (Linked chain bucket passed) (Linked chain bucket (passed + 1)) b linked_before knows at (record { links = passed; few = omega arith; leads = way.come some; some = some }) one_of
 
   -- the walk is at its end
-  pub ended : (w : Search) (b : Best) (most : ℕ) → at ≡ 0 → passed ≤ most → Knows w (Linked chain bucket passed) b → Knows w (Linked chain bucket most) b
+  ended : (w : Search) (b : Best) (most : ℕ) → at ≡ 0 → passed ≤ most → Knows w (Linked chain bucket passed) b → Knows w (Linked chain bucket most) b
   ended w b most over order knows =
       knows_same w (Linked chain bucket passed) (Linked chain bucket most) b
       (λ k l. let few = l.few in record { links = l.links; few = omega arith; leads = l.leads; some = l.some }) knows
@@ -87,6 +93,23 @@ module _ (chain : List ℕ) (bucket passed at : ℕ) (way : Way chain bucket pas
         | inl before ↦ record { links = l.links; few = before; leads = l.leads; some = l.some }
         | inr last ↦ absurd (l.some (off_zero chain at (l.links - passed) k over (way.rest l.links k last l.some l.leads)))
       ])
+
+  -- or nothing before the first that fits may be exported
+  pub settled : (w : Search) (b : Best) (most : ℕ) → precedes b w.object.now.first_exported ≡ true → passed ≤ most → Knows w (Linked chain bucket passed) b → Knows w (Linked chain bucket most) b
+  settled w b most first order knows =
+      knows_past w (Linked chain bucket passed) (Linked chain bucket most) b (λ k l. let few = l.few in record { links = l.links; few = omega arith; leads = l.leads; some = l.some }) knows
+      w.object.now.first_exported first (λ k low l. inr low)
+
+  pub over : (w : Search) (b : Best) (most : ℕ) → (at == 0 || precedes b w.object.now.first_exported) ≡ true → passed ≤ most → Knows w (Linked chain bucket passed) b → Knows w (Linked chain bucket most) b
+  over w b most is order knows =
+      elim (or_cases (at == 0) (precedes b w.object.now.first_exported) is) [
+        | inl end ↦ ended w b most (eqb-true at 0 end) order knows
+        | inr first ↦ settled w b most first order knows
+      ]
+
+-- a walk that isn't over is at a symbol
+pub goes_on : (at : ℕ) (first : Bool) → (at == 0 || first) ≡ false → at ≢ 0
+goes_on at first is = λ zero. absurd (let over : (at == 0) ≡ true = eq-eqb at 0 zero in cc)
 
 -- no link yet
 not_linked : (chain : List ℕ) (bucket k : ℕ) → Linked chain bucket 0 k → ⊥

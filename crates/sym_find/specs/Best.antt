@@ -58,6 +58,10 @@ made b k fit seen = record { first = if fit then least b.first k else b.first; s
 abbrev pub after : Search → Best → ℕ → Best
 after w b k = made b k (exports w.object.now (fitting w) k) (exports w.object.now (sighted w) k)
 
+-- the first that fits isn't behind a symbol
+abbrev pub precedes : Best → ℕ → Bool
+precedes b k = option_map_or (λ first. nat_le first k) b.first false
+
 -- what a reference takes: the first that fits, or else, if that is allowed, the only one in sight
 abbrev pub only_of : Sight → Option ℕ
 only_of (sight.One k) = Some k
@@ -85,4 +89,9 @@ pub record Knows (w : Search) (led : ℕ → Type 0) (b : Best) : Type 0 where
 -- the same, of what a reference to a name wants in an object
 pub record Keeps (o : Object) (name : List ℕ) (want : Want) (led : ℕ → Type 0) (b : Best) : Type 0 where
   pub first : FirstOf (λ k. Exports o (fits o name want) k × led k) b.first
+  pub sight : b.first ≡ None → OnlyOf (λ k. Exports o (in_sight o name) k × led k) b.sight
+
+-- the same, of all definitions of a name, whatever their version
+pub record KeepsAll (o : Object) (name : List ℕ) (led : ℕ → Type 0) (b : Best) : Type 0 where
+  pub first : FirstOf (λ k. Exports o (is_offer o name) k × led k) b.first
   pub sight : b.first ≡ None → OnlyOf (λ k. Exports o (in_sight o name) k × led k) b.sight

@@ -3,7 +3,7 @@
 ghost use Rattle.std.specs.Prelude.{◌≡◌, not};
 ghost use Rattle.ld_base.specs.Pick.{is_offer};
 ghost use Rattle.ld_base.specs.Symbol.{is_hidden_version};
-ghost use Rattle.sym_find.specs.Best.{after, least, made, nothing, passes, seen_too, taken};
+ghost use Rattle.sym_find.specs.Best.{after, least, made, nothing, passes, precedes, seen_too, taken};
 
 use ld_base::{Carriers, Object, Symbol};
 
@@ -137,6 +137,16 @@ impl Best {
             (Some(first), _) => Some(first),
             (None, Sight::One(index)) if only => Some(index),
             (None, _) => None,
+        }
+    }
+
+    /// Whether the first that fits isn't behind a symbol.
+    pub(crate) fn precedes(&self, index: u32) -> bool
+        ensures { result ≡ precedes self.now index }
+    {
+        match self.first {
+            Some(first) => first <= index,
+            None => false,
         }
     }
 

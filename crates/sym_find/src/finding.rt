@@ -1,10 +1,11 @@
 //! Finding a symbol by the hash table of its object.
 
-ghost use Rattle.std.specs.Prelude.{◌≡◌, ◌↔◌, ℕ, IfSome, Some, ◌&&◌, true};
-ghost use Rattle.ld_base.specs.Pick.{is_offer, names_no_version, pick_of};
+ghost use Rattle.std.specs.Prelude.{◌≡◌, ◌↔◌, ℕ, IfSome, IsTrue, Some, ◌&&◌, ◌||◌, not, true, false};
+ghost use Rattle.std.specs.List.{slice_get};
+ghost use Rattle.ld_base.specs.Pick.{has_version, is_offer, is_wanted, names_no_version, pick_of};
 ghost use Rattle.ld_base.specs.Taken.{Exports, fits};
 ghost use Rattle.ld_base.specs.declared.object.Symbol.{Symbol};
-ghost use Rattle.sym_find.specs.Best.{Keeps, Knows, passes};
+ghost use Rattle.sym_find.specs.Best.{Keeps, KeepsAll, Knows, passes};
 ghost use Rattle.sym_find.specs.Found.{Finds};
 ghost use Rattle.sym_find.specs.Reference.{want_as};
 ghost use Rattle.sym_hash.specs.Reached.{IsTableOf, Reached};
@@ -12,7 +13,7 @@ ghost use Rattle.sym_hash.specs.Reached.{IsTableOf, Reached};
 use crate::best::{Best, Search, Test};
 use crate::reference::{Asked, Sought};
 use crate::{gnu, sysv};
-use ld_base::{Carriers, HashTable, Object, Want, one_pick};
+use ld_base::{Carriers, HashTable, Object, Symbol, Want, one_pick};
 
 /// The index whose version every reference takes, and the first that an object gives (Drepper, "ELF
 /// Symbol Versioning").
@@ -41,6 +42,66 @@ fn walk(table: &HashTable, sought: &Sought, search: &Search) -> Best
         (None, Some(sysv)) => sysv::best(sysv, sought.sysv(), search),
         (None, None) => Best::new(),
     }
+}
+
+/// Whether the version of a definition has a name.
+fn has_version(object: &Object, version: &[u8], symbol: &Symbol) -> bool
+    ensures { result ≡ has_version object.now version.now symbol.now }
+{
+    match object.version_name(symbol.version_index()) {
+        Some(name) => name.is(version),
+        None => false,
+    }
+}
+
+/// Whether the version of a definition is one that is asked for.
+fn is_wanted(object: &Object, asked: Asked, symbol: &Symbol) -> bool
+    ensures { result ≡ is_wanted object.now (want_as asked.entry) symbol.now }
+{
+    let index = symbol.version_index();
+    match asked {
+        Asked::Version(version) => has_version(object, version, symbol) || symbol.version == 1,
+        Asked::Plain => index == GLOBAL || index == FIRST_DEFINED,
+        Asked::Dlsym => index == GLOBAL,
+        Asked::Dlvsym(version) => has_version(object, version, symbol),
+    }
+}
+
+/// The same of the definition at an index.
+fn is_wanted_at(object: &Object, asked: Asked, index: u32) -> bool
+    ensures { (s : Symbol) → slice_get object.now.symbols index ≡ Some s → result ≡ is_wanted object.now (want_as asked.entry) s }
+{
+    match object.symbols.as_slice().get(index as usize) {
+        Some(symbol) => is_wanted(object, asked, symbol),
+        None => false,
+    }
+}
+
+/// Whether the first definition of a name decides, whatever its version: there is none, or it is of one
+/// that is asked for, or the object has no versions.
+fn decides(object: &Object, asked: Asked, first: Option<u32>) -> bool
+    ensures first { IsTrue result → IfSome first (λ k. (s : Symbol) → slice_get object.now.symbols k ≡ Some s → IsTrue (not object.now.has_versym || is_wanted object.now (want_as asked.entry) s)) }
+    ensures versions { result ≡ false → object.now.has_versym ≡ true }
+{
+    if !object.has_versym {
+        return true;
+    }
+    match first {
+        Some(index) => is_wanted_at(object, asked, index),
+        None => true,
+    }
+}
+
+/// What is kept of all definitions of the name.
+fn kept_of_all<'a>(table: &HashTable, object: &'a Object, sought: &Sought<'a>) -> Best
+    ensures { KeepsAll object.now sought.now.name (Reached table.now sought.now.name) result }
+{
+    let search = Search {
+        object,
+        name: sought.name(),
+        test: Test::Any,
+    };
+    walk(table, sought, &search)
 }
 
 /// What is kept of those whose version passes a test.
@@ -89,14 +150,16 @@ fn kept_with_versions(table: &HashTable, object: &Object, sought: &Sought) -> Be
     }
 }
 
-/// What is kept for a reference.
+/// What is kept for a reference. Most often the first definition of the name is the one: versions are
+/// marked only where it isn't.
 fn kept_for(table: &HashTable, object: &Object, sought: &Sought) -> Best
     ensures { Keeps object.now sought.now.name sought.now.want (Reached table.now sought.now.name) result }
 {
-    if object.has_versym {
-        kept_with_versions(table, object, sought)
+    let all = kept_of_all(table, object, sought);
+    if decides(object, sought.asked(), all.first) {
+        all
     } else {
-        kept(table, object, sought, Test::Any)
+        kept_with_versions(table, object, sought)
     }
 }
 

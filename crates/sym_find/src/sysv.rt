@@ -1,9 +1,9 @@
 //! Walks of a System V table.
 
-ghost use Rattle.std.specs.Prelude.{◌≡◌, ℕ, List, length, slice_index};
+ghost use Rattle.std.specs.Prelude.{◌≡◌, ◌==◌, ◌||◌, ℕ, List, if◌then◌else◌, length, slice_index};
 ghost use Rattle.sym_hash.specs.Hash.{sysv_hash};
 ghost use Rattle.sym_hash.specs.Reached.{ReachedBySysv};
-ghost use Rattle.sym_find.specs.Best.{Knows};
+ghost use Rattle.sym_find.specs.Best.{Knows, after, precedes};
 ghost use Rattle.sym_find.specs.Walks.{Linked};
 
 use crate::best::{Best, Search};
@@ -21,6 +21,25 @@ fn link(chain: &[u32], at: u32) -> u32
     }
 }
 
+/// What is kept with a symbol on the way more. One behind the first that fits changes nothing: its name
+/// isn't read.
+fn after_link(search: &Search, best: Best, at: u32) -> Best
+    ensures { result ≡ (if precedes best at then best else after search.now best at) }
+{
+    if best.precedes(at) {
+        best
+    } else {
+        search.after(best, at as usize)
+    }
+}
+
+/// Whether a walk is at its end, or the first that fits is the first that the object may export.
+fn is_over(search: &Search, best: &Best, at: u32) -> bool
+    ensures { result ≡ (at == 0 || precedes best.now search.now.object.now.first_exported) }
+{
+    at == 0 || best.precedes(search.object.first_exported)
+}
+
 /// What is kept of the symbols on the way from a bucket, of which there are as many as chain words at
 /// most, also where the way leads back.
 fn walk(chain: &[u32], bucket: u32, search: &Search) -> Best
@@ -29,10 +48,10 @@ fn walk(chain: &[u32], bucket: u32, search: &Search) -> Best
     let mut best = Best::new();
     let mut at = bucket;
     for passed in 0..chain.len() {
-        if at == 0 {
+        if is_over(search, &best, at) {
             return best;
         }
-        best = search.after(best, at as usize);
+        best = after_link(search, best, at);
         at = link(chain, at);
     }
     best

@@ -1,5 +1,8 @@
-use Rattle.sym_find.proofs.Found.{fits_any}
+use Rattle.sym_hash.specs.Reached.{Reached}
+use Rattle.sym_find.proofs.Found.{decided}
 use Rattle.sym_find.proofs.finding.kept_for.Goals as goal
 
-pub returns-else-object : goal.returns-else-object
-returns-else-object c = c.kept.ensures (λ s. fits_any c.args.object.now c.args.sought.now.name s c.args.sought.now.want c.if-object.false)
+pub returns-then-decides : goal.returns-then-decides
+returns-then-decides c =
+    decided c.args.object.now c.args.sought.now.name c.args.sought.now.want (Reached c.args.table.now c.args.sought.now.name) c.kept_of_all-all.result c.kept_of_all-all.ensures
+    (rw c.asked.ensures at (c.decides.ensures.first c.if-decides.true))

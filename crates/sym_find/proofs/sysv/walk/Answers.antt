@@ -1,8 +1,8 @@
-use Rattle.std.proofs.Common.{sym, subst, ◌+◌, length, arith}
-use Rattle.sym_find.specs.Best.{Knows}
+use Rattle.std.proofs.Common.{◌≡◌, sym, subst, ◌∙◌, ◌+◌, length, arith}
+use Rattle.sym_find.specs.Best.{Knows, precedes}
 use Rattle.sym_find.specs.Walks.{Linked}
 use Rattle.sym_find.specs.declared.best.Best.{Best}
-use Rattle.sym_find.proofs.SysvWalks.{Way, at_bucket, ended, linked_more, walk_begins, way_on}
+use Rattle.sym_find.proofs.SysvWalks.{Way, at_bucket, goes_on, linked_more, over, walk_begins, way_on}
 use Rattle.sym_find.proofs.sysv.walk.Goals as goal
 
 pub loop-passed-init : goal.loop-passed-init
@@ -11,14 +11,22 @@ loop-passed-init c = record {
   knows = walk_begins c.args.chain.now c.args.bucket c.args.search.now c.new-best.result c.new-best.ensures;
 }
 
-pub returns-then-at-eq0 : goal.returns-then-at-eq0
-returns-then-at-eq0 c =
-    ended c.args.chain.now c.args.bucket c.loop-passed.passed c.loop-passed.at c.loop-passed.invariant.way c.args.search.now c.loop-passed.best (length c.args.chain.now) c.if-at-eq0.true (omega arith) c.loop-passed.invariant.knows
+pub returns-then-is_over : goal.returns-then-is_over
+returns-then-is_over c =
+    over c.args.chain.now c.args.bucket c.loop-passed.passed c.loop-passed.at c.loop-passed.invariant.way c.args.search.now c.loop-passed.best (length c.args.chain.now) (sym c.is_over.ensures ∙ c.if-is_over.true) (omega arith)
+    c.loop-passed.invariant.knows
 
 pub loop-passed-preserved : goal.loop-passed-preserved
-loop-passed-preserved c = record {
-  way = subst (λ n. Way c.args.chain.now c.args.bucket (c.loop-passed.passed + 1) n) (sym c.link-at.ensures)
-      (way_on c.args.chain.now c.args.bucket c.loop-passed.passed c.loop-passed.at c.loop-passed.invariant.way c.if-at-eq0.false);
-  knows = subst (λ (b : Best). Knows c.args.search.now (Linked c.args.chain.now c.args.bucket (c.loop-passed.passed + 1)) b) (sym c.after-best.ensures)
-      (linked_more c.args.chain.now c.args.bucket c.loop-passed.passed c.loop-passed.at c.loop-passed.invariant.way c.args.search.now c.loop-passed.best c.if-at-eq0.false c.loop-passed.invariant.knows);
-}
+loop-passed-preserved c =
+    let some = goes_on c.loop-passed.at (precedes c.loop-passed.best c.args.search.now.object.now.first_exported) (sym c.is_over.ensures ∙ c.if-is_over.false) in
+    record {
+      way = subst (λ n. Way c.args.chain.now c.args.bucket (c.loop-passed.passed + 1) n) (sym c.link-at.ensures)
+          (way_on c.args.chain.now c.args.bucket c.loop-passed.passed c.loop-passed.at c.loop-passed.invariant.way some);
+      knows = subst (λ (b : Best). Knows c.args.search.now (Linked c.args.chain.now c.args.bucket (c.loop-passed.passed + 1)) b) (sym c.after_link-best.ensures)
+          (linked_more c.args.chain.now c.args.bucket c.loop-passed.passed c.loop-passed.at c.loop-passed.invariant.way c.args.search.now c.loop-passed.best some c.loop-passed.invariant.knows);
+    }
+
+pub returns : goal.returns
+returns c =
+    let all : c.loop-passed.passed ≡ length c.args.chain.now = omega (arith, c.loop-passed-test.false, c.loop-passed.auto.passed-end) in
+    subst (λ n. Knows c.args.search.now (Linked c.args.chain.now c.args.bucket n) c.loop-passed.best) all c.loop-passed.invariant.knows
