@@ -1,0 +1,14 @@
+use Rattle.std.proofs.Common.{◌≡◌, Bool, not, rules, ap, ◌∙◌}
+use Rattle.std.specs.List.{filter}
+use Rattle.std.proofs.lemmas.Fn.{filter_same}
+use Rattle.link_history.specs.Objects.{has}
+use Rattle.image_parts.specs.Parts.{PartsWithRoom}
+use Rattle.image_parts.specs.declared.parts.Part.{Part}
+use Rattle.image_parts.proofs.parts.ImageParts.remove.Goals as goal
+
+pub returns-clause-parts : goal.returns-clause-parts
+returns-clause-parts c =
+    let other : Part → Bool = λ p. not (has c.args.set.now p.serial) in
+    let kept : c.retain.new.self.items ≡ filter other c.self.inside.parts.items =
+    filter_same _ other _ (λ x b f' k. search rules) _ _ c.retain.ensures.filtered in
+    kept ∙ ap (λ (v : PartsWithRoom). filter other v.parts) c.self.view_is

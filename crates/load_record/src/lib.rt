@@ -1,0 +1,10 @@
+//! What a linker notes of its openings.
+//!
+//! [`LoadRecord`] has the serial of the next new object, what startup loaded, which roots stay, and
+//! whether the run binds slots when their objects are loaded. What is promised: each opening changes it
+//! as the history's state changes (`link_history`), and takes no memory where room was made.
+#![tactic(auto)]
+
+mod record;
+
+pub use record::LoadRecord;
