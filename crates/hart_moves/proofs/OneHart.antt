@@ -37,7 +37,7 @@ use Rattle.hart_moves.proofs.Answering.{Leads, Tells, answer_from, tells}
 
 -- ---- calls of the bus
 
-abbrev items_of : Did → List Item
+abbrev pub items_of : Did → List Item
 items_of (Did.quiet items) = items
 items_of (Did.serves items appended) = items
 items_of (Did.waits for) = []
@@ -112,7 +112,7 @@ unread_once w past h b items (Copy.of_version name) address did c d x y = x.leav
 unread_once w past h b items Copy.of_pair address did c d x y = x.leaves ∙ sym y.leaves
 unread_once w past h b items (Copy.of_text count) address did c d x y = x.leaves ∙ sym y.leaves
 
-copy_items : (w : Setting) (past : List Event) (h : ℕ) (b : HartState) (items : List Item) (copy : Copy) (start : ℕ) (bytes : List ℕ) (answer : Result ℕ BusFault) (did : Did) (c : HartState)
+pub copy_items : (w : Setting) (past : List Event) (h : ℕ) (b : HartState) (items : List Item) (copy : Copy) (start : ℕ) (bytes : List ℕ) (answer : Result ℕ BusFault) (did : Did) (c : HartState)
     → CopiesBy w past h b items copy start bytes answer did c → items_of did ≡ items
 copy_items w past h b items copy start bytes (Ok word) did c x = ap items_of x.is
 copy_items w past h b items copy start bytes (Err (RoleFault role)) did c x = unread_items w past h b items copy _ did c x

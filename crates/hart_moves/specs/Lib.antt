@@ -5,3 +5,4 @@ pub mod Laws
 pub mod Moves
 pub mod Registers
 pub mod Services
+pub mod Worked

@@ -14,5 +14,9 @@
 #![tactic(auto)]
 
 mod law;
+mod worked_turns;
 
 pub use law::{turns_are_counted, turns_are_legal, turns_leave_one_hart};
+pub use worked_turns::{
+    ends_are_told, functions_are_entered, names_are_copied, two_harts_share_a_slot,
+};

@@ -1,0 +1,48 @@
+//! Worked turns: what a hart does, and what it doesn't.
+
+ghost use Rattle.std.specs.Prelude.{List};
+ghost use Rattle.link_event.specs.declared.event.Event.{Event};
+ghost use Rattle.link_history.specs.Setting.{Setting};
+ghost use Rattle.hart_moves.specs.Worked.{CopiesInside, CopiesName, EndsAtRole, EntersSecond, Exchanges, Exits, FindsNoName};
+ghost use Rattle.hart_moves.specs.Worked.{FollowsItself, FollowsWinner, GoesOn, GoesOnWithoutFuel, GrantsGlobal, GrantsTheFirst, HasNoFunction};
+ghost use Rattle.hart_moves.specs.Worked.{RunsWithoutFuel, ServesAtOnce, Starts, StartsEarly, TextWords, Traps};
+
+/// Of two harts at one slot the one that is granted it last may win: its exchange finds the lazy word,
+/// and it goes on at its function. The other finds that address, and goes on there too and not at its
+/// own choice. Used-up fuel doesn't come between a grant and its exchange.
+pub fn two_harts_share_a_slot()
+    ensures grants { GrantsGlobal }
+    ensures not_the_first { GrantsTheFirst }
+    ensures exchanges { (w : Setting) (past : List Event) → Exchanges w past }
+    ensures goes_on { (w : Setting) (past : List Event) → GoesOn w past }
+    ensures follows { (w : Setting) (past : List Event) → FollowsWinner w past }
+    ensures not_itself { (w : Setting) (past : List Event) → FollowsItself w past → ⊥ }
+    ensures no_fuel { (w : Setting) (past : List Event) → GoesOnWithoutFuel w past }
+    ensures out_of_fuel { (w : Setting) (past : List Event) → RunsWithoutFuel w past }
+{}
+
+/// A name is copied a doubleword a turn, and the service comes in a turn after that. One that can't be
+/// read ends its hart.
+pub fn names_are_copied()
+    ensures whole { (w : Setting) (past : List Event) → CopiesName w past }
+    ensures inside { (w : Setting) (past : List Event) → CopiesInside w past }
+    ensures not_at_once { (w : Setting) (past : List Event) → ServesAtOnce w past }
+    ensures unread { FindsNoName }
+{}
+
+/// The linker enters functions one after another, and a hart starts behind the last constructor and not
+/// before. A hart that runs none for the linker ends where they return to.
+pub fn functions_are_entered()
+    ensures starts { Starts }
+    ensures not_early { StartsEarly }
+    ensures second { EntersSecond }
+    ensures no_function { HasNoFunction }
+{}
+
+/// Ecalls, ends and texts, worked out by hand.
+pub fn ends_are_told()
+    ensures exits { Exits }
+    ensures traps { Traps }
+    ensures role { EndsAtRole }
+    ensures text { TextWords }
+{}
