@@ -1,0 +1,5 @@
+use Rattle.world_turns.proofs.Starting.{start_sound}
+use Rattle.world_turns.proofs.law.runs_start_sound.Goals as goal
+
+pub returns : goal.returns
+returns c = start_sound c.memory_begins.ensures c.events_keep.ensures.kept

@@ -1,0 +1,25 @@
+-- What holds of every run on one thread.
+use Rattle.std.specs.Prelude.{◌≡◌, ℕ}
+use Rattle.link_served.specs.declared.startup.Setup.{Setup}
+use Rattle.link_history.specs.Accepted.{AcceptsOnly}
+use Rattle.link_history.specs.After.{after}
+use Rattle.link_history.specs.Setting.{Setting}
+use Rattle.link_history.specs.State.{State}
+use Rattle.link_service.specs.Startup.{harts_of}
+use Rattle.memory_holds.specs.Enters.{LoadFits}
+use Rattle.world_turns.specs.Run.{IsStarted}
+use Rattle.world_turns.specs.Sound.{Sound}
+use Rattle.world_turns.specs.Turn.{Turn}
+use Rattle.world_turns.specs.World.{World}
+
+-- a run is sound when it starts
+abbrev pub StartIsSound : Type 0
+StartIsSound = (w : Setting) (setup : Setup) (world : World) → AcceptsOnly w.machine → w.machine.harts ≡ harts_of setup → IsStarted w setup world → Sound w world
+
+-- what slots got at load are words, as whoever keeps the journal knows by its type
+abbrev pub LoadsFit : State → Type 0
+LoadsFit s = (owner slot : ℕ) → LoadFits s owner slot
+
+-- and stays so with every turn
+abbrev pub TurnsAreSound : Type 0
+TurnsAreSound = (w : Setting) (h : ℕ) (old new : World) → AcceptsOnly w.machine → LoadsFit (after old.journal) → Sound w old → Turn w h old new → Sound w new

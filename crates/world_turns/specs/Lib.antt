@@ -1,0 +1,6 @@
+pub mod Laws
+pub mod Memory
+pub mod Run
+pub mod Sound
+pub mod Turn
+pub mod World

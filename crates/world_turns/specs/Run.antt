@@ -1,0 +1,159 @@
+-- A whole run on one thread, by a written schedule.
+use Rattle.std.specs.Prelude.{◌≡◌, ℕ, suc, Bool, true, false, not, ◌&&◌, List, [], ◌∷◌, ◌++◌, length, map, Option, Some, None, IsTrue}
+use Rattle.std.specs.List.{list_all, list_any, range_with_len, slice_get}
+use Rattle.std.specs.Option.{is_some, option_map_or}
+use Rattle.link_event.specs.declared.handed.Function.{Function}
+use Rattle.link_event.specs.declared.handed.HartEntry.{HartEntry}
+use Rattle.link_event.specs.declared.hart_end.HartEnd.TheVariants as ends
+use Rattle.link_served.specs.declared.startup.Setup.{Setup}
+use Rattle.link_served.specs.declared.startup.Started.{Started}
+use Rattle.rv_hart.specs.Registers.{Registers, starting}
+use Rattle.rv_hart.specs.declared.doubleword.Doubleword.{Doubleword}
+use Rattle.link_history.specs.After.{after}
+use Rattle.link_history.specs.Memory.{image_of}
+use Rattle.link_history.specs.Setting.{Setting}
+use Rattle.link_history.specs.State.{start}
+use Rattle.link_service.specs.Functions.{AreAddresses, destructors}
+use Rattle.link_service.specs.Startup.{Starts}
+use Rattle.hart_moves.specs.Harts.{Frame, HartState, Phase, Purpose, Resolving}
+use Rattle.hart_moves.specs.Moves.{all_finis, freed, runs}
+use Rattle.schedules.specs.declared.schedule.TurnItem.{TurnItem}
+use Rattle.world_turns.specs.Memory.{AreFresh, RemakesAll}
+use Rattle.world_turns.specs.Turn.{TakesTurn, Turn}
+use Rattle.world_turns.specs.World.{World, settling}
+
+-- ---- the start
+
+-- the registers with which a hart starts; it holds no reservation
+abbrev pub starting_registers : HartEntry → Registers
+starting_registers entry = record { pc = entry.pc; x = starting entry.sp entry.tp entry.a0; held = None }
+
+abbrev pub starting_hart : ℕ → HartEntry → HartState
+starting_hart fuel entry = record {
+  registers = starting_registers entry;
+  phase = Phase.at_pc;
+  resolving = Resolving.idle;
+  frames = [];
+  fuel = fuel;
+  turns = 0;
+  «end» = None;
+}
+
+-- the first hart runs startup's constructors before it starts
+abbrev pub starting_harts : ℕ → List Function → List HartEntry → List HartState
+starting_harts fuel functions [] = []
+starting_harts fuel functions (entry ∷ rest) =
+    runs (Purpose.of_startup (starting_registers entry)) functions [] (starting_hart fuel entry) ∷ map (starting_hart fuel) rest
+
+-- startup's events, the memory that they make, and the harts
+pub record IsStarted (w : Setting) (setup : Setup) (world : World) : Type 0 where
+  pub started : Started
+  pub starts : Starts w setup world.journal started
+  pub fresh : List Doubleword
+  pub are_fresh : AreFresh fresh
+  pub words : RemakesAll start world.journal fresh world.words
+  pub harts : world.harts ≡ starting_harts setup.fuel started.functions started.entries
+
+-- ---- startup's constructors
+
+abbrev pub is_startup_frame : Frame → Bool
+is_startup_frame frame = elim frame.purpose [ Purpose.of_startup registers ↦ true | _ ↦ false ]
+
+abbrev pub has_ended : HartState → Bool
+has_ended b = is_some b.«end»
+
+-- the first hart runs them still
+abbrev pub is_starting : World → Bool
+is_starting world = option_map_or (λ b. not (has_ended b) && list_any is_startup_frame b.frames) (slice_get world.harts 0) false
+
+-- it takes turns until it doesn't
+pub data Constructs (w : Setting) : World → World → Type 0 where
+  no_more : (world : World) → is_starting world ≡ false → Constructs w world world
+  one_more : (old between new : World) → IsTrue (is_starting old) → Turn w 0 old between → Constructs w between new → Constructs w old new
+
+-- ---- the schedule
+
+-- one hart, so many times
+pub data Repeats (w : Setting) (h : ℕ) : ℕ → World → World → Type 0 where
+  no_more : (world : World) → Repeats w h 0 world world
+  one_more : (count : ℕ) (old between new : World) → TakesTurn w h old between → Repeats w h count between new → Repeats w h (suc count) old new
+
+-- the items, in their order
+pub data Follows (w : Setting) : List TurnItem → World → World → Type 0 where
+  no_more : (world : World) → Follows w [] world world
+  one_more : (item : TurnItem) (items : List TurnItem) (old between new : World) → Repeats w item.hart item.count old between → Follows w items between new
+      → Follows w (item ∷ items) old new
+
+-- each hart once, in their order
+pub data Rounds (w : Setting) : List ℕ → World → World → Type 0 where
+  no_more : (world : World) → Rounds w [] world world
+  one_more : (h : ℕ) (rest : List ℕ) (old between new : World) → TakesTurn w h old between → Rounds w rest between new → Rounds w (h ∷ rest) old new
+
+abbrev pub have_ended : World → Bool
+have_ended world = list_all has_ended world.harts
+
+abbrev pub all_harts : World → List ℕ
+all_harts world = range_with_len 0 (length world.harts)
+
+-- again and again, until all have ended
+pub data Finishes (w : Setting) : World → World → Type 0 where
+  no_more : (world : World) → IsTrue (have_ended world) → Finishes w world world
+  one_more : (old between new : World) → have_ended old ≡ false → Rounds w (all_harts old) old between → Finishes w between new → Finishes w old new
+
+-- ---- the final destructors
+
+abbrev pub exit_code : HartState → Option ℕ
+exit_code b = elim b.«end» [ Some reason ↦ elim reason [ ends.Exit code ↦ Some code | _ ↦ None ] | None ↦ None ]
+
+abbrev pub have_exited : World → Bool
+have_exited world = list_all (λ b. is_some (exit_code b)) world.harts
+
+-- the first hart gets its starting registers again, and runs the destructors of the object that comes first
+abbrev pub finalising_hart : Registers → ℕ → Function → HartState → HartState
+finalising_hart registers code function b =
+    runs (Purpose.of_end code) (function ∷ []) [] (record b { registers = registers; phase = Phase.at_pc; frames = []; «end» = None })
+
+pub record Begins (registers : Registers) (old new : World) : Type 0 where
+  pub first : HartState
+  pub others : List HartState
+  pub harts : old.harts ≡ first ∷ others
+  pub code : ℕ
+  pub exited : exit_code first ≡ Some code
+  pub object : ℕ
+  pub rest : List ℕ
+  pub next : all_finis (after old.journal) ≡ object ∷ rest
+  pub addresses : List ℕ
+  pub are : AreAddresses destructors addresses (image_of (after old.journal) object)
+  pub begun : new ≡ record old { harts = finalising_hart registers code (record { object = object; addresses = addresses }) first ∷ others }
+
+-- and takes turns until it ends
+pub data Ends (w : Setting) : World → World → Type 0 where
+  no_more : (world : World) → IsTrue (have_ended world) → Ends w world world
+  one_more : (old between new : World) → have_ended old ≡ false → Turn w 0 old between → Ends w between new → Ends w old new
+
+-- where each hart has ended by exit, and an object is left
+pub data Finalises (w : Setting) (registers : Registers) (old new : World) : Type 0 where
+  none_runs : have_exited old ≡ false → new ≡ old → Finalises w registers old new
+  none_is_left : all_finis (after old.journal) ≡ [] → new ≡ old → Finalises w registers old new
+  all_run : (begun : World) → IsTrue (have_exited old) → Begins registers old begun → Ends w begun new → Finalises w registers old new
+
+-- ---- a run
+
+-- what is left is settled
+abbrev pub settled : World → World
+settled world = record world { journal = world.journal ++ settling world.harts; harts = map freed world.harts }
+
+pub record Run (w : Setting) (setup : Setup) (items : List TurnItem) (world : World) : Type 0 where
+  pub started : World
+  pub starts : IsStarted w setup started
+  pub constructed : World
+  pub constructs : Constructs w started constructed
+  pub scheduled : World
+  pub follows : Follows w items constructed scheduled
+  pub finished : World
+  pub finishes : Finishes w scheduled finished
+  pub entry : HartEntry
+  pub first : slice_get starts.started.entries 0 ≡ Some entry
+  pub finalised : World
+  pub finalises : Finalises w (starting_registers entry) finished finalised
+  pub ends : world ≡ settled finalised

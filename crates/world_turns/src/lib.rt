@@ -1,0 +1,14 @@
+//! Runs on one thread: turns of harts over plain memory, by a written schedule.
+//!
+//! A [`World`](specs/World.antt) is a journal, guest memory and harts. `Turn` (`specs/Turn.antt`) is one
+//! turn of one hart: a line of `hart_moves`'s table, what memory answers, and the journal that grows.
+//! `Run` (`specs/Run.antt`) is a whole run: startup, its constructors, the schedule, round robin, the
+//! final destructors, and the settling of what is left. `Sound` (`specs/Sound.antt`) holds at each moment
+//! of a run: the journal is legal, memory is as it says, and so is how far each hart is with its slot.
+//!
+//! There is no code but laws: functions without a body, whose contract is the law.
+#![tactic(auto)]
+
+mod law;
+
+pub use law::runs_start_sound;
