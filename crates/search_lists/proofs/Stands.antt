@@ -1,24 +1,24 @@
 -- What stands where.
-use Rattle.std.proofs.Common.{◌≡◌, ℕ, zero, suc, ◌+◌, ◌<◌, ◌≤◌, ◌==◌, Bool, true, false, cond, inl, inr, List, [], ◌∷◌, ◌++◌, length, get_or, map, take, refl, sym, ap, ◌∙◌, append_assoc, length-take-le, arith}
+use Rattle.std.proofs.Common.{◌≡◌, ℕ, zero, suc, ◌+◌, ◌<◌, ◌≤◌, ◌==◌, Bool, true, false, cond, inl, inr, List, [], ◌∷◌, ◌++◌, length, get_or, map, take, refl, sym, ap, ◌∙◌, append_assoc, append-nil, length-take-le, arith}
 use Rattle.std.specs.Prelude.{nat_eq, not, ◌||◌, filter, flat_map, position, Option, Some, None}
 use Rattle.std.specs.List.{find, list_any, position_or_len, slice_get}
 use Rattle.std.specs.Option.{option_or, is_some}
 use Rattle.std.proofs.lemmas.Bool.{cases_Bool, eqb-true}
-use Rattle.std.proofs.lemmas.Grind.{common_steps}
+use Rattle.std.proofs.lemmas.Grind.{common_steps, flat_map-append}
 use Rattle.std.proofs.lemmas.List.{length-append, take_more}
-use Rattle.std.proofs.lemmas.List.Folds.{find_at, flat_map-map, position_or_len_push}
+use Rattle.std.proofs.lemmas.List.Folds.{find_at, position_or_len_push}
 use Rattle.std.proofs.lemmas.List.Quantifiers.{position-Some}
 use Rattle.std.proofs.lemmas.Option.{slice_get-get_or}
 use Rattle.std.proofs.lemmas.List.Sums.{prefix_len-le-length}
 use Rattle.ld_base.specs.declared.linking.Loaded.{Loaded}
 use Rattle.scope_rule.specs.Loading.{is_dying, is_dying_at, object_of, with_serial}
-use Rattle.scope_rule.specs.Breadth.{breadth, has}
-use Rattle.scope_rule.specs.Scope.{opened_with, scope}
+use Rattle.scope_rule.specs.Breadth.{breadth}
+use Rattle.scope_rule.specs.Scope.{scope}
 use Rattle.scope_rule.specs.Seen.{Seen}
 use Rattle.scope_rule.specs.declared.namespace.OpenRec.{OpenRec}
-use Rattle.search_lists.specs.Scoping.{opened_of}
+use Rattle.search_lists.specs.Brought.{brought_to}
 use Rattle.search_lists.specs.Lists.{at_place, list_of, lists_of, scope_in, scope_on}
-use Rattle.search_lists.specs.Places.{place_in, serials_of}
+use Rattle.search_lists.specs.Places.{place_in, serials, serials_of}
 use Rattle.search_lists.specs.declared.lists.SearchList.{SearchList}
 
 -- ---- the first place of a serial
@@ -47,10 +47,6 @@ place_added xs x place q long new =
 pub none_from : (o : Option ℕ) → is_some o ≡ false → o ≡ None
 none_from None e = refl
 none_from (Some n) e = absurd (cc e)
-
--- the serials of objects
-abbrev pub serials : List Loaded → List ℕ
-serials objects = map (λ (o : Loaded). o.serial) objects
 
 abbrev pub serials_so_far : List Loaded → ℕ → List ℕ
 serials_so_far objects k = serials (take k objects)
@@ -125,9 +121,13 @@ owners_of s = of s.objects
 
 -- ---- what the openings bring
 
-pub opened_scopes : (s : Seen) (o : Loaded) (opened : List (List ℕ)) → opened ≡ opened_of s → flat_map (λ l. cond (has l o.serial) l []) opened ≡ flat_map (λ r. opened_with s o r.root) s.opens
-opened_scopes s o opened is =
-    ap (flat_map (λ (l : List ℕ). cond (has l o.serial) l [])) is ∙ flat_map-map (λ (l : List ℕ). cond (has l o.serial) l []) (λ (r : OpenRec). breadth s r.root) s.opens
+-- one opening more
+pub opening_more : (s : Seen) (opens : List OpenRec) (k q : ℕ) (r : OpenRec) (so_far new : List ℕ) → k < length opens → r ≡ get_or opens k r → so_far ≡ flat_map (λ (x : OpenRec). brought_to (breadth s x.root) q) (take k opens)
+    → new ≡ so_far ++ brought_to (breadth s r.root) q → new ≡ flat_map (λ (x : OpenRec). brought_to (breadth s x.root) q) (take (k + 1) opens)
+opening_more s opens k q r so_far new lt is were are =
+    let f = λ (x : OpenRec). brought_to (breadth s x.root) q in
+    let more : take (k + 1) opens ≡ take k opens ++ r ∷ [] = take_more opens k r lt ∙ ap (λ (y : OpenRec). take k opens ++ y ∷ []) (sym is) in
+    are ∙ ap (λ (l : List ℕ). l ++ f r) were ∙ ap (λ (l : List ℕ). flat_map f (take k opens) ++ l) (sym (append-nil (f r))) ∙ sym (flat_map-append f (take k opens) (r ∷ [])) ∙ ap (flat_map f) (sym more)
 
 -- ---- where nothing is closing
 

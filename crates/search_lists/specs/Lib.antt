@@ -1,3 +1,3 @@
+pub mod Brought
 pub mod Lists
 pub mod Places
-pub mod Scoping

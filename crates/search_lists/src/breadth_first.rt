@@ -1,7 +1,7 @@
 //! Breadth-first order, in one step for each name that an object needs.
 
 ghost use Rattle.std.specs.Prelude.{◌≡◌, ◌≤◌, ◌∷◌, [], length, drop, flat_map, IfOk, OnOk};
-ghost use Rattle.scope_rule.specs.Breadth.{breadth, extend};
+ghost use Rattle.scope_rule.specs.Breadth.{breadth, extend, order_to};
 ghost use Rattle.scope_rule.specs.Loading.{found_of};
 ghost use Rattle.scope_rule.specs.Seen.{seen};
 ghost use Rattle.search_lists.specs.Places.{ArePlaces, serials_of};
@@ -9,7 +9,7 @@ ghost use Rattle.search_lists.specs.Places.{ArePlaces, serials_of};
 use crate::places::Places;
 use indexmap::IndexSet;
 use ld_base::{Serial, Serials};
-use scope_rule::{View, breadth_grows};
+use scope_rule::{View, breadth_grows, extends_at_the_end};
 use std::alloc::{AllocError, Global};
 
 /// Puts a serial at the end if the order lacks it; the linker's own is left out.
@@ -57,10 +57,34 @@ fn extend_by_level(
     requires start { start ≤ length order.old.keys }
     ensures { OnOk result (order.new.keys ≡ extend order.old.keys (flat_map (found_of (seen view.now)) (drop start order.old.keys))) }
 {
+    extends_at_the_end();
     let end = order.len();
     for i in start..end {
         let serial = order.as_slice()[i];
         extend(order, found_of(view, places, serial))?;
+    }
+    Ok(())
+}
+
+/// Puts so many levels at the end, as far as there are any.
+fn extend_by_levels(
+    view: &View,
+    places: &Places,
+    order: &mut IndexSet<Serial>,
+    most: usize,
+) -> Result<(), AllocError>
+    requires { ArePlaces (serials_of (seen view.now)) places.now }
+    ensures { OnOk result (order.new.keys ≡ order_to (found_of (seen view.now)) order.old.keys most) }
+{
+    extends_at_the_end();
+    let mut start = 0;
+    for _ in 0..most {
+        let end = order.len();
+        if start == end {
+            return Ok(());
+        }
+        extend_by_level(view, places, order, start)?;
+        start = end;
     }
     Ok(())
 }
@@ -79,11 +103,7 @@ pub(crate) fn breadth(
     breadth_grows();
     let mut order = IndexSet::new(alloc);
     extend_by_one(&mut order, root)?;
-    let mut start = 0;
-    for _ in 0..view.objects.len() + view.added.len() {
-        let end = order.len();
-        extend_by_level(view, places, &mut order, start)?;
-        start = end;
-    }
+    let most = view.objects.len() + view.added.len();
+    extend_by_levels(view, places, &mut order, most)?;
     Serials::from_slice(alloc, order.as_slice())
 }

@@ -1,11 +1,12 @@
 //! Where the references of each object of a namespace are searched.
 //!
 //! [`SearchLists`] are made once an opening or closing, of a namespace as it stands or as an opening
-//! will leave it. What each opening brings is gathered once, and an object is known by its serial in
-//! one step.
+//! will leave it. What an object's names lead to is followed no further than there are names, what the
+//! openings bring is gathered once for all objects, and an object is known by its serial in one step.
 #![tactic(auto)]
 
 mod breadth_first;
+mod brought;
 mod lists;
 mod places;
 mod scoping;

@@ -6,10 +6,9 @@ ghost use Rattle.std.specs.Option.{option_copied};
 ghost use Rattle.scope_rule.specs.Seen.{seen};
 ghost use Rattle.search_lists.specs.Lists.{list_of, lists_of};
 ghost use Rattle.search_lists.specs.Places.{ArePlaces, serials_of};
-ghost use Rattle.search_lists.specs.Scoping.{opened_of};
 
 use crate::places::Places;
-use crate::scoping::{opened_of, scope};
+use crate::scoping::Scopes;
 use ld_base::{Loaded, Sequence, Serial, Serials};
 use scope_rule::{Namespace, View};
 use std::alloc::{AllocError, Global};
@@ -46,20 +45,16 @@ impl Model for SearchLists {
 /// Puts the lists of these objects at the end.
 fn append_lists(
     alloc: Global,
-    view: &View,
-    places: &Places,
-    opened: &[Serials],
+    scopes: &Scopes,
     objects: &[Loaded],
     lists: &mut Sequence<SearchList>,
 ) -> Result<(), AllocError>
-    requires places { ArePlaces (serials_of (seen view.now)) places.now }
-    requires opened { opened.now ≡ opened_of (seen view.now) }
-    ensures { OnOk result (lists.new ≡ lists.old ++ map (list_of (seen view.now)) objects.now) }
+    ensures { OnOk result (lists.new ≡ lists.old ++ map (list_of scopes.now) objects.now) }
 {
     for object in objects {
         lists.push(SearchList {
             owner: object.serial,
-            scope: scope(alloc, view, places, opened, object)?,
+            scope: scopes.scope(alloc, object)?,
         })?;
     }
     Ok(())
@@ -70,24 +65,10 @@ fn lists_of(alloc: Global, view: &View, places: &Places) -> Result<Sequence<Sear
     requires { ArePlaces (serials_of (seen view.now)) places.now }
     ensures { IfOk result (λ lists. lists ≡ lists_of (seen view.now)) }
 {
-    let opened = opened_of(alloc, view, places)?;
+    let scopes = Scopes::of(alloc, view, places)?;
     let mut lists = Sequence::new(alloc);
-    append_lists(
-        alloc,
-        view,
-        places,
-        opened.as_slice(),
-        view.objects,
-        &mut lists,
-    )?;
-    append_lists(
-        alloc,
-        view,
-        places,
-        opened.as_slice(),
-        view.added,
-        &mut lists,
-    )?;
+    append_lists(alloc, &scopes, view.objects, &mut lists)?;
+    append_lists(alloc, &scopes, view.added, &mut lists)?;
     Ok(lists)
 }
 

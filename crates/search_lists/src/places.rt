@@ -1,10 +1,10 @@
 //! Where the objects of a namespace stand.
 
-ghost use Rattle.std.specs.Prelude.{◌≡◌, ◌==◌, ◌++◌, ◌∷◌, [], ◌+◌, ◌<◌, ◌^◌, ℕ, List, length, map, IfOk, OnOk};
+ghost use Rattle.std.specs.Prelude.{◌≡◌, ◌∷◌, [], ◌+◌, ◌<◌, ◌^◌, ℕ, length, IfOk, OnOk};
 ghost use Rattle.std.specs.List.{slice_get};
 ghost use Rattle.std.specs.Option.{option_copied};
 ghost use Rattle.scope_rule.specs.Seen.{seen};
-ghost use Rattle.search_lists.specs.Places.{ArePlaces, place_in, place_of, serials_of};
+ghost use Rattle.search_lists.specs.Places.{ArePlaces, NotesMore, place_of, serials, serials_of};
 
 use ld_base::{Loaded, Serial};
 use scope_rule::View;
@@ -29,11 +29,11 @@ pub fn object_at<'a>(view: &View<'a>, place: usize) -> Option<&'a Loaded>
 }
 
 impl Places {
-    ghost use Rattle.std.specs.Prelude.{◌≡◌, ◌++◌, ◌∷◌, [], ◌+◌, ◌<◌, ◌^◌, ℕ, List, None, length, map, IfOk, OnOk};
+    ghost use Rattle.std.specs.Prelude.{◌≡◌, ◌∷◌, [], ◌+◌, ◌<◌, ◌^◌, ℕ, None, length, IfOk, OnOk};
     ghost use Rattle.std.specs.Option.{option_copied};
-    ghost use Rattle.scope_rule.specs.Loading.{is_dying_at, object_of};
+    ghost use Rattle.scope_rule.specs.Loading.{object_of};
     ghost use Rattle.scope_rule.specs.Seen.{seen};
-    ghost use Rattle.search_lists.specs.Places.{ArePlaces, place_in, place_of, serials_of};
+    ghost use Rattle.search_lists.specs.Places.{ArePlaces, NotesMore, place_of, serials, serials_of};
 
     /// None yet.
     fn new(alloc: Global) -> Self
@@ -57,7 +57,7 @@ impl Places {
     /// Notes the places of objects that follow one another.
     fn add_all(&mut self, objects: &[Loaded], first: usize) -> Result<(), AllocError>
         requires { first + length objects.now < 2 ^ 64 }
-        ensures { OnOk result ((xs : List ℕ) → length xs ≡ first → ArePlaces xs self.old → ArePlaces (xs ++ map (λ o. o.serial) objects.now) self.new) }
+        ensures { OnOk result (NotesMore first (serials objects.now) self.old self.new) }
     {
         for (k, object) in objects.iter().enumerate() {
             self.add(object.serial, first + k)?;
@@ -67,7 +67,7 @@ impl Places {
 
     /// Notes the place of the serial behind so many, unless it has an earlier one.
     fn add(&mut self, serial: Serial, place: usize) -> Result<(), AllocError>
-        ensures { OnOk result ((xs : List ℕ) → length xs ≡ place → ArePlaces xs self.old → ArePlaces (xs ++ serial ∷ []) self.new) }
+        ensures { OnOk result (NotesMore place (serial ∷ []) self.old self.new) }
     {
         if !self.by_serial.contains_key(&serial) {
             self.by_serial.insert(serial, place)?;

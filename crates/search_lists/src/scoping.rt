@@ -1,25 +1,49 @@
 //! The scopes of objects.
 
-ghost use Rattle.std.specs.Prelude.{◌≡◌, ◌++◌, ◌||◌, [], not, false, filter, flat_map, if◌then◌else◌, IfOk, OnOk};
+ghost use Rattle.std.specs.Prelude.{◌≡◌, ◌++◌, ◌||◌, [], not, filter, IfOk, OnOk};
 ghost use Rattle.std.specs.List.{list_any};
-ghost use Rattle.scope_rule.specs.Breadth.{breadth, has};
+ghost use Rattle.scope_rule.specs.Breadth.{breadth};
 ghost use Rattle.scope_rule.specs.Loading.{is_dying, is_dying_at};
-ghost use Rattle.scope_rule.specs.Scope.{opened_with, scope, whole_scope};
+ghost use Rattle.scope_rule.specs.Scope.{scope, whole_scope};
 ghost use Rattle.scope_rule.specs.Seen.{seen};
+ghost use Rattle.search_lists.specs.Brought.{brought_in};
 ghost use Rattle.search_lists.specs.Places.{ArePlaces, serials_of};
-ghost use Rattle.search_lists.specs.Scoping.{opened_of};
 
 use crate::breadth_first::breadth;
+use crate::brought::Brought;
 use crate::places::Places;
-use ld_base::{Loaded, Sequence, Serial, Serials, State};
-use scope_rule::View;
+use ld_base::{Loaded, Serial, Serials};
+use scope_rule::{View, is_dying};
 use std::alloc::{AllocError, Global};
+use std::marker::Model;
 
-/// Whether its destructors run.
-fn is_dying(object: &Loaded) -> bool
-    ensures { result ≡ is_dying object.now }
-{
-    matches!(object.state, State::Dying(_))
+/// What the scopes of all objects of a namespace are made of, found once. Contracts see what is seen of
+/// the namespace.
+#[derive(Drop)]
+pub(crate) struct Scopes<'a> {
+    view: View<'a>,
+    places: &'a Places,
+    brought: Brought,
+    /// Whether the destructors of one of the objects run.
+    closing: bool,
+}
+
+impl<'a> Model for Scopes<'a> {
+    ghost use Rattle.std.specs.Prelude.{◌≡◌};
+    ghost use Rattle.std.specs.List.{list_any};
+    ghost use Rattle.scope_rule.specs.Loading.{is_dying};
+    ghost use Rattle.scope_rule.specs.Seen.{Seen, seen};
+    ghost use Rattle.search_lists.specs.Brought.{AreBrought};
+    ghost use Rattle.search_lists.specs.Places.{ArePlaces, serials_of};
+
+    ghost Value = { Seen };
+
+    ghost view = { λ s. seen s.view };
+
+    ghost invariant = { λ s.
+        ArePlaces (serials_of (seen s.view)) s.places.now
+        × AreBrought (seen s.view) s.brought
+        × (s.closing ≡ list_any is_dying (seen s.view).objects) };
 }
 
 /// Whether the destructors of one of these run.
@@ -29,79 +53,22 @@ fn has_dying(view: &View) -> bool
     any_dying(view.objects) || any_dying(view.added)
 }
 
-/// Whether the owner sees each object: it is closing itself, or none is.
-fn sees_all(view: &View, owner: &Loaded) -> bool
-    ensures { result ≡ (is_dying owner.now || not (list_any is_dying (seen view.now).objects)) }
-{
-    is_dying(owner) || !has_dying(view)
-}
-
 fn any_dying(objects: &[Loaded]) -> bool
     ensures { result ≡ list_any is_dying objects.now }
 {
-    objects.iter().any(is_dying)
-}
-
-/// What each opening's root leads to.
-pub(crate) fn opened_of(
-    alloc: Global,
-    view: &View,
-    places: &Places,
-) -> Result<Sequence<Serials>, AllocError>
-    requires { ArePlaces (serials_of (seen view.now)) places.now }
-    ensures { IfOk result (λ opened. opened ≡ opened_of (seen view.now)) }
-{
-    let mut opened = Sequence::new(alloc);
-    for open in view.opens {
-        opened.push(breadth(alloc, view, places, open.root)?)?;
-    }
-    Ok(opened)
-}
-
-/// Puts at the end what the openings bring to the scope of an object.
-fn append_opens(
-    view: &View,
-    opened: &[Serials],
-    owner: &Loaded,
-    scope: &mut Serials,
-) -> Result<(), AllocError>
-    requires { opened.now ≡ opened_of (seen view.now) }
-    ensures { OnOk result (scope.new ≡ scope.old ++ flat_map (λ r. opened_with (seen view.now) owner.now r.root) (seen view.now).opens) }
-{
-    append_each(opened, owner.serial, scope)
-}
-
-/// The same, of what the roots of the openings lead to.
-fn append_each(opened: &[Serials], owner: Serial, scope: &mut Serials) -> Result<(), AllocError>
-    ensures { OnOk result (scope.new ≡ scope.old ++ flat_map (λ libraries. if has libraries owner then libraries else []) opened.now) }
-{
-    for libraries in opened {
-        append_opened(libraries.as_slice(), owner, scope)?;
-    }
-    Ok(())
-}
-
-/// Puts at the end what an opening brings to the scope of an object: what its root leads to, if the
-/// object is of that.
-fn append_opened(libraries: &[Serial], owner: Serial, scope: &mut Serials) -> Result<(), AllocError>
-    ensures { OnOk result (scope.new ≡ scope.old ++ (if has libraries.now owner then libraries.now else [])) }
-{
-    if libraries.contains(&owner) {
-        scope.extend_from_slice(libraries)?;
-    }
-    Ok(())
+    objects.iter().any(|object| is_dying(object))
 }
 
 /// Puts every object that a reference of the owner may be to, those closing too, into an empty list.
 fn fill_scope(
     view: &View,
-    opened: &[Serials],
+    brought: &[Serial],
     libraries: &[Serial],
     owner: &Loaded,
     scope: &mut Serials,
 ) -> Result<(), AllocError>
     requires empty { scope.old ≡ [] }
-    requires opened { opened.now ≡ opened_of (seen view.now) }
+    requires brought { brought.now ≡ brought_in (seen view.now) owner.now.serial }
     requires libraries { libraries.now ≡ breadth (seen view.now) owner.now.serial }
     ensures { OnOk result (scope.new ≡ whole_scope (seen view.now) owner.now) }
 {
@@ -111,7 +78,7 @@ fn fill_scope(
     if !owner.deep {
         scope.extend_from_slice(view.global)?;
     }
-    append_opens(view, opened, owner, scope)?;
+    scope.extend_from_slice(brought)?;
     scope.extend_from_slice(libraries)?;
     if owner.deep {
         scope.extend_from_slice(view.global)?;
@@ -130,45 +97,80 @@ fn is_dying_at(view: &View, places: &Places, serial: Serial) -> bool
     }
 }
 
-/// Of these objects those that the owner sees: one that isn't closing sees none that is.
-fn visible(
+/// Of these objects those whose destructors don't run.
+fn standing(
     alloc: Global,
     view: &View,
     places: &Places,
-    owner: &Loaded,
-    whole: Serials,
+    whole: &[Serial],
 ) -> Result<Serials, AllocError>
     requires { ArePlaces (serials_of (seen view.now)) places.now }
-    ensures { IfOk result (λ found. found ≡ filter (λ s. is_dying owner.now || not (is_dying_at (seen view.now) s)) whole) }
+    ensures { IfOk result (λ found. found ≡ filter (λ s. not (is_dying_at (seen view.now) s)) whole.now) }
 {
-    if sees_all(view, owner) {
-        return Ok(whole);
-    }
-    let sees_dying = is_dying(owner);
-    let seen: Vec<Serial> = whole
-        .as_slice()
+    let found: Vec<Serial> = whole
         .iter()
         .copied()
-        .filter(|serial| sees_dying || !is_dying_at(view, places, *serial))
+        .filter(|serial| !is_dying_at(view, places, *serial))
         .collect(alloc)?;
-    Ok(Serials::from(seen))
+    Ok(Serials::from(found))
 }
 
-/// Where the references of an object are searched, in order (gABI, "Shared Object Dependencies").
-#[tactic(auto, unfolding(scope_rule::specs::Scope::scope))]
-pub(crate) fn scope(
-    alloc: Global,
-    view: &View,
-    places: &Places,
-    opened: &[Serials],
-    owner: &Loaded,
-) -> Result<Serials, AllocError>
-    requires places { ArePlaces (serials_of (seen view.now)) places.now }
-    requires opened { opened.now ≡ opened_of (seen view.now) }
-    ensures { IfOk result (λ found. found ≡ scope (seen view.now) owner.now) }
-{
-    let libraries = breadth(alloc, view, places, owner.serial)?;
-    let mut whole = Serials::new(alloc);
-    fill_scope(view, opened, libraries.as_slice(), owner, &mut whole)?;
-    visible(alloc, view, places, owner, whole)
+impl<'a> Scopes<'a> {
+    ghost use Rattle.std.specs.Prelude.{◌≡◌, ◌||◌, not, filter, IfOk};
+    ghost use Rattle.std.specs.List.{list_any};
+    ghost use Rattle.scope_rule.specs.Loading.{is_dying, is_dying_at};
+    ghost use Rattle.scope_rule.specs.Scope.{scope, whole_scope};
+    ghost use Rattle.scope_rule.specs.Seen.{seen};
+    ghost use Rattle.search_lists.specs.Places.{ArePlaces, serials_of};
+
+    /// Those of what is seen of a namespace.
+    pub(crate) fn of(alloc: Global, view: &View<'a>, places: &'a Places) -> Result<Self, AllocError>
+        requires { ArePlaces (serials_of (seen view.now)) places.now }
+        ensures { IfOk result (λ scopes. scopes ≡ seen view.now) }
+    {
+        let brought = Brought::of(alloc, view, places)?;
+        Ok(Scopes {
+            view: *view,
+            places,
+            brought,
+            closing: has_dying(view),
+        })
+    }
+
+    /// Every object that a reference of the owner may be to, those closing too.
+    fn whole_scope(&self, alloc: Global, owner: &Loaded) -> Result<Serials, AllocError>
+        ensures { IfOk result (λ whole. whole ≡ whole_scope self.now owner.now) }
+    {
+        let libraries = breadth(alloc, &self.view, self.places, owner.serial)?;
+        let brought = self.brought.get(owner.serial);
+        let mut whole = Serials::new(alloc);
+        fill_scope(&self.view, brought, libraries.as_slice(), owner, &mut whole)?;
+        Ok(whole)
+    }
+
+    /// Whether the owner sees each object: it is closing itself, or none is.
+    fn sees_all(&self, owner: &Loaded) -> bool
+        ensures { result ≡ (is_dying owner.now || not (list_any is_dying self.now.objects)) }
+    {
+        is_dying(owner) || !self.closing
+    }
+
+    /// Of these objects those that the owner sees: one that isn't closing sees none that is.
+    fn visible(&self, alloc: Global, owner: &Loaded, whole: Serials) -> Result<Serials, AllocError>
+        ensures { IfOk result (λ found. found ≡ filter (λ s. is_dying owner.now || not (is_dying_at self.now s)) whole) }
+    {
+        if self.sees_all(owner) {
+            return Ok(whole);
+        }
+        standing(alloc, &self.view, self.places, whole.as_slice())
+    }
+
+    /// Where the references of an object are searched, in order (gABI, "Shared Object Dependencies").
+    #[tactic(auto, unfolding(scope_rule::specs::Scope::scope))]
+    pub(crate) fn scope(&self, alloc: Global, owner: &Loaded) -> Result<Serials, AllocError>
+        ensures { IfOk result (λ found. found ≡ scope self.now owner.now) }
+    {
+        let whole = self.whole_scope(alloc, owner)?;
+        self.visible(alloc, owner, whole)
+    }
 }

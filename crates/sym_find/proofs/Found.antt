@@ -3,7 +3,6 @@ use Rattle.std.proofs.Common.{◌≡◌, ◌↔◌, ◌∙◌, ap, sym, subst, �
 use Rattle.std.specs.Prelude.{◌==◌, ◌&&◌, ◌||◌, not, IfSome, Option, Some, None}
 use Rattle.ld_base.specs.Marks.{is_marked}
 use Rattle.std.specs.Str.{bytes_eq}
-use Rattle.std.specs.List.{slice_get}
 use Rattle.std.proofs.lemmas.Bool.{and_from, and_parts}
 use Rattle.std.proofs.lemmas.Slice.Eq.{bytes_eq-Decides}
 use Rattle.ld_base.specs.declared.linking.Want.{Want}
@@ -17,7 +16,7 @@ use Rattle.ld_base.specs.Pick.{carries, is_offer, is_wanted, names_no_version, p
 use Rattle.ld_base.specs.Symbol.{is_hidden_version, is_visible_definition, version_index}
 use Rattle.ld_base.specs.Taken.{Exports, Takes, fits, in_sight}
 use Rattle.sym_hash.specs.Reached.{IsTableOf, Reached, ReachedByGnu, ReachedBySysv}
-use Rattle.sym_find.specs.Best.{FirstOf, Keeps, KeepsAll, Knows, OnlyOf, nothing, only_of, taken}
+use Rattle.sym_find.specs.Best.{FirstOf, IsWantedAt, Keeps, KeepsAll, Knows, OnlyOf, nothing, only_of, taken}
 use Rattle.sym_find.specs.Found.{Finds, Least, Offers, Only}
 use Rattle.sym_find.specs.declared.best.Best.{Best}
 use Rattle.sym_find.specs.declared.best.Search.{Search}
@@ -88,14 +87,14 @@ module _ (o : Object) (name : List ℕ) (w : Want) (led : ℕ → Type 0) where
   named_of : (k : ℕ) → Fitting k → Named k
   named_of k ((from, s, at, fit), has) = ((from, s, at, (and_parts (is_offer o name s) (not o.has_versym || is_wanted o w s) fit).0), has)
 
-  first_decides : (first : Option ℕ) → FirstOf Named first → IfSome first (λ k. (s : Symbol) → slice_get o.symbols k ≡ Some s → (not o.has_versym || is_wanted o w s) ≡ true) → FirstOf Fitting first
+  first_decides : (first : Option ℕ) → FirstOf Named first → IfSome first (IsWantedAt o w) → FirstOf Fitting first
   first_decides None none wanted = λ k has. none k (named_of k has)
   first_decides (Some k) (((from, s, at, offer), has), least) wanted = (
     ((from, s, at, and_from (is_offer o name s) (not o.has_versym || is_wanted o w s) offer (wanted s at)), has),
     λ j other. least j (named_of j other),
   )
 
-  pub decided : (b : Best) → KeepsAll o name led b → IfSome b.first (λ k. (s : Symbol) → slice_get o.symbols k ≡ Some s → (not o.has_versym || is_wanted o w s) ≡ true) → Keeps o name w led b
+  pub decided : (b : Best) → KeepsAll o name led b → IfSome b.first (IsWantedAt o w) → Keeps o name w led b
   decided b all wanted = record { first = first_decides b.first all.first wanted; sight = all.sight }
 
 -- all that a search of any version keeps

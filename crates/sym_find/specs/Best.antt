@@ -1,12 +1,12 @@
 -- What a walk over candidates keeps: for the walks of this crate alone.
-use Rattle.std.specs.Prelude.{◌≡◌, ◌≢◌, ℕ, Bool, false, ◌&&◌, ◌||◌, ◌==◌, nat_le, min, if◌then◌else◌, List, Option, Some, None}
+use Rattle.std.specs.Prelude.{◌≡◌, ◌≢◌, ℕ, Bool, IsTrue, false, not, ◌&&◌, ◌||◌, ◌==◌, nat_le, min, if◌then◌else◌, List, Option, Some, None}
 use Rattle.std.specs.List.{slice_get}
 use Rattle.std.specs.Option.{option_map_or, option_or}
 use Rattle.ld_base.specs.declared.linking.Want.{Want}
 use Rattle.ld_base.specs.declared.object.Object.{Object}
 use Rattle.ld_base.specs.declared.object.Symbol.{Symbol}
 use Rattle.ld_base.specs.Marks.{is_marked}
-use Rattle.ld_base.specs.Pick.{is_offer}
+use Rattle.ld_base.specs.Pick.{is_offer, is_wanted}
 use Rattle.ld_base.specs.Symbol.{version_index}
 use Rattle.ld_base.specs.Taken.{fits, in_sight, Exports}
 use Rattle.sym_find.specs.Found.{Nowhere, Least, Only}
@@ -34,6 +34,10 @@ sighted w s = in_sight w.object.now w.name.now s
 -- the symbol may be exported, and passes
 abbrev pub exports : Object → (Symbol → Bool) → ℕ → Bool
 exports o p k = nat_le o.first_exported k && option_map_or p (slice_get o.symbols k) false
+
+-- the definition at an index is of a version that is wanted, or the object has no versions
+abbrev pub IsWantedAt : Object → Want → ℕ → Type 0
+IsWantedAt o want k = (s : Symbol) → slice_get o.symbols k ≡ Some s → IsTrue (not o.has_versym || is_wanted o want s)
 
 -- no candidate yet
 abbrev pub nothing : Best

@@ -5,7 +5,7 @@ ghost use Rattle.std.specs.List.{slice_get};
 ghost use Rattle.ld_base.specs.Pick.{has_version, is_offer, is_wanted, names_no_version, pick_of};
 ghost use Rattle.ld_base.specs.Taken.{Exports, fits};
 ghost use Rattle.ld_base.specs.declared.object.Symbol.{Symbol};
-ghost use Rattle.sym_find.specs.Best.{Keeps, KeepsAll, Knows, passes};
+ghost use Rattle.sym_find.specs.Best.{IsWantedAt, Keeps, KeepsAll, Knows, passes};
 ghost use Rattle.sym_find.specs.Found.{Finds};
 ghost use Rattle.sym_find.specs.Reference.{want_as};
 ghost use Rattle.sym_hash.specs.Reached.{IsTableOf, Reached};
@@ -80,7 +80,7 @@ fn is_wanted_at(object: &Object, asked: Asked, index: u32) -> bool
 /// Whether the first definition of a name decides, whatever its version: there is none, or it is of one
 /// that is asked for, or the object has no versions.
 fn decides(object: &Object, asked: Asked, first: Option<u32>) -> bool
-    ensures first { IsTrue result → IfSome first (λ k. (s : Symbol) → slice_get object.now.symbols k ≡ Some s → IsTrue (not object.now.has_versym || is_wanted object.now (want_as asked.entry) s)) }
+    ensures first { IsTrue result → IfSome first (IsWantedAt object.now (want_as asked.entry)) }
     ensures versions { result ≡ false → object.now.has_versym ≡ true }
 {
     if !object.has_versym {

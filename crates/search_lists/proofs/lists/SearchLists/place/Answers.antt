@@ -1,4 +1,4 @@
-use Rattle.std.proofs.Common.{◌≡◌, sym, ap, ◌∙◌}
+use Rattle.std.proofs.Common.{ap, ◌∙◌}
 use Rattle.search_lists.specs.Places.{place_in}
 use Rattle.search_lists.proofs.Stands.{owners, owners_of, placed}
 use Rattle.search_lists.proofs.lists.SearchLists.place.Goals as goal

@@ -1,6 +1,6 @@
 use Rattle.std.proofs.Common.{List, ℕ, [], refl, subst}
-use Rattle.search_lists.specs.Places.{ArePlaces}
-use Rattle.search_lists.proofs.Stands.{length_serials, serials_append, serials}
+use Rattle.search_lists.specs.Places.{ArePlaces, serials}
+use Rattle.search_lists.proofs.Stands.{length_serials, serials_append}
 use Rattle.search_lists.proofs.places.Places.of.Goals as goal
 
 pub returns : goal.returns
