@@ -1,7 +1,8 @@
 -- Search lists: where the references of each object are searched.
-use Rattle.std.specs.Prelude.{ℕ, ◌==◌, List, [], map, find, Option, Some, None}
+use Rattle.std.specs.Prelude.{◌≡◌, ℕ, ◌==◌, List, [], map, find, Option, Some, None}
 use Rattle.std.specs.List.{slice_get}
 use Rattle.ld_base.specs.declared.linking.Loaded.{Loaded}
+use Rattle.scope_rule.specs.Loading.{is_dying}
 use Rattle.scope_rule.specs.Scope.{scope}
 use Rattle.scope_rule.specs.Seen.{Seen}
 use Rattle.search_lists.specs.declared.lists.SearchList.{SearchList}
@@ -26,3 +27,8 @@ scope_in lists owner = scope_on (find (λ l. l.owner == owner) lists)
 abbrev pub at_place : Seen → Option ℕ → Option Loaded
 at_place s (Some place) = slice_get s.objects place
 at_place s None = None
+
+-- an object but for its state; it is closing exactly where it was
+pub record ChangesStateAlone (before after : Loaded) : Type 0 where
+  pub rest : after ≡ record before { state = after.state }
+  pub closing : is_dying after ≡ is_dying before
