@@ -95,7 +95,6 @@ start = record {
   joined = [];
   note = None;
   shown = None;
-  saw = None;
 }
 
 first_is : first_keeper ≡ start

@@ -1,10 +1,8 @@
 -- What the rule comes to.
-use Rattle.std.proofs.Common.{◌≡◌, ◌≢◌, ◌⊎◌, ⊎_elim, inl, inr, ℕ, ◌%◌, ◌≤◌, ◌<◌, Bool, true, false, nat_lt, List, [], ◌∷◌, ◌++◌, length, slice_index, Option, Some, None, Contains, refl, sym, ap, subst, ◌∙◌, arith}
+use Rattle.std.proofs.Common.{◌≡◌, ◌≢◌, ◌⊎◌, ⊎_elim, inl, inr, ℕ, ◌%◌, ◌≤◌, ◌<◌, Bool, true, false, nat_lt, List, length, slice_index, Option, Some, None, refl, sym, ap, subst, ◌∙◌, arith}
 use Rattle.std.proofs.lemmas.Bool.Decides.{nat_tests}
 use mathlib.Core.Logic.{dite}
 use native.Mathlib.Decide.{ℕ_discrete}
-use mathlib.Core.Option.{some}
-use lib.ListN.{get_elem?}
 use Rattle.ld_base.specs.declared.linking.Role.{Role}
 use Rattle.ld_base.specs.declared.linking.Role.TheVariants.{None as NoRole, Ro, Rx, Rw, Slot as SlotRole}
 use Rattle.guest_rule.specs.declared.entry.Exchange.{Exchange}
@@ -12,20 +10,18 @@ use Rattle.guest_rule.specs.declared.entry.Grant.{Grant}
 use Rattle.guest_rule.specs.declared.entry.RowWord.TheVariants.{Number}
 use Rattle.guest_rule.specs.declared.view.HartView.{HartView}
 use Rattle.guest_rule.specs.declared.view.KeeperView.{KeeperView}
-use Rattle.guest_rule.specs.declared.view.Lane.{Lane}
-use Rattle.guest_rule.specs.declared.view.Row.{Row}
 use Rattle.guest_rule.specs.declared.view.View.{View}
 use Rattle.guest_rule.specs.declared.view.View.TheVariants.{Keeper, Hart, Note}
-use Rattle.guest_rule.specs.Layout.{control_at, doublewords, harts_at_most, index_of, lock_bit, place_of, row_at, state_at, value_at}
+use Rattle.guest_rule.specs.Layout.{control_at, doublewords, harts_at_most, lock_bit, place_of, state_at, value_at}
 use Rattle.guest_rule.specs.Views.{entry_of, exchanges_of, kept_at, row_of}
 use Rattle.guest_rule.specs.Allowed.{IsAllowed, IsOf, IsSlot, Stands}
 use Rattle.guest_rule.specs.Words.{Holds, keeper, hart, nobody, Owner}
 use Rattle.guest_rule.specs.HartSteps.{IsMark}
 use Rattle.guest_rule.specs.Calls.{Answered, Awaits, IsEvent, Rests, RowIs, Stage, Still}
-use Rattle.guest_rule.specs.Slots.{Did, Fated, HasLost, HasWon, IsPending, SlotIs, Winner}
+use Rattle.guest_rule.specs.Slots.{Did, Fated, HasLost, IsPending, Winner}
 use Rattle.guest_rule.specs.Seats.{Fits}
 use Rattle.guest_rule.specs.Rule.{IsGuest, Parts}
-use Rattle.guest_rule.specs.Clauses.{Clauses, CountClauses, EntryClauses, LockClauses, Made, RowClauses, SlotClauses, slot_of}
+use Rattle.guest_rule.specs.Clauses.{Clauses, EntryClauses, Made, RowClauses, SlotClauses, slot_of}
 use Rattle.guest_rule.proofs.Locks.{is_free}
 use Rattle.guest_rule.proofs.Rows.{not_both, not_rest}
 use Rattle.guest_rule.proofs.SlotFrames.{at_place}
@@ -139,6 +135,7 @@ module _ (word : ℕ → ℕ) (kept : KeeperView) (harts : ℕ → HartView) (p 
         let q : Some (m, x.grant) ≡ Some (n, y.grant) = sym a ∙ (ap p.slots.winner same ∙ b) in
         let r : (m, x.grant) ≡ (n, y.grant) = cc in (ap (λ (z : ℕ × Grant). z.0) r, ap (λ (z : ℕ × Grant). z.1) r);
     some = λ d here other. winner d here other (p.slots.winner d) refl;
+    seen = λ d x here e. ((p.slots.each_slot d here).fixed x e).0;
     known_won = λ m g few c. (p.slots.each_hart m few).won g c;
     known_lost = λ m g few c. (p.slots.each_hart m few).lost g c;
   }

@@ -16,9 +16,9 @@ use Rattle.guest_rule.specs.declared.view.Row.{Row}
 use Rattle.guest_rule.specs.declared.view.TrailItem.{TrailItem}
 use Rattle.guest_rule.specs.declared.view.TrailItem.TheVariants.{Took, Exchanged, Done}
 use Rattle.guest_rule.specs.Layout.{harts_at_most, row_at, state_at, index_of, value_at, control_at, place_of, role_in, lock_bit}
-use Rattle.guest_rule.specs.Views.{put, entries_by, entries_of, entry_of, field_of, grant_in, offered, with_offered, fresh_offer, tried_entry, IsRead, IsGranted}
+use Rattle.guest_rule.specs.Views.{put, entries_by, entries_of, entry_of, field_of, grant_in, offer_found, offered, with_offered, fresh_offer, tried_entry, IsRead, IsGranted}
 use Rattle.guest_rule.specs.Operations.{becomes}
-use Rattle.guest_rule.specs.HartSteps.{HartReady, HartLearns, IsMark, hart_word, hart_op, hart_after, glanced, looked, locked_if, arrived_if, found_in, finished, heeded, permits, ask_is_fresh, ask_place, load_place, store_place}
+use Rattle.guest_rule.specs.HartSteps.{HartReady, HartLearns, IsMark, hart_word, hart_op, hart_after, glanced, looked, locked_if, WordAgain, arrived_if, found_in, finished, heeded, permits, ask_is_fresh, ask_place, load_place, store_place}
 use Rattle.guest_rule.specs.Calls.{Answered, Awaits, Calls, Known, Rests, RowIs, Stage, Still}
 use Rattle.guest_rule.proofs.Put.{put_here, put_else, put_same}
 use Rattle.guest_rule.proofs.HartLocks.{unmoved}
@@ -201,13 +201,15 @@ module _ (word : ℕ → ℕ) (count : ℕ) (row : ℕ → Row) (lane : ℕ → 
       })
       st)
 
-  arrives : (b : Bool) → nat_lt state 8 ≡ b → h.lane.calling ≡ true → h.lane.offer ≡ None → RowIs word count h.number (row h.number) (arrived_if state b h.lane) (entries_of h.trail)
-  arrives false e calls none' = old
-  arrives true e calls none' = offers (Some (fresh_offer state)) (arrive_stage (ltb-true state 8 e) none' h.lane.calling calls old.stage)
+  arrives : (b : Bool) → nat_lt state 8 ≡ b → h.lane.calling ≡ true → (o : Option Offer) → h.lane.offer ≡ o → RowIs word count h.number (row h.number) (arrived_if state b h.lane) (entries_of h.trail)
+  arrives false e calls o has = old
+  arrives true e calls None has = subst (λ (p : Option Offer). RowIs word count h.number (row h.number) (record h.lane { offer = Some (offer_found state p) }) (entries_of h.trail)) (sym has)
+      (offers (Some (fresh_offer state)) (arrive_stage (ltb-true state 8 e) has h.lane.calling calls old.stage))
+  arrives true e calls (Some o) has = subst (λ (p : Option Offer). RowIs word count h.number (row h.number) (record h.lane { offer = p }) (entries_of h.trail)) (has ∙ ap (λ (p : Option Offer). Some (offer_found state p)) (sym has)) old
 
-  arrive : h.lane.calling ≡ true → h.lane.offer ≡ None → After (put word (state_at h.number) state) (hart_after (kinds.Arrive h.number) h state)
-  arrive calls none' = unmoved word (state_at h.number) (λ f. After f (hart_after (kinds.Arrive h.number) h state))
-      (changed word (hart_after (kinds.Arrive h.number) h state) refl (λ j few' apart i low. refl) (arrives (nat_lt state 8) refl calls none'))
+  arrive : h.lane.calling ≡ true → After (put word (state_at h.number) state) (hart_after (kinds.Arrive h.number) h state)
+  arrive calls = unmoved word (state_at h.number) (λ f. After f (hart_after (kinds.Arrive h.number) h state))
+      (changed word (hart_after (kinds.Arrive h.number) h state) refl (λ j few' apart i low. refl) (arrives (nat_lt state 8) refl calls h.lane.offer refl))
 
   find : (i : RowWord) (o : Offer) → h.lane.offer ≡ Some o → After (put word (row_at h.number (index_of i)) (word (row_at h.number (index_of i)))) (hart_after (kinds.Find h.number i) h (word (row_at h.number (index_of i))))
   find i o has =
@@ -330,7 +332,7 @@ module _ (word : ℕ → ℕ) (count : ℕ) (row : ℕ → Row) (lane : ℕ → 
   hart_calls (kinds.Unlock d) ready = at_control d ((word (control_at d) + 8) % 18446744073709551616) (hart_after (kinds.Unlock d) h (word (control_at d))) refl refl
   hart_calls kinds.Tally ready = counts ready
   hart_calls (kinds.Begin n) ready = subst (λ n. After (put word (state_at n) ((word (state_at n) + 8) % 18446744073709551616)) (hart_after (kinds.Begin n) h (word (state_at n)))) (sym ready.0) (begin ready.1)
-  hart_calls (kinds.Arrive n) ready = subst (λ n. After (put word (state_at n) (word (state_at n))) (hart_after (kinds.Arrive n) h (word (state_at n)))) (sym ready.0) (arrive ready.1 ready.2)
+  hart_calls (kinds.Arrive n) ready = subst (λ n. After (put word (state_at n) (word (state_at n))) (hart_after (kinds.Arrive n) h (word (state_at n)))) (sym ready.0) (arrive ready.1)
   hart_calls (kinds.Find n i) ready = subst (λ n. After (put word (row_at n (index_of i)) (word (row_at n (index_of i)))) (hart_after (kinds.Find n i) h (word (row_at n (index_of i))))) (sym ready.0) (find i ready.1.0 ready.1.1)
   hart_calls (kinds.Exchange g) ready = exchanges g (becomes (hart_op (kinds.Exchange g)) (word (value_at (place_of g.entry.slot)))) ready
   hart_calls (kinds.Accept n e) ready = subst (λ n. After (put word (state_at n) 0) (hart_after (kinds.Accept n e) h (word (state_at n)))) (sym ready.0) (accepts e (refl, ready.1, ready.2))
@@ -341,8 +343,12 @@ module _ (word : ℕ → ℕ) (count : ℕ) (row : ℕ → Row) (lane : ℕ → 
   -- ---- what the rule tells of calls
 
   pub arrive_tells : HartReady (kinds.Arrive h.number) h → HartLearns (kinds.Arrive h.number) h state
-  arrive_tells ready = tells h.lane.calling ready.1 old.stage
+  arrive_tells ready = (tells h.lane.calling ready.1 old.stage, λ o has. let a = answered_if state (row h.number) h.lane o has h.lane.calling old.stage in (sym (a.offer o has).0, a.mark))
     where
       tells : (b : Bool) → b ≡ true → Stage state (row h.number) h.lane b → (8 ≤ state) ⊎ IsMark state
       tells false e st = absurd (true≢false (sym e))
       tells true e st = ⊎_elim (λ (w : Awaits state × Still (row h.number) h.lane). inl (high_awaits state w.0)) (λ (a : Answered state (row h.number) h.lane). inr a.mark) st
+
+  -- a word that is read again is the one that was read
+  pub again_tells : (i : RowWord) → WordAgain i h.lane.offer (word (row_at h.number (index_of i)))
+  again_tells i o x has found = old.fields i ∙ sym (((answered_if state (row h.number) h.lane o has h.lane.calling old.stage).offer o has).1 i x found)

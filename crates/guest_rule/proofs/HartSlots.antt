@@ -379,7 +379,7 @@ module _ (word : ℕ → ℕ) (known : ℕ → Kept) (locked : Option ℕ) (coun
       more j x c = put_each (λ n xs. Contains (exchanges n) x → Contains xs x) exchanges m (exchanges m ++ e ∷ []) (λ n _ c. c) (λ c. Contains-append_left (exchanges m) (e ∷ []) x c) j c
 
       slot_more : (n : ℕ) → SlotIs (word (value_at n)) known count row exchanges (s.winner n) n → SlotIs (word (value_at n)) known count row exchanges' (s.winner n) n
-      slot_more n o = record { since = o.since; image = o.image; bound = o.bound; by = λ j p is. ((o.by j p is).0, (o.by j p is).1, more j (record { grant = p; found = p.lazy }) (o.by j p is).2); lazy = o.lazy; leads = o.leads }
+      slot_more n o = record { since = o.since; image = o.image; bound = o.bound; by = λ j p is. ((o.by j p is).0, (o.by j p is).1, more j (record { grant = p; found = p.lazy }) (o.by j p is).2); lazy = o.lazy; leads = o.leads; fixed = o.fixed }
 
       did_before : (j : ℕ) (x : Exchange) → (let n = place_of x.grant.entry.slot in Did (word (value_at n)) (known n).lazy (s.winner n) j x) → (let n = place_of x.grant.entry.slot in Did (word' (value_at n)) (known n).lazy (winner' n) j x)
       did_before j x = at (place_of x.grant.entry.slot)
@@ -453,7 +453,7 @@ module _ (word : ℕ → ℕ) (known : ℕ → Kept) (locked : Option ℕ) (coun
       let apart : n ≢ g.lazy = eqb-false n g.lazy miss in
       let o : SlotIs n known count row exchanges (s.winner d) d = s.each_slot d aim.posted.of_slot.0 in
       exchange_leaves g n (s.winner d) ready aim (record {
-        slot = record { since = o.since; image = o.image; bound = o.bound; by = λ j p is. ((o.by j p is).0, (o.by j p is).1, more e j p (o.by j p is).2); lazy = o.lazy; leads = o.leads };
+        slot = record { since = o.since; image = o.image; bound = o.bound; by = λ j p is. ((o.by j p is).0, (o.by j p is).1, more e j p (o.by j p is).2); lazy = o.lazy; leads = o.leads; fixed = o.fixed };
         did = record { lazy_is = aim.posted.lazy_is; not_lazy = λ q. apart (q ∙ sym aim.posted.lazy_is); won = λ q. absurd (apart q); lost = λ _. (aim.is_open.untried ready.0, refl) };
         fates = λ j low other p lazy f. f;
         before = λ j x did. did;
@@ -484,6 +484,7 @@ module _ (word : ℕ → ℕ) (known : ℕ → Kept) (locked : Option ℕ) (coun
               );
           lazy = λ j p _. sym (o.image none') ∙ (same ∙ aim.posted.lazy_is);
           leads = o.leads;
+          fixed = λ x q. let f = o.fixed x q in absurd (f.1 (sym f.0 ∙ (same ∙ aim.posted.lazy_is)));
         };
         did = record { lazy_is = aim.posted.lazy_is; not_lazy = λ q. aim.posted.other (q ∙ sym aim.posted.lazy_is); won = λ _. refl; lost = λ q. absurd (q same) };
         fates = λ j low other p lazy f. refated g d n j other p (lazy ∙ sym aim.posted.lazy_is) aim.posted.other none' f;

@@ -13,8 +13,9 @@ use Rattle.guest_rule.specs.declared.view.Kept.{Kept}
 use Rattle.guest_rule.specs.Layout.{doublewords, value_at, control_at, row_at, state_at, index_of, role_code, lock_bit}
 use Rattle.guest_rule.specs.Views.{put, kept_at, nothing_locked, unmapped}
 use Rattle.guest_rule.specs.Operations.{becomes}
-use Rattle.guest_rule.specs.KeeperSteps.{KeeperReady, KeeperLearns, keeper_word, keeper_op, keeper_after, awaited_if, heeding, keeps_if, last_if}
+use Rattle.guest_rule.specs.KeeperSteps.{KeeperReady, KeeperLearns, keeper_word, keeper_op, keeper_after, awaited_if, fixed_by, heeding, keeps_if, last_if}
 use Rattle.guest_rule.specs.Words.{Owner, nobody, keeper, hart, Holds, WordIs, Words}
+use Rattle.guest_rule.proofs.Heeding.{known_same, unseen}
 use Rattle.guest_rule.proofs.Put.{put_here, put_else, put_same, set_put}
 use Rattle.guest_rule.proofs.Locks.{beside_value, beside_control, nothing_lock, aside, keeper_change, is_free, lock_word, unlock_word}
 use Rattle.guest_rule.proofs.HartLocks.{unmoved, low_row, low_index}
@@ -23,6 +24,22 @@ use Rattle.guest_rule.proofs.HartLocks.{unmoved, low_row, low_index}
 pub awaited_same : (P : (ℕ → Kept) → Access → Type 0) (m : ℕ) (b : Bool) (k : KeeperView) → P (kept_at k) k.access → P (kept_at (awaited_if m b (heeding k))) (awaited_if m b (heeding k)).access
 awaited_same P m true k p = p
 awaited_same P m false k p = p
+
+-- what was seen of doublewords changes
+seen_words : (word : ℕ → ℕ) (known known' : ℕ → Kept) (a : Access) (harts : ℕ → Access) → ((d : ℕ) → unseen (known' d) ≡ unseen (known d)) → Words word known a harts → Words word known' a harts
+seen_words word known known' a harts same w = record {
+  owner = w.owner;
+  each_word = λ d low. let o = w.each_word d low in record {
+    role = o.role ∙ ap (λ (x : Kept). role_code x.role) (sym (same d));
+    free = o.free;
+    taken = o.taken;
+    holds = λ e. subst (λ (x : Kept). Holds x.role x.value (word (value_at d))) (sym (same d)) (o.holds e);
+  };
+  keepers = w.keepers;
+  of_hart = w.of_hart;
+  only_rw = λ m d e. ap (λ (x : Kept). x.role) (same d) ∙ w.only_rw m d e;
+  steady = λ d control low e other. w.steady d control low e (λ rw. other (ap (λ (x : Kept). x.role) (same d) ∙ rw));
+}
 
 module _ (word : ℕ → ℕ) (k : KeeperView) (harts : ℕ → Access) (w : Words word (kept_at k) k.access harts) (known_all : length k.words ≡ doublewords) where
   -- no word changes, and the keeper has nothing locked before and after
@@ -147,14 +164,17 @@ module _ (word : ℕ → ℕ) (k : KeeperView) (harts : ℕ → Access) (w : Wor
   keeper_locks (kinds.Lock d control) small ready = locks d control ready.0 ready.1 ready.3 (eqb (word (control_at d)) control) refl
   keeper_locks (kinds.Store d x) small ready = stores d x ready.0
   keeper_locks (kinds.Unlock d old new lazy) small ready =
-      let k' : Kept = record { role = new; value = (kept_at k d).value; lazy = lazy; since = length k.events } in
+      let k' : Kept = record { role = new; value = (kept_at k d).value; lazy = lazy; since = length k.events; fixed = None } in
       let c : ℕ = word (control_at d) in
       subst (λ (r : Role). Words (put word (control_at d) ((c + (8 + role_code new - role_code r)) % 18446744073709551616)) (λ j. slice_index_or (slice_set k.words d k') j unmapped) nothing_locked harts) (sym ready.1)
       (unlocks d k' ready.0 small (stands new (word (value_at d)) (kept_at k d).value (w.keepers.held d (kept_at k d).value ready.0 ready.5)))
   keeper_locks (kinds.Count e) small ready = below 0 ((word 0 + 1) % 18446744073709551616) (omega arith)
   keeper_locks (kinds.Await m) small ready = awaited_same (λ f b. Words (put word (state_at m) (word (state_at m))) f b harts) m (nat_le 8 (word (state_at m))) k (below (state_at m) (word (state_at m)) (low_row m 0 ready (omega arith)))
   keeper_locks (kinds.Ask m) small ready = below (state_at m) (word (state_at m)) (low_row m 0 ready.0 (omega arith))
-  keeper_locks (kinds.Saw d) small ready = unmoved word (value_at d) (λ f. Words f (kept_at k) k.access harts) w
+  keeper_locks (kinds.Saw d) small ready =
+      let x : Kept = fixed_by (word (value_at d)) (kept_at k d) in
+      unmoved word (value_at d) (λ f. Words f (λ j. slice_index_or (slice_set k.words d x) j unmapped) k.access harts)
+      (moved d x word k.access ready.0 (seen_words word (kept_at k) (put (kept_at k) d x) k.access harts (known_same (kept_at k) d (word (value_at d))) w))
   keeper_locks (kinds.Fill m i x) small ready = below (row_at m (index_of i)) x (low_row m (index_of i) ready.1.0 (low_index i))
   keeper_locks (kinds.Hand m mark) small ready = below (state_at m) mark (low_row m 0 ready.1.0 (omega arith))
   keeper_locks (kinds.Open m) small ready = below (state_at m) 3 (low_row m 0 ready.1.0 (omega arith))

@@ -1,6 +1,7 @@
 -- The part on slots and grants, over the steps of the keeper.
 use Rattle.std.proofs.Common.{◌≡◌, ◌≢◌, ◌⊎◌, ⊎_elim, inl, inr, ℕ, zero, suc, ◌+◌, ◌*◌, ◌%◌, ◌≤◌, ◌<◌, Bool, true, false, eqb, eqb-true, nat_le, leb-true, List, [], ◌∷◌, ◌++◌, length, map, length-append, Option, Some, None, Contains, refl, sym, ap, subst, ◌∙◌, arith, slice_index_or, slice_set}
 use Rattle.std.proofs.lemmas.List.Elements.{Contains-append_left, Contains-push, Contains-push_cases}
+use Rattle.std.proofs.lemmas.Bool.{eqb-false}
 use mathlib.Core.Logic.{dite}
 use native.Mathlib.Decide.{ℕ_discrete}
 use Rattle.ld_base.specs.declared.linking.Role.{Role}
@@ -21,9 +22,10 @@ use Rattle.guest_rule.specs.declared.view.Settled.{Settled}
 use Rattle.guest_rule.specs.Layout.{doublewords, harts_at_most, address_of, place_of, row_at, state_at, value_at, control_at, index_of}
 use Rattle.guest_rule.specs.Views.{put, grant_in, kept_at, no_row, row_of, with_field, unmapped}
 use Rattle.guest_rule.specs.Operations.{becomes}
-use Rattle.guest_rule.specs.KeeperSteps.{HasEnded, KeeperReady, KeeperLearns, asked, asked_if, awaited_if, handed, heeding, keeper_word, keeper_op, keeper_after, keeps_if, not_found, opened, settled_as}
-use Rattle.guest_rule.specs.Allowed.{IsAllowed, IsOf, IsPostable, IsSlot, LeadsTo, Stands}
-use Rattle.guest_rule.specs.Slots.{Did, Fated, GrantsAre, HasLost, HasWon, IsGrant, IsOpen, IsPending, SlotIs, Slots, Winner}
+use Rattle.guest_rule.specs.KeeperSteps.{HasEnded, KeeperReady, KeeperLearns, asked, asked_if, awaited_if, fixed_by, fixed_if, handed, heeding, keeper_word, keeper_op, keeper_after, keeps_if, not_found, opened, settled_as}
+use Rattle.guest_rule.specs.Allowed.{IsDecided, IsAllowed, IsOf, IsPostable, IsSlot, LeadsTo, Stands}
+use Rattle.guest_rule.specs.Slots.{Did, Fated, GrantsAre, HasLost, HasWon, IsGrant, IsPending, SlotIs, Slots, Winner}
+use Rattle.guest_rule.proofs.Heeding.{known_same, unseen}
 use Rattle.guest_rule.proofs.Put.{put_here, put_else, put_same, set_put, ext}
 use Rattle.guest_rule.proofs.HartLocks.{unmoved}
 use Rattle.guest_rule.proofs.KeeperCalls.{map_row, map_long}
@@ -80,14 +82,15 @@ leads_same known d k' v why l = ⊎_elim (λ (zero' : v ≡ 0). inl zero') (λ h
     (λ (apart : place_of v ≢ d). inr (h.0, ap (λ (x : Kept). x.role) (put_else known d k' (place_of v) apart) ∙ h.1))) l
 
 -- the knowledge of a doubleword that is no slot, or is one no more, changes
-no_slot : (known : ℕ → Kept) (locked' : Option ℕ) (row : ℕ → Row) (d : ℕ) (k' : Kept) → k'.role ≢ SlotRole
+no_slot : (word : ℕ → ℕ) (known : ℕ → Kept) (locked' : Option ℕ) (row : ℕ → Row) (d : ℕ) (k' : Kept) → k'.role ≢ SlotRole
     → ((m : ℕ) (g : Grant) → m < harts_at_most → (row m).pending ≡ Some g → let e = place_of g.entry.slot in IsSlot known e → (e ≢ d) × (locked' ≢ Some e))
     → ((e v : ℕ) → IsSlot known e → IsAllowed known row e v → ((known d).role ≡ Rx → k'.role ≡ Rx) ⊎ ((v ≡ 0) ⊎ (place_of v ≢ d)))
-    → FewerSlots known (put known d k') locked' row
-no_slot known locked' row d k' other posted leads = record {
-  was = was';
+    → FewerSlots word known (put known d k') locked' row
+no_slot word known locked' row d k' other posted leads = record {
+  was = λ e here. let p = was' e here in (p.0, ap unseen p.1);
   posted = λ m g few e here. let p = posted m g few e here in ((here.0, ap (λ (x : Kept). x.role) (put_else known d k' (place_of g.entry.slot) p.0) ∙ here.1), p.1);
   leads = λ e v here a l. leads_same known d k' v (leads e v (was' e here).0 a) l;
+  fixed = λ e x here is. inl (ap (λ (q : Kept). q.fixed) (sym (was' e here).1) ∙ is);
 }
   where
     was' : (e : ℕ) → IsSlot (put known d k') e → IsSlot known e × (put known d k' e ≡ known e)
@@ -117,7 +120,7 @@ module _ (word : ℕ → ℕ) (k : KeeperView) (tried : ℕ → Option Exchange)
       → ((m : ℕ) (g : Grant) → m < harts_at_most → (row_of k m).pending ≡ Some g → let d = place_of g.entry.slot in IsSlot (kept_at k) d → locked' ≢ Some d)
       → Slots word' (kept_at k) locked' (length k.events) (row_of k) tried exchanges
   relocked word' locked' same free = fewer word word' (kept_at k) (kept_at k) k.access.locked locked' (length k.events) (row_of k) tried exchanges same
-      (record { was = λ d here. (here, refl); posted = λ m g few e here. (here, free m g few e here); leads = λ d v here a l. l }) s
+      (record { was = λ d here. (here, refl); posted = λ m g few e here. (here, free m g few e here); leads = λ d v here a l. l; fixed = λ d x here e. inl e }) s
 
   nothing : (e : ℕ) → ¬ (None ≡ Some e)
   nothing e q = let h : None ≡ Some e = q in absurd (cc)
@@ -140,7 +143,7 @@ module _ (word : ℕ → ℕ) (k : KeeperView) (tried : ℕ → Option Exchange)
   stores d x low is other = moved d (record (kept_at k d) { value = x }) (put word (value_at d) x) k.access.locked low
       (fewer word (put word (value_at d) x) (kept_at k) (put (kept_at k) d (record (kept_at k d) { value = x })) k.access.locked k.access.locked (length k.events) (row_of k) tried exchanges
       (aside (value_at d) x (λ e here (q : value_at e ≡ value_at d). let same : e ≡ d = omega arith in other (ap (λ n. (kept_at k n).role) (sym same) ∙ here.1)) (λ m few (q : state_at m ≡ value_at d). omega arith))
-      (no_slot (kept_at k) k.access.locked (row_of k) d (record (kept_at k d) { value = x }) other
+      (no_slot word (kept_at k) k.access.locked (row_of k) d (record (kept_at k d) { value = x }) other
       (λ m g few e here. (unposted d is m g few e, ((s.each_hart m few).pending g e).free))
       (λ e v here a. inl (λ q. q)))
       s)
@@ -151,7 +154,7 @@ module _ (word : ℕ → ℕ) (k : KeeperView) (tried : ℕ → Option Exchange)
       → Slots (put word (control_at d) x) (λ j. slice_index_or (slice_set k.words d k') j unmapped) None (length k.events) (row_of k) tried exchanges
   unlocks d x k' low is other leads = moved d k' (put word (control_at d) x) None low
       (fewer word (put word (control_at d) x) (kept_at k) (put (kept_at k) d k') k.access.locked None (length k.events) (row_of k) tried exchanges (at_control d x)
-      (no_slot (kept_at k) None (row_of k) d k' other (λ m g few e here. (unposted d is m g few e, nothing (place_of g.entry.slot))) leads)
+      (no_slot word (kept_at k) None (row_of k) d k' other (λ m g few e here. (unposted d is m g few e, nothing (place_of g.entry.slot))) leads)
       s)
 
   -- ---- a new slot
@@ -163,10 +166,10 @@ module _ (word : ℕ → ℕ) (k : KeeperView) (tried : ℕ → Option Exchange)
       go (yes high) = absurd (s.no_more m g high st)
       go (no low) = Rattle.std.proofs.Common.lt_of_not-le low
 
-  new_slot : (d x : ℕ) (k' : Kept) → d < doublewords → k.access.locked ≡ Some d → (kept_at k d).role ≢ SlotRole → (kept_at k d).role ≢ Rx → k'.role ≡ SlotRole → k'.since ≡ length k.events → word (value_at d) ≡ k'.value
+  new_slot : (d x : ℕ) (k' : Kept) → d < doublewords → k.access.locked ≡ Some d → (kept_at k d).role ≢ SlotRole → (kept_at k d).role ≢ Rx → k'.role ≡ SlotRole → k'.since ≡ length k.events → k'.fixed ≡ None → word (value_at d) ≡ k'.value
       → LeadsTo (kept_at k) k'.value
       → Slots (put word (control_at d) x) (put (kept_at k) d k') None (length k.events) (row_of k) tried exchanges
-  new_slot d x k' low is other unread slot since value leads = record {
+  new_slot d x k' low is other unread slot since fixed value leads = record {
     winner = winner';
     each_slot = λ e here. dite (ℕ_discrete e d)
         (λ (same : e ≡ d). subst (λ n. SlotIs (word' (value_at n)) known' (length k.events) (row_of k) exchanges (winner' n) n) (sym same) mine)
@@ -230,6 +233,7 @@ module _ (word : ℕ → ℕ) (k : KeeperView) (tried : ℕ → Option Exchange)
             (λ (e : v ≡ (known' d).value). subst (LeadsTo known') (sym (e ∙ ap (λ (q : Kept). q.value) here')) (leads' k'.value leads))
             (λ (h : (m : ℕ) × (g : Grant) × Stands (row_of k m) g × IsOf known' d g × (v ≡ g.entry.value)). absurd (too_new h.0 (stands_low h.0 h.1 h.2) h.1 (stood h.0 h.1 h.2) h.3))
             a;
+        fixed = λ x q. let z : None ≡ Some x = sym (ap (λ (q : Kept). q.fixed) here' ∙ fixed) ∙ q in absurd (cc);
       }
 
       old_slot : (e : ℕ) → e ≢ d → IsSlot known' e → SlotIs (word' (value_at e)) known' (length k.events) (row_of k) exchanges (s.winner e) e
@@ -245,6 +249,7 @@ module _ (word : ℕ → ℕ) (k : KeeperView) (tried : ℕ → Option Exchange)
                 (λ (q : v ≡ (known' e).value). inl (q ∙ ap (λ (q : Kept). q.value) same))
                 (λ (h : (m : ℕ) × (g : Grant) × Stands (row_of k m) g × IsOf known' e g × (v ≡ g.entry.value)). inr (h.0, h.1, h.2, was_of e h.1 apart h.3, h.4))
                 a));
+            fixed = λ x q. let f = o.fixed x (ap (λ (q : Kept). q.fixed) (sym same) ∙ q) in (value_same e ∙ f.0, λ z. f.1 (z ∙ ap (λ (q : Kept). q.lazy) same));
           }
 
       hart_old : (m : ℕ) → m < harts_at_most → GrantsAre known' None (length k.events) word' winner' m (row_of k m) (tried m) (exchanges m)
@@ -312,7 +317,7 @@ module _ (word : ℕ → ℕ) (k : KeeperView) (tried : ℕ → Option Exchange)
   unfound : Slots word (kept_at k) k.access.locked (length k.events) (λ j. not_found (row_of k j)) tried exchanges
   unfound = record {
     winner = s.winner;
-    each_slot = λ d here. let o = s.each_slot d here in record { since = o.since; image = o.image; bound = o.bound; by = o.by; lazy = o.lazy; leads = o.leads };
+    each_slot = λ d here. let o = s.each_slot d here in record { since = o.since; image = o.image; bound = o.bound; by = o.by; lazy = o.lazy; leads = o.leads; fixed = o.fixed };
     each_hart = λ m few. regrant word word (kept_at k) k.access.locked (length k.events) s.winner m (row_of k m) (not_found (row_of k m)) (tried m) (exchanges m)
         (same_here m (not_found (row_of k m)) refl refl refl (λ n low before. before) few) (s.each_hart m few);
     each_exchange = s.each_exchange;
@@ -577,7 +582,7 @@ module _ (word : ℕ → ℕ) (k : KeeperView) (tried : ℕ → Option Exchange)
   counts : (x : ℕ) → Slots (put word 0 x) (kept_at k) k.access.locked (length k.events + 1) (row_of k) tried exchanges
   counts x = record {
     winner = now.winner;
-    each_slot = λ d here. let o = now.each_slot d here in let low : (kept_at k d).since ≤ length k.events = o.since in record { since = omega arith; image = o.image; bound = o.bound; by = o.by; lazy = o.lazy; leads = o.leads };
+    each_slot = λ d here. let o = now.each_slot d here in let low : (kept_at k d).since ≤ length k.events = o.since in record { since = omega arith; image = o.image; bound = o.bound; by = o.by; lazy = o.lazy; leads = o.leads; fixed = o.fixed };
     each_hart = λ m few. let o = now.each_hart m few in record {
       closed = o.closed;
       pending = o.pending;
@@ -606,16 +611,47 @@ module _ (word : ℕ → ℕ) (k : KeeperView) (tried : ℕ → Option Exchange)
   held_role d old new is why rx = ⊎_elim (λ (none' : old ≡ NoRole). let q : NoRole ≡ Rx = sym none' ∙ (is ∙ rx) in absurd (cc)) (λ (same : old ≡ new). sym same ∙ (is ∙ rx)) why
 
   unlock : (d x : ℕ) (old new : Role) (lazy : ℕ) → word (value_at d) ≡ (kept_at k d).value → KeeperReady (kinds.Unlock d old new lazy) k → d < doublewords
-      → Slots (put word (control_at d) x) (λ j. slice_index_or (slice_set k.words d (record { role = new; value = (kept_at k d).value; lazy = lazy; since = length k.events })) j unmapped) None (length k.events) (row_of k) tried exchanges
+      → Slots (put word (control_at d) x) (λ j. slice_index_or (slice_set k.words d (record { role = new; value = (kept_at k d).value; lazy = lazy; since = length k.events; fixed = None })) j unmapped) None (length k.events) (row_of k) tried exchanges
   unlock d x old NoRole lazy value ready low = absurd (ready.3 refl)
-  unlock d x old Ro lazy value ready low = unlocks d x (record { role = Ro; value = (kept_at k d).value; lazy = lazy; since = length k.events }) low ready.0 (λ e. absurd (cc)) (λ e v here a. inl (held_role d old Ro ready.1 ready.4))
-  unlock d x old Rx lazy value ready low = unlocks d x (record { role = Rx; value = (kept_at k d).value; lazy = lazy; since = length k.events }) low ready.0 (λ e. absurd (cc)) (λ e v here a. inl (held_role d old Rx ready.1 ready.4))
-  unlock d x old Rw lazy value ready low = unlocks d x (record { role = Rw; value = (kept_at k d).value; lazy = lazy; since = length k.events }) low ready.0 (λ e. absurd (cc)) (λ e v here a. inl (held_role d old Rw ready.1 ready.4))
+  unlock d x old Ro lazy value ready low = unlocks d x (record { role = Ro; value = (kept_at k d).value; lazy = lazy; since = length k.events; fixed = None }) low ready.0 (λ e. absurd (cc)) (λ e v here a. inl (held_role d old Ro ready.1 ready.4))
+  unlock d x old Rx lazy value ready low = unlocks d x (record { role = Rx; value = (kept_at k d).value; lazy = lazy; since = length k.events; fixed = None }) low ready.0 (λ e. absurd (cc)) (λ e v here a. inl (held_role d old Rx ready.1 ready.4))
+  unlock d x old Rw lazy value ready low = unlocks d x (record { role = Rw; value = (kept_at k d).value; lazy = lazy; since = length k.events; fixed = None }) low ready.0 (λ e. absurd (cc)) (λ e v here a. inl (held_role d old Rw ready.1 ready.4))
   unlock d x old SlotRole lazy value ready low =
-      let k' : Kept = record { role = SlotRole; value = (kept_at k d).value; lazy = lazy; since = length k.events } in
+      let k' : Kept = record { role = SlotRole; value = (kept_at k d).value; lazy = lazy; since = length k.events; fixed = None } in
       let none' : (kept_at k d).role ≡ NoRole = ⊎_elim (λ (e : old ≡ NoRole). sym ready.1 ∙ e) (λ (e : old ≡ SlotRole). absurd (ready.2 e)) ready.4 in
       moved d k' (put word (control_at d) x) None low
-      (new_slot d x k' low ready.0 (λ e. let q : NoRole ≡ SlotRole = sym none' ∙ e in absurd (cc)) (λ e. let q : NoRole ≡ Rx = sym none' ∙ e in absurd (cc)) refl refl value (ready.6 refl))
+      (new_slot d x k' low ready.0 (λ e. let q : NoRole ≡ SlotRole = sym none' ∙ e in absurd (cc)) (λ e. let q : NoRole ≡ Rx = sym none' ∙ e in absurd (cc)) refl refl refl value (ready.6 refl))
+
+  -- a slot is looked at
+  sees : (d : ℕ) → IsSlot (kept_at k) d
+      → Slots (put word (value_at d) (word (value_at d))) (λ j. slice_index_or (slice_set k.words d (fixed_by (word (value_at d)) (kept_at k d))) j unmapped) k.access.locked (length k.events) (row_of k) tried exchanges
+  sees d slot = moved d seen (put word (value_at d) (word (value_at d))) k.access.locked slot.0
+      (fewer word (put word (value_at d) (word (value_at d))) (kept_at k) known' k.access.locked k.access.locked (length k.events) (row_of k) tried exchanges (same_word (value_at d))
+      (record {
+        was = λ e here. ((here.0, sym (role_is e) ∙ here.1), known_same (kept_at k) d (word (value_at d)) e);
+        posted = λ m g few e here. ((here.0, role_is (place_of g.entry.slot) ∙ here.1), ((s.each_hart m few).pending g e).free);
+        leads = λ e v here a l. ⊎_elim (λ (zero' : v ≡ 0). inl zero') (λ h. inr (h.0, role_is (place_of v) ∙ h.1)) l;
+        fixed = λ e x here is. dite (ℕ_discrete e d)
+            (λ (same : e ≡ d). subst (λ n. ((kept_at k n).fixed ≡ Some x) ⊎ ((word (value_at n) ≡ x) × (x ≢ (kept_at k n).lazy))) (sym same)
+            (found x (eqb (word (value_at d)) (kept_at k d).lazy) refl (ap (λ (y : Kept). y.fixed) (sym (ap known' same ∙ put_here (kept_at k) d seen)) ∙ is)))
+            (λ (apart : e ≢ d). inl (ap (λ (y : Kept). y.fixed) (sym (put_else (kept_at k) d seen e apart)) ∙ is));
+      })
+      s)
+    where
+      seen : Kept
+      seen = fixed_by (word (value_at d)) (kept_at k d)
+
+      known' : ℕ → Kept
+      known' = put (kept_at k) d (fixed_by (word (value_at d)) (kept_at k d))
+
+      role_is : (e : ℕ) → (put (kept_at k) d (fixed_by (word (value_at d)) (kept_at k d)) e).role ≡ (kept_at k e).role
+      role_is e = ap (λ (x : Kept). x.role) (known_same (kept_at k) d (word (value_at d)) e)
+
+      found : (x : ℕ) (b : Bool) → eqb (word (value_at d)) (kept_at k d).lazy ≡ b → (fixed_if (word (value_at d)) b (kept_at k d)).fixed ≡ Some x
+          → ((kept_at k d).fixed ≡ Some x) ⊎ ((word (value_at d) ≡ x) × (x ≢ (kept_at k d).lazy))
+      found x true e is = inl is
+      found x false e is = let q : Some (word (value_at d)) ≡ Some x = is in let same : word (value_at d) ≡ x = cc in
+          inr (same, λ z. eqb-false (word (value_at d)) (kept_at k d).lazy e (same ∙ z))
 
   abbrev KeepsSlots : KeeperKind → Type 0
   KeepsSlots kind = KeeperReady kind k → After (put word (keeper_word kind) (becomes (keeper_op kind) (word (keeper_word kind)))) (keeper_after kind k (word (keeper_word kind)))
@@ -634,7 +670,7 @@ module _ (word : ℕ → ℕ) (k : KeeperView) (tried : ℕ → Option Exchange)
       let n : ℕ = word (state_at m) in
       unmoved word (state_at m) (λ f. Slots f (kept_at k) k.access.locked (length k.events) (λ j. slice_index_or (slice_set k.rows m (asked n (row_of k m))) j no_row) tried exchanges)
       (asks m ready.1.0 ready.0 ready.1.1 (eqb (n % 8) 3) (eqb (n % 8) 4) (eqb (n % 8) 5) refl refl refl)
-  keeper_slots place held still (kinds.Saw d) ready = beside (put word (value_at d) (word (value_at d))) (same_word (value_at d))
+  keeper_slots place held still (kinds.Saw d) ready = sees d ready
   keeper_slots place held still (kinds.Fill m i x) ready = fills m i x ready.1.0 ready.1.2
   keeper_slots place held still (kinds.Hand m mark) ready = hands m mark ready.1.0 ready.1.2 (other mark ready.2)
     where
@@ -652,6 +688,34 @@ module _ (word : ℕ → ℕ) (k : KeeperView) (tried : ℕ → Option Exchange)
 
   -- ---- what the rule tells of slots
 
+  -- a grant that is known as won is the winner
+  won_is : (m : ℕ) (g : Grant) → m < harts_at_most → Contains (row_of k m).settled (record { grant = g; fate = Won }) → (d : ℕ) → IsOf (kept_at k) d g → s.winner d ≡ Some (m, g)
+  won_is m g few c d o =
+      let at : place_of g.entry.slot ≡ d = at_place g d o.1 in
+      let did = s.each_exchange m few (record { grant = g; found = g.lazy }) ((s.each_hart m few).won g c) (subst (λ n. IsOf (kept_at k) n g) (sym at) o) in
+      sym (ap s.winner at) ∙ did.won refl
+
+  -- a slot with a grant that is known as lost isn't lazy
+  not_lazy : (m : ℕ) (g : Grant) → m < harts_at_most → Contains (row_of k m).settled (record { grant = g; fate = Lost }) → (d : ℕ) → IsOf (kept_at k) d g → word (value_at d) ≢ (kept_at k d).lazy
+  not_lazy m g few c d o q =
+      let at : place_of g.entry.slot ≡ d = at_place g d o.1 in
+      let l : HasLost (exchanges m) g = (s.each_hart m few).lost g c in
+      let did = s.each_exchange m few (record { grant = g; found = l.0 }) l.2 (subst (λ n. IsOf (kept_at k) n g) (sym at) o) in
+      subst (λ n. word (value_at n) ≢ (kept_at k n).lazy) at did.not_lazy q
+
+  pub decides : (d : ℕ) → IsSlot (kept_at k) d → IsDecided (kept_at k) (row_of k) d
+  decides d here = record {
+    lost = λ m g few c o lazy. stands (s.winner d) refl (λ q. not_lazy m g few c d o (q ∙ lazy));
+    won = λ m g x few c o seen. let at = s.each_slot d here in sym (at.bound m g (won_is m g few c d o)).0 ∙ (at.fixed x seen).0;
+    one = λ m n g p few low c e o q.
+        let z : Some (m, g) ≡ Some (n, p) = sym (won_is m g few c d o) ∙ won_is n p low e d q in
+        let y : (m, g) ≡ (n, p) = cc in (ap (λ (x : ℕ × Grant). x.0) y, ap (λ (x : ℕ × Grant). x.1) y);
+  }
+    where
+      stands : (w : Winner) → s.winner d ≡ w → word (value_at d) ≢ (kept_at k d).value → (i : ℕ) × (p : Grant) × (i < harts_at_most) × Stands (row_of k i) p × IsOf (kept_at k) d p
+      stands None e other = absurd (other ((s.each_slot d here).image e))
+      stands (Some (m, g)) e other = let b = (s.each_slot d here).by m g e in (m, g, stands_low m g b.1, b.1, b.0)
+
   pub ask_tells : (m : ℕ) → ((c : ℕ) → (row_of k m).since ≡ Some c → word (state_at m) % 8 ≢ 3) → ((j : HartView) → HasEnded k m j → word (state_at m) % 8 ≢ 3)
       → KeeperReady (kinds.Ask m) k → KeeperLearns (kinds.Ask m) k (word (state_at m))
   ask_tells m waits ended ready = record {
@@ -660,11 +724,17 @@ module _ (word : ℕ → ℕ) (k : KeeperView) (tried : ℕ → Option Exchange)
     ended = ended;
     in_row = λ g is. (pending g is).in_row;
     of_slot = λ g is. (pending g is).of_slot;
+    lazy_is = λ g is. (pending g is).lazy_is;
     won = λ g is four.
         let p = pending g is in
         let d : ℕ = place_of g.entry.slot in
         let w : s.winner d ≡ Some (m, g) = winning (word (state_at m)) four p.fate in
         ((s.each_slot d p.of_slot.0).lazy m g w, λ i q few c o. one d w i q few c o);
+    fixed = λ g x is four seen.
+        let p = pending g is in
+        let d : ℕ = place_of g.entry.slot in
+        let o = s.each_slot d p.of_slot.0 in
+        sym (o.bound m g (winning (word (state_at m)) four p.fate)).0 ∙ (o.fixed x seen).0;
   }
     where
       pending : (g : Grant) → (row_of k m).pending ≡ Some g
@@ -699,6 +769,8 @@ module _ (word : ℕ → ℕ) (k : KeeperView) (tried : ℕ → Option Exchange)
         let did : Did (word (value_at (place_of g.entry.slot))) (kept_at k (place_of g.entry.slot)).lazy (s.winner (place_of g.entry.slot)) m (record { grant = g; found = l.0 }) =
         s.each_exchange m few (record { grant = g; found = l.0 }) l.2 (subst (λ n. IsOf (kept_at k) n g) (sym (at_place g d o.1)) o) in
         did.not_lazy (ap (λ n. word (value_at n)) (at_place g d o.1) ∙ (q ∙ did.lazy_is));
+    fixed = λ x seen. ((s.each_slot d ready).fixed x seen).0;
+    won = λ m g few c o. ((s.each_slot d ready).bound m g (won_is m g few c d o)).0;
   }
     where
       allowed : (w : Winner) → s.winner d ≡ w → IsAllowed (kept_at k) (row_of k) d (word (value_at d))

@@ -1,5 +1,5 @@
 -- What a hart's own view says of its calls, over its steps.
-use Rattle.std.proofs.Common.{◌≡◌, ◌≢◌, ⊎_elim, ℕ, ◌<◌, Bool, true, false, eqb, nat_le, nat_lt, ◌==◌, List, [], ◌∷◌, ◌++◌, Option, Some, None, refl, sym, ap, subst, ◌∙◌, arith}
+use Rattle.std.proofs.Common.{◌≡◌, ◌≢◌, ℕ, Bool, true, false, eqb, nat_le, nat_lt, ◌==◌, [], ◌∷◌, ◌++◌, Option, Some, None, refl, sym, ap, subst, ◌∙◌}
 use Rattle.guest_rule.specs.declared.entry.Entry.{Entry}
 use Rattle.guest_rule.specs.declared.entry.Exchange.{Exchange}
 use Rattle.guest_rule.specs.declared.entry.Grant.{Grant}
@@ -14,7 +14,7 @@ use Rattle.guest_rule.specs.declared.view.KeeperView.{KeeperView}
 use Rattle.guest_rule.specs.declared.view.Lane.{Lane}
 use Rattle.guest_rule.specs.declared.view.Offer.{Offer}
 use Rattle.guest_rule.specs.Layout.{IsDoubleword, lock_bit, role_in}
-use Rattle.guest_rule.specs.Views.{first_lane, fresh_offer, IsGranted, IsLane, IsRead, with_offered}
+use Rattle.guest_rule.specs.Views.{first_lane, fresh_offer, offer_found, IsGranted, IsLane, IsRead, with_offered}
 use Rattle.guest_rule.specs.HartSteps.{FindTells, HartLearns, HartLeaves, HartReady, ask_is_fresh, heeded, permits, arrived_if, finished, found_in, hart_after}
 use Rattle.guest_rule.specs.KeeperSteps.{KeeperLeaves, awaited_if, heeding, keeper_after}
 use Rattle.guest_rule.proofs.Rows.{mark_with}
@@ -33,14 +33,15 @@ module _ (l : Lane) (is : IsLane l) where
   calls o has true e = e
   calls o has false e = let q : Some o ≡ None = sym has ∙ is.idle e in absurd (cc)
 
-  arrives : (state : ℕ) (b : Bool) → l.calling ≡ true → l.offer ≡ None → IsLane (arrived_if state b l)
-  arrives state false calling none' = is
-  arrives state true calling none' = record {
+  arrives : (state : ℕ) (b : Bool) → l.calling ≡ true → (o : Option Offer) → l.offer ≡ o → IsLane (arrived_if state b l)
+  arrives state false calling o has = is
+  arrives state true calling None has = subst (λ (p : Option Offer). IsLane (record l { offer = Some (offer_found state p) })) (sym has) (record {
     idle = λ e. let q : true ≡ false = sym calling ∙ e in absurd (cc);
-    tried = λ x e. let t = is.tried x e in let q : None ≡ Some t.0 = sym none' ∙ t.1 in absurd (cc);
+    tried = λ x e. let t = is.tried x e in let q : None ≡ Some t.0 = sym has ∙ t.1 in absurd (cc);
     slot = λ o s e mark found. let q : Some (fresh_offer state) ≡ Some o = e in let same : fresh_offer state ≡ o = cc in
         let z : None ≡ Some s = ap (λ (o : Offer). o.slot) same ∙ found in absurd (cc);
-  }
+  })
+  arrives state true calling (Some o) has = subst (λ (p : Option Offer). IsLane (record l { offer = p })) (has ∙ ap (λ (p : Option Offer). Some (offer_found state p)) (sym has)) is
 
   finds : (i : RowWord) (n : ℕ) (o : Offer) → l.offer ≡ Some o → FindTells i (Some o) n → IsLane (record l { offer = Some (with_offered i n o) })
   finds i n o has tells = record {
@@ -100,8 +101,8 @@ lane_stays (kinds.Begin m) h n ready learns is = record {
   tried = is.tried;
   slot = is.slot;
 }
-lane_stays (kinds.Arrive m) h n ready learns is = arrives h.lane is n (nat_lt n 8) ready.1 ready.2
-lane_stays (kinds.Find m i) h n ready learns is = finds_any h.lane is i n h.lane.offer refl learns
+lane_stays (kinds.Arrive m) h n ready learns is = arrives h.lane is n (nat_lt n 8) ready.1 h.lane.offer refl
+lane_stays (kinds.Find m i) h n ready learns is = finds_any h.lane is i n h.lane.offer refl learns.0
 lane_stays (kinds.Exchange g) h n ready learns is = tries h.lane is g n ready.2.0 ready.2.1 ready.2.2 ready.1
 lane_stays (kinds.Accept m e) h n ready learns is = accepts h.lane is e ready.2.0 ready.2.1 ready.2.2 ready.1
 lane_stays (kinds.Finish m won) h n ready learns is = finishes h.lane is h.lane.tried refl

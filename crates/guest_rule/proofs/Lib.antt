@@ -1,4 +1,5 @@
 pub mod Put
+pub mod Heeding
 pub mod Locks
 pub mod HartLocks
 pub mod KeeperLocks

@@ -1,5 +1,5 @@
 -- Who the seats are, over steps.
-use Rattle.std.proofs.Common.{◌≡◌, ◌≢◌, ◌⊎◌, ⊎_elim, inl, inr, ℕ, zero, suc, ◌≤◌, ◌<◌, Bool, true, false, eqb, nat_le, List, [], ◌∷◌, ◌++◌, append_assoc, append-nil, length, length-set, map, set, Some, None, refl, sym, ap, subst, ◌∙◌, arith, slice_get, slice_index_or, ◌%◌}
+use Rattle.std.proofs.Common.{◌≡◌, ◌≢◌, ⊎_elim, inl, inr, ℕ, zero, suc, ◌≤◌, ◌<◌, Bool, true, false, eqb, nat_le, List, [], ◌∷◌, ◌++◌, append_assoc, append-nil, length, length-set, map, set, Some, None, refl, sym, ap, subst, ◌∙◌, arith, slice_get, slice_index_or, ◌%◌}
 use mathlib.Core.Logic.{dite}
 use native.Mathlib.Decide.{ℕ_discrete}
 use mathlib.Core.Option.{some, some-injective, some-ne-none}
@@ -185,7 +185,7 @@ keeper_grows (kinds.Count e) k n long ready = record { harts = refl; joined = re
 keeper_grows (kinds.Await m) k n long ready = awaited_grows m (nat_le 8 n) k (subst (λ x. m < x) (sym long) ready)
 keeper_grows (kinds.Ask m) k n long ready = row_grows k k.rows m (asked n (row_of k m)) (subst (λ x. m < x) (sym long) ready.0) refl (λ j. refl)
     (subst (λ l. BeginsWith l (row_of k m).issued) (sym (asked_issued (eqb (n % 8) 3) (eqb (n % 8) 4) (eqb (n % 8) 5) (row_of k m))) (begins_itself (row_of k m).issued))
-keeper_grows (kinds.Saw d) k n long ready = plain k (keeper_after (kinds.Saw d) k n) refl refl refl refl refl refl
+keeper_grows (kinds.Saw d) k n long ready = plain k (keeper_after (kinds.Saw d) k n) refl refl refl (length-set k.words d _) refl refl
 keeper_grows (kinds.Fill m i x) k n long ready = row_grows k k.rows m (with_field i x (row_of k m)) (subst (λ x. m < x) (sym long) ready.1.0) refl (λ j. refl)
     (subst (λ l. BeginsWith l (row_of k m).issued) (sym (field_issued i x (row_of k m))) (begins_itself (row_of k m).issued))
 keeper_grows (kinds.Hand m mark) k n long ready = row_grows k k.rows m (handed mark (row_of k m)) (subst (λ x. m < x) (sym long) ready.1.0) refl (λ j. refl) (begins_push (row_of k m).issued (entry_of mark (row_of k m)))

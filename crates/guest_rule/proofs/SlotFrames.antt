@@ -10,6 +10,7 @@ use Rattle.guest_rule.specs.Layout.{address_of, first_address, harts_at_most, pl
 use Rattle.guest_rule.specs.Views.{put}
 use Rattle.guest_rule.specs.Allowed.{IsAllowed, IsOf, IsSlot, LeadsTo, Stands}
 use Rattle.guest_rule.specs.Slots.{Did, Fated, GrantsAre, IsPending, SlotIs, Slots, Winner}
+use Rattle.guest_rule.proofs.Heeding.{unseen}
 use Rattle.guest_rule.proofs.Put.{put_here, put_else}
 
 -- the doubleword of a slot's address
@@ -28,32 +29,33 @@ pub record SameSlots (word word' : ℕ → ℕ) (known : ℕ → Kept) : Type 0 
   pub values : (d : ℕ) → IsSlot known d → word' (value_at d) ≡ word (value_at d)
   pub states : (m : ℕ) → m < harts_at_most → word' (state_at m) ≡ word (state_at m)
 
--- ---- the keeper's knowledge of doublewords changes: no slot appears, and what is known of slots stays
+-- ---- the keeper's knowledge of doublewords changes: no slot appears, and what is known of slots stays, but for what was seen of them
 
-pub record FewerSlots (known known' : ℕ → Kept) (locked' : Option ℕ) (row : ℕ → Row) : Type 0 where
-  pub was : (d : ℕ) → IsSlot known' d → IsSlot known d × (known' d ≡ known d)
+pub record FewerSlots (word : ℕ → ℕ) (known known' : ℕ → Kept) (locked' : Option ℕ) (row : ℕ → Row) : Type 0 where
+  pub was : (d : ℕ) → IsSlot known' d → IsSlot known d × (unseen (known' d) ≡ unseen (known d))
   pub posted : (m : ℕ) (g : Grant) → m < harts_at_most → (row m).pending ≡ Some g → let d = place_of g.entry.slot in IsSlot known d → IsSlot known' d × (locked' ≢ Some d)
   pub leads : (d v : ℕ) → IsSlot known' d → IsAllowed known row d v → LeadsTo known v → LeadsTo known' v
+  pub fixed : (d x : ℕ) → IsSlot known' d → (known' d).fixed ≡ Some x → ((known d).fixed ≡ Some x) ⊎ ((word (value_at d) ≡ x) × (x ≢ (known d).lazy))
 
-was_of : (known known' : ℕ → Kept) (d : ℕ) (g : Grant) → ((d : ℕ) → IsSlot known' d → IsSlot known d × (known' d ≡ known d)) → IsOf known' d g → IsOf known d g
+was_of : (known known' : ℕ → Kept) (d : ℕ) (g : Grant) → ((d : ℕ) → IsSlot known' d → IsSlot known d × (unseen (known' d) ≡ unseen (known d))) → IsOf known' d g → IsOf known d g
 was_of known known' d g was o = ((was d o.0).0, o.1, subst (λ (k : Kept). k.since < g.entry.number) (was d o.0).1 o.2)
 
-now_of : (known known' : ℕ → Kept) (d : ℕ) (g : Grant) → ((d : ℕ) → IsSlot known' d → IsSlot known d × (known' d ≡ known d)) → IsSlot known' d → IsOf known d g → IsOf known' d g
+now_of : (known known' : ℕ → Kept) (d : ℕ) (g : Grant) → ((d : ℕ) → IsSlot known' d → IsSlot known d × (unseen (known' d) ≡ unseen (known d))) → IsSlot known' d → IsOf known d g → IsOf known' d g
 now_of known known' d g was here o = (here, o.1, subst (λ (k : Kept). k.since < g.entry.number) (sym (was d here).1) o.2)
 
-was_allowed : (known known' : ℕ → Kept) (row : ℕ → Row) (d v : ℕ) → ((d : ℕ) → IsSlot known' d → IsSlot known d × (known' d ≡ known d)) → IsSlot known' d → IsAllowed known' row d v → IsAllowed known row d v
+was_allowed : (known known' : ℕ → Kept) (row : ℕ → Row) (d v : ℕ) → ((d : ℕ) → IsSlot known' d → IsSlot known d × (unseen (known' d) ≡ unseen (known d))) → IsSlot known' d → IsAllowed known' row d v → IsAllowed known row d v
 was_allowed known known' row d v was here a = ⊎_elim
     (λ (e : v ≡ (known' d).value). inl (e ∙ ap (λ (k : Kept). k.value) (was d here).1))
     (λ (h : (m : ℕ) × (g : Grant) × Stands (row m) g × IsOf known' d g × (v ≡ g.entry.value)). inr (h.0, h.1, h.2, was_of known known' d h.1 was h.3, h.4))
     a
 
 pub fewer : (word word' : ℕ → ℕ) (known known' : ℕ → Kept) (locked locked' : Option ℕ) (count : ℕ) (row : ℕ → Row) (tried : ℕ → Option Exchange) (exchanges : ℕ → List Exchange)
-    → SameSlots word word' known → FewerSlots known known' locked' row → Slots word known locked count row tried exchanges → Slots word' known' locked' count row tried exchanges
+    → SameSlots word word' known → FewerSlots word known known' locked' row → Slots word known locked count row tried exchanges → Slots word' known' locked' count row tried exchanges
 fewer word word' known known' locked locked' count row tried exchanges same less s = record {
   winner = s.winner;
   each_slot = λ d here.
       let old : SlotIs (word (value_at d)) known count row exchanges (s.winner d) d = s.each_slot d (less.was d here).0 in
-      let k : known' d ≡ known d = (less.was d here).1 in
+      let k : unseen (known' d) ≡ unseen (known d) = (less.was d here).1 in
       let v : word' (value_at d) ≡ word (value_at d) = same.values d (less.was d here).0 in record {
         since = subst (λ (x : Kept). x.since ≤ count) (sym k) old.since;
         image = λ e. v ∙ (old.image e ∙ ap (λ (x : Kept). x.value) (sym k));
@@ -61,6 +63,10 @@ fewer word word' known known' locked locked' count row tried exchanges same less
         by = λ m g e. let b = old.by m g e in (now_of known known' d g less.was here b.0, b.1, b.2);
         lazy = λ m g e. ap (λ (x : Kept). x.value) k ∙ (old.lazy m g e ∙ ap (λ (x : Kept). x.lazy) (sym k));
         leads = λ x a. let was = was_allowed known known' row d x less.was here a in less.leads d x here was (old.leads x was);
+        fixed = λ x e. ⊎_elim
+            (λ (q : (known d).fixed ≡ Some x). let f = old.fixed x q in (v ∙ f.0, λ z. f.1 (z ∙ ap (λ (x : Kept). x.lazy) k)))
+            (λ (q : (word (value_at d) ≡ x) × (x ≢ (known d).lazy)). (v ∙ q.0, λ z. q.1 (z ∙ ap (λ (x : Kept). x.lazy) k)))
+            (less.fixed d x here e);
       };
   each_hart = λ m few. let old : GrantsAre known locked count word s.winner m (row m) (tried m) (exchanges m) = s.each_hart m few in record {
     closed = λ e t. old.closed e (sym (same.states m few) ∙ t);
@@ -96,6 +102,7 @@ beside_slots word word' known locked count row tried exchanges same s = fewer wo
       was = λ d here. (here, refl);
       posted = λ m g few e here. (here, (((s.each_hart m few).pending g e).free));
       leads = λ d v here a l. l;
+      fixed = λ d x here e. inl e;
     })
     s
 
@@ -123,6 +130,7 @@ row_changes word word' known locked count row tried exchanges m r t few values s
         (λ (e : v ≡ (known d).value). old.leads v (inl e))
         (λ (h : (j : ℕ) × (g : Grant) × Stands (put row m r j) g × IsOf known d g × (v ≡ g.entry.value)). leads_still d h.0 h.1 v (old.leads v) h.2 h.3 h.4)
         a;
+    fixed = λ x e. let f = old.fixed x e in (values d here ∙ f.0, f.1);
   };
   each_hart = λ j low. dite (ℕ_discrete j m)
       (λ (e : j ≡ m). subst (λ n. GrantsAre known locked count word' s.winner n (put row m r n) (put tried m t n) (exchanges n)) (sym e)

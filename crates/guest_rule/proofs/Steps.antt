@@ -19,7 +19,7 @@ use Rattle.guest_rule.specs.declared.view.View.TheVariants.{Keeper, Hart}
 use Rattle.guest_rule.specs.Layout.{doublewords, harts_at_most, table_words, value_at, control_at, state_at, row_at, index_of, place_of, role_in, lock_bit}
 use Rattle.guest_rule.specs.Views.{BeginsWith, after, put, entries_of, exchanges_of, kept_at, row_of}
 use Rattle.guest_rule.specs.Operations.{becomes}
-use Rattle.guest_rule.specs.HartSteps.{FindTells, HartReady, HartLearns, hart_word, hart_op, hart_after, ask_place, Asked, glanced, looked, locked_if, heeded, permits, ask_is_fresh, store_place}
+use Rattle.guest_rule.specs.HartSteps.{HartReady, HartLearns, hart_word, hart_op, hart_after, ask_place, Asked, glanced, looked, locked_if, heeded, permits, ask_is_fresh, store_place}
 use Rattle.guest_rule.specs.KeeperSteps.{HasEnded, HasTakenAll, KeeperReady, KeeperLearns, keeper_word, keeper_op, keeper_after}
 use Rattle.guest_rule.specs.Seats.{Fits, Seats}
 use Rattle.guest_rule.specs.Words.{Words}
@@ -31,10 +31,10 @@ use Rattle.guest_rule.proofs.Put.{put_field, set_put}
 use Rattle.guest_rule.proofs.Locks.{Aims}
 use Rattle.guest_rule.proofs.HartLocks.{hart_locks, low_index}
 use Rattle.guest_rule.proofs.KeeperLocks.{keeper_locks, look_tells, load_tells, lock_tells}
-use Rattle.guest_rule.proofs.HartCalls.{hart_calls, arrive_tells}
+use Rattle.guest_rule.proofs.HartCalls.{again_tells, hart_calls, arrive_tells}
 use Rattle.guest_rule.proofs.KeeperCalls.{keeper_calls, waiting}
 use Rattle.guest_rule.proofs.HartSlots.{aims_at, find_tells, hart_slots}
-use Rattle.guest_rule.proofs.KeeperSlots.{keeper_slots, ask_tells, saw_tells}
+use Rattle.guest_rule.proofs.KeeperSlots.{keeper_slots, ask_tells, decides, saw_tells}
 use Rattle.guest_rule.proofs.Marks.{hart_marks, keeper_marks}
 use Rattle.guest_rule.proofs.Rows.{low_rest}
 use Rattle.guest_rule.proofs.Seating.{hart_seats, heard_on, heard_more, keeper_grows, keeper_seats}
@@ -174,10 +174,12 @@ module _ (word : ℕ → ℕ) (kept : KeeperView) (harts : ℕ → HartView) (p 
       begun : (xs ys : List Event) → BeginsWith xs ys → length ys ≤ length xs
       begun xs ys b = let e : length xs ≡ length (ys ++ b.0) = ap length b.1 in let l : length (ys ++ b.0) ≡ length ys + length b.0 = length-append ys b.0 in omega arith
   hart_tells (kinds.Arrive m) ready = subst (λ m. HartLearns (kinds.Arrive m) h (word (state_at m))) (sym ready.0)
-      (arrive_tells word (length kept.events) (row_of kept) (after (λ (x : HartView). x.lane) harts) (after (λ (x : HartView). entries_of x.trail) harts) p.calls h few (ap (λ (x : HartView). x.lane) is) (ap (λ (x : HartView). entries_of x.trail) is) (refl, ready.1, ready.2))
-  hart_tells (kinds.Find m i) ready = subst (λ m. FindTells i h.lane.offer (word (row_at m (index_of i)))) (sym ready.0)
-      (find_tells word (kept_at kept) kept.access.locked (length kept.events) (row_of kept) (after (λ (x : HartView). x.lane.tried) harts) (after (λ (x : HartView). exchanges_of x.trail) harts) p.slots
-      h few (ap (λ (x : HartView). x.lane.tried) is) (ap (λ (x : HartView). exchanges_of x.trail) is) (entries_of h.trail) row_is writable i h.lane.offer refl)
+      (arrive_tells word (length kept.events) (row_of kept) (after (λ (x : HartView). x.lane) harts) (after (λ (x : HartView). entries_of x.trail) harts) p.calls h few (ap (λ (x : HartView). x.lane) is) (ap (λ (x : HartView). entries_of x.trail) is) (refl, ready.1))
+  hart_tells (kinds.Find m i) ready = subst (λ m. HartLearns (kinds.Find m i) h (word (row_at m (index_of i)))) (sym ready.0) (
+    find_tells word (kept_at kept) kept.access.locked (length kept.events) (row_of kept) (after (λ (x : HartView). x.lane.tried) harts) (after (λ (x : HartView). exchanges_of x.trail) harts) p.slots
+        h few (ap (λ (x : HartView). x.lane.tried) is) (ap (λ (x : HartView). exchanges_of x.trail) is) (entries_of h.trail) row_is writable i h.lane.offer refl,
+    again_tells word (length kept.events) (row_of kept) (after (λ (x : HartView). x.lane) harts) (after (λ (x : HartView). entries_of x.trail) harts) p.calls h few (ap (λ (x : HartView). x.lane) is) (ap (λ (x : HartView). entries_of x.trail) is) i,
+  )
   hart_tells kinds.Listen ready = subst (λ (x : HartView). Rattle.guest_rule.specs.HartSteps.HartHeard x.note x) is (p.heard h.number).told
   hart_tells _ ready = tt
 
@@ -254,7 +256,7 @@ module _ (word : ℕ → ℕ) (k : KeeperView) (harts : ℕ → HartView) (p : P
   keeper_tells gone told (keeps.Load d) ready = load_tells word k (after (λ (x : HartView). x.access) harts) p.locks words_known d ready
   keeper_tells gone told (keeps.Lock d control) ready = lock_tells word k (after (λ (x : HartView). x.access) harts) p.locks words_known d control ready
   keeper_tells gone told (keeps.Count e) ready = p.calls.counted
-  keeper_tells gone told (keeps.Await m) ready = taken_all m ready gone
+  keeper_tells gone told (keeps.Await m) ready = (taken_all m ready gone, decides word k (after (λ (x : HartView). x.lane.tried) harts) (after (λ (x : HartView). exchanges_of x.trail) harts) p.slots words_known rows_known)
   keeper_tells gone told (keeps.Ask m) ready = ask_tells word k (after (λ (x : HartView). x.lane.tried) harts) (after (λ (x : HartView). exchanges_of x.trail) harts) p.slots words_known rows_known m
       (λ c since. awaited (word (state_at m)) ((p.calls.each_row m ready.0).known c since).awaits) (λ j e. closed (word (state_at m)) (ended m ready.0 gone j e).1) ready
   keeper_tells gone told (keeps.Saw d) ready = saw_tells word k (after (λ (x : HartView). x.lane.tried) harts) (after (λ (x : HartView). exchanges_of x.trail) harts) p.slots words_known rows_known d ready

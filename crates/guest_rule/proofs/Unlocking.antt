@@ -2,7 +2,6 @@
 use Rattle.std.proofs.Common.{◌≡◌, ◌≢◌, ◌⊎◌, ⊎_elim, inl, inr, ℕ, ◌+◌, ◌-◌, ◌/◌, ◌%◌, ◌<◌, Some, refl, sym, ap, subst, ◌∙◌, arith}
 use Rattle.ld_base.specs.declared.linking.Role.{Role}
 use Rattle.ld_base.specs.declared.linking.Role.TheVariants.{None as NoRole, Ro, Rx, Rw, Slot as SlotRole}
-use Rattle.guest_rule.specs.declared.entry.RowWord.{RowWord}
 use Rattle.guest_rule.specs.declared.kind.HartKind.{HartKind}
 use Rattle.guest_rule.specs.declared.kind.HartKind.TheVariants as harts
 use Rattle.guest_rule.specs.declared.kind.KeeperKind.{KeeperKind}
@@ -13,7 +12,7 @@ use Rattle.guest_rule.specs.Layout.{control_at, harts_at_most, index_of, lock_bi
 use Rattle.guest_rule.specs.Operations.{add, becomes, load}
 use Rattle.guest_rule.specs.HartSteps.{HartReady, hart_op, hart_word, store_place}
 use Rattle.guest_rule.specs.KeeperSteps.{KeeperReady, keeper_op, keeper_word}
-use Rattle.guest_rule.specs.Unlocking.{HartEnters, IsUnlocked, KindsUnlock, KeeperEnters, OnlyOwnersChange, UnlocksRaise}
+use Rattle.guest_rule.specs.Unlocking.{HartEnters, KindsUnlock, KeeperEnters, OnlyOwnersChange, UnlocksRaise}
 use Rattle.guest_rule.proofs.Locks.{code_low, unlocked_bit, unlocked_role}
 use Rattle.guest_rule.proofs.HartLocks.{low_index}
 

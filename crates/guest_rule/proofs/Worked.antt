@@ -1,9 +1,9 @@
 -- The worked steps, by computation.
-use Rattle.std.proofs.Common.{◌≡◌, ◌≤◌, ◌<◌, ℕ, arith, true, false, Some, refl, sym, ap, subst, ◌∙◌, inr}
+use Rattle.std.proofs.Common.{◌≡◌, ◌≤◌, ◌<◌, arith, true, false, refl, ap, ◌∙◌, inr}
 use Rattle.guest_rule.specs.declared.kind.StoreAsk.TheVariants.{Conditional}
 use Rattle.guest_rule.specs.HartSteps.{is_fresh, last_control}
 use Rattle.guest_rule.specs.Layout.{doublewords, place_of}
-use Rattle.guest_rule.specs.Worked.{AnotherHasLocked, ConditionalFails, ConditionalIsRefused, OneLocks, OneWins, RoleComesAndGoes, StoreIsOwed}
+use Rattle.guest_rule.specs.Worked.{AnotherHasLocked, ConditionalFails, ConditionalIsRefused, OneLocks, OneWins, LookKeeps, RoleComesAndGoes, StoreIsOwed}
 
 pub one_locks : OneLocks
 one_locks = (refl, refl, refl, refl)
@@ -35,3 +35,6 @@ one_wins = (refl, refl, refl, refl)
 
 pub role_comes_and_goes : RoleComesAndGoes
 role_comes_and_goes = (refl, refl, refl, refl)
+
+pub look_keeps : LookKeeps
+look_keeps = (refl, refl)

@@ -2,10 +2,10 @@
 use Rattle.std.specs.Prelude.{◌≡◌, ◌≢◌, ◌⊎◌, ℕ, ◌<◌, Some, Contains}
 use Rattle.ld_base.specs.declared.linking.Role.TheVariants.{Rx, Slot as SlotRole}
 use Rattle.guest_rule.specs.declared.entry.Grant.{Grant}
-use Rattle.guest_rule.specs.declared.view.Fate.TheVariants.{Won}
+use Rattle.guest_rule.specs.declared.view.Fate.TheVariants.{Won, Lost}
 use Rattle.guest_rule.specs.declared.view.Kept.{Kept}
 use Rattle.guest_rule.specs.declared.view.Row.{Row}
-use Rattle.guest_rule.specs.Layout.{address_of, doublewords, place_of, IsInMemory}
+use Rattle.guest_rule.specs.Layout.{address_of, doublewords, harts_at_most, place_of, IsInMemory}
 
 -- a value is 0, or lies in an RX word
 abbrev pub LeadsTo : (ℕ → Kept) → ℕ → Type 0
@@ -25,6 +25,15 @@ Stands row g = (row.pending ≡ Some g) ⊎ Contains row.settled (record { grant
 -- the values that may stand in a slot: that of the image, and those of its grants
 abbrev pub IsAllowed : (ℕ → Kept) → (ℕ → Row) → ℕ → ℕ → Type 0
 IsAllowed known row d v = (v ≡ (known d).value) ⊎ ((hart : ℕ) × (g : Grant) × Stands (row hart) g × IsOf known d g × (v ≡ g.entry.value))
+
+-- of a slot that was lazy at first, once a grant of it is known as lost: another one stands. One at most is known as won, and it
+-- has the value that was seen of the slot, whichever grant that was seen for
+pub record IsDecided (known : ℕ → Kept) (row : ℕ → Row) (d : ℕ) : Type 0 where
+  pub lost : (m : ℕ) (g : Grant) → m < harts_at_most → Contains (row m).settled (record { grant = g; fate = Lost }) → IsOf known d g → (known d).value ≡ (known d).lazy
+      → (i : ℕ) × (p : Grant) × (i < harts_at_most) × Stands (row i) p × IsOf known d p
+  pub won : (m : ℕ) (g : Grant) (x : ℕ) → m < harts_at_most → Contains (row m).settled (record { grant = g; fate = Won }) → IsOf known d g → (known d).fixed ≡ Some x → g.entry.value ≡ x
+  pub one : (m n : ℕ) (g p : Grant) → m < harts_at_most → n < harts_at_most → Contains (row m).settled (record { grant = g; fate = Won }) → Contains (row n).settled (record { grant = p; fate = Won })
+      → IsOf known d g → IsOf known d p → (m ≡ n) × (g ≡ p)
 
 -- a grant may be posted
 pub record IsPostable (known : ℕ → Kept) (g : Grant) : Type 0 where

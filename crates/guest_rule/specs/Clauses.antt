@@ -1,6 +1,6 @@
 -- What the rule comes to, in the words of whoever relies on it: of words and locks, slots and exchanges, the count, rows, entries,
 -- and the generation.
-use Rattle.std.specs.Prelude.{◌≡◌, ◌≢◌, ◌⊎◌, ℕ, ◌%◌, ◌≤◌, ◌<◌, Bool, true, false, List, [], ◌∷◌, ◌++◌, length, slice_get, slice_index, None, Some, Contains}
+use Rattle.std.specs.Prelude.{◌≡◌, ◌≢◌, ◌⊎◌, ℕ, ◌%◌, ◌≤◌, ◌<◌, true, false, List, [], ◌∷◌, ◌++◌, length, slice_get, slice_index, Some, Contains}
 use mathlib.Core.Option.{some}
 use lib.ListN.{get_elem?}
 use Rattle.ld_base.specs.declared.linking.Role.TheVariants.{Ro, Rx, Rw}
@@ -65,6 +65,8 @@ pub record SlotClauses (word : ℕ → ℕ) (kept : KeeperView) (hart : ℕ → 
   pub one : (m n : ℕ) (x y : Exchange) → Made kept hart m x → Made kept hart n y → slot_of x ≡ slot_of y → x.found ≡ x.grant.lazy → y.found ≡ y.grant.lazy → (m ≡ n) × (x.grant ≡ y.grant)
   pub some : (d : ℕ) → IsSlot (kept_at kept) d → word (value_at d) ≢ (kept_at kept d).value
       → (m : ℕ) × (x : Exchange) × Made kept hart m x × (slot_of x ≡ d) × (x.found ≡ x.grant.lazy) × (word (value_at d) ≡ x.grant.entry.value)
+  -- what the keeper saw of a slot is there
+  pub seen : (d x : ℕ) → IsSlot (kept_at kept) d → (kept_at kept d).fixed ≡ Some x → word (value_at d) ≡ x
   -- a grant that is known as won has an exchange that found the lazy word, and one that is known as lost has one that found another
   pub known_won : (m : ℕ) (g : Grant) → m < harts_at_most → Contains (row_of kept m).settled (record { grant = g; fate = Won }) → HasWon (exchanges_of (hart m).trail) g
   pub known_lost : (m : ℕ) (g : Grant) → m < harts_at_most → Contains (row_of kept m).settled (record { grant = g; fate = Lost }) → HasLost (exchanges_of (hart m).trail) g

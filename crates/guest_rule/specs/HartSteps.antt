@@ -29,7 +29,7 @@ use Rattle.guest_rule.specs.declared.view.Told.{Told}
 use Rattle.guest_rule.specs.declared.view.TrailItem.{TrailItem}
 use Rattle.guest_rule.specs.declared.view.TrailItem.TheVariants.{Call, Took, Exchanged, Done, Generation as ReadGeneration}
 use Rattle.guest_rule.specs.Layout.{count_at, generation_at, quiet_at, state_at, row_at, index_of, value_at, control_at, place_of, IsDoubleword, IsInMemory, role_in, lock_bit, version_in, to_lock}
-use Rattle.guest_rule.specs.Views.{BeginsWith, IsRead, IsGranted, fresh_offer, offered, with_offered, known_of, last_block, nothing_locked}
+use Rattle.guest_rule.specs.Views.{BeginsWith, IsRead, IsGranted, offer_found, offered, with_offered, known_of, last_block, nothing_locked}
 use Rattle.guest_rule.specs.Operations.{Op, load, store, exchange, add}
 
 -- ---- what is asked of memory
@@ -182,7 +182,7 @@ locked_if ask control found true h = with_access (record { locked = Some (store_
 locked_if ask control found false h = given_up (store_refused ask (Again (Locked control found))) h
 
 abbrev pub arrived_if : ℕ → Bool → Lane → Lane
-arrived_if state true l = record l { offer = Some (fresh_offer state) }
+arrived_if state true l = record l { offer = Some (offer_found state l.offer) }
 arrived_if state false l = l
 
 abbrev pub found_in : RowWord → ℕ → Option Offer → Option Offer
@@ -246,8 +246,8 @@ HartReady (kinds.Store ask x) h =
 HartReady (kinds.Unlock d) h = (h.access.locked ≡ Some d) × (h.access.last ≡ None)
 HartReady kinds.Tally h = h.lane.calling ≡ false
 HartReady (kinds.Begin m) h = (m ≡ h.number) × (h.lane.calling ≡ false)
-HartReady (kinds.Arrive m) h = (m ≡ h.number) × (h.lane.calling ≡ true) × (h.lane.offer ≡ None)
-HartReady (kinds.Find m i) h = (m ≡ h.number) × ((o : Offer) × (h.lane.offer ≡ Some o) × (offered i o ≡ None))
+HartReady (kinds.Arrive m) h = (m ≡ h.number) × (h.lane.calling ≡ true)
+HartReady (kinds.Find m i) h = (m ≡ h.number) × ((o : Offer) × (h.lane.offer ≡ Some o))
 HartReady (kinds.Exchange g) h = (h.lane.tried ≡ None) × (g.entry.mark ≡ 3) × ((o : Offer) × (h.lane.offer ≡ Some o) × IsGranted o g)
 HartReady (kinds.Accept m e) h = (m ≡ h.number) × (e.mark ≢ 3) × ((o : Offer) × (h.lane.offer ≡ Some o) × IsRead o e)
 HartReady (kinds.Finish m won) h = (m ≡ h.number) × ((x : Exchange) × (h.lane.tried ≡ Some x) × (won ≡ eqb x.found x.grant.lazy))
@@ -298,9 +298,16 @@ abbrev pub FindTells : RowWord → Option Offer → ℕ → Type 0
 FindTells Slot (Some o) n = o.mark ≡ 3 → IsDoubleword n
 FindTells _ _ n = Unit {0}
 
+-- a state that is found again, and a word that is read again, are those that were found
+abbrev pub StateAgain : Option Offer → ℕ → Type 0
+StateAgain offer n = (o : Offer) → offer ≡ Some o → (n ≡ o.mark) × IsMark n
+
+abbrev pub WordAgain : RowWord → Option Offer → ℕ → Type 0
+WordAgain i offer n = (o : Offer) (x : ℕ) → offer ≡ Some o → offered i o ≡ Some x → n ≡ x
+
 abbrev pub HartLearns : HartKind → HartView → ℕ → Type 0
 HartLearns kinds.Tally h n = length h.heard ≤ n
-HartLearns (kinds.Arrive m) h n = (8 ≤ n) ⊎ IsMark n
-HartLearns (kinds.Find m i) h n = FindTells i h.lane.offer n
+HartLearns (kinds.Arrive m) h n = ((8 ≤ n) ⊎ IsMark n) × StateAgain h.lane.offer n
+HartLearns (kinds.Find m i) h n = FindTells i h.lane.offer n × WordAgain i h.lane.offer n
 HartLearns kinds.Listen h n = HartHeard h.note h
 HartLearns _ h n = Unit {0}

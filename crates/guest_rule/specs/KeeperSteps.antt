@@ -16,7 +16,7 @@ use Rattle.guest_rule.specs.declared.view.Row.{Row}
 use Rattle.guest_rule.specs.declared.view.Told.{Told}
 use Rattle.guest_rule.specs.Layout.{doublewords, count_at, generation_at, quiet_at, harts_at_most, state_at, row_at, index_of, value_at, control_at, place_of, role_code, lock_bit, to_lock, to_unlock}
 use Rattle.guest_rule.specs.Views.{BeginsWith, entries_of, entry_of, exchanges_of, field_of, grant_in, kept_at, nothing_locked, row_of, with_field}
-use Rattle.guest_rule.specs.Allowed.{IsAllowed, IsOf, IsPostable, IsSlot, LeadsTo, NothingEnters}
+use Rattle.guest_rule.specs.Allowed.{IsDecided, IsAllowed, IsOf, IsPostable, IsSlot, LeadsTo, NothingEnters}
 use Rattle.guest_rule.specs.Slots.{HasLost, HasWon, IsGrant, Rising}
 use Rattle.guest_rule.specs.Operations.{Op, load, store, exchange, add}
 
@@ -42,6 +42,14 @@ last_if d control false = None
 abbrev pub keeps_if : ℕ → Bool → KeeperView → KeeperView
 keeps_if d true k = accessing (record { locked = Some d; held = None; last = None }) k
 keeps_if d false k = accessing nothing_locked k
+
+-- a slot was looked at: a word that isn't the lazy word stays
+abbrev pub fixed_if : ℕ → Bool → Kept → Kept
+fixed_if n true x = x
+fixed_if n false x = record x { fixed = Some n }
+
+abbrev pub fixed_by : ℕ → Kept → Kept
+fixed_by n x = fixed_if n (eqb n x.lazy) x
 
 abbrev pub not_found : Row → Row
 not_found r = record r { found_open = false }
@@ -168,11 +176,11 @@ keeper_after (kinds.Load d) k n = accessing nothing_locked (heeding k)
 keeper_after (kinds.Lock d control) k n = record (keeps_if d (eqb n control) (heeding k)) { shown = shown_if d (eqb n control) control n k.shown }
 keeper_after (kinds.Store d x) k n = accessing (record { locked = k.access.locked; held = Some x; last = None }) (with_kept d (record (kept_at k d) { value = x }) (heeding k))
 keeper_after (kinds.Unlock d old new lazy) k n =
-    accessing nothing_locked (with_kept d (record { role = new; value = (kept_at k d).value; lazy = lazy; since = length k.events }) (heeding k))
+    accessing nothing_locked (with_kept d (record { role = new; value = (kept_at k d).value; lazy = lazy; since = length k.events; fixed = None }) (heeding k))
 keeper_after (kinds.Count e) k n = record (heeding k) { events = k.events ++ e.value ∷ [] }
 keeper_after (kinds.Await m) k n = awaited_if m (nat_le 8 n) (heeding k)
 keeper_after (kinds.Ask m) k n = with_row m (asked n (row_of k m)) (heeding k)
-keeper_after (kinds.Saw d) k n = record (heeding k) { saw = Some (d, n) }
+keeper_after (kinds.Saw d) k n = with_kept d (fixed_by n (kept_at k d)) (heeding k)
 keeper_after (kinds.Fill m i x) k n = with_row m (with_field i x (row_of k m)) (heeding k)
 keeper_after (kinds.Hand m mark) k n = with_row m (handed mark (row_of k m)) (heeding k)
 keeper_after (kinds.Open m) k n = with_row m (opened (row_of k m)) (heeding k)
@@ -223,21 +231,27 @@ pub record TellsAsk (k : KeeperView) (m n : ℕ) : Type 0 where
   pub ended : (j : HartView) → HasEnded k m j → n % 8 ≢ 3
   pub in_row : (g : Grant) → (row_of k m).pending ≡ Some g → g ≡ grant_in (row_of k m)
   pub of_slot : (g : Grant) → (row_of k m).pending ≡ Some g → IsOf (kept_at k) (place_of g.entry.slot) g
+  pub lazy_is : (g : Grant) → (row_of k m).pending ≡ Some g → g.lazy ≡ (kept_at k (place_of g.entry.slot)).lazy
   -- the image of a slot that was won has its lazy word, and no other grant of the slot is known as won
   pub won : (g : Grant) → (row_of k m).pending ≡ Some g → n % 8 ≡ 4 → let d = place_of g.entry.slot in ((kept_at k d).value ≡ (kept_at k d).lazy)
       × ((i : ℕ) (p : Grant) → i < harts_at_most → Contains (row_of k i).settled (record { grant = p; fate = Won }) → IsOf (kept_at k) d p → (i ≡ m) × (p ≡ g))
+  -- what was seen of its slot is its value
+  pub fixed : (g : Grant) (x : ℕ) → (row_of k m).pending ≡ Some g → n % 8 ≡ 4 → (kept_at k (place_of g.entry.slot)).fixed ≡ Some x → g.entry.value ≡ x
 
--- the word of a slot is one of its allowed values, and not the lazy word where a grant of it was lost
+-- the word of a slot is one of its allowed values, and not the lazy word where a grant of it was lost. It is the one that was seen
+-- before, and the value of a grant that won
 pub record TellsSlot (k : KeeperView) (d n : ℕ) : Type 0 where
   pub allowed : IsAllowed (kept_at k) (row_of k) d n
   pub lost : (m : ℕ) (g : Grant) → m < harts_at_most → Contains (row_of k m).settled (record { grant = g; fate = Lost }) → IsOf (kept_at k) d g → n ≢ g.lazy
+  pub fixed : (x : ℕ) → (kept_at k d).fixed ≡ Some x → n ≡ x
+  pub won : (m : ℕ) (g : Grant) → m < harts_at_most → Contains (row_of k m).settled (record { grant = g; fate = Won }) → IsOf (kept_at k) d g → n ≡ g.entry.value
 
 abbrev pub KeeperLearns : KeeperKind → KeeperView → ℕ → Type 0
 KeeperLearns (kinds.Look d) k n = (n % 8 ≡ role_code (kept_at k d).role) × ((kept_at k d).role ≢ Rw → lock_bit n ≡ 0)
 KeeperLearns (kinds.Load d) k n = ((kept_at k d).role ≡ Ro) ⊎ ((kept_at k d).role ≡ Rx) → n ≡ (kept_at k d).value
 KeeperLearns (kinds.Lock d control) k n = (kept_at k d).role ≢ Rw → n ≡ control
 KeeperLearns (kinds.Count e) k n = n ≡ length k.events
-KeeperLearns (kinds.Await m) k n = (j : HartView) → HasEnded k m j → HasTakenAll (row_of k m) n j
+KeeperLearns (kinds.Await m) k n = ((j : HartView) → HasEnded k m j → HasTakenAll (row_of k m) n j) × ((d : ℕ) → IsSlot (kept_at k) d → IsDecided (kept_at k) (row_of k) d)
 KeeperLearns (kinds.Ask m) k n = TellsAsk k m n
 KeeperLearns (kinds.Saw d) k n = TellsSlot k d n
 KeeperLearns (kinds.Recall m i) k n = n ≡ field_of i (row_of k m)

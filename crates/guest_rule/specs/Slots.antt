@@ -31,6 +31,8 @@ pub record SlotIs (value : ℕ) (known : ℕ → Kept) (count : ℕ) (row : ℕ 
   -- a slot that was won had the lazy word from the start
   pub lazy : (m : ℕ) (g : Grant) → winner ≡ Some (m, g) → (known d).value ≡ (known d).lazy
   pub leads : (v : ℕ) → IsAllowed known row d v → LeadsTo known v
+  -- what a look found stays, since it isn't the lazy word
+  pub fixed : (x : ℕ) → (known d).fixed ≡ Some x → (value ≡ x) × (x ≢ (known d).lazy)
 
 -- what an exchange leaves for as long as its slot is there: its slot isn't lazy any more
 pub record Did (value lazy : ℕ) (winner : Winner) (m : ℕ) (x : Exchange) : Type 0 where

@@ -1,5 +1,5 @@
 -- The words and the keeper's view at the start: no word has a role, no hart is there, nothing was handed to anyone.
-use Rattle.std.specs.Prelude.{◌≡◌, ℕ, List, [], None, length, replicate}
+use Rattle.std.specs.Prelude.{◌≡◌, ℕ, List, [], None, replicate}
 use Rattle.guest_rule.specs.declared.view.KeeperView.{KeeperView}
 use Rattle.guest_rule.specs.Layout.{doublewords, harts_at_most, table_words}
 use Rattle.guest_rule.specs.Views.{IsLong, kept_at, no_row, nothing_locked, row_of, unmapped}
@@ -18,7 +18,6 @@ first_keeper = record {
   joined = [];
   note = None;
   shown = None;
-  saw = None;
 }
 
 -- what that view says of anything

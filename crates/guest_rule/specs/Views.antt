@@ -43,7 +43,7 @@ longer (x ∷ xs) (y ∷ ys) = x ∷ longer xs ys
 -- ---- the keeper's knowledge of doublewords and rows
 
 abbrev pub unmapped : Kept
-unmapped = record { role = NoRole; value = 0; lazy = 0; since = 0 }
+unmapped = record { role = NoRole; value = 0; lazy = 0; since = 0; fixed = None }
 
 abbrev pub kept_at : KeeperView → ℕ → Kept
 kept_at k d = slice_index_or k.words d unmapped
@@ -125,6 +125,11 @@ known_of lane = lane.taken ++ read_of lane.offer
 abbrev pub tried_entry : Option Exchange → List Entry
 tried_entry None = []
 tried_entry (Some x) = x.grant.entry ∷ []
+
+-- a row is found its hart's own: what was read of it before stays
+abbrev pub offer_found : ℕ → Option Offer → Offer
+offer_found mark None = fresh_offer mark
+offer_found mark (Some o) = o
 
 -- what a hart's own view says of its calls: outside a call it has no offer, an exchange is that of a grant in its row, and such a
 -- grant's slot is a doubleword of guest memory

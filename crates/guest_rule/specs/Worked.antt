@@ -1,6 +1,6 @@
 -- Worked steps: two harts on one doubleword, a conditional store that comes after another's store, and two harts that resolve
 -- one slot.
-use Rattle.std.specs.Prelude.{◌≡◌, [], ◌∷◌, Ok, Err, false}
+use Rattle.std.specs.Prelude.{◌≡◌, [], ◌∷◌, None, Some, Ok, Err, false}
 use Rattle.ld_base.specs.declared.fault.Shown.TheVariants.{Locked}
 use Rattle.ld_base.specs.declared.linking.Role.TheVariants.{None as NoRole, Slot as SlotRole}
 use Rattle.rv_hart.specs.declared.bus.BusFault.TheVariants.{Again}
@@ -10,11 +10,12 @@ use Rattle.guest_rule.specs.declared.kind.Ask.TheVariants.{Store as Stores}
 use Rattle.guest_rule.specs.declared.kind.StoreAsk.TheVariants.{Write, Conditional}
 use Rattle.guest_rule.specs.declared.kind.HartKind.TheVariants as kinds
 use Rattle.guest_rule.specs.declared.kind.KeeperKind.TheVariants as keeps
+use Rattle.guest_rule.specs.declared.view.Kept.{Kept}
 use Rattle.guest_rule.specs.declared.view.TrailItem.TheVariants.{Call, Exchanged}
 use Rattle.guest_rule.specs.Views.{first_hart}
 use Rattle.guest_rule.specs.Operations.{becomes}
 use Rattle.guest_rule.specs.HartSteps.{HartReady, hart_op, hart_after}
-use Rattle.guest_rule.specs.KeeperSteps.{keeper_op}
+use Rattle.guest_rule.specs.KeeperSteps.{fixed_by, keeper_op}
 
 -- hart 0 locks an RW doubleword of version 0, whose control word is 3, and unlocks it: version 1. Hart 1, which found 3 before,
 -- doesn't lock it: the control word stays, and the hart's access is told both words
@@ -70,3 +71,9 @@ RoleComesAndGoes =
     × (becomes (keeper_op (keeps.Unlock 0 NoRole SlotRole 5)) 8 ≡ 20)
     × (becomes (keeper_op (keeps.Lock 0 20)) 20 ≡ 28)
     × (becomes (keeper_op (keeps.RetireSlot 0)) 28 ≡ 32)
+
+-- a look at a slot whose lazy word is 5 keeps the word found, unless that is 5
+abbrev pub LookKeeps : Type 0
+LookKeeps =
+    let slot : Kept = record { role = SlotRole; value = 5; lazy = 5; since = 1; fixed = None } in
+    ((fixed_by 100 slot).fixed ≡ Some 100) × ((fixed_by 5 slot).fixed ≡ None)

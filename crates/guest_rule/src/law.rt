@@ -15,7 +15,7 @@ ghost use Rattle.guest_rule.specs.Joining.{HasNote, HasRoom, JoinKeeps, MayTake,
 ghost use Rattle.guest_rule.specs.Start.{first_keeper, first_words, IsFirst};
 ghost use Rattle.guest_rule.specs.Unlocking.{KindsUnlock, OnlyOwnersChange, UnlocksRaise};
 ghost use Rattle.guest_rule.specs.Views.{IsLane, IsLong, first_lane};
-ghost use Rattle.guest_rule.specs.Worked.{AnotherHasLocked, ConditionalFails, ConditionalIsRefused, OneLocks, OneWins, RoleComesAndGoes, StoreIsOwed};
+ghost use Rattle.guest_rule.specs.Worked.{AnotherHasLocked, ConditionalFails, ConditionalIsRefused, LookKeeps, OneLocks, OneWins, RoleComesAndGoes, StoreIsOwed};
 
 /// The rule holds at the start, when the keeper knows of no role and of nothing that was handed over.
 pub fn rule_begins()
@@ -64,7 +64,7 @@ pub fn joined_seats_keep()
     ensures { (seat : ℕ) (v : View) (other : ℕ) (w : View) → MayTake v w → JoinKeeps seat v other w (takes_in v w) }
 {}
 
-/// Worked steps of two harts on one doubleword and on one slot.
+/// Worked steps of two harts on one doubleword and on one slot, and of the keeper.
 pub fn worked_steps()
     ensures one_locks { OneLocks }
     ensures another_has_locked { AnotherHasLocked }
@@ -73,6 +73,7 @@ pub fn worked_steps()
     ensures store_is_owed { StoreIsOwed }
     ensures one_wins { OneWins }
     ensures roles { RoleComesAndGoes }
+    ensures looks { LookKeeps }
 {}
 
 /// What the rule comes to: who has locked what and what unlocked words hold, that a slot has the word

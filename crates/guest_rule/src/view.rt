@@ -88,6 +88,8 @@ pub struct Kept {
     pub lazy: u64,
     /// Of a slot: the count at which it got its role.
     pub since: u64,
+    /// Of a slot: the word that a look found in it, where that wasn't the lazy word. It stays there.
+    pub fixed: Option<u64>,
 }
 
 /// What came of a grant.
@@ -137,8 +139,6 @@ pub struct KeeperView {
     /// The doubleword that was last found locked by another seat, and what showed it: a control word
     /// that had the lock, twice, or the one that was looked at and another that was found after it.
     pub shown: Option<(u64, u64, u64)>,
-    /// The doubleword of the slot that was looked at last, and the word found.
-    pub saw: Option<(u64, u64)>,
 }
 
 /// What a note carries beside a list of events.

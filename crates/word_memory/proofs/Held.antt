@@ -14,7 +14,7 @@ use Rattle.guest_rule.specs.Views.{IsLong, kept_at, nothing_locked, put, row_of,
 use Rattle.guest_rule.specs.Allowed.{LeadsTo, NothingEnters}
 use Rattle.guest_rule.specs.Operations.{add}
 use Rattle.guest_rule.specs.KeeperSteps.{KeeperLearns, KeeperReady, Unposted, accessing, heeding, keeper_after, keeper_op, keeper_word, keeps_if, last_if, shown_if, with_kept}
-use Rattle.guest_rule.proofs.Put.{put_else, put_here, set_put}
+use Rattle.guest_rule.proofs.Heeding.{heeds, kept_else, kept_here}
 use Rattle.guest_rule.proofs.Unlocking.{role_is}
 use Rattle.word_memory.specs.Keeping.{IsResting, control_found, has_locked, retired, retiring, set_as, was_shown}
 
@@ -27,9 +27,6 @@ set_twice (x ∷ xs) (suc i) a b = ap (λ l. x ∷ l) (set_twice xs i a b)
 pub rests : (k : KeeperView) → IsResting k → accessing nothing_locked (heeding k) ≡ k
 rests k r i = record k { access = sym r.access i; note = sym r.note i }
 
-pub heeds : (k : KeeperView) → IsResting k → heeding k ≡ k
-heeds k r i = record k { note = sym r.note i }
-
 -- ---- a look
 
 bit_of : (n : ℕ) → (lock_bit n == 1) ≡ false → lock_bit n ≡ 0
@@ -40,7 +37,7 @@ abbrev found : ℕ → ℕ → KeeperView → ℕ → KeeperView
 found d n k bit = record (accessing (record { locked = None; held = None; last = last_if d n (eqb bit 0) }) (heeding k)) { shown = shown_if d (eqb bit 0) n n k.shown }
 
 pub looks_free : (d n : ℕ) (k k' : KeeperView) → IsResting k → k' ≡ keeper_after (kinds.Look d) k n → lock_bit n ≡ 0 → k' ≡ control_found d n k
-looks_free d n k k' r is free = is ∙ (ap (found d n k) free ∙ ap (λ k. accessing (record { locked = None; held = None; last = Some (d, n) }) k) (heeds k r))
+looks_free d n k k' r is free = is ∙ (ap (found d n k) free ∙ ap (λ k. accessing (record { locked = None; held = None; last = Some (d, n) }) k) (heeds k r.note))
 
 pub looks_locked : (d n : ℕ) (k k' : KeeperView) → IsResting k → k' ≡ keeper_after (kinds.Look d) k n → lock_bit n ≡ 1 → k' ≡ was_shown d (Locked n n) k
 looks_locked d n k k' r is locked = is ∙ (ap (found d n k) locked ∙ ap (was_shown d (Locked n n)) (rests k r))
@@ -66,7 +63,7 @@ pub lock_ready : (d control : ℕ) (k k1 : KeeperView) → d < doublewords → k
 lock_ready d control k k1 low is free slot = subst (KeeperReady (kinds.Lock d control)) (sym is) (low, refl, refl, free, slot)
 
 pub locks : (d control n : ℕ) (k k1 k' : KeeperView) → IsResting k → k1 ≡ control_found d control k → k' ≡ keeper_after (kinds.Lock d control) k1 n → n ≡ control → k' ≡ has_locked d k
-locks d control n k k1 k' r was is same = is ∙ (ap (λ k. keeper_after (kinds.Lock d control) k n) was ∙ (kept n same ∙ ap (λ k. has_locked d k) (heeds k r)))
+locks d control n k k1 k' r was is same = is ∙ (ap (λ k. keeper_after (kinds.Lock d control) k n) was ∙ (kept n same ∙ ap (λ k. has_locked d k) (heeds k r.note)))
   where
     yes : (a b : ℕ) → a ≡ b → eqb a b ≡ true
     yes a b e = eq-eqb a b e
@@ -99,20 +96,10 @@ same_role n r e = role_is n r e
 
 -- ---- what the keeper knows of a doubleword that it sets
 
-module _ (k : KeeperView) (d : ℕ) (x : Kept) (low : d < length k.words) where
-  kept_put : kept_at (with_kept d x k) ≡ put (kept_at k) d x
-  kept_put = sym (set_put k.words d x unmapped low)
-
-  pub kept_here : kept_at (with_kept d x k) d ≡ x
-  kept_here = ap (λ f. f d) kept_put ∙ put_here (kept_at k) d x
-
-  pub kept_else : (e : ℕ) → e ≢ d → kept_at (with_kept d x k) e ≡ kept_at k e
-  kept_else e apart = ap (λ f. f e) kept_put ∙ put_else (kept_at k) d x e apart
-
-  pub role_kept : x.role ≡ (kept_at k d).role → (e : ℕ) → (kept_at (with_kept d x k) e).role ≡ (kept_at k e).role
-  role_kept same e = dite (ℕ_discrete e d)
-      (λ (at : e ≡ d). ap (λ e. (kept_at (with_kept d x k) e).role) at ∙ (ap (λ (y : Kept). y.role) kept_here ∙ (same ∙ ap (λ e. (kept_at k e).role) (sym at))))
-      (λ (apart : e ≢ d). ap (λ (y : Kept). y.role) (kept_else e apart))
+pub role_kept : (k : KeeperView) (d : ℕ) (x : Kept) → d < length k.words → x.role ≡ (kept_at k d).role → (e : ℕ) → (kept_at (with_kept d x k) e).role ≡ (kept_at k e).role
+role_kept k d x low same e = dite (ℕ_discrete e d)
+    (λ (at : e ≡ d). ap (λ e. (kept_at (with_kept d x k) e).role) at ∙ (ap (λ (y : Kept). y.role) (kept_here k d x low) ∙ (same ∙ ap (λ e. (kept_at k e).role) (sym at))))
+    (λ (apart : e ≢ d). ap (λ (y : Kept). y.role) (kept_else k d x low e apart))
 
 leads_on : (known known' : ℕ → Kept) (v : ℕ) → ((e : ℕ) → (known' e).role ≡ (known e).role) → LeadsTo known v → LeadsTo known' v
 leads_on known known' v same l = ⊎_elim (λ (z : v ≡ 0). inl z) (λ h. inr (h.0, same (place_of v) ∙ h.1)) l
@@ -123,7 +110,7 @@ stored d x k = accessing (record { locked = Some d; held = Some x; last = None }
 
 stores : (d x : ℕ) (k k1 k2 : KeeperView) → IsResting k → k1 ≡ has_locked d k → k2 ≡ keeper_after (kinds.Store d x) k1 x → k2 ≡ stored d x k
 unfolding stored
-stores d x k k1 k2 r locked is = is ∙ (ap (λ k. keeper_after (kinds.Store d x) k x) locked ∙ ap (λ q. accessing (record { locked = Some d; held = Some x; last = None }) (with_kept d (record (kept_at k d) { value = x }) q)) (heeds k r))
+stores d x k k1 k2 r locked is = is ∙ (ap (λ k. keeper_after (kinds.Store d x) k x) locked ∙ ap (λ q. accessing (record { locked = Some d; held = Some x; last = None }) (with_kept d (record (kept_at k d) { value = x }) q)) (heeds k r.note))
 
 long_first : (d : ℕ) (k k1 : KeeperView) → k1 ≡ has_locked d k → IsLong k1 → length k.words ≡ doublewords
 long_first d k k1 locked long = sym (ap (λ (k : KeeperView). length k.words) locked) ∙ long.0
@@ -158,9 +145,9 @@ pub sets : (d x lazy n : ℕ) (old new : Role) (k k1 k2 k3 : KeeperView) → d <
 unfolding stored
 sets d x lazy n old new k k1 k2 k3 low r long locked is now =
     now ∙ (ap (λ k. keeper_after (kinds.Unlock d old new lazy) k n) (stores d x k k1 k2 r locked is)
-    ∙ (ap (λ v. accessing nothing_locked (heeding (with_kept d (record { role = new; value = v; lazy = lazy; since = length k.events }) (with_kept d (record (kept_at k d) { value = x }) k)))) (ap (λ (y : Kept). y.value) here)
-    ∙ (ap (λ k. accessing nothing_locked (heeding k)) (twice k d (record (kept_at k d) { value = x }) (record { role = new; value = x; lazy = lazy; since = length k.events }))
-    ∙ ap (λ q. with_kept d (record { role = new; value = x; lazy = lazy; since = length k.events }) q) (rests k r))))
+    ∙ (ap (λ v. accessing nothing_locked (heeding (with_kept d (record { role = new; value = v; lazy = lazy; since = length k.events; fixed = None }) (with_kept d (record (kept_at k d) { value = x }) k)))) (ap (λ (y : Kept). y.value) here)
+    ∙ (ap (λ k. accessing nothing_locked (heeding k)) (twice k d (record (kept_at k d) { value = x }) (record { role = new; value = x; lazy = lazy; since = length k.events; fixed = None }))
+    ∙ ap (λ q. with_kept d (record { role = new; value = x; lazy = lazy; since = length k.events; fixed = None }) q) (rests k r))))
   where
     here : kept_at (with_kept d (record (kept_at k d) { value = x }) k) d ≡ record (kept_at k d) { value = x }
     here = kept_here k d (record (kept_at k d) { value = x }) (subst (λ n. d < n) (sym (long_first d k k1 locked long)) low)

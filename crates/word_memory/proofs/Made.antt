@@ -13,7 +13,7 @@ use Rattle.guest_rule.specs.KeeperSteps.{with_kept}
 use Rattle.guest_rule.specs.Start.{IsFirst, first_keeper}
 use Rattle.guest_rule.proofs.Begins.{is_first}
 use Rattle.word_memory.specs.Keeping.{IsMade, IsResting, MaySet, in_linker_page, linker_page, linker_word, new_harts, set_as}
-use Rattle.word_memory.proofs.Held.{kept_else, kept_here}
+use Rattle.guest_rule.proofs.Heeding.{kept_else, kept_here}
 
 pub first_made : (k : KeeperView) → IsFirst k → IsMade k 0 0
 first_made k f = record {
@@ -64,13 +64,13 @@ page_more k k' i address low is made inside now = subst (λ k. IsMade k (i + 1) 
 })
   where
     x : Kept
-    x = record { role = Rx; value = 0x0010007300100073; lazy = 0; since = length k.events }
+    x = record { role = Rx; value = 0x0010007300100073; lazy = 0; since = length k.events; fixed = None }
 
     at : place_of address ≡ place_of linker_page + i
     at = ap place_of is ∙ page_at i low
 
-    new_word : record { role = Rx; value = 0x0010007300100073; lazy = 0; since = length k.events } ≡ linker_word
-    new_word = ap (λ n. record { role = Rx; value = 0x0010007300100073; lazy = 0; since = n }) (ap length made.no_events)
+    new_word : record { role = Rx; value = 0x0010007300100073; lazy = 0; since = length k.events; fixed = None } ≡ linker_word
+    new_word = ap (λ n. record { role = Rx; value = 0x0010007300100073; lazy = 0; since = n; fixed = None }) (ap length made.no_events)
 
     now_in : in_linker_page (i + 1) (place_of linker_page + i) ≡ true
     now_in = grind (arith, nat_tests)

@@ -14,7 +14,7 @@ use Rattle.guest_rule.specs.KeeperSteps.{KeeperLearns, keeper_after}
 use Rattle.guest_rule.specs.Views.{BeginsWith, known_of, longer, row_of}
 use Rattle.word_memory.specs.Holding.{IsIdle, hart_of}
 use Rattle.word_memory.specs.Keeping.{IsResting, keeper_of}
-use Rattle.word_memory.proofs.Held.{heeds}
+use Rattle.guest_rule.proofs.Heeding.{heeds}
 
 -- ---- lists
 
@@ -51,7 +51,7 @@ may_second h k me is settled = subst (λ (p : Me Unit View). MayTake (Hart h) p.
 
 module _ (h : HartView) (k k1 : KeeperView) (me : Me Unit View) (n : ℕ) (note : me ≡ (note_of (Hart h), [])) (taken : k1 ≡ keeper_of (takes_in (Keeper k) me.0)) where
   pub told_keeper : (k2 : KeeperView) → IsResting k → k2 ≡ keeper_after keepers.Listen k1 n → k2 ≡ k
-  told_keeper k2 r is = is ∙ (ap (λ k. keeper_after keepers.Listen k n) (taken ∙ ap (λ (p : Me Unit View). keeper_of (takes_in (Keeper k) p.0)) note) ∙ heeds k r)
+  told_keeper k2 r is = is ∙ (ap (λ k. keeper_after keepers.Listen k n) (taken ∙ ap (λ (p : Me Unit View). keeper_of (takes_in (Keeper k) p.0)) note) ∙ heeds k r.note)
 
   first : KeeperLearns keepers.Listen k1 n → BeginsWith k.events h.heard × BeginsWith (row_of k h.number).issued (known_of h.lane)
   first learns = subst (λ k. KeeperLearns keepers.Listen k n) (taken ∙ ap (λ (p : Me Unit View). keeper_of (takes_in (Keeper k) p.0)) note) learns

@@ -43,7 +43,7 @@ was_shown d _ k = k
 
 -- the doubleword has this value, role and lazy word from now on
 abbrev pub set_as : ℕ → ℕ → Role → ℕ → KeeperView → KeeperView
-set_as d x role lazy k = with_kept d (record { role = role; value = x; lazy = lazy; since = length k.events }) k
+set_as d x role lazy k = with_kept d (record { role = role; value = x; lazy = lazy; since = length k.events; fixed = None }) k
 
 -- the doubleword has no role any more
 abbrev pub retired : ℕ → KeeperView → KeeperView
@@ -83,7 +83,7 @@ abbrev pub linker_page : ℕ
 linker_page = 0x80f000
 
 abbrev pub linker_word : Kept
-linker_word = record { role = Rx; value = 0x0010007300100073; lazy = 0; since = 0 }
+linker_word = record { role = Rx; value = 0x0010007300100073; lazy = 0; since = 0; fixed = None }
 
 -- the first doublewords of that page
 abbrev pub in_linker_page : ℕ → ℕ → Rattle.std.specs.Prelude.Bool

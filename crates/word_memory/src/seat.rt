@@ -69,6 +69,7 @@ impl<J: Naming> HartSeat<J> {
     pub fn number(&self) -> u64
         ensures number { result ≡ self.now.number }
         ensures low { result < 16 }
+        ensures lane { IsLane self.now.lane }
     {
         self.number
     }

@@ -10,7 +10,7 @@ use Rattle.guest_rule.specs.declared.view.Kept.{Kept}
 use Rattle.guest_rule.specs.Layout.{doublewords, first_address, IsDoubleword, place_of}
 use Rattle.guest_rule.specs.Views.{IsLong, kept_at, unmapped}
 use Rattle.word_memory.specs.Keeping.{IsMade, MaySet, in_linker_page, linker_page, linker_word, set_as, was_shown}
-use Rattle.word_memory.proofs.Held.{kept_else}
+use Rattle.guest_rule.proofs.Heeding.{kept_else}
 use Rattle.word_tests.specs.Unset.{AreUnset}
 
 page : place_of linker_page ≡ 1048064
@@ -49,7 +49,7 @@ pub unset_more : (k k' : KeeperView) (n value : ℕ) (role : Role) (r : Result U
     → IfOk r (λ _. k' ≡ set_as (place_of (0x10000 + 8 * n)) value role 0 k) → IfErr r (λ shown. k' ≡ was_shown (place_of (0x10000 + 8 * n)) shown k) → AreUnset k' (n + 1)
 unset_more k k' n value role (Err shown) low unset long ok same d from few = ap (λ k. (kept_at k d).role) same ∙ (same_words k (place_of (0x10000 + 8 * n)) d shown ∙ unset d (omega arith) few)
 unset_more k k' n value role (Ok t) low unset long ok same d from few =
-    ap (λ k. (kept_at k d).role) ok ∙ (ap (λ (x : Kept). x.role) (kept_else k (place_of (0x10000 + 8 * n)) (record { role = role; value = value; lazy = 0; since = length k.events }) inside d apart) ∙ unset d (omega arith) few)
+    ap (λ k. (kept_at k d).role) ok ∙ (ap (λ (x : Kept). x.role) (kept_else k (place_of (0x10000 + 8 * n)) (record { role = role; value = value; lazy = 0; since = length k.events; fixed = None }) inside d apart) ∙ unset d (omega arith) few)
   where
     inside : place_of (0x10000 + 8 * n) < length k.words
     inside = subst (λ m. place_of (0x10000 + 8 * n) < m) (sym long.0) (place_low n low)

@@ -1,4 +1,4 @@
-use Rattle.guest_rule.proofs.Worked.{another_has_locked, conditional_fails, conditional_is_refused, one_locks, one_wins, role_comes_and_goes, store_is_owed}
+use Rattle.guest_rule.proofs.Worked.{another_has_locked, conditional_fails, conditional_is_refused, look_keeps, one_locks, one_wins, role_comes_and_goes, store_is_owed}
 use Rattle.guest_rule.proofs.law.worked_steps.Goals as goal
 
 pub returns-clause-one_locks : goal.returns-clause-one_locks
@@ -21,3 +21,6 @@ returns-clause-roles c = role_comes_and_goes
 
 pub returns-clause-store_is_owed : goal.returns-clause-store_is_owed
 returns-clause-store_is_owed c = store_is_owed
+
+pub returns-clause-looks : goal.returns-clause-looks
+returns-clause-looks c = look_keeps
