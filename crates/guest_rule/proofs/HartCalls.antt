@@ -104,17 +104,17 @@ module _ (word : ℕ → ℕ) (count : ℕ) (row : ℕ → Row) (lane : ℕ → 
       (λ i. (sym (put_same lane h.number h'.lane (mine ∙ sym same_lane)) i, sym (put_same entries h.number (entries_of h'.trail) (trail_is ∙ sym same_trail)) i)) c
 
   -- a word that is no row's changes
-  far : (i x : ℕ) (h' : HartView) → i ≢ 0 → (i < 8) ⊎ (128 ≤ i) → h'.lane ≡ h.lane → entries_of h'.trail ≡ entries_of h.trail → After (put word i x) h'
+  far : (i x : ℕ) (h' : HartView) → i ≢ 2 → (i < 8) ⊎ (128 ≤ i) → h'.lane ≡ h.lane → entries_of h'.trail ≡ entries_of h.trail → After (put word i x) h'
   far i x h' apart out same_lane same_trail = quiet (put word i x) h' same_lane same_trail (beside_rows word i x count row lane entries apart out is)
 
   at_value : (d x : ℕ) (h' : HartView) → h'.lane ≡ h.lane → entries_of h'.trail ≡ entries_of h.trail → After (put word (value_at d) x) h'
-  at_value d x h' = far (value_at d) x h' (λ (e : value_at d ≡ 0). omega arith) (inr (omega arith))
+  at_value d x h' = far (value_at d) x h' (λ (e : value_at d ≡ 2). omega arith) (inr (omega arith))
 
   at_control : (d x : ℕ) (h' : HartView) → h'.lane ≡ h.lane → entries_of h'.trail ≡ entries_of h.trail → After (put word (control_at d) x) h'
-  at_control d x h' = far (control_at d) x h' (λ (e : control_at d ≡ 0). omega arith) (inr (omega arith))
+  at_control d x h' = far (control_at d) x h' (λ (e : control_at d ≡ 2). omega arith) (inr (omega arith))
 
   -- the hart's own row
-  changed : (word' : ℕ → ℕ) (h' : HartView) → word' 0 ≡ word 0 → ((j : ℕ) → j < harts_at_most → j ≢ h.number → Same word word' j)
+  changed : (word' : ℕ → ℕ) (h' : HartView) → word' 2 ≡ word 2 → ((j : ℕ) → j < harts_at_most → j ≢ h.number → Same word word' j)
       → RowIs word' count h.number (row h.number) h'.lane (entries_of h'.trail) → After word' h'
   changed word' h' zero' others r = subst (λ f. Calls word' count f (put lane h.number h'.lane) (put entries h.number (entries_of h'.trail))) (put_same row h.number (row h.number) refl)
       (one_row word word' count h.number row lane entries (row h.number) h'.lane (entries_of h'.trail) zero' others is r)
@@ -122,7 +122,7 @@ module _ (word : ℕ → ℕ) (count : ℕ) (row : ℕ → Row) (lane : ℕ → 
   -- its state is stored
   stores : (x : ℕ) (h' : HartView) → RowIs (put word (state_at h.number) x) count h.number (row h.number) h'.lane (entries_of h'.trail) → After (put word (state_at h.number) x) h'
   stores x h' = changed (put word (state_at h.number) x) h'
-      (put_else word (state_at h.number) x 0 (λ (e : 0 ≡ state_at h.number). omega arith))
+      (put_else word (state_at h.number) x 2 (λ (e : 2 ≡ state_at h.number). omega arith))
       (λ j low apart. other_row word h.number 0 x j (omega arith) apart)
 
   -- what is known of a row over a store to its state
@@ -149,11 +149,11 @@ module _ (word : ℕ → ℕ) (count : ℕ) (row : ℕ → Row) (lane : ℕ → 
   unknown : ¬ (Awaits state) → (x : ℕ) (l : Lane) (c : ℕ) → (row h.number).since ≡ Some c → Known x c count (row h.number) l
   unknown free x l c since = absurd (free (old.known c since).awaits)
 
-  counts : h.lane.calling ≡ false → After (put word 0 (word 0)) (hart_after kinds.Tally h (word 0))
-  counts idle = unmoved word 0 (λ f. After f (hart_after kinds.Tally h (word 0))) (changed word (hart_after kinds.Tally h (word 0)) refl (λ j few' apart i low. refl) (record {
+  counts : h.lane.calling ≡ false → After (put word 2 (word 2)) (hart_after kinds.Tally h (word 2))
+  counts idle = unmoved word 2 (λ f. After f (hart_after kinds.Tally h (word 2))) (changed word (hart_after kinds.Tally h (word 2)) refl (λ j few' apart i low. refl) (record {
     fields = old.fields;
-    stage = let l : Lane = record h.lane { seen = word 0 } in subst (Stage state (row h.number) l) (sym idle) (rests.0, record { all = rests.1.all; no_offer = rests.1.no_offer; no_try = rests.1.no_try });
-    known = λ c since. unknown (λ a. not_rest state rests.0 a) state (record h.lane { seen = word 0 }) c since;
+    stage = let l : Lane = record h.lane { seen = word 2 } in subst (Stage state (row h.number) l) (sym idle) (rests.0, record { all = rests.1.all; no_offer = rests.1.no_offer; no_try = rests.1.no_try });
+    known = λ c since. unknown (λ a. not_rest state rests.0 a) state (record h.lane { seen = word 2 }) c since;
     seen = subst (λ n. n ≤ count) (sym is.counted) (omega arith);
     trail = old.trail;
   }))
@@ -267,7 +267,7 @@ module _ (word : ℕ → ℕ) (count : ℕ) (row : ℕ → Row) (lane : ℕ → 
         seen = old.seen;
         trail = entries_push h.trail (Exchanged e) ∙ ap (λ es. es ++ g.entry ∷ []) none_before;
       } in
-      changed (put word (value_at d) x) h' (put_else word (value_at d) x 0 (λ (e : 0 ≡ value_at d). omega arith))
+      changed (put word (value_at d) x) h' (put_else word (value_at d) x 2 (λ (e : 2 ≡ value_at d). omega arith))
       (λ j few' apart. elsewhere word (value_at d) x j few' (inr (omega arith)))
       (carry word (put word (value_at d) x) count h.number (row h.number) l (entries_of h'.trail) (elsewhere word (value_at d) x h.number few (inr (omega arith))) mine')
 
@@ -337,8 +337,8 @@ module _ (word : ℕ → ℕ) (count : ℕ) (row : ℕ → Row) (lane : ℕ → 
   hart_calls (kinds.Exchange g) ready = exchanges g (becomes (hart_op (kinds.Exchange g)) (word (value_at (place_of g.entry.slot)))) ready
   hart_calls (kinds.Accept n e) ready = subst (λ n. After (put word (state_at n) 0) (hart_after (kinds.Accept n e) h (word (state_at n)))) (sym ready.0) (accepts e (refl, ready.1, ready.2))
   hart_calls (kinds.Finish n won) ready = subst (λ n. After (put word (state_at n) (cond won 4 5)) (hart_after (kinds.Finish n won) h (word (state_at n)))) (sym ready.0) (finishes won ready.1.0 ready.1.1)
-  hart_calls (kinds.Generation number) ready = far 1 (word 1) (hart_after (kinds.Generation number) h (word 1)) (λ (e : 1 ≡ 0). omega arith) (inl (omega arith)) refl (push_quiet h.trail _ refl)
-  hart_calls kinds.Listen ready = far 2 (word 2) (hart_after kinds.Listen h (word 2)) (λ (e : 2 ≡ 0). omega arith) (inl (omega arith)) refl refl
+  hart_calls (kinds.Generation number) ready = far 1 (word 1) (hart_after (kinds.Generation number) h (word 1)) (λ (e : 1 ≡ 2). omega arith) (inl (omega arith)) refl (push_quiet h.trail _ refl)
+  hart_calls kinds.Listen ready = far 0 (word 0) (hart_after kinds.Listen h (word 0)) (λ (e : 0 ≡ 2). omega arith) (inl (omega arith)) refl refl
 
   -- ---- what the rule tells of calls
 

@@ -179,7 +179,7 @@ module _ (word : ℕ → ℕ) (known : ℕ → Kept) (access : Access) (harts : 
   hart_locks (kinds.Lock ask control) small few ready aims = locks ask control ready.0.0.1 ready.1 ready.3 ready.4 (eqb (word (control_at (store_place ask))) control) refl
   hart_locks (kinds.Store ask x) small few ready aims = values (store_place ask) x None ready.0
   hart_locks (kinds.Unlock d) small few ready aims = unlocks d ready.0 small
-  hart_locks kinds.Tally small few ready aims = below 0 (word 0) (omega arith)
+  hart_locks kinds.Tally small few ready aims = below 2 (word 2) (omega arith)
   hart_locks (kinds.Begin n) small few ready aims = below (state_at n) ((word (state_at n) + 8) % 18446744073709551616) (low_row n 0 (own n few ready.0) (omega arith))
   hart_locks (kinds.Arrive n) small few ready aims = below (state_at n) (word (state_at n)) (low_row n 0 (own n few ready.0) (omega arith))
   hart_locks (kinds.Find n i) small few ready aims = below (row_at n (index_of i)) (word (row_at n (index_of i))) (low_row n (index_of i) (own n few ready.0) (low_index i))
@@ -188,4 +188,4 @@ module _ (word : ℕ → ℕ) (known : ℕ → Kept) (access : Access) (harts : 
   hart_locks (kinds.Accept n e) small few ready aims = below (state_at n) 0 (low_row n 0 (own n few ready.0) (omega arith))
   hart_locks (kinds.Finish n won) small few ready aims = finishes n won (hart_after (kinds.Finish n won) h (word (state_at n))).access refl (low_row n 0 (own n few ready.0) (omega arith))
   hart_locks (kinds.Generation number) small few ready aims = below 1 (word 1) (omega arith)
-  hart_locks kinds.Listen small few ready aims = below 2 (word 2) (omega arith)
+  hart_locks kinds.Listen small few ready aims = below 0 (word 0) (omega arith)

@@ -198,17 +198,17 @@ module _ (word : ℕ → ℕ) (k : KeeperView) (lane : ℕ → Lane) (entries : 
   old : (m : ℕ) → m < harts_at_most → RowIs word (length k.events) m (row_of k m) (lane m) (entries m)
   old m few = is.each_row m few
 
-  far : (i x : ℕ) → i ≢ 0 → (i < 8) ⊎ (128 ≤ i) → Calls (put word i x) (length k.events) (row_of k) lane entries
+  far : (i x : ℕ) → i ≢ 2 → (i < 8) ⊎ (128 ≤ i) → Calls (put word i x) (length k.events) (row_of k) lane entries
   far i x apart out = beside_rows word i x (length k.events) (row_of k) lane entries apart out is
 
   at_value : (d x : ℕ) → Calls (put word (value_at d) x) (length k.events) (row_of k) lane entries
-  at_value d x = far (value_at d) x (λ (e : value_at d ≡ 0). omega arith) (inr (omega arith))
+  at_value d x = far (value_at d) x (λ (e : value_at d ≡ 2). omega arith) (inr (omega arith))
 
   at_control : (d x : ℕ) → Calls (put word (control_at d) x) (length k.events) (row_of k) lane entries
-  at_control d x = far (control_at d) x (λ (e : control_at d ≡ 0). omega arith) (inr (omega arith))
+  at_control d x = far (control_at d) x (λ (e : control_at d ≡ 2). omega arith) (inr (omega arith))
 
   -- one row of the list changes
-  changed : (word' : ℕ → ℕ) (m : ℕ) (r : Row) → m < harts_at_most → word' 0 ≡ word 0 → ((j : ℕ) → j < harts_at_most → j ≢ m → Same word word' j)
+  changed : (word' : ℕ → ℕ) (m : ℕ) (r : Row) → m < harts_at_most → word' 2 ≡ word 2 → ((j : ℕ) → j < harts_at_most → j ≢ m → Same word word' j)
       → RowIs word' (length k.events) m r (lane m) (entries m) → Calls word' (length k.events) (λ j. slice_index_or (slice_set k.rows m r) j no_row) lane entries
   changed word' m r few zero' others mine = subst (λ (f : ℕ → Row). Calls word' (length k.events) f lane entries) (set_put k.rows m r no_row (subst (λ n. m < n) (sym rows_known) few))
       (subst (λ (p : (ℕ → Lane) × (ℕ → List Entry)). Calls word' (length k.events) (put (row_of k) m r) p.0 p.1) (λ i. (put_same lane m (lane m) refl i, put_same entries m (entries m) refl i))
@@ -216,13 +216,13 @@ module _ (word : ℕ → ℕ) (k : KeeperView) (lane : ℕ → Lane) (entries : 
 
   at_row : (m i x : ℕ) (r : Row) → m < harts_at_most → i < 6 → RowIs (put word (row_at m i) x) (length k.events) m r (lane m) (entries m)
       → Calls (put word (row_at m i) x) (length k.events) (λ j. slice_index_or (slice_set k.rows m r) j no_row) lane entries
-  at_row m i x r few low = changed (put word (row_at m i) x) m r few (put_else word (row_at m i) x 0 (λ (e : 0 ≡ row_at m i). omega arith)) (λ j few' apart. other_row word m i x j low apart)
+  at_row m i x r few low = changed (put word (row_at m i) x) m r few (put_else word (row_at m i) x 2 (λ (e : 2 ≡ row_at m i). omega arith)) (λ j few' apart. other_row word m i x j low apart)
 
-  counts : length k.events < 18446744073709551615 → Calls (put word 0 ((word 0 + 1) % 18446744073709551616)) (length k.events + 1) (row_of k) lane entries
+  counts : length k.events < 18446744073709551615 → Calls (put word 2 ((word 2 + 1) % 18446744073709551616)) (length k.events + 1) (row_of k) lane entries
   counts low = record {
-    counted = put_here word 0 ((word 0 + 1) % 18446744073709551616) ∙ next (word 0) (length k.events) is.counted low;
-    each_row = λ m few. grown (put word 0 ((word 0 + 1) % 18446744073709551616)) (length k.events) m (row_of k m) (lane m) (entries m)
-        (carry word (put word 0 ((word 0 + 1) % 18446744073709551616)) (length k.events) m (row_of k m) (lane m) (entries m) (elsewhere word 0 ((word 0 + 1) % 18446744073709551616) m few (inl (omega arith))) (old m few));
+    counted = put_here word 2 ((word 2 + 1) % 18446744073709551616) ∙ next (word 2) (length k.events) is.counted low;
+    each_row = λ m few. grown (put word 2 ((word 2 + 1) % 18446744073709551616)) (length k.events) m (row_of k m) (lane m) (entries m)
+        (carry word (put word 2 ((word 2 + 1) % 18446744073709551616)) (length k.events) m (row_of k m) (lane m) (entries m) (elsewhere word 2 ((word 2 + 1) % 18446744073709551616) m few (inl (omega arith))) (old m few));
   }
     where
       next : (n c : ℕ) → n ≡ c → c < 18446744073709551615 → (n + 1) % 18446744073709551616 ≡ c + 1
@@ -269,7 +269,7 @@ module _ (word : ℕ → ℕ) (k : KeeperView) (lane : ℕ → Lane) (entries : 
       kept_rows d x (eqb (word (control_at d)) control) (put word (control_at d) x) (at_control d x)
   keeper_calls (kinds.Store d x) ready = at_value d x
   keeper_calls (kinds.Unlock d old new lazy) ready = at_control d (becomes (keeper_op (kinds.Unlock d old new lazy)) (word (control_at d)))
-  keeper_calls (kinds.Count e) ready = subst (λ n. Calls (put word 0 ((word 0 + 1) % 18446744073709551616)) n (row_of k) lane entries) (sym (length-append k.events (e.value ∷ []))) (counts ready)
+  keeper_calls (kinds.Count e) ready = subst (λ n. Calls (put word 2 ((word 2 + 1) % 18446744073709551616)) n (row_of k) lane entries) (sym (length-append k.events (e.value ∷ []))) (counts ready)
   keeper_calls (kinds.Await m) ready = unmoved word (state_at m) (λ f. After f (awaited_if m (nat_le 8 (word (state_at m))) (heeding k))) (awaits m (nat_le 8 (word (state_at m))) ready refl)
   keeper_calls (kinds.Ask m) ready =
       let s : ℕ = word (state_at m) in
@@ -286,7 +286,7 @@ module _ (word : ℕ → ℕ) (k : KeeperView) (lane : ℕ → Lane) (entries : 
       (hands word (length k.events) m (row_of k m) (lane m) (entries m) ready.0 3 (Some (grant_in (row_of k m))) (old m ready.1.0) ready.1.1 (inr (inr (inl refl))) (λ _. ready.3))
   keeper_calls (kinds.RetireSlot d) ready = at_control d (becomes (keeper_op (kinds.RetireSlot d)) (word (control_at d)))
   keeper_calls (kinds.Retire d old) ready = at_control d (becomes (keeper_op (kinds.Retire d old)) (word (control_at d)))
-  keeper_calls (kinds.Generation g) ready = far 1 g (λ (e : 1 ≡ 0). omega arith) (inl (omega arith))
+  keeper_calls (kinds.Generation g) ready = far 1 g (λ (e : 1 ≡ 2). omega arith) (inl (omega arith))
   keeper_calls (kinds.Recall m i) ready = unmoved word (row_at m (index_of i)) (λ f. Calls f (length k.events) (row_of k) lane entries) is
-  keeper_calls kinds.RecallGeneration ready = far 1 (word 1) (λ (e : 1 ≡ 0). omega arith) (inl (omega arith))
-  keeper_calls kinds.Listen ready = far 2 (word 2) (λ (e : 2 ≡ 0). omega arith) (inl (omega arith))
+  keeper_calls kinds.RecallGeneration ready = far 1 (word 1) (λ (e : 1 ≡ 2). omega arith) (inl (omega arith))
+  keeper_calls kinds.Listen ready = far 0 (word 0) (λ (e : 0 ≡ 2). omega arith) (inl (omega arith))

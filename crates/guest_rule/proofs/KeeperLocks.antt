@@ -168,7 +168,7 @@ module _ (word : ℕ → ℕ) (k : KeeperView) (harts : ℕ → Access) (w : Wor
       let c : ℕ = word (control_at d) in
       subst (λ (r : Role). Words (put word (control_at d) ((c + (8 + role_code new - role_code r)) % 18446744073709551616)) (λ j. slice_index_or (slice_set k.words d k') j unmapped) nothing_locked harts) (sym ready.1)
       (unlocks d k' ready.0 small (stands new (word (value_at d)) (kept_at k d).value (w.keepers.held d (kept_at k d).value ready.0 ready.5)))
-  keeper_locks (kinds.Count e) small ready = below 0 ((word 0 + 1) % 18446744073709551616) (omega arith)
+  keeper_locks (kinds.Count e) small ready = below 2 ((word 2 + 1) % 18446744073709551616) (omega arith)
   keeper_locks (kinds.Await m) small ready = awaited_same (λ f b. Words (put word (state_at m) (word (state_at m))) f b harts) m (nat_le 8 (word (state_at m))) k (below (state_at m) (word (state_at m)) (low_row m 0 ready (omega arith)))
   keeper_locks (kinds.Ask m) small ready = below (state_at m) (word (state_at m)) (low_row m 0 ready.0 (omega arith))
   keeper_locks (kinds.Saw d) small ready =
@@ -191,7 +191,7 @@ module _ (word : ℕ → ℕ) (k : KeeperView) (harts : ℕ → Access) (w : Wor
   keeper_locks (kinds.Generation g) small ready = below 1 g (omega arith)
   keeper_locks (kinds.Recall m i) small ready = below (row_at m (index_of i)) (word (row_at m (index_of i))) (low_row m (index_of i) ready (low_index i))
   keeper_locks kinds.RecallGeneration small ready = below 1 (word 1) (omega arith)
-  keeper_locks kinds.Listen small ready = below 2 (word 2) (omega arith)
+  keeper_locks kinds.Listen small ready = below 0 (word 0) (omega arith)
 
   -- ---- what the rule tells of words
 

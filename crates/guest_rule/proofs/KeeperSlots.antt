@@ -579,7 +579,7 @@ module _ (word : ℕ → ℕ) (k : KeeperView) (tried : ℕ → Option Exchange)
 
   -- ---- the count
 
-  counts : (x : ℕ) → Slots (put word 0 x) (kept_at k) k.access.locked (length k.events + 1) (row_of k) tried exchanges
+  counts : (x : ℕ) → Slots (put word 2 x) (kept_at k) k.access.locked (length k.events + 1) (row_of k) tried exchanges
   counts x = record {
     winner = now.winner;
     each_slot = λ d here. let o = now.each_slot d here in let low : (kept_at k d).since ≤ length k.events = o.since in record { since = omega arith; image = o.image; bound = o.bound; by = o.by; lazy = o.lazy; leads = o.leads; fixed = o.fixed };
@@ -596,8 +596,8 @@ module _ (word : ℕ → ℕ) (k : KeeperView) (tried : ℕ → Option Exchange)
     no_more = now.no_more;
   }
     where
-      now : Slots (put word 0 x) (kept_at k) k.access.locked (length k.events) (row_of k) tried exchanges
-      now = beside_slots word (put word 0 x) (kept_at k) k.access.locked (length k.events) (row_of k) tried exchanges (low_word 0 x (omega arith)) s
+      now : Slots (put word 2 x) (kept_at k) k.access.locked (length k.events) (row_of k) tried exchanges
+      now = beside_slots word (put word 2 x) (kept_at k) k.access.locked (length k.events) (row_of k) tried exchanges (low_word 2 x (omega arith)) s
 
   -- ---- the kinds
 
@@ -664,7 +664,7 @@ module _ (word : ℕ → ℕ) (k : KeeperView) (tried : ℕ → Option Exchange)
   keeper_slots place held still (kinds.Lock d control) ready = locks d (becomes (keeper_op (kinds.Lock d control)) (word (control_at d))) (eqb (word (control_at d)) control) ready.4
   keeper_slots place held still (kinds.Store d x) ready = stores d x (place d ready.0) ready.0 ready.1
   keeper_slots place held still (kinds.Unlock d old new lazy) ready = unlock d (becomes (keeper_op (kinds.Unlock d old new lazy)) (word (control_at d))) old new lazy (held d (kept_at k d).value ready.0 ready.5) ready (place d ready.0)
-  keeper_slots place held still (kinds.Count e) ready = subst (λ n. Slots (put word 0 ((word 0 + 1) % 18446744073709551616)) (kept_at k) k.access.locked n (row_of k) tried exchanges) (sym (length-append k.events (e.value ∷ []))) (counts ((word 0 + 1) % 18446744073709551616))
+  keeper_slots place held still (kinds.Count e) ready = subst (λ n. Slots (put word 2 ((word 2 + 1) % 18446744073709551616)) (kept_at k) k.access.locked n (row_of k) tried exchanges) (sym (length-append k.events (e.value ∷ []))) (counts ((word 2 + 1) % 18446744073709551616))
   keeper_slots place held still (kinds.Await m) ready = unmoved word (state_at m) (λ f. After f (awaited_if m (nat_le 8 (word (state_at m))) (heeding k))) (awaits m (nat_le 8 (word (state_at m))) ready)
   keeper_slots place held still (kinds.Ask m) ready =
       let n : ℕ = word (state_at m) in
@@ -684,7 +684,7 @@ module _ (word : ℕ → ℕ) (k : KeeperView) (tried : ℕ → Option Exchange)
   keeper_slots place held still (kinds.Generation g) ready = beside (put word 1 g) (low_word 1 g (omega arith))
   keeper_slots place held still (kinds.Recall m i) ready = beside (put word (row_at m (index_of i)) (word (row_at m (index_of i)))) (same_word (row_at m (index_of i)))
   keeper_slots place held still kinds.RecallGeneration ready = beside (put word 1 (word 1)) (low_word 1 (word 1) (omega arith))
-  keeper_slots place held still kinds.Listen ready = beside (put word 2 (word 2)) (low_word 2 (word 2) (omega arith))
+  keeper_slots place held still kinds.Listen ready = beside (put word 0 (word 0)) (low_word 0 (word 0) (omega arith))
 
   -- ---- what the rule tells of slots
 

@@ -75,7 +75,7 @@ module _ (word : ℕ → ℕ) (generation : ℕ) (row : ℕ → Row) (trail : �
       grows (control_at (store_place ask)) (becomes (hart_op (kinds.Lock ask control)) n) (locked_if ask control n (eqb n control) (heeded h)).trail (control_apart (store_place ask)) (locked_kept ask control n (eqb n control) (heeded h) old)
   hart_marks (kinds.Store ask x) = grows (value_at (store_place ask)) x (hart_after (kinds.Store ask x) h (word (value_at (store_place ask)))).trail (value_apart (store_place ask)) (item _ tt)
   hart_marks (kinds.Unlock d) = grows (control_at d) (becomes (hart_op (kinds.Unlock d)) (word (control_at d))) h.trail (control_apart d) old
-  hart_marks kinds.Tally = grows 0 (word 0) h.trail (λ (e : 0 ≡ 1). omega arith) old
+  hart_marks kinds.Tally = grows 2 (word 2) h.trail (λ (e : 2 ≡ 1). omega arith) old
   hart_marks (kinds.Begin m) = grows (state_at m) (becomes (hart_op (kinds.Begin m)) (word (state_at m))) h.trail (row_apart m 0) old
   hart_marks (kinds.Arrive m) = grows (state_at m) (word (state_at m)) h.trail (row_apart m 0) old
   hart_marks (kinds.Find m i) = grows (row_at m (index_of i)) (word (row_at m (index_of i))) h.trail (row_apart m (index_of i)) old
@@ -84,7 +84,7 @@ module _ (word : ℕ → ℕ) (generation : ℕ) (row : ℕ → Row) (trail : �
   hart_marks (kinds.Finish m won) = grows (state_at m) (becomes (hart_op (kinds.Finish m won)) (word (state_at m))) (h.trail ++ Done ∷ []) (row_apart m 0) (item Done tt)
   hart_marks (kinds.Generation number) = trails_grow word (put word 1 (word 1)) generation row trail h.number (h.trail ++ ReadGeneration (word 1) number (last_block (word 1) number h.lane.taken) ∷ []) (put_here word 1 (word 1))
       (item (ReadGeneration (word 1) number (last_block (word 1) number h.lane.taken)) (answer (word 1) number)) g
-  hart_marks kinds.Listen = grows 2 (word 2) h.trail (λ (e : 2 ≡ 1). omega arith) old
+  hart_marks kinds.Listen = grows 0 (word 0) h.trail (λ (e : 0 ≡ 1). omega arith) old
 
 -- ---- the keeper
 
@@ -146,7 +146,7 @@ module _ (word : ℕ → ℕ) (k : KeeperView) (trail : ℕ → List TrailItem) 
       kept_if (put word (control_at d) x) d (eqb (word (control_at d)) control) (aside (control_at d) x (λ (e : control_at d ≡ 1). omega arith))
   keeper_marks (keeps.Store d x) ready = aside (value_at d) x (λ (e : value_at d ≡ 1). omega arith)
   keeper_marks (keeps.Unlock d old new lazy) ready = aside (control_at d) (becomes (keeper_op (keeps.Unlock d old new lazy)) (word (control_at d))) (λ (e : control_at d ≡ 1). omega arith)
-  keeper_marks (keeps.Count e) ready = aside 0 ((word 0 + 1) % 18446744073709551616) (λ (e : 0 ≡ 1). omega arith)
+  keeper_marks (keeps.Count e) ready = aside 2 ((word 2 + 1) % 18446744073709551616) (λ (e : 2 ≡ 1). omega arith)
   keeper_marks (keeps.Await m) ready = awaits m (word (state_at m)) (nat_le 8 (word (state_at m))) ready
   keeper_marks (keeps.Ask m) ready = let n : ℕ = word (state_at m) in
       at_row (state_at m) n m (asked n (row_of k m)) (λ (e : state_at m ≡ 1). omega arith) ready.0 (asked_issued (eqb (n % 8) 3) (eqb (n % 8) 4) (eqb (n % 8) 5) (row_of k m))
@@ -159,4 +159,4 @@ module _ (word : ℕ → ℕ) (k : KeeperView) (trail : ℕ → List TrailItem) 
   keeper_marks (keeps.Generation n) ready = let up : k.generation < n = ready in rows_grow word (put word 1 n) k.generation n (row_of k) (row_of k) trail (put_here word 1 n) (omega arith) (λ m few e c. inl c) g
   keeper_marks (keeps.Recall m i) ready = aside (row_at m (index_of i)) (word (row_at m (index_of i))) (λ (e : row_at m (index_of i) ≡ 1). omega arith)
   keeper_marks keeps.RecallGeneration ready = rows_grow word (put word 1 (word 1)) k.generation k.generation (row_of k) (row_of k) trail (put_here word 1 (word 1) ∙ g.current) (omega arith) (λ m few e c. inl c) g
-  keeper_marks keeps.Listen ready = aside 2 (word 2) (λ (e : 2 ≡ 1). omega arith)
+  keeper_marks keeps.Listen ready = aside 0 (word 0) (λ (e : 0 ≡ 1). omega arith)

@@ -66,16 +66,16 @@ other_row word n i x m low' apart j low = put_else word (row_at n i) x (row_at m
     rows_apart m n j i low low' e = omega arith
 
 -- nothing but the word i changes, which is no row's and isn't the count
-pub beside_rows : (word : ℕ → ℕ) (i x count : ℕ) (row : ℕ → Row) (lane : ℕ → Lane) (entries : ℕ → List Entry) → i ≢ 0 → (i < 8) ⊎ (128 ≤ i)
+pub beside_rows : (word : ℕ → ℕ) (i x count : ℕ) (row : ℕ → Row) (lane : ℕ → Lane) (entries : ℕ → List Entry) → i ≢ 2 → (i < 8) ⊎ (128 ≤ i)
     → Calls word count row lane entries → Calls (put word i x) count row lane entries
 beside_rows word i x count row lane entries apart out is = record {
-  counted = put_else word i x 0 (λ (e : 0 ≡ i). apart (sym e)) ∙ is.counted;
+  counted = put_else word i x 2 (λ (e : 2 ≡ i). apart (sym e)) ∙ is.counted;
   each_row = λ m few. carry word (put word i x) count m (row m) (lane m) (entries m) (elsewhere word i x m few out) (is.each_row m few);
 }
 
 -- a word of the row n changes, or none, and what is known of that row
 pub one_row : (word word' : ℕ → ℕ) (count n : ℕ) (row : ℕ → Row) (lane : ℕ → Lane) (entries : ℕ → List Entry) (r : Row) (l : Lane) (es : List Entry)
-    → word' 0 ≡ word 0 → ((m : ℕ) → m < harts_at_most → m ≢ n → Same word word' m)
+    → word' 2 ≡ word 2 → ((m : ℕ) → m < harts_at_most → m ≢ n → Same word word' m)
     → Calls word count row lane entries → RowIs word' count n r l es → Calls word' count (put row n r) (put lane n l) (put entries n es)
 one_row word word' count n row lane entries r l es zero' others is mine = record {
   counted = zero' ∙ is.counted;

@@ -130,7 +130,7 @@ module _ (word : ℕ → ℕ) (kept : KeeperView) (harts : ℕ → HartView) (p 
   hart_low (kinds.Lock ask control) ready = control_low (store_place ask) ready.0.0.1
   hart_low (kinds.Store ask x) ready = value_low (store_place ask) ((p.locks.of_hart h.number).named (store_place ask) (ap (λ (x : HartView). x.access.locked) is ∙ ready.0)).0
   hart_low (kinds.Unlock d) ready = control_low d ((p.locks.of_hart h.number).named d (ap (λ (x : HartView). x.access.locked) is ∙ ready.0)).0
-  hart_low kinds.Tally ready = row_low_number 0 (omega arith)
+  hart_low kinds.Tally ready = row_low_number 2 (omega arith)
     where
       row_low_number : (n : ℕ) → n < 8 → n < table_words
       row_low_number n low = omega arith

@@ -1,5 +1,5 @@
 -- Where the words of guest memory stand, and what a control word is.
--- First come the count, the generation, a word that nothing changes, and a row of six words for each of 16 harts. From the
+-- First come a word that nothing changes, the generation, the count, and a row of six words for each of 16 harts. From the
 -- word 128 on, each doubleword has two words: its value, and its control word.
 use Rattle.std.specs.Prelude.{◌≡◌, ℕ, ◌+◌, ◌-◌, ◌*◌, ◌/◌, ◌%◌, ◌≤◌, ◌<◌, List, [], ◌∷◌, slice_index_or}
 use Rattle.ld_base.specs.declared.linking.Role.{Role}
@@ -13,14 +13,14 @@ use Rattle.guest_rule.specs.declared.entry.RowWord.TheVariants.{Number, Slot, La
 unfoldable pub doublewords : ℕ
 doublewords = 1048576
 
-abbrev pub count_at : ℕ
-count_at = 0
+abbrev pub quiet_at : ℕ
+quiet_at = 0
 
 abbrev pub generation_at : ℕ
 generation_at = 1
 
-abbrev pub quiet_at : ℕ
-quiet_at = 2
+abbrev pub count_at : ℕ
+count_at = 2
 
 abbrev pub harts_at_most : ℕ
 harts_at_most = 16

@@ -1,62 +1,92 @@
 -- Views over the steps of the calls on grants.
-use Rattle.std.proofs.Common.{◌≡◌, ◌≢◌, ◌⊎◌, ⊎_elim, inl, inr, ℕ, ◌+◌, ◌*◌, ◌%◌, ◌<◌, Bool, true, false, eqb, eq-eqb, ne_eqb, cond, ◌==◌, [], ◌∷◌, ◌++◌, Option, None, Some, refl, sym, ap, subst, ◌∙◌, arith}
+use Rattle.std.proofs.Common.{◌≡◌, ◌≢◌, ◌⊎◌, ⊎_elim, inl, inr, ℕ, ◌+◌, ◌*◌, ◌%◌, ◌<◌, Bool, true, false, eqb, eq-eqb, ne_eqb, cond, ◌==◌, [], ◌∷◌, ◌++◌, Option, None, Some, Contains, refl, sym, ap, subst, ◌∙◌, arith}
+use Rattle.std.proofs.lemmas.List.Elements.{Contains-push}
+use Rattle.link_event.specs.declared.handed.Offer.{Offer}
 use Rattle.guest_rule.specs.declared.entry.Grant.{Grant}
-use Rattle.guest_rule.specs.declared.entry.RowWord.TheVariants.{Slot}
+use Rattle.guest_rule.specs.declared.entry.RowWord.TheVariants.{Slot, Generation}
 use Rattle.guest_rule.specs.declared.kind.HartKind.TheVariants as harts
 use Rattle.guest_rule.specs.declared.kind.KeeperKind.TheVariants as keepers
 use Rattle.guest_rule.specs.declared.view.HartView.{HartView}
+use Rattle.guest_rule.specs.declared.view.Fate.TheVariants.{Lost as FateLost}
 use Rattle.guest_rule.specs.declared.view.KeeperView.{KeeperView}
+use Rattle.guest_rule.specs.declared.view.Offer.{Offer as ReadOffer}
 use Rattle.guest_rule.specs.declared.view.Row.{Row}
 use Rattle.guest_rule.specs.Allowed.{IsOf, IsSlot}
 use Rattle.guest_rule.specs.HartSteps.{HartReady, entered, finished, hart_after, with_lane_of}
-use Rattle.guest_rule.specs.KeeperSteps.{KeeperLearns, TellsAsk, TellsSlot, asked, asked_if, heeding, keeper_after, with_row}
+use Rattle.guest_rule.specs.KeeperSteps.{KeeperLearns, TellsAsk, TellsSlot, asked, asked_if, fixed_by, fixed_if, heeding, keeper_after, settled_as, with_kept, with_row}
 use Rattle.guest_rule.specs.Layout.{address_of, doublewords, IsDoubleword, place_of}
-use Rattle.guest_rule.specs.Views.{IsLong, grant_in, kept_at, row_of}
+use Rattle.guest_rule.specs.Views.{IsLong, kept_at, offered, row_of, with_offered}
 use Rattle.guest_rule.specs.declared.view.TrailItem.TheVariants.{Done}
-use Rattle.word_memory.specs.Holding.{IsIdle}
-use Rattle.word_memory.specs.Keeping.{IsResting}
-use Rattle.word_memory.proofs.Held.{heeds}
+use Rattle.word_steps.specs.Views.{IsIdle}
+use Rattle.word_steps.specs.Views.{IsResting}
+use Rattle.guest_rule.proofs.Heeding.{heeds, row_here}
 use Rattle.slot_bind.specs.declared.slot.Asked.{Asked}
 use Rattle.slot_bind.specs.declared.slot.Asked.TheVariants.{Open, Won as SaysWon, Lost as SaysLost}
 use Rattle.slot_bind.specs.declared.slot.Bound.{Bound}
 use Rattle.slot_bind.specs.declared.slot.Bound.TheVariants.{Won, Lost}
-use Rattle.slot_bind.specs.Rows.{full_offer}
-use Rattle.slot_bind.specs.Grants.{IsBound, Says, asked_row, asked_view, exchange_of, exchanged, found_by, given_back, with_saw}
+use Rattle.slot_bind.specs.Rows.{full_offer, offer_of, offer_or, with_offer}
+use Rattle.slot_bind.specs.Grants.{IsBound, IsOffered, Says, asked_row, asked_view, exchange_of, exchanged, fated_view, found_by, given_back, grant_read, is_won, seen_if, with_look}
 use Rattle.slot_bind.proofs.Harts.{idle_heeded}
-use Rattle.slot_bind.proofs.Rows.{row_here}
 
 -- ---- an exchange
 
-pub bind_ready : (h : HartView) (g : Grant) → h.lane.tried ≡ None → g.entry.mark ≡ 3 → h.lane.offer ≡ Some (full_offer g) → HartReady (harts.Exchange g) h
-bind_ready h g untried mark has = (untried, mark, (full_offer g, has, (record { mark_is = refl; number_is = refl; slot_is = refl; value_is = refl; generation_is = refl }, refl)))
+-- a view with its own offer
+own_offer : (h : HartView) (o : ReadOffer) → h.lane.offer ≡ Some o → h ≡ with_offer o h
+own_offer h o has i = record h { lane = record h.lane { offer = has i } }
 
-pub binds : (h h' : HartView) (g : Grant) (n : ℕ) (b : Bound) → IsIdle h → h' ≡ hart_after (harts.Exchange g) h n → n ≡ found_by g b → h' ≡ exchanged (exchange_of g b) h
-binds h h' g n b idle is found = is ∙ (ap (λ h. exchanged (record { grant = g; found = n }) h) (idle_heeded h idle) ∙ ap (λ n. exchanged (record { grant = g; found = n }) h) found)
+-- what is read of the row's generation, where the row was read in full
+reads : (h : HartView) (offer : Offer) (n : ℕ) → IsOffered h offer → ((x : ℕ) → offered Generation (offer_of h) ≡ Some x → n ≡ x) → n ≡ (grant_read h).entry.generation
+reads h offer n is again = again (grant_read h).entry.generation (ap (λ (o : Option ReadOffer). (offer_or o).generation) is.full)
+
+pub same_view : (h h' : HartView) (offer : Offer) (n : ℕ) → IsOffered h offer → h' ≡ with_offer (with_offered Generation n (offer_of h)) h → ((x : ℕ) → offered Generation (offer_of h) ≡ Some x → n ≡ x) → h' ≡ h
+same_view h h' offer n is e again = e ∙ (ap (λ o. with_offer o h) same ∙ sym (own_offer h (full_offer (grant_read h)) is.full))
+  where
+    full : offer_of h ≡ full_offer (grant_read h)
+    full = ap offer_or is.full
+
+    same : with_offered Generation n (offer_of h) ≡ full_offer (grant_read h)
+    same = ap (with_offered Generation n) full ∙ ap (λ x. with_offered Generation x (full_offer (grant_read h))) (reads h offer n is again)
+
+pub same_grant : (h : HartView) (offer : Offer) (n : ℕ) → IsOffered h offer → ((x : ℕ) → offered Generation (offer_of h) ≡ Some x → n ≡ x)
+    → record { entry = record { mark = 3; number = offer.event; slot = offer.slot; value = offer.value; generation = n }; lazy = offer.lazy } ≡ grant_read h
+same_grant h offer n is again i = record {
+  entry = record { mark = sym is.mark i; number = is.event i; slot = is.slot i; value = is.value i; generation = reads h offer n is again i };
+  lazy = is.lazy i;
+}
+
+pub bind_ready : (h h1 : HartView) (offer : Offer) (g : Grant) → h1 ≡ h → g ≡ grant_read h → IsOffered h offer → h.lane.tried ≡ None → HartReady (harts.Exchange g) h1
+bind_ready h h1 offer g same is offered' untried = subst (λ (p : HartView × Grant). HartReady (harts.Exchange p.1) p.0) (λ i. (sym same i, sym is i))
+    (untried, offered'.mark, (full_offer (grant_read h), offered'.full, (record { mark_is = refl; number_is = refl; slot_is = refl; value_is = refl; generation_is = refl }, refl)))
+
+binds : (h h1 h' : HartView) (g : Grant) (n : ℕ) (b : Bound) → IsIdle h1 → h1 ≡ h → g ≡ grant_read h → h' ≡ hart_after (harts.Exchange g) h1 n → n ≡ found_by (grant_read h) b → h' ≡ exchanged (exchange_of (grant_read h) b) h
+binds h h1 h' g n b idle same is e found = e ∙ (ap (λ h. exchanged (record { grant = g; found = n }) h) (idle_heeded h1 idle ∙ same) ∙ (λ i. exchanged (record { grant = is i; found = found i }) h))
+
+pub bind_won : (h h1 h' : HartView) (offer : Offer) (g : Grant) (n : ℕ) → IsOffered h offer → IsIdle h1 → h1 ≡ h → g ≡ grant_read h → h' ≡ hart_after (harts.Exchange g) h1 n → n ≡ offer.lazy → h' ≡ exchanged (exchange_of (grant_read h) Won) h
+bind_won h h1 h' offer g n offered' idle same is e found = binds h h1 h' g n Won idle same is e (found ∙ offered'.lazy)
+
+pub bind_lost : (h h1 h' : HartView) (g : Grant) (n : ℕ) → IsIdle h1 → h1 ≡ h → g ≡ grant_read h → h' ≡ hart_after (harts.Exchange g) h1 n → h' ≡ exchanged (exchange_of (grant_read h) (Lost n)) h
+bind_lost h h1 h' g n idle same is e = binds h h1 h' g n (Lost n) idle same is e refl
 
 -- ---- a row is given back
 
-is_won : Bound → Bool
-is_won Won = true
-is_won (Lost saw) = false
+won_is : (g : Grant) (b : Bound) → IsBound g.lazy b → (won : Bool) → won ≡ is_won b → won ≡ eqb (found_by g b) g.lazy
+won_is g Won is won e = e ∙ sym (eq-eqb g.lazy g.lazy refl)
+won_is g (Lost saw) is won e = e ∙ sym (ne_eqb saw g.lazy is)
 
-won_is : (g : Grant) (b : Bound) → IsBound g b → is_won b ≡ eqb (found_by g b) g.lazy
-unfolding is_won
-won_is g Won is = sym (eq-eqb g.lazy g.lazy refl)
-won_is g (Lost saw) is = sym (ne_eqb saw g.lazy is)
+pub done_ready : (h : HartView) (m : ℕ) (offer : Offer) (b : Bound) (won : Bool) → m ≡ h.number → IsOffered h offer → h.lane.tried ≡ Some (exchange_of (grant_read h) b) → IsBound offer.lazy b → won ≡ is_won b → HartReady (harts.Finish m won) h
+done_ready h m offer b won own offered' tried is e = (own, (exchange_of (grant_read h) b, tried, won_is (grant_read h) b (subst (λ n. IsBound n b) offered'.lazy is) won e))
 
-pub done_ready : (h : HartView) (m : ℕ) (g : Grant) (b : Bound) (won : Bool) → m ≡ h.number → h.lane.tried ≡ Some (exchange_of g b) → IsBound g b → won ≡ eqb (found_by g b) g.lazy → HartReady (harts.Finish m won) h
-done_ready h m g b won own tried is same = (own, (exchange_of g b, tried, same))
-
-pub gives_back : (h h' : HartView) (m n : ℕ) (won : Bool) (g : Grant) (b : Bound) → IsIdle h → h.lane.tried ≡ Some (exchange_of g b) → h' ≡ hart_after (harts.Finish m won) h n → h' ≡ given_back (exchange_of g b) h
-gives_back h h' m n won g b idle tried is = is ∙ (ap (λ h. entered Done (with_lane_of (finished h.lane.tried h.lane) h)) (idle_heeded h idle) ∙ ap (λ t. entered Done (with_lane_of (finished t h.lane) h)) tried)
+pub gives_back : (h h' : HartView) (m n : ℕ) (won : Bool) (b : Bound) → IsIdle h → h.lane.tried ≡ Some (exchange_of (grant_read h) b) → h' ≡ hart_after (harts.Finish m won) h n → h' ≡ given_back (exchange_of (grant_read h) b) h
+gives_back h h' m n won b idle tried is =
+    is ∙ (ap (λ h. entered Done (with_lane_of (finished h.lane.tried h.lane) h)) (idle_heeded h idle) ∙ ap (λ t. entered Done (with_lane_of (finished t h.lane) h)) tried)
 
 -- ---- the keeper's loads
 
 pub recalls : (k k' : KeeperView) (m n : ℕ) → IsResting k → k' ≡ keeper_after (keepers.Recall m Slot) k n → k' ≡ k
-recalls k k' m n r is = is ∙ heeds k r
+recalls k k' m n r is = is ∙ heeds k r.note
 
-pub saws : (k k1 k' : KeeperView) (d n : ℕ) → k1 ≡ k → IsResting k → k' ≡ keeper_after (keepers.Saw d) k1 n → k' ≡ with_saw d n k
-saws k k1 k' d n same r is = is ∙ (ap (λ k. with_saw d n (heeding k)) same ∙ ap (with_saw d n) (heeds k r))
+pub saws : (k k1 k' : KeeperView) (d n : ℕ) → k1 ≡ k → IsResting k → k' ≡ keeper_after (keepers.Saw d) k1 n → k' ≡ with_look d n k
+saws k k1 k' d n same r is = is ∙ (ap (λ k. with_kept d (fixed_by n (kept_at k d)) (heeding k)) same ∙ ap (λ q. with_kept d (fixed_by n (kept_at k d)) q) (heeds k r.note))
 
 place_at : (d : ℕ) → place_of (address_of d) ≡ d
 unfolding place_of
@@ -72,7 +102,7 @@ says n all SaysWon is r = ap (λ s. asked_if (eqb s 3) (eqb s 4) (eqb s 5) r) is
 says n all (SaysLost saw) is r = ap (λ s. asked_if (eqb s 3) (eqb s 4) (eqb s 5) r) is
 
 pub asks : (k k' : KeeperView) (m n : ℕ) (a : Asked) → IsResting k → TellsAsk k m n → k' ≡ keeper_after (keepers.Ask m) k n → Says n a → k' ≡ with_row m (asked_row a (row_of k m)) k
-asks k k' m n a r told is say = is ∙ (ap (λ k. with_row m (asked n (row_of k m)) k) (heeds k r) ∙ ap (λ s. with_row m s k) (says n told.state a say (row_of k m)))
+asks k k' m n a r told is say = is ∙ (ap (λ k. with_row m (asked n (row_of k m)) k) (heeds k r.note) ∙ ap (λ s. with_row m s k) (says n told.state a say (row_of k m)))
 
 pub lost_state : (n : ℕ) → (n % 8 ≡ 3) ⊎ (n % 8 ≡ 4) ⊎ (n % 8 ≡ 5) → n % 8 ≢ 3 → n % 8 ≢ 4 → n % 8 ≡ 5
 lost_state n all three four = ⊎_elim (λ (e : n % 8 ≡ 3). absurd (three e)) (λ h. ⊎_elim (λ (e : n % 8 ≡ 4). absurd (four e)) (λ (e : n % 8 ≡ 5). e) h) all
@@ -111,13 +141,35 @@ ask_slot k k1 m n long low is told posted =
       at = subst IsDoubleword (sym same) (slot_at k (place_of posted.0.entry.slot) posted.0 of_slot);
     }
 
--- the slot of a lost grant was looked at
-pub lost_view : (k k1 k2 : KeeperView) (m n word : ℕ) → IsResting k → IsLong k → m < 16 → TellsAsk k m n → k1 ≡ keeper_after (keepers.Ask m) k n → n % 8 ≡ 5 → k2 ≡ with_saw (place_of (row_of k1 m).slot) word k1
-    → k2 ≡ asked_view m (SaysLost word) k
-lost_view k k1 k2 m n word r long low told is lost saw =
-    saw ∙ (ap (λ s. with_saw (place_of s) word k1) (same_slot k k1 m n long low is) ∙ ap (with_saw (place_of (row_of k m).slot) word) (asks k k1 m n (SaysLost word) r told is lost))
+-- ---- the slot of a lost grant was looked at
 
-pub lost_word : (k k1 k2 : KeeperView) (m n word : ℕ) (g : Grant) → IsLong k → m < 16 → k1 ≡ keeper_after (keepers.Ask m) k n → TellsAsk k m n → (row_of k m).pending ≡ Some g
-    → k2 ≡ with_saw (place_of (row_of k1 m).slot) word k1 → TellsSlot k1 (place_of (row_of k1 m).slot) word → TellsSlot k2 (place_of g.entry.slot) word
-lost_word k k1 k2 m n word g long low is told pending saw tells =
-    subst (λ s. TellsSlot k2 (place_of s) word) (asked_slot k k1 m n g long low is told pending) (subst (λ k. TellsSlot k (place_of (row_of k1 m).slot) word) (sym saw) (record { allowed = tells.allowed; lost = tells.lost }))
+-- the row then has the grant as lost
+has_lost : (r : Row) (g : Grant) → r.pending ≡ Some g → Contains (asked_row (SaysLost 0) r).settled (record { grant = g; fate = FateLost })
+has_lost r g pending = subst (λ p. Contains (settled_as FateLost p r).settled (record { grant = g; fate = FateLost })) (sym pending) (Contains-push r.settled (record { grant = g; fate = FateLost }))
+
+module _ (k k1 : KeeperView) (m n word : ℕ) (g : Grant) (r : IsResting k) (long : IsLong k) (low : m < 16) (told : TellsAsk k m n) (is : k1 ≡ keeper_after (keepers.Ask m) k n) (lost : n % 8 ≡ 5)
+    (pending : (row_of k m).pending ≡ Some g) (tells : TellsSlot k1 (place_of (row_of k1 m).slot) word) where
+  at : (row_of k1 m).slot ≡ g.entry.slot
+  at = asked_slot k k1 m n g long low is told pending
+
+  fated : k1 ≡ fated_view m (SaysLost word) k
+  fated = asks k k1 m n (SaysLost word) r told is lost
+
+  -- what is told of the slot
+  pub fated_tells : TellsSlot (fated_view m (SaysLost word) k) (place_of g.entry.slot) word
+  fated_tells = subst (λ (p : KeeperView × ℕ). TellsSlot p.0 (place_of p.1) word) (λ i. (fated i, at i)) tells
+
+  row_now : row_of (fated_view m (SaysLost word) k) m ≡ asked_row (SaysLost word) (row_of k m)
+  row_now = row_here k m (asked_row (SaysLost word) (row_of k m)) (subst (λ x. m < x) (sym long.1) low)
+
+  not_lazy : word ≢ (kept_at k (place_of g.entry.slot)).lazy
+  not_lazy e = fated_tells.lost m g low (subst (λ (r : Row). Contains r.settled (record { grant = g; fate = FateLost })) (sym row_now) (has_lost (row_of k m) g pending)) (told.of_slot g pending) (e ∙ sym (told.lazy_is g pending))
+
+  seen : fixed_by word (kept_at k (place_of g.entry.slot)) ≡ record (kept_at k (place_of g.entry.slot)) { fixed = Some word }
+  seen = ap (λ b. fixed_if word b (kept_at k (place_of g.entry.slot))) (ne_eqb word (kept_at k (place_of g.entry.slot)).lazy not_lazy)
+
+  pub lost_view : (k2 : KeeperView) → k2 ≡ with_look (place_of (row_of k1 m).slot) word k1 → k2 ≡ asked_view m (SaysLost word) k
+  lost_view k2 saw =
+      saw ∙ ((λ i. with_look (place_of (at i)) word (fated i))
+      ∙ (ap (λ x. with_kept (place_of g.entry.slot) x (fated_view m (SaysLost word) k)) seen
+      ∙ ap (λ (s : ℕ). seen_if (place_of s) (SaysLost word) (fated_view m (SaysLost word) k)) (ap (λ (g : Grant). g.entry.slot) (told.in_row g pending))))

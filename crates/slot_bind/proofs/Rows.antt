@@ -13,10 +13,9 @@ use Rattle.guest_rule.specs.declared.view.Row.{Row}
 use Rattle.guest_rule.specs.Allowed.{IsPostable}
 use Rattle.guest_rule.specs.KeeperSteps.{KeeperReady, Waits, awaited_if, handed, heeding, keeper_after, opened, with_row}
 use Rattle.guest_rule.specs.Views.{IsLong, grant_in, kept_at, no_row, put, row_of, with_field}
-use Rattle.guest_rule.proofs.Put.{put_else, put_here, set_put}
 use Rattle.guest_rule.proofs.Rows.{field_since}
-use Rattle.word_memory.specs.Keeping.{IsResting}
-use Rattle.word_memory.proofs.Held.{heeds}
+use Rattle.word_steps.specs.Views.{IsResting}
+use Rattle.guest_rule.proofs.Heeding.{heeds, row_else, row_here}
 use Rattle.slot_bind.specs.Rows.{IsWaiting, MayHand, handed_over, row_with}
 use Rattle.slot_bind.specs.Grants.{MayPost, grant_of, posted, row_posted}
 
@@ -27,18 +26,8 @@ set_twice [] i a b = refl
 set_twice (x ∷ xs) zero a b = refl
 set_twice (x ∷ xs) (suc i) a b = ap (λ l. x ∷ l) (set_twice xs i a b)
 
-module _ (k : KeeperView) (m : ℕ) (r : Row) where
-  row_put : m < length k.rows → row_of (with_row m r k) ≡ put (row_of k) m r
-  row_put low = sym (set_put k.rows m r no_row low)
-
-  pub row_here : m < length k.rows → row_of (with_row m r k) m ≡ r
-  row_here low = ap (λ f. f m) (row_put low) ∙ put_here (row_of k) m r
-
-  pub row_else : m < length k.rows → (j : ℕ) → j ≢ m → row_of (with_row m r k) j ≡ row_of k j
-  row_else low j apart = ap (λ f. f j) (row_put low) ∙ put_else (row_of k) m r j apart
-
-  twice : (s : Row) → with_row m s (with_row m r k) ≡ with_row m s k
-  twice s i = record k { rows = set_twice k.rows m r s i }
+twice : (k : KeeperView) (m : ℕ) (r s : Row) → with_row m s (with_row m r k) ≡ with_row m s k
+twice k m r s i = record k { rows = set_twice k.rows m r s i }
 
 -- a row changes once more
 chain : (k k1 k2 : KeeperView) (m : ℕ) (r : Row) (f : Row → Row) → m < length k.rows → k1 ≡ with_row m r k → k2 ≡ with_row m (f (row_of k1 m)) k1 → k2 ≡ with_row m (f r) k
@@ -50,12 +39,12 @@ inside k m long low = subst (λ n. m < n) (sym long.1) low
 -- ---- a state is loaded
 
 pub awaits : (k k' : KeeperView) (m n : ℕ) → IsResting k → k' ≡ keeper_after (kinds.Await m) k n → k' ≡ awaited_if m (nat_le 8 n) k
-awaits k k' m n r e = e ∙ ap (λ k. awaited_if m (nat_le 8 n) k) (heeds k r)
+awaits k k' m n r e = e ∙ ap (λ k. awaited_if m (nat_le 8 n) k) (heeds k r.note)
 
 -- ---- words are stored
 
 pub fills : (k k' : KeeperView) (m x : ℕ) (i : RowWord) → IsResting k → k' ≡ keeper_after (kinds.Fill m i x) k x → k' ≡ with_row m (with_field i x (row_of k m)) k
-fills k k' m x i r e = e ∙ ap (λ q. with_row m (with_field i x (row_of k m)) q) (heeds k r)
+fills k k' m x i r e = e ∙ ap (λ q. with_row m (with_field i x (row_of k m)) q) (heeds k r.note)
 
 field_pending : (i : RowWord) (x : ℕ) (r : Row) → (with_field i x r).pending ≡ r.pending
 field_pending Number x r = refl
@@ -100,7 +89,7 @@ hand_ready k k1 m e long low is may = subst (KeeperReady (kinds.Hand m e.mark)) 
 
 pub hands : (k k1 k2 : KeeperView) (m n : ℕ) (e : Entry) → IsResting k → IsLong k → m < 16 → k1 ≡ with_row m (row_with e (row_of k m)) k → k2 ≡ keeper_after (kinds.Hand m e.mark) k1 n → k2 ≡ handed_over m e k
 hands k k1 k2 m n e r long low is now =
-    let rest : heeding k1 ≡ k1 = ap heeding is ∙ (ap (λ q. with_row m (row_with e (row_of k m)) q) (heeds k r) ∙ sym is) in
+    let rest : heeding k1 ≡ k1 = ap heeding is ∙ (ap (λ q. with_row m (row_with e (row_of k m)) q) (heeds k r.note) ∙ sym is) in
     chain k k1 k2 m (row_with e (row_of k m)) (handed e.mark) (inside k m long low) is (now ∙ ap (λ q. with_row m (handed e.mark (row_of k1 m)) q) rest)
 
 -- ---- a grant is posted
@@ -127,5 +116,5 @@ pub opens : (k k0 k1 k2 k3 : KeeperView) (m n : ℕ) (x : Granted) → IsResting
 unfolding row_granted
 opens k k0 k1 k2 k3 m n x r long low same e1 e2 now =
     let is : k2 ≡ with_row m (row_granted (grant_of x k.generation) (row_of k m)) k = grants k k0 k1 k2 m (grant_of x k.generation) long low same e1 e2 in
-    let rest : heeding k2 ≡ k2 = ap heeding is ∙ (ap (λ q. with_row m (row_granted (grant_of x k.generation) (row_of k m)) q) (heeds k r) ∙ sym is) in
+    let rest : heeding k2 ≡ k2 = ap heeding is ∙ (ap (λ q. with_row m (row_granted (grant_of x k.generation) (row_of k m)) q) (heeds k r.note) ∙ sym is) in
     chain k k2 k3 m (row_granted (grant_of x k.generation) (row_of k m)) opened (inside k m long low) is (now ∙ ap (λ q. with_row m (opened (row_of k2 m)) q) rest)

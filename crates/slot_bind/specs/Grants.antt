@@ -1,19 +1,21 @@
 -- What the calls on grants leave in the views of a hart and of the keeper.
-use Rattle.std.specs.Prelude.{◌≡◌, ◌≢◌, ℕ, ◌%◌, ◌<◌, true, [], ◌∷◌, ◌++◌, length, None, Some}
+use Rattle.std.specs.Prelude.{◌≡◌, ◌≢◌, ℕ, ◌%◌, ◌<◌, Bool, true, false, [], ◌∷◌, ◌++◌, length, None, Some}
 use Rattle.link_event.specs.declared.handed.Granted.{Granted}
+use Rattle.link_event.specs.declared.handed.Offer.{Offer}
 use Rattle.guest_rule.specs.declared.entry.Exchange.{Exchange}
 use Rattle.guest_rule.specs.declared.entry.Grant.{Grant}
 use Rattle.guest_rule.specs.declared.view.Fate.TheVariants.{Won as FateWon, Lost as FateLost}
 use Rattle.guest_rule.specs.declared.view.HartView.{HartView}
 use Rattle.guest_rule.specs.declared.view.KeeperView.{KeeperView}
+use Rattle.guest_rule.specs.declared.view.Offer.{Offer as ReadOffer}
 use Rattle.guest_rule.specs.declared.view.Row.{Row}
 use Rattle.guest_rule.specs.declared.view.TrailItem.TheVariants.{Done, Exchanged}
 use Rattle.guest_rule.specs.Allowed.{IsPostable}
-use Rattle.guest_rule.specs.HartSteps.{entered, finished, with_lane_of}
-use Rattle.guest_rule.specs.KeeperSteps.{TellsAsk, TellsSlot, settled_as, with_row}
+use Rattle.guest_rule.specs.HartSteps.{entered, finished, or_zero, with_lane_of}
+use Rattle.guest_rule.specs.KeeperSteps.{TellsSlot, fixed_by, settled_as, with_kept, with_row}
 use Rattle.guest_rule.specs.Layout.{place_of}
 use Rattle.guest_rule.specs.Views.{kept_at, row_of}
-use Rattle.slot_bind.specs.Rows.{IsWaiting}
+use Rattle.slot_bind.specs.Rows.{IsWaiting, full_offer, offer_of}
 use Rattle.slot_bind.specs.declared.slot.Asked.{Asked}
 use Rattle.slot_bind.specs.declared.slot.Asked.TheVariants.{Open, Won as SaysWon, Lost as SaysLost}
 use Rattle.slot_bind.specs.declared.slot.Bound.{Bound}
@@ -29,23 +31,46 @@ exchanged x h = entered (Exchanged x) (with_lane_of (record h.lane { tried = Som
 abbrev pub given_back : Exchange → HartView → HartView
 given_back x h = entered Done (with_lane_of (finished (Some x) h.lane) h)
 
+-- the grant in its row, as far as it has read it
+abbrev pub grant_by : ReadOffer → Grant
+grant_by o = record {
+  entry = record { mark = o.mark; number = or_zero o.number; slot = or_zero o.slot; value = or_zero o.value; generation = or_zero o.generation };
+  lazy = or_zero o.lazy;
+}
+
+abbrev pub grant_read : HartView → Grant
+grant_read h = grant_by (offer_of h)
+
+-- the hart has read a grant in its row, which is the offer
+pub record IsOffered (h : HartView) (offer : Offer) : Type 0 where
+  pub full : h.lane.offer ≡ Some (full_offer (grant_read h))
+  pub mark : (grant_read h).entry.mark ≡ 3
+  pub event : offer.event ≡ (grant_read h).entry.number
+  pub slot : offer.slot ≡ (grant_read h).entry.slot
+  pub lazy : offer.lazy ≡ (grant_read h).lazy
+  pub value : offer.value ≡ (grant_read h).entry.value
+
 -- the word that an exchange found
 abbrev pub found_by : Grant → Bound → ℕ
 found_by g Won = g.lazy
 found_by g (Lost saw) = saw
 
+abbrev pub is_won : Bound → Bool
+is_won Won = true
+is_won (Lost saw) = false
+
 -- an exchange is lost exactly where it found another word than the lazy one
-abbrev pub IsBound : Grant → Bound → Type 0
-IsBound g Won = Unit {0}
-IsBound g (Lost saw) = saw ≢ g.lazy
+abbrev pub IsBound : ℕ → Bound → Type 0
+IsBound lazy Won = Unit {0}
+IsBound lazy (Lost saw) = saw ≢ lazy
 
 abbrev pub exchange_of : Grant → Bound → Exchange
 exchange_of g bound = record { grant = g; found = found_by g bound }
 
 -- where the hart goes on: at the chosen value, or at the word found
-abbrev pub leads_to : Grant → Bound → ℕ
-leads_to g Won = g.entry.value
-leads_to g (Lost saw) = saw
+abbrev pub leads_to : Offer → Bound → ℕ
+leads_to offer Won = offer.value
+leads_to offer (Lost saw) = saw
 
 -- ---- the keeper
 
@@ -80,18 +105,22 @@ asked_row Open r = record r { found_open = true }
 asked_row SaysWon r = settled_as FateWon r.pending r
 asked_row (SaysLost saw) r = settled_as FateLost r.pending r
 
--- the keeper looked at a slot, and found this word
-abbrev pub with_saw : ℕ → ℕ → KeeperView → KeeperView
-with_saw d word k = record k { saw = Some (d, word) }
+-- the keeper's view once the grant's fate is known
+abbrev pub fated_view : ℕ → Asked → KeeperView → KeeperView
+fated_view m answer k = with_row m (asked_row answer (row_of k m)) k
 
--- a slot is looked at for a lost grant alone
-abbrev pub saw_if : ℕ → Asked → KeeperView → KeeperView
-saw_if d (SaysLost word) k = with_saw d word k
-saw_if d _ k = k
+-- a slot was looked at
+abbrev pub with_look : ℕ → ℕ → KeeperView → KeeperView
+with_look d word k = with_kept d (fixed_by word (kept_at k d)) k
+
+-- the word of the slot of a lost grant stays
+abbrev pub seen_if : ℕ → Asked → KeeperView → KeeperView
+seen_if d (SaysLost word) k = with_kept d (record (kept_at k d) { fixed = Some word }) k
+seen_if d _ k = k
 
 -- the keeper's view after it
 abbrev pub asked_view : ℕ → Asked → KeeperView → KeeperView
-asked_view m answer k = saw_if (place_of (row_of k m).slot) answer (with_row m (asked_row answer (row_of k m)) k)
+asked_view m answer k = seen_if (place_of (row_of k m).slot) answer (fated_view m answer k)
 
 -- of a lost grant the slot's word was found
 abbrev pub Saw : KeeperView → Grant → Asked → Type 0

@@ -10,7 +10,7 @@ use Rattle.guest_rule.specs.declared.view.Row.{Row}
 use Rattle.guest_rule.specs.declared.view.TrailItem.TheVariants.{Took}
 use Rattle.guest_rule.specs.HartSteps.{arrived_if, entered, with_lane_of}
 use Rattle.guest_rule.specs.KeeperSteps.{Waits, handed, with_row}
-use Rattle.guest_rule.specs.Views.{fresh_offer, offered, row_of}
+use Rattle.guest_rule.specs.Views.{fresh_offer, row_of}
 
 -- ---- a hart
 
@@ -38,9 +38,22 @@ offer_or (Some o) = o
 abbrev pub offer_of : HartView → Offer
 offer_of h = offer_or h.lane.offer
 
--- it has an offer, and hasn't read this word of it
-abbrev pub MayFind : RowWord → HartView → Type 0
-MayFind i h = (h.lane.offer ≡ Some (offer_of h)) × (offered i (offer_of h) ≡ None)
+-- it found the row its own
+abbrev pub HasRow : HartView → Type 0
+HasRow h = h.lane.offer ≡ Some (offer_of h)
+
+-- an entry is that of a row, by what was read of the row before
+pub record IsEntryOf (o : Offer) (e : Entry) : Type 0 where
+  pub mark : e.mark ≡ o.mark
+  pub number : (x : ℕ) → o.number ≡ Some x → e.number ≡ x
+  pub slot : (x : ℕ) → o.slot ≡ Some x → e.slot ≡ x
+  pub value : (x : ℕ) → o.value ≡ Some x → e.value ≡ x
+  pub generation : (x : ℕ) → o.generation ≡ Some x → e.generation ≡ x
+
+-- so is a row's entry with its lazy word
+pub record IsRowOf (o : Offer) (g : Grant) : Type 0 where
+  pub entry : IsEntryOf o g.entry
+  pub lazy : (x : ℕ) → o.lazy ≡ Some x → g.lazy ≡ x
 
 -- it took an entry
 abbrev pub with_taken : Entry → HartView → HartView

@@ -3,8 +3,9 @@
 ghost use Rattle.std.specs.Prelude.{◌≡◌, ◌<◌, ℕ, nat_le};
 ghost use Rattle.guest_rule.specs.declared.view.HartView.{HartView};
 ghost use Rattle.guest_rule.specs.KeeperSteps.{HasEnded, HasTakenAll, awaited_if, with_row};
-ghost use Rattle.guest_rule.specs.Views.{IsLong, row_of, with_field};
-ghost use Rattle.word_memory.specs.Keeping.{IsResting};
+ghost use Rattle.guest_rule.specs.Allowed.{IsDecided, IsSlot};
+ghost use Rattle.guest_rule.specs.Views.{IsLong, kept_at, row_of, with_field};
+ghost use Rattle.word_steps.specs.Views.{IsResting};
 ghost use Rattle.slot_bind.specs.Grants.{MayPost, grant_of, posted};
 ghost use Rattle.slot_bind.specs.Rows.{IsWaiting, MayHand, handed_over, row_with};
 
@@ -12,12 +13,14 @@ use guest_rule::{Entry, KeeperKind, RowWord};
 use ld_base::HartId;
 use link_event::Granted;
 use word_memory::{KeeperSeat, Memory, Naming, row_word, state_word};
+use word_steps::GENERATION;
 
 /// Whether the hart is calling. The keeper's view then knows it.
 pub fn calling<J: Naming>(memory: &Memory<J>, keeper: &mut KeeperSeat<J>, hart: HartId) -> bool
     requires { hart < 16 }
     ensures known { keeper.new ≡ awaited_if hart result keeper.old }
     ensures ended { (state : ℕ) × (result ≡ nat_le 8 state) × ((h : HartView) → HasEnded keeper.old hart h → HasTakenAll (row_of keeper.old hart) state h) }
+    ensures slots { (d : ℕ) → IsSlot (kept_at keeper.old) d → IsDecided (kept_at keeper.old) (row_of keeper.old) d }
 {
     await_row(memory, keeper, u64::from(hart.number())) >= 8
 }
@@ -27,6 +30,7 @@ fn await_row<J: Naming>(memory: &Memory<J>, keeper: &mut KeeperSeat<J>, hart: u6
     requires { hart < 16 }
     ensures known { keeper.new ≡ awaited_if hart (nat_le 8 result) keeper.old }
     ensures ended { (h : HartView) → HasEnded keeper.old hart h → HasTakenAll (row_of keeper.old hart) result h }
+    ensures slots { (d : ℕ) → IsSlot (kept_at keeper.old) d → IsDecided (kept_at keeper.old) (row_of keeper.old) d }
 {
     keeper.load_word(memory, state_word(hart), KeeperKind::Await(hart))
 }
@@ -104,7 +108,7 @@ fn open_row<J: Naming>(memory: &Memory<J>, keeper: &mut KeeperSeat<J>, hart: u64
     requires may { MayPost keeper.old hart granted.now }
     ensures { keeper.new ≡ posted hart (grant_of granted.now keeper.old.generation) keeper.old }
 {
-    let generation = keeper.load_word(memory, 1, KeeperKind::RecallGeneration);
+    let generation = keeper.load_word(memory, GENERATION, KeeperKind::RecallGeneration);
     let entry = Entry {
         mark: 3,
         number: granted.event,

@@ -4,16 +4,18 @@ ghost use Rattle.std.specs.Prelude.{◌≡◌, ◌<◌, ◌%◌, ℕ, None, Some
 ghost use Rattle.rv_hart.specs.declared.bus.Item.{Item};
 ghost use Rattle.guest_rule.specs.declared.entry.Grant.{Grant};
 ghost use Rattle.guest_rule.specs.KeeperSteps.{TellsAsk, TellsSlot};
-ghost use Rattle.guest_rule.specs.Views.{fresh_offer, kept_at, row_of};
+ghost use Rattle.guest_rule.specs.Views.{kept_at, row_of};
 ghost use Rattle.guest_rule.specs.Allowed.{IsSlot};
 ghost use Rattle.guest_rule.specs.Layout.{IsDoubleword, place_of};
 ghost use Rattle.word_memory.specs.Accesses.{Calls};
-ghost use Rattle.slot_bind.specs.Grants.{IsBound, Saw, Says, asked_view, exchange_of, exchanged, given_back, leads_to, with_saw};
-ghost use Rattle.slot_bind.specs.Rows.{full_offer, with_offer};
+ghost use Rattle.slot_bind.specs.Grants.{IsBound, IsOffered, Saw, Says, asked_view, exchange_of, exchanged};
+ghost use Rattle.slot_bind.specs.Grants.{fated_view, given_back, grant_read, leads_to, with_look};
+ghost use Rattle.slot_bind.specs.Rows.{HasRow, IsRowOf, offer_of, with_offer};
 
-use crate::read_row;
-use guest_rule::{Grant, HartKind, KeeperKind, RowWord};
+use crate::call::{find, read_row};
+use guest_rule::{Entry, Grant, HartKind, KeeperKind, RowWord};
 use ld_base::HartId;
+use link_event::Offer;
 use rv_hart::{Bus, BusFault};
 use word_memory::{
     HartSeat, KeeperSeat, Memory, Naming, TableBus, place_at, row_word, state_word, value_word,
@@ -48,25 +50,54 @@ pub fn look<J: Naming>(
     TableBus::new(memory, seat).read(slot, 8)
 }
 
-/// Reads the grant in the row that was found with mark 3.
-pub fn take<J: Naming>(memory: &Memory<J>, seat: &mut HartSeat<J>) -> Grant
-    requires { seat.old.lane.offer ≡ Some (fresh_offer 3) }
-    ensures read { seat.new ≡ with_offer (full_offer result) seat.old }
-    ensures mark { result.entry.mark ≡ 3 }
+/// Takes the grant of the row that the hart found its own. The row stays the hart's.
+pub fn take<J: Naming>(memory: &Memory<J>, seat: &mut HartSeat<J>) -> Offer
+    requires row { HasRow seat.old }
+    requires mark { (offer_of seat.old).mark ≡ 3 }
+    ensures offered { IsOffered seat.new result }
+    ensures read { seat.new ≡ with_offer (offer_of seat.new) seat.old }
+    ensures row { IsRowOf (offer_of seat.old) (grant_read seat.new) }
 {
-    read_row(memory, seat, 3)
+    let row = read_row(memory, seat);
+    Offer {
+        event: row.entry.number,
+        slot: row.entry.slot,
+        lazy: row.lazy,
+        value: row.entry.value,
+    }
+}
+
+// The grant of the offer that the hart has read, whose generation is in its row.
+#[tactic(auto, using(crate::proofs::Grants::same_view, crate::proofs::Grants::same_grant))]
+fn offered_grant<J: Naming>(memory: &Memory<J>, seat: &mut HartSeat<J>, offer: &Offer) -> Grant
+    requires { IsOffered seat.old offer.now }
+    ensures view { seat.new ≡ seat.old }
+    ensures grant { result ≡ grant_read seat.old }
+{
+    let generation = find(memory, seat, RowWord::Generation);
+    let entry = Entry {
+        mark: 3,
+        number: offer.event,
+        slot: offer.slot,
+        value: offer.value,
+        generation,
+    };
+    Grant {
+        entry,
+        lazy: offer.lazy,
+    }
 }
 
 /// Exchanges the slot's word for the grant's value where it is the lazy word.
-#[tactic(auto, using(crate::proofs::Grants::bind_ready, crate::proofs::Grants::binds))]
-pub fn bind<J: Naming>(memory: &Memory<J>, seat: &mut HartSeat<J>, offer: &Grant) -> Bound
-    requires offer { seat.old.lane.offer ≡ Some (full_offer offer.now) }
-    requires mark { offer.now.entry.mark ≡ 3 }
+#[tactic(auto, using(crate::proofs::Grants::bind_ready, crate::proofs::Grants::bind_won, crate::proofs::Grants::bind_lost))]
+pub fn bind<J: Naming>(memory: &Memory<J>, seat: &mut HartSeat<J>, offer: &Offer) -> Bound
+    requires offered { IsOffered seat.old offer.now }
     requires untried { seat.old.lane.tried ≡ None }
-    ensures exchanged { seat.new ≡ exchanged (exchange_of offer.now result) seat.old }
-    ensures bound { IsBound offer.now result }
+    ensures exchanged { seat.new ≡ exchanged (exchange_of (grant_read seat.old) result) seat.old }
+    ensures bound { IsBound offer.now.lazy result }
 {
-    let found = seat.exchange(memory, *offer);
+    let grant = offered_grant(memory, seat, offer);
+    let found = seat.exchange(memory, grant);
     if found == offer.lazy {
         Bound::Won
     } else {
@@ -79,12 +110,13 @@ pub fn bind<J: Naming>(memory: &Memory<J>, seat: &mut HartSeat<J>, offer: &Grant
 pub fn done<J: Naming>(
     memory: &Memory<J>,
     seat: &mut HartSeat<J>,
-    offer: Grant,
+    offer: Offer,
     bound: Bound,
 ) -> u64
-    requires tried { seat.old.lane.tried ≡ Some (exchange_of offer bound) }
-    requires bound { IsBound offer bound }
-    ensures back { seat.new ≡ given_back (exchange_of offer bound) seat.old }
+    requires offered { IsOffered seat.old offer }
+    requires tried { seat.old.lane.tried ≡ Some (exchange_of (grant_read seat.old) bound) }
+    requires bound { IsBound offer.lazy bound }
+    ensures back { seat.new ≡ given_back (exchange_of (grant_read seat.old) bound) seat.old }
     ensures next { result ≡ leads_to offer bound }
 {
     let number = seat.number();
@@ -97,7 +129,7 @@ pub fn done<J: Naming>(
         HartKind::Finish(number, won),
     );
     match bound {
-        Bound::Won => offer.entry.value,
+        Bound::Won => offer.value,
         Bound::Lost(found) => found,
     }
 }
@@ -108,7 +140,7 @@ fn saw<J: Naming>(memory: &Memory<J>, keeper: &mut KeeperSeat<J>, hart: u64) -> 
     requires low { hart < 16 }
     requires slot { IsSlot (kept_at keeper.old) (place_of (row_of keeper.old hart).slot) }
     requires at { IsDoubleword (row_of keeper.old hart).slot }
-    ensures keeper { keeper.new ≡ with_saw (place_of (row_of keeper.old hart).slot) result keeper.old }
+    ensures keeper { keeper.new ≡ with_look (place_of (row_of keeper.old hart).slot) result keeper.old }
     ensures saw { TellsSlot keeper.old (place_of (row_of keeper.old hart).slot) result }
 {
     let kind = KeeperKind::Recall(hart, RowWord::Slot);
@@ -124,18 +156,18 @@ pub fn ask<J: Naming>(memory: &Memory<J>, keeper: &mut KeeperSeat<J>, hart: Hart
     requires posted { (g : Grant) × ((row_of keeper.old hart).pending ≡ Some g) }
     ensures asked { keeper.new ≡ asked_view hart result keeper.old }
     ensures told { (state : ℕ) × Says state result × TellsAsk keeper.old hart state }
-    ensures saw { (g : Grant) → (row_of keeper.old hart).pending ≡ Some g → Saw keeper.new g result }
+    ensures saw { (g : Grant) → (row_of keeper.old hart).pending ≡ Some g → Saw (fated_view hart result keeper.old) g result }
 {
     ask_row(memory, keeper, u64::from(hart.number()))
 }
 
-#[tactic(auto, using(crate::proofs::Grants::ask_slot, crate::proofs::Grants::asks, crate::proofs::Grants::lost_state, crate::proofs::Grants::lost_view))]
+#[tactic(auto, using(crate::proofs::Grants::ask_slot, crate::proofs::Grants::asks, crate::proofs::Grants::lost_state, crate::proofs::Grants::lost_view, crate::proofs::Grants::fated_tells))]
 fn ask_row<J: Naming>(memory: &Memory<J>, keeper: &mut KeeperSeat<J>, hart: u64) -> Asked
     requires low { hart < 16 }
     requires posted { (g : Grant) × ((row_of keeper.old hart).pending ≡ Some g) }
     ensures asked { keeper.new ≡ asked_view hart result keeper.old }
     ensures told { (state : ℕ) × Says state result × TellsAsk keeper.old hart state }
-    ensures saw { (g : Grant) → (row_of keeper.old hart).pending ≡ Some g → Saw keeper.new g result }
+    ensures saw { (g : Grant) → (row_of keeper.old hart).pending ≡ Some g → Saw (fated_view hart result keeper.old) g result }
 {
     let state = keeper.load_word(memory, state_word(hart), KeeperKind::Ask(hart));
     match state % 8 {

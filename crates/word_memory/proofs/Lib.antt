@@ -1,6 +1,2 @@
-pub mod Hands
-pub mod Desks
-pub mod Held
-pub mod Told
 pub mod Seated
 pub mod Made

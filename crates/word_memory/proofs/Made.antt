@@ -1,5 +1,5 @@
 -- A new memory, step by step.
-use Rattle.std.proofs.Common.{◌≡◌, ◌≢◌, ◌⊎◌, ⊎_elim, inl, inr, ℕ, suc, ◌+◌, ◌*◌, ◌-◌, ◌/◌, ◌%◌, ◌≤◌, ◌<◌, Bool, true, false, cond, nat_le, nat_lt, ◌&&◌, [], ◌∷◌, ◌++◌, length, Result, Ok, Err, IfOk, IfErr, refl, sym, ap, subst, ◌∙◌, arith}
+use Rattle.std.proofs.Common.{◌≡◌, ◌≢◌, inl, ℕ, suc, ◌+◌, ◌*◌, ◌<◌, true, false, cond, [], ◌∷◌, ◌++◌, length, None as Nothing, Result, Ok, Err, IfOk, IfErr, sym, ap, subst, ◌∙◌, arith}
 use Rattle.std.proofs.lemmas.Bool.Decides.{nat_tests}
 use mathlib.Core.Logic.{dite}
 use native.Mathlib.Decide.{ℕ_discrete}
@@ -7,12 +7,11 @@ use Rattle.ld_base.specs.declared.fault.Shown.{Shown}
 use Rattle.ld_base.specs.declared.linking.Role.TheVariants.{None as NoRole, Rx, Rw, Slot as SlotRole}
 use Rattle.guest_rule.specs.declared.view.KeeperView.{KeeperView}
 use Rattle.guest_rule.specs.declared.view.Kept.{Kept}
-use Rattle.guest_rule.specs.Layout.{doublewords, first_address, IsDoubleword, place_of}
+use Rattle.guest_rule.specs.Layout.{doublewords, place_of}
 use Rattle.guest_rule.specs.Views.{IsLong, first_hart, kept_at, unmapped}
-use Rattle.guest_rule.specs.KeeperSteps.{with_kept}
-use Rattle.guest_rule.specs.Start.{IsFirst, first_keeper}
-use Rattle.guest_rule.proofs.Begins.{is_first}
-use Rattle.word_memory.specs.Keeping.{IsMade, IsResting, MaySet, in_linker_page, linker_page, linker_word, new_harts, set_as}
+use Rattle.guest_rule.specs.Start.{IsFirst}
+use Rattle.word_memory.specs.Making.{IsMade, MaySet, in_linker_page, linker_page, linker_word, new_harts}
+use Rattle.word_steps.specs.Keeping.{set_as}
 use Rattle.guest_rule.proofs.Heeding.{kept_else, kept_here}
 
 pub first_made : (k : KeeperView) → IsFirst k → IsMade k 0 0
@@ -64,13 +63,13 @@ page_more k k' i address low is made inside now = subst (λ k. IsMade k (i + 1) 
 })
   where
     x : Kept
-    x = record { role = Rx; value = 0x0010007300100073; lazy = 0; since = length k.events; fixed = None }
+    x = record { role = Rx; value = 0x0010007300100073; lazy = 0; since = length k.events; fixed = Nothing }
 
     at : place_of address ≡ place_of linker_page + i
     at = ap place_of is ∙ page_at i low
 
-    new_word : record { role = Rx; value = 0x0010007300100073; lazy = 0; since = length k.events; fixed = None } ≡ linker_word
-    new_word = ap (λ n. record { role = Rx; value = 0x0010007300100073; lazy = 0; since = n; fixed = None }) (ap length made.no_events)
+    new_word : record { role = Rx; value = 0x0010007300100073; lazy = 0; since = length k.events; fixed = Nothing } ≡ linker_word
+    new_word = ap (λ n. record { role = Rx; value = 0x0010007300100073; lazy = 0; since = n; fixed = Nothing }) (ap length made.no_events)
 
     now_in : in_linker_page (i + 1) (place_of linker_page + i) ≡ true
     now_in = grind (arith, nat_tests)
@@ -92,16 +91,6 @@ hart_more k k' n made now = subst (λ k. IsMade k 512 (n + 1)) (sym now) (record
   no_modules = made.no_modules;
   none_joined = made.none_joined;
 })
-
--- the first keeper's view rests, and knows of every doubleword
-pub first_rests : IsResting first_keeper
-first_rests = record { access = is_first.access; note = is_first.no_note }
-
-pub first_long : IsLong first_keeper
-first_long = is_first.long
-
-pub first_of : IsFirst first_keeper
-first_of = is_first
 
 pub new_more : (n : ℕ) → new_harts (n + 1) ≡ new_harts n ++ first_hart n ∷ []
 new_more n = let e : n + 1 ≡ suc n = omega arith in ap new_harts e

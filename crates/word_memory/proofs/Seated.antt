@@ -1,5 +1,5 @@
 -- A hart's seat between its steps.
-use Rattle.std.proofs.Common.{◌≡◌, ℕ, ◌<◌, sym, ap, subst, ◌∙◌}
+use Rattle.std.proofs.Common.{◌≡◌, ℕ, ◌<◌, sym, subst, ◌∙◌}
 use Rattle.guest_rule.specs.declared.entry.Grant.{Grant}
 use Rattle.guest_rule.specs.declared.kind.HartKind.{HartKind}
 use Rattle.guest_rule.specs.declared.kind.HartKind.TheVariants as kinds
@@ -9,7 +9,7 @@ use Rattle.guest_rule.specs.HartSteps.{HartLearns, HartLeaves, HartReady, hart_a
 use Rattle.guest_rule.specs.Views.{IsLane}
 use Rattle.guest_rule.proofs.Lanes.{hart_leaves, lane_stays}
 use Rattle.guest_rule.proofs.Steps.{same_hart}
-use Rattle.word_memory.specs.Holding.{IsIdle}
+use Rattle.word_steps.specs.Views.{IsIdle}
 
 abbrev pub IsSeated : ℕ → HartView → Type 0
 IsSeated number h = (number ≡ h.number) × (number < 16) × IsIdle h × IsLane h.lane

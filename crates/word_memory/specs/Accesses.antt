@@ -1,7 +1,5 @@
 -- What a call of the bus leaves in the view of a hart's seat.
-use Rattle.std.specs.Prelude.{◌≡◌, ◌≢◌, ◌⊎◌, ℕ, ◌%◌, Bool, false, List, ◌++◌, map, nat_le, nat_lt, ◌&&◌}
-use Rattle.ld_base.specs.declared.fault.Shown.{Shown}
-use Rattle.ld_base.specs.declared.fault.Shown.TheVariants.{Locked, Initialising, Closing, OpenGrant}
+use Rattle.std.specs.Prelude.{◌≡◌, ◌≢◌, ℕ, ◌%◌, Bool, false, List, ◌++◌, map, nat_le, nat_lt, ◌&&◌}
 use Rattle.ld_base.specs.declared.linking.Role.TheVariants.{None as NoRole}
 use Rattle.rv_hart.specs.declared.bus.BusFault.{BusFault}
 use Rattle.rv_hart.specs.declared.bus.BusFault.TheVariants.{Role as RoleFault, Misaligned}
@@ -10,7 +8,7 @@ use Rattle.rv_hart.specs.Items.{left_by}
 use Rattle.guest_rule.specs.declared.view.HartView.{HartView}
 use Rattle.guest_rule.specs.declared.view.TrailItem.{TrailItem}
 use Rattle.guest_rule.specs.declared.view.TrailItem.TheVariants.{Call}
-use Rattle.guest_rule.specs.Layout.{doublewords, first_address, lock_bit, place_of}
+use Rattle.guest_rule.specs.Layout.{doublewords, first_address, place_of}
 
 -- guest memory has a doubleword there
 abbrev pub in_memory : ℕ → Bool
@@ -21,13 +19,6 @@ abbrev pub IsUnasked : ℕ → ℕ → BusFault → Type 0
 IsUnasked address size Misaligned = address % size ≢ 0
 IsUnasked address size (RoleFault NoRole) = (address % size ≡ 0) × (in_memory address ≡ false)
 IsUnasked address size _ = ⊥
-
--- what an Again shows: a control word with another seat's lock, or two control words that differ
-abbrev pub IsShown : Shown → Type 0
-IsShown (Locked a b) = ((a ≡ b) × (lock_bit a ≡ 1)) ⊎ (a ≢ b)
-IsShown (Initialising serial) = ⊥
-IsShown (Closing serial) = ⊥
-IsShown (OpenGrant g) = ⊥
 
 -- the view with more at the end of its trail
 abbrev pub with_items : List TrailItem → HartView → HartView

@@ -11,28 +11,15 @@ use Rattle.guest_rule.specs.declared.kind.StoreAsk.{StoreAsk}
 use Rattle.guest_rule.specs.declared.kind.StoreAsk.TheVariants.{Write, Amo, Conditional}
 use Rattle.guest_rule.specs.declared.view.HartView.{HartView}
 use Rattle.guest_rule.specs.declared.view.TrailItem.TheVariants.{Call}
-use Rattle.guest_rule.specs.declared.view.View.{View}
-use Rattle.guest_rule.specs.declared.view.View.TheVariants.{Hart}
 use Rattle.guest_rule.specs.Layout.{role_in, lock_bit}
-use Rattle.guest_rule.specs.Views.{first_hart, nothing_locked}
-use Rattle.word_memory.specs.Accesses.{IsShown}
+use Rattle.word_steps.specs.Keeping.{IsShown}
 use Rattle.guest_rule.specs.HartSteps.{ask_is_fresh, ask_place, entered, failed, is_fresh, load_refused, loaded, permits, refused, stored, store_place, store_refused, with_access}
-
--- the view of a hart's seat
-abbrev pub hart_of : View → HartView
-hart_of (Hart h) = h
-hart_of _ = first_hart 0
 
 -- only a conditional store may come too late
 abbrev pub IsConditional : StoreAsk → Type 0
 IsConditional (Conditional a size v version) = Unit {0}
 IsConditional (Write a size v) = ⊥
 IsConditional (Amo a size op v) = ⊥
-
--- between two accesses: nothing is locked, and nothing is kept of a note
-pub record IsIdle (h : HartView) : Type 0 where
-  pub access : h.access ≡ nothing_locked
-  pub note : h.note ≡ None
 
 -- the control word of the doubleword was found, and the access goes on
 abbrev pub found_control : ℕ → ℕ → HartView → HartView

@@ -1,3 +1,3 @@
 pub mod Accesses
 pub mod Holding
-pub mod Keeping
+pub mod Making

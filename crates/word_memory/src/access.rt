@@ -6,136 +6,139 @@ ghost use Rattle.guest_rule.specs.Views.{nothing_locked};
 ghost use Rattle.guest_rule.specs.HartSteps.{Asked, IsAsked, IsWhole, ask_place, entered, heeded, made, stored, with_access};
 ghost use Rattle.guest_rule.specs.HartSteps.{load_address, load_place, load_size, store_address, store_place, store_size};
 ghost use Rattle.guest_rule.specs.declared.view.TrailItem.TheVariants.{Call};
-ghost use Rattle.word_memory.specs.Holding.{Changes, Glances, HasOperands, IsIdle, IsLocking, Loads, Locks};
+ghost use Rattle.word_memory.specs.Holding.{Changes, Glances, HasOperands, IsLocking, Loads, Locks};
+ghost use Rattle.word_steps.specs.Views.{IsIdle};
 
-use crate::hand::Hand;
-use crate::layout::{LOCK, control_word, is_locked, is_permitted, is_timely, role_of, value_word};
-use crate::{Memory, Naming};
+use crate::asks::{is_permitted, is_timely};
 use guest_rule::{Ask, HartKind, LoadAsk, StoreAsk};
 use ld_base::Shown;
 use rv_hart::{BusFault, combined, lane, with_lane};
+use word_steps::{Hand, LOCK, Memory, Naming, control_word, is_locked, role_of, value_word};
 
-impl<J: Naming> Hand<J> {
-    // Loads the control word of a doubleword, and ends the access where it may not go on.
-    fn glance(&mut self, memory: &Memory<J>, ask: Ask, at: usize) -> Result<u64, BusFault>
-        requires idle { IsIdle self.old }
-        requires asked { Asked ask }
-        requires at { at ≡ ask_place ask }
-        ensures { Glances ask self.old result self.new }
-    {
-        let control = self.load_word(memory, control_word(at), HartKind::Look(ask));
-        if is_locked(control) {
-            return Err(BusFault::Again(Shown::Locked(control, control)));
-        }
-        let role = role_of(control);
-        if !is_permitted(ask, role) {
-            return Err(BusFault::Role(role));
-        }
-        Ok(control)
+// Loads the control word of a doubleword, and ends the access where it may not go on.
+fn glance<J: Naming>(
+    hand: &mut Hand<J>,
+    memory: &Memory<J>,
+    ask: Ask,
+    at: usize,
+) -> Result<u64, BusFault>
+    requires idle { IsIdle hand.old }
+    requires asked { Asked ask }
+    requires at { at ≡ ask_place ask }
+    ensures { Glances ask hand.old result hand.new }
+{
+    let control = hand.load_word(memory, control_word(at), HartKind::Look(ask));
+    if is_locked(control) {
+        return Err(BusFault::Again(Shown::Locked(control, control)));
     }
-
-    /// A load, which finds a control word and a value.
-    pub(crate) fn load(
-        &mut self,
-        memory: &Memory<J>,
-        ask: LoadAsk,
-        at: usize,
-    ) -> Result<(u64, u64), BusFault>
-        requires idle { IsIdle self.old }
-        requires asked { IsAsked (load_address ask) (load_size ask) }
-        requires at { at ≡ load_place ask }
-        ensures { Loads ask self.old result self.new }
-    {
-        let control = self.glance(memory, Ask::Load(ask), at)?;
-        let value = self.load_word(memory, value_word(at), HartKind::Load(ask));
-        Ok((control, value))
+    let role = role_of(control);
+    if !is_permitted(ask, role) {
+        return Err(BusFault::Role(role));
     }
+    Ok(control)
+}
 
-    // Locks the doubleword of a store; None where a conditional store comes too late.
-    fn lock(
-        &mut self,
-        memory: &Memory<J>,
-        ask: StoreAsk,
-        at: usize,
-    ) -> Result<Option<u64>, BusFault>
-        requires idle { IsIdle self.old }
-        requires asked { IsAsked (store_address ask) (store_size ask) }
-        requires at { at ≡ store_place ask }
-        ensures { Locks ask self.old result self.new }
-    {
-        let control = self.glance(memory, Ask::Store(ask), at)?;
-        if !is_timely(ask, control) {
-            return Ok(None);
+/// A load, which finds a control word and a value.
+pub(crate) fn load<J: Naming>(
+    hand: &mut Hand<J>,
+    memory: &Memory<J>,
+    ask: LoadAsk,
+    at: usize,
+) -> Result<(u64, u64), BusFault>
+    requires idle { IsIdle hand.old }
+    requires asked { IsAsked (load_address ask) (load_size ask) }
+    requires at { at ≡ load_place ask }
+    ensures { Loads ask hand.old result hand.new }
+{
+    let control = glance(hand, memory, Ask::Load(ask), at)?;
+    let value = hand.load_word(memory, value_word(at), HartKind::Load(ask));
+    Ok((control, value))
+}
+
+// Locks the doubleword of a store; None where a conditional store comes too late.
+fn lock<J: Naming>(
+    hand: &mut Hand<J>,
+    memory: &Memory<J>,
+    ask: StoreAsk,
+    at: usize,
+) -> Result<Option<u64>, BusFault>
+    requires idle { IsIdle hand.old }
+    requires asked { IsAsked (store_address ask) (store_size ask) }
+    requires at { at ≡ store_place ask }
+    ensures { Locks ask hand.old result hand.new }
+{
+    let control = glance(hand, memory, Ask::Store(ask), at)?;
+    if !is_timely(ask, control) {
+        return Ok(None);
+    }
+    let kind = HartKind::Lock(ask, control);
+    let found = hand.exchange_word(memory, control_word(at), control, control + LOCK, kind);
+    if found != control {
+        return Err(BusFault::Again(Shown::Locked(control, found)));
+    }
+    Ok(Some(control))
+}
+
+// Unlocks the doubleword of a store that was made.
+fn unlock<J: Naming>(hand: &mut Hand<J>, memory: &Memory<J>, at: usize)
+    requires at { at < doublewords }
+    requires locked { hand.old.access.locked ≡ Some at }
+    requires stored { hand.old.access.last ≡ None }
+    ensures { hand.new ≡ with_access nothing_locked (heeded hand.old) }
+{
+    hand.add_word(memory, control_word(at), LOCK, HartKind::Unlock(at as u64));
+}
+
+// Stores what the ask makes of the value found.
+fn modify<J: Naming>(hand: &mut Hand<J>, memory: &Memory<J>, ask: StoreAsk, at: usize) -> u64
+    requires locked { IsLocking ask hand.old }
+    requires asked { IsAsked (store_address ask) (store_size ask) }
+    requires operands { HasOperands ask }
+    requires at { at ≡ store_place ask }
+    ensures { hand.new ≡ entered (Call (stored ask result)) (with_access nothing_locked (heeded hand.old)) }
+{
+    let found = hand.load_word(memory, value_word(at), HartKind::Hold(ask));
+    let value = made(ask, found);
+    hand.store_word(memory, value_word(at), value, HartKind::Store(ask, value));
+    unlock(hand, memory, at);
+    found
+}
+
+// Stores a whole doubleword, without a look at the value.
+fn replace<J: Naming>(hand: &mut Hand<J>, memory: &Memory<J>, ask: StoreAsk, at: usize, value: u64)
+    requires locked { IsLocking ask hand.old }
+    requires asked { IsAsked (store_address ask) (store_size ask) }
+    requires whole { IsWhole ask value }
+    requires at { at ≡ store_place ask }
+    ensures { hand.new ≡ entered (Call (stored ask 0)) (with_access nothing_locked (heeded hand.old)) }
+{
+    hand.store_word(memory, value_word(at), value, HartKind::Store(ask, value));
+    unlock(hand, memory, at);
+}
+
+/// A store; None where it is a conditional one that comes too late, else the value found, or 0
+/// where the store is of a whole doubleword.
+pub(crate) fn change<J: Naming>(
+    hand: &mut Hand<J>,
+    memory: &Memory<J>,
+    ask: StoreAsk,
+    at: usize,
+) -> Result<Option<u64>, BusFault>
+    requires idle { IsIdle hand.old }
+    requires asked { IsAsked (store_address ask) (store_size ask) }
+    requires operands { HasOperands ask }
+    requires at { at ≡ store_place ask }
+    ensures { Changes ask hand.old result hand.new }
+{
+    if lock(hand, memory, ask, at)?.is_none() {
+        return Ok(None);
+    }
+    match whole(ask) {
+        Some(value) => {
+            replace(hand, memory, ask, at, value);
+            Ok(Some(0))
         }
-        let kind = HartKind::Lock(ask, control);
-        let found = self.exchange_word(memory, control_word(at), control, control + LOCK, kind);
-        if found != control {
-            return Err(BusFault::Again(Shown::Locked(control, found)));
-        }
-        Ok(Some(control))
-    }
-
-    // Unlocks the doubleword of a store that was made.
-    fn unlock(&mut self, memory: &Memory<J>, at: usize)
-        requires at { at < doublewords }
-        requires locked { self.old.access.locked ≡ Some at }
-        requires stored { self.old.access.last ≡ None }
-        ensures { self.new ≡ with_access nothing_locked (heeded self.old) }
-    {
-        self.add_word(memory, control_word(at), LOCK, HartKind::Unlock(at as u64));
-    }
-
-    // Stores what the ask makes of the value found.
-    fn modify(&mut self, memory: &Memory<J>, ask: StoreAsk, at: usize) -> u64
-        requires locked { IsLocking ask self.old }
-        requires asked { IsAsked (store_address ask) (store_size ask) }
-        requires operands { HasOperands ask }
-        requires at { at ≡ store_place ask }
-        ensures { self.new ≡ entered (Call (stored ask result)) (with_access nothing_locked (heeded self.old)) }
-    {
-        let found = self.load_word(memory, value_word(at), HartKind::Hold(ask));
-        let value = made(ask, found);
-        self.store_word(memory, value_word(at), value, HartKind::Store(ask, value));
-        self.unlock(memory, at);
-        found
-    }
-
-    // Stores a whole doubleword, without a look at the value.
-    fn replace(&mut self, memory: &Memory<J>, ask: StoreAsk, at: usize, value: u64)
-        requires locked { IsLocking ask self.old }
-        requires asked { IsAsked (store_address ask) (store_size ask) }
-        requires whole { IsWhole ask value }
-        requires at { at ≡ store_place ask }
-        ensures { self.new ≡ entered (Call (stored ask 0)) (with_access nothing_locked (heeded self.old)) }
-    {
-        self.store_word(memory, value_word(at), value, HartKind::Store(ask, value));
-        self.unlock(memory, at);
-    }
-
-    /// A store; None where it is a conditional one that comes too late, else the value found, or 0
-    /// where the store is of a whole doubleword.
-    pub(crate) fn change(
-        &mut self,
-        memory: &Memory<J>,
-        ask: StoreAsk,
-        at: usize,
-    ) -> Result<Option<u64>, BusFault>
-        requires idle { IsIdle self.old }
-        requires asked { IsAsked (store_address ask) (store_size ask) }
-        requires operands { HasOperands ask }
-        requires at { at ≡ store_place ask }
-        ensures { Changes ask self.old result self.new }
-    {
-        if self.lock(memory, ask, at)?.is_none() {
-            return Ok(None);
-        }
-        match whole(ask) {
-            Some(value) => {
-                self.replace(memory, ask, at, value);
-                Ok(Some(0))
-            }
-            None => Ok(Some(self.modify(memory, ask, at))),
-        }
+        None => Ok(Some(modify(hand, memory, ask, at))),
     }
 }
 

@@ -4,9 +4,10 @@ ghost use Rattle.std.specs.Prelude.{◌≡◌, ◌<◌, ◌*◌, ◌^◌, IfOk};
 ghost use Rattle.rv_isa.specs.Encoding.{IsAtomicSize};
 ghost use Rattle.rv_hart.specs.Buses.{HasValue, IsSize, Permits, may_fetch, may_read, may_write};
 
-use crate::{HartSeat, Memory, Naming};
+use crate::HartSeat;
 use rv_hart::{Bus, BusFault};
 use rv_isa::AmoOp;
+use word_steps::{Memory, Naming};
 
 /// A memory as the bus of the hart whose seat this is.
 #[derive(Drop)]

@@ -7,16 +7,17 @@ ghost use Rattle.guest_rule.specs.KeeperSteps.{KeeperLearns, KeeperLeaves, Keepe
 ghost use Rattle.guest_rule.specs.Layout.{place_of, table_words};
 ghost use Rattle.guest_rule.specs.Operations.{load, store};
 ghost use Rattle.guest_rule.specs.Views.{BeginsWith, IsLong, first_hart, kept_at, known_of, row_of};
-ghost use Rattle.word_memory.specs.Accesses.{IsShown};
-ghost use Rattle.word_memory.specs.Keeping.{IsResting, MayRetire, MaySet, counted, retired, set_as, was_shown, with_joined};
+ghost use Rattle.word_steps.specs.Keeping.{IsShown};
+ghost use Rattle.word_steps.specs.Views.{IsResting};
+ghost use Rattle.word_memory.specs.Making.{MayRetire, MaySet};
+ghost use Rattle.word_steps.specs.Keeping.{counted, retired, set_as, was_shown, with_joined};
 
-use crate::desk::Desk;
-use crate::layout::place_at;
-use crate::{HartSeat, Memory, Naming};
+use crate::HartSeat;
 use guest_rule::KeeperKind;
 use ld_base::{Role, Shown};
 use link_event::Event;
 use std::marker::Model;
+use word_steps::{Desk, GENERATION, Memory, Naming, place_at};
 
 /// The keeper's seat at a memory. Contracts see it as its view: what the keeper knows.
 #[derive(Drop)]
@@ -26,7 +27,7 @@ pub struct KeeperSeat<J: Naming> {
 
 impl<J: Naming> Model for KeeperSeat<J> {
     ghost use Rattle.guest_rule.specs.declared.view.KeeperView.{KeeperView};
-    ghost use Rattle.word_memory.specs.Keeping.{IsResting};
+    ghost use Rattle.word_steps.specs.Views.{IsResting};
 
     ghost Value = { KeeperView };
 
@@ -93,7 +94,7 @@ pub fn count_up<J: Naming>(memory: &Memory<J>, keeper: &mut KeeperSeat<J>, event
 pub fn join_hart<J: Naming>(memory: &Memory<J>, keeper: &mut KeeperSeat<J>, seat: HartSeat<J>)
     ensures { keeper.new ≡ with_joined seat keeper.old }
 {
-    keeper.desk.take(memory, seat.into_hand().into_seat());
+    keeper.desk.join(memory, seat.into_hand());
 }
 
 /// Tells a hart of the keeper's events, and ties what it knows of its entries to what was issued to it.
@@ -113,9 +114,12 @@ pub fn set_generation<J: Naming>(memory: &Memory<J>, keeper: &mut KeeperSeat<J>,
     requires { keeper.old.generation < generation }
     ensures { keeper.new ≡ record keeper.old { generation = generation } }
 {
-    keeper
-        .desk
-        .store_word(memory, 1, generation, KeeperKind::Generation(generation));
+    keeper.desk.store_word(
+        memory,
+        GENERATION,
+        generation,
+        KeeperKind::Generation(generation),
+    );
 }
 
 impl<J: Naming> KeeperSeat<J> {

@@ -3,8 +3,7 @@
 //! [`Memory`] is a table of atomic words under the rule of `guest_rule`: of each doubleword its value
 //! and its control word, the rows between the linker and the harts, the count and the generation.
 //! Whoever steps on it has a seat: a [`HartSeat`] for each hart, and one for the linker's keeper. Each
-//! step is one of the kinds of `guest_rule`: the four functions of the module `steps` are the only
-//! ones that touch the table, and each asks that its word and its operation are those of the kind.
+//! step is one of the kinds of `guest_rule` (`word_steps`).
 //!
 //! [`TableBus`] is that memory as a hart's bus. It appends each call to the trail in the seat's view at
 //! the step that found the answer or made the store.
@@ -14,18 +13,14 @@
 #![tactic(auto)]
 
 mod access;
+mod asks;
 mod bus;
-mod desk;
-mod hand;
 mod keeper;
-mod keeping;
-mod layout;
-mod memory;
+mod making;
 mod seat;
-mod telling;
 
 pub use bus::TableBus;
 pub use keeper::{KeeperSeat, count_up, join_hart, retire, set_generation, set_word, tell};
-pub use layout::{place_at, row_word, state_word, value_word};
-pub use memory::{Fresh, HartSeats, Memory, Naming, Seats};
+pub use making::{HartSeats, Seats, name_memory};
 pub use seat::{HartSeat, generation};
+pub use word_steps::{Fresh, Memory, Naming, place_at, row_word, state_word, value_word};

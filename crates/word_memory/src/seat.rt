@@ -9,15 +9,15 @@ ghost use Rattle.guest_rule.specs.Layout.{table_words};
 ghost use Rattle.guest_rule.specs.Operations.{load, store, add};
 ghost use Rattle.guest_rule.specs.Views.{IsLane, last_block};
 ghost use Rattle.word_memory.specs.Accesses.{Calls};
-ghost use Rattle.word_memory.specs.Holding.{IsIdle};
+ghost use Rattle.word_steps.specs.Views.{IsIdle};
 
-use crate::hand::Hand;
-use crate::layout::{place, place_at, value_word, version_of};
-use crate::{Memory, Naming};
+use crate::access::{change, load};
+use crate::asks::place;
 use guest_rule::{Grant, HartKind, LoadAsk, StoreAsk};
 use rv_hart::{BusFault, Item, lane};
 use rv_isa::AmoOp;
 use std::marker::Model;
+use word_steps::{GENERATION, Hand, Memory, Naming, place_at, value_word, version_of};
 
 /// A hart's seat at a memory. Contracts see it as its view: what the hart knows, and its trail.
 #[derive(Drop)]
@@ -30,7 +30,7 @@ impl<J: Naming> Model for HartSeat<J> {
     ghost use Rattle.guest_rule.specs.declared.view.HartView.{HartView};
     ghost use Rattle.std.specs.Prelude.{◌≡◌, ◌<◌};
     ghost use Rattle.guest_rule.specs.Views.{IsLane};
-    ghost use Rattle.word_memory.specs.Holding.{IsIdle};
+    ghost use Rattle.word_steps.specs.Views.{IsIdle};
 
     ghost Value = { HartView };
 
@@ -44,7 +44,8 @@ impl<J: Naming> Model for HartSeat<J> {
 pub fn generation<J: Naming>(memory: &Memory<J>, seat: &mut HartSeat<J>, number: u64) -> u64
     ensures { seat.new ≡ entered (ReadGeneration result number (last_block result number seat.old.lane.taken)) seat.old }
 {
-    seat.hand.load_word(memory, 1, HartKind::Generation(number))
+    seat.hand
+        .load_word(memory, GENERATION, HartKind::Generation(number))
 }
 
 impl<J: Naming> HartSeat<J> {
@@ -131,7 +132,7 @@ impl<J: Naming> HartSeat<J> {
         ensures permits { Permits may_fetch address 4 result }
     {
         let at = place(address, 4)?;
-        let (_, value) = self.hand.load(memory, LoadAsk::Fetch(address), at)?;
+        let (_, value) = load(&mut self.hand, memory, LoadAsk::Fetch(address), at)?;
         Ok(lane(value, address, 4) as u32)
     }
 
@@ -147,7 +148,7 @@ impl<J: Naming> HartSeat<J> {
         ensures bound { HasValue size result }
     {
         let at = place(address, size)?;
-        let (_, value) = self.hand.load(memory, LoadAsk::Read(address, size), at)?;
+        let (_, value) = load(&mut self.hand, memory, LoadAsk::Read(address, size), at)?;
         Ok(lane(value, address, size))
     }
 
@@ -163,7 +164,7 @@ impl<J: Naming> HartSeat<J> {
         ensures bound { IfOk result (λ found. found.0 < 2 ^ (8 * size)) }
     {
         let at = place(address, size)?;
-        let (control, value) = self.hand.load(memory, LoadAsk::Reserve(address, size), at)?;
+        let (control, value) = load(&mut self.hand, memory, LoadAsk::Reserve(address, size), at)?;
         Ok((lane(value, address, size), version_of(control)))
     }
 
@@ -181,7 +182,7 @@ impl<J: Naming> HartSeat<J> {
     {
         let at = place(address, size)?;
         let ask = StoreAsk::Write(address, size, value);
-        self.hand.change(memory, ask, at)?;
+        change(&mut self.hand, memory, ask, at)?;
         Ok(())
     }
 
@@ -201,7 +202,7 @@ impl<J: Naming> HartSeat<J> {
     {
         let at = place(address, size)?;
         let ask = StoreAsk::Amo(address, size, op, value);
-        let found = self.hand.change(memory, ask, at)?.unwrap_or(0);
+        let found = change(&mut self.hand, memory, ask, at)?.unwrap_or(0);
         Ok(lane(found, address, size))
     }
 
@@ -220,6 +221,6 @@ impl<J: Naming> HartSeat<J> {
     {
         let at = place(address, size)?;
         let ask = StoreAsk::Conditional(address, size, value, version);
-        Ok(self.hand.change(memory, ask, at)?.is_some())
+        Ok(change(&mut self.hand, memory, ask, at)?.is_some())
     }
 }

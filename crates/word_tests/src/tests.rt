@@ -2,7 +2,7 @@
 
 ghost use Rattle.std.specs.Prelude.{◌≡◌, ◌≢◌, ◌≤◌, ◌<◌, ◌+◌};
 ghost use Rattle.ld_base.specs.declared.linking.Role.TheVariants.{None as NoRole, Slot as SlotRole};
-ghost use Rattle.word_memory.specs.Keeping.{IsMade};
+ghost use Rattle.word_memory.specs.Making.{IsMade};
 ghost use Rattle.word_tests.specs.Unset.{AreUnset};
 
 mod plain;
@@ -15,7 +15,9 @@ use std::alloc::{AllocError, Global};
 use std::marker::Brand;
 use std::test::Fail;
 use std::thread::{Threads, join};
-use word_memory::{Fresh, HartSeat, KeeperSeat, Memory, Naming, Seats, TableBus, set_word};
+use word_memory::{
+    Fresh, HartSeat, KeeperSeat, Memory, Naming, Seats, TableBus, name_memory, set_word,
+};
 
 // amoadd.w a0, a1, (a2); lr.d t0, (a2); sc.d t1, a1, (a2); sd a1, 8(a2); data; a read-only word.
 const WORDS: [(u64, Role); 4] = [
@@ -106,7 +108,7 @@ fn put_words<J: Naming>(memory: &Memory<J>, keeper: &mut KeeperSeat<J>, harts: u
 fn over_table<J: Naming>(fresh: Fresh, alloc: Global) -> Result<Option<Seen>, AllocError>
     requires { fresh ≡ J.table }
 {
-    let (memory, seats) = fresh.named::<J>(alloc, 1)?;
+    let (memory, seats) = name_memory::<J>(fresh, alloc, 1)?;
     let Seats { mut keeper, harts } = seats;
     put_words(&memory, &mut keeper, 1);
     let mut harts = harts.into_vec();
@@ -156,7 +158,7 @@ fn both_add<J: Naming + Send + Sync, R: Threads>(
 ) -> Result<Option<(u64, u64)>, AllocError>
     requires { fresh ≡ J.table }
 {
-    let (memory, seats) = fresh.named::<J>(alloc, 2)?;
+    let (memory, seats) = name_memory::<J>(fresh, alloc, 2)?;
     let Seats { mut keeper, harts } = seats;
     put_words(&memory, &mut keeper, 2);
     let mut harts = harts.into_vec();

@@ -1,9 +1,5 @@
-use Rattle.slot_bind.proofs.Grants.{ask_slot, lost_word}
+use Rattle.slot_bind.proofs.Grants.{ask_slot, fated_tells, lost_view}
 use Rattle.slot_bind.proofs.slot.ask_row.Goals as goal
 
 pub saw-requires-clause-at : goal.saw-requires-clause-at
 saw-requires-clause-at g c = (ask_slot c.args.keeper.now c.load_word-state.new.self c.args.hart c.load_word-state.result c.load_word-state.ensures.resting.1 c.requires.low c.load_word-state.ensures.view c.load_word-state.ensures.learns c.requires.posted).at
-
-pub returns-in_default-clause-saw : goal.returns-in_default-clause-saw
-returns-in_default-clause-saw g c = λ grant pending. lost_word c.args.keeper.now c.load_word-state.new.self c.saw.new.keeper c.args.hart c.load_word-state.result c.saw.result grant
-    c.load_word-state.ensures.resting.1 c.requires.low c.load_word-state.ensures.view c.load_word-state.ensures.learns pending c.saw.ensures.keeper c.saw.ensures.saw

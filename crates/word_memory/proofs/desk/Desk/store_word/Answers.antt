@@ -1,7 +1,0 @@
-use Rattle.std.proofs.Common.{sym, subst}
-use Rattle.guest_rule.specs.KeeperSteps.{KeeperReady}
-use Rattle.word_memory.proofs.Desks.{desk_ready}
-use Rattle.word_memory.proofs.desk.Desk.store_word.Goals as goal
-
-pub store_as-requires-clause-ready : goal.store_as-requires-clause-ready
-store_as-requires-clause-ready g c = desk_ready c.args.kind _ c.self.invariant.1 (subst (KeeperReady c.args.kind) (sym c.self.view_is) c.requires.ready)

@@ -1,5 +1,0 @@
-use Rattle.guest_rule.specs.declared.kind.Kind.TheVariants.{Hart}
-use Rattle.word_memory.proofs.hand.Hand.store_word.Given as goal
-
-abbrev pub ghosts-store_as : goal.ghosts-store_as
-ghosts-store_as g a = record { kind = Hart a._aim.now }

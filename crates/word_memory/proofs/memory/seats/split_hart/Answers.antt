@@ -1,6 +1,0 @@
-use Rattle.std.proofs.Common.{rules}
-use Rattle.guest_rule.proofs.Joining.{made_keeps}
-use Rattle.word_memory.proofs.memory.seats.split_hart.Goals as goal
-
-pub split_seat-requires : goal.split_seat-requires
-split_seat-requires g c = (search rules, search rules, λ s holds at. made_keeps _ _ c.requires.room.1 s.words s.views holds at)

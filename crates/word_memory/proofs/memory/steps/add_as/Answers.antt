@@ -1,6 +1,0 @@
-use Rattle.std.proofs.Common.{rules}
-use Rattle.guest_rule.proofs.Table.{may_add}
-use Rattle.word_memory.proofs.memory.steps.add_as.Goals as goal
-
-pub fetch_add-requires : goal.fetch_add-requires
-fetch_add-requires g c = (search rules, search rules, may_add g.A.Aimed.kind _ _ _ _ _ c.requires.ready.0 c.requires.aimed.0 c.requires.aimed.1 c.requires.ready.1)

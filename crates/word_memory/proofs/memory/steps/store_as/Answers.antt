@@ -1,6 +1,0 @@
-use Rattle.std.proofs.Common.{rules}
-use Rattle.guest_rule.proofs.Table.{may_store}
-use Rattle.word_memory.proofs.memory.steps.store_as.Goals as goal
-
-pub store-requires : goal.store-requires
-store-requires g c = (search rules, search rules, may_store g.A.Aimed.kind _ _ _ _ _ c.requires.ready.0 c.requires.aimed.0 c.requires.aimed.1 c.requires.ready.1)

@@ -1,0 +1,5 @@
+pub mod Hands
+pub mod Desks
+pub mod Held
+pub mod Told
+pub mod Firsts

@@ -1,0 +1,7 @@
+use Rattle.std.proofs.Common.{sym, subst}
+use Rattle.guest_rule.specs.KeeperSteps.{KeeperReady}
+use Rattle.word_steps.proofs.Desks.{desk_ready}
+use Rattle.word_steps.proofs.desk.Desk.store_word.Goals as goal
+
+pub store_as-requires-clause-ready : goal.store_as-requires-clause-ready
+store_as-requires-clause-ready g c = desk_ready c.args.kind _ c.self.invariant.1 (subst (KeeperReady c.args.kind) (sym c.self.view_is) c.requires.ready)

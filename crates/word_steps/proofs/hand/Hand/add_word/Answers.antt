@@ -1,0 +1,7 @@
+use Rattle.std.proofs.Common.{sym, subst}
+use Rattle.guest_rule.specs.HartSteps.{HartReady}
+use Rattle.word_steps.proofs.Hands.{ready_as}
+use Rattle.word_steps.proofs.hand.Hand.add_word.Goals as goal
+
+pub add_as-requires-clause-ready : goal.add_as-requires-clause-ready
+add_as-requires-clause-ready g c = ready_as c.args.kind _ c.self.invariant.1 (subst (HartReady c.args.kind) (sym c.self.view_is) c.requires.ready)
