@@ -1,5 +1,5 @@
 -- Views over the steps of the calls on grants.
-use Rattle.std.proofs.Common.{◌≡◌, ◌≢◌, ◌⊎◌, ⊎_elim, inl, inr, ℕ, ◌+◌, ◌*◌, ◌%◌, ◌<◌, Bool, true, false, eqb, eq-eqb, ne_eqb, cond, ◌==◌, [], ◌∷◌, ◌++◌, Option, None, Some, Contains, refl, sym, ap, subst, ◌∙◌, arith}
+use Rattle.std.proofs.Common.{◌≡◌, ◌≢◌, ◌⊎◌, ⊎_elim, ℕ, ◌%◌, ◌<◌, Bool, true, false, eqb, eq-eqb, ne_eqb, Option, None, Some, Contains, refl, sym, ap, subst, ◌∙◌, arith}
 use Rattle.std.proofs.lemmas.List.Elements.{Contains-push}
 use Rattle.link_event.specs.declared.handed.Offer.{Offer}
 use Rattle.guest_rule.specs.declared.entry.Grant.{Grant}
@@ -66,6 +66,13 @@ bind_won h h1 h' offer g n offered' idle same is e found = binds h h1 h' g n Won
 
 pub bind_lost : (h h1 h' : HartView) (g : Grant) (n : ℕ) → IsIdle h1 → h1 ≡ h → g ≡ grant_read h → h' ≡ hart_after (harts.Exchange g) h1 n → h' ≡ exchanged (exchange_of (grant_read h) (Lost n)) h
 bind_lost h h1 h' g n idle same is e = binds h h1 h' g n (Lost n) idle same is e refl
+
+-- a row that was exchanged is still read in full
+pub still_offered : (h h' : HartView) (offer : Offer) (b : Bound) → IsOffered h offer → h' ≡ exchanged (exchange_of (grant_read h) b) h → IsOffered h' offer
+still_offered h h' offer b is e = subst (λ h. IsOffered h offer) (sym e) (record { full = is.full; mark = is.mark; event = is.event; slot = is.slot; lazy = is.lazy; value = is.value })
+
+pub is_tried : (h h' : HartView) (b : Bound) → h' ≡ exchanged (exchange_of (grant_read h) b) h → h'.lane.tried ≡ Some (exchange_of (grant_read h') b)
+is_tried h h' b e = subst (λ (x : HartView). x.lane.tried ≡ Some (exchange_of (grant_read x) b)) (sym e) refl
 
 -- ---- a row is given back
 

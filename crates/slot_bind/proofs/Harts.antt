@@ -1,9 +1,8 @@
 -- Views of a hart over the steps of one call.
-use Rattle.std.proofs.Common.{◌≡◌, ◌≢◌, ℕ, ◌≤◌, ◌<◌, inl, inr, Bool, true, false, nat_lt, [], ◌∷◌, ◌++◌, length, Option, None, Some, refl, sym, ap, subst, ◌∙◌, arith}
+use Rattle.std.proofs.Common.{◌≡◌, ◌≢◌, ℕ, ◌<◌, inl, inr, Bool, true, false, nat_lt, Option, None, Some, refl, sym, ap, ◌∙◌, arith}
 use Rattle.guest_rule.specs.declared.entry.Entry.{Entry}
 use Rattle.guest_rule.specs.declared.entry.Grant.{Grant}
 use Rattle.guest_rule.specs.declared.entry.RowWord.{RowWord}
-use Rattle.guest_rule.specs.declared.entry.RowWord.TheVariants.{Number, Slot, Lazy, Value, Generation}
 use Rattle.guest_rule.specs.declared.kind.HartKind.TheVariants as kinds
 use Rattle.guest_rule.specs.declared.view.HartView.{HartView}
 use Rattle.guest_rule.specs.declared.view.Lane.{Lane}
@@ -11,7 +10,7 @@ use Rattle.guest_rule.specs.declared.view.Offer.{Offer}
 use Rattle.guest_rule.specs.HartSteps.{HartLearns, HartReady, IsMark, arrived_if, found_in, hart_after, heeded, with_lane_of}
 use Rattle.guest_rule.specs.Views.{IsLane, offer_found, with_offered}
 use Rattle.word_steps.specs.Views.{IsIdle}
-use Rattle.slot_bind.specs.Rows.{HasRow, begun, found_state, full_offer, offer_of, offer_or, with_offer, with_taken}
+use Rattle.slot_bind.specs.Rows.{HasRow, begun, found_state, full_offer, offer_of, with_offer, with_taken}
 
 pub idle_heeded : (h : HartView) → IsIdle h → heeded h ≡ h
 idle_heeded h idle i = record h { note = sym idle.note i }
@@ -40,7 +39,7 @@ row_calls h lane has = go h.lane.calling refl
 -- a state that is found again
 again_if : (l : Lane) (o : Offer) (n : ℕ) (b : Bool) → l.offer ≡ Some o → arrived_if n b l ≡ l
 again_if l o n true has i = record l { offer = (ap (λ (p : Option Offer). Some (offer_found n p)) has ∙ sym has) i }
-again_if l o n false has = refl
+again_if l o n false has i = l
 
 pub arrives_again : (h h' : HartView) (m n : ℕ) → IsIdle h → HasRow h → h' ≡ hart_after (kinds.Arrive m) h n → h' ≡ h
 arrives_again h h' m n idle has e = e ∙ (ap (λ l. with_lane_of l (heeded h)) (again_if h.lane (offer_of h) n (nat_lt n 8) has) ∙ idle_heeded h idle)

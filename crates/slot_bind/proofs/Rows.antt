@@ -1,5 +1,5 @@
 -- Views of the keeper over the steps of one call on a row.
-use Rattle.std.proofs.Common.{◌≡◌, ◌≢◌, ◌⊎◌, ℕ, ◌≤◌, ◌<◌, Bool, true, false, nat_le, List, [], ◌∷◌, ◌++◌, length, set, zero, suc, map, slice_index_or, Option, None, Some, refl, sym, ap, subst, ◌∙◌, arith}
+use Rattle.std.proofs.Common.{◌≡◌, ◌≢◌, ◌⊎◌, ℕ, ◌≤◌, ◌<◌, true, nat_le, List, [], ◌∷◌, length, set, zero, suc, None, Some, refl, sym, ap, subst, ◌∙◌}
 use mathlib.Core.Logic.{dite}
 use native.Mathlib.Decide.{ℕ_discrete}
 use Rattle.link_event.specs.declared.handed.Granted.{Granted}
@@ -11,13 +11,13 @@ use Rattle.guest_rule.specs.declared.kind.KeeperKind.TheVariants as kinds
 use Rattle.guest_rule.specs.declared.view.KeeperView.{KeeperView}
 use Rattle.guest_rule.specs.declared.view.Row.{Row}
 use Rattle.guest_rule.specs.Allowed.{IsPostable}
-use Rattle.guest_rule.specs.KeeperSteps.{KeeperReady, Waits, awaited_if, handed, heeding, keeper_after, opened, with_row}
-use Rattle.guest_rule.specs.Views.{IsLong, grant_in, kept_at, no_row, put, row_of, with_field}
+use Rattle.guest_rule.specs.KeeperSteps.{KeeperReady, awaited_if, handed, heeding, keeper_after, opened, with_row}
+use Rattle.guest_rule.specs.Views.{IsLong, grant_in, kept_at, row_of, with_field}
 use Rattle.guest_rule.proofs.Rows.{field_since}
 use Rattle.word_steps.specs.Views.{IsResting}
 use Rattle.guest_rule.proofs.Heeding.{heeds, row_else, row_here}
 use Rattle.slot_bind.specs.Rows.{IsWaiting, MayHand, handed_over, row_with}
-use Rattle.slot_bind.specs.Grants.{MayPost, grant_of, posted, row_posted}
+use Rattle.slot_bind.specs.Grants.{MayPost, grant_of, posted}
 
 -- ---- one row
 

@@ -21,6 +21,7 @@ pub fn calling<J: Naming>(memory: &Memory<J>, keeper: &mut KeeperSeat<J>, hart: 
     ensures known { keeper.new ≡ awaited_if hart result keeper.old }
     ensures ended { (state : ℕ) × (result ≡ nat_le 8 state) × ((h : HartView) → HasEnded keeper.old hart h → HasTakenAll (row_of keeper.old hart) state h) }
     ensures slots { (d : ℕ) → IsSlot (kept_at keeper.old) d → IsDecided (kept_at keeper.old) (row_of keeper.old) d }
+    ensures long { IsLong keeper.old }
 {
     await_row(memory, keeper, u64::from(hart.number())) >= 8
 }
@@ -31,6 +32,7 @@ fn await_row<J: Naming>(memory: &Memory<J>, keeper: &mut KeeperSeat<J>, hart: u6
     ensures known { keeper.new ≡ awaited_if hart (nat_le 8 result) keeper.old }
     ensures ended { (h : HartView) → HasEnded keeper.old hart h → HasTakenAll (row_of keeper.old hart) result h }
     ensures slots { (d : ℕ) → IsSlot (kept_at keeper.old) d → IsDecided (kept_at keeper.old) (row_of keeper.old) d }
+    ensures long { IsLong keeper.old }
 {
     keeper.load_word(memory, state_word(hart), KeeperKind::Await(hart))
 }
@@ -72,7 +74,8 @@ fn write_entry<J: Naming>(memory: &Memory<J>, keeper: &mut KeeperSeat<J>, hart: 
 pub fn hand<J: Naming>(memory: &Memory<J>, keeper: &mut KeeperSeat<J>, hart: HartId, entry: Entry)
     requires low { hart < 16 }
     requires may { MayHand keeper.old hart entry }
-    ensures { keeper.new ≡ handed_over hart entry keeper.old }
+    ensures handed { keeper.new ≡ handed_over hart entry keeper.old }
+    ensures long { IsLong keeper.old }
 {
     hand_row(memory, keeper, u64::from(hart.number()), entry);
 }
@@ -81,7 +84,8 @@ pub fn hand<J: Naming>(memory: &Memory<J>, keeper: &mut KeeperSeat<J>, hart: Har
 fn hand_row<J: Naming>(memory: &Memory<J>, keeper: &mut KeeperSeat<J>, hart: u64, entry: Entry)
     requires low { hart < 16 }
     requires may { MayHand keeper.old hart entry }
-    ensures { keeper.new ≡ handed_over hart entry keeper.old }
+    ensures handed { keeper.new ≡ handed_over hart entry keeper.old }
+    ensures long { IsLong keeper.old }
 {
     write_entry(memory, keeper, hart, entry);
     let kind = KeeperKind::Hand(hart, entry.mark);
@@ -97,7 +101,8 @@ pub fn post<J: Naming>(
 )
     requires low { hart < 16 }
     requires may { MayPost keeper.old hart granted.now }
-    ensures { keeper.new ≡ posted hart (grant_of granted.now keeper.old.generation) keeper.old }
+    ensures posted { keeper.new ≡ posted hart (grant_of granted.now keeper.old.generation) keeper.old }
+    ensures long { IsLong keeper.old }
 {
     open_row(memory, keeper, u64::from(hart.number()), granted);
 }
@@ -106,7 +111,8 @@ pub fn post<J: Naming>(
 fn open_row<J: Naming>(memory: &Memory<J>, keeper: &mut KeeperSeat<J>, hart: u64, granted: &Granted)
     requires low { hart < 16 }
     requires may { MayPost keeper.old hart granted.now }
-    ensures { keeper.new ≡ posted hart (grant_of granted.now keeper.old.generation) keeper.old }
+    ensures posted { keeper.new ≡ posted hart (grant_of granted.now keeper.old.generation) keeper.old }
+    ensures long { IsLong keeper.old }
 {
     let generation = keeper.load_word(memory, GENERATION, KeeperKind::RecallGeneration);
     let entry = Entry {

@@ -4,7 +4,7 @@ ghost use Rattle.std.specs.Prelude.{◌≡◌, ◌<◌, ◌%◌, ℕ, None, Some
 ghost use Rattle.rv_hart.specs.declared.bus.Item.{Item};
 ghost use Rattle.guest_rule.specs.declared.entry.Grant.{Grant};
 ghost use Rattle.guest_rule.specs.KeeperSteps.{TellsAsk, TellsSlot};
-ghost use Rattle.guest_rule.specs.Views.{kept_at, row_of};
+ghost use Rattle.guest_rule.specs.Views.{IsLong, kept_at, row_of};
 ghost use Rattle.guest_rule.specs.Allowed.{IsSlot};
 ghost use Rattle.guest_rule.specs.Layout.{IsDoubleword, place_of};
 ghost use Rattle.word_memory.specs.Accesses.{Calls};
@@ -89,12 +89,14 @@ fn offered_grant<J: Naming>(memory: &Memory<J>, seat: &mut HartSeat<J>, offer: &
 }
 
 /// Exchanges the slot's word for the grant's value where it is the lazy word.
-#[tactic(auto, using(crate::proofs::Grants::bind_ready, crate::proofs::Grants::bind_won, crate::proofs::Grants::bind_lost))]
+#[tactic(auto, using(crate::proofs::Grants::bind_ready, crate::proofs::Grants::bind_won, crate::proofs::Grants::bind_lost, crate::proofs::Grants::still_offered, crate::proofs::Grants::is_tried))]
 pub fn bind<J: Naming>(memory: &Memory<J>, seat: &mut HartSeat<J>, offer: &Offer) -> Bound
     requires offered { IsOffered seat.old offer.now }
     requires untried { seat.old.lane.tried ≡ None }
     ensures exchanged { seat.new ≡ exchanged (exchange_of (grant_read seat.old) result) seat.old }
     ensures bound { IsBound offer.now.lazy result }
+    ensures offered { IsOffered seat.new offer.now }
+    ensures tried { seat.new.lane.tried ≡ Some (exchange_of (grant_read seat.new) result) }
 {
     let grant = offered_grant(memory, seat, offer);
     let found = seat.exchange(memory, grant);
@@ -156,6 +158,7 @@ pub fn ask<J: Naming>(memory: &Memory<J>, keeper: &mut KeeperSeat<J>, hart: Hart
     requires posted { (g : Grant) × ((row_of keeper.old hart).pending ≡ Some g) }
     ensures asked { keeper.new ≡ asked_view hart result keeper.old }
     ensures told { (state : ℕ) × Says state result × TellsAsk keeper.old hart state }
+    ensures long { IsLong keeper.old }
     ensures saw { (g : Grant) → (row_of keeper.old hart).pending ≡ Some g → Saw (fated_view hart result keeper.old) g result }
 {
     ask_row(memory, keeper, u64::from(hart.number()))
@@ -167,6 +170,7 @@ fn ask_row<J: Naming>(memory: &Memory<J>, keeper: &mut KeeperSeat<J>, hart: u64)
     requires posted { (g : Grant) × ((row_of keeper.old hart).pending ≡ Some g) }
     ensures asked { keeper.new ≡ asked_view hart result keeper.old }
     ensures told { (state : ℕ) × Says state result × TellsAsk keeper.old hart state }
+    ensures long { IsLong keeper.old }
     ensures saw { (g : Grant) → (row_of keeper.old hart).pending ≡ Some g → Saw (fated_view hart result keeper.old) g result }
 {
     let state = keeper.load_word(memory, state_word(hart), KeeperKind::Ask(hart));
