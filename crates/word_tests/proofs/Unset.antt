@@ -1,5 +1,5 @@
 -- Doublewords get their roles one after the other.
-use Rattle.std.proofs.Common.{◌≡◌, ◌≢◌, inl, ℕ, ◌+◌, ◌*◌, ◌-◌, ◌/◌, ◌%◌, ◌≤◌, ◌<◌, Bool, false, cond, length, Result, Ok, Err, IfOk, IfErr, refl, sym, ap, subst, ◌∙◌, arith}
+use Rattle.std.proofs.Common.{◌≡◌, ◌≢◌, inl, ℕ, ◌+◌, ◌*◌, ◌-◌, ◌/◌, ◌%◌, ◌≤◌, ◌<◌, Bool, false, cond, length, None as Nothing, Result, Ok, Err, IfOk, IfErr, refl, sym, ap, subst, ◌∙◌, arith}
 use Rattle.std.proofs.lemmas.Bool.Decides.{nat_tests}
 use Rattle.ld_base.specs.declared.fault.Shown.{Shown}
 use Rattle.ld_base.specs.declared.fault.Shown.TheVariants.{Locked, Initialising, Closing, OpenGrant}
@@ -50,7 +50,7 @@ pub unset_more : (k k' : KeeperView) (n value : ℕ) (role : Role) (r : Result U
     → IfOk r (λ _. k' ≡ set_as (place_of (0x10000 + 8 * n)) value role 0 k) → IfErr r (λ shown. k' ≡ was_shown (place_of (0x10000 + 8 * n)) shown k) → AreUnset k' (n + 1)
 unset_more k k' n value role (Err shown) low unset long ok same d from few = ap (λ k. (kept_at k d).role) same ∙ (same_words k (place_of (0x10000 + 8 * n)) d shown ∙ unset d (omega arith) few)
 unset_more k k' n value role (Ok t) low unset long ok same d from few =
-    ap (λ k. (kept_at k d).role) ok ∙ (ap (λ (x : Kept). x.role) (kept_else k (place_of (0x10000 + 8 * n)) (record { role = role; value = value; lazy = 0; since = length k.events; fixed = None }) inside d apart) ∙ unset d (omega arith) few)
+    ap (λ k. (kept_at k d).role) ok ∙ (ap (λ (x : Kept). x.role) (kept_else k (place_of (0x10000 + 8 * n)) (record { role = role; value = value; lazy = 0; since = length k.events; fixed = Nothing }) inside d apart) ∙ unset d (omega arith) few)
   where
     inside : place_of (0x10000 + 8 * n) < length k.words
     inside = subst (λ m. place_of (0x10000 + 8 * n) < m) (sym long.0) (place_low n low)
