@@ -1,2 +1,0 @@
-pub mod Stock
-pub mod Posting

@@ -1,8 +1,0 @@
-//! Tests of grants over guest memory in atomic words: two harts that resolve one slot, and words that lose
-//! their roles.
-//!
-//! They stand above `slot_bind`, so that it isn't proved again for them.
-#![tactic(auto)]
-
-#[cfg(test)]
-mod tests;
