@@ -119,22 +119,22 @@ symbol_choice s o index symbol copy c within is chosen =
     rw (here, choice_of_symbol) chosen
 
 -- nothing is kept at first
-pub none_kept : (s : Seen) (o : Loaded) (kept : List (Option Choice)) (n : ℕ) → length kept ≡ n → ((k : ℕ) → k < n → get_or kept k None ≡ None) → AreKept s o kept
-none_kept s o kept n long none k choice is =
+pub none_kept : (s : Seen) (o : Loaded) (copy : Bool) (kept : List (Option Choice)) (n : ℕ) → length kept ≡ n → ((k : ℕ) → k < n → get_or kept k None ≡ None) → AreKept s o copy kept
+none_kept s o copy kept n long none k choice is =
     elim (cases_lt k n) [
       | inl lt ↦ absurd (let no : None ≡ Some choice = sym (none k lt) ∙ is in cc no)
       | inr past ↦ absurd (let no : None ≡ Some choice = sym (get_or_past kept k None (omega arith)) ∙ is in cc no)
     ]
 
 -- one choice more
-pub one_kept : (s : Seen) (o : Loaded) (kept : List (Option Choice)) (index : ℕ) (choice : Choice) → index < length kept → AreKept s o kept → choice ≡ choice_of_symbol s o index false → AreKept s o (set kept index (Some choice))
-one_kept s o kept index choice within are right k c is =
+pub one_kept : (s : Seen) (o : Loaded) (copy : Bool) (kept : List (Option Choice)) (index : ℕ) (choice : Choice) → index < length kept → AreKept s o copy kept → choice ≡ choice_of_symbol s o index copy → AreKept s o copy (set kept index (Some choice))
+one_kept s o copy kept index choice within are right k c is =
     elim (cases_Bool (k == index)) [
       | inl same ↦
           let e : k ≡ index = eqb-true k index same in
           let there : Some choice ≡ Some c = sym (get_or-set_at kept index k (Some choice) None e within) ∙ is in
           let value : choice ≡ c = cc there in
-          sym value ∙ right ∙ ap (λ (n : ℕ). choice_of_symbol s o n false) (sym e)
+          sym value ∙ right ∙ ap (λ (n : ℕ). choice_of_symbol s o n copy) (sym e)
       | inr other ↦
           let ne : k ≢ index = ne_from k index other in
           are k c (sym (get_or-set_other kept index k (Some choice) None ne) ∙ is)
@@ -165,18 +165,18 @@ choice_same y value size None = refl
 choice_same y value size (Some m) = refl
 
 -- neither decides, where another object may define the symbol
-sizes_apart : (s : Seen) (o : Loaded) (i j : ℕ) (y : Symbol) (value size : ℕ) → (not false && is_own y) ≡ false → choose_for s o i (with_size y value size) false ≡ choose_for s o j y false
+sizes_apart : (s : Seen) (o : Loaded) (i j : ℕ) (y : Symbol) (value size : ℕ) (copy : Bool) → (not copy && is_own y) ≡ false → choose_for s o i (with_size y value size) copy ≡ choose_for s o j y copy
 unfolding choose_for
-sizes_apart s o i j y value size other = rw other (choice_same y value size (first_with (pick_at s y.name (want_of o.object y)) (searched s o false)))
+sizes_apart s o i j y value size copy other = rw other (choice_same y value size (first_with (pick_at s y.name (want_of o.object y)) (searched s o copy)))
 
 -- so what is kept for the symbol before is the choice
-pub before_choice : (s : Seen) (o : Loaded) (kept : List (Option Choice)) (index : ℕ) (symbol before : Symbol) (r : Option Choice) → index < length o.object.symbols → (index ≡ 0 → ⊥) → symbol ≡ get_or o.object.symbols index symbol → before ≡ get_or o.object.symbols (index - 1) before
-    → IsAlike before symbol → (not false && is_own symbol) ≡ false → r ≡ get_or kept (index - 1) None → AreKept s o kept → IfSome r (λ c. c ≡ choice_of_symbol s o index false)
-before_choice s o kept index symbol before None within some here there alike other is are = tt
-before_choice s o kept index symbol before (Some c) within some here there alike other is are =
-    let first : choose_for s o (index - 1) before false ≡ choice_of_symbol s o (index - 1) false = symbol_choice s o (index - 1) before false (choose_for s o (index - 1) before false) (omega arith) there refl in
+pub before_choice : (s : Seen) (o : Loaded) (copy : Bool) (kept : List (Option Choice)) (index : ℕ) (symbol before : Symbol) (r : Option Choice) → index < length o.object.symbols → (index ≡ 0 → ⊥) → symbol ≡ get_or o.object.symbols index symbol
+    → before ≡ get_or o.object.symbols (index - 1) before → IsAlike before symbol → (not copy && is_own symbol) ≡ false → r ≡ get_or kept (index - 1) None → AreKept s o copy kept → IfSome r (λ c. c ≡ choice_of_symbol s o index copy)
+before_choice s o copy kept index symbol before None within some here there alike other is are = tt
+before_choice s o copy kept index symbol before (Some c) within some here there alike other is are =
+    let first : choose_for s o (index - 1) before copy ≡ choice_of_symbol s o (index - 1) copy = symbol_choice s o (index - 1) before copy (choose_for s o (index - 1) before copy) (omega arith) there refl in
     are (index - 1) c (sym is)
     ∙ sym first
-    ∙ ap (λ (z : Symbol). choose_for s o (index - 1) z false) (same_fields before symbol alike)
-    ∙ sizes_apart s o (index - 1) index symbol before.value before.size other
-    ∙ symbol_choice s o index symbol false (choose_for s o index symbol false) within here refl
+    ∙ ap (λ (z : Symbol). choose_for s o (index - 1) z copy) (same_fields before symbol alike)
+    ∙ sizes_apart s o (index - 1) index symbol before.value before.size copy other
+    ∙ symbol_choice s o index symbol copy (choose_for s o index symbol copy) within here refl

@@ -1,5 +1,5 @@
 -- The references of one object.
-use Rattle.std.specs.Prelude.{◌≡◌, ℕ, false, List, Option, Some, None, slice_index_or}
+use Rattle.std.specs.Prelude.{◌≡◌, ℕ, Bool, List, Option, Some, None, slice_index_or}
 use Rattle.ld_base.specs.declared.linking.Choice.{Choice}
 use Rattle.ld_base.specs.declared.linking.Loaded.{Loaded}
 use Rattle.ld_base.specs.declared.object.Symbol.{Symbol}
@@ -11,9 +11,9 @@ pub record Referring : Type 0 where
   pub seen : Seen
   pub owner : Loaded
 
--- what is kept for a symbol is its choice
-abbrev pub AreKept : Seen → Loaded → List (Option Choice) → Type 0
-AreKept s o kept = (index : ℕ) (choice : Choice) → slice_index_or kept index None ≡ Some choice → choice ≡ choice_of_symbol s o index false
+-- what is kept for a symbol is its choice, of COPYs or of other relocations
+abbrev pub AreKept : Seen → Loaded → Bool → List (Option Choice) → Type 0
+AreKept s o copy kept = (index : ℕ) (choice : Choice) → slice_index_or kept index None ≡ Some choice → choice ≡ choice_of_symbol s o index copy
 
 -- two symbols of an object refer to the same, if another object may define them
 pub record IsAlike (one other : Symbol) : Type 0 where

@@ -1,8 +1,9 @@
 //! Looking a reference up in search lists.
 
 ghost use Rattle.std.specs.Prelude.{◌≡◌, ◌<◌, ◌&&◌, not, Some, length, IsSome, IfSome};
-ghost use Rattle.scope_rule.specs.Choose.{choice_of, choose_for, choose_of, first_with, is_own, pick_at, want_of};
+ghost use Rattle.scope_rule.specs.Choose.{choose_for, choose_of, first_with, is_own, pick_at, want_of};
 ghost use Rattle.scope_rule.specs.Loading.{object_of};
+ghost use Rattle.scope_rule.specs.Relocation.{choice_at};
 ghost use Rattle.scope_rule.specs.Scope.{scope};
 ghost use Rattle.scope_rule.specs.Seen.{seen, seen_in};
 ghost use Rattle.search_lists.specs.Lists.{lists_of};
@@ -10,8 +11,8 @@ ghost use Rattle.sym_find.specs.Reference.{want_as};
 ghost use Rattle.sym_lookup.specs.Looking.{HaveTables, outside};
 
 use crate::searched::{Searched, found_outside};
-use ld_base::{Choice, Loaded, Object, Serial, Symbol};
-use scope_rule::{Namespace, View};
+use ld_base::{Choice, Loaded, Object, Reloc, Serial, Symbol};
+use scope_rule::{Namespace, View, choice_of, has_no_symbol, is_copy, is_own};
 use search_lists::SearchLists;
 use sym_find::{Asked, Sought};
 
@@ -41,18 +42,7 @@ pub(crate) fn sought_of<'a>(object: &'a Object, symbol: &'a Symbol) -> Sought<'a
 pub(crate) fn stays_own(symbol: &Symbol, copy: bool) -> bool
     ensures { result ≡ (not copy && is_own symbol.now) }
 {
-    !copy && (symbol.is_local() || (symbol.is_defined() && symbol.other % 4 != 0))
-}
-
-/// What a search gives for a symbol.
-pub(crate) fn choice_of(symbol: &Symbol, found: Option<(Serial, u32)>) -> Choice
-    ensures { result ≡ choice_of symbol.now found }
-{
-    match found {
-        Some((serial, index)) => Choice::Def(serial, index),
-        None if symbol.is_weak() => Choice::WeakZero,
-        None => Choice::Missing,
-    }
+    !copy && is_own(symbol)
 }
 
 /// The first object of the list that has a definition, with its symbol.
@@ -143,4 +133,27 @@ pub fn lookup_in(view: &View, lists: &SearchLists, owner: Serial, symbol: u32, c
     let entry = &loaded.object.symbols.as_slice()[symbol as usize];
     let list = searched(view, lists, owner, loaded);
     lookup_for(view, lists, list, loaded, symbol, entry, copy)
+}
+
+/// The choice of a relocation of an object when it is loaded, as `scope_rule::choose_reloc` gives it
+/// (psABI, "Relocations"). The lists are those of the namespace, and the table of each of its objects
+/// is that object's. It takes no memory.
+#[tactic(auto, unfolding(scope_rule::specs::Relocation::choice_at))]
+pub fn lookup_reloc(view: &View, lists: &SearchLists, owner: &Loaded, reloc: &Reloc) -> Choice
+    requires lists { lists.now ≡ lists_of (seen view.now) }
+    requires tables { HaveTables (seen view.now) }
+    requires owner_is_there { object_of (seen view.now) owner.now.serial ≡ Some owner.now }
+    requires symbol_is_there { reloc.now.symbol < length owner.now.object.symbols }
+    ensures { result ≡ choice_at (seen view.now) owner.now reloc.now }
+{
+    if has_no_symbol(reloc) {
+        return Choice::WeakZero;
+    }
+    if reloc.symbol == 0 {
+        return Choice::Def(owner.serial, 0);
+    }
+    let symbol = &owner.object.symbols.as_slice()[reloc.symbol as usize];
+    let list = searched(view, lists, owner.serial, owner);
+    let copy = is_copy(reloc);
+    lookup_for(view, lists, list, owner, reloc.symbol, symbol, copy)
 }

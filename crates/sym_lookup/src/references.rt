@@ -10,19 +10,13 @@ ghost use Rattle.search_lists.specs.Lists.{lists_of};
 ghost use Rattle.sym_lookup.specs.Looking.{HaveTables, IsSearched, choice_of_symbol};
 ghost use Rattle.sym_lookup.specs.References.{AreKept, IsAlike};
 
-use crate::looking::{choice_of, searched, sought_of, stays_own};
+use crate::looking::{searched, sought_of, stays_own};
 use crate::searched::{Searched, first_searched};
 use ld_base::{Choice, Loaded, Reloc, Serial, Symbol};
-use scope_rule::View;
+use scope_rule::{View, choice_of, has_no_symbol, is_copy};
 use search_lists::SearchLists;
 use std::alloc::{AllocError, Global};
 use std::marker::Model;
-
-const R_RISCV_NONE: u32 = 0;
-
-const R_RISCV_RELATIVE: u32 = 3;
-
-const R_RISCV_COPY: u32 = 4;
 
 /// The references of one object to the definitions of its namespace. What is found for a symbol is
 /// kept, so that further relocations against it make no search. Contracts see the object, and what is
@@ -34,10 +28,12 @@ pub struct References<'a> {
     searched: Vec<Searched>,
     /// By the index of a symbol, what it was found to be bound to.
     kept: Vec<Option<Choice>>,
+    /// The same, for COPYs.
+    copied: Vec<Option<Choice>>,
 }
 
 impl<'a> Model for References<'a> {
-    ghost use Rattle.std.specs.Prelude.{◌≡◌, length, map};
+    ghost use Rattle.std.specs.Prelude.{◌≡◌, false, true, length, map};
     ghost use Rattle.std.specs.List.{AllByRecursion};
     ghost use Rattle.scope_rule.specs.Scope.{scope};
     ghost use Rattle.scope_rule.specs.Seen.{seen};
@@ -53,7 +49,9 @@ impl<'a> Model for References<'a> {
         × (map (λ x. x.serial) r.searched.items ≡ scope (seen r.view) r.owner.now)
         × AllByRecursion (IsSearched (seen r.view)) r.searched.items
         × (length r.kept.items ≡ length r.owner.now.object.symbols)
-        × AreKept (seen r.view) r.owner.now r.kept.items };
+        × AreKept (seen r.view) r.owner.now false r.kept.items
+        × (length r.copied.items ≡ length r.owner.now.object.symbols)
+        × AreKept (seen r.view) r.owner.now true r.copied.items };
 }
 
 /// The objects that are searched, each found once.
@@ -129,7 +127,7 @@ fn kept_at(kept: &[Option<Choice>], index: u32) -> Option<Choice>
 /// Keeps the choice for a symbol.
 fn keep(kept: &mut [Option<Choice>], index: u32, choice: &Choice)
     requires { index < length kept.old }
-    ensures { (s : Seen) (o : loaded) → AreKept s o kept.old → choice.now ≡ choice_of_symbol s o index false → AreKept s o kept.new }
+    ensures { (s : Seen) (o : loaded) (copy : Bool) → AreKept s o copy kept.old → choice.now ≡ choice_of_symbol s o index copy → AreKept s o copy kept.new }
 {
     kept[index as usize] = Some(*choice);
 }
@@ -147,10 +145,10 @@ fn is_alike(one: &Symbol, other: &Symbol) -> bool
 
 /// What is kept for the symbol before, if that refers to the same and another object may define it:
 /// so a name that many symbols have one after another is searched once.
-fn kept_before(owner: &Loaded, kept: &[Option<Choice>], index: u32) -> Option<Choice>
+fn kept_before(owner: &Loaded, kept: &[Option<Choice>], index: u32, copy: bool) -> Option<Choice>
     requires symbol { index < length owner.now.object.symbols }
     requires length { length kept.now ≡ length owner.now.object.symbols }
-    ensures { (s : Seen) → AreKept s owner.now kept.now → IfSome result (λ c. c ≡ choice_of_symbol s owner.now index false) }
+    ensures { (s : Seen) → AreKept s owner.now copy kept.now → IfSome result (λ c. c ≡ choice_of_symbol s owner.now index copy) }
 {
     if index == 0 {
         return None;
@@ -158,7 +156,7 @@ fn kept_before(owner: &Loaded, kept: &[Option<Choice>], index: u32) -> Option<Ch
     let symbols = owner.object.symbols.as_slice();
     let symbol = &symbols[index as usize];
     let before = &symbols[index as usize - 1];
-    if stays_own(symbol, false) || !is_alike(before, symbol) {
+    if stays_own(symbol, copy) || !is_alike(before, symbol) {
         return None;
     }
     kept_at(kept, index - 1)
@@ -171,18 +169,19 @@ fn search_once(
     owner: &Loaded,
     kept: &[Option<Choice>],
     index: u32,
+    copy: bool,
 ) -> Choice
     requires tables { HaveTables (seen view.now) }
     requires serials { map (λ x. x.serial) searched.now ≡ scope (seen view.now) owner.now }
     requires places { AllByRecursion (IsSearched (seen view.now)) searched.now }
     requires symbol { index < length owner.now.object.symbols }
     requires length { length kept.now ≡ length owner.now.object.symbols }
-    requires kept { AreKept (seen view.now) owner.now kept.now }
-    ensures { result ≡ choice_of_symbol (seen view.now) owner.now index false }
+    requires kept { AreKept (seen view.now) owner.now copy kept.now }
+    ensures { result ≡ choice_of_symbol (seen view.now) owner.now index copy }
 {
-    match kept_before(owner, kept, index) {
+    match kept_before(owner, kept, index, copy) {
         Some(choice) => choice,
-        None => search(view, searched, owner, index, false),
+        None => search(view, searched, owner, index, copy),
     }
 }
 
@@ -193,20 +192,22 @@ fn kept_or_searched(
     owner: &Loaded,
     kept: &mut [Option<Choice>],
     index: u32,
+    copy: bool,
 ) -> Choice
     requires tables { HaveTables (seen view.now) }
     requires serials { map (λ x. x.serial) searched.now ≡ scope (seen view.now) owner.now }
     requires places { AllByRecursion (IsSearched (seen view.now)) searched.now }
     requires symbol { index < length owner.now.object.symbols }
     requires length { length kept.old ≡ length owner.now.object.symbols }
-    requires kept { AreKept (seen view.now) owner.now kept.old }
-    ensures choice { result ≡ choice_of_symbol (seen view.now) owner.now index false }
-    ensures kept { AreKept (seen view.now) owner.now kept.new }
+    requires kept { AreKept (seen view.now) owner.now copy kept.old }
+    ensures choice { result ≡ choice_of_symbol (seen view.now) owner.now index copy }
+    ensures kept { AreKept (seen view.now) owner.now copy kept.new }
+    ensures length { length kept.new ≡ length kept.old }
 {
     match kept_at(kept, index) {
         Some(choice) => choice,
         None => {
-            let choice = search_once(view, searched, owner, kept, index);
+            let choice = search_once(view, searched, owner, kept, index, copy);
             keep(kept, index, &choice);
             choice
         }
@@ -214,7 +215,7 @@ fn kept_or_searched(
 }
 
 impl<'a> References<'a> {
-    ghost use Rattle.std.specs.Prelude.{◌≡◌, ◌<◌, Some, false, length, IfOk};
+    ghost use Rattle.std.specs.Prelude.{◌≡◌, ◌<◌, Some, false, true, length, IfOk};
     ghost use Rattle.std.specs.List.{slice_get};
     ghost use Rattle.scope_rule.specs.Loading.{object_of};
     ghost use Rattle.scope_rule.specs.Relocation.{choice_at};
@@ -284,11 +285,13 @@ impl<'a> References<'a> {
     {
         let searched = found_once(alloc, lists, list)?;
         let kept = nothing_kept(alloc, owner.object.symbols.len())?;
+        let copied = nothing_kept(alloc, owner.object.symbols.len())?;
         Ok(References {
             view: *view,
             owner,
             searched,
             kept,
+            copied,
         })
     }
 
@@ -304,6 +307,23 @@ impl<'a> References<'a> {
             self.owner,
             self.kept.as_mut_slice(),
             index,
+            false,
+        )
+    }
+
+    /// The choice of a COPY of a symbol, kept or looked up now.
+    fn of_copy(&mut self, index: u32) -> Choice
+        requires { index < length self.old.owner.object.symbols }
+        ensures choice { result ≡ choice_of_symbol self.old.seen self.old.owner index true }
+        ensures same { self.new ≡ self.old }
+    {
+        kept_or_searched(
+            &self.view,
+            self.searched.as_slice(),
+            self.owner,
+            self.copied.as_mut_slice(),
+            index,
+            true,
         )
     }
 
@@ -315,20 +335,14 @@ impl<'a> References<'a> {
         ensures choice { result ≡ choice_at self.old.seen self.old.owner reloc.now }
         ensures same { self.new ≡ self.old }
     {
-        if reloc.kind == R_RISCV_NONE || reloc.kind == R_RISCV_RELATIVE {
+        if has_no_symbol(reloc) {
             return Choice::WeakZero;
         }
         if reloc.symbol == 0 {
             return Choice::Def(self.owner.serial, 0);
         }
-        if reloc.kind == R_RISCV_COPY {
-            return search(
-                &self.view,
-                self.searched.as_slice(),
-                self.owner,
-                reloc.symbol,
-                true,
-            );
+        if is_copy(reloc) {
+            return self.of_copy(reloc.symbol);
         }
         self.of_symbol(reloc.symbol)
     }

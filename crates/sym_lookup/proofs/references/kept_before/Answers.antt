@@ -10,5 +10,5 @@ returns c = λ s are.
     let before : Symbol = c.index-symbols-index-2.result in
     let here : symbol ≡ get_or symbols c.args.index symbol = rw c.as_slice-symbols.ensures.value at c.index-symbols-index.is in
     let there : before ≡ get_or symbols (c.args.index - 1) before = rw c.as_slice-symbols.ensures.value at c.index-symbols-index-2.is in
-    before_choice s c.args.owner.now c.args.kept.now c.args.index symbol before c.kept_at.result c.requires.symbol c.if-index-eq0.false here there
+    before_choice s c.args.owner.now c.args.copy c.args.kept.now c.args.index symbol before c.kept_at.result c.requires.symbol c.if-index-eq0.false here there
     (c.is_alike.ensures c.if-not-is_alike.false) (sym c.stays_own.ensures ∙ c.if-stays_own.false) c.kept_at.ensures are
