@@ -9,10 +9,12 @@ pub mod Given
 pub mod InOrder
 pub mod Looked
 pub mod OneOrder
+pub mod OneStartup
 pub mod OpenAnswered
 pub mod Opened
 pub mod Own
 pub mod Placing
+pub mod Preloads
 pub mod Readings
 pub mod Rooted
 pub mod Serving

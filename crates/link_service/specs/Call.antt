@@ -39,8 +39,12 @@ caller_namespace s ra = option_map_or (λ m. option_map_or (λ ns. ns.id) (home 
 abbrev pub known : List ℕ → List ℕ
 known name = take 256 name
 
+-- what dlopen asks for, of a caller in this namespace
+abbrev pub dlopen_in : ℕ → Option (List ℕ) → ℕ → Call
+dlopen_in caller name flags = opens (record { ns = Some caller; name = option_map known name; flags = flags })
+
 abbrev pub dlopen : State → ℕ → Option (List ℕ) → ℕ → Call
-dlopen s ra name flags = opens (record { ns = Some (caller_namespace s ra); name = option_map known name; flags = flags })
+dlopen s ra = dlopen_in (caller_namespace s ra)
 
 -- LM_ID_NEWLM asks for a namespace of its own
 abbrev pub asked_namespace : ℕ → Option ℕ
@@ -49,14 +53,20 @@ asked_namespace ns = if ns == new_namespace then None else Some ns
 abbrev pub dlmopen : ℕ → Option (List ℕ) → ℕ → Call
 dlmopen ns name flags = opens (record { ns = asked_namespace ns; name = option_map known name; flags = flags })
 
+abbrev pub dlsym_in : ℕ → ℕ → List ℕ → Call
+dlsym_in caller handle name = looks_up (record { ns = caller; handle = handle; name = known name; version = None })
+
 abbrev pub dlsym : State → ℕ → ℕ → List ℕ → Call
-dlsym s ra handle name = looks_up (record { ns = caller_namespace s ra; handle = handle; name = known name; version = None })
+dlsym s ra = dlsym_in (caller_namespace s ra)
 
 -- beside a name that is too long no version is asked for
 abbrev pub asked_version : Bool → List ℕ → Option (List ℕ)
 asked_version true version = None
 asked_version false version = Some (known version)
 
+abbrev pub dlvsym_in : ℕ → ℕ → List ℕ → List ℕ → Call
+dlvsym_in caller handle name version =
+    looks_up (record { ns = caller; handle = handle; name = known name; version = asked_version (is_too_long name) version })
+
 abbrev pub dlvsym : State → ℕ → ℕ → List ℕ → List ℕ → Call
-dlvsym s ra handle name version =
-    looks_up (record { ns = caller_namespace s ra; handle = handle; name = known name; version = asked_version (is_too_long name) version })
+dlvsym s ra = dlvsym_in (caller_namespace s ra)

@@ -19,6 +19,8 @@ use Rattle.link_history.specs.Opening.{Finds, HasNoPages, IsNamed, IsUnrelocated
 use Rattle.link_history.specs.Setting.{Machine, Readings, Setting, load_of}
 use Rattle.link_history.specs.Slots.{HasNoGrant}
 use Rattle.link_history.specs.State.{State}
+use Rattle.link_served.specs.declared.served.Served.{Served}
+use Rattle.link_served.specs.declared.served.Served.TheVariants as served
 use Rattle.link_service.specs.Answer.{Answer}
 use Rattle.link_service.specs.Call.{Call, caller_namespace, dlsym, dlvsym, resolves, opens, looks_up, closes, unmaps, asks_fault, locates, writes, stops}
 use Rattle.link_service.specs.Gives.{Gives}
@@ -73,6 +75,15 @@ OpensUnlessRefused = (w : Setting) (past : List Event) (h : ℕ) (ask : OpenAsk)
     → IsNamed (after past) ask name id → Finds w (after past) h ask name id root news → version_fault (there (after past) id) news ≡ None
     → ((pages : ℕ) → ¬ (HasNoPages w (after past) h ask name id pages)) → ((fault : DlFault) → ¬ (IsUnrelocated w (after past) h ask name id fault))
     → (added : List Loaded) × (ranges : List Range) × Opens w (after past) h ask id root added ranges
+
+-- the call answers this root's handle, or memory is wanted
+abbrev pub OpensOr : ℕ → Served → Type 0
+OpensOr root (served.Done value) = value ≡ root
+OpensOr root (served.Opened handle installs functions) = handle ≡ root
+OpensOr root (served.Closing dying functions) = ⊥
+OpensOr root (served.Refused fault) = ⊥
+OpensOr root (served.Again for) = ⊥
+OpensOr root served.Memory = Unit {0}
 
 -- what dlsym and dlvsym ask fits, where the caller's namespace is there
 abbrev pub DlsymFits : Type 0

@@ -18,6 +18,7 @@ use Rattle.link_event.specs.declared.hart_end.HartEnd.TheVariants as ends
 use Rattle.link_event.specs.declared.state.Closing.{Closing}
 use Rattle.link_event.specs.declared.state.Loading.{Loading}
 use Rattle.scope_rule.specs.declared.namespace.Namespace.{Namespace}
+use Rattle.scope_rule.specs.Load.{Brings, Load, Stop, Stops, Walk}
 use Rattle.link_history.specs.Accepted.{AcceptsOnly}
 use Rattle.link_history.specs.After.{after}
 use Rattle.link_history.specs.Laws.{IsIn}
@@ -152,6 +153,32 @@ OneOpening = (w : Setting) (past : List Event) (h : ℕ) (ask : OpenAsk) (files 
     → w.files ≡ Some files → Gives w past h (opens ask) given answer → Gives w past h (opens ask) others other → is_chance answer ≡ false
     → is_chance other ≡ false
     → (given ≡ others) × (answer ≡ other)
+
+-- ---- one startup
+
+-- where the files are told a startup starts its run or fails, and each in one way, but for reads that fail
+abbrev pub StartsOrFails : Type 0
+StartsOrFails = (w : Setting) (setup : Setup) (files : List File) (journal failed : List Event) (started : Started) (fault : DlFault) → w.files ≡ Some files
+    → Starts w setup journal started → FailsToStart w setup fault failed → IsTrue (is_read_fault fault)
+
+abbrev pub StartsOneWay : Type 0
+StartsOneWay = (w : Setting) (setup : Setup) (files : List File) (journal others : List Event) (started other : Started) → w.files ≡ Some files
+    → Starts w setup journal started → Starts w setup others other
+    → (journal ≡ others) × (started.functions ≡ other.functions) × (started.entries ≡ other.entries)
+
+abbrev pub FailsOneWay : Type 0
+FailsOneWay = (w : Setting) (setup : Setup) (files : List File) (journal others : List Event) (fault other : DlFault) → w.files ≡ Some files
+    → FailsToStart w setup fault journal → FailsToStart w setup other others → is_read_fault fault ≡ false → is_read_fault other ≡ false
+    → (fault ≡ other) × (journal ≡ others)
+
+-- ---- preload names
+
+-- the names that a program needs before its own are nothing to the load of another object
+abbrev pub BringsWithPreload : Type 0
+BringsWithPreload = (load : Load) (names : List (List ℕ)) (walk : Walk) → load.program ≡ false → Brings load walk → Brings (record load { preload = names }) walk
+
+abbrev pub StopsWithPreload : Type 0
+StopsWithPreload = (load : Load) (names : List (List ℕ)) (why : Stop) → load.program ≡ false → Stops load why → Stops (record load { preload = names }) why
 
 -- ---- the order of refusals
 

@@ -7,10 +7,12 @@ use Rattle.ld_base.specs.declared.fault.DlFault.{DlFault}
 use Rattle.ld_base.specs.declared.linking.Loaded.{Loaded}
 use Rattle.ld_base.specs.declared.object.Reloc.{Reloc}
 use Rattle.link_event.specs.declared.event.Event.{Event}
-use Rattle.link_event.specs.declared.event.Event.TheVariants.{Open}
+use Rattle.link_event.specs.declared.event.Event.TheVariants.{Open, Sym, Tls}
 use Rattle.link_event.specs.declared.event.OpenAnswer.TheVariants.{Done as Loads}
 use Rattle.link_event.specs.declared.event.OpenAsk.{OpenAsk}
 use Rattle.link_event.specs.declared.event.Range.{Range}
+use Rattle.link_event.specs.declared.event.SymAnswer.{SymAnswer}
+use Rattle.link_event.specs.declared.event.SymAsk.{SymAsk}
 use Rattle.link_event.specs.declared.handed.Function.{Function}
 use Rattle.link_served.specs.declared.installs.Installs.{Installs}
 use Rattle.link_served.specs.declared.installs.SlotWord.{SlotWord}
@@ -73,6 +75,14 @@ pub record InstallsNothing (installs : Installs) : Type 0 where
   pub slots : installs.slots ≡ []
   pub areas : installs.areas ≡ []
 
+-- what a look-up, or a request of a block, that appended these events made, in the state after them: the words of the block, where its event is
+-- one of them, and else nothing
+pub data Makes (s : State) : List Event → Installs → Type 0 where
+  a_block : (hart serial address : ℕ) (rest : List Event) (made : Installs) → AreBlockInstalls s hart serial address made
+      → Makes s (Tls hart serial address ∷ rest) made
+  no_block : (hart : ℕ) (ask : SymAsk) (answer : SymAnswer) (made : Installs) → InstallsNothing made → Makes s (Sym hart ask answer ∷ []) made
+  no_event : (made : Installs) → InstallsNothing made → Makes s [] made
+
 -- ---- what a call answers
 
 -- new objects are loaded: what memory gets, and their constructors
@@ -101,8 +111,8 @@ pub record IsTold (w : Setting) (past : List Event) (h : ℕ) (text : Option (Li
   pub gives : Gives w past h asks_fault given (told fault)
   pub is : text ≡ option_map answer_text fault
 
--- what came of a call of the hart, which appended these events; want of memory leaves all as it was. Which files a call found that wasn't told
--- any, the call itself shows: there are some of which this came
+-- what came of a call of the hart, which appended these events; want of memory leaves all as it was. Where no files are told this says that each
+-- path that was read may have held what was found there, and no more: that a read failed, or that a path had no file, the library's counts show
 abbrev pub IsServed : Setting → List Event → ℕ → Call → Served → List Event → Type 0
 IsServed w past h call (served.Done value) given = Gives w past h call given (returns value)
 IsServed w past h call (served.Opened root installs functions) given = IsOpened w past h call root installs functions given

@@ -3,6 +3,7 @@
 ghost use Rattle.link_service.specs.Complete.{Complete, DlsymFits, DlvsymFits, OpensUnlessRefused};
 ghost use Rattle.link_service.specs.Laws.{AgainAppendsNothing, AskFirst, CallersAreThere, EndsKeep, GivesLawful, GivesLegal, OneAnswer, OneOpening};
 ghost use Rattle.link_service.specs.Laws.{FinishesStay, NextFinishes, NextStarts, OneFinalisation, OneInitialisation, OneStart, OpeningBegins};
+ghost use Rattle.link_service.specs.Laws.{BringsWithPreload, FailsOneWay, StartsOneWay, StartsOrFails, StopsWithPreload};
 ghost use Rattle.link_service.specs.Laws.{PassedComeFirst, PassedOpens, RunsAFunction, StartsStay};
 ghost use Rattle.link_service.specs.Laws.{RefusalIsKept, RefusalIsTold, TextIsOfKept, RefusedKeeps, RefusedLeavesMemory, ServesLegal, StagesInOrder, SymbolsInOrder};
 ghost use Rattle.link_service.specs.Laws.{CallersAreHolders, EventsAreOwn, FailsLegal, FewEvents, HartsHaveEntries, OthersAreBase, ServedLegal, StartsLegal};
@@ -51,6 +52,22 @@ pub fn one_answer()
     scope_rule::names_find();
     scope_rule::one_outcome();
 }
+
+/// Failed reads apart, the files settle whether a run starts, and how: its journal, the functions to run
+/// first, and where each hart starts; or the refusal, and the events up to it.
+pub fn one_startup()
+    ensures one { StartsOrFails }
+    ensures starts { StartsOneWay }
+    ensures fails { FailsOneWay }
+{
+    scope_rule::one_outcome();
+}
+
+/// Preload names are the program's: the load of any other object comes to the same whatever they are.
+pub fn preload_is_the_programs()
+    ensures brings { BringsWithPreload }
+    ensures stops { StopsWithPreload }
+{}
 
 /// Of refusals that could stand together the first alone is given; and an opening of which none stands
 /// opens.

@@ -20,7 +20,8 @@ mod worked_calls;
 pub use law::{
     callers_are_there, calls_are_answered, calls_are_legal, constructors_follow,
     destructors_follow, events_are_own, functions_run_in_order, one_answer, one_list_of_functions,
-    refusals_are_told, refusals_come_in_order, refused_calls_leave, served_calls_are_legal,
+    one_startup, preload_is_the_programs, refusals_are_told, refusals_come_in_order,
+    refused_calls_leave, served_calls_are_legal,
 };
 pub use worked_calls::{
     closes_a_held_library, closes_both_libraries, ends_without_a_slot, finds_thread_local_storage,
