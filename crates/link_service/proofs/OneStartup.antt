@@ -163,14 +163,15 @@ added_is setup root other added more ranges others e = cc
 
 -- ---- startup
 
-pub starts_or_fails : OutcomeLaws → (w : Setting) (setup : Setup) (files : List File) (journal failed : List Event) (started : Started) (fault : DlFault) → w.files ≡ Some files
-    → Starts w setup journal started → FailsToStart w setup fault failed → is_read_fault fault ≡ true
-starts_or_fails laws w setup files journal failed started fault told starts (is_not_opened _ may) =
-    by_chance (is_read_fault fault) (not_opened laws w setup files told starts.root starts.added starts.ranges fault starts.opens may)
-starts_or_fails laws w setup files journal failed started fault told starts (lacks_hart root added ranges events _ may lacks) =
-    let same = same_program laws w setup files told starts.root root starts.added added starts.ranges ranges starts.opens may in
-    absurd (harts_or_lack w setup.program (opening setup root added ranges ∷ []) 1 setup.harts starts.found events starts.addresses fault
-    (subst (λ (e : Event). FindHarts w (e ∷ []) 1 setup.harts starts.found starts.addresses) same starts.finds) lacks)
+pub starts_or_fails : OutcomeLaws → (w : Setting) (setup : Setup) (files : List File) (root : ℕ) (added : List Loaded) (ranges : List Range) (found failed : List Event)
+    (addresses : List ℕ) (fault : DlFault) → w.files ≡ Some files → Allowed w [] (opening setup root added ranges)
+    → FindHarts w (opening setup root added ranges ∷ []) 1 setup.harts found addresses → FailsToStart w setup fault failed → is_read_fault fault ≡ true
+starts_or_fails laws w setup files root added ranges found failed addresses fault told first finds (is_not_opened _ may) =
+    by_chance (is_read_fault fault) (not_opened laws w setup files told root added ranges fault first may)
+starts_or_fails laws w setup files root added ranges found failed addresses fault told first finds (lacks_hart other more others events _ may lacks) =
+    let same = same_program laws w setup files told root other added more ranges others first may in
+    absurd (harts_or_lack w setup.program (opening setup other more others ∷ []) 1 setup.harts found events addresses fault
+    (subst (λ (e : Event). FindHarts w (e ∷ []) 1 setup.harts found addresses) same finds) lacks)
 
 pub starts_one_way : OutcomeLaws → (w : Setting) (setup : Setup) (files : List File) (journal others : List Event) (started other : Started) → w.files ≡ Some files
     → Starts w setup journal started → Starts w setup others other → (journal ≡ others) × (started.functions ≡ other.functions) × (started.entries ≡ other.entries)

@@ -40,7 +40,7 @@ use Rattle.link_event.specs.declared.handed.Function.{Function}
 use Rattle.link_service.specs.Functions.{AreConstructors, AreDestructors, AreLeft, AreStartConstructors, left, object_of, passed}
 use Rattle.link_service.specs.Gives.{Gives, Serves}
 use Rattle.link_service.specs.Served.{IsServed, IsTold, answer_text}
-use Rattle.link_service.specs.Startup.{FailsToStart, Starts, harts_of}
+use Rattle.link_service.specs.Startup.{FailsToStart, FindHarts, Starts, harts_of, opening}
 use Rattle.link_served.specs.declared.served.Served.{Served}
 use Rattle.link_served.specs.declared.startup.Setup.{Setup}
 use Rattle.link_served.specs.declared.startup.Started.{Started}
@@ -156,11 +156,13 @@ OneOpening = (w : Setting) (past : List Event) (h : ℕ) (ask : OpenAsk) (files 
 
 -- ---- one startup
 
--- where the files are told a startup starts its run or fails, and each in one way, but for reads that fail
+-- where the files are told, a run whose program loads and whose harts are all found doesn't fail to start, but for reads that fail
 abbrev pub StartsOrFails : Type 0
-StartsOrFails = (w : Setting) (setup : Setup) (files : List File) (journal failed : List Event) (started : Started) (fault : DlFault) → w.files ≡ Some files
-    → Starts w setup journal started → FailsToStart w setup fault failed → IsTrue (is_read_fault fault)
+StartsOrFails = (w : Setting) (setup : Setup) (files : List File) (root : ℕ) (added : List Loaded) (ranges : List Range) (found failed : List Event) (addresses : List ℕ)
+    (fault : DlFault) → w.files ≡ Some files → Allowed w [] (opening setup root added ranges)
+    → FindHarts w (opening setup root added ranges ∷ []) 1 setup.harts found addresses → FailsToStart w setup fault failed → IsTrue (is_read_fault fault)
 
+-- and one that starts or fails does so in one way
 abbrev pub StartsOneWay : Type 0
 StartsOneWay = (w : Setting) (setup : Setup) (files : List File) (journal others : List Event) (started other : Started) → w.files ≡ Some files
     → Starts w setup journal started → Starts w setup others other
