@@ -36,7 +36,7 @@ use Rattle.hart_moves.specs.Copying.{Copy, text_words}
 use Rattle.hart_moves.specs.Due.{Due, Return, by_resolving, due}
 use Rattle.hart_moves.specs.Harts.{Frame, HartState, Purpose}
 use Rattle.hart_moves.specs.Laws.{EndedStays, RunsOut, TurnsAreOwn, TurnsCount, TurnsLegal}
-use Rattle.hart_moves.specs.Moves.{Did, events_of, spent, freed, freed_by, did_by, ended, Ends, Goes, Traps, Trap, trap_of, Refuses, Stops, Comes, Unread, CopiesBy, copied_item, StoresBy, stored_to, passing, AreAllowed, Passes, runs, with_first, after_all, own_fini, Finals, final_functions, Takes, TellsOf, telling, MovesAs, Finalises}
+use Rattle.hart_moves.specs.Moves.{Did, events_of, spent, freed, freed_by, did_by, ended, Ends, Goes, Traps, Trap, trap_of, Refuses, Stops, Comes, Unread, CopiesBy, copied_item, StoresBy, stored_to, passing, AreAllowed, Passes, runs, with_first, after_all, own_fini, Finals, final_functions, Takes, TellsOf, telling, MovesAs, Moves, Finalises}
 
 -- ---- events
 
@@ -310,6 +310,9 @@ keeps w past h b (Due.finalise code object) did c x = keeps_finalising w past h 
 
 pub turns_legal : TurnsLegal
 turns_legal w past h b c did legal moves = legal_with w past (events_of did) legal (keeps w past h b (due (after past) b) did c moves).allowed
+
+pub turns_allowed : (w : Setting) (past : List Event) (h : ℕ) (b c : HartState) (did : Did) → Moves w past h b did c → AreAllowed w past (events_of did)
+turns_allowed w past h b c did moves = (keeps w past h b (due (after past) b) did c moves).allowed
 
 pub turns_own : TurnsAreOwn
 turns_own w past h b c did moves = (keeps w past h b (due (after past) b) did c moves).own

@@ -1,3 +1,9 @@
 pub mod Events
+pub mod Exchanging
+pub mod Offers
+pub mod Places
+pub mod Resolution
+pub mod Settling
 pub mod Starting
+pub mod Turning
 pub mod Words

@@ -1,6 +1,6 @@
 //! What holds of every turn.
 
-ghost use Rattle.world_turns.specs.Laws.{StartIsSound};
+ghost use Rattle.world_turns.specs.Laws.{StartIsSound, TurnsAreSound};
 
 /// A run is sound when it starts: its journal is legal, memory is as the journal says, and no hart has a
 /// slot.
@@ -9,4 +9,22 @@ pub fn runs_start_sound()
 {
     memory_holds::memory_begins();
     memory_holds::events_keep();
+}
+
+/// And every turn leaves it sound: what is settled may be settled, an exchange leaves the winner's value,
+/// events remake memory, and calls of the bus store to words alone that harts may write.
+pub fn turns_stay_sound()
+    ensures { TurnsAreSound }
+{
+    scope_rule::serials_follow();
+    scope_rule::found_stands();
+    scope_rule::reads_candidates();
+    link_history::slots_begin();
+    link_history::none_is_lazy();
+    link_history::images_are_mapped();
+    link_history::memory_changes();
+    memory_holds::events_keep();
+    memory_holds::exchanges_keep();
+    memory_holds::grants_settle();
+    memory_holds::slots_stand();
 }
