@@ -7,6 +7,17 @@ pub record SerialsWithRoom : Type 0 where
   -- how many more there is room for
   pub room : ℕ
 
--- the grant has another number
+pub record GrantTable : Type 0 where
+  -- those that aren't settled yet
+  pub grants : List Granting
+  -- how many were ever made
+  pub count : ℕ
+  -- how many more there is room for
+  pub spare : ℕ
+
+-- the grant has this number, or another one
+abbrev pub has_number : ℕ → Granting → Bool
+has_number number g = g.number == number
+
 abbrev pub is_another : ℕ → Granting → Bool
 is_another number g = not (g.number == number)

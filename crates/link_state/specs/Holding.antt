@@ -1,28 +1,96 @@
 -- The linker's lists are those of the state after its journal.
-use Rattle.std.specs.Prelude.{◌≡◌, ℕ, ◌-◌, ◌≤◌, not, List, filter, length}
+use Rattle.std.specs.Prelude.{◌≡◌, ℕ, ◌-◌, ◌≤◌, not, Bool, List, count_by, filter, length, map, Contains}
+use Rattle.held_edges.specs.Roomy.{EdgesWithRoom}
+use Rattle.image_parts.specs.Parts.{PartsWithRoom, part_of}
+use Rattle.late_blocks.specs.Blocks.{BlockList}
+use Rattle.link_event.specs.declared.event.Range.{Range}
+use Rattle.link_event.specs.declared.state.Block.{Block}
+use Rattle.link_event.specs.declared.state.Closing.{Closing}
+use Rattle.link_event.specs.declared.state.Ending.{Ending}
 use Rattle.link_event.specs.declared.state.Granting.{Granting}
+use Rattle.link_event.specs.declared.state.Kept.{Kept}
+use Rattle.link_event.specs.declared.state.Module.{Module}
+use Rattle.link_graph.specs.declared.graph.Edge.{Edge}
 use Rattle.link_harts.specs.Ends.{EndsOfHarts}
 use Rattle.link_harts.specs.Kept.{KeptTable}
 use Rattle.link_history.specs.Grants.{is_open}
-use Rattle.link_history.specs.Objects.{has}
-use Rattle.link_history.specs.State.{State}
-use Rattle.link_pending.specs.Pending.{SerialsWithRoom}
+use Rattle.link_history.specs.Laws.{HasAll}
+use Rattle.link_history.specs.Links.{held_edges}
+use Rattle.link_history.specs.Objects.{has, is_startup, mapped, serial_of, startup_serials}
+use Rattle.link_history.specs.State.{Linked, State, Statics}
+use Rattle.link_history.specs.Step.{goes_with}
+use Rattle.link_pending.specs.Pending.{GrantTable, SerialsWithRoom}
+use Rattle.load_record.specs.Loads.{LoadTable, is_first}
+use Rattle.pending_closings.specs.Pending.{PendingClosing, PendingList, closing_of}
+use Rattle.reserved_pages.specs.Laid.{RangeList}
 use Rattle.scope_rule.specs.declared.namespace.Namespace.{Namespace}
+use Rattle.tls_blocks.specs.Numbers.{ModuleTable}
+
+-- the lists beside the journal
+pub record Lists : Type 0 where
+  pub ends : EndsOfHarts
+  pub kept : KeptTable
+  pub settling : GrantTable
+  pub unfinished : SerialsWithRoom
+  pub namespaces : List Namespace
+  pub reserved : RangeList
+  pub modules : ModuleTable
+  pub blocks : BlockList
+  pub parts : PartsWithRoom
+  pub edges : EdgesWithRoom
+  pub closings : PendingList
+  pub loads : LoadTable
 
 -- what is kept of harts
-pub record Holds (s : State) (harts : ℕ) (ends : EndsOfHarts) (kept : KeptTable) : Type 0 where
+pub record Holds (ended : List Ending) (refused : List Kept) (harts : ℕ) (ends : EndsOfHarts) (kept : KeptTable) : Type 0 where
   pub same : ends.harts ≡ harts
-  pub endings : ends.endings ≡ s.endings
-  pub faults : kept.kept ≡ s.kept
+  pub endings : ends.endings ≡ ended
+  pub faults : kept.kept ≡ refused
 
 -- what is kept of grants and objects, with room for each object that is still to be initialised
-pub record Runs (grants : List Granting) (next : ℕ) (inits finis : List ℕ) (namespaces : List Namespace) (settling : List Granting) (unfinished : SerialsWithRoom)
+pub record Runs (grants : List Granting) (next : ℕ) (inits finis : List ℕ) (namespaces : List Namespace) (settling : GrantTable) (unfinished : SerialsWithRoom)
     (held : List Namespace) : Type 0 where
-  pub opens : settling ≡ filter is_open grants
+  pub opens : settling.grants ≡ filter is_open grants
+  pub count : settling.count ≡ length grants
   pub serials : unfinished.serials ≡ filter (λ o. not (has finis o)) inits
   pub room : next - 1 - length inits ≤ unfinished.room
   pub spaces : held ≡ namespaces
 
-pub record HoldsAll (s : State) (harts : ℕ) (ends : EndsOfHarts) (kept : KeptTable) (settling : List Granting) (unfinished : SerialsWithRoom) (held : List Namespace) : Type 0 where
-  pub of_harts : Holds s harts ends kept
-  pub running : Runs s.grants s.next s.inits s.finis s.namespaces settling unfinished held
+-- what is kept of memory
+pub record Maps (laid : List Range) (numbered : List Module) (statics : Statics) (changes : ℕ) (got : List Block) (images : List Linked) (reserved : RangeList)
+    (table : ModuleTable) (late : BlockList) (read : PartsWithRoom) : Type 0 where
+  pub ranges : reserved.ranges ≡ laid
+  pub modules : table.modules ≡ numbered
+  pub size : table.size ≡ statics.size
+  pub tp : table.tp ≡ statics.tp
+  pub generation : table.generation ≡ changes
+  pub blocks : late.blocks ≡ got
+  pub parts : read.parts ≡ map part_of images
+
+-- a closing has room for what its unmapping hands out: its objects, and the ranges that go with them
+pub record IsRoomy (serials : List ℕ) (laid : List Range) (p : PendingClosing) : Type 0 where
+  pub objects : count_by (has p.set) serials ≤ p.objects
+  pub ranges : count_by (goes_with p.set) laid ≤ p.ranges
+
+-- what keeps objects mapped, with room for an edge of each grant that is still to be settled; and what waits to be unmapped
+pub record Keeps (held : List Edge) (grants : List Granting) (serials : List ℕ) (laid : List Range) (waiting : List Closing) (edges : EdgesWithRoom) (pending : PendingList) : Type 0 where
+  pub every : HasAll edges.edges held
+  pub only : HasAll held edges.edges
+  pub room : length (filter is_open grants) ≤ edges.room
+  pub closings : map closing_of pending.closings ≡ waiting
+  pub roomy : (p : PendingClosing) → Contains pending.closings p → IsRoomy serials laid p
+
+-- what is kept of openings
+pub record Opens (now : Bool) (number : ℕ) (first_loaded stay : List ℕ) (begins : Bool) (loads : LoadTable) : Type 0 where
+  pub binds : loads.binds ≡ now
+  pub next : loads.next ≡ number
+  pub startup : loads.startup ≡ first_loaded
+  pub pinned : loads.pinned ≡ stay
+  pub first : is_first loads ≡ begins
+
+pub record HoldsAll (s : State) (harts : ℕ) (l : Lists) : Type 0 where
+  pub of_harts : Holds s.endings s.kept harts l.ends l.kept
+  pub running : Runs s.grants s.next s.inits s.finis s.namespaces l.settling l.unfinished l.namespaces
+  pub memory : Maps s.ranges s.modules s.statics s.generation s.blocks s.images l.reserved l.modules l.blocks l.parts
+  pub keeping : Keeps (held_edges s) s.grants (map serial_of (mapped s)) s.ranges s.closings l.edges l.closings
+  pub opening : Opens s.now s.next (startup_serials s) s.pinned (is_startup s) l.loads

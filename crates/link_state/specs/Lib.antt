@@ -1,2 +1,4 @@
 pub mod Holding
+pub mod Inside
+pub mod Settling
 pub mod Table

@@ -8,12 +8,15 @@ use Rattle.link_event.specs.declared.event.Event.{Event}
 use Rattle.link_event.specs.declared.event.Event.TheVariants as events
 use Rattle.link_event.specs.declared.event.OpenAnswer.TheVariants as opens
 use Rattle.link_event.specs.declared.event.SymAnswer.TheVariants as syms
+use Rattle.link_served.specs.declared.installs.Installs.{Installs}
 
 pub record LinkTable : Type 0 where
   -- how many harts there are
   pub harts : ℕ
   -- the journal: the state is the one after it
   pub events : List Event
+  -- what the latest look-up, or request of a block, puts into memory: the block that it made
+  pub made : Installs
 
 -- with one event more
 abbrev pub appended : LinkTable → Event → LinkTable

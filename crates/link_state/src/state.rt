@@ -8,25 +8,37 @@ ghost use Rattle.link_history.specs.Allowed.{MayWrite, kept_for};
 ghost use Rattle.link_history.specs.Legal.{Lawful};
 ghost use Rattle.link_history.specs.Objects.{namespace_of};
 ghost use Rattle.link_history.specs.Owed.{ends_at_most, times_ended};
+ghost use Rattle.link_service.specs.Served.{InstallsNothing};
 ghost use Rattle.lawful_journal.specs.Following.{MayFollow, machine_of};
 ghost use Rattle.object_holders.specs.Holders.{HasNone, IsFound};
 ghost use Rattle.link_state.specs.Table.{appended, refusal, settled};
 
 use crate::reading::namespace_in;
 use crate::refusing::{copy_of, make_room, refusal};
-use crate::running::{base_namespaces, settled};
+use crate::running::{base_namespaces, hold, nothing, settled};
 use accepted_image::one_image;
+use held_edges::HeldEdges;
+use image_parts::ImageParts;
+use late_blocks::LateBlocks;
 use lawful_journal::LawfulJournal;
 use ld_base::{Bytes, DlFault, GrantNo, HartId, NsId, Serial};
 use link_event::{Ask, Event, HartEnd, Journal};
 use link_harts::{HartEnds, KeptFaults};
-use link_history::{events_are_owed, finalised_once, legal_step_by_step, objects_are_read};
+use link_history::{
+    edges_follow, events_are_owed, finalised_once, grants_are_tidy, legal_step_by_step,
+    objects_are_read,
+};
 use link_pending::{OpenGrants, Unfinished};
+use link_served::Installs;
+use load_record::LoadRecord;
 use namespace_changes::make_ready;
 use object_holders::holder_in;
+use pending_closings::PendingClosings;
+use reserved_pages::ReservedPages;
 use scope_rule::Namespace;
 use std::alloc::{AllocError, Global};
 use std::marker::Model;
+use tls_blocks::TlsModules;
 
 /// The state of a linker for so many harts. Contracts see the harts and the events so far.
 #[derive(Drop)]
@@ -38,18 +50,28 @@ pub struct LinkState {
     settling: OpenGrants,
     unfinished: Unfinished,
     namespaces: Vec<Namespace>,
+    reserved: ReservedPages,
+    modules: TlsModules,
+    blocks: LateBlocks,
+    parts: ImageParts,
+    edges: HeldEdges,
+    closings: PendingClosings,
+    loads: LoadRecord,
+    made: Installs,
 }
 
 impl Model for LinkState {
     ghost use Rattle.link_history.specs.After.{after};
     ghost use Rattle.link_state.specs.Table.{LinkTable};
-    ghost use Rattle.link_state.specs.Holding.{HoldsAll};
 
     ghost Value = { LinkTable };
 
-    ghost view = { λ s. record { harts = s.journal.harts; events = s.journal.events } };
+    ghost use Rattle.link_state.specs.Holding.{HoldsAll};
+    ghost use Rattle.link_state.specs.Inside.{lists_of};
 
-    ghost invariant = { λ s. HoldsAll (after s.journal.events) s.journal.harts s.ends s.kept s.settling s.unfinished s.namespaces.items };
+    ghost view = { λ s. record { harts = s.journal.harts; events = s.journal.events; made = s.made } };
+
+    ghost invariant = { λ s. HoldsAll (after s.journal.events) s.journal.harts (lists_of s) };
 }
 
 impl LinkState {
@@ -62,6 +84,7 @@ impl LinkState {
         requires { 1 ≤ harts }
         ensures harts { IfOk result (λ s. s.harts ≡ harts) }
         ensures events { IfOk result (λ s. s.events ≡ []) }
+        ensures made { IfOk result (λ s. InstallsNothing s.made) }
     {
         let ends = HartEnds::new(alloc, harts)?;
         let namespaces = base_namespaces(alloc)?;
@@ -74,6 +97,14 @@ impl LinkState {
             settling: OpenGrants::new(alloc),
             unfinished: Unfinished::new(alloc),
             namespaces,
+            reserved: ReservedPages::new(alloc),
+            modules: TlsModules::new(alloc),
+            blocks: LateBlocks::new(alloc),
+            parts: ImageParts::new(alloc),
+            edges: HeldEdges::new(alloc),
+            closings: PendingClosings::new(alloc),
+            loads: LoadRecord::new(alloc),
+            made: nothing(alloc),
         })
     }
 
@@ -175,7 +206,11 @@ impl LinkState {
         requires { MayFollow self.old.harts self.old.events (settled grant won saw) }
         ensures { self.new ≡ appended self.old (settled grant won saw) }
     {
-        self.settling.settle(grant);
+        grants_are_tidy();
+        edges_follow();
+        let _ = self.journal.journal();
+        let granting = self.settling.settle(grant);
+        hold(&mut self.edges, granting, won);
         self.journal.push_owed(settled(grant, won, saw));
     }
 
@@ -187,6 +222,7 @@ impl LinkState {
         legal_step_by_step();
         events_are_owed();
         finalised_once();
+        edges_follow();
         let _ = self.journal.journal();
         make_ready(self.alloc, self.namespaces.as_mut_slice(), serial);
         self.unfinished.push(serial);

@@ -1,12 +1,12 @@
 use Rattle.link_history.specs.After.{after}
 use Rattle.link_history.specs.Step.{finalise}
+use Rattle.link_state.specs.Inside.{lists_of}
 use Rattle.link_state.proofs.Advance.{all_finalised}
 use Rattle.link_state.proofs.Held.{holds_after}
 use Rattle.link_state.proofs.state.LinkState.finalised.Goals as goal
 
 pub invariant_of-self : goal.invariant_of-self
 invariant_of-self c =
-    holds_after (finalise c.args.serial (after c.self.inside.journal.events)) (after c.push_owed.new.self.events) c.self.inside.journal.harts c.push_owed.new.self.harts c.self.inside.ends
-    c.self.inside.kept c.self.inside.settling c.remove.new.self c.self.inside.namespaces.items c.push_owed.ensures.state c.push_owed.ensures.harts
-    (all_finalised (after c.self.inside.journal.events) c.self.inside.journal.harts c.self.inside.ends c.self.inside.kept c.self.inside.settling c.self.inside.unfinished c.remove.new.self
-    c.self.inside.namespaces.items c.args.serial c.self.invariant c.remove.ensures.serials c.remove.ensures.room)
+    holds_after (finalise c.args.serial (after c.self.inside.journal.events)) (after c.push_owed.new.self.events) c.self.inside.journal.harts c.push_owed.new.self.harts
+    (record (lists_of c.self.inside) { unfinished = c.remove.new.self }) c.push_owed.ensures.state c.push_owed.ensures.harts
+    (all_finalised (after c.self.inside.journal.events) c.self.inside.journal.harts c.args.serial (lists_of c.self.inside) c.remove.new.self c.self.invariant c.remove.ensures.serials c.remove.ensures.room)

@@ -1,12 +1,14 @@
 use Rattle.std.proofs.Common.{◌≡◌, ℕ, ◌+◌, ◌-◌, ◌<◌, ◌≤◌, false, [], ◌∷◌, ◌++◌, length, map, take, drop, sym, subst, arith}
 use Rattle.link_event.specs.declared.event.Event.TheVariants.{Init}
 use Rattle.link_history.specs.After.{after}
+use Rattle.link_history.specs.Held.{EdgesFollow}
 use Rattle.link_history.specs.Laws.{FinalisedOnce}
 use Rattle.link_history.specs.Objects.{has}
 use Rattle.link_history.specs.Owed.{owed}
 use Rattle.link_history.specs.State.{State}
 use Rattle.link_history.specs.Step.{initialise, ready_in}
 use Rattle.lawful_journal.specs.Following.{MayFollow, machine_of}
+use Rattle.link_state.specs.Inside.{lists_of}
 use Rattle.link_state.specs.Table.{LinkTable}
 use Rattle.link_state.proofs.Advance.{all_initialised, not_finished, some_left, written_back}
 use Rattle.link_state.proofs.Held.{holds_after}
@@ -46,9 +48,11 @@ invariant_of-self c =
     ≡ map (ready_in c.args.serial) c.self.inside.namespaces.items =
     written_back (ready_in c.args.serial) c.self.inside.namespaces.items c.as_mut_slice.result.now c.make_ready.new.namespaces c.self.inside.namespaces.len c.as_mut_slice.ensures.value
     c.as_mut_slice.ensures.len c.make_ready.ensures in
-    holds_after (initialise c.args.serial (after c.self.inside.journal.events)) (after c.push_owed.new.self.events) c.self.inside.journal.harts c.push_owed.new.self.harts c.self.inside.ends
-    c.self.inside.kept c.self.inside.settling c.push.new.self (take c.self.inside.namespaces.len (c.make_ready.new.namespaces ++ drop (length c.make_ready.new.namespaces) c.self.inside.namespaces.items))
+    let follow : EdgesFollow (after c.self.inside.journal.events) (Init c.args.hart c.args.serial) =
+    c.edges_follow.ensures.follow (machine_of c.self.inside.journal.harts) next.setting c.self.inside.journal.events (Init c.args.hart c.args.serial) c.journal.ensures.lawful next.may in
+    holds_after (initialise c.args.serial (after c.self.inside.journal.events)) (after c.push_owed.new.self.events) c.self.inside.journal.harts c.push_owed.new.self.harts
+    (record (lists_of c.self.inside) { unfinished = c.push.new.self; namespaces = take c.self.inside.namespaces.len (c.make_ready.new.namespaces ++ drop (length c.make_ready.new.namespaces) c.self.inside.namespaces.items) })
     c.push_owed.ensures.state c.push_owed.ensures.harts
-    (all_initialised (after c.self.inside.journal.events) c.self.inside.journal.harts c.self.inside.ends c.self.inside.kept c.self.inside.settling c.self.inside.unfinished c.push.new.self
-    c.self.inside.namespaces.items (take c.self.inside.namespaces.len (c.make_ready.new.namespaces ++ drop (length c.make_ready.new.namespaces) c.self.inside.namespaces.items)) c.args.serial
-    c.self.invariant unfinished (some_left c.self.inside.journal.harts (after c.self.inside.journal.events) c.args.serial one) c.push.ensures.serials c.push.ensures.room ready)
+    (all_initialised (after c.self.inside.journal.events) c.self.inside.journal.harts c.args.hart c.args.serial (lists_of c.self.inside) c.push.new.self
+    (take c.self.inside.namespaces.len (c.make_ready.new.namespaces ++ drop (length c.make_ready.new.namespaces) c.self.inside.namespaces.items))
+    c.self.invariant follow unfinished (some_left c.self.inside.journal.harts (after c.self.inside.journal.events) c.args.serial one) c.push.ensures.serials c.push.ensures.room ready)

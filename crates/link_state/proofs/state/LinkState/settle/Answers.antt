@@ -1,15 +1,31 @@
-use Rattle.std.proofs.Common.{◌≡◌, ap, ◌∙◌}
+use Rattle.std.proofs.Common.{sym, ap, subst, ◌∙◌}
+use Rattle.std.specs.List.{find}
 use Rattle.link_history.specs.After.{after}
-use Rattle.link_history.specs.Step.{settle, step}
-use Rattle.link_state.proofs.Advance.{all_settled, settled_step, standing_of}
+use Rattle.link_history.specs.Held.{EdgesFollow}
+use Rattle.link_history.specs.Laws.{GrantsAreTidy}
+use Rattle.link_history.specs.Step.{step}
+use Rattle.lawful_journal.specs.Following.{MayFollow, machine_of}
+use Rattle.link_pending.specs.Pending.{has_number}
+use Rattle.link_state.specs.Inside.{lists_of}
+use Rattle.link_state.specs.Table.{LinkTable, settled}
+use Rattle.link_state.proofs.Advance.{all_settled, room_enough}
 use Rattle.link_state.proofs.Held.{holds_after}
 use Rattle.link_state.proofs.state.LinkState.settle.Goals as goal
 
+pub hold-requires : goal.hold-requires
+hold-requires c =
+    room_enough c.args.grant (after c.self.inside.journal.events).grants c.settle-granting.result c.self.inside.edges.room
+    (c.settle-granting.ensures.grant ∙ ap (find (has_number c.args.grant)) c.self.invariant.running.opens) c.self.invariant.keeping.room
+
 pub invariant_of-self : goal.invariant_of-self
 invariant_of-self c =
-    let state : after c.push_owed.new.self.events ≡ settle c.args.grant (standing_of c.args.won c.args.saw) (after c.self.inside.journal.events) =
-    c.push_owed.ensures.state ∙ ap (step (after c.self.inside.journal.events)) c.settled.ensures ∙ settled_step (after c.self.inside.journal.events) c.args.grant c.args.won c.args.saw in
-    holds_after (settle c.args.grant (standing_of c.args.won c.args.saw) (after c.self.inside.journal.events)) (after c.push_owed.new.self.events) c.self.inside.journal.harts
-    c.push_owed.new.self.harts c.self.inside.ends c.self.inside.kept c.settle.new.self c.self.inside.unfinished c.self.inside.namespaces.items state c.push_owed.ensures.harts
-    (all_settled (after c.self.inside.journal.events) c.self.inside.journal.harts c.self.inside.ends c.self.inside.kept c.self.inside.settling c.settle.new.self c.self.inside.unfinished
-    c.self.inside.namespaces.items c.args.grant c.args.won c.args.saw c.self.invariant c.settle.ensures)
+    let next : MayFollow c.self.inside.journal.harts c.self.inside.journal.events (settled c.args.grant c.args.won c.args.saw) =
+    subst (λ (v : LinkTable). MayFollow v.harts v.events (settled c.args.grant c.args.won c.args.saw)) (sym c.self.view_is) c.requires in
+    let follow : EdgesFollow (after c.self.inside.journal.events) (settled c.args.grant c.args.won c.args.saw) =
+    c.edges_follow.ensures.follow (machine_of c.self.inside.journal.harts) next.setting c.self.inside.journal.events (settled c.args.grant c.args.won c.args.saw) c.journal.ensures.lawful next.may in
+    let tidy : GrantsAreTidy (after c.self.inside.journal.events) = c.grants_are_tidy.ensures (machine_of c.self.inside.journal.harts) c.self.inside.journal.events c.journal.ensures.lawful in
+    holds_after (step (after c.self.inside.journal.events) (settled c.args.grant c.args.won c.args.saw)) (after c.push_owed.new.self.events) c.self.inside.journal.harts c.push_owed.new.self.harts
+    (record (lists_of c.self.inside) { settling = c.settle-granting.new.self; edges = c.hold.new.edges })
+    (c.push_owed.ensures.state ∙ ap (step (after c.self.inside.journal.events)) c.settled.ensures) c.push_owed.ensures.harts
+    (all_settled (after c.self.inside.journal.events) c.self.inside.journal.harts c.args.grant c.args.won c.args.saw (lists_of c.self.inside) c.settle-granting.new.self c.hold.new.edges c.settle-granting.result
+    c.self.invariant follow tidy c.settle-granting.ensures.grants c.settle-granting.ensures.count c.settle-granting.ensures.grant c.hold.ensures.edges c.hold.ensures.room)
