@@ -1,9 +1,7 @@
 -- Where names are, by what is looked up.
-use Rattle.std.proofs.Common.{◌≡◌, ℕ, ◌+◌, ◌*◌, ◌<◌, Bool, true, false, List, Some, None, cond, refl, arith, length}
-use Rattle.std.specs.Prelude.{Option, option_map, position, nat_lt}
-use Rattle.std.specs.List.{position_or_len}
+use Rattle.std.proofs.Common.{◌≡◌, ℕ, ◌+◌, ◌*◌, true, false, List, Some, None, refl}
+use Rattle.std.specs.Prelude.{Option, option_map, position}
 use Rattle.std.specs.Str.{bytes_eq}
-use Rattle.std.proofs.lemmas.Bool.Decides.{nat_tests}
 use Rattle.asm_statement.specs.declared.line.Line.{Line}
 use Rattle.elf_write.specs.declared.part.Part.TheVariants as parts
 use Rattle.asm_layout.specs.declared.uses.GotUse.{GotUse}
@@ -12,21 +10,6 @@ use Rattle.asm_layout.specs.Names.{is_preemptible}
 use Rattle.asm_layout.specs.Parts.{start_of}
 use Rattle.asm_layout.specs.Uses.{slots, got_uses, same_use}
 use Rattle.asm_layout.specs.Words.{address_at, got_plt_address, label_address, slot_address, call_address, words_before, got_address}
-
--- the first that passes is one of them
-pub position_below : {X : Type 0} (p : X → Bool) (xs : List X) (k : ℕ) → Some k ≡ position p xs → k < length xs
-position_below p xs k is =
-    let first = position_or_len p xs in
-    let n = length xs in
-    let P : Bool → Type 0 = λ there. nat_lt first n ≡ there → Some k ≡ cond there (Some first) None → k < n in
-    let cases : (there : Bool) → P there = λ there. elim there as P [
-      | true ↦ λ e h. let same : k ≡ first = cc in below k first n same e
-      | false ↦ λ e h. absurd (cc h)
-    ] in
-    cases (nat_lt first n) refl is
-  where
-    below : (k first n : ℕ) → k ≡ first → nat_lt first n ≡ true → k < n
-    below k first n same e = grind (arith, nat_tests)
 
 pub label_there : (lines : List Line) (name : List ℕ) (line : ℕ) → Some line ≡ position (defines name) lines
     → Some (address_at lines line) ≡ label_address lines name

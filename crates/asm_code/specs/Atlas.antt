@@ -7,6 +7,7 @@ use Rattle.asm_layout.specs.Places.{section_number}
 use Rattle.asm_layout.specs.Parts.{start_of, section_start}
 use Rattle.asm_places.specs.Counts.{ArePlacesOf}
 use Rattle.asm_uses.specs.Uses.{AreUsesOf}
+use Rattle.asm_needs.specs.Files.{AreFilesOf}
 use Rattle.asm_code.specs.declared.atlas.Bases.{Bases}
 use Rattle.asm_code.specs.declared.atlas.Atlas.{Atlas}
 
@@ -23,5 +24,6 @@ pub record AreBasesOf (lines : List Line) (bases : Bases) : Type 0 where
 
 pub record IsAtlasOf (lines : List Line) (atlas : Atlas) : Type 0 where
   pub uses : AreUsesOf lines atlas.uses.now
+  pub needed : AreFilesOf lines atlas.needed.now
   pub places : ArePlacesOf lines atlas.places.now
   pub bases : AreBasesOf lines atlas.bases.now

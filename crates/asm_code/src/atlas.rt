@@ -2,7 +2,7 @@
 
 ghost use Rattle.std.specs.Prelude.{◌≡◌, ◌+◌, ◌*◌, ◌^◌, ◌<◌, List, length, IfSome, Some, ℕ, ℤ, true};
 ghost use Rattle.asm_statement.specs.declared.line.Line.{Line};
-ghost use Rattle.asm_layout.specs.Places.{place_at, section_number};
+ghost use Rattle.asm_layout.specs.Places.{place_at};
 ghost use Rattle.asm_layout.specs.Words.{address, address_at, got_plt_address, label_address, slot_address, call_address, got_address, operand_value, distance};
 ghost use Rattle.asm_layout.specs.Faults.{number_fits};
 ghost use Rattle.asm_uses.specs.Operands.{operand_as};
@@ -10,8 +10,8 @@ ghost use Rattle.asm_code.specs.Atlas.{section_base, IsAtlasOf};
 ghost use Rattle.asm_code.specs.Encoded.{IsModest, MayBe};
 
 use asm_layout::{GotKind, Place};
-use asm_places::{Places, value_of};
-use asm_statement::Section;
+use asm_needs::NeededFiles;
+use asm_places::{Places, section_number, value_of};
 use asm_uses::{Operand, Uses, is_got_plt};
 
 /// Where the sections and the tables that code goes by start.
@@ -31,24 +31,9 @@ pub struct Bases {
 #[derive(Clone, Copy)]
 pub(crate) struct Atlas<'a> {
     pub uses: &'a Uses,
+    pub needed: &'a NeededFiles,
     pub places: &'a Places,
     pub bases: &'a Bases,
-}
-
-/// The number of a section.
-fn number(section: Section) -> usize
-    ensures value { result ≡ section_number section }
-    ensures bound { result < 7 }
-{
-    match section {
-        Section::Text => 0,
-        Section::Rodata => 1,
-        Section::Relro => 2,
-        Section::Data => 3,
-        Section::Bss => 4,
-        Section::Tdata => 5,
-        Section::Tbss => 6,
-    }
 }
 
 /// The address at which a table starts.
@@ -81,7 +66,7 @@ impl<'a> Atlas<'a> {
         ensures value { (lines : List Line) → IsAtlasOf lines self.entry → result ≡ address lines place }
         ensures bound { result < 2 ^ 65 }
     {
-        let base = self.bases.sections[number(place.section)];
+        let base = self.bases.sections[section_number(place.section)];
         u128::from(base) + u128::from(place.offset)
     }
 

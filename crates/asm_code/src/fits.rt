@@ -25,7 +25,22 @@ pub fn directive_fits(directive: &Directive) -> bool
         Directive::Data(size, number) => fits_data(*size, *number),
         Directive::Zero(number) | Directive::Copy(_, number) => fits_count(*number),
         Directive::Dword(value) => dword_fits(value),
-        _ => true,
+        Directive::Soname(_)
+        | Directive::Needed(_)
+        | Directive::Entry(_)
+        | Directive::Export(..)
+        | Directive::Weak(_)
+        | Directive::Version(_)
+        | Directive::Entries(..)
+        | Directive::Section(_)
+        | Directive::Kind(_)
+        | Directive::Hash(_)
+        | Directive::Flags(_)
+        | Directive::Symver(_)
+        | Directive::Need(_)
+        | Directive::Asciz(_)
+        | Directive::Align(_)
+        | Directive::Relr => true,
     }
 }
 

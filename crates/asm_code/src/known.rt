@@ -2,7 +2,7 @@
 
 ghost use Rattle.std.specs.Prelude.{◌≡◌, List};
 ghost use Rattle.asm_statement.specs.declared.line.Line.{Line};
-ghost use Rattle.asm_layout.specs.Faults.{is_known, is_usable, operand_is_known, dword_is_known, directive_is_known, statement_is_known};
+ghost use Rattle.asm_layout.specs.Faults.{has_symbol, is_known, is_usable, operand_is_known, dword_is_known, directive_is_known, statement_is_known};
 ghost use Rattle.asm_uses.specs.Operands.{operand_as};
 ghost use Rattle.asm_uses.specs.Uses.{AreUsesOf};
 
@@ -21,6 +21,13 @@ fn is_usable(uses: &Uses, name: &[u8]) -> bool
     ensures { (lines : List Line) → AreUsesOf lines uses.now → result ≡ is_usable lines name.now }
 {
     is_known(uses, name) || !is_got_plt(name)
+}
+
+/// Whether the name is one that a symbol may have; the start of `.got.plt` has none.
+fn has_symbol(uses: &Uses, name: &[u8]) -> bool
+    ensures { (lines : List Line) → AreUsesOf lines uses.now → result ≡ has_symbol lines name.now }
+{
+    uses.labels.contains(name) || !is_got_plt(name)
 }
 
 fn operand_is_known(uses: &Uses, operand: Operand<'_>) -> bool
@@ -58,10 +65,22 @@ fn directive_is_known(uses: &Uses, directive: &Directive) -> bool
         Directive::Entry(name) | Directive::Entries(_, name) => is_known(uses, name.as_bytes()),
         Directive::Export(_, name) => uses.labels.contains(name.as_bytes()),
         Directive::Symver(symver) => symver_is_known(uses, symver),
-        Directive::Weak(name) => is_usable(uses, name.as_bytes()),
-        Directive::Need(need) => is_usable(uses, need.name.as_bytes()),
+        Directive::Weak(name) => has_symbol(uses, name.as_bytes()),
+        Directive::Need(need) => has_symbol(uses, need.name.as_bytes()),
         Directive::Dword(value) => dword_is_known(uses, value),
-        _ => true,
+        Directive::Soname(_)
+        | Directive::Needed(_)
+        | Directive::Version(_)
+        | Directive::Data(..)
+        | Directive::Zero(_)
+        | Directive::Section(_)
+        | Directive::Kind(_)
+        | Directive::Hash(_)
+        | Directive::Flags(_)
+        | Directive::Asciz(_)
+        | Directive::Align(_)
+        | Directive::Relr
+        | Directive::Copy(..) => true,
     }
 }
 

@@ -18,6 +18,7 @@ mod lines;
 mod registers;
 mod sections;
 mod single;
+mod versions;
 mod words;
 
 pub use atlas::Bases;

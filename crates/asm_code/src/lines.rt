@@ -17,6 +17,7 @@ use crate::fits::{directive_fits, number_fits};
 use crate::instructions::words;
 use crate::known::statement_is_known;
 use crate::sections::may_stand;
+use crate::versions::version_fits;
 use asm_layout::Place;
 use asm_statement::{Instruction, Line, Section, Statement};
 use asm_uses::{Operand, Uses};
@@ -50,7 +51,7 @@ impl<'a> Atlas<'a> {
         match statement {
             None => Some(LineWords::Nothing),
             Some(Statement::Directive(directive)) => {
-                if directive_fits(directive) {
+                if directive_fits(directive) && version_fits(self.uses, self.needed, directive) {
                     Some(LineWords::Nothing)
                 } else {
                     None

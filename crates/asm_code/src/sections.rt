@@ -32,7 +32,12 @@ fn is_bss(section: Section) -> bool
 {
     match section {
         Section::Bss => true,
-        _ => false,
+        Section::Text
+        | Section::Rodata
+        | Section::Relro
+        | Section::Data
+        | Section::Tdata
+        | Section::Tbss => false,
     }
 }
 
@@ -41,7 +46,12 @@ fn is_text(section: Section) -> bool
 {
     match section {
         Section::Text => true,
-        _ => false,
+        Section::Rodata
+        | Section::Relro
+        | Section::Data
+        | Section::Bss
+        | Section::Tdata
+        | Section::Tbss => false,
     }
 }
 
@@ -54,7 +64,22 @@ fn directive_may_stand(section: Section, directive: &Directive) -> bool
         Directive::Dword(Doubleword::Number(_)) => !holds_zeros(section),
         Directive::Dword(Doubleword::Address(..)) => holds_addresses(section),
         Directive::Copy(..) => is_bss(section),
-        _ => true,
+        Directive::Soname(_)
+        | Directive::Needed(_)
+        | Directive::Entry(_)
+        | Directive::Export(..)
+        | Directive::Weak(_)
+        | Directive::Version(_)
+        | Directive::Entries(..)
+        | Directive::Zero(_)
+        | Directive::Section(_)
+        | Directive::Kind(_)
+        | Directive::Hash(_)
+        | Directive::Flags(_)
+        | Directive::Symver(_)
+        | Directive::Need(_)
+        | Directive::Align(_)
+        | Directive::Relr => true,
     }
 }
 

@@ -5,6 +5,7 @@ ghost use Rattle.asm_layout.specs.Faults.{fault_at, HasNoFault};
 ghost use Rattle.asm_layout.specs.Words.{words_at};
 ghost use Rattle.asm_statement.specs.declared.line.Line.{Line};
 ghost use Rattle.asm_uses.specs.Uses.{AreUsesOf};
+ghost use Rattle.asm_needs.specs.Files.{AreFilesOf};
 ghost use Rattle.asm_places.specs.Counts.{ArePlacesOf};
 ghost use Rattle.asm_code.specs.Atlas.{AreBasesOf, IsAtlasOf};
 ghost use Rattle.asm_code.specs.Code.{AreWordsOf, IsFaultAt, TellsOf};
@@ -12,6 +13,7 @@ ghost use Rattle.asm_code.specs.Encoded.{word_list};
 
 use crate::atlas::{Atlas, Bases};
 use crate::encoding::LineWords;
+use asm_needs::NeededFiles;
 use asm_places::Places;
 use asm_statement::{AsmFault, Line, Statements};
 use asm_uses::Uses;
@@ -42,10 +44,12 @@ pub fn line_words(
     alloc: Global,
     statements: &Statements,
     uses: &Uses,
+    needed: &NeededFiles,
     places: &Places,
     bases: &Bases,
 ) -> Result<Sequence<LineWords>, AsmFault>
     requires uses { AreUsesOf statements.now uses.now }
+    requires needed { AreFilesOf statements.now needed.now }
     requires places { ArePlacesOf statements.now places.now }
     requires bases { AreBasesOf statements.now bases.now }
     ensures accepted { IfOk result (λ words. HasNoFault statements.now) }
@@ -54,6 +58,7 @@ pub fn line_words(
 {
     let atlas = Atlas {
         uses,
+        needed,
         places,
         bases,
     };

@@ -1,1 +1,5 @@
+pub mod Among
+pub mod Distinct
+pub mod Firsts
 pub mod Forms
+pub mod Offsets

@@ -15,7 +15,7 @@ use Rattle.asm_layout.specs.Spots.{label_spot, sections_of}
 use Rattle.asm_layout.specs.Symbols.{sorted_exports, first_export, symbol_index, import_entries, export_entries}
 use Rattle.asm_layout.specs.Tables.{soname, needed, hash_of, has_gnu, has_sysv, flags_of, versions}
 use Rattle.asm_layout.specs.Uses.{slots, imports}
-use Rattle.asm_layout.specs.Versions.{needed_files, file_versions, has_versions, records_for, need_records, needed_records, strings_length, word}
+use Rattle.asm_layout.specs.Versions.{needed_files, file_versions, has_versions, records_for, need_records, needed_records, first_needed, strings_length, word}
 -- where a program begins: at the label of .entry, the last one, or at `_start` where there is such a label
 use Rattle.std.specs.Prelude.{fold, codes}
 
@@ -88,7 +88,7 @@ contents_of lines = record {
   has_versions = has_versions lines;
   versions = records_for (unwrap_or (soname lines) []) (unwrap_or (soname_offset (soname lines)) 0) (versions_at lines) (versions lines);
   files = need_records lines 0 (files_at lines) (needed_files lines);
-  needed_versions = needed_records lines (2 + length (versions lines)) (needed_versions_at lines) (needed_files lines);
+  needed_versions = needed_records lines (first_needed lines) (needed_versions_at lines) (needed_files lines);
   slots = map (symbol_index lines) (slots lines);
   fixes = fixes_of lines;
   sections = sections_of lines;

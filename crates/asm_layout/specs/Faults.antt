@@ -3,6 +3,7 @@ use Rattle.std.specs.Prelude.{◌≡◌, ℕ, ◌+◌, ◌^◌, ◌-◌, ◌<◌
 use Rattle.std.specs.Prelude.{nat_lt, int_le, int_lt, if◌then◌else◌, List, [], ◌∷◌, length, take, Option, Some, None, slice_get, is_some}
 use Rattle.std.specs.Str.{bytes_eq}
 use Rattle.std.specs.List.{list_any, list_all}
+use Rattle.std.specs.Option.{option_map_or}
 use Rattle.rv_isa.specs.declared.instr.Instr.{Instr}
 use Rattle.rv_isa.specs.declared.instr.Instr.TheVariants as instrs
 use Rattle.rv_isa.specs.Opcodes.{Upper as UpperForm, Number as Plain, Shift, imm_code}
@@ -15,6 +16,7 @@ use Rattle.asm_statement.specs.declared.directive.Directive.{Directive}
 use Rattle.asm_statement.specs.declared.directive.Directive.TheVariants as directives
 use Rattle.asm_statement.specs.declared.directive.Doubleword.{Doubleword}
 use Rattle.asm_statement.specs.declared.directive.Doubleword.TheVariants as doublewords
+use Rattle.asm_statement.specs.declared.directive.Need.{Need}
 use Rattle.asm_statement.specs.declared.instruction.Instruction.{Instruction}
 use Rattle.asm_statement.specs.declared.line.Statement.{Statement}
 use Rattle.asm_statement.specs.declared.line.Statement.TheVariants as statements
@@ -26,6 +28,7 @@ use Rattle.asm_layout.specs.Labels.{is_label, is_taken, defined_by}
 use Rattle.asm_layout.specs.Names.{is_got_plt}
 use Rattle.asm_layout.specs.Uses.{slots}
 use Rattle.asm_layout.specs.Tables.{versions}
+use Rattle.asm_layout.specs.Versions.{defined_number, needed_number, first_needed}
 use Rattle.asm_layout.specs.Words.{instrs_at}
 
 -- Numbers and distances
@@ -96,8 +99,20 @@ directive_fits (directives.Dword value) = dword_fits value
 directive_fits (directives.Copy name size) = fits_count size
 directive_fits _ = true
 
+-- the index of a version has 15 bits, since the sixteenth hides a symbol: the line is refused whose version has a greater one
+abbrev pub is_version_index : ℕ → Bool
+is_version_index index = nat_lt index 0x8000
+
+abbrev pub need_fits : List Line → Need → Bool
+need_fits lines need = option_map_or (λ number. is_version_index (first_needed lines + number)) (needed_number lines need.file need.version) true
+
+abbrev pub version_fits : List Line → Directive → Bool
+version_fits lines (directives.Version name) = is_version_index (defined_number lines name)
+version_fits lines (directives.Need need) = need_fits lines need
+version_fits lines _ = true
+
 abbrev pub statement_fits : List Line → ℕ → Statement → Bool
-statement_fits lines k (statements.Directive directive) = directive_fits directive
+statement_fits lines k (statements.Directive directive) = directive_fits directive && version_fits lines directive
 statement_fits lines k (statements.Instruction instruction) = instruction_fits lines k instruction
 
 -- Labels and versions
@@ -109,6 +124,10 @@ is_known lines name = is_label lines name || (is_got_plt name && nat_lt 0 (lengt
 -- a name that may be another object's; the start of .got.plt is none
 abbrev pub is_usable : List Line → List ℕ → Bool
 is_usable lines name = is_known lines name || not (is_got_plt name)
+
+-- a name that a symbol may have; the start of .got.plt has none
+abbrev pub has_symbol : List Line → List ℕ → Bool
+has_symbol lines name = is_label lines name || not (is_got_plt name)
 
 abbrev pub operand_is_known : List Line → Operand → Bool
 operand_is_known lines Registers = true
@@ -128,8 +147,8 @@ directive_is_known lines (directives.Entry name) = is_known lines name
 directive_is_known lines (directives.Entries array name) = is_known lines name
 directive_is_known lines (directives.Export export name) = is_label lines name
 directive_is_known lines (directives.Symver symver) = is_label lines symver.label && list_any (bytes_eq symver.version) (versions lines)
-directive_is_known lines (directives.Weak name) = is_usable lines name
-directive_is_known lines (directives.Need need) = is_usable lines need.name
+directive_is_known lines (directives.Weak name) = has_symbol lines name
+directive_is_known lines (directives.Need need) = has_symbol lines need.name
 directive_is_known lines (directives.Dword value) = dword_is_known lines value
 directive_is_known lines _ = true
 

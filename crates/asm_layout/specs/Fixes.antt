@@ -12,6 +12,7 @@ use Rattle.elf_write.specs.declared.contents.Way.{Way}
 use Rattle.elf_write.specs.declared.contents.Way.TheVariants as ways
 use Rattle.elf_write.specs.declared.part.Part.{Part}
 use Rattle.elf_write.specs.declared.part.Part.TheVariants as parts
+use Rattle.elf_write.specs.Starts.{wrapped}
 use Rattle.asm_statement.specs.declared.directive.Array.TheVariants as arrays
 use Rattle.asm_statement.specs.declared.directive.Section.{Section}
 use Rattle.asm_statement.specs.declared.directive.Section.TheVariants as sections
@@ -66,10 +67,14 @@ address_fix lines spot name addend = record {
   addend = addend;
 }
 
+-- so far behind the start of a table; offsets are numbers of 64 bits
+abbrev pub table_spot : Part → ℕ → Spot
+table_spot part offset = record { part = part; offset = wrapped offset }
+
 -- what of a thread-local name
 abbrev pub tls_fix : List Line → FixKind → ℕ → List ℕ → Fix
 tls_fix lines kind offset name = record {
-  spot = record { part = parts.Got; offset = offset };
+  spot = table_spot parts.Got offset;
   way = ways.Listed;
   kind = kind;
   target = target_of lines name;
@@ -78,7 +83,7 @@ tls_fix lines kind offset name = record {
 
 -- the words of the global offset table
 abbrev pub got_fix : List Line → ℕ → List ℕ → GotKind → List Fix
-got_fix lines offset name gots.Address = address_fix lines (record { part = parts.Got; offset = offset }) name 0 ∷ []
+got_fix lines offset name gots.Address = address_fix lines (table_spot parts.Got offset) name 0 ∷ []
 got_fix lines offset name gots.Pair = tls_fix lines kinds.Module offset name ∷ tls_fix lines kinds.Offset (offset + 8) name ∷ []
 got_fix lines offset name gots.Offset = tls_fix lines kinds.ThreadOffset offset name ∷ []
 
@@ -89,7 +94,7 @@ got_fixes lines offset (got ∷ uses) = got_fix lines offset got.name got.kind +
 -- the entries of an array
 abbrev pub array_fix : List Line → Part → ℕ → List ℕ → Fix
 array_fix lines part offset name = record {
-  spot = record { part = part; offset = offset };
+  spot = table_spot part offset;
   way = array_way lines;
   kind = kinds.Address;
   target = targets.Own (own_spot lines name);

@@ -7,6 +7,7 @@ pub mod Labels
 pub mod Names
 pub mod Numbers
 pub mod Object
+pub mod Once
 pub mod Parts
 pub mod Places
 pub mod Spots

@@ -1,8 +1,8 @@
 -- The versions that the object defines and needs (Drepper, "ELF Symbol Versioning").
-use Rattle.std.specs.Prelude.{ℕ, ◌+◌, ◌*◌, ◌%◌, ◌^◌, ◌||◌, ◌&&◌, Bool, nat_lt, if◌then◌else◌, List, [], ◌∷◌, ◌++◌, map, filter, flat_map, length, sum_by}
-use Rattle.std.specs.Prelude.{unwrap_or, position}
+use Rattle.std.specs.Prelude.{ℕ, ◌+◌, ◌*◌, ◌%◌, ◌^◌, ◌||◌, ◌&&◌, not, Bool, nat_lt, if◌then◌else◌, List, [], ◌∷◌, ◌++◌, map, filter, take, length, sum_by}
+use Rattle.std.specs.Prelude.{Option, option_map, unwrap_or, position}
 use Rattle.std.specs.Str.{bytes_eq}
-use Rattle.std.specs.List.{list_all}
+use Rattle.std.specs.List.{list_any}
 use Rattle.elf_write.specs.declared.contents.NeedRecord.{NeedRecord}
 use Rattle.elf_write.specs.declared.contents.NeededVersion.{NeededVersion}
 use Rattle.elf_write.specs.declared.contents.VersionRecord.{VersionRecord}
@@ -26,28 +26,35 @@ needed_files lines = distinct_names (map (λ need. need.file) (needs lines))
 abbrev pub is_of_file : List ℕ → Need → Bool
 is_of_file file need = bytes_eq file need.file
 
-abbrev pub is_of_version : List ℕ → List ℕ → Need → Bool
-is_of_version file version need = bytes_eq file need.file && bytes_eq version need.version
-
 unfoldable pub file_versions : List Line → List ℕ → List (List ℕ)
 file_versions lines file = distinct_names (map (λ need. need.version) (filter (is_of_file file) (needs lines)))
 
--- all of them, file by file: a file and a version
-unfoldable pub needed_pairs : List Line → List (List ℕ × List ℕ)
-needed_pairs lines = flat_map (λ file. map (λ version. (file, version)) (file_versions lines file)) (needed_files lines)
+-- how many versions are needed of files
+abbrev pub version_count : List Line → List (List ℕ) → ℕ
+version_count lines files = sum_by (λ file. length (file_versions lines file)) files
 
 abbrev pub has_versions : List Line → Bool
 has_versions lines = nat_lt 0 (length (versions lines)) || nat_lt 0 (length (needs lines))
 
--- indexes: 1 is the object's own, then come the versions that it defines, then those that it needs
-abbrev pub defined_index : List Line → List ℕ → ℕ
-defined_index lines version = half (2 + unwrap_or (position (bytes_eq version) (versions lines)) 0)
+-- indexes: 1 is the object's own, then come the versions that it defines, then those that it needs, file by file
+abbrev pub defined_number : List Line → List ℕ → ℕ
+defined_number lines version = 2 + unwrap_or (position (bytes_eq version) (versions lines)) 0
 
-abbrev pub is_pair : List ℕ → List ℕ → List ℕ × List ℕ → Bool
-is_pair file version pair = bytes_eq file pair.0 && bytes_eq version pair.1
+abbrev pub defined_index : List Line → List ℕ → ℕ
+defined_index lines version = half (defined_number lines version)
+
+-- how many versions are needed of the files before one, and the number of a needed version among all of them, from 0
+abbrev pub versions_before : List Line → List ℕ → ℕ
+versions_before lines file = version_count lines (take (unwrap_or (position (bytes_eq file) (needed_files lines)) 0) (needed_files lines))
+
+unfoldable pub needed_number : List Line → List ℕ → List ℕ → Option ℕ
+needed_number lines file version = option_map (λ at. versions_before lines file + at) (position (bytes_eq version) (file_versions lines file))
+
+abbrev pub first_needed : List Line → ℕ
+first_needed lines = 2 + length (versions lines)
 
 abbrev pub needed_index : List Line → List ℕ → List ℕ → ℕ
-needed_index lines file version = half (2 + length (versions lines) + unwrap_or (position (is_pair file version) (needed_pairs lines)) 0)
+needed_index lines file version = half (first_needed lines + unwrap_or (needed_number lines file version) 0)
 
 -- the versions that are defined, from an index and the offset of the first name on; the record of the next stands 28 bytes behind
 abbrev pub next_version : List (List ℕ) → ℕ
@@ -82,16 +89,22 @@ need_records lines before at (file ∷ files) =
       next = next_need files;
     } ∷ need_records lines (before + length (file_versions lines file)) (at + length file + 1) files
 
--- VER_FLG_WEAK (2) where every need of the version is weak
-abbrev pub are_weak : List Need → List ℕ → List ℕ → Bool
-are_weak needs file version = list_all (λ need. need.is_weak) (filter (is_of_version file version) needs)
+-- VER_FLG_WEAK (2) where every need of the version is weak, so that none of them is strong
+abbrev pub is_strong_need : List ℕ → Need → Bool
+is_strong_need file need = bytes_eq file need.file && not need.is_weak
+
+unfoldable pub strong_versions : List Line → List ℕ → List (List ℕ)
+strong_versions lines file = distinct_names (map (λ need. need.version) (filter (is_strong_need file) (needs lines)))
+
+abbrev pub version_flags : List Line → List ℕ → List ℕ → ℕ
+version_flags lines file version = if list_any (bytes_eq version) (strong_versions lines file) then 0 else 2
 
 abbrev pub needed_of : List Line → List ℕ → ℕ → ℕ → List (List ℕ) → List NeededVersion
 needed_of lines file index at [] = []
 needed_of lines file index at (version ∷ rest) =
     record {
       hash = sysv_hash version;
-      flags = if are_weak (needs lines) file version then 2 else 0;
+      flags = version_flags lines file version;
       index = half index;
       name = word at;
       next = next_need rest;

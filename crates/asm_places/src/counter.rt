@@ -17,8 +17,8 @@ pub struct Counter {
     pub filled: [u64; 7],
 }
 
-/// The number of a section.
-fn number(section: Section) -> usize
+/// The number of a section, in the order in which lists of sections have them.
+pub fn section_number(section: Section) -> usize
     ensures value { result ≡ section_number section }
     ensures bound { result < 7 }
 {
@@ -61,7 +61,7 @@ impl Counter {
     pub fn filled(&self, section: Section) -> u64
         ensures { result ≡ filled_of self.now section }
     {
-        self.filled[number(section)]
+        self.filled[section_number(section)]
     }
 
     /// What one more line leaves; None where a section would pass 64 bits.
@@ -71,7 +71,7 @@ impl Counter {
         let size = size_at(self.filled(self.section), line)?;
         let end = self.filled(self.section).checked_add(size)?;
         let mut filled = self.filled;
-        filled[number(self.section)] = end;
+        filled[section_number(self.section)] = end;
         Some(Counter {
             section: next_section(self.section, line),
             filled,

@@ -10,9 +10,10 @@ mod numbers;
 mod places;
 mod sizes;
 
-pub use counter::Counter;
+pub use counter::{Counter, section_number};
 pub use numbers::{
     count_of, fits_addend, fits_addi, fits_count, fits_data, fits_dword, fits_li, fits_upper,
     value_of,
 };
 pub use places::Places;
+pub use sizes::padding;

@@ -8,7 +8,7 @@ use crate::numbers::{count_of, fits_addi};
 use asm_statement::{Alignment, DataSize, Directive, Instruction, Line, Statement};
 
 /// How many bytes stand between an offset and the next multiple of the alignment.
-fn padding(offset: u64, alignment: Alignment) -> u64
+pub fn padding(offset: u64, alignment: Alignment) -> u64
     ensures { result ≡ padding offset alignment }
 {
     let bytes = alignment.bytes();
@@ -34,7 +34,23 @@ fn words_in(instruction: &Instruction) -> u64
     match instruction {
         Instruction::Call(_) | Instruction::Tail(_) | Instruction::Address(..) => 2,
         Instruction::Li(_, number) => { if fits_addi(*number) { 1 } else { 2 } }
-        _ => 1,
+        Instruction::Plain(_)
+        | Instruction::Jump(_)
+        | Instruction::Jal(..)
+        | Instruction::BranchZero(..)
+        | Instruction::Branch(..)
+        | Instruction::Upper(..)
+        | Instruction::Load(..)
+        | Instruction::Store(..)
+        | Instruction::Imm(..)
+        | Instruction::Op(..)
+        | Instruction::Amo(..)
+        | Instruction::Lr(..)
+        | Instruction::Sc(..)
+        | Instruction::Jalr(..)
+        | Instruction::Mv(..)
+        | Instruction::Jr(_)
+        | Instruction::Fence(_) => 1,
     }
 }
 
@@ -49,7 +65,20 @@ fn directive_size(offset: u64, directive: &Directive) -> Option<u64>
         Directive::Dword(_) => Some(8),
         Directive::Asciz(text) => (text.len() as u64).checked_add(1),
         Directive::Align(alignment) => Some(padding(offset, *alignment)),
-        _ => Some(0),
+        Directive::Soname(_)
+        | Directive::Needed(_)
+        | Directive::Entry(_)
+        | Directive::Export(..)
+        | Directive::Weak(_)
+        | Directive::Version(_)
+        | Directive::Entries(..)
+        | Directive::Section(_)
+        | Directive::Kind(_)
+        | Directive::Hash(_)
+        | Directive::Flags(_)
+        | Directive::Symver(_)
+        | Directive::Need(_)
+        | Directive::Relr => Some(0),
     }
 }
 

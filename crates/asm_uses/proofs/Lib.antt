@@ -1,5 +1,4 @@
-pub mod Among
-pub mod Distinct
+pub mod Keys
 pub mod Needed
 pub mod Noted
 pub mod Preempt

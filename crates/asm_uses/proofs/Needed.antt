@@ -13,7 +13,7 @@ use Rattle.indexmap.specs.IndexMap.{insert_entry}
 use Rattle.asm_statement.specs.declared.directive.Need.{Need}
 use Rattle.asm_layout.specs.Uses.{with_need}
 use Rattle.asm_uses.specs.Needs.{values_of, AreByName, with_found}
-use Rattle.asm_uses.proofs.Distinct.{same_key}
+use Rattle.asm_uses.proofs.Keys.{same_key}
 
 -- an insertion puts a need in the place of that of its name, or behind all
 pub put : (entries : List (Vec ℕ × Need)) (name : Vec ℕ) (need : Need) → AreByName entries → name.items ≡ need.name

@@ -17,7 +17,8 @@ use Rattle.asm_layout.specs.Words.{words_before}
 use Rattle.asm_uses.specs.declared.got.Got.{Got}
 use Rattle.asm_uses.specs.Numbers.{number_of}
 use Rattle.asm_uses.specs.Got.{numbers_in, IsGotOf, Notes}
-use Rattle.asm_uses.proofs.Noted.{one_more, none_stays, any_before}
+use Rattle.asm_layout.proofs.Firsts.{one_more, any_before}
+use Rattle.asm_uses.proofs.Noted.{none_stays}
 
 abbrev all_words : List GotUse → ℕ
 all_words uses = sum_by (λ it. got_words it.kind) uses

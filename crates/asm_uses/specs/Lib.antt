@@ -3,7 +3,6 @@ pub mod Got
 pub mod Lines
 pub mod Needs
 pub mod Numbers
-pub mod Once
 pub mod Operands
 pub mod Preemption
 pub mod Spelled

@@ -7,7 +7,7 @@ ghost use Rattle.asm_statement.specs.declared.line.Line.{Line};
 ghost use Rattle.asm_layout.specs.Uses.{copies, exported_by, exported_by_directive, exports, if_labelled, is_copy_label, needs as needs_of, label_symbol, own_symbol, own_version, same_export};
 ghost use Rattle.asm_uses.specs.Exports.{export_as, exported_as, IsSourceOf};
 ghost use Rattle.asm_uses.specs.Lines.{AreLabelsOf};
-ghost use Rattle.asm_uses.specs.Once.{added, added_if};
+ghost use Rattle.asm_layout.specs.Once.{added, added_if};
 
 use crate::labels::{Labels, copy_name};
 use crate::name_set::NameSet;
@@ -169,7 +169,23 @@ impl<'a> Source<'a> {
                 is_needed: false,
                 is_default: symver.is_default,
             }),
-            _ => None,
+            Directive::Export(Export::Hidden | Export::Protected, _)
+            | Directive::Soname(_)
+            | Directive::Needed(_)
+            | Directive::Entry(_)
+            | Directive::Version(_)
+            | Directive::Entries(..)
+            | Directive::Data(..)
+            | Directive::Zero(_)
+            | Directive::Section(_)
+            | Directive::Kind(_)
+            | Directive::Hash(_)
+            | Directive::Flags(_)
+            | Directive::Need(_)
+            | Directive::Dword(_)
+            | Directive::Asciz(_)
+            | Directive::Align(_)
+            | Directive::Relr => None,
         }
     }
 

@@ -6,7 +6,7 @@ ghost use Rattle.asm_layout.specs.declared.uses.GotUse.{GotUse as Use};
 ghost use Rattle.asm_layout.specs.Uses.{got_use, got_uses, same_use};
 ghost use Rattle.asm_layout.specs.Tables.{got_words};
 ghost use Rattle.asm_uses.specs.Numbers.{number_of};
-ghost use Rattle.asm_uses.specs.Once.{added, added_if};
+ghost use Rattle.asm_layout.specs.Once.{added, added_if};
 ghost use Rattle.asm_uses.specs.Got.{numbers_in, IsGotOf, Notes};
 
 use crate::first_numbers::FirstNumbers;

@@ -3,7 +3,7 @@
 ghost use Rattle.std.specs.Prelude.{◌≡◌, [], length, map, position, OnOk, option_map};
 ghost use Rattle.std.specs.List.{list_any};
 ghost use Rattle.std.specs.Str.{bytes_eq};
-ghost use Rattle.asm_uses.specs.Once.{added, added_if};
+ghost use Rattle.asm_layout.specs.Once.{added, added_if};
 
 use indexmap::IndexSet;
 use std::alloc::{AllocError, Global};

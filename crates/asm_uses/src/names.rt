@@ -81,7 +81,23 @@ fn directive_mention(directive: &Directive) -> Option<&[u8]>
         Directive::Dword(value) => dword_mention(value),
         Directive::Need(need) => Some(need.name.as_bytes()),
         Directive::Weak(name) => Some(name.as_bytes()),
-        _ => None,
+        Directive::Soname(_)
+        | Directive::Needed(_)
+        | Directive::Entry(_)
+        | Directive::Export(..)
+        | Directive::Version(_)
+        | Directive::Entries(..)
+        | Directive::Data(..)
+        | Directive::Zero(_)
+        | Directive::Section(_)
+        | Directive::Kind(_)
+        | Directive::Hash(_)
+        | Directive::Flags(_)
+        | Directive::Symver(_)
+        | Directive::Asciz(_)
+        | Directive::Align(_)
+        | Directive::Relr
+        | Directive::Copy(..) => None,
     }
 }
 

@@ -4,7 +4,8 @@ ghost use Rattle.std.specs.Prelude.{◌≡◌, [], ◌&&◌, not, ℕ, List, OnO
 ghost use Rattle.asm_statement.specs.declared.line.Line.{Line};
 ghost use Rattle.asm_layout.specs.Names.{is_library, is_got_plt, is_foreign, is_preemptible, statement_exports, statement_keeps};
 ghost use Rattle.asm_uses.specs.Lines.{AreLabelsOf};
-ghost use Rattle.asm_uses.specs.Preemption.{is_among, is_it, IsPreemptionOf};
+ghost use Rattle.asm_layout.specs.Once.{is_among, is_it};
+ghost use Rattle.asm_uses.specs.Preemption.{IsPreemptionOf};
 
 use crate::labels::Labels;
 use crate::name_set::NameSet;

@@ -11,8 +11,8 @@ loop-number-preserved c =
     let lines = c.as_slice-line-items.result.now in
     let n = c.loop-number.number in
     let same = c.as_slice-line-items.ensures in
-    let atlas : IsAtlasOf lines (record { uses = c.args.uses; places = c.args.places; bases = c.args.bases }) =
-    rw same (record { uses = c.requires.uses; places = c.requires.places; bases = c.requires.bases }) in
+    let atlas : IsAtlasOf lines (record { uses = c.args.uses; needed = c.args.needed; places = c.args.places; bases = c.args.bases }) =
+    rw same (record { uses = c.requires.uses; needed = c.requires.needed; places = c.requires.places; bases = c.requires.bases }) in
     let there : slice_get lines n ≡ Some c.line-item.result =
     slice_get_read lines (length lines) n c.line-item.result (omega arith) c.loop-number-test.true c.line-item.is in
     let told = c.in_ok-words_or_fault.ensures lines atlas there in

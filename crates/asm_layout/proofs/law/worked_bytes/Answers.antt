@@ -10,7 +10,7 @@ use Rattle.asm_layout.specs.Places.{words_in, directive_size, section_after, fil
 use Rattle.asm_layout.specs.Spots.{label_spot, section_align, sections_of}
 use Rattle.asm_layout.specs.Symbols.{sorted_exports, symbol_index, label_size}
 use Rattle.asm_layout.specs.Tables.{soname, needed, hash_of, flags_of, versions, entries, is_relr}
-use Rattle.asm_layout.specs.Versions.{needed_files, file_versions, needed_pairs}
+use Rattle.asm_layout.specs.Versions.{needed_files, file_versions, needed_number, strong_versions}
 use Rattle.elf_write.specs.Relr.{relr_words, with_place}
 use Rattle.elf_write.specs.Sizes.{dynamic_entries, segments_of, plain_size}
 use Rattle.elf_write.specs.Starts.{align_of, third_starts, relr_size, size_of, starts_of}
@@ -28,7 +28,7 @@ pub returns : goal.returns
 unfolding plt_bytes code_of record_bytes symbol_fields rela_fields file_word symbol_bytes gnu_bytes rela_bytes relr_bytes fixed_bytes expansion label
     entry_name string_bytes strings_of contents_of fixes_of by_bucket buckets_of gnu_of sysv_of kind_of is_preemptible words_in directive_size section_after filling
     label_spot section_align sections_of sorted_exports symbol_index label_size soname needed hash_of flags_of versions entries is_relr
-    needed_files file_versions needed_pairs relr_words with_place dynamic_entries segments_of plain_size align_of third_starts relr_size size_of starts_of
+    needed_files file_versions needed_number strong_versions relr_words with_place dynamic_entries segments_of plain_size align_of third_starts relr_size size_of starts_of
     gnu_hash sysv_hash distinct slots got_uses imports exports needs label_address slot_address call_address got_address target operand_value
     words_at bits
 returns c = record {

@@ -7,9 +7,9 @@ use Rattle.asm_statement.specs.declared.line.Statement.TheVariants as statements
 use Rattle.asm_statement.specs.declared.line.Line.{Line}
 use Rattle.asm_layout.specs.Labels.{copy_name}
 use Rattle.asm_layout.specs.Uses.{copies, is_copy_label}
-use Rattle.asm_uses.specs.Preemption.{is_among, is_it}
-use Rattle.asm_uses.proofs.Among.{among_added_if}
-use Rattle.asm_uses.proofs.Preempt.{any_further}
+use Rattle.asm_layout.specs.Once.{is_among, is_it}
+use Rattle.asm_layout.proofs.Among.{among_added_if}
+use Rattle.asm_layout.proofs.Firsts.{any_further}
 use Rattle.asm_uses.proofs.export_set.copies_of.Goals as goal
 
 copied : (name : List ℕ) (statement : Option Statement) → is_it name (copy_name statement) ≡ copies name statement

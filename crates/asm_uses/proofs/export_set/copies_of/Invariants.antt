@@ -1,6 +1,6 @@
 use Rattle.std.proofs.Common.{◌≡◌, ℕ, List, take}
 use Rattle.asm_layout.specs.Uses.{is_copy_label}
-use Rattle.asm_uses.specs.Preemption.{is_among}
+use Rattle.asm_layout.specs.Once.{is_among}
 use Rattle.asm_uses.proofs.export_set.copies_of.Given as goal
 
 -- the names are those of the lines so far

@@ -5,8 +5,8 @@ use Rattle.asm_statement.specs.declared.line.Line.{Line}
 use Rattle.asm_layout.specs.declared.uses.Exported.{Exported}
 use Rattle.asm_layout.specs.Uses.{distinct, same_export, if_labelled, exported_by, exports}
 use Rattle.asm_uses.specs.Exports.{IsSourceOf}
-use Rattle.asm_uses.specs.Once.{added_if}
-use Rattle.asm_uses.proofs.Distinct.{distinct_further}
+use Rattle.asm_layout.specs.Once.{added_if}
+use Rattle.asm_layout.proofs.Distinct.{distinct_further}
 use Rattle.asm_uses.proofs.export_set.symbols_of.Goals as goal
 
 pub loop-line-init : goal.loop-line-init

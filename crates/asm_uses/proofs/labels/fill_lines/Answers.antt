@@ -1,6 +1,6 @@
 use Rattle.std.proofs.Common.{◌∙◌, sym}
 use Rattle.asm_layout.specs.Labels.{defines}
-use Rattle.asm_uses.proofs.Noted.{one_further}
+use Rattle.asm_layout.proofs.Firsts.{one_further}
 use Rattle.asm_uses.proofs.labels.fill_lines.Goals as goal
 
 pub loop-number-preserved : goal.loop-number-preserved

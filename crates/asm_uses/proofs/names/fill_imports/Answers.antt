@@ -6,8 +6,8 @@ use Rattle.asm_statement.specs.declared.line.Line.{Line}
 use Rattle.asm_layout.specs.Uses.{mention, if_foreign, imports}
 use Rattle.asm_layout.specs.Uses.{distinct, distinct_names}
 use Rattle.asm_uses.specs.Lines.{AreLabelsOf}
-use Rattle.asm_uses.specs.Once.{added_if}
-use Rattle.asm_uses.proofs.Distinct.{distinct_further}
+use Rattle.asm_layout.specs.Once.{added_if}
+use Rattle.asm_layout.proofs.Distinct.{distinct_further}
 use Rattle.asm_uses.proofs.names.fill_imports.Goals as goal
 
 pub loop-line-init : goal.loop-line-init

@@ -1,6 +1,7 @@
 use Rattle.std.proofs.Common.{◌∙◌}
 use Rattle.asm_layout.specs.Labels.{defines}
-use Rattle.asm_code.proofs.Names.{position_below, label_there, label_missing}
+use Rattle.asm_layout.proofs.Firsts.{position_below}
+use Rattle.asm_code.proofs.Names.{label_there, label_missing}
 use Rattle.asm_code.proofs.atlas.Atlas.label.Goals as goal
 
 pub returns-in-Some-clause-value : goal.returns-in-Some-clause-value

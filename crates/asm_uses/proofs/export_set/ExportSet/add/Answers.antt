@@ -7,9 +7,9 @@ use Rattle.std.proofs.Math.Bool.{beq}
 use Rattle.asm_layout.specs.Uses.{same_export}
 use Rattle.asm_uses.specs.declared.export_set.Key.{Key}
 use Rattle.asm_uses.specs.Exports.{exported_as}
-use Rattle.asm_uses.specs.Once.{added}
+use Rattle.asm_layout.specs.Once.{added}
 use Rattle.asm_uses.specs.contracts.export_set.KeyPartialEq.TheImpl.{eq-value}
-use Rattle.asm_uses.proofs.Distinct.{mapped_insert}
+use Rattle.asm_uses.proofs.Keys.{mapped_insert}
 use Rattle.asm_uses.proofs.export_set.ExportSet.add.Goals as goal
 
 -- keys are compared as the symbols that they stand for

@@ -2,7 +2,7 @@ use Rattle.std.proofs.Common.{take}
 use Rattle.std.specs.Prelude.{filter_map}
 use Rattle.std.proofs.lemmas.List.{take_all}
 use Rattle.asm_layout.specs.Uses.{distinct, same_use, got_use, got_uses}
-use Rattle.asm_uses.proofs.Distinct.{distinct_further}
+use Rattle.asm_layout.proofs.Distinct.{distinct_further}
 use Rattle.asm_uses.proofs.got.Got.fill.Goals as goal
 
 pub loop-line-init : goal.loop-line-init

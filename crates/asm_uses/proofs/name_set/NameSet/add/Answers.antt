@@ -1,7 +1,7 @@
 use Rattle.std.proofs.Common.{◌∙◌, ap, List, ℕ}
 use Rattle.std.specs.Str.{bytes_eq}
-use Rattle.asm_uses.specs.Once.{added}
-use Rattle.asm_uses.proofs.Distinct.{spelled, spelled_insert}
+use Rattle.asm_layout.specs.Once.{added}
+use Rattle.asm_uses.proofs.Keys.{spelled, spelled_insert}
 use Rattle.asm_uses.proofs.name_set.NameSet.add.Goals as goal
 
 pub returns : goal.returns

@@ -1,5 +1,5 @@
 use Rattle.std.proofs.Common.{◌∙◌}
-use Rattle.asm_uses.proofs.Distinct.{any_spelled_as}
+use Rattle.asm_uses.proofs.Keys.{any_spelled_as}
 use Rattle.asm_uses.proofs.name_set.NameSet.contains.Goals as goal
 
 pub returns : goal.returns

@@ -1,5 +1,5 @@
 use Rattle.std.proofs.Common.{◌∙◌}
-use Rattle.asm_uses.proofs.Distinct.{position_spelled}
+use Rattle.asm_uses.proofs.Keys.{position_spelled}
 use Rattle.asm_uses.proofs.name_set.NameSet.number.Goals as goal
 
 pub returns : goal.returns

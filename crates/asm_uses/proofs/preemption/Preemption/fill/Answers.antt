@@ -3,9 +3,9 @@ use Rattle.std.specs.Prelude.{option_map}
 use Rattle.std.proofs.lemmas.List.{take_all}
 use Rattle.asm_statement.specs.declared.line.Line.{Line}
 use Rattle.asm_layout.specs.Names.{is_exported, is_kept, is_library, statement_exports, statement_keeps}
-use Rattle.asm_uses.specs.Preemption.{is_among}
-use Rattle.asm_uses.proofs.Among.{among_added_if}
-use Rattle.asm_uses.proofs.Preempt.{any_further}
+use Rattle.asm_layout.specs.Once.{is_among}
+use Rattle.asm_layout.proofs.Among.{among_added_if}
+use Rattle.asm_layout.proofs.Firsts.{any_further}
 use Rattle.asm_uses.proofs.preemption.Preemption.fill.Goals as goal
 
 pub loop-line-preserved : goal.loop-line-preserved

@@ -1,6 +1,6 @@
 use Rattle.std.proofs.Common.{◌≡◌, ℕ, List, take}
 use Rattle.asm_layout.specs.Names.{is_exported, is_kept}
-use Rattle.asm_uses.specs.Preemption.{is_among}
+use Rattle.asm_layout.specs.Once.{is_among}
 use Rattle.asm_uses.proofs.preemption.Preemption.fill.Given as goal
 
 -- the names are those of the lines so far

@@ -1,37 +1,13 @@
--- Things that are each once, one more.
-use Rattle.std.proofs.Common.{◌≡◌, ℕ, ◌+◌, ◌<◌, length, get_or, take, Bool, true, false, ◌||◌, List, [], ◌∷◌, ◌++◌}
-use Rattle.std.proofs.Common.{cond, refl, sym, ap, ◌∙◌, append-nil, append_assoc, Some, None}
-use Rattle.std.specs.Prelude.{if◌then◌else◌, Option, filter_map, map, position, not, nat_lt}
+-- Keys as the things that they stand for, one more.
+use Rattle.std.proofs.Common.{◌≡◌, ℕ, ◌+◌, length, Bool, true, false, ◌||◌, List, [], ◌∷◌, ◌++◌}
+use Rattle.std.proofs.Common.{cond, refl, sym, ap, ◌∙◌, Some, None}
+use Rattle.std.specs.Prelude.{if◌then◌else◌, map, position, not, nat_lt}
 use Rattle.std.specs.Global.{Vec}
-use Rattle.std.specs.List.{list_any, cons_option, position_or_len}
+use Rattle.std.specs.List.{list_any, position_or_len}
 use Rattle.std.specs.Str.{bytes_eq}
-use Rattle.std.proofs.lemmas.List.{map-append, length-map, take_more}
-use Rattle.std.proofs.lemmas.List.Elements.{filter_map-append}
+use Rattle.std.proofs.lemmas.List.{map-append, length-map}
 use Rattle.indexmap.specs.IndexSet.{insert_key}
-use Rattle.asm_layout.specs.Uses.{distinct_after, distinct}
-use Rattle.asm_uses.specs.Once.{added, added_if}
-
--- the elements seen, and behind them the new ones
-behind_seen : {A : Type 0} (same : A → A → Bool) (seen xs : List A) (x : A)
-    → seen ++ distinct_after same seen (xs ++ x ∷ []) ≡ added same (seen ++ distinct_after same seen xs) x
-behind_seen {A} same seen [] x =
-    let P : Bool → Type 0 = λ there. seen ++ (if there then [] else x ∷ []) ≡ (if there then seen else seen ++ x ∷ []) in
-    let cases : (there : Bool) → P there = λ there. elim there as P [ true ↦ append-nil seen | false ↦ refl ] in
-    rw (append-nil seen) (cases (list_any (same x) seen))
-behind_seen {A} same seen (y ∷ ys) x =
-    let P : Bool → Type 0 = λ there.
-    seen ++ (if there then distinct_after same seen (ys ++ x ∷ []) else y ∷ distinct_after same (seen ++ y ∷ []) (ys ++ x ∷ []))
-    ≡ added same (seen ++ (if there then distinct_after same seen ys else y ∷ distinct_after same (seen ++ y ∷ []) ys)) x in
-    let further : (zs : List A) → (seen ++ y ∷ []) ++ zs ≡ seen ++ y ∷ zs = λ zs. append_assoc seen (y ∷ []) zs in
-    let new : P false =
-    sym (further (distinct_after same (seen ++ y ∷ []) (ys ++ x ∷ []))) ∙ behind_seen same (seen ++ y ∷ []) ys x
-    ∙ ap (λ (zs : List A). added same zs x) (further (distinct_after same (seen ++ y ∷ []) ys)) in
-    let cases : (there : Bool) → P there = λ there. elim there as P [ true ↦ behind_seen same seen ys x | false ↦ new ] in
-    cases (list_any (same y) seen)
-
-pub distinct_push : {A : Type 0} (same : A → A → Bool) (xs : List A) (x : A) → distinct same (xs ++ x ∷ []) ≡ added same (distinct same xs) x
-unfolding distinct
-distinct_push same xs x = behind_seen same [] xs x
+use Rattle.asm_layout.specs.Once.{added}
 
 -- an insertion of a key adds its name
 abbrev pub same_key : Vec ℕ → Vec ℕ → Bool
@@ -86,16 +62,3 @@ mapped_insert {K} {A} eq same f are keys key =
       | false ↦ map-append f keys (key ∷ [])
     ] in
     rw (← any_mapped eq same f are keys key) (cases (list_any (eq key) keys))
-
--- what lines give, one line more
-pub distinct_further : {X A : Type 0} (same : A → A → Bool) (f : X → Option A) (xs : List X) (n : ℕ) (x : X) → n < length xs → x ≡ get_or xs n x
-    → distinct same (filter_map f (take (n + 1) xs)) ≡ added_if same (distinct same (filter_map f (take n xs))) (f x)
-distinct_further {X} {A} same f xs n x lt is =
-    let further : take (n + 1) xs ≡ take n xs ++ x ∷ [] = take_more xs n x lt ∙ ap (λ (y : X). take n xs ++ y ∷ []) (sym is) in
-    let before = filter_map f (take n xs) in
-    let P : Option A → Type 0 = λ o. distinct same (before ++ cons_option o []) ≡ added_if same (distinct same before) o in
-    let cases : (o : Option A) → P o = λ o. elim o as P [
-      | None ↦ ap (distinct same) (append-nil before)
-      | Some y ↦ distinct_push same before y
-    ] in
-    ap (λ (ys : List X). distinct same (filter_map f ys)) further ∙ ap (distinct same) (filter_map-append f (take n xs) (x ∷ [])) ∙ cases (f x)

@@ -6,8 +6,7 @@ use Rattle.std.specs.Str.{bytes_eq}
 use Rattle.std.proofs.Math.Bool.{or-false}
 use Rattle.std.proofs.lemmas.List.Folds.{list_any-append}
 use Rattle.std.proofs.lemmas.Slice.Eq.{bytes_eq-Decides}
-use Rattle.asm_uses.specs.Once.{added, added_if}
-use Rattle.asm_uses.specs.Preemption.{is_among, is_it}
+use Rattle.asm_layout.specs.Once.{added, added_if, is_among, is_it}
 
 -- a name that is there already adds nothing
 known_name : (names : List (List ℕ)) (name bytes : List ℕ) → list_any (bytes_eq name) names ≡ true
