@@ -1,2 +1,5 @@
 pub mod Libraries
 pub mod Ordering
+pub mod Picking
+pub mod Placed
+pub mod Recorded

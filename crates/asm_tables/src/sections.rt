@@ -2,27 +2,13 @@
 
 ghost use Rattle.std.specs.Prelude.{◌≡◌};
 ghost use Rattle.asm_statement.specs.declared.directive.Section.TheVariants as sections;
-ghost use Rattle.asm_layout.specs.Places.{section_number, is_section, section_behind};
+ghost use Rattle.asm_layout.specs.Places.{is_section, section_behind};
 ghost use Rattle.asm_layout.specs.Spots.{aligned_by, aligning, least_alignment, section_align, extent_of, sections_of};
 ghost use Rattle.asm_places.specs.Counts.{Counts};
 
-use asm_places::Counter;
+use asm_places::{Counter, section_number};
 use asm_statement::{Directive, Line, Section, Statement, Statements};
 use elf_write::{Extent, Sections};
-
-fn number(section: Section) -> u8
-    ensures { result ≡ section_number section }
-{
-    match section {
-        Section::Text => 0,
-        Section::Rodata => 1,
-        Section::Relro => 2,
-        Section::Data => 3,
-        Section::Bss => 4,
-        Section::Tdata => 5,
-        Section::Tbss => 6,
-    }
-}
 
 /// The section that follows a line.
 fn section_behind(section: Section, line: &Line) -> Section
@@ -48,7 +34,7 @@ fn aligned_by(greatest: u64, line: &Line) -> u64
 fn aligning(section: Section, line: &Line, before: (Section, u64)) -> (Section, u64)
     ensures { result ≡ aligning section line.now before }
 {
-    let greatest = if number(section) == number(before.0) {
+    let greatest = if section_number(section) == section_number(before.0) {
         aligned_by(before.1, line)
     } else {
         before.1

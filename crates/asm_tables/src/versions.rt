@@ -4,6 +4,7 @@ ghost use Rattle.std.specs.Prelude.{◌≡◌, ◌+◌, ◌++◌, IfOk, OnOk, ma
 ghost use Rattle.sym_hash.specs.Hash.{gnu_hash, sysv_hash};
 ghost use Rattle.asm_layout.specs.Versions.{half, word, next_version, version_records, records_for};
 
+use crate::numbers::{half, offset_behind};
 use asm_layout::Exported;
 use elf_write::VersionRecord;
 use std::alloc::{AllocError, Global};
@@ -29,18 +30,6 @@ pub fn sysv_hashes(alloc: Global, exports: &[Exported]) -> Result<Vec<u32>, Allo
         .collect(alloc)
 }
 
-fn half(number: u128) -> u16
-    ensures { result ≡ half number }
-{
-    (number % 0x1_0000) as u16
-}
-
-fn word(number: u128) -> u32
-    ensures { result ≡ word number }
-{
-    (number % 0x1_0000_0000) as u32
-}
-
 /// How far behind a record the next one stands.
 fn next_version(rest: &[Vec<u8>]) -> u32
     ensures { result ≡ next_version (map (λ name. name.items) rest.now) }
@@ -51,8 +40,8 @@ fn next_version(rest: &[Vec<u8>]) -> u32
     }
 }
 
-/// The record of a version.
-fn version_record(number: usize, at: u128, name: &[u8], rest: &[Vec<u8>]) -> VersionRecord
+/// The record of a version that is defined.
+fn version_record(number: usize, at: u32, name: &[u8], rest: &[Vec<u8>]) -> VersionRecord
     ensures { result ≡ record {
       flags = 0;
       index = half (2 + number);
@@ -65,27 +54,24 @@ fn version_record(number: usize, at: u128, name: &[u8], rest: &[Vec<u8>]) -> Ver
         flags: 0,
         index: half(2 + number as u128),
         hash: sysv_hash(name),
-        name: word(at),
+        name: at,
         next: next_version(rest),
     }
 }
 
-/// The records of versions, the first of which has index 2 and its name at this offset of the strings.
-/// Want of memory is told where an offset passes 128 bits, too.
+/// Appends the records of versions, the first of which has index 2 and its name at this offset of the
+/// strings.
 fn push_versions(
     records: &mut Vec<VersionRecord>,
-    first: u64,
+    first: u32,
     names: &[Vec<u8>],
 ) -> Result<(), AllocError>
     ensures { OnOk result (records.new.items ≡ records.old.items ++ version_records 2 first (map (λ name. name.items) names.now)) }
 {
-    let mut at = u128::from(first);
+    let mut at = first;
     for (number, name) in names.iter().enumerate() {
         records.push(version_record(number, at, name, &names[number + 1..]))?;
-        let Some(next) = at.checked_add(name.len() as u128 + 1) else {
-            return Err(AllocError);
-        };
-        at = next;
+        at = offset_behind(at, name);
     }
     Ok(())
 }
@@ -100,7 +86,7 @@ pub fn records_for(
     alloc: Global,
     own: &[u8],
     own_at: u32,
-    first: u64,
+    first: u32,
     names: &[Vec<u8>],
 ) -> Result<Vec<VersionRecord>, AllocError>
     ensures { IfOk result (λ records. records.items ≡ records_for own.now own_at first (map (λ name. name.items) names.now)) }
@@ -113,7 +99,7 @@ pub fn records_for(
         flags: 1,
         index: 1,
         hash: sysv_hash(own),
-        name: word(u128::from(own_at)),
+        name: own_at,
         next: 28,
     })?;
     push_versions(&mut records, first, names)?;

@@ -8,7 +8,7 @@ use ld_base::{GnuPart, SysvPart};
 use std::alloc::{AllocError, Global};
 
 /// How many buckets so many symbols have.
-fn bucket_count(exports: usize) -> usize
+pub fn bucket_count(exports: usize) -> usize
     ensures value { result ≡ bucket_count exports }
     ensures some { 0 < result }
 {
