@@ -1,0 +1,7 @@
+pub mod Asking
+pub mod Closed
+pub mod Examples
+pub mod Executable
+pub mod Nowhere
+pub mod Order
+pub mod Whole

@@ -1,0 +1,95 @@
+-- What the calls of a linker stand on.
+use Rattle.std.specs.Prelude.{◌≡◌, ℕ, ◌^◌, ◌<◌, ◌≤◌, false, List, [], ◌∷◌, ◌++◌, length, map, flat_map, Some, None, IsTrue}
+use Rattle.ld_base.specs.declared.fault.DlFault.{DlFault}
+use Rattle.ld_base.specs.declared.linking.File.{File}
+use Rattle.ld_base.specs.declared.linking.Loaded.{Loaded}
+use Rattle.library_source.specs.Count.{Rises}
+use Rattle.link_event.specs.declared.event.CloseAnswer.TheVariants as closings
+use Rattle.link_event.specs.declared.event.Event.{Event}
+use Rattle.link_event.specs.declared.event.Event.TheVariants.{Close, Open}
+use Rattle.link_event.specs.declared.event.OpenAnswer.TheVariants.{Done}
+use Rattle.link_event.specs.declared.event.OpenAsk.{OpenAsk}
+use Rattle.link_event.specs.declared.event.Range.{Range}
+use Rattle.link_graph.specs.Initialised.{InitOrder, program_last}
+use Rattle.link_served.specs.declared.served.Served.{Served}
+use Rattle.link_served.specs.declared.startup.Setup.{Setup}
+use Rattle.scope_rule.specs.Load.{Load, find_opened, nowhere}
+use Rattle.scope_rule.specs.Loads.{ReadsNothing, named_there}
+use Rattle.scope_rule.specs.declared.namespace.Namespace.{Namespace}
+use Rattle.seg_image.specs.Pages.{own_address}
+use Rattle.seg_image.specs.Roles.{role_of}
+use Rattle.link_history.specs.Accepted.{AcceptsOnly}
+use Rattle.link_history.specs.Addresses.{is_linkers_page, is_rx}
+use Rattle.link_history.specs.After.{after}
+use Rattle.link_history.specs.Allowed.{Allowed}
+use Rattle.link_history.specs.Laws.{IsIn}
+use Rattle.link_history.specs.Legal.{Lawful}
+use Rattle.link_history.specs.Links.{finis_of, found_edges}
+use Rattle.link_history.specs.Memory.{holds, image_of}
+use Rattle.link_history.specs.Objects.{mapped, serial_of}
+use Rattle.link_history.specs.Opening.{Refuses}
+use Rattle.link_history.specs.Setting.{Machine, Setting}
+use Rattle.link_history.specs.State.{State}
+use Rattle.link_history.specs.Step.{step}
+use Rattle.link_service.specs.Call.{opens}
+use Rattle.link_service.specs.Laws.{RefusesAsk}
+use Rattle.link_service.specs.Served.{IsServed}
+use Rattle.link_service.specs.Startup.{FailsToStart, FindHarts, is_executable, opening}
+use Rattle.call_laws.specs.Coming.{IsOver, OpensWhole, refusal_of}
+use Rattle.call_laws.specs.Counts.{FaultsShow}
+
+-- ---- openings
+
+-- what is refused for what it asks is refused so by the history, where no more than 256 bytes of its name are known
+abbrev pub RefusedByAsking : Type 0
+RefusedByAsking = (w : Setting) (s : State) (hart : ℕ) (ask : OpenAsk) (fault : DlFault) → RefusesAsk s ask fault
+    → ((name : List ℕ) → ask.name ≡ Some name → length name ≤ 256) → Refuses w s hart ask fault
+
+-- where nothing is read and no object that is there has the name, it leads nowhere
+abbrev pub LeadsNowhere : Type 0
+LeadsNowhere = (load : Load) → load.program ≡ false → ReadsNothing load → named_there load ≡ None → find_opened load [] load.name ≡ nowhere
+
+-- a call whose failed reads show in the library's counts is whole where the counts show none
+abbrev pub WholeUnlessReadsFail : Type 0
+WholeUnlessReadsFail = (m : Machine) (folders : List (List ℕ)) (files : List File) (past given : List Event) (h : ℕ)
+    (ask : OpenAsk) (came : Served) (failures failures' : ℕ)
+    → ((w : Setting) → IsOver m folders (Some files) w → IsServed w past h (opens ask) came given)
+    → FaultsShow (refusal_of came) failures failures' → ¬ (Rises failures failures')
+    → OpensWhole m folders files past h ask came
+
+-- and a run whose program opens and whose harts are all found starts: it fails only where a read failed
+abbrev pub StartsUnlessReadsFail : Type 0
+StartsUnlessReadsFail = (w : Setting) (setup : Setup) (files : List File) (root : ℕ) (added : List Loaded)
+    (ranges : List Range) (found failed : List Event) (addresses : List ℕ) (fault : DlFault) (failures failures' : ℕ) → w.files ≡ Some files
+    → Allowed w [] (opening setup root added ranges) → FindHarts w (opening setup root added ranges ∷ []) 1 setup.harts found addresses
+    → FailsToStart w setup fault failed → FaultsShow (Some fault) failures failures' → Rises failures failures'
+
+-- ---- the order of constructors
+
+-- an order of new objects by what they themselves found is one by what all objects found: no older object leads to a new one
+abbrev pub NewEdgesSuffice : Type 0
+NewEdgesSuffice = (m : Machine) (w : Setting) (past : List Event) (h id root : ℕ) (ask : OpenAsk) (added : List Loaded) (ranges : List Range) (order : List ℕ)
+    → w.machine ≡ m → Lawful m past → Allowed w past (Open h ask (Done id root added ranges))
+    → InitOrder (flat_map found_edges added) (program_last (Some 1) (map serial_of added)) order
+    → InitOrder (flat_map found_edges (mapped (after (past ++ Open h ask (Done id root added ranges) ∷ [])))) (program_last (Some 1) (map serial_of added)) order
+
+-- ---- closings
+
+-- a closing leaves images, and which objects are to be finalised in which order
+abbrev pub ClosingKeepsImages : Type 0
+ClosingKeepsImages = (s : State) (h handle serial : ℕ) (set : List ℕ) → image_of (step s (Close h handle (closings.Done set))) serial ≡ image_of s serial
+
+abbrev pub ClosingKeepsOrder : Type 0
+ClosingKeepsOrder = (s : State) (h handle : ℕ) (set objects : List ℕ) → finis_of (step s (Close h handle (closings.Done set))) objects ≡ finis_of s objects
+
+-- ---- where harts start
+
+-- an address in the pages of a mapped object is executable where the object's segments say so
+abbrev pub HeldByCode : Type 0
+HeldByCode = (m : Machine) (events : List Event) → AcceptsOnly m → Lawful m events → (ns : Namespace) (o : Loaded) (a : ℕ) → a < 2 ^ 64
+    → IsIn (after events) ns o → IsTrue (holds o a) → is_executable (after events) a ≡ is_rx (role_of o.object (own_address o.base a))
+
+-- and elsewhere it is so in the linker's own page alone
+abbrev pub ElsewhereByLinker : Type 0
+ElsewhereByLinker = (m : Machine) (events : List Event) → AcceptsOnly m → Lawful m events → (a : ℕ)
+    → ((ns : Namespace) (o : Loaded) → IsIn (after events) ns o → holds o a ≡ false) → is_executable (after events) a ≡ is_linkers_page a

@@ -1,0 +1,4 @@
+pub mod Coming
+pub mod Counts
+pub mod Laws
+pub mod Worked
