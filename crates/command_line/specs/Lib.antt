@@ -1,0 +1,4 @@
+pub mod Options
+pub mod Reads
+pub mod Values
+pub mod Worked

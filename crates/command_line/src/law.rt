@@ -1,0 +1,33 @@
+//! What holds of words.
+
+ghost use Rattle.std.specs.Prelude.{◌≡◌, ℕ, false, List};
+ghost use Rattle.command_line.specs.Options.{Choice, Piece, Says};
+ghost use Rattle.command_line.specs.Worked.{Behind, Ended, Generated, IsNone, Joined, Plain, dashed, empty_part, help_option, leading_zero, no_fuel, no_program, no_words, twice};
+
+/// Words say one list of options and other words, if any.
+pub fn words_say_once()
+    ensures { (known : List Choice) (words : List (List ℕ)) (pieces others : List Piece) → Says known false words pieces → Says known false words others → pieces ≡ others }
+{}
+
+/// Worked command lines: options and words are mixed, a value is joined to its option or follows it, and
+/// two dashes end the options.
+pub fn words_are_commands()
+    ensures plain { Plain }
+    ensures joined { Joined }
+    ensures behind { Behind }
+    ensures ended { Ended }
+    ensures generated { Generated }
+{}
+
+/// And words that are none: an option that no command has or that stands twice, a value with a dash, a
+/// folder without a name, no turns, a zero before a number, no program, no words.
+pub fn words_are_none()
+    ensures no_words { IsNone no_words }
+    ensures no_program { IsNone no_program }
+    ensures help { IsNone help_option }
+    ensures dashed { IsNone dashed }
+    ensures twice { IsNone twice }
+    ensures empty { IsNone empty_part }
+    ensures no_fuel { IsNone no_fuel }
+    ensures leading_zero { IsNone leading_zero }
+{}
