@@ -30,6 +30,24 @@ abbrev pub entry_at : ℕ → Option ℕ → List ℕ
 entry_at base None = []
 entry_at base (Some v) = guest_address base v ∷ []
 
+-- ---- how many functions an object has, as its file says
+
+abbrev pub single_in : Option ℕ → ℕ
+single_in None = 0
+single_in (Some v) = 1
+
+abbrev pub entries_in : Option Span → ℕ
+entries_in None = 0
+entries_in (Some array) = array.size / 8
+
+abbrev pub constructors_in : Object → ℕ
+constructors_in o = single_in o.init + entries_in o.init_array
+
+abbrev pub preinits_in : Object → ℕ
+preinits_in o = entries_in o.preinit
+
+-- ---- images
+
 -- the image is one of the record: of its object at its base, relocated
 pub record IsImageOf (m : Linked) (o : Object) (base : ℕ) (image : Image) : Type 0 where
   pub object : m.object ≡ o
