@@ -1,0 +1,10 @@
+//! What an opening that may come next has: each new object can be placed and relocated, and its
+//! bindings are those that are seen in its namespace.
+//!
+//! There is no code but laws, functions without a body, whose contract is the law. They tie what
+//! `object_bindings` and `opening_images` make of new objects to the history's state.
+#![tactic(auto)]
+
+mod law;
+
+pub use law::{libraries_have_no_copies, new_bindings_are_seen, new_objects_are_placed};
