@@ -1,0 +1,4 @@
+pub mod Facts
+pub mod Indexes
+pub mod Reaches
+pub mod Visibilities
