@@ -1,2 +1,4 @@
 pub mod Seen
 pub mod Placed
+pub mod Installs
+pub mod Uncopied

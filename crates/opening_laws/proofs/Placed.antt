@@ -56,7 +56,7 @@ module _ (loads : LoadLaws) (reads : ReadLaw) (pages : PageLaws) (m : Machine) (
   abbrev image_made : Loaded → Linked
   image_made o = with_copies ((after past).images ++ map made added) (made o)
 
-  mapped_next : Mapped end_state
+  pub mapped_next : Mapped end_state
   mapped_next = subst Mapped (after_push past opening) (mapped_after loads reads m only (past ++ opening ∷ []) (lawful_push m w past opening same lawful may))
 
   pub image_there : (o : Loaded) → Contains added o → Contains end_state.images (image_made o)

@@ -1,5 +1,6 @@
 -- What holds of the new objects of an opening that may come next.
-use Rattle.std.specs.Prelude.{◌≡◌, ℕ, false, List, drop, Contains}
+use Rattle.std.specs.Prelude.{◌≡◌, ℕ, false, not, List, ◌++◌, drop, filter, length, map, Some, Contains}
+use Rattle.std.specs.List.{slice_get}
 use Rattle.ld_base.specs.declared.linking.Loaded.{Loaded}
 use Rattle.ld_base.specs.declared.object.Reloc.{Reloc}
 use Rattle.lawful_journal.specs.Following.{MayFollow, machine_of}
@@ -10,13 +11,16 @@ use Rattle.link_event.specs.declared.event.OpenAsk.{OpenAsk}
 use Rattle.link_event.specs.declared.event.Range.{Range}
 use Rattle.link_history.specs.Accepted.{IsAccepted}
 use Rattle.link_history.specs.After.{after}
-use Rattle.link_history.specs.Bound.{uncopied}
+use Rattle.link_history.specs.Bound.{uncopied, with_copies}
 use Rattle.link_history.specs.Legal.{Lawful}
-use Rattle.link_history.specs.State.{State}
-use Rattle.link_history.specs.Step.{binds, loaded, seen_after}
-use Rattle.object_bindings.specs.Bindings.{bindings_in, none_copied}
+use Rattle.link_history.specs.State.{Linked, State}
+use Rattle.link_history.specs.Step.{binds, loaded, open_done, seen_after}
+use Rattle.link_service.specs.Served.{AreImages, is_area}
+use Rattle.object_bindings.specs.Bindings.{Copies, bindings_in, none_copied}
 use Rattle.relocator.specs.Bindings.{is_copy}
+use Rattle.opening_images.specs.Relocated.{IsRelocated, MayRelocate}
 use Rattle.seg_image.specs.Pages.{IsPlaced}
+use Rattle.seg_image.specs.declared.image.Image.{Image}
 
 -- this holds in the state before each opening that may come next
 abbrev pub OfOpenings : ((s : State) → ℕ → OpenAsk → ℕ → ℕ → List Loaded → List Range → Type 0) → Type 0
@@ -37,3 +41,30 @@ LibrariesHaveNoCopies = OfOpenings (λ s hart ask id root added ranges. (o : Loa
 abbrev pub NewBindingsAreSeen : Type 0
 NewBindingsAreSeen = OfOpenings (λ s hart ask id root added ranges. (o : Loaded) → Contains added o
     → (uncopied (loaded s hart ask id root added ranges) (seen_after s ask id root added) (binds s ask) o).bindings ≡ bindings_in none_copied (seen_after s ask id root added) (binds s ask) o)
+
+-- the image that the history's state has of a new object
+abbrev pub image_made : State → ℕ → OpenAsk → ℕ → ℕ → List Loaded → List Range → Loaded → Linked
+image_made s hart ask id root added ranges o =
+    with_copies (s.images ++ map (uncopied (loaded s hart ask id root added ranges) (seen_after s ask id root added) (binds s ask)) added)
+    (uncopied (loaded s hart ask id root added ranges) (seen_after s ask id root added) (binds s ask) o)
+
+-- images of new objects, each relocated as the history's state has it
+pub record AreOfState (s : State) (hart : ℕ) (ask : OpenAsk) (id root : ℕ) (added : List Loaded) (ranges : List Range) (images : List Image) : Type 0 where
+  pub count : length images ≡ length added
+  pub each : (k : ℕ) (o : Loaded) (image : Image) → slice_get added k ≡ Some o → slice_get images k ≡ Some image
+      → IsRelocated o (image_made s hart ask id root added ranges o).bindings (image_made s hart ask id root added ranges o).places image
+
+-- such images are what memory gets of the new objects
+abbrev pub ImagesAreInstalls : Type 0
+ImagesAreInstalls = OfOpenings (λ s hart ask id root added ranges. (images : List Image) → AreOfState s hart ask id root added ranges images
+    → AreImages (open_done s hart ask id root added ranges) (filter (λ r. not (is_area r)) ranges) images)
+
+-- each image of the history's state may be relocated as it is
+abbrev pub ImagesRelocate : Type 0
+ImagesRelocate = OfOpenings (λ s hart ask id root added ranges. (o : Loaded) → Contains added o
+    → MayRelocate o (image_made s hart ask id root added ranges o).bindings (image_made s hart ask id root added ranges o).places)
+
+-- an object without copies is bound as is seen in its namespace, wherever copies would take their bytes
+abbrev pub UncopiedAreSeen : Type 0
+UncopiedAreSeen = OfOpenings (λ s hart ask id root added ranges. (o : Loaded) → Contains added o → ((r : Reloc) → Contains o.object.relocs r → is_copy r ≡ false) → (bytes : Copies)
+    → (image_made s hart ask id root added ranges o).bindings ≡ bindings_in bytes (seen_after s ask id root added) (binds s ask) o)

@@ -1,6 +1,6 @@
 //! The laws.
 
-ghost use Rattle.opening_laws.specs.Laws.{LibrariesHaveNoCopies, NewBindingsAreSeen, NewObjectsArePlaced};
+ghost use Rattle.opening_laws.specs.Laws.{ImagesAreInstalls, ImagesRelocate, LibrariesHaveNoCopies, NewBindingsAreSeen, NewObjectsArePlaced, UncopiedAreSeen};
 
 use accepted_image::accepted_object;
 
@@ -33,4 +33,33 @@ pub fn new_bindings_are_seen()
 {
     scope_rule::serials_follow();
     scope_rule::found_stands();
+}
+
+/// Images of new objects that are relocated as the history's state has them are what memory gets: each
+/// word is memory's after the opening, with its role.
+pub fn images_are_installs()
+    ensures { ImagesAreInstalls }
+{
+    scope_rule::serials_follow();
+    scope_rule::found_stands();
+    scope_rule::reads_candidates();
+    seg_image::pages_hold_segments();
+    accepted_object();
+}
+
+/// Each new object may be relocated by the bindings that the history's state has of it.
+pub fn images_relocate()
+    ensures { ImagesRelocate }
+{
+    link_history::images_are_bound();
+    link_history::offsets_are_there();
+    new_objects_are_placed();
+    accepted_object();
+}
+
+/// What an object without copies is bound to in the history's state is what is seen in its namespace.
+pub fn uncopied_are_seen()
+    ensures { UncopiedAreSeen }
+{
+    new_bindings_are_seen();
 }

@@ -7,4 +7,7 @@
 
 mod law;
 
-pub use law::{libraries_have_no_copies, new_bindings_are_seen, new_objects_are_placed};
+pub use law::{
+    images_are_installs, images_relocate, libraries_have_no_copies, new_bindings_are_seen,
+    new_objects_are_placed, uncopied_are_seen,
+};
