@@ -1,0 +1,38 @@
+-- What a slot chooses in a state.
+use Rattle.std.specs.Prelude.{◌≡◌, ℕ, ◌*◌, List, Contains, IsTrue}
+use Rattle.elf_object.specs.Object.{names_own_symbols}
+use Rattle.ld_base.specs.declared.linking.Loaded.{Loaded}
+use Rattle.link_history.specs.Addresses.{address, leads_to_code}
+use Rattle.link_history.specs.Bound.{lazy_word}
+use Rattle.link_history.specs.Slots.{IsSlot}
+use Rattle.link_history.specs.State.{State}
+use Rattle.link_service.specs.Ends.{IsUnloaded, LacksSlot}
+use Rattle.scope_rule.specs.declared.namespace.Namespace.{Namespace}
+use Rattle.seg_image.specs.Accepted.{Accepted}
+use Rattle.seg_image.specs.Pages.{guest_address}
+use Rattle.slot_choice.specs.declared.choosing.SlotChoice.{SlotChoice}
+use Rattle.slot_choice.specs.declared.choosing.SlotFault.{SlotFault}
+use Rattle.slot_choice.specs.declared.choosing.SlotFault.TheVariants.{Unloaded, NoSlot, Memory}
+
+-- an object of which an image can be made, and whose relocations name symbols of its own
+pub record IsSound (o : Loaded) : Type 0 where
+  pub image : Accepted o.object
+  pub names : IsTrue (names_own_symbols o.object)
+
+abbrev pub AllSound : List Namespace → Type 0
+AllSound namespaces = (ns : Namespace) (o : Loaded) → Contains namespaces ns → Contains ns.objects o → IsSound o
+
+-- a slot of a mapped object: where it stands, what it holds until it is bound, what it chooses now, and whether it may be bound to that
+pub record ChoosesSlot (s : State) (owner eights : ℕ) (x : SlotChoice) : Type 0 where
+  pub numbered : eights ≡ 8 * x.slot
+  pub is_slot : IsSlot s owner x.slot x.choice
+  pub place : x.address ≡ guest_address is_slot.object.base is_slot.reloc.place
+  pub lazy : x.lazy ≡ lazy_word is_slot.object is_slot.reloc
+  pub value : x.value ≡ address s x.choice
+  pub code : x.code ≡ leads_to_code s x.lazy x.choice
+
+-- no such object is mapped, or it has no such slot
+abbrev pub IsFaultOf : State → ℕ → ℕ → SlotFault → Type 0
+IsFaultOf s owner eights Unloaded = IsUnloaded s owner
+IsFaultOf s owner eights NoSlot = LacksSlot s owner eights
+IsFaultOf s owner eights Memory = Unit {0}
