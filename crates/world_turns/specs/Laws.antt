@@ -6,11 +6,12 @@ use Rattle.link_history.specs.After.{after}
 use Rattle.link_history.specs.Setting.{Setting}
 use Rattle.link_history.specs.State.{State}
 use Rattle.link_service.specs.Startup.{harts_of}
-use Rattle.memory_holds.specs.Enters.{LoadFits}
+use Rattle.memory_holds.specs.Enters.{LoadFits, SlotTrue}
+use Rattle.world_turns.specs.Memory.{memory_of}
 use Rattle.world_turns.specs.Run.{IsStarted}
 use Rattle.world_turns.specs.Sound.{Sound}
 use Rattle.world_turns.specs.Turn.{Turn}
-use Rattle.world_turns.specs.World.{World}
+use Rattle.world_turns.specs.World.{World, winners}
 
 -- a run is sound when it starts
 abbrev pub StartIsSound : Type 0
@@ -23,3 +24,7 @@ LoadsFit s = (owner slot : ℕ) → LoadFits s owner slot
 -- and stays so with every turn
 abbrev pub TurnsAreSound : Type 0
 TurnsAreSound = (w : Setting) (h : ℕ) (old new : World) → AcceptsOnly w.machine → LoadsFit (after old.journal) → Sound w old → Turn w h old new → Sound w new
+
+-- and a sound run's slots are true: each holds its first word or the value of the one grant that took it, and leads to code or to 0
+abbrev pub SoundIsSlotTrue : Type 0
+SoundIsSlotTrue = (w : Setting) (world : World) → AcceptsOnly w.machine → Sound w world → SlotTrue (after world.journal) (winners world.harts) (memory_of world.words)

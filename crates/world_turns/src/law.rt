@@ -1,6 +1,6 @@
 //! What holds of every turn.
 
-ghost use Rattle.world_turns.specs.Laws.{StartIsSound, TurnsAreSound};
+ghost use Rattle.world_turns.specs.Laws.{SoundIsSlotTrue, StartIsSound, TurnsAreSound};
 
 /// A run is sound when it starts: its journal is legal, memory is as the journal says, and no hart has a
 /// slot.
@@ -27,4 +27,12 @@ pub fn turns_stay_sound()
     memory_holds::exchanges_keep();
     memory_holds::grants_settle();
     memory_holds::slots_stand();
+}
+
+/// In a sound run each slot of each mapped object holds its first word or the value of the one grant that
+/// took it, and leads to code or is 0.
+pub fn slots_are_true()
+    ensures { SoundIsSlotTrue }
+{
+    memory_holds::slots_are_true();
 }

@@ -11,4 +11,4 @@
 
 mod law;
 
-pub use law::{runs_start_sound, turns_stay_sound};
+pub use law::{runs_start_sound, slots_are_true, turns_stay_sound};
