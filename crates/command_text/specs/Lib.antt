@@ -1,3 +1,4 @@
+pub mod Binding
 pub mod DumpLines
 pub mod Lines
 pub mod Named

@@ -48,6 +48,10 @@ numbered_line seen o slot = elim (slice_get o.object.symbols slot.1.symbol) [ So
 abbrev pub slot_lines : Seen → Loaded → List ℕ
 slot_lines seen o = flat_map (numbered_line seen o) (enumerate_from 0 o.object.plt_relocs)
 
+-- the slots of all objects
+abbrev pub slots_text : Namespace → List ℕ
+slots_text ns = flat_map (slot_lines (seen_in ns)) ns.objects
+
 -- the text of a namespace that was bound
 unfoldable pub bound_text : Namespace → List ℕ
-bound_text ns = flat_map object_line ns.objects ++ flat_map (slot_lines (seen_in ns)) ns.objects ++ codes "end 0 bound" ++ 10 ∷ []
+bound_text ns = flat_map object_line ns.objects ++ slots_text ns ++ codes "end 0 bound" ++ 10 ∷ []

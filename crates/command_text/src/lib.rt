@@ -1,20 +1,20 @@
 //! What the commands read and write, apart from how they come to it.
 //!
-//! [`reads`] gives the command that the words of a command line are. [`bound_text`] is what `bind`
-//! writes of a namespace whose objects are all there, and [`first_refusal`] the one reference for
-//! which it refuses them. [`dump_text`] is what `dump` writes of an object.
+//! [`reads`] gives the command that the words of a command line are. [`bind_objects`] is what `bind`
+//! writes of a namespace whose objects are all there, or the one reference for which it refuses them.
+//! [`dump_text`] is what `dump` writes of an object.
 //!
 //! Each text is the definition's, byte for byte, or there was no memory for it.
 #![tactic(auto)]
 
 mod dump_lines;
 mod lines;
+mod objects;
 mod references;
 mod refusal;
 mod version_names;
 mod words;
 
 pub use dump_lines::dump_text;
-pub use lines::bound_text;
-pub use refusal::first_refusal;
+pub use objects::{Binding, bind_objects};
 pub use words::{Bind, Command, reads};

@@ -1,21 +1,17 @@
-//! What `bind` writes.
+//! The lines that `bind` writes.
 
-ghost use Rattle.std.specs.Prelude.{◌≡◌, ◌++◌, ◌<◌, length, flat_map, true, OnOk, IfOk, Some, IfSome};
-ghost use Rattle.std.specs.List.{slice_get, enumerate_from, AllByRecursion};
+ghost use Rattle.std.specs.Prelude.{◌≡◌, ◌++◌, ◌<◌, length, flat_map, true, OnOk, Some, IfSome};
+ghost use Rattle.std.specs.List.{slice_get, enumerate_from};
 ghost use Rattle.std.specs.Option.{option_copied};
 ghost use Rattle.std.specs.String.{string_bytes};
 ghost use Rattle.scope_rule.specs.Relocation.{choice_at, names_symbols};
-ghost use Rattle.scope_rule.specs.Seen.{seen_in};
-ghost use Rattle.search_lists.specs.Lists.{lists_of};
-ghost use Rattle.sym_lookup.specs.Looking.{HaveTables};
-ghost use Rattle.command_text.specs.Lines.{object_line, choice_text, version_of, slot_text, numbered_line, slot_lines, bound_text};
+ghost use Rattle.command_text.specs.Lines.{object_line, choice_text, version_of, slot_text, numbered_line, slot_lines};
 
-use crate::references::references_at;
 use ld_base::{Choice, Loaded, Name, Symbol, Want};
-use scope_rule::{Namespace, want_of};
+use scope_rule::want_of;
 use std::alloc::{AllocError, Global};
 use std::fmt;
-use sym_lookup::{References, SearchLists};
+use sym_lookup::References;
 
 /// A choice, as it is written.
 #[derive(Clone, Copy)]
@@ -77,7 +73,7 @@ fn write_slot(
 }
 
 /// Writes the slots of an object, whose references these are, in order.
-fn write_each_slot(
+pub(crate) fn write_each_slot(
     alloc: Global,
     text: &mut String,
     references: &mut References,
@@ -95,67 +91,12 @@ fn write_each_slot(
     Ok(())
 }
 
-/// Writes the slots of the object at a place in load order.
-fn write_slots(
-    alloc: Global,
-    text: &mut String,
-    ns: &Namespace,
-    lists: &SearchLists,
-    place: usize,
-    owner: &Loaded,
-) -> Result<(), AllocError>
-    requires names { names_symbols owner.now.object ≡ true }
-    requires lists { lists.now ≡ lists_of (seen_in ns.now) }
-    requires tables { HaveTables (seen_in ns.now) }
-    requires there { slice_get ns.now.objects place ≡ Some owner.now }
-    ensures { OnOk result (string_bytes text.new ≡ string_bytes text.old ++ slot_lines (seen_in ns.now) owner.now) }
-{
-    let mut references = references_at(alloc, ns, lists, place, owner)?;
-    write_each_slot(alloc, text, &mut references, owner)
-}
-
-fn write_objects(text: &mut String, objects: &[Loaded]) -> Result<(), AllocError>
+/// Writes the line of each object.
+pub(crate) fn write_objects(text: &mut String, objects: &[Loaded]) -> Result<(), AllocError>
     ensures { OnOk result (string_bytes text.new ≡ string_bytes text.old ++ flat_map object_line objects.now) }
 {
     for object in objects {
         write_object(text, object)?;
     }
     Ok(())
-}
-
-fn write_all_slots(
-    alloc: Global,
-    text: &mut String,
-    ns: &Namespace,
-    lists: &SearchLists,
-) -> Result<(), AllocError>
-    requires names { AllByRecursion (λ o. names_symbols o.object ≡ true) ns.now.objects }
-    requires lists { lists.now ≡ lists_of (seen_in ns.now) }
-    requires tables { HaveTables (seen_in ns.now) }
-    ensures { OnOk result (string_bytes text.new ≡ string_bytes text.old ++ flat_map (slot_lines (seen_in ns.now)) ns.now.objects) }
-{
-    for (place, object) in ns.objects.as_slice().iter().enumerate() {
-        write_slots(alloc, text, ns, lists, place, object)?;
-    }
-    Ok(())
-}
-
-/// The text of a namespace that is bound, whose search lists these are and whose objects have their own
-/// tables.
-///
-/// # Errors
-///
-/// Want of memory.
-#[tactic(auto, unfolding(crate::specs::Lines::bound_text))]
-pub fn bound_text(alloc: Global, ns: &Namespace, lists: &SearchLists) -> Result<String, AllocError>
-    requires names { AllByRecursion (λ o. names_symbols o.object ≡ true) ns.now.objects }
-    requires lists { lists.now ≡ lists_of (seen_in ns.now) }
-    requires tables { HaveTables (seen_in ns.now) }
-    ensures { IfOk result (λ text. string_bytes text ≡ bound_text ns.now) }
-{
-    let mut text = String::new(alloc);
-    write_objects(&mut text, ns.objects.as_slice())?;
-    write_all_slots(alloc, &mut text, ns, lists)?;
-    writeln!(text, "end 0 bound")?;
-    Ok(text)
 }

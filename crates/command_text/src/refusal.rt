@@ -1,21 +1,16 @@
-//! What `bind` refuses of objects that are all there.
+//! What `bind` refuses of an object.
 
 ghost use Rattle.std.specs.Prelude.{◌≡◌, ◌<◌, ◌^◌, length, true, Some, IfOk};
-ghost use Rattle.std.specs.List.{AllByRecursion};
 ghost use Rattle.std.specs.List.{slice_get};
 ghost use Rattle.scope_rule.specs.Relocation.{names_symbols};
-ghost use Rattle.scope_rule.specs.Seen.{seen_in};
-ghost use Rattle.search_lists.specs.Lists.{lists_of};
-ghost use Rattle.sym_lookup.specs.Looking.{HaveTables};
-ghost use Rattle.command_text.specs.Refusal.{missing_symbol, refusal_at, first_missing, refusal_of, first_refusal};
+ghost use Rattle.command_text.specs.Refusal.{missing_symbol, refusal_at, first_missing, refusal_of};
 ghost use Rattle.command_text.specs.Named.{AreNamed};
 
 use crate::lines::version_of;
-use crate::references::references_at;
 use ld_base::{Choice, DlFault, Loaded, Name, Reloc, Symbol};
-use scope_rule::{Namespace, want_of};
+use scope_rule::want_of;
 use std::alloc::{AllocError, Global};
-use sym_lookup::{References, SearchLists};
+use sym_lookup::References;
 
 /// The refusal of a reference to a symbol that has no definition.
 fn missing_symbol(alloc: Global, owner: &Loaded, symbol: &Symbol) -> Result<DlFault, AllocError>
@@ -75,7 +70,7 @@ fn first_missing(
 
 /// The first refusal of an object, whose references these are: of its relocations that aren't slots,
 /// and then, where every slot is wanted, of its slots.
-fn refusal_of(
+pub(crate) fn refusal_of(
     alloc: Global,
     references: &mut References,
     now: bool,
@@ -83,7 +78,8 @@ fn refusal_of(
 ) -> Result<Option<DlFault>, AllocError>
     requires names { names_symbols owner.now.object ≡ true }
     requires owner { references.old.owner ≡ owner.now }
-    ensures { IfOk result (λ fault. fault ≡ refusal_of references.old.seen now owner.now) }
+    ensures fault { IfOk result (λ fault. fault ≡ refusal_of references.old.seen now owner.now) }
+    ensures same { references.new ≡ references.old }
 {
     let relocs = owner.object.relocs.as_slice();
     match first_missing(alloc, references, owner, relocs)? {
@@ -91,51 +87,4 @@ fn refusal_of(
         None if now => first_missing(alloc, references, owner, owner.object.plt_relocs.as_slice()),
         None => Ok(None),
     }
-}
-
-/// That of the object at a place in load order.
-fn refusal_in(
-    alloc: Global,
-    ns: &Namespace,
-    lists: &SearchLists,
-    now: bool,
-    place: usize,
-    owner: &Loaded,
-) -> Result<Option<DlFault>, AllocError>
-    requires names { names_symbols owner.now.object ≡ true }
-    requires lists { lists.now ≡ lists_of (seen_in ns.now) }
-    requires tables { HaveTables (seen_in ns.now) }
-    requires there { slice_get ns.now.objects place ≡ Some owner.now }
-    ensures { IfOk result (λ fault. fault ≡ refusal_of (seen_in ns.now) now owner.now) }
-{
-    if !now && owner.object.relocs.is_empty() {
-        return Ok(None);
-    }
-    let mut references = references_at(alloc, ns, lists, place, owner)?;
-    refusal_of(alloc, &mut references, now, owner)
-}
-
-/// The first refusal of the objects of a namespace in load order. The search lists are the
-/// namespace's, and its objects have their own tables.
-///
-/// # Errors
-///
-/// Want of memory.
-pub fn first_refusal(
-    alloc: Global,
-    ns: &Namespace,
-    lists: &SearchLists,
-    now: bool,
-) -> Result<Option<DlFault>, AllocError>
-    requires names { AllByRecursion (λ o. names_symbols o.object ≡ true) ns.now.objects }
-    requires lists { lists.now ≡ lists_of (seen_in ns.now) }
-    requires tables { HaveTables (seen_in ns.now) }
-    ensures { IfOk result (λ fault. fault ≡ first_refusal ns.now now ns.now.objects) }
-{
-    for (place, object) in ns.objects.as_slice().iter().enumerate() {
-        if let Some(fault) = refusal_in(alloc, ns, lists, now, place, object)? {
-            return Ok(Some(fault));
-        }
-    }
-    Ok(None)
 }

@@ -13,7 +13,7 @@ ghost use Rattle.ldso_cli.specs.End.{bare};
 ghost use Rattle.ldso_cli.specs.Outside.{library_at};
 
 use crate::answer::{Answer, done, refused};
-use command_text::{Bind, Command, bound_text, first_refusal};
+use command_text::{Bind, Binding, Command, bind_objects};
 use elf_object::one_object;
 use ld_base::{Added, DlFault, HartId, NsId, Serial, Serials};
 use library_source::Library;
@@ -68,9 +68,9 @@ fn of_lists(
     ensures end { IfOk result (λ answer. answer.end ≡ bare (cause_of (first_refusal ns.now now ns.now.objects))) }
     ensures text { IfOk result (λ answer. answer.text ≡ objects_text ns.now (first_refusal ns.now now ns.now.objects)) }
 {
-    match first_refusal(alloc, ns, lists, now)? {
-        Some(fault) => refused(alloc, fault),
-        None => Ok(done(bound_text(alloc, ns, lists)?)),
+    match bind_objects(alloc, ns, lists, now)? {
+        Binding::Refused(fault) => refused(alloc, fault),
+        Binding::Bound(text) => Ok(done(text)),
     }
 }
 
