@@ -1,5 +1,5 @@
 -- What a hart did settles where it is left.
-use Rattle.std.proofs.Common.{◌≡◌, ◌⊎◌, inl, inr, ℕ, ◌+◌, ◌*◌, Bool, true, false, List, [], ◌∷◌, ◌++◌, map, Option, Some, None, Result, Ok, Err, refl, sym, ap, subst, ◌∙◌, true≢false}
+use Rattle.std.proofs.Common.{◌≡◌, ◌⊎◌, inl, inr, ℕ, ◌+◌, ◌*◌, Bool, true, false, List, [], ◌∷◌, ◌++◌, length, map, take, Option, Some, None, Result, Ok, Err, refl, sym, ap, subst, ◌∙◌, true≢false}
 use Rattle.std.specs.List.{slice_get}
 use Rattle.ld_base.specs.declared.fault.DlFault.{DlFault}
 use Rattle.ld_base.specs.declared.fault.Shown.{Shown}
@@ -30,8 +30,10 @@ use Rattle.link_service.proofs.OneOrder.{one_finalisation, one_initialisation}
 use Rattle.link_service.proofs.Unique.{both_found}
 use Rattle.hart_moves.specs.Copying.{Copy}
 use Rattle.hart_moves.specs.Due.{Due, Return, due}
+use Rattle.hart_moves.specs.Follows.{Follows, Turned}
 use Rattle.hart_moves.specs.Harts.{HartState, Offered, Purpose, Resolving}
 use Rattle.hart_moves.specs.Laws.{OneHart}
+use Rattle.hart_moves.specs.Laws as laws
 use Rattle.hart_moves.specs.Moves.{Did, events_of, spent, freed, freed_by, Traps, Trap, trap_of, Refuses, Stops, Comes, Unread, CopiesBy, copied_item, StoresBy, all_finis, own_fini, Finals, final_functions, runs, IsOffer, Takes, TellsOf, MovesAs, Calls, Finalises, Instructs, Copies, StoresText}
 use Rattle.hart_moves.proofs.Answering.{Leads, Tells, answer_from, tells}
 
@@ -334,3 +336,12 @@ moves_once one leads w past h b (Due.finalise code object) did c d x y = finalis
 
 pub one_hart : OneEnd → StepLeads → OneHart
 one_hart one leads w past h b c other did x y = moves_once one leads w past h b (due (after past) b) did c other x y
+
+follows_once : OneHart → (w : Setting) (journal : List Event) (h from : ℕ) (b c other : HartState) (turns : List Turned) → Follows w journal h from b turns c → Follows w journal h from b turns other → c ≡ other
+follows_once one w journal h from b c other turns (Follows.no_more _ _) (Follows.no_more _ _) = refl
+follows_once one w journal h from b c other turns (Follows.one_more _ _ x _ turn rest late move are more) (Follows.one_more _ _ y _ _ _ later moved stand others) =
+    follows_once one w journal h (turn.at + length (events_of turn.did)) x c other rest more
+    (subst (λ (z : HartState). Follows w journal h (turn.at + length (events_of turn.did)) z rest other) (one w (take turn.at journal) h b y x turn.did moved move) others)
+
+pub one_end_of : OneHart → laws.OneEnd
+one_end_of one w journal h from b c other turns x y = follows_once one w journal h from b c other turns x y

@@ -6,6 +6,7 @@ use Rattle.link_event.specs.declared.hart_end.HartEnd.TheVariants.{FuelOut}
 use Rattle.link_history.specs.Legal.{Legal}
 use Rattle.link_history.specs.Setting.{Setting}
 use Rattle.link_service.specs.Laws.{hart_of}
+use Rattle.hart_moves.specs.Follows.{Follows, Turned}
 use Rattle.hart_moves.specs.Harts.{HartState}
 use Rattle.hart_moves.specs.Moves.{Did, Moves, events_of}
 
@@ -35,3 +36,8 @@ TurnsCount = (w : Setting) (past : List Event) (h : ℕ) (b c : HartState) (did 
 -- a hart that has ended takes no turn
 abbrev pub EndedStays : Type 0
 EndedStays = (w : Setting) (past : List Event) (h : ℕ) (b c : HartState) (did : Did) (reason : HartEnd) → b.«end» ≡ Some reason → Moves w past h b did c → ⊥
+
+-- what a hart did, turn after turn, settles where it ends
+abbrev pub OneEnd : Type 0
+OneEnd = (w : Setting) (journal : List Event) (h from : ℕ) (b c other : HartState) (turns : List Turned) → Follows w journal h from b turns c
+    → Follows w journal h from b turns other → c ≡ other

@@ -1,8 +1,10 @@
 pub mod Copying
 pub mod Due
+pub mod Follows
 pub mod Harts
 pub mod Laws
 pub mod Moves
 pub mod Registers
 pub mod Services
+pub mod Starting
 pub mod Worked

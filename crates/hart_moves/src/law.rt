@@ -1,10 +1,12 @@
 //! What holds of every turn of a hart.
 
-ghost use Rattle.hart_moves.specs.Laws.{EndedStays, OneHart, TurnsAreOwn, TurnsCount, TurnsLegal};
+ghost use Rattle.hart_moves.specs.Laws.{EndedStays, OneEnd, OneHart, TurnsAreOwn, TurnsCount, TurnsLegal};
 
-/// What a hart did in its turn settles where the turn leaves it.
+/// What a hart did in its turn settles where the turn leaves it, and what it did turn after turn where it
+/// ends.
 pub fn turns_leave_one_hart()
-    ensures { OneHart }
+    ensures turn { OneHart }
+    ensures turns { OneEnd }
 {
     rv_hart::calls_determine_the_end();
     rv_hart::steps_join();

@@ -27,7 +27,8 @@ use Rattle.memory_holds.specs.Remade.{Begins}
 use Rattle.hart_moves.specs.Harts.{Frame, HartState, Purpose, Resolving}
 use Rattle.hart_moves.specs.Moves.{AreAllowed, after_all, runs, with_first}
 use Rattle.world_turns.specs.Memory.{AreFresh, memory_of}
-use Rattle.world_turns.specs.Run.{IsStarted, starting_hart, starting_harts, starting_registers}
+use Rattle.hart_moves.specs.Starting.{starting_hart, starting_harts, starting_registers}
+use Rattle.world_turns.specs.Run.{IsStarted}
 use Rattle.world_turns.specs.Sound.{Fits, Sound}
 use Rattle.world_turns.specs.World.{World, won_by, winners}
 use Rattle.world_turns.proofs.Events.{EventsKeep, OfHarts, events_hold, remakes_length}

@@ -2,12 +2,11 @@
 use Rattle.std.specs.Prelude.{◌≡◌, ℕ, suc, Bool, true, false, not, ◌&&◌, List, [], ◌∷◌, ◌++◌, length, map, Option, Some, None, IsTrue}
 use Rattle.std.specs.List.{list_all, list_any, range_with_len, slice_get}
 use Rattle.std.specs.Option.{is_some, option_map_or}
-use Rattle.link_event.specs.declared.handed.Function.{Function}
 use Rattle.link_event.specs.declared.handed.HartEntry.{HartEntry}
 use Rattle.link_event.specs.declared.hart_end.HartEnd.TheVariants as ends
 use Rattle.link_served.specs.declared.startup.Setup.{Setup}
 use Rattle.link_served.specs.declared.startup.Started.{Started}
-use Rattle.rv_hart.specs.Registers.{Registers, starting}
+use Rattle.rv_hart.specs.Registers.{Registers}
 use Rattle.rv_hart.specs.declared.doubleword.Doubleword.{Doubleword}
 use Rattle.link_history.specs.After.{after}
 use Rattle.link_history.specs.Memory.{image_of}
@@ -15,35 +14,15 @@ use Rattle.link_history.specs.Setting.{Setting}
 use Rattle.link_history.specs.State.{start}
 use Rattle.link_service.specs.Functions.{AreAddresses, destructors}
 use Rattle.link_service.specs.Startup.{Starts}
-use Rattle.hart_moves.specs.Harts.{Frame, HartState, Phase, Purpose, Resolving}
-use Rattle.hart_moves.specs.Moves.{all_finis, freed, runs}
+use Rattle.hart_moves.specs.Harts.{Frame, HartState, Purpose}
+use Rattle.hart_moves.specs.Moves.{all_finis, freed}
+use Rattle.hart_moves.specs.Starting.{finalising_hart, starting_harts, starting_registers}
 use Rattle.schedules.specs.declared.schedule.TurnItem.{TurnItem}
 use Rattle.world_turns.specs.Memory.{AreFresh, RemakesAll}
 use Rattle.world_turns.specs.Turn.{TakesTurn, Turn}
 use Rattle.world_turns.specs.World.{World, settling}
 
 -- ---- the start
-
--- the registers with which a hart starts; it holds no reservation
-abbrev pub starting_registers : HartEntry → Registers
-starting_registers entry = record { pc = entry.pc; x = starting entry.sp entry.tp entry.a0; held = None }
-
-abbrev pub starting_hart : ℕ → HartEntry → HartState
-starting_hart fuel entry = record {
-  registers = starting_registers entry;
-  phase = Phase.at_pc;
-  resolving = Resolving.idle;
-  frames = [];
-  fuel = fuel;
-  turns = 0;
-  «end» = None;
-}
-
--- the first hart runs startup's constructors before it starts
-abbrev pub starting_harts : ℕ → List Function → List HartEntry → List HartState
-starting_harts fuel functions [] = []
-starting_harts fuel functions (entry ∷ rest) =
-    runs (Purpose.of_startup (starting_registers entry)) functions [] (starting_hart fuel entry) ∷ map (starting_hart fuel) rest
 
 -- startup's events, the memory that they make, and the harts
 pub record IsStarted (w : Setting) (setup : Setup) (world : World) : Type 0 where
@@ -79,10 +58,10 @@ pub data Repeats (w : Setting) (h : ℕ) : ℕ → World → World → Type 0 wh
   one_more : (count : ℕ) (old between new : World) → TakesTurn w h old between → Repeats w h count between new → Repeats w h (suc count) old new
 
 -- the items, in their order
-pub data Follows (w : Setting) : List TurnItem → World → World → Type 0 where
-  no_more : (world : World) → Follows w [] world world
-  one_more : (item : TurnItem) (items : List TurnItem) (old between new : World) → Repeats w item.hart item.count old between → Follows w items between new
-      → Follows w (item ∷ items) old new
+pub data TakesItems (w : Setting) : List TurnItem → World → World → Type 0 where
+  no_more : (world : World) → TakesItems w [] world world
+  one_more : (item : TurnItem) (items : List TurnItem) (old between new : World) → Repeats w item.hart item.count old between → TakesItems w items between new
+      → TakesItems w (item ∷ items) old new
 
 -- each hart once, in their order
 pub data Rounds (w : Setting) : List ℕ → World → World → Type 0 where
@@ -109,10 +88,6 @@ abbrev pub have_exited : World → Bool
 have_exited world = list_all (λ b. is_some (exit_code b)) world.harts
 
 -- the first hart gets its starting registers again, and runs the destructors of the object that comes first
-abbrev pub finalising_hart : Registers → ℕ → Function → HartState → HartState
-finalising_hart registers code function b =
-    runs (Purpose.of_end code) (function ∷ []) [] (record b { registers = registers; phase = Phase.at_pc; frames = []; «end» = None })
-
 pub record Begins (registers : Registers) (old new : World) : Type 0 where
   pub first : HartState
   pub others : List HartState
@@ -149,7 +124,7 @@ pub record Run (w : Setting) (setup : Setup) (items : List TurnItem) (world : Wo
   pub constructed : World
   pub constructs : Constructs w started constructed
   pub scheduled : World
-  pub follows : Follows w items constructed scheduled
+  pub follows : TakesItems w items constructed scheduled
   pub finished : World
   pub finishes : Finishes w scheduled finished
   pub entry : HartEntry
