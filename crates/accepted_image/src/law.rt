@@ -30,12 +30,14 @@ pub fn one_image()
 /// Such an object has what the history's laws ask: each slot's relocation is of the type of slots, and
 /// the word that the file has for the slot leads to code; a variable of thread-local storage has a
 /// segment, and this segment and the arrays of functions are well formed. So a machine whose verdict is
-/// the reader's accepts no other objects. And no library has a relocation that copies (R_RISCV_COPY is 4).
+/// the reader's accepts no other objects. And no library has a relocation that copies (R_RISCV_COPY is 4);
+/// one of the program names a symbol other than the null symbol.
 pub fn accepted_object()
     ensures spelled { (bytes : List ℕ) (program : Bool) (o : Object) → Spells bytes program o → IsAccepted o }
     ensures read { (bytes : List ℕ) (program : Bool) (o : Object) (table : HashTable) → object_verdict bytes program ≡ Ok (o, table) → IsAccepted o }
     ensures machine { (m : Machine) → m.verdict ≡ object_verdict → AcceptsOnly m }
     ensures library { (bytes : List ℕ) (o : Object) (table : HashTable) → object_verdict bytes false ≡ Ok (o, table) → (r : Reloc) → Contains o.relocs r → r.kind ≢ 4 }
+    ensures copied { (bytes : List ℕ) (program : Bool) (o : Object) (table : HashTable) → object_verdict bytes program ≡ Ok (o, table) → (r : Reloc) → Contains o.relocs r → r.kind ≡ 4 → r.symbol ≢ 0 }
 {
     elf_head::one_verdict();
     accepted_head();

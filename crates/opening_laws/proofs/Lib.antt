@@ -2,3 +2,5 @@ pub mod Seen
 pub mod Placed
 pub mod Installs
 pub mod Uncopied
+pub mod Outside
+pub mod Copied

@@ -11,14 +11,15 @@ use Rattle.link_event.specs.declared.event.OpenAsk.{OpenAsk}
 use Rattle.link_event.specs.declared.event.Range.{Range}
 use Rattle.link_history.specs.Accepted.{IsAccepted}
 use Rattle.link_history.specs.After.{after}
-use Rattle.link_history.specs.Bound.{uncopied, with_copies}
+use Rattle.link_history.specs.Bound.{place_of, uncopied, with_copies}
 use Rattle.link_history.specs.Legal.{Lawful}
 use Rattle.link_history.specs.State.{Linked, State}
 use Rattle.link_history.specs.Step.{binds, loaded, open_done, seen_after}
 use Rattle.link_service.specs.Served.{AreImages, is_area}
 use Rattle.object_bindings.specs.Bindings.{Copies, bindings_in, none_copied}
 use Rattle.relocator.specs.Bindings.{is_copy}
-use Rattle.opening_images.specs.Relocated.{IsRelocated, MayRelocate}
+use Rattle.relocator.specs.declared.binding.ModulePlace.{ModulePlace}
+use Rattle.opening_images.specs.Relocated.{IsRelocated, MayRelocate, copies_among}
 use Rattle.seg_image.specs.Pages.{IsPlaced}
 use Rattle.seg_image.specs.declared.image.Image.{Image}
 
@@ -68,3 +69,13 @@ ImagesRelocate = OfOpenings (λ s hart ask id root added ranges. (o : Loaded) �
 abbrev pub UncopiedAreSeen : Type 0
 UncopiedAreSeen = OfOpenings (λ s hart ask id root added ranges. (o : Loaded) → Contains added o → ((r : Reloc) → Contains o.object.relocs r → is_copy r ≡ false) → (bytes : Copies)
     → (image_made s hart ask id root added ranges o).bindings ≡ bindings_in bytes (seen_after s ask id root added) (binds s ask) o)
+
+-- where the modules of the state with the new objects are
+abbrev pub places_after : State → ℕ → OpenAsk → ℕ → ℕ → List Loaded → List Range → List ModulePlace
+places_after s hart ask id root added ranges = map place_of (loaded s hart ask id root added ranges).modules
+
+-- an object is bound as is seen in its namespace, with copies that take the bytes of all new objects but the first
+abbrev pub CopiesAreSeen : Type 0
+CopiesAreSeen = OfOpenings (λ s hart ask id root added ranges. (o : Loaded) → Contains added o
+    → (image_made s hart ask id root added ranges o).bindings
+    ≡ bindings_in (copies_among (seen_after s ask id root added) (binds s ask) (places_after s hart ask id root added ranges) added) (seen_after s ask id root added) (binds s ask) o)

@@ -1,6 +1,6 @@
 //! The laws.
 
-ghost use Rattle.opening_laws.specs.Laws.{ImagesAreInstalls, ImagesRelocate, LibrariesHaveNoCopies, NewBindingsAreSeen, NewObjectsArePlaced, UncopiedAreSeen};
+ghost use Rattle.opening_laws.specs.Laws.{CopiesAreSeen, ImagesAreInstalls, ImagesRelocate, LibrariesHaveNoCopies, NewBindingsAreSeen, NewObjectsArePlaced, UncopiedAreSeen};
 
 use accepted_image::accepted_object;
 
@@ -62,4 +62,21 @@ pub fn uncopied_are_seen()
     ensures { UncopiedAreSeen }
 {
     new_bindings_are_seen();
+}
+
+/// What any new object is bound to in the history's state is what is seen in its namespace, and its
+/// copies take the bytes of the other new objects' images.
+pub fn copies_are_seen()
+    ensures { CopiesAreSeen }
+{
+    scope_rule::serials_follow();
+    scope_rule::found_stands();
+    seg_image::pages_hold_segments();
+    link_history::serials_are_in_order();
+    link_history::objects_are_read();
+    link_history::images_are_mapped();
+    accepted_object();
+    new_objects_are_placed();
+    new_bindings_are_seen();
+    libraries_have_no_copies();
 }

@@ -8,6 +8,6 @@
 mod law;
 
 pub use law::{
-    images_are_installs, images_relocate, libraries_have_no_copies, new_bindings_are_seen,
-    new_objects_are_placed, uncopied_are_seen,
+    copies_are_seen, images_are_installs, images_relocate, libraries_have_no_copies,
+    new_bindings_are_seen, new_objects_are_placed, uncopied_are_seen,
 };

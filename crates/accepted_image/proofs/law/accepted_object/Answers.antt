@@ -41,3 +41,9 @@ pub returns-clause-library : goal.returns-clause-library
 returns-clause-library c bytes o table e =
     let s : Spells bytes false o = (c.one_object.ensures.verdict bytes false o).0 (table, e) in
     λ r among. let at = element_at r s.parts.relocs (subst (λ (rs : List Reloc). Contains rs r) s.say.relocs among) in no_copies bytes s.head false s.parts s.are_parts refl at.0 r at.1
+
+pub returns-clause-copied : goal.returns-clause-copied
+returns-clause-copied c bytes program o table e =
+    let s : Spells bytes program o = (c.one_object.ensures.verdict bytes program o).0 (table, e) in
+    let kept = c.accepted_tables.ensures bytes s.head program s.parts s.are_parts in
+    λ r among copy. let at = element_at r s.parts.relocs (subst (λ (rs : List Reloc). Contains rs r) s.say.relocs among) in ((kept.relocs at.0 r at.1).copy copy).0
