@@ -1,3 +1,4 @@
+pub mod Granting
 pub mod Holding
 pub mod Inside
 pub mod Settling

@@ -5,14 +5,15 @@
 //! the state is the type's own business. Each call appends one event that may come next, or leaves all
 //! as before.
 //!
-//! Not all of the linker's calls are here yet. Those are that load, close and look up nothing: a new
-//! state, what harts write and how they end, refusals, kept and told, grants that are settled, and
-//! objects whose constructors or destructors have run.
+//! Not all of the linker's calls are here yet: those that load, close and look up symbols aren't.
 #![tactic(auto)]
 
+mod faults;
+mod granting;
 mod reading;
 mod refusing;
 mod running;
 mod state;
 
+pub use faults::GrantFault;
 pub use state::LinkState;

@@ -1,28 +1,34 @@
 //! The state.
 
-ghost use Rattle.std.specs.Prelude.{◌≡◌, ◌<◌, ◌≤◌, [], IfNone, IfOk, IfSome, OnOk, OnErr};
+ghost use Rattle.std.specs.Prelude.{◌≡◌, ◌<◌, ◌≤◌, [], IfErr, IfNone, IfOk, IfSome, IsTrue, OnOk, OnErr};
 ghost use Rattle.std.specs.Option.{option_copied};
-ghost use Rattle.link_event.specs.declared.event.Event.TheVariants.{Ended, Fini, Init, Told, Wrote};
+ghost use Rattle.link_event.specs.declared.event.Event.TheVariants.{Ended, Fini, Init, Told, Unresolved, Wrote};
 ghost use Rattle.link_history.specs.After.{after};
 ghost use Rattle.link_history.specs.Allowed.{MayWrite, kept_for};
 ghost use Rattle.link_history.specs.Legal.{Lawful};
 ghost use Rattle.link_history.specs.Objects.{namespace_of};
 ghost use Rattle.link_history.specs.Owed.{ends_at_most, times_ended};
+ghost use Rattle.link_history.specs.Slots.{HasNoGrant};
 ghost use Rattle.link_service.specs.Served.{InstallsNothing};
 ghost use Rattle.lawful_journal.specs.Following.{MayFollow, machine_of};
 ghost use Rattle.object_holders.specs.Holders.{HasNone, IsFound};
+ghost use Rattle.slot_choice.specs.Choosing.{ChoosesSlot, IsFaultOf};
+ghost use Rattle.link_state.specs.Granting.{IsGranted, IsNotGranted};
 ghost use Rattle.link_state.specs.Table.{appended, refusal, settled};
 
+use crate::faults::GrantFault;
+use crate::granting::{self, granted, granting, is_missing, open, unresolved};
 use crate::reading::namespace_in;
 use crate::refusing::{copy_of, make_room, refusal};
 use crate::running::{base_namespaces, hold, nothing, settled};
 use accepted_image::one_image;
+use elf_object::one_object;
 use held_edges::HeldEdges;
 use image_parts::ImageParts;
 use late_blocks::LateBlocks;
 use lawful_journal::LawfulJournal;
 use ld_base::{Bytes, DlFault, GrantNo, HartId, NsId, Serial};
-use link_event::{Ask, Event, HartEnd, Journal};
+use link_event::{Ask, Event, Granted, HartEnd, Journal};
 use link_harts::{HartEnds, KeptFaults};
 use link_history::{
     edges_follow, events_are_owed, finalised_once, grants_are_tidy, legal_step_by_step,
@@ -36,6 +42,7 @@ use object_holders::holder_in;
 use pending_closings::PendingClosings;
 use reserved_pages::ReservedPages;
 use scope_rule::Namespace;
+use slot_choice::{SlotChoice, SlotFault, slot_choice};
 use std::alloc::{AllocError, Global};
 use std::marker::Model;
 use tls_blocks::TlsModules;
@@ -199,6 +206,116 @@ impl LinkState {
             }
             Err(error) => Err(error),
         }
+    }
+
+    /// A slot's function is called for the first time: `eights` is eight times the slot's number. The hart
+    /// gets a grant of the slot, to put what the slot chooses now into it.
+    ///
+    /// # Errors
+    ///
+    /// That no such object is mapped, that it has no such slot, that nothing defines the slot's symbol or what
+    /// does isn't code, which is noted, or want of memory.
+    pub fn grant(
+        &mut self,
+        hart: HartId,
+        owner: u64,
+        eights: u64,
+    ) -> Result<Granted, GrantFault>
+        requires free { HasNoGrant (after self.old.events) hart }
+        ensures ok { IfOk result (λ g. IsGranted self.old hart owner eights g self.new) }
+        ensures err { IfErr result (λ e. IsNotGranted self.old hart owner eights e self.new) }
+    {
+        let serial = Serial::new(owner);
+        match self.chosen(serial, eights) {
+            Ok(chosen) => self.grant_choice(hart, serial, eights, &chosen),
+            Err(SlotFault::Unloaded) => Err(GrantFault::Unloaded(owner)),
+            Err(SlotFault::NoSlot) => Err(GrantFault::NoSlot(serial, eights)),
+            Err(SlotFault::Memory) => Err(GrantFault::Memory),
+        }
+    }
+
+    /// What a slot chooses now.
+    fn chosen(&self, owner: Serial, eights: u64) -> Result<SlotChoice, SlotFault>
+        ensures ok { IfOk result (ChoosesSlot (after self.now.events) owner eights) }
+        ensures err { IfErr result (IsFaultOf (after self.now.events) owner eights) }
+    {
+        objects_are_read();
+        one_object();
+        one_image();
+        let _ = self.journal.journal();
+        slot_choice(self.alloc, self.namespaces.as_slice(), owner, eights)
+    }
+
+    /// The hart gets a grant of a slot, or notes that the slot may not be bound.
+    fn grant_choice(
+        &mut self,
+        hart: HartId,
+        owner: Serial,
+        eights: u64,
+        chosen: &SlotChoice,
+    ) -> Result<Granted, GrantFault>
+        requires free { HasNoGrant (after self.old.events) hart }
+        requires chosen { ChoosesSlot (after self.old.events) owner eights chosen.now }
+        ensures ok { IfOk result (λ g. IsGranted self.old hart owner eights g self.new) }
+        ensures err { IfErr result (λ e. IsNotGranted self.old hart owner eights e self.new) }
+    {
+        if chosen.code {
+            return self.post(hart, owner, eights, chosen);
+        }
+        if self.note_unresolved(hart, owner, chosen).is_err() {
+            return Err(GrantFault::Memory);
+        }
+        if is_missing(&chosen.choice) {
+            Err(GrantFault::Missing(owner, chosen.slot))
+        } else {
+            Err(GrantFault::NotCode(owner, chosen.slot))
+        }
+    }
+
+    /// The hart gets a grant of a slot.
+    fn post(
+        &mut self,
+        hart: HartId,
+        owner: Serial,
+        eights: u64,
+        chosen: &SlotChoice,
+    ) -> Result<Granted, GrantFault>
+        requires free { HasNoGrant (after self.old.events) hart }
+        requires chosen { ChoosesSlot (after self.old.events) owner eights chosen.now }
+        requires code { IsTrue chosen.now.code }
+        ensures ok { IfOk result (λ g. IsGranted self.old hart owner eights g self.new) }
+        ensures err { IfErr result (λ e. IsNotGranted self.old hart owner eights e self.new) }
+    {
+        edges_follow();
+        let _ = self.journal.journal();
+        let Some(number) = self.settling.next() else {
+            return Err(GrantFault::Memory);
+        };
+        match granting::make_room(&mut self.settling, &mut self.edges, &mut self.journal) {
+            Ok(()) => {
+                open(&mut self.settling, hart, owner, chosen);
+                self.journal.push(granting(number, hart, owner, chosen));
+                let event = self.journal.journal().len() as u64;
+                Ok(granted(event, number, owner, chosen))
+            }
+            Err(_) => Err(GrantFault::Memory),
+        }
+    }
+
+    /// A slot may not be bound.
+    fn note_unresolved(
+        &mut self,
+        hart: HartId,
+        owner: Serial,
+        chosen: &SlotChoice,
+    ) -> Result<(), AllocError>
+        requires { MayFollow self.old.harts self.old.events (Unresolved hart owner chosen.now.slot chosen.now.choice) }
+        ensures ok { OnOk result (self.new ≡ appended self.old (Unresolved hart owner chosen.now.slot chosen.now.choice)) }
+        ensures err { OnErr result (self.new ≡ self.old) }
+    {
+        self.journal.make_room(1)?;
+        self.journal.push(unresolved(hart, owner, chosen));
+        Ok(())
     }
 
     /// A grant is settled: its slot got its value, or had the word that its hart saw.

@@ -1,0 +1,160 @@
+-- A grant of a slot.
+use Rattle.std.proofs.Common.{◌≡◌, ◌⊎◌, ⊎_elim, ℕ, ◌+◌, ◌*◌, ◌<◌, ◌≤◌, Bool, true, false, cond, List, [], ◌∷◌, ◌++◌, length, map, refl, sym, ap, subst, ◌∙◌, arith}
+use Rattle.std.specs.List.{Contains, filter}
+use Rattle.std.proofs.lemmas.Bool.{true≢false}
+use Rattle.std.proofs.lemmas.List.{length-append}
+use Rattle.std.proofs.lemmas.List.Elements.{filter-append}
+use Rattle.held_edges.specs.Roomy.{EdgesWithRoom}
+use Rattle.lawful_journal.specs.Following.{MayFollow, machine_of}
+use Rattle.ld_base.specs.declared.linking.Choice.{Choice}
+use Rattle.ld_base.specs.declared.linking.Choice.TheVariants.{Def, WeakZero, Missing}
+use Rattle.link_event.specs.declared.event.Event.{Event}
+use Rattle.link_event.specs.declared.event.Event.TheVariants.{Grant, Unresolved}
+use Rattle.link_event.specs.declared.hart_end.HartEnd.TheVariants as ends
+use Rattle.link_event.specs.declared.state.Granting.{Granting}
+use Rattle.link_event.specs.declared.state.Standing.TheVariants.{Open}
+use Rattle.link_graph.specs.declared.graph.Edge.{Edge}
+use Rattle.link_history.specs.Addresses.{leads_to_code}
+use Rattle.link_history.specs.After.{after}
+use Rattle.link_history.specs.Allowed.{IsUnresolved, MayGrant}
+use Rattle.link_history.specs.Grants.{is_open}
+use Rattle.link_history.specs.Held.{EdgesFollow}
+use Rattle.link_history.specs.Links.{held_edges}
+use Rattle.link_history.specs.Relocating.{is_missing}
+use Rattle.link_history.specs.Slots.{HasNoGrant}
+use Rattle.link_history.specs.State.{State}
+use Rattle.link_history.specs.Step.{grant}
+use Rattle.link_history.proofs.Lists.{none_in}
+use Rattle.link_pending.specs.Pending.{GrantTable}
+use Rattle.link_service.specs.Answer.{granted, over}
+use Rattle.link_service.specs.Call.{resolves}
+use Rattle.link_service.specs.Ends.{no_slot, unloaded}
+use Rattle.link_service.specs.Gives.{by_event, is_granted, is_not_code, is_unresolved, to_end}
+use Rattle.slot_choice.specs.Choosing.{ChoosesSlot, IsFaultOf}
+use Rattle.slot_choice.specs.declared.choosing.SlotChoice.{SlotChoice}
+use Rattle.slot_choice.specs.declared.choosing.SlotFault.TheVariants as slots
+use Rattle.link_served.specs.declared.installs.Installs.{Installs}
+use Rattle.link_state.specs.Granting.{EndsUnchanged, EndsUnresolved, GivesIn, IsNotGranted}
+use Rattle.link_state.specs.Holding.{HoldsAll, Lists}
+use Rattle.link_state.specs.Table.{LinkTable, appended}
+use Rattle.link_state.specs.declared.faults.GrantFault.TheVariants as faults
+
+-- ---- the lists with a grant more
+
+pub all_granted : (s : State) (harts number hart owner slot : ℕ) (choice : Choice) (value : ℕ) (l : Lists) (settling : GrantTable) (edges : EdgesWithRoom) → HoldsAll s harts l
+    → EdgesFollow s (Grant number hart owner slot choice value) → number ≡ l.settling.count + 1
+    → settling.grants ≡ l.settling.grants ++ record { number = l.settling.count + 1; hart = hart; owner = owner; slot = slot; choice = choice; value = value; standing = Open } ∷ []
+    → settling.count ≡ l.settling.count + 1 → edges.edges ≡ l.edges.edges → edges.room ≡ l.edges.room + 1
+    → HoldsAll (grant number hart owner slot choice value s) harts (record l { settling = settling; edges = edges })
+all_granted s harts number hart owner slot choice value l settling edges holds follow numbered is count same room =
+    let g : ℕ → Granting = λ n. record { number = n; hart = hart; owner = owner; slot = slot; choice = choice; value = value; standing = Open } in
+    let opens : settling.grants ≡ filter is_open (s.grants ++ g number ∷ []) =
+    is ∙ ap (λ (gs : List Granting). gs ++ g (l.settling.count + 1) ∷ []) holds.running.opens ∙ ap (λ n. filter is_open s.grants ++ g n ∷ []) (sym numbered) ∙ sym (filter-append is_open s.grants (g number ∷ [])) in
+    let more : length (filter is_open (s.grants ++ g number ∷ [])) ≡ length (filter is_open s.grants) + 1 = ap length (filter-append is_open s.grants (g number ∷ [])) ∙ length-append (filter is_open s.grants) (g number ∷ []) in
+    record {
+      of_harts = holds.of_harts;
+      running = record {
+        opens = opens;
+        count = count ∙ ap (λ n. n + 1) holds.running.count ∙ sym (length-append s.grants (g number ∷ []));
+        serials = holds.running.serials;
+        room = holds.running.room;
+        spaces = holds.running.spaces;
+      };
+      memory = holds.memory;
+      keeping = record {
+        every = λ x inside. ⊎_elim
+            (λ (gained : Contains {X = Edge} [] x). absurd (none_in x gained))
+            (λ (kept : Contains (held_edges s) x × (false ≡ false)). subst (λ (es : List Edge). Contains es x) (sym same) (holds.keeping.every x kept.0))
+            (follow.from x inside);
+        only = λ x inside. follow.keeps x (holds.keeping.only x (subst (λ (es : List Edge). Contains es x) same inside)) refl;
+        room = omega (arith, more, room, holds.keeping.room);
+        closings = holds.keeping.closings;
+        roomy = holds.keeping.roomy;
+      };
+      opening = holds.opening;
+    }
+
+-- only the room changed
+pub all_roomier : (s : State) (harts : ℕ) (l : Lists) (settling : GrantTable) (edges : EdgesWithRoom) → HoldsAll s harts l → settling.grants ≡ l.settling.grants → settling.count ≡ l.settling.count
+    → edges.edges ≡ l.edges.edges → l.edges.room ≤ edges.room → HoldsAll s harts (record l { settling = settling; edges = edges })
+all_roomier s harts l settling edges holds grants count same room = record {
+  of_harts = holds.of_harts;
+  running = record { opens = grants ∙ holds.running.opens; count = count ∙ holds.running.count; serials = holds.running.serials; room = holds.running.room; spaces = holds.running.spaces };
+  memory = holds.memory;
+  keeping = record {
+    every = λ x inside. subst (λ (es : List Edge). Contains es x) (sym same) (holds.keeping.every x inside);
+    only = λ x inside. holds.keeping.only x (subst (λ (es : List Edge). Contains es x) same inside);
+    room = omega (arith, room, holds.keeping.room);
+    closings = holds.keeping.closings;
+    roomy = holds.keeping.roomy;
+  };
+  opening = holds.opening;
+}
+
+-- ---- what the call gives
+
+pub may_grant : (s : State) (hart owner eights number : ℕ) (x : SlotChoice) → HasNoGrant s hart → ChoosesSlot s owner eights x → x.code ≡ true → number ≡ length s.grants + 1
+    → MayGrant s number hart owner x.slot x.choice x.value
+may_grant s hart owner eights number x free chosen code numbered = record {
+  numbered = numbered;
+  free = free;
+  may = record { is_slot = chosen.is_slot; code = sym (chosen.code ∙ ap (λ w. leads_to_code s w x.choice) chosen.lazy) ∙ code };
+  is = chosen.value;
+}
+
+pub gives_grant : (table : LinkTable) (hart owner eights number slot : ℕ) (choice : Choice) (value : ℕ) → eights ≡ 8 * slot → MayGrant (after table.events) number hart owner slot choice value
+    → GivesIn table hart (resolves owner eights) (Grant number hart owner slot choice value ∷ [])
+    (granted (record { number = number; hart = hart; owner = owner; slot = slot; choice = choice; value = value; standing = Open }))
+gives_grant table hart owner eights number slot choice value numbered may w same = by_event _ _ _ (is_granted owner eights slot number choice value numbered) may
+
+pub may_not : (s : State) (hart owner eights : ℕ) (x : SlotChoice) → HasNoGrant s hart → ChoosesSlot s owner eights x → x.code ≡ false → IsUnresolved s hart owner x.slot x.choice
+may_not s hart owner eights x free chosen code = record {
+  free = free;
+  may_not = record { is_slot = chosen.is_slot; code = sym (chosen.code ∙ ap (λ w. leads_to_code s w x.choice) chosen.lazy) ∙ code };
+}
+
+weak : (s : State) (lazy : ℕ) → leads_to_code s lazy WeakZero ≡ true
+unfolding leads_to_code
+weak s lazy = refl
+
+pub not_missing : (table new : LinkTable) (hart owner eights : ℕ) (x : SlotChoice) → HasNoGrant (after table.events) hart → ChoosesSlot (after table.events) owner eights x → x.code ≡ false
+    → is_missing x.choice ≡ false → new ≡ appended table (Unresolved hart owner x.slot x.choice) → IsNotGranted table hart owner eights (faults.NotCode owner x.slot) new
+not_missing table new hart owner eights x free chosen code some is = by x.choice refl some
+  where
+    may : (c : Choice) → x.choice ≡ c → IsUnresolved (after table.events) hart owner x.slot c
+    may c e = subst (IsUnresolved (after table.events) hart owner x.slot) e (may_not (after table.events) hart owner eights x free chosen code)
+
+    by : (c : Choice) → x.choice ≡ c → is_missing c ≡ false → EndsUnresolved table hart owner eights x.slot (ends.NotCode owner x.slot) new
+    by (Def serial index) e kept = record {
+      choice = Def serial index;
+      gives = λ w same. by_event _ _ _ (is_not_code owner eights x.slot serial index chosen.numbered) (may (Def serial index) e);
+      is = is ∙ ap (λ (c : Choice). appended table (Unresolved hart owner x.slot c)) e;
+    }
+    by WeakZero e kept = absurd (true≢false (sym (weak (after table.events) x.lazy) ∙ ap (leads_to_code (after table.events) x.lazy) (sym e) ∙ sym chosen.code ∙ code))
+    by Missing e kept = absurd (true≢false kept)
+
+pub missing : (table new : LinkTable) (hart owner eights : ℕ) (x : SlotChoice) → HasNoGrant (after table.events) hart → ChoosesSlot (after table.events) owner eights x → x.code ≡ false
+    → is_missing x.choice ≡ true → new ≡ appended table (Unresolved hart owner x.slot x.choice) → IsNotGranted table hart owner eights (faults.Missing owner x.slot) new
+missing table new hart owner eights x free chosen code none is = by x.choice refl none
+  where
+    by : (c : Choice) → x.choice ≡ c → is_missing c ≡ true → EndsUnresolved table hart owner eights x.slot (ends.Unresolved owner x.slot) new
+    by (Def serial index) e kept = absurd (true≢false (sym kept))
+    by WeakZero e kept = absurd (true≢false (sym kept))
+    by Missing e kept = record {
+      choice = Missing;
+      gives = λ w same. by_event _ _ _ (is_unresolved owner eights x.slot chosen.numbered)
+      (subst (IsUnresolved (after table.events) hart owner x.slot) e (may_not (after table.events) hart owner eights x free chosen code));
+      is = is ∙ ap (λ (c : Choice). appended table (Unresolved hart owner x.slot c)) e;
+    }
+
+pub gives_unloaded : (table : LinkTable) (hart owner eights : ℕ) → IsFaultOf (after table.events) owner eights slots.Unloaded → IsNotGranted table hart owner eights (faults.Unloaded owner) table
+gives_unloaded table hart owner eights none = record { gives = λ w same. to_end _ _ (unloaded owner eights none); is = refl }
+
+pub gives_no_slot : (table : LinkTable) (hart owner eights : ℕ) → IsFaultOf (after table.events) owner eights slots.NoSlot → IsNotGranted table hart owner eights (faults.NoSlot owner eights) table
+gives_no_slot table hart owner eights none = record { gives = λ w same. to_end _ _ (no_slot owner eights none); is = refl }
+
+-- ---- what contracts see
+
+pub appended_is : (t : LinkTable) (harts : ℕ) (events : List Event) (made : Installs) (e : Event) → harts ≡ t.harts → events ≡ t.events ++ e ∷ [] → made ≡ t.made
+    → record { harts = harts; events = events; made = made } ≡ appended t e
+appended_is t harts events made e p q r = rw (p, q, r) refl

@@ -1,0 +1,19 @@
+use Rattle.std.proofs.Common.{◌≡◌, List, subst, ◌∙◌}
+use Rattle.std.specs.List.{Contains}
+use Rattle.link_history.specs.After.{after}
+use Rattle.link_history.specs.Laws.{IsIn}
+use Rattle.link_history.specs.Read.{WasRead}
+use Rattle.lawful_journal.specs.Following.{machine_of}
+use Rattle.scope_rule.specs.declared.namespace.Namespace.{Namespace}
+use Rattle.slot_choice.specs.Choosing.{ChoosesSlot, IsFaultOf}
+use Rattle.link_state.specs.Table.{LinkTable}
+use Rattle.link_state.proofs.state.LinkState.chosen.Goals as goal
+
+pub slot_choice-requires : goal.slot_choice-requires
+slot_choice-requires c =
+    let are : c.as_slice.result.now ≡ (after c.self.inside.journal.events).namespaces = c.as_slice.ensures.value ∙ c.self.invariant.running.spaces in
+    λ ns o there inside.
+    let is_in : IsIn (after c.self.inside.journal.events) ns o = record { there = subst (λ (all : List Namespace). Contains all ns) are there; inside = inside } in
+    let read : WasRead (machine_of c.self.inside.journal.harts) o =
+    c.objects_are_read.ensures.mapped (machine_of c.self.inside.journal.harts) c.self.inside.journal.events c.journal.ensures.lawful ns o is_in in
+    record { image = c.one_image.ensures.read read.bytes read.program o.object o.table read.is; names = c.one_object.ensures.names read.bytes read.program o.object o.table read.is }
