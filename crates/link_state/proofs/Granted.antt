@@ -1,11 +1,10 @@
 -- A grant of a slot.
-use Rattle.std.proofs.Common.{◌≡◌, ◌⊎◌, ⊎_elim, ℕ, ◌+◌, ◌*◌, ◌<◌, ◌≤◌, Bool, true, false, cond, List, [], ◌∷◌, ◌++◌, length, map, refl, sym, ap, subst, ◌∙◌, arith}
+use Rattle.std.proofs.Common.{◌≡◌, ⊎_elim, ℕ, ◌+◌, ◌*◌, ◌≤◌, true, false, List, [], ◌∷◌, ◌++◌, length, refl, sym, ap, subst, ◌∙◌, arith}
 use Rattle.std.specs.List.{Contains, filter}
 use Rattle.std.proofs.lemmas.Bool.{true≢false}
 use Rattle.std.proofs.lemmas.List.{length-append}
 use Rattle.std.proofs.lemmas.List.Elements.{filter-append}
 use Rattle.held_edges.specs.Roomy.{EdgesWithRoom}
-use Rattle.lawful_journal.specs.Following.{MayFollow, machine_of}
 use Rattle.ld_base.specs.declared.linking.Choice.{Choice}
 use Rattle.ld_base.specs.declared.linking.Choice.TheVariants.{Def, WeakZero, Missing}
 use Rattle.link_event.specs.declared.event.Event.{Event}
@@ -26,7 +25,7 @@ use Rattle.link_history.specs.State.{State}
 use Rattle.link_history.specs.Step.{grant}
 use Rattle.link_history.proofs.Lists.{none_in}
 use Rattle.link_pending.specs.Pending.{GrantTable}
-use Rattle.link_service.specs.Answer.{granted, over}
+use Rattle.link_service.specs.Answer.{granted}
 use Rattle.link_service.specs.Call.{resolves}
 use Rattle.link_service.specs.Ends.{no_slot, unloaded}
 use Rattle.link_service.specs.Gives.{by_event, is_granted, is_not_code, is_unresolved, to_end}
@@ -34,7 +33,7 @@ use Rattle.slot_choice.specs.Choosing.{ChoosesSlot, IsFaultOf}
 use Rattle.slot_choice.specs.declared.choosing.SlotChoice.{SlotChoice}
 use Rattle.slot_choice.specs.declared.choosing.SlotFault.TheVariants as slots
 use Rattle.link_served.specs.declared.installs.Installs.{Installs}
-use Rattle.link_state.specs.Granting.{EndsUnchanged, EndsUnresolved, GivesIn, IsNotGranted}
+use Rattle.link_state.specs.Granting.{EndsUnresolved, GivesIn, IsNotGranted}
 use Rattle.link_state.specs.Holding.{HoldsAll, Lists}
 use Rattle.link_state.specs.Table.{LinkTable, appended}
 use Rattle.link_state.specs.declared.faults.GrantFault.TheVariants as faults
@@ -143,7 +142,7 @@ missing table new hart owner eights x free chosen code none is = by x.choice ref
     by Missing e kept = record {
       choice = Missing;
       gives = λ w same. by_event _ _ _ (is_unresolved owner eights x.slot chosen.numbered)
-      (subst (IsUnresolved (after table.events) hart owner x.slot) e (may_not (after table.events) hart owner eights x free chosen code));
+          (subst (IsUnresolved (after table.events) hart owner x.slot) e (may_not (after table.events) hart owner eights x free chosen code));
       is = is ∙ ap (λ (c : Choice). appended table (Unresolved hart owner x.slot c)) e;
     }
 

@@ -1,8 +1,7 @@
 -- What a call for a slot gives.
-use Rattle.std.specs.Prelude.{◌≡◌, ℕ, ◌+◌, ◌*◌, List, [], ◌∷◌, length}
+use Rattle.std.specs.Prelude.{◌≡◌, ℕ, List, [], ◌∷◌, length}
 use Rattle.lawful_journal.specs.Following.{machine_of}
 use Rattle.ld_base.specs.declared.linking.Choice.{Choice}
-use Rattle.ld_base.specs.declared.linking.Choice.TheVariants as choices
 use Rattle.link_event.specs.declared.event.Event.TheVariants.{Grant, Unresolved}
 use Rattle.link_event.specs.declared.handed.Granted.{Granted}
 use Rattle.link_event.specs.declared.hart_end.HartEnd.{HartEnd}

@@ -43,7 +43,14 @@ pub fn open(settling: &mut OpenGrants, hart: HartId, owner: Serial, chosen: &Slo
     requires room { 0 < settling.old.spare }
     requires few { settling.old.count < 2 ^ 62 }
     ensures grants { settling.new.grants ≡ settling.old.grants ++ record {
-        number = settling.old.count + 1; hart = hart; owner = owner; slot = chosen.now.slot; choice = chosen.now.choice; value = chosen.now.value; standing = standings.Open } ∷ [] }
+      number = settling.old.count + 1;
+      hart = hart;
+      owner = owner;
+      slot = chosen.now.slot;
+      choice = chosen.now.choice;
+      value = chosen.now.value;
+      standing = standings.Open;
+    } ∷ [] }
     ensures count { settling.new.count ≡ settling.old.count + 1 }
 {
     settling.push(hart, owner, chosen.slot, chosen.choice, chosen.value);
@@ -78,7 +85,14 @@ pub fn unresolved(hart: HartId, owner: Serial, chosen: &SlotChoice) -> Event
 /// A grant as its hart gets it.
 pub fn granted(event: u64, grant: GrantNo, owner: Serial, chosen: &SlotChoice) -> Granted
     ensures { result ≡ record {
-        event = event; grant = grant; owner = owner; slot = chosen.now.address; lazy = chosen.now.lazy; choice = chosen.now.choice; value = chosen.now.value } }
+      event = event;
+      grant = grant;
+      owner = owner;
+      slot = chosen.now.address;
+      lazy = chosen.now.lazy;
+      choice = chosen.now.choice;
+      value = chosen.now.value;
+    } }
 {
     Granted {
         event,

@@ -5,7 +5,9 @@ ghost use Rattle.std.specs.Option.{option_copied};
 ghost use Rattle.link_event.specs.declared.event.Event.TheVariants.{Ended, Fini, Init, Told, Unresolved, Wrote};
 ghost use Rattle.link_history.specs.After.{after};
 ghost use Rattle.link_history.specs.Allowed.{MayWrite, kept_for};
+ghost use Rattle.link_history.specs.Areas.{free_pages};
 ghost use Rattle.link_history.specs.Legal.{Lawful};
+ghost use Rattle.link_history.specs.Links.{unfinished};
 ghost use Rattle.link_history.specs.Objects.{namespace_of};
 ghost use Rattle.link_history.specs.Owed.{ends_at_most, times_ended};
 ghost use Rattle.link_history.specs.Slots.{HasNoGrant};
@@ -22,6 +24,7 @@ use crate::reading::namespace_in;
 use crate::refusing::{copy_of, make_room, refusal};
 use crate::running::{base_namespaces, hold, nothing, settled};
 use accepted_image::one_image;
+use address_space::Regions;
 use elf_object::one_object;
 use held_edges::HeldEdges;
 use image_parts::ImageParts;
@@ -132,6 +135,58 @@ impl LinkState {
         journal.into_journal()
     }
 
+    /// How many harts there are.
+    pub fn harts(&self) -> u32
+        ensures { result ≡ self.now.harts }
+    {
+        self.journal.harts()
+    }
+
+    /// The pages that are free.
+    pub fn regions(&self) -> &Regions
+        ensures { result.now ≡ free_pages (after self.now.events).ranges }
+    {
+        self.reserved.regions()
+    }
+
+    /// The modules of thread-local storage.
+    pub fn modules(&self) -> &TlsModules
+        ensures modules { result.now.modules ≡ (after self.now.events).modules }
+        ensures size { result.now.size ≡ (after self.now.events).statics.size }
+        ensures tp { result.now.tp ≡ (after self.now.events).statics.tp }
+        ensures generation { result.now.generation ≡ (after self.now.events).generation }
+    {
+        &self.modules
+    }
+
+    /// The serial of the next new object.
+    pub fn next_serial(&self) -> Serial
+        ensures { result ≡ (after self.now.events).next }
+    {
+        self.loads.next()
+    }
+
+    /// Whether slots are bound at load in the whole run.
+    pub fn binds_now(&self) -> bool
+        ensures { result ≡ (after self.now.events).now }
+    {
+        self.loads.binds_now()
+    }
+
+    /// The refusal that is kept for a hart.
+    pub fn kept(&self, hart: HartId) -> Option<&DlFault>
+        ensures { option_copied result ≡ kept_for (after self.now.events) hart }
+    {
+        self.kept.find(hart)
+    }
+
+    /// The objects that were initialised and not finalised, in the order of their initialisation.
+    pub fn unfinished(&self) -> &[Serial]
+        ensures { result.now ≡ unfinished (after self.now.events) }
+    {
+        self.unfinished.as_slice()
+    }
+
     /// The namespace with a number.
     pub fn namespace(&self, ns: NsId) -> Option<&Namespace>
         ensures { option_copied result ≡ namespace_of (after self.now.events) ns }
@@ -215,12 +270,7 @@ impl LinkState {
     ///
     /// That no such object is mapped, that it has no such slot, that nothing defines the slot's symbol or what
     /// does isn't code, which is noted, or want of memory.
-    pub fn grant(
-        &mut self,
-        hart: HartId,
-        owner: u64,
-        eights: u64,
-    ) -> Result<Granted, GrantFault>
+    pub fn grant(&mut self, hart: HartId, owner: u64, eights: u64) -> Result<Granted, GrantFault>
         requires free { HasNoGrant (after self.old.events) hart }
         ensures ok { IfOk result (λ g. IsGranted self.old hart owner eights g self.new) }
         ensures err { IfErr result (λ e. IsNotGranted self.old hart owner eights e self.new) }

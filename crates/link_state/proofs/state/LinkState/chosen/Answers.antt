@@ -5,8 +5,6 @@ use Rattle.link_history.specs.Laws.{IsIn}
 use Rattle.link_history.specs.Read.{WasRead}
 use Rattle.lawful_journal.specs.Following.{machine_of}
 use Rattle.scope_rule.specs.declared.namespace.Namespace.{Namespace}
-use Rattle.slot_choice.specs.Choosing.{ChoosesSlot, IsFaultOf}
-use Rattle.link_state.specs.Table.{LinkTable}
 use Rattle.link_state.proofs.state.LinkState.chosen.Goals as goal
 
 pub slot_choice-requires : goal.slot_choice-requires

@@ -9,7 +9,7 @@ use Rattle.link_history.specs.After.{after}
 use Rattle.link_history.specs.Allowed.{MayGrant}
 use Rattle.link_history.specs.Held.{EdgesFollow}
 use Rattle.link_history.specs.Slots.{HasNoGrant}
-use Rattle.link_history.specs.Step.{grant, step}
+use Rattle.link_history.specs.Step.{step}
 use Rattle.slot_choice.specs.Choosing.{ChoosesSlot}
 use Rattle.link_state.specs.Granting.{IsGranted}
 use Rattle.link_state.specs.Inside.{lists_of}
@@ -44,7 +44,14 @@ invariant_of-self c =
     let follow : EdgesFollow (after c.self.inside.journal.events) e =
     c.edges_follow.ensures.follow (machine_of c.self.inside.journal.harts) next.setting c.self.inside.journal.events e c.journal.ensures.lawful next.may in
     let g : ℕ → Granting = λ n. record {
-      number = n + 1; hart = c.args.hart; owner = c.args.owner; slot = c.args.chosen.now.slot; choice = c.args.chosen.now.choice; value = c.args.chosen.now.value; standing = Open } in
+      number = n + 1;
+      hart = c.args.hart;
+      owner = c.args.owner;
+      slot = c.args.chosen.now.slot;
+      choice = c.args.chosen.now.choice;
+      value = c.args.chosen.now.value;
+      standing = Open;
+    } in
     let grants : c.open.new.settling.grants ≡ c.self.inside.settling.grants ++ g c.self.inside.settling.count ∷ [] =
     c.open.ensures.grants ∙ ap (λ (gs : List Granting). gs ++ g c.make_room.new.settling.count ∷ []) c.make_room.ensures.grants
     ∙ ap (λ n. c.self.inside.settling.grants ++ g n ∷ []) c.make_room.ensures.count in
