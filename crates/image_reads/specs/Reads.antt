@@ -1,13 +1,15 @@
 -- What is read of an image.
-use Rattle.std.specs.Prelude.{◌≡◌, ℕ, ◌+◌, ◌*◌, ◌/◌, ◌%◌, ◌^◌, ◌&&◌, nat_le, nat_lt, List, [], ◌∷◌, map, Option, Some, None, if◌then◌else◌}
-use Rattle.std.specs.List.{range_with_len}
+use Rattle.std.specs.Prelude.{◌≡◌, ℕ, ◌+◌, ◌*◌, ◌/◌, ◌%◌, ◌^◌, ◌&&◌, nat_le, nat_lt, List, [], ◌∷◌, length, map, Option, Some, None, if◌then◌else◌}
+use Rattle.std.specs.List.{range_with_len, slice_get}
+use Rattle.ld_base.specs.declared.linking.Loaded.{Loaded}
 use Rattle.ld_base.specs.declared.object.Object.{Object}
 use Rattle.ld_base.specs.declared.object.Span.{Span}
 use Rattle.seg_image.specs.Images.{AreBytes, IsImage}
 use Rattle.seg_image.specs.Pages.{guest_address, low_of, pages_of}
 use Rattle.seg_image.specs.declared.image.Image.{Image}
 use Rattle.relocator.specs.Relocated.{image_byte, image_word}
-use Rattle.link_history.specs.State.{Linked}
+use Rattle.link_history.specs.Memory.{image_of}
+use Rattle.link_history.specs.State.{Linked, State}
 
 -- the byte at an address of the object's own: 0 outside its pages
 abbrev pub byte_within : Object → (ℕ → ℕ) → ℕ → ℕ
@@ -54,3 +56,14 @@ pub record IsImageOf (m : Linked) (o : Object) (base : ℕ) (image : Image) : Ty
   pub base_is : m.base ≡ base
   pub relocated : IsImage o base (image_word o base m.serial m.bindings m.places) image
   pub bytes : AreBytes (image_byte o base m.serial m.bindings m.places)
+
+-- as a state has it
+pub record IsPrepared (s : State) (o : Loaded) (image : Image) : Type 0 where
+  pub linked : Linked
+  pub found : image_of s o.serial ≡ Some linked
+  pub is : IsImageOf linked o.object o.base image
+
+-- an image an object, each as the state has it
+pub record ArePrepared (s : State) (objects : List Loaded) (images : List Image) : Type 0 where
+  pub count : length images ≡ length objects
+  pub each : (k : ℕ) (o : Loaded) (image : Image) → slice_get objects k ≡ Some o → slice_get images k ≡ Some image → IsPrepared s o image

@@ -1,0 +1,68 @@
+//! The order of constructors.
+
+ghost use Rattle.std.specs.Prelude.{◌≡◌, ◌++◌, Some, IfOk, OnOk, map};
+ghost use Rattle.std.specs.List.{flat_map};
+ghost use Rattle.link_graph.specs.Initialised.{InitOrder, program_last};
+ghost use Rattle.link_history.specs.Links.{found_edges};
+ghost use Rattle.link_history.specs.Objects.{serial_of};
+
+use init_order::init_order;
+use ld_base::{Loaded, Serial, Serials};
+use link_graph::{Edge, Edges, Graph};
+use std::alloc::{AllocError, Global};
+
+/// The serial of a run's program.
+const PROGRAM: u64 = 1;
+
+/// The order in which the constructors of new objects run, by what their names found.
+pub(crate) fn constructor_order(alloc: Global, added: &[Loaded]) -> Result<Vec<Serial>, AllocError>
+    ensures { IfOk result (λ order. InitOrder (flat_map found_edges added.now) (program_last (Some 1) (map serial_of added.now)) order.items) }
+{
+    let graph = Graph {
+        nodes: Serials::new(alloc),
+        edges: edges_of(alloc, added)?,
+        roots: Serials::new(alloc),
+    };
+    let serials = serials_of(alloc, added)?;
+    init_order(
+        alloc,
+        &graph,
+        serials.as_slice(),
+        Some(Serial::new(PROGRAM)),
+    )
+}
+
+/// Their serials.
+fn serials_of(alloc: Global, added: &[Loaded]) -> Result<Serials, AllocError>
+    ensures { IfOk result (λ serials. serials ≡ map serial_of added.now) }
+{
+    let mut serials = Serials::new(alloc);
+    for object in added {
+        serials.push(object.serial)?;
+    }
+    Ok(serials)
+}
+
+/// An edge from each object to each that was found for one of its names.
+fn edges_of(alloc: Global, added: &[Loaded]) -> Result<Edges, AllocError>
+    ensures { IfOk result (λ edges. edges ≡ flat_map found_edges added.now) }
+{
+    let mut edges = Edges::new(alloc);
+    for object in added {
+        push_edges(&mut edges, object)?;
+    }
+    Ok(edges)
+}
+
+/// Puts the edges of an object at the end.
+fn push_edges(edges: &mut Edges, object: &Loaded) -> Result<(), AllocError>
+    ensures { OnOk result (edges.new ≡ edges.old ++ found_edges object.now) }
+{
+    for target in object.found.as_slice() {
+        edges.push(Edge {
+            source: object.serial,
+            target: *target,
+        })?;
+    }
+    Ok(())
+}
