@@ -71,13 +71,19 @@ pub data Piece : Type 0 where
 pub data Says (known : List Choice) : (ended : Bool) → List (List ℕ) → List Piece → Type 0 where
   no_more : (ended : Bool) → Says known ended [] []
   ends : (rest : List (List ℕ)) (pieces : List Piece) → Says known true rest pieces → Says known false (codes "--" ∷ rest) pieces
-  is_word : (word : List ℕ) (rest : List (List ℕ)) (pieces : List Piece) → is_option word ≡ false → Says known false rest pieces → Says known false (word ∷ rest) (Piece.other word ∷ pieces)
-  is_behind : (word : List ℕ) (rest : List (List ℕ)) (pieces : List Piece) → Says known true rest pieces → Says known true (word ∷ rest) (Piece.other word ∷ pieces)
-  is_flag : (choice : Choice) (word : List ℕ) (rest : List (List ℕ)) (pieces : List Piece) → is_option word ≡ true → is_joined word ≡ false → option_in known word ≡ Some choice → has_value choice ≡ false
+  is_word : (word : List ℕ) (rest : List (List ℕ)) (pieces : List Piece) → is_option word ≡ false → Says known false rest pieces
+      → Says known false (word ∷ rest) (Piece.other word ∷ pieces)
+  is_behind : (word : List ℕ) (rest : List (List ℕ)) (pieces : List Piece) → Says known true rest pieces
+      → Says known true (word ∷ rest) (Piece.other word ∷ pieces)
+  is_flag : (choice : Choice) (word : List ℕ) (rest : List (List ℕ)) (pieces : List Piece) → is_option word ≡ true → is_joined word ≡ false
+      → option_in known word ≡ Some choice → has_value choice ≡ false
       → Says known false rest pieces → Says known false (word ∷ rest) (Piece.flag choice ∷ pieces)
-  is_valued : (choice : Choice) (word value : List ℕ) (rest : List (List ℕ)) (pieces : List Piece) → is_option word ≡ true → is_joined word ≡ false → option_in known word ≡ Some choice
-      → has_value choice ≡ true → has_dash value ≡ false → Says known false rest pieces → Says known false (word ∷ value ∷ rest) (Piece.valued choice value ∷ pieces)
-  is_joined_value : (choice : Choice) (word : List ℕ) (rest : List (List ℕ)) (pieces : List Piece) → is_option word ≡ true → is_joined word ≡ true → option_in known (front_of word) ≡ Some choice → has_value choice ≡ true
+  is_valued : (choice : Choice) (word value : List ℕ) (rest : List (List ℕ)) (pieces : List Piece) → is_option word ≡ true → is_joined word ≡ false
+      → option_in known word ≡ Some choice
+      → has_value choice ≡ true → has_dash value ≡ false → Says known false rest pieces
+      → Says known false (word ∷ value ∷ rest) (Piece.valued choice value ∷ pieces)
+  is_joined_value : (choice : Choice) (word : List ℕ) (rest : List (List ℕ)) (pieces : List Piece) → is_option word ≡ true → is_joined word ≡ true
+      → option_in known (front_of word) ≡ Some choice → has_value choice ≡ true
       → Says known false rest pieces → Says known false (word ∷ rest) (Piece.valued choice (value_of word) ∷ pieces)
 
 -- ---- what pieces hold
@@ -115,3 +121,8 @@ words_of [] = []
 words_of (Piece.flag c ∷ rest) = words_of rest
 words_of (Piece.valued c value ∷ rest) = words_of rest
 words_of (Piece.other word ∷ rest) = word ∷ words_of rest
+
+-- words say one list of pieces
+abbrev pub OneSaying : Type 0
+OneSaying = (known : List Choice) (words : List (List ℕ)) (pieces others : List Piece) → Says known false words pieces → Says known false words others
+    → pieces ≡ others

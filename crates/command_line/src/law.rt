@@ -1,12 +1,11 @@
 //! What holds of words.
 
-ghost use Rattle.std.specs.Prelude.{◌≡◌, ℕ, false, List};
-ghost use Rattle.command_line.specs.Options.{Choice, Piece, Says};
+ghost use Rattle.command_line.specs.Options.{OneSaying};
 ghost use Rattle.command_line.specs.Worked.{Behind, Ended, Generated, IsNone, Joined, Plain, dashed, empty_part, help_option, leading_zero, no_fuel, no_program, no_words, twice};
 
 /// Words say one list of options and other words, if any.
 pub fn words_say_once()
-    ensures { (known : List Choice) (words : List (List ℕ)) (pieces others : List Piece) → Says known false words pieces → Says known false words others → pieces ≡ others }
+    ensures { OneSaying }
 {}
 
 /// Worked command lines: options and words are mixed, a value is joined to its option or follows it, and

@@ -14,7 +14,3 @@ symbol_count number = library_count number * (function_count number + 1)
 -- the program calls each function once
 abbrev pub call_count : ℕ → ℕ
 call_count number = library_count number * function_count number
-
--- the function that it calls at some place: all in order, beginning at one that the number gives
-abbrev pub called_at : ℕ → ℕ → ℕ
-called_at number place = (place + number) % call_count number

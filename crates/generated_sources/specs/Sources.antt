@@ -3,7 +3,7 @@ use Rattle.std.specs.Prelude.{ℕ, ◌+◌, ◌*◌, ◌/◌, ◌%◌, nat_lt, i
 use Rattle.std.specs.Fmt.{decimal}
 use Rattle.std.specs.List.{range_with_len}
 use Rattle.ld_base.specs.declared.linking.File.{File}
-use Rattle.generated_sources.specs.Shape.{call_count, called_at, function_count, library_count}
+use Rattle.generated_sources.specs.Shape.{call_count, function_count, library_count}
 
 -- each line ends in a line feed, 10
 
@@ -31,13 +31,18 @@ name_line i = codes ".soname lib" ++ (decimal i ++ (codes ".so" ++ 10 ∷ []))
 -- it needs the two libraries behind twice its number
 unfoldable pub library_source : ℕ → ℕ → ℕ → List ℕ
 library_source libraries functions i =
-    name_line i ++ (needed_line libraries (2 * i + 1) ++ (needed_line libraries (2 * i + 2) ++ (flat_map (function_lines i) (range_with_len 0 functions) ++ last_lines i)))
+    let all = flat_map (function_lines i) (range_with_len 0 functions) in
+    name_line i ++ (needed_line libraries (2 * i + 1) ++ (needed_line libraries (2 * i + 2) ++ (all ++ last_lines i)))
 
 -- ---- the program
 
 -- it calls a function, and adds what that answers to the sum
 abbrev pub call_lines : ℕ → ℕ → List ℕ
 call_lines functions x = codes "call f_" ++ (decimal (x / functions) ++ (codes "_" ++ (decimal (x % functions) ++ (10 ∷ (codes "add s0, s0, a0" ++ 10 ∷ [])))))
+
+-- so many calls, beginning behind a number of them
+abbrev pub calls_from : (functions number calls : ℕ) → List ℕ
+calls_from functions number calls = flat_map (λ place. call_lines functions ((place + number) % calls)) (range_with_len 0 calls)
 
 abbrev pub first_lines : List ℕ
 first_lines = codes ".kind prog" ++ (10 ∷ (codes ".needed lib0.so" ++ (10 ∷ (codes "_start: li s0, 0" ++ 10 ∷ []))))
@@ -48,7 +53,7 @@ exit_lines = codes "mv a0, s0" ++ (10 ∷ (codes "li a7, 93" ++ (10 ∷ (codes "
 
 unfoldable pub program_source : ℕ → List ℕ
 program_source number =
-    first_lines ++ (flat_map (λ place. call_lines (function_count number) (called_at number place)) (range_with_len 0 (call_count number)) ++ exit_lines)
+    first_lines ++ (calls_from (function_count number) number (call_count number) ++ exit_lines)
 
 -- ---- all of them
 

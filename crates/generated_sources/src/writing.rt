@@ -1,9 +1,9 @@
 //! The text of the sources.
 
-ghost use Rattle.std.specs.Prelude.{◌≡◌, ℕ, ◌+◌, ◌%◌, ◌^◌, ◌<◌, ◌++◌, ◌∷◌, [], IfOk, OnOk, flat_map};
+ghost use Rattle.std.specs.Prelude.{◌≡◌, ◌^◌, ◌<◌, ◌++◌, IfOk, OnOk, flat_map};
 ghost use Rattle.std.specs.List.{range_with_len};
 ghost use Rattle.std.specs.String.{string_bytes};
-ghost use Rattle.generated_sources.specs.Sources.{call_lines, function_lines, library_file, library_source, needed_line, program_file, program_source, sources};
+ghost use Rattle.generated_sources.specs.Sources.{calls_from, function_lines, library_file, library_source, needed_line, program_file, program_source, sources};
 
 use crate::{function_count, library_count};
 use ld_base::{Bytes, File, Files, Name};
@@ -58,7 +58,7 @@ fn write_calls(text: &mut String, number: u64, functions: u64, calls: u64) -> Re
     requires number { number < 2 ^ 32 }
     requires functions { 0 < functions }
     requires calls { calls < 2 ^ 32 }
-    ensures { OnOk result (string_bytes text.new ≡ string_bytes text.old ++ flat_map (λ place. call_lines functions ((place + number) % calls)) (range_with_len 0 calls)) }
+    ensures { OnOk result (string_bytes text.new ≡ string_bytes text.old ++ calls_from functions number calls) }
 {
     for place in 0..calls {
         let called = (place + number) % calls;

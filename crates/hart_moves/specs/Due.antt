@@ -130,7 +130,8 @@ by_phase s b (Phase.named n name version) = serve (call_of s b.registers n name 
 by_phase s b (Phase.pairing bytes) =
     if nat_lt (length bytes) 16 then copy Copy.of_pair (a0 b.registers) bytes else serve (locates (number_in bytes 0) (number_in bytes 8)) (back b)
 by_phase s b (Phase.writing bytes) =
-    if nat_lt (length bytes) (write_count b.registers) then copy (Copy.of_text (write_count b.registers)) (a1 b.registers) bytes else serve (writes bytes) (behind b)
+    let count = write_count b.registers in
+    if nat_lt (length bytes) count then copy (Copy.of_text count) (a1 b.registers) bytes else serve (writes bytes) (behind b)
 by_phase s b (Phase.storing text stored word more) = store text stored word more
 
 -- ---- a turn

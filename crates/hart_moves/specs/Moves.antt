@@ -203,7 +203,8 @@ CopiesBy w past h b items copy start bytes (Err (Again shown)) did c = Goes item
 abbrev pub copied_item : ℕ → List ℕ → Result ℕ BusFault → Item
 copied_item start bytes answer = Read (doubleword_at (first_left start bytes)) 8 answer
 
-pub record Copies (w : Setting) (past : List Event) (h : ℕ) (b : HartState) (copy : Copy) (start : ℕ) (bytes : List ℕ) (did : Did) (c : HartState) : Type 0 where
+pub record Copies (w : Setting) (past : List Event) (h : ℕ) (b : HartState) (copy : Copy) (start : ℕ) (bytes : List ℕ) (did : Did)
+    (c : HartState) : Type 0 where
   pub answer : Result ℕ BusFault
   pub comes : CopiesBy w past h b (copied_item start bytes answer ∷ []) copy start bytes answer did c
 
@@ -216,11 +217,13 @@ stored_to text stored (word ∷ more) b = record b { phase = Phase.storing text 
 
 abbrev pub StoresBy : Setting → List Event → ℕ → HartState → List Item → (text stored : ℕ) → (more : List ℕ) → Result Unit BusFault → Did → HartState → Type 0
 StoresBy w past h b items text stored more (Ok _) did c = Goes items (stored_to text stored more b) did c
-StoresBy w past h b items text stored more (Err (RoleFault role)) did c = Ends w past h (spent b) items (role_end b.registers.pc (text + 8 * stored) items role) did c
+StoresBy w past h b items text stored more (Err (RoleFault role)) did c =
+    Ends w past h (spent b) items (role_end b.registers.pc (text + 8 * stored) items role) did c
 StoresBy w past h b items text stored more (Err Misaligned) did c = ⊥
 StoresBy w past h b items text stored more (Err (Again shown)) did c = Goes items b did c
 
-pub record StoresText (w : Setting) (past : List Event) (h : ℕ) (b : HartState) (text stored word : ℕ) (more : List ℕ) (did : Did) (c : HartState) : Type 0 where
+pub record StoresText (w : Setting) (past : List Event) (h : ℕ) (b : HartState) (text stored word : ℕ) (more : List ℕ) (did : Did)
+    (c : HartState) : Type 0 where
   pub answer : Result Unit BusFault
   pub comes : StoresBy w past h b (Write (text + 8 * stored) 8 word answer ∷ []) text stored more answer did c
 
@@ -242,15 +245,18 @@ AreAllowed w past (e ∷ rest) = Allowed w past e × AreAllowed w (past ++ e ∷
 abbrev pub after_all : Purpose → List Frame → HartState → HartState
 after_all (Purpose.of_startup registers) below b = running registers (record b { frames = below })
 after_all (Purpose.of_opening to root) below b = running (returned to root b.registers) (record b { frames = below })
-after_all (Purpose.of_closing to set) below b = running (at next_function b.registers) (record b { frames = record { purpose = Purpose.of_closing to set; queue = [] } ∷ below })
+after_all (Purpose.of_closing to set) below b =
+    running (at next_function b.registers) (record b { frames = record { purpose = Purpose.of_closing to set; queue = [] } ∷ below })
 after_all (Purpose.of_end code) below b = record b { frames = below; «end» = Some (ends.Exit code) }
 
 -- the first function of an object is entered; where it has none, its turn comes next
 abbrev pub with_first : Purpose → ℕ → List ℕ → List Function → List Frame → HartState → HartState
 with_first purpose object [] rest below b =
-    running (entered next_function b.registers) (record b { frames = record { purpose = purpose; queue = record { object = object; addresses = [] } ∷ rest } ∷ below })
+    running (entered next_function b.registers)
+    (record b { frames = record { purpose = purpose; queue = record { object = object; addresses = [] } ∷ rest } ∷ below })
 with_first purpose object (function ∷ more) rest below b =
-    running (entered function b.registers) (record b { frames = record { purpose = purpose; queue = record { object = object; addresses = more } ∷ rest } ∷ below })
+    running (entered function b.registers)
+    (record b { frames = record { purpose = purpose; queue = record { object = object; addresses = more } ∷ rest } ∷ below })
 
 abbrev pub runs : Purpose → List Function → List Frame → HartState → HartState
 runs purpose [] below b = after_all purpose below b
@@ -287,7 +293,8 @@ own_fini s h object = if is_some (object_at s object) && not (has s.finis object
 pub data Finals (w : Setting) (h : ℕ) : List Event → List Event → Option Function → Type 0 where
   no_more : (past : List Event) → all_finis (after past) ≡ [] → Finals w h past [] None
   one_runs : (past : List Event) (object function : ℕ) (rest more : List ℕ) → all_finis (after past) ≡ object ∷ rest
-      → AreAddresses destructors (function ∷ more) (image_of (after past) object) → Finals w h past [] (Some (record { object = object; addresses = function ∷ more }))
+      → AreAddresses destructors (function ∷ more) (image_of (after past) object)
+      → Finals w h past [] (Some (record { object = object; addresses = function ∷ more }))
   one_passes : (past : List Event) (object : ℕ) (rest : List ℕ) (behind : List Event) (next : Option Function) → all_finis (after past) ≡ object ∷ rest
       → AreAddresses destructors [] (image_of (after past) object) → Allowed w past (events.Fini h object)
       → Finals w h (past ++ events.Fini h object ∷ []) behind next → Finals w h past (events.Fini h object ∷ behind) next

@@ -117,7 +117,8 @@ inside = hart_at 0x80f010 (with_two 10 0x20004 11 0x101)
 
 abbrev pub CopiesInside : (w : Setting) → List Event → Type 0
 CopiesInside w past =
-    Moves w past 1 inside (Did.quiet (Read 0x20000 8 (Ok 0x6762696c00000000) ∷ [])) (spent (record inside { phase = Phase.naming Naming.dlopen (codes "libg") }))
+    Moves w past 1 inside (Did.quiet (Read 0x20000 8 (Ok 0x6762696c00000000) ∷ []))
+    (spent (record inside { phase = Phase.naming Naming.dlopen (codes "libg") }))
 
 -- where nothing is mapped the hart ends, at the service's address and the first byte that isn't copied
 abbrev pub FindsNoName : Type 0
@@ -150,7 +151,8 @@ HasNoFunction = Moves race.setting race.before 1 (hart_at 0x80f080 (replicate 32
 
 -- of an opening the first object has no functions and passes at once, the second's first function is entered with ra there and arguments of 0
 abbrev pub EntersSecond : Type 0
-EntersSecond = runs (Purpose.of_opening 0x11100 2) (record { object = 2; addresses = 0x35000 ∷ 0x35010 ∷ [] } ∷ []) [] (hart_at 0x80f010 (with_two 10 0x20000 1 0x11100))
+EntersSecond =
+    runs (Purpose.of_opening 0x11100 2) (record { object = 2; addresses = 0x35000 ∷ 0x35010 ∷ [] } ∷ []) [] (hart_at 0x80f010 (with_two 10 0x20000 1 0x11100))
     ≡ record (hart_at 0x35000 (with_one 1 0x80f080)) {
       frames = record { purpose = Purpose.of_opening 0x11100 2; queue = record { object = 2; addresses = 0x35010 ∷ [] } ∷ [] } ∷ [];
     }

@@ -15,7 +15,8 @@ use Rattle.world_turns.specs.World.{World, winners}
 
 -- a run is sound when it starts
 abbrev pub StartIsSound : Type 0
-StartIsSound = (w : Setting) (setup : Setup) (world : World) → AcceptsOnly w.machine → w.machine.harts ≡ harts_of setup → IsStarted w setup world → Sound w world
+StartIsSound =
+    (w : Setting) (setup : Setup) (world : World) → AcceptsOnly w.machine → w.machine.harts ≡ harts_of setup → IsStarted w setup world → Sound w world
 
 -- what slots got at load are words, as whoever keeps the journal knows by its type
 abbrev pub LoadsFit : State → Type 0
@@ -27,4 +28,5 @@ TurnsAreSound = (w : Setting) (h : ℕ) (old new : World) → AcceptsOnly w.mach
 
 -- and a sound run's slots are true: each holds its first word or the value of the one grant that took it, and leads to code or to 0
 abbrev pub SoundIsSlotTrue : Type 0
-SoundIsSlotTrue = (w : Setting) (world : World) → AcceptsOnly w.machine → Sound w world → SlotTrue (after world.journal) (winners world.harts) (memory_of world.words)
+SoundIsSlotTrue =
+    (w : Setting) (world : World) → AcceptsOnly w.machine → Sound w world → SlotTrue (after world.journal) (winners world.harts) (memory_of world.words)

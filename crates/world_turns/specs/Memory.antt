@@ -73,7 +73,8 @@ exchanged o words =
 -- after these events, a turn that did this left memory so
 abbrev pub Does : List Event → List Doubleword → Did → List Doubleword → Type 0
 Does past old (Did.quiet items) new = Chain (DoesIn lowest) old items new
-Does past old (Did.serves items appended) new = (between : List Doubleword) × Chain (DoesIn lowest) old items between × RemakesAll (after past) appended between new
+Does past old (Did.serves items appended) new =
+    (between : List Doubleword) × Chain (DoesIn lowest) old items between × RemakesAll (after past) appended between new
 Does past old (Did.waits for) new = new ≡ old
 Does past old (Did.exchanges o found) new = (found ≡ (doubleword old o.slot).value) × (new ≡ exchanged o old)
 Does past old Did.finishes new = new ≡ old

@@ -1,15 +1,15 @@
 use Rattle.std.proofs.Common.{◌≡◌, ℕ, List, ◌++◌, ◌+◌, ◌*◌, ◌%◌, ap, ◌∙◌}
 use Rattle.std.specs.List.{flat_map, range_with_len}
 use Rattle.std.specs.String.{string_bytes}
-use Rattle.generated_sources.specs.Shape.{call_count, called_at, function_count, library_count}
-use Rattle.generated_sources.specs.Sources.{call_lines, exit_lines, first_lines, program_source}
+use Rattle.generated_sources.specs.Shape.{call_count, function_count, library_count}
+use Rattle.generated_sources.specs.Sources.{call_lines, calls_from, exit_lines, first_lines, program_source}
 use Rattle.generated_sources.proofs.Joined.{on_ok, three}
 use Rattle.generated_sources.proofs.writing.write_program.Goals as goal
 
 -- the calls, by the counts that the number gives
 calls_are : (number same libraries functions : ℕ) → same ≡ number → libraries ≡ library_count number → functions ≡ function_count number
     → flat_map (λ place. call_lines functions ((place + same) % (libraries * functions))) (range_with_len 0 (libraries * functions))
-    ≡ flat_map (λ place. call_lines (function_count number) (called_at number place)) (range_with_len 0 (call_count number))
+    ≡ calls_from (function_count number) number (call_count number)
 calls_are number same libraries functions n l f =
     ap (λ (k : ℕ). flat_map (λ place. call_lines functions ((place + k) % (libraries * functions))) (range_with_len 0 (libraries * functions))) n
     ∙ ap (λ (k : ℕ). flat_map (λ place. call_lines functions ((place + number) % (k * functions))) (range_with_len 0 (k * functions))) l
@@ -19,7 +19,7 @@ pub returns : goal.returns
 unfolding program_source
 returns c = on_ok c.write-2.result c.write-2.ensures.bytes (λ last.
     three (string_bytes c.args.text.now) (string_bytes c.write.new.self) (string_bytes c.write_calls.new.text) (string_bytes c.write-2.new.self)
-    first_lines (flat_map (λ place. call_lines (function_count c.args.number) (called_at c.args.number place)) (range_with_len 0 (call_count c.args.number))) exit_lines
+    first_lines (calls_from (function_count c.args.number) c.args.number (call_count c.args.number)) exit_lines
     c.in_ok-write.ensures.bytes
     (c.in_ok-write_calls.ensures ∙ ap (λ (t : List ℕ). string_bytes c.write.new.self ++ t)
     (calls_are c.args.number c.from.result c.library_count.result c.function_count-functions.result c.from.ensures c.library_count.ensures.is c.function_count-functions.ensures.is))
