@@ -19,7 +19,7 @@ use Rattle.link_service.specs.Served.{AreImages, is_area}
 use Rattle.object_bindings.specs.Bindings.{Copies, bindings_in, none_copied}
 use Rattle.relocator.specs.Bindings.{is_copy}
 use Rattle.relocator.specs.declared.binding.ModulePlace.{ModulePlace}
-use Rattle.opening_images.specs.Relocated.{IsRelocated, MayRelocate, copies_among}
+use Rattle.opening_images.specs.Relocated.{AreRelocated, IsRelocated, MayRelocate, MayRelocateAll, copies_among}
 use Rattle.seg_image.specs.Pages.{IsPlaced}
 use Rattle.seg_image.specs.declared.image.Image.{Image}
 
@@ -79,3 +79,13 @@ abbrev pub CopiesAreSeen : Type 0
 CopiesAreSeen = OfOpenings (λ s hart ask id root added ranges. (o : Loaded) → Contains added o
     → (image_made s hart ask id root added ranges o).bindings
     ≡ bindings_in (copies_among (seen_after s ask id root added) (binds s ask) (places_after s hart ask id root added ranges) added) (seen_after s ask id root added) (binds s ask) o)
+
+-- what relocating the new objects asks for
+abbrev pub OpeningsRelocate : Type 0
+OpeningsRelocate = OfOpenings (λ s hart ask id root added ranges. MayRelocateAll (seen_after s ask id root added) (binds s ask) (places_after s hart ask id root added ranges) added)
+
+-- their images, relocated by what is seen, are what memory gets of them
+abbrev pub RelocatedAreInstalls : Type 0
+RelocatedAreInstalls = OfOpenings (λ s hart ask id root added ranges. (images : List Image)
+    → AreRelocated (seen_after s ask id root added) (binds s ask) (places_after s hart ask id root added ranges) added images
+    → AreImages (open_done s hart ask id root added ranges) (filter (λ r. not (is_area r)) ranges) images)

@@ -1,6 +1,6 @@
 //! The laws.
 
-ghost use Rattle.opening_laws.specs.Laws.{CopiesAreSeen, ImagesAreInstalls, ImagesRelocate, LibrariesHaveNoCopies, NewBindingsAreSeen, NewObjectsArePlaced, UncopiedAreSeen};
+ghost use Rattle.opening_laws.specs.Laws.{CopiesAreSeen, ImagesAreInstalls, ImagesRelocate, LibrariesHaveNoCopies, NewBindingsAreSeen, NewObjectsArePlaced, OpeningsRelocate, RelocatedAreInstalls, UncopiedAreSeen};
 
 use accepted_image::accepted_object;
 
@@ -79,4 +79,21 @@ pub fn copies_are_seen()
     new_objects_are_placed();
     new_bindings_are_seen();
     libraries_have_no_copies();
+}
+
+/// The new objects of an opening may be relocated by what is seen in their namespace.
+pub fn openings_relocate()
+    ensures { OpeningsRelocate }
+{
+    images_relocate();
+    copies_are_seen();
+    libraries_have_no_copies();
+}
+
+/// Their images are then what memory gets of them.
+pub fn relocated_are_installs()
+    ensures { RelocatedAreInstalls }
+{
+    images_are_installs();
+    copies_are_seen();
 }

@@ -2,12 +2,15 @@
 //! bindings are those that are seen in its namespace.
 //!
 //! There is no code but laws, functions without a body, whose contract is the law. They tie what
-//! `object_bindings` and `opening_images` make of new objects to the history's state.
+//! `object_bindings` and `opening_images` make of new objects to the history's state: with
+//! [`openings_relocate`] images can be made before the opening is, and by [`relocated_are_installs`] they
+//! are what memory gets.
 #![tactic(auto)]
 
 mod law;
 
 pub use law::{
     copies_are_seen, images_are_installs, images_relocate, libraries_have_no_copies,
-    new_bindings_are_seen, new_objects_are_placed, uncopied_are_seen,
+    new_bindings_are_seen, new_objects_are_placed, openings_relocate, relocated_are_installs,
+    uncopied_are_seen,
 };
