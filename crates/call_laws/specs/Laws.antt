@@ -1,5 +1,6 @@
 -- What the calls of a linker stand on.
-use Rattle.std.specs.Prelude.{◌≡◌, ℕ, ◌^◌, ◌<◌, ◌≤◌, false, List, [], ◌∷◌, ◌++◌, length, map, flat_map, Some, None, IsTrue}
+use Rattle.std.specs.Prelude.{◌≡◌, ℕ, ◌+◌, ◌^◌, ◌<◌, ◌≤◌, false, List, [], ◌∷◌, ◌++◌, length, map, flat_map, Some, None, IsTrue}
+use Rattle.std.specs.List.{range_with_len, slice_get}
 use Rattle.ld_base.specs.declared.fault.DlFault.{DlFault}
 use Rattle.ld_base.specs.declared.linking.File.{File}
 use Rattle.ld_base.specs.declared.linking.Loaded.{Loaded}
@@ -14,6 +15,7 @@ use Rattle.link_graph.specs.Initialised.{InitOrder, program_last}
 use Rattle.link_served.specs.declared.served.Served.{Served}
 use Rattle.link_served.specs.declared.startup.Setup.{Setup}
 use Rattle.scope_rule.specs.Load.{Load, find_opened, nowhere}
+use Rattle.scope_rule.specs.Loading.{with_serial}
 use Rattle.scope_rule.specs.Loads.{ReadsNothing, named_there}
 use Rattle.scope_rule.specs.declared.namespace.Namespace.{Namespace}
 use Rattle.seg_image.specs.Pages.{own_address}
@@ -26,11 +28,11 @@ use Rattle.link_history.specs.Laws.{IsIn}
 use Rattle.link_history.specs.Legal.{Lawful}
 use Rattle.link_history.specs.Links.{finis_of, found_edges}
 use Rattle.link_history.specs.Memory.{holds, image_of}
-use Rattle.link_history.specs.Objects.{mapped, serial_of}
+use Rattle.link_history.specs.Objects.{mapped, object_at, serial_of}
 use Rattle.link_history.specs.Opening.{Refuses}
 use Rattle.link_history.specs.Setting.{Machine, Setting}
 use Rattle.link_history.specs.State.{State}
-use Rattle.link_history.specs.Step.{step}
+use Rattle.link_history.specs.Step.{loaded, step}
 use Rattle.link_service.specs.Call.{opens}
 use Rattle.link_service.specs.Laws.{RefusesAsk}
 use Rattle.link_service.specs.Served.{IsServed}
@@ -63,6 +65,21 @@ StartsUnlessReadsFail = (w : Setting) (setup : Setup) (files : List File) (root 
     (ranges : List Range) (found failed : List Event) (addresses : List ℕ) (fault : DlFault) (failures failures' : ℕ) → w.files ≡ Some files
     → Allowed w [] (opening setup root added ranges) → FindHarts w (opening setup root added ranges ∷ []) 1 setup.harts found addresses
     → FailsToStart w setup fault failed → FaultsShow (Some fault) failures failures' → Rises failures failures'
+
+-- ---- new objects
+
+-- the serials of these objects follow one another from this one on
+abbrev pub AreNumberedFrom : ℕ → List Loaded → Type 0
+AreNumberedFrom next objects = map serial_of objects ≡ range_with_len next (length objects)
+
+abbrev pub NumberedByPlace : Type 0
+NumberedByPlace = (next k : ℕ) (objects : List Loaded) (o : Loaded) → AreNumberedFrom next objects → slice_get objects k ≡ Some o → o.serial ≡ next + k
+
+-- in the state with new objects in it a serial leads to an object that was there, or else to a new one
+abbrev pub NewStandBehind : Type 0
+NewStandBehind = (m : Machine) (past : List Event) (h id root serial : ℕ) (ask : OpenAsk) (added : List Loaded) (ranges : List Range) → Lawful m past
+    → AreNumberedFrom (after past).next added
+    → object_at (loaded (after past) h ask id root added ranges) serial ≡ with_serial (mapped (after past) ++ added) serial
 
 -- ---- the order of constructors
 

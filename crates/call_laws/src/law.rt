@@ -1,6 +1,7 @@
 //! What the calls of a linker stand on.
 
 ghost use Rattle.call_laws.specs.Laws.{ClosingKeepsImages, ClosingKeepsOrder, ElsewhereByLinker, HeldByCode, LeadsNowhere, NewEdgesSuffice};
+ghost use Rattle.call_laws.specs.Laws.{NewStandBehind, NumberedByPlace};
 ghost use Rattle.call_laws.specs.Laws.{RefusedByAsking, StartsUnlessReadsFail, WholeUnlessReadsFail};
 
 /// What an opening is refused for before anything is looked for the history refuses it for.
@@ -21,6 +22,16 @@ pub fn only_failed_reads_stop()
 {
     link_service::one_answer();
     link_service::one_startup();
+}
+
+/// New objects stand behind those that were there: in the state with them a serial leads to an object that
+/// was there, or else to a new one, whose place its serial tells.
+pub fn new_objects_stand_behind()
+    ensures place { NumberedByPlace }
+    ensures found { NewStandBehind }
+{
+    scope_rule::serials_follow();
+    scope_rule::found_stands();
 }
 
 /// The order of new objects' constructors is settled by what they themselves found.

@@ -12,7 +12,7 @@ mod law;
 mod worked;
 
 pub use law::{
-    closings_keep, executable_by_holder, nothing_leads_nowhere, only_failed_reads_stop,
-    own_order_is_the_order, refused_by_asking,
+    closings_keep, executable_by_holder, new_objects_stand_behind, nothing_leads_nowhere,
+    only_failed_reads_stop, own_order_is_the_order, refused_by_asking,
 };
 pub use worked::{counts_show, reads_only_if_it_has_to, refusals_are_told_apart};
