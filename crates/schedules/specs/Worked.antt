@@ -16,6 +16,12 @@ InOrder = SaysTurns 1 (codes "rr") []
 abbrev pub Once : Type 0
 Once = SaysTurns 2 (codes "1,0") (turns 1 1 ∷ turns 0 1 ∷ [])
 
--- nothing is said by these: a hart that isn't there, no turn, a zero before a number, an empty item, nothing at all
-abbrev pub SaysNothing : ℕ → List ℕ → Type 0
-SaysNothing harts text = (items : List TurnItem) → SaysTurns harts text items → ⊥
+-- one hart: there is no second one, and a count of none is no count
+abbrev pub SaysNothing : List ℕ → Type 0
+SaysNothing text = (items : List TurnItem) → SaysTurns 1 text items → ⊥
+
+abbrev pub NoHart : Type 0
+NoHart = SaysNothing (codes "1*3")
+
+abbrev pub NoTurn : Type 0
+NoTurn = SaysNothing (codes "0*0")

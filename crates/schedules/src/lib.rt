@@ -6,5 +6,5 @@
 mod law;
 mod schedule;
 
-pub use law::schedules_are_written;
+pub use law::{schedules_are_none, schedules_are_written};
 pub use schedule::{TurnItem, Turns};
