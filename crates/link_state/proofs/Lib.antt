@@ -1,3 +1,4 @@
 pub mod Advance
 pub mod Granted
 pub mod Held
+pub mod Parts

@@ -1,16 +1,18 @@
 //! The state.
 
 ghost use Rattle.std.specs.Prelude.{◌≡◌, ◌<◌, ◌≤◌, [], IfErr, IfNone, IfOk, IfSome, IsTrue, OnOk, OnErr};
-ghost use Rattle.std.specs.Option.{option_copied};
+ghost use Rattle.std.specs.Option.{option_copied, option_map};
 ghost use Rattle.link_event.specs.declared.event.Event.TheVariants.{Ended, Fini, Init, Told, Unresolved, Wrote};
 ghost use Rattle.link_history.specs.After.{after};
 ghost use Rattle.link_history.specs.Allowed.{MayWrite, kept_for};
 ghost use Rattle.link_history.specs.Areas.{free_pages};
 ghost use Rattle.link_history.specs.Legal.{Lawful};
 ghost use Rattle.link_history.specs.Links.{unfinished};
+ghost use Rattle.link_history.specs.Memory.{image_of};
 ghost use Rattle.link_history.specs.Objects.{namespace_of};
 ghost use Rattle.link_history.specs.Owed.{ends_at_most, times_ended};
 ghost use Rattle.link_history.specs.Slots.{HasNoGrant};
+ghost use Rattle.link_service.specs.Functions.{destructors};
 ghost use Rattle.link_service.specs.Served.{InstallsNothing};
 ghost use Rattle.lawful_journal.specs.Following.{MayFollow, machine_of};
 ghost use Rattle.object_holders.specs.Holders.{HasNone, IsFound};
@@ -31,7 +33,7 @@ use image_parts::ImageParts;
 use late_blocks::LateBlocks;
 use lawful_journal::LawfulJournal;
 use ld_base::{Bytes, DlFault, GrantNo, HartId, NsId, Serial};
-use link_event::{Ask, Event, Granted, HartEnd, Journal};
+use link_event::{Addresses, Ask, Event, Granted, HartEnd, Journal};
 use link_harts::{HartEnds, KeptFaults};
 use link_history::{
     edges_follow, events_are_owed, finalised_once, grants_are_tidy, legal_step_by_step,
@@ -203,6 +205,16 @@ impl LinkState {
         one_image();
         let _ = self.journal.journal();
         holder_in(self.namespaces.as_slice(), address)
+    }
+
+    /// The addresses of the destructors of a mapped object, in the order in which they run.
+    pub fn finis(&self, serial: Serial) -> Option<&Addresses>
+        ensures { option_copied result ≡ option_map destructors (image_of (after self.now.events) serial) }
+    {
+        match self.parts.find(serial) {
+            Some(part) => Some(&part.destructors),
+            None => None,
+        }
     }
 
     /// A hart wrote some bytes.

@@ -1,0 +1,27 @@
+-- What is kept of an image is found by its serial.
+use Rattle.std.proofs.Common.{◌≡◌, ℕ, Bool, true, false, cond, eqb, List, [], ◌∷◌, map, Option, Some, None, refl, ap, ◌∙◌}
+use Rattle.std.specs.List.{find}
+use Rattle.std.specs.Option.{option_map}
+use Rattle.image_parts.specs.Parts.{part_of}
+use Rattle.image_parts.specs.declared.parts.Part.{Part}
+use Rattle.link_history.specs.Memory.{image_of}
+use Rattle.link_history.specs.State.{Linked, State}
+use Rattle.link_service.specs.Functions.{destructors}
+
+find_part : (serial : ℕ) (images : List Linked) → find (λ (p : Part). eqb p.serial serial) (map part_of images) ≡ option_map part_of (find (λ (m : Linked). eqb m.serial serial) images)
+find_part serial [] = refl
+find_part serial (m ∷ images) = by (eqb m.serial serial) (find_part serial images)
+  where
+    by : (b : Bool) → find (λ (p : Part). eqb p.serial serial) (map part_of images) ≡ option_map part_of (find (λ (i : Linked). eqb i.serial serial) images)
+        → cond b (Some (part_of m)) (find (λ (p : Part). eqb p.serial serial) (map part_of images)) ≡ option_map part_of (cond b (Some m) (find (λ (i : Linked). eqb i.serial serial) images))
+    by true rest = refl
+    by false rest = rest
+
+both : (found : Option Linked) → option_map (λ (p : Part). p.destructors) (option_map part_of found) ≡ option_map destructors found
+both None = refl
+both (Some m) = refl
+
+pub finis_found : (s : State) (parts : List Part) (serial : ℕ) (found : Option Part) → parts ≡ map part_of s.images → found ≡ find (λ (p : Part). eqb p.serial serial) parts
+    → option_map (λ (p : Part). p.destructors) found ≡ option_map destructors (image_of s serial)
+finis_found s parts serial found are is =
+    ap (option_map (λ (p : Part). p.destructors)) (is ∙ ap (find (λ (p : Part). eqb p.serial serial)) are ∙ find_part serial s.images) ∙ both (find (λ (m : Linked). eqb m.serial serial) s.images)
