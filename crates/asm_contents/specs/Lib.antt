@@ -1,0 +1,3 @@
+pub mod Blank
+pub mod Marks
+pub mod Needs
