@@ -24,11 +24,13 @@ use Rattle.link_history.proofs.History.{after_push, legal_is_lawful, legal_push}
 use Rattle.link_history.proofs.Lists.{here, later}
 use Rattle.link_service.specs.Laws.{hart_of}
 use Rattle.memory_holds.specs.Holds.{Holds}
-use Rattle.hart_moves.specs.Harts.{HartState, Offered, Resolving}
+use Rattle.hart_moves.specs.Harts.{HartState, Offered, Phase, Purpose, Resolving}
 use Rattle.hart_moves.specs.Moves.{AreAllowed, Did, IsOffer, events_of, freed, settled_resolving, settles}
+use Rattle.hart_moves.specs.Starting.{finalising_hart}
 use Rattle.hart_moves.proofs.Legality.{turns_allowed, turns_own}
-use Rattle.world_turns.specs.Laws.{LoadsFit, TurnsAreSound}
-use Rattle.world_turns.specs.Memory.{Does, Remakes, RemakesAll, doubleword, exchanged, memory_of}
+use Rattle.world_turns.specs.Laws.{FinalsBeginSound, LoadsFit, SettlingIsSound, TurnsAreSound}
+use Rattle.world_turns.specs.Run.{settled}
+use Rattle.world_turns.specs.Memory.{Does, Remakes, RemakesAll, doubleword, exchanged, memory_of, word_count}
 use Rattle.world_turns.specs.Sound.{Fits, HasOffer, Sound}
 use Rattle.world_turns.specs.Turn.{Turn}
 use Rattle.world_turns.specs.World.{World, found_harts, found_journal, settled_by, settling, won_by, winners}
@@ -37,6 +39,7 @@ use Rattle.world_turns.proofs.Exchanging.{ExchangesKeep, exchanged_length, excha
 use Rattle.world_turns.proofs.Offers.{Changes, Know, granted_to, stands}
 use Rattle.world_turns.proofs.Places.{Sounds, Spares, elsewhere, fits_stay, holds_alike, placed, won_all}
 use Rattle.world_turns.proofs.Resolution.{GrantNothing, Resolution, resolution}
+use Rattle.world_turns.proofs.Starting.{runs_idle}
 use Rattle.world_turns.proofs.Settling.{MayBeBound, MayBeLost, settled_all}
 use Rattle.world_turns.proofs.Words.{Keeps, keeps_chain}
 
@@ -363,3 +366,40 @@ module _ (w : Setting) (only : AcceptsOnly w.machine) (needs : Needs w.machine) 
 
 pub turns_sound : ((m : Machine) → AcceptsOnly m → Needs m) → TurnsAreSound
 turns_sound needs w h old new only loads sound turn = turn_leaves w only (needs w.machine only) h old new loads sound turn
+
+-- ---- the final destructors begin, and what is left is settled
+
+places_length : (harts : List HartState) → length (resolvings harts) ≡ length harts
+places_length [] = refl
+places_length (b ∷ rest) = ap suc (places_length rest)
+
+from_sounds : (w : Setting) (world : World) → length world.harts ≡ w.machine.harts → length world.words ≡ word_count → Sounds w world.journal (resolvings world.harts) world.words → Sound w world
+from_sounds w world harts words x = record {
+  legal = x.legal;
+  harts = harts;
+  words = words;
+  holds = subst (λ (ns : List ℕ). Holds (after world.journal) ns (memory_of world.words)) (sym (winners_are world.harts)) x.holds;
+  fits = λ j b at. x.fits j b.resolving (place_at world.harts j b at);
+}
+
+-- other harts at the same places
+same_places : (w : Setting) (world : World) (harts : List HartState) → resolvings harts ≡ resolvings world.harts → Sound w world → Sound w (record world { harts = harts })
+same_places w world harts same x =
+    from_sounds w (record world { harts = harts }) (sym (places_length harts) ∙ ap (λ (rs : List Resolving). length rs) same ∙ places_length world.harts ∙ x.harts) x.words
+    (subst (λ (rs : List Resolving). Sounds w world.journal rs world.words) (sym same) (to_sounds w world x))
+
+pub begins_sound : FinalsBeginSound
+begins_sound w registers old new x sound =
+    subst (λ (world : World). Sound w world) (sym x.begun)
+    (same_places w old (finalising_hart registers x.code (record { object = x.object; addresses = x.addresses }) x.first ∷ x.others)
+    (ap (λ (r : Resolving). r ∷ resolvings x.others)
+    (runs_idle (Purpose.of_end x.code) (record { object = x.object; addresses = x.addresses } ∷ []) [] (record x.first { registers = registers; phase = Phase.at_pc; frames = []; «end» = None }))
+    ∙ sym (ap resolvings x.harts)) sound)
+
+pub settles_sound : ((m : Machine) → AcceptsOnly m → Needs m) → SettlingIsSound
+settles_sound needs w world only loads sound =
+    let laws = needs w.machine only in
+    from_sounds w (settled world) (freed_length world.harts ∙ sound.harts) sound.words
+    (subst (λ (es : List Event). Sounds w (world.journal ++ es) (resolvings (map freed world.harts)) world.words) (sym (settling_is world.harts))
+    (subst (λ (rs : List Resolving). Sounds w (world.journal ++ flat_map settled_by (resolvings world.harts)) rs world.words) (sym (freed_are world.harts))
+    (settled_all w only laws.know laws.keep laws.bound laws.lost world.journal [] (resolvings world.harts) world.words loads (to_sounds w world sound))))

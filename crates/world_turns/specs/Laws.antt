@@ -8,7 +8,8 @@ use Rattle.link_history.specs.State.{State}
 use Rattle.link_service.specs.Startup.{harts_of}
 use Rattle.memory_holds.specs.Enters.{LoadFits, SlotTrue}
 use Rattle.world_turns.specs.Memory.{memory_of}
-use Rattle.world_turns.specs.Run.{IsStarted}
+use Rattle.rv_hart.specs.Registers.{Registers}
+use Rattle.world_turns.specs.Run.{Begins, IsStarted, settled}
 use Rattle.world_turns.specs.Sound.{Sound}
 use Rattle.world_turns.specs.Turn.{Turn}
 use Rattle.world_turns.specs.World.{World, winners}
@@ -25,6 +26,14 @@ LoadsFit s = (owner slot : ℕ) → LoadFits s owner slot
 -- and stays so with every turn
 abbrev pub TurnsAreSound : Type 0
 TurnsAreSound = (w : Setting) (h : ℕ) (old new : World) → AcceptsOnly w.machine → LoadsFit (after old.journal) → Sound w old → Turn w h old new → Sound w new
+
+-- so it does when the final destructors begin
+abbrev pub FinalsBeginSound : Type 0
+FinalsBeginSound = (w : Setting) (registers : Registers) (old new : World) → Begins registers old new → Sound w old → Sound w new
+
+-- and when what is left is settled
+abbrev pub SettlingIsSound : Type 0
+SettlingIsSound = (w : Setting) (world : World) → AcceptsOnly w.machine → LoadsFit (after world.journal) → Sound w world → Sound w (settled world)
 
 -- and a sound run's slots are true: each holds its first word or the value of the one grant that took it, and leads to code or to 0
 abbrev pub SoundIsSlotTrue : Type 0

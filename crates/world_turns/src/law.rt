@@ -1,6 +1,6 @@
 //! What holds of every turn.
 
-ghost use Rattle.world_turns.specs.Laws.{SoundIsSlotTrue, StartIsSound, TurnsAreSound};
+ghost use Rattle.world_turns.specs.Laws.{FinalsBeginSound, SettlingIsSound, SoundIsSlotTrue, StartIsSound, TurnsAreSound};
 
 /// A run is sound when it starts: its journal is legal, memory is as the journal says, and no hart has a
 /// slot.
@@ -12,9 +12,12 @@ pub fn runs_start_sound()
 }
 
 /// And every turn leaves it sound: what is settled may be settled, an exchange leaves the winner's value,
-/// events remake memory, and calls of the bus store to words alone that harts may write.
+/// events remake memory, and calls of the bus store to words alone that harts may write. So it stays when
+/// the final destructors begin, and when what is left at the end is settled.
 pub fn turns_stay_sound()
-    ensures { TurnsAreSound }
+    ensures turns { TurnsAreSound }
+    ensures finals { FinalsBeginSound }
+    ensures settling { SettlingIsSound }
 {
     scope_rule::serials_follow();
     scope_rule::found_stands();
