@@ -4,3 +4,4 @@ pub mod Installs
 pub mod Uncopied
 pub mod Outside
 pub mod Copied
+pub mod Bytes

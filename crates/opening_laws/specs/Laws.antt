@@ -3,6 +3,7 @@ use Rattle.std.specs.Prelude.{◌≡◌, ℕ, false, not, List, ◌++◌, drop, 
 use Rattle.std.specs.List.{slice_get}
 use Rattle.ld_base.specs.declared.linking.Loaded.{Loaded}
 use Rattle.ld_base.specs.declared.object.Reloc.{Reloc}
+use Rattle.image_reads.specs.Reads.{IsImageOf}
 use Rattle.lawful_journal.specs.Following.{MayFollow, machine_of}
 use Rattle.link_event.specs.declared.event.Event.{Event}
 use Rattle.link_event.specs.declared.event.Event.TheVariants.{Open}
@@ -89,3 +90,9 @@ abbrev pub RelocatedAreInstalls : Type 0
 RelocatedAreInstalls = OfOpenings (λ s hart ask id root added ranges. (images : List Image)
     → AreRelocated (seen_after s ask id root added) (binds s ask) (places_after s hart ask id root added ranges) added images
     → AreImages (open_done s hart ask id root added ranges) (filter (λ r. not (is_area r)) ranges) images)
+
+-- such an image is that of the object's record in the history's state
+abbrev pub RelocatedAreOfRecords : Type 0
+RelocatedAreOfRecords = OfOpenings (λ s hart ask id root added ranges. (images : List Image)
+    → AreRelocated (seen_after s ask id root added) (binds s ask) (places_after s hart ask id root added ranges) added images
+    → (k : ℕ) (o : Loaded) (image : Image) → slice_get added k ≡ Some o → slice_get images k ≡ Some image → IsImageOf (image_made s hart ask id root added ranges o) o.object o.base image)

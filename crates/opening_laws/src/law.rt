@@ -1,6 +1,6 @@
 //! The laws.
 
-ghost use Rattle.opening_laws.specs.Laws.{CopiesAreSeen, ImagesAreInstalls, ImagesRelocate, LibrariesHaveNoCopies, NewBindingsAreSeen, NewObjectsArePlaced, OpeningsRelocate, RelocatedAreInstalls, UncopiedAreSeen};
+ghost use Rattle.opening_laws.specs.Laws.{CopiesAreSeen, ImagesAreInstalls, ImagesRelocate, LibrariesHaveNoCopies, NewBindingsAreSeen, NewObjectsArePlaced, OpeningsRelocate, RelocatedAreInstalls, RelocatedAreOfRecords, UncopiedAreSeen};
 
 use accepted_image::accepted_object;
 
@@ -95,5 +95,13 @@ pub fn relocated_are_installs()
     ensures { RelocatedAreInstalls }
 {
     images_are_installs();
+    copies_are_seen();
+}
+
+/// Such an image is that of the object's record in the history's state, so that what is read of the image
+/// is what the record says.
+pub fn relocated_are_of_records()
+    ensures { RelocatedAreOfRecords }
+{
     copies_are_seen();
 }

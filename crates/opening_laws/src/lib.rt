@@ -12,5 +12,5 @@ mod law;
 pub use law::{
     copies_are_seen, images_are_installs, images_relocate, libraries_have_no_copies,
     new_bindings_are_seen, new_objects_are_placed, openings_relocate, relocated_are_installs,
-    uncopied_are_seen,
+    relocated_are_of_records, uncopied_are_seen,
 };
