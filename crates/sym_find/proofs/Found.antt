@@ -15,9 +15,11 @@ use Rattle.ld_base.specs.declared.parts.SysvPart.{SysvPart}
 use Rattle.ld_base.specs.Pick.{carries, is_offer, is_wanted, names_no_version, pick_of}
 use Rattle.ld_base.specs.Symbol.{is_hidden_version, is_visible_definition, version_index}
 use Rattle.ld_base.specs.Taken.{Exports, Takes, fits, in_sight}
+use Rattle.sym_hash.specs.Hash.{gnu_hash}
 use Rattle.sym_hash.specs.Reached.{IsTableOf, Reached, ReachedByGnu, ReachedBySysv}
 use Rattle.sym_find.specs.Best.{FirstOf, IsWantedAt, Keeps, KeepsAll, Knows, OnlyOf, nothing, only_of, taken}
 use Rattle.sym_find.specs.Found.{Finds, Least, Offers, Only}
+use Rattle.sym_find.specs.Walks.{HasBits, InBloom}
 use Rattle.sym_find.specs.declared.best.Best.{Best}
 use Rattle.sym_find.specs.declared.best.Search.{Search}
 use Rattle.sym_find.specs.declared.best.Sight.{Sight}
@@ -34,6 +36,21 @@ by_sysv t s name w b none is knows = knows_same w (ReachedBySysv s name) (Reache
 
 pub by_none : (t : HashTable) (name : List ℕ) (w : Search) → t.gnu ≡ None → t.sysv ≡ None → Knows w (Reached t name) nothing
 by_none t name w none empty = knows_nothing w (Reached t name) (λ k r. rw (none, empty) at r)
+
+-- ---- a table that leads to no symbol of the name
+
+pub keeps_none : (o : Object) (name : List ℕ) (w : Want) (led : ℕ → Type 0) → ((k : ℕ) → led k → ⊥) → Keeps o name w led nothing
+keeps_none o name w led none = record { first = λ k has. none k has.1; sight = λ empty k has. none k has.1 }
+
+not_both : (b : Bool) → b ≡ true → not b ≡ true → ⊥
+not_both true is other = absurd (cc other)
+not_both false is other = absurd (cc is)
+
+pub ruled_out : (t : HashTable) (g : GnuPart) (name : List ℕ) (hash : ℕ) (has : Bool) → t.gnu ≡ Some g → hash ≡ gnu_hash name → InBloom g hash has → not has ≡ true → (k : ℕ) → Reached t name k → ⊥
+ruled_out t g name hash has is of bloom out k reached =
+    let r : ReachedByGnu g name k = rw is at reached in
+    let bits : HasBits g (gnu_hash name) = record { bloom = r.bloom; filter = r.filter; first_bit = r.first_bit; second_bit = r.second_bit } in
+    not_both has (bloom.1 (subst (λ h. HasBits g h) (sym of) bits)) out
 
 -- ---- which versions are wanted
 

@@ -6,7 +6,7 @@ ghost use Rattle.ld_base.specs.Pick.{has_version, is_offer, is_wanted, names_no_
 ghost use Rattle.ld_base.specs.Taken.{Exports, fits};
 ghost use Rattle.ld_base.specs.declared.object.Symbol.{Symbol};
 ghost use Rattle.sym_find.specs.Best.{IsWantedAt, Keeps, KeepsAll, Knows, passes};
-ghost use Rattle.sym_find.specs.Found.{Finds};
+ghost use Rattle.sym_find.specs.Found.{Finds, Nowhere};
 ghost use Rattle.sym_find.specs.Reference.{want_as};
 ghost use Rattle.sym_hash.specs.Reached.{IsTableOf, Reached};
 
@@ -150,11 +150,25 @@ fn kept_with_versions(table: &HashTable, object: &Object, sought: &Sought) -> Be
     }
 }
 
+/// Whether the bloom filter tells that the table leads to no symbol of the name, as it does of most
+/// objects that are searched.
+fn rules_out(table: &HashTable, sought: &Sought) -> bool
+    ensures { IsTrue result → Nowhere (Reached table.now sought.now.name) }
+{
+    match &table.gnu {
+        Some(gnu) => !gnu::in_bloom(gnu, sought.gnu()),
+        None => false,
+    }
+}
+
 /// What is kept for a reference. Most often the first definition of the name is the one: versions are
 /// marked only where it isn't.
 fn kept_for(table: &HashTable, object: &Object, sought: &Sought) -> Best
     ensures { Keeps object.now sought.now.name sought.now.want (Reached table.now sought.now.name) result }
 {
+    if rules_out(table, sought) {
+        return Best::new();
+    }
     let all = kept_of_all(table, object, sought);
     if decides(object, sought.asked(), all.first) {
         all

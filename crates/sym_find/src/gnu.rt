@@ -46,7 +46,7 @@ fn bloom_word(bloom: &[u64], hash: u32) -> Option<u64>
 }
 
 /// Whether the bloom filter has both bits of a hash.
-fn in_bloom(gnu: &GnuPart, hash: u32) -> bool
+pub(crate) fn in_bloom(gnu: &GnuPart, hash: u32) -> bool
     ensures { InBloom gnu.now hash result }
 {
     match bloom_word(gnu.bloom.as_slice(), hash) {
