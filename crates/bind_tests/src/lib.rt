@@ -1,10 +1,12 @@
-//! Calls on grants over guest memory in atomic words, put together: a slot and code are set, a hart is granted
-//! the slot and resolves it, the keeper asks what came of it, and slot and code lose their roles.
+//! Tests of grants over guest memory in atomic words: two harts that resolve one slot, and words that lose
+//! their roles.
 //!
 //! They stand above `slot_bind`, so that it isn't proved again for them.
 #![tactic(auto)]
 
 mod calls;
+#[cfg(test)]
+mod tests;
 mod words;
 
 pub use calls::{grant, granted, resolve, settle};
