@@ -1,7 +1,8 @@
 #!/usr/bin/env python3
 """Writes a library of 8 MiB with 200,000 symbols of one name and a program with 1,000 slots against it, field by field,
 and times `ldso bind` of the two: it is to end within 2 seconds. The slots name one symbol of the program, or 1,000
-symbols of that name; the library has a GNU hash table, whose one chain has every symbol, or a System V table.
+symbols of that name: in their order, from the last to the first, or with a symbol of another name between each two. The
+library has a GNU hash table, whose one chain has every symbol, or a System V table.
 
 usage: one_name.py LDSO
 """
@@ -77,22 +78,30 @@ def main(ldso):
     defined = struct.pack("<IBBHQQ", 1, 0x12, 0, 1, 0x1000, 4)
     undefined = struct.pack("<IBBHQQ", 1, 0x12, 0, 0, 0, 0)
     libraries = {"GNU": (0x6FFFFEF5, gnu_table(1, SYMBOLS)), "System V": (4, sysv_table(SYMBOLS))}
-    programs = {"one symbol": 1, "as many symbols": SLOTS}
+    other = struct.pack("<IBBHQQ", 3, 0x22, 0, 0, 0, 0)
+    each = list(range(1, SLOTS + 1))
+    programs = {
+        "one symbol": ([undefined], [1] * SLOTS),
+        "as many symbols": ([undefined] * SLOTS, each),
+        "as many symbols, the last first": ([undefined] * SLOTS, each[::-1]),
+        "as many symbols with others between": ([undefined, other] * SLOTS, [2 * k - 1 for k in each]),
+    }
     with tempfile.TemporaryDirectory() as folder:
         os.chdir(folder)
         os.mkdir("lib")
         for table, hashes in libraries.items():
             with open("lib/liba.so", "wb") as f:
                 f.write(build(3, hashes, [defined] * SYMBOLS, 0, [], SIZE))
-            for slots, count in programs.items():
+            for label, (symbols, slots) in programs.items():
+                count = len(symbols)
                 empty = (4, struct.pack("<3I", 1, count + 1, 0) + bytes(4 * (count + 1)))
                 with open("prog", "wb") as f:
-                    f.write(build(3, empty, [undefined] * count, 1, [1 + k % count for k in range(SLOTS)], 0))
+                    f.write(build(3, empty, symbols, 1, slots, 0))
                 begin = time.time()
                 done = subprocess.run([ldso, "bind", "--lib", "lib", "prog"], capture_output=True)
                 took = time.time() - begin
                 lines = done.stdout.split(b"\n")
-                print(f"{table} table, {SLOTS} slots of {slots}: {took:.2f} s, {lines[-2].decode()}, {sum(b'-> 2.1' == l[-6:] for l in lines)} to 2.1")
+                print(f"{table} table, {SLOTS} slots of {label}: {took:.2f} s, {lines[-2].decode()}, {sum(b'-> 2.1' == l[-6:] for l in lines)} to 2.1")
 
 
 if __name__ == "__main__":

@@ -1,5 +1,5 @@
 -- Searches through lists that are made once.
-use Rattle.std.proofs.Common.{◌≡◌, ◌≢◌, ◌<◌, ◌-◌, ◌∙◌, ap, sym, subst, ℕ, Bool, true, false, cond, inl, inr, List, [], ◌∷◌, length, get_or, refl, arith, eq-eqb, get_or-set_other}
+use Rattle.std.proofs.Common.{◌≡◌, ◌≢◌, ◌<◌, ◌∙◌, ap, sym, subst, ℕ, Bool, true, false, cond, inl, inr, List, [], ◌∷◌, length, get_or, refl, arith, eq-eqb, get_or-set_other}
 use Rattle.std.specs.List.{AllByRecursion, slice_get}
 use Rattle.std.proofs.Math.ListN.{set}
 use Rattle.std.proofs.lemmas.Bool.{cases_Bool, cases_lt, eqb-true}
@@ -169,14 +169,15 @@ sizes_apart : (s : Seen) (o : Loaded) (i j : ℕ) (y : Symbol) (value size : ℕ
 unfolding choose_for
 sizes_apart s o i j y value size copy other = rw other (choice_same y value size (first_with (pick_at s y.name (want_of o.object y)) (searched s o copy)))
 
--- so what is kept for the symbol before is the choice
-pub before_choice : (s : Seen) (o : Loaded) (copy : Bool) (kept : List (Option Choice)) (index : ℕ) (symbol before : Symbol) (r : Option Choice) → index < length o.object.symbols → (index ≡ 0 → ⊥) → symbol ≡ get_or o.object.symbols index symbol
-    → before ≡ get_or o.object.symbols (index - 1) before → IsAlike before symbol → (not copy && is_own symbol) ≡ false → r ≡ get_or kept (index - 1) None → AreKept s o copy kept → IfSome r (λ c. c ≡ choice_of_symbol s o index copy)
-before_choice s o copy kept index symbol before None within some here there alike other is are = tt
-before_choice s o copy kept index symbol before (Some c) within some here there alike other is are =
-    let first : choose_for s o (index - 1) before copy ≡ choice_of_symbol s o (index - 1) copy = symbol_choice s o (index - 1) before copy (choose_for s o (index - 1) before copy) (omega arith) there refl in
-    are (index - 1) c (sym is)
+-- so what is kept for another symbol is the choice
+pub alike_choice : (s : Seen) (o : Loaded) (copy : Bool) (kept : List (Option Choice)) (other index : ℕ) (symbol before : Symbol) (r : Option Choice) → index < length o.object.symbols → other < length o.object.symbols
+    → symbol ≡ get_or o.object.symbols index symbol → before ≡ get_or o.object.symbols other before → IsAlike before symbol → (not copy && is_own symbol) ≡ false → r ≡ get_or kept other None → AreKept s o copy kept
+    → IfSome r (λ c. c ≡ choice_of_symbol s o index copy)
+alike_choice s o copy kept other index symbol before None within there-is here there alike apart is are = tt
+alike_choice s o copy kept other index symbol before (Some c) within there-is here there alike apart is are =
+    let first : choose_for s o other before copy ≡ choice_of_symbol s o other copy = symbol_choice s o other before copy (choose_for s o other before copy) there-is there refl in
+    are other c (sym is)
     ∙ sym first
-    ∙ ap (λ (z : Symbol). choose_for s o (index - 1) z copy) (same_fields before symbol alike)
-    ∙ sizes_apart s o (index - 1) index symbol before.value before.size copy other
+    ∙ ap (λ (z : Symbol). choose_for s o other z copy) (same_fields before symbol alike)
+    ∙ sizes_apart s o other index symbol before.value before.size copy apart
     ∙ symbol_choice s o index symbol copy (choose_for s o index symbol copy) within here refl

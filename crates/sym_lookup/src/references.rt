@@ -17,6 +17,7 @@ use scope_rule::{View, choice_of, has_no_symbol, is_copy};
 use search_lists::SearchLists;
 use std::alloc::{AllocError, Global};
 use std::marker::Model;
+use sym_hash::gnu_hash;
 
 /// The references of one object to the definitions of its namespace. What is found for a symbol is
 /// kept, so that further relocations against it make no search. Contracts see the object, and what is
@@ -26,10 +27,18 @@ pub struct References<'a> {
     view: View<'a>,
     owner: &'a Loaded,
     searched: Vec<Searched>,
+    kept: Kept,
+    /// What is kept for COPYs.
+    copied: Kept,
+}
+
+/// What was found for the symbols of an object.
+#[derive(Drop)]
+struct Kept {
     /// By the index of a symbol, what it was found to be bound to.
-    kept: Vec<Option<Choice>>,
-    /// The same, for COPYs.
-    copied: Vec<Option<Choice>>,
+    choices: Vec<Option<Choice>>,
+    /// By the hash of a name, modulo their number, the symbol with such a name that was searched last.
+    latest: Vec<u32>,
 }
 
 impl<'a> Model for References<'a> {
@@ -48,10 +57,10 @@ impl<'a> Model for References<'a> {
         HaveTables (seen r.view)
         × (map (λ x. x.serial) r.searched.items ≡ scope (seen r.view) r.owner.now)
         × AllByRecursion (IsSearched (seen r.view)) r.searched.items
-        × (length r.kept.items ≡ length r.owner.now.object.symbols)
-        × AreKept (seen r.view) r.owner.now false r.kept.items
-        × (length r.copied.items ≡ length r.owner.now.object.symbols)
-        × AreKept (seen r.view) r.owner.now true r.copied.items };
+        × (length r.kept.choices.items ≡ length r.owner.now.object.symbols)
+        × AreKept (seen r.view) r.owner.now false r.kept.choices.items
+        × (length r.copied.choices.items ≡ length r.owner.now.object.symbols)
+        × AreKept (seen r.view) r.owner.now true r.copied.choices.items };
 }
 
 /// The objects that are searched, each found once.
@@ -74,11 +83,25 @@ fn found_once(
 }
 
 /// Nothing kept, for so many symbols.
-fn nothing_kept(alloc: Global, symbols: u32) -> Result<Vec<Option<Choice>>, AllocError>
-    ensures length { IfOk result (λ kept. length kept.items ≡ symbols) }
-    ensures none { IfOk result (λ kept. (k : ℕ) → k < symbols → slice_index_or kept.items k None ≡ None) }
+fn nothing_kept(alloc: Global, symbols: u32) -> Result<Kept, AllocError>
+    ensures length { IfOk result (λ kept. length kept.choices.items ≡ symbols) }
+    ensures none { IfOk result (λ kept. (k : ℕ) → k < symbols → slice_index_or kept.choices.items k None ≡ None) }
 {
-    vec![in alloc; None; symbols as usize]
+    let choices = vec![in alloc; None; symbols as usize]?;
+    let latest = vec![in alloc; 0; symbols as usize]?;
+    Ok(Kept { choices, latest })
+}
+
+/// The symbol that was searched last of those whose names have this name's hash; it is this symbol
+/// from now on.
+fn replace_latest(latest: &mut [u32], name: &[u8], index: u32) -> u32 {
+    if latest.is_empty() {
+        return index;
+    }
+    let place = gnu_hash(name) as usize % latest.len();
+    let before = latest[place];
+    latest[place] = index;
+    before
 }
 
 /// The choice for a symbol of an object whose references are searched there.
@@ -143,23 +166,29 @@ fn is_alike(one: &Symbol, other: &Symbol) -> bool
         && one.name.is(other.name.as_bytes())
 }
 
-/// What is kept for the symbol before, if that refers to the same and another object may define it:
-/// so a name that many symbols have one after another is searched once.
-fn kept_before(owner: &Loaded, kept: &[Option<Choice>], index: u32, copy: bool) -> Option<Choice>
+/// What is kept for another symbol, if that refers to the same and another object may define it: so a
+/// name that many symbols have is searched once.
+fn kept_alike(
+    owner: &Loaded,
+    kept: &[Option<Choice>],
+    other: u32,
+    index: u32,
+    copy: bool,
+) -> Option<Choice>
     requires symbol { index < length owner.now.object.symbols }
     requires length { length kept.now ≡ length owner.now.object.symbols }
     ensures { (s : Seen) → AreKept s owner.now copy kept.now → IfSome result (λ c. c ≡ choice_of_symbol s owner.now index copy) }
 {
-    if index == 0 {
+    let symbols = owner.object.symbols.as_slice();
+    if other as usize >= symbols.len() {
         return None;
     }
-    let symbols = owner.object.symbols.as_slice();
     let symbol = &symbols[index as usize];
-    let before = &symbols[index as usize - 1];
+    let before = &symbols[other as usize];
     if stays_own(symbol, copy) || !is_alike(before, symbol) {
         return None;
     }
-    kept_at(kept, index - 1)
+    kept_at(kept, other)
 }
 
 /// The choice for a symbol of which none is kept.
@@ -167,7 +196,7 @@ fn search_once(
     view: &View,
     searched: &[Searched],
     owner: &Loaded,
-    kept: &[Option<Choice>],
+    kept: &mut Kept,
     index: u32,
     copy: bool,
 ) -> Choice
@@ -175,11 +204,16 @@ fn search_once(
     requires serials { map (λ x. x.serial) searched.now ≡ scope (seen view.now) owner.now }
     requires places { AllByRecursion (IsSearched (seen view.now)) searched.now }
     requires symbol { index < length owner.now.object.symbols }
-    requires length { length kept.now ≡ length owner.now.object.symbols }
-    requires kept { AreKept (seen view.now) owner.now copy kept.now }
-    ensures { result ≡ choice_of_symbol (seen view.now) owner.now index copy }
+    requires length { length kept.old.choices.items ≡ length owner.now.object.symbols }
+    requires kept { AreKept (seen view.now) owner.now copy kept.old.choices.items }
+    ensures choice { result ≡ choice_of_symbol (seen view.now) owner.now index copy }
+    ensures same { kept.new.choices ≡ kept.old.choices }
 {
-    match kept_before(owner, kept, index, copy) {
+    let name = owner.object.symbols.as_slice()[index as usize]
+        .name
+        .as_bytes();
+    let other = replace_latest(kept.latest.as_mut_slice(), name, index);
+    match kept_alike(owner, kept.choices.as_slice(), other, index, copy) {
         Some(choice) => choice,
         None => search(view, searched, owner, index, copy),
     }
@@ -190,7 +224,7 @@ fn kept_or_searched(
     view: &View,
     searched: &[Searched],
     owner: &Loaded,
-    kept: &mut [Option<Choice>],
+    kept: &mut Kept,
     index: u32,
     copy: bool,
 ) -> Choice
@@ -198,17 +232,17 @@ fn kept_or_searched(
     requires serials { map (λ x. x.serial) searched.now ≡ scope (seen view.now) owner.now }
     requires places { AllByRecursion (IsSearched (seen view.now)) searched.now }
     requires symbol { index < length owner.now.object.symbols }
-    requires length { length kept.old ≡ length owner.now.object.symbols }
-    requires kept { AreKept (seen view.now) owner.now copy kept.old }
+    requires length { length kept.old.choices.items ≡ length owner.now.object.symbols }
+    requires kept { AreKept (seen view.now) owner.now copy kept.old.choices.items }
     ensures choice { result ≡ choice_of_symbol (seen view.now) owner.now index copy }
-    ensures kept { AreKept (seen view.now) owner.now copy kept.new }
-    ensures length { length kept.new ≡ length kept.old }
+    ensures kept { AreKept (seen view.now) owner.now copy kept.new.choices.items }
+    ensures length { length kept.new.choices.items ≡ length kept.old.choices.items }
 {
-    match kept_at(kept, index) {
+    match kept_at(kept.choices.as_slice(), index) {
         Some(choice) => choice,
         None => {
             let choice = search_once(view, searched, owner, kept, index, copy);
-            keep(kept, index, &choice);
+            keep(kept.choices.as_mut_slice(), index, &choice);
             choice
         }
     }
@@ -305,7 +339,7 @@ impl<'a> References<'a> {
             &self.view,
             self.searched.as_slice(),
             self.owner,
-            self.kept.as_mut_slice(),
+            &mut self.kept,
             index,
             false,
         )
@@ -321,7 +355,7 @@ impl<'a> References<'a> {
             &self.view,
             self.searched.as_slice(),
             self.owner,
-            self.copied.as_mut_slice(),
+            &mut self.copied,
             index,
             true,
         )

@@ -9,7 +9,7 @@ invariant_of-result c = (
   c.in_ok-searched.ensures.serials ∙ c.requires.scope,
   c.in_ok-searched.ensures.places (seen c.args.view.now) c.requires.lists,
   c.in_ok-kept.ensures.length ∙ c.len.ensures.len,
-  none_kept (seen c.args.view.now) c.args.owner.now false c.in_ok-kept.kept.items c.len.result c.in_ok-kept.ensures.length c.in_ok-kept.ensures.none,
+  none_kept (seen c.args.view.now) c.args.owner.now false c.in_ok-kept.kept.choices.items c.len.result c.in_ok-kept.ensures.length c.in_ok-kept.ensures.none,
   c.in_ok-copied.ensures.length ∙ c.len-2.ensures.len,
-  none_kept (seen c.args.view.now) c.args.owner.now true c.in_ok-copied.copied.items c.len-2.result c.in_ok-copied.ensures.length c.in_ok-copied.ensures.none,
+  none_kept (seen c.args.view.now) c.args.owner.now true c.in_ok-copied.copied.choices.items c.len-2.result c.in_ok-copied.ensures.length c.in_ok-copied.ensures.none,
 )
