@@ -1,9 +1,10 @@
 //! A file of examples, read line by line.
 
 use crate::command::{Answer, Command, files_of};
-use crate::layout::Layout;
+use crate::layout::{Layout, find};
 use crate::numbers::Numbers;
 use crate::wanted::Wanted;
+use asm_object::{AsmFault, assemble};
 use ld_base::Name;
 use std::alloc::{AllocError, Global};
 use std::sync::Wait;
@@ -36,6 +37,8 @@ pub struct Book<'a> {
     stocks: Vec<Layout>,
     part: Part,
     growing: Growing,
+    /// The lines of assembler source with which the bytes go on, as far as they are read.
+    source: String,
     /// The line at which the example begins.
     first: usize,
     /// Whether the table has a row.
@@ -54,6 +57,7 @@ impl<'a> Book<'a> {
             stocks: Vec::new(alloc),
             part: Part::Head,
             growing: Growing::Nothing,
+            source: String::new(alloc),
             first: 0,
             has_row: false,
             command: Command::new(alloc)?,
@@ -97,10 +101,16 @@ impl<'a> Book<'a> {
         line: &str,
     ) -> Result<(), Fault> {
         let (word, rest) = line.split_once(' ').unwrap_or((line, ""));
+        if word == ">" {
+            return self.push_source(rest);
+        }
+        self.end_source()?;
         match (self.part, word) {
             (_, "example") => self.begin(rt, number, Part::Example)?,
             (_, "rows") => self.begin(rt, number, Part::Rows)?,
-            (Part::Head, "$" | "|" | "status" | "fails" | "file") => return Err(Fault::Unclear),
+            (Part::Head, "$" | "|" | "status" | "fails" | "file" | "gives") => {
+                return Err(Fault::Unclear);
+            }
             (_, "$") => self.command.words = Name::new(self.alloc, rest.as_bytes())?,
             (_, "|") => self.wanted.push_line(rest)?,
             _ => self.follow_data(rt, number, without_remark(line))?,
@@ -217,6 +227,7 @@ impl<'a> Book<'a> {
             "number" => self.name_number(rest),
             "status" => self.want_status(rest),
             "fails" => self.fail(rest),
+            "gives" => self.want_bytes(rest),
             "stock" | "file" => self.begin_bytes(word, rest),
             _ => self.write(line),
         }
@@ -231,6 +242,13 @@ impl<'a> Book<'a> {
 
     fn want_status(&mut self, rest: &str) -> Result<(), Fault> {
         self.wanted.status = Some(self.numbers.read(rest).ok_or(Fault::Unclear)?);
+        Ok(())
+    }
+
+    /// What is written are the bytes of a stock.
+    fn want_bytes(&mut self, name: &str) -> Result<(), Fault> {
+        let stock = find(self.stocks.as_slice(), name)?;
+        self.wanted.bytes = Some(stock.bytes().to_vec(self.alloc)?);
         Ok(())
     }
 
@@ -256,6 +274,38 @@ impl<'a> Book<'a> {
             self.growing = Growing::File;
         }
         self.write(bytes)
+    }
+
+    /// One more line of assembler source.
+    fn push_source(&mut self, line: &str) -> Result<(), Fault> {
+        self.source.push_str(line)?;
+        self.source.push_str("\n")?;
+        Ok(())
+    }
+
+    /// Goes on with the object that the lines of source denote, where there are some.
+    fn end_source(&mut self) -> Result<(), Fault> {
+        if self.source.is_empty() {
+            return Ok(());
+        }
+        let object = assemble(self.alloc, self.source.as_bytes());
+        self.source.clear();
+        match object {
+            Ok(bytes) => self.put(&bytes),
+            Err(AsmFault::At(_, _)) => Err(Fault::Unclear),
+            Err(AsmFault::Memory) => Err(Fault::Memory),
+        }
+    }
+
+    /// Goes on with these bytes.
+    fn put(&mut self, bytes: &[u8]) -> Result<(), Fault> {
+        let last = match self.growing {
+            Growing::Nothing => None,
+            Growing::Stock => self.stocks.last_mut(),
+            Growing::File => self.command.files.last_mut(),
+        };
+        last.ok_or(Fault::Unclear)?.put(bytes)?;
+        Ok(())
     }
 
     /// Goes on with the bytes that the last line of bytes was about.

@@ -81,8 +81,34 @@ impl Layout {
         })
     }
 
-    /// Lays out the words of a line.
+    pub fn bytes(&self) -> &[u8] {
+        self.bytes.as_slice()
+    }
+
+    /// Puts lines of text, a bar between two of them, each with a line feed behind it.
+    fn put_text(&mut self, text: &str) -> Result<(), AllocError> {
+        for line in text.split(" | ") {
+            self.put(line.as_bytes())?;
+            self.put(b"\n")?;
+        }
+        Ok(())
+    }
+
+    /// Lays out what a line says.
     pub fn write(&mut self, line: &str, stocks: &[Layout], numbers: &Numbers) -> Result<(), Fault> {
+        match line.trim().strip_prefix("text ") {
+            Some(text) => Ok(self.put_text(text)?),
+            None => self.write_words(line, stocks, numbers),
+        }
+    }
+
+    /// Lays out the words of a line.
+    fn write_words(
+        &mut self,
+        line: &str,
+        stocks: &[Layout],
+        numbers: &Numbers,
+    ) -> Result<(), Fault> {
         let mut directive = None;
         for word in line.split_whitespace() {
             directive = match (Directive::named(word), directive) {
@@ -135,7 +161,8 @@ impl Layout {
         Ok(())
     }
 
-    fn put(&mut self, bytes: &[u8]) -> Result<(), AllocError> {
+    /// Puts these bytes.
+    pub fn put(&mut self, bytes: &[u8]) -> Result<(), AllocError> {
         for byte in bytes {
             self.put_byte(*byte)?;
         }
@@ -156,7 +183,7 @@ impl Layout {
 }
 
 /// The bytes with a name.
-fn find<'a>(stocks: &'a [Layout], name: &str) -> Result<&'a Layout, Fault> {
+pub fn find<'a>(stocks: &'a [Layout], name: &str) -> Result<&'a Layout, Fault> {
     stocks
         .iter()
         .find(|stock| stock.name.is(name.as_bytes()))

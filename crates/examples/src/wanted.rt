@@ -10,6 +10,8 @@ use test_file::Fault;
 pub struct Wanted {
     /// Its text.
     pub text: String,
+    /// Its bytes, where they are no text.
+    pub bytes: Option<Vec<u8>>,
     /// Its status, where the last line of the text doesn't have it.
     pub status: Option<u64>,
 }
@@ -18,6 +20,7 @@ impl Wanted {
     pub fn new(alloc: Global) -> Self {
         Wanted {
             text: String::new(alloc),
+            bytes: None,
             status: None,
         }
     }
@@ -28,9 +31,13 @@ impl Wanted {
         self.text.push_str("\n")
     }
 
-    /// Whether a command has just this text, and the status.
+    /// Whether a command has just these bytes, or just this text, and the status.
     pub fn is_all_of(&self, answer: &Answer) -> bool {
-        answer.text.as_slice() == self.text.as_bytes() && self.fits(answer)
+        let text = match &self.bytes {
+            Some(bytes) => bytes.as_slice(),
+            None => self.text.as_bytes(),
+        };
+        answer.text.as_slice() == text && self.fits(answer)
     }
 
     /// Whether the last line of a command's text is this text, and it has the status. Where that
