@@ -297,30 +297,37 @@ impl<'a> Book<'a> {
         }
     }
 
-    /// Goes on with these bytes.
-    fn put(&mut self, bytes: &[u8]) -> Result<(), Fault> {
-        let last = match self.growing {
-            Growing::Nothing => None,
-            Growing::Stock => self.stocks.last_mut(),
-            Growing::File => self.command.files.last_mut(),
-        };
-        last.ok_or(Fault::Unclear)?.put(bytes)?;
-        Ok(())
-    }
-
-    /// Goes on with the bytes that the last line of bytes was about.
-    fn write(&mut self, bytes: &str) -> Result<(), Fault> {
-        let last = match self.growing {
+    /// Takes the bytes that the last line of bytes was about.
+    fn take_last(&mut self) -> Option<Layout> {
+        match self.growing {
             Growing::Nothing => None,
             Growing::Stock => self.stocks.pop(),
             Growing::File => self.command.files.pop(),
-        };
-        let mut layout = last.ok_or(Fault::Unclear)?;
-        let written = layout.write(bytes, self.stocks.as_slice(), &self.numbers);
+        }
+    }
+
+    /// Puts them back.
+    fn put_back(&mut self, layout: Layout) -> Result<(), AllocError> {
         match self.growing {
             Growing::File => self.command.files.push(layout)?,
             Growing::Nothing | Growing::Stock => self.stocks.push(layout)?,
         }
+        Ok(())
+    }
+
+    /// Goes on with these bytes.
+    fn put(&mut self, bytes: &[u8]) -> Result<(), Fault> {
+        let mut layout = self.take_last().ok_or(Fault::Unclear)?;
+        let put = layout.put(bytes);
+        self.put_back(layout)?;
+        Ok(put?)
+    }
+
+    /// Goes on with the bytes that the last line of bytes was about.
+    fn write(&mut self, bytes: &str) -> Result<(), Fault> {
+        let mut layout = self.take_last().ok_or(Fault::Unclear)?;
+        let written = layout.write(bytes, self.stocks.as_slice(), &self.numbers);
+        self.put_back(layout)?;
         written
     }
 }
