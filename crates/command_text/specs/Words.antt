@@ -71,9 +71,10 @@ read_bind words = do
   program ← only_word (flag_first (codes "--now") pre.1).1
   Some (record { folders = folders; preload = preload; now = (flag_first (codes "--now") pre.1).0; program = program })
 
--- Reads: the command that the words are, if they are one; after dump stands the path of an object
+-- Reads: the command that the words are, if they are one; after dump stands the path of an object, after asm that of a source
 unfoldable pub reads : List (List ℕ) → Option Command
 reads [] = None
 reads (word ∷ words) =
     if bytes_eq word (codes "bind") then option_map commands.Bind (read_bind words)
-    else (if bytes_eq word (codes "dump") then option_map commands.Dump (only_word words) else None)
+    else (if bytes_eq word (codes "dump") then option_map commands.Dump (only_word words)
+    else (if bytes_eq word (codes "asm") then option_map commands.Asm (only_word words) else None))

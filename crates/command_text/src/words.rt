@@ -151,6 +151,8 @@ pub enum Command {
     Bind(Bind),
     /// What the object at a path holds.
     Dump(Name),
+    /// The object that the source at a path denotes.
+    Asm(Name),
 }
 
 #[tactic(auto, unfolding(crate::specs::Words::read_bind))]
@@ -182,8 +184,8 @@ fn read_bind(alloc: Global, words: &[Name]) -> Result<Option<Bind>, AllocError>
     }))
 }
 
-/// The path of the object that is dumped.
-fn read_dump(alloc: Global, words: &[Name]) -> Result<Option<Name>, AllocError>
+/// The path of the one file that is asked about.
+fn read_path(alloc: Global, words: &[Name]) -> Result<Option<Name>, AllocError>
     ensures { IfOk result (λ path. path ≡ only_word words.now) }
 {
     match only_word(words) {
@@ -199,7 +201,8 @@ pub fn reads(alloc: Global, words: &[Name]) -> Result<Option<Command>, AllocErro
 {
     match words {
         [word, words @ ..] if word.is(b"bind") => Ok(read_bind(alloc, words)?.map(Command::Bind)),
-        [word, words @ ..] if word.is(b"dump") => Ok(read_dump(alloc, words)?.map(Command::Dump)),
+        [word, words @ ..] if word.is(b"dump") => Ok(read_path(alloc, words)?.map(Command::Dump)),
+        [word, words @ ..] if word.is(b"asm") => Ok(read_path(alloc, words)?.map(Command::Asm)),
         _ => Ok(None),
     }
 }

@@ -16,6 +16,7 @@ use Rattle.command_text.specs.Refusal.{first_refusal}
 use Rattle.command_text.specs.declared.words.Bind.{Bind}
 use Rattle.command_text.specs.declared.words.Command.{Command}
 use Rattle.command_text.specs.declared.words.Command.TheVariants as commands
+use Rattle.ldso_cli.proofs.Assembling.{SourceLaw, asm_end}
 use Rattle.ldso_cli.proofs.Same.{OneWalk, one_list}
 use Rattle.ldso_cli.specs.Bind.{IsLoaded, IsNotLoaded, ask_of, cause_of, namespace_of, program_load}
 use Rattle.ldso_cli.specs.Command.{Comes, NoReadFails}
@@ -97,12 +98,16 @@ gives_is path before after file (unaccepted broken) gives quiet = gives
 gives_is path before after file absent gives quiet = gives.0
 gives_is path before after file failed gives quiet = absurd (quiet refl)
 
-pub one_end : OneWalk → OneStop → NotBoth → (command : Command) (files : List File) (before after before' after' : LibraryAt) (a b : End) → Comes command before after files a → NoReadFails a → Comes command before' after' files b → NoReadFails b → a ≡ b
-one_end one_walk one_stop not_both (commands.Bind bind) files before after before' after' a b p quiet q quiet' =
+pub one_end : OneWalk → OneStop → NotBoth → SourceLaw → (command : Command) (files : List File) (before after before' after' : LibraryAt) (a b : End) → Comes command before after files a → NoReadFails a → Comes command before' after' files b → NoReadFails b → a ≡ b
+one_end one_walk one_stop not_both sources (commands.Bind bind) files before after before' after' a b p quiet q quiet' =
     let fails : (path : List ℕ) → p.cause ≡ causes.Refused (dl.ReadFault path) → ⊥ = λ path e. quiet path (ap (λ (end : End). end.cause) p.end_is ∙ e) in
     let fails' : (path : List ℕ) → q.cause ≡ causes.Refused (dl.ReadFault path) → ⊥ = λ path e. quiet' path (ap (λ (end : End). end.cause) q.end_is ∙ e) in
     p.end_is ∙ ap bare (bind_end one_walk one_stop not_both bind files p.cause q.cause p.by.is fails q.by.is fails') ∙ sym q.end_is
-one_end one_walk one_stop not_both (commands.Dump path) files before after before' after' a b p quiet q quiet' =
+one_end one_walk one_stop not_both sources (commands.Dump path) files before after before' after' a b p quiet q quiet' =
     let one = gives_is path before after (file_at files path) p.by.reading p.by.gives (λ e. quiet path (ap (λ (end : End). end.cause) p.end_is ∙ p.by.cause_is ∙ e)) in
     let two = gives_is path before' after' (file_at files path) q.by.reading q.by.gives (λ e. quiet' path (ap (λ (end : End). end.cause) q.end_is ∙ q.by.cause_is ∙ e)) in
     p.end_is ∙ ap bare (p.by.cause_is ∙ ap (dump_cause path) (sym one ∙ two) ∙ sym q.by.cause_is) ∙ sym q.end_is
+one_end one_walk one_stop not_both sources (commands.Asm path) files before after before' after' a b p quiet q quiet' =
+    let fails : (path : List ℕ) → p.cause ≡ causes.Refused (dl.ReadFault path) → ⊥ = λ path e. quiet path (ap (λ (end : End). end.cause) p.end_is ∙ e) in
+    let fails' : (path : List ℕ) → q.cause ≡ causes.Refused (dl.ReadFault path) → ⊥ = λ path e. quiet' path (ap (λ (end : End). end.cause) q.end_is ∙ e) in
+    p.end_is ∙ ap bare (asm_end sources path before after before' after' files p.cause q.cause p.by fails q.by fails') ∙ sym q.end_is

@@ -33,7 +33,7 @@ told_missing None path r tells is = tt
 told_missing (Some all) path r tells is = tells is
 
 -- files that have this at a path; the files that were told, where they were
-files_at : (told : Option (List File)) (path : List ℕ) (file : Option (List ℕ)) → IfSome told (λ all. file_at all path ≡ file) → Over told (λ files. file_at files path ≡ file)
+pub files_at : (told : Option (List File)) (path : List ℕ) (file : Option (List ℕ)) → IfSome told (λ all. file_at all path ≡ file) → Over told (λ files. file_at files path ≡ file)
 files_at (Some all) path file h = record { files = all; are = refl; holds = h }
 files_at None path None h = record { files = []; are = tt; holds = refl }
 files_at None path (Some bytes) h = record {
@@ -97,7 +97,7 @@ pub missing_answers : (path : List ℕ) (before after : LibraryAt) (r : Result A
 missing_answers path before after r told missed end text =
     dump_answers path before after absent r (record { file = None; told = told; gives = (refl, missed); prints = λ files at. refl }) end text
 
-some_file : (path : List ℕ) (told : Option (List File)) → (file : Option (List ℕ)) × IfSome told (λ all. file_at all path ≡ file)
+pub some_file : (path : List ℕ) (told : Option (List File)) → (file : Option (List ℕ)) × IfSome told (λ all. file_at all path ≡ file)
 some_file path None = (None, tt)
 some_file path (Some all) = (file_at all path, refl)
 

@@ -1,3 +1,5 @@
+pub mod Assembling
+pub mod Causes
 pub mod Decided
 pub mod Dumping
 pub mod Ending

@@ -8,6 +8,7 @@ use Rattle.command_text.specs.Lines.{bound_text}
 use Rattle.command_text.specs.declared.words.Bind.{Bind}
 use Rattle.command_text.specs.declared.words.Command.{Command}
 use Rattle.command_text.specs.declared.words.Command.TheVariants as commands
+use Rattle.ldso_cli.proofs.Assembling.{OneObject, asm_text}
 use Rattle.ldso_cli.specs.Bind.{BindPrints, IsBound, Loads, namespace_of, program_load}
 use Rattle.ldso_cli.specs.Command.{Prints}
 use Rattle.ldso_cli.specs.Dump.{DumpPrints, IsDumped}
@@ -36,6 +37,7 @@ same_dumped path files a b p q =
 bind_text : OneWalk → (bind : Bind) (files : List File) (cause : Cause) (a b : List ℕ) → BindPrints bind files cause a → BindPrints bind files cause b → a ≡ b
 bind_text law bind files causes.Done a b p q = same_bound law bind files a b p q
 bind_text law bind files (causes.Refused fault) a b p q = p ∙ sym q
+bind_text law bind files (causes.AsmRefused line why) a b p q = absurd p
 bind_text law bind files causes.Usage a b p q = absurd p
 bind_text law bind files causes.WriteFault a b p q = absurd p
 bind_text law bind files causes.Memory a b p q = absurd p
@@ -43,10 +45,12 @@ bind_text law bind files causes.Memory a b p q = absurd p
 dumped_text : (path : List ℕ) (files : List File) (cause : Cause) (a b : List ℕ) → DumpPrints path files cause a → DumpPrints path files cause b → a ≡ b
 dumped_text path files causes.Done a b p q = same_dumped path files a b p q
 dumped_text path files (causes.Refused fault) a b p q = p ∙ sym q
+dumped_text path files (causes.AsmRefused line why) a b p q = absurd p
 dumped_text path files causes.Usage a b p q = absurd p
 dumped_text path files causes.WriteFault a b p q = absurd p
 dumped_text path files causes.Memory a b p q = absurd p
 
-pub one_text : OneWalk → (command : Command) (files : List File) (end : End) (a b : List ℕ) → Prints command files end a → Prints command files end b → a ≡ b
-one_text law (commands.Bind bind) files end a b p q = bind_text law bind files end.cause a b p q
-one_text law (commands.Dump path) files end a b p q = dumped_text path files end.cause a b p q
+pub one_text : OneWalk → OneObject → (command : Command) (files : List File) (end : End) (a b : List ℕ) → Prints command files end a → Prints command files end b → a ≡ b
+one_text law sources (commands.Bind bind) files end a b p q = bind_text law bind files end.cause a b p q
+one_text law sources (commands.Dump path) files end a b p q = dumped_text path files end.cause a b p q
+one_text law sources (commands.Asm path) files end a b p q = asm_text sources path files end.cause a b p q

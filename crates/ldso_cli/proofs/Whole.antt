@@ -6,6 +6,7 @@ use Rattle.ld_base.specs.declared.linking.File.{File}
 use Rattle.library_source.specs.Files.{Over}
 use Rattle.command_text.specs.Words.{reads}
 use Rattle.command_text.specs.declared.words.Command.{Command}
+use Rattle.ldso_cli.proofs.Assembling.{SourceLaw}
 use Rattle.ldso_cli.proofs.Decided.{NotBoth, OneStop, one_end}
 use Rattle.ldso_cli.proofs.Same.{OneWalk, one_text}
 use Rattle.ldso_cli.specs.Command.{Answers, IsAnswer, Prints}
@@ -38,7 +39,7 @@ over_these command files run text tells answers =
     let over : Over (Some files) P = subst (λ (t : Option (List File)). Over t P) tells answers in
     subst P over.are over.holds
 
-module _ (handed handed' : Handing) (one_walk : OneWalk) (one_stop : OneStop) (not_both : NotBoth) (files : List File) (first second : RunAt) (tells : first.before.files ≡ Some files) (tells' : second.before.files ≡ Some files) where
+module _ (handed handed' : Handing) (one_walk : OneWalk) (one_stop : OneStop) (not_both : NotBoth) (sources : SourceLaw) (files : List File) (first second : RunAt) (tells : first.before.files ≡ Some files) (tells' : second.before.files ≡ Some files) where
   come_to_one : (command : Option Command) (one : IsTold handed command first) (two : IsTold handed' command second) → first.end ≡ second.end → one.text ≡ two.text → ComeToOne handed handed' first second
   come_to_one command one two end text = record {
     end = end;
@@ -55,11 +56,11 @@ module _ (handed handed' : Handing) (one_walk : OneWalk) (one_stop : OneStop) (n
   one_of (Some command) one two quiet quiet' =
       let a = over_these command files first one.text tells one.answers in
       let b = over_these command files second two.text tells' two.answers in
-      let end : first.end ≡ second.end = one_end one_walk one_stop not_both command files first.before first.after second.before second.after first.end second.end a.comes quiet b.comes quiet' in
+      let end : first.end ≡ second.end = one_end one_walk one_stop not_both sources command files first.before first.after second.before second.after first.end second.end a.comes quiet b.comes quiet' in
       let prints : Prints command files first.end two.text = subst (λ (e : End). Prints command files e two.text) (sym end) b.prints in
-      come_to_one (Some command) one two end (one_text one_walk command files first.end one.text two.text a.prints prints)
+      come_to_one (Some command) one two end (one_text one_walk sources.one command files first.end one.text two.text a.prints prints)
 
-pub one_answer : OneWalk → OneStop → NotBoth → (handed handed' : Handing) (words : List (List ℕ)) (files : List File) (first second : RunAt) → IsUndisturbed handed words files first → IsUndisturbed handed' words files second → ComeToOne handed handed' first second
-one_answer one_walk one_stop not_both handed handed' words files first second p q =
-    one_of handed handed' one_walk one_stop not_both files first second p.told q.told (reads words)
+pub one_answer : OneWalk → OneStop → NotBoth → SourceLaw → (handed handed' : Handing) (words : List (List ℕ)) (files : List File) (first second : RunAt) → IsUndisturbed handed words files first → IsUndisturbed handed' words files second → ComeToOne handed handed' first second
+one_answer one_walk one_stop not_both sources handed handed' words files first second p q =
+    one_of handed handed' one_walk one_stop not_both sources files first second p.told q.told (reads words)
     (told handed (reads words) first p.writes_well p.has_memory p.ends) (told handed' (reads words) second q.writes_well q.has_memory q.ends) p.reads_well q.reads_well

@@ -5,7 +5,8 @@ use Rattle.ld_base.specs.declared.linking.File.{File}
 use Rattle.library_source.specs.Count.{Rises}
 use Rattle.library_source.specs.Files.{Over}
 use Rattle.command_text.specs.declared.words.Command.{Command}
-use Rattle.command_text.specs.declared.words.Command.TheVariants.{Bind, Dump}
+use Rattle.command_text.specs.declared.words.Command.TheVariants.{Asm, Bind, Dump}
+use Rattle.ldso_cli.specs.Asm.{AsmComes, AsmPrints}
 use Rattle.ldso_cli.specs.Bind.{BindComes, BindMisses, BindPrints}
 use Rattle.ldso_cli.specs.Dump.{DumpComes, DumpPrints}
 use Rattle.ldso_cli.specs.End.{bare}
@@ -25,16 +26,19 @@ pub record EndsBare (comes : Cause → Type 0) (end : End) : Type 0 where
 abbrev pub Comes : Command → LibraryAt → LibraryAt → List File → End → Type 0
 Comes (Bind bind) before after files end = EndsBare (BindComes bind before after files) end
 Comes (Dump path) before after files end = EndsBare (DumpComes path before after files) end
+Comes (Asm path) before after files end = EndsBare (AsmComes path before after files) end
 
 -- the text that a command prints at an end, over files
 abbrev pub Prints : Command → List File → End → List ℕ → Type 0
 Prints (Bind bind) files end text = BindPrints bind files end.cause text
 Prints (Dump path) files end text = DumpPrints path files end.cause text
+Prints (Asm path) files end text = AsmPrints path files end.cause text
 
 -- the library missed each file that a command's name could be
 abbrev pub Misses : Command → LibraryAt → LibraryAt → List ℕ → Type 0
 Misses (Bind bind) before after name = Over before.files (BindMisses bind before after name)
 Misses (Dump path) before after name = (name ≡ path) × Rises before.misses after.misses
+Misses (Asm path) before after name = (name ≡ path) × Rises before.misses after.misses
 
 -- the end isn't that of a failed read
 abbrev pub NoReadFails : End → Type 0

@@ -2,6 +2,8 @@
 use Rattle.std.specs.Prelude.{ℕ, List, [], ◌∷◌, ◌++◌, codes}
 use Rattle.std.specs.Fmt.{decimal}
 use Rattle.ld_base.specs.FaultText.{fault_text}
+use Rattle.ld_base.specs.declared.fault.AsmCause.{AsmCause}
+use Rattle.ld_base.specs.declared.fault.AsmCause.TheVariants as asm
 use Rattle.ld_base.specs.declared.fault.DlFault.{DlFault}
 use Rattle.ld_base.specs.declared.fault.DlFault.TheVariants as dl
 use Rattle.ldso_cli.specs.declared.outcome.Cause.{Cause}
@@ -20,6 +22,7 @@ status_of_fault _ = 118
 abbrev pub status_of_cause : Cause → ℕ
 status_of_cause causes.Done = 0
 status_of_cause (causes.Refused fault) = status_of_fault fault
+status_of_cause (causes.AsmRefused line cause) = 119
 status_of_cause causes.Usage = 120
 status_of_cause causes.WriteFault = 122
 status_of_cause causes.Memory = 123
@@ -31,6 +34,20 @@ status_of end = status_of_cause end.cause
 -- the last line where a refusal ends the command
 unfoldable pub refused_text : DlFault → List ℕ
 refused_text fault = codes "end " ++ decimal (status_of_fault fault) ++ 32 ∷ fault_text fault ++ 10 ∷ []
+
+-- the word of a cause for which a source is refused, and the last line where one is
+abbrev pub asm_word : AsmCause → List ℕ
+asm_word asm.BadStatement = codes "bad-statement"
+asm_word asm.UnknownWord = codes "unknown-word"
+asm_word asm.BadOperand = codes "bad-operand"
+asm_word asm.OutOfRange = codes "out-of-range"
+asm_word asm.DoubleLabel = codes "double-label"
+asm_word asm.UnknownLabel = codes "unknown-label"
+asm_word asm.WrongSection = codes "wrong-section"
+asm_word asm.TooBig = codes "too-big"
+
+unfoldable pub asm_refused_text : ℕ → AsmCause → List ℕ
+asm_refused_text line cause = codes "end 119 asm " ++ (decimal line ++ (32 ∷ (asm_word cause ++ 10 ∷ [])))
 
 abbrev pub usage_text : List ℕ
 usage_text = codes "end 120 usage" ++ 10 ∷ []

@@ -19,6 +19,7 @@ pub fn one_answer<K: Sink, J: Sink>()
         ComeToOne (handed_to K.writes old new) (handed_to J.writes old' new') first second }
 {
     one_outcome();
+    asm_denotes::one_answer();
 }
 
 /// Where no read fails, the files decide how a command ends.
@@ -27,6 +28,7 @@ pub fn one_end()
         Comes command before after files first → NoReadFails first → Comes command before' after' files second → NoReadFails second → first ≡ second }
 {
     one_outcome();
+    asm_denotes::one_answer();
 }
 
 /// Over the same files a command prints one text at an end.
@@ -35,4 +37,5 @@ pub fn one_text()
         Prints command files end first → Prints command files end second → first ≡ second }
 {
     one_outcome();
+    asm_denotes::one_answer();
 }

@@ -4,7 +4,7 @@ ghost use Rattle.std.specs.Prelude.{◌≡◌};
 ghost use Rattle.ldso_cli.specs.End.{bare, end_of};
 ghost use Rattle.ldso_cli.specs.Status.{status_of, status_of_cause, status_of_fault};
 
-use ld_base::DlFault;
+use ld_base::{AsmCause, DlFault};
 
 /// Why the command ends.
 #[derive(Debug, Drop)]
@@ -13,6 +13,8 @@ pub enum Cause {
     Done,
     /// The file, or what it needs, is refused.
     Refused(DlFault),
+    /// The source is refused, at this line and for this cause.
+    AsmRefused(u64, AsmCause),
     /// The words are no command.
     Usage,
     /// The text couldn't be written.
@@ -56,6 +58,7 @@ fn status_of_cause(cause: &Cause) -> u8
     match cause {
         Cause::Done => 0,
         Cause::Refused(fault) => status_of_fault(fault),
+        Cause::AsmRefused(_, _) => 119,
         Cause::Usage => 120,
         Cause::WriteFault => 122,
         Cause::Memory => 123,

@@ -10,6 +10,7 @@ ghost use Rattle.ldso_cli.specs.Outside.{handed_to, library_at, sink_at};
 ghost use Rattle.ldso_cli.specs.Status.{status_of};
 
 use crate::answer::{Answer, usage};
+use crate::asm::asm;
 use crate::bind::bind;
 use crate::dump::dump;
 use crate::outcome::{Cause, End, Outcome};
@@ -47,6 +48,7 @@ fn answer<L: Library>(
     match reads(alloc, words.as_slice())? {
         Some(Command::Bind(command)) => bind(alloc, command, library),
         Some(Command::Dump(path)) => dump(alloc, path, library),
+        Some(Command::Asm(path)) => asm(alloc, path, library),
         None => usage(alloc),
     }
 }
@@ -74,7 +76,9 @@ fn write_answer<K: Sink>(out: &mut K, answer: Result<Answer, AllocError>) -> End
 /// Where the words are no command the cause is `Usage`. `bind` ends with `Done`, or with the one
 /// refusal that stops it, which comes in this order: of finding and reading the program and what it
 /// needs, breadth-first; of a version that isn't there; of a reference without a definition. `dump`
-/// ends with `Done` where the file is accepted as a program, and else with its refusal.
+/// ends with `Done` where the file is accepted as a program, and else with its refusal. `asm` ends with
+/// `Done` where the source denotes an object, whose bytes it writes alone, and else with the line that is
+/// refused and the cause.
 pub fn ldso<R: Threads + Wait + Sync, L: Library + Send + Drop, K: Sink>(
     rt: &R,
     alloc: Global,
