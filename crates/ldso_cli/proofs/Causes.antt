@@ -131,7 +131,7 @@ own_caused : (command : Option Command) (before after : LibraryAt) (old new : Si
 own_caused None before after old new end text usage =
     let P : Cause → Type 0 = λ c. IsCaused None before after old new c in
     subst P (sym (ap (λ (e : End). e.cause) usage.end_is))
-      (record { usage = λ e. refl; no_command = λ e. inl refl; read_fault = λ path e. absurd (cc e); missing = λ name e. absurd (cc e); write_fault = λ e. absurd (cc e) })
+    (record { usage = λ e. refl; no_command = λ e. inl refl; read_fault = λ path e. absurd (cc e); missing = λ name e. absurd (cc e); write_fault = λ e. absurd (cc e) })
 own_caused (Some command) before after old new end text over =
     let own = own_end command before after end text over in
     record {

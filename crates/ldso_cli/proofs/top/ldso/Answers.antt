@@ -18,5 +18,5 @@ returns-clause-causes g c =
     let same : c.into_outcome.result.cause ≡ c.write_answer-end.result.cause = ap (λ (e : End). e.cause) c.into_outcome.ensures.end in
     let P : Cause → Type 0 = λ cause. IsCaused command before after old new cause in
     subst P (sym same)
-      (end_caused (handed_to g.K.Sink.writes c.args.out.now c.write_answer-end.new.out) command before after old new c.answer-answer.result c.write_answer-end.result
-        (rw c.as_slice.ensures.value at c.answer-answer.ensures.answers) c.write_answer-end.ensures.written)
+    (end_caused (handed_to g.K.Sink.writes c.args.out.now c.write_answer-end.new.out) command before after old new c.answer-answer.result c.write_answer-end.result
+    (rw c.as_slice.ensures.value at c.answer-answer.ensures.answers) c.write_answer-end.ensures.written)
