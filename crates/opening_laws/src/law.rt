@@ -1,6 +1,7 @@
 //! The laws.
 
-ghost use Rattle.opening_laws.specs.Laws.{CopiesAreSeen, ImagesAreInstalls, ImagesRelocate, LibrariesHaveNoCopies, NewBindingsAreSeen, NewObjectsArePlaced, OpeningsRelocate, RelocatedAreInstalls, RelocatedAreOfRecords, UncopiedAreSeen};
+ghost use Rattle.opening_laws.specs.Laws.{CopiesAreSeen, ImagesAreInstalls, ImagesRelocate, LibrariesHaveNoCopies, NewBindingsAreSeen};
+ghost use Rattle.opening_laws.specs.Laws.{NewObjectsArePlaced, OpeningsRelocate, RelocatedAreInstalls, RelocatedAreOfRecords, UncopiedAreSeen};
 
 use accepted_image::accepted_object;
 
