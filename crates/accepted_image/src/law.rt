@@ -37,7 +37,8 @@ pub fn accepted_object()
     ensures read { (bytes : List ℕ) (program : Bool) (o : Object) (table : HashTable) → object_verdict bytes program ≡ Ok (o, table) → IsAccepted o }
     ensures machine { (m : Machine) → m.verdict ≡ object_verdict → AcceptsOnly m }
     ensures library { (bytes : List ℕ) (o : Object) (table : HashTable) → object_verdict bytes false ≡ Ok (o, table) → (r : Reloc) → Contains o.relocs r → r.kind ≢ 4 }
-    ensures copied { (bytes : List ℕ) (program : Bool) (o : Object) (table : HashTable) → object_verdict bytes program ≡ Ok (o, table) → (r : Reloc) → Contains o.relocs r → r.kind ≡ 4 → r.symbol ≢ 0 }
+    ensures copied { (bytes : List ℕ) (program : Bool) (o : Object) (table : HashTable) → object_verdict bytes program ≡ Ok (o, table)
+        → (r : Reloc) → Contains o.relocs r → r.kind ≡ 4 → r.symbol ≢ 0 }
 {
     elf_head::one_verdict();
     accepted_head();
