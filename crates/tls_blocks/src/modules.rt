@@ -174,6 +174,20 @@ impl TlsModules {
         self.size
     }
 
+    /// How far behind the start of its area tp stands.
+    pub fn tp(&self) -> u64
+        ensures { result ≡ self.now.tp }
+    {
+        self.tp
+    }
+
+    /// The modules in the order of their numbers.
+    pub fn as_slice(&self) -> &[Module]
+        ensures { result.now ≡ self.now.modules }
+    {
+        self.modules.as_slice()
+    }
+
     /// How many modules were added and removed.
     pub fn generation(&self) -> u64
         ensures { result ≡ self.now.generation }
