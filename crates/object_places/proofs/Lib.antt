@@ -1,0 +1,4 @@
+pub mod Given
+pub mod Moduled
+pub mod Placed
+pub mod Same
