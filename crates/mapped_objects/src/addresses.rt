@@ -60,7 +60,7 @@ fn address_at(namespaces: &[Namespace], serial: Serial, index: u32) -> u64
 }
 
 /// The address of an object's symbol; 0 where it has no such symbol.
-fn definition_in(object: &Loaded, index: u32) -> u64
+pub fn definition_in(object: &Loaded, index: u32) -> u64
     ensures { result ≡ definition_address (Some object.now) index }
 {
     match object.object.symbols.as_slice().get(index as usize) {
@@ -97,7 +97,7 @@ fn is_code_of(namespaces: &[Namespace], serial: Serial, address: u64) -> bool
 
 /// Whether an address is code of an object.
 #[tactic(auto, unfolding(seg_image::specs::Pages::own_address))]
-fn is_code_in(object: &Loaded, address: u64) -> bool
+pub fn is_code_in(object: &Loaded, address: u64) -> bool
     requires { Accepted object.now.object }
     ensures { result ≡ is_code_in object.now address }
 {

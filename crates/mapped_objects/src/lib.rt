@@ -1,11 +1,12 @@
 //! The mapped objects of namespaces by their serials, and what a choice of a definition comes to.
 //!
 //! [`object_in`] and [`home_in`] find an object and its namespace, [`address_of`] is the address of a
-//! choice, and [`leads_to_code`] says whether a slot may be bound to it.
+//! choice, and [`leads_to_code`] says whether a slot may be bound to it; [`definition_in`] and [`is_code_in`] are
+//! the same of one object that is at hand.
 #![tactic(auto)]
 
 mod addresses;
 mod objects;
 
-pub use addresses::{address_of, leads_to_code};
+pub use addresses::{address_of, definition_in, is_code_in, leads_to_code};
 pub use objects::{home_in, object_in};
