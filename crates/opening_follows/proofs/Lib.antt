@@ -1,0 +1,3 @@
+pub mod Given
+pub mod Counted
+pub mod Found

@@ -1,0 +1,31 @@
+-- What an opening leaves, and what its new objects have.
+use Rattle.std.specs.Prelude.{◌≡◌, ℕ, List, count_by, map, Contains}
+use Rattle.image_reads.specs.Reads.{ArePrepared}
+use Rattle.link_event.specs.declared.state.Closing.{Closing}
+use Rattle.link_history.specs.Objects.{has, is_startup, mapped, serial_of}
+use Rattle.link_history.specs.State.{State}
+use Rattle.link_history.specs.Step.{binds, goes_with, open_done, seen_after}
+use Rattle.link_history.specs.Storage.{HaveModules}
+use Rattle.opening_images.specs.Relocated.{AreRelocated}
+use Rattle.opening_laws.specs.Laws.{OfOpenings, places_after}
+use Rattle.reserved_pages.specs.Laid.{AreLaid}
+use Rattle.seg_image.specs.declared.image.Image.{Image}
+
+abbrev pub NewModulesHavePlaces : Type 0
+NewModulesHavePlaces = OfOpenings (λ s hart ask id root added ranges. HaveModules (is_startup s) s.modules s.statics added)
+
+abbrev pub NewRangesAreLaid : Type 0
+NewRangesAreLaid = OfOpenings (λ s hart ask id root added ranges. AreLaid s.ranges ranges)
+
+-- as many objects, and ranges of pages, go with a set as before
+pub record TakesAsMuch (set : List ℕ) (old new : State) : Type 0 where
+  pub objects : count_by (has set) (map serial_of (mapped new)) ≡ count_by (has set) (map serial_of (mapped old))
+  pub ranges : count_by (goes_with set) new.ranges ≡ count_by (goes_with set) old.ranges
+
+abbrev pub ClosingsTakeAsMuch : Type 0
+ClosingsTakeAsMuch = OfOpenings (λ s hart ask id root added ranges. (c : Closing) → Contains s.closings c → TakesAsMuch c.set s (open_done s hart ask id root added ranges))
+
+abbrev pub NewImagesArePrepared : Type 0
+NewImagesArePrepared = OfOpenings (λ s hart ask id root added ranges. (images : List Image)
+    → AreRelocated (seen_after s ask id root added) (binds s ask) (places_after s hart ask id root added ranges) added images
+    → ArePrepared (open_done s hart ask id root added ranges) added images)
