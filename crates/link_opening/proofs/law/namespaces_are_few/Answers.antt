@@ -1,0 +1,10 @@
+use Rattle.std.proofs.Common.{arith}
+use Rattle.link_history.specs.After.{after}
+use Rattle.link_history.proofs.History.{by_lawful}
+use Rattle.link_opening.specs.Asked.{AreFew}
+use Rattle.link_opening.proofs.Few.{stepped_few}
+use Rattle.link_opening.proofs.law.namespaces_are_few.Goals as goal
+
+pub returns : goal.returns
+returns c m events lawful =
+    by_lawful m (λ s. AreFew s.namespaces) (omega arith, tt) (λ w past e same before few may. stepped_few w past (after past) e may few) events lawful
