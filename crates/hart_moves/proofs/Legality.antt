@@ -306,7 +306,8 @@ keeps w past h b (Due.store text stored word more) did c x = keeps_store w past 
 keeps w past h b (Due.enter function frames) did c x = keeps_by w past h b did c _ [] (ap events_of x.is) tt (of_none h) x.leaves refl refl
 keeps w past h b (Due.complete purpose object rest below) did c x =
     keeps_passing w past h b purpose (passing purpose h object ∷ []) rest below did c (x.may, tt) (of_one h (passing purpose h object) (passing_is_of purpose h object)) x.passes
-keeps w past h b (Due.finalise code object) did c x = keeps_finalising w past h b code object did c x
+keeps w past h b (Due.finalise code object) did c (inl x) = keeps_finalising w past h b code object did c x
+keeps w past h b (Due.finalise code object) did c (inr x) = keeps_ending w past h b [] ends.Memory did c x
 
 pub turns_legal : TurnsLegal
 turns_legal w past h b c did legal moves = legal_with w past (events_of did) legal (keeps w past h b (due (after past) b) did c moves).allowed

@@ -1,12 +1,15 @@
 -- What a hart did settles where it is left.
-use Rattle.std.proofs.Common.{◌≡◌, ◌⊎◌, inl, inr, ℕ, ◌+◌, ◌*◌, Bool, true, false, List, [], ◌∷◌, ◌++◌, length, map, take, Option, Some, None, Result, Ok, Err, refl, sym, ap, subst, ◌∙◌, true≢false}
+use Rattle.std.proofs.Common.{◌≡◌, ◌⊎◌, inl, inr, ℕ, ◌+◌, ◌*◌, Bool, true, false, not, cond, ◌&&◌, List, [], ◌∷◌, ◌++◌, length, map, take, Option, Some, None, Result, Ok, Err, refl, sym, ap, subst, ◌∙◌, true≢false}
 use Rattle.std.specs.List.{slice_get}
+use Rattle.std.specs.Option.{is_some}
 use Rattle.ld_base.specs.declared.fault.DlFault.{DlFault}
 use Rattle.ld_base.specs.declared.fault.Shown.{Shown}
 use Rattle.ld_base.specs.declared.object.Reloc.{Reloc}
 use Rattle.link_event.specs.declared.event.Event.{Event}
-use Rattle.link_event.specs.declared.event.Event.TheVariants.{Fini}
+use Rattle.link_event.specs.declared.event.Event.TheVariants.{Ended, Fini}
 use Rattle.link_event.specs.declared.handed.Function.{Function}
+use Rattle.link_event.specs.declared.hart_end.HartEnd.{HartEnd}
+use Rattle.link_event.specs.declared.hart_end.HartEnd.TheVariants as ends
 use Rattle.link_event.specs.declared.state.Granting.{Granting}
 use Rattle.relocator.specs.Relocated.{moved_word}
 use Rattle.rv_hart.specs.declared.bus.BusFault.{BusFault}
@@ -20,7 +23,7 @@ use Rattle.rv_hart.specs.Trail.{IsStep, Place, Ready, Accessing, Stopped}
 use Rattle.link_history.specs.After.{after}
 use Rattle.link_history.specs.Laws.{slot_address}
 use Rattle.link_history.specs.Memory.{image_of}
-use Rattle.link_history.specs.Objects.{serial_of}
+use Rattle.link_history.specs.Objects.{has, object_at, serial_of}
 use Rattle.link_history.specs.Setting.{Setting}
 use Rattle.link_history.specs.State.{Linked, State}
 use Rattle.link_service.specs.Answer.{Answer, returns, loading, closing, refused, granted, told, again, over}
@@ -34,7 +37,7 @@ use Rattle.hart_moves.specs.Follows.{Follows, Turned}
 use Rattle.hart_moves.specs.Harts.{HartState, Offered, Purpose, Resolving}
 use Rattle.hart_moves.specs.Laws.{OneHart}
 use Rattle.hart_moves.specs.Laws as laws
-use Rattle.hart_moves.specs.Moves.{Did, events_of, spent, freed, freed_by, Traps, Trap, trap_of, Refuses, Stops, Comes, Unread, CopiesBy, copied_item, StoresBy, all_finis, own_fini, Finals, final_functions, runs, IsOffer, Takes, TellsOf, MovesAs, Calls, Finalises, Instructs, Copies, StoresText}
+use Rattle.hart_moves.specs.Moves.{Did, did_by, events_of, spent, freed, freed_by, Ends, EndsObject, Traps, Trap, trap_of, Refuses, Stops, Comes, Unread, CopiesBy, copied_item, StoresBy, all_finis, own_fini, Finals, final_functions, runs, IsOffer, Takes, TellsOf, MovesAs, Calls, Finalises, Instructs, Copies, StoresText}
 use Rattle.hart_moves.proofs.Answering.{Leads, Tells, answer_from, tells}
 
 -- ---- calls of the bus
@@ -213,6 +216,32 @@ finalises_once w past h b code object did c d x y =
     ∙ ap (λ (es : List Event). spent (runs (Purpose.of_end code) (final_functions y.next) [] (freed_by (own ++ es) b))) both.0
     ∙ sym y.leaves
 
+-- their events aren't an end
+first_finals : (w : Setting) (h : ℕ) (past events more : List Event) (next : Option Function) (reason : HartEnd) → Finals w h past events next → events ≡ Ended h reason ∷ more → ⊥
+first_finals w h past events more next reason (Finals.no_more _ none) e = let no : [] ≡ Ended h reason ∷ more = e in cc
+first_finals w h past events more next reason (Finals.one_runs _ object function rest others finis addresses) e = let no : [] ≡ Ended h reason ∷ more = e in cc
+first_finals w h past events more next reason (Finals.one_passes _ object rest behind last finis addresses may finals) e = let no : Fini h object ∷ behind ≡ Ended h reason ∷ more = e in cc
+
+by_one : (events more : List Event) (e : Event) → did_by events ≡ Did.serves [] (e ∷ more) → events ≡ e ∷ more
+by_one [] more e is = absurd (let no : Did.quiet [] ≡ Did.serves [] (e ∷ more) = is in cc)
+by_one (f ∷ rest) more e is = let same : Did.serves [] (f ∷ rest) ≡ Did.serves [] (e ∷ more) = is in cc
+
+not_both : (w : Setting) (past : List Event) (h : ℕ) (b : HartState) (code object : ℕ) (reason : HartEnd) (did : Did) (c d : HartState) → Finalises w past h b code object did c → Ends w past h (spent b) [] reason did d → ⊥
+not_both w past h b code object reason did c d x y = by (is_some (object_at (after past) object) && not (has (after past).finis object)) x.finals (by_one _ [] (Ended h reason) (sym x.is ∙ y.is))
+  where
+    own : Bool → List Event
+    own t = cond t (Fini h object ∷ []) []
+
+    by : (t : Bool) → Finals w h (past ++ own t) x.events x.next → own t ++ x.events ≡ Ended h reason ∷ [] → ⊥
+    by true finals e = let no : Fini h object ∷ x.events ≡ Ended h reason ∷ [] = e in cc
+    by false finals e = first_finals w h (past ++ []) x.events [] x.next reason finals e
+
+object_once : (w : Setting) (past : List Event) (h : ℕ) (b : HartState) (code object : ℕ) (did : Did) (c d : HartState) → EndsObject w past h b code object did c → EndsObject w past h b code object did d → c ≡ d
+object_once w past h b code object did c d (inl x) (inl y) = finalises_once w past h b code object did c d x y
+object_once w past h b code object did c d (inl x) (inr y) = absurd (not_both w past h b code object ends.Memory did c d x y)
+object_once w past h b code object did c d (inr x) (inl y) = absurd (not_both w past h b code object ends.Memory did d c y x)
+object_once w past h b code object did c d (inr x) (inr y) = x.leaves ∙ sym y.leaves
+
 -- ---- a service
 
 abbrev is_service : Did → Bool
@@ -332,14 +361,14 @@ moves_once one leads w past h b (Due.serve call back) did c d x y = calls_once w
 moves_once one leads w past h b (Due.store text stored word more) did c d x y = stores_once w past h b text stored word more did c d x y
 moves_once one leads w past h b (Due.enter function frames) did c d x y = x.leaves ∙ sym y.leaves
 moves_once one leads w past h b (Due.complete purpose object rest below) did c d x y = x.passes.leaves ∙ sym y.passes.leaves
-moves_once one leads w past h b (Due.finalise code object) did c d x y = finalises_once w past h b code object did c d x y
+moves_once one leads w past h b (Due.finalise code object) did c d x y = object_once w past h b code object did c d x y
 
 pub one_hart : OneEnd → StepLeads → OneHart
 one_hart one leads w past h b c other did x y = moves_once one leads w past h b (due (after past) b) did c other x y
 
 follows_once : OneHart → (w : Setting) (journal : List Event) (h from : ℕ) (b c other : HartState) (turns : List Turned) → Follows w journal h from b turns c → Follows w journal h from b turns other → c ≡ other
 follows_once one w journal h from b c other turns (Follows.no_more _ _) (Follows.no_more _ _) = refl
-follows_once one w journal h from b c other turns (Follows.one_more _ _ x _ turn rest late move are more) (Follows.one_more _ _ y _ _ _ later moved stand others) =
+follows_once one w journal h from b c other turns (Follows.one_more _ _ x _ turn rest late none move are more) (Follows.one_more _ _ y _ _ _ later nor moved stand others) =
     follows_once one w journal h (turn.at + length (events_of turn.did)) x c other rest more
     (subst (λ (z : HartState). Follows w journal h (turn.at + length (events_of turn.did)) z rest other) (one w (take turn.at journal) h b y x turn.did moved move) others)
 

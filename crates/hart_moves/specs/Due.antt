@@ -3,7 +3,7 @@ use Rattle.std.specs.Prelude.{ℕ, ◌%◌, ◌==◌, nat_lt, if◌then◌else�
 use Rattle.link_event.specs.declared.handed.Function.{Function}
 use Rattle.link_event.specs.declared.hart_end.HartEnd.TheVariants as ends
 use Rattle.link_history.specs.State.{State}
-use Rattle.link_service.specs.Call.{Call, resolves, opens, looks_up, closes, unmaps, asks_fault, locates, writes, stops}
+use Rattle.link_service.specs.Call.{Call, resolves, closes, unmaps, asks_fault, locates, writes, stops}
 use Rattle.link_service.specs.Call as call
 use Rattle.rv_hart.specs.Registers.{Registers, next}
 use Rattle.hart_moves.specs.Copying.{Copy, number_in}

@@ -8,3 +8,4 @@ pub mod Registers
 pub mod Services
 pub mod Starting
 pub mod Worked
+pub mod WorkedCalls

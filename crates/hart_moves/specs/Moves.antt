@@ -1,6 +1,7 @@
 -- One turn of one hart: what it did, and where that leaves it. A relation for each kind of turn, and the table that joins them. What memory
 -- answers is told by the calls of the bus, what the linker gives by its events; whoever keeps memory and the journal adds what they make of them.
-use Rattle.std.specs.Prelude.{◌≡◌, ℕ, ◌+◌, ◌-◌, ◌*◌, ◌^◌, ◌==◌, ◌&&◌, ◌||◌, not, Bool, true, false, if◌then◌else◌, List, [], ◌∷◌, ◌++◌, find, map, Option, Some, None, Result, Ok, Err}
+use Rattle.std.specs.Prelude.{◌≡◌, ◌⊎◌, ℕ, ◌+◌, ◌-◌, ◌*◌, ◌^◌, ◌==◌, ◌&&◌, ◌||◌, not, Bool, true, false, if◌then◌else◌}
+use Rattle.std.specs.Prelude.{List, [], ◌∷◌, ◌++◌, find, map, Option, Some, None, Result, Ok, Err}
 use Rattle.std.specs.List.{list_any, slice_get}
 use Rattle.std.specs.Option.{is_some, option_map_or}
 use Rattle.ld_base.specs.declared.fault.DlFault.{DlFault}
@@ -321,6 +322,10 @@ pub record Finalises (w : Setting) (past : List Event) (h : ℕ) (b : HartState)
   pub is : did ≡ did_by (own_fini (after past) h object ++ events)
   pub leaves : c ≡ spent (runs (Purpose.of_end code) (final_functions next) [] (freed_by (own_fini (after past) h object ++ events) b))
 
+-- the objects that are left are listed anew, which takes memory: where there is none the hart ends, and nothing else is appended
+abbrev pub EndsObject : Setting → List Event → ℕ → HartState → (code object : ℕ) → Did → HartState → Type 0
+EndsObject w past h b code object did c = Finalises w past h b code object did c ⊎ Ends w past h (spent b) [] ends.Memory did c
+
 -- ---- a service
 
 -- what the granted slot is to its hart
@@ -414,7 +419,7 @@ MovesAs w past h b (Due.serve call back) did c = Calls w past h b call back did 
 MovesAs w past h b (Due.store text stored word more) did c = StoresText w past h b text stored word more did c
 MovesAs w past h b (Due.enter function frames) did c = Enters function frames b did c
 MovesAs w past h b (Due.complete purpose object rest below) did c = Completes w past h b purpose object rest below did c
-MovesAs w past h b (Due.finalise code object) did c = Finalises w past h b code object did c
+MovesAs w past h b (Due.finalise code object) did c = EndsObject w past h b code object did c
 
 abbrev pub Moves : Setting → List Event → ℕ → HartState → Did → HartState → Type 0
 Moves w past h b did c = MovesAs w past h b (due (after past) b) did c

@@ -18,5 +18,6 @@ mod worked_turns;
 
 pub use law::{turns_are_counted, turns_are_legal, turns_leave_one_hart};
 pub use worked_turns::{
-    ends_are_told, functions_are_entered, names_are_copied, two_harts_share_a_slot,
+    ends_are_told, functions_are_entered, functions_return, memory_is_passed, names_are_copied,
+    nothing_is_left_out, two_harts_share_a_slot,
 };

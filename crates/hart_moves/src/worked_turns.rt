@@ -6,6 +6,9 @@ ghost use Rattle.link_history.specs.Setting.{Setting};
 ghost use Rattle.hart_moves.specs.Worked.{CopiesInside, CopiesName, EndsAtRole, EntersSecond, Exchanges, Exits, FindsNoName};
 ghost use Rattle.hart_moves.specs.Worked.{FollowsItself, FollowsWinner, GoesOn, GoesOnWithoutFuel, GrantsGlobal, GrantsTheFirst, HasNoFunction};
 ghost use Rattle.hart_moves.specs.Worked.{RunsWithoutFuel, ServesAtOnce, Starts, StartsEarly, TextWords, Traps};
+ghost use Rattle.hart_moves.specs.WorkedCalls.{CompletesBehind, CopiesNoVersion, CopiesSome, EndsAtPair, EndsForMemory, EntersPreinit};
+ghost use Rattle.hart_moves.specs.WorkedCalls.{PassesClosed, ReadsNothing, SettlesAtEnd, SkipsItsOwn, StoresFirst, StoresLast, WaitsForGrant, WritesSome};
+ghost use Rattle.link_history.specs.State.{State};
 
 /// Of two harts at one slot the one that is granted it last may win: its exchange finds the lazy word,
 /// and it goes on at its function. The other finds that address, and goes on there too and not at its
@@ -45,4 +48,35 @@ pub fn ends_are_told()
     ensures traps { Traps }
     ensures role { EndsAtRole }
     ensures text { TextWords }
+{}
+
+/// What can't be read answers a write at once, and of a long one 256 bytes are copied and written. A
+/// name that is too long has no version. A module's number stands at a doubleword. A text is stored a
+/// doubleword a turn, and its call returns with the last.
+pub fn memory_is_passed()
+    ensures unread { (w : Setting) (past : List Event) → ReadsNothing w past }
+    ensures copied { (w : Setting) (past : List Event) → CopiesSome w past }
+    ensures written { (w : Setting) (past : List Event) → WritesSome w past }
+    ensures no_version { (w : Setting) (past : List Event) → CopiesNoVersion w past }
+    ensures pair { EndsAtPair }
+    ensures stores { (w : Setting) (past : List Event) → StoresFirst w past }
+    ensures stores_last { (w : Setting) (past : List Event) → StoresLast w past }
+{}
+
+/// Functions that come before all others are entered before those of an object that has none. An
+/// unmapping waits for an open grant. A final destructor may close its own object, and no memory to list
+/// what is left ends the hart.
+pub fn functions_return()
+    ensures preinit { EntersPreinit }
+    ensures completes { (s : State) → CompletesBehind s }
+    ensures waits { (w : Setting) (past : List Event) → WaitsForGrant w past }
+    ensures closed { (w : Setting) (past : List Event) → PassesClosed w past }
+    ensures no_memory { (w : Setting) (past : List Event) → EndsForMemory w past }
+{}
+
+/// A hart that ends for its fuel has its grant settled in that turn, and none leaves an event of its own
+/// out.
+pub fn nothing_is_left_out()
+    ensures settles { SettlesAtEnd }
+    ensures not_skipped { (w : Setting) → SkipsItsOwn w }
 {}

@@ -1,5 +1,5 @@
 -- What a turn makes of how far its hart is with a slot.
-use Rattle.std.proofs.Common.{◌≡◌, ⊎_elim, ℕ, ◌+◌, ◌*◌, Bool, true, false, cond, List, [], ◌∷◌, ◌++◌, length, map, Option, Some, None, Result, Ok, Err, refl, sym, ap, subst, ◌∙◌, ◌==◌}
+use Rattle.std.proofs.Common.{◌≡◌, inl, inr, ⊎_elim, ℕ, ◌+◌, ◌*◌, Bool, true, false, cond, List, [], ◌∷◌, ◌++◌, length, map, Option, Some, None, Result, Ok, Err, refl, sym, ap, subst, ◌∙◌, ◌==◌}
 use Rattle.std.specs.Prelude.{nat_lt, not, ◌&&◌, ◌%◌}
 use Rattle.std.specs.List.{Contains}
 use Rattle.std.specs.Option.{is_some}
@@ -310,9 +310,10 @@ module _ (w : Setting) (past : List Event) (h : ℕ) (b : HartState) where
   by_due (Due.store text stored word more) did c plain idle x = by_store (Write (text + 8 * stored) 8 word x.answer ∷ []) text stored more x.answer did c x.comes
   by_due (Due.enter function frames) did c plain idle x = Resolution.quietly [] x.is (ap (λ (z : HartState). z.resolving) x.leaves)
   by_due (Due.complete purpose object rest below) did c plain idle x = by_passing purpose (passing purpose h object ∷ []) rest below did c (one_of (passing purpose h object) (passing_nothing purpose h object)) x.passes
-  by_due (Due.finalise code object) did c plain idle x =
+  by_due (Due.finalise code object) did c plain idle (inl x) =
       by_finals code (own_fini (after past) h object ++ x.events) x.next did c
       (both_of (own_fini (after past) h object) x.events (own_nothing (after past) h object) (finals_nothing w h (past ++ own_fini (after past) h object) x.events x.next x.finals)) x.is x.leaves
+  by_due (Due.finalise code object) did c plain idle (inr x) = stops_here (spent b) [] _ did c refl x
 
   by_state : (e : Option HartEnd) (r : Resolving) (did : Did) (c : HartState) → b.resolving ≡ r → MovesAs w past h b (elim e [ Some reason ↦ Due.nothing | None ↦ by_resolving (after past) b r ]) did c → Resolution past h b did c
   by_state (Some reason) r did c is x = absurd x

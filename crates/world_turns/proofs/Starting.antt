@@ -19,7 +19,7 @@ use Rattle.link_history.specs.Slots.{HasNoGrant}
 use Rattle.link_history.specs.State.{State, start}
 use Rattle.link_history.specs.Step.{loaded, step}
 use Rattle.link_history.proofs.Lists.{none_in}
-use Rattle.link_service.specs.Startup.{FindHarts, found_at, harts_of, opening}
+use Rattle.link_service.specs.Startup.{FindHarts, found_at, opening}
 use Rattle.link_service.proofs.Serving.{harts_have_entries, starts_legal}
 use Rattle.memory_holds.specs.Holds.{Holds}
 use Rattle.memory_holds.specs.Memory.{Memory}
@@ -138,15 +138,15 @@ none_lawful : (m : Machine) → Lawful m []
 unfolding Lawful
 none_lawful m k e at = absurd (none_there e at)
 
-pub start_sound : MemoryBegins → EventsKeep → (w : Setting) (setup : Setup) (world : World) → AcceptsOnly w.machine → w.machine.harts ≡ harts_of setup → IsStarted w setup world → Sound w world
+pub start_sound : MemoryBegins → EventsKeep → (w : Setting) (setup : Setup) (world : World) → AcceptsOnly w.machine → IsStarted w setup world → Sound w world
 unfolding after_from
-start_sound begins keep w setup world only harts is =
+start_sound begins keep w setup world only is =
     let legal : Legal w world.journal = starts_legal w setup world.journal is.started is.starts in
     let idle : AllIdle world.harts = subst AllIdle (sym is.harts) (start_idle setup.fuel is.started.functions is.started.entries) in
     let first : Holds (after []) [] (memory_of is.fresh) = begins (memory_of is.fresh) (fresh_begins is.fresh is.are_fresh) in
     record {
       legal = legal;
-      harts = ap (λ (bs : List HartState). length bs) is.harts ∙ start_length setup.fuel is.started.functions is.started.entries ∙ harts_have_entries w setup world.journal is.started is.starts ∙ sym harts;
+      harts = ap (λ (bs : List HartState). length bs) is.harts ∙ start_length setup.fuel is.started.functions is.started.entries ∙ harts_have_entries w setup world.journal is.started is.starts ∙ sym (ap (λ (v : Setting). v.machine.harts) is.setting);
       words = remakes_length start world.journal is.fresh world.words is.words ∙ is.are_fresh.all;
       holds = subst (λ (ns : List ℕ). Holds (after world.journal) ns (memory_of world.words)) (sym (none_won world.harts idle))
           (events_hold keep w only [] [] world.journal is.fresh world.words (none_lawful w.machine) (start_allowed w setup world is) (start_of w setup world is) first is.words);

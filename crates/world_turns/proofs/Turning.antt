@@ -10,6 +10,8 @@ use Rattle.ld_base.specs.declared.linking.Role.TheVariants.{Rw, Slot}
 use Rattle.ld_base.specs.declared.fault.Shown.{Shown}
 use Rattle.link_event.specs.declared.event.Event.{Event}
 use Rattle.link_event.specs.declared.event.Event.TheVariants as events
+use Rattle.link_event.specs.declared.hart_end.HartEnd.{HartEnd}
+use Rattle.link_event.specs.declared.hart_end.HartEnd.TheVariants as ends
 use Rattle.link_event.specs.declared.state.Granting.{Granting}
 use Rattle.link_event.specs.declared.state.Standing.TheVariants as standings
 use Rattle.rv_hart.specs.declared.doubleword.Doubleword.{Doubleword}
@@ -21,14 +23,14 @@ use Rattle.link_history.specs.Memory.{image_of}
 use Rattle.link_history.specs.Setting.{Machine, Setting}
 use Rattle.link_history.specs.State.{State}
 use Rattle.link_history.proofs.History.{after_push, legal_is_lawful, legal_push}
-use Rattle.link_history.proofs.Lists.{here, later}
+use Rattle.link_history.proofs.Lists.{here, later, none_in}
 use Rattle.link_service.specs.Laws.{hart_of}
 use Rattle.memory_holds.specs.Holds.{Holds}
 use Rattle.hart_moves.specs.Harts.{HartState, Offered, Phase, Purpose, Resolving}
-use Rattle.hart_moves.specs.Moves.{AreAllowed, Did, IsOffer, events_of, freed, settled_resolving, settles}
+use Rattle.hart_moves.specs.Moves.{AreAllowed, Did, IsOffer, ended, events_of, freed, settled_resolving, settles}
 use Rattle.hart_moves.specs.Starting.{finalising_hart}
 use Rattle.hart_moves.proofs.Legality.{turns_allowed, turns_own}
-use Rattle.world_turns.specs.Laws.{FinalsBeginSound, LoadsFit, SettlingIsSound, TurnsAreSound}
+use Rattle.world_turns.specs.Laws.{FinalsBeginSound, FinalsLackSound, LoadsFit, SettlingIsSound, TurnsAreSound}
 use Rattle.world_turns.specs.Run.{settled}
 use Rattle.world_turns.specs.Memory.{Does, Remakes, RemakesAll, doubleword, exchanged, memory_of, word_count}
 use Rattle.world_turns.specs.Sound.{Fits, HasOffer, Sound}
@@ -403,3 +405,26 @@ settles_sound needs w world only loads sound =
     (subst (λ (es : List Event). Sounds w (world.journal ++ es) (resolvings (map freed world.harts)) world.words) (sym (settling_is world.harts))
     (subst (λ (rs : List Resolving). Sounds w (world.journal ++ flat_map settled_by (resolvings world.harts)) rs world.words) (sym (freed_are world.harts))
     (settled_all w only laws.know laws.keep laws.bound laws.lost world.journal [] (resolvings world.harts) world.words loads (to_sounds w world sound))))
+
+-- what an end makes of memory: nothing
+ends_remake : (s : State) (h : ℕ) (reason : HartEnd) (words : List Doubleword) → Remakes s (events.Ended h reason) words words
+ends_remake s h reason words = record {
+  all = refl;
+  kept = λ a is untouched. refl;
+  given = λ r a is there covers. absurd (none_in r there);
+  gone = λ r a is there covers. absurd (none_in r there);
+}
+
+pub lacks_sound : ((m : Machine) → AcceptsOnly m → Needs m) → FinalsLackSound
+lacks_sound needs w old new only loads sound x =
+    let laws = needs w.machine only in
+    let past : List Event = old.journal ++ settling old.harts in
+    let before : Sound w (settled old) = settles_sound needs w old only loads sound in
+    let after_end : Sounds w (past ++ events.Ended 0 ends.Memory ∷ []) (resolvings (map freed old.harts)) old.words =
+    event_sounds w only laws.know laws.changes laws.keep past (resolvings (map freed old.harts)) old.words old.words (events.Ended 0 ends.Memory) 0 refl x.may (ends_remake (after past) 0 ends.Memory old.words)
+    (spared w only laws.know laws.changes laws.keep (events.Ended 0 ends.Memory) refl) (to_sounds w (settled old) before) in
+    let same : resolvings (ended ends.Memory x.first ∷ map freed x.others) ≡ resolvings (map freed old.harts) = ap (λ (bs : List HartState). resolvings (map freed bs)) (sym x.harts) in
+    subst (λ (world : World). Sound w world) (sym x.leaves)
+    (from_sounds w (record old { journal = past ++ events.Ended 0 ends.Memory ∷ []; harts = ended ends.Memory x.first ∷ map freed x.others })
+    (sym (places_length (ended ends.Memory x.first ∷ map freed x.others)) ∙ ap (λ (rs : List Resolving). length rs) same ∙ places_length (map freed old.harts) ∙ before.harts) before.words
+    (subst (λ (rs : List Resolving). Sounds w (past ++ events.Ended 0 ends.Memory ∷ []) rs old.words) (sym same) after_end))

@@ -1,23 +1,21 @@
 -- What holds of every run on one thread.
-use Rattle.std.specs.Prelude.{◌≡◌, ℕ}
+use Rattle.std.specs.Prelude.{ℕ}
 use Rattle.link_served.specs.declared.startup.Setup.{Setup}
 use Rattle.link_history.specs.Accepted.{AcceptsOnly}
 use Rattle.link_history.specs.After.{after}
 use Rattle.link_history.specs.Setting.{Setting}
 use Rattle.link_history.specs.State.{State}
-use Rattle.link_service.specs.Startup.{harts_of}
 use Rattle.memory_holds.specs.Enters.{LoadFits, SlotTrue}
 use Rattle.world_turns.specs.Memory.{memory_of}
 use Rattle.rv_hart.specs.Registers.{Registers}
-use Rattle.world_turns.specs.Run.{Begins, IsStarted, settled}
+use Rattle.world_turns.specs.Run.{Begins, IsStarted, LacksMemory, settled}
 use Rattle.world_turns.specs.Sound.{Sound}
 use Rattle.world_turns.specs.Turn.{Turn}
 use Rattle.world_turns.specs.World.{World, winners}
 
 -- a run is sound when it starts
 abbrev pub StartIsSound : Type 0
-StartIsSound =
-    (w : Setting) (setup : Setup) (world : World) → AcceptsOnly w.machine → w.machine.harts ≡ harts_of setup → IsStarted w setup world → Sound w world
+StartIsSound = (w : Setting) (setup : Setup) (world : World) → AcceptsOnly w.machine → IsStarted w setup world → Sound w world
 
 -- what slots got at load are words, as whoever keeps the journal knows by its type
 abbrev pub LoadsFit : State → Type 0
@@ -30,6 +28,10 @@ TurnsAreSound = (w : Setting) (h : ℕ) (old new : World) → AcceptsOnly w.mach
 -- so it does when the final destructors begin
 abbrev pub FinalsBeginSound : Type 0
 FinalsBeginSound = (w : Setting) (registers : Registers) (old new : World) → Begins registers old new → Sound w old → Sound w new
+
+-- when there is no memory for them
+abbrev pub FinalsLackSound : Type 0
+FinalsLackSound = (w : Setting) (old new : World) → AcceptsOnly w.machine → LoadsFit (after old.journal) → Sound w old → LacksMemory w old new → Sound w new
 
 -- and when what is left is settled
 abbrev pub SettlingIsSound : Type 0

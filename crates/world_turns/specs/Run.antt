@@ -2,6 +2,7 @@
 use Rattle.std.specs.Prelude.{◌≡◌, ℕ, suc, Bool, true, false, not, ◌&&◌, List, [], ◌∷◌, ◌++◌, length, map, Option, Some, None, IsTrue}
 use Rattle.std.specs.List.{list_all, list_any, range_with_len, slice_get}
 use Rattle.std.specs.Option.{is_some, option_map_or}
+use Rattle.link_event.specs.declared.event.Event.TheVariants.{Ended}
 use Rattle.link_event.specs.declared.handed.HartEntry.{HartEntry}
 use Rattle.link_event.specs.declared.hart_end.HartEnd.TheVariants as ends
 use Rattle.link_served.specs.declared.startup.Setup.{Setup}
@@ -9,13 +10,14 @@ use Rattle.link_served.specs.declared.startup.Started.{Started}
 use Rattle.rv_hart.specs.Registers.{Registers}
 use Rattle.rv_hart.specs.declared.doubleword.Doubleword.{Doubleword}
 use Rattle.link_history.specs.After.{after}
+use Rattle.link_history.specs.Allowed.{MayEnd}
 use Rattle.link_history.specs.Memory.{image_of}
 use Rattle.link_history.specs.Setting.{Setting}
 use Rattle.link_history.specs.State.{start}
 use Rattle.link_service.specs.Functions.{AreAddresses, destructors}
-use Rattle.link_service.specs.Startup.{Starts}
+use Rattle.link_service.specs.Startup.{Starts, setting_of}
 use Rattle.hart_moves.specs.Harts.{Frame, HartState, Purpose}
-use Rattle.hart_moves.specs.Moves.{all_finis, freed}
+use Rattle.hart_moves.specs.Moves.{all_finis, ended, freed}
 use Rattle.hart_moves.specs.Starting.{finalising_hart, starting_harts, starting_registers}
 use Rattle.schedules.specs.declared.schedule.TurnItem.{TurnItem}
 use Rattle.world_turns.specs.Memory.{AreFresh, RemakesAll}
@@ -26,6 +28,8 @@ use Rattle.world_turns.specs.World.{World, settling}
 
 -- startup's events, the memory that they make, and the harts
 pub record IsStarted (w : Setting) (setup : Setup) (world : World) : Type 0 where
+  -- folders, preload names and the number of harts are those that are set up
+  pub setting : w ≡ setting_of w.machine.verdict setup w.files
   pub started : Started
   pub starts : Starts w setup world.journal started
   pub fresh : List Doubleword
@@ -101,6 +105,17 @@ pub record Begins (registers : Registers) (old new : World) : Type 0 where
   pub are : AreAddresses destructors addresses (image_of (after old.journal) object)
   pub begun : new ≡ record old { harts = finalising_hart registers code (record { object = object; addresses = addresses }) first ∷ others }
 
+-- there is no memory to list what is left: the first hart ends once more, which settles what was done before, as every end does
+pub record LacksMemory (w : Setting) (old new : World) : Type 0 where
+  pub first : HartState
+  pub others : List HartState
+  pub harts : old.harts ≡ first ∷ others
+  pub may : MayEnd w (after (old.journal ++ settling old.harts)) 0
+  pub leaves : new ≡ record old {
+    journal = (old.journal ++ settling old.harts) ++ Ended 0 ends.Memory ∷ [];
+    harts = ended ends.Memory first ∷ map freed others;
+  }
+
 -- and takes turns until it ends
 pub data Ends (w : Setting) : World → World → Type 0 where
   no_more : (world : World) → IsTrue (have_ended world) → Ends w world world
@@ -110,6 +125,7 @@ pub data Ends (w : Setting) : World → World → Type 0 where
 pub data Finalises (w : Setting) (registers : Registers) (old new : World) : Type 0 where
   none_runs : have_exited old ≡ false → new ≡ old → Finalises w registers old new
   none_is_left : all_finis (after old.journal) ≡ [] → new ≡ old → Finalises w registers old new
+  no_memory : IsTrue (have_exited old) → LacksMemory w old new → Finalises w registers old new
   all_run : (begun : World) → IsTrue (have_exited old) → Begins registers old begun → Ends w begun new → Finalises w registers old new
 
 -- ---- a run

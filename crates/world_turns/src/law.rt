@@ -1,6 +1,6 @@
 //! What holds of every turn.
 
-ghost use Rattle.world_turns.specs.Laws.{FinalsBeginSound, SettlingIsSound, SoundIsSlotTrue, StartIsSound, TurnsAreSound};
+ghost use Rattle.world_turns.specs.Laws.{FinalsBeginSound, FinalsLackSound, SettlingIsSound, SoundIsSlotTrue, StartIsSound, TurnsAreSound};
 
 /// A run is sound when it starts: its journal is legal, memory is as the journal says, and no hart has a
 /// slot.
@@ -13,10 +13,11 @@ pub fn runs_start_sound()
 
 /// And every turn leaves it sound: what is settled may be settled, an exchange leaves the winner's value,
 /// events remake memory, and calls of the bus store to words alone that harts may write. So it stays when
-/// the final destructors begin, and when what is left at the end is settled.
+/// the final destructors begin or lack memory, and when what is left at the end is settled.
 pub fn turns_stay_sound()
     ensures turns { TurnsAreSound }
     ensures finals { FinalsBeginSound }
+    ensures no_memory { FinalsLackSound }
     ensures settling { SettlingIsSound }
 {
     scope_rule::serials_follow();
