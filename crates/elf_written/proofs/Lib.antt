@@ -3,5 +3,6 @@ pub mod File
 pub mod Lengths
 pub mod Packed
 pub mod Parts
+pub mod ReadBack
 pub mod Shifted
 pub mod Sizes

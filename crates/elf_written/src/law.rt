@@ -1,16 +1,19 @@
 //! The laws.
 
-ghost use Rattle.std.specs.Prelude.{◌≡◌, ◌+◌, ◌<◌, ◌≤◌, length};
+ghost use Rattle.std.specs.Prelude.{◌≡◌, ◌+◌, ◌<◌, ◌≤◌, List, ℕ, length};
 ghost use Rattle.elf_write.specs.declared.contents.Contents.{Contents};
 ghost use Rattle.elf_write.specs.declared.contents.SectionBytes.{SectionBytes};
 ghost use Rattle.elf_write.specs.declared.part.Part.{Part};
 ghost use Rattle.elf_write.specs.declared.starts.Starts.{Starts};
+ghost use Rattle.elf_dynamic.specs.Parts.{NamePlaces};
 ghost use Rattle.elf_write.specs.Parts.{number_of};
 ghost use Rattle.elf_write.specs.Records.{file_size};
+ghost use Rattle.elf_write.specs.Relr.{relr_words};
 ghost use Rattle.elf_write.specs.Sizes.{plain_size};
 ghost use Rattle.elf_write.specs.Starts.{relr_size, size_in, start_in, starts_of};
 ghost use Rattle.elf_write.specs.Values.{object_bytes, part_bytes, relr_bytes};
 ghost use Rattle.elf_written.specs.Fitting.{FitsSections, HasOwnBytes};
+ghost use Rattle.elf_written.specs.Placed.{AreAscending};
 ghost use Rattle.elf_written.specs.Standing.{AlignsInPages, EndsInside, PacksBehind};
 
 /// Wherever parts start, a part has as many bytes as its size says, where the bytes of the sections do.
@@ -37,4 +40,9 @@ pub fn file_has_its_size()
     ensures { (contents : Contents) (code : SectionBytes) → FitsSections contents code → AlignsInPages contents
         → PacksBehind (starts_of contents) contents.fixes → EndsInside (starts_of contents)
         → length (object_bytes (starts_of contents) contents code) ≡ file_size (starts_of contents) }
+{}
+
+/// The words of the packed table name the places that they were made from, each once and in order, to a reader of the table.
+pub fn packed_places_read_back()
+    ensures { (places : List ℕ) → AreAscending 0 places → NamePlaces 0 (relr_words places) places }
 {}
