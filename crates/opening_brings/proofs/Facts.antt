@@ -1,0 +1,69 @@
+-- What is known of an opening, over the lists that a linker has.
+use Rattle.std.proofs.Common.{◌≡◌, ℕ, Bool, List, map, Some, sym, ap, subst, ◌∙◌}
+use Rattle.std.specs.List.{Contains, slice_get}
+use Rattle.ld_base.specs.declared.linking.Choice.{Choice}
+use Rattle.ld_base.specs.declared.linking.Loaded.{Loaded}
+use Rattle.link_event.specs.declared.state.Module.{Module}
+use Rattle.link_history.specs.Accepted.{IsAccepted}
+use Rattle.link_history.specs.Bound.{place_of}
+use Rattle.link_history.specs.Objects.{is_startup}
+use Rattle.link_history.specs.State.{State, Statics}
+use Rattle.link_history.specs.Step.{binds, loaded, seen_after}
+use Rattle.link_history.specs.Storage.{HaveModules, with_modules}
+use Rattle.link_history.proofs.Lists.{at_in}
+use Rattle.object_bindings.specs.Bindings.{CanRead}
+use Rattle.opening_images.specs.Relocated.{AreChoices, AreRelocated, MayRelocateAll}
+use Rattle.opening_laws.specs.Laws.{CanBePlaced, places_after}
+use Rattle.opening_brings.specs.Brought.{AreModules, seen_with}
+use Rattle.opening_brings.specs.declared.bringing.Planned.{Planned}
+use Rattle.opening_steps.specs.Steps.{statics_of}
+use Rattle.relocator.specs.declared.binding.ModulePlace.{ModulePlace}
+use Rattle.scope_rule.specs.Seen.{Seen}
+use Rattle.scope_rule.specs.declared.namespace.Namespace.{Namespace}
+use Rattle.seg_image.specs.declared.image.Image.{Image}
+use Rattle.tls_blocks.specs.Numbers.{ModuleTable}
+
+abbrev pub seen_of : State → Planned → Seen
+seen_of s p = seen_after s p.ask.now p.ns p.root p.added.now
+
+abbrev pub places_of : State → Planned → List ModulePlace
+places_of s p = places_after s p.hart p.ask.now p.ns p.root p.added.now p.ranges.now
+
+pub have_there : (s : State) (table : ModuleTable) (startup : Bool) (added : List Loaded) → AreModules s table → startup ≡ is_startup s → HaveModules (is_startup s) s.modules s.statics added
+    → HaveModules startup table.modules (statics_of table) added
+have_there s table startup added are is have =
+    subst (λ (b : Bool). HaveModules b table.modules (statics_of table) added) (sym is)
+    (subst (λ (st : Statics). HaveModules (is_startup s) table.modules st added) (sym are.statics)
+    (subst (λ (ms : List Module). HaveModules (is_startup s) ms s.statics added) (sym are.modules) have))
+
+pub choices_there : (s : State) (p : Planned) (namespaces : List Namespace) (now : Bool) (choices : List (List Choice)) → namespaces ≡ s.namespaces → AreChoices (seen_of s p) now p.added.now choices
+    → AreChoices (seen_with namespaces p) now p.added.now choices
+choices_there s p namespaces now choices are has = subst (λ (all : List Namespace). AreChoices (seen_with all p) now p.added.now choices) (sym are) has
+
+-- where the modules of the state are with those of the new objects
+pub places_there : (s : State) (p : Planned) (table new : ModuleTable) (places : List ModulePlace) → AreModules s table → new.modules ≡ with_modules p.added.now table.modules
+    → places ≡ map place_of new.modules → places ≡ places_of s p
+unfolding loaded
+places_there s p table new places are is has = has ∙ ap (map place_of) (is ∙ ap (with_modules p.added.now) are.modules)
+
+pub may_there : (s : State) (p : Planned) (namespaces : List Namespace) (now : Bool) (places : List ModulePlace) → namespaces ≡ s.namespaces → now ≡ binds s p.ask.now → places ≡ places_of s p
+    → MayRelocateAll (seen_of s p) (binds s p.ask.now) (places_of s p) p.added.now → MayRelocateAll (seen_with namespaces p) now places p.added.now
+may_there s p namespaces now places are is has may =
+    subst (λ (all : List Namespace). MayRelocateAll (seen_with all p) now places p.added.now) (sym are)
+    (subst (λ (b : Bool). MayRelocateAll (seen_of s p) b places p.added.now) (sym is)
+    (subst (λ (ps : List ModulePlace). MayRelocateAll (seen_of s p) (binds s p.ask.now) ps p.added.now) (sym has) may))
+
+pub relocated_there : (s : State) (p : Planned) (namespaces : List Namespace) (now : Bool) (places : List ModulePlace) (images : List Image) → namespaces ≡ s.namespaces → now ≡ binds s p.ask.now
+    → places ≡ places_of s p → AreRelocated (seen_with namespaces p) now places p.added.now images → AreRelocated (seen_of s p) (binds s p.ask.now) (places_of s p) p.added.now images
+relocated_there s p namespaces now places images are is has relocated =
+    subst (λ (ps : List ModulePlace). AreRelocated (seen_of s p) (binds s p.ask.now) ps p.added.now images) has
+    (subst (λ (b : Bool). AreRelocated (seen_of s p) b places p.added.now images) is
+    (subst (λ (all : List Namespace). AreRelocated (seen_with all p) now places p.added.now images) are relocated))
+
+pub can_read : (ns : Seen) (now : Bool) (places : List ModulePlace) (objects : List Loaded) (images : List Image) → ((o : Loaded) → Contains objects o → CanBePlaced o)
+    → AreRelocated ns now places objects images → CanRead objects images
+can_read ns now places objects images placed are = record {
+  count = are.count;
+  accepted = λ k o at. (placed o (at_in objects k o at)).accepted.image;
+  whole = λ k o image at there. (are.each k o image at there).all;
+}

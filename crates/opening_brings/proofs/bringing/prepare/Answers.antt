@@ -1,0 +1,98 @@
+use Rattle.std.proofs.Common.{◌≡◌, ℕ, ◌+◌, Bool, List, length, map, refl, sym, ap, subst, ◌∙◌}
+use Rattle.std.specs.List.{filter}
+use Rattle.ld_base.specs.declared.linking.Choice.{Choice}
+use Rattle.ld_base.specs.declared.linking.Loaded.{Loaded}
+use Rattle.link_history.specs.After.{after}
+use Rattle.link_history.specs.Bound.{place_of}
+use Rattle.link_history.specs.State.{State, Statics}
+use Rattle.link_history.specs.Objects.{is_startup}
+use Rattle.link_history.specs.Step.{binds, has_module, loaded}
+use Rattle.link_history.specs.Storage.{with_modules}
+use Rattle.opening_brings.specs.declared.bringing.Planned.{Planned}
+use Rattle.opening_images.specs.Relocated.{AreChoices, AreRelocated}
+use Rattle.opening_laws.specs.Laws.{CanBePlaced, image_made}
+use Rattle.opening_steps.specs.Steps.{AreOfRecords, statics_after, statics_of}
+use Rattle.object_bindings.specs.Bindings.{CanRead}
+use Rattle.relocator.specs.declared.binding.ModulePlace.{ModulePlace}
+use Rattle.opening_brings.proofs.Facts.{can_read, choices_there, have_there, may_there, places_of, places_there, relocated_there, seen_of}
+use Rattle.opening_brings.proofs.bringing.prepare.Goals as goal
+
+pub modules_with-requires-clause-have : goal.modules_with-requires-clause-have
+modules_with-requires-clause-have c =
+    let p : Planned = c.args.planned.now in
+    have_there (after c.args.journal.now.events) c.args.modules.now c.args.startup c.args.planned.now.added.now c.requires.modules c.requires.startup
+    (c.new_modules_have_places.ensures c.args.journal.now.harts c.args.journal.now.events p.hart p.ns p.root p.ask.now p.added.now p.ranges.now c.journal.ensures.lawful c.requires.may)
+
+pub modules_with-requires-clause-storage : goal.modules_with-requires-clause-storage
+modules_with-requires-clause-storage c = λ o seg new is.
+    let p : Planned = c.args.planned.now in
+    (c.new_objects_are_placed.ensures c.args.journal.now.harts c.args.journal.now.events p.hart p.ns p.root p.ask.now p.added.now p.ranges.now c.journal.ensures.lawful c.requires.may o new).accepted.storage seg is
+
+pub images_in-requires-clause-choices : goal.images_in-requires-clause-choices
+images_in-requires-clause-choices c =
+    choices_there (after c.args.journal.now.events) c.args.planned.now c.args.namespaces.now c.args.now c.args.choices.now c.requires.namespaces c.requires.choices
+
+pub images_in-requires-clause-may : goal.images_in-requires-clause-may
+images_in-requires-clause-may c =
+    let p : Planned = c.args.planned.now in
+    may_there (after c.args.journal.now.events) c.args.planned.now c.args.namespaces.now c.args.now c.in_ok-places.places c.requires.namespaces c.requires.now
+    (places_there (after c.args.journal.now.events) c.args.planned.now c.args.modules.now c.in_ok-modules.modules c.in_ok-places.places c.requires.modules c.in_ok-modules.ensures.modules
+    (c.in_ok-places.ensures ∙ ap (map place_of) c.as_slice.ensures))
+    (c.openings_relocate.ensures c.args.journal.now.harts c.args.journal.now.events p.hart p.ns p.root p.ask.now p.added.now p.ranges.now c.journal.ensures.lawful c.requires.may)
+
+pub edges_of-requires : goal.edges_of-requires
+edges_of-requires c = record { count = c.requires.choices.count }
+
+pub parts_of-requires-clause-accepted : goal.parts_of-requires-clause-accepted
+parts_of-requires-clause-accepted c = λ o new.
+    let p : Planned = c.args.planned.now in
+    (c.new_objects_are_placed.ensures c.args.journal.now.harts c.args.journal.now.events p.hart p.ns p.root p.ask.now p.added.now p.ranges.now c.journal.ensures.lawful c.requires.may o new).accepted
+
+pub slots_of-requires : goal.slots_of-requires
+slots_of-requires c = λ o new.
+    let p : Planned = c.args.planned.now in
+    (c.new_objects_are_placed.ensures c.args.journal.now.harts c.args.journal.now.events p.hart p.ns p.root p.ask.now p.added.now p.ranges.now c.journal.ensures.lawful c.requires.may o new).accepted.image
+
+pub parts_of-requires-clause-read : goal.parts_of-requires-clause-read
+parts_of-requires-clause-read c =
+    let p : Planned = c.args.planned.now in
+    let s : State = after c.args.journal.now.events in
+    let places : c.in_ok-places.places ≡ places_of (after c.args.journal.now.events) c.args.planned.now =
+    places_there s p c.args.modules.now c.in_ok-modules.modules c.in_ok-places.places c.requires.modules c.in_ok-modules.ensures.modules (c.in_ok-places.ensures ∙ ap (map place_of) c.as_slice.ensures) in
+    let are : AreRelocated (seen_of (after c.args.journal.now.events) c.args.planned.now) (binds (after c.args.journal.now.events) c.args.planned.now.ask.now)
+    (places_of (after c.args.journal.now.events) c.args.planned.now) c.args.planned.now.added.now c.in_ok-images.images =
+    relocated_there s p c.args.namespaces.now c.args.now c.in_ok-places.places c.in_ok-images.images c.requires.namespaces c.requires.now places c.in_ok-images.ensures in
+    subst (CanRead c.args.planned.now.added.now) (sym c.as_slice-2.ensures)
+    (can_read (seen_of s p) (binds s p.ask.now) (places_of s p) p.added.now c.in_ok-images.images
+    (c.new_objects_are_placed.ensures c.args.journal.now.harts c.args.journal.now.events p.hart p.ns p.root p.ask.now p.added.now p.ranges.now c.journal.ensures.lawful c.requires.may) are)
+
+pub returns : goal.returns
+returns c =
+    let p : Planned = c.args.planned.now in
+    let s : State = after c.args.journal.now.events in
+    let places : c.in_ok-places.places ≡ places_of (after c.args.journal.now.events) c.args.planned.now =
+    places_there s p c.args.modules.now c.in_ok-modules.modules c.in_ok-places.places c.requires.modules c.in_ok-modules.ensures.modules (c.in_ok-places.ensures ∙ ap (map place_of) c.as_slice.ensures) in
+    let are : AreRelocated (seen_of (after c.args.journal.now.events) c.args.planned.now) (binds (after c.args.journal.now.events) c.args.planned.now.ask.now)
+    (places_of (after c.args.journal.now.events) c.args.planned.now) c.args.planned.now.added.now c.in_ok-images.images =
+    relocated_there s p c.args.namespaces.now c.args.now c.in_ok-places.places c.in_ok-images.images c.requires.namespaces c.requires.now places c.in_ok-images.ensures in
+    let chosen : AreChoices (seen_of (after c.args.journal.now.events) c.args.planned.now) (binds (after c.args.journal.now.events) c.args.planned.now.ask.now) c.args.planned.now.added.now c.args.choices.now =
+    subst (λ (b : Bool). AreChoices (seen_of s p) b p.added.now c.args.choices.now) c.requires.now c.requires.choices in
+    let of = c.relocated_are_of_records.ensures c.args.journal.now.harts c.args.journal.now.events p.hart p.ns p.root p.ask.now p.added.now p.ranges.now c.journal.ensures.lawful c.requires.may c.in_ok-images.images are in
+    let records : AreOfRecords (image_made s p.hart p.ask.now p.ns p.root p.added.now p.ranges.now) c.args.planned.now.added.now c.in_ok-images.images = λ k o image at there. record {
+      serial = refl;
+      is = of k o image at there;
+    } in
+    record {
+      modules = c.in_ok-modules.ensures.modules ∙ ap (with_modules p.added.now) c.requires.modules.modules;
+      statics = c.in_ok-modules.ensures.statics ∙ ap (λ (b : Bool). statics_after b p.added.now (statics_of c.args.modules.now)) c.requires.startup
+          ∙ ap (statics_after (is_startup s) p.added.now) c.requires.modules.statics;
+      generation = c.in_ok-modules.ensures.generation ∙ ap (λ (n : ℕ). n + length (filter has_module p.added.now)) c.requires.modules.generation;
+      edges = c.in_ok-edges.ensures (loaded s p.hart p.ask.now p.ns p.root p.added.now p.ranges.now) (seen_of s p) (binds s p.ask.now) chosen;
+      parts = c.in_ok-parts.ensures (image_made s p.hart p.ask.now p.ns p.root p.added.now p.ranges.now)
+          (subst (AreOfRecords (image_made s p.hart p.ask.now p.ns p.root p.added.now p.ranges.now) p.added.now) (sym c.as_slice-2.ensures) records);
+      images = c.relocated_are_installs.ensures c.args.journal.now.harts c.args.journal.now.events p.hart p.ns p.root p.ask.now p.added.now p.ranges.now c.journal.ensures.lawful c.requires.may
+          c.in_ok-images.images are;
+      slots = c.in_ok-slots.ensures;
+      prepared = c.new_images_are_prepared.ensures c.args.journal.now.harts c.args.journal.now.events p.hart p.ns p.root p.ask.now p.added.now p.ranges.now c.journal.ensures.lawful c.requires.may
+          c.in_ok-images.images are;
+    }

@@ -1,0 +1,105 @@
+//! What an opening brings.
+
+ghost use Rattle.std.specs.Prelude.{◌≡◌, IfOk, OnOk, [], filter, length, map};
+ghost use Rattle.std.specs.List.{flat_map};
+ghost use Rattle.image_parts.specs.Parts.{part_of};
+ghost use Rattle.lawful_journal.specs.Following.{MayFollow};
+ghost use Rattle.link_history.specs.After.{after};
+ghost use Rattle.link_history.specs.Objects.{is_startup};
+ghost use Rattle.link_history.specs.Step.{binds, seen_after};
+ghost use Rattle.link_service.specs.Served.{slots_of};
+ghost use Rattle.opening_brings.specs.Brought.{AreModules, IsBrought, done};
+ghost use Rattle.opening_images.specs.Relocated.{AreChoices, AreRelocated};
+ghost use Rattle.opening_laws.specs.Laws.{image_made, places_after};
+ghost use Rattle.opening_steps.specs.Steps.{statics_of};
+
+use crate::images::{images_in, places_of};
+use image_parts::Part;
+use lawful_journal::LawfulJournal;
+use ld_base::{HartId, Loaded, NsId, Serial};
+use link_event::{Choices, OpenAsk, Range};
+use link_graph::Edge;
+use link_served::SlotWords;
+use opening_follows::{new_images_are_prepared, new_modules_have_places};
+use opening_images::slots_of;
+use opening_laws::{
+    new_objects_are_placed, openings_relocate, relocated_are_installs, relocated_are_of_records,
+};
+use opening_steps::{edges_of, modules_with, parts_of};
+use scope_rule::Namespace;
+use seg_image::{Image, Images};
+use std::alloc::{AllocError, Global};
+use tls_blocks::TlsModules;
+
+/// An opening that is to be made.
+#[derive(Clone, Copy)]
+pub struct Planned<'a> {
+    pub hart: HartId,
+    pub ask: &'a OpenAsk,
+    pub ns: NsId,
+    pub root: Serial,
+    /// The new objects, in load order.
+    pub added: &'a [Loaded],
+    /// The pages that are reserved with them.
+    pub ranges: &'a [Range],
+}
+
+/// What it brings to a linker's lists.
+#[derive(Drop)]
+pub struct Brings {
+    /// The modules with those of the new objects.
+    pub modules: TlsModules,
+    /// From the new objects to what their relocations choose.
+    pub edges: Vec<Edge>,
+    /// What is kept of the new objects' images.
+    pub parts: Vec<Part>,
+    /// The new objects, relocated, in load order.
+    pub images: Images,
+    pub slots: SlotWords,
+}
+
+/// What an opening that may come next brings: `startup` says whether nothing was opened yet, `now` whether
+/// it binds slots at load; there is a list of choices for each new object.
+///
+/// # Errors
+///
+/// Want of memory.
+pub fn prepare(
+    alloc: Global,
+    journal: &LawfulJournal,
+    namespaces: &[Namespace],
+    modules: &TlsModules,
+    startup: bool,
+    now: bool,
+    planned: &Planned,
+    choices: &[Choices],
+) -> Result<Brings, AllocError>
+    requires may { MayFollow journal.now.harts journal.now.events (done planned.now) }
+    requires namespaces { namespaces.now ≡ (after journal.now.events).namespaces }
+    requires modules { AreModules (after journal.now.events) modules.now }
+    requires startup { startup ≡ is_startup (after journal.now.events) }
+    requires now { now ≡ binds (after journal.now.events) planned.now.ask.now }
+    requires choices { AreChoices (seen_after (after journal.now.events) planned.now.ask.now planned.now.ns planned.now.root planned.now.added.now) now planned.now.added.now choices.now }
+    ensures { IfOk result (IsBrought (after journal.now.events) planned.now) }
+{
+    new_modules_have_places();
+    new_images_are_prepared();
+    new_objects_are_placed();
+    openings_relocate();
+    relocated_are_installs();
+    relocated_are_of_records();
+    let _ = journal.journal();
+    let modules = modules_with(alloc, modules, startup, planned.added)?;
+    let places = places_of(alloc, modules.as_slice())?;
+    let images = images_in(alloc, namespaces, planned, now, choices, &places)?;
+    let edges = edges_of(alloc, planned.added, choices)?;
+    let parts = parts_of(alloc, planned.added, images.as_slice())?;
+    let slots = slots_of(alloc, planned.added)?;
+    Ok(Brings {
+        modules,
+        edges,
+        parts,
+        images,
+        slots,
+    })
+}
