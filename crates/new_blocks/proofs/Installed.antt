@@ -1,0 +1,189 @@
+-- What memory gets for a new block.
+use Rattle.std.proofs.Common.{◌≡◌, ℕ, ◌+◌, ◌-◌, ◌*◌, ◌<◌, ◌≤◌, ◌&&◌, Bool, true, false, List, [], ◌∷◌, ◌++◌, Option, Some, None, refl, sym, ap, subst, ◌∙◌, arith}
+use Rattle.std.specs.Prelude.{◌==◌, find, if◌then◌else◌, IsSome}
+use Rattle.std.specs.List.{Contains}
+use Rattle.std.specs.Option.{option_and_then, option_map, option_map_or}
+use Rattle.std.proofs.lemmas.Bool.{and_from, eq-eqb, eqb-true, le-leb, lt-ltb, true≢false}
+use Rattle.std.proofs.lemmas.List.Elements.{Contains-append_right}
+use Rattle.area_images.specs.Areas.{IsArea, byte_among}
+use Rattle.image_parts.specs.Parts.{storage_of}
+use Rattle.ld_base.specs.declared.linking.Loaded.{Loaded}
+use Rattle.ld_base.specs.declared.linking.Role.{Role}
+use Rattle.ld_base.specs.declared.linking.Role.TheVariants.{Rw}
+use Rattle.ld_base.specs.declared.object.Object.{Object}
+use Rattle.ld_base.specs.declared.object.TlsSeg.{TlsSeg}
+use Rattle.link_event.specs.declared.event.Event.{Event}
+use Rattle.link_event.specs.declared.event.Event.TheVariants.{Tls}
+use Rattle.link_event.specs.declared.event.Range.{Range}
+use Rattle.link_event.specs.declared.state.Block.{Block}
+use Rattle.link_event.specs.declared.state.Module.{Module}
+use Rattle.link_history.specs.Accepted.{AcceptsOnly}
+use Rattle.link_history.specs.After.{after}
+use Rattle.link_history.specs.Laws.{IsDataAt}
+use Rattle.link_history.specs.Legal.{Lawful}
+use Rattle.link_history.specs.Lookup.{MayHaveBlock}
+use Rattle.link_history.specs.Memory.{covers, first_byte, image_of, role_at, word_at}
+use Rattle.link_history.specs.Objects.{mapped}
+use Rattle.link_history.specs.Setting.{Machine, Setting}
+use Rattle.link_history.specs.State.{Linked, State}
+use Rattle.link_history.specs.Step.{add_block, block_range, block_ranges}
+use Rattle.link_history.specs.Storage.{block_pages, late_block, module_of, residue, tls_block, tp_of}
+use Rattle.link_history.proofs.Accepting.{ReadLaw, accepted_after}
+use Rattle.link_history.proofs.Brought.{LoadLaws}
+use Rattle.link_history.proofs.Calling.{images_found}
+use Rattle.link_history.proofs.Data.{areas_data}
+use Rattle.link_history.proofs.History.{after_push, lawful_push}
+use Rattle.link_history.proofs.Lazy.{PageLaws}
+use Rattle.link_history.proofs.Lists.{found_in, here, not_found}
+use Rattle.link_history.proofs.Lookups.{find_behind}
+use Rattle.link_history.proofs.Moduled.{NumberLaws}
+use Rattle.link_service.specs.Served.{AreBlockInstalls, AreInstalls, AreWordsOf}
+use Rattle.seg_image.specs.Words.{word_of}
+use Rattle.seg_image.specs.declared.image.Image.{Image}
+use Rattle.new_blocks.specs.Laws.{area_alone}
+use Rattle.new_blocks.proofs.Blocks.{first_in_block}
+use Rattle.new_blocks.proofs.Bytes.{among_segment, word_alike}
+
+-- ---- a hart that got its block has it
+
+of_hart : ℕ → ℕ → Block → Bool
+of_hart hart serial b = b.hart == hart && b.serial == serial
+
+late_is : (s : State) (hart serial : ℕ) → tls_block s hart serial ≡ None → (y : Module) → module_of s serial ≡ Some y → (y.offset ≡ None) × (late_block s hart serial ≡ None)
+unfolding tls_block
+late_is s hart serial none y is = by y.offset refl (sym (ap (λ (f : Option Module). elim f [ Some q ↦ option_map_or (λ (offset : ℕ). Some (tp_of s hart + offset)) q.offset (late_block s hart serial) | None ↦ None ]) is) ∙ none)
+  where
+    by : (o : Option ℕ) → y.offset ≡ o → option_map_or (λ (offset : ℕ). Some (tp_of s hart + offset)) o (late_block s hart serial) ≡ None → (y.offset ≡ None) × (late_block s hart serial ≡ None)
+    by None e late = (e, late)
+    by (Some offset) e late = absurd (let d : Some (tp_of s hart + offset) ≡ None = late in cc)
+
+none_late : (hart serial : ℕ) (blocks : List Block) (b : Block) → option_map (λ (q : Block). q.address) (find (λ (q : Block). q.hart == hart && q.serial == serial) blocks) ≡ None → Contains blocks b
+    → (b.hart == hart && b.serial == serial) ≡ false
+none_late hart serial blocks b none inside = by (find (λ (q : Block). q.hart == hart && q.serial == serial) blocks) refl none
+  where
+    by : (found : Option Block) → find (λ (q : Block). q.hart == hart && q.serial == serial) blocks ≡ found → option_map (λ (q : Block). q.address) found ≡ None → (b.hart == hart && b.serial == serial) ≡ false
+    by None e n = not_found (λ (q : Block). q.hart == hart && q.serial == serial) blocks b e inside
+    by (Some q) e n = absurd (let d : Some q.address ≡ None = n in cc)
+
+pub block_got : (s : State) (hart serial block : ℕ) → tls_block s hart serial ≡ None → (y : Module) → module_of s serial ≡ Some y → tls_block (add_block hart serial block s) hart serial ≡ Some block
+unfolding tls_block
+block_got s hart serial block none y is =
+    let late = late_is s hart serial none y is in
+    let b : Block = record { hart = hart; serial = serial; address = block } in
+    let own : (hart == hart && serial == serial) ≡ true = and_from (hart == hart) (serial == serial) (eq-eqb hart hart refl) (eq-eqb serial serial refl) in
+    let found : find (λ (q : Block). q.hart == hart && q.serial == serial) (s.blocks ++ b ∷ []) ≡ Some b =
+    find_behind (λ (q : Block). q.hart == hart && q.serial == serial) s.blocks (b ∷ []) (λ q inside. none_late hart serial s.blocks q late.1 inside)
+    ∙ ap (λ (t : Bool). if t then Some b else None) own in
+    ap (λ (f : Option Module). elim f [
+      | Some q ↦ option_map_or (λ (offset : ℕ). Some (tp_of (add_block hart serial block s) hart + offset)) q.offset (late_block (add_block hart serial block s) hart serial)
+      | None ↦ None
+    ]) is
+    ∙ ap (λ (o : Option ℕ). option_map_or (λ (offset : ℕ). Some (tp_of (add_block hart serial block s) hart + offset)) o (late_block (add_block hart serial block s) hart serial)) late.0
+    ∙ ap (option_map (λ (q : Block). q.address)) found
+
+-- ---- the words of its pages
+
+some_of : {X : Type 0} (o : Option X) → IsSome o → (x : X) × (o ≡ Some x)
+some_of None is = absurd (true≢false (sym is))
+some_of (Some x) is = (x, refl)
+
+abbrev bare : Machine → Setting
+bare m = record { machine = m; folders = []; preload = []; files = None }
+
+in_pages : (start pages k i : ℕ) → k < 512 * pages → i < 8 → (r : Range) → r.address ≡ start → r.pages ≡ pages → covers (start + 8 * k + i) r ≡ true
+in_pages start pages k i few small r at many =
+    and_from _ _ (le-leb r.address (start + 8 * k + i) (omega (arith, at))) (lt-ltb (start + 8 * k + i) (r.address + 4096 * r.pages) (omega (arith, at, many, few, small)))
+
+module _ (page_laws : PageLaws) (loads : LoadLaws) (reads : ReadLaw) (numbers : NumberLaws) where
+  pub block_installed : (m : Machine) (past : List Event) (hart serial block : ℕ) (i : Linked) (image : Image) → AcceptsOnly m → Lawful m past → hart < m.harts
+      → (may : MayHaveBlock (after past) hart serial block) → image_of (after past) serial ≡ Some i
+      → IsArea (block - residue may.seg) (block_pages may.seg) block (storage_of i) image
+      → AreBlockInstalls (after (past ++ Tls hart serial block ∷ [])) hart serial block (area_alone image)
+  block_installed m past hart serial block i image only lawful few may image_is area =
+      subst (λ (rs : List Range). AreInstalls t [] rs (area_alone image)) (sym ranges_t) (record { images = tt; slots = refl; areas = (words, tt) })
+    where
+      s : State
+      s = after past
+
+      e : Event
+      e = Tls hart serial block
+
+      t : State
+      t = after (past ++ e ∷ [])
+
+      state : t ≡ add_block hart serial block s
+      state = after_push past e
+
+      lawful_t : Lawful m (past ++ e ∷ [])
+      lawful_t = lawful_push m (bare m) past e refl lawful may
+
+      seg : TlsSeg
+      seg = may.seg
+
+      o : Loaded
+      o = may.wants.object
+
+      r : Range
+      r = block_range hart serial block seg
+
+      ranges_s : block_ranges s hart serial block ≡ r ∷ []
+      ranges_s =
+          ap (λ (x : Option Loaded). option_map_or (λ (g : TlsSeg). block_range hart serial block g ∷ []) (option_and_then (λ (q : Loaded). q.object.tls) x) []) may.wants.mapped
+          ∙ ap (λ (x : Option TlsSeg). option_map_or (λ (g : TlsSeg). block_range hart serial block g ∷ []) x []) may.wants.storage
+
+      ranges_t : block_ranges t hart serial block ≡ r ∷ []
+      ranges_t = ap (λ (x : State). block_ranges x hart serial block) state ∙ ranges_s
+
+      there : Contains t.ranges r
+      there = subst (λ (rs : List Range). Contains rs r) (sym (ap (λ (x : State). x.ranges) state ∙ ap (λ (rs : List Range). s.ranges ++ rs) ranges_s)) (Contains-append_right s.ranges (r ∷ []) r (here r []))
+
+      its : (y : Module) × (module_of s serial ≡ Some y)
+      its = some_of (module_of s serial) may.wants.has_module
+
+      module_t : module_of t serial ≡ Some its.0
+      module_t = ap (λ (x : State). module_of x serial) state ∙ its.1
+
+      block_t : tls_block t hart serial ≡ Some block
+      block_t = ap (λ (x : State). tls_block x hart serial) state ∙ block_got s hart serial block may.wants.none its.0 its.1
+
+      image_t : image_of t serial ≡ Some i
+      image_t = ap (λ (x : State). image_of x serial) state ∙ image_is
+
+      at : Contains (mapped s) o × ((o.serial == serial) ≡ true)
+      at = found_in (λ (q : Loaded). q.serial == serial) (mapped s) o may.wants.mapped
+
+      object : i.object ≡ o.object
+      object =
+          let f = images_found loads m past lawful o at.0 in
+          let same : Some i ≡ Some f.image = sym image_is ∙ ap (image_of s) (sym (eqb-true o.serial serial at.1)) ∙ f.found in
+          let one : i ≡ f.image = cc in
+          ap (λ (x : Linked). x.object) one ∙ f.object
+
+      storage : i.object.tls ≡ Some seg
+      storage = ap (λ (x : Object). x.tls) object ∙ may.wants.storage
+
+      small : seg.filesz ≤ seg.memsz
+      small = ((accepted_after reads m only past lawful i (found_in (λ (x : Linked). x.serial == serial) s.images i image_is).0).storage seg storage).bytes
+
+      byte_is : (a : ℕ) → covers a r ≡ true → byte_among block (storage_of i) a ≡ first_byte t r.purpose a
+      byte_is a in_r =
+          among_segment i seg block a storage
+          ∙ sym (first_in_block numbers loads m (past ++ e ∷ []) lawful_t hart serial block a its.0 i seg r few module_t block_t image_t storage small there refl in_r)
+
+      each : (k : ℕ) → k < 512 * r.pages → (word_of (byte_among block (storage_of i)) (r.address + 8 * k) ≡ word_at t (r.address + 8 * k)) × (role_at t (r.address + 8 * k) ≡ Rw)
+      each k less =
+          let zero : r.address + 8 * k + 0 ≡ r.address + 8 * k = omega arith in
+          let inside : covers (r.address + 8 * k) r ≡ true = subst (λ n. covers n r ≡ true) zero (in_pages r.address r.pages k 0 less (omega arith) r refl refl) in
+          let held : IsDataAt t r (r.address + 8 * k) = areas_data page_laws loads reads m only (past ++ e ∷ []) lawful_t r (r.address + 8 * k) there refl inside in (
+            word_alike (byte_among block (storage_of i)) (first_byte t r.purpose) (r.address + 8 * k) (λ j few_bytes. byte_is (r.address + 8 * k + j) (in_pages r.address r.pages k j less few_bytes r refl refl)) ∙ sym held.word,
+            held.role,
+          )
+
+      words : AreWordsOf t r image
+      words = record {
+        start = area.start;
+        all = area.all;
+        each = λ k less. area.each k less
+            ∙ ap (λ n. Some (record { value = n; role = Rw })) (each k less).0
+            ∙ ap (λ (x : Role). Some (record { value = word_at t (r.address + 8 * k); role = x })) (sym (each k less).1);
+      }

@@ -1,0 +1,28 @@
+-- What a hart's new block of thread-local storage puts into memory.
+use Rattle.std.specs.Prelude.{◌≡◌, ℕ, ◌-◌, ◌<◌, List, [], ◌∷◌, ◌++◌, Some}
+use Rattle.area_images.specs.Areas.{IsArea}
+use Rattle.image_parts.specs.Parts.{storage_of}
+use Rattle.link_event.specs.declared.event.Event.{Event}
+use Rattle.link_event.specs.declared.event.Event.TheVariants.{Tls}
+use Rattle.link_served.specs.declared.installs.Installs.{Installs}
+use Rattle.link_history.specs.Accepted.{AcceptsOnly}
+use Rattle.link_history.specs.After.{after}
+use Rattle.link_history.specs.Legal.{Lawful}
+use Rattle.link_history.specs.Lookup.{MayHaveBlock}
+use Rattle.link_history.specs.Memory.{image_of}
+use Rattle.link_history.specs.Setting.{Machine}
+use Rattle.link_history.specs.State.{Linked}
+use Rattle.link_history.specs.Storage.{block_pages, residue}
+use Rattle.link_service.specs.Served.{AreBlockInstalls}
+use Rattle.seg_image.specs.declared.image.Image.{Image}
+
+-- one area
+abbrev pub area_alone : Image → Installs
+area_alone image = record { images = []; slots = []; areas = image ∷ [] }
+
+-- where a hart may have a new block of an object's module, pages with the bytes that the object's image gives for it are what memory gets
+abbrev pub NewBlocksAreInstalled : Type 0
+NewBlocksAreInstalled = (m : Machine) (past : List Event) (hart serial block : ℕ) (i : Linked) (image : Image) → AcceptsOnly m → Lawful m past → hart < m.harts
+    → (may : MayHaveBlock (after past) hart serial block) → image_of (after past) serial ≡ Some i
+    → IsArea (block - residue may.seg) (block_pages may.seg) block (storage_of i) image
+    → AreBlockInstalls (after (past ++ Tls hart serial block ∷ [])) hart serial block (area_alone image)

@@ -1,0 +1,15 @@
+//! What holds of new blocks.
+
+ghost use Rattle.new_blocks.specs.Laws.{NewBlocksAreInstalled};
+
+/// Pages with the bytes that an object's image gives for its thread-local storage are what memory gets
+/// for a hart's new block of the object's module: no other block has a byte of them.
+pub fn new_blocks_are_installed()
+    ensures { NewBlocksAreInstalled }
+{
+    scope_rule::serials_follow();
+    scope_rule::found_stands();
+    scope_rule::reads_candidates();
+    seg_image::pages_hold_segments();
+    tls_blocks::modules_stay_numbered();
+}

@@ -1,0 +1,12 @@
+//! New blocks of thread-local storage: where they stand, and what they put into memory.
+//!
+//! [`new_block`] finds the pages of a hart's block of an object's module, the first that have room, and
+//! makes their words of the bytes that the object gives; it reserves nothing. By the law
+//! [`new_blocks_are_installed`] these words are what memory gets.
+#![tactic(auto)]
+
+mod law;
+mod placing;
+
+pub use law::new_blocks_are_installed;
+pub use placing::{BlockFault, NewBlock, new_block};
