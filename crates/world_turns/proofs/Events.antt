@@ -24,7 +24,7 @@ pub remade : (s : State) (e : Event) (old new : List Doubleword) → Remakes s e
 remade s e old new x = record {
   kept = λ a is untouched. (ap (λ (d : Doubleword). d.value) (x.kept a is untouched), ap (λ (d : Doubleword). d.role) (x.kept a is untouched));
   given = λ r a is there covers. (ap (λ (d : Doubleword). d.value) (x.given r a is there covers), ap (λ (d : Doubleword). d.role) (x.given r a is there covers));
-  gone = λ r a is there covers. (x.gone r a is there covers).0;
+  gone = λ r a is there covers. ap (λ (d : Doubleword). d.role) (x.gone r a is there covers);
 }
 
 -- ---- events of a hart settle nothing

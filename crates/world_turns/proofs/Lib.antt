@@ -1,3 +1,4 @@
+pub mod Counting
 pub mod Events
 pub mod Exchanging
 pub mod Offers

@@ -208,7 +208,7 @@ pub data Resolution (past : List Event) (h : ℕ) (b : HartState) (did : Did) (c
   quietly : (items : List Item) → did ≡ Did.quiet items → c.resolving ≡ b.resolving → Resolution past h b did c
   serving : (items : List Item) (added : List Event) → did ≡ Did.serves items added → c.resolving ≡ settled_resolving b.resolving → GrantNothing added → Resolution past h b did c
   granting : (g : Granting) (o : Offered) → did ≡ Did.serves [] (events.Grant g.number h g.owner g.slot g.choice g.value ∷ []) → g.hart ≡ h → g.standing ≡ standings.Open → c.resolving ≡ Resolving.to_exchange o → IsOffer (after past) g o
-      → settled_resolving b.resolving ≡ Resolving.idle → Resolution past h b did c
+      → settled_resolving b.resolving ≡ Resolving.idle → c.«end» ≡ b.«end» → Resolution past h b did c
   waiting : (for : Shown) → did ≡ Did.waits for → c.resolving ≡ settled_resolving b.resolving → Resolution past h b did c
   exchanging : (o : Offered) (found : ℕ) → did ≡ Did.exchanges o found → b.resolving ≡ Resolving.to_exchange o → c.resolving ≡ Resolving.to_finish o found → Resolution past h b did c
   finishing : (o : Offered) (found : ℕ) → did ≡ Did.finishes → b.resolving ≡ Resolving.to_finish o found → c.resolving ≡ Resolving.to_settle o found → Resolution past h b did c
@@ -289,7 +289,7 @@ module _ (w : Setting) (past : List Event) (h : ℕ) (b : HartState) where
   by_answer asked to (closing set) appended did c idle none x = by_passing _ appended x.functions to.frames did c none x.passes
   by_answer asked to (refused fault) appended did c idle none x = by_events _ appended did c refl none x.is x.leaves
   by_answer asked to (granted g) appended did c idle grants x =
-      Resolution.granting g x.offered (x.is ∙ ap (λ (es : List Event). Did.serves [] es) grants.0) grants.1 grants.2 (ap (λ (z : HartState). z.resolving) x.leaves) x.offer idle
+      Resolution.granting g x.offered (x.is ∙ ap (λ (es : List Event). Did.serves [] es) grants.0) grants.1 grants.2 (ap (λ (z : HartState). z.resolving) x.leaves) x.offer idle (ap (λ (z : HartState). z.«end») x.leaves)
   by_answer asked to (told fault) appended did c idle none x = by_telling _ to fault appended did c none x
   by_answer asked to (again for) appended did c idle none x = Resolution.waiting for x.is (ap (λ (z : HartState). z.resolving) x.leaves)
   by_answer asked to (over reason) appended did c idle none x = by_events _ appended did c refl none x.is x.leaves
@@ -325,3 +325,31 @@ module _ (w : Setting) (past : List Event) (h : ℕ) (b : HartState) where
   pub resolution : (did : Did) (c : HartState) → Moves w past h b did c → Resolution past h b did c
   unfolding due
   resolution did c moves = by_state b.«end» b.resolving did c refl moves
+
+  -- ---- an end leaves its hart at no slot
+
+  no_place : (r : Resolving) → b.resolving ≡ r → settled_resolving r ≡ r → settled_resolving b.resolving ≡ Resolving.idle → r ≡ Resolving.idle
+  no_place r was stays idle = sym stays ∙ sym (ap settled_resolving was) ∙ idle
+
+  no_end : (c : HartState) (reason : HartEnd) → c.«end» ≡ b.«end» → b.«end» ≡ None → c.«end» ≡ Some reason → ⊥
+  no_end c reason same none ends_so = let no : None ≡ Some reason = sym none ∙ sym same ∙ ends_so in cc
+
+  plain_rests : (did : Did) (c : HartState) → settled_resolving b.resolving ≡ Resolving.idle → b.«end» ≡ None → Resolution past h b did c → (reason : HartEnd) → c.«end» ≡ Some reason → settled_resolving c.resolving ≡ Resolving.idle
+  plain_rests did c idle none (Resolution.quietly items is same) reason ends_so = ap settled_resolving same ∙ idle
+  plain_rests did c idle none (Resolution.serving items added is same nothing) reason ends_so = ap settled_resolving (same ∙ idle)
+  plain_rests did c idle none (Resolution.granting g o is hart open_yet same offer was stays) reason ends_so = absurd (no_end c reason stays none ends_so)
+  plain_rests did c idle none (Resolution.waiting for is same) reason ends_so = ap settled_resolving (same ∙ idle)
+  plain_rests did c idle none (Resolution.exchanging o found is was same) reason ends_so = absurd (let no : Resolving.to_exchange o ≡ Resolving.idle = no_place (Resolving.to_exchange o) was refl idle in cc)
+  plain_rests did c idle none (Resolution.finishing o found is was same) reason ends_so = absurd (let no : Resolving.to_finish o found ≡ Resolving.idle = no_place (Resolving.to_finish o found) was refl idle in cc)
+
+  state_rests : (e : Option HartEnd) (r : Resolving) (did : Did) (c : HartState) → b.«end» ≡ e → b.resolving ≡ r → MovesAs w past h b (elim e [ Some reason ↦ Due.nothing | None ↦ by_resolving (after past) b r ]) did c
+      → (reason : HartEnd) → c.«end» ≡ Some reason → settled_resolving c.resolving ≡ Resolving.idle
+  state_rests (Some ended_as) r did c none is x reason ends_so = absurd x
+  state_rests None Resolving.idle did c none is x reason ends_so = plain_rests did c (ap settled_resolving is) none (by_state None Resolving.idle did c is x) reason ends_so
+  state_rests None (Resolving.to_exchange o) did c none is x reason ends_so = absurd (no_end c reason (ap (λ (z : HartState). z.«end») x.leaves) none ends_so)
+  state_rests None (Resolving.to_finish o found) did c none is x reason ends_so = absurd (no_end c reason (ap (λ (z : HartState). z.«end») x.leaves) none ends_so)
+  state_rests None (Resolving.to_settle o found) did c none is x reason ends_so = plain_rests did c (ap settled_resolving is) none (by_state None (Resolving.to_settle o found) did c is x) reason ends_so
+
+  pub rests_after : (did : Did) (c : HartState) → Moves w past h b did c → (reason : HartEnd) → c.«end» ≡ Some reason → settled_resolving c.resolving ≡ Resolving.idle
+  unfolding due
+  rests_after did c moves reason ends_so = state_rests b.«end» b.resolving did c refl refl moves reason ends_so

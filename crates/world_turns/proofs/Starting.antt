@@ -25,7 +25,7 @@ use Rattle.memory_holds.specs.Holds.{Holds}
 use Rattle.memory_holds.specs.Memory.{Memory}
 use Rattle.memory_holds.specs.Remade.{Begins}
 use Rattle.hart_moves.specs.Harts.{Frame, HartState, Purpose, Resolving}
-use Rattle.hart_moves.specs.Moves.{AreAllowed, after_all, runs, with_first}
+use Rattle.hart_moves.specs.Moves.{AreAllowed, settled_resolving, after_all, runs, with_first}
 use Rattle.world_turns.specs.Memory.{AreFresh, memory_of}
 use Rattle.hart_moves.specs.Starting.{starting_hart, starting_harts, starting_registers}
 use Rattle.world_turns.specs.Run.{IsStarted}
@@ -150,5 +150,6 @@ start_sound begins keep w setup world only is =
       words = remakes_length start world.journal is.fresh world.words is.words ∙ is.are_fresh.all;
       holds = subst (λ (ns : List ℕ). Holds (after world.journal) ns (memory_of world.words)) (sym (none_won world.harts idle))
           (events_hold keep w only [] [] world.journal is.fresh world.words (none_lawful w.machine) (start_allowed w setup world is) (start_of w setup world is) first is.words);
+      rests = λ h b reason at is_over. ap settled_resolving (idle h b at);
       fits = λ h b at. subst (Fits (after world.journal) world.words h) (sym (idle h b at)) (nobody (after world.journal) h (start_grants w setup world is));
     }

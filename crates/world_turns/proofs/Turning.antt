@@ -1,5 +1,5 @@
 -- Every turn leaves a run sound.
-use Rattle.std.proofs.Common.{◌≡◌, ◌≢◌, ⊎_elim, ℕ, zero, suc, Bool, true, false, cond, List, [], ◌∷◌, ◌++◌, length, map, flat_map, Option, Some, None, refl, sym, ap, subst, ◌∙◌, append-nil}
+use Rattle.std.proofs.Common.{◌≡◌, ◌≢◌, ◌⊎◌, inl, inr, ⊎_elim, ℕ, zero, suc, Bool, true, false, cond, List, [], ◌∷◌, ◌++◌, length, map, flat_map, Option, Some, None, refl, sym, ap, subst, ◌∙◌, append-nil}
 use Rattle.std.specs.Prelude.{slice_set}
 use Rattle.std.specs.List.{Contains, slice_get}
 use Rattle.std.specs.Option.{option_map}
@@ -40,7 +40,7 @@ use Rattle.world_turns.proofs.Events.{EventsKeep, one_behind, remade, remakes_le
 use Rattle.world_turns.proofs.Exchanging.{ExchangesKeep, exchanged_length, exchanged_sound, finished, same_winners}
 use Rattle.world_turns.proofs.Offers.{Changes, Know, granted_to, stands}
 use Rattle.world_turns.proofs.Places.{Sounds, Spares, elsewhere, fits_stay, holds_alike, placed, won_all}
-use Rattle.world_turns.proofs.Resolution.{GrantNothing, Resolution, resolution}
+use Rattle.world_turns.proofs.Resolution.{GrantNothing, Resolution, resolution, rests_after}
 use Rattle.world_turns.proofs.Starting.{runs_idle}
 use Rattle.world_turns.proofs.Settling.{MayBeBound, MayBeLost, settled_all}
 use Rattle.world_turns.proofs.Words.{Keeps, keeps_chain}
@@ -83,6 +83,28 @@ set_place : (harts : List HartState) (h : ℕ) (b : HartState) → resolvings (s
 set_place [] h b = refl
 set_place (c ∷ rest) zero b = refl
 set_place (c ∷ rest) (suc h) b = ap (λ (rs : List Resolving). c.resolving ∷ rs) (set_place rest h b)
+
+-- the harts but for one
+set_at : (harts : List HartState) (h j : ℕ) (c b : HartState) → slice_get (slice_set harts h c) j ≡ Some b → (b ≡ c) ⊎ (slice_get harts j ≡ Some b)
+set_at [] h j c b at = inr at
+set_at (x ∷ rest) zero zero c b at = inl (let same : b ≡ c = cc in same)
+set_at (x ∷ rest) zero (suc j) c b at = inr at
+set_at (x ∷ rest) (suc h) zero c b at = inr at
+set_at (x ∷ rest) (suc h) (suc j) c b at = set_at rest h j c b at
+
+freed_at : (harts : List HartState) (j : ℕ) (b : HartState) → slice_get (map freed harts) j ≡ Some b → (x : HartState) × (slice_get harts j ≡ Some x) × (freed x ≡ b)
+freed_at [] j b at = absurd (none_there b at)
+freed_at (x ∷ rest) zero b at = (x, refl, (let same : freed x ≡ b = cc in same))
+freed_at (x ∷ rest) (suc j) b at = freed_at rest j b at
+
+-- harts that have ended are at no slot
+abbrev AllRest : List HartState → Type 0
+AllRest harts = (j : ℕ) (b : HartState) (reason : HartEnd) → slice_get harts j ≡ Some b → b.«end» ≡ Some reason → settled_resolving b.resolving ≡ Resolving.idle
+
+freed_rest : (harts : List HartState) → AllRest harts → AllRest (map freed harts)
+freed_rest harts rests j b reason at over =
+    let x = freed_at harts j b at in
+    ap (λ (y : HartState). settled_resolving y.resolving) (sym x.2) ∙ ap settled_resolving (rests j x.0 reason x.1 (ap (λ (y : HartState). y.«end») x.2 ∙ over))
 
 -- a list around one of its places
 record Around (rs : List Resolving) (h : ℕ) (p : Resolving) : Type 0 where
@@ -337,7 +359,7 @@ module _ (w : Setting) (only : AcceptsOnly w.machine) (needs : Needs w.machine) 
   left_as : Resolution past h turn.before turn.did turn.left → Left
   left_as (Resolution.quietly items is same) = quiet_left items is same
   left_as (Resolution.serving items added is same none) = serving_left items added is same none
-  left_as (Resolution.granting g o is hart open_yet same offer idle) = granting_left g o is hart open_yet same offer idle
+  left_as (Resolution.granting g o is hart open_yet same offer idle runs) = granting_left g o is hart open_yet same offer idle
   left_as (Resolution.waiting for is same) = waiting_left for is same
   left_as (Resolution.exchanging o found is was same) = exchanging_left o found is was same
   left_as (Resolution.finishing o found is was same) = finishing_left o found is was same
@@ -353,6 +375,16 @@ module _ (w : Setting) (only : AcceptsOnly w.machine) (needs : Needs w.machine) 
   found_length true = freed_length old.harts
   found_length false = refl
 
+  found_rest : (t : Bool) → AllRest (cond t (map freed old.harts) old.harts)
+  found_rest true = freed_rest old.harts sound.rests
+  found_rest false = sound.rests
+
+  left_rest : AllRest new.harts
+  left_rest j b reason at over = ⊎_elim
+      (λ (same : b ≡ turn.left). ap (λ (x : HartState). settled_resolving x.resolving) same ∙ rests_after w past h turn.before turn.did turn.left turn.moves reason (ap (λ (x : HartState). x.«end») (sym same) ∙ over))
+      (λ (there : slice_get harts j ≡ Some b). found_rest (settles turn.did) j b reason there over)
+      (set_at harts h j turn.left b (subst (λ (bs : List HartState). slice_get bs j ≡ Some b) turn.harts at))
+
   pub turn_leaves : Sound w new
   turn_leaves =
       let it : Left = left_as (resolution w past h turn.before turn.did turn.left turn.moves) in
@@ -363,6 +395,7 @@ module _ (w : Setting) (only : AcceptsOnly w.machine) (needs : Needs w.machine) 
         harts = ap (λ (bs : List HartState). length bs) turn.harts ∙ length-set harts h turn.left ∙ found_length (settles turn.did) ∙ sound.harts;
         words = it.words ∙ sound.words;
         holds = subst (λ (ns : List ℕ). Holds (after new.journal) ns (memory_of new.words)) (sym (winners_are new.harts)) sounds.holds;
+        rests = left_rest;
         fits = λ j b at. sounds.fits j b.resolving (place_at new.harts j b at);
       }
 
@@ -375,19 +408,20 @@ places_length : (harts : List HartState) → length (resolvings harts) ≡ lengt
 places_length [] = refl
 places_length (b ∷ rest) = ap suc (places_length rest)
 
-from_sounds : (w : Setting) (world : World) → length world.harts ≡ w.machine.harts → length world.words ≡ word_count → Sounds w world.journal (resolvings world.harts) world.words → Sound w world
-from_sounds w world harts words x = record {
+from_sounds : (w : Setting) (world : World) → length world.harts ≡ w.machine.harts → length world.words ≡ word_count → AllRest world.harts → Sounds w world.journal (resolvings world.harts) world.words → Sound w world
+from_sounds w world harts words rests x = record {
   legal = x.legal;
   harts = harts;
   words = words;
   holds = subst (λ (ns : List ℕ). Holds (after world.journal) ns (memory_of world.words)) (sym (winners_are world.harts)) x.holds;
+  rests = rests;
   fits = λ j b at. x.fits j b.resolving (place_at world.harts j b at);
 }
 
 -- other harts at the same places
-same_places : (w : Setting) (world : World) (harts : List HartState) → resolvings harts ≡ resolvings world.harts → Sound w world → Sound w (record world { harts = harts })
-same_places w world harts same x =
-    from_sounds w (record world { harts = harts }) (sym (places_length harts) ∙ ap (λ (rs : List Resolving). length rs) same ∙ places_length world.harts ∙ x.harts) x.words
+same_places : (w : Setting) (world : World) (harts : List HartState) → resolvings harts ≡ resolvings world.harts → AllRest harts → Sound w world → Sound w (record world { harts = harts })
+same_places w world harts same rests x =
+    from_sounds w (record world { harts = harts }) (sym (places_length harts) ∙ ap (λ (rs : List Resolving). length rs) same ∙ places_length world.harts ∙ x.harts) x.words rests
     (subst (λ (rs : List Resolving). Sounds w world.journal rs world.words) (sym same) (to_sounds w world x))
 
 pub begins_sound : FinalsBeginSound
@@ -396,12 +430,27 @@ begins_sound w registers old new x sound =
     (same_places w old (finalising_hart registers x.code (record { object = x.object; addresses = x.addresses }) x.first ∷ x.others)
     (ap (λ (r : Resolving). r ∷ resolvings x.others)
     (runs_idle (Purpose.of_end x.code) (record { object = x.object; addresses = x.addresses } ∷ []) [] (record x.first { registers = registers; phase = Phase.at_pc; frames = []; «end» = None }))
-    ∙ sym (ap resolvings x.harts)) sound)
+    ∙ sym (ap resolvings x.harts))
+    others sound)
+  where
+    begun : HartState
+    begun = finalising_hart registers x.code (record { object = x.object; addresses = x.addresses }) x.first
+
+    running : (addresses : List ℕ) → (finalising_hart registers x.code (record { object = x.object; addresses = addresses }) x.first).«end» ≡ None
+    running [] = refl
+    running (function ∷ more) = refl
+
+    none_over : (reason : HartEnd) → begun.«end» ≡ Some reason → ⊥
+    none_over reason over = let no : None ≡ Some reason = sym (running x.addresses) ∙ over in cc
+
+    others : AllRest (begun ∷ x.others)
+    others zero b reason at over = absurd (none_over reason ((let same : begun.«end» ≡ b.«end» = ap (λ (y : HartState). y.«end») (let one : begun ≡ b = cc in one) in same) ∙ over))
+    others (suc j) b reason at over = sound.rests (suc j) b reason (ap (λ (bs : List HartState). slice_get bs (suc j)) x.harts ∙ at) over
 
 pub settles_sound : ((m : Machine) → AcceptsOnly m → Needs m) → SettlingIsSound
 settles_sound needs w world only loads sound =
     let laws = needs w.machine only in
-    from_sounds w (settled world) (freed_length world.harts ∙ sound.harts) sound.words
+    from_sounds w (settled world) (freed_length world.harts ∙ sound.harts) sound.words (freed_rest world.harts sound.rests)
     (subst (λ (es : List Event). Sounds w (world.journal ++ es) (resolvings (map freed world.harts)) world.words) (sym (settling_is world.harts))
     (subst (λ (rs : List Resolving). Sounds w (world.journal ++ flat_map settled_by (resolvings world.harts)) rs world.words) (sym (freed_are world.harts))
     (settled_all w only laws.know laws.keep laws.bound laws.lost world.journal [] (resolvings world.harts) world.words loads (to_sounds w world sound))))
@@ -426,5 +475,16 @@ lacks_sound needs w old new only loads sound x =
     let same : resolvings (ended ends.Memory x.first ∷ map freed x.others) ≡ resolvings (map freed old.harts) = ap (λ (bs : List HartState). resolvings (map freed bs)) (sym x.harts) in
     subst (λ (world : World). Sound w world) (sym x.leaves)
     (from_sounds w (record old { journal = past ++ events.Ended 0 ends.Memory ∷ []; harts = ended ends.Memory x.first ∷ map freed x.others })
-    (sym (places_length (ended ends.Memory x.first ∷ map freed x.others)) ∙ ap (λ (rs : List Resolving). length rs) same ∙ places_length (map freed old.harts) ∙ before.harts) before.words
+    (sym (places_length (ended ends.Memory x.first ∷ map freed x.others)) ∙ ap (λ (rs : List Resolving). length rs) same ∙ places_length (map freed old.harts) ∙ before.harts) before.words all_rest
     (subst (λ (rs : List Resolving). Sounds w (past ++ events.Ended 0 ends.Memory ∷ []) rs old.words) (sym same) after_end))
+  where
+    over_by : (e : Option HartEnd) (code : ℕ) → elim e [ Some reason ↦ elim reason [ ends.Exit n ↦ Some n | _ ↦ None ] | None ↦ None ] ≡ Some code → (reason : HartEnd) × (e ≡ Some reason)
+    over_by (Some reason) code is = (reason, refl)
+    over_by None code is = absurd (none_there code is)
+
+    first_rests : settled_resolving x.first.resolving ≡ Resolving.idle
+    first_rests = let over = over_by x.first.«end» x.code x.exited in sound.rests 0 x.first over.0 (ap (λ (bs : List HartState). slice_get bs 0) x.harts) over.1
+
+    all_rest : AllRest (ended ends.Memory x.first ∷ map freed x.others)
+    all_rest zero b reason at over = ap (λ (y : HartState). settled_resolving y.resolving) (sym (let one : ended ends.Memory x.first ≡ b = cc in one)) ∙ ap settled_resolving first_rests
+    all_rest (suc j) b reason at over = freed_rest old.harts sound.rests (suc j) b reason (ap (λ (bs : List HartState). slice_get (map freed bs) (suc j)) x.harts ∙ at) over

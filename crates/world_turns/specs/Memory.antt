@@ -44,14 +44,14 @@ pub record AreFresh (words : List Doubleword) : Type 0 where
 
 -- ---- events
 
--- what an event reserves gets its first words and its roles, what it takes away loses its role, and the version of both rises; all else stays
+-- what an event reserves gets its first words and its roles, what it takes away loses its role alone, and the version of both rises; all else stays
 pub record Remakes (s : State) (e : Event) (old new : List Doubleword) : Type 0 where
   pub all : length new ≡ length old
   pub kept : (a : ℕ) → IsDoubleword a → IsUntouched s e a → doubleword new a ≡ doubleword old a
   pub given : (r : Range) (a : ℕ) → IsDoubleword a → Contains (reserved s e) r → IsTrue (covers a r)
       → doubleword new a ≡ record { value = word_at (step s e) a; role = role_at (step s e) a; version = raised (doubleword old a).version }
   pub gone : (r : Range) (a : ℕ) → IsDoubleword a → Contains (taken s e) r → IsTrue (covers a r)
-      → ((doubleword new a).role ≡ NoRole) × ((doubleword new a).version ≡ raised (doubleword old a).version)
+      → doubleword new a ≡ record (doubleword old a) { role = NoRole; version = raised (doubleword old a).version }
 
 -- one event after another
 abbrev pub RemakesAll : State → List Event → List Doubleword → List Doubleword → Type 0

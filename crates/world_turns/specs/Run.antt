@@ -110,6 +110,8 @@ pub record LacksMemory (w : Setting) (old new : World) : Type 0 where
   pub first : HartState
   pub others : List HartState
   pub harts : old.harts ≡ first ∷ others
+  pub code : ℕ
+  pub exited : exit_code first ≡ Some code
   pub may : MayEnd w (after (old.journal ++ settling old.harts)) 0
   pub leaves : new ≡ record old {
     journal = (old.journal ++ settling old.harts) ++ Ended 0 ends.Memory ∷ [];

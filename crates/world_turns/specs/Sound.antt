@@ -1,6 +1,7 @@
 -- What holds of a run at each moment.
 use Rattle.std.specs.Prelude.{◌≡◌, ℕ, List, length, Some}
 use Rattle.std.specs.List.{slice_get}
+use Rattle.link_event.specs.declared.hart_end.HartEnd.{HartEnd}
 use Rattle.link_event.specs.declared.state.Granting.{Granting}
 use Rattle.rv_hart.specs.declared.doubleword.Doubleword.{Doubleword}
 use Rattle.link_history.specs.After.{after}
@@ -10,7 +11,7 @@ use Rattle.link_history.specs.Slots.{HasNoGrant, IsOpenGrant}
 use Rattle.link_history.specs.State.{State}
 use Rattle.memory_holds.specs.Holds.{Holds}
 use Rattle.hart_moves.specs.Harts.{HartState, Offered, Resolving}
-use Rattle.hart_moves.specs.Moves.{IsOffer, word_left}
+use Rattle.hart_moves.specs.Moves.{IsOffer, settled_resolving, word_left}
 use Rattle.world_turns.specs.Memory.{doubleword, memory_of, word_count}
 use Rattle.world_turns.specs.World.{World, winners}
 
@@ -39,4 +40,6 @@ pub record Sound (w : Setting) (world : World) : Type 0 where
   pub harts : length world.harts ≡ w.machine.harts
   pub words : length world.words ≡ word_count
   pub holds : Holds (after world.journal) (winners world.harts) (memory_of world.words)
+  -- a hart that has ended is at no slot, but that a grant of its may be left to settle
+  pub rests : (h : ℕ) (b : HartState) (reason : HartEnd) → slice_get world.harts h ≡ Some b → b.«end» ≡ Some reason → settled_resolving b.resolving ≡ Resolving.idle
   pub fits : (h : ℕ) (b : HartState) → slice_get world.harts h ≡ Some b → Fits (after world.journal) world.words h b.resolving

@@ -1,5 +1,6 @@
 //! What holds of every turn.
 
+ghost use Rattle.world_turns.specs.Counts.{CountsJoin, NoneIsInvented, NothingShows, RunsShowInCounts};
 ghost use Rattle.world_turns.specs.Laws.{FinalsBeginSound, FinalsLackSound, SettlingIsSound, SoundIsSlotTrue, StartIsSound, TurnsAreSound};
 
 /// A run is sound when it starts: its journal is legal, memory is as the journal says, and no hart has a
@@ -32,6 +33,15 @@ pub fn turns_stay_sound()
     memory_holds::grants_settle();
     memory_holds::slots_stand();
 }
+
+/// What a library counted in one turn after another it counted in all of them: a read that failed and a
+/// library that is missing show in its counts, and one that is made up doesn't.
+pub fn counts_show()
+    ensures join { CountsJoin }
+    ensures runs { RunsShowInCounts }
+    ensures nothing { NothingShows }
+    ensures not_invented { NoneIsInvented }
+{}
 
 /// In a sound run each slot of each mapped object holds its first word or the value of the one grant that
 /// took it, and leads to code or is 0.

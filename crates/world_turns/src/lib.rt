@@ -5,10 +5,11 @@
 //! `Run` (`specs/Run.antt`) is a whole run: startup, its constructors, the schedule, round robin, the
 //! final destructors, and the settling of what is left. `Sound` (`specs/Sound.antt`) holds at each moment
 //! of a run: the journal is legal, memory is as it says, and so is how far each hart is with its slot.
+//! `ShowInCounts` (`specs/Counts.antt`) says what a library's counts show of the turns that read it.
 //!
 //! There is no code but laws: functions without a body, whose contract is the law.
 #![tactic(auto)]
 
 mod law;
 
-pub use law::{runs_start_sound, slots_are_true, turns_stay_sound};
+pub use law::{counts_show, runs_start_sound, slots_are_true, turns_stay_sound};
