@@ -4,6 +4,7 @@ pub mod Exchanging
 pub mod Offers
 pub mod Places
 pub mod Resolution
+pub mod Running
 pub mod Settling
 pub mod Starting
 pub mod Turning

@@ -92,7 +92,7 @@ set_at (x ∷ rest) zero (suc j) c b at = inr at
 set_at (x ∷ rest) (suc h) zero c b at = inr at
 set_at (x ∷ rest) (suc h) (suc j) c b at = set_at rest h j c b at
 
-freed_at : (harts : List HartState) (j : ℕ) (b : HartState) → slice_get (map freed harts) j ≡ Some b → (x : HartState) × (slice_get harts j ≡ Some x) × (freed x ≡ b)
+pub freed_at : (harts : List HartState) (j : ℕ) (b : HartState) → slice_get (map freed harts) j ≡ Some b → (x : HartState) × (slice_get harts j ≡ Some x) × (freed x ≡ b)
 freed_at [] j b at = absurd (none_there b at)
 freed_at (x ∷ rest) zero b at = (x, refl, (let same : freed x ≡ b = cc in same))
 freed_at (x ∷ rest) (suc j) b at = freed_at rest j b at

@@ -1,6 +1,7 @@
 //! What holds of every turn.
 
 ghost use Rattle.world_turns.specs.Counts.{CountsJoin, NoneIsInvented, NothingShows, RunsShowInCounts};
+ghost use Rattle.world_turns.specs.Throughout.{ConstructorsKeep, FinalsKeep, ItemsKeep, RoundsKeep, RunsAreSound, RunsEnd, RunsLeaveNoGrant};
 ghost use Rattle.world_turns.specs.Laws.{FinalsBeginSound, FinalsLackSound, SettlingIsSound, SoundIsSlotTrue, StartIsSound, TurnsAreSound};
 
 /// A run is sound when it starts: its journal is legal, memory is as the journal says, and no hart has a
@@ -42,6 +43,21 @@ pub fn counts_show()
     ensures nothing { NothingShows }
     ensures not_invented { NoneIsInvented }
 {}
+
+/// A run is sound behind each of its parts, as often as turns come in them, and at its end. Each hart has
+/// ended then, and none has an open grant.
+pub fn runs_stay_sound()
+    ensures constructors { ConstructorsKeep }
+    ensures items { ItemsKeep }
+    ensures rounds { RoundsKeep }
+    ensures finals { FinalsKeep }
+    ensures run { RunsAreSound }
+    ensures over { RunsEnd }
+    ensures no_grant { RunsLeaveNoGrant }
+{
+    runs_start_sound();
+    turns_stay_sound();
+}
 
 /// In a sound run each slot of each mapped object holds its first word or the value of the one grant that
 /// took it, and leads to code or is 0.

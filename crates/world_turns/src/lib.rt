@@ -12,4 +12,4 @@
 
 mod law;
 
-pub use law::{counts_show, runs_start_sound, slots_are_true, turns_stay_sound};
+pub use law::{counts_show, runs_start_sound, runs_stay_sound, slots_are_true, turns_stay_sound};
