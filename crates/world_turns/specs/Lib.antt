@@ -1,6 +1,7 @@
 pub mod Counts
 pub mod Laws
 pub mod Memory
+pub mod Next
 pub mod Run
 pub mod Sound
 pub mod Throughout

@@ -1,6 +1,7 @@
 //! What holds of every turn.
 
 ghost use Rattle.world_turns.specs.Counts.{CountsJoin, NoneIsInvented, NothingShows, RunsShowInCounts};
+ghost use Rattle.world_turns.specs.Next.{OneDue, SettlingKeepsDue};
 ghost use Rattle.world_turns.specs.Throughout.{ConstructorsKeep, FinalsKeep, ItemsKeep, RoundsKeep, RunsAreSound, RunsEnd, RunsLeaveNoGrant};
 ghost use Rattle.world_turns.specs.Laws.{FinalsBeginSound, FinalsLackSound, SettlingIsSound, SoundIsSlotTrue, StartIsSound, TurnsAreSound};
 
@@ -58,6 +59,13 @@ pub fn runs_stay_sound()
     runs_start_sound();
     turns_stay_sound();
 }
+
+/// What is settled before a turn doesn't change which turn it is: from one world a hart takes turns of one
+/// kind.
+pub fn turns_are_due()
+    ensures settling { SettlingKeepsDue }
+    ensures turn { OneDue }
+{}
 
 /// In a sound run each slot of each mapped object holds its first word or the value of the one grant that
 /// took it, and leads to code or is 0.

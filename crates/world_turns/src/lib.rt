@@ -12,4 +12,6 @@
 
 mod law;
 
-pub use law::{counts_show, runs_start_sound, runs_stay_sound, slots_are_true, turns_stay_sound};
+pub use law::{
+    counts_show, runs_start_sound, runs_stay_sound, slots_are_true, turns_are_due, turns_stay_sound,
+};
