@@ -205,7 +205,7 @@ take_front : {A : Type 0} (xs ys : List A) → take (length xs) (xs ++ ys) ≡ x
 take_front [] ys = refl
 take_front (x ∷ xs) ys = ap (λ rest. x ∷ rest) (take_front xs ys)
 
-at_line : (lines before rest : List Line) (k : ℕ) → k ≡ length before → lines ≡ before ++ rest → place_at lines k ≡ place_after before
+pub at_line : (lines before rest : List Line) (k : ℕ) → k ≡ length before → lines ≡ before ++ rest → place_at lines k ≡ place_after before
 at_line lines before rest k count whole = ap place_after (ap (λ n. take n lines) count ∙ ap (λ ls. take (length before) ls) whole ∙ take_front before rest)
 
 section_in : (lines : List Line) (section : Section) (k : ℕ) (rest : List Line) → AreIn (number_of (part_of section)) (section_fixes lines section k rest)
