@@ -93,18 +93,20 @@ impl Pending {
         Ok(())
     }
 
-    /// The lists for what goes: they are empty, and have the room.
-    pub fn into_lists(self) -> (Vec<Loaded>, Vec<Range>)
-        ensures no_objects { result.0.items ≡ [] }
-        ensures no_ranges { result.1.items ≡ [] }
-        ensures objects { self.objects ≤ vec_capacity result.0 }
-        ensures ranges { self.ranges ≤ vec_capacity result.1 }
+    /// Its objects, and the lists for what goes: they are empty, and have the room.
+    pub fn into_lists(self) -> (Serials, Vec<Loaded>, Vec<Range>)
+        ensures set { result.0 ≡ self.set }
+        ensures no_objects { result.1.items ≡ [] }
+        ensures no_ranges { result.2.items ≡ [] }
+        ensures objects { self.objects ≤ vec_capacity result.1 }
+        ensures ranges { self.ranges ≤ vec_capacity result.2 }
     {
         let Pending {
+            set,
             objects,
             ranges,
             ..
         } = self;
-        (objects, ranges)
+        (set, objects, ranges)
     }
 }

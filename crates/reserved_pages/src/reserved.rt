@@ -111,6 +111,16 @@ impl ReservedPages {
         Ok(address)
     }
 
+    /// How many ranges go with some objects, their pages and blocks.
+    pub fn count_going(&self, set: &[Serial]) -> usize
+        ensures { result ≡ count_by (goes_with set.now) self.now.ranges }
+    {
+        self.ranges
+            .iter()
+            .filter(|range| goes_with(range.purpose, set))
+            .count()
+    }
+
     /// Gives back the ranges that go with some objects, their pages and blocks, and puts them behind others.
     pub fn remove(&mut self, set: &[Serial], gone: &mut Vec<Range>)
         requires { vec_len gone.old + count_by (goes_with set.now) self.old.ranges ≤ vec_capacity gone.old }
