@@ -7,6 +7,7 @@ use Rattle.std.proofs.lemmas.List.{append-nil, drop_all, length-map, map-append,
 use Rattle.std.proofs.lemmas.List.Elements.{Contains-append_left, Contains-append_right, Contains-append_cases, filter-append}
 use Rattle.std.proofs.lemmas.List.Folds.{list_any-append}
 use Rattle.std.proofs.lemmas.Option.{slice_get-get_or}
+use Rattle.closing_plans.specs.Plans.{IsRoomy}
 use Rattle.held_edges.specs.Roomy.{EdgesWithRoom}
 use Rattle.ld_base.specs.declared.linking.Loaded.{Loaded}
 use Rattle.ld_base.specs.declared.linking.State.{State as LoadState}
@@ -31,7 +32,7 @@ use Rattle.link_history.specs.Step.{end_hart, finalise, initialise, ready_in, re
 use Rattle.link_history.proofs.Lists.{found_in, from_filter, from_flat, in_filter, in_flat, none_in, not_found}
 use Rattle.link_pending.specs.Pending.{GrantTable, SerialsWithRoom, has_number, is_another}
 use Rattle.scope_rule.specs.declared.namespace.Namespace.{Namespace}
-use Rattle.link_state.specs.Holding.{HoldsAll, IsRoomy, Lists, Runs}
+use Rattle.link_state.specs.Holding.{HoldsAll, Lists, Runs}
 use Rattle.link_state.specs.Settling.{edges_spent, settled_edges}
 use Rattle.link_state.specs.Table.{settled}
 

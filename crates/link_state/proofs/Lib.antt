@@ -1,4 +1,5 @@
 pub mod Advance
+pub mod Closed
 pub mod Granted
 pub mod Held
 pub mod Parts

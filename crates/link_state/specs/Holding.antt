@@ -1,5 +1,6 @@
 -- The linker's lists are those of the state after its journal.
-use Rattle.std.specs.Prelude.{◌≡◌, ℕ, ◌-◌, ◌≤◌, not, Bool, List, count_by, filter, length, map, Contains}
+use Rattle.std.specs.Prelude.{◌≡◌, ℕ, ◌-◌, ◌≤◌, not, Bool, List, filter, length, map, Contains}
+use Rattle.closing_plans.specs.Plans.{IsRoomy}
 use Rattle.held_edges.specs.Roomy.{EdgesWithRoom}
 use Rattle.image_parts.specs.Parts.{PartsWithRoom, part_of}
 use Rattle.late_blocks.specs.Blocks.{BlockList}
@@ -18,7 +19,6 @@ use Rattle.link_history.specs.Laws.{HasAll}
 use Rattle.link_history.specs.Links.{held_edges}
 use Rattle.link_history.specs.Objects.{has, is_startup, mapped, serial_of, startup_serials}
 use Rattle.link_history.specs.State.{Linked, State, Statics}
-use Rattle.link_history.specs.Step.{goes_with}
 use Rattle.link_pending.specs.Pending.{GrantTable, SerialsWithRoom}
 use Rattle.load_record.specs.Loads.{LoadTable, is_first}
 use Rattle.pending_closings.specs.Pending.{PendingClosing, PendingList, closing_of}
@@ -66,11 +66,6 @@ pub record Maps (laid : List Range) (numbered : List Module) (statics : Statics)
   pub generation : table.generation ≡ changes
   pub blocks : late.blocks ≡ got
   pub parts : read.parts ≡ map part_of images
-
--- a closing has room for what its unmapping hands out: its objects, and the ranges that go with them
-pub record IsRoomy (serials : List ℕ) (laid : List Range) (p : PendingClosing) : Type 0 where
-  pub objects : count_by (has p.set) serials ≤ p.objects
-  pub ranges : count_by (goes_with p.set) laid ≤ p.ranges
 
 -- what keeps objects mapped, with room for an edge of each grant that is still to be settled; and what waits to be unmapped
 pub record Keeps (held : List Edge) (grants : List Granting) (serials : List ℕ) (laid : List Range) (waiting : List Closing) (edges : EdgesWithRoom) (pending : PendingList) : Type 0 where

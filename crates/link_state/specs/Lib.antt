@@ -1,3 +1,4 @@
+pub mod Closing
 pub mod Granting
 pub mod Holding
 pub mod Inside

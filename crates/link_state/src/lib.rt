@@ -15,5 +15,5 @@ mod refusing;
 mod running;
 mod state;
 
-pub use faults::GrantFault;
+pub use faults::{CloseFault, GrantFault};
 pub use state::LinkState;

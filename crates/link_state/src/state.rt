@@ -20,6 +20,8 @@ ghost use Rattle.slot_choice.specs.Choosing.{ChoosesSlot, IsFaultOf};
 ghost use Rattle.link_state.specs.Granting.{IsGranted, IsNotGranted};
 ghost use Rattle.link_state.specs.Table.{appended, refusal, settled};
 
+mod closing;
+
 use crate::faults::GrantFault;
 use crate::granting::{self, granted, granting, is_missing, open, unresolved};
 use crate::reading::namespace_in;

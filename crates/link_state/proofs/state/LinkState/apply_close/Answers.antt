@@ -1,0 +1,57 @@
+use Rattle.std.proofs.Common.{◌≡◌, ℕ, List, ◌++◌, sym, ap, subst, ◌∙◌}
+use Rattle.std.specs.Option.{option_to_list}
+use Rattle.closing_plans.specs.Plans.{closed_by}
+use Rattle.lawful_journal.specs.Following.{MayFollow, machine_of}
+use Rattle.link_event.specs.declared.event.CloseAnswer.TheVariants.{Done}
+use Rattle.link_event.specs.declared.event.Event.{Event}
+use Rattle.link_event.specs.declared.event.Event.TheVariants.{Close}
+use Rattle.link_history.specs.After.{after}
+use Rattle.link_history.specs.Held.{EdgesFollow}
+use Rattle.link_history.specs.Step.{step}
+use Rattle.pending_closings.specs.Pending.{PendingClosing}
+use Rattle.link_state.specs.Closing.{IsPlanOf}
+use Rattle.link_state.specs.Inside.{lists_of}
+use Rattle.link_state.specs.Table.{LinkTable}
+use Rattle.link_state.proofs.Closed.{all_closed, all_with_room}
+use Rattle.link_state.proofs.Held.{follows, holds_after}
+use Rattle.link_state.proofs.state.LinkState.apply_close.Goals as goal
+
+pub push-requires-clause-may : goal.push-requires-clause-may
+push-requires-clause-may c =
+    let plan : IsPlanOf (after c.self.inside.journal.events) c.args.hart c.args.handle c.in_ok-plan.plan =
+    subst (λ (v : LinkTable). IsPlanOf (after v.events) c.args.hart c.args.handle c.in_ok-plan.plan) (sym c.self.view_is) c.in_ok-plan.ensures.ok in
+    subst (λ (es : List Event). MayFollow c.make_room.new.journal.harts es c.closing.result) (sym c.make_room.ensures.events)
+    (subst (MayFollow c.make_room.new.journal.harts c.self.inside.journal.events) (sym c.closing.ensures)
+    (follows c.make_room.new.journal.harts c.self.inside.journal.events (Close c.args.hart c.args.handle (Done c.in_ok-plan.plan.list)) plan.closes))
+
+pub invariant_of-self : goal.invariant_of-self
+invariant_of-self c =
+    let plan : IsPlanOf (after c.self.inside.journal.events) c.args.hart c.args.handle c.in_ok-plan.plan =
+    subst (λ (v : LinkTable). IsPlanOf (after v.events) c.args.hart c.args.handle c.in_ok-plan.plan) (sym c.self.view_is) c.in_ok-plan.ensures.ok in
+    let e : Event = Close c.args.hart c.args.handle (Done c.in_ok-plan.plan.list) in
+    let next : MayFollow c.self.inside.journal.harts c.self.inside.journal.events e = follows c.self.inside.journal.harts c.self.inside.journal.events e plan.closes in
+    let follow : EdgesFollow (after c.self.inside.journal.events) e =
+    c.edges_follow.ensures.follow (machine_of c.self.inside.journal.harts) next.setting c.self.inside.journal.events e c.journal.ensures.lawful next.may in
+    let spaces : c.close_in.new.namespaces.items ≡ closed_by c.args.hart c.args.handle c.in_ok-plan.plan.list c.self.inside.namespaces.items =
+    c.close_in.ensures ∙ ap (λ root. closed_by c.args.hart root c.as_slice.result.now c.self.inside.namespaces.items) c.new-root.ensures
+    ∙ ap (λ (set : List ℕ). closed_by c.args.hart c.args.handle set c.self.inside.namespaces.items) c.as_slice.ensures in
+    let pushed : c.wait.new.closings.closings ≡ c.self.inside.closings.closings ++ option_to_list c.in_ok-plan.plan.pending =
+    c.wait.ensures ∙ ap (λ (ps : List PendingClosing). ps ++ option_to_list c.in_ok-plan.plan.pending) c.make_room.ensures.closings in
+    let state : after c.push.new.self.events ≡ step (after c.self.inside.journal.events) e =
+    c.push.ensures.state ∙ ap (step (after c.make_room.new.journal.events)) c.closing.ensures ∙ ap (λ (es : List Event). step (after es) e) c.make_room.ensures.events in
+    holds_after (step (after c.self.inside.journal.events) e) (after c.push.new.self.events) c.self.inside.journal.harts c.push.new.self.harts
+    (record (lists_of c.self.inside) { namespaces = c.close_in.new.namespaces.items; closings = c.wait.new.closings }) state (c.push.ensures.harts ∙ c.make_room.ensures.harts)
+    (all_closed (after c.self.inside.journal.events) c.self.inside.journal.harts c.args.hart c.args.handle c.in_ok-plan.plan.list (lists_of c.self.inside) c.close_in.new.namespaces.items c.wait.new.closings
+    c.in_ok-plan.plan.pending c.self.invariant follow spaces pushed plan.waits plan.roomy)
+
+pub invariant_of-self-in-Err : goal.invariant_of-self-in-Err
+invariant_of-self-in-Err c =
+    holds_after (after c.self.inside.journal.events) (after c.make_room.new.journal.events) c.self.inside.journal.harts c.make_room.new.journal.harts
+    (record (lists_of c.self.inside) { closings = c.make_room.new.closings }) (ap after c.make_room.ensures.events) c.make_room.ensures.harts
+    (all_with_room (after c.self.inside.journal.events) c.self.inside.journal.harts (lists_of c.self.inside) c.make_room.new.closings c.self.invariant c.make_room.ensures.closings)
+
+pub invariant_of-self-in-Err-2 : goal.invariant_of-self-in-Err-2
+invariant_of-self-in-Err-2 c =
+    holds_after (after c.self.inside.journal.events) (after c.make_room.new.journal.events) c.self.inside.journal.harts c.make_room.new.journal.harts
+    (record (lists_of c.self.inside) { closings = c.make_room.new.closings }) (ap after c.make_room.ensures.events) c.make_room.ensures.harts
+    (all_with_room (after c.self.inside.journal.events) c.self.inside.journal.harts (lists_of c.self.inside) c.make_room.new.closings c.self.invariant c.make_room.ensures.closings)
