@@ -75,6 +75,7 @@ holds_first events harts of l none harts_are first =
       opening = record {
         binds = first.binds;
         next = first.next;
+        few = omega arith;
         startup = first.startup;
         pinned = first.pinned;
         first = ap (λ (ds : List ℕ). eqb (length ds) 0) first.startup;

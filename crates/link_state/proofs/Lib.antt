@@ -3,3 +3,4 @@ pub mod Closed
 pub mod Granted
 pub mod Held
 pub mod Parts
+pub mod Unmapped

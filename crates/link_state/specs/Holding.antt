@@ -1,5 +1,5 @@
 -- The linker's lists are those of the state after its journal.
-use Rattle.std.specs.Prelude.{◌≡◌, ℕ, ◌-◌, ◌≤◌, not, Bool, List, filter, length, map, Contains}
+use Rattle.std.specs.Prelude.{◌≡◌, ℕ, ◌-◌, ◌^◌, ◌≤◌, not, Bool, List, filter, length, map, Contains}
 use Rattle.closing_plans.specs.Plans.{IsRoomy}
 use Rattle.held_edges.specs.Roomy.{EdgesWithRoom}
 use Rattle.image_parts.specs.Parts.{PartsWithRoom, part_of}
@@ -75,10 +75,11 @@ pub record Keeps (held : List Edge) (grants : List Granting) (serials : List ℕ
   pub closings : map closing_of pending.closings ≡ waiting
   pub roomy : (p : PendingClosing) → Contains pending.closings p → IsRoomy serials laid p
 
--- what is kept of openings
+-- what is kept of openings; serials are few enough to count the modules that come and go
 pub record Opens (now : Bool) (number : ℕ) (first_loaded stay : List ℕ) (begins : Bool) (loads : LoadTable) : Type 0 where
   pub binds : loads.binds ≡ now
   pub next : loads.next ≡ number
+  pub few : number ≤ 2 ^ 63
   pub startup : loads.startup ≡ first_loaded
   pub pinned : loads.pinned ≡ stay
   pub first : is_first loads ≡ begins

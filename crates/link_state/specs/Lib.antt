@@ -4,3 +4,4 @@ pub mod Holding
 pub mod Inside
 pub mod Settling
 pub mod Table
+pub mod Unmapping

@@ -21,6 +21,7 @@ ghost use Rattle.link_state.specs.Granting.{IsGranted, IsNotGranted};
 ghost use Rattle.link_state.specs.Table.{appended, refusal, settled};
 
 mod closing;
+mod unmapping;
 
 use crate::faults::GrantFault;
 use crate::granting::{self, granted, granting, is_missing, open, unresolved};
