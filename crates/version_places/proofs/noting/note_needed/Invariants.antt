@@ -1,0 +1,11 @@
+use Rattle.std.proofs.Common.{◌≡◌, ◌<◌, ℕ, length, take}
+use Rattle.std.specs.Prelude.{◌==◌, None, option_map, position, slice_index_or}
+use Rattle.std.specs.Option.{option_or}
+use Rattle.ld_base.specs.declared.object.Verneed.{Verneed}
+use Rattle.version_places.specs.declared.names.VersionPlace.TheVariants.{Needed}
+use Rattle.version_places.proofs.noting.note_needed.Given as goal
+
+-- those so far are noted
+abbrev pub invariant-loop-number : goal.invariant-loop-number
+invariant-loop-number l = (k : ℕ) → k < length l.initial.places
+    → slice_index_or l.places k None ≡ option_or (slice_index_or l.initial.places k None) (option_map Needed (position (λ (n : Verneed). n.index == k) (take l.number l.verneeds)))
