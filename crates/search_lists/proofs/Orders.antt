@@ -1,9 +1,9 @@
 -- A list that is extended by what it lacks, a level at a time: by what scope_rule says of extended lists.
-use Rattle.std.proofs.Common.{◌≡◌, ℕ, zero, suc, ◌+◌, ◌-◌, ◌<◌, ◌≤◌, Bool, true, false, inl, inr}
+use Rattle.std.proofs.Common.{◌≡◌, ℕ, zero, suc, ◌+◌, ◌-◌, ◌<◌, ◌≤◌, Bool, true, false, cond, inl, inr}
 use Rattle.std.proofs.Common.{List, [], ◌∷◌, ◌++◌, length, take, drop, get_or, refl, sym, ap, subst, ◌∙◌, add-one, drop-cons, arith}
 use Rattle.std.proofs.Math.ListN.{get_or-append}
 use Rattle.std.proofs.Math.Seq.{get_or-append_seam, take-length}
-use Rattle.std.proofs.lemmas.Bool.{cases_Bool, cases_lt}
+use Rattle.std.proofs.lemmas.Bool.{cases_Bool, cases_lt, eqb-true}
 use Rattle.std.proofs.lemmas.Grind.{flat_map-append, common_steps}
 use Rattle.std.proofs.lemmas.List.{length-append, take-append-le, take-append-drop}
 use Rattle.std.specs.List.{flat_map}
@@ -36,7 +36,59 @@ module _ (front : Front) where
   grown_at f first order added n e is =
       e ∙ ap (λ (o : List ℕ). extend first (flat_map f o)) (sym (ap (λ (k : ℕ). take k (extend order added)) is ∙ extended_front order added order (length order) (omega arith) (take-length order)))
 
+-- an order has what another list has that it is extended by
+has_grown : (a : List ℕ) (x y : ℕ) → has a y ≡ true → has (a ++ x ∷ []) y ≡ true
+has_grown a x y there = grind (arith, common_steps)
+
+by_either : (y : ℕ) (skipped : Bool) (one other : List ℕ) → has one y ≡ true → has other y ≡ true → has (cond skipped one other) y ≡ true
+by_either y true one other first second = first
+by_either y false one other first second = second
+
+stays_in : (a xs : List ℕ) (y : ℕ) → has a y ≡ true → has (extend a xs) y ≡ true
+stays_in a [] y there = there
+stays_in a (x ∷ xs) y there = by_either y (x == 0 || has a x) (extend a xs) (extend (a ++ x ∷ []) xs) (stays_in a xs y there) (stays_in (a ++ x ∷ []) xs y (has_grown a x y there))
+
+has_own : (a : List ℕ) (x y : ℕ) → y ≡ x → has (a ++ y ∷ []) x ≡ true
+has_own a x y e = grind (arith, common_steps)
+
+own_extended : (a ys : List ℕ) (x y : ℕ) (there_is : Bool) → has a y ≡ there_is → (x == 0) ≡ false → y ≡ x → has (extend a (y ∷ ys)) x ≡ true
+own_extended a ys x y there_is is some e =
+    let not_zero : (y == 0) ≡ false = ap (λ n. n == 0) e ∙ some in
+    ap (λ b. has (cond (b || has a y) (extend a ys) (extend (a ++ y ∷ []) ys)) x) not_zero ∙ ap (λ b. has (cond b (extend a ys) (extend (a ++ y ∷ []) ys)) x) is ∙ by_there there_is is
+  where
+    by_there : (there_is : Bool) → has a y ≡ there_is → has (cond there_is (extend a ys) (extend (a ++ y ∷ []) ys)) x ≡ true
+    by_there true is = stays_in a ys x (ap (has a) (sym e) ∙ is)
+    by_there false is = stays_in (a ++ y ∷ []) ys x (has_own a x y e)
+
+-- an order that is extended by a list has what the list has, but for 0
+in_extended : (a b : List ℕ) (x : ℕ) → (x == 0) ≡ false → has b x ≡ true → has (extend a b) x ≡ true
+in_extended a [] x some there = absurd (cc there)
+in_extended a (y ∷ ys) x some there =
+    elim (cases_Bool (y == x)) [
+      | inl same ↦ own_extended a ys x y (has a y) refl some (eqb-true y x same)
+      | inr other ↦
+          let rest : has ys x ≡ true = rw other at there in
+          by_either x (y == 0 || has a y) (extend a ys) (extend (a ++ y ∷ []) ys) (in_extended a ys x some rest) (in_extended (a ++ y ∷ []) ys x some rest)
+    ]
+
+-- an entry that an order lacks or not, extended by a list that has it or not
+entry_twice : (a b xs : List ℕ) (x : ℕ) (zero_is there_is : Bool) → ((order more less : List ℕ) → extend order (more ++ less) ≡ extend (extend order more) less) → (x == 0) ≡ zero_is → has b x ≡ there_is
+    → extend a (extend b xs) ≡ extend (extend a b) xs → extend a (extend (b ++ x ∷ []) xs) ≡ extend (extend a (b ++ x ∷ [])) xs → extend a (extend b (x ∷ xs)) ≡ extend (extend a b) (x ∷ xs)
+entry_twice a b xs x true there_is law nought has_is same grown = rw nought same
+entry_twice a b xs x false true law nought has_is same grown = rw (nought, has_is, in_extended a b x nought has_is) same
+entry_twice a b xs x false false law nought has_is same grown =
+    let first : extend a (extend b (x ∷ xs)) ≡ extend a (extend (b ++ x ∷ []) xs) = rw (nought, has_is) refl in
+    first ∙ grown ∙ ap (λ (o : List ℕ). extend o xs) (law a b (x ∷ [])) ∙ sym (law (extend a b) (x ∷ []) xs)
+
 module _ (one_by_one : OneByOne) where
+  -- extending by an extended list is extending by both
+  extended_twice : (a b xs : List ℕ) → extend a (extend b xs) ≡ extend (extend a b) xs
+  extended_twice a b [] = refl
+  extended_twice a b (x ∷ xs) = entry_twice a b xs x (x == 0) (has b x) one_by_one refl refl (extended_twice a b xs) (extended_twice a (b ++ x ∷ []) xs)
+
+  pub extended_once : (a xs : List ℕ) → extend a (extend [] xs) ≡ extend a xs
+  extended_once a xs = extended_twice a [] xs
+
   -- one entry of a level
   pub entry_step : (f : ℕ → List ℕ) (order s total : List ℕ) (i end x : ℕ) → i < end → end ≡ length s → end ≤ length order → take end order ≡ s → x ≡ get_or order i x
       → extend order (flat_map f (drop i s)) ≡ total → extend (extend order (f x)) (flat_map f (drop (i + 1) s)) ≡ total

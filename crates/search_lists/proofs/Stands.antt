@@ -1,6 +1,6 @@
 -- What stands where.
 use Rattle.std.proofs.Common.{◌≡◌, ℕ, zero, suc, ◌+◌, ◌<◌, ◌≤◌, ◌==◌, Bool, true, false, cond, inl, inr, List, [], ◌∷◌, ◌++◌, length, get_or, map, take, refl, sym, ap, ◌∙◌, append_assoc, append-nil, length-take-le, arith}
-use Rattle.std.specs.Prelude.{nat_eq, not, ◌||◌, filter, flat_map, position, Option, Some, None}
+use Rattle.std.specs.Prelude.{nat_eq, not, ◌||◌, filter, flat_map, option_map, position, unwrap_or, Option, Some, None}
 use Rattle.std.specs.List.{find, list_any, position_or_len, slice_get}
 use Rattle.std.specs.Option.{option_or, is_some}
 use Rattle.std.proofs.lemmas.Bool.{cases_Bool, eqb-true}
@@ -11,15 +11,17 @@ use Rattle.std.proofs.lemmas.List.Quantifiers.{position-Some}
 use Rattle.std.proofs.lemmas.Option.{slice_get-get_or}
 use Rattle.std.proofs.lemmas.List.Sums.{prefix_len-le-length}
 use Rattle.ld_base.specs.declared.linking.Loaded.{Loaded}
-use Rattle.scope_rule.specs.Loading.{is_dying, is_dying_at, object_of, with_serial}
-use Rattle.scope_rule.specs.Breadth.{breadth}
+use Rattle.scope_rule.specs.Loading.{found_of, is_dying, is_dying_at, object_of, with_serial}
+use Rattle.scope_rule.specs.Breadth.{breadth, extend}
 use Rattle.scope_rule.specs.Scope.{scope}
 use Rattle.scope_rule.specs.Seen.{Seen}
 use Rattle.scope_rule.specs.declared.namespace.OpenRec.{OpenRec}
 use Rattle.search_lists.specs.Brought.{brought_to}
+use Rattle.search_lists.specs.Links.{found_once}
 use Rattle.search_lists.specs.Lists.{at_place, list_of, lists_of, scope_in, scope_on}
 use Rattle.search_lists.specs.Places.{place_in, serials, serials_of}
 use Rattle.search_lists.specs.declared.lists.SearchList.{SearchList}
+use Rattle.version_places.specs.Places.{places_of}
 
 -- ---- the first place of a serial
 
@@ -144,3 +146,38 @@ sees_all s o xs sees = kept_all (λ x. is_dying o || not (is_dying_at s x)) each
   where
     each : (x : ℕ) → (is_dying o || not (is_dying_at s x)) ≡ true
     each x = grind (arith, common_steps, none_dying s.objects x)
+
+-- ---- what objects lead to
+
+-- the element at a place of a list that is made from another
+mapped_at : {X Y : Type 0} (f : X → Y) (xs : List X) (k : ℕ) → slice_get (map f xs) k ≡ option_map f (slice_get xs k)
+mapped_at f [] k = refl
+mapped_at f (x ∷ xs) zero = refl
+mapped_at f (x ∷ xs) (suc k) = mapped_at f xs k
+
+abbrev once_on : Option Loaded → List ℕ
+once_on o = extend [] (elim o [ Some x ↦ x.found | None ↦ [] ])
+
+once_at : (o : Option Loaded) → unwrap_or (option_map found_once o) [] ≡ once_on o
+once_at None = refl
+once_at (Some x) = refl
+
+-- what is found of the object of a serial
+found_is : (s : Seen) (q : ℕ) → (q == 0) ≡ false → once_on (object_of s q) ≡ extend [] (found_of s q)
+found_is s q some = ap (λ (b : Bool). extend [] (cond b [] (elim (object_of s q) [ Some x ↦ x.found | None ↦ [] ]))) (sym some)
+
+pub linked_there : (s : Seen) (q k : ℕ) (found : List (List ℕ)) → (q == 0) ≡ false → place_in (serials_of s) q ≡ Some k → found ≡ map found_once s.objects → unwrap_or (slice_get found k) [] ≡ extend [] (found_of s q)
+linked_there s q k found some at are =
+    ap (λ (fs : List (List ℕ)). unwrap_or (slice_get fs k) []) are
+    ∙ ap (λ (o : Option (List ℕ)). unwrap_or o []) (mapped_at found_once s.objects k)
+    ∙ once_at (slice_get s.objects k)
+    ∙ ap once_on (object_found s q k (slice_get s.objects k) at refl)
+    ∙ found_is s q some
+
+pub linked_nowhere : (s : Seen) (q : ℕ) → (q == 0) ≡ false → place_in (serials_of s) q ≡ None → [] ≡ extend [] (found_of s q)
+linked_nowhere s q some at = ap once_on (none_found s q at) ∙ found_is s q some
+
+-- ---- the names of an object's versions
+
+pub names_at : (s : Seen) (objects : List Loaded) (k : ℕ) (o : Loaded) (l : Option SearchList) → l ≡ slice_get (map (list_of s) objects) k → slice_get objects k ≡ Some o → option_map (λ (x : SearchList). x.names) l ≡ Some (places_of o.object)
+names_at s objects k o l is here = ap (option_map (λ (x : SearchList). x.names)) (is ∙ mapped_at (list_of s) objects k ∙ ap (option_map (list_of s)) here)

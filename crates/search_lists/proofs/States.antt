@@ -10,6 +10,8 @@ use Rattle.scope_rule.specs.Seen.{Seen}
 use Rattle.scope_rule.specs.declared.namespace.OpenRec.{OpenRec}
 use Rattle.search_lists.specs.Lists.{ChangesStateAlone, list_of, lists_of}
 use Rattle.search_lists.specs.declared.lists.SearchList.{SearchList}
+use Rattle.version_places.specs.Places.{places_of}
+use Rattle.version_places.specs.declared.names.VersionPlace.{VersionPlace}
 
 -- ---- functions that are the same at each point
 
@@ -108,13 +110,18 @@ module _ (change : Loaded → Loaded) (alone : (o : Loaded) → ChangesStateAlon
         (λ x. ap (λ b. b || not (is_dying_at Then x)) (alone o).closing ∙ ap (λ b. is_dying o || not b) (same_dying x)) (whole_scope Then (change o))
         ∙ ap (filter (λ x. is_dying o || not (is_dying_at s x))) (whole_same (change o) ∙ whole_changed o)
 
-    abbrev list_with : ℕ → List ℕ → SearchList
-    list_with owner scope = record { owner = owner; scope = scope }
+    abbrev list_with : ℕ → List ℕ → List (Option VersionPlace) → SearchList
+    list_with owner scope names = record { owner = owner; scope = scope; names = names }
+
+    same_names : (o : Loaded) → places_of (change o).object ≡ places_of o.object
+    same_names o = ap (λ (x : Loaded). places_of x.object) (alone o).rest
 
     same_lists : (objects : List Loaded) → map (list_of Then) (map change objects) ≡ map (list_of s) objects
     same_lists [] = refl
     same_lists (o ∷ rest) =
-        ap (λ (l : SearchList). l ∷ map (list_of Then) (map change rest)) (ap (λ n. list_with n (scope Then (change o))) (same_serial o) ∙ ap (list_with o.serial) (same_scope o))
+        ap (λ (l : SearchList). l ∷ map (list_of Then) (map change rest)) (ap (λ n. list_with n (scope Then (change o)) (places_of (change o).object)) (same_serial o)
+        ∙ ap (λ (l : List ℕ). list_with o.serial l (places_of (change o).object)) (same_scope o)
+        ∙ ap (list_with o.serial (scope s o)) (same_names o))
         ∙ ap (λ (ls : List SearchList). list_of s o ∷ ls) (same_lists rest)
 
     pub stay : lists_of Then ≡ lists_of s

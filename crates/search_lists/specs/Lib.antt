@@ -1,3 +1,4 @@
 pub mod Brought
+pub mod Links
 pub mod Lists
 pub mod Places

@@ -1,4 +1,4 @@
--- Search lists: where the references of each object are searched.
+-- Search lists: where the references of each object are searched, and where the names of its versions stand.
 use Rattle.std.specs.Prelude.{◌≡◌, ℕ, ◌==◌, List, [], map, find, Option, Some, None}
 use Rattle.std.specs.List.{slice_get}
 use Rattle.ld_base.specs.declared.linking.Loaded.{Loaded}
@@ -6,12 +6,13 @@ use Rattle.scope_rule.specs.Loading.{is_dying}
 use Rattle.scope_rule.specs.Scope.{scope}
 use Rattle.scope_rule.specs.Seen.{Seen}
 use Rattle.search_lists.specs.declared.lists.SearchList.{SearchList}
+use Rattle.version_places.specs.Places.{places_of}
 
 -- the list of an object
 abbrev pub list_of : Seen → Loaded → SearchList
-list_of s o = record { owner = o.serial; scope = scope s o }
+list_of s o = record { owner = o.serial; scope = scope s o; names = places_of o.object }
 
--- the lists of what is seen of a namespace: the Scope of each of its objects, in load order
+-- the lists of what is seen of a namespace: the Scope and the names of each of its objects, in load order
 abbrev pub lists_of : Seen → List SearchList
 lists_of s = map (list_of s) s.objects
 

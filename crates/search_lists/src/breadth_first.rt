@@ -1,12 +1,12 @@
-//! Breadth-first order, in one step for each name that an object needs.
+//! Breadth-first order, in one step for each object that an object's names found.
 
 ghost use Rattle.std.specs.Prelude.{◌≡◌, ◌≤◌, ◌∷◌, [], length, drop, flat_map, IfOk, OnOk};
 ghost use Rattle.scope_rule.specs.Breadth.{breadth, extend, order_to};
 ghost use Rattle.scope_rule.specs.Loading.{found_of};
 ghost use Rattle.scope_rule.specs.Seen.{seen};
-ghost use Rattle.search_lists.specs.Places.{ArePlaces, serials_of};
+ghost use Rattle.search_lists.specs.Links.{AreLinks};
 
-use crate::places::Places;
+use crate::links::Links;
 use indexmap::IndexSet;
 use ld_base::{Serial, Serials};
 use scope_rule::{View, breadth_grows, extends_at_the_end};
@@ -23,7 +23,7 @@ fn extend_by_one(order: &mut IndexSet<Serial>, serial: Serial) -> Result<(), All
 }
 
 /// Puts those serials at the end that the order lacks.
-fn extend(order: &mut IndexSet<Serial>, serials: &[Serial]) -> Result<(), AllocError>
+pub(crate) fn extend(order: &mut IndexSet<Serial>, serials: &[Serial]) -> Result<(), AllocError>
     ensures { OnOk result (order.new.keys ≡ extend order.old.keys serials.now) }
 {
     for serial in serials {
@@ -32,28 +32,14 @@ fn extend(order: &mut IndexSet<Serial>, serials: &[Serial]) -> Result<(), AllocE
     Ok(())
 }
 
-/// What the names of an object found.
-fn found_of<'a>(view: &View<'a>, places: &Places, serial: Serial) -> &'a [Serial]
-    requires { ArePlaces (serials_of (seen view.now)) places.now }
-    ensures { result.now ≡ found_of (seen view.now) serial }
-{
-    if serial == Serial::LINKER {
-        return &[];
-    }
-    match places.object(view, serial) {
-        Some(object) => object.found.as_slice(),
-        None => &[],
-    }
-}
-
 /// Puts the next level at the end: what the entries from `start` on found.
 fn extend_by_level(
     view: &View,
-    places: &Places,
+    links: &Links,
     order: &mut IndexSet<Serial>,
     start: usize,
 ) -> Result<(), AllocError>
-    requires places { ArePlaces (serials_of (seen view.now)) places.now }
+    requires links { AreLinks (seen view.now) links.now }
     requires start { start ≤ length order.old.keys }
     ensures { OnOk result (order.new.keys ≡ extend order.old.keys (flat_map (found_of (seen view.now)) (drop start order.old.keys))) }
 {
@@ -61,7 +47,7 @@ fn extend_by_level(
     let end = order.len();
     for i in start..end {
         let serial = order.as_slice()[i];
-        extend(order, found_of(view, places, serial))?;
+        extend(order, links.found_of(serial))?;
     }
     Ok(())
 }
@@ -69,11 +55,11 @@ fn extend_by_level(
 /// Puts so many levels at the end, as far as there are any.
 fn extend_by_levels(
     view: &View,
-    places: &Places,
+    links: &Links,
     order: &mut IndexSet<Serial>,
     most: usize,
 ) -> Result<(), AllocError>
-    requires { ArePlaces (serials_of (seen view.now)) places.now }
+    requires { AreLinks (seen view.now) links.now }
     ensures { OnOk result (order.new.keys ≡ order_to (found_of (seen view.now)) order.old.keys most) }
 {
     extends_at_the_end();
@@ -83,7 +69,7 @@ fn extend_by_levels(
         if start == end {
             return Ok(());
         }
-        extend_by_level(view, places, order, start)?;
+        extend_by_level(view, links, order, start)?;
         start = end;
     }
     Ok(())
@@ -94,16 +80,16 @@ fn extend_by_levels(
 pub(crate) fn breadth(
     alloc: Global,
     view: &View,
-    places: &Places,
+    links: &Links,
     root: Serial,
 ) -> Result<Serials, AllocError>
-    requires { ArePlaces (serials_of (seen view.now)) places.now }
+    requires { AreLinks (seen view.now) links.now }
     ensures { IfOk result (λ order. order ≡ breadth (seen view.now) root) }
 {
     breadth_grows();
     let mut order = IndexSet::new(alloc);
     extend_by_one(&mut order, root)?;
     let most = view.objects.len() + view.added.len();
-    extend_by_levels(view, places, &mut order, most)?;
+    extend_by_levels(view, links, &mut order, most)?;
     Serials::from_slice(alloc, order.as_slice())
 }

@@ -3,10 +3,10 @@
 ghost use Rattle.std.specs.Prelude.{◌≡◌, ◌++◌, ◌==◌, [], ℕ, if◌then◌else◌, IfOk, OnOk};
 ghost use Rattle.scope_rule.specs.Seen.{seen};
 ghost use Rattle.search_lists.specs.Brought.{AreBrought, BringsMore, Distinct, brought_of, brought_to};
-ghost use Rattle.search_lists.specs.Places.{ArePlaces, serials_of};
+ghost use Rattle.search_lists.specs.Links.{AreLinks};
 
 use crate::breadth_first::breadth;
-use crate::places::Places;
+use crate::links::Links;
 use ld_base::{Serial, Serials};
 use scope_rule::{View, breadth_grows};
 use std::alloc::{AllocError, Global};
@@ -23,7 +23,7 @@ impl Brought {
     ghost use Rattle.std.specs.Prelude.{◌≡◌, ◌++◌, ◌==◌, [], ℕ, if◌then◌else◌, IfOk, OnOk};
     ghost use Rattle.scope_rule.specs.Seen.{seen};
     ghost use Rattle.search_lists.specs.Brought.{AreBrought, BringsMore, Distinct, brought_of, brought_to};
-    ghost use Rattle.search_lists.specs.Places.{ArePlaces, serials_of};
+    ghost use Rattle.search_lists.specs.Links.{AreLinks};
 
     /// Nothing yet.
     fn new(alloc: Global) -> Self
@@ -35,14 +35,14 @@ impl Brought {
     }
 
     /// What the openings of what is seen of a namespace bring.
-    pub(crate) fn of(alloc: Global, view: &View, places: &Places) -> Result<Self, AllocError>
-        requires { ArePlaces (serials_of (seen view.now)) places.now }
+    pub(crate) fn of(alloc: Global, view: &View, links: &Links) -> Result<Self, AllocError>
+        requires { AreLinks (seen view.now) links.now }
         ensures { IfOk result (AreBrought (seen view.now)) }
     {
         breadth_grows();
         let mut brought = Brought::new(alloc);
         for open in view.opens {
-            let libraries = breadth(alloc, view, places, open.root)?;
+            let libraries = breadth(alloc, view, links, open.root)?;
             brought.add_opening(alloc, libraries.as_slice())?;
         }
         Ok(brought)

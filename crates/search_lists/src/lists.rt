@@ -13,12 +13,15 @@ use ld_base::{Loaded, Sequence, Serial, Serials};
 use scope_rule::{Namespace, View};
 use std::alloc::{AllocError, Global};
 use std::marker::Model;
+use version_places::VersionNames;
 
-/// Where the references of an object are searched, in order.
+/// Where the references of an object are searched, in order, and where the names of its own versions
+/// stand.
 #[derive(Drop)]
 pub struct SearchList {
     pub owner: Serial,
     pub scope: Serials,
+    pub names: VersionNames,
 }
 
 /// Where the references of each object of a namespace are searched, made once an opening or closing.
@@ -55,6 +58,7 @@ fn append_lists(
         lists.push(SearchList {
             owner: object.serial,
             scope: scopes.scope(alloc, object)?,
+            names: VersionNames::of(alloc, &object.object)?,
         })?;
     }
     Ok(())
@@ -88,6 +92,7 @@ impl SearchLists {
     ghost use Rattle.scope_rule.specs.Scope.{scope};
     ghost use Rattle.scope_rule.specs.Seen.{Seen, seen, seen_in};
     ghost use Rattle.search_lists.specs.Lists.{at_place, lists_of, scope_in};
+    ghost use Rattle.version_places.specs.Places.{places_of};
 
     /// The lists of a namespace as it stands.
     ///
@@ -132,6 +137,17 @@ impl SearchLists {
         match list_at(self.lists.as_slice(), place) {
             Some(list) => list.scope.as_slice(),
             None => &[],
+        }
+    }
+
+    /// The names of the versions of the object at a place in load order, of any namespace whose lists
+    /// these are.
+    pub fn names_at(&self, place: usize) -> Option<&VersionNames>
+        ensures { (s : Seen) (o : loaded) → self.now ≡ lists_of s → slice_get s.objects place ≡ Some o → option_copied result ≡ Some (places_of o.object) }
+    {
+        match list_at(self.lists.as_slice(), place) {
+            Some(list) => Some(&list.names),
+            None => None,
         }
     }
 

@@ -11,6 +11,7 @@ ghost use Rattle.search_lists.specs.Places.{ArePlaces, serials_of};
 
 use crate::breadth_first::breadth;
 use crate::brought::Brought;
+use crate::links::Links;
 use crate::places::Places;
 use ld_base::{Loaded, Serial, Serials};
 use scope_rule::{View, is_dying};
@@ -22,7 +23,7 @@ use std::marker::Model;
 #[derive(Drop)]
 pub(crate) struct Scopes<'a> {
     view: View<'a>,
-    places: &'a Places,
+    links: Links<'a>,
     brought: Brought,
     /// Whether the destructors of one of the objects run.
     closing: bool,
@@ -34,14 +35,14 @@ impl<'a> Model for Scopes<'a> {
     ghost use Rattle.scope_rule.specs.Loading.{is_dying};
     ghost use Rattle.scope_rule.specs.Seen.{Seen, seen};
     ghost use Rattle.search_lists.specs.Brought.{AreBrought};
-    ghost use Rattle.search_lists.specs.Places.{ArePlaces, serials_of};
+    ghost use Rattle.search_lists.specs.Links.{AreLinks};
 
     ghost Value = { Seen };
 
     ghost view = { λ s. seen s.view };
 
     ghost invariant = { λ s.
-        ArePlaces (serials_of (seen s.view)) s.places.now
+        AreLinks (seen s.view) s.links
         × AreBrought (seen s.view) s.brought
         × (s.closing ≡ list_any is_dying (seen s.view).objects) };
 }
@@ -128,10 +129,11 @@ impl<'a> Scopes<'a> {
         requires { ArePlaces (serials_of (seen view.now)) places.now }
         ensures { IfOk result (λ scopes. scopes ≡ seen view.now) }
     {
-        let brought = Brought::of(alloc, view, places)?;
+        let links = Links::of(alloc, view, places)?;
+        let brought = Brought::of(alloc, view, &links)?;
         Ok(Scopes {
             view: *view,
-            places,
+            links,
             brought,
             closing: has_dying(view),
         })
@@ -141,7 +143,7 @@ impl<'a> Scopes<'a> {
     fn whole_scope(&self, alloc: Global, owner: &Loaded) -> Result<Serials, AllocError>
         ensures { IfOk result (λ whole. whole ≡ whole_scope self.now owner.now) }
     {
-        let libraries = breadth(alloc, &self.view, self.places, owner.serial)?;
+        let libraries = breadth(alloc, &self.view, &self.links, owner.serial)?;
         let brought = self.brought.get(owner.serial);
         let mut whole = Serials::new(alloc);
         fill_scope(&self.view, brought, libraries.as_slice(), owner, &mut whole)?;
@@ -162,7 +164,7 @@ impl<'a> Scopes<'a> {
         if self.sees_all(owner) {
             return Ok(whole);
         }
-        standing(alloc, &self.view, self.places, whole.as_slice())
+        standing(alloc, &self.view, self.links.places, whole.as_slice())
     }
 
     /// Where the references of an object are searched, in order (gABI, "Shared Object Dependencies").

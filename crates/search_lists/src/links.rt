@@ -1,0 +1,87 @@
+//! What the objects of a namespace lead to.
+
+ghost use Rattle.std.specs.Prelude.{◌≡◌, ◌++◌, [], map, IfOk, OnOk, slice_get, unwrap_or};
+ghost use Rattle.scope_rule.specs.Breadth.{extend};
+ghost use Rattle.search_lists.specs.Links.{found_once};
+
+use crate::breadth_first::extend;
+use crate::places::Places;
+use indexmap::IndexSet;
+use ld_base::{Loaded, Serial, Serials};
+use scope_rule::View;
+use std::alloc::{AllocError, Global};
+
+/// Where the objects of a namespace stand, and what the names of each found, each once: a name that
+/// comes again is followed once only, however many objects lead to its own.
+#[derive(Drop)]
+pub(crate) struct Links<'a> {
+    pub(crate) places: &'a Places,
+    /// By the place of an object.
+    found: Vec<Serials>,
+}
+
+/// These serials, each once, the linker's own left out.
+fn each_once(alloc: Global, serials: &[Serial]) -> Result<Serials, AllocError>
+    ensures { IfOk result (λ once. once ≡ extend [] serials.now) }
+{
+    let mut once = IndexSet::new(alloc);
+    extend(&mut once, serials)?;
+    Serials::from_slice(alloc, once.as_slice())
+}
+
+/// Puts what the names of these objects found at the end.
+fn append_found(
+    alloc: Global,
+    objects: &[Loaded],
+    found: &mut Vec<Serials>,
+) -> Result<(), AllocError>
+    ensures { OnOk result (found.new.items ≡ found.old.items ++ map found_once objects.now) }
+{
+    for object in objects {
+        found.push(each_once(alloc, object.found.as_slice())?)?;
+    }
+    Ok(())
+}
+
+/// What the object at a place led to.
+fn found_at(found: &[Serials], place: usize) -> &[Serial]
+    ensures { result.now ≡ unwrap_or (slice_get found.now place) [] }
+{
+    match found.get(place) {
+        Some(serials) => serials.as_slice(),
+        None => &[],
+    }
+}
+
+impl<'a> Links<'a> {
+    ghost use Rattle.std.specs.Prelude.{◌≡◌, [], IfOk};
+    ghost use Rattle.scope_rule.specs.Breadth.{extend};
+    ghost use Rattle.scope_rule.specs.Loading.{found_of};
+    ghost use Rattle.scope_rule.specs.Seen.{Seen, seen};
+    ghost use Rattle.search_lists.specs.Links.{AreLinks};
+    ghost use Rattle.search_lists.specs.Places.{ArePlaces, serials_of};
+
+    /// Those of what is seen of a namespace.
+    pub(crate) fn of(alloc: Global, view: &View, places: &'a Places) -> Result<Self, AllocError>
+        requires { ArePlaces (serials_of (seen view.now)) places.now }
+        ensures { IfOk result (AreLinks (seen view.now)) }
+    {
+        let mut found = Vec::new(alloc);
+        append_found(alloc, view.objects, &mut found)?;
+        append_found(alloc, view.added, &mut found)?;
+        Ok(Links { places, found })
+    }
+
+    /// What the names of the object with a serial found, each once.
+    pub(crate) fn found_of(&self, serial: Serial) -> &[Serial]
+        ensures { (s : Seen) → AreLinks s self.now → result.now ≡ extend [] (found_of s serial) }
+    {
+        if serial == Serial::LINKER {
+            return &[];
+        }
+        match self.places.get(serial) {
+            Some(place) => found_at(self.found.as_slice(), place),
+            None => &[],
+        }
+    }
+}
