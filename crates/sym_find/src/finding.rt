@@ -9,11 +9,13 @@ ghost use Rattle.sym_find.specs.Best.{IsWantedAt, Keeps, KeepsAll, Knows, passes
 ghost use Rattle.sym_find.specs.Found.{Finds, Nowhere};
 ghost use Rattle.sym_find.specs.Reference.{want_as};
 ghost use Rattle.sym_hash.specs.Reached.{IsTableOf, Reached};
+ghost use Rattle.version_places.specs.Places.{places_of};
 
 use crate::best::{Best, Search, Test};
 use crate::reference::{Asked, Sought};
 use crate::{gnu, sysv};
 use ld_base::{Carriers, HashTable, Object, Symbol, Want, one_pick};
+use version_places::{VersionNames, version_name};
 
 /// The index whose version every reference takes, and the first that an object gives (Drepper, "ELF
 /// Symbol Versioning").
@@ -29,8 +31,15 @@ pub trait Find {
     /// The GNU table is walked where there is one, else the System V table. It takes no memory.
     fn find(&self, object: &Object, name: &[u8], want: &Want) -> Option<u32>;
 
-    /// The same for a reference whose hashes are known.
-    fn find_sought(&self, object: &Object, sought: &Sought) -> Option<u32>;
+    /// The same for a reference whose hashes are known, where the names of the object's versions may be
+    /// known too. So the version of the first definition of the name is asked in one step.
+    fn find_sought(
+        &self,
+        object: &Object,
+        names: Option<&VersionNames>,
+        sought: &Sought,
+    ) -> Option<u32>
+        requires { IfSome names (λ n. n.now ≡ places_of object.now) };
 }
 
 /// What is kept of the symbols that a table leads to.
@@ -45,41 +54,52 @@ fn walk(table: &HashTable, sought: &Sought, search: &Search) -> Best
 }
 
 /// Whether the version of a definition has a name.
-fn has_version(object: &Object, version: &[u8], symbol: &Symbol) -> bool
+fn has_version(
+    object: &Object,
+    names: Option<&VersionNames>,
+    version: &[u8],
+    symbol: &Symbol,
+) -> bool
+    requires { IfSome names (λ n. n.now ≡ places_of object.now) }
     ensures { result ≡ has_version object.now version.now symbol.now }
 {
-    match object.version_name(symbol.version_index()) {
+    match version_name(object, names, symbol.version_index()) {
         Some(name) => name.is(version),
         None => false,
     }
 }
 
 /// Whether the version of a definition is one that is asked for.
-fn is_wanted(object: &Object, asked: Asked, symbol: &Symbol) -> bool
+fn is_wanted(object: &Object, names: Option<&VersionNames>, asked: Asked, symbol: &Symbol) -> bool
+    requires { IfSome names (λ n. n.now ≡ places_of object.now) }
     ensures { result ≡ is_wanted object.now (want_as asked.entry) symbol.now }
 {
     let index = symbol.version_index();
     match asked {
-        Asked::Version(version) => has_version(object, version, symbol) || symbol.version == 1,
+        Asked::Version(version) => {
+            has_version(object, names, version, symbol) || symbol.version == 1
+        }
         Asked::Plain => index == GLOBAL || index == FIRST_DEFINED,
         Asked::Dlsym => index == GLOBAL,
-        Asked::Dlvsym(version) => has_version(object, version, symbol),
+        Asked::Dlvsym(version) => has_version(object, names, version, symbol),
     }
 }
 
 /// The same of the definition at an index.
-fn is_wanted_at(object: &Object, asked: Asked, index: u32) -> bool
+fn is_wanted_at(object: &Object, names: Option<&VersionNames>, asked: Asked, index: u32) -> bool
+    requires { IfSome names (λ n. n.now ≡ places_of object.now) }
     ensures { (s : Symbol) → slice_get object.now.symbols index ≡ Some s → result ≡ is_wanted object.now (want_as asked.entry) s }
 {
     match object.symbols.as_slice().get(index as usize) {
-        Some(symbol) => is_wanted(object, asked, symbol),
+        Some(symbol) => is_wanted(object, names, asked, symbol),
         None => false,
     }
 }
 
 /// Whether the first definition of a name decides, whatever its version: there is none, or it is of one
 /// that is asked for, or the object has no versions.
-fn decides(object: &Object, asked: Asked, first: Option<u32>) -> bool
+fn decides(object: &Object, names: Option<&VersionNames>, asked: Asked, first: Option<u32>) -> bool
+    requires { IfSome names (λ n. n.now ≡ places_of object.now) }
     ensures first { IsTrue result → IfSome first (IsWantedAt object.now (want_as asked.entry)) }
     ensures versions { result ≡ false → object.now.has_versym ≡ true }
 {
@@ -87,7 +107,7 @@ fn decides(object: &Object, asked: Asked, first: Option<u32>) -> bool
         return true;
     }
     match first {
-        Some(index) => is_wanted_at(object, asked, index),
+        Some(index) => is_wanted_at(object, names, asked, index),
         None => true,
     }
 }
@@ -163,14 +183,20 @@ fn rules_out(table: &HashTable, sought: &Sought) -> bool
 
 /// What is kept for a reference. Most often the first definition of the name is the one: versions are
 /// marked only where it isn't.
-fn kept_for(table: &HashTable, object: &Object, sought: &Sought) -> Best
+fn kept_for(
+    table: &HashTable,
+    object: &Object,
+    names: Option<&VersionNames>,
+    sought: &Sought,
+) -> Best
+    requires { IfSome names (λ n. n.now ≡ places_of object.now) }
     ensures { Keeps object.now sought.now.name sought.now.want (Reached table.now sought.now.name) result }
 {
     if rules_out(table, sought) {
         return Best::new();
     }
     let all = kept_of_all(table, object, sought);
-    if decides(object, sought.asked(), all.first) {
+    if decides(object, names, sought.asked(), all.first) {
         all
     } else {
         kept_with_versions(table, object, sought)
@@ -190,16 +216,22 @@ impl Find for HashTable {
         ensures reached { IfSome result (λ k. Exports object.now (is_offer object.now name.now) k × Reached self.now name.now k) }
         ensures picks { IsTableOf self.now object.now → result ≡ pick_of object.now name.now want.now }
     {
-        self.find_sought(object, &Sought::new(name, Asked::of(want)))
+        self.find_sought(object, None, &Sought::new(name, Asked::of(want)))
     }
 
-    fn find_sought(&self, object: &Object, sought: &Sought) -> Option<u32>
+    fn find_sought(
+        &self,
+        object: &Object,
+        names: Option<&VersionNames>,
+        sought: &Sought,
+    ) -> Option<u32>
+        requires { IfSome names (λ n. n.now ≡ places_of object.now) }
         ensures found { (k : ℕ) → (result ≡ Some k) ↔ Finds self.now object.now sought.now.name sought.now.want k }
         ensures reached { IfSome result (λ k. Exports object.now (is_offer object.now sought.now.name) k × Reached self.now sought.now.name k) }
         ensures picks { IsTableOf self.now object.now → result ≡ pick_of object.now sought.now.name sought.now.want }
     {
         one_pick();
-        let best = kept_for(self, object, sought);
+        let best = kept_for(self, object, names, sought);
         let only = may_be_alone(object, sought);
         best.taken(only)
     }

@@ -1,5 +1,5 @@
 -- Searches through lists that are made once.
-use Rattle.std.proofs.Common.{◌≡◌, ◌≢◌, ◌<◌, ◌∙◌, ap, sym, subst, ℕ, Bool, true, false, cond, inl, inr, List, [], ◌∷◌, length, get_or, refl, arith, eq-eqb, get_or-set_other}
+use Rattle.std.proofs.Common.{Bor, ◌≡◌, ◌≢◌, ◌<◌, ◌∙◌, ap, sym, subst, ℕ, Bool, true, false, cond, inl, inr, List, [], ◌∷◌, length, get_or, refl, arith, eq-eqb, get_or-set_other}
 use Rattle.std.specs.List.{AllByRecursion, slice_get}
 use Rattle.std.proofs.Math.ListN.{set}
 use Rattle.std.proofs.lemmas.Bool.{cases_Bool, cases_lt, eqb-true}
@@ -7,6 +7,7 @@ use Rattle.std.proofs.lemmas.Grind.{get_or-set_at}
 use Rattle.std.proofs.lemmas.List.{get_or_past}
 use Rattle.std.proofs.lemmas.Option.{slice_get-get_or}
 use Rattle.std.specs.Prelude.{◌==◌, ◌&&◌, not, filter, find, map, IfSome, Option, Some, None}
+use Rattle.std.specs.Option.{option_copied}
 use Rattle.ld_base.specs.declared.linking.Loaded.{Loaded}
 use Rattle.ld_base.specs.declared.linking.Choice.{Choice}
 use Rattle.ld_base.specs.declared.linking.Choice.TheVariants.{Def}
@@ -22,6 +23,8 @@ use Rattle.search_lists.specs.Lists.{list_of, lists_of, scope_in, scope_on}
 use Rattle.sym_lookup.specs.Looking.{HaveTables, choice_of_symbol, outside}
 use Rattle.sym_lookup.specs.References.{AreKept, IsAlike}
 use Rattle.search_lists.specs.declared.lists.SearchList.{SearchList}
+use Rattle.version_places.specs.Places.{places_of}
+use Rattle.version_places.specs.declared.names.VersionPlace.{VersionPlace}
 
 module _ (pick : ℕ → Option ℕ) (serial : ℕ) (rest : List ℕ) where
   first_none : pick serial ≡ None → first_with pick (serial ∷ rest) ≡ first_with pick rest
@@ -181,3 +184,23 @@ alike_choice s o copy kept other index symbol before (Some c) within there-is he
     ∙ ap (λ (z : Symbol). choose_for s o other z copy) (same_fields before symbol alike)
     ∙ sizes_apart s o other index symbol before.value before.size copy apart
     ∙ symbol_choice s o index symbol copy (choose_for s o index symbol copy) within here refl
+
+-- ---- the names of versions
+
+-- an object is there under its own serial
+serial_by : (x : Loaded) (rest : List Loaded) (q : ℕ) (o : Loaded) (own : Bool) → (x.serial == q) ≡ own → (with_serial rest q ≡ Some o → o.serial ≡ q) → cond own (Some x) (with_serial rest q) ≡ Some o → o.serial ≡ q
+serial_by x rest q o true same later here = (let is : x ≡ o = cc here in ap (λ (y : Loaded). y.serial) (sym is) ∙ eqb-true x.serial q same)
+serial_by x rest q o false other later there = later there
+
+serial_found : (objects : List Loaded) (q : ℕ) (o : Loaded) → with_serial objects q ≡ Some o → o.serial ≡ q
+serial_found [] q o found = absurd (cc found)
+serial_found (x ∷ rest) q o found = serial_by x rest q o (x.serial == q) refl (serial_found rest q o) found
+
+pub there_by_serial : (s : Seen) (q : ℕ) (o : Loaded) → object_of s q ≡ Some o → object_of s o.serial ≡ Some o
+there_by_serial s q o there = ap (object_of s) (serial_found s.objects q o there) ∙ there
+
+-- the names of the object at a place, if there is one
+pub names_there : (found : Option Loaded) (names : Option (Bor (List (Option VersionPlace)))) → ((o : Loaded) → found ≡ Some o → option_copied names ≡ Some (places_of o.object)) → IfSome found (λ o. IfSome names (λ n. n.now ≡ places_of o.object))
+names_there None names are = tt
+names_there (Some o) None are = tt
+names_there (Some o) (Some n) are = (let is : Some n.now ≡ Some (places_of o.object) = are o refl in cc is)

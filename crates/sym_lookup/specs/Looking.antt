@@ -1,9 +1,11 @@
 -- What a look-up by tables and lists stands on.
-use Rattle.std.specs.Prelude.{◌≡◌, ℕ, ◌==◌, ◌&&◌, if◌then◌else◌, Bool, Option, Some, None}
+use Rattle.std.specs.Prelude.{◌≡◌, ℕ, ◌==◌, ◌&&◌, if◌then◌else◌, Bool, List, Option, Some, None}
 use Rattle.std.specs.List.{slice_get}
 use Rattle.ld_base.specs.declared.linking.Choice.{Choice}
 use Rattle.ld_base.specs.declared.linking.Choice.TheVariants.{Missing}
 use Rattle.ld_base.specs.declared.linking.Loaded.{Loaded}
+use Rattle.ld_base.specs.declared.linking.Want.{Want}
+use Rattle.ld_base.specs.declared.linking.Want.TheVariants as want
 use Rattle.scope_rule.specs.Choose.{choose_for}
 use Rattle.scope_rule.specs.Loading.{object_of}
 use Rattle.scope_rule.specs.Seen.{Seen}
@@ -26,3 +28,8 @@ choice_of_symbol s o index copy = elim (slice_get o.object.symbols index) [ Some
 -- an object that is searched stands where the one of its serial does
 abbrev pub IsSearched : Seen → Searched → Type 0
 IsSearched s x = at_place s x.place ≡ object_of s x.serial
+
+-- what a reference wants that asks for this version, or for none
+abbrev pub want_for : Option (List ℕ) → Want
+want_for (Some version) = want.Version version
+want_for None = want.Plain

@@ -1,41 +1,62 @@
 //! Looking a reference up in search lists.
 
 ghost use Rattle.std.specs.Prelude.{◌≡◌, ◌<◌, ◌&&◌, not, Some, length, IsSome, IfSome};
+ghost use Rattle.std.specs.Option.{option_copied};
 ghost use Rattle.scope_rule.specs.Choose.{choose_for, choose_of, first_with, is_own, pick_at, want_of};
 ghost use Rattle.scope_rule.specs.Loading.{object_of};
 ghost use Rattle.scope_rule.specs.Relocation.{choice_at};
 ghost use Rattle.scope_rule.specs.Scope.{scope};
-ghost use Rattle.scope_rule.specs.Seen.{seen, seen_in};
+ghost use Rattle.scope_rule.specs.Seen.{Seen, seen, seen_in};
 ghost use Rattle.search_lists.specs.Lists.{lists_of};
 ghost use Rattle.sym_find.specs.Reference.{want_as};
-ghost use Rattle.sym_lookup.specs.Looking.{HaveTables, outside};
+ghost use Rattle.sym_lookup.specs.Looking.{HaveTables, outside, want_for};
+ghost use Rattle.version_places.specs.Places.{places_of};
 
-use crate::searched::{Searched, found_outside};
-use ld_base::{Choice, Loaded, Object, Reloc, Serial, Symbol};
+use crate::searched::{Searched, found_outside, names_of};
+use ld_base::{Choice, Loaded, Name, Object, Reloc, Serial, Symbol};
 use scope_rule::{Namespace, View, choice_of, has_no_symbol, is_copy, is_own};
 use search_lists::SearchLists;
 use sym_find::{Asked, Sought};
+use version_places::{VersionNames, version_name};
 
-/// What a relocation against a symbol asks for: the version of the symbol's index, if the index names
-/// one (Drepper, "ELF Symbol Versioning").
-fn asked_of<'a>(object: &'a Object, symbol: &Symbol) -> Asked<'a>
-    ensures { want_as result ≡ want_of object.now symbol.now }
+/// The version that a relocation against a symbol asks for: that of the symbol's index, if the index
+/// names one (Drepper, "ELF Symbol Versioning").
+pub(crate) fn version_asked<'a>(
+    object: &'a Object,
+    names: Option<&VersionNames>,
+    symbol: &Symbol,
+) -> Option<&'a Name>
+    requires { IfSome names (λ n. n.now ≡ places_of object.now) }
+    ensures { want_of object.now symbol.now ≡ want_for (option_copied result) }
 {
     if symbol.version_index() < 2 {
-        return Asked::Plain;
+        return None;
     }
-    match object.version_name(symbol.version_index()) {
+    version_name(object, names, symbol.version_index())
+}
+
+/// What such a relocation asks for.
+fn asked_of<'a>(object: &'a Object, names: Option<&VersionNames>, symbol: &Symbol) -> Asked<'a>
+    requires { IfSome names (λ n. n.now ≡ places_of object.now) }
+    ensures { want_as result ≡ want_of object.now symbol.now }
+{
+    match version_asked(object, names, symbol) {
         Some(name) => Asked::Version(name.as_bytes()),
         None => Asked::Plain,
     }
 }
 
 /// What a symbol of an object refers to.
-pub(crate) fn sought_of<'a>(object: &'a Object, symbol: &'a Symbol) -> Sought<'a>
+pub(crate) fn sought_of<'a>(
+    object: &'a Object,
+    names: Option<&VersionNames>,
+    symbol: &'a Symbol,
+) -> Sought<'a>
+    requires { IfSome names (λ n. n.now ≡ places_of object.now) }
     ensures name { result.name ≡ symbol.now.name }
     ensures want { result.want ≡ want_of object.now symbol.now }
 {
-    Sought::new(symbol.name.as_bytes(), asked_of(object, symbol))
+    Sought::new(symbol.name.as_bytes(), asked_of(object, names, symbol))
 }
 
 /// Whether no other object may define the symbol, and the relocation isn't a COPY.
@@ -63,11 +84,18 @@ fn first_found(
             serial: *serial,
             place: lists.place(*serial),
         };
-        if let Some(index) = found_outside(view, sought, searched, owner, copy) {
+        if let Some(index) = found_outside(view, lists, sought, searched, owner, copy) {
             return Some((*serial, index));
         }
     }
     None
+}
+
+/// The names of the versions of an object that is there.
+pub(crate) fn owner_names<'a>(lists: &'a SearchLists, owner: &Loaded) -> Option<&'a VersionNames>
+    ensures { (s : Seen) → lists.now ≡ lists_of s → object_of s owner.now.serial ≡ Some owner.now → IfSome result (λ n. n.now ≡ places_of owner.now.object) }
+{
+    names_of(lists, lists.place(owner.serial))
 }
 
 /// The choice for a symbol of an object whose references are searched there.
@@ -82,13 +110,15 @@ fn lookup_for(
 ) -> Choice
     requires lists { lists.now ≡ lists_of (seen view.now) }
     requires tables { HaveTables (seen view.now) }
+    requires there { object_of (seen view.now) owner.now.serial ≡ Some owner.now }
     requires scope { list.now ≡ scope (seen view.now) owner.now }
     ensures { result ≡ choose_for (seen view.now) owner.now index symbol.now copy }
 {
     if stays_own(symbol, copy) {
         Choice::Def(owner.serial, index)
     } else {
-        let sought = sought_of(&owner.object, symbol);
+        let names = owner_names(lists, owner);
+        let sought = sought_of(&owner.object, names, symbol);
         let found = first_found(view, lists, &sought, list, owner.serial, copy);
         choice_of(symbol, found)
     }

@@ -1,17 +1,19 @@
 //! Searching objects for a reference.
 
-ghost use Rattle.std.specs.Prelude.{◌≡◌, map};
+ghost use Rattle.std.specs.Prelude.{◌≡◌, map, IfSome};
 ghost use Rattle.std.specs.List.{AllByRecursion};
 ghost use Rattle.std.specs.Option.{option_copied};
 ghost use Rattle.scope_rule.specs.Choose.{first_with, pick_at};
-ghost use Rattle.scope_rule.specs.Seen.{seen};
-ghost use Rattle.search_lists.specs.Lists.{at_place};
+ghost use Rattle.scope_rule.specs.Seen.{Seen, seen};
+ghost use Rattle.search_lists.specs.Lists.{at_place, lists_of};
 ghost use Rattle.sym_lookup.specs.Looking.{HaveTables, IsSearched, outside};
+ghost use Rattle.version_places.specs.Places.{places_of};
 
 use ld_base::{Loaded, Serial};
 use scope_rule::{View, linker_symbol};
-use search_lists::object_at;
+use search_lists::{SearchLists, object_at};
 use sym_find::{Find, Sought};
+use version_places::VersionNames;
 
 /// An object that is searched: its serial, and its place in load order where it is there.
 #[derive(Clone, Copy)]
@@ -30,9 +32,20 @@ fn object_of<'a>(view: &View<'a>, place: Option<usize>) -> Option<&'a Loaded>
     }
 }
 
+/// The names of the versions of the object at a place, if there is one.
+pub(crate) fn names_of(lists: &SearchLists, place: Option<usize>) -> Option<&VersionNames>
+    ensures { (s : Seen) → lists.now ≡ lists_of s → IfSome (at_place s place) (λ o. IfSome result (λ n. n.now ≡ places_of o.object)) }
+{
+    match place {
+        Some(place) => lists.names_at(place),
+        None => None,
+    }
+}
+
 /// What an object of the namespace, or the linker's own, has for a reference.
 #[tactic(auto, unfolding(scope_rule::specs::Choose::pick_at))]
-fn found_at(view: &View, sought: &Sought, searched: Searched) -> Option<u32>
+fn found_at(view: &View, lists: &SearchLists, sought: &Sought, searched: Searched) -> Option<u32>
+    requires lists { lists.now ≡ lists_of (seen view.now) }
     requires tables { HaveTables (seen view.now) }
     requires searched { IsSearched (seen view.now) searched }
     ensures { result ≡ pick_at (seen view.now) sought.now.name sought.now.want searched.serial }
@@ -41,7 +54,10 @@ fn found_at(view: &View, sought: &Sought, searched: Searched) -> Option<u32>
         return linker_symbol(sought.name());
     }
     match object_of(view, searched.place) {
-        Some(loaded) => loaded.table.find_sought(&loaded.object, sought),
+        Some(loaded) => {
+            let names = names_of(lists, searched.place);
+            loaded.table.find_sought(&loaded.object, names, sought)
+        }
         None => None,
     }
 }
@@ -49,11 +65,13 @@ fn found_at(view: &View, sought: &Sought, searched: Searched) -> Option<u32>
 /// The same, where nothing is looked for in the object itself if the relocation is a COPY.
 pub(crate) fn found_outside(
     view: &View,
+    lists: &SearchLists,
     sought: &Sought,
     searched: Searched,
     owner: Serial,
     copy: bool,
 ) -> Option<u32>
+    requires lists { lists.now ≡ lists_of (seen view.now) }
     requires tables { HaveTables (seen view.now) }
     requires searched { IsSearched (seen view.now) searched }
     ensures { result ≡ outside copy owner (pick_at (seen view.now) sought.now.name sought.now.want) searched.serial }
@@ -61,24 +79,26 @@ pub(crate) fn found_outside(
     if copy && searched.serial == owner {
         None
     } else {
-        found_at(view, sought, searched)
+        found_at(view, lists, sought, searched)
     }
 }
 
 /// The first of these objects that has a definition, with its symbol.
 pub(crate) fn first_searched(
     view: &View,
+    lists: &SearchLists,
     sought: &Sought,
     searched: &[Searched],
     owner: Serial,
     copy: bool,
 ) -> Option<(Serial, u32)>
+    requires lists { lists.now ≡ lists_of (seen view.now) }
     requires tables { HaveTables (seen view.now) }
     requires searched { AllByRecursion (IsSearched (seen view.now)) searched.now }
     ensures { result ≡ first_with (outside copy owner (pick_at (seen view.now) sought.now.name sought.now.want)) (map (λ x. x.serial) searched.now) }
 {
     for one in searched {
-        if let Some(index) = found_outside(view, sought, *one, owner, copy) {
+        if let Some(index) = found_outside(view, lists, sought, *one, owner, copy) {
             return Some((one.serial, index));
         }
     }

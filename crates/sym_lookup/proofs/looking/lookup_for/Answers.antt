@@ -11,3 +11,6 @@ returns-else-stays_own c =
     c.choice_of.ensures
     ∙ searched_choice (seen c.args.view.now) c.args.owner.now c.args.index c.args.symbol.now c.args.copy c.sought_of-sought.result.name c.sought_of-sought.result.want c.args.list.now c.first_found-found.result
     (sym c.stays_own.ensures ∙ c.if-stays_own.false) c.sought_of-sought.ensures.name c.sought_of-sought.ensures.want c.requires.scope c.first_found-found.ensures
+
+pub sought_of-sought-requires : goal.sought_of-sought-requires
+sought_of-sought-requires c = c.owner_names-names.ensures (seen c.args.view.now) c.requires.lists c.requires.there

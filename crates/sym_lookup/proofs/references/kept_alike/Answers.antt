@@ -11,5 +11,5 @@ returns c = λ s are.
     let few : c.args.other < length symbols = rw c.as_slice-symbols.ensures.value at c.if-other-symbols.false in
     let here : symbol ≡ get_or symbols c.args.index symbol = rw c.as_slice-symbols.ensures.value at c.index-symbols-index.is in
     let there : before ≡ get_or symbols c.args.other before = rw c.as_slice-symbols.ensures.value at c.index-symbols-other.is in
-    alike_choice s c.args.owner.now c.args.copy c.args.kept.now c.args.other c.args.index symbol before c.kept_at.result c.requires.symbol few here there
+    alike_choice s c.args.owner.now c.args.copy c.args.kept.now c.args.other c.args.index symbol before c.kept_at.result c.requires few here there
     (c.is_alike.ensures c.if-not-is_alike.false) (sym c.stays_own.ensures ∙ c.if-stays_own.false) c.kept_at.ensures are

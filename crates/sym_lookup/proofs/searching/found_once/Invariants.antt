@@ -4,7 +4,7 @@ use Rattle.scope_rule.specs.Seen.{Seen}
 use Rattle.search_lists.specs.Lists.{lists_of}
 use Rattle.sym_lookup.specs.Looking.{IsSearched}
 use Rattle.sym_lookup.specs.declared.searched.Searched.{Searched}
-use Rattle.sym_lookup.proofs.references.found_once.Given as goal
+use Rattle.sym_lookup.proofs.searching.found_once.Given as goal
 
 -- those of the serials so far
 abbrev pub invariant-loop-serial : goal.invariant-loop-serial

@@ -1,14 +1,24 @@
-use Rattle.std.proofs.Common.{◌∙◌, map, sym}
+use Rattle.std.proofs.Common.{◌≡◌, ◌∙◌, ap, map, subst, sym}
+use Rattle.ld_base.specs.declared.linking.Choice.TheVariants.{Def}
+use Rattle.scope_rule.specs.Choose.{choose_for}
 use Rattle.scope_rule.specs.Seen.{seen}
+use Rattle.sym_lookup.specs.References.{Referring}
 use Rattle.sym_lookup.specs.declared.searched.Searched.{Searched}
 use Rattle.sym_lookup.proofs.Searches.{own_choice, searched_choice}
-use Rattle.sym_lookup.proofs.references.search_for.Goals as goal
+use Rattle.sym_lookup.proofs.searching.Searching.search_for.Goals as goal
 
 pub returns-then-stays_own : goal.returns-then-stays_own
-returns-then-stays_own c = own_choice (seen c.args.view.now) c.args.owner.now c.args.index c.args.symbol.now c.args.copy (sym c.stays_own.ensures ∙ c.if-stays_own.true)
+returns-then-stays_own c =
+    let o = c.self.inside.owner.now in
+    let P : Referring → Type 0 = λ r. Def o.serial c.args.index ≡ choose_for r.seen r.owner c.args.index c.args.symbol.now c.args.copy in
+    subst P c.self.view_is (own_choice (seen c.self.inside.view) o c.args.index c.args.symbol.now c.args.copy (sym c.stays_own.ensures ∙ c.if-stays_own.true))
 
 pub returns-else-stays_own : goal.returns-else-stays_own
 returns-else-stays_own c =
-    c.choice_of.ensures
-    ∙ searched_choice (seen c.args.view.now) c.args.owner.now c.args.index c.args.symbol.now c.args.copy c.sought_of-sought.result.name c.sought_of-sought.result.want (map (λ (x : Searched). x.serial) c.args.searched.now) c.first_searched-found.result
-    (sym c.stays_own.ensures ∙ c.if-stays_own.false) c.sought_of-sought.ensures.name c.sought_of-sought.ensures.want c.requires.serials c.first_searched-found.ensures
+    let o = c.self.inside.owner.now in
+    let P : Referring → Type 0 = λ r. c.choice_of.result ≡ choose_for r.seen r.owner c.args.index c.args.symbol.now c.args.copy in
+    let listed = ap (map (λ (x : Searched). x.serial)) c.as_slice-searched.ensures.value ∙ c.self.invariant.3 in
+    subst P c.self.view_is
+    (c.choice_of.ensures
+    ∙ searched_choice (seen c.self.inside.view) o c.args.index c.args.symbol.now c.args.copy c.sought_of-sought.result.name c.sought_of-sought.result.want (map (λ (x : Searched). x.serial) c.as_slice-searched.result.now) c.first_searched-found.result
+    (sym c.stays_own.ensures ∙ c.if-stays_own.false) c.sought_of-sought.ensures.name c.sought_of-sought.ensures.want listed c.first_searched-found.ensures)

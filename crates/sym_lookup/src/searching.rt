@@ -1,0 +1,143 @@
+//! What searches for the references of one object.
+
+ghost use Rattle.std.specs.Prelude.{◌≡◌, map, IfOk};
+ghost use Rattle.std.specs.List.{AllByRecursion};
+ghost use Rattle.scope_rule.specs.Seen.{Seen};
+ghost use Rattle.search_lists.specs.Lists.{lists_of};
+ghost use Rattle.sym_lookup.specs.Looking.{IsSearched};
+
+use crate::looking::{sought_of, stays_own, version_asked};
+use crate::searched::{Searched, first_searched};
+use ld_base::{Choice, Loaded, Name, Serial, Symbol};
+use scope_rule::{View, choice_of};
+use search_lists::SearchLists;
+use std::alloc::{AllocError, Global};
+use std::marker::Model;
+use version_places::VersionNames;
+
+/// An object, and what its references are searched in: each object that is searched is found once.
+/// Contracts see the object, and what is seen of its namespace.
+#[derive(Drop)]
+pub(crate) struct Searching<'a> {
+    view: View<'a>,
+    lists: &'a SearchLists,
+    pub(crate) owner: &'a Loaded,
+    /// The names of the owner's versions.
+    names: Option<&'a VersionNames>,
+    searched: Vec<Searched>,
+}
+
+impl<'a> Model for Searching<'a> {
+    ghost use Rattle.std.specs.Prelude.{◌≡◌, map, IfSome};
+    ghost use Rattle.std.specs.List.{AllByRecursion};
+    ghost use Rattle.scope_rule.specs.Scope.{scope};
+    ghost use Rattle.scope_rule.specs.Seen.{seen};
+    ghost use Rattle.search_lists.specs.Lists.{lists_of};
+    ghost use Rattle.sym_lookup.specs.Looking.{HaveTables, IsSearched};
+    ghost use Rattle.sym_lookup.specs.References.{Referring};
+    ghost use Rattle.version_places.specs.Places.{places_of};
+
+    ghost Value = { Referring };
+
+    ghost view = { λ s. record { seen = seen s.view; owner = s.owner.now } };
+
+    ghost invariant = { λ s.
+        (s.lists.now ≡ lists_of (seen s.view))
+        × IfSome s.names (λ n. n.now ≡ places_of s.owner.now.object)
+        × HaveTables (seen s.view)
+        × (map (λ x. x.serial) s.searched.items ≡ scope (seen s.view) s.owner.now)
+        × AllByRecursion (IsSearched (seen s.view)) s.searched.items };
+}
+
+/// The objects that are searched, each found once.
+fn found_once(
+    alloc: Global,
+    lists: &SearchLists,
+    serials: &[Serial],
+) -> Result<Vec<Searched>, AllocError>
+    ensures serials { IfOk result (λ found. map (λ x. x.serial) found.items ≡ serials.now) }
+    ensures places { IfOk result (λ found. (s : Seen) → lists.now ≡ lists_of s → AllByRecursion (IsSearched s) found.items) }
+{
+    let mut found = Vec::new(alloc);
+    for serial in serials {
+        found.push(Searched {
+            serial: *serial,
+            place: lists.place(*serial),
+        })?;
+    }
+    Ok(found)
+}
+
+impl<'a> Searching<'a> {
+    ghost use Rattle.std.specs.Prelude.{◌≡◌, ◌<◌, length, IfOk, IfSome};
+    ghost use Rattle.std.specs.Option.{option_copied};
+    ghost use Rattle.scope_rule.specs.Choose.{choose_for, want_of};
+    ghost use Rattle.scope_rule.specs.Scope.{scope};
+    ghost use Rattle.scope_rule.specs.Seen.{seen};
+    ghost use Rattle.search_lists.specs.Lists.{lists_of};
+    ghost use Rattle.sym_lookup.specs.Looking.{HaveTables, choice_of_symbol, want_for};
+    ghost use Rattle.version_places.specs.Places.{places_of};
+
+    /// Those of an object with these names of versions, whose references are searched there.
+    pub(crate) fn of(
+        alloc: Global,
+        view: &View<'a>,
+        lists: &'a SearchLists,
+        names: Option<&'a VersionNames>,
+        list: &[Serial],
+        owner: &'a Loaded,
+    ) -> Result<Self, AllocError>
+        requires lists { lists.now ≡ lists_of (seen view.now) }
+        requires names { IfSome names (λ n. n.now ≡ places_of owner.now.object) }
+        requires tables { HaveTables (seen view.now) }
+        requires scope { list.now ≡ scope (seen view.now) owner.now }
+        ensures { IfOk result (λ searching. searching ≡ record { seen = seen view.now; owner = owner.now }) }
+    {
+        let searched = found_once(alloc, lists, list)?;
+        Ok(Searching {
+            view: *view,
+            lists,
+            owner,
+            names,
+            searched,
+        })
+    }
+
+    /// The version that a reference to a symbol of the object asks for.
+    pub(crate) fn version(&self, symbol: &Symbol) -> Option<&'a Name>
+        ensures { want_of self.now.owner.object symbol.now ≡ want_for (option_copied result) }
+    {
+        version_asked(&self.owner.object, self.names, symbol)
+    }
+
+    /// The choice for a symbol of the object.
+    fn search_for(&self, index: u32, symbol: &Symbol, copy: bool) -> Choice
+        ensures { result ≡ choose_for self.now.seen self.now.owner index symbol.now copy }
+    {
+        let owner = self.owner;
+        if stays_own(symbol, copy) {
+            Choice::Def(owner.serial, index)
+        } else {
+            let sought = sought_of(&owner.object, self.names, symbol);
+            let searched = self.searched.as_slice();
+            let found = first_searched(
+                &self.view,
+                self.lists,
+                &sought,
+                searched,
+                owner.serial,
+                copy,
+            );
+            choice_of(symbol, found)
+        }
+    }
+
+    /// The same, of the symbol at an index.
+    pub(crate) fn search(&self, index: u32, copy: bool) -> Choice
+        requires { index < length self.now.owner.object.symbols }
+        ensures { result ≡ choice_of_symbol self.now.seen self.now.owner index copy }
+    {
+        let symbol = &self.owner.object.symbols.as_slice()[index as usize];
+        self.search_for(index, symbol, copy)
+    }
+}
