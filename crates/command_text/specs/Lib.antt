@@ -3,5 +3,4 @@ pub mod DumpLines
 pub mod Lines
 pub mod Named
 pub mod Refusal
-pub mod VersionNames
 pub mod Words

@@ -6,12 +6,12 @@ ghost use Rattle.std.specs.Option.{option_copied};
 ghost use Rattle.std.specs.String.{string_bytes};
 ghost use Rattle.ld_base.specs.Text.{name_or_none};
 ghost use Rattle.command_text.specs.DumpLines.{head_line, needed_line, symbol_line, reloc_line, relr_line, plt_line, symbol_lines, dump_text};
-ghost use Rattle.command_text.specs.VersionNames.{AreOf};
+ghost use Rattle.version_places.specs.Places.{places_of};
 
-use crate::version_names::VersionNames;
 use ld_base::{Kind, Name, Object, Reloc, Symbol};
 use std::alloc::{AllocError, Global};
 use std::fmt;
+use version_places::VersionNames;
 
 /// How long a text may be when a symbol is to follow. Symbols share names of versions, so that those
 /// of a file of 8 MiB could ask for more than a GiB.
@@ -69,14 +69,14 @@ fn write_symbol(
     index: usize,
     symbol: &Symbol,
 ) -> Result<(), AllocError>
-    requires { AreOf object.now names.now.definitions.items names.now.needs.items }
+    requires { names.now ≡ places_of object.now }
     ensures { OnOk result (string_bytes text.new ≡ string_bytes text.old ++ symbol_line object.now (index, symbol.now)) }
 {
     if text.len() > MOST_TEXT {
         return Err(AllocError);
     }
     let name = &symbol.name;
-    let version = OrNone(names.name(object, symbol.version_index()));
+    let version = OrNone(names.get(object, symbol.version_index()));
     let value = symbol.value;
     let defined = if symbol.is_defined() { "def" } else { "undef" };
     writeln!(
@@ -87,7 +87,7 @@ fn write_symbol(
 
 /// Writes the symbols but for the null symbol.
 fn write_symbols(text: &mut String, object: &Object, names: &VersionNames) -> Result<(), AllocError>
-    requires { AreOf object.now names.now.definitions.items names.now.needs.items }
+    requires { names.now ≡ places_of object.now }
     ensures { OnOk result (string_bytes text.new ≡ string_bytes text.old ++ symbol_lines object.now) }
 {
     if let [_null, symbols @ ..] = object.symbols.as_slice() {
@@ -159,7 +159,7 @@ fn write_slots(text: &mut String, slots: &[Reloc]) -> Result<(), AllocError>
 pub fn dump_text(alloc: Global, object: &Object) -> Result<String, AllocError>
     ensures { IfOk result (λ text. string_bytes text ≡ dump_text object.now) }
 {
-    let names = VersionNames::new(alloc, object)?;
+    let names = VersionNames::of(alloc, object)?;
     let mut text = String::new(alloc);
     write_head(&mut text, object)?;
     write_all_needed(&mut text, object.needed.as_slice())?;

@@ -12,7 +12,6 @@ mod lines;
 mod objects;
 mod references;
 mod refusal;
-mod version_names;
 mod words;
 
 pub use dump_lines::dump_text;

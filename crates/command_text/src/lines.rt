@@ -4,12 +4,13 @@ ghost use Rattle.std.specs.Prelude.{◌≡◌, ◌++◌, ◌<◌, length, flat_m
 ghost use Rattle.std.specs.List.{slice_get, enumerate_from};
 ghost use Rattle.std.specs.Option.{option_copied};
 ghost use Rattle.std.specs.String.{string_bytes};
+ghost use Rattle.scope_rule.specs.Choose.{want_of};
 ghost use Rattle.scope_rule.specs.Relocation.{choice_at, names_symbols};
+ghost use Rattle.sym_lookup.specs.Looking.{want_for};
 ghost use Rattle.command_text.specs.Lines.{object_line, choice_text, version_of, slot_text, numbered_line, slot_lines};
 
 use ld_base::{Choice, Loaded, Name, Symbol, Want};
-use scope_rule::want_of;
-use std::alloc::{AllocError, Global};
+use std::alloc::AllocError;
 use std::fmt;
 use sym_lookup::References;
 
@@ -50,23 +51,23 @@ fn write_object(text: &mut String, object: &Loaded) -> Result<(), AllocError>
     writeln!(text, "object {serial} {path}")
 }
 
-/// Writes a slot.
+/// Writes a slot, the reference of which asks for this version.
 #[tactic(auto, unfolding(crate::specs::Lines::slot_text))]
 fn write_slot(
-    alloc: Global,
     text: &mut String,
     owner: &Loaded,
     number: usize,
     symbol: &Symbol,
+    version: Option<&Name>,
     choice: Choice,
 ) -> Result<(), AllocError>
+    requires { want_of owner.now.object symbol.now ≡ want_for (option_copied version) }
     ensures { OnOk result (string_bytes text.new ≡ string_bytes text.old ++ slot_text owner.now number symbol.now choice) }
 {
     let choice = Chosen(choice);
-    let want = want_of(alloc, &owner.object, symbol)?;
     let serial = owner.serial.number();
     let name = &symbol.name;
-    match version_of(&want) {
+    match version {
         Some(version) => writeln!(text, "slot {serial} {number} {name} {version} -> {choice}"),
         None => writeln!(text, "slot {serial} {number} {name} - -> {choice}"),
     }
@@ -74,7 +75,6 @@ fn write_slot(
 
 /// Writes the slots of an object, whose references these are, in order.
 pub(crate) fn write_each_slot(
-    alloc: Global,
     text: &mut String,
     references: &mut References,
     owner: &Loaded,
@@ -86,7 +86,8 @@ pub(crate) fn write_each_slot(
     for (number, slot) in owner.object.plt_relocs.as_slice().iter().enumerate() {
         let symbol = &owner.object.symbols.as_slice()[slot.symbol as usize];
         let choice = references.choice(slot);
-        write_slot(alloc, text, owner, number, symbol, choice)?;
+        let version = references.version(symbol);
+        write_slot(text, owner, number, symbol, version, choice)?;
     }
     Ok(())
 }

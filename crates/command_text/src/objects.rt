@@ -45,7 +45,7 @@ fn refuse_or_write(
     if let Some(fault) = refusal_of(alloc, references, now, owner)? {
         return Ok(Some(fault));
     }
-    write_each_slot(alloc, text, references, owner)?;
+    write_each_slot(text, references, owner)?;
     Ok(None)
 }
 

@@ -15,7 +15,7 @@ use sym_lookup::{References, SearchLists};
 pub(crate) fn references_at<'a>(
     alloc: Global,
     ns: &'a Namespace,
-    lists: &SearchLists,
+    lists: &'a SearchLists,
     place: usize,
     owner: &'a Loaded,
 ) -> Result<References<'a>, AllocError>
