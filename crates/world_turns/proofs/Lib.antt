@@ -1,6 +1,7 @@
 pub mod Counting
 pub mod Events
 pub mod Exchanging
+pub mod Granted
 pub mod Next
 pub mod Offers
 pub mod Places

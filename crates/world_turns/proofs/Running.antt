@@ -23,38 +23,39 @@ use Rattle.world_turns.proofs.Turning.{freed_at}
 
 -- ---- turns
 
-module _ (w : Setting) (turns : (h : ℕ) (old new : World) → Sound w old → Turn w h old new → Sound w new) where
-  takes : (h : ℕ) (old new : World) → TakesTurn w h old new → Sound w old → Sound w new
+-- what holds of a world, and with every turn of the next
+module _ (w : Setting) (Holds : World → Type 0) (turns : (h : ℕ) (old new : World) → Holds old → Turn w h old new → Holds new) where
+  takes : (h : ℕ) (old new : World) → TakesTurn w h old new → Holds old → Holds new
   takes h old new (TakesTurn.turn t) x = turns h old new x t
-  takes h old new (TakesTurn.passed_over b reason at is same) x = subst (λ (world : World). Sound w world) (sym same) x
+  takes h old new (TakesTurn.passed_over b reason at is same) x = subst Holds (sym same) x
 
-  constructs : (old new : World) → Constructs w old new → Sound w old → Sound w new
+  pub constructs : (old new : World) → Constructs w old new → Holds old → Holds new
   constructs old new (Constructs.no_more _ none) x = x
   constructs old new (Constructs.one_more _ between _ starts turn more) x = constructs between new more (turns 0 old between x turn)
 
-  repeats : (h count : ℕ) (old new : World) → Repeats w h count old new → Sound w old → Sound w new
+  repeats : (h count : ℕ) (old new : World) → Repeats w h count old new → Holds old → Holds new
   repeats h count old new (Repeats.no_more _) x = x
   repeats h count old new (Repeats.one_more rest _ between _ turn more) x = repeats h rest between new more (takes h old between turn x)
 
-  items_keep : (items : List TurnItem) (old new : World) → TakesItems w items old new → Sound w old → Sound w new
+  pub items_keep : (items : List TurnItem) (old new : World) → TakesItems w items old new → Holds old → Holds new
   items_keep items old new (TakesItems.no_more _) x = x
   items_keep items old new (TakesItems.one_more item rest _ between _ first more) x = items_keep rest between new more (repeats item.hart item.count old between first x)
 
-  rounds : (harts : List ℕ) (old new : World) → Rounds w harts old new → Sound w old → Sound w new
+  rounds : (harts : List ℕ) (old new : World) → Rounds w harts old new → Holds old → Holds new
   rounds harts old new (Rounds.no_more _) x = x
   rounds harts old new (Rounds.one_more h rest _ between _ turn more) x = rounds rest between new more (takes h old between turn x)
 
-  finishes : (old new : World) → Finishes w old new → Sound w old → Sound w new
+  pub finishes : (old new : World) → Finishes w old new → Holds old → Holds new
   finishes old new (Finishes.no_more _ all) x = x
   finishes old new (Finishes.one_more _ between _ runs round more) x = finishes between new more (rounds (all_harts old) old between round x)
 
-  ends_keep : (old new : World) → Ends w old new → Sound w old → Sound w new
+  ends_keep : (old new : World) → Ends w old new → Holds old → Holds new
   ends_keep old new (Ends.no_more _ all) x = x
   ends_keep old new (Ends.one_more _ between _ runs turn more) x = ends_keep between new more (turns 0 old between x turn)
 
-  finals : (registers : Registers) (old new : World) → ((begun : World) → Begins registers old begun → Sound w begun) → (LacksMemory w old new → Sound w new) → Finalises w registers old new → Sound w old → Sound w new
-  finals registers old new begins lacks (Finalises.none_runs exited same) x = subst (λ (world : World). Sound w world) (sym same) x
-  finals registers old new begins lacks (Finalises.none_is_left none same) x = subst (λ (world : World). Sound w world) (sym same) x
+  pub finals : (registers : Registers) (old new : World) → ((begun : World) → Begins registers old begun → Holds begun) → (LacksMemory w old new → Holds new) → Finalises w registers old new → Holds old → Holds new
+  finals registers old new begins lacks (Finalises.none_runs exited same) x = subst Holds (sym same) x
+  finals registers old new begins lacks (Finalises.none_is_left none same) x = subst Holds (sym same) x
   finals registers old new begins lacks (Finalises.no_memory exited lack) x = lacks lack
   finals registers old new begins lacks (Finalises.all_run begun exited begin run) x = ends_keep begun new run (begins begun begin)
 
@@ -63,17 +64,17 @@ turns_by : TurnsAreSound → (w : Setting) → AcceptsOnly w.machine → LoadsAl
 turns_by turns w only fit h old new x turn = turns w h old new only (fit old.journal x.legal) x turn
 
 pub constructors_keep : TurnsAreSound → ConstructorsKeep
-constructors_keep turns w old new only fit = constructs w (turns_by turns w only fit) old new
+constructors_keep turns w old new only fit = constructs w (Sound w) (turns_by turns w only fit) old new
 
 pub schedule_keeps : TurnsAreSound → ItemsKeep
-schedule_keeps turns w items old new only fit = items_keep w (turns_by turns w only fit) items old new
+schedule_keeps turns w items old new only fit = items_keep w (Sound w) (turns_by turns w only fit) items old new
 
 pub rounds_keep : TurnsAreSound → RoundsKeep
-rounds_keep turns w old new only fit = finishes w (turns_by turns w only fit) old new
+rounds_keep turns w old new only fit = finishes w (Sound w) (turns_by turns w only fit) old new
 
 pub finals_keep : TurnsAreSound → FinalsBeginSound → FinalsLackSound → FinalsKeep
 finals_keep turns begin lack w registers old new only fit final x =
-    finals w (turns_by turns w only fit) registers old new (λ begun b. begin w registers old begun b x) (λ l. lack w old new only (fit old.journal x.legal) x l) final x
+    finals w (Sound w) (turns_by turns w only fit) registers old new (λ begun b. begin w registers old begun b x) (λ l. lack w old new only (fit old.journal x.legal) x l) final x
 
 pub runs_sound : StartIsSound → TurnsAreSound → FinalsBeginSound → FinalsLackSound → SettlingIsSound → RunsAreSound
 runs_sound start turns begin lack settle w setup items world run only fit =

@@ -97,7 +97,7 @@ finds_grants w past h names found addresses (FindHarts.no_more _ _) s = refl
 finds_grants w past h names found addresses (FindHarts.one_more _ _ name rest serial index value more others finds later) s =
     finds_grants w (past ++ found_at h name serial index value ∷ []) (h + 1) rest more others later s
 
-start_grants : (w : Setting) (setup : Setup) (world : World) (is : IsStarted w setup world) → (after world.journal).grants ≡ []
+pub start_grants : (w : Setting) (setup : Setup) (world : World) (is : IsStarted w setup world) → (after world.journal).grants ≡ []
 unfolding after_from loaded
 start_grants w setup world is =
     ap (λ (es : List Event). (after es).grants) is.starts.are

@@ -62,7 +62,7 @@ freed_are : (harts : List HartState) → resolvings (map freed harts) ≡ map se
 freed_are [] = refl
 freed_are (b ∷ rest) = ap (λ (rs : List Resolving). settled_resolving b.resolving ∷ rs) (freed_are rest)
 
-freed_length : (harts : List HartState) → length (map freed harts) ≡ length harts
+pub freed_length : (harts : List HartState) → length (map freed harts) ≡ length harts
 freed_length [] = refl
 freed_length (b ∷ rest) = ap suc (freed_length rest)
 

@@ -1,6 +1,8 @@
 -- What holds of a whole run on one thread, at each of its worlds and at its end.
-use Rattle.std.specs.Prelude.{ℕ, ◌<◌, List, IsTrue}
+use Rattle.std.specs.Prelude.{◌≢◌, ℕ, ◌<◌, List, length, Contains, IsTrue}
 use Rattle.link_event.specs.declared.event.Event.{Event}
+use Rattle.link_event.specs.declared.state.Granting.{Granting}
+use Rattle.link_event.specs.declared.state.Standing.TheVariants.{Open}
 use Rattle.link_served.specs.declared.startup.Setup.{Setup}
 use Rattle.rv_hart.specs.Registers.{Registers}
 use Rattle.link_history.specs.Accepted.{AcceptsOnly}
@@ -57,3 +59,15 @@ RunsEnd = (w : Setting) (setup : Setup) (items : List TurnItem) (world : World) 
 abbrev pub RunsLeaveNoGrant : Type 0
 RunsLeaveNoGrant = (w : Setting) (setup : Setup) (items : List TurnItem) (world : World) → Run w setup items world → AcceptsOnly w.machine → LoadsAlwaysFit w
     → (h : ℕ) → h < w.machine.harts → HasNoGrant (after world.journal) h
+
+-- each grant of it is of one of its harts
+abbrev pub GrantsAreOfHarts : World → Type 0
+GrantsAreOfHarts world = (g : Granting) → Contains (after world.journal).grants g → g.hart < length world.harts
+
+abbrev pub RunsGrantHarts : Type 0
+RunsGrantHarts = (w : Setting) (setup : Setup) (items : List TurnItem) (world : World) → Run w setup items world → GrantsAreOfHarts world
+
+-- so that no grant is open, as a whole history has it
+abbrev pub RunsSettle : Type 0
+RunsSettle = (w : Setting) (setup : Setup) (items : List TurnItem) (world : World) → Run w setup items world → AcceptsOnly w.machine → LoadsAlwaysFit w
+    → (g : Granting) → Contains (after world.journal).grants g → g.standing ≢ Open

@@ -2,7 +2,7 @@
 
 ghost use Rattle.world_turns.specs.Counts.{CountsJoin, NoneIsInvented, NothingShows, RunsShowInCounts};
 ghost use Rattle.world_turns.specs.Next.{OneDue, SettlingKeepsDue};
-ghost use Rattle.world_turns.specs.Throughout.{ConstructorsKeep, FinalsKeep, ItemsKeep, RoundsKeep, RunsAreSound, RunsEnd, RunsLeaveNoGrant};
+ghost use Rattle.world_turns.specs.Throughout.{ConstructorsKeep, FinalsKeep, ItemsKeep, RoundsKeep, RunsAreSound, RunsEnd, RunsGrantHarts, RunsLeaveNoGrant, RunsSettle};
 ghost use Rattle.world_turns.specs.Laws.{FinalsBeginSound, FinalsLackSound, SettlingIsSound, SoundIsSlotTrue, StartIsSound, TurnsAreSound};
 
 /// A run is sound when it starts: its journal is legal, memory is as the journal says, and no hart has a
@@ -46,7 +46,7 @@ pub fn counts_show()
 {}
 
 /// A run is sound behind each of its parts, as often as turns come in them, and at its end. Each hart has
-/// ended then, and none has an open grant.
+/// ended then, and no grant is open.
 pub fn runs_stay_sound()
     ensures constructors { ConstructorsKeep }
     ensures items { ItemsKeep }
@@ -55,6 +55,8 @@ pub fn runs_stay_sound()
     ensures run { RunsAreSound }
     ensures over { RunsEnd }
     ensures no_grant { RunsLeaveNoGrant }
+    ensures granted { RunsGrantHarts }
+    ensures settled { RunsSettle }
 {
     runs_start_sound();
     turns_stay_sound();

@@ -1,3 +1,4 @@
+use Rattle.world_turns.proofs.Granted.{runs_grant, runs_settle}
 use Rattle.world_turns.proofs.Running.{constructors_keep, finals_keep, rounds_keep, runs_end, runs_leave_no_grant, runs_sound, schedule_keeps}
 use Rattle.world_turns.proofs.law.runs_stay_sound.Goals as goal
 
@@ -21,3 +22,9 @@ returns-clause-over c = runs_end
 
 pub returns-clause-no_grant : goal.returns-clause-no_grant
 returns-clause-no_grant c = runs_leave_no_grant (runs_sound c.runs_start_sound.ensures c.turns_stay_sound.ensures.turns c.turns_stay_sound.ensures.finals c.turns_stay_sound.ensures.no_memory c.turns_stay_sound.ensures.settling)
+
+pub returns-clause-granted : goal.returns-clause-granted
+returns-clause-granted c = runs_grant
+
+pub returns-clause-settled : goal.returns-clause-settled
+returns-clause-settled c = runs_settle (runs_sound c.runs_start_sound.ensures c.turns_stay_sound.ensures.turns c.turns_stay_sound.ensures.finals c.turns_stay_sound.ensures.no_memory c.turns_stay_sound.ensures.settling) (runs_leave_no_grant (runs_sound c.runs_start_sound.ensures c.turns_stay_sound.ensures.turns c.turns_stay_sound.ensures.finals c.turns_stay_sound.ensures.no_memory c.turns_stay_sound.ensures.settling))
