@@ -1,5 +1,5 @@
 //! Calls of public functions over plain data, and the values that they have to give: names, symbols
-//! that are found, instructions, pages.
+//! that are found, instructions, pages, schedules.
 //!
 //! The lines stand in plain files, which the words of the program name: docs/EXAMPLES.md says how to
 //! write one. For each file one line says that all its calls hold, or how many do; each that doesn't is
@@ -11,6 +11,7 @@ mod finding;
 mod hashes;
 mod instructions;
 mod pages;
+mod schedules;
 
 use calls::PlainCalls;
 use std::{env, io};
