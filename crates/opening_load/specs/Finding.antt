@@ -1,0 +1,62 @@
+-- What the name of an opening leads to (dlopen(3)).
+use Rattle.std.specs.Prelude.{◌≡◌, ℕ, false, List, [], Option, None}
+use Rattle.elf_object.specs.Verdict.{object_verdict}
+use Rattle.ld_base.specs.declared.linking.File.{File}
+use Rattle.ld_base.specs.declared.linking.Loaded.{Loaded}
+use Rattle.link_event.specs.declared.event.OpenAsk.{OpenAsk}
+use Rattle.link_history.specs.Flags.{is_deepbind}
+use Rattle.link_history.specs.Objects.{is_startup}
+use Rattle.link_history.specs.Opening.{Finds, IsNamed, IsNowhere, Refuses, there}
+use Rattle.link_history.specs.Setting.{Setting}
+use Rattle.link_history.specs.State.{State}
+use Rattle.link_history.specs.Step.{namespace_before}
+use Rattle.link_service.specs.Waiting.{Waits}
+use Rattle.load_walk.specs.declared.ask.LoadAsk.{LoadAsk}
+use Rattle.load_walk.specs.declared.ask.LoadFault.{LoadFault}
+use Rattle.load_walk.specs.declared.ask.LoadFault.TheVariants as faults
+use Rattle.load_walk.specs.declared.ask.LoadPlan.{LoadPlan}
+use Rattle.scope_rule.specs.Needed.{version_fault}
+use Rattle.scope_rule.specs.declared.namespace.Namespace.{Namespace}
+use Rattle.opening_load.specs.declared.finding.Found.{Found}
+use Rattle.opening_load.specs.declared.finding.Found.TheVariants.{Absent, There, New}
+
+-- the load that an opening by name asks for, once startup is over: preload names are the program's
+abbrev pub ask_of : ℕ → ℕ → OpenAsk → List ℕ → List (List ℕ) → LoadAsk
+ask_of next hart ask name folders = record {
+  name = name;
+  folders = folders;
+  preload = [];
+  hart = hart;
+  next = next;
+  program = false;
+  deep = is_deepbind ask.flags;
+}
+
+-- an opening by name, once startup is over, which is to be made in this namespace: the next new object gets this serial, and the run reads these files
+-- as objects, in these folders
+pub record IsMade (w : Setting) (s : State) (ask : OpenAsk) (name : List ℕ) (id : ℕ) (ns : Namespace) (next : ℕ) (folders : List (List ℕ))
+    (files : Option (List File)) : Type 0 where
+  pub started : is_startup s ≡ false
+  pub named : IsNamed s ask name id
+  pub namespace : ns ≡ namespace_before s id
+  pub next_is : next ≡ s.next
+  pub verdict : w.machine.verdict ≡ object_verdict
+  pub folders_are : w.folders ≡ folders
+  pub files_are : w.files ≡ files
+
+-- all names are found, and the versions that new objects need are there
+pub record FindsAll (w : Setting) (s : State) (hart : ℕ) (ask : OpenAsk) (name : List ℕ) (id root : ℕ) (news : List Loaded) : Type 0 where
+  pub finds : Finds w s hart ask name id root news
+  pub versions : version_fault (there s id) news ≡ None
+
+-- it leads to no object that is there, to one that is there alone, or to what a load brings
+abbrev pub LeadsTo : Setting → State → ℕ → OpenAsk → List ℕ → ℕ → Found → Type 0
+LeadsTo w s hart ask name id Absent = IsNowhere w s hart ask name id
+LeadsTo w s hart ask name id (There root) = Finds w s hart ask name id root []
+LeadsTo w s hart ask name id (New plan) = FindsAll w s hart ask name id plan.root plan.added
+
+-- or the load is refused, or has to wait, or memory is wanted
+abbrev pub StopsAt : Setting → State → ℕ → OpenAsk → LoadFault → Type 0
+StopsAt w s hart ask (faults.Refused fault) = Refuses w s hart ask fault
+StopsAt w s hart ask (faults.Wait shown) = Waits w s hart ask shown
+StopsAt w s hart ask faults.Memory = Unit {0}
