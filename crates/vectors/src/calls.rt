@@ -3,7 +3,7 @@
 //! To add a call, write a function that takes its arguments from [`Words`] and gives the answer as
 //! text, beside those of its topic, and name it here.
 
-use crate::{finding, hashes, instructions, pages, schedules};
+use crate::{finding, hashes, instructions, pages, turns};
 use address_space::Regions;
 use std::alloc::Global;
 use test_file::{Calls, Fault, Words};
@@ -34,8 +34,8 @@ impl Calls for PlainCalls {
             "pick" => finding::picked(alloc, rest),
             "find_gnu" => finding::in_gnu(alloc, &mut words),
             "find_sysv" => finding::in_sysv(alloc, &mut words),
-            "decimal_number" => schedules::number(alloc, rest),
-            "read_turns" => schedules::turns(alloc, &mut words),
+            "decimal_number" => turns::number(alloc, rest),
+            "read_turns" => turns::turns(alloc, &mut words),
             "instruction" => instructions::instruction(alloc, &mut words),
             "compute" => instructions::computed(alloc, &mut words),
             "all_free" => pages::all_free(alloc, &mut self.regions),

@@ -11,7 +11,7 @@ mod finding;
 mod hashes;
 mod instructions;
 mod pages;
-mod schedules;
+mod turns;
 
 use calls::PlainCalls;
 use std::{env, io};
