@@ -94,7 +94,7 @@ start = record {
   access = nothing_locked;
   joined = [];
   note = None;
-  shown = None;
+  shown = [];
 }
 
 first_is : first_keeper ≡ start
@@ -158,4 +158,5 @@ is_first = subst IsFirst (sym first_is) (record {
   access = refl;
   none_joined = refl;
   no_note = refl;
+  none_shown = refl;
 })

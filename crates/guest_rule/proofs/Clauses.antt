@@ -16,14 +16,15 @@ use Rattle.guest_rule.specs.Layout.{control_at, doublewords, harts_at_most, lock
 use Rattle.guest_rule.specs.Views.{entry_of, exchanges_of, kept_at, row_of}
 use Rattle.guest_rule.specs.Allowed.{IsAllowed, IsOf, IsSlot, Stands}
 use Rattle.guest_rule.specs.Words.{Holds, keeper, hart, nobody, Owner}
-use Rattle.guest_rule.specs.HartSteps.{IsMark}
-use Rattle.guest_rule.specs.Calls.{Answered, Awaits, IsEvent, Rests, RowIs, Stage, Still}
+use Rattle.guest_rule.specs.HartSteps.{Awaits, IsMark}
+use Rattle.guest_rule.specs.Calls.{Answered, IsEvent, Rests, RowIs, Stage, Still}
 use Rattle.guest_rule.specs.Slots.{Did, Fated, HasLost, IsPending, Winner}
 use Rattle.guest_rule.specs.Seats.{Fits}
 use Rattle.guest_rule.specs.Rule.{IsGuest, Parts}
 use Rattle.guest_rule.specs.Clauses.{Clauses, EntryClauses, Made, RowClauses, SlotClauses, slot_of}
 use Rattle.guest_rule.proofs.Locks.{is_free}
 use Rattle.guest_rule.proofs.Rows.{not_both, not_rest}
+use Rattle.guest_rule.proofs.Seating.{no_keeper}
 use Rattle.guest_rule.proofs.SlotFrames.{at_place}
 
 mark_no_rest : (s : ℕ) → IsMark s → Rests s → ⊥
@@ -128,6 +129,7 @@ module _ (word : ℕ → ℕ) (kept : KeeperView) (harts : ℕ → HartView) (p 
     leads = λ d v here a. (p.slots.each_slot d here).leads v a;
     left_by_winner = λ m x made e. ((p.slots.each_slot (slot_of x) made.2.0).bound m x.grant ((did m x made).won e)).0;
     left_by_loser = λ m x made e. ((did m x made).lost e).1;
+    lazy_is = λ m x made. (did m x made).lazy_is;
     not_lazy = λ m x made e. let d = did m x made in d.not_lazy (e ∙ d.lazy_is);
     one = λ m n x y made made' same e f.
         let a : p.slots.winner (slot_of x) ≡ Some (m, x.grant) = (did m x made).won e in
@@ -143,7 +145,7 @@ module _ (word : ℕ → ℕ) (kept : KeeperView) (harts : ℕ → HartView) (p 
   pub row_clauses : RowClauses word kept harts
   row_clauses = record {
     fields = λ m few i. (row m few).fields i;
-    idle = λ m few idle. (rests m few idle).0;
+    stage = λ m few. (row m few).stage;
     open_row = λ m few three. granted m few three (row_of kept m).pending refl;
     pending = λ m g few e. stated (word (state_at m)) (pending m g few e).fate;
     in_row = λ m g few e. (pending m g few e).in_row;
@@ -172,6 +174,14 @@ module _ (word : ℕ → ℕ) (kept : KeeperView) (harts : ℕ → HartView) (p 
 pub clauses : (words : List ℕ) (views : List View) (g : IsGuest words views) → Clauses words views g.kept g.hart
 clauses words views g = record {
   locks = record {
+    keeper_here = (g.keeper, g.seats.here);
+    joined = λ i j e. let gone = g.seats.gone i j e in (
+      gone.0,
+      gone.2,
+      λ a h at same.
+          let x : Fits g.kept g.keeper g.seat_of g.hart a (Hart h) = g.seats.each a (Hart h) at in
+          no_keeper views g.kept g.keeper a h g.seats.here at (sym x.1 ∙ (ap g.seat_of same ∙ gone.1)),
+    );
     one_keeper = λ a b k l at there. let x : Fits g.kept g.keeper g.seat_of g.hart a (Keeper k) = g.seats.each a (Keeper k) at in
         let y : Fits g.kept g.keeper g.seat_of g.hart b (Keeper l) = g.seats.each b (Keeper l) there in (x.1 ∙ sym y.1, x.0);
     one_number = λ a b h i at there same. let x : Fits g.kept g.keeper g.seat_of g.hart a (Hart h) = g.seats.each a (Hart h) at in
@@ -198,7 +208,7 @@ clauses words views g = record {
     seen = λ m few. (g.parts.calls.each_row m few).seen;
     slot_since = λ d here. (g.parts.slots.each_slot d here).since;
     known = λ m c few e. let q = (g.parts.calls.each_row m few).known c e in
-        (subst (λ b. b ≡ true) (sym (calls word g.kept g.hart g.parts m q.awaits (g.hart m).lane.calling refl (g.parts.calls.each_row m few).stage)) refl, q.seen, q.counted);
+        (subst (λ b. b ≡ true) (sym (calls word g.kept g.hart g.parts m q.awaits (g.hart m).lane.calling refl (g.parts.calls.each_row m few).stage)) refl, q.awaits, q.seen, q.counted);
     new = λ m few event. let r = g.parts.calls.each_row m few in
         subst (λ n. (g.hart m).lane.seen < n) (sym (r.fields Number)) ((marked word g.kept g.hart g.parts m few (event_mark word g.kept g.hart g.parts (word (state_at m)) event) (g.hart m).lane.calling r.stage).new event);
   };

@@ -18,8 +18,8 @@ use Rattle.guest_rule.specs.declared.view.TrailItem.TheVariants.{Took, Exchanged
 use Rattle.guest_rule.specs.Layout.{harts_at_most, row_at, state_at, index_of, value_at, control_at, place_of, role_in, lock_bit}
 use Rattle.guest_rule.specs.Views.{put, entries_by, entries_of, entry_of, field_of, grant_in, offer_found, offered, with_offered, fresh_offer, tried_entry, IsRead, IsGranted}
 use Rattle.guest_rule.specs.Operations.{becomes}
-use Rattle.guest_rule.specs.HartSteps.{HartReady, HartLearns, IsMark, hart_word, hart_op, hart_after, glanced, looked, locked_if, WordAgain, arrived_if, found_in, finished, heeded, permits, ask_is_fresh, ask_place, load_place, store_place}
-use Rattle.guest_rule.specs.Calls.{Answered, Awaits, Calls, Known, Rests, RowIs, Stage, Still}
+use Rattle.guest_rule.specs.HartSteps.{Awaits, HartReady, HartLearns, IsMark, hart_word, hart_op, hart_after, glanced, looked, locked_if, WordAgain, arrived_if, found_in, finished, heeded, permits, ask_is_fresh, ask_place, load_place, store_place}
+use Rattle.guest_rule.specs.Calls.{Answered, Calls, Known, Rests, RowIs, Stage, Still}
 use Rattle.guest_rule.proofs.Put.{put_here, put_else, put_same}
 use Rattle.guest_rule.proofs.HartLocks.{unmoved}
 use Rattle.guest_rule.proofs.Rows.{begins, beside_rows, carry, elsewhere, entries_push, high_awaits, not_both, not_rest, one_row, offered_with, mark_with, other_row, Same}
@@ -345,9 +345,9 @@ module _ (word : ℕ → ℕ) (count : ℕ) (row : ℕ → Row) (lane : ℕ → 
   pub arrive_tells : HartReady (kinds.Arrive h.number) h → HartLearns (kinds.Arrive h.number) h state
   arrive_tells ready = (tells h.lane.calling ready.1 old.stage, λ o has. let a = answered_if state (row h.number) h.lane o has h.lane.calling old.stage in (sym (a.offer o has).0, a.mark))
     where
-      tells : (b : Bool) → b ≡ true → Stage state (row h.number) h.lane b → (8 ≤ state) ⊎ IsMark state
+      tells : (b : Bool) → b ≡ true → Stage state (row h.number) h.lane b → Awaits state ⊎ IsMark state
       tells false e st = absurd (true≢false (sym e))
-      tells true e st = ⊎_elim (λ (w : Awaits state × Still (row h.number) h.lane). inl (high_awaits state w.0)) (λ (a : Answered state (row h.number) h.lane). inr a.mark) st
+      tells true e st = ⊎_elim (λ (w : Awaits state × Still (row h.number) h.lane). inl w.0) (λ (a : Answered state (row h.number) h.lane). inr a.mark) st
 
   -- a word that is read again is the one that was read
   pub again_tells : (i : RowWord) → WordAgain i h.lane.offer (word (row_at h.number (index_of i)))

@@ -24,7 +24,8 @@ use Rattle.guest_rule.specs.Layout.{harts_at_most, state_at}
 use Rattle.guest_rule.specs.Views.{after, BeginsWith, entries_of, entry_of, exchanges_of, first_hart, IsRead, kept_at, known_of, longer, no_row, put, read_of, read_with, row_of, unmapped}
 use Rattle.guest_rule.specs.KeeperSteps.{KeeperHeard}
 use Rattle.guest_rule.specs.Seats.{Fits, Heard, HartFits, Issued, Seats}
-use Rattle.guest_rule.specs.Calls.{Answered, Awaits, Calls, RowIs, Stage, Still}
+use Rattle.guest_rule.specs.HartSteps.{Awaits}
+use Rattle.guest_rule.specs.Calls.{Answered, Calls, RowIs, Stage, Still}
 use Rattle.guest_rule.specs.Words.{Words}
 use Rattle.guest_rule.specs.Slots.{Slots}
 use Rattle.guest_rule.specs.Generations.{Generations}

@@ -15,9 +15,9 @@ use Rattle.guest_rule.specs.declared.view.Settled.{Settled}
 use Rattle.guest_rule.specs.Layout.{harts_at_most, row_at, state_at, index_of, value_at, control_at}
 use Rattle.guest_rule.specs.Views.{put, entry_of, field_of, with_field, grant_in, no_row, row_of}
 use Rattle.guest_rule.specs.Operations.{becomes}
-use Rattle.guest_rule.specs.HartSteps.{IsMark}
+use Rattle.guest_rule.specs.HartSteps.{Awaits, IsMark}
 use Rattle.guest_rule.specs.KeeperSteps.{KeeperReady, asked, asked_if, awaited_if, handed, heeding, keeper_word, keeper_op, keeper_after, keeps_if, not_found, opened, settled_as}
-use Rattle.guest_rule.specs.Calls.{Answered, Awaits, Calls, IsEvent, Known, RowIs, Stage, Still}
+use Rattle.guest_rule.specs.Calls.{Answered, Calls, IsEvent, Known, RowIs, Stage, Still}
 use Rattle.guest_rule.proofs.Put.{put_here, put_else, put_same, set_put, ext}
 use Rattle.guest_rule.proofs.HartLocks.{unmoved, low_index}
 use Rattle.guest_rule.proofs.Rows.{beside_rows, carry, elsewhere, field_issued, field_since, field_with, low_mark, low_rest, not_both, not_rest, one_row, other_row, Same}

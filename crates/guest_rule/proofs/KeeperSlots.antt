@@ -771,8 +771,13 @@ module _ (word : ℕ → ℕ) (k : KeeperView) (tried : ℕ → Option Exchange)
         did.not_lazy (ap (λ n. word (value_at n)) (at_place g d o.1) ∙ (q ∙ did.lazy_is));
     fixed = λ x seen. ((s.each_slot d ready).fixed x seen).0;
     won = λ m g few c o. ((s.each_slot d ready).bound m g (won_is m g few c d o)).0;
+    bound = λ other. imaged other (s.winner d) refl;
   }
     where
+      imaged : (kept_at k d).value ≢ (kept_at k d).lazy → (w : Winner) → s.winner d ≡ w → word (value_at d) ≡ (kept_at k d).value
+      imaged other None e = (s.each_slot d ready).image e
+      imaged other (Some (m, g)) e = absurd (other ((s.each_slot d ready).lazy m g e))
+
       allowed : (w : Winner) → s.winner d ≡ w → IsAllowed (kept_at k) (row_of k) d (word (value_at d))
       allowed None e = inl ((s.each_slot d ready).image e)
       allowed (Some (m, g)) e = let b = (s.each_slot d ready).by m g e in inr (m, g, b.1, b.0, ((s.each_slot d ready).bound m g e).0)

@@ -11,8 +11,8 @@ use Rattle.guest_rule.specs.declared.view.Row.{Row}
 use Rattle.guest_rule.specs.declared.view.TrailItem.{TrailItem}
 use Rattle.guest_rule.specs.Layout.{harts_at_most, row_at, state_at, index_of}
 use Rattle.guest_rule.specs.Views.{put, entries_by, entries_of, field_of, with_field, offered, with_offered}
-use Rattle.guest_rule.specs.HartSteps.{IsMark}
-use Rattle.guest_rule.specs.Calls.{Awaits, Calls, Known, Rests, RowIs, Stage}
+use Rattle.guest_rule.specs.HartSteps.{Awaits, IsMark}
+use Rattle.guest_rule.specs.Calls.{Calls, Known, Rests, RowIs, Stage}
 use Rattle.guest_rule.proofs.Put.{put_here, put_else}
 use Rattle.guest_rule.proofs.HartLocks.{low_index}
 

@@ -19,11 +19,11 @@ use Rattle.guest_rule.specs.declared.view.View.TheVariants.{Keeper, Hart}
 use Rattle.guest_rule.specs.Layout.{doublewords, harts_at_most, table_words, value_at, control_at, state_at, row_at, index_of, place_of, role_in, lock_bit}
 use Rattle.guest_rule.specs.Views.{BeginsWith, after, put, entries_of, exchanges_of, kept_at, row_of}
 use Rattle.guest_rule.specs.Operations.{becomes}
-use Rattle.guest_rule.specs.HartSteps.{HartReady, HartLearns, hart_word, hart_op, hart_after, ask_place, Asked, glanced, looked, locked_if, heeded, permits, ask_is_fresh, store_place}
+use Rattle.guest_rule.specs.HartSteps.{Awaits, HartReady, HartLearns, hart_word, hart_op, hart_after, ask_place, Asked, glanced, looked, locked_if, heeded, permits, ask_is_fresh, store_place}
 use Rattle.guest_rule.specs.KeeperSteps.{HasEnded, HasTakenAll, KeeperReady, KeeperLearns, keeper_word, keeper_op, keeper_after}
 use Rattle.guest_rule.specs.Seats.{Fits, Seats}
 use Rattle.guest_rule.specs.Words.{Words}
-use Rattle.guest_rule.specs.Calls.{Awaits, Calls, Rests, RowIs, Stage, Still}
+use Rattle.guest_rule.specs.Calls.{Calls, Rests, RowIs, Stage, Still}
 use Rattle.guest_rule.specs.Slots.{Slots}
 use Rattle.guest_rule.specs.Generations.{Generations}
 use Rattle.guest_rule.specs.Rule.{HartKeeps, KeeperKeeps, Parts}

@@ -8,15 +8,11 @@ use Rattle.guest_rule.specs.declared.view.Offer.{Offer}
 use Rattle.guest_rule.specs.declared.view.Row.{Row}
 use Rattle.guest_rule.specs.Layout.{count_at, harts_at_most, row_at, state_at, index_of}
 use Rattle.guest_rule.specs.Views.{entry_of, field_of, grant_in, offered, tried_entry}
-use Rattle.guest_rule.specs.HartSteps.{IsMark}
+use Rattle.guest_rule.specs.HartSteps.{Awaits, IsMark}
 
 -- a row at rest is taken, won or lost
 abbrev pub Rests : ℕ → Type 0
 Rests state = (state ≡ 0) ⊎ (state ≡ 4) ⊎ (state ≡ 5)
-
--- a row that awaits an answer has 8 more
-abbrev pub Awaits : ℕ → Type 0
-Awaits state = (state ≡ 8) ⊎ (state ≡ 12) ⊎ (state ≡ 13)
 
 -- marks of events: their numbers are new to the hart
 abbrev pub IsEvent : ℕ → Type 0

@@ -18,8 +18,8 @@ use Rattle.guest_rule.specs.declared.view.View.{View}
 use Rattle.guest_rule.specs.declared.view.View.TheVariants.{Keeper, Hart, Note}
 use Rattle.guest_rule.specs.Layout.{control_at, count_at, doublewords, generation_at, harts_at_most, index_of, lock_bit, place_of, role_code, row_at, state_at, value_at}
 use Rattle.guest_rule.specs.Views.{BeginsWith, entries_of, entry_of, exchanges_of, field_of, grant_in, kept_at, row_of, tried_entry}
-use Rattle.guest_rule.specs.HartSteps.{IsMark}
-use Rattle.guest_rule.specs.Calls.{Awaits, IsEvent, Rests}
+use Rattle.guest_rule.specs.HartSteps.{Awaits, IsMark}
+use Rattle.guest_rule.specs.Calls.{IsEvent, Stage}
 use Rattle.guest_rule.specs.Generations.{AllKept}
 use Rattle.guest_rule.specs.Slots.{HasLost, HasWon, IsGrant, Rising}
 use Rattle.guest_rule.specs.Allowed.{IsAllowed, IsOf, IsSlot, LeadsTo, Stands}
@@ -27,9 +27,12 @@ use Rattle.guest_rule.specs.Allowed.{IsAllowed, IsOf, IsSlot, LeadsTo, Stands}
 -- ---- words and locks
 
 pub record LockClauses (word : ℕ → ℕ) (views : List View) (kept : KeeperView) (hart : ℕ → HartView) : Type 0 where
-  -- there is one keeper's view, and no two harts' views have the same number
+  -- there is one keeper's view, and no two harts' views have the same number; nor has a view that the keeper keeps since its seat
+  -- was joined
+  pub keeper_here : (a : ℕ) × (get_elem? views a ≡ some (Keeper kept))
   pub one_keeper : (a b : ℕ) (k l : KeeperView) → get_elem? views a ≡ some (Keeper k) → get_elem? views b ≡ some (Keeper l) → (a ≡ b) × (k ≡ kept)
   pub one_number : (a b : ℕ) (h i : HartView) → get_elem? views a ≡ some (Hart h) → get_elem? views b ≡ some (Hart i) → h.number ≡ i.number → a ≡ b
+  pub joined : (i : ℕ) (j : HartView) → slice_get kept.joined i ≡ Some j → (j.number < kept.harts) × (hart j.number ≡ j) × ((a : ℕ) (h : HartView) → get_elem? views a ≡ some (Hart h) → h.number ≢ j.number)
   pub last_view : (a : ℕ) (h : HartView) → get_elem? views a ≡ some (Hart h) → (h.number < kept.harts) × (hart h.number ≡ h)
   -- a hart's last view is that of its seat, or is kept since its seat was joined
   pub stands : (m : ℕ) → m < kept.harts → ((a : ℕ) × (get_elem? views a ≡ some (Hart (hart m)))) ⊎ ((i : ℕ) × (slice_get kept.joined i ≡ Some (hart m)))
@@ -57,7 +60,8 @@ pub record SlotClauses (word : ℕ → ℕ) (kept : KeeperView) (hart : ℕ → 
   -- a slot has one of its allowed values, and each of these is 0 or lies in an RX word
   pub allowed : (d : ℕ) → IsSlot (kept_at kept) d → IsAllowed (kept_at kept) (row_of kept) d (word (value_at d))
   pub leads : (d v : ℕ) → IsSlot (kept_at kept) d → IsAllowed (kept_at kept) (row_of kept) d v → LeadsTo (kept_at kept) v
-  -- a slot has the word that each exchange of it left, which isn't the lazy word
+  -- a slot has the word that each exchange of it left, which isn't the lazy word; and that is the one that the keeper knows
+  pub lazy_is : (m : ℕ) (x : Exchange) → Made kept hart m x → x.grant.lazy ≡ (kept_at kept (slot_of x)).lazy
   pub left_by_winner : (m : ℕ) (x : Exchange) → Made kept hart m x → x.found ≡ x.grant.lazy → word (value_at (slot_of x)) ≡ x.grant.entry.value
   pub left_by_loser : (m : ℕ) (x : Exchange) → Made kept hart m x → x.found ≢ x.grant.lazy → word (value_at (slot_of x)) ≡ x.found
   pub not_lazy : (m : ℕ) (x : Exchange) → Made kept hart m x → word (value_at (slot_of x)) ≢ x.grant.lazy
@@ -79,8 +83,9 @@ pub record CountClauses (word : ℕ → ℕ) (views : List View) (kept : KeeperV
   pub noted : (a : ℕ) (events : List Event) (slip : Slip) → get_elem? views a ≡ some (Note events slip) → BeginsWith kept.events events
   pub seen : (m : ℕ) → m < harts_at_most → (hart m).lane.seen ≤ length kept.events
   pub slot_since : (d : ℕ) → IsSlot (kept_at kept) d → (kept_at kept d).since ≤ length kept.events
-  -- a hart that is known to call is calling, and saw no more than the count at which it became known
-  pub known : (m c : ℕ) → m < harts_at_most → (row_of kept m).since ≡ Some c → ((hart m).lane.calling ≡ true) × ((hart m).lane.seen ≤ c) × (c ≤ length kept.events)
+  -- a hart that is known to call is calling, its row awaits the answer, and it saw no more than the count at which it became known
+  pub known : (m c : ℕ) → m < harts_at_most → (row_of kept m).since ≡ Some c
+      → ((hart m).lane.calling ≡ true) × Awaits (word (state_at m)) × ((hart m).lane.seen ≤ c) × (c ≤ length kept.events)
   -- a row answered by an event, or open, has a number above what its hart saw
   pub new : (m : ℕ) → m < harts_at_most → IsEvent (word (state_at m)) → (hart m).lane.seen < word (row_at m (index_of Number))
 
@@ -89,8 +94,8 @@ pub record CountClauses (word : ℕ → ℕ) (views : List View) (kept : KeeperV
 pub record RowClauses (word : ℕ → ℕ) (kept : KeeperView) (hart : ℕ → HartView) : Type 0 where
   -- the words of a row are those that the keeper put there
   pub fields : (m : ℕ) → m < harts_at_most → (i : RowWord) → word (row_at m (index_of i)) ≡ field_of i (row_of kept m)
-  -- the row of a hart that isn't calling is taken, won or lost
-  pub idle : (m : ℕ) → m < harts_at_most → (hart m).lane.calling ≡ false → Rests (word (state_at m))
+  -- the row of a hart that isn't calling is taken, won or lost; that of one that calls awaits the answer, or is the hart's own
+  pub stage : (m : ℕ) → m < harts_at_most → Stage (word (state_at m)) (row_of kept m) (hart m).lane (hart m).lane.calling
   -- a row is open exactly with a grant whose fate isn't known, while it isn't given back
   pub open_row : (m : ℕ) → m < harts_at_most → word (state_at m) ≡ 3 → (g : Grant) × ((row_of kept m).pending ≡ Some g)
   pub pending : (m : ℕ) (g : Grant) → m < harts_at_most → (row_of kept m).pending ≡ Some g → let s = word (state_at m) in (s ≡ 3) ⊎ (s % 8 ≡ 4) ⊎ (s % 8 ≡ 5)

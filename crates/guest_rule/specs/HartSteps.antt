@@ -232,7 +232,7 @@ hart_op kinds.Listen = load
 
 -- what the hart must know before the step
 abbrev pub HartReady : HartKind → HartView → Type 0
-HartReady (kinds.Look ask) h = Asked ask × (h.access.locked ≡ None)
+HartReady (kinds.Look ask) h = Asked ask × (h.access.locked ≡ None) × (h.access.last ≡ None)
 HartReady (kinds.Load ask) h =
     IsAsked (load_address ask) (load_size ask) × (h.access.locked ≡ None)
     × ((control : ℕ) × (h.access.last ≡ Some (load_place ask, control)) × (lock_bit control ≡ 0) × (load_permits ask (role_in control) ≡ true))
@@ -288,6 +288,10 @@ HartLeaves _ = Unit {0}
 abbrev pub IsMark : ℕ → Type 0
 IsMark state = (state ≡ 1) ⊎ (state ≡ 2) ⊎ (state ≡ 3) ⊎ (state ≡ 6)
 
+-- a row that awaits an answer is one at rest, and has 8 more
+abbrev pub Awaits : ℕ → Type 0
+Awaits state = (state ≡ 8) ⊎ (state ≡ 12) ⊎ (state ≡ 13)
+
 -- what a hart keeps of a note is true
 abbrev pub HartHeard : Option Told → HartView → Type 0
 HartHeard None h = Unit {0}
@@ -307,7 +311,7 @@ WordAgain i offer n = (o : Offer) (x : ℕ) → offer ≡ Some o → offered i o
 
 abbrev pub HartLearns : HartKind → HartView → ℕ → Type 0
 HartLearns kinds.Tally h n = length h.heard ≤ n
-HartLearns (kinds.Arrive m) h n = ((8 ≤ n) ⊎ IsMark n) × StateAgain h.lane.offer n
+HartLearns (kinds.Arrive m) h n = (Awaits n ⊎ IsMark n) × StateAgain h.lane.offer n
 HartLearns (kinds.Find m i) h n = FindTells i h.lane.offer n × WordAgain i h.lane.offer n
 HartLearns kinds.Listen h n = HartHeard h.note h
 HartLearns _ h n = Unit {0}

@@ -1,6 +1,6 @@
 -- The steps of the keeper: of each kind its word, what is done to the word, what the keeper must know before, its view after,
 -- and what the rule tells of the number found.
-use Rattle.std.specs.Prelude.{◌≡◌, ◌≢◌, ◌⊎◌, ℕ, ◌+◌, ◌%◌, ◌≤◌, ◌<◌, Bool, true, false, eqb, nat_le, [], ◌∷◌, ◌++◌, length, map, Option, Some, None, slice_get, slice_set, Contains}
+use Rattle.std.specs.Prelude.{◌≡◌, ◌≢◌, ◌⊎◌, ℕ, ◌+◌, ◌%◌, ◌≤◌, ◌<◌, Bool, true, false, eqb, nat_le, List, [], ◌∷◌, ◌++◌, length, map, Option, Some, None, slice_get, slice_set, Contains}
 use Rattle.ld_base.specs.declared.linking.Role.TheVariants.{None as NoRole, Ro, Rx, Rw, Slot as SlotRole}
 use Rattle.guest_rule.specs.declared.entry.Exchange.{Exchange}
 use Rattle.guest_rule.specs.declared.entry.Grant.{Grant}
@@ -13,6 +13,7 @@ use Rattle.guest_rule.specs.declared.view.HartView.{HartView}
 use Rattle.guest_rule.specs.declared.view.KeeperView.{KeeperView}
 use Rattle.guest_rule.specs.declared.view.Kept.{Kept}
 use Rattle.guest_rule.specs.declared.view.Row.{Row}
+use Rattle.guest_rule.specs.declared.view.Sight.{Sight}
 use Rattle.guest_rule.specs.declared.view.Told.{Told}
 use Rattle.guest_rule.specs.Layout.{doublewords, count_at, generation_at, quiet_at, harts_at_most, state_at, row_at, index_of, value_at, control_at, place_of, role_code, lock_bit, to_lock, to_unlock}
 use Rattle.guest_rule.specs.Views.{BeginsWith, entries_of, entry_of, exchanges_of, field_of, grant_in, kept_at, nothing_locked, row_of, with_field}
@@ -55,9 +56,9 @@ abbrev pub not_found : Row → Row
 not_found r = record r { found_open = false }
 
 -- two control words of a doubleword show another seat's lock, unless it is found as it should be
-abbrev pub shown_if : ℕ → Bool → ℕ → ℕ → Option (ℕ × ℕ × ℕ) → Option (ℕ × ℕ × ℕ)
-shown_if d true a b old = old
-shown_if d false a b old = Some (d, a, b)
+abbrev pub shown_if : ℕ → Bool → ℕ → ℕ → List Sight → List Sight
+shown_if d true a b before = before
+shown_if d false a b before = before ++ record { at = d; first = a; second = b } ∷ []
 
 -- the hart is found calling: no row was found open since
 abbrev pub awaited_if : ℕ → Bool → KeeperView → KeeperView
@@ -141,7 +142,7 @@ FoundOpen k mark r = mark ≡ 6 → r.slot ≡ 3 → (m : ℕ) (g : Grant) → (
 
 -- what the keeper must know before the step
 abbrev pub KeeperReady : KeeperKind → KeeperView → Type 0
-KeeperReady (kinds.Look d) k = (d < doublewords) × (k.access.locked ≡ None)
+KeeperReady (kinds.Look d) k = (d < doublewords) × (k.access.locked ≡ None) × (k.access.last ≡ None)
 KeeperReady (kinds.Load d) k = (d < doublewords) × (k.access.locked ≡ None)
 KeeperReady (kinds.Lock d control) k =
     (d < doublewords) × (k.access.locked ≡ None) × (k.access.last ≡ Some (d, control)) × (lock_bit control ≡ 0) × ((kept_at k d).role ≡ SlotRole → Unposted k d)
@@ -239,12 +240,13 @@ pub record TellsAsk (k : KeeperView) (m n : ℕ) : Type 0 where
   pub fixed : (g : Grant) (x : ℕ) → (row_of k m).pending ≡ Some g → n % 8 ≡ 4 → (kept_at k (place_of g.entry.slot)).fixed ≡ Some x → g.entry.value ≡ x
 
 -- the word of a slot is one of its allowed values, and not the lazy word where a grant of it was lost. It is the one that was seen
--- before, and the value of a grant that won
+-- before, and the value of a grant that won; and it is the image's where that isn't the lazy word
 pub record TellsSlot (k : KeeperView) (d n : ℕ) : Type 0 where
   pub allowed : IsAllowed (kept_at k) (row_of k) d n
   pub lost : (m : ℕ) (g : Grant) → m < harts_at_most → Contains (row_of k m).settled (record { grant = g; fate = Lost }) → IsOf (kept_at k) d g → n ≢ g.lazy
   pub fixed : (x : ℕ) → (kept_at k d).fixed ≡ Some x → n ≡ x
   pub won : (m : ℕ) (g : Grant) → m < harts_at_most → Contains (row_of k m).settled (record { grant = g; fate = Won }) → IsOf (kept_at k) d g → n ≡ g.entry.value
+  pub bound : (kept_at k d).value ≢ (kept_at k d).lazy → n ≡ (kept_at k d).value
 
 abbrev pub KeeperLearns : KeeperKind → KeeperView → ℕ → Type 0
 KeeperLearns (kinds.Look d) k n = (n % 8 ≡ role_code (kept_at k d).role) × ((kept_at k d).role ≢ Rw → lock_bit n ≡ 0)

@@ -17,7 +17,7 @@ first_keeper = record {
   access = nothing_locked;
   joined = [];
   note = None;
-  shown = None;
+  shown = [];
 }
 
 -- what that view says of anything
@@ -31,3 +31,4 @@ pub record IsFirst (k : KeeperView) : Type 0 where
   pub access : k.access ≡ nothing_locked
   pub none_joined : k.joined ≡ []
   pub no_note : k.note ≡ None
+  pub none_shown : k.shown ≡ []

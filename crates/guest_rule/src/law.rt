@@ -13,7 +13,7 @@ ghost use Rattle.guest_rule.specs.KeeperSteps.{KeeperLeaves, KeeperReady, keeper
 ghost use Rattle.guest_rule.specs.Rule.{HartKeeps, IsGuest, KeeperKeeps};
 ghost use Rattle.guest_rule.specs.Joining.{HasNote, HasRoom, JoinKeeps, MayTake, SplitKeeps, new_hart, note_of, takes_in, with_hart};
 ghost use Rattle.guest_rule.specs.Start.{first_keeper, first_words, IsFirst};
-ghost use Rattle.guest_rule.specs.Unlocking.{KindsUnlock, OnlyOwnersChange, UnlocksRaise};
+ghost use Rattle.guest_rule.specs.Unlocking.{KindsUnlock, LockedStay, OnlyOwnersChange, OnlyRowsOwnersChange, OnlyTallyCounts, UnlocksRaise};
 ghost use Rattle.guest_rule.specs.Views.{IsLane, IsLong, first_lane};
 ghost use Rattle.guest_rule.specs.Worked.{AnotherHasLocked, ConditionalFails, ConditionalIsRefused, LookKeeps, OneLocks, OneWins, RoleComesAndGoes, StoreIsOwed};
 
@@ -36,11 +36,20 @@ pub fn keeper_steps_keep()
 {}
 
 /// An unlock raises the version by one. A doubleword is changed by the seat that has locked it alone,
-/// but that it is locked, and that a slot is exchanged.
+/// but that it is locked, and that a slot is exchanged; and a lock leaves one that is locked already.
 pub fn owners_change()
     ensures raise { UnlocksRaise }
     ensures kinds { KindsUnlock }
     ensures owners { OnlyOwnersChange }
+    ensures locked { LockedStay }
+{}
+
+/// A word of a row is changed by its hart alone, to begin a call and to give an entry or a grant back,
+/// and by the keeper while the hart is known to call and its last grant is known. A hart that is calling
+/// doesn't load the count.
+pub fn rows_have_owners()
+    ensures rows { OnlyRowsOwnersChange }
+    ensures count { OnlyTallyCounts }
 {}
 
 /// What a hart's own view says of its calls holds after each of its steps.

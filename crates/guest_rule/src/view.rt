@@ -125,6 +125,15 @@ pub struct Row {
     pub found_open: bool,
 }
 
+/// What showed the keeper that another seat had locked a doubleword: a control word that had the lock,
+/// twice, or the one that was looked at and another that was found after it.
+#[derive(Clone, Copy)]
+pub struct Sight {
+    pub at: u64,
+    pub first: u64,
+    pub second: u64,
+}
+
 pub struct KeeperView {
     pub words: LinkedList<Kept>,
     pub events: LinkedList<Event>,
@@ -136,9 +145,8 @@ pub struct KeeperView {
     /// The last views of the harts whose seats were joined.
     pub joined: LinkedList<HartView>,
     pub note: Option<Told>,
-    /// The doubleword that was last found locked by another seat, and what showed it: a control word
-    /// that had the lock, twice, or the one that was looked at and another that was found after it.
-    pub shown: Option<(u64, u64, u64)>,
+    /// Each time that a doubleword was found locked by another seat, in order.
+    pub shown: LinkedList<Sight>,
 }
 
 /// What a note carries beside a list of events.

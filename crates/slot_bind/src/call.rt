@@ -1,7 +1,7 @@
 //! A hart's side of a call.
 
 ghost use Rattle.std.specs.Prelude.{◌≡◌, ◌≢◌, ◌⊎◌, ◌≤◌, ℕ, true, false, None, Some, length};
-ghost use Rattle.guest_rule.specs.HartSteps.{IsMark};
+ghost use Rattle.guest_rule.specs.HartSteps.{Awaits, IsMark};
 ghost use Rattle.guest_rule.specs.Views.{offered, with_offered};
 ghost use Rattle.slot_bind.specs.Rows.{HasRow, IsEntryOf, IsRowOf, begun, found_state, full_offer, offer_of, with_offer, with_taken};
 
@@ -21,12 +21,13 @@ pub fn begin_call<J: Naming>(memory: &Memory<J>, seat: &mut HartSeat<J>)
     seat.add_word(memory, state_word(number), 8, HartKind::Begin(number));
 }
 
-/// The state of the hart's row: below 8 it is the mark of an entry, and the row is the hart's own.
+/// The state of the hart's row. Below 8 it is the mark of an entry: 1, 2, 3 or 6, and the row is the
+/// hart's own; else the row awaits an answer: 8, 12 or 13.
 #[tactic(auto, using(crate::proofs::Harts::arrives))]
 pub fn arrived<J: Naming>(memory: &Memory<J>, seat: &mut HartSeat<J>) -> u64
     requires { (seat.old.lane.calling ≡ true) × (seat.old.lane.offer ≡ None) }
     ensures found { seat.new ≡ found_state result seat.old }
-    ensures mark { (8 ≤ result) ⊎ IsMark result }
+    ensures mark { Awaits result ⊎ IsMark result }
 {
     let number = seat.number();
     seat.load_word(memory, state_word(number), HartKind::Arrive(number))

@@ -1,19 +1,21 @@
 //! An access of a hart: its steps in their order, and the one item that it leaves.
 
 ghost use Rattle.std.specs.Prelude.{◌≡◌, ◌%◌, ◌<◌, Some, IfSome};
-ghost use Rattle.guest_rule.specs.Layout.{doublewords};
+ghost use Rattle.guest_rule.specs.Layout.{IsDoubleword, doublewords};
 ghost use Rattle.guest_rule.specs.Views.{nothing_locked};
-ghost use Rattle.guest_rule.specs.HartSteps.{Asked, IsAsked, IsWhole, ask_place, entered, heeded, made, stored, with_access};
+ghost use Rattle.guest_rule.specs.HartSteps.{Asked, HartReady, IsAsked, IsWhole, ask_place, entered, hart_after, heeded, made, stored, with_access};
 ghost use Rattle.guest_rule.specs.HartSteps.{load_address, load_place, load_size, store_address, store_place, store_size};
 ghost use Rattle.guest_rule.specs.declared.view.TrailItem.TheVariants.{Call};
 ghost use Rattle.word_memory.specs.Holding.{Changes, Glances, HasOperands, IsLocking, Loads, Locks};
 ghost use Rattle.word_steps.specs.Views.{IsIdle};
 
 use crate::asks::{is_permitted, is_timely};
-use guest_rule::{Ask, HartKind, LoadAsk, StoreAsk};
+use guest_rule::{Ask, Grant, HartKind, LoadAsk, StoreAsk};
 use ld_base::Shown;
 use rv_hart::{BusFault, combined, lane, with_lane};
-use word_steps::{Hand, LOCK, Memory, Naming, control_word, is_locked, role_of, value_word};
+use word_steps::{
+    Hand, LOCK, Memory, Naming, control_word, is_locked, place_at, role_of, value_word,
+};
 
 // Loads the control word of a doubleword, and ends the access where it may not go on.
 fn glance<J: Naming>(
@@ -142,6 +144,17 @@ pub(crate) fn change<J: Naming>(
     }
 }
 
+/// Exchanges the word of a grant's slot, and answers the word found.
+pub(crate) fn exchange<J: Naming>(hand: &mut Hand<J>, memory: &Memory<J>, grant: Grant) -> u64
+    requires slot { IsDoubleword grant.entry.slot }
+    requires ready { HartReady (HartKind.Exchange grant) hand.old }
+    ensures { hand.new ≡ hart_after (HartKind.Exchange grant) hand.old result }
+{
+    let word = value_word(place_at(grant.entry.slot));
+    let kind = HartKind::Exchange(grant);
+    hand.exchange_word(memory, word, grant.lazy, grant.entry.value, kind)
+}
+
 // What a store leaves in the doubleword.
 fn made(ask: StoreAsk, found: u64) -> u64
     requires aligned { store_address ask % store_size ask ≡ 0 }
@@ -165,6 +178,7 @@ fn whole(ask: StoreAsk) -> Option<u64>
     match ask {
         StoreAsk::Write(_, 8, value) => Some(value),
         StoreAsk::Conditional(_, 8, value, _) => Some(value),
-        _ => None,
+        StoreAsk::Write(_, _, _) | StoreAsk::Conditional(_, _, _, _) | StoreAsk::Amo(_, _, _, _) =>
+            None,
     }
 }

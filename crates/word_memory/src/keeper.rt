@@ -40,8 +40,8 @@ impl<J: Naming> Model for KeeperSeat<J> {
 ///
 /// # Errors
 ///
-/// What shows that a hart has locked the doubleword: its role was RW then. Nothing is changed, but that
-/// the keeper saw it.
+/// What a step of this call found that shows another seat's lock: the doubleword's role was RW then.
+/// Nothing is changed, but that the keeper's view has it behind what was shown before.
 pub fn set_word<J: Naming>(
     memory: &Memory<J>,
     keeper: &mut KeeperSeat<J>,
@@ -66,8 +66,8 @@ pub fn set_word<J: Naming>(
 ///
 /// # Errors
 ///
-/// What shows that a hart has locked the doubleword: its role was RW then. Nothing is changed, but that
-/// the keeper saw it.
+/// What a step of this call found that shows another seat's lock: the doubleword's role was RW then.
+/// Nothing is changed, but that the keeper's view has it behind what was shown before.
 pub fn retire<J: Naming>(
     memory: &Memory<J>,
     keeper: &mut KeeperSeat<J>,

@@ -11,13 +11,13 @@ ghost use Rattle.guest_rule.specs.Views.{IsLane, last_block};
 ghost use Rattle.word_memory.specs.Accesses.{Calls};
 ghost use Rattle.word_steps.specs.Views.{IsIdle};
 
-use crate::access::{change, load};
+use crate::access::{change, exchange, load};
 use crate::asks::place;
 use guest_rule::{Grant, HartKind, LoadAsk, StoreAsk};
 use rv_hart::{BusFault, Item, lane};
 use rv_isa::AmoOp;
 use std::marker::Model;
-use word_steps::{GENERATION, Hand, Memory, Naming, place_at, value_word, version_of};
+use word_steps::{GENERATION, Hand, Memory, Naming, version_of};
 
 /// A hart's seat at a memory. Contracts see it as its view: what the hart knows, and its trail.
 #[derive(Drop)]
@@ -107,11 +107,7 @@ impl<J: Naming> HartSeat<J> {
         ensures view { self.new ≡ hart_after (HartKind.Exchange grant) self.old result }
         ensures seated { IsIdle self.old × IsLane self.old.lane }
     {
-        let _ = &self.hand;
-        let word = value_word(place_at(grant.entry.slot));
-        let kind = HartKind::Exchange(grant);
-        self.hand
-            .exchange_word(memory, word, grant.lazy, grant.entry.value, kind)
+        exchange(&mut self.hand, memory, grant)
     }
 
     /// Adds to a word, for a step that locks nothing.
@@ -202,7 +198,9 @@ impl<J: Naming> HartSeat<J> {
     {
         let at = place(address, size)?;
         let ask = StoreAsk::Amo(address, size, op, value);
-        let found = change(&mut self.hand, memory, ask, at)?.unwrap_or(0);
+        let Some(found) = change(&mut self.hand, memory, ask, at)? else {
+            unreachable!();
+        };
         Ok(lane(found, address, size))
     }
 

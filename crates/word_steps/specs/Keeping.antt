@@ -21,9 +21,9 @@ control_found d control k = accessing (record { locked = None; held = None; last
 abbrev pub has_locked : ℕ → KeeperView → KeeperView
 has_locked d k = accessing (record { locked = Some d; held = None; last = None }) k
 
--- two control words of a doubleword showed another seat's lock
+-- two control words of a doubleword showed another seat's lock: that is new, since it comes behind all that was shown before
 abbrev pub was_shown : ℕ → Shown → KeeperView → KeeperView
-was_shown d (Locked a b) k = record k { shown = Some (d, a, b) }
+was_shown d (Locked a b) k = record k { shown = k.shown ++ record { at = d; first = a; second = b } ∷ [] }
 was_shown d _ k = k
 
 -- the doubleword has this value, role and lazy word from now on

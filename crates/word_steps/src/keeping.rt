@@ -117,6 +117,6 @@ fn retiring(at: u64, old: Role) -> KeeperKind
 {
     match old {
         Role::Slot => KeeperKind::RetireSlot(at),
-        _ => KeeperKind::Retire(at, old),
+        Role::None | Role::Ro | Role::Rx | Role::Rw => KeeperKind::Retire(at, old),
     }
 }

@@ -1,4 +1,4 @@
-use Rattle.guest_rule.proofs.Unlocking.{kinds_unlock, only_owners_change, unlocks_raise}
+use Rattle.guest_rule.proofs.Unlocking.{kinds_unlock, locked_stay, only_owners_change, unlocks_raise}
 use Rattle.guest_rule.proofs.law.owners_change.Goals as goal
 
 pub returns-clause-raise : goal.returns-clause-raise
@@ -9,3 +9,6 @@ returns-clause-kinds c = kinds_unlock
 
 pub returns-clause-owners : goal.returns-clause-owners
 returns-clause-owners c = only_owners_change
+
+pub returns-clause-locked : goal.returns-clause-locked
+returns-clause-locked c = locked_stay
