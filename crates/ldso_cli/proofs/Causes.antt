@@ -161,7 +161,7 @@ written_caused handed command before after old new own end text answers written 
     ]
 
 pub end_caused : (handed : Handing) (command : Option Command) (before after : LibraryAt) (old new : SinkAt) (r : Result Answer AllocError) (end : End) → IfOk r (λ a. Answers command before after a.end a.text)
-    → MatchResult r (λ a. Written handed a.end a.text old new end) (λ _. IsUnanswered old new end) → IsCaused command before after old new end.cause
+    → MatchResult r (λ a. Written handed a.end a.text old new end) (λ _. IsUnanswered handed old new end) → IsCaused command before after old new end.cause
 end_caused handed command before after old new (Ok a) end answers written = written_caused handed command before after old new a.end end a.text answers written
 end_caused handed command before after old new (Err e) end answers unanswered =
     let P : Cause → Type 0 = λ c. IsCaused command before after old new c in

@@ -1,5 +1,5 @@
 -- How the command ends, and what its sink took.
-use Rattle.std.specs.Prelude.{◌≡◌, ◌≢◌, ◌⊎◌, ℕ, List, Option, Some, None, Result, Ok, Err, IsSomeAnd}
+use Rattle.std.specs.Prelude.{◌≡◌, ◌≢◌, ◌⊎◌, ℕ, List, [], Option, Some, None, Result, Ok, Err, IsSomeAnd}
 use Rattle.std.specs.Io.KnownBytes.{append_known}
 use Rattle.ld_base.specs.declared.fault.DlFault.TheVariants as dl
 use Rattle.ld_base.specs.declared.linking.File.{File}
@@ -51,14 +51,15 @@ pub record IsAnswered (handed : Handing) (command : Option Command) (before afte
   pub answers : Answers command before after own text
   pub written : Written handed own text old new end
 
--- the command found no memory for an answer: nothing is kept, and nothing was written
-pub record IsUnanswered (old new : SinkAt) (end : End) : Type 0 where
+-- the command found no memory for an answer: nothing is kept, and nothing was handed to the sink
+pub record IsUnanswered (handed : Handing) (old new : SinkAt) (end : End) : Type 0 where
   pub end_is : end ≡ bare causes.Memory
+  pub written : handed [] (Ok tt)
   pub taken : new.taken ≡ old.taken
 
 -- how a command ends
 abbrev pub Ends : Handing → Option Command → LibraryAt → LibraryAt → SinkAt → SinkAt → End → Type 0
-Ends handed command before after old new end = IsAnswered handed command before after old new end ⊎ IsUnanswered old new end
+Ends handed command before after old new end = IsAnswered handed command before after old new end ⊎ IsUnanswered handed old new end
 
 -- each cause comes only where it is so
 pub record IsCaused (command : Option Command) (before after : LibraryAt) (old new : SinkAt) (cause : Cause) : Type 0 where

@@ -57,7 +57,7 @@ fn answer<L: Library>(
 fn write_answer<K: Sink>(out: &mut K, answer: Result<Answer, AllocError>) -> End
     ensures written { MatchResult answer
         (λ a. Written (handed_to K.writes out.old out.new) a.end a.text (sink_at K.taken K.faults out.old) (sink_at K.taken K.faults out.new) result)
-        (λ _. IsUnanswered (sink_at K.taken K.faults out.old) (sink_at K.taken K.faults out.new) result) }
+        (λ _. IsUnanswered (handed_to K.writes out.old out.new) (sink_at K.taken K.faults out.old) (sink_at K.taken K.faults out.new) result) }
     ensures faults { K.faults out.old ≤ K.faults out.new }
 {
     match answer {
