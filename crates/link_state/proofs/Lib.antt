@@ -3,4 +3,5 @@ pub mod Closed
 pub mod Granted
 pub mod Held
 pub mod Parts
+pub mod Stored
 pub mod Unmapped

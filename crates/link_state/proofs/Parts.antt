@@ -1,8 +1,8 @@
 -- What is kept of an image is found by its serial.
 use Rattle.std.proofs.Common.{◌≡◌, ℕ, Bool, true, false, cond, eqb, List, [], ◌∷◌, map, Option, Some, None, refl, ap, ◌∙◌}
 use Rattle.std.specs.List.{find}
-use Rattle.std.specs.Option.{option_map}
-use Rattle.image_parts.specs.Parts.{part_of}
+use Rattle.std.specs.Option.{option_map, option_map_or}
+use Rattle.image_parts.specs.Parts.{part_of, storage_of}
 use Rattle.image_parts.specs.declared.parts.Part.{Part}
 use Rattle.link_history.specs.Memory.{image_of}
 use Rattle.link_history.specs.State.{Linked, State}
@@ -25,3 +25,10 @@ pub finis_found : (s : State) (parts : List Part) (serial : ℕ) (found : Option
     → option_map (λ (p : Part). p.destructors) found ≡ option_map destructors (image_of s serial)
 finis_found s parts serial found are is =
     ap (option_map (λ (p : Part). p.destructors)) (is ∙ ap (find (λ (p : Part). eqb p.serial serial)) are ∙ find_part serial s.images) ∙ both (find (λ (m : Linked). eqb m.serial serial) s.images)
+
+-- and so are the bytes with which a block of its storage begins
+pub storage_found : (s : State) (parts : List Part) (serial : ℕ) (p : Part) (i : Linked) → parts ≡ map part_of s.images → Some p ≡ find (λ (q : Part). eqb q.serial serial) parts → image_of s serial ≡ Some i
+    → p.storage ≡ storage_of i
+storage_found s parts serial p i are found is =
+    ap (λ (q : Option Part). option_map_or (λ (x : Part). x.storage) q [])
+    (found ∙ ap (find (λ (q : Part). eqb q.serial serial)) are ∙ find_part serial s.images ∙ ap (option_map part_of) is)

@@ -2,6 +2,8 @@ pub mod Closing
 pub mod Granting
 pub mod Holding
 pub mod Inside
+pub mod Locating
 pub mod Settling
 pub mod Table
+pub mod TlsFaults
 pub mod Unmapping

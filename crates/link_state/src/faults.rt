@@ -1,9 +1,12 @@
 //! Why a call of the state is refused.
 
 ghost use Rattle.std.specs.Prelude.{◌≡◌};
+ghost use Rattle.link_state.specs.TlsFaults.{tls_fault};
 ghost use Rattle.link_state.specs.declared.faults.CloseFault.TheVariants.{Memory};
+ghost use Rattle.link_state.specs.declared.faults.TlsFault.TheVariants.{Memory as TlsMemory};
 
 use ld_base::Serial;
+use new_blocks::BlockFault;
 use std::alloc::AllocError;
 
 /// Why nothing is closed.
@@ -36,4 +39,34 @@ pub enum GrantFault {
     NotCode(Serial, u32),
     /// Want of memory.
     Memory,
+}
+
+/// Why a hart has no block of a module's thread-local storage.
+#[derive(Clone, Copy, Debug, PartialEq, Eq)]
+pub enum TlsFault {
+    /// No module has this number.
+    BadModule(u64),
+    /// There is no room for so many pages.
+    NoRoom(u64),
+    /// Want of memory.
+    Memory,
+}
+
+impl From<AllocError> for TlsFault {
+    ghost from_gives = { λ _ fault. fault ≡ TlsMemory };
+
+    fn from(_: AllocError) -> Self {
+        TlsFault::Memory
+    }
+}
+
+impl From<BlockFault> for TlsFault {
+    ghost from_gives = { λ error fault. fault ≡ tls_fault error };
+
+    fn from(error: BlockFault) -> Self {
+        match error {
+            BlockFault::NoRoom(pages) => TlsFault::NoRoom(pages),
+            BlockFault::Memory => TlsFault::Memory,
+        }
+    }
 }

@@ -14,6 +14,7 @@ mod reading;
 mod refusing;
 mod running;
 mod state;
+mod storing;
 
-pub use faults::{CloseFault, GrantFault};
+pub use faults::{CloseFault, GrantFault, TlsFault};
 pub use state::LinkState;

@@ -21,6 +21,7 @@ ghost use Rattle.link_state.specs.Granting.{IsGranted, IsNotGranted};
 ghost use Rattle.link_state.specs.Table.{appended, refusal, settled};
 
 mod closing;
+mod locating;
 mod unmapping;
 
 use crate::faults::GrantFault;
@@ -39,8 +40,8 @@ use ld_base::{Bytes, DlFault, GrantNo, HartId, NsId, Serial};
 use link_event::{Addresses, Ask, Event, Granted, HartEnd, Journal};
 use link_harts::{HartEnds, KeptFaults};
 use link_history::{
-    edges_follow, events_are_owed, finalised_once, grants_are_tidy, legal_step_by_step,
-    objects_are_read,
+    edges_follow, events_are_owed, finalised_once, grants_are_tidy, images_are_found,
+    legal_step_by_step, objects_are_read,
 };
 use link_pending::{OpenGrants, Unfinished};
 use link_served::Installs;
@@ -208,6 +209,14 @@ impl LinkState {
         one_image();
         let _ = self.journal.journal();
         holder_in(self.namespaces.as_slice(), address)
+    }
+
+    /// What the latest look-up or request of a block that was answered puts into memory: the pages of the
+    /// block that it made, if it made one.
+    pub fn made_block(&self) -> &Installs
+        ensures { result.now ≡ self.now.made }
+    {
+        &self.made
     }
 
     /// The addresses of the destructors of a mapped object, in the order in which they run.

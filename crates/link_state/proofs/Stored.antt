@@ -1,0 +1,326 @@
+-- Blocks of thread-local storage.
+use Rattle.std.proofs.Common.{◌≡◌, ⊎_elim, ℕ, ◌+◌, ◌-◌, ◌<◌, ◌≤◌, Bool, true, false, cond, List, [], ◌∷◌, ◌++◌, map, length, Option, Some, None, Result, Ok, Err, IfErr, IfOk, OnErr, OnOk, refl, sym, ap, subst, ◌∙◌, arith}
+use Rattle.std.specs.Prelude.{◌==◌, find, IsSome}
+use Rattle.std.specs.Result.{IsErrAnd}
+use Rattle.std.proofs.lemmas.Bool.{eq-eqb, eqb-true, true≢false}
+use Rattle.std.proofs.lemmas.List.{append-nil, length-append}
+use Rattle.std.proofs.lemmas.List.Elements.{filter-append}
+use Rattle.std.proofs.lemmas.List.Sums.{length-filter}
+use Rattle.std.specs.List.{Contains, count_by, filter, flat_map}
+use Rattle.std.specs.Option.{option_and_then, option_map_or}
+use Rattle.address_space.specs.Pages.{AllFree}
+use Rattle.area_images.specs.Areas.{IsArea}
+use Rattle.image_parts.specs.Parts.{part_of, storage_of}
+use Rattle.image_parts.specs.declared.parts.Part.{Part}
+use Rattle.late_blocks.specs.Blocks.{BlockList}
+use Rattle.ld_base.specs.declared.linking.Loaded.{Loaded}
+use Rattle.ld_base.specs.declared.object.TlsSeg.{TlsSeg}
+use Rattle.link_event.specs.declared.event.Event.{Event}
+use Rattle.link_event.specs.declared.event.Event.TheVariants.{Tls}
+use Rattle.link_event.specs.declared.event.Purpose.TheVariants as purposes
+use Rattle.link_event.specs.declared.event.Range.{Range}
+use Rattle.link_event.specs.declared.hart_end.HartEnd.TheVariants as ends
+use Rattle.link_event.specs.declared.state.Block.{Block}
+use Rattle.link_event.specs.declared.state.Closing.{Closing}
+use Rattle.link_event.specs.declared.state.Module.{Module}
+use Rattle.link_history.specs.Accepted.{AcceptsOnly, IsAccepted}
+use Rattle.link_history.specs.After.{after}
+use Rattle.link_history.specs.Areas.{free_pages}
+use Rattle.link_history.specs.Laws.{FindsImage, IsIn}
+use Rattle.link_history.specs.Legal.{Lawful}
+use Rattle.link_history.specs.Lookup.{HasNoBlock, MayHaveBlock}
+use Rattle.link_history.specs.Memory.{image_of}
+use Rattle.link_history.specs.Objects.{has, mapped, object_at, serial_of}
+use Rattle.link_history.specs.State.{Linked, State}
+use Rattle.link_history.specs.Step.{add_block, block_range, block_ranges, goes_with}
+use Rattle.link_history.specs.Storage.{block_pages, module_of, residue, tls_block}
+use Rattle.link_history.proofs.Lists.{first_or_later, found_in, from_flat, from_map, here, later, not_found}
+use Rattle.lawful_journal.specs.Following.{machine_of}
+use Rattle.link_served.specs.declared.installs.Installs.{Installs}
+use Rattle.link_service.specs.Ends.{bad_module, no_room}
+use Rattle.link_service.specs.Gives.{in_block, in_new_block, to_end}
+use Rattle.link_service.specs.Served.{AreBlockInstalls, InstallsNothing, Makes, a_block, no_event}
+use Rattle.new_blocks.specs.Laws.{NewBlocksAreInstalled}
+use Rattle.new_blocks.specs.Placing.{IsBlockFault, IsNewBlock, LacksPages}
+use Rattle.new_blocks.specs.declared.placing.BlockFault.{BlockFault}
+use Rattle.new_blocks.specs.declared.placing.BlockFault.TheVariants as blocks
+use Rattle.new_blocks.specs.declared.placing.NewBlock.{NewBlock}
+use Rattle.pending_closings.specs.Pending.{HaveRoomOf, PendingClosing, PendingList, closing_of, with_more}
+use Rattle.reserved_pages.specs.Laid.{RangeList}
+use Rattle.tls_blocks.specs.Numbers.{module_at}
+use Rattle.closing_plans.specs.Plans.{IsRoomy}
+use Rattle.link_state.specs.Holding.{HoldsAll, Lists}
+use Rattle.link_state.specs.Locating.{EndsUnlocated, IsLocated, IsModuleOf, IsNotLocated, LacksBlock, PlansBlock, PlansNone}
+use Rattle.link_state.specs.Table.{LinkTable}
+use Rattle.link_state.specs.TlsFaults.{tls_fault}
+use Rattle.link_state.proofs.Parts.{storage_found}
+use Rattle.scope_rule.specs.Loading.{with_serial}
+use Rattle.scope_rule.specs.declared.namespace.Namespace.{Namespace}
+
+-- ---- room in closings that wait
+
+pub same_room : (ps : List PendingClosing) → HaveRoomOf ps ps
+same_room [] = tt
+same_room (p ∷ ps) = (record { same = refl; objects = omega arith; ranges = omega arith }, same_room ps)
+
+pub more_room : (ps : List PendingClosing) → HaveRoomOf ps (map with_more ps)
+more_room [] = tt
+more_room (p ∷ ps) = (record { same = refl; objects = omega arith; ranges = omega arith }, more_room ps)
+
+pub room_by : {X E : Type 0} (r : Result X E) (old new : List PendingClosing) → OnOk r (new ≡ map with_more old) → OnErr r (HaveRoomOf old new) → HaveRoomOf old new
+room_by (Ok x) old new ok err = subst (HaveRoomOf old) (sym ok) (more_room old)
+room_by (Err e) old new ok err = err
+
+same_closings : (ps qs : List PendingClosing) → HaveRoomOf ps qs → map closing_of qs ≡ map closing_of ps
+same_closings [] [] room = refl
+same_closings [] (q ∷ qs) room = absurd room
+same_closings (p ∷ ps) [] room = absurd room
+same_closings (p ∷ ps) (q ∷ qs) room = ap (λ (c : Closing). c ∷ map closing_of qs) room.0.same ∙ ap (λ (cs : List Closing). closing_of p ∷ cs) (same_closings ps qs room.1)
+
+roomier : (serials : List ℕ) (laid : List Range) (ps qs : List PendingClosing) → HaveRoomOf ps qs → ((p : PendingClosing) → Contains ps p → IsRoomy serials laid p) → (q : PendingClosing) → Contains qs q → IsRoomy serials laid q
+roomier serials laid [] [] room roomy q inside = roomy q inside
+roomier serials laid [] (x ∷ qs) room roomy q inside = absurd room
+roomier serials laid (p ∷ ps) [] room roomy q inside = absurd room
+roomier serials laid (p ∷ ps) (x ∷ qs) room roomy q inside = ⊎_elim
+    (λ (same : x ≡ q). subst (IsRoomy serials laid) same (by (roomy p (here p ps))))
+    (λ (rest : Contains qs q). roomier serials laid ps qs room.1 (λ z among. roomy z (later p ps z among)) q rest)
+    (first_or_later x qs q inside)
+  where
+    by : IsRoomy serials laid p → IsRoomy serials laid x
+    by r =
+        let set : x.set ≡ p.set = ap (λ (c : Closing). c.set) room.0.same in
+        record {
+          objects = subst (λ (ds : List ℕ). count_by (has ds) serials ≤ x.objects) (sym set) (omega (arith, r.objects, room.0.objects));
+          ranges = subst (λ (ds : List ℕ). count_by (goes_with ds) laid ≤ x.ranges) (sym set) (omega (arith, r.ranges, room.0.ranges));
+        }
+
+-- only there is more room
+pub all_roomier_closings : (s : State) (harts : ℕ) (l : Lists) (reserved : RangeList) (blocks : BlockList) (closings : PendingList) → HoldsAll s harts l → reserved.ranges ≡ l.reserved.ranges
+    → blocks.blocks ≡ l.blocks.blocks → HaveRoomOf l.closings.closings closings.closings → HoldsAll s harts (record l { reserved = reserved; blocks = blocks; closings = closings })
+all_roomier_closings s harts l reserved blocks closings holds ranges same room = record {
+  of_harts = holds.of_harts;
+  running = holds.running;
+  memory = record {
+    ranges = ranges ∙ holds.memory.ranges;
+    modules = holds.memory.modules;
+    size = holds.memory.size;
+    tp = holds.memory.tp;
+    generation = holds.memory.generation;
+    blocks = same ∙ holds.memory.blocks;
+    parts = holds.memory.parts;
+  };
+  keeping = record {
+    every = holds.keeping.every;
+    only = holds.keeping.only;
+    room = holds.keeping.room;
+    closings = same_closings l.closings.closings closings.closings room ∙ holds.keeping.closings;
+    roomy = roomier (map serial_of (mapped s)) s.ranges l.closings.closings closings.closings room holds.keeping.roomy;
+  };
+  opening = holds.opening;
+}
+
+one_more : (set : List ℕ) (laid : List Range) (r : Range) (n : ℕ) → count_by (goes_with set) laid ≤ n → count_by (goes_with set) (laid ++ r ∷ []) ≤ n + 1
+one_more set laid r n few =
+    let all : count_by (goes_with set) (laid ++ r ∷ []) ≡ length (filter (goes_with set) laid ++ filter (goes_with set) (r ∷ [])) =
+    sym (length-filter (goes_with set) (laid ++ r ∷ [])) ∙ ap length (filter-append (goes_with set) laid (r ∷ [])) in
+    let parts = length-append (filter (goes_with set) laid) (filter (goes_with set) (r ∷ [])) in
+    let was = length-filter (goes_with set) laid in
+    let last : length (filter (goes_with set) (r ∷ [])) ≤ 1 = by (goes_with set r) in
+    omega (arith, all, parts, was, last, few)
+  where
+    by : (b : Bool) → length (cond b (r ∷ []) []) ≤ 1
+    by true = omega arith
+    by false = omega arith
+
+-- a block more
+pub all_blocked : (s : State) (harts hart serial address : ℕ) (r : Range) (l : Lists) (reserved : RangeList) (blocks : BlockList) (closings : PendingList) → HoldsAll s harts l
+    → block_ranges s hart serial address ≡ r ∷ [] → reserved.ranges ≡ l.reserved.ranges ++ r ∷ [] → blocks.blocks ≡ l.blocks.blocks ++ record { hart = hart; serial = serial; address = address } ∷ []
+    → closings.closings ≡ map with_more l.closings.closings → HoldsAll (add_block hart serial address s) harts (record l { reserved = reserved; blocks = blocks; closings = closings })
+all_blocked s harts hart serial address r l reserved blocks closings holds its ranges more room = record {
+  of_harts = holds.of_harts;
+  running = holds.running;
+  memory = record {
+    ranges = ranges ∙ ap (λ (rs : List Range). rs ++ r ∷ []) holds.memory.ranges ∙ ap (λ (rs : List Range). s.ranges ++ rs) (sym its);
+    modules = holds.memory.modules;
+    size = holds.memory.size;
+    tp = holds.memory.tp;
+    generation = holds.memory.generation;
+    blocks = more ∙ ap (λ (bs : List Block). bs ++ record { hart = hart; serial = serial; address = address } ∷ []) holds.memory.blocks;
+    parts = holds.memory.parts;
+  };
+  keeping = record {
+    every = holds.keeping.every;
+    only = holds.keeping.only;
+    room = holds.keeping.room;
+    closings = ap (map closing_of) room ∙ same_closings l.closings.closings (map with_more l.closings.closings) (more_room l.closings.closings) ∙ holds.keeping.closings;
+    roomy = λ q inside.
+        let at = from_map with_more l.closings.closings q (subst (λ (qs : List PendingClosing). Contains qs q) room inside) in
+        let was : IsRoomy (map serial_of (mapped s)) s.ranges at.0 = holds.keeping.roomy at.0 at.1 in
+        subst (IsRoomy (map serial_of (mapped s)) (s.ranges ++ block_ranges s hart serial address)) at.2 (record {
+          objects = was.objects;
+          ranges = subst (λ (rs : List Range). count_by (goes_with at.0.set) (s.ranges ++ rs) ≤ at.0.ranges + 1) (sym its) (one_more at.0.set s.ranges r at.0.ranges was.ranges);
+        });
+  };
+  opening = holds.opening;
+}
+
+-- ---- a block that is made
+
+abbrev pub may_have : (s : State) (hart serial : ℕ) (b : NewBlock) → PlansBlock s serial b → IsSome (module_of s serial) → tls_block s hart serial ≡ None → MayHaveBlock s hart serial b.address
+may_have s hart serial b plan some none = record {
+  seg = plan.stored.seg;
+  wants = record { object = plan.stored.object; mapped = plan.stored.mapped; storage = plan.stored.storage; has_module = some; none = none };
+  pages = b.start;
+  first = plan.is.first;
+  is = plan.is.address;
+}
+
+pub none_there : (s : State) (hart serial pages : ℕ) → LacksBlock s serial pages → IsSome (module_of s serial) → tls_block s hart serial ≡ None → HasNoBlock s hart serial pages
+none_there s hart serial pages lacks some none = record {
+  seg = lacks.stored.seg;
+  wants = record { object = lacks.stored.object; mapped = lacks.stored.mapped; storage = lacks.stored.storage; has_module = some; none = none };
+  none = lacks.lacks.none;
+  is = lacks.lacks.is;
+}
+
+-- the object of a module has one
+pub has_module : (s : State) (number serial : ℕ) → IsModuleOf s number serial → IsSome (module_of s serial)
+has_module s number serial its = by (module_of s serial) refl
+  where
+    at : Contains s.modules its.of × ((its.of.number == number) ≡ true)
+    at = found_in (λ (m : Module). m.number == number) s.modules its.of its.there
+
+    by : (found : Option Module) → module_of s serial ≡ found → IsSome (module_of s serial)
+    by None e = absurd (true≢false (sym (eq-eqb its.of.serial serial its.is) ∙ not_found (λ (m : Module). m.serial == serial) s.modules its.of e at.0))
+    by (Some m) e = subst (λ (f : Option Module). IsSome f) (sym e) refl
+
+-- where its pages are
+pub range_is : (s : State) (hart serial : ℕ) (b : NewBlock) → PlansBlock s serial b
+    → block_ranges s hart serial b.address ≡ record { address = b.start; pages = b.pages; purpose = purposes.Block hart serial } ∷ []
+range_is s hart serial b plan =
+    ap (λ (x : Option Loaded). option_map_or (λ (g : TlsSeg). block_range hart serial b.address g ∷ []) (option_and_then (λ (q : Loaded). q.object.tls) x) []) plan.stored.mapped
+    ∙ ap (λ (x : Option TlsSeg). option_map_or (λ (g : TlsSeg). block_range hart serial b.address g ∷ []) x []) plan.stored.storage
+    ∙ ap (λ a. record { address = a; pages = block_pages plan.stored.seg; purpose = purposes.Block hart serial } ∷ []) start
+    ∙ ap (λ n. record { address = b.start; pages = n; purpose = purposes.Block hart serial } ∷ []) (sym plan.is.pages)
+  where
+    start : b.address - residue plan.stored.seg ≡ b.start
+    start = let at = plan.is.address in omega (arith, at)
+
+pub free_there : (s : State) (serial : ℕ) (b : NewBlock) (ranges : List Range) → PlansBlock s serial b → ranges ≡ s.ranges → AllFree (free_pages ranges) b.start b.pages
+free_there s serial b ranges plan are =
+    subst (λ n. AllFree (free_pages ranges) b.start n) (sym plan.is.pages)
+    (subst (λ (rs : List Range). AllFree (free_pages rs) b.start (block_pages plan.stored.seg)) (sym are) plan.is.first.fits.room)
+
+-- what memory gets
+pub block_made : NewBlocksAreInstalled → (harts : ℕ) → AcceptsOnly (machine_of harts) → (past : List Event) (hart serial : ℕ) (b : NewBlock) → Lawful (machine_of harts) past → hart < harts
+    → (plan : PlansBlock (after past) serial b) → IsSome (module_of (after past) serial) → tls_block (after past) hart serial ≡ None
+    → AreBlockInstalls (after (past ++ Tls hart serial b.address ∷ [])) hart serial b.address b.installs
+block_made law harts only past hart serial b lawful few plan some none =
+    subst (AreBlockInstalls (after (past ++ Tls hart serial b.address ∷ [])) hart serial b.address) (sym plan.is.installs)
+    (law (machine_of harts) past hart serial b.address plan.stored.image plan.is.image only lawful few (may_have (after past) hart serial b plan some none) plan.stored.of area)
+  where
+    area : IsArea (b.address - residue plan.stored.seg) (block_pages plan.stored.seg) b.address (storage_of plan.stored.image) plan.is.image
+    area =
+        let at = plan.is.address in
+        let start : b.start ≡ b.address - residue plan.stored.seg = omega (arith, at) in
+        subst (λ n. IsArea (b.address - residue plan.stored.seg) n b.address (storage_of plan.stored.image) plan.is.image) plan.is.pages
+        (subst (λ a. IsArea a b.pages b.address (storage_of plan.stored.image) plan.is.image) start plan.is.area)
+
+-- ---- what a request gives
+
+pub is_got : (table new : LinkTable) (hart number serial block : ℕ) (installs : Installs) → IsModuleOf (after table.events) number serial → MayHaveBlock (after table.events) hart serial block
+    → new.events ≡ table.events ++ Tls hart serial block ∷ [] → new.harts ≡ table.harts → AreBlockInstalls (after (table.events ++ Tls hart serial block ∷ [])) hart serial block installs → new.made ≡ installs
+    → IsLocated table hart number block new
+is_got table new hart number serial block installs its may events harts made is = record {
+  given = Tls hart serial block ∷ [];
+  gives = λ offset w same. in_new_block number offset block (Tls hart serial block)
+      (record { of = its.of; there = its.there; is = ap (λ d. Tls hart d block) (sym its.is); may = may });
+  events = events;
+  harts = harts;
+  made = subst (λ (es : List Event). Makes (after es) (Tls hart serial block ∷ []) new.made) (sym events)
+      (a_block hart serial block [] new.made (subst (AreBlockInstalls (after (table.events ++ Tls hart serial block ∷ [])) hart serial block) (sym is) made));
+}
+
+pub is_kept : (table new : LinkTable) (hart number serial block : ℕ) → IsModuleOf (after table.events) number serial → Some block ≡ tls_block (after table.events) hart serial → new.events ≡ table.events
+    → new.harts ≡ table.harts → InstallsNothing new.made → IsLocated table hart number block new
+is_kept table new hart number serial block its is events harts nothing = record {
+  given = [];
+  gives = λ offset w same. in_block number offset block
+      (record { of = its.of; there = its.there; is = ap (tls_block (after table.events) hart) its.is ∙ sym is });
+  events = events ∙ sym (append-nil table.events);
+  harts = harts;
+  made = no_event new.made nothing;
+}
+
+pub is_bad : (table new : LinkTable) (hart number : ℕ) → module_at (after table.events).modules number ≡ None → new ≡ table → EndsUnlocated table hart number (ends.BadModule number) new
+is_bad table new hart number none is = record { gives = λ offset w same. to_end _ _ (bad_module number offset none); is = is }
+
+pub is_full : (table new : LinkTable) (hart number serial pages : ℕ) → IsModuleOf (after table.events) number serial → HasNoBlock (after table.events) hart serial pages → new ≡ table
+    → EndsUnlocated table hart number (ends.AddressSpaceFull pages) new
+is_full table new hart number serial pages its none is = record {
+  gives = λ offset w same. to_end _ _ (no_room number offset pages (record {
+    of = its.of;
+    there = its.there;
+    none = subst (λ d. HasNoBlock (after table.events) hart d pages) (sym its.is) none;
+  }));
+  is = is;
+}
+
+pub not_got : (table new : LinkTable) (hart number serial : ℕ) (e : BlockFault) → IsModuleOf (after table.events) number serial → tls_block (after table.events) hart serial ≡ None
+    → PlansNone (after table.events) serial e → new ≡ table → IsNotLocated table hart number (tls_fault e) new
+not_got table new hart number serial (blocks.NoRoom pages) its none lacks is =
+    is_full table new hart number serial pages its (none_there (after table.events) hart serial pages lacks (has_module (after table.events) number serial its) none) is
+not_got table new hart number serial blocks.Memory its none lacks is = is
+
+-- ---- a block that is planned
+
+pub object_is : (s : State) (namespaces : List Namespace) (serial : ℕ) (o : Loaded) → namespaces ≡ s.namespaces → Some o ≡ with_serial (flat_map (λ (ns : Namespace). ns.objects) namespaces) serial
+    → object_at s serial ≡ Some o
+object_is s namespaces serial o are at = sym (at ∙ ap (λ (nss : List Namespace). with_serial (flat_map (λ (ns : Namespace). ns.objects) nss) serial) are)
+
+pub accepted_at : (s : State) (serial : ℕ) (o : Loaded) → object_at s serial ≡ Some o → ((ns : Namespace) → IsIn s ns o → IsAccepted o.object) → IsAccepted o.object
+accepted_at s serial o at each =
+    let found = found_in (λ (x : Loaded). x.serial == serial) (mapped s) o at in
+    let of = from_flat (λ (ns : Namespace). ns.objects) s.namespaces o found.0 in
+    each of.0 (record { there = of.1; inside = of.2 })
+
+image_is : (s : State) (serial : ℕ) (o : Loaded) → object_at s serial ≡ Some o → ((x : Loaded) → Contains (mapped s) x → FindsImage s x) → (i : Linked) × (image_of s serial ≡ Some i)
+image_is s serial o at finds =
+    let found = found_in (λ (x : Loaded). x.serial == serial) (mapped s) o at in
+    let f = finds o found.0 in
+    (f.image, ap (image_of s) (sym (eqb-true o.serial serial found.1)) ∙ f.found)
+
+pub plan_is : (s : State) (serial : ℕ) (o : Loaded) (seg : TlsSeg) (parts : List Part) (p : Part) (free : List ℕ) (bytes : List ℕ) (b : NewBlock) → object_at s serial ≡ Some o → o.object.tls ≡ Some seg
+    → ((x : Loaded) → Contains (mapped s) x → FindsImage s x) → parts ≡ map part_of s.images → Some p ≡ find (λ (q : Part). q.serial == serial) parts → free ≡ free_pages s.ranges → bytes ≡ p.storage
+    → IsNewBlock free seg bytes b → PlansBlock s serial b
+plan_is s serial o seg parts p free bytes b at storage finds are found pages are_bytes is =
+    let i = image_is s serial o at finds in
+    record {
+      stored = record { object = o; mapped = at; seg = seg; storage = storage; image = i.0; of = i.1 };
+      is = subst (λ (xs : List ℕ). IsNewBlock (free_pages s.ranges) seg xs b) (are_bytes ∙ storage_found s parts serial p i.0 are found i.1)
+          (subst (λ (ps : List ℕ). IsNewBlock ps seg bytes b) pages is);
+    }
+
+pub plan_none : (s : State) (serial : ℕ) (o : Loaded) (seg : TlsSeg) (free : List ℕ) (e : BlockFault) → object_at s serial ≡ Some o → o.object.tls ≡ Some seg
+    → ((x : Loaded) → Contains (mapped s) x → FindsImage s x) → free ≡ free_pages s.ranges → IsBlockFault free seg e → PlansNone s serial e
+plan_none s serial o seg free (blocks.NoRoom pages) at storage finds are lacks =
+    let i = image_is s serial o at finds in
+    record {
+      stored = record { object = o; mapped = at; seg = seg; storage = storage; image = i.0; of = i.1 };
+      lacks = subst (λ (ps : List ℕ). LacksPages ps seg pages) are lacks;
+    }
+plan_none s serial o seg free blocks.Memory at storage finds are lacks = tt
+
+-- ---- results
+
+pub if_ok : {X E : Type 0} (r : Result X E) (P Q : X → Type 0) → ((x : X) → P x → Q x) → IfOk r P → IfOk r Q
+if_ok (Ok x) P Q every is = every x is
+if_ok (Err e) P Q every is = tt
+
+pub if_err : {X E : Type 0} (r : Result X E) (P Q : E → Type 0) → ((e : E) → P e → Q e) → IfErr r P → IfErr r Q
+if_err (Ok x) P Q every is = tt
+if_err (Err e) P Q every is = every e is
+
+pub if_err_and : {X E : Type 0} (r : Result X E) (P Q : E → Type 0) → IsErrAnd r P → ((e : E) → P e → Q e) → IfErr r Q
+if_err_and (Ok x) P Q is every = tt
+if_err_and (Err e) P Q is every = every e is
