@@ -2,50 +2,50 @@
 
 ghost use Rattle.std.specs.Prelude.{◌≡◌, ◌<◌, length, Some};
 ghost use Rattle.scope_rule.specs.Loading.{object_of};
-ghost use Rattle.scope_rule.specs.Seen.{seen_in};
+ghost use Rattle.scope_rule.specs.Seen.{seen};
 ghost use Rattle.search_lists.specs.Lists.{lists_of};
 ghost use Rattle.sym_lookup.specs.Looking.{HaveTables};
 
 use ld_base::{Choice, Loaded, Serial};
-use scope_rule::{Namespace, choose};
+use scope_rule::{View, choose_in};
 use std::alloc::{AllocError, Global};
-use sym_lookup::{SearchLists, lookup};
+use sym_lookup::{SearchLists, lookup_in};
 
 /// Whether the two agree on a reference.
 fn agrees(
     alloc: Global,
-    ns: &Namespace,
+    view: &View,
     lists: &SearchLists,
     owner: Serial,
     loaded: &Loaded,
     symbol: u32,
     copy: bool,
 ) -> Result<bool, AllocError>
-    requires lists { lists.now ≡ lists_of (seen_in ns.now) }
-    requires tables { HaveTables (seen_in ns.now) }
-    requires there { object_of (seen_in ns.now) owner ≡ Some loaded.now }
+    requires lists { lists.now ≡ lists_of (seen view.now) }
+    requires tables { HaveTables (seen view.now) }
+    requires there { object_of (seen view.now) owner ≡ Some loaded.now }
     requires symbol { symbol < length loaded.now.object.symbols }
 {
-    let plain = choose(alloc, ns, owner, symbol, copy)?;
-    Ok(plain == lookup(ns, lists, owner, symbol, copy))
+    let plain = choose_in(alloc, view, owner, symbol, copy)?;
+    Ok(plain == lookup_in(view, lists, owner, symbol, copy))
 }
 
 /// On how many references of an object's symbols the two agree.
 fn agreed(
     alloc: Global,
-    ns: &Namespace,
+    view: &View,
     lists: &SearchLists,
     owner: Serial,
     loaded: &Loaded,
     copy: bool,
 ) -> Result<u32, AllocError>
-    requires lists { lists.now ≡ lists_of (seen_in ns.now) }
-    requires tables { HaveTables (seen_in ns.now) }
-    requires there { object_of (seen_in ns.now) owner ≡ Some loaded.now }
+    requires lists { lists.now ≡ lists_of (seen view.now) }
+    requires tables { HaveTables (seen view.now) }
+    requires there { object_of (seen view.now) owner ≡ Some loaded.now }
 {
     let mut count: u32 = 0;
     for symbol in 0..loaded.object.symbols.len() {
-        if agrees(alloc, ns, lists, owner, loaded, symbol, copy)? {
+        if agrees(alloc, view, lists, owner, loaded, symbol, copy)? {
             count = count.saturating_add(1);
         }
     }
@@ -68,18 +68,18 @@ fn write_choice(text: &mut String, choice: Choice) -> Result<(), AllocError> {
 fn write_object(
     alloc: Global,
     text: &mut String,
-    ns: &Namespace,
+    view: &View,
     lists: &SearchLists,
     owner: Serial,
     loaded: &Loaded,
 ) -> Result<(), AllocError>
-    requires lists { lists.now ≡ lists_of (seen_in ns.now) }
-    requires tables { HaveTables (seen_in ns.now) }
-    requires there { object_of (seen_in ns.now) owner ≡ Some loaded.now }
+    requires lists { lists.now ≡ lists_of (seen view.now) }
+    requires tables { HaveTables (seen view.now) }
+    requires there { object_of (seen view.now) owner ≡ Some loaded.now }
 {
     let symbols = loaded.object.symbols.len();
-    let plain = agreed(alloc, ns, lists, owner, loaded, false)?;
-    let copies = agreed(alloc, ns, lists, owner, loaded, true)?;
+    let plain = agreed(alloc, view, lists, owner, loaded, false)?;
+    let copies = agreed(alloc, view, lists, owner, loaded, true)?;
     let path = &loaded.path;
     write!(
         text,
@@ -87,23 +87,43 @@ fn write_object(
     )?;
     for slot in loaded.object.plt_relocs.as_slice() {
         if slot.symbol < symbols {
-            write_choice(text, lookup(ns, lists, owner, slot.symbol, false))?;
+            write_choice(text, lookup_in(view, lists, owner, slot.symbol, false))?;
         }
     }
     writeln!(text)
 }
 
-/// The lines of all objects.
-pub(crate) fn compared(alloc: Global, ns: &Namespace) -> Result<String, AllocError>
-    requires { HaveTables (seen_in ns.now) }
+/// The lines of these objects.
+fn write_objects(
+    alloc: Global,
+    text: &mut String,
+    view: &View,
+    lists: &SearchLists,
+    objects: &[Loaded],
+) -> Result<(), AllocError>
+    requires lists { lists.now ≡ lists_of (seen view.now) }
+    requires tables { HaveTables (seen view.now) }
 {
-    let lists = SearchLists::build(alloc, ns)?;
-    let mut text = String::new(alloc);
-    for object in ns.objects.as_slice() {
+    for object in objects {
         let owner = object.serial;
-        if let Some(loaded) = lists.object(&ns.view(), owner) {
-            write_object(alloc, &mut text, ns, &lists, owner, loaded)?;
+        if let Some(loaded) = lists.object(view, owner) {
+            write_object(alloc, text, view, lists, owner, loaded)?;
         }
     }
-    Ok(text)
+    Ok(())
+}
+
+/// The lines of all objects of what is seen of a namespace, below what the scene is.
+pub(crate) fn write_scene(
+    alloc: Global,
+    text: &mut String,
+    scene: &str,
+    view: &View,
+) -> Result<(), AllocError>
+    requires { HaveTables (seen view.now) }
+{
+    let lists = SearchLists::build_in(alloc, view)?;
+    writeln!(text, "{scene}:")?;
+    write_objects(alloc, text, view, &lists, view.objects)?;
+    write_objects(alloc, text, view, &lists, view.added)
 }
