@@ -23,24 +23,7 @@ dword_number lines starts place (doublewords.Address name addend) = file_word st
 unfoldable pub directive_number : List Line → Starts → Place → Directive → ℕ
 directive_number lines starts place (directives.Data size number) = addend_of number
 directive_number lines starts place (directives.Dword value) = dword_number lines starts place value
-directive_number lines starts place (directives.Soname name) = 0
-directive_number lines starts place (directives.Needed name) = 0
-directive_number lines starts place (directives.Entry name) = 0
-directive_number lines starts place (directives.Export export name) = 0
-directive_number lines starts place (directives.Weak name) = 0
-directive_number lines starts place (directives.Version name) = 0
-directive_number lines starts place (directives.Entries array name) = 0
-directive_number lines starts place (directives.Zero number) = 0
-directive_number lines starts place (directives.Section _) = 0
-directive_number lines starts place (directives.Kind kind) = 0
-directive_number lines starts place (directives.Hash hash) = 0
-directive_number lines starts place (directives.Flags flags) = 0
-directive_number lines starts place (directives.Symver symver) = 0
-directive_number lines starts place (directives.Need need) = 0
-directive_number lines starts place (directives.Asciz text) = 0
-directive_number lines starts place (directives.Align alignment) = 0
-directive_number lines starts place directives.Relr = 0
-directive_number lines starts place (directives.Copy name size) = 0
+directive_number lines starts place _ = 0
 
 abbrev pub statement_number : List Line → Starts → Place → Option Statement → ℕ
 statement_number lines starts place (Some (statements.Directive directive)) = directive_number lines starts place directive

@@ -97,22 +97,7 @@ directive_fits (directives.Data size number) = fits_data size number
 directive_fits (directives.Zero number) = fits_count number
 directive_fits (directives.Dword value) = dword_fits value
 directive_fits (directives.Copy name size) = fits_count size
-directive_fits (directives.Soname name) = true
-directive_fits (directives.Needed name) = true
-directive_fits (directives.Entry name) = true
-directive_fits (directives.Export export name) = true
-directive_fits (directives.Weak name) = true
-directive_fits (directives.Version name) = true
-directive_fits (directives.Entries array name) = true
-directive_fits (directives.Section _) = true
-directive_fits (directives.Kind kind) = true
-directive_fits (directives.Hash hash) = true
-directive_fits (directives.Flags flags) = true
-directive_fits (directives.Symver symver) = true
-directive_fits (directives.Need need) = true
-directive_fits (directives.Asciz text) = true
-directive_fits (directives.Align alignment) = true
-directive_fits directives.Relr = true
+directive_fits _ = true
 
 -- the index of a version has 15 bits, since the sixteenth hides a symbol: the line is refused whose version has a greater one
 abbrev pub is_version_index : ℕ → Bool
@@ -124,24 +109,7 @@ need_fits lines need = option_map_or (λ number. is_version_index (first_needed 
 abbrev pub version_fits : List Line → Directive → Bool
 version_fits lines (directives.Version name) = is_version_index (defined_number lines name)
 version_fits lines (directives.Need need) = need_fits lines need
-version_fits lines (directives.Soname name) = true
-version_fits lines (directives.Needed name) = true
-version_fits lines (directives.Entry name) = true
-version_fits lines (directives.Export export name) = true
-version_fits lines (directives.Weak name) = true
-version_fits lines (directives.Entries array name) = true
-version_fits lines (directives.Data size number) = true
-version_fits lines (directives.Zero number) = true
-version_fits lines (directives.Section _) = true
-version_fits lines (directives.Kind kind) = true
-version_fits lines (directives.Hash hash) = true
-version_fits lines (directives.Flags flags) = true
-version_fits lines (directives.Symver symver) = true
-version_fits lines (directives.Dword value) = true
-version_fits lines (directives.Asciz text) = true
-version_fits lines (directives.Align alignment) = true
-version_fits lines directives.Relr = true
-version_fits lines (directives.Copy name size) = true
+version_fits lines _ = true
 
 abbrev pub statement_fits : List Line → ℕ → Statement → Bool
 statement_fits lines k (statements.Directive directive) = directive_fits directive && version_fits lines directive
@@ -182,19 +150,7 @@ directive_is_known lines (directives.Symver symver) = is_label lines symver.labe
 directive_is_known lines (directives.Weak name) = has_symbol lines name
 directive_is_known lines (directives.Need need) = has_symbol lines need.name
 directive_is_known lines (directives.Dword value) = dword_is_known lines value
-directive_is_known lines (directives.Soname name) = true
-directive_is_known lines (directives.Needed name) = true
-directive_is_known lines (directives.Version name) = true
-directive_is_known lines (directives.Data size number) = true
-directive_is_known lines (directives.Zero number) = true
-directive_is_known lines (directives.Section _) = true
-directive_is_known lines (directives.Kind kind) = true
-directive_is_known lines (directives.Hash hash) = true
-directive_is_known lines (directives.Flags flags) = true
-directive_is_known lines (directives.Asciz text) = true
-directive_is_known lines (directives.Align alignment) = true
-directive_is_known lines directives.Relr = true
-directive_is_known lines (directives.Copy name size) = true
+directive_is_known lines _ = true
 
 abbrev pub statement_is_known : List Line → Statement → Bool
 statement_is_known lines (statements.Directive directive) = directive_is_known lines directive
@@ -217,22 +173,7 @@ directive_may_stand section (directives.Data size number) = not (holds_zeros sec
 directive_may_stand section (directives.Asciz text) = not (holds_zeros section)
 directive_may_stand section (directives.Dword value) = dword_may_stand section value
 directive_may_stand section (directives.Copy name size) = is_section sections.Bss section
-directive_may_stand section (directives.Soname name) = true
-directive_may_stand section (directives.Needed name) = true
-directive_may_stand section (directives.Entry name) = true
-directive_may_stand section (directives.Export export name) = true
-directive_may_stand section (directives.Weak name) = true
-directive_may_stand section (directives.Version name) = true
-directive_may_stand section (directives.Entries array name) = true
-directive_may_stand section (directives.Zero number) = true
-directive_may_stand section (directives.Section _) = true
-directive_may_stand section (directives.Kind kind) = true
-directive_may_stand section (directives.Hash hash) = true
-directive_may_stand section (directives.Flags flags) = true
-directive_may_stand section (directives.Symver symver) = true
-directive_may_stand section (directives.Need need) = true
-directive_may_stand section (directives.Align alignment) = true
-directive_may_stand section directives.Relr = true
+directive_may_stand section _ = true
 
 abbrev pub statement_may_stand : Section → Statement → Bool
 statement_may_stand section (statements.Directive directive) = directive_may_stand section directive

@@ -74,21 +74,7 @@ directive_bytes lines starts place (directives.Zero number) = replicate (count_o
 directive_bytes lines starts place (directives.Dword value) = dword_bytes lines starts place value
 directive_bytes lines starts place (directives.Asciz text) = text ++ 0 ∷ []
 directive_bytes lines starts place (directives.Align alignment) = replicate (padding place.offset alignment) 0
-directive_bytes lines starts place (directives.Soname name) = []
-directive_bytes lines starts place (directives.Needed name) = []
-directive_bytes lines starts place (directives.Entry name) = []
-directive_bytes lines starts place (directives.Export export name) = []
-directive_bytes lines starts place (directives.Weak name) = []
-directive_bytes lines starts place (directives.Version name) = []
-directive_bytes lines starts place (directives.Entries array name) = []
-directive_bytes lines starts place (directives.Section _) = []
-directive_bytes lines starts place (directives.Kind kind) = []
-directive_bytes lines starts place (directives.Hash hash) = []
-directive_bytes lines starts place (directives.Flags flags) = []
-directive_bytes lines starts place (directives.Symver symver) = []
-directive_bytes lines starts place (directives.Need need) = []
-directive_bytes lines starts place directives.Relr = []
-directive_bytes lines starts place (directives.Copy name size) = []
+directive_bytes lines starts place _ = []
 
 abbrev pub statement_bytes : List Line → Starts → ℕ → Option Statement → List ℕ
 statement_bytes lines starts k None = []

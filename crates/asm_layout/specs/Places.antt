@@ -28,20 +28,7 @@ directive_size offset (directives.Dword value) = 8
 directive_size offset (directives.Asciz text) = length text + 1
 directive_size offset (directives.Align alignment) = padding offset alignment
 directive_size offset (directives.Copy name size) = count_of size
-directive_size offset (directives.Soname name) = 0
-directive_size offset (directives.Needed name) = 0
-directive_size offset (directives.Entry name) = 0
-directive_size offset (directives.Export export name) = 0
-directive_size offset (directives.Weak name) = 0
-directive_size offset (directives.Version name) = 0
-directive_size offset (directives.Entries array name) = 0
-directive_size offset (directives.Section _) = 0
-directive_size offset (directives.Kind kind) = 0
-directive_size offset (directives.Hash hash) = 0
-directive_size offset (directives.Flags flags) = 0
-directive_size offset (directives.Symver symver) = 0
-directive_size offset (directives.Need need) = 0
-directive_size offset directives.Relr = 0
+directive_size offset _ = 0
 
 abbrev pub statement_size : ℕ → Statement → ℕ
 statement_size offset (statements.Directive directive) = directive_size offset directive

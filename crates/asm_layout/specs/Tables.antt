@@ -72,14 +72,9 @@ versions lines = distinct_names (filter_map (λ line. version_defined line.state
 -- the labels of an array, in order
 abbrev pub same_array : Array → Array → Bool
 same_array arrays.Preinit arrays.Preinit = true
-same_array arrays.Preinit arrays.Init = false
-same_array arrays.Preinit arrays.Fini = false
-same_array arrays.Init arrays.Preinit = false
 same_array arrays.Init arrays.Init = true
-same_array arrays.Init arrays.Fini = false
-same_array arrays.Fini arrays.Preinit = false
-same_array arrays.Fini arrays.Init = false
 same_array arrays.Fini arrays.Fini = true
+same_array _ _ = false
 
 abbrev pub entry_in : Array → Option Statement → Option (List ℕ)
 entry_in array (Some (statements.Directive (directives.Entries which name))) = if same_array array which then Some name else None

@@ -89,14 +89,9 @@ got_use statement = entry_of (line_operand statement)
 
 abbrev pub same_kind : GotKind → GotKind → Bool
 same_kind gots.Address gots.Address = true
-same_kind gots.Address gots.Pair = false
-same_kind gots.Address gots.Offset = false
-same_kind gots.Pair gots.Address = false
 same_kind gots.Pair gots.Pair = true
-same_kind gots.Pair gots.Offset = false
-same_kind gots.Offset gots.Address = false
-same_kind gots.Offset gots.Pair = false
 same_kind gots.Offset gots.Offset = true
+same_kind _ _ = false
 
 abbrev pub same_use : GotUse → GotUse → Bool
 same_use one other = same_kind one.kind other.kind && bytes_eq one.name other.name
@@ -114,23 +109,7 @@ abbrev pub directive_mention : Directive → Option (List ℕ)
 directive_mention (directives.Dword value) = dword_mention value
 directive_mention (directives.Need need) = Some need.name
 directive_mention (directives.Weak name) = Some name
-directive_mention (directives.Soname name) = None
-directive_mention (directives.Needed name) = None
-directive_mention (directives.Entry name) = None
-directive_mention (directives.Export export name) = None
-directive_mention (directives.Version name) = None
-directive_mention (directives.Entries array name) = None
-directive_mention (directives.Data size number) = None
-directive_mention (directives.Zero number) = None
-directive_mention (directives.Section _) = None
-directive_mention (directives.Kind kind) = None
-directive_mention (directives.Hash hash) = None
-directive_mention (directives.Flags flags) = None
-directive_mention (directives.Symver symver) = None
-directive_mention (directives.Asciz text) = None
-directive_mention (directives.Align alignment) = None
-directive_mention directives.Relr = None
-directive_mention (directives.Copy name size) = None
+directive_mention _ = None
 
 abbrev pub mention : Option Statement → Option (List ℕ)
 mention None = None
@@ -148,25 +127,7 @@ imports lines = distinct_names (filter_map (λ line. if_foreign lines (mention l
 -- what references need of versions: of the lines of one name the last counts, and its place is that of the first
 abbrev pub directive_need : Directive → Option Need
 directive_need (directives.Need need) = Some need
-directive_need (directives.Soname name) = None
-directive_need (directives.Needed name) = None
-directive_need (directives.Entry name) = None
-directive_need (directives.Export export name) = None
-directive_need (directives.Weak name) = None
-directive_need (directives.Version name) = None
-directive_need (directives.Entries array name) = None
-directive_need (directives.Data size number) = None
-directive_need (directives.Zero number) = None
-directive_need (directives.Section _) = None
-directive_need (directives.Kind kind) = None
-directive_need (directives.Hash hash) = None
-directive_need (directives.Flags flags) = None
-directive_need (directives.Symver symver) = None
-directive_need (directives.Dword value) = None
-directive_need (directives.Asciz text) = None
-directive_need (directives.Align alignment) = None
-directive_need directives.Relr = None
-directive_need (directives.Copy name size) = None
+directive_need _ = None
 
 abbrev pub need_of : Option Statement → Option Need
 need_of None = None
@@ -222,24 +183,7 @@ exported_by_directive lines (directives.Export visibilities.Global name) = label
 exported_by_directive lines (directives.Weak name) = label_symbol lines name
 exported_by_directive lines (directives.Copy name size) = Some (own_symbol lines name)
 exported_by_directive lines (directives.Symver symver) = Some (version_symbol symver)
-exported_by_directive lines (directives.Soname name) = None
-exported_by_directive lines (directives.Needed name) = None
-exported_by_directive lines (directives.Entry name) = None
-exported_by_directive lines (directives.Export visibilities.Hidden name) = None
-exported_by_directive lines (directives.Export visibilities.Protected name) = None
-exported_by_directive lines (directives.Version name) = None
-exported_by_directive lines (directives.Entries array name) = None
-exported_by_directive lines (directives.Data size number) = None
-exported_by_directive lines (directives.Zero number) = None
-exported_by_directive lines (directives.Section _) = None
-exported_by_directive lines (directives.Kind kind) = None
-exported_by_directive lines (directives.Hash hash) = None
-exported_by_directive lines (directives.Flags flags) = None
-exported_by_directive lines (directives.Need need) = None
-exported_by_directive lines (directives.Dword value) = None
-exported_by_directive lines (directives.Asciz text) = None
-exported_by_directive lines (directives.Align alignment) = None
-exported_by_directive lines directives.Relr = None
+exported_by_directive lines _ = None
 
 abbrev pub exported_by : List Line → Option Statement → Option Exported
 exported_by lines None = None
