@@ -2,10 +2,10 @@
 use Rattle.std.proofs.Common.{◌≡◌, ℕ, zero, suc, ◌+◌, ◌<◌, ◌≤◌, ◌==◌, Bool, true, false, cond, inl, inr, List, [], ◌∷◌, ◌++◌, length, get_or, map, take, refl, sym, ap, ◌∙◌, arith}
 use Rattle.std.specs.Prelude.{◌&&◌, not, max, find, position, option_map, slice_get, slice_index_or, Option, Some, None}
 use Rattle.std.specs.List.{position_or_len, range_with_len}
-use Rattle.std.specs.Option.{option_or}
+use Rattle.std.specs.Option.{is_some, option_or}
 use Rattle.std.proofs.lemmas.Bool.{cases_Bool, cases_lt, eqb-true}
 use Rattle.std.proofs.lemmas.Grind.{common_steps}
-use Rattle.std.proofs.lemmas.List.{ext_get_or, length-append, take_more, get_or_past, drop_more}
+use Rattle.std.proofs.lemmas.List.{length-append, take_more, get_or_past, drop_more}
 use Rattle.std.proofs.lemmas.List.Folds.{find_at, position_or_len_push}
 use Rattle.std.proofs.lemmas.List.FromFn.{get_or-map-range_with_len, length-map-range_with_len}
 use Rattle.std.proofs.lemmas.List.Quantifiers.{position-Some}
@@ -16,9 +16,11 @@ use Rattle.ld_base.specs.Version.{is_base, verdef_of, verneed_of, version_name}
 use Rattle.ld_base.specs.declared.object.Object.{Object}
 use Rattle.ld_base.specs.declared.object.Verdef.{Verdef}
 use Rattle.ld_base.specs.declared.object.Verneed.{Verneed}
+use Rattle.version_places.specs.Noted.{noted_at, places_in}
 use Rattle.version_places.specs.Places.{indexes_of, name_in, past, place_of, places_of}
 use Rattle.version_places.specs.declared.names.VersionPlace.{VersionPlace}
 use Rattle.version_places.specs.declared.names.VersionPlace.TheVariants.{Defined, Needed}
+use Rattle.version_places.specs.declared.noting.Noted.{Noted}
 
 -- ---- one more at the end
 
@@ -129,16 +131,60 @@ named o index =
 
 -- ---- all places
 
-pub then_needed : (o : Object) (k : ℕ) (none defined needed : Option VersionPlace) → none ≡ None → defined ≡ option_or none (option_map Defined (position (λ (d : Verdef). d.index == k && not (is_base d)) o.verdefs))
+pub then_needed : (o : Object) (k : ℕ) (before defined needed : Option VersionPlace) → before ≡ None → defined ≡ option_or before (option_map Defined (position (λ (d : Verdef). d.index == k && not (is_base d)) o.verdefs))
     → needed ≡ option_or defined (option_map Needed (position (λ (n : Verneed). n.index == k) o.verneeds)) → needed ≡ place_of o k
-then_needed o k none defined needed first second third =
+then_needed o k before defined needed first second third =
     third
     ∙ ap (λ (x : Option VersionPlace). option_or x (option_map Needed (position (λ (n : Verneed). n.index == k) o.verneeds)))
     (second ∙ ap (λ (x : Option VersionPlace). option_or x (option_map Defined (position (λ (d : Verdef). d.index == k && not (is_base d)) o.verdefs))) first)
 
 -- what is noted is what is there
-pub all_noted : (o : Object) (places : List (Option VersionPlace)) → length places ≡ indexes_of o → ((k : ℕ) → k < length places → get_or places k None ≡ place_of o k) → places ≡ places_of o
+same_places : (one other : ℕ → Option VersionPlace) (ks : List ℕ) → ((k : ℕ) → one k ≡ other k) → map one ks ≡ map other ks
+same_places one other [] each = refl
+same_places one other (k ∷ ks) each = ap (λ p. p ∷ map one ks) (each k) ∙ ap (λ ps. other k ∷ ps) (same_places one other ks each)
+
+pub all_noted : (o : Object) (noted : Noted) (n : ℕ) → n ≡ indexes_of o → ((k : ℕ) → noted_at noted k ≡ place_of o k) → places_in noted n ≡ places_of o
 unfolding places_of
-all_noted o places long each =
-    ext_get_or None places (map (place_of o) (range_with_len 0 (indexes_of o))) (long ∙ sym (length-map-range_with_len (place_of o) 0 (indexes_of o)))
-    (λ k lt. each k lt ∙ sym (get_or-map-range_with_len (place_of o) 0 (indexes_of o) k k None (omega arith) (omega arith)))
+all_noted o noted n long each = ap (places_in noted) long ∙ same_places (noted_at noted) (place_of o) (range_with_len 0 (indexes_of o)) each
+
+-- the place of an index among them
+pub place_in : (noted : Noted) (n index : ℕ) → index < n → noted_at noted index ≡ slice_index_or (places_in noted n) index None
+place_in noted n index lt = sym (get_or-map-range_with_len (noted_at noted) 0 n index index None lt (omega arith))
+
+pub place_past : (noted : Noted) (n index : ℕ) → n ≤ index → None ≡ slice_index_or (places_in noted n) index None
+place_past noted n index past_all =
+    let long : length (places_in noted n) ≡ n = length-map-range_with_len (noted_at noted) 0 n in
+    sym (get_or_past (places_in noted n) index None (omega arith))
+
+-- ---- one index more
+
+pub noted_before : (old : ℕ → Option VersionPlace) (index k : ℕ) (place : VersionPlace) → is_some (old index) ≡ true → old k ≡ option_or (old k) (cond (index == k) (Some place) None)
+noted_before old index k place has = by (index == k) refl
+  where
+    kept : (o : Option VersionPlace) → is_some o ≡ true → o ≡ option_or o (Some place)
+    kept (Some x) e = refl
+    kept None e = absurd (cc e)
+
+    plain : (o : Option VersionPlace) → o ≡ option_or o None
+    plain (Some x) = refl
+    plain None = refl
+
+    by : (same : Bool) → (index == k) ≡ same → old k ≡ option_or (old k) (cond same (Some place) None)
+    by true e = kept (old k) (ap (λ n. is_some (old n)) (sym (eqb-true index k e)) ∙ has)
+    by false e = plain (old k)
+
+pub noted_new : (old : ℕ → Option VersionPlace) (index k : ℕ) (place : VersionPlace) (new : Option VersionPlace) → is_some (old index) ≡ false → new ≡ cond (index == k) (Some place) (old k)
+    → new ≡ option_or (old k) (cond (index == k) (Some place) None)
+noted_new old index k place new none is = is ∙ by (index == k) refl
+  where
+    first : (o : Option VersionPlace) → is_some o ≡ false → Some place ≡ option_or o (Some place)
+    first None e = refl
+    first (Some x) e = absurd (cc e)
+
+    plain : (o : Option VersionPlace) → o ≡ option_or o None
+    plain (Some x) = refl
+    plain None = refl
+
+    by : (same : Bool) → (index == k) ≡ same → cond same (Some place) (old k) ≡ option_or (old k) (cond same (Some place) None)
+    by true e = first (old k) (ap (λ n. is_some (old n)) (sym (eqb-true index k e)) ∙ none)
+    by false e = plain (old k)

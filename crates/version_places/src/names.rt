@@ -3,9 +3,10 @@
 ghost use Rattle.std.specs.Prelude.{◌≡◌, None, IfSome, option_map, slice_get, slice_index_or};
 ghost use Rattle.std.specs.Option.{option_copied};
 ghost use Rattle.ld_base.specs.Version.{version_name};
+ghost use Rattle.version_places.specs.Noted.{places_in};
 ghost use Rattle.version_places.specs.Places.{name_in, places_of};
 
-use crate::noting::{indexes_of, note_all};
+use crate::noting::{Noted, indexes_of};
 use ld_base::{Name, Object};
 use std::alloc::{AllocError, Global};
 use std::marker::Model;
@@ -22,24 +23,27 @@ pub enum VersionPlace {
 /// Where the names of an object's versions stand. Contracts see it as the places by the indexes.
 #[derive(Drop)]
 pub struct VersionNames {
-    places: Vec<Option<VersionPlace>>,
+    noted: Noted,
+    /// One more than the greatest index.
+    past: usize,
 }
 
 impl Model for VersionNames {
     ghost use Rattle.std.specs.Prelude.{List, Option};
+    ghost use Rattle.version_places.specs.Noted.{places_in};
     ghost use Rattle.version_places.specs.declared.names.VersionPlace.{VersionPlace};
 
     ghost Value = { List (Option VersionPlace) };
 
-    ghost view = { λ n. n.places.items };
+    ghost view = { λ n. places_in n.noted n.past };
 }
 
-/// The place of an index, if it has one.
-fn place_at(places: &[Option<VersionPlace>], index: u16) -> Option<VersionPlace>
-    ensures { result ≡ slice_index_or places.now index None }
+/// The place of an index, if it is less than that and has one.
+fn place_at(noted: &Noted, past: usize, index: u16) -> Option<VersionPlace>
+    ensures { result ≡ slice_index_or (places_in noted.now past) index None }
 {
-    if usize::from(index) < places.len() {
-        places[usize::from(index)]
+    if usize::from(index) < past {
+        noted.get(index)
     } else {
         None
     }
@@ -90,9 +94,9 @@ impl VersionNames {
     pub fn of(alloc: Global, object: &Object) -> Result<Self, AllocError>
         ensures { IfOk result (λ names. names ≡ places_of object.now) }
     {
-        let mut places = vec![in alloc; None; indexes_of(object)]?;
-        note_all(places.as_mut_slice(), object);
-        Ok(VersionNames { places })
+        let noted = Noted::of(alloc, object)?;
+        let past = indexes_of(object);
+        Ok(VersionNames { noted, past })
     }
 
     /// The name of a version's index in the object whose these are, if it has one: what
@@ -101,7 +105,7 @@ impl VersionNames {
         requires { self.now ≡ places_of object.now }
         ensures { option_copied result ≡ version_name object.now index }
     {
-        name_in(object, place_at(self.places.as_slice(), index))
+        name_in(object, place_at(&self.noted, self.past, index))
     }
 }
 

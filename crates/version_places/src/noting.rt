@@ -1,13 +1,22 @@
 //! Noting where versions stand.
 
-ghost use Rattle.std.specs.Prelude.{◌≡◌, ◌<◌, ◌==◌, ◌&&◌, not, ℕ, None, Some, length, map, position, option_map, slice_index_or, if◌then◌else◌};
+ghost use Rattle.std.specs.Prelude.{◌≡◌, ◌==◌, ◌&&◌, not, ℕ, None, Some, map, position, option_map, if◌then◌else◌, IfOk, OnOk};
 ghost use Rattle.std.specs.Option.{option_or};
 ghost use Rattle.ld_base.specs.Version.{is_base};
-ghost use Rattle.version_places.specs.Places.{indexes_of, past, places_of};
+ghost use Rattle.version_places.specs.Noted.{noted_at};
+ghost use Rattle.version_places.specs.Places.{indexes_of, past, place_of};
 ghost use Rattle.version_places.specs.declared.names.VersionPlace.TheVariants.{Defined, Needed};
 
 use crate::names::VersionPlace;
 use ld_base::{Object, Verdef, Verneed};
+use std::alloc::{AllocError, Global};
+use std::collections::HashMap;
+
+/// Where versions stand, by their indexes.
+#[derive(Drop)]
+pub(crate) struct Noted {
+    by_index: HashMap<u16, VersionPlace>,
+}
 
 /// One more than the greatest index of the versions that are defined.
 fn past_defined(verdefs: &[Verdef]) -> usize
@@ -38,56 +47,80 @@ pub(crate) fn indexes_of(object: &Object) -> usize
     past_defined(object.verdefs.as_slice()).max(past_needed(object.verneeds.as_slice()))
 }
 
-/// Notes the place of an index, unless it has an earlier one.
-fn note(places: &mut [Option<VersionPlace>], index: u16, place: VersionPlace)
-    ensures { (k : ℕ) → k < length places.old
-        → slice_index_or places.new k None ≡ option_or (slice_index_or places.old k None) (if index == k then Some place else None) }
-{
-    let at = usize::from(index);
-    if at < places.len() && places[at].is_none() {
-        places[at] = Some(place);
-    }
-}
+impl Noted {
+    ghost use Rattle.std.specs.Prelude.{◌≡◌, ◌==◌, ◌&&◌, not, ℕ, None, Some, position, option_map, if◌then◌else◌, IfOk, OnOk};
+    ghost use Rattle.std.specs.Option.{option_or};
+    ghost use Rattle.ld_base.specs.Version.{is_base};
+    ghost use Rattle.version_places.specs.Noted.{noted_at};
+    ghost use Rattle.version_places.specs.Places.{place_of};
+    ghost use Rattle.version_places.specs.declared.names.VersionPlace.TheVariants.{Defined, Needed};
 
-/// Notes a version that is defined. That of the object itself has no name.
-fn note_one(places: &mut [Option<VersionPlace>], verdef: &Verdef, number: usize)
-    ensures { (k : ℕ) → k < length places.old
-        → slice_index_or places.new k None
-        ≡ option_or (slice_index_or places.old k None) (if verdef.now.index == k && not (is_base verdef.now) then Some (Defined number) else None) }
-{
-    if !verdef.is_base() {
-        note(places, verdef.index, VersionPlace::Defined(number));
+    /// None yet.
+    fn new(alloc: Global) -> Self
+        ensures { (k : ℕ) → noted_at result k ≡ None }
+    {
+        Noted {
+            by_index: HashMap::new(alloc),
+        }
     }
-}
 
-/// Notes the versions that are defined, the first of each index, behind what is noted.
-fn note_defined(places: &mut [Option<VersionPlace>], verdefs: &[Verdef])
-    ensures { (k : ℕ) → k < length places.old
-        → slice_index_or places.new k None
-        ≡ option_or (slice_index_or places.old k None) (option_map Defined (position (λ d. d.index == k && not (is_base d)) verdefs.now)) }
-{
-    for (number, verdef) in verdefs.iter().enumerate() {
-        note_one(places, verdef, number);
+    /// Those of all versions of an object: those that it defines count before those that it needs.
+    pub(crate) fn of(alloc: Global, object: &Object) -> Result<Self, AllocError>
+        ensures { IfOk result (λ noted. (k : ℕ) → noted_at noted k ≡ place_of object.now k) }
+    {
+        let mut noted = Noted::new(alloc);
+        noted.note_defined(object.verdefs.as_slice())?;
+        noted.note_needed(object.verneeds.as_slice())?;
+        Ok(noted)
     }
-}
 
-/// Notes the versions that are needed, the first of each index, behind what is noted.
-fn note_needed(places: &mut [Option<VersionPlace>], verneeds: &[Verneed])
-    ensures { (k : ℕ) → k < length places.old
-        → slice_index_or places.new k None ≡ option_or (slice_index_or places.old k None) (option_map Needed (position (λ n. n.index == k) verneeds.now)) }
-{
-    for (number, verneed) in verneeds.iter().enumerate() {
-        note(places, verneed.index, VersionPlace::Needed(number));
+    /// The place of an index, if it has one.
+    pub(crate) fn get(&self, index: u16) -> Option<VersionPlace>
+        ensures { result ≡ noted_at self.now index }
+    {
+        self.by_index.get(&index).copied()
     }
-}
 
-/// Notes all versions of an object where none is noted yet: those that it defines count before those
-/// that it needs.
-pub(crate) fn note_all(places: &mut [Option<VersionPlace>], object: &Object)
-    requires length { length places.old ≡ indexes_of object.now }
-    requires none { (k : ℕ) → k < length places.old → slice_index_or places.old k None ≡ None }
-    ensures { places.new ≡ places_of object.now }
-{
-    note_defined(places, object.verdefs.as_slice());
-    note_needed(places, object.verneeds.as_slice());
+    /// Notes the place of an index, unless it has an earlier one.
+    fn note(&mut self, index: u16, place: VersionPlace) -> Result<(), AllocError>
+        ensures { OnOk result ((k : ℕ) → noted_at self.new k ≡ option_or (noted_at self.old k) (if index == k then Some place else None)) }
+    {
+        if !self.by_index.contains_key(&index) {
+            self.by_index.insert(index, place)?;
+        }
+        Ok(())
+    }
+
+    /// Notes a version that is defined. That of the object itself has no name.
+    fn note_one(&mut self, verdef: &Verdef, number: usize) -> Result<(), AllocError>
+        ensures { OnOk result ((k : ℕ) → noted_at self.new k
+            ≡ option_or (noted_at self.old k) (if verdef.now.index == k && not (is_base verdef.now) then Some (Defined number) else None)) }
+    {
+        if verdef.is_base() {
+            return Ok(());
+        }
+        self.note(verdef.index, VersionPlace::Defined(number))
+    }
+
+    /// Notes the versions that are defined, the first of each index, behind what is noted.
+    fn note_defined(&mut self, verdefs: &[Verdef]) -> Result<(), AllocError>
+        ensures { OnOk result ((k : ℕ) → noted_at self.new k
+            ≡ option_or (noted_at self.old k) (option_map Defined (position (λ d. d.index == k && not (is_base d)) verdefs.now))) }
+    {
+        for (number, verdef) in verdefs.iter().enumerate() {
+            self.note_one(verdef, number)?;
+        }
+        Ok(())
+    }
+
+    /// Notes the versions that are needed, the first of each index, behind what is noted.
+    fn note_needed(&mut self, verneeds: &[Verneed]) -> Result<(), AllocError>
+        ensures { OnOk result ((k : ℕ) → noted_at self.new k
+            ≡ option_or (noted_at self.old k) (option_map Needed (position (λ n. n.index == k) verneeds.now))) }
+    {
+        for (number, verneed) in verneeds.iter().enumerate() {
+            self.note(verneed.index, VersionPlace::Needed(number))?;
+        }
+        Ok(())
+    }
 }

@@ -9,4 +9,4 @@ pub returns : goal.returns
 returns c =
     let o = c.args.object.now in
     let at = λ (places : List (Option VersionPlace)). slice_index_or places c.args.index None in
-    c.name_in.ensures ∙ ap (name_in o) (c.place_at.ensures ∙ ap at (c.as_slice.ensures.value ∙ c.self.view_is ∙ c.requires) ∙ place_there o c.args.index) ∙ named o c.args.index
+    c.name_in.ensures ∙ ap (name_in o) (c.place_at.ensures ∙ ap at (c.self.view_is ∙ c.requires) ∙ place_there o c.args.index) ∙ named o c.args.index

@@ -1,11 +1,10 @@
-use Rattle.std.proofs.Common.{arith}
 use Rattle.std.specs.Prelude.{◌==◌}
 use Rattle.ld_base.specs.declared.object.Verneed.{Verneed}
 use Rattle.version_places.specs.declared.names.VersionPlace.TheVariants.{Needed}
 use Rattle.version_places.proofs.Noted.{noted_more}
-use Rattle.version_places.proofs.noting.note_needed.Goals as goal
+use Rattle.version_places.proofs.noting.Noted.note_needed.Goals as goal
 
 pub loop-number-preserved : goal.loop-number-preserved
-loop-number-preserved c = λ k below.
+loop-number-preserved c = λ k.
     noted_more (λ (n : Verneed). n.index == k) (λ n. Needed n) c.args.verneeds.now c.loop-number.number c.index-verneeds-number.result _ _ _ c.loop-number-test.true c.index-verneeds-number.is
-    (c.loop-number.invariant k below) (c.note.ensures k (omega (arith, c.loop-number.auto.places, below)))
+    (c.loop-number.invariant k) (c.in_ok-note.ensures k)
