@@ -1,0 +1,4 @@
+pub mod Fields
+pub mod Head
+pub mod Records
+pub mod Standing

@@ -1,0 +1,6 @@
+-- Field by field.
+use Rattle.elf_records.proofs.Records.{entry}
+use Rattle.elf_records.proofs.law.entries_read_back.Goals as goal
+
+pub returns : goal.returns
+returns c = entry

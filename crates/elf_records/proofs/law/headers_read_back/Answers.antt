@@ -1,0 +1,6 @@
+-- Field by field.
+use Rattle.elf_records.proofs.Records.{header}
+use Rattle.elf_records.proofs.law.headers_read_back.Goals as goal
+
+pub returns : goal.returns
+returns c = header

@@ -1,0 +1,6 @@
+-- Field by field.
+use Rattle.elf_records.proofs.Head.{head}
+use Rattle.elf_records.proofs.law.heads_read_back.Goals as goal
+
+pub returns : goal.returns
+returns c = head

@@ -1,0 +1,6 @@
+-- Byte by byte.
+use Rattle.elf_records.proofs.Standing.{within}
+use Rattle.elf_records.proofs.law.inner_bytes_stand.Goals as goal
+
+pub returns : goal.returns
+returns c = within

@@ -1,0 +1,6 @@
+-- Field by field.
+use Rattle.elf_records.proofs.Records.{need}
+use Rattle.elf_records.proofs.law.needs_read_back.Goals as goal
+
+pub returns : goal.returns
+returns c = need
