@@ -1,0 +1,24 @@
+//! The laws.
+
+ghost use Rattle.std.specs.Prelude.{◌≡◌, ◌+◌, ◌-◌, List, ℕ};
+ghost use Rattle.elf_write.specs.declared.contents.Contents.{Contents};
+ghost use Rattle.elf_write.specs.declared.contents.SectionBytes.{SectionBytes};
+ghost use Rattle.elf_write.specs.declared.part.Part.{Part};
+ghost use Rattle.elf_write.specs.declared.part.Part.TheVariants as parts;
+ghost use Rattle.elf_write.specs.Starts.{start_in, starts_of};
+ghost use Rattle.elf_write.specs.Values.{object_bytes, part_bytes};
+ghost use Rattle.elf_records.specs.Standing.{StandAt};
+ghost use Rattle.elf_spelled.specs.Whole.{IsWhole};
+
+use elf_written::{packed_table_has_its_size, parts_have_their_sizes, parts_stand_apart};
+
+/// The bytes of each part stand in the object as far behind its begin as the part starts behind the first.
+pub fn parts_stand_at_their_starts()
+    ensures { (contents : Contents) (code : SectionBytes) → IsWhole contents code → (part : Part)
+        → StandAt (object_bytes (starts_of contents) contents code) (start_in (starts_of contents) part - start_in (starts_of contents) parts.Head)
+        (part_bytes (starts_of contents) contents code part) }
+{
+    packed_table_has_its_size();
+    parts_have_their_sizes();
+    parts_stand_apart();
+}

@@ -1,0 +1,8 @@
+//! What a reader finds in an object that `elf_write` makes. A crate without code.
+//!
+//! - [`parts_stand_at_their_starts`]: the bytes of each part stand where it starts.
+#![tactic(auto)]
+
+mod law;
+
+pub use law::parts_stand_at_their_starts;
