@@ -1,7 +1,9 @@
 -- Words say one list of pieces.
 use Rattle.std.proofs.Common.{◌≡◌, ℕ, Bool, true, false, cond, List, [], ◌∷◌, map, Option, Some, None, codes, refl, sym, ap, ◌∙◌}
 use Rattle.std.specs.Option.{option_map}
-use Rattle.command_line.specs.Options.{Choice, Piece, Says, front_of, has_dash, has_value, is_end, is_joined, is_option, option_in, value_of}
+use Rattle.command_line.specs.declared.choice.Choice.{Choice}
+use Rattle.command_line.specs.declared.choice.Choice.TheVariants as choices
+use Rattle.command_line.specs.Options.{Piece, Says, front_of, has_dash, has_value, is_end, is_joined, is_option, option_in, value_of}
 
 abbrev pub Pieces : Type 0
 Pieces = Option (List Piece)
@@ -45,12 +47,12 @@ behind_says known words pieces (Says.is_behind word rest others says) = ap (λ (
 
 no_name : (known : List Choice) → option_in known (codes "--") ≡ None
 no_name [] = refl
-no_name (Choice.lib ∷ rest) = no_name rest
-no_name (Choice.preload ∷ rest) = no_name rest
-no_name (Choice.harts ∷ rest) = no_name rest
-no_name (Choice.fuel ∷ rest) = no_name rest
-no_name (Choice.now ∷ rest) = no_name rest
-no_name (Choice.trace ∷ rest) = no_name rest
+no_name (choices.Lib ∷ rest) = no_name rest
+no_name (choices.Preload ∷ rest) = no_name rest
+no_name (choices.Harts ∷ rest) = no_name rest
+no_name (choices.Fuel ∷ rest) = no_name rest
+no_name (choices.Now ∷ rest) = no_name rest
+no_name (choices.Trace ∷ rest) = no_name rest
 
 pub read_says : (known : List Choice) (words : List (List ℕ)) (pieces : List Piece) → Says known false words pieces → (both known words).0 ≡ Some pieces
 read_says known words pieces (Says.no_more _) = refl

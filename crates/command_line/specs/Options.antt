@@ -3,33 +3,27 @@ use Rattle.std.specs.Prelude.{◌≡◌, ℕ, ◌+◌, Bool, true, false, not, �
 use Rattle.std.specs.List.{list_all, list_any, slice_get}
 use Rattle.std.specs.Option.{option_map_or}
 use Rattle.std.specs.Str.{bytes_eq}
+use Rattle.command_line.specs.declared.choice.Choice.{Choice}
+use Rattle.command_line.specs.declared.choice.Choice.TheVariants as choices
 
 -- ---- options
 
-pub data Choice : Type 0 where
-  lib : Choice
-  preload : Choice
-  harts : Choice
-  fuel : Choice
-  now : Choice
-  trace : Choice
-
 abbrev pub name_of : Choice → List ℕ
-name_of Choice.lib = codes "--lib"
-name_of Choice.preload = codes "--preload"
-name_of Choice.harts = codes "--harts"
-name_of Choice.fuel = codes "--fuel"
-name_of Choice.now = codes "--now"
-name_of Choice.trace = codes "--trace"
+name_of choices.Lib = codes "--lib"
+name_of choices.Preload = codes "--preload"
+name_of choices.Harts = codes "--harts"
+name_of choices.Fuel = codes "--fuel"
+name_of choices.Now = codes "--now"
+name_of choices.Trace = codes "--trace"
 
 -- some have a value, and some stand alone
 abbrev pub has_value : Choice → Bool
-has_value Choice.lib = true
-has_value Choice.preload = true
-has_value Choice.harts = true
-has_value Choice.fuel = true
-has_value Choice.now = false
-has_value Choice.trace = false
+has_value choices.Lib = true
+has_value choices.Preload = true
+has_value choices.Harts = true
+has_value choices.Fuel = true
+has_value choices.Now = false
+has_value choices.Trace = false
 
 -- ---- words
 
@@ -98,7 +92,7 @@ is_of c (Piece.other word) = false
 
 -- each option stands at most once
 abbrev pub all_choices : List Choice
-all_choices = Choice.lib ∷ Choice.preload ∷ Choice.harts ∷ Choice.fuel ∷ Choice.now ∷ Choice.trace ∷ []
+all_choices = choices.Lib ∷ choices.Preload ∷ choices.Harts ∷ choices.Fuel ∷ choices.Now ∷ choices.Trace ∷ []
 
 abbrev pub stand_once : List Piece → Bool
 stand_once pieces = list_all (λ c. nat_le (length (filter (is_of c) pieces)) 1) all_choices

@@ -1,24 +1,26 @@
 -- Reads: the command that words are, with its values.
 use Rattle.std.specs.Prelude.{◌≡◌, ℕ, ◌-◌, ◌^◌, false, List, [], ◌∷◌, IsTrue, codes}
+use Rattle.command_line.specs.declared.choice.Choice.{Choice}
+use Rattle.command_line.specs.declared.choice.Choice.TheVariants as choices
 use Rattle.command_line.specs.declared.command.Bind.{Bind}
 use Rattle.command_line.specs.declared.command.Command.{Command}
 use Rattle.command_line.specs.declared.command.Command.TheVariants as commands
 use Rattle.command_line.specs.declared.command.Run.{Run}
 use Rattle.command_line.specs.declared.command.Turns.{Turns}
 use Rattle.link_served.specs.declared.startup.Setup.{Setup}
-use Rattle.command_line.specs.Options.{Choice, Piece, Says, given, stand_once, stands, words_of}
+use Rattle.command_line.specs.Options.{Piece, Says, given, stand_once, stands, words_of}
 use Rattle.command_line.specs.Values.{AreFolders, AreHarts, ArePreloads, IsFuel, IsNumber}
 
 -- ---- the options of each command
 
 abbrev pub bind_options : List Choice
-bind_options = Choice.lib ∷ Choice.preload ∷ Choice.now ∷ []
+bind_options = choices.Lib ∷ choices.Preload ∷ choices.Now ∷ []
 
 abbrev pub turns_options : List Choice
-turns_options = Choice.lib ∷ Choice.preload ∷ Choice.harts ∷ Choice.fuel ∷ Choice.now ∷ []
+turns_options = choices.Lib ∷ choices.Preload ∷ choices.Harts ∷ choices.Fuel ∷ choices.Now ∷ []
 
 abbrev pub run_options : List Choice
-run_options = Choice.lib ∷ Choice.preload ∷ Choice.harts ∷ Choice.fuel ∷ Choice.now ∷ Choice.trace ∷ []
+run_options = choices.Lib ∷ choices.Preload ∷ choices.Harts ∷ choices.Fuel ∷ choices.Now ∷ choices.Trace ∷ []
 
 -- the words say these pieces, each option once, and these other words
 pub record Are (known : List Choice) (words : List (List ℕ)) (pieces : List Piece) (others : List (List ℕ)) : Type 0 where
@@ -30,18 +32,18 @@ pub record Are (known : List Choice) (words : List (List ℕ)) (pieces : List Pi
 
 pub record IsSetup (pieces : List Piece) (program : List ℕ) (setup : Setup) : Type 0 where
   pub path : setup.program ≡ program
-  pub folders : AreFolders (given Choice.lib pieces) setup.folders
-  pub preload : ArePreloads (given Choice.preload pieces) setup.preload
-  pub now : setup.bind_now ≡ stands Choice.now pieces
-  pub harts : AreHarts (given Choice.harts pieces) setup.harts
-  pub fuel : IsFuel (given Choice.fuel pieces) setup.fuel
+  pub folders : AreFolders (given choices.Lib pieces) setup.folders
+  pub preload : ArePreloads (given choices.Preload pieces) setup.preload
+  pub now : setup.bind_now ≡ stands choices.Now pieces
+  pub harts : AreHarts (given choices.Harts pieces) setup.harts
+  pub fuel : IsFuel (given choices.Fuel pieces) setup.fuel
 
 pub record ReadsBind (words : List (List ℕ)) (bind : Bind) : Type 0 where
   pub pieces : List Piece
   pub are : Are bind_options words pieces (bind.program ∷ [])
-  pub folders : AreFolders (given Choice.lib pieces) bind.folders
-  pub preload : ArePreloads (given Choice.preload pieces) bind.preload
-  pub now : bind.now ≡ stands Choice.now pieces
+  pub folders : AreFolders (given choices.Lib pieces) bind.folders
+  pub preload : ArePreloads (given choices.Preload pieces) bind.preload
+  pub now : bind.now ≡ stands choices.Now pieces
 
 -- the schedule stands before the program; whether it is one is asked once it is known how many harts there are
 pub record ReadsTurns (words : List (List ℕ)) (turns : Turns) : Type 0 where
@@ -53,7 +55,7 @@ pub record ReadsRun (words : List (List ℕ)) (run : Run) : Type 0 where
   pub pieces : List Piece
   pub are : Are run_options words pieces (run.setup.program ∷ [])
   pub setup : IsSetup pieces run.setup.program run.setup
-  pub trace : run.trace ≡ stands Choice.trace pieces
+  pub trace : run.trace ≡ stands choices.Trace pieces
 
 -- a command without options has one word
 pub record ReadsWord (words : List (List ℕ)) (word : List ℕ) : Type 0 where

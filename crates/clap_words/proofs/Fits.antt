@@ -1,0 +1,164 @@
+-- The arguments of each form, once they are built.
+use Rattle.std.proofs.Common.{◌≡◌, true, false, List, [], ◌∷◌, Some, None, codes, refl, sym}
+use Rattle.std.specs.Bool.{⊤}
+use Rattle.std.specs.List.{list_all}
+use Rattle.std.specs.Str.{bytes_eq}
+use Rattle.std.proofs.lemmas.Bool.{true≢false}
+use Rattle.clap.specs.Simple.{built, is_simple}
+use Rattle.clap.specs.Takes.{default_passes, is_valid}
+use Rattle.clap.specs.Walk.{Row, Rule, Text}
+use Rattle.command_line.specs.declared.choice.Choice.{Choice}
+use Rattle.command_line.specs.declared.choice.Choice.TheVariants as choices
+use Rattle.command_line.specs.Options.{has_value}
+use Rattle.clap_words.specs.declared.form.Form.{Form}
+use Rattle.clap_words.specs.declared.form.Form.TheVariants as forms
+use Rattle.clap_words.specs.Forms.{app_of, id_of, names_of, options_of}
+use Rattle.clap_words.proofs.Found.{is_quiet}
+use Rattle.clap_words.proofs.Rows.{AreApart}
+use Rattle.clap_words.proofs.Walks.{FindsOptions, FindsWords}
+
+abbrev pub rules_of : Form → Text → List Rule
+rules_of form name = (built (app_of name form)).top.rules
+
+abbrev pub AreQuiet : List Text → List Rule → Type 0
+AreQuiet [] rules = ⊤
+AreQuiet (name ∷ names) rules = (list_all (is_quiet name) rules ≡ true) × AreQuiet names rules
+
+pub record Fits (form : Form) (name : Text) : Type 0 where
+  pub simple : is_simple (app_of name form) ≡ true
+  pub alone : (built (app_of name form)).subs ≡ []
+  pub options : FindsOptions (rules_of form name) (options_of form)
+  pub words : FindsWords (rules_of form name) 0 (names_of form)
+  pub apart : AreApart (names_of form)
+  pub defaults : list_all default_passes (rules_of form name) ≡ true
+  pub valid : (rs : List Row) → is_valid (built (app_of name form)).top rs false ≡ true
+  -- no option with a value, and no other word, has a default
+  pub quiet : (c : Choice) → has_value c ≡ true → list_all (is_quiet (id_of c)) (rules_of form name) ≡ true
+  pub quiet_words : AreQuiet (names_of form) (rules_of form name)
+
+none_some : {A X : Type 0} (x : X) → None ≡ Some x → A
+none_some x e = let d : None ≡ Some x = e in absurd cc
+
+no_value : {A : Type 0} → false ≡ true → A
+no_value e = absurd (true≢false (sym e))
+
+-- ---- options
+
+bind_options : (name : Text) → FindsOptions (rules_of forms.Bind name) (options_of forms.Bind)
+bind_options name choices.Lib is = (refl, refl)
+bind_options name choices.Preload is = (refl, refl)
+bind_options name choices.Harts is = none_some choices.Harts is
+bind_options name choices.Fuel is = none_some choices.Fuel is
+bind_options name choices.Now is = (refl, refl)
+bind_options name choices.Trace is = none_some choices.Trace is
+
+turns_options : (name : Text) → FindsOptions (rules_of forms.Turns name) (options_of forms.Turns)
+turns_options name choices.Lib is = (refl, refl)
+turns_options name choices.Preload is = (refl, refl)
+turns_options name choices.Harts is = (refl, refl)
+turns_options name choices.Fuel is = (refl, refl)
+turns_options name choices.Now is = (refl, refl)
+turns_options name choices.Trace is = none_some choices.Trace is
+
+run_options : (name : Text) → FindsOptions (rules_of forms.Run name) (options_of forms.Run)
+run_options name choices.Lib is = (refl, refl)
+run_options name choices.Preload is = (refl, refl)
+run_options name choices.Harts is = (refl, refl)
+run_options name choices.Fuel is = (refl, refl)
+run_options name choices.Now is = (refl, refl)
+run_options name choices.Trace is = (refl, refl)
+
+-- ---- names
+
+-- a name is none of the options'
+abbrev IsApart : Text → Type 0
+IsApart name = (c : Choice) → (bytes_eq (id_of c) name ≡ false) × (bytes_eq name (id_of c) ≡ false)
+
+program_apart : IsApart (codes "program")
+program_apart choices.Lib = (refl, refl)
+program_apart choices.Preload = (refl, refl)
+program_apart choices.Harts = (refl, refl)
+program_apart choices.Fuel = (refl, refl)
+program_apart choices.Now = (refl, refl)
+program_apart choices.Trace = (refl, refl)
+
+schedule_apart : IsApart (codes "schedule")
+schedule_apart choices.Lib = (refl, refl)
+schedule_apart choices.Preload = (refl, refl)
+schedule_apart choices.Harts = (refl, refl)
+schedule_apart choices.Fuel = (refl, refl)
+schedule_apart choices.Now = (refl, refl)
+schedule_apart choices.Trace = (refl, refl)
+
+path_apart : IsApart (codes "path")
+path_apart choices.Lib = (refl, refl)
+path_apart choices.Preload = (refl, refl)
+path_apart choices.Harts = (refl, refl)
+path_apart choices.Fuel = (refl, refl)
+path_apart choices.Now = (refl, refl)
+path_apart choices.Trace = (refl, refl)
+
+number_apart : IsApart (codes "number")
+number_apart choices.Lib = (refl, refl)
+number_apart choices.Preload = (refl, refl)
+number_apart choices.Harts = (refl, refl)
+number_apart choices.Fuel = (refl, refl)
+number_apart choices.Now = (refl, refl)
+number_apart choices.Trace = (refl, refl)
+
+alone : (name : Text) → IsApart name → AreApart (name ∷ [])
+alone name apart = (λ c. (apart c).0, λ c. (apart c).1, refl, tt)
+
+both : AreApart (codes "schedule" ∷ codes "program" ∷ [])
+both = (λ c. (schedule_apart c).0, λ c. (schedule_apart c).1, refl, alone (codes "program") program_apart)
+
+-- ---- quiet arguments
+
+bind_quiet : (name : Text) (c : Choice) → has_value c ≡ true → list_all (is_quiet (id_of c)) (rules_of forms.Bind name) ≡ true
+bind_quiet name choices.Lib valued = refl
+bind_quiet name choices.Preload valued = refl
+bind_quiet name choices.Harts valued = refl
+bind_quiet name choices.Fuel valued = refl
+bind_quiet name choices.Now valued = no_value valued
+bind_quiet name choices.Trace valued = no_value valued
+
+turns_quiet : (name : Text) (c : Choice) → has_value c ≡ true → list_all (is_quiet (id_of c)) (rules_of forms.Turns name) ≡ true
+turns_quiet name choices.Lib valued = refl
+turns_quiet name choices.Preload valued = refl
+turns_quiet name choices.Harts valued = refl
+turns_quiet name choices.Fuel valued = refl
+turns_quiet name choices.Now valued = no_value valued
+turns_quiet name choices.Trace valued = no_value valued
+
+run_quiet : (name : Text) (c : Choice) → has_value c ≡ true → list_all (is_quiet (id_of c)) (rules_of forms.Run name) ≡ true
+run_quiet name choices.Lib valued = refl
+run_quiet name choices.Preload valued = refl
+run_quiet name choices.Harts valued = refl
+run_quiet name choices.Fuel valued = refl
+run_quiet name choices.Now valued = no_value valued
+run_quiet name choices.Trace valued = no_value valued
+
+path_quiet : (name : Text) (c : Choice) → has_value c ≡ true → list_all (is_quiet (id_of c)) (rules_of forms.Path name) ≡ true
+path_quiet name choices.Lib valued = refl
+path_quiet name choices.Preload valued = refl
+path_quiet name choices.Harts valued = refl
+path_quiet name choices.Fuel valued = refl
+path_quiet name choices.Now valued = no_value valued
+path_quiet name choices.Trace valued = no_value valued
+
+number_quiet : (name : Text) (c : Choice) → has_value c ≡ true → list_all (is_quiet (id_of c)) (rules_of forms.Number name) ≡ true
+number_quiet name choices.Lib valued = refl
+number_quiet name choices.Preload valued = refl
+number_quiet name choices.Harts valued = refl
+number_quiet name choices.Fuel valued = refl
+number_quiet name choices.Now valued = no_value valued
+number_quiet name choices.Trace valued = no_value valued
+
+-- ---- forms
+
+pub fits : (form : Form) (name : Text) → Fits form name
+fits forms.Bind name = record { simple = refl; alone = refl; options = bind_options name; words = (refl, refl, refl, tt); apart = alone (codes "program") program_apart; defaults = refl; valid = λ rs. refl; quiet = bind_quiet name; quiet_words = (refl, tt) }
+fits forms.Turns name = record { simple = refl; alone = refl; options = turns_options name; words = (refl, refl, refl, (refl, refl, refl, tt)); apart = both; defaults = refl; valid = λ rs. refl; quiet = turns_quiet name; quiet_words = (refl, (refl, tt)) }
+fits forms.Run name = record { simple = refl; alone = refl; options = run_options name; words = (refl, refl, refl, tt); apart = alone (codes "program") program_apart; defaults = refl; valid = λ rs. refl; quiet = run_quiet name; quiet_words = (refl, tt) }
+fits forms.Path name = record { simple = refl; alone = refl; options = λ x is. none_some x is; words = (refl, refl, refl, tt); apart = alone (codes "path") path_apart; defaults = refl; valid = λ rs. refl; quiet = path_quiet name; quiet_words = (refl, tt) }
+fits forms.Number name = record { simple = refl; alone = refl; options = λ x is. none_some x is; words = (refl, refl, refl, tt); apart = alone (codes "number") number_apart; defaults = refl; valid = λ rs. refl; quiet = number_quiet name; quiet_words = (refl, tt) }

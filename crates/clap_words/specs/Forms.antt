@@ -1,0 +1,57 @@
+-- The arguments of each form.
+use Rattle.std.specs.Prelude.{true, if◌then◌else◌, List, [], ◌∷◌, ◌++◌, map, Some, codes}
+use Rattle.clap.specs.Simple.{App, Shape, new_rule, new_shape}
+use Rattle.clap.specs.Walk.{Rule, Text}
+use Rattle.clap.specs.declared.builder.action.ArgAction.{ArgAction}
+use Rattle.clap.specs.declared.builder.action.ArgAction.TheVariants.{Set, SetTrue}
+use Rattle.command_line.specs.declared.choice.Choice.{Choice}
+use Rattle.command_line.specs.declared.choice.Choice.TheVariants as choices
+use Rattle.command_line.specs.Options.{has_value}
+use Rattle.command_line.specs.Reads.{bind_options, run_options, turns_options}
+use Rattle.clap_words.specs.declared.form.Form.{Form}
+use Rattle.clap_words.specs.declared.form.Form.TheVariants as forms
+
+-- ---- what a form has
+
+abbrev pub options_of : Form → List Choice
+options_of forms.Bind = bind_options
+options_of forms.Turns = turns_options
+options_of forms.Run = run_options
+options_of forms.Path = []
+options_of forms.Number = []
+
+-- what its other words are called
+abbrev pub names_of : Form → List Text
+names_of forms.Bind = codes "program" ∷ []
+names_of forms.Turns = codes "schedule" ∷ codes "program" ∷ []
+names_of forms.Run = codes "program" ∷ []
+names_of forms.Path = codes "path" ∷ []
+names_of forms.Number = codes "number" ∷ []
+
+-- ---- arguments
+
+-- an option's name without its dashes
+abbrev pub id_of : Choice → Text
+id_of choices.Lib = codes "lib"
+id_of choices.Preload = codes "preload"
+id_of choices.Harts = codes "harts"
+id_of choices.Fuel = codes "fuel"
+id_of choices.Now = codes "now"
+id_of choices.Trace = codes "trace"
+
+abbrev pub action_for : Choice → ArgAction
+action_for c = if has_value c then Set else SetTrue
+
+-- an option of one value, or a flag
+abbrev pub option_rule : Choice → Rule
+option_rule c = record (new_rule (id_of c)) { long = Some (id_of c); action = Some (action_for c) }
+
+abbrev pub rules_of : Form → List Rule
+rules_of form = map option_rule (options_of form) ++ map new_rule (names_of form)
+
+-- the options and the other words, without a help flag
+abbrev pub shape_of : Text → Form → Shape
+shape_of name form = record (new_shape name) { rules = rules_of form; disable_help_flag = true }
+
+abbrev pub app_of : Text → Form → App
+app_of name form = record { top = shape_of name form; subs = [] }

@@ -1,0 +1,18 @@
+//! Options.
+
+/// An option of a command.
+#[derive(Clone, Copy, Debug, PartialEq, Eq)]
+pub enum Choice {
+    /// Where libraries are looked for.
+    Lib,
+    /// What is loaded before the program's own libraries.
+    Preload,
+    /// Where the harts behind the first begin.
+    Harts,
+    /// How many turns each hart has.
+    Fuel,
+    /// Each slot is bound at load.
+    Now,
+    /// The journal is printed.
+    Trace,
+}
