@@ -1,2 +1,4 @@
+pub mod Heads
 pub mod Joined
 pub mod Placed
+pub mod Rows

@@ -1,6 +1,8 @@
 //! The laws.
 
 ghost use Rattle.std.specs.Prelude.{◌≡◌, ◌+◌, ◌-◌, List, ℕ};
+ghost use Rattle.ld_base.specs.declared.parts.Head.{Head};
+ghost use Rattle.elf_head.specs.Verdict.{SpellsHead};
 ghost use Rattle.elf_write.specs.declared.contents.Contents.{Contents};
 ghost use Rattle.elf_write.specs.declared.contents.SectionBytes.{SectionBytes};
 ghost use Rattle.elf_write.specs.declared.part.Part.{Part};
@@ -8,6 +10,7 @@ ghost use Rattle.elf_write.specs.declared.part.Part.TheVariants as parts;
 ghost use Rattle.elf_write.specs.Starts.{start_in, starts_of};
 ghost use Rattle.elf_write.specs.Values.{object_bytes, part_bytes};
 ghost use Rattle.elf_records.specs.Standing.{StandAt};
+ghost use Rattle.elf_spelled.specs.Said.{said_head};
 ghost use Rattle.elf_spelled.specs.Whole.{IsWhole};
 
 use elf_written::{packed_table_has_its_size, parts_have_their_sizes, parts_stand_apart};
@@ -21,4 +24,12 @@ pub fn parts_stand_at_their_starts()
     packed_table_has_its_size();
     parts_have_their_sizes();
     parts_stand_apart();
+}
+
+/// The head that such an object spells, if it breaks no rule of the head, is the one that it is to have.
+pub fn the_head_is_spelled()
+    ensures { (contents : Contents) (code : SectionBytes) → IsWhole contents code → (head : Head)
+        → SpellsHead (object_bytes (starts_of contents) contents code) head → head ≡ said_head contents }
+{
+    parts_stand_at_their_starts();
 }

@@ -1,8 +1,9 @@
 //! What a reader finds in an object that `elf_write` makes. A crate without code.
 //!
 //! - [`parts_stand_at_their_starts`]: the bytes of each part stand where it starts.
+//! - [`the_head_is_spelled`]: the kind, the entry and the program headers.
 #![tactic(auto)]
 
 mod law;
 
-pub use law::parts_stand_at_their_starts;
+pub use law::{parts_stand_at_their_starts, the_head_is_spelled};
