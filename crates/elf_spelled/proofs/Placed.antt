@@ -32,7 +32,14 @@ abbrev pub Apart : Type 0
 Apart = (contents : Contents) (one other : Part) → number_of one < number_of other
     → start_in (starts_of contents) one + size_in (starts_of contents) one ≤ start_in (starts_of contents) other
 
-told : (contents : Contents) (part : Part) → size_in (starts_of contents) part ≡ size_of contents part
+-- no part starts before the first
+pub from_head : Apart → (contents : Contents) (part : Part) → start_in (starts_of contents) parts.Head ≤ start_in (starts_of contents) part
+from_head apart contents part = elim (cases_eq (number_of part) 0) as (λ _. start_in (starts_of contents) parts.Head ≤ start_in (starts_of contents) part) [
+  | inl is ↦ omega (arith, ap (slice_index (starts_of contents).addresses) is)
+  | inr later ↦ let above = apart contents parts.Head part (omega arith) in omega (arith, above)
+]
+
+pub told : (contents : Contents) (part : Part) → size_in (starts_of contents) part ≡ size_of contents part
 unfolding starts_of
 told contents parts.Head = refl
 told contents parts.GnuHash = refl
@@ -110,16 +117,10 @@ module _ (sized : Sized) (packed : Packed) (contents : Contents) (code : Section
   Reaches end number = (part : Part) → number ≤ number_of part → end ≤ offset part
 
   module _ (apart : Apart) where
-    from_head : (part : Part) → start_in (starts_of contents) parts.Head ≤ start_in (starts_of contents) part
-    from_head part = elim (cases_eq (number_of part) 0) as (λ _. start_in (starts_of contents) parts.Head ≤ start_in (starts_of contents) part) [
-      | inl is ↦ omega (arith, ap (slice_index (starts_of contents).addresses) is)
-      | inr later ↦ let above = apart contents parts.Head part (omega arith) in omega (arith, above)
-    ]
-
     further : (part : Part) → Reaches (offset part + length (bytes part)) (suc (number_of part))
     further part other later =
         shorter (start_in (starts_of contents) parts.Head) (start_in (starts_of contents) part) (size_in (starts_of contents) part) (size_of contents part)
-        (length (bytes part)) (start_in (starts_of contents) other) (from_head part) (apart contents part other (omega (arith, later))) (told contents part) (room part)
+        (length (bytes part)) (start_in (starts_of contents) other) (from_head apart contents part) (apart contents part other (omega (arith, later))) (told contents part) (room part)
       where
         shorter : (head start size all long end : ℕ) → head ≤ start → start + size ≤ end → size ≡ all → long ≤ all → start - head + long ≤ end - head
         shorter head start size all long end behind below same fit = omega (arith, behind, below, same, fit)

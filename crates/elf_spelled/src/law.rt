@@ -2,6 +2,8 @@
 
 ghost use Rattle.std.specs.Prelude.{◌≡◌, ◌+◌, ◌-◌, List, ℕ};
 ghost use Rattle.ld_base.specs.declared.parts.Head.{Head};
+ghost use Rattle.ld_base.specs.declared.parts.Tag.{Tag};
+ghost use Rattle.elf_dynamic.specs.Parts.{AreTags};
 ghost use Rattle.elf_head.specs.Verdict.{SpellsHead};
 ghost use Rattle.elf_write.specs.declared.contents.Contents.{Contents};
 ghost use Rattle.elf_write.specs.declared.contents.SectionBytes.{SectionBytes};
@@ -10,7 +12,7 @@ ghost use Rattle.elf_write.specs.declared.part.Part.TheVariants as parts;
 ghost use Rattle.elf_write.specs.Starts.{start_in, starts_of};
 ghost use Rattle.elf_write.specs.Values.{object_bytes, part_bytes};
 ghost use Rattle.elf_records.specs.Standing.{StandAt};
-ghost use Rattle.elf_spelled.specs.Said.{said_head};
+ghost use Rattle.elf_spelled.specs.Said.{TellsNumbers, said_head, said_tags};
 ghost use Rattle.elf_spelled.specs.Whole.{IsWhole};
 
 use elf_written::{packed_table_has_its_size, parts_have_their_sizes, parts_stand_apart};
@@ -31,5 +33,15 @@ pub fn the_head_is_spelled()
     ensures { (contents : Contents) (code : SectionBytes) → IsWhole contents code → (head : Head)
         → SpellsHead (object_bytes (starts_of contents) contents code) head → head ≡ said_head contents }
 {
+    parts_stand_at_their_starts();
+}
+
+/// The entries of the dynamic table that such an object has, if it has one that ends, are those that it is to have.
+pub fn the_tags_are_spelled()
+    ensures { (contents : Contents) (code : SectionBytes) → IsWhole contents code → TellsNumbers contents → (tags : List Tag)
+        → AreTags (object_bytes (starts_of contents) contents code) (said_head contents).headers tags → tags ≡ said_tags contents }
+{
+    parts_have_their_sizes();
+    parts_stand_apart();
     parts_stand_at_their_starts();
 }

@@ -2,8 +2,9 @@
 //!
 //! - [`parts_stand_at_their_starts`]: the bytes of each part stand where it starts.
 //! - [`the_head_is_spelled`]: the kind, the entry and the program headers.
+//! - [`the_tags_are_spelled`]: the entries of the dynamic table.
 #![tactic(auto)]
 
 mod law;
 
-pub use law::{parts_stand_at_their_starts, the_head_is_spelled};
+pub use law::{parts_stand_at_their_starts, the_head_is_spelled, the_tags_are_spelled};

@@ -1,0 +1,73 @@
+-- The bytes of a part, where the reader finds them by the program headers.
+use Rattle.std.proofs.Common.{◌≡◌, ◌∙◌, ap, sym, refl, ℕ, ◌+◌, ◌-◌, ◌≤◌, ◌==◌, Bool, true, false, if◌then◌else◌, List, [], ◌∷◌, length, map, find, slice_range, arith, inl, inr}
+use Rattle.std.specs.Prelude.{Some, None, Option, ⊤}
+use Rattle.std.specs.Option.{option_map}
+use Rattle.std.proofs.lemmas.Bool.{cases_eq}
+use Rattle.std.proofs.lemmas.Bool.Decides.{nat_tests}
+use Rattle.ld_base.specs.declared.parts.Header.{Header}
+use Rattle.elf_head.specs.Readable.{covers, file_bytes, file_offset}
+use Rattle.elf_write.specs.declared.contents.Contents.{Contents}
+use Rattle.elf_write.specs.declared.entries.SegmentKind.{SegmentKind}
+use Rattle.elf_write.specs.declared.part.Part.TheVariants as parts
+use Rattle.elf_write.specs.Records.{header_of, first_part}
+use Rattle.elf_write.specs.Starts.{start_in, starts_of}
+use Rattle.elf_records.specs.Standing.{StandAt}
+use Rattle.elf_records.proofs.Standing.{cut_out}
+use Rattle.elf_spelled.proofs.Placed.{Apart, from_head}
+
+-- each segment has its bytes as far behind the file's begin as its address is behind the first
+abbrev pub ArePlaced : ℕ → List Header → Type 0
+ArePlaced head [] = ⊤
+ArePlaced head (h ∷ headers) = (h.offset + head ≡ h.vaddr) × ArePlaced head headers
+
+reached : (h : Header) (start size : ℕ) → covers start size h ≡ true → h.vaddr ≤ start
+reached h start size covered = grind (arith, nat_tests)
+
+found_at : (head start size : ℕ) (headers : List Header) → ArePlaced head headers → (at : ℕ)
+    → option_map (λ h. h.offset + (start - h.vaddr)) (find (covers start size) headers) ≡ Some at → at ≡ start - head
+found_at head start size [] placed at found = absurd cc
+found_at head start size (h ∷ headers) (place, placed) at found =
+    let P : Bool → Type 0 = λ here. covers start size h ≡ here
+    → option_map (λ (h : Header). h.offset + (start - h.vaddr)) (if here then Some h else find (covers start size) headers) ≡ Some at → at ≡ start - head in
+    let first : P true = λ covered is.
+    let from = reached h start size covered in
+    let same : h.offset + (start - h.vaddr) ≡ at = cc in
+    omega (arith, from, same, place) in
+    let cases : (here : Bool) → P here = λ here. elim here as P [ true ↦ first | false ↦ λ _ is. found_at head start size headers placed at is ] in
+    cases (covers start size h) refl found
+
+some_is : {X : Type 0} (x y : X) → Some x ≡ Some y → x ≡ y
+some_is x y e = cc
+
+mapped_some : {A B : Type 0} (f : A → B) (o : Option A) (y : B) → option_map f o ≡ Some y → (x : A) × (o ≡ Some x) × (f x ≡ y)
+mapped_some f None y is = absurd cc
+mapped_some f (Some x) y is = (x, refl, some_is (f x) y is)
+
+nothing : (part : List ℕ) → length part ≡ 0 → part ≡ []
+nothing [] none = refl
+nothing (byte ∷ part) none = absurd (omega (arith, none))
+
+pub part_read : (bytes : List ℕ) (headers : List Header) (head start size : ℕ) (part r : List ℕ) → ArePlaced head headers → StandAt bytes (start - head) part → length part ≡ size
+    → file_bytes bytes headers start size ≡ Some r → r ≡ part
+unfolding file_bytes file_offset
+part_read bytes headers head start size part r placed stand long found =
+    elim (cases_eq size 0) as (λ _. r ≡ part) [
+      | inl none ↦
+          let is : Some (slice_range bytes 0 0) ≡ Some r = sym (ap (λ n. option_map (λ at. slice_range bytes at (at + n)) (if n == 0 then Some 0 else option_map (λ (h : Header). h.offset + (start - h.vaddr)) (find (covers start n) headers))) none) ∙ found in
+          let empty : part ≡ [] = nothing part (omega (arith, long, none)) in
+          sym (some_is (slice_range bytes 0 0) r is) ∙ sym empty
+      | inr some ↦
+          let no : (size == 0) ≡ false = grind (arith, nat_tests) in
+          let (at, there, is) = mapped_some (λ at. slice_range bytes at (at + size)) (option_map (λ (h : Header). h.offset + (start - h.vaddr)) (find (covers start size) headers)) r (rw no at found) in
+          let place = found_at head start size headers placed at there in
+          sym is ∙ ap (λ n. slice_range bytes n (n + size)) place ∙ ap (λ n. slice_range bytes (start - head) (start - head + n)) (sym long) ∙ cut_out bytes part (start - head) stand
+    ]
+
+-- the object's own headers are placed so
+pub all_placed : Apart → (contents : Contents) (segments : List SegmentKind)
+    → ArePlaced (start_in (starts_of contents) parts.Head) (map (header_of (starts_of contents) contents.sections) segments)
+unfolding header_of
+all_placed apart contents [] = tt
+all_placed apart contents (segment ∷ rest) =
+    let from = from_head apart contents (first_part segment) in
+    (omega (arith, from), all_placed apart contents rest)
