@@ -1,0 +1,8 @@
+use Rattle.turn_events.proofs.Turning.{finals_away, turns_append}
+use Rattle.turn_events.proofs.law.turns_append.Goals as goal
+
+pub returns-clause-events : goal.returns-clause-events
+returns-clause-events c = turns_append
+
+pub returns-clause-no_finals : goal.returns-clause-no_finals
+returns-clause-no_finals c = finals_away

@@ -1,0 +1,16 @@
+-- What holds of the events of every turn.
+use Rattle.std.specs.Prelude.{◌≡◌, ℕ, false, List}
+use Rattle.link_event.specs.declared.event.Event.{Event}
+use Rattle.link_history.specs.Setting.{Setting}
+use Rattle.hart_moves.specs.Harts.{HartState}
+use Rattle.hart_moves.specs.Moves.{Did, Moves}
+use Rattle.turn_events.specs.Appends.{Appends, has_finals}
+
+-- each turn appends quiet events, one unmapping, or its hart's end behind quiet ones
+abbrev pub TurnsAppend : Type 0
+TurnsAppend = (w : Setting) (past : List Event) (h : ℕ) (b c : HartState) (did : Did) → Moves w past h b did c → Appends past h b did c
+
+-- no turn begins the final destructors
+abbrev pub FinalsStayAway : Type 0
+FinalsStayAway = (w : Setting) (past : List Event) (h : ℕ) (b c : HartState) (did : Did) → Moves w past h b did c → has_finals b.frames ≡ false
+    → has_finals c.frames ≡ false

@@ -1,0 +1,5 @@
+pub mod Endings
+pub mod Places
+pub mod Runs
+pub mod Settled
+pub mod Turns
