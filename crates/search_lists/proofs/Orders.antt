@@ -61,7 +61,7 @@ own_extended a ys x y there_is is some e =
     by_there false is = stays_in (a ++ y ∷ []) ys x (has_own a x y e)
 
 -- an order that is extended by a list has what the list has, but for 0
-in_extended : (a b : List ℕ) (x : ℕ) → (x == 0) ≡ false → has b x ≡ true → has (extend a b) x ≡ true
+pub in_extended : (a b : List ℕ) (x : ℕ) → (x == 0) ≡ false → has b x ≡ true → has (extend a b) x ≡ true
 in_extended a [] x some there = absurd (cc there)
 in_extended a (y ∷ ys) x some there =
     elim (cases_Bool (y == x)) [
@@ -111,7 +111,7 @@ pub kept_step : (f : ℕ → List ℕ) (first : List ℕ) (n : ℕ) (order : Lis
 kept_step f first n order kept = ap (λ (o : List ℕ). extend first (flat_map f o)) kept ∙ ap (order_to f first) (sym (add-one n))
 
 -- where all entries' levels are there, more levels add nothing
-stays : (f : ℕ → List ℕ) (first : List ℕ) (n more : ℕ) (order : List ℕ) → order ≡ order_to f first n → order ≡ extend first (flat_map f order) → order ≡ order_to f first (more + n)
+pub stays : (f : ℕ → List ℕ) (first : List ℕ) (n more : ℕ) (order : List ℕ) → order ≡ order_to f first n → order ≡ extend first (flat_map f order) → order ≡ order_to f first (more + n)
 stays f first n zero order kept whole = (let none : n ≡ 0 + n = omega arith in kept ∙ ap (order_to f first) none)
 stays f first n (suc more) order kept whole =
     let next : suc (more + n) ≡ suc more + n = omega arith in

@@ -1,7 +1,8 @@
 -- What objects lead to: for the code of this crate alone.
-use Rattle.std.specs.Prelude.{◌≡◌, ℕ, List, [], map}
+use Rattle.std.specs.Prelude.{◌≡◌, ℕ, ◌==◌, true, false, List, [], map}
 use Rattle.ld_base.specs.declared.linking.Loaded.{Loaded}
-use Rattle.scope_rule.specs.Breadth.{extend}
+use Rattle.scope_rule.specs.Breadth.{extend, has}
+use Rattle.scope_rule.specs.Loading.{found_of}
 use Rattle.scope_rule.specs.Seen.{Seen}
 use Rattle.search_lists.specs.Places.{ArePlaces, serials_of}
 use Rattle.search_lists.specs.declared.links.Links.{Links}
@@ -10,7 +11,8 @@ use Rattle.search_lists.specs.declared.links.Links.{Links}
 abbrev pub found_once : Loaded → List ℕ
 found_once o = extend [] o.found
 
--- where the objects stand is known, and what each leads to
+-- where the objects stand is known, what each leads to, and what any does
 pub record AreLinks (s : Seen) (links : Links) : Type 0 where
   pub places : ArePlaces (serials_of s) links.places.now
   pub found : links.found.items ≡ map found_once s.objects
+  pub all : (serial x : ℕ) → has (found_of s serial) x ≡ true → (x == 0) ≡ false → has links.all x ≡ true

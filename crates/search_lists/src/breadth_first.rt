@@ -1,7 +1,9 @@
-//! Breadth-first order, in one step for each object that an object's names found.
+//! Breadth-first order, in one step for each object that an object's names found, up to the level with which
+//! all are there.
 
-ghost use Rattle.std.specs.Prelude.{◌≡◌, ◌≤◌, ◌∷◌, [], length, drop, flat_map, IfOk, OnOk};
-ghost use Rattle.scope_rule.specs.Breadth.{breadth, extend, order_to};
+ghost use Rattle.std.specs.Prelude.{◌≡◌, ◌≤◌, ◌∷◌, [], ℕ, true, length, drop, flat_map, IfOk, IsTrue, OnOk};
+ghost use Rattle.std.specs.List.{list_all};
+ghost use Rattle.scope_rule.specs.Breadth.{breadth, extend, has, order_to};
 ghost use Rattle.scope_rule.specs.Loading.{found_of};
 ghost use Rattle.scope_rule.specs.Seen.{seen};
 ghost use Rattle.search_lists.specs.Links.{AreLinks};
@@ -52,7 +54,29 @@ fn extend_by_level(
     Ok(())
 }
 
-/// Puts so many levels at the end, as far as there are any.
+/// Whether the order has an object.
+fn has_one(order: &IndexSet<Serial>, serial: Serial) -> bool
+    ensures { result ≡ has order.now.keys serial }
+{
+    order.contains(&serial)
+}
+
+/// Whether the order has each of some objects.
+fn has_each(order: &IndexSet<Serial>, serials: &[Serial]) -> bool
+    ensures { result ≡ list_all (λ serial. has order.now.keys serial) serials.now }
+{
+    serials.iter().all(|serial| has_one(order, *serial))
+}
+
+/// Whether the order has everything that any object found, so that no level puts anything at its end. It is
+/// looked through only where the order is as long.
+fn has_all(order: &IndexSet<Serial>, all: &[Serial]) -> bool
+    ensures { IsTrue result → (serial : ℕ) → has all.now serial ≡ true → has order.now.keys serial ≡ true }
+{
+    order.len() >= all.len() && has_each(order, all)
+}
+
+/// Puts so many levels at the end, as far as there are any that put something there.
 fn extend_by_levels(
     view: &View,
     links: &Links,
@@ -67,6 +91,9 @@ fn extend_by_levels(
     for _ in 0..most {
         let end = order.len();
         if start == end {
+            return Ok(());
+        }
+        if has_all(order, links.all.as_slice()) {
             return Ok(());
         }
         extend_by_level(view, links, order, start)?;

@@ -1,14 +1,15 @@
 //! What the objects of a namespace lead to.
 
-ghost use Rattle.std.specs.Prelude.{◌≡◌, ◌++◌, [], map, IfOk, OnOk, slice_get, unwrap_or};
+ghost use Rattle.std.specs.Prelude.{◌≡◌, ◌++◌, [], flat_map, map, IfOk, OnOk, slice_get, unwrap_or};
 ghost use Rattle.scope_rule.specs.Breadth.{extend};
+ghost use Rattle.scope_rule.specs.Seen.{seen};
 ghost use Rattle.search_lists.specs.Links.{found_once};
 
 use crate::breadth_first::extend;
 use crate::places::Places;
 use indexmap::IndexSet;
 use ld_base::{Loaded, Serial, Serials};
-use scope_rule::View;
+use scope_rule::{View, extends_at_the_end};
 use std::alloc::{AllocError, Global};
 
 /// Where the objects of a namespace stand, and what the names of each found, each once: a name that
@@ -18,6 +19,8 @@ pub(crate) struct Links<'a> {
     pub(crate) places: &'a Places,
     /// By the place of an object.
     found: Vec<Serials>,
+    /// What the names of any of them found.
+    pub(crate) all: Serials,
 }
 
 /// These serials, each once, the linker's own left out.
@@ -43,6 +46,28 @@ fn append_found(
     Ok(())
 }
 
+/// What the names of the objects of a namespace found, by their places.
+fn found_by_each(alloc: Global, view: &View) -> Result<Vec<Serials>, AllocError>
+    ensures { IfOk result (λ found. found.items ≡ map found_once (seen view.now).objects) }
+{
+    let mut found = Vec::new(alloc);
+    append_found(alloc, view.objects, &mut found)?;
+    append_found(alloc, view.added, &mut found)?;
+    Ok(found)
+}
+
+/// What is found in any of these lists, each once.
+fn found_by_any(alloc: Global, found: &[Serials]) -> Result<Serials, AllocError>
+    ensures { IfOk result (λ all. all ≡ extend [] (flat_map (λ serials. serials) found.now)) }
+{
+    extends_at_the_end();
+    let mut all = IndexSet::new(alloc);
+    for serials in found {
+        extend(&mut all, serials.as_slice())?;
+    }
+    Serials::from_slice(alloc, all.as_slice())
+}
+
 /// What the object at a place led to.
 fn found_at(found: &[Serials], place: usize) -> &[Serial]
     ensures { result.now ≡ unwrap_or (slice_get found.now place) [] }
@@ -66,10 +91,9 @@ impl<'a> Links<'a> {
         requires { ArePlaces (serials_of (seen view.now)) places.now }
         ensures { IfOk result (AreLinks (seen view.now)) }
     {
-        let mut found = Vec::new(alloc);
-        append_found(alloc, view.objects, &mut found)?;
-        append_found(alloc, view.added, &mut found)?;
-        Ok(Links { places, found })
+        let found = found_by_each(alloc, view)?;
+        let all = found_by_any(alloc, found.as_slice())?;
+        Ok(Links { places, found, all })
     }
 
     /// What the names of the object with a serial found, each once.

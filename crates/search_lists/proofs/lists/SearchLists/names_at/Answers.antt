@@ -1,4 +1,4 @@
-use Rattle.std.proofs.Common.{List, Some, None, ap, sym, ◌∙◌}
+use Rattle.std.proofs.Common.{List, Some, None, ap, ◌∙◌}
 use Rattle.std.specs.List.{slice_get}
 use Rattle.search_lists.specs.declared.lists.SearchList.{SearchList}
 use Rattle.search_lists.proofs.Stands.{names_at}
