@@ -53,7 +53,7 @@ pub record Needs (m : Machine) : Type 0 where
 both : (s t u : State) (old mid new : Memory) (a : ℕ) → SlotStays s t old mid a → SlotStays t u mid new a → SlotStays s u old new a
 both s t u old mid new a x y = record { value = y.value ∙ x.value; lazy = y.lazy ∙ x.lazy }
 
-legal_front : (w : Setting) (past added : List Event) → Legal w (past ++ added) → Legal w past
+pub legal_front : (w : Setting) (past added : List Event) → Legal w (past ++ added) → Legal w past
 legal_front w past added legal = subst (Legal w) (take-append_seam past added) (legal_take w (past ++ added) (length past) legal)
 
 module _ (w : Setting) (needs : Needs w.machine) (i : Linked) (slot : ℕ) (r : Reloc) (at : slice_get i.object.plt_relocs slot ≡ Some r) where

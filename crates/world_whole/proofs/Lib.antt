@@ -1,0 +1,4 @@
+pub mod Lost
+pub mod Runs
+pub mod Serials
+pub mod Turns
