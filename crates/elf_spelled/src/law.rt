@@ -1,9 +1,10 @@
 //! The laws.
 
 ghost use Rattle.std.specs.Prelude.{◌≡◌, ◌+◌, ◌-◌, List, ℕ};
+ghost use Rattle.ld_base.specs.declared.parts.DynParts.{DynParts};
 ghost use Rattle.ld_base.specs.declared.parts.Head.{Head};
 ghost use Rattle.ld_base.specs.declared.parts.Tag.{Tag};
-ghost use Rattle.elf_dynamic.specs.Parts.{AreTags};
+ghost use Rattle.elf_dynamic.specs.Parts.{AreParts, AreTags};
 ghost use Rattle.elf_head.specs.Verdict.{SpellsHead};
 ghost use Rattle.elf_write.specs.declared.contents.Contents.{Contents};
 ghost use Rattle.elf_write.specs.declared.contents.SectionBytes.{SectionBytes};
@@ -12,7 +13,7 @@ ghost use Rattle.elf_write.specs.declared.part.Part.TheVariants as parts;
 ghost use Rattle.elf_write.specs.Starts.{start_in, starts_of};
 ghost use Rattle.elf_write.specs.Values.{object_bytes, part_bytes};
 ghost use Rattle.elf_records.specs.Standing.{StandAt};
-ghost use Rattle.elf_spelled.specs.Said.{TellsNumbers, said_head, said_tags};
+ghost use Rattle.elf_spelled.specs.Said.{IsTold, SaysByItself, TellsNumbers, said_head, said_tags};
 ghost use Rattle.elf_spelled.specs.Whole.{IsWhole};
 
 use elf_written::{packed_table_has_its_size, parts_have_their_sizes, parts_stand_apart};
@@ -44,4 +45,18 @@ pub fn the_tags_are_spelled()
     parts_have_their_sizes();
     parts_stand_apart();
     parts_stand_at_their_starts();
+}
+
+/// What these entries tell of each tag that a linker minds.
+pub fn the_table_tells()
+    ensures { (contents : Contents) → IsTold contents (said_tags contents) }
+{}
+
+/// The parts that such an object's tables say: where the slots' words and the arrays of functions stand, that no function is named alone, and
+/// the flags are those that it is to have.
+pub fn the_table_says_by_itself()
+    ensures { (contents : Contents) (code : SectionBytes) → IsWhole contents code → TellsNumbers contents → (said : DynParts)
+        → AreParts (object_bytes (starts_of contents) contents code) (said_head contents).headers said → SaysByItself contents said }
+{
+    the_tags_are_spelled();
 }
