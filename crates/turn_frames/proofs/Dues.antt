@@ -1,0 +1,148 @@
+-- Which frames a due turn goes on with.
+use Rattle.std.proofs.Common.{◌≡◌, ℕ, Bool, true, false, cond, List, [], ◌∷◌, length, Option, Some, None, refl, ap, ◌==◌}
+use Rattle.std.specs.Prelude.{nat_lt, ◌%◌}
+use Rattle.link_event.specs.declared.handed.Function.{Function}
+use Rattle.link_event.specs.declared.hart_end.HartEnd.TheVariants as ends
+use Rattle.link_history.specs.State.{State}
+use Rattle.link_service.specs.Call.{Call, resolves, opens, looks_up, closes, unmaps, asks_fault, locates, writes, stops}
+use Rattle.link_service.specs.Call as call
+use Rattle.hart_moves.specs.Copying.{Copy, number_in}
+use Rattle.hart_moves.specs.Due.{Due, Return, all_done, at_service, back, behind, by_frames, by_name, by_phase, by_queue, call_of, done, within_fuel, write_count}
+use Rattle.hart_moves.specs.Harts.{Frame, HartState, Naming, Phase, Purpose}
+use Rattle.hart_moves.specs.Moves.{after_all, runs, with_first}
+use Rattle.hart_moves.specs.Registers.{a0, a1, a2, ra}
+use Rattle.hart_moves.specs.Services.{Service, service_at}
+use Rattle.turn_events.specs.Appends.{has_finals, is_of_end}
+use Rattle.turn_frames.specs.Runs.{AreFrames}
+
+-- ---- of a due turn
+
+-- a call returns to the hart's frames, an unmapping to those behind its closing
+abbrev pub AskedFrom : HartState → Call → Return → Type 0
+AskedFrom b (resolves owner eights) to = to.frames ≡ b.frames
+AskedFrom b (opens ask) to = to.frames ≡ b.frames
+AskedFrom b (looks_up ask) to = to.frames ≡ b.frames
+AskedFrom b (closes handle) to = to.frames ≡ b.frames
+AskedFrom b (unmaps set) to = (ra : ℕ) × (b.frames ≡ record { purpose = Purpose.of_closing ra set; queue = [] } ∷ to.frames)
+AskedFrom b asks_fault to = to.frames ≡ b.frames
+AskedFrom b (locates number offset) to = to.frames ≡ b.frames
+AskedFrom b (writes bytes) to = to.frames ≡ b.frames
+AskedFrom b (stops reason) to = to.frames ≡ b.frames
+
+pub record EntersFirst (old new : List Frame) : Type 0 where
+  pub purpose : Purpose
+  pub function : Function
+  pub next : Function
+  pub rest : List Function
+  pub below : List Frame
+  pub before : old ≡ record { purpose = purpose; queue = function ∷ rest } ∷ below
+  pub same : next.object ≡ function.object
+  pub after : new ≡ record { purpose = purpose; queue = next ∷ rest } ∷ below
+
+pub record CompletesFirst (frames : List Frame) (purpose : Purpose) (object : ℕ) (rest : List Function) (below : List Frame) : Type 0 where
+  pub function : Function
+  pub is : function.object ≡ object
+  pub before : frames ≡ record { purpose = purpose; queue = function ∷ rest } ∷ below
+  pub not_end : is_of_end purpose ≡ false
+
+abbrev pub IsFrom : HartState → Due → Type 0
+IsFrom b Due.nothing = Unit {0}
+IsFrom b (Due.exchange o) = Unit {0}
+IsFrom b (Due.finish o found) = Unit {0}
+IsFrom b Due.fuel_out = Unit {0}
+IsFrom b Due.instruction = Unit {0}
+IsFrom b (Due.copy copy start bytes) = Unit {0}
+IsFrom b (Due.serve asked to) = AskedFrom b asked to
+IsFrom b (Due.store text stored word more) = Unit {0}
+IsFrom b (Due.enter function frames) = EntersFirst b.frames frames
+IsFrom b (Due.complete purpose object rest below) = CompletesFirst b.frames purpose object rest below
+IsFrom b (Due.finalise code object) = has_finals b.frames ≡ true
+
+either_from : (b : HartState) (t : Bool) (x y : Due) → IsFrom b x → IsFrom b y → IsFrom b (cond t x y)
+either_from b true x y one other = one
+either_from b false x y one other = other
+
+name_from : (s : State) (b : HartState) (n : Naming) → IsFrom b (by_name s b n)
+name_from s b Naming.dlopen =
+    either_from b (a0 b.registers == 0) (Due.serve (call.dlopen s (ra b.registers) None (a1 b.registers)) (back b)) (Due.copy (Copy.of_name Naming.dlopen) (a0 b.registers) []) refl tt
+name_from s b Naming.dlmopen =
+    either_from b (a1 b.registers == 0) (Due.serve (call.dlmopen (a0 b.registers) None (a2 b.registers)) (back b)) (Due.copy (Copy.of_name Naming.dlmopen) (a1 b.registers) []) refl tt
+name_from s b Naming.dlsym = tt
+name_from s b Naming.dlvsym = tt
+
+done_from : (b : HartState) (purpose : Purpose) (f : Function) (rest : List Function) (below : List Frame) → b.frames ≡ record { purpose = purpose; queue = f ∷ rest } ∷ below → IsFrom b (done purpose f.object rest below)
+done_from b (Purpose.of_startup registers) f rest below e = record { function = f; is = refl; before = e; not_end = refl }
+done_from b (Purpose.of_opening to root) f rest below e = record { function = f; is = refl; before = e; not_end = refl }
+done_from b (Purpose.of_closing to set) f rest below e = record { function = f; is = refl; before = e; not_end = refl }
+done_from b (Purpose.of_end code) f rest below e = ap has_finals e
+
+all_from : (b : HartState) (purpose : Purpose) (below : List Frame) → b.frames ≡ record { purpose = purpose; queue = [] } ∷ below → IsFrom b (all_done b purpose below)
+all_from b (Purpose.of_startup registers) below e = refl
+all_from b (Purpose.of_opening to root) below e = refl
+all_from b (Purpose.of_closing to set) below e = (to, e)
+all_from b (Purpose.of_end code) below e = refl
+
+addresses_from : (b : HartState) (purpose : Purpose) (f : Function) (rest : List Function) (below : List Frame) (addresses : List ℕ) → b.frames ≡ record { purpose = purpose; queue = f ∷ rest } ∷ below
+    → IsFrom b (elim addresses [ [] ↦ done purpose f.object rest below | function ∷ more ↦ Due.enter function (record { purpose = purpose; queue = record f { addresses = more } ∷ rest } ∷ below) ])
+addresses_from b purpose f rest below [] e = done_from b purpose f rest below e
+addresses_from b purpose f rest below (function ∷ more) e = record { purpose = purpose; function = f; next = record f { addresses = more }; rest = rest; below = below; before = e; same = refl; after = refl }
+
+queue_from : (b : HartState) (purpose : Purpose) (queue : List Function) (below : List Frame) → b.frames ≡ record { purpose = purpose; queue = queue } ∷ below → IsFrom b (by_queue b purpose queue below)
+queue_from b purpose [] below e = all_from b purpose below e
+queue_from b purpose (f ∷ rest) below e = addresses_from b purpose f rest below f.addresses e
+
+frames_from : (b : HartState) (frames : List Frame) → b.frames ≡ frames → IsFrom b (by_frames b frames)
+frames_from b [] are = refl
+frames_from b (frame ∷ below) are = queue_from b frame.purpose frame.queue below are
+
+service_from : (s : State) (b : HartState) (service : Service) → IsFrom b (at_service s b service)
+service_from s b Service.resolve = refl
+service_from s b (Service.of_name n) = name_from s b n
+service_from s b Service.dlclose = refl
+service_from s b Service.dlerror = refl
+service_from s b Service.tls_get_addr =
+    either_from b (a0 b.registers % 8 == 0) (Due.copy Copy.of_pair (a0 b.registers) []) (Due.serve (call.stops (ends.Misaligned b.registers.pc (a0 b.registers))) (back b)) tt refl
+service_from s b Service.next_function = frames_from b b.frames refl
+service_from s b Service.exit = refl
+
+pc_from : (s : State) (b : HartState) (found : Option Service) → IsFrom b (elim found [ Some service ↦ at_service s b service | None ↦ Due.instruction ])
+pc_from s b (Some service) = service_from s b service
+pc_from s b None = tt
+
+named_from : (s : State) (b : HartState) (n : Naming) (name version : List ℕ) → IsFrom b (Due.serve (call_of s b.registers n name version) (back b))
+unfolding call_of
+named_from s b Naming.dlopen name version = refl
+named_from s b Naming.dlmopen name version = refl
+named_from s b Naming.dlsym name version = refl
+named_from s b Naming.dlvsym name version = refl
+
+phase_from : (s : State) (b : HartState) (phase : Phase) → IsFrom b (by_phase s b phase)
+unfolding by_phase
+phase_from s b Phase.at_pc = pc_from s b (service_at b.registers.pc)
+phase_from s b (Phase.naming n bytes) = tt
+phase_from s b (Phase.versioning name bytes) = tt
+phase_from s b (Phase.named n name version) = named_from s b n name version
+phase_from s b (Phase.pairing bytes) =
+    either_from b (nat_lt (length bytes) 16) (Due.copy Copy.of_pair (a0 b.registers) bytes) (Due.serve (call.locates (number_in bytes 0) (number_in bytes 8)) (back b)) tt refl
+phase_from s b (Phase.writing bytes) =
+    either_from b (nat_lt (length bytes) (write_count b.registers)) (Due.copy (Copy.of_text (write_count b.registers)) (a1 b.registers) bytes) (Due.serve (call.writes bytes) (behind b)) tt refl
+phase_from s b (Phase.storing text stored word more) = tt
+
+pub within_from : (s : State) (b : HartState) → IsFrom b (within_fuel b (by_phase s b b.phase))
+within_from s b = either_from b (nat_lt b.turns b.fuel) (by_phase s b b.phase) Due.fuel_out (phase_from s b b.phase) tt
+
+-- ---- of functions that are run
+
+first_frames : (purpose : Purpose) (f : Function) (addresses : List ℕ) (rest : List Function) (below : List Frame) (b : HartState) → AreFrames purpose (f ∷ rest) below (with_first purpose f.object addresses rest below b).frames
+first_frames purpose f [] rest below b = (record { object = f.object; addresses = [] }, refl, refl)
+first_frames purpose f (function ∷ more) rest below b = (record { object = f.object; addresses = more }, refl, refl)
+
+all_frames : (purpose : Purpose) (below : List Frame) (b : HartState) → AreFrames purpose [] below (after_all purpose below b).frames
+all_frames (Purpose.of_startup registers) below b = refl
+all_frames (Purpose.of_opening to root) below b = refl
+all_frames (Purpose.of_closing to set) below b = refl
+all_frames (Purpose.of_end code) below b = refl
+
+pub runs_frames : (purpose : Purpose) (functions : List Function) (below : List Frame) (b : HartState) → AreFrames purpose functions below (runs purpose functions below b).frames
+runs_frames purpose [] below b = all_frames purpose below b
+runs_frames purpose (f ∷ rest) below b = first_frames purpose f f.addresses rest below b

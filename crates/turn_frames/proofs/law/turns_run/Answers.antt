@@ -1,0 +1,5 @@
+use Rattle.turn_frames.proofs.Turning.{turns_run}
+use Rattle.turn_frames.proofs.law.turns_run.Goals as goal
+
+pub returns : goal.returns
+returns c = turns_run
