@@ -65,7 +65,7 @@ none_late hart serial blocks b none inside = by (find (λ (q : Block). q.hart ==
     by None e n = not_found (λ (q : Block). q.hart == hart && q.serial == serial) blocks b e inside
     by (Some q) e n = absurd (let d : Some q.address ≡ None = n in cc)
 
-pub block_got : (s : State) (hart serial block : ℕ) → tls_block s hart serial ≡ None → (y : Module) → module_of s serial ≡ Some y → tls_block (add_block hart serial block s) hart serial ≡ Some block
+block_got : (s : State) (hart serial block : ℕ) → tls_block s hart serial ≡ None → (y : Module) → module_of s serial ≡ Some y → tls_block (add_block hart serial block s) hart serial ≡ Some block
 unfolding tls_block
 block_got s hart serial block none y is =
     let late = late_is s hart serial none y is in
@@ -81,11 +81,16 @@ block_got s hart serial block none y is =
     ∙ ap (λ (o : Option ℕ). option_map_or (λ (offset : ℕ). Some (tp_of (add_block hart serial block s) hart + offset)) o (late_block (add_block hart serial block s) hart serial)) late.0
     ∙ ap (option_map (λ (q : Block). q.address)) found
 
--- ---- the words of its pages
-
 some_of : {X : Type 0} (o : Option X) → IsSome o → (x : X) × (o ≡ Some x)
 some_of None is = absurd (true≢false (sym is))
 some_of (Some x) is = (x, refl)
+
+pub new_block_had : (past : List Event) (hart serial block : ℕ) → MayHaveBlock (after past) hart serial block → tls_block (after (past ++ Tls hart serial block ∷ [])) hart serial ≡ Some block
+new_block_had past hart serial block may =
+    let its = some_of (module_of (after past) serial) may.wants.has_module in
+    ap (λ (x : State). tls_block x hart serial) (after_push past (Tls hart serial block)) ∙ block_got (after past) hart serial block may.wants.none its.0 its.1
+
+-- ---- the words of its pages
 
 abbrev bare : Machine → Setting
 bare m = record { machine = m; folders = []; preload = []; files = None }
@@ -144,7 +149,7 @@ module _ (page_laws : PageLaws) (loads : LoadLaws) (reads : ReadLaw) (numbers : 
       module_t = ap (λ (x : State). module_of x serial) state ∙ its.1
 
       block_t : tls_block t hart serial ≡ Some block
-      block_t = ap (λ (x : State). tls_block x hart serial) state ∙ block_got s hart serial block may.wants.none its.0 its.1
+      block_t = new_block_had past hart serial block may
 
       image_t : image_of t serial ≡ Some i
       image_t = ap (λ (x : State). image_of x serial) state ∙ image_is

@@ -12,7 +12,7 @@ use Rattle.link_history.specs.Lookup.{MayHaveBlock}
 use Rattle.link_history.specs.Memory.{image_of}
 use Rattle.link_history.specs.Setting.{Machine}
 use Rattle.link_history.specs.State.{Linked}
-use Rattle.link_history.specs.Storage.{block_pages, residue}
+use Rattle.link_history.specs.Storage.{block_pages, residue, tls_block}
 use Rattle.link_service.specs.Served.{AreBlockInstalls}
 use Rattle.seg_image.specs.declared.image.Image.{Image}
 
@@ -26,3 +26,8 @@ NewBlocksAreInstalled = (m : Machine) (past : List Event) (hart serial block : �
     → (may : MayHaveBlock (after past) hart serial block) → image_of (after past) serial ≡ Some i
     → IsArea (block - residue may.seg) (block_pages may.seg) block (storage_of i) image
     → AreBlockInstalls (after (past ++ Tls hart serial block ∷ [])) hart serial block (area_alone image)
+
+-- a hart that got its block of an object's module has it
+abbrev pub HartsHaveNewBlocks : Type 0
+HartsHaveNewBlocks = (past : List Event) (hart serial block : ℕ) → MayHaveBlock (after past) hart serial block
+    → tls_block (after (past ++ Tls hart serial block ∷ [])) hart serial ≡ Some block

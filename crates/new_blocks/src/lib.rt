@@ -2,11 +2,12 @@
 //!
 //! [`new_block`] finds the pages of a hart's block of an object's module, the first that have room, and
 //! makes their words of the bytes that the object gives; it reserves nothing. By the law
-//! [`new_blocks_are_installed`] these words are what memory gets.
+//! [`new_blocks_are_installed`] these words are what memory gets, and by [`harts_have_new_blocks`] the hart
+//! has the block then.
 #![tactic(auto)]
 
 mod law;
 mod placing;
 
-pub use law::new_blocks_are_installed;
+pub use law::{harts_have_new_blocks, new_blocks_are_installed};
 pub use placing::{BlockFault, NewBlock, new_block};
