@@ -1,0 +1,5 @@
+pub mod Events
+pub mod Owners
+pub mod Passing
+pub mod Starting
+pub mod Turns

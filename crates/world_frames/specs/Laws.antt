@@ -1,0 +1,67 @@
+-- What holds of the frames of every run, before its final destructors.
+use Rattle.std.specs.Prelude.{◌≡◌, ℕ, List, [], ◌∷◌, ◌++◌, map, Contains}
+use Rattle.ld_base.specs.declared.linking.Loaded.{Loaded}
+use Rattle.link_event.specs.declared.event.CloseAnswer.TheVariants as closings
+use Rattle.link_event.specs.declared.event.Event.{Event}
+use Rattle.link_event.specs.declared.event.Event.TheVariants.{Close, Open}
+use Rattle.link_event.specs.declared.event.OpenAnswer.TheVariants as openings
+use Rattle.link_event.specs.declared.event.OpenAsk.{OpenAsk}
+use Rattle.link_event.specs.declared.event.Range.{Range}
+use Rattle.link_event.specs.declared.handed.Function.{Function}
+use Rattle.link_event.specs.declared.state.Closing.{Closing}
+use Rattle.link_served.specs.declared.startup.Setup.{Setup}
+use Rattle.link_history.specs.After.{after}
+use Rattle.link_history.specs.Allowed.{Allowed}
+use Rattle.link_history.specs.Legal.{Legal}
+use Rattle.link_history.specs.Links.{finis_of}
+use Rattle.link_history.specs.Objects.{serial_of}
+use Rattle.link_history.specs.Setting.{Setting}
+use Rattle.link_service.specs.Functions.{AreConstructors, AreDestructors, passed}
+use Rattle.hart_moves.specs.Harts.{Frame, Purpose}
+use Rattle.hart_moves.specs.Moves.{AreAllowed, passing}
+use Rattle.world_turns.specs.Run.{IsStarted}
+use Rattle.world_turns.specs.Turn.{Turn}
+use Rattle.world_turns.specs.World.{World}
+use Rattle.world_ends.specs.Ends.{BeforeFinals}
+use Rattle.world_frames.specs.Belong.{FramesBelong, FramesFit}
+
+-- ---- what keeps it
+
+abbrev pub StartBelongs : Type 0
+StartBelongs = (w : Setting) (setup : Setup) (world : World) → IsStarted w setup world → FramesBelong world
+
+abbrev pub TurnsKeepFrames : Type 0
+TurnsKeepFrames = (w : Setting) (h : ℕ) (old new : World) → Legal w new.journal → Turn w h old new → BeforeFinals w old → FramesBelong old → FramesBelong new
+
+-- ---- what it is for
+
+-- the first object of a frame may be passed, and those behind it that have no functions
+abbrev pub FramesPass : Type 0
+FramesPass = (w : Setting) (past : List Event) (h : ℕ) (purpose : Purpose) (f : Function) (rest : List Function) (below : List Frame) → Legal w past
+    → FramesFit (after past) h (record { purpose = purpose; queue = f ∷ rest } ∷ below) → AreAllowed w past (map (passing purpose h) (f.object ∷ passed rest))
+
+-- behind an opening the new objects in front that have none
+abbrev pub OpeningsPass : Type 0
+OpeningsPass = (w : Setting) (past : List Event) (h to id root : ℕ) (ask : OpenAsk) (first : Loaded) (rest : List Loaded) (ranges : List Range) (functions : List Function)
+    → Legal w past → Allowed w past (Open h ask (openings.Done id root (first ∷ rest) ranges))
+    → AreConstructors (after (past ++ Open h ask (openings.Done id root (first ∷ rest) ranges) ∷ [])) (map serial_of (first ∷ rest)) functions
+    → AreAllowed w (past ++ Open h ask (openings.Done id root (first ∷ rest) ranges) ∷ []) (map (passing (Purpose.of_opening to root) h) (passed functions))
+
+-- behind a closing those of its objects
+abbrev pub ClosingsPass : Type 0
+ClosingsPass = (w : Setting) (past : List Event) (h to handle first : ℕ) (rest : List ℕ) (functions : List Function) → Legal w past
+    → Allowed w past (Close h handle (closings.Done (first ∷ rest)))
+    → AreDestructors (after (past ++ Close h handle (closings.Done (first ∷ rest)) ∷ [])) (first ∷ rest) functions
+    → AreAllowed w (past ++ Close h handle (closings.Done (first ∷ rest)) ∷ []) (map (passing (Purpose.of_closing to (first ∷ rest)) h) (passed functions))
+
+-- a closing whose objects are to be unmapped is there, and each of them is finalised
+pub record HasClosed (w : Setting) (past : List Event) (h : ℕ) (set : List ℕ) : Type 0 where
+  pub closing : Closing
+  pub there : Contains (after past).closings closing
+  pub by : closing.hart ≡ h
+  pub whole : closing.set ≡ set
+  pub done : finis_of (after past) set ≡ []
+
+abbrev pub FramesClose : Type 0
+FramesClose = (w : Setting) (past : List Event) (h to : ℕ) (set : List ℕ) (below : List Frame)
+    → FramesFit (after past) h (record { purpose = Purpose.of_closing to set; queue = [] } ∷ below) → HasClosed w past h set

@@ -1,0 +1,2 @@
+pub mod Belong
+pub mod Laws
