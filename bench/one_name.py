@@ -1,8 +1,9 @@
 #!/usr/bin/env python3
 """Writes a library of 8 MiB with 200,000 symbols of one name and a program with 1,000 slots against it, field by field,
 and times `ldso bind` of the two: it is to end within 2 seconds. The slots name one symbol of the program, or 1,000
-symbols of that name: in their order, from the last to the first, or with a symbol of another name between each two. The
-library has a GNU hash table, whose one chain has every symbol, or a System V table.
+symbols of that name: in their order, from the last to the first, with a symbol of another name between each two, global and
+weak in turns, or of two versions in turns, which the library's last two symbols have. The library has a GNU hash table,
+whose one chain has every symbol, or a System V table.
 
 usage: one_name.py LDSO
 """
@@ -20,6 +21,14 @@ SLOTS = 1000
 SIZE = 8 << 20
 
 
+def sysv_hash(name):
+    h = 0
+    for c in name:
+        h = (h << 4) + c
+        h = (h ^ (h & 0xF0000000) >> 24) & 0x0FFFFFFF
+    return h
+
+
 def gnu_table(first, count):
     """Every symbol in the chain of the one bucket; the filter has both bits of the hash."""
     h = gnu_hash(b"f")
@@ -34,8 +43,24 @@ def sysv_table(count):
     return struct.pack("<3I", 1, count + 1, count) + struct.pack("<%dI" % (count + 1), *chain)
 
 
-def build(kind, hashes, symbols, needed, slots, size):
-    strings = bytearray(b"\0f\0liba.so\0")
+def defined_versions():
+    """The library's own name at index 1, V1 at 2, V2 at 3 and V3 at 4."""
+    content = b""
+    for index, name, at in [(1, b"liba.so", 3), (2, b"V1", 11), (3, b"V2", 14), (4, b"V3", 17)]:
+        content += struct.pack("<4H3I", 1, index == 1, index, 1, sysv_hash(name), 20, 28 if index < 4 else 0) + struct.pack("<2I", at, 0)
+    return [(0x6FFFFFFC, content)], [(0x6FFFFFFD, 4)]
+
+
+def needed_versions():
+    """V1 at index 2 and V2 at 3, of liba.so."""
+    content = struct.pack("<2H3I", 1, 2, 3, 16, 0)
+    content += struct.pack("<I2H2I", sysv_hash(b"V1"), 0, 2, 11, 16) + struct.pack("<I2H2I", sysv_hash(b"V2"), 0, 3, 14, 0)
+    return [(0x6FFFFFFE, content)], [(0x6FFFFFFF, 1)]
+
+
+def build(kind, hashes, symbols, needed, slots, size, indexes=None, versions=([], [])):
+    """The indexes are those of the symbols' versions, from the first symbol behind the null symbol on."""
+    strings = bytearray(b"\0f\0liba.so\0V1\0V2\0V3\0")
     data = bytearray(64 + 56 * 4)
     tags = [(1, 3)] * needed
     table = b"".join([bytes(24)] + symbols)
@@ -51,6 +76,11 @@ def build(kind, hashes, symbols, needed, slots, size):
     tags.append((10, len(strings)))
     place(6, table)
     tags.append((11, 24))
+    if indexes:
+        place(0x6FFFFFF0, struct.pack("<%dH" % (len(indexes) + 1), 0, *indexes))
+    for tag, content in versions[0]:
+        place(tag, content)
+    tags += versions[1]
     relocs_at = align(data, 8)
     if slots:
         tags += [(23, relocs_at), (2, 24 * len(slots)), (20, 7), (3, 0)]
@@ -80,28 +110,34 @@ def main(ldso):
     libraries = {"GNU": (0x6FFFFEF5, gnu_table(1, SYMBOLS)), "System V": (4, sysv_table(SYMBOLS))}
     other = struct.pack("<IBBHQQ", 3, 0x22, 0, 0, 0, 0)
     each = list(range(1, SLOTS + 1))
+    weak = struct.pack("<IBBHQQ", 1, 0x22, 0, 0, 0, 0)
+    last_two = [4] * (SYMBOLS - 2) + [2, 3]
     programs = {
-        "one symbol": ([undefined], [1] * SLOTS),
-        "as many symbols": ([undefined] * SLOTS, each),
-        "as many symbols, the last first": ([undefined] * SLOTS, each[::-1]),
-        "as many symbols with others between": ([undefined, other] * SLOTS, [2 * k - 1 for k in each]),
+        "one symbol": ([undefined], [1] * SLOTS, None),
+        "as many symbols": ([undefined] * SLOTS, each, None),
+        "as many symbols, the last first": ([undefined] * SLOTS, each[::-1], None),
+        "as many symbols with others between": ([undefined, other] * SLOTS, [2 * k - 1 for k in each], None),
+        "as many symbols, global and weak in turns": ([undefined, weak] * (SLOTS // 2), each, None),
+        "as many symbols, of two versions in turns": ([undefined] * SLOTS, each, [2, 3] * (SLOTS // 2)),
     }
     with tempfile.TemporaryDirectory() as folder:
         os.chdir(folder)
         os.mkdir("lib")
         for table, hashes in libraries.items():
-            with open("lib/liba.so", "wb") as f:
-                f.write(build(3, hashes, [defined] * SYMBOLS, 0, [], SIZE))
-            for label, (symbols, slots) in programs.items():
+            for label, (symbols, slots, indexes) in programs.items():
+                with open("lib/liba.so", "wb") as f:
+                    of_library = (last_two, defined_versions()) if indexes else ()
+                    f.write(build(3, hashes, [defined] * SYMBOLS, 0, [], SIZE, *of_library))
                 count = len(symbols)
                 empty = (4, struct.pack("<3I", 1, count + 1, 0) + bytes(4 * (count + 1)))
                 with open("prog", "wb") as f:
-                    f.write(build(3, empty, symbols, 1, slots, 0))
+                    of_program = (indexes, needed_versions()) if indexes else ()
+                    f.write(build(3, empty, symbols, 1, slots, 0, *of_program))
                 begin = time.time()
                 done = subprocess.run([ldso, "bind", "--lib", "lib", "prog"], capture_output=True)
                 took = time.time() - begin
                 lines = done.stdout.split(b"\n")
-                print(f"{table} table, {SLOTS} slots of {label}: {took:.2f} s, {lines[-2].decode()}, {sum(b'-> 2.1' == l[-6:] for l in lines)} to 2.1")
+                print(f"{table} table, {SLOTS} slots of {label}: {took:.2f} s, {lines[-2].decode()}, {sum(b'-> 2.' in l for l in lines)} to the library")
 
 
 if __name__ == "__main__":

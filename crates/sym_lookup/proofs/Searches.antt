@@ -6,14 +6,17 @@ use Rattle.std.proofs.lemmas.Bool.{cases_Bool, cases_lt, eqb-true}
 use Rattle.std.proofs.lemmas.Grind.{get_or-set_at}
 use Rattle.std.proofs.lemmas.List.{get_or_past}
 use Rattle.std.proofs.lemmas.Option.{slice_get-get_or}
-use Rattle.std.specs.Prelude.{◌==◌, ◌&&◌, not, filter, find, map, IfSome, Option, Some, None}
+use Rattle.std.specs.Prelude.{◌==◌, ◌&&◌, if◌then◌else◌, nat_le, not, filter, find, map, IfSome, Option, Some, None}
 use Rattle.std.specs.Option.{option_copied}
 use Rattle.ld_base.specs.declared.linking.Loaded.{Loaded}
 use Rattle.ld_base.specs.declared.linking.Choice.{Choice}
 use Rattle.ld_base.specs.declared.linking.Choice.TheVariants.{Def}
 use Rattle.ld_base.specs.declared.linking.Want.{Want}
+use Rattle.ld_base.specs.declared.linking.Want.TheVariants as want
+use Rattle.ld_base.specs.declared.object.Object.{Object}
 use Rattle.ld_base.specs.declared.object.Symbol.{Symbol}
 use Rattle.ld_base.specs.Pick.{pick_of}
+use Rattle.ld_base.specs.Version.{version_name}
 use Rattle.sym_hash.specs.Reached.{IsTableOf}
 use Rattle.scope_rule.specs.Choose.{choice_of, choose_for, first_with, is_own, pick_at, searched, want_of}
 use Rattle.scope_rule.specs.Loading.{object_of, with_serial}
@@ -148,42 +151,32 @@ one_kept s o copy kept index choice within are right k c is =
 
 -- ---- alike symbols
 
--- a symbol with another value and size
-abbrev with_size : Symbol → ℕ → ℕ → Symbol
-with_size y value size = record y { value = value; size = size }
+-- what is found for a symbol that another object may define
+abbrev found_for : Seen → Loaded → Bool → Symbol → Option (ℕ × ℕ)
+found_for s o copy y = first_with (pick_at s y.name (want_of o.object y)) (searched s o copy)
 
-abbrev symbol_of : List ℕ → ℕ → ℕ → ℕ → ℕ → ℕ → ℕ → Symbol
-symbol_of name info other shndx value size version = record { name = name; info = info; other = other; shndx = shndx; value = value; size = size; version = version }
-
-same_fields : (x y : Symbol) → IsAlike x y → x ≡ with_size y x.value x.size
-same_fields x y alike =
-    ap (λ (n : List ℕ). symbol_of n x.info x.other x.shndx x.value x.size x.version) alike.name
-    ∙ ap (λ (n : ℕ). symbol_of y.name n x.other x.shndx x.value x.size x.version) alike.info
-    ∙ ap (λ (n : ℕ). symbol_of y.name y.info n x.shndx x.value x.size x.version) alike.visibility
-    ∙ ap (λ (n : ℕ). symbol_of y.name y.info y.other n x.value x.size x.version) alike.shndx
-    ∙ ap (λ (n : ℕ). symbol_of y.name y.info y.other y.shndx x.value x.size n) alike.version
-
-choice_same : (y : Symbol) (value size : ℕ) (found : Option (ℕ × ℕ)) → choice_of (with_size y value size) found ≡ choice_of y found
-choice_same y value size None = refl
-choice_same y value size (Some m) = refl
-
--- neither decides, where another object may define the symbol
-sizes_apart : (s : Seen) (o : Loaded) (i j : ℕ) (y : Symbol) (value size : ℕ) (copy : Bool) → (not copy && is_own y) ≡ false → choose_for s o i (with_size y value size) copy ≡ choose_for s o j y copy
+by_search : (s : Seen) (o : Loaded) (i : ℕ) (y : Symbol) (copy : Bool) → (not copy && is_own y) ≡ false → choose_for s o i y copy ≡ choice_of y (found_for s o copy y)
 unfolding choose_for
-sizes_apart s o i j y value size copy other = rw other (choice_same y value size (first_with (pick_at s y.name (want_of o.object y)) (searched s o copy)))
+by_search s o i y copy other = rw other refl
 
--- so what is kept for another symbol is the choice
-pub alike_choice : (s : Seen) (o : Loaded) (copy : Bool) (kept : List (Option Choice)) (other index : ℕ) (symbol before : Symbol) (r : Option Choice) → index < length o.object.symbols → other < length o.object.symbols
-    → symbol ≡ get_or o.object.symbols index symbol → before ≡ get_or o.object.symbols other before → IsAlike before symbol → (not copy && is_own symbol) ≡ false → r ≡ get_or kept other None → AreKept s o copy kept
-    → IfSome r (λ c. c ≡ choice_of_symbol s o index copy)
-alike_choice s o copy kept other index symbol before None within there-is here there alike apart is are = tt
-alike_choice s o copy kept other index symbol before (Some c) within there-is here there alike apart is are =
+-- a version is asked by its index alone
+abbrev wanted_of : Object → ℕ → Want
+wanted_of o v = if nat_le 2 v then elim (version_name o v) [ Some w ↦ want.Version w | None ↦ want.Plain ] else want.Plain
+
+alike_found : (s : Seen) (o : Loaded) (copy : Bool) (x y : Symbol) → IsAlike x y → found_for s o copy x ≡ found_for s o copy y
+alike_found s o copy x y alike =
+    ap (λ (n : List ℕ). first_with (pick_at s n (want_of o.object x)) (searched s o copy)) alike.name
+    ∙ ap (λ (v : ℕ). first_with (pick_at s y.name (wanted_of o.object v)) (searched s o copy)) alike.version
+
+-- so what is kept for another symbol tells the choice
+pub alike_choice : (s : Seen) (o : Loaded) (copy : Bool) (kept : List (Option Choice)) (other index : ℕ) (symbol before : Symbol) (c r : Choice) → index < length o.object.symbols → other < length o.object.symbols
+    → symbol ≡ get_or o.object.symbols index symbol → before ≡ get_or o.object.symbols other before → IsAlike before symbol → (not copy && is_own symbol) ≡ false → (not copy && is_own before) ≡ false
+    → Some c ≡ get_or kept other None → ((x : Symbol) (found : Option (ℕ × ℕ)) → c ≡ choice_of x found → r ≡ choice_of symbol found) → AreKept s o copy kept → r ≡ choice_of_symbol s o index copy
+alike_choice s o copy kept other index symbol before c r within there-is here there alike apart apart-before is gives are =
     let first : choose_for s o other before copy ≡ choice_of_symbol s o other copy = symbol_choice s o other before copy (choose_for s o other before copy) there-is there refl in
-    are other c (sym is)
-    ∙ sym first
-    ∙ ap (λ (z : Symbol). choose_for s o other z copy) (same_fields before symbol alike)
-    ∙ sizes_apart s o other index symbol before.value before.size copy apart
-    ∙ symbol_choice s o index symbol copy (choose_for s o index symbol copy) within here refl
+    let was : c ≡ choice_of before (found_for s o copy before) = are other c (sym is) ∙ sym first ∙ by_search s o other before copy apart-before in
+    let now : r ≡ choose_for s o index symbol copy = gives before (found_for s o copy before) was ∙ ap (choice_of symbol) (alike_found s o copy before symbol alike) ∙ sym (by_search s o index symbol copy apart) in
+    now ∙ symbol_choice s o index symbol copy (choose_for s o index symbol copy) within here refl
 
 -- ---- the names of versions
 

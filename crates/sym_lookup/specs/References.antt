@@ -3,6 +3,7 @@ use Rattle.std.specs.Prelude.{◌≡◌, ℕ, Bool, List, Option, Some, None, sl
 use Rattle.ld_base.specs.declared.linking.Choice.{Choice}
 use Rattle.ld_base.specs.declared.linking.Loaded.{Loaded}
 use Rattle.ld_base.specs.declared.object.Symbol.{Symbol}
+use Rattle.ld_base.specs.Symbol.{version_index}
 use Rattle.scope_rule.specs.Seen.{Seen}
 use Rattle.sym_lookup.specs.Looking.{choice_of_symbol}
 
@@ -15,10 +16,7 @@ pub record Referring : Type 0 where
 abbrev pub AreKept : Seen → Loaded → Bool → List (Option Choice) → Type 0
 AreKept s o copy kept = (index : ℕ) (choice : Choice) → slice_index_or kept index None ≡ Some choice → choice ≡ choice_of_symbol s o index copy
 
--- two symbols of an object refer to the same, if another object may define them
+-- two symbols of an object ask for the same name and version
 pub record IsAlike (one other : Symbol) : Type 0 where
-  pub info : one.info ≡ other.info
-  pub version : one.version ≡ other.version
-  pub shndx : one.shndx ≡ other.shndx
-  pub visibility : one.other ≡ other.other
+  pub version : version_index one ≡ version_index other
   pub name : one.name ≡ other.name

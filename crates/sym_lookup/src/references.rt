@@ -1,7 +1,9 @@
 //! The references of one object, each symbol looked up once.
 
-ghost use Rattle.std.specs.Prelude.{◌≡◌, ◌<◌, ℕ, Bool, false, length, None, slice_index_or, IfOk, IfSome, IsTrue, OnOk};
+ghost use Rattle.std.specs.Prelude.{◌≡◌, ◌<◌, ℕ, Bool, false, length, None, Option, slice_index_or, IfOk, IfSome, IsTrue, OnOk};
 ghost use Rattle.ld_base.specs.declared.linking.Loaded.{Loaded as loaded};
+ghost use Rattle.ld_base.specs.declared.object.Symbol.{Symbol as Sym};
+ghost use Rattle.scope_rule.specs.Choose.{choice_of};
 ghost use Rattle.scope_rule.specs.Seen.{Seen};
 ghost use Rattle.sym_lookup.specs.Looking.{choice_of_symbol};
 ghost use Rattle.sym_lookup.specs.References.{AreKept, IsAlike};
@@ -9,7 +11,7 @@ ghost use Rattle.sym_lookup.specs.References.{AreKept, IsAlike};
 use crate::looking::{owner_names, searched, stays_own};
 use crate::searching::Searching;
 use ld_base::{Choice, Loaded, Name, Object, Reloc, Serial, Symbol};
-use scope_rule::{View, has_no_symbol, is_copy};
+use scope_rule::{View, choice_of, has_no_symbol, is_copy};
 use search_lists::SearchLists;
 use std::alloc::{AllocError, Global};
 use std::marker::Model;
@@ -32,7 +34,8 @@ pub struct References<'a> {
 struct Kept {
     /// By the index of a symbol, what it was found to be bound to.
     choices: Vec<Option<Choice>>,
-    /// By the hash of a name, modulo their number, the symbol with such a name that was searched last.
+    /// By the hash of a name and a version, modulo their number, the symbol that was searched last of those
+    /// that have this place.
     latest: Vec<u32>,
 }
 
@@ -65,13 +68,14 @@ fn copied_symbols(object: &Object) -> u32 {
     if has_copies { object.symbols.len() } else { 0 }
 }
 
-/// The symbol that was searched last of those whose names have this name's hash; it is this symbol
-/// from now on.
-fn replace_latest(latest: &mut [u32], name: &[u8], index: u32) -> u32 {
+/// The symbol that was searched last of those at the place that this name and version have by their hash; it
+/// is this symbol from now on.
+fn replace_latest(latest: &mut [u32], symbol: &Symbol, index: u32) -> u32 {
     if latest.is_empty() {
         return index;
     }
-    let place = gnu_hash(name) as usize % latest.len();
+    let hash = gnu_hash(symbol.name.as_bytes()) as usize;
+    let place = (hash + usize::from(symbol.version_index())) % latest.len();
     let before = latest[place];
     latest[place] = index;
     before
@@ -90,26 +94,34 @@ fn kept_at(kept: &[Option<Choice>], index: u32) -> Option<Choice>
 
 /// Keeps the choice for a symbol, if there is room for it.
 fn keep(kept: &mut [Option<Choice>], index: u32, choice: &Choice)
-    ensures { (s : Seen) (o : loaded) (copy : Bool) → AreKept s o copy kept.old → choice.now ≡ choice_of_symbol s o index copy → AreKept s o copy kept.new }
+    ensures { (s : Seen) (o : loaded) (copy : Bool) → AreKept s o copy kept.old → choice.now ≡ choice_of_symbol s o index copy
+        → AreKept s o copy kept.new }
 {
     if (index as usize) < kept.len() {
         kept[index as usize] = Some(*choice);
     }
 }
 
-/// Whether two symbols of an object refer to the same.
+/// Whether two symbols of an object ask for the same name and version.
 fn is_alike(one: &Symbol, other: &Symbol) -> bool
     ensures { IsTrue result → IsAlike one.now other.now }
 {
-    one.info == other.info
-        && one.version == other.version
-        && one.shndx == other.shndx
-        && one.other == other.other
-        && one.name.is(other.name.as_bytes())
+    one.version_index() == other.version_index() && one.name.is(other.name.as_bytes())
 }
 
-/// What is kept for another symbol, if that refers to the same and another object may define it: so a
-/// name that many symbols have is searched once.
+/// What a symbol is bound to, where another one that asks for the same has this choice by a search: the
+/// same definition; where there is none, what the symbol's own binding says.
+fn choice_as(symbol: &Symbol, choice: &Choice) -> Choice
+    ensures { (s : Sym) (found : Option (ℕ × ℕ)) → choice.now ≡ choice_of s found → result ≡ choice_of symbol.now found }
+{
+    match choice {
+        Choice::Def(serial, index) => Choice::Def(*serial, *index),
+        Choice::WeakZero | Choice::Missing => choice_of(symbol, None),
+    }
+}
+
+/// What follows from what is kept for another symbol, if that asks for the same and other objects may define
+/// both: so a name that many symbols have is searched once.
 fn kept_alike(
     owner: &Loaded,
     kept: &[Option<Choice>],
@@ -126,10 +138,13 @@ fn kept_alike(
     }
     let symbol = &symbols[index as usize];
     let before = &symbols[other as usize];
-    if stays_own(symbol, copy) || !is_alike(before, symbol) {
+    if stays_own(symbol, copy) || stays_own(before, copy) || !is_alike(before, symbol) {
         return None;
     }
-    kept_at(kept, other)
+    match kept_at(kept, other) {
+        Some(choice) => Some(choice_as(symbol, &choice)),
+        None => None,
+    }
 }
 
 /// The choice for a symbol of which none is kept.
@@ -140,10 +155,8 @@ fn search_once(searching: &Searching, kept: &mut Kept, index: u32, copy: bool) -
     ensures same { kept.new.choices ≡ kept.old.choices }
 {
     let owner = searching.owner;
-    let name = owner.object.symbols.as_slice()[index as usize]
-        .name
-        .as_bytes();
-    let other = replace_latest(kept.latest.as_mut_slice(), name, index);
+    let symbol = &owner.object.symbols.as_slice()[index as usize];
+    let other = replace_latest(kept.latest.as_mut_slice(), symbol, index);
     match kept_alike(owner, kept.choices.as_slice(), other, index, copy) {
         Some(choice) => choice,
         None => searching.search(index, copy),
