@@ -1,6 +1,6 @@
 #!/usr/bin/env python3
-"""Assembles the objects of six programs, asks readelf of each whether it has something to complain of, and times a
-source of 1 MiB.
+"""Assembles the objects of six programs, asks readelf of each whether it has something to complain of, times sources
+of 1 MiB, and looks where the indexes of versions end.
 
     bench/assembled.py [LDSO]
 
@@ -156,12 +156,24 @@ def largest():
         k += 1
 
 
-def assemble(ldso, folder, name, source):
-    """The object's path, and the seconds that it took."""
+def one_copy():
+    """A source of almost 1 MiB: a copy with a version of 480,000 letters, again and again."""
+    head = f".kind prog\n.need c@{'v' * 480_000} f\n.bss\n"
+    line = ".copy c,8\n"
+    return head + line * (((1 << 20) - len(head)) // len(line))
+
+
+def run_asm(ldso, folder, source):
+    """How the command ended, and the seconds that it took."""
     (folder / "source").write_text(source)
     begin = time.perf_counter()
     run = subprocess.run([ldso, "asm", "source"], cwd=folder, stdout=subprocess.PIPE)
-    seconds = time.perf_counter() - begin
+    return run, time.perf_counter() - begin
+
+
+def assemble(ldso, folder, name, source):
+    """The object's path, and the seconds that it took."""
+    run, seconds = run_asm(ldso, folder, source)
     if run.returncode != 0:
         sys.exit(f"{name}: {run.stdout.decode(errors='replace')}")
     (folder / name).write_bytes(run.stdout)
@@ -173,6 +185,15 @@ def complaints(path):
     run = subprocess.run(["riscv64-linux-gnu-readelf", "-aW", path], capture_output=True, text=True)
     lines = (run.stdout + run.stderr).splitlines()
     return [line for line in lines if "arning" in line or "rror:" in line or run.returncode != 0]
+
+
+def misplaced(ldso, folder, line):
+    """What is wrong where lines name versions, each its own: indexes go from 2 to 32,767, so the line with that number is refused."""
+    most = 32766
+    fits, _ = run_asm(ldso, folder, "".join(line.format(k) for k in range(most)))
+    past, _ = run_asm(ldso, folder, "".join(line.format(k) for k in range(most + 1)))
+    wanted = f"end 119 asm {most + 1} out-of-range\n".encode()
+    return [] if fits.returncode == 0 and (past.returncode, past.stdout) == (119, wanted) else [f"{line!r} ends elsewhere"]
 
 
 def main():
@@ -190,7 +211,14 @@ def main():
         source = largest()
         path, seconds = assemble(ldso, folder, "largest", source)
         print(f"a source of {len(source)} bytes: {seconds:.2f} s, {path.stat().st_size} bytes")
-    sys.exit(1 if bad or seconds > 2 else 0)
+        run, again = run_asm(ldso, folder, one_copy())
+        bad += run.stdout != b"end 119 asm 5 double-label\n"
+        print(f"a copy with a long version, again and again: {again:.2f} s, {run.stdout.decode().strip()}")
+        for line in (".version v{}\n", ".need f{0}@v{0} a\n"):
+            said = misplaced(ldso, folder, line)
+            bad += bool(said)
+            print("indexes of versions: " + ("; ".join(said) or f"{line.split()[0]} ends at 32,767"))
+    sys.exit(1 if bad or max(seconds, again) > 2 else 0)
 
 
 if __name__ == "__main__":

@@ -1,3 +1,4 @@
+pub mod Again
 pub mod Keys
 pub mod Needed
 pub mod Noted

@@ -3,7 +3,7 @@ use Rattle.std.proofs.Common.{◌≡◌, ℕ, ◌≤◌, Bool, true, false, List
 use Rattle.std.proofs.Common.{length, take, Some, None, cond, refl, sym, ap, ◌∙◌, arith}
 use Rattle.std.specs.Prelude.{Option, position, nat_lt}
 use Rattle.std.specs.Global.{Vec}
-use Rattle.std.specs.List.{position_or_len}
+use Rattle.std.specs.List.{list_any, position_or_len}
 use Rattle.std.specs.Option.{option_or, is_some}
 use Rattle.std.specs.Map.{lookup}
 use Rattle.std.specs.Str.{bytes_eq}
@@ -11,9 +11,7 @@ use Rattle.std.proofs.lemmas.Bool.Decides.{nat_tests}
 use Rattle.std.proofs.lemmas.Cmp.{nat_list_eq_equiv}
 use Rattle.std.proofs.lemmas.Slice.Eq.{bytes_eq-Decides}
 use Rattle.indexmap.specs.IndexMap.{insert_entry}
-use Rattle.asm_statement.specs.declared.line.Line.{Line}
-use Rattle.asm_layout.specs.Labels.{defines, is_label}
-use Rattle.asm_uses.specs.Numbers.{number_of}
+use Rattle.asm_uses.specs.Numbers.{is_below, number_of}
 use Rattle.asm_uses.specs.Spelled.{spelled_pairs}
 use Rattle.asm_layout.proofs.Firsts.{any_before}
 use Rattle.asm_uses.proofs.Keys.{same_key}
@@ -77,18 +75,14 @@ number_kept numbers bytes other n has =
     some_stays None has = absurd (cc has)
     some_stays (Some k) has = refl
 
--- whether a name is defined before a line: the first line that defines it is one of those before
-abbrev pub is_below : Option ℕ → ℕ → Bool
-is_below None k = false
-is_below (Some line) k = nat_lt line k
-
-pub label_before : (lines : List Line) (name : List ℕ) (k : ℕ) (found : Option ℕ) → k ≤ length lines → found ≡ position (defines name) lines
-    → is_below found k ≡ is_label (take k lines) name
-label_before lines name k found within is =
-    let first = position_or_len (defines name) lines in
-    let P : Bool → Type 0 = λ there. nat_lt first (length lines) ≡ there → is_below (cond there (Some first) None) k ≡ nat_lt first k in
-    let cases : (there : Bool) → P there = λ there. elim there as P [ true ↦ λ e. refl | false ↦ λ e. beyond first k (length lines) within e ] in
-    ap (λ (o : Option ℕ). is_below o k) is ∙ cases (nat_lt first (length lines)) refl ∙ sym (any_before (defines name) lines k within)
+-- whether one of the first elements passes: the first of all that does is one of them
+pub found_before : {X : Type 0} (p : X → Bool) (xs : List X) (k : ℕ) (found : Option ℕ) → k ≤ length xs → found ≡ position p xs
+    → is_below found k ≡ list_any p (take k xs)
+found_before {X} p xs k found within is =
+    let first = position_or_len p xs in
+    let P : Bool → Type 0 = λ there. nat_lt first (length xs) ≡ there → is_below (cond there (Some first) None) k ≡ nat_lt first k in
+    let cases : (there : Bool) → P there = λ there. elim there as P [ true ↦ λ e. refl | false ↦ λ e. beyond first k (length xs) within e ] in
+    ap (λ (o : Option ℕ). is_below o k) is ∙ cases (nat_lt first (length xs)) refl ∙ sym (any_before p xs k within)
   where
     beyond : (a b n : ℕ) → b ≤ n → nat_lt a n ≡ false → false ≡ nat_lt a b
     beyond a b n within e = grind (arith, nat_tests)

@@ -1,11 +1,9 @@
 -- The symbols that other objects may find, as they are kept and as they are lent.
-use Rattle.std.specs.Prelude.{◌≡◌, ℕ, List, option_map}
-use Rattle.std.specs.List.{list_any}
-use Rattle.std.specs.Str.{bytes_eq}
+use Rattle.std.specs.Prelude.{◌≡◌, ℕ, Bool, false, List, Option, Some, None, option_map}
 use Rattle.asm_statement.specs.declared.line.Line.{Line}
 use Rattle.asm_layout.specs.declared.uses.Exported.{Exported}
 use Rattle.asm_layout.specs.Uses.{is_copy_label, needs}
-use Rattle.asm_uses.specs.Lines.{AreLabelsOf}
+use Rattle.asm_uses.specs.Lines.{AreCopiesOf, AreLabelsOf}
 use Rattle.asm_uses.specs.declared.export_set.Key.{Key}
 use Rattle.asm_uses.specs.declared.export_set.Lent.{Lent}
 use Rattle.asm_uses.specs.declared.export_set.Source.{Source}
@@ -28,8 +26,13 @@ export_as lent = record {
   is_default = lent.is_default;
 }
 
+-- the name, where there is one, is that of a copy that one of these lines makes
+abbrev pub is_copied : List Line → Option (List ℕ) → Bool
+is_copied before None = false
+is_copied before (Some name) = is_copy_label before name
+
 -- what is asked of a line that exports is what the lines say
 pub record IsSourceOf (lines : List Line) (source : Source) : Type 0 where
   pub labels : AreLabelsOf lines source.labels.now
-  pub copies : (name : List ℕ) → list_any (bytes_eq name) source.copies.now ≡ is_copy_label lines name
+  pub copies : AreCopiesOf lines source.copies.now
   pub needs : source.needs.now ≡ needs lines

@@ -1,16 +1,17 @@
 //! The symbols that other objects may find.
 
-ghost use Rattle.std.specs.Prelude.{◌≡◌, [], ℕ, List, IfOk, OnOk, option_map};
-ghost use Rattle.std.specs.List.{list_any};
-ghost use Rattle.std.specs.Str.{bytes_eq};
+ghost use Rattle.std.specs.Prelude.{◌≡◌, ◌≤◌, [], ℕ, List, Some, None, IfOk, OnOk, length, take, option_map, if◌then◌else◌};
+ghost use Rattle.std.specs.Option.{option_or};
 ghost use Rattle.asm_statement.specs.declared.line.Line.{Line};
-ghost use Rattle.asm_layout.specs.Uses.{copies, exported_by, exported_by_directive, exports, if_labelled, is_copy_label, needs as needs_of, label_symbol, own_symbol, own_version, same_export};
-ghost use Rattle.asm_uses.specs.Exports.{export_as, exported_as, IsSourceOf};
-ghost use Rattle.asm_uses.specs.Lines.{AreLabelsOf};
+ghost use Rattle.asm_layout.specs.Labels.{copy_name};
+ghost use Rattle.asm_layout.specs.Uses.{copies as makes_copy, exported_by, exported_by_directive, exports, if_labelled, is_copy_label, needs as needs_of, label_symbol, own_symbol, own_version, same_export};
+ghost use Rattle.asm_uses.specs.Exports.{export_as, exported_as, is_copied, IsSourceOf};
+ghost use Rattle.asm_uses.specs.Lines.{AreCopiesOf, AreLabelsOf};
+ghost use Rattle.asm_uses.specs.Numbers.{number_of};
 ghost use Rattle.asm_layout.specs.Once.{added, added_if};
 
+use crate::first_numbers::FirstNumbers;
 use crate::labels::{Labels, copy_name};
-use crate::name_set::NameSet;
 use crate::need_map::NeedMap;
 use asm_layout::Exported;
 use asm_statement::{Directive, Export, Line, Statement, Statements};
@@ -55,11 +56,12 @@ impl Model for ExportSet {
     ghost view = { λ s. map exported_as s.keys.keys };
 }
 
-/// What is asked of a line that exports: the labels, and the versions that copies carry.
+/// What is asked of a line that exports: the labels, the first line of each copy, and the versions that
+/// copies carry.
 #[derive(Clone, Copy)]
 struct Source<'a> {
     labels: &'a Labels,
-    copies: &'a NameSet,
+    copies: &'a FirstNumbers,
     needs: &'a NeedMap,
 }
 
@@ -115,11 +117,29 @@ impl ExportSet {
 }
 
 impl<'a> Source<'a> {
+    /// Whether a line makes a copy of this name.
+    fn is_copy(self, name: &[u8]) -> bool
+        ensures { (lines : List Line) → IsSourceOf lines self.entry → result ≡ is_copy_label lines name.now }
+    {
+        self.copies.contains(name)
+    }
+
+    /// Whether a line before this one, counted from 0, makes the copy that this one makes.
+    fn is_again(self, line: &Line, number: usize) -> bool
+        ensures { (lines : List Line) → IsSourceOf lines self.entry → number ≤ length lines
+            → result ≡ is_copied (take number lines) (copy_name line.now.statement) }
+    {
+        match copy_name(line) {
+            Some(name) => self.copies.is_below(name, number),
+            None => false,
+        }
+    }
+
     /// The version that a label carries: that of a copy is the one that references need.
     fn own_version(self, name: &[u8]) -> Option<&'a [u8]>
         ensures { (lines : List Line) → IsSourceOf lines self.entry → option_map (λ v. v.now) result ≡ own_version lines name.now }
     {
-        if self.copies.contains(name) {
+        if self.is_copy(name) {
             self.needs.version(name)
         } else {
             None
@@ -145,7 +165,7 @@ impl<'a> Source<'a> {
         ensures { (lines : List Line) → IsSourceOf lines self.entry
             → option_map export_as result ≡ label_symbol lines name.entry.now }
     {
-        if self.copies.contains(name) {
+        if self.is_copy(name) {
             None
         } else {
             Some(self.own_symbol(name))
@@ -211,6 +231,20 @@ impl<'a> Source<'a> {
             None => None,
         }
     }
+
+    /// The symbol that a line with this number, counted from 0, adds: none where an earlier line makes
+    /// the same copy, whose version may be long.
+    fn new_symbol(self, line: &'a Line, number: usize) -> Option<Lent<'a>>
+        ensures { (lines : List Line) → IsSourceOf lines self.entry → number ≤ length lines
+            → option_map export_as result ≡ if is_copied (take number lines) (copy_name line.entry.now.statement) then None
+            else if_labelled lines (exported_by lines line.entry.now.statement) }
+    {
+        if self.is_again(line, number) {
+            None
+        } else {
+            self.symbol(line)
+        }
+    }
 }
 
 /// The symbols that other objects may find, in the order of the lines that first export them.
@@ -227,21 +261,37 @@ fn symbols_of(
     ensures { IfOk result (λ set. set ≡ exports statements.now) }
 {
     let mut set = ExportSet::new(alloc);
-    for line in statements.as_slice() {
-        set.add_found(alloc, source.symbol(line))?;
+    for (number, line) in statements.as_slice().iter().enumerate() {
+        set.add_found(alloc, source.new_symbol(line, number))?;
     }
     Ok(set)
 }
 
-/// The names of the copies that lines make.
-fn copies_of(alloc: Global, statements: &Statements) -> Result<NameSet, AllocError>
-    ensures { IfOk result (λ names. (name : List ℕ) → list_any (bytes_eq name) names ≡ is_copy_label statements.now name) }
+/// Notes the copy that a line makes.
+fn note_copy(
+    alloc: Global,
+    copies: &mut FirstNumbers,
+    line: &Line,
+    number: usize,
+) -> Result<(), AllocError>
+    ensures { OnOk result ((other : List ℕ) →
+        number_of copies.new other ≡ option_or (number_of copies.old other) (if makes_copy other line.now.statement then Some number else None)) }
 {
-    let mut names = NameSet::new(alloc);
-    for line in statements.as_slice() {
-        names.add_found(alloc, copy_name(line))?;
+    match copy_name(line) {
+        Some(name) => copies.note(alloc, name, number),
+        None => Ok(()),
     }
-    Ok(names)
+}
+
+/// The names of the copies that lines make, each with the first line that makes it.
+fn copies_of(alloc: Global, statements: &Statements) -> Result<FirstNumbers, AllocError>
+    ensures { IfOk result (AreCopiesOf statements.now) }
+{
+    let mut copies = FirstNumbers::new(alloc);
+    for (number, line) in statements.as_slice().iter().enumerate() {
+        note_copy(alloc, &mut copies, line, number)?;
+    }
+    Ok(copies)
 }
 
 fn name_of(alloc: Global, version: &Option<Vec<u8>>) -> Result<Option<Name>, AllocError>

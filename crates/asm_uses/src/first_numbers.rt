@@ -1,9 +1,9 @@
 //! Names with numbers.
 
 ghost use Rattle.std.specs.Prelude.{◌≡◌, [], ℕ, List, Some, None, OnOk, if◌then◌else◌};
-ghost use Rattle.std.specs.Option.{option_or};
+ghost use Rattle.std.specs.Option.{is_some, option_or};
 ghost use Rattle.std.specs.Str.{bytes_eq};
-ghost use Rattle.asm_uses.specs.Numbers.{number_of};
+ghost use Rattle.asm_uses.specs.Numbers.{is_below, number_of};
 
 use indexmap::IndexMap;
 use std::alloc::{AllocError, Global};
@@ -39,6 +39,26 @@ impl FirstNumbers {
         ensures { result ≡ number_of self.now name.now }
     {
         self.numbers.get(name).copied()
+    }
+
+    /// Whether a name has a number.
+    pub fn contains(&self, name: &[u8]) -> bool
+        ensures { result ≡ is_some (number_of self.now name.now) }
+    {
+        match self.get(name) {
+            Some(_) => true,
+            None => false,
+        }
+    }
+
+    /// Whether a name has a number below this one.
+    pub fn is_below(&self, name: &[u8], number: usize) -> bool
+        ensures { result ≡ is_below (number_of self.now name.now) number }
+    {
+        match self.get(name) {
+            Some(first) => first < number,
+            None => false,
+        }
     }
 
     /// Gives a name its number, unless it has one.

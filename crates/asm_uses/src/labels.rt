@@ -59,20 +59,14 @@ impl Labels {
     pub fn contains(&self, name: &[u8]) -> bool
         ensures { (lines : List Line) → AreLabelsOf lines self.now → result ≡ is_label lines name.now }
     {
-        match self.line(name) {
-            Some(_) => true,
-            None => false,
-        }
+        self.lines.contains(name)
     }
 
     /// Whether a line before this one, counted from 0, defines the name.
     fn is_before(&self, name: &[u8], number: usize) -> bool
         ensures { (lines : List Line) → AreLabelsOf lines self.now → number ≤ length lines → result ≡ is_label (take number lines) name.now }
     {
-        match self.line(name) {
-            Some(line) => line < number,
-            None => false,
-        }
+        self.lines.is_below(name, number)
     }
 
     /// Whether a line with this number, counted from 0, defines a name that an earlier line defines,

@@ -1,10 +1,14 @@
-use Rattle.std.proofs.Common.{Some, None, ◌∙◌}
-use Rattle.asm_uses.proofs.Preempt.{label_found}
+use Rattle.std.proofs.Common.{ℕ, List, ◌∙◌, ap}
+use Rattle.std.specs.Option.{is_some}
+use Rattle.asm_layout.specs.Labels.{defines}
+use Rattle.asm_layout.proofs.Firsts.{any_found}
+use Rattle.asm_uses.specs.Numbers.{number_of}
 use Rattle.asm_uses.proofs.labels.Labels.contains.Goals as goal
 
-pub returns-in-Some : goal.returns-in-Some
-returns-in-Some c = λ lines are.
-    label_found lines c.args.name.now (Some c.in-Some.field-0) (c.in-Some.ensures ∙ are c.args.name.now)
-
-pub returns-in-None : goal.returns-in-None
-returns-in-None c = λ lines are. label_found lines c.args.name.now None (c.in-None.ensures ∙ are c.args.name.now)
+pub returns : goal.returns
+returns c = λ lines are.
+    let name = c.args.name.now in
+    c.contains.ensures
+    ∙ ap (λ (numbers : List (List ℕ × ℕ)). is_some (number_of numbers name)) c.self.view_is
+    ∙ ap is_some (are name)
+    ∙ any_found (defines name) lines

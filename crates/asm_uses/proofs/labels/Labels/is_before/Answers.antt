@@ -1,10 +1,12 @@
-use Rattle.std.proofs.Common.{Some, None, ◌∙◌}
-use Rattle.asm_uses.proofs.Noted.{label_before}
+use Rattle.std.proofs.Common.{ℕ, List, ◌∙◌, ap}
+use Rattle.asm_layout.specs.Labels.{defines}
+use Rattle.asm_uses.specs.Numbers.{is_below, number_of}
+use Rattle.asm_uses.proofs.Noted.{found_before}
 use Rattle.asm_uses.proofs.labels.Labels.is_before.Goals as goal
 
-pub returns-in-Some : goal.returns-in-Some
-returns-in-Some c = λ lines are within.
-    label_before lines c.args.name.now c.args.number (Some c.in-Some.line) within (c.in-Some.ensures ∙ are c.args.name.now)
-
-pub returns-in-None : goal.returns-in-None
-returns-in-None c = λ lines are within. label_before lines c.args.name.now c.args.number None within (c.in-None.ensures ∙ are c.args.name.now)
+pub returns : goal.returns
+returns c = λ lines are within.
+    let name = c.args.name.now in
+    c.is_below.ensures
+    ∙ ap (λ (numbers : List (List ℕ × ℕ)). is_below (number_of numbers name) c.args.number) c.self.view_is
+    ∙ found_before (defines name) lines c.args.number _ within (are name)
