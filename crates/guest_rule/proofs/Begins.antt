@@ -130,6 +130,7 @@ begun = record {
     here = refl;
     each = one;
     gone = λ i j e. let q : None ≡ Some j = e in absurd (cc);
+    once = λ i n j l e there same. let q : None ≡ Some j = e in absurd (cc);
     there = λ m low. absurd (omega (arith, low));
     unborn = λ m high. refl;
     few = omega arith;

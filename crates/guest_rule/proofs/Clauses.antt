@@ -154,6 +154,12 @@ module _ (word : ℕ → ℕ) (kept : KeeperView) (harts : ℕ → HartView) (p 
         let q = pending m g few e in
         let at : p.slots.winner (place_of g.entry.slot) ≡ Some (m, g) = won (word (state_at m)) four q.fate in
         let here = p.slots.each_slot (place_of g.entry.slot) q.of_slot.0 in ((here.by m g at).2, (here.bound m g at).0);
+    won_alone = λ m n g x few low e four c o.
+        let w : p.slots.winner (place_of g.entry.slot) ≡ Some (m, g) = won (word (state_at m)) four (pending m g few e).fate in
+        let at : place_of x.entry.slot ≡ place_of g.entry.slot = at_place x (place_of g.entry.slot) o.1 in
+        let own = did n (record { grant = x; found = x.lazy }) (low, (p.slots.each_hart n low).won x c, subst (λ i. IsOf (kept_at kept) i x) (sym at) o) in
+        let z : Some (n, x) ≡ Some (m, g) = sym (own.won refl) ∙ (ap p.slots.winner at ∙ w) in
+        let y : (n, x) ≡ (m, g) = cc in (ap (λ (t : ℕ × Grant). t.0) y, ap (λ (t : ℕ × Grant). t.1) y);
     says_lost = λ m g few e five.
         let q = pending m g few e in
         let l = lost (word (state_at m)) five q.fate in (l.2, l.1, left m g (place_of g.entry.slot) q.of_slot.0 (p.slots.winner (place_of g.entry.slot)) refl l.0);
@@ -182,6 +188,7 @@ clauses words views g = record {
           let x : Fits g.kept g.keeper g.seat_of g.hart a (Hart h) = g.seats.each a (Hart h) at in
           no_keeper views g.kept g.keeper a h g.seats.here at (sym x.1 ∙ (ap g.seat_of same ∙ gone.1)),
     );
+    joined_once = g.seats.once;
     one_keeper = λ a b k l at there. let x : Fits g.kept g.keeper g.seat_of g.hart a (Keeper k) = g.seats.each a (Keeper k) at in
         let y : Fits g.kept g.keeper g.seat_of g.hart b (Keeper l) = g.seats.each b (Keeper l) there in (x.1 ∙ sym y.1, x.0);
     one_number = λ a b h i at there same. let x : Fits g.kept g.keeper g.seat_of g.hart a (Hart h) = g.seats.each a (Hart h) at in

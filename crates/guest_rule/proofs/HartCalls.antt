@@ -73,6 +73,26 @@ calling_if s r l a false st = absurd (last_apart r.issued l.taken (entry_of s r)
     last_apart xs ys e same is = longer ys e (sym same ∙ is)
 calling_if s r l a true st = refl
 
+-- the state found last is no part of where calls stand
+found_still : (r : Row) (l : Lane) (n : ℕ) → Still r l → Still r (record l { found = n })
+found_still r l n s = record { all = s.all; no_offer = s.no_offer; no_try = s.no_try }
+
+found_stage : (s : ℕ) (r : Row) (l : Lane) (n : ℕ) (b : Bool) → Stage s r l b → Stage s r (record l { found = n }) b
+found_stage s r l n false st = (st.0, found_still r l n st.1)
+found_stage s r l n true st = ⊎_elim
+    (λ (w : Awaits s × Still r l). inl (w.0, found_still r l n w.1))
+    (λ (a : Answered s r l). inr (record { mark = a.mark; last = a.last; new = a.new; offer = a.offer; tried = a.tried }))
+    st
+
+found_row : (word : ℕ → ℕ) (count m : ℕ) (r : Row) (l : Lane) (entries : List Entry) (n : ℕ) → RowIs word count m r l entries → RowIs word count m r (record l { found = n }) entries
+found_row word count m r l entries n is = record {
+  fields = is.fields;
+  stage = found_stage (word (state_at m)) r l n l.calling is.stage;
+  known = λ c since. let k = is.known c since in record { awaits = k.awaits; seen = k.seen; counted = k.counted };
+  seen = is.seen;
+  trail = is.trail;
+}
+
 -- the entry that was read in full is the row's
 pub read_entry : (word : ℕ) (r : Row) (l : Lane) (o : Offer) (e : Entry) → Answered word r l → l.offer ≡ Some o → IsRead o e → (word ≡ e.mark) × (e ≡ entry_of word r)
 read_entry s r l o e a has is =
@@ -202,10 +222,10 @@ module _ (word : ℕ → ℕ) (count : ℕ) (row : ℕ → Row) (lane : ℕ → 
       st)
 
   arrives : (b : Bool) → nat_lt state 8 ≡ b → h.lane.calling ≡ true → (o : Option Offer) → h.lane.offer ≡ o → RowIs word count h.number (row h.number) (arrived_if state b h.lane) (entries_of h.trail)
-  arrives false e calls o has = old
-  arrives true e calls None has = subst (λ (p : Option Offer). RowIs word count h.number (row h.number) (record h.lane { offer = Some (offer_found state p) }) (entries_of h.trail)) (sym has)
-      (offers (Some (fresh_offer state)) (arrive_stage (ltb-true state 8 e) has h.lane.calling calls old.stage))
-  arrives true e calls (Some o) has = subst (λ (p : Option Offer). RowIs word count h.number (row h.number) (record h.lane { offer = p }) (entries_of h.trail)) (has ∙ ap (λ (p : Option Offer). Some (offer_found state p)) (sym has)) old
+  arrives false e calls o has = found_row word count h.number (row h.number) h.lane (entries_of h.trail) state old
+  arrives true e calls None has = found_row word count h.number (row h.number) (record h.lane { offer = Some (offer_found state h.lane.offer) }) (entries_of h.trail) state (subst (λ (p : Option Offer). RowIs word count h.number (row h.number) (record h.lane { offer = Some (offer_found state p) }) (entries_of h.trail)) (sym has)
+      (offers (Some (fresh_offer state)) (arrive_stage (ltb-true state 8 e) has h.lane.calling calls old.stage)))
+  arrives true e calls (Some o) has = found_row word count h.number (row h.number) (record h.lane { offer = Some (offer_found state h.lane.offer) }) (entries_of h.trail) state (subst (λ (p : Option Offer). RowIs word count h.number (row h.number) (record h.lane { offer = p }) (entries_of h.trail)) (has ∙ ap (λ (p : Option Offer). Some (offer_found state p)) (sym has)) old)
 
   arrive : h.lane.calling ≡ true → After (put word (state_at h.number) state) (hart_after (kinds.Arrive h.number) h state)
   arrive calls = unmoved word (state_at h.number) (λ f. After f (hart_after (kinds.Arrive h.number) h state))

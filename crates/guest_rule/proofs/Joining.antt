@@ -121,6 +121,7 @@ add_note views kept keeper seat_of hart events slip begins issued s = record {
   here = at_longer views (Note events slip ∷ []) keeper (Keeper kept) s.here;
   each = λ seat v e. ⊎_elim (λ (was : get_elem? views seat ≡ some v). s.each seat v was) (λ (t : (Note events slip ≡ v) × (seat ≡ length views)). subst (Fits kept keeper seat_of hart seat) t.0 (begins, issued)) (at_end views (Note events slip) v seat e);
   gone = s.gone;
+  once = s.once;
   there = λ m low. ⊎_elim (λ (e : get_elem? views (seat_of m) ≡ some (Hart (hart m))). inl (at_longer views (Note events slip ∷ []) (seat_of m) (Hart (hart m)) e)) (λ j. inr j) (s.there m low);
   unborn = s.unborn;
   few = s.few;
@@ -147,6 +148,7 @@ add_hart views k keeper seat_of hart room s = record {
       (omega arith, put_here seat_of k.harts (length views) ∙ sym (t.1 ∙ length-set views keeper (Keeper k')), s.unborn k.harts (omega arith)))
       (at_end (set views keeper (Keeper k')) (Hart (first_hart k.harts)) v seat e);
   gone = λ i j e. let g = s.gone i j e in let low : j.number < k.harts = g.0 in (omega arith, put_else seat_of k.harts (length views) j.number (λ (q : j.number ≡ k.harts). omega arith) ∙ g.1, g.2);
+  once = s.once;
   there = λ m low. dite (ℕ_discrete m k.harts)
       (λ (new : m ≡ k.harts). inl (ap (get_elem? (set views keeper (Keeper k') ++ Hart (first_hart k.harts) ∷ [])) (ap seat_of' new ∙ (put_here seat_of k.harts (length views) ∙ sym (length-set views keeper (Keeper k'))))
       ∙ (at_last (set views keeper (Keeper k')) (Hart (first_hart k.harts)) ∙ ap (λ x. some (Hart x)) (sym (ap hart new ∙ s.unborn k.harts (omega arith))))))
@@ -180,6 +182,7 @@ spend views kept keeper seat_of hart other apart no_hart s = record {
   here = set_else views other keeper Spent apart ∙ s.here;
   each = λ seat v e. ⊎_elim (λ (t : (seat ≡ other) × (Spent ≡ v)). subst (Fits kept keeper seat_of hart seat) t.1 tt) (λ (t : (seat ≢ other) × (get_elem? views seat ≡ some v)). s.each seat v t.1) (at_set views other seat Spent v e);
   gone = s.gone;
+  once = s.once;
   there = λ m low. ⊎_elim (λ (e : get_elem? views (seat_of m) ≡ some (Hart (hart m))). inl (set_else views other (seat_of m) Spent (λ q. no_hart (hart m) (ap (get_elem? views) (sym q) ∙ e)) ∙ e)) (λ j. inr j) (s.there m low);
   unborn = s.unborn;
   few = s.few;
@@ -198,6 +201,7 @@ keeps_note views k keeper seat_of hart t told s = record {
       (λ (q : (seat ≢ keeper) × (get_elem? views seat ≡ some v)). others seat v q.0 (s.each seat v q.1))
       (at_set views keeper seat (Keeper (record k { note = Some t })) v e);
   gone = s.gone;
+  once = s.once;
   there = λ m low. ⊎_elim (λ (e : get_elem? views (seat_of m) ≡ some (Hart (hart m))). inl (set_else views keeper (seat_of m) (Keeper (record k { note = Some t })) (no_keeper views k keeper (seat_of m) (hart m) s.here e) ∙ e)) (λ j. inr j) (s.there m low);
   unborn = s.unborn;
   few = s.few;
@@ -213,11 +217,11 @@ keeps_note views k keeper seat_of hart t told s = record {
     others seat (Note events (OfKeeper rows)) other f = f
     others seat Spent other f = tt
 
-get_push : {A : Type 0} (l : List A) (a b : A) (i : ℕ) → slice_get (l ++ a ∷ []) i ≡ Some b → (slice_get l i ≡ Some b) ⊎ (a ≡ b)
-get_push [] a b zero e = inr (let q : Some a ≡ Some b = e in cc)
+get_push : {A : Type 0} (l : List A) (a b : A) (i : ℕ) → slice_get (l ++ a ∷ []) i ≡ Some b → (slice_get l i ≡ Some b) ⊎ ((a ≡ b) × (i ≡ length l))
+get_push [] a b zero e = let q : Some a ≡ Some b = e in let same : a ≡ b = cc in inr (same, refl)
 get_push [] a b (suc i) e = let q : None ≡ Some b = e in absurd (cc)
 get_push (x ∷ xs) a b zero e = inl e
-get_push (x ∷ xs) a b (suc i) e = get_push xs a b i e
+get_push (x ∷ xs) a b (suc i) e = ⊎_elim (λ (was : slice_get xs i ≡ Some b). inl was) (λ (new : (a ≡ b) × (i ≡ length xs)). inr (new.0, ap suc new.1)) (get_push xs a b i e)
 
 -- a hart's seat is joined into the keeper's
 take_hart : (views : List View) (k : KeeperView) (keeper : ℕ) (seat_of : ℕ → ℕ) (hart : ℕ → HartView) (other : ℕ) (h : HartView) → ((m : ℕ) → (hart m).number ≡ m) → other ≢ keeper → get_elem? views other ≡ some (Hart h) → Seats views k keeper seat_of hart
@@ -239,8 +243,18 @@ take_hart views k keeper seat_of hart other h numbered apart there s = record {
             (λ (n : j.number ≢ h.number). put_else seat_of h.number keeper j.number n ∙ g.1),
         g.2,
       ))
-      (λ (new : h ≡ j). subst (λ (x : HartView). (x.number < k.harts) × (put seat_of h.number keeper x.number ≡ keeper) × (hart x.number ≡ x)) new (fits.0, put_here seat_of h.number keeper, fits.2))
+      (λ (new : (h ≡ j) × (i ≡ length k.joined)). subst (λ (x : HartView). (x.number < k.harts) × (put seat_of h.number keeper x.number ≡ keeper) × (hart x.number ≡ x)) new.0 (fits.0, put_here seat_of h.number keeper, fits.2))
       (get_push k.joined h j i e);
+  once = λ i n j l a b same. ⊎_elim
+      (λ (was : slice_get k.joined i ≡ Some j). ⊎_elim
+      (λ (too : slice_get k.joined n ≡ Some l). s.once i n j l was too same)
+      (λ (new : (h ≡ l) × (n ≡ length k.joined)). absurd (fresh i j was (same ∙ ap (λ (x : HartView). x.number) (sym new.0))))
+      (get_push k.joined h l n b))
+      (λ (new : (h ≡ j) × (i ≡ length k.joined)). ⊎_elim
+      (λ (was : slice_get k.joined n ≡ Some l). absurd (fresh n l was (sym same ∙ ap (λ (x : HartView). x.number) (sym new.0))))
+      (λ (too : (h ≡ l) × (n ≡ length k.joined)). new.1 ∙ sym too.1)
+      (get_push k.joined h l n b))
+      (get_push k.joined h j i a);
   there = λ m low. dite (ℕ_discrete m h.number)
       (λ (me : m ≡ h.number). inr (length k.joined, get_last k.joined h ∙ ap Some (sym (ap hart me ∙ fits.2))))
       (λ (apart' : m ≢ h.number). ⊎_elim
@@ -267,6 +281,10 @@ take_hart views k keeper seat_of hart other h numbered apart there s = record {
 
     fits : Fits k keeper seat_of hart other (Hart h)
     fits = s.each other (Hart h) there
+
+    -- a hart that was joined before is another one
+    fresh : (i : ℕ) (j : HartView) → slice_get k.joined i ≡ Some j → j.number ≢ h.number
+    fresh i j was same = apart (sym fits.1 ∙ (ap seat_of (sym same) ∙ (s.gone i j was).1))
 
     others : (seat : ℕ) (v : View) → seat ≢ keeper → seat ≢ other → Fits k keeper seat_of hart seat v → Fits (record k { joined = k.joined ++ h ∷ [] }) keeper (put seat_of h.number keeper) hart seat v
     others seat (Keeper x) no_keeper no_other f = absurd (no_keeper f.1)

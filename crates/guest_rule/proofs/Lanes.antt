@@ -15,7 +15,7 @@ use Rattle.guest_rule.specs.declared.view.Lane.{Lane}
 use Rattle.guest_rule.specs.declared.view.Offer.{Offer}
 use Rattle.guest_rule.specs.Layout.{IsDoubleword, lock_bit, role_in}
 use Rattle.guest_rule.specs.Views.{first_lane, fresh_offer, offer_found, IsGranted, IsLane, IsRead, with_offered}
-use Rattle.guest_rule.specs.HartSteps.{FindTells, HartLearns, HartLeaves, HartReady, ask_is_fresh, heeded, permits, arrived_if, finished, found_in, hart_after}
+use Rattle.guest_rule.specs.HartSteps.{FindTells, StateAgain, HartLearns, HartLeaves, HartReady, ask_is_fresh, heeded, permits, arrived_if, finished, found_in, hart_after}
 use Rattle.guest_rule.specs.KeeperSteps.{KeeperLeaves, awaited_if, heeding, keeper_after}
 use Rattle.guest_rule.proofs.Rows.{mark_with}
 use Rattle.guest_rule.proofs.HartCalls.{glanced_lane, locked_lane}
@@ -23,6 +23,7 @@ use Rattle.guest_rule.proofs.HartCalls.{glanced_lane, locked_lane}
 pub first_lane_is : IsLane first_lane
 first_lane_is = record {
   idle = λ _. refl;
+  found = λ o e. let q : None ≡ Some o = e in absurd (cc);
   tried = λ x e. let q : None ≡ Some x = e in absurd (cc);
   slot = λ o s e mark found. let q : None ≡ Some o = e in absurd (cc);
 }
@@ -33,19 +34,27 @@ module _ (l : Lane) (is : IsLane l) where
   calls o has true e = e
   calls o has false e = let q : Some o ≡ None = sym has ∙ is.idle e in absurd (cc)
 
-  arrives : (state : ℕ) (b : Bool) → l.calling ≡ true → (o : Option Offer) → l.offer ≡ o → IsLane (arrived_if state b l)
-  arrives state false calling o has = is
-  arrives state true calling None has = subst (λ (p : Option Offer). IsLane (record l { offer = Some (offer_found state p) })) (sym has) (record {
+  -- a state that is found again is the one that was found
+  again : (state : ℕ) → StateAgain l.offer state → IsLane (record l { found = state })
+  again state tells = record { idle = is.idle; found = λ o has. sym (tells o has).0; tried = is.tried; slot = is.slot }
+
+  arrives : (state : ℕ) (b : Bool) → l.calling ≡ true → StateAgain l.offer state → (o : Option Offer) → l.offer ≡ o → IsLane (arrived_if state b l)
+  arrives state false calling tells o has = again state tells
+  arrives state true calling tells None has = subst (λ (p : Option Offer). IsLane (record l { found = state; offer = Some (offer_found state p) })) (sym has) (record {
     idle = λ e. let q : true ≡ false = sym calling ∙ e in absurd (cc);
+    found = λ o e. let q : Some (fresh_offer state) ≡ Some o = e in let same : fresh_offer state ≡ o = cc in ap (λ (o : Offer). o.mark) (sym same);
     tried = λ x e. let t = is.tried x e in let q : None ≡ Some t.0 = sym has ∙ t.1 in absurd (cc);
     slot = λ o s e mark found. let q : Some (fresh_offer state) ≡ Some o = e in let same : fresh_offer state ≡ o = cc in
         let z : None ≡ Some s = ap (λ (o : Offer). o.slot) same ∙ found in absurd (cc);
   })
-  arrives state true calling (Some o) has = subst (λ (p : Option Offer). IsLane (record l { offer = p })) (has ∙ ap (λ (p : Option Offer). Some (offer_found state p)) (sym has)) is
+  arrives state true calling tells (Some o) has =
+      subst (λ (p : Option Offer). IsLane (record l { found = state; offer = p })) (has ∙ ap (λ (p : Option Offer). Some (offer_found state p)) (sym has)) (again state tells)
 
   finds : (i : RowWord) (n : ℕ) (o : Offer) → l.offer ≡ Some o → FindTells i (Some o) n → IsLane (record l { offer = Some (with_offered i n o) })
   finds i n o has tells = record {
     idle = λ e. let q : Some o ≡ None = sym has ∙ is.idle e in absurd (cc);
+    found = λ p e. let q : Some (with_offered i n o) ≡ Some p = e in let same : with_offered i n o ≡ p = cc in
+        ap (λ (o : Offer). o.mark) (sym same) ∙ (mark_with i n o ∙ is.found o has);
     tried = λ x e. let t = is.tried x e in (with_offered i n o, refl, mark_with i n o ∙ (marks o t.0 (sym has ∙ t.1) ∙ t.2));
     slot = λ p s e mark found. let q : Some (with_offered i n o) ≡ Some p = e in let same : with_offered i n o ≡ p = cc in
         at i tells s (sym (mark_with i n o) ∙ (ap (λ (o : Offer). o.mark) same ∙ mark)) (ap (λ (o : Offer). o.slot) same ∙ found);
@@ -68,6 +77,7 @@ module _ (l : Lane) (is : IsLane l) where
   tries : (g : Grant) (n : ℕ) → (o : Offer) → l.offer ≡ Some o → IsGranted o g → g.entry.mark ≡ 3 → IsLane (record l { tried = Some (record { grant = g; found = n }) })
   tries g n o has granted mark = record {
     idle = is.idle;
+    found = is.found;
     tried = λ x e. (o, has, granted.0.mark_is ∙ mark);
     slot = is.slot;
   }
@@ -75,6 +85,7 @@ module _ (l : Lane) (is : IsLane l) where
   accepts : (e : Entry) (o : Offer) → l.offer ≡ Some o → IsRead o e → e.mark ≢ 3 → IsLane (record l { calling = false; taken = l.taken ++ e ∷ []; offer = None })
   accepts e o has read other = record {
     idle = λ _. refl;
+    found = λ p t. let q : None ≡ Some p = t in absurd (cc);
     tried = λ x t. let was = is.tried x t in let q : Some o ≡ Some was.0 = sym has ∙ was.1 in let same : o ≡ was.0 = cc in
         absurd (other (sym read.mark_is ∙ (ap (λ (o : Offer). o.mark) same ∙ was.2)));
     slot = λ p s t mark found. let q : None ≡ Some p = t in absurd (cc);
@@ -84,6 +95,7 @@ module _ (l : Lane) (is : IsLane l) where
   finishes None e = is
   finishes (Some x) e = record {
     idle = λ _. refl;
+    found = λ p t. let q : None ≡ Some p = t in absurd (cc);
     tried = λ y t. let q : None ≡ Some y = t in absurd (cc);
     slot = λ p s t mark found. let q : None ≡ Some p = t in absurd (cc);
   }
@@ -95,13 +107,14 @@ lane_stays (kinds.Hold ask) h n ready learns is = is
 lane_stays (kinds.Lock ask control) h n ready learns is = subst IsLane (sym (locked_lane ask control n (eqb n control) (heeded h))) is
 lane_stays (kinds.Store ask x) h n ready learns is = is
 lane_stays (kinds.Unlock d) h n ready learns is = is
-lane_stays kinds.Tally h n ready learns is = record { idle = is.idle; tried = is.tried; slot = is.slot }
+lane_stays kinds.Tally h n ready learns is = record { idle = is.idle; found = is.found; tried = is.tried; slot = is.slot }
 lane_stays (kinds.Begin m) h n ready learns is = record {
   idle = λ e. let q : true ≡ false = e in absurd (cc);
+  found = is.found;
   tried = is.tried;
   slot = is.slot;
 }
-lane_stays (kinds.Arrive m) h n ready learns is = arrives h.lane is n (nat_lt n 8) ready.1 h.lane.offer refl
+lane_stays (kinds.Arrive m) h n ready learns is = arrives h.lane is n (nat_lt n 8) ready.1 learns.1 h.lane.offer refl
 lane_stays (kinds.Find m i) h n ready learns is = finds_any h.lane is i n h.lane.offer refl learns.0
 lane_stays (kinds.Exchange g) h n ready learns is = tries h.lane is g n ready.2.0 ready.2.1 ready.2.2 ready.1
 lane_stays (kinds.Accept m e) h n ready learns is = accepts h.lane is e ready.2.0 ready.2.1 ready.2.2 ready.1

@@ -55,6 +55,7 @@ module _ (views : List View) (kept : KeeperView) (keeper : ℕ) (seat_of : ℕ �
         (λ (t : (seat ≢ id) × (get_elem? views seat ≡ some v)). others seat v t.0 (s.each seat v t.1))
         (at_set views id seat (Hart h') v e);
     gone = λ i j e. let g = s.gone i j e in (g.0, g.1, put_else hart h.number h' j.number (λ q. apart (sym g.1 ∙ (ap seat_of q ∙ fits.1))) ∙ g.2);
+    once = s.once;
     there = λ m low. dite (ℕ_discrete m h.number)
         (λ (me : m ≡ h.number). inl (ap (get_elem? (set views id (Hart h'))) (ap seat_of me ∙ fits.1) ∙ (set_found views id (Hart h') (Hart h) at ∙ ap (λ x. some (Hart x)) (sym (ap (put hart h.number h') me ∙ put_here hart h.number h')))))
         (λ (other : m ≢ h.number). ⊎_elim
@@ -115,6 +116,7 @@ keeper_seats views k k' keeper seat_of hart s g = record {
       (λ (t : (seat ≢ keeper) × (get_elem? views seat ≡ some v)). others seat v t.0 (s.each seat v t.1))
       (at_set views keeper seat (Keeper k') v e);
   gone = λ i j e. let o = s.gone i j (subst (λ l. slice_get l i ≡ Some j) g.joined e) in (subst (λ n. j.number < n) (sym g.harts) o.0, o.1, o.2);
+  once = λ i n j l a b. s.once i n j l (subst (λ xs. slice_get xs i ≡ Some j) g.joined a) (subst (λ xs. slice_get xs n ≡ Some l) g.joined b);
   there = λ m low. ⊎_elim
       (λ (e : get_elem? views (seat_of m) ≡ some (Hart (hart m))). inl (set_else views keeper (seat_of m) (Keeper k') (no_keeper views k keeper (seat_of m) (hart m) s.here e) ∙ e))
       (λ (j : (i : ℕ) × (slice_get k.joined i ≡ Some (hart m))). inr (j.0, subst (λ l. slice_get l j.0 ≡ Some (hart m)) (sym g.joined) j.1))

@@ -33,6 +33,7 @@ pub record LockClauses (word : ℕ → ℕ) (views : List View) (kept : KeeperVi
   pub one_keeper : (a b : ℕ) (k l : KeeperView) → get_elem? views a ≡ some (Keeper k) → get_elem? views b ≡ some (Keeper l) → (a ≡ b) × (k ≡ kept)
   pub one_number : (a b : ℕ) (h i : HartView) → get_elem? views a ≡ some (Hart h) → get_elem? views b ≡ some (Hart i) → h.number ≡ i.number → a ≡ b
   pub joined : (i : ℕ) (j : HartView) → slice_get kept.joined i ≡ Some j → (j.number < kept.harts) × (hart j.number ≡ j) × ((a : ℕ) (h : HartView) → get_elem? views a ≡ some (Hart h) → h.number ≢ j.number)
+  pub joined_once : (i n : ℕ) (j l : HartView) → slice_get kept.joined i ≡ Some j → slice_get kept.joined n ≡ Some l → j.number ≡ l.number → i ≡ n
   pub last_view : (a : ℕ) (h : HartView) → get_elem? views a ≡ some (Hart h) → (h.number < kept.harts) × (hart h.number ≡ h)
   -- a hart's last view is that of its seat, or is kept since its seat was joined
   pub stands : (m : ℕ) → m < kept.harts → ((a : ℕ) × (get_elem? views a ≡ some (Hart (hart m)))) ⊎ ((i : ℕ) × (slice_get kept.joined i ≡ Some (hart m)))
@@ -106,6 +107,9 @@ pub record RowClauses (word : ℕ → ℕ) (kept : KeeperView) (hart : ℕ → H
   -- a row that says won: its exchange found the lazy word, and the slot has its value
   pub says_won : (m : ℕ) (g : Grant) → m < harts_at_most → (row_of kept m).pending ≡ Some g → word (state_at m) % 8 ≡ 4 → let d = place_of g.entry.slot in
       HasWon (exchanges_of (hart m).trail) g × (word (value_at d) ≡ g.entry.value)
+  -- the keeper knows no other grant of that slot as won
+  pub won_alone : (m n : ℕ) (g p : Grant) → m < harts_at_most → n < harts_at_most → (row_of kept m).pending ≡ Some g → word (state_at m) % 8 ≡ 4
+      → Contains (row_of kept n).settled (record { grant = p; fate = Won }) → IsOf (kept_at kept) (place_of g.entry.slot) p → (n ≡ m) × (p ≡ g)
   -- a row that says lost: its exchange found another word, and the slot has its image's or the value of another grant that stands
   pub says_lost : (m : ℕ) (g : Grant) → m < harts_at_most → (row_of kept m).pending ≡ Some g → word (state_at m) % 8 ≡ 5 → let d = place_of g.entry.slot in
       HasLost (exchanges_of (hart m).trail) g × (word (value_at d) ≢ g.lazy)

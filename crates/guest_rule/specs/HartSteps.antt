@@ -182,8 +182,8 @@ locked_if ask control found true h = with_access (record { locked = Some (store_
 locked_if ask control found false h = given_up (store_refused ask (Again (Locked control found))) h
 
 abbrev pub arrived_if : ℕ → Bool → Lane → Lane
-arrived_if state true l = record l { offer = Some (offer_found state l.offer) }
-arrived_if state false l = l
+arrived_if state true l = record l { found = state; offer = Some (offer_found state l.offer) }
+arrived_if state false l = record l { found = state }
 
 abbrev pub found_in : RowWord → ℕ → Option Offer → Option Offer
 found_in i n None = None

@@ -143,7 +143,7 @@ FoundOpen k mark r = mark ≡ 6 → r.slot ≡ 3 → (m : ℕ) (g : Grant) → (
 -- what the keeper must know before the step
 abbrev pub KeeperReady : KeeperKind → KeeperView → Type 0
 KeeperReady (kinds.Look d) k = (d < doublewords) × (k.access.locked ≡ None) × (k.access.last ≡ None)
-KeeperReady (kinds.Load d) k = (d < doublewords) × (k.access.locked ≡ None)
+KeeperReady (kinds.Load d) k = (d < doublewords) × (k.access.locked ≡ None) × (k.access.last ≡ None)
 KeeperReady (kinds.Lock d control) k =
     (d < doublewords) × (k.access.locked ≡ None) × (k.access.last ≡ Some (d, control)) × (lock_bit control ≡ 0) × ((kept_at k d).role ≡ SlotRole → Unposted k d)
 KeeperReady (kinds.Store d x) k = (k.access.locked ≡ Some d) × ((kept_at k d).role ≢ SlotRole)

@@ -40,6 +40,8 @@ pub record Seats (views : List View) (kept : KeeperView) (keeper : ℕ) (seat_of
   pub here : get_elem? views keeper ≡ some (Keeper kept)
   pub each : (seat : ℕ) (v : View) → get_elem? views seat ≡ some v → Fits kept keeper seat_of hart seat v
   pub gone : (i : ℕ) (j : HartView) → slice_get kept.joined i ≡ Some j → Gone kept keeper seat_of hart j
+  -- a hart's seat is joined once
+  pub once : (i n : ℕ) (j l : HartView) → slice_get kept.joined i ≡ Some j → slice_get kept.joined n ≡ Some l → j.number ≡ l.number → i ≡ n
   pub there : (m : ℕ) → m < kept.harts → Stands views kept seat_of hart m
   pub unborn : (m : ℕ) → kept.harts ≤ m → hart m ≡ first_hart m
   pub few : kept.harts ≤ harts_at_most

@@ -131,10 +131,11 @@ abbrev pub offer_found : ℕ → Option Offer → Offer
 offer_found mark None = fresh_offer mark
 offer_found mark (Some o) = o
 
--- what a hart's own view says of its calls: outside a call it has no offer, an exchange is that of a grant in its row, and such a
--- grant's slot is a doubleword of guest memory
+-- what a hart's own view says of its calls: outside a call it has no offer, an offer's mark is the state found last, an exchange is
+-- that of a grant in its row, and such a grant's slot is a doubleword of guest memory
 pub record IsLane (lane : Lane) : Type 0 where
   pub idle : lane.calling ≡ false → lane.offer ≡ None
+  pub found : (o : Offer) → lane.offer ≡ Some o → o.mark ≡ lane.found
   pub tried : (x : Exchange) → lane.tried ≡ Some x → (o : Offer) × (lane.offer ≡ Some o) × (o.mark ≡ 3)
   pub slot : (o : Offer) (s : ℕ) → lane.offer ≡ Some o → o.mark ≡ 3 → o.slot ≡ Some s → IsDoubleword s
 
@@ -177,7 +178,7 @@ abbrev pub nothing_locked : Access
 nothing_locked = record { locked = None; held = None; last = None }
 
 abbrev pub first_lane : Lane
-first_lane = record { calling = false; seen = 0; taken = []; offer = None; tried = None }
+first_lane = record { calling = false; seen = 0; found = 0; taken = []; offer = None; tried = None }
 
 abbrev pub first_hart : ℕ → HartView
 first_hart number = record { number = number; heard = []; access = nothing_locked; lane = first_lane; trail = []; note = None }

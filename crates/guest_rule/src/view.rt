@@ -50,6 +50,8 @@ pub struct Lane {
     pub calling: bool,
     /// The count that it loaded last.
     pub seen: u64,
+    /// The state of its row that it found last.
+    pub found: u64,
     /// The entries that it took, in order.
     pub taken: LinkedList<Entry>,
     pub offer: Option<Offer>,

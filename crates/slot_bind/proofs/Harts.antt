@@ -37,12 +37,14 @@ row_calls h lane has = go h.lane.calling refl
     go false e = let q : Some (offer_of h) ≡ None = sym has ∙ lane.idle e in absurd (cc)
 
 -- a state that is found again
-again_if : (l : Lane) (o : Offer) (n : ℕ) (b : Bool) → l.offer ≡ Some o → arrived_if n b l ≡ l
-again_if l o n true has i = record l { offer = (ap (λ (p : Option Offer). Some (offer_found n p)) has ∙ sym has) i }
-again_if l o n false has i = l
+again_if : (l : Lane) (o : Offer) (n : ℕ) (b : Bool) → l.offer ≡ Some o → n ≡ l.found → arrived_if n b l ≡ l
+again_if l o n true has same i = record l { found = same i; offer = (ap (λ (p : Option Offer). Some (offer_found n p)) has ∙ sym has) i }
+again_if l o n false has same i = record l { found = same i }
 
-pub arrives_again : (h h' : HartView) (m n : ℕ) → IsIdle h → HasRow h → h' ≡ hart_after (kinds.Arrive m) h n → h' ≡ h
-arrives_again h h' m n idle has e = e ∙ (ap (λ l. with_lane_of l (heeded h)) (again_if h.lane (offer_of h) n (nat_lt n 8) has) ∙ idle_heeded h idle)
+pub arrives_again : (h h' : HartView) (m n : ℕ) → IsIdle h → IsLane h.lane → HasRow h → HartLearns (kinds.Arrive m) h n → h' ≡ hart_after (kinds.Arrive m) h n → h' ≡ h
+arrives_again h h' m n idle lane has learns e =
+    let same : n ≡ h.lane.found = (learns.1 (offer_of h) has).0 ∙ lane.found (offer_of h) has in
+    e ∙ (ap (λ l. with_lane_of l (heeded h)) (again_if h.lane (offer_of h) n (nat_lt n 8) has same) ∙ idle_heeded h idle)
 
 pub mark_low : (h : HartView) (m n : ℕ) → HasRow h → HartLearns (kinds.Arrive m) h n → (n < 256) × (n ≡ (offer_of h).mark)
 mark_low h m n has learns = let again = learns.1 (offer_of h) has in (small again.1, again.0)

@@ -17,7 +17,7 @@ use Rattle.guest_rule.specs.Views.{fresh_offer, row_of}
 abbrev pub begun : ℕ → HartView → HartView
 begun seen h = with_lane_of (record h.lane { calling = true; seen = seen }) h
 
--- it found its row in this state
+-- it found its row in this state. The view keeps the state, so that no call answers what it hasn't found
 abbrev pub found_state : ℕ → HartView → HartView
 found_state state h = with_lane_of (arrived_if state (nat_lt state 8) h.lane) h
 

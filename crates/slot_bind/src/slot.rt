@@ -7,7 +7,7 @@ ghost use Rattle.guest_rule.specs.KeeperSteps.{TellsAsk, TellsSlot};
 ghost use Rattle.guest_rule.specs.Views.{IsLong, kept_at, row_of};
 ghost use Rattle.guest_rule.specs.Allowed.{IsSlot};
 ghost use Rattle.guest_rule.specs.Layout.{IsDoubleword, place_of};
-ghost use Rattle.word_memory.specs.Accesses.{Calls};
+ghost use Rattle.word_access.specs.Accesses.{Calls};
 ghost use Rattle.slot_bind.specs.Grants.{IsBound, IsOffered, Saw, Says, asked_view, exchange_of, exchanged};
 ghost use Rattle.slot_bind.specs.Grants.{fated_view, given_back, grant_read, leads_to, with_look};
 ghost use Rattle.slot_bind.specs.Rows.{HasRow, IsRowOf, offer_of, with_offer};

@@ -1,3 +1,1 @@
-pub mod Accesses
-pub mod Holding
 pub mod Making

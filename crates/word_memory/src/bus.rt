@@ -27,7 +27,7 @@ impl<'a, J: Naming> TableBus<'a, J> {
 impl<'a, J: Naming> Bus for TableBus<'a, J> {
     ghost use Rattle.std.specs.Prelude.{◌≡◌};
     ghost use Rattle.rv_hart.specs.declared.bus.Item.{Item};
-    ghost use Rattle.word_memory.specs.Accesses.{Calls};
+    ghost use Rattle.word_access.specs.Accesses.{Calls};
 
     ghost does = { λ before item after. (after.seat.ghost_name ≡ before.seat.ghost_name) × Calls before.seat.now item after.seat.now };
 

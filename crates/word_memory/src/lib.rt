@@ -5,15 +5,13 @@
 //! Whoever steps on it has a seat: a [`HartSeat`] for each hart, and one for the linker's keeper. Each
 //! step is one of the kinds of `guest_rule` (`word_steps`).
 //!
-//! [`TableBus`] is that memory as a hart's bus. It appends each call to the trail in the seat's view at
-//! the step that found the answer or made the store.
+//! [`TableBus`] is that memory as a hart's bus, by the accesses of `word_access`. It appends each call to
+//! the trail in the seat's view at the step that found the answer or made the store.
 //!
 //! No call of a bus takes memory or waits: a doubleword that another seat has locked, or that changed
 //! under the call, is answered by `Again`.
 #![tactic(auto)]
 
-mod access;
-mod asks;
 mod bus;
 mod keeper;
 mod making;

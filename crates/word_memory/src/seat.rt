@@ -8,16 +8,15 @@ ghost use Rattle.guest_rule.specs.HartSteps.{HartLearns, HartLeaves, HartReady, 
 ghost use Rattle.guest_rule.specs.Layout.{table_words};
 ghost use Rattle.guest_rule.specs.Operations.{load, store, add};
 ghost use Rattle.guest_rule.specs.Views.{IsLane, last_block};
-ghost use Rattle.word_memory.specs.Accesses.{Calls};
+ghost use Rattle.word_access.specs.Accesses.{Calls};
 ghost use Rattle.word_steps.specs.Views.{IsIdle};
 
-use crate::access::{change, exchange, load};
-use crate::asks::place;
-use guest_rule::{Grant, HartKind, LoadAsk, StoreAsk};
-use rv_hart::{BusFault, Item, lane};
+use guest_rule::{Grant, HartKind};
+use rv_hart::{BusFault, Item};
 use rv_isa::AmoOp;
 use std::marker::Model;
-use word_steps::{GENERATION, Hand, Memory, Naming, version_of};
+use word_access::{amo, conditional, exchange, fetch, read, reserve, write};
+use word_steps::{GENERATION, Hand, Memory, Naming};
 
 /// A hart's seat at a memory. Contracts see it as its view: what the hart knows, and its trail.
 #[derive(Drop)]
@@ -107,7 +106,7 @@ impl<J: Naming> HartSeat<J> {
         ensures view { self.new ≡ hart_after (HartKind.Exchange grant) self.old result }
         ensures seated { IsIdle self.old × IsLane self.old.lane }
     {
-        exchange(&mut self.hand, memory, grant)
+        exchange(memory, &mut self.hand, grant)
     }
 
     /// Adds to a word, for a step that locks nothing.
@@ -127,9 +126,7 @@ impl<J: Naming> HartSeat<J> {
         ensures calls { Calls self.old (Item.Fetch address result) self.new }
         ensures permits { Permits may_fetch address 4 result }
     {
-        let at = place(address, 4)?;
-        let (_, value) = load(&mut self.hand, memory, LoadAsk::Fetch(address), at)?;
-        Ok(lane(value, address, 4) as u32)
+        fetch(memory, &mut self.hand, address)
     }
 
     pub(crate) fn read(
@@ -143,9 +140,7 @@ impl<J: Naming> HartSeat<J> {
         ensures permits { Permits may_read address size result }
         ensures bound { HasValue size result }
     {
-        let at = place(address, size)?;
-        let (_, value) = load(&mut self.hand, memory, LoadAsk::Read(address, size), at)?;
-        Ok(lane(value, address, size))
+        read(memory, &mut self.hand, address, size)
     }
 
     pub(crate) fn reserve(
@@ -159,9 +154,7 @@ impl<J: Naming> HartSeat<J> {
         ensures permits { Permits may_read address size result }
         ensures bound { IfOk result (λ found. found.0 < 2 ^ (8 * size)) }
     {
-        let at = place(address, size)?;
-        let (control, value) = load(&mut self.hand, memory, LoadAsk::Reserve(address, size), at)?;
-        Ok((lane(value, address, size), version_of(control)))
+        reserve(memory, &mut self.hand, address, size)
     }
 
     pub(crate) fn write(
@@ -176,10 +169,7 @@ impl<J: Naming> HartSeat<J> {
         ensures calls { Calls self.old (Item.Write address size value result) self.new }
         ensures permits { Permits may_write address size result }
     {
-        let at = place(address, size)?;
-        let ask = StoreAsk::Write(address, size, value);
-        change(&mut self.hand, memory, ask, at)?;
-        Ok(())
+        write(memory, &mut self.hand, address, size, value)
     }
 
     pub(crate) fn amo(
@@ -196,12 +186,7 @@ impl<J: Naming> HartSeat<J> {
         ensures permits { Permits may_write address size result }
         ensures bound { HasValue size result }
     {
-        let at = place(address, size)?;
-        let ask = StoreAsk::Amo(address, size, op, value);
-        let Some(found) = change(&mut self.hand, memory, ask, at)? else {
-            unreachable!();
-        };
-        Ok(lane(found, address, size))
+        amo(memory, &mut self.hand, address, size, op, value)
     }
 
     pub(crate) fn conditional(
@@ -217,8 +202,6 @@ impl<J: Naming> HartSeat<J> {
         ensures calls { let call = Item.Conditional address size value version result in Calls self.old call self.new }
         ensures permits { Permits may_write address size result }
     {
-        let at = place(address, size)?;
-        let ask = StoreAsk::Conditional(address, size, value, version);
-        Ok(change(&mut self.hand, memory, ask, at)?.is_some())
+        conditional(memory, &mut self.hand, address, size, value, version)
     }
 }

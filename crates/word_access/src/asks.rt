@@ -4,7 +4,7 @@ ghost use Rattle.std.specs.Prelude.{◌≡◌, IfOk, IfErr};
 ghost use Rattle.rv_hart.specs.Buses.{IsSize, may_fetch, may_read, may_write};
 ghost use Rattle.guest_rule.specs.Layout.{place_of};
 ghost use Rattle.guest_rule.specs.HartSteps.{IsAsked, is_fresh, permits};
-ghost use Rattle.word_memory.specs.Accesses.{IsUnasked};
+ghost use Rattle.word_access.specs.Accesses.{IsUnasked};
 
 use guest_rule::{Ask, LoadAsk, StoreAsk};
 use ld_base::Role;

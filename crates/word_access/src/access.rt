@@ -6,7 +6,7 @@ ghost use Rattle.guest_rule.specs.Views.{nothing_locked};
 ghost use Rattle.guest_rule.specs.HartSteps.{Asked, HartReady, IsAsked, IsWhole, ask_place, entered, hart_after, heeded, made, stored, with_access};
 ghost use Rattle.guest_rule.specs.HartSteps.{load_address, load_place, load_size, store_address, store_place, store_size};
 ghost use Rattle.guest_rule.specs.declared.view.TrailItem.TheVariants.{Call};
-ghost use Rattle.word_memory.specs.Holding.{Changes, Glances, HasOperands, IsLocking, Loads, Locks};
+ghost use Rattle.word_access.specs.Holding.{Changes, Glances, HasOperands, IsLocking, Loads, Locks};
 ghost use Rattle.word_steps.specs.Views.{IsIdle};
 
 use crate::asks::{is_permitted, is_timely};
@@ -19,8 +19,8 @@ use word_steps::{
 
 // Loads the control word of a doubleword, and ends the access where it may not go on.
 fn glance<J: Naming>(
-    hand: &mut Hand<J>,
     memory: &Memory<J>,
+    hand: &mut Hand<J>,
     ask: Ask,
     at: usize,
 ) -> Result<u64, BusFault>
@@ -42,8 +42,8 @@ fn glance<J: Naming>(
 
 /// A load, which finds a control word and a value.
 pub(crate) fn load<J: Naming>(
-    hand: &mut Hand<J>,
     memory: &Memory<J>,
+    hand: &mut Hand<J>,
     ask: LoadAsk,
     at: usize,
 ) -> Result<(u64, u64), BusFault>
@@ -52,15 +52,15 @@ pub(crate) fn load<J: Naming>(
     requires at { at ≡ load_place ask }
     ensures { Loads ask hand.old result hand.new }
 {
-    let control = glance(hand, memory, Ask::Load(ask), at)?;
+    let control = glance(memory, hand, Ask::Load(ask), at)?;
     let value = hand.load_word(memory, value_word(at), HartKind::Load(ask));
     Ok((control, value))
 }
 
 // Locks the doubleword of a store; None where a conditional store comes too late.
 fn lock<J: Naming>(
-    hand: &mut Hand<J>,
     memory: &Memory<J>,
+    hand: &mut Hand<J>,
     ask: StoreAsk,
     at: usize,
 ) -> Result<Option<u64>, BusFault>
@@ -69,7 +69,7 @@ fn lock<J: Naming>(
     requires at { at ≡ store_place ask }
     ensures { Locks ask hand.old result hand.new }
 {
-    let control = glance(hand, memory, Ask::Store(ask), at)?;
+    let control = glance(memory, hand, Ask::Store(ask), at)?;
     if !is_timely(ask, control) {
         return Ok(None);
     }
@@ -82,7 +82,7 @@ fn lock<J: Naming>(
 }
 
 // Unlocks the doubleword of a store that was made.
-fn unlock<J: Naming>(hand: &mut Hand<J>, memory: &Memory<J>, at: usize)
+fn unlock<J: Naming>(memory: &Memory<J>, hand: &mut Hand<J>, at: usize)
     requires at { at < doublewords }
     requires locked { hand.old.access.locked ≡ Some at }
     requires stored { hand.old.access.last ≡ None }
@@ -92,7 +92,7 @@ fn unlock<J: Naming>(hand: &mut Hand<J>, memory: &Memory<J>, at: usize)
 }
 
 // Stores what the ask makes of the value found.
-fn modify<J: Naming>(hand: &mut Hand<J>, memory: &Memory<J>, ask: StoreAsk, at: usize) -> u64
+fn modify<J: Naming>(memory: &Memory<J>, hand: &mut Hand<J>, ask: StoreAsk, at: usize) -> u64
     requires locked { IsLocking ask hand.old }
     requires asked { IsAsked (store_address ask) (store_size ask) }
     requires operands { HasOperands ask }
@@ -102,12 +102,12 @@ fn modify<J: Naming>(hand: &mut Hand<J>, memory: &Memory<J>, ask: StoreAsk, at: 
     let found = hand.load_word(memory, value_word(at), HartKind::Hold(ask));
     let value = made(ask, found);
     hand.store_word(memory, value_word(at), value, HartKind::Store(ask, value));
-    unlock(hand, memory, at);
+    unlock(memory, hand, at);
     found
 }
 
 // Stores a whole doubleword, without a look at the value.
-fn replace<J: Naming>(hand: &mut Hand<J>, memory: &Memory<J>, ask: StoreAsk, at: usize, value: u64)
+fn replace<J: Naming>(memory: &Memory<J>, hand: &mut Hand<J>, ask: StoreAsk, at: usize, value: u64)
     requires locked { IsLocking ask hand.old }
     requires asked { IsAsked (store_address ask) (store_size ask) }
     requires whole { IsWhole ask value }
@@ -115,14 +115,14 @@ fn replace<J: Naming>(hand: &mut Hand<J>, memory: &Memory<J>, ask: StoreAsk, at:
     ensures { hand.new ≡ entered (Call (stored ask 0)) (with_access nothing_locked (heeded hand.old)) }
 {
     hand.store_word(memory, value_word(at), value, HartKind::Store(ask, value));
-    unlock(hand, memory, at);
+    unlock(memory, hand, at);
 }
 
 /// A store; None where it is a conditional one that comes too late, else the value found, or 0
 /// where the store is of a whole doubleword.
 pub(crate) fn change<J: Naming>(
-    hand: &mut Hand<J>,
     memory: &Memory<J>,
+    hand: &mut Hand<J>,
     ask: StoreAsk,
     at: usize,
 ) -> Result<Option<u64>, BusFault>
@@ -132,20 +132,20 @@ pub(crate) fn change<J: Naming>(
     requires at { at ≡ store_place ask }
     ensures { Changes ask hand.old result hand.new }
 {
-    if lock(hand, memory, ask, at)?.is_none() {
+    if lock(memory, hand, ask, at)?.is_none() {
         return Ok(None);
     }
     match whole(ask) {
         Some(value) => {
-            replace(hand, memory, ask, at, value);
+            replace(memory, hand, ask, at, value);
             Ok(Some(0))
         }
-        None => Ok(Some(modify(hand, memory, ask, at))),
+        None => Ok(Some(modify(memory, hand, ask, at))),
     }
 }
 
 /// Exchanges the word of a grant's slot, and answers the word found.
-pub(crate) fn exchange<J: Naming>(hand: &mut Hand<J>, memory: &Memory<J>, grant: Grant) -> u64
+pub fn exchange<J: Naming>(memory: &Memory<J>, hand: &mut Hand<J>, grant: Grant) -> u64
     requires slot { IsDoubleword grant.entry.slot }
     requires ready { HartReady (HartKind.Exchange grant) hand.old }
     ensures { hand.new ≡ hart_after (HartKind.Exchange grant) hand.old result }
