@@ -1,2 +1,3 @@
 pub mod Searched
 pub mod Standing
+pub mod Refusing

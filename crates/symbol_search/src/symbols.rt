@@ -1,9 +1,10 @@
 //! Symbols of definitions.
 
-ghost use Rattle.std.specs.Prelude.{◌≡◌};
+ghost use Rattle.std.specs.Prelude.{◌≡◌, false, IfNone, IfSome, IsTrue};
 ghost use Rattle.std.specs.Option.{option_copied};
 ghost use Rattle.ld_base.specs.declared.linking.Choice.TheVariants.{Def};
 ghost use Rattle.link_history.specs.Addresses.{chosen_symbol};
+ghost use Rattle.link_history.specs.Lookup.{is_storage_symbol, symbol_value};
 ghost use Rattle.link_history.specs.State.{State};
 
 use ld_base::{Serial, Symbol};
@@ -17,5 +18,17 @@ pub fn symbol_in(namespaces: &[Namespace], serial: Serial, index: u32) -> Option
     match object_in(namespaces, serial) {
         Some(object) => object.object.symbols.as_slice().get(index as usize),
         None => None,
+    }
+}
+
+/// The value of a symbol of thread-local storage; none of any other.
+pub fn variable_in(namespaces: &[Namespace], serial: Serial, index: u32) -> Option<u64>
+    ensures some { IfSome result (λ value. (s : State) → s.namespaces ≡ namespaces.now
+        → IsTrue (is_storage_symbol s serial index) × (value ≡ symbol_value s serial index)) }
+    ensures none { IfNone result ((s : State) → s.namespaces ≡ namespaces.now → is_storage_symbol s serial index ≡ false) }
+{
+    match symbol_in(namespaces, serial, index) {
+        Some(symbol) if symbol.is_tls() => Some(symbol.value),
+        _ => None,
     }
 }
