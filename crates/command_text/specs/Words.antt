@@ -51,9 +51,14 @@ abbrev pub flag_first : List ℕ → List (List ℕ) → Bool × List (List ℕ)
 flag_first flag [] = (false, [])
 flag_first flag (word ∷ rest) = if bytes_eq word flag then (true, rest) else (false, word ∷ rest)
 
--- the one word that is left, which is no option
+-- behind two dashes no word is an option
+abbrev pub is_end : List ℕ → Bool
+is_end word = bytes_eq word (codes "--")
+
+-- the one word that is left beside two dashes that end the options, if they stand: it is no option, or stands behind them
 abbrev pub only_word : List (List ℕ) → Option (List ℕ)
 only_word (word ∷ []) = if is_option word then None else Some word
+only_word (first ∷ second ∷ []) = if is_end first then Some second else (if is_end second && not (is_option first) then Some first else None)
 only_word _ = None
 
 infixl 10 ◌>>=◌

@@ -121,12 +121,15 @@ fn flag_first<'a>(flag: &[u8], words: &'a [Name]) -> (bool, &'a [Name])
     }
 }
 
-/// The one word that is left, which is no option.
+/// The one word that is left beside two dashes that end the options, if they stand: it is no option, or
+/// stands behind them.
 fn only_word(words: &[Name]) -> Option<&Name>
     ensures { option_copied result ≡ only_word words.now }
 {
     match words {
         [word] if !is_option(word.as_bytes()) => Some(word),
+        [end, word] if end.is(b"--") => Some(word),
+        [word, end] if end.is(b"--") && !is_option(word.as_bytes()) => Some(word),
         _ => None,
     }
 }
