@@ -1,0 +1,5 @@
+pub mod Calls
+pub mod Did
+pub mod Finals
+pub mod Memory
+pub mod Turns

@@ -1,0 +1,31 @@
+-- What the files and a world settle of a turn.
+use Rattle.std.specs.Prelude.{◌≡◌, ℕ, Bool, false, Some, List}
+use Rattle.std.specs.List.{list_any}
+use Rattle.ld_base.specs.declared.linking.File.{File}
+use Rattle.link_event.specs.declared.event.Event.{Event}
+use Rattle.link_event.specs.declared.event.Event.TheVariants.{Ended, Open}
+use Rattle.link_event.specs.declared.event.OpenAnswer.TheVariants.{Refused}
+use Rattle.link_history.specs.Accepted.{AcceptsOnly}
+use Rattle.link_history.specs.After.{after}
+use Rattle.link_history.specs.Setting.{Setting}
+use Rattle.link_service.specs.Laws.{is_memory, is_read_fault}
+use Rattle.world_turns.specs.Laws.{LoadsFit}
+use Rattle.world_turns.specs.Sound.{Sound}
+use Rattle.world_turns.specs.Turn.{Turn}
+use Rattle.world_turns.specs.World.{World}
+
+-- an opening that was refused for a failed read, or an end for want of memory
+abbrev pub comes_by_chance : Event → Bool
+comes_by_chance e = elim e [
+  | Open hart ask answer ↦ elim answer [ Refused fault ↦ is_read_fault fault | _ ↦ false ]
+  | Ended hart reason ↦ is_memory reason
+  | _ ↦ false
+]
+
+abbrev pub HasNoChance : World → Type 0
+HasNoChance world = list_any comes_by_chance world.journal ≡ false
+
+-- where the library tells its files, a hart's turn from a world has one outcome, chance apart
+abbrev pub OneTurn : Type 0
+OneTurn = (w : Setting) (files : List File) (h : ℕ) (old new other : World) → w.files ≡ Some files → AcceptsOnly w.machine → LoadsFit (after old.journal)
+    → Sound w old → Turn w h old new → Turn w h old other → HasNoChance new → HasNoChance other → new ≡ other
