@@ -1,0 +1,47 @@
+//! The laws.
+
+ghost use Rattle.std.specs.Prelude.{◌≡◌, Bool, List, ℕ};
+ghost use Rattle.ld_base.specs.declared.object.Reloc.{Reloc};
+ghost use Rattle.ld_base.specs.declared.parts.DynParts.{DynParts};
+ghost use Rattle.elf_dynamic.specs.Parts.{AreRelocs};
+ghost use Rattle.elf_dynamic.specs.Verdict.{SpellsDynamic};
+ghost use Rattle.elf_write.specs.declared.contents.Contents.{Contents};
+ghost use Rattle.elf_write.specs.declared.contents.SectionBytes.{SectionBytes};
+ghost use Rattle.elf_write.specs.Starts.{starts_of};
+ghost use Rattle.elf_write.specs.Values.{object_bytes, rela_bytes};
+ghost use Rattle.elf_spelled.specs.Said.{TellsNumbers, said_head};
+ghost use Rattle.elf_spelled.specs.Whole.{IsWhole};
+ghost use Rattle.elf_tabled.specs.Tables.{AreSymbolNumbers, ListedFit, said_relocs, said_slots};
+
+use elf_spelled::{parts_stand_at_their_starts, the_tags_are_spelled};
+use elf_written::{parts_have_their_sizes, parts_stand_apart};
+
+/// The relocations that a reader finds in the bytes of their table are those of the places that are told by one.
+pub fn the_table_of_relocations()
+    ensures { (contents : Contents) → ListedFit (starts_of contents) contents.fixes → (relocs : List Reloc)
+        → AreRelocs (rela_bytes (starts_of contents) contents.fixes) relocs → relocs ≡ said_relocs contents }
+{}
+
+/// The relocations that an accepted object says are those of the places that are told by one.
+pub fn the_relocations_are_spelled()
+    ensures { (contents : Contents) (code : SectionBytes) → IsWhole contents code → TellsNumbers contents → ListedFit (starts_of contents) contents.fixes
+        → (program : Bool) (said : DynParts) → SpellsDynamic (object_bytes (starts_of contents) contents code) (said_head contents) program said
+        → said.relocs ≡ said_relocs contents }
+{
+    parts_have_their_sizes();
+    parts_stand_apart();
+    parts_stand_at_their_starts();
+    the_tags_are_spelled();
+}
+
+/// The slots that it says are one for each symbol that has one, in order.
+pub fn the_slots_are_spelled()
+    ensures { (contents : Contents) (code : SectionBytes) → IsWhole contents code → TellsNumbers contents → AreSymbolNumbers contents.slots
+        → (program : Bool) (said : DynParts) → SpellsDynamic (object_bytes (starts_of contents) contents code) (said_head contents) program said
+        → said.plt_relocs ≡ said_slots contents }
+{
+    parts_have_their_sizes();
+    parts_stand_apart();
+    parts_stand_at_their_starts();
+    the_tags_are_spelled();
+}

@@ -1,0 +1,10 @@
+//! What a reader finds in the tables of an object that `elf_write` makes: a crate without code.
+//!
+//! - [`the_relocations_are_spelled`]: the relocations of an accepted object are those of the places that the
+//!   linker is told of; [`the_table_of_relocations`] says it of the table's bytes alone.
+//! - [`the_slots_are_spelled`]: its slots are one for each symbol that has one.
+#![tactic(auto)]
+
+mod law;
+
+pub use law::{the_relocations_are_spelled, the_slots_are_spelled, the_table_of_relocations};
