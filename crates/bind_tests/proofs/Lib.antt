@@ -1,2 +1,3 @@
 pub mod Places
 pub mod Posting
+pub mod Unmapping

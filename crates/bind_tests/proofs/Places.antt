@@ -1,4 +1,4 @@
--- The words of the tests are set one after the other, and lose their roles again.
+-- The words of the tests are set one after the other.
 use Rattle.std.proofs.Common.{◌≡◌, ◌≢◌, ◌⊎◌, ⊎_elim, inl, inr, ℕ, zero, suc, ◌+◌, ◌*◌, ◌-◌, ◌/◌, ◌%◌, ◌≤◌, ◌<◌, Bool, true, false, cond, List, [], ◌∷◌, length, slice_index_or, None as Nothing, Result, Ok, Err, IfOk, IfErr, refl, sym, ap, subst, ◌∙◌, arith}
 use Rattle.std.proofs.lemmas.Bool.Decides.{nat_tests}
 use mathlib.Core.Logic.{dite}
@@ -13,9 +13,9 @@ use Rattle.guest_rule.specs.Allowed.{IsSlot, LeadsTo}
 use Rattle.guest_rule.specs.Layout.{doublewords, first_address, IsDoubleword, place_of}
 use Rattle.guest_rule.specs.Views.{IsLong, kept_at, no_row, row_of, unmapped}
 use Rattle.guest_rule.proofs.Heeding.{kept_else, kept_here}
-use Rattle.word_memory.specs.Making.{IsMade, MayRetire, MaySet, in_linker_page, linker_page, linker_word}
-use Rattle.word_steps.specs.Keeping.{retired, set_as}
-use Rattle.bind_tests.specs.Stocked.{IsReady, IsStocked}
+use Rattle.word_memory.specs.Making.{IsMade, MaySet, in_linker_page, linker_page, linker_word}
+use Rattle.word_steps.specs.Keeping.{set_as}
+use Rattle.bind_tests.specs.Stocked.{IsReady}
 
 -- ---- places
 
@@ -23,7 +23,7 @@ pub slot_place : place_of 0x37010 ≡ 19970
 unfolding place_of
 slot_place = omega arith
 
-lazy_place : place_of 0x35000 ≡ 18944
+pub lazy_place : place_of 0x35000 ≡ 18944
 unfolding place_of
 lazy_place = omega arith
 
@@ -49,11 +49,6 @@ pub put_done : (k k' : KeeperView) (address value : ℕ) (role : Role) (r : Resu
     → IfOk r (λ _. k' ≡ set_as (place_of address) value role 0x35000 k) → IfErr r (λ _. (kept_at k (place_of address)).role ≡ Rw) → k' ≡ set_as (place_of address) value role 0x35000 k
 put_done k k' address value role (Ok t) unset ok err = ok
 put_done k k' address value role (Err shown) unset ok err = let q : NoRole ≡ Rw = sym unset ∙ err in absurd (cc)
-
-pub take_done : (k k' : KeeperView) (address : ℕ) (r : Result Unit Shown) → (kept_at k (place_of address)).role ≢ Rw
-    → IfOk r (λ _. k' ≡ retired (place_of address) k) → IfErr r (λ _. (kept_at k (place_of address)).role ≡ Rw) → k' ≡ retired (place_of address) k
-take_done k k' address (Ok t) other ok err = ok
-take_done k k' address (Err shown) other ok err = absurd (other err)
 
 -- a doubleword was set, at this place
 pub record HasSet (k k' : KeeperView) (d x : ℕ) (role : Role) : Type 0 where
@@ -181,6 +176,7 @@ module _ (k0 : KeeperView) (made : IsMade k0 512 2) where
               role = ap (λ (y : Kept). y.role) slot_here;
               lazy = ap (λ (y : Kept). y.lazy) slot_here;
               since = ap (λ (y : Kept). y.since) slot_here ∙ since_is;
+              lazy_code = ap (λ (y : Kept). y.role) (set_else k3 k4 (place_of 0x37010) 0x35000 SlotRole s4 (place_of 0x35000) (λ e. let a = slot_place in let b = lazy_place in absurd (omega arith))) ∙ lazy_code;
               first_code = ap (λ (y : Kept). y.role) (set_else k3 k4 (place_of 0x37010) 0x35000 SlotRole s4 (place_of 0x39000) (λ e. let a = slot_place in let b = first_place in absurd (omega arith))
                   ∙ (set_else k2 k3 (place_of 0x3c000) 0x0010007300100073 Rx s3 (place_of 0x39000) (λ e. let a = second_place in let b = first_place in absurd (omega arith))
                   ∙ set_here k1 k2 (place_of 0x39000) 0x0010007300100073 Rx s2));
@@ -194,53 +190,3 @@ module _ (k0 : KeeperView) (made : IsMade k0 512 2) where
             rows = λ m. ap (λ (r : Row). r.pending) (rows_are m);
             events = ap length events_are;
           }
-
--- ---- the slot and its code lose their roles
-
--- a doubleword with a role is one that the keeper knows of
-inside_of : (k : KeeperView) (d : ℕ) → (kept_at k d).role ≡ SlotRole → d < length k.words
-inside_of k d slot = go k.words d slot
-  where
-    go : (l : List Kept) (d : ℕ) → (slice_index_or l d unmapped).role ≡ SlotRole → d < length l
-    go [] d slot = let q : NoRole ≡ SlotRole = slot in absurd (cc)
-    go (x ∷ xs) zero slot = omega arith
-    go (x ∷ xs) (suc d) slot = let low : d < length xs = go xs d slot in omega arith
-
-module _ (k : KeeperView) (stocked : IsStocked (kept_at k)) (settled : (m : ℕ) → (row_of k m).pending ≡ Nothing) where
-  pub slot_written : (kept_at k (place_of 0x37010)).role ≢ Rw
-  slot_written e = let q : SlotRole ≡ Rw = sym stocked.role ∙ e in absurd (cc)
-
-  pub may_take_slot : MayRetire k 0x37010
-  may_take_slot = record {
-    at = ((omega arith, low_place (place_of 0x37010) 19970 slot_place (omega arith)), omega arith);
-    slot = λ _ m g e at. let q : Nothing ≡ Rattle.std.proofs.Common.Some g = sym (settled m) ∙ e in absurd (cc);
-    other = λ no. absurd (no stocked.role);
-  }
-
-  inside : place_of 0x37010 < length k.words
-  inside = inside_of k (place_of 0x37010) stocked.role
-
-  -- what is known of other doublewords stays
-  module _ (k1 : KeeperView) (e1 : k1 ≡ retired (place_of 0x37010) k) where
-    code_is : (kept_at k1 (place_of 0x39000)).role ≡ Rx
-    code_is = ap (λ k. (kept_at k (place_of 0x39000)).role) e1 ∙ (ap (λ (y : Kept). y.role) (kept_else k (place_of 0x37010) (record (kept_at k (place_of 0x37010)) { role = NoRole }) inside (place_of 0x39000) (λ e. let a = slot_place in let b = first_place in absurd (omega arith)))
-        ∙ stocked.first_code)
-
-    pub code_written : (kept_at k1 (place_of 0x39000)).role ≢ Rw
-    code_written e = let q : Rx ≡ Rw = sym code_is ∙ e in absurd (cc)
-
-    none_left : (d : ℕ) → IsSlot (kept_at k1) d → ⊥
-    none_left d is = dite (ℕ_discrete d (place_of 0x37010))
-        (λ (same : d ≡ place_of 0x37010). let q : NoRole ≡ SlotRole =
-        sym (ap (λ k. (kept_at k d).role) e1 ∙ (ap (λ d. (kept_at (retired (place_of 0x37010) k) d).role) same ∙ ap (λ (y : Kept). y.role) (kept_here k (place_of 0x37010) (record (kept_at k (place_of 0x37010)) { role = NoRole }) inside))) ∙ is.1 in absurd (cc))
-        (λ (apart : d ≢ place_of 0x37010). apart (stocked.only d (
-          is.0,
-          sym (ap (λ k. (kept_at k d).role) e1 ∙ ap (λ (y : Kept). y.role) (kept_else k (place_of 0x37010) (record (kept_at k (place_of 0x37010)) { role = NoRole }) inside d apart)) ∙ is.1,
-        )))
-
-    pub may_take_code : MayRetire k1 0x39000
-    may_take_code = record {
-      at = ((omega arith, low_place (place_of 0x39000) 20992 first_place (omega arith)), omega arith);
-      slot = λ e. let q : Rx ≡ SlotRole = sym code_is ∙ e in absurd (cc);
-      other = λ _ e v is allowed. absurd (none_left e is);
-    }

@@ -84,6 +84,7 @@ restocked known known' same s = record {
   role = ap (λ (x : Kept). x.role) (same (place_of 0x37010)) ∙ s.role;
   lazy = ap (λ (x : Kept). x.lazy) (same (place_of 0x37010)) ∙ s.lazy;
   since = ap (λ (x : Kept). x.since) (same (place_of 0x37010)) ∙ s.since;
+  lazy_code = ap (λ (x : Kept). x.role) (same (place_of 0x35000)) ∙ s.lazy_code;
   first_code = ap (λ (x : Kept). x.role) (same (place_of 0x39000)) ∙ s.first_code;
   second_code = ap (λ (x : Kept). x.role) (same (place_of 0x3c000)) ∙ s.second_code;
   only = λ d is. s.only d (is.0, ap (λ (x : Kept). x.role) (sym (same d)) ∙ is.1);

@@ -1,6 +1,6 @@
 -- The words of the tests: a slot that is lazy, and the code that it may lead to.
 use Rattle.std.specs.Prelude.{◌≡◌, ◌≢◌, ◌⊎◌, ℕ, ◌+◌, true, false, length, None, Some}
-use Rattle.ld_base.specs.declared.linking.Role.TheVariants.{Rx, Slot as SlotRole}
+use Rattle.ld_base.specs.declared.linking.Role.TheVariants.{None as NoRole, Rx, Slot as SlotRole}
 use Rattle.link_event.specs.declared.handed.Granted.{Granted}
 use Rattle.guest_rule.specs.declared.entry.Grant.{Grant}
 use Rattle.guest_rule.specs.declared.view.HartView.{HartView}
@@ -10,16 +10,32 @@ use Rattle.guest_rule.specs.Allowed.{IsSlot}
 use Rattle.guest_rule.specs.Layout.{place_of}
 use Rattle.guest_rule.specs.Views.{kept_at, row_of}
 
--- the one slot is at 0x37010, and its lazy word is 0x35000; there is code at 0x39000 and at 0x3c000
+-- the one slot is at 0x37010, and its lazy word is 0x35000; there is code there, at 0x39000 and at 0x3c000
 pub record IsStocked (known : ℕ → Kept) : Type 0 where
   pub role : (known (place_of 0x37010)).role ≡ SlotRole
   pub lazy : (known (place_of 0x37010)).lazy ≡ 0x35000
   pub since : (known (place_of 0x37010)).since ≡ 0
+  pub lazy_code : (known (place_of 0x35000)).role ≡ Rx
   pub first_code : (known (place_of 0x39000)).role ≡ Rx
   pub second_code : (known (place_of 0x3c000)).role ≡ Rx
   pub only : (d : ℕ) → IsSlot known d → d ≡ place_of 0x37010
 
--- so at the start, when nothing was handed to a hart
+-- the slot is gone, so that nothing leads to the code, which is there still
+pub record IsUnslotted (known : ℕ → Kept) : Type 0 where
+  pub slot : (known (place_of 0x37010)).role ≡ NoRole
+  pub none : (d : ℕ) → ¬ (IsSlot known d)
+  pub lazy_code : (known (place_of 0x35000)).role ≡ Rx
+  pub first_code : (known (place_of 0x39000)).role ≡ Rx
+  pub second_code : (known (place_of 0x3c000)).role ≡ Rx
+
+-- none of these words has a role any more
+pub record IsUnmapped (known : ℕ → Kept) : Type 0 where
+  pub slot : (known (place_of 0x37010)).role ≡ NoRole
+  pub lazy_code : (known (place_of 0x35000)).role ≡ NoRole
+  pub first_code : (known (place_of 0x39000)).role ≡ NoRole
+  pub second_code : (known (place_of 0x3c000)).role ≡ NoRole
+
+-- there are these words at the start, when nothing was handed to a hart
 pub record IsReady (k : KeeperView) : Type 0 where
   pub stocked : IsStocked (kept_at k)
   pub rows : (m : ℕ) → (row_of k m).pending ≡ None

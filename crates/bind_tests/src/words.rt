@@ -6,7 +6,7 @@ ghost use Rattle.guest_rule.specs.Layout.{place_of};
 ghost use Rattle.guest_rule.specs.Views.{IsLong, kept_at, row_of};
 ghost use Rattle.word_memory.specs.Making.{IsMade, MayRetire, MaySet};
 ghost use Rattle.word_steps.specs.Keeping.{retired, set_as};
-ghost use Rattle.bind_tests.specs.Stocked.{IsNew, IsReady, IsStocked};
+ghost use Rattle.bind_tests.specs.Stocked.{IsNew, IsReady, IsStocked, IsUnmapped, IsUnslotted};
 
 use ld_base::Role;
 use std::alloc::{AllocError, Global};
@@ -72,14 +72,33 @@ pub fn stock<J: Naming>(memory: &Memory<J>, keeper: &mut KeeperSeat<J>)
     put_word(memory, keeper, SLOT, LAZY, Role::Slot);
 }
 
+// Takes the role of the slot, so that nothing leads to the code any more.
+fn take_slot<J: Naming>(memory: &Memory<J>, keeper: &mut KeeperSeat<J>)
+    requires stocked { IsStocked (kept_at keeper.old) }
+    requires settled { (m : ℕ) → (row_of keeper.old m).pending ≡ None }
+    ensures { IsUnslotted (kept_at keeper.new) }
+{
+    take_role(memory, keeper, SLOT);
+}
+
+// Takes the role of the code, to which no slot leads.
+fn take_code<J: Naming>(memory: &Memory<J>, keeper: &mut KeeperSeat<J>)
+    requires unslotted { IsUnslotted (kept_at keeper.old) }
+    ensures { IsUnmapped (kept_at keeper.new) }
+{
+    take_role(memory, keeper, LAZY);
+    take_role(memory, keeper, FIRST);
+    take_role(memory, keeper, SECOND);
+}
+
 /// Takes the role of the slot, and then of the code that it may have led to.
-#[tactic(auto, using(crate::proofs::Places::may_take_slot, crate::proofs::Places::slot_written, crate::proofs::Places::may_take_code, crate::proofs::Places::code_written))]
 pub fn unmap<J: Naming>(memory: &Memory<J>, keeper: &mut KeeperSeat<J>)
     requires stocked { IsStocked (kept_at keeper.old) }
     requires settled { (m : ℕ) → (row_of keeper.old m).pending ≡ None }
+    ensures { IsUnmapped (kept_at keeper.new) }
 {
-    take_role(memory, keeper, SLOT);
-    take_role(memory, keeper, FIRST);
+    take_slot(memory, keeper);
+    take_code(memory, keeper);
 }
 
 /// A memory of two harts, with the slot and the code.

@@ -1,4 +1,4 @@
-use Rattle.bind_tests.proofs.Places.{take_done}
+use Rattle.bind_tests.proofs.Unmapping.{take_done}
 use Rattle.bind_tests.proofs.words.take_role.Goals as goal
 
 pub returns : goal.returns
