@@ -56,25 +56,59 @@ fn race<J: Naming>(
     })
 }
 
-/// What is read of the slot and of its code while a grant is open, and after they lost their roles.
+/// What a hart finds of the words: what it reads of the slot, and fetches of the code at its lazy word
+/// and at the two functions.
 #[derive(Clone, Copy, PartialEq, Eq)]
-struct Unloading {
-    before: (Result<u64, BusFault>, Result<u32, BusFault>),
-    bound: (Bound, u64),
-    between: (Result<u64, BusFault>, Result<u32, BusFault>),
-    after: (Result<u64, BusFault>, Result<u32, BusFault>),
+struct Words {
+    slot: Result<u64, BusFault>,
+    lazy: Result<u32, BusFault>,
+    first: Result<u32, BusFault>,
+    second: Result<u32, BusFault>,
 }
 
-// What a hart reads of the slot, and fetches of the code that its grant leads to.
-fn seen<J: Naming>(
-    memory: &Memory<J>,
-    seat: &mut HartSeat<J>,
-) -> (Result<u64, BusFault>, Result<u32, BusFault>)
+/// What is found while a grant is open, once it is done, and after the words lost their roles.
+#[derive(Clone, Copy, PartialEq, Eq)]
+struct Unloading {
+    before: Words,
+    bound: (Bound, u64),
+    between: Words,
+    after: Words,
+}
+
+// What a hart finds of the words.
+fn seen<J: Naming>(memory: &Memory<J>, seat: &mut HartSeat<J>) -> Words
     ensures { (seat.new.lane ≡ seat.old.lane) }
 {
     let slot = look(memory, seat, SLOT);
-    let code = TableBus::new(memory, seat).fetch(FIRST);
-    (slot, code)
+    let lazy = TableBus::new(memory, seat).fetch(LAZY);
+    let first = TableBus::new(memory, seat).fetch(FIRST);
+    let second = TableBus::new(memory, seat).fetch(SECOND);
+    Words {
+        slot,
+        lazy,
+        first,
+        second,
+    }
+}
+
+// The words while all of them are there.
+fn there(slot: u64) -> Words {
+    Words {
+        slot: Ok(slot),
+        lazy: Ok(0x0010_0073),
+        first: Ok(0x0010_0073),
+        second: Ok(0x0010_0073),
+    }
+}
+
+// The words after all of them lost their roles.
+fn gone() -> Words {
+    Words {
+        slot: Err(BusFault::Role(Role::None)),
+        lazy: Err(BusFault::Role(Role::None)),
+        first: Err(BusFault::Role(Role::None)),
+        second: Err(BusFault::Role(Role::None)),
+    }
 }
 
 // Hart 0 is granted the slot and exchanges it; then the slot and its code lose their roles.
@@ -159,15 +193,11 @@ fn one_of_two_resolvers_wins(rt: HostRuntime) -> Result<(), Fail> {
 fn words_keep_their_roles_until_the_grant_is_done(rt: HostRuntime) -> Result<(), Fail> {
     let fresh = Memory::new(rt.alloc())?;
     let found = unload_over::<Brand>(fresh, rt.alloc())?;
-    let gone = (
-        Err(BusFault::Role(Role::None)),
-        Err(BusFault::Role(Role::None)),
-    );
     let wanted = Unloading {
-        before: (Ok(LAZY), Ok(0x0010_0073)),
+        before: there(LAZY),
         bound: (Bound::Won, FIRST),
-        between: (Ok(FIRST), Ok(0x0010_0073)),
-        after: gone,
+        between: there(FIRST),
+        after: gone(),
     };
     assert!(rt; found == Some(wanted));
     Ok(())
