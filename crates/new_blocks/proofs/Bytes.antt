@@ -30,6 +30,9 @@ storage_is : (i : Linked) (seg : TlsSeg) → i.object.tls ≡ Some seg → stora
 unfolding storage_of
 storage_is i seg is = ap (λ tls. elim tls [ None ↦ [] | Some s ↦ map (λ k. image_byte i.object i.base i.serial i.bindings i.places (s.vaddr + k)) (range_with_len 0 s.filesz) ]) is
 
+pub storage_long : (i : Linked) (seg : TlsSeg) → i.object.tls ≡ Some seg → length (storage_of i) ≡ seg.filesz
+storage_long i seg is = ap (λ (bytes : List ℕ). length bytes) (storage_is i seg is) ∙ length-map-range_with_len (storage_byte_of i seg) 0 seg.filesz
+
 pub among_segment : (i : Linked) (seg : TlsSeg) (block a : ℕ) → i.object.tls ≡ Some seg → byte_among block (storage_of i) a ≡ segment_byte i seg block a
 unfolding byte_among
 among_segment i seg block a is =

@@ -42,7 +42,8 @@ use Rattle.seg_image.specs.Words.{word_of}
 use Rattle.seg_image.specs.declared.image.Image.{Image}
 use Rattle.new_blocks.specs.Laws.{area_alone}
 use Rattle.new_blocks.proofs.Blocks.{first_in_block}
-use Rattle.new_blocks.proofs.Bytes.{among_segment, word_alike}
+use Rattle.new_blocks.proofs.Bytes.{among_segment}
+use Rattle.new_blocks.proofs.Words.{area_words}
 
 -- ---- a hart that got its block has it
 
@@ -94,10 +95,6 @@ new_block_had past hart serial block may =
 
 abbrev bare : Machine → Setting
 bare m = record { machine = m; folders = []; preload = []; files = None }
-
-in_pages : (start pages k i : ℕ) → k < 512 * pages → i < 8 → (r : Range) → r.address ≡ start → r.pages ≡ pages → covers (start + 8 * k + i) r ≡ true
-in_pages start pages k i few small r at many =
-    and_from _ _ (le-leb r.address (start + 8 * k + i) (omega (arith, at))) (lt-ltb (start + 8 * k + i) (r.address + 4096 * r.pages) (omega (arith, at, many, few, small)))
 
 module _ (page_laws : PageLaws) (loads : LoadLaws) (reads : ReadLaw) (numbers : NumberLaws) where
   pub block_installed : (m : Machine) (past : List Event) (hart serial block : ℕ) (i : Linked) (image : Image) → AcceptsOnly m → Lawful m past → hart < m.harts
@@ -175,20 +172,5 @@ module _ (page_laws : PageLaws) (loads : LoadLaws) (reads : ReadLaw) (numbers : 
           among_segment i seg block a storage
           ∙ sym (first_in_block numbers loads m (past ++ e ∷ []) lawful_t hart serial block a its.0 i seg r few module_t block_t image_t storage small there refl in_r)
 
-      each : (k : ℕ) → k < 512 * r.pages → (word_of (byte_among block (storage_of i)) (r.address + 8 * k) ≡ word_at t (r.address + 8 * k)) × (role_at t (r.address + 8 * k) ≡ Rw)
-      each k less =
-          let zero : r.address + 8 * k + 0 ≡ r.address + 8 * k = omega arith in
-          let inside : covers (r.address + 8 * k) r ≡ true = subst (λ n. covers n r ≡ true) zero (in_pages r.address r.pages k 0 less (omega arith) r refl refl) in
-          let held : IsDataAt t r (r.address + 8 * k) = areas_data page_laws loads reads m only (past ++ e ∷ []) lawful_t r (r.address + 8 * k) there refl inside in (
-            word_alike (byte_among block (storage_of i)) (first_byte t r.purpose) (r.address + 8 * k) (λ j few_bytes. byte_is (r.address + 8 * k + j) (in_pages r.address r.pages k j less few_bytes r refl refl)) ∙ sym held.word,
-            held.role,
-          )
-
       words : AreWordsOf t r image
-      words = record {
-        start = area.start;
-        all = area.all;
-        each = λ k less. area.each k less
-            ∙ ap (λ n. Some (record { value = n; role = Rw })) (each k less).0
-            ∙ ap (λ (x : Role). Some (record { value = word_at t (r.address + 8 * k); role = x })) (sym (each k less).1);
-      }
+      words = area_words page_laws loads reads m (past ++ e ∷ []) r block (storage_of i) image only lawful_t there refl byte_is area

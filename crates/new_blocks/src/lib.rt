@@ -9,5 +9,7 @@
 mod law;
 mod placing;
 
-pub use law::{harts_have_new_blocks, new_blocks_are_installed};
+pub use law::{
+    areas_have_words, blocks_begin_as_kept, harts_have_new_blocks, new_blocks_are_installed,
+};
 pub use placing::{BlockFault, NewBlock, new_block};

@@ -1,13 +1,16 @@
 -- What an opening leaves, and what its new objects have.
-use Rattle.std.specs.Prelude.{◌≡◌, ℕ, List, count_by, map, Contains}
+use Rattle.std.specs.Prelude.{◌≡◌, ℕ, List, count_by, map, Some, Contains}
+use Rattle.std.specs.List.{slice_get}
 use Rattle.image_reads.specs.Reads.{ArePrepared}
+use Rattle.ld_base.specs.declared.linking.Loaded.{Loaded}
 use Rattle.link_event.specs.declared.state.Closing.{Closing}
+use Rattle.link_history.specs.Memory.{image_of}
 use Rattle.link_history.specs.Objects.{has, is_startup, mapped, serial_of}
 use Rattle.link_history.specs.State.{State}
 use Rattle.link_history.specs.Step.{binds, goes_with, open_done, seen_after}
 use Rattle.link_history.specs.Storage.{HaveModules}
 use Rattle.opening_images.specs.Relocated.{AreRelocated}
-use Rattle.opening_laws.specs.Laws.{OfOpenings, places_after}
+use Rattle.opening_laws.specs.Laws.{OfOpenings, image_made, places_after}
 use Rattle.reserved_pages.specs.Laid.{AreLaid}
 use Rattle.seg_image.specs.declared.image.Image.{Image}
 
@@ -24,6 +27,11 @@ pub record TakesAsMuch (set : List ℕ) (old new : State) : Type 0 where
 
 abbrev pub ClosingsTakeAsMuch : Type 0
 ClosingsTakeAsMuch = OfOpenings (λ s hart ask id root added ranges. (c : Closing) → Contains s.closings c → TakesAsMuch c.set s (open_done s hart ask id root added ranges))
+
+-- each is found by its serial
+abbrev pub NewImagesAreFound : Type 0
+NewImagesAreFound = OfOpenings (λ s hart ask id root added ranges. (k : ℕ) (o : Loaded) → slice_get added k ≡ Some o
+    → image_of (open_done s hart ask id root added ranges) o.serial ≡ Some (image_made s hart ask id root added ranges o))
 
 abbrev pub NewImagesArePrepared : Type 0
 NewImagesArePrepared = OfOpenings (λ s hart ask id root added ranges. (images : List Image)

@@ -1,6 +1,6 @@
 //! The laws.
 
-ghost use Rattle.opening_follows.specs.Laws.{ClosingsTakeAsMuch, NewImagesArePrepared, NewModulesHavePlaces, NewRangesAreLaid};
+ghost use Rattle.opening_follows.specs.Laws.{ClosingsTakeAsMuch, NewImagesAreFound, NewImagesArePrepared, NewModulesHavePlaces, NewRangesAreLaid};
 
 use opening_laws::relocated_are_of_records;
 
@@ -20,6 +20,14 @@ pub fn closings_take_as_much()
 {
     link_history::serials_are_in_order();
     link_history::each_dies_once();
+}
+
+/// The image that the state after the opening has of a new object is found by its serial.
+pub fn new_images_are_found()
+    ensures { NewImagesAreFound }
+{
+    link_history::serials_are_in_order();
+    link_history::images_are_mapped();
 }
 
 /// Images of the new objects, relocated by what is seen in their namespace, are those that the state after

@@ -9,5 +9,6 @@
 mod law;
 
 pub use law::{
-    closings_take_as_much, new_images_are_prepared, new_modules_have_places, new_ranges_are_laid,
+    closings_take_as_much, new_images_are_found, new_images_are_prepared, new_modules_have_places,
+    new_ranges_are_laid,
 };

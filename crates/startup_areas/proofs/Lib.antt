@@ -1,0 +1,5 @@
+pub mod Filled
+pub mod Written
+pub mod Given
+pub mod New
+pub mod Installed
