@@ -3,6 +3,7 @@ pub mod Granting
 pub mod Holding
 pub mod Inside
 pub mod Locating
+pub mod Looking
 pub mod Settling
 pub mod Table
 pub mod TlsFaults

@@ -5,7 +5,7 @@
 //! the state is the type's own business. Each call appends one event that may come next, or leaves all
 //! as before.
 //!
-//! Not all of the linker's calls are here yet: those that load and look up symbols aren't.
+//! Not all of the linker's calls are here yet: those that load objects aren't.
 #![tactic(auto)]
 
 mod faults;
@@ -18,3 +18,4 @@ mod storing;
 
 pub use faults::{CloseFault, GrantFault, TlsFault};
 pub use state::LinkState;
+pub use symbol_search::SymFault;

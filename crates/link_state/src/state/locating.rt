@@ -43,7 +43,7 @@ impl LinkState {
     }
 
     /// Where a hart has its block of an object's module, if it has one.
-    fn block_of(&self, hart: HartId, serial: Serial) -> Result<Option<u64>, AllocError>
+    pub(crate) fn block_of(&self, hart: HartId, serial: Serial) -> Result<Option<u64>, AllocError>
         ensures { IfOk result (λ block. block ≡ tls_block (after self.now.events) hart serial) }
     {
         block_in(
@@ -56,7 +56,7 @@ impl LinkState {
     }
 
     /// A block of an object's thread-local storage, in the first pages that have room.
-    fn plan_block(&self, serial: Serial) -> Result<NewBlock, BlockFault>
+    pub(crate) fn plan_block(&self, serial: Serial) -> Result<NewBlock, BlockFault>
         ensures ok { IfOk result (PlansBlock (after self.now.events) serial) }
         ensures err { IfErr result (PlansNone (after self.now.events) serial) }
     {

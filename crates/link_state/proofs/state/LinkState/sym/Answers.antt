@@ -1,0 +1,26 @@
+use Rattle.std.proofs.Common.{◌≡◌, sym, ap, subst, ◌∙◌}
+use Rattle.std.specs.Prelude.{IsTrue}
+use Rattle.link_event.specs.declared.event.SymAsk.{SymAsk}
+use Rattle.link_history.specs.After.{after}
+use Rattle.link_history.specs.Objects.{has_namespace}
+use Rattle.link_history.specs.State.{State}
+use Rattle.symbol_search.specs.Asking.{ask_of}
+use Rattle.symbol_search.specs.Finding.{IsSymFault}
+use Rattle.symbol_search.specs.declared.finding.SymFault.{SymFault}
+use Rattle.link_state.specs.Table.{LinkTable}
+use Rattle.link_state.proofs.Stored.{if_err_and}
+use Rattle.link_state.proofs.state.LinkState.sym.Goals as goal
+
+pub returns-in_err-serial-clause-refused : goal.returns-in_err-serial-clause-refused
+returns-in_err-serial-clause-refused c =
+    let s : State = after c.args.self.now.events in
+    let ask : SymAsk = ask_of c.args.ns c.args.handle c.args.name.now c.args.want.now in
+    let e : SymFault = c.in_err-serial.field-0.0 in
+    let at : c.in_ok-ask.ask ≡ ask = c.in_ok-ask.ensures in
+    let spaces : c.as_slice-namespaces.result.now ≡ s.namespaces =
+    c.as_slice-namespaces.ensures.value ∙ c.self.invariant.running.spaces ∙ ap (λ (v : LinkTable). (after v.events).namespaces) c.self.view_is in
+    let caller : IsTrue (has_namespace s c.in_ok-ask.ask.ns) = subst (λ (a : SymAsk). IsTrue (has_namespace s a.ns)) (sym at) c.requires.caller in
+    let is : IsSymFault s c.args.hart ask e =
+    subst (λ (a : SymAsk). IsSymFault s c.args.hart a e) at (c.in_err-serial.ensures.refused s c.args.hart (sym spaces) caller) in
+    if_err_and c.from_residual-in_err-serial.result (λ (f : SymFault). f ≡ e) (IsSymFault s c.args.hart ask) c.from_residual-in_err-serial.ensures.1
+    (λ f same. subst (IsSymFault s c.args.hart ask) (sym same) is)
