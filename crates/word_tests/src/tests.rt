@@ -5,9 +5,9 @@ ghost use Rattle.std.specs.Prelude.{◌≡◌};
 mod plain;
 mod words;
 
-use self::words::{DATA, FIRST, READ_ONLY, Stocked, plain_memory, stocked_memory};
+use self::words::{BREAKPOINT, DATA, FIRST, READ_ONLY, Stocked, plain_memory, stocked_memory};
 use ld_base::Role;
-use rv_hart::{Bus, BusFault, Hart, step};
+use rv_hart::{Bus, BusFault, Hart, Stop, step};
 use rv_isa::AmoOp;
 use std::alloc::{AllocError, Global};
 use std::marker::Brand;
@@ -15,10 +15,12 @@ use std::test::Fail;
 use std::thread::{Threads, join};
 use word_memory::{Fresh, HartSeat, Memory, Naming, TableBus};
 
-/// What a hart's steps left.
+/// What a hart's steps left, why they ended, and what a step at the breakpoint comes to.
 #[derive(Clone, Copy, Debug, PartialEq, Eq)]
 struct Seen {
     steps: u64,
+    stop: Option<Stop>,
+    at_break: Result<(), Stop>,
     pc: u64,
     x: [u64; 32],
     data: (Result<u64, BusFault>, Result<u64, BusFault>),
@@ -35,23 +37,29 @@ fn hart_at_code() -> Hart {
     hart
 }
 
-// Steps a hart through the code, up to the store that memory refuses.
+// Steps a hart through the code, up to the store that memory refuses, and another at the breakpoint.
 fn run<B: Bus>(bus: &mut B) -> Seen {
     let mut hart = hart_at_code();
     let mut steps: u64 = 0;
+    let mut stop = None;
     for _ in 0..40u32 {
-        if step(&mut hart, bus).is_err() {
+        if let Err(found) = step(&mut hart, bus) {
+            stop = Some(found);
             break;
         }
         steps = steps.wrapping_add(1);
     }
+    let mut broken = Hart::new(BREAKPOINT, 0, 0, 0);
+    let at_break = step(&mut broken, bus);
     Seen {
         steps,
+        stop,
+        at_break,
         pc: hart.pc,
         x: hart.x,
         data: (bus.read(DATA, 8), bus.read(DATA + 8, 8)),
         read_only: bus.read(DATA + 16, 4),
-        page: bus.read(DATA + 24, 8),
+        page: bus.read(DATA + 32, 8),
     }
 }
 
@@ -106,7 +114,12 @@ fn steps_alike_over_both(rt: HostRuntime) -> Result<(), Fail> {
         5,
         0x5_0005_05f9,
     ];
+    let refused = Stop::Refused(DATA + 16, BusFault::Role(Role::Ro));
     assert_eq!(rt; (wanted.steps, wanted.pc), (27, 0x1_006c));
+    assert_eq!(rt;
+        (wanted.stop, wanted.at_break),
+        (Some(refused), Err(Stop::Break))
+    );
     assert_eq!(rt; wanted.x, x);
     assert_eq!(rt;
         (wanted.data, wanted.read_only),

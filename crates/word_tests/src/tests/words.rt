@@ -1,4 +1,4 @@
-//! The words that the tests are about: code, data, and a doubleword to be read alone.
+//! The words that the tests are about: code, data, a doubleword to be read alone, and a breakpoint.
 
 ghost use Rattle.std.specs.Prelude.{◌≡◌, ◌≢◌, ◌<◌, ◌+◌};
 ghost use Rattle.ld_base.specs.declared.linking.Role.TheVariants.{None as NoRole, Slot as SlotRole};
@@ -41,6 +41,11 @@ pub const FIRST: u64 = 0xffff_ffff_0000_0001;
 
 pub const READ_ONLY: u64 = 0x1234;
 
+/// Where a breakpoint is, after the data: `ebreak`, twice.
+pub const BREAKPOINT: u64 = DATA + 24;
+
+const EBREAKS: u64 = 0x0010_0073_0010_0073;
+
 // Gives a doubleword its role.
 fn put_word<J: Naming>(
     memory: &Memory<J>,
@@ -59,24 +64,24 @@ fn put_word<J: Naming>(
 
 // The code.
 #[tactic(auto, using(crate::proofs::Unset::unset_first))]
-fn put_code<J: Naming>(memory: &Memory<J>, keeper: &mut KeeperSeat<J>, harts: u32)
-    requires { IsMade keeper.old 512 harts }
+fn put_code<J: Naming>(memory: &Memory<J>, keeper: &mut KeeperSeat<J>)
+    requires { IsMade keeper.old 512 2 }
     ensures { AreUnset keeper.new 14 }
 {
-    let _ = harts;
     for index in 0..14u64 {
         put_word(memory, keeper, index, CODE[index as usize], Role::Rx);
     }
 }
 
-// The code and the data.
-fn put_words<J: Naming>(memory: &Memory<J>, keeper: &mut KeeperSeat<J>, harts: u32)
-    requires { IsMade keeper.old 512 harts }
+// The code, the data and the breakpoint.
+fn put_words<J: Naming>(memory: &Memory<J>, keeper: &mut KeeperSeat<J>)
+    requires { IsMade keeper.old 512 2 }
 {
-    put_code(memory, keeper, harts);
+    put_code(memory, keeper);
     put_word(memory, keeper, 14, FIRST, Role::Rw);
     put_word(memory, keeper, 15, 0, Role::Rw);
     put_word(memory, keeper, 16, READ_ONLY, Role::Ro);
+    put_word(memory, keeper, 17, EBREAKS, Role::Rx);
 }
 
 /// A memory with these words, and the seats of two harts.
@@ -96,7 +101,7 @@ pub fn stocked_memory<J: Naming>(
 {
     let (memory, seats) = name_memory::<J>(fresh, alloc, 2)?;
     let Seats { mut keeper, harts } = seats;
-    put_words(&memory, &mut keeper, 2);
+    put_words(&memory, &mut keeper);
     let mut harts = harts.into_vec();
     let (Some(one), Some(zero)) = (harts.pop(), harts.pop()) else {
         return Ok(None);
@@ -121,5 +126,6 @@ pub fn plain_memory(alloc: Global) -> Result<Plain, AllocError> {
     words.push(doubleword(FIRST, Role::Rw))?;
     words.push(doubleword(0, Role::Rw))?;
     words.push(doubleword(READ_ONLY, Role::Ro))?;
+    words.push(doubleword(EBREAKS, Role::Rx))?;
     Ok(Plain { words })
 }
