@@ -1,6 +1,6 @@
 -- What a load of files comes to, in the words of the history.
-use Rattle.std.proofs.Common.{◌≡◌, ℕ, zero, suc, ◌<◌, ◌≤◌, Bool, true, false, ◌&&◌, cond, List, [], ◌∷◌, ◌++◌, length, Option, Some, None, Result, Ok, Err, refl, sym, ap, subst, ◌∙◌, ⊎_elim, arith}
-use Rattle.std.specs.Prelude.{IsTrue, if◌then◌else◌}
+use Rattle.std.proofs.Common.{◌≡◌, ℕ, ◌<◌, ◌≤◌, Bool, true, false, ◌&&◌, List, [], ◌∷◌, length, Option, Some, None, Result, Ok, Err, refl, sym, ap, subst, ◌∙◌, ⊎_elim, arith}
+use Rattle.std.specs.Prelude.{if◌then◌else◌}
 use Rattle.std.specs.List.{slice_get}
 use Rattle.std.specs.Str.{bytes_eq}
 use Rattle.std.proofs.lemmas.Bool.{true≢false}
@@ -10,7 +10,6 @@ use Rattle.ld_base.specs.declared.fault.DlFault.TheVariants as dl
 use Rattle.ld_base.specs.declared.fault.NotAccepted.{NotAccepted}
 use Rattle.ld_base.specs.declared.fault.Shown.{Shown}
 use Rattle.ld_base.specs.declared.linking.File.{File}
-use Rattle.ld_base.specs.declared.linking.Loaded.{Loaded}
 use Rattle.ld_base.specs.declared.object.Object.{Object}
 use Rattle.ld_base.specs.declared.parts.HashTable.{HashTable}
 use Rattle.library_source.specs.Files.{AreFiles, Over, file_at}
@@ -18,7 +17,7 @@ use Rattle.link_event.specs.declared.event.OpenAsk.{OpenAsk}
 use Rattle.call_laws.specs.Laws.{LeadsNowhere}
 use Rattle.link_history.specs.Flags.{is_deepbind, is_noload}
 use Rattle.link_history.specs.Objects.{is_startup}
-use Rattle.link_history.specs.Opening.{Finds, IsNamed, IsNowhere, IsStopped, LacksVersion, Refuses, stopped, lacks_version, there}
+use Rattle.link_history.specs.Opening.{Finds, IsNowhere, Refuses, stopped, lacks_version, there}
 use Rattle.link_history.specs.Setting.{AreReadings, MayHold, MayRead, Readings, ReadingsBy, Setting, load_of}
 use Rattle.link_history.specs.State.{State}
 use Rattle.link_history.specs.Step.{namespace_before}
@@ -26,9 +25,9 @@ use Rattle.link_service.specs.Laws.{BringsWithPreload, StopsWithPreload}
 use Rattle.link_service.specs.Waiting.{Waits}
 use Rattle.load_walk.specs.Files.{as_read, file_as_read, load_over, load_until, load_unread, reading_of, reading_until}
 use Rattle.load_walk.specs.Files.{load_of as asked_load}
-use Rattle.load_walk.specs.Plan.{HasToWait, IsPlan, IsRefused, Lacks, StopsFor}
+use Rattle.load_walk.specs.Plan.{HasToWait, IsPlan, IsRefused, Lacks}
 use Rattle.load_walk.specs.declared.ask.LoadPlan.{LoadPlan}
-use Rattle.scope_rule.specs.Finding.{Reading, absent, failed, here, unaccepted}
+use Rattle.scope_rule.specs.Finding.{Reading, absent, failed}
 use Rattle.scope_rule.specs.Load.{Brings, IsRoot, Load, Stop, Stops, Walk, asks, find_opened, find_path, finds, nowhere, records_of, refuses, start, step, take_found, waits}
 use Rattle.scope_rule.specs.Loads.{alone, named_there}
 use Rattle.scope_rule.specs.Needed.{version_fault}

@@ -1,5 +1,5 @@
 -- What the name of an opening leads to (dlopen(3)).
-use Rattle.std.specs.Prelude.{◌≡◌, ℕ, false, List, [], Option, None}
+use Rattle.std.specs.Prelude.{◌≡◌, ℕ, false, List, [], Option, None, Ok}
 use Rattle.elf_object.specs.Verdict.{object_verdict}
 use Rattle.ld_base.specs.declared.linking.File.{File}
 use Rattle.ld_base.specs.declared.linking.Loaded.{Loaded}
@@ -14,7 +14,6 @@ use Rattle.link_service.specs.Waiting.{Waits}
 use Rattle.load_walk.specs.declared.ask.LoadAsk.{LoadAsk}
 use Rattle.load_walk.specs.declared.ask.LoadFault.{LoadFault}
 use Rattle.load_walk.specs.declared.ask.LoadFault.TheVariants as faults
-use Rattle.load_walk.specs.declared.ask.LoadPlan.{LoadPlan}
 use Rattle.scope_rule.specs.Needed.{version_fault}
 use Rattle.scope_rule.specs.declared.namespace.Namespace.{Namespace}
 use Rattle.opening_load.specs.declared.finding.Found.{Found}
@@ -48,6 +47,17 @@ pub record IsMade (w : Setting) (s : State) (ask : OpenAsk) (name : List ℕ) (i
 pub record FindsAll (w : Setting) (s : State) (hart : ℕ) (ask : OpenAsk) (name : List ℕ) (id root : ℕ) (news : List Loaded) : Type 0 where
   pub finds : Finds w s hart ask name id root news
   pub versions : version_fault (there s id) news ≡ None
+
+-- the new objects, where a load brings some
+abbrev pub news_of : Found → List Loaded
+news_of Absent = []
+news_of (There root) = []
+news_of (New plan) = plan.added
+
+-- an object was read of some bytes, as a library
+pub record WasLibrary (o : Loaded) : Type 0 where
+  pub bytes : List ℕ
+  pub is : object_verdict bytes false ≡ Ok (o.object, o.table)
 
 -- it leads to no object that is there, to one that is there alone, or to what a load brings
 abbrev pub LeadsTo : Setting → State → ℕ → OpenAsk → List ℕ → ℕ → Found → Type 0

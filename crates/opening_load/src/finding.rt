@@ -1,13 +1,15 @@
 //! What a name leads to.
 
-ghost use Rattle.std.specs.Prelude.{◌≡◌, ◌≤◌, ℕ, List, false, true, IfErr, IfOk};
+ghost use Rattle.std.specs.Prelude.{◌≡◌, ◌≤◌, ℕ, List, true, IfErr, IfOk};
+ghost use Rattle.std.specs.List.{AllByRecursion};
 ghost use Rattle.std.specs.Result.{IsErrOf};
-ghost use Rattle.ld_base.specs.declared.fault.DlFault.TheVariants.{ReadFault};
+ghost use Rattle.call_laws.specs.Counts.{AreMissed, ArePaths};
+ghost use Rattle.ld_base.specs.declared.fault.DlFault.TheVariants.{MissingLibrary, ReadFault};
 ghost use Rattle.library_source.specs.Count.{Rises};
 ghost use Rattle.link_history.specs.Flags.{is_noload};
 ghost use Rattle.link_history.specs.Setting.{Setting};
 ghost use Rattle.link_history.specs.State.{State};
-ghost use Rattle.opening_load.specs.Finding.{IsMade, LeadsTo, StopsAt, ask_of};
+ghost use Rattle.opening_load.specs.Finding.{IsMade, LeadsTo, StopsAt, WasLibrary, ask_of, news_of};
 
 use call_laws::nothing_leads_nowhere;
 use ld_base::{HartId, Name, Names, Serial};
@@ -17,7 +19,7 @@ use link_service::preload_is_the_programs;
 use load_order::{LoadAsk, LoadFault, LoadPlan, find_loaded, plan_load};
 use open_flags::{is_deepbind, is_noload};
 use record_copies::Copied;
-use scope_rule::{Namespace, one_outcome};
+use scope_rule::{Namespace, finds_loaded, one_outcome};
 use std::alloc::{AllocError, Global};
 
 /// What the name of an opening leads to.
@@ -61,7 +63,8 @@ fn load_ask(
 ///
 /// # Errors
 ///
-/// The first refusal that the load meets, that it has to wait for another hart, or want of memory.
+/// The first refusal that the load meets, that it has to wait for another hart, or want of memory. The library's
+/// counts show which reads failed, and which paths were missed.
 pub fn find<L: Library>(
     alloc: Global,
     namespace: &Namespace,
@@ -76,8 +79,10 @@ pub fn find<L: Library>(
         → IfOk result (LeadsTo w s hart ask.now name.now id) }
     ensures stopped { (w : Setting) (s : State) (id : ℕ) → IsMade w s ask.now name.now id namespace.now next folders.now (L.files library.old)
         → IfErr result (StopsAt w s hart ask.now) }
-    ensures read_fault { (path : List ℕ) → is_noload ask.now.flags ≡ false → IsErrOf result (LoadFault.Refused (ReadFault path))
-        → Rises (L.faults library.old) (L.faults library.new) }
+    ensures read { IfOk result (λ found. AllByRecursion WasLibrary (news_of found)) }
+    ensures read_fault { (path : List ℕ) → IsErrOf result (LoadFault.Refused (ReadFault path)) → Rises (L.faults library.old) (L.faults library.new) }
+    ensures missed { (missing : List ℕ) → IsErrOf result (LoadFault.Refused (MissingLibrary missing))
+        → AreMissed (ArePaths folders.now missing) (L.misses library.old) (L.misses library.new) }
     ensures unread { is_noload ask.now.flags ≡ true → library.new ≡ library.old }
     ensures files { L.files library.new ≡ L.files library.old }
     ensures faults { L.faults library.old ≤ L.faults library.new }
@@ -86,6 +91,7 @@ pub fn find<L: Library>(
     nothing_leads_nowhere();
     preload_is_the_programs();
     one_outcome();
+    finds_loaded();
     let load = load_ask(alloc, next, hart, ask, name, folders)?;
     if is_noload(ask.flags) {
         match find_loaded(alloc, namespace, &load) {

@@ -1,4 +1,4 @@
-use Rattle.std.proofs.Common.{◌≡◌, Bool, None, Ok, Err, sym, ap, subst, ◌∙◌}
+use Rattle.std.proofs.Common.{◌≡◌, Bool, None, Ok, Err, refl, sym, ap, subst, ◌∙◌}
 use Rattle.library_source.specs.Files.{Over}
 use Rattle.load_walk.specs.Files.{load_unread}
 use Rattle.load_walk.specs.Plan.{HasToWait, IsPlan, IsRefused}
@@ -8,6 +8,8 @@ use Rattle.elf_object.specs.Verdict.{object_verdict}
 use Rattle.link_history.specs.Flags.{is_noload}
 use Rattle.scope_rule.specs.Load.{Brings, Stops, refuses, waits}
 use Rattle.scope_rule.specs.Loads.{alone, named_there}
+use Rattle.ld_base.specs.declared.fault.DlFault.TheVariants.{MissingLibrary, ReadFault}
+use Rattle.opening_load.proofs.Unread.{err_is, missed_each, no_read_fails, were_read}
 use Rattle.opening_load.proofs.Loading.{plan_finds, plan_refused, plan_waits, stops_at, there_finds, there_is_none, there_refused, there_waits}
 use Rattle.opening_load.proofs.finding.find.Goals as goal
 
@@ -57,3 +59,22 @@ returns-clause-stopped g c = λ w s id made.
     (sym c.is_noload.ensures ∙ c.if-is_noload.false)
     (subst (λ (a : LoadAsk). Over (g.L.Library.files c.args.library.now) (HasToWait object_verdict a c.args.namespace.now.objects shown)) c.in_ok-load.ensures
     (c.in-Err-plan_load.ensures.waits shown (ap (λ x. Err x) is))))
+
+pub returns-then-is_noload-clause-read_fault : goal.returns-then-is_noload-clause-read_fault
+returns-then-is_noload-clause-read_fault g c = λ path is.
+    absurd (no_read_fails
+    (record { brings = c.finds_loaded.ensures.brings; stop = c.finds_loaded.ensures.stops; missing = c.finds_loaded.ensures.missing; one_stop = c.one_outcome.ensures.one_stop; not_both = c.one_outcome.ensures.not_both })
+    (load_unread c.in_ok-load.load c.args.namespace.now.objects) path (λ path. refl)
+    (c.in-Err.ensures.refused (ReadFault path) (ap (λ x. Err x) (err_is c.in-Err.fault (Refused (ReadFault path)) is))))
+
+pub returns-clause-missed : goal.returns-clause-missed
+returns-clause-missed g c = λ missing is.
+    missed_each c.args.next c.args.hart c.args.ask.now c.args.name.now missing c.args.folders.now c.args.namespace.now.objects (g.L.Library.misses c.args.library.now) (g.L.Library.misses c.plan_load.new.library)
+    (g.L.Library.files c.args.library.now)
+    (subst (λ (a : LoadAsk). Over (g.L.Library.files c.args.library.now)
+    (IsRefused object_verdict a c.args.namespace.now.objects (g.L.Library.misses c.args.library.now) (g.L.Library.misses c.plan_load.new.library) (MissingLibrary missing)))
+    c.in_ok-load.ensures (c.in-Err-plan_load.ensures.refused (MissingLibrary missing) (ap (λ x. Err x) (err_is c.in-Err-plan_load.fault (Refused (MissingLibrary missing)) is))))
+
+pub returns-in-Ok-clause-read : goal.returns-in-Ok-clause-read
+returns-in-Ok-clause-read g c =
+    were_read c.in_ok-load.load c.args.namespace.now c.in-Ok.plan (g.L.Library.files c.args.library.now) (ap (λ (a : LoadAsk). a.program) c.in_ok-load.ensures) c.in-Ok.ensures.plan
