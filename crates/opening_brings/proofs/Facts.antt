@@ -1,6 +1,7 @@
 -- What is known of an opening, over the lists that a linker has.
-use Rattle.std.proofs.Common.{◌≡◌, ℕ, Bool, List, map, Some, sym, ap, subst, ◌∙◌}
+use Rattle.std.proofs.Common.{◌≡◌, ℕ, ◌+◌, Bool, List, map, length, Some, refl, sym, ap, subst, ◌∙◌}
 use Rattle.std.specs.List.{Contains, slice_get}
+use Rattle.image_parts.specs.declared.parts.Part.{Part}
 use Rattle.ld_base.specs.declared.linking.Choice.{Choice}
 use Rattle.ld_base.specs.declared.linking.Loaded.{Loaded}
 use Rattle.link_event.specs.declared.state.Module.{Module}
@@ -16,11 +17,14 @@ use Rattle.opening_images.specs.Relocated.{AreChoices, AreRelocated, MayRelocate
 use Rattle.opening_laws.specs.Laws.{CanBePlaced, places_after}
 use Rattle.opening_brings.specs.Brought.{AreModules, seen_with}
 use Rattle.opening_brings.specs.declared.bringing.Planned.{Planned}
-use Rattle.opening_steps.specs.Steps.{statics_of}
+use Rattle.opening_steps.specs.Steps.{statics_after, statics_of}
 use Rattle.relocator.specs.declared.binding.ModulePlace.{ModulePlace}
 use Rattle.scope_rule.specs.Seen.{Seen}
 use Rattle.scope_rule.specs.declared.namespace.Namespace.{Namespace}
 use Rattle.seg_image.specs.declared.image.Image.{Image}
+use Rattle.startup_areas.specs.Areas.{AreAreas}
+use Rattle.startup_areas.specs.Blocks.{FitBlocks}
+use Rattle.startup_areas.specs.Laws.{parts_made, statics_then}
 use Rattle.tls_blocks.specs.Numbers.{ModuleTable}
 
 abbrev pub seen_of : State → Planned → Seen
@@ -67,3 +71,29 @@ can_read ns now places objects images placed are = record {
   accepted = λ k o at. (placed o (at_in objects k o at)).accepted.image;
   whole = λ k o image at there. (are.each k o image at there).all;
 }
+
+-- ---- areas
+
+abbrev pub parts_of : State → Planned → List Part
+parts_of s p = parts_made s p.hart p.ask.now p.ns p.root p.added.now p.ranges.now
+
+pub statics_there : (s : State) (p : Planned) (table new : ModuleTable) (startup : Bool) → AreModules s table → startup ≡ is_startup s → statics_of new ≡ statics_after startup p.added.now (statics_of table)
+    → statics_of new ≡ statics_then s p.added.now
+statics_there s p table new startup are is has = has ∙ ap (λ (b : Bool). statics_after b p.added.now (statics_of table)) is ∙ ap (statics_after (is_startup s) p.added.now) are.statics
+
+pub fit_there : (s : State) (p : Planned) (st : Statics) (parts : List Part) (tp size : ℕ) → st ≡ statics_then s p.added.now → tp ≡ st.tp → size ≡ st.size → parts ≡ parts_of s p
+    → FitBlocks (statics_then s p.added.now).tp ((statics_then s p.added.now).tp + (statics_then s p.added.now).size) p.added.now (parts_of s p) → FitBlocks tp (tp + size) p.added.now parts
+fit_there s p st parts tp size is tp_is size_is has fit =
+    subst (λ (n : ℕ). FitBlocks n (n + size) p.added.now parts) (sym tp_is)
+    (subst (λ (n : ℕ). FitBlocks st.tp (st.tp + n) p.added.now parts) (sym size_is)
+    (subst (λ (x : Statics). FitBlocks x.tp (x.tp + x.size) p.added.now parts) (sym is)
+    (subst (λ (ps : List Part). FitBlocks (statics_then s p.added.now).tp ((statics_then s p.added.now).tp + (statics_then s p.added.now).size) p.added.now ps) (sym has) fit)))
+
+pub areas_there : (s : State) (p : Planned) (st : Statics) (parts : List Part) (startup : Bool) (tp : ℕ) (images : List Image) → st ≡ statics_then s p.added.now → tp ≡ st.tp → startup ≡ is_startup s
+    → parts ≡ parts_of s p → AreAreas startup tp p.ranges.now p.added.now parts images
+    → AreAreas (is_startup s) (statics_then s p.added.now).tp p.ranges.now p.added.now (parts_of s p) images
+areas_there s p st parts startup tp images is tp_is first has areas =
+    subst (λ (x : Statics). AreAreas (is_startup s) x.tp p.ranges.now p.added.now (parts_of s p) images) is
+    (subst (λ (n : ℕ). AreAreas (is_startup s) n p.ranges.now p.added.now (parts_of s p) images) tp_is
+    (subst (λ (b : Bool). AreAreas b tp p.ranges.now p.added.now (parts_of s p) images) first
+    (subst (λ (ps : List Part). AreAreas startup tp p.ranges.now p.added.now ps images) has areas)))

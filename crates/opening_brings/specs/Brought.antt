@@ -1,5 +1,5 @@
 -- What an opening brings to a linker's lists.
-use Rattle.std.specs.Prelude.{◌≡◌, ℕ, ◌+◌, not, List, find, filter, flat_map, length, map, Some, None}
+use Rattle.std.specs.Prelude.{◌≡◌, ℕ, ◌+◌, List, find, filter, length, map, Some, None}
 use Rattle.image_parts.specs.Parts.{part_of}
 use Rattle.image_reads.specs.Reads.{ArePrepared}
 use Rattle.link_event.specs.declared.event.Event.{Event}
@@ -11,7 +11,7 @@ use Rattle.link_history.specs.Objects.{has_id, is_startup}
 use Rattle.link_history.specs.State.{State, empty_namespace}
 use Rattle.link_history.specs.Step.{has_module, open_done}
 use Rattle.link_history.specs.Storage.{with_modules}
-use Rattle.link_service.specs.Served.{AreImages, is_area, slots_of}
+use Rattle.link_service.specs.Served.{AreInstalls}
 use Rattle.opening_brings.specs.declared.bringing.Brings.{Brings}
 use Rattle.opening_brings.specs.declared.bringing.Planned.{Planned}
 use Rattle.opening_laws.specs.Laws.{image_made}
@@ -47,7 +47,6 @@ pub record IsBrought (s : State) (p : Planned) (b : Brings) : Type 0 where
   pub generation : b.modules.generation ≡ s.generation + length (filter has_module p.added.now)
   pub edges : b.edges.items ≡ gained s (done p)
   pub parts : b.parts.items ≡ map part_of (map (image_made s p.hart p.ask.now p.ns p.root p.added.now p.ranges.now) p.added.now)
-  pub images : AreImages (done_state s p) (filter (λ r. not (is_area r)) p.ranges.now) b.images
-  pub slots : b.slots ≡ flat_map slots_of p.added.now
+  pub installs : AreInstalls (done_state s p) p.added.now p.ranges.now b.installs
   -- each image is of the record that this state has
-  pub prepared : ArePrepared (done_state s p) p.added.now b.images
+  pub prepared : ArePrepared (done_state s p) p.added.now b.installs.images

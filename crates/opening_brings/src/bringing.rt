@@ -19,7 +19,7 @@ use lawful_journal::LawfulJournal;
 use ld_base::{HartId, Loaded, NsId, Serial};
 use link_event::{Choices, OpenAsk, Range};
 use link_graph::Edge;
-use link_served::SlotWords;
+use link_served::Installs;
 use opening_follows::{new_images_are_prepared, new_modules_have_places};
 use opening_images::slots_of;
 use opening_laws::{
@@ -27,7 +27,7 @@ use opening_laws::{
 };
 use opening_steps::{edges_of, modules_with, parts_of};
 use scope_rule::Namespace;
-use seg_image::{Image, Images};
+use startup_areas::{areas_are_installed, areas_of, static_blocks_fit};
 use std::alloc::{AllocError, Global};
 use tls_blocks::TlsModules;
 
@@ -53,9 +53,8 @@ pub struct Brings {
     pub edges: Vec<Edge>,
     /// What is kept of the new objects' images.
     pub parts: Vec<Part>,
-    /// The new objects, relocated, in load order.
-    pub images: Images,
-    pub slots: SlotWords,
+    /// What memory gets.
+    pub installs: Installs,
 }
 
 /// What an opening that may come next brings: `startup` says whether nothing was opened yet, `now` whether
@@ -88,6 +87,8 @@ pub fn prepare(
     openings_relocate();
     relocated_are_installs();
     relocated_are_of_records();
+    static_blocks_fit();
+    areas_are_installed();
     let _ = journal.journal();
     let modules = modules_with(alloc, modules, startup, planned.added)?;
     let places = places_of(alloc, modules.as_slice())?;
@@ -95,11 +96,24 @@ pub fn prepare(
     let edges = edges_of(alloc, planned.added, choices)?;
     let parts = parts_of(alloc, planned.added, images.as_slice())?;
     let slots = slots_of(alloc, planned.added)?;
+    let areas = areas_of(
+        alloc,
+        startup,
+        modules.tp(),
+        modules.static_size(),
+        planned.ranges,
+        planned.added,
+        parts.as_slice(),
+    )?;
+    let installs = Installs {
+        images,
+        slots,
+        areas,
+    };
     Ok(Brings {
         modules,
         edges,
         parts,
-        images,
-        slots,
+        installs,
     })
 }

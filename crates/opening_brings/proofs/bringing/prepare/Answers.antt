@@ -1,5 +1,6 @@
 use Rattle.std.proofs.Common.{◌≡◌, ℕ, ◌+◌, Bool, List, length, map, refl, sym, ap, subst, ◌∙◌}
 use Rattle.std.specs.List.{filter}
+use Rattle.std.proofs.lemmas.List.{length-map}
 use Rattle.ld_base.specs.declared.linking.Choice.{Choice}
 use Rattle.ld_base.specs.declared.linking.Loaded.{Loaded}
 use Rattle.link_history.specs.After.{after}
@@ -11,10 +12,12 @@ use Rattle.link_history.specs.Storage.{with_modules}
 use Rattle.opening_brings.specs.declared.bringing.Planned.{Planned}
 use Rattle.opening_images.specs.Relocated.{AreChoices, AreRelocated}
 use Rattle.opening_laws.specs.Laws.{CanBePlaced, image_made}
+use Rattle.image_parts.specs.Parts.{part_of}
+use Rattle.startup_areas.specs.Laws.{statics_then}
 use Rattle.opening_steps.specs.Steps.{AreOfRecords, statics_after, statics_of}
 use Rattle.object_bindings.specs.Bindings.{CanRead}
 use Rattle.relocator.specs.declared.binding.ModulePlace.{ModulePlace}
-use Rattle.opening_brings.proofs.Facts.{can_read, choices_there, have_there, may_there, places_of, places_there, relocated_there, seen_of}
+use Rattle.opening_brings.proofs.Facts.{areas_there, can_read, choices_there, fit_there, have_there, may_there, parts_of, places_of, places_there, relocated_there, seen_of, statics_there}
 use Rattle.opening_brings.proofs.bringing.prepare.Goals as goal
 
 pub modules_with-requires-clause-have : goal.modules_with-requires-clause-have
@@ -66,6 +69,59 @@ parts_of-requires-clause-read c =
     (can_read (seen_of s p) (binds s p.ask.now) (places_of s p) p.added.now c.in_ok-images.images
     (c.new_objects_are_placed.ensures c.args.journal.now.harts c.args.journal.now.events p.hart p.ns p.root p.ask.now p.added.now p.ranges.now c.journal.ensures.lawful c.requires.may) are)
 
+pub areas_of-requires-clause-count : goal.areas_of-requires-clause-count
+areas_of-requires-clause-count c =
+    let p : Planned = c.args.planned.now in
+    let s : State = after c.args.journal.now.events in
+    let places : c.in_ok-places.places ≡ places_of (after c.args.journal.now.events) c.args.planned.now =
+    places_there s p c.args.modules.now c.in_ok-modules.modules c.in_ok-places.places c.requires.modules c.in_ok-modules.ensures.modules (c.in_ok-places.ensures ∙ ap (map place_of) c.as_slice.ensures) in
+    let are : AreRelocated (seen_of (after c.args.journal.now.events) c.args.planned.now) (binds (after c.args.journal.now.events) c.args.planned.now.ask.now)
+    (places_of (after c.args.journal.now.events) c.args.planned.now) c.args.planned.now.added.now c.in_ok-images.images =
+    relocated_there s p c.args.namespaces.now c.args.now c.in_ok-places.places c.in_ok-images.images c.requires.namespaces c.requires.now places c.in_ok-images.ensures in
+    let chosen : AreChoices (seen_of (after c.args.journal.now.events) c.args.planned.now) (binds (after c.args.journal.now.events) c.args.planned.now.ask.now) c.args.planned.now.added.now c.args.choices.now =
+    subst (λ (b : Bool). AreChoices (seen_of s p) b p.added.now c.args.choices.now) c.requires.now c.requires.choices in
+    let of = c.relocated_are_of_records.ensures c.args.journal.now.harts c.args.journal.now.events p.hart p.ns p.root p.ask.now p.added.now p.ranges.now c.journal.ensures.lawful c.requires.may c.in_ok-images.images are in
+    let records : AreOfRecords (image_made s p.hart p.ask.now p.ns p.root p.added.now p.ranges.now) c.args.planned.now.added.now c.in_ok-images.images = λ k o image at there. record {
+      serial = refl;
+      is = of k o image at there;
+    } in
+    let parts : c.in_ok-parts.parts.items ≡ parts_of (after c.args.journal.now.events) c.args.planned.now =
+    c.in_ok-parts.ensures (image_made s p.hart p.ask.now p.ns p.root p.added.now p.ranges.now)
+    (subst (AreOfRecords (image_made s p.hart p.ask.now p.ns p.root p.added.now p.ranges.now) p.added.now) (sym c.as_slice-2.ensures) records) in
+    let statics : statics_of c.in_ok-modules.modules ≡ statics_then (after c.args.journal.now.events) c.args.planned.now.added.now =
+    statics_there s p c.args.modules.now c.in_ok-modules.modules c.args.startup c.requires.modules c.requires.startup c.in_ok-modules.ensures.statics in
+    ap length (c.as_slice-3.ensures.value ∙ parts) ∙ length-map (map (image_made s p.hart p.ask.now p.ns p.root p.added.now p.ranges.now) p.added.now) part_of
+    ∙ length-map p.added.now (image_made s p.hart p.ask.now p.ns p.root p.added.now p.ranges.now)
+
+pub areas_of-requires-clause-fit : goal.areas_of-requires-clause-fit
+areas_of-requires-clause-fit c =
+    let p : Planned = c.args.planned.now in
+    let s : State = after c.args.journal.now.events in
+    let places : c.in_ok-places.places ≡ places_of (after c.args.journal.now.events) c.args.planned.now =
+    places_there s p c.args.modules.now c.in_ok-modules.modules c.in_ok-places.places c.requires.modules c.in_ok-modules.ensures.modules (c.in_ok-places.ensures ∙ ap (map place_of) c.as_slice.ensures) in
+    let are : AreRelocated (seen_of (after c.args.journal.now.events) c.args.planned.now) (binds (after c.args.journal.now.events) c.args.planned.now.ask.now)
+    (places_of (after c.args.journal.now.events) c.args.planned.now) c.args.planned.now.added.now c.in_ok-images.images =
+    relocated_there s p c.args.namespaces.now c.args.now c.in_ok-places.places c.in_ok-images.images c.requires.namespaces c.requires.now places c.in_ok-images.ensures in
+    let chosen : AreChoices (seen_of (after c.args.journal.now.events) c.args.planned.now) (binds (after c.args.journal.now.events) c.args.planned.now.ask.now) c.args.planned.now.added.now c.args.choices.now =
+    subst (λ (b : Bool). AreChoices (seen_of s p) b p.added.now c.args.choices.now) c.requires.now c.requires.choices in
+    let of = c.relocated_are_of_records.ensures c.args.journal.now.harts c.args.journal.now.events p.hart p.ns p.root p.ask.now p.added.now p.ranges.now c.journal.ensures.lawful c.requires.may c.in_ok-images.images are in
+    let records : AreOfRecords (image_made s p.hart p.ask.now p.ns p.root p.added.now p.ranges.now) c.args.planned.now.added.now c.in_ok-images.images = λ k o image at there. record {
+      serial = refl;
+      is = of k o image at there;
+    } in
+    let parts : c.in_ok-parts.parts.items ≡ parts_of (after c.args.journal.now.events) c.args.planned.now =
+    c.in_ok-parts.ensures (image_made s p.hart p.ask.now p.ns p.root p.added.now p.ranges.now)
+    (subst (AreOfRecords (image_made s p.hart p.ask.now p.ns p.root p.added.now p.ranges.now) p.added.now) (sym c.as_slice-2.ensures) records) in
+    let statics : statics_of c.in_ok-modules.modules ≡ statics_then (after c.args.journal.now.events) c.args.planned.now.added.now =
+    statics_there s p c.args.modules.now c.in_ok-modules.modules c.args.startup c.requires.modules c.requires.startup c.in_ok-modules.ensures.statics in
+    fit_there s p (statics_of c.in_ok-modules.modules) c.as_slice-3.result.now c.tp.result c.static_size.result statics c.tp.ensures c.static_size.ensures (c.as_slice-3.ensures.value ∙ parts)
+    (c.static_blocks_fit.ensures c.args.journal.now.harts c.args.journal.now.events p.hart p.ns p.root p.ask.now p.added.now p.ranges.now c.journal.ensures.lawful c.requires.may).blocks
+
+pub areas_of-requires-clause-low : goal.areas_of-requires-clause-low
+areas_of-requires-clause-low c =
+    let p : Planned = c.args.planned.now in
+    (c.static_blocks_fit.ensures c.args.journal.now.harts c.args.journal.now.events p.hart p.ns p.root p.ask.now p.added.now p.ranges.now c.journal.ensures.lawful c.requires.may).low
+
 pub returns : goal.returns
 returns c =
     let p : Planned = c.args.planned.now in
@@ -82,17 +138,27 @@ returns c =
       serial = refl;
       is = of k o image at there;
     } in
+    let parts : c.in_ok-parts.parts.items ≡ parts_of (after c.args.journal.now.events) c.args.planned.now =
+    c.in_ok-parts.ensures (image_made s p.hart p.ask.now p.ns p.root p.added.now p.ranges.now)
+    (subst (AreOfRecords (image_made s p.hart p.ask.now p.ns p.root p.added.now p.ranges.now) p.added.now) (sym c.as_slice-2.ensures) records) in
+    let statics : statics_of c.in_ok-modules.modules ≡ statics_then (after c.args.journal.now.events) c.args.planned.now.added.now =
+    statics_there s p c.args.modules.now c.in_ok-modules.modules c.args.startup c.requires.modules c.requires.startup c.in_ok-modules.ensures.statics in
     record {
       modules = c.in_ok-modules.ensures.modules ∙ ap (with_modules p.added.now) c.requires.modules.modules;
       statics = c.in_ok-modules.ensures.statics ∙ ap (λ (b : Bool). statics_after b p.added.now (statics_of c.args.modules.now)) c.requires.startup
           ∙ ap (statics_after (is_startup s) p.added.now) c.requires.modules.statics;
       generation = c.in_ok-modules.ensures.generation ∙ ap (λ (n : ℕ). n + length (filter has_module p.added.now)) c.requires.modules.generation;
       edges = c.in_ok-edges.ensures (loaded s p.hart p.ask.now p.ns p.root p.added.now p.ranges.now) (seen_of s p) (binds s p.ask.now) chosen;
-      parts = c.in_ok-parts.ensures (image_made s p.hart p.ask.now p.ns p.root p.added.now p.ranges.now)
-          (subst (AreOfRecords (image_made s p.hart p.ask.now p.ns p.root p.added.now p.ranges.now) p.added.now) (sym c.as_slice-2.ensures) records);
-      images = c.relocated_are_installs.ensures c.args.journal.now.harts c.args.journal.now.events p.hart p.ns p.root p.ask.now p.added.now p.ranges.now c.journal.ensures.lawful c.requires.may
-          c.in_ok-images.images are;
-      slots = c.in_ok-slots.ensures;
+      parts = parts;
+      installs = record {
+        images = c.relocated_are_installs.ensures c.args.journal.now.harts c.args.journal.now.events p.hart p.ns p.root p.ask.now p.added.now p.ranges.now c.journal.ensures.lawful c.requires.may
+            c.in_ok-images.images are;
+        slots = c.in_ok-slots.ensures;
+        areas = c.areas_are_installed.ensures c.args.journal.now.harts c.args.journal.now.events p.hart p.ns p.root p.ask.now p.added.now p.ranges.now c.journal.ensures.lawful c.requires.may
+            c.in_ok-areas.areas
+            (areas_there s p (statics_of c.in_ok-modules.modules) c.as_slice-3.result.now c.args.startup c.tp.result c.in_ok-areas.areas statics c.tp.ensures c.requires.startup (c.as_slice-3.ensures.value ∙ parts)
+            c.in_ok-areas.ensures);
+      };
       prepared = c.new_images_are_prepared.ensures c.args.journal.now.harts c.args.journal.now.events p.hart p.ns p.root p.ask.now p.added.now p.ranges.now c.journal.ensures.lawful c.requires.may
           c.in_ok-images.images are;
     }
