@@ -2,11 +2,15 @@
 use Rattle.std.specs.Prelude.{◌≡◌, ℕ, ◌+◌, ◌^◌, ◌<◌, ⊤, true, pos, List, [], ◌∷◌, map, filter}
 use Rattle.std.specs.Int.{w64, cast_signed}
 use Rattle.ld_base.specs.declared.object.Reloc.{Reloc}
+use Rattle.ld_base.specs.declared.object.Symbol.{Symbol}
+use Rattle.ld_base.specs.declared.parts.DynParts.{DynParts}
+use Rattle.elf_dynamic.specs.Parts.{AreNamesAt, IsNameOf}
 use Rattle.elf_write.specs.declared.contents.Contents.{Contents}
 use Rattle.elf_write.specs.declared.contents.Fix.{Fix}
+use Rattle.elf_write.specs.declared.contents.SymbolEntry.{SymbolEntry}
 use Rattle.elf_write.specs.declared.part.Part.TheVariants as parts
 use Rattle.elf_write.specs.declared.starts.Starts.{Starts}
-use Rattle.elf_write.specs.Records.{fix_addend, rela_fields, reloc_type, target_symbol}
+use Rattle.elf_write.specs.Records.{fix_addend, rela_fields, reloc_type, section_index, symbol_fields, symbol_value, target_symbol}
 use Rattle.elf_write.specs.Sizes.{has_listed}
 use Rattle.elf_write.specs.Starts.{address_in, start_in, starts_of, wrapped}
 use Rattle.elf_records.specs.Numbers.{AllFit}
@@ -39,3 +43,24 @@ ListedFit starts (fix ∷ fixes) = (has_listed fix ≡ true → AllFit (rela_fie
 abbrev pub AreSymbolNumbers : List ℕ → Type 0
 AreSymbolNumbers [] = ⊤
 AreSymbolNumbers (symbol ∷ symbols) = (symbol < 2 ^ 32) × AreSymbolNumbers symbols
+
+-- a symbol of this name; its version isn't of this table
+abbrev pub said_symbol : Starts → SymbolEntry → List ℕ → Symbol
+said_symbol starts entry name = record {
+  name = name;
+  info = entry.info;
+  other = entry.other;
+  shndx = section_index entry.spot;
+  value = symbol_value starts entry.spot;
+  size = entry.size;
+  version = 0;
+}
+
+abbrev pub SymbolsFit : Starts → List SymbolEntry → Type 0
+SymbolsFit starts [] = ⊤
+SymbolsFit starts (entry ∷ entries) = AllFit (symbol_fields starts entry) × SymbolsFit starts entries
+
+-- the object's own name and those of the libraries that it needs, by the strings that it has
+pub record SaysNames (contents : Contents) (said : DynParts) : Type 0 where
+  pub soname : IsNameOf contents.strings contents.soname said.soname
+  pub needed : AreNamesAt contents.strings contents.needed said.needed

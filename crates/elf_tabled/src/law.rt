@@ -1,17 +1,21 @@
 //! The laws.
 
-ghost use Rattle.std.specs.Prelude.{◌≡◌, Bool, List, ℕ};
+ghost use Rattle.std.specs.Prelude.{◌≡◌, ◌+◌, Bool, List, ℕ, Some, length};
+ghost use Rattle.std.specs.List.{slice_get};
 ghost use Rattle.ld_base.specs.declared.object.Reloc.{Reloc};
+ghost use Rattle.ld_base.specs.declared.object.Symbol.{Symbol};
 ghost use Rattle.ld_base.specs.declared.parts.DynParts.{DynParts};
-ghost use Rattle.elf_dynamic.specs.Parts.{AreRelocs};
+ghost use Rattle.elf_dynamic.specs.Parts.{AreRelocs, AreSymbols, IsNameAt};
 ghost use Rattle.elf_dynamic.specs.Verdict.{SpellsDynamic};
 ghost use Rattle.elf_write.specs.declared.contents.Contents.{Contents};
 ghost use Rattle.elf_write.specs.declared.contents.SectionBytes.{SectionBytes};
+ghost use Rattle.elf_write.specs.declared.contents.SymbolEntry.{SymbolEntry};
+ghost use Rattle.elf_write.specs.declared.starts.Starts.{Starts};
 ghost use Rattle.elf_write.specs.Starts.{starts_of};
-ghost use Rattle.elf_write.specs.Values.{object_bytes, rela_bytes};
+ghost use Rattle.elf_write.specs.Values.{object_bytes, rela_bytes, symbol_bytes};
 ghost use Rattle.elf_spelled.specs.Said.{TellsNumbers, said_head};
 ghost use Rattle.elf_spelled.specs.Whole.{IsWhole};
-ghost use Rattle.elf_tabled.specs.Tables.{AreSymbolNumbers, ListedFit, said_relocs, said_slots};
+ghost use Rattle.elf_tabled.specs.Tables.{AreSymbolNumbers, ListedFit, SaysNames, SymbolsFit, said_relocs, said_slots, said_symbol};
 
 use elf_spelled::{parts_stand_at_their_starts, the_tags_are_spelled};
 use elf_written::{parts_have_their_sizes, parts_stand_apart};
@@ -45,3 +49,21 @@ pub fn the_slots_are_spelled()
     parts_stand_at_their_starts();
     the_tags_are_spelled();
 }
+
+/// Its own name and those of the libraries that it needs are the strings at the offsets that it has.
+pub fn the_names_are_spelled()
+    ensures { (contents : Contents) (code : SectionBytes) → IsWhole contents code → TellsNumbers contents → (program : Bool) (said : DynParts)
+        → SpellsDynamic (object_bytes (starts_of contents) contents code) (said_head contents) program said → SaysNames contents said }
+{
+    parts_have_their_sizes();
+    parts_stand_apart();
+    parts_stand_at_their_starts();
+    the_tags_are_spelled();
+}
+
+/// Of as many symbols as there are, the null symbol counted, the reader finds each behind that one, with the string at its name's offset.
+pub fn the_table_of_symbols()
+    ensures { (starts : Starts) (entries : List SymbolEntry) (strings : List ℕ) (read : List Symbol) → SymbolsFit starts entries
+        → AreSymbols (symbol_bytes starts entries) strings (1 + length entries) read → (i : ℕ) (entry : SymbolEntry) → slice_get entries i ≡ Some entry
+        → (name : List ℕ) × IsNameAt strings entry.name name × (slice_get read (1 + i) ≡ Some (said_symbol starts entry name)) }
+{}

@@ -3,8 +3,13 @@
 //! - [`the_relocations_are_spelled`]: the relocations of an accepted object are those of the places that the
 //!   linker is told of; [`the_table_of_relocations`] says it of the table's bytes alone.
 //! - [`the_slots_are_spelled`]: its slots are one for each symbol that has one.
+//! - [`the_names_are_spelled`]: its name, and those of the libraries that it needs.
+//! - [`the_table_of_symbols`]: the symbols in the bytes of their table.
 #![tactic(auto)]
 
 mod law;
 
-pub use law::{the_relocations_are_spelled, the_slots_are_spelled, the_table_of_relocations};
+pub use law::{
+    the_names_are_spelled, the_relocations_are_spelled, the_slots_are_spelled,
+    the_table_of_relocations, the_table_of_symbols,
+};
