@@ -1,0 +1,16 @@
+-- What the files, the setup and the schedule settle of a run.
+use Rattle.std.specs.Prelude.{◌≡◌, Some, List}
+use Rattle.ld_base.specs.declared.linking.File.{File}
+use Rattle.link_served.specs.declared.startup.Setup.{Setup}
+use Rattle.link_history.specs.Accepted.{AcceptsOnly}
+use Rattle.link_history.specs.Setting.{Setting}
+use Rattle.schedules.specs.declared.schedule.TurnItem.{TurnItem}
+use Rattle.turn_once.specs.Laws.{HasNoChance}
+use Rattle.world_turns.specs.Run.{Run}
+use Rattle.world_turns.specs.Throughout.{LoadsAlwaysFit}
+use Rattle.world_turns.specs.World.{World}
+
+-- where the library tells its files, a run by a schedule comes to one world, chance apart
+abbrev pub OneRun : Type 0
+OneRun = (w : Setting) (setup : Setup) (items : List TurnItem) (files : List File) (world other : World) → w.files ≡ Some files → AcceptsOnly w.machine
+    → LoadsAlwaysFit w → Run w setup items world → Run w setup items other → HasNoChance world → HasNoChance other → world ≡ other
