@@ -3,6 +3,7 @@ pub mod Closed
 pub mod Granted
 pub mod Held
 pub mod Looked
+pub mod Opened
 pub mod Parts
 pub mod Stored
 pub mod Unmapped

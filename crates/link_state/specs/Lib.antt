@@ -4,6 +4,7 @@ pub mod Holding
 pub mod Inside
 pub mod Locating
 pub mod Looking
+pub mod Opening
 pub mod Settling
 pub mod Table
 pub mod TlsFaults

@@ -4,8 +4,6 @@
 //! (`link_history`). Contracts see the number of harts and the events; that the lists are those of
 //! the state is the type's own business. Each call appends one event that may come next, or leaves all
 //! as before.
-//!
-//! Not all of the linker's calls are here yet: those that load objects aren't.
 #![tactic(auto)]
 
 mod faults;

@@ -23,6 +23,7 @@ ghost use Rattle.link_state.specs.Table.{appended, refusal, settled};
 mod closing;
 mod locating;
 mod looking;
+mod opening;
 mod unmapping;
 
 use crate::faults::GrantFault;

@@ -1,0 +1,55 @@
+-- What an opening brings to the lists.
+use Rattle.std.specs.Prelude.{◌≡◌, ℕ, ◌+◌, List, filter, length, map}
+use Rattle.image_parts.specs.Parts.{part_of}
+use Rattle.image_reads.specs.Reads.{ArePrepared}
+use Rattle.ld_base.specs.declared.linking.Choice.{Choice}
+use Rattle.ld_base.specs.declared.linking.Loaded.{Loaded}
+use Rattle.link_event.specs.declared.event.Event.{Event}
+use Rattle.link_event.specs.declared.event.Event.TheVariants.{Open}
+use Rattle.link_event.specs.declared.event.OpenAnswer.{OpenAnswer}
+use Rattle.link_event.specs.declared.event.OpenAnswer.TheVariants.{Absent, Done, Refused}
+use Rattle.link_event.specs.declared.event.OpenAsk.{OpenAsk}
+use Rattle.link_event.specs.declared.event.Range.{Range}
+use Rattle.link_event.specs.declared.handed.Opening.{Opening}
+use Rattle.link_history.specs.Held.{gained}
+use Rattle.link_history.specs.Objects.{is_startup}
+use Rattle.link_history.specs.State.{State}
+use Rattle.link_history.specs.Step.{binds, has_module, seen_after}
+use Rattle.link_history.specs.Storage.{with_modules}
+use Rattle.link_served.specs.declared.installs.Installs.{Installs}
+use Rattle.link_service.specs.Served.{AreInstalls, InstallsNothing}
+use Rattle.opening_brings.specs.declared.bringing.Brings.{Brings}
+use Rattle.opening_images.specs.Relocated.{AreChoices}
+use Rattle.opening_laws.specs.Laws.{image_made}
+use Rattle.opening_steps.specs.Steps.{statics_after, statics_of}
+
+-- what the lists take in
+pub record Brought (s : State) (hart : ℕ) (ask : OpenAsk) (id root : ℕ) (added : List Loaded) (ranges : List Range) (b : Brings) : Type 0 where
+  pub modules : b.modules.modules ≡ with_modules added s.modules
+  pub statics : statics_of b.modules ≡ statics_after (is_startup s) added s.statics
+  pub generation : b.modules.generation ≡ s.generation + length (filter has_module added)
+  pub edges : b.edges.items ≡ gained s (Open hart ask (Done id root added ranges))
+  pub parts : b.parts.items ≡ map part_of (map (image_made s hart ask id root added ranges) added)
+
+-- ---- the call
+
+-- the event of an opening
+abbrev pub event_of : Opening → Event
+event_of o = Open o.hart o.ask o.answer
+
+-- the choices are those of the state with the new objects in it; a refused opening isn't carried out
+abbrev pub AreChosen : State → OpenAsk → List (List Choice) → OpenAnswer → Type 0
+AreChosen s ask choices (Done id root added ranges) = AreChoices (seen_after s ask id root added) (binds s ask) added choices
+AreChosen s ask choices Absent = Unit {0}
+AreChosen s ask choices (Refused fault) = ⊥
+
+-- what memory gets of new objects; each image is of the record that the state has
+pub record ArePut (s : State) (added : List Loaded) (ranges : List Range) (installs : Installs) : Type 0 where
+  pub installed : AreInstalls s added ranges installs
+  pub prepared : ArePrepared s added installs.images
+
+-- in the state after the opening; where the object is absent, nothing
+abbrev pub IsPut : State → OpenAnswer → Installs → Type 0
+IsPut s (Done id root added ranges) installs = ArePut s added ranges installs
+IsPut s Absent installs = InstallsNothing installs
+IsPut s (Refused fault) installs = ⊥
