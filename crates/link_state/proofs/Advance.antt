@@ -1,9 +1,9 @@
 -- Grants that are settled, and objects that are initialised and finalised.
-use Rattle.std.proofs.Common.{◌≡◌, ⊎_elim, ℕ, suc, ◌+◌, ◌-◌, ◌≤◌, ◌&&◌, ◌||◌, Bool, true, false, not, cond, eqb, List, [], ◌∷◌, ◌++◌, map, length, take, drop, Option, Some, None, refl, sym, ap, subst, ◌∙◌, arith}
+use Rattle.std.proofs.Common.{◌≡◌, ⊎_elim, ℕ, suc, ◌+◌, ◌-◌, ◌≤◌, ◌&&◌, ◌||◌, Bool, true, false, not, cond, eqb, List, [], ◌∷◌, ◌++◌, map, length, Option, Some, None, refl, sym, ap, subst, ◌∙◌, arith}
 use Rattle.std.specs.Prelude.{if◌then◌else◌}
 use Rattle.std.specs.List.{Contains, filter, find, flat_map, slice_get}
 use Rattle.std.proofs.lemmas.Bool.{eqb-true, eq-eqb, true≢false}
-use Rattle.std.proofs.lemmas.List.{append-nil, drop_all, length-map, map-append, take_all}
+use Rattle.std.proofs.lemmas.List.{append-nil, length-map, map-append}
 use Rattle.std.proofs.lemmas.List.Elements.{Contains-append_left, Contains-append_right, Contains-append_cases, filter-append}
 use Rattle.std.proofs.lemmas.List.Folds.{list_any-append}
 use Rattle.std.proofs.lemmas.Option.{slice_get-get_or}
@@ -399,13 +399,3 @@ all_ended s harts hart reason l new holds same is = record {
   keeping = holds.keeping;
   opening = holds.opening;
 }
-
--- ---- a vector that was written through its slice
-
-pub written_back : {X : Type 0} (f : X → X) (items slice new : List X) (n : ℕ) → slice ≡ items → length slice ≡ n → new ≡ map f slice
-    → take n (new ++ drop (length new) items) ≡ map f items
-written_back f items slice new n same len is =
-    let long : length new ≡ length items = ap length is ∙ length-map slice f ∙ ap length same in
-    let none : drop (length new) items ≡ [] = drop_all (length new) items (omega (arith, long)) in
-    let plain : new ++ drop (length new) items ≡ new = ap (λ rest. new ++ rest) none ∙ append-nil new in
-    ap (take n) plain ∙ take_all n new (omega (arith, long, len, ap length same)) ∙ is ∙ ap (map f) same

@@ -47,13 +47,13 @@ use link_history::{
 };
 use link_pending::{OpenGrants, Unfinished};
 use link_served::Installs;
+use listed_namespaces::ListedNamespaces;
 use load_record::LoadRecord;
-use namespace_changes::make_ready;
 use object_holders::holder_in;
 use pending_closings::PendingClosings;
 use reserved_pages::ReservedPages;
 use scope_rule::Namespace;
-use slot_choice::{SlotChoice, SlotFault, slot_choice};
+use slot_choice::{SlotChoice, SlotFault};
 use std::alloc::{AllocError, Global};
 use std::marker::Model;
 use tls_blocks::TlsModules;
@@ -67,7 +67,7 @@ pub struct LinkState {
     kept: KeptFaults,
     settling: OpenGrants,
     unfinished: Unfinished,
-    namespaces: Vec<Namespace>,
+    namespaces: ListedNamespaces,
     reserved: ReservedPages,
     modules: TlsModules,
     blocks: LateBlocks,
@@ -114,7 +114,7 @@ impl LinkState {
             kept: KeptFaults::new(alloc),
             settling: OpenGrants::new(alloc),
             unfinished: Unfinished::new(alloc),
-            namespaces,
+            namespaces: ListedNamespaces::new(alloc, namespaces),
             reserved: ReservedPages::new(alloc),
             modules: TlsModules::new(alloc),
             blocks: LateBlocks::new(alloc),
@@ -310,16 +310,17 @@ impl LinkState {
         }
     }
 
-    /// What a slot chooses now.
-    fn chosen(&self, owner: Serial, eights: u64) -> Result<SlotChoice, SlotFault>
-        ensures ok { IfOk result (ChoosesSlot (after self.now.events) owner eights) }
-        ensures err { IfErr result (IsFaultOf (after self.now.events) owner eights) }
+    /// What a slot chooses now, by the search lists of its namespace: these are made if they aren't there.
+    fn chosen(&mut self, owner: Serial, eights: u64) -> Result<SlotChoice, SlotFault>
+        ensures ok { IfOk result (ChoosesSlot (after self.old.events) owner eights) }
+        ensures err { IfErr result (IsFaultOf (after self.old.events) owner eights) }
+        ensures same { self.new ≡ self.old }
     {
         objects_are_read();
         one_object();
         one_image();
         let _ = self.journal.journal();
-        slot_choice(self.alloc, self.namespaces.as_slice(), owner, eights)
+        self.namespaces.slot_choice(self.alloc, owner, eights)
     }
 
     /// The hart gets a grant of a slot, or notes that the slot may not be bound.
@@ -417,7 +418,7 @@ impl LinkState {
         finalised_once();
         edges_follow();
         let _ = self.journal.journal();
-        make_ready(self.alloc, self.namespaces.as_mut_slice(), serial);
+        self.namespaces.make_ready(self.alloc, serial);
         self.unfinished.push(serial);
         self.journal.push_owed(Event::Init {
             hart,

@@ -1,26 +1,36 @@
 -- What a slot chooses in a state.
-use Rattle.std.specs.Prelude.{◌≡◌, ℕ, ◌*◌, List, Contains, IsTrue}
+use Rattle.std.specs.Prelude.{◌≡◌, ℕ, ◌*◌, List, find, Contains, IsTrue, Option, Some}
 use Rattle.elf_object.specs.Object.{names_own_symbols}
 use Rattle.ld_base.specs.declared.linking.Loaded.{Loaded}
 use Rattle.link_history.specs.Addresses.{address, leads_to_code}
 use Rattle.link_history.specs.Bound.{lazy_word}
+use Rattle.link_history.specs.Objects.{has_object}
 use Rattle.link_history.specs.Slots.{IsSlot}
 use Rattle.link_history.specs.State.{State}
 use Rattle.link_service.specs.Ends.{IsUnloaded, LacksSlot}
+use Rattle.scope_rule.specs.Seen.{seen_in}
 use Rattle.scope_rule.specs.declared.namespace.Namespace.{Namespace}
+use Rattle.search_lists.specs.Lists.{lists_of}
+use Rattle.search_lists.specs.declared.lists.SearchList.{SearchList}
 use Rattle.seg_image.specs.Accepted.{Accepted}
 use Rattle.seg_image.specs.Pages.{guest_address}
 use Rattle.slot_choice.specs.declared.choosing.SlotChoice.{SlotChoice}
 use Rattle.slot_choice.specs.declared.choosing.SlotFault.{SlotFault}
 use Rattle.slot_choice.specs.declared.choosing.SlotFault.TheVariants.{Unloaded, NoSlot, Memory}
+use Rattle.sym_hash.specs.Reached.{IsTableOf}
 
--- an object of which an image can be made, and whose relocations name symbols of its own
+-- an object of which an image can be made, whose hash tables are its own, and whose relocations name symbols of its own
 pub record IsSound (o : Loaded) : Type 0 where
   pub image : Accepted o.object
+  pub table : IsTableOf o.table o.object
   pub names : IsTrue (names_own_symbols o.object)
 
 abbrev pub AllSound : List Namespace → Type 0
 AllSound namespaces = (ns : Namespace) (o : Loaded) → Contains namespaces ns → Contains ns.objects o → IsSound o
+
+-- these are the search lists of the namespace that has an object, if one has it
+abbrev pub AreListsOf : List Namespace → ℕ → Option (List SearchList) → Type 0
+AreListsOf namespaces owner lists = (ns : Namespace) → find (has_object owner) namespaces ≡ Some ns → lists ≡ Some (lists_of (seen_in ns))
 
 -- a slot of a mapped object: where it stands, what it holds until it is bound, what it chooses now, and whether it may be bound to that
 pub record ChoosesSlot (s : State) (owner eights : ℕ) (x : SlotChoice) : Type 0 where

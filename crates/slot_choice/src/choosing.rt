@@ -1,17 +1,19 @@
 //! Choosing for a slot.
 
 ghost use Rattle.std.specs.Prelude.{◌≡◌, ℕ, ◌*◌, ◌/◌, None, Some, slice_get, IfErr, IfNone, IfOk, IfSome};
+ghost use Rattle.std.specs.Option.{option_copied};
 ghost use Rattle.link_history.specs.Addresses.{address, leads_to_code};
 ghost use Rattle.link_history.specs.State.{State};
 ghost use Rattle.object_holders.specs.Holders.{AllAccepted};
 ghost use Rattle.seg_image.specs.Accepted.{Accepted};
-ghost use Rattle.slot_choice.specs.Choosing.{AllSound, ChoosesSlot, IsFaultOf};
+ghost use Rattle.slot_choice.specs.Choosing.{AllSound, AreListsOf, ChoosesSlot, IsFaultOf};
 
 use ld_base::{Choice, Object, Reloc, Serial};
 use mapped_objects::{address_of, home_in, leads_to_code};
-use scope_rule::{Namespace, choose_reloc};
+use scope_rule::Namespace;
+use search_lists::SearchLists;
 use slot_words::moved_word;
-use std::alloc::Global;
+use sym_lookup::lookup_reloc;
 
 /// What a slot would be bound to.
 #[derive(Clone, Copy, Debug, PartialEq, Eq)]
@@ -39,24 +41,28 @@ pub enum SlotFault {
     Memory,
 }
 
-/// What the slot of an object chooses now, `eights` being eight times its number.
+/// What the slot of an object chooses now, `eights` being eight times its number. The lists are those of
+/// the namespace that has the object, if one has it. It takes no memory.
 ///
 /// # Errors
 ///
-/// That no such object is mapped, that it has no such slot, or want of memory.
+/// That no such object is mapped, that it has no such slot, or that the slot's number is no `u32`, for which
+/// no memory would do.
 pub fn slot_choice(
-    alloc: Global,
     namespaces: &[Namespace],
+    lists: Option<&SearchLists>,
     owner: Serial,
     eights: u64,
 ) -> Result<SlotChoice, SlotFault>
-    requires { AllSound namespaces.now }
+    requires sound { AllSound namespaces.now }
+    requires lists { AreListsOf namespaces.now owner (option_copied lists) }
     ensures ok { IfOk result (λ x. (s : State) → s.namespaces ≡ namespaces.now → ChoosesSlot s owner eights x) }
     ensures err { IfErr result (λ e. (s : State) → s.namespaces ≡ namespaces.now → IsFaultOf s owner eights e) }
 {
     let Some(namespace) = home_in(namespaces, owner) else {
         return Err(SlotFault::Unloaded);
     };
+    let Some(lists) = lists else { unreachable!() };
     let view = namespace.view();
     let Some(object) = view.object(owner) else {
         return Err(SlotFault::Unloaded);
@@ -67,9 +73,7 @@ pub fn slot_choice(
     let Ok(slot) = u32::try_from(eights / 8) else {
         return Err(SlotFault::Memory);
     };
-    let Ok(choice) = choose_reloc(alloc, &view, object, reloc) else {
-        return Err(SlotFault::Memory);
-    };
+    let choice = lookup_reloc(&view, lists, object, reloc);
     let lazy = moved_word(&object.object, object.base, reloc.place);
     let value = value_of(namespaces, &choice);
     let code = may_be(namespaces, lazy, &choice);

@@ -2,7 +2,7 @@
 //!
 //! [`slot_choice`] finds the slot that a call through the procedure linkage table asks for, by its object's
 //! serial and eight times its number, and tells what it chooses, what that comes to, and whether the slot
-//! may be bound to it. It changes nothing.
+//! may be bound to it. It looks that up in search lists (`sym_lookup`), and changes nothing.
 #![tactic(auto)]
 
 mod choosing;

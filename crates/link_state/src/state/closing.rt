@@ -12,7 +12,7 @@ use crate::LinkState;
 use crate::faults::CloseFault;
 use closing_graph::opened_in;
 use closing_laws::first_is_opened;
-use closing_plans::{ClosingPlan, close_in, wait};
+use closing_plans::{ClosingPlan, wait};
 use closing_sets::closing_set;
 use lawful_journal::LawfulJournal;
 use ld_base::{HartId, Serial, Serials};
@@ -46,13 +46,8 @@ impl LinkState {
                     pending,
                 } = plan;
                 let root = Serial::new(handle);
-                close_in(
-                    self.alloc,
-                    &mut self.namespaces,
-                    hart,
-                    root,
-                    list.as_slice(),
-                );
+                self.namespaces
+                    .close(self.alloc, hart, root, list.as_slice());
                 wait(&mut self.closings, pending);
                 self.journal.push(closing(hart, handle, list));
                 Ok(dying)

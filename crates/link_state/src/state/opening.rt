@@ -25,7 +25,7 @@ use link_history::edges_follow;
 use link_pending::Unfinished;
 use link_served::Installs;
 use load_record::LoadRecord;
-use namespace_changes::{namespaces_are_numbered_apart, open_in};
+use namespace_changes::namespaces_are_numbered_apart;
 use open_flags::{is_global, is_now};
 use opening_brings::{Brings, Planned, prepare};
 use opening_follows::{closings_take_as_much, new_ranges_are_laid};
@@ -177,7 +177,8 @@ impl LinkState {
             &counts,
         )?;
         let global = is_global(ask.flags);
-        open_in(self.alloc, &mut self.namespaces, ns, copies, root, global)?;
+        self.namespaces
+            .open_in(self.alloc, ns, copies, root, global)?;
         let Brings {
             modules,
             edges,

@@ -14,7 +14,6 @@ use ld_base::{Added, GrantNo, HartId};
 use link_event::{Dying, Event, Ranges, Removed};
 use link_history::{edges_follow, modules_are_few, modules_are_tidy};
 use unmap_steps::{first_is_least, holding, remove_modules};
-use unmapped_objects::take_out;
 
 impl LinkState {
     /// The objects of a closing of the hart, whose destructors have run, are unmapped: they are handed out,
@@ -63,12 +62,8 @@ impl LinkState {
             unreachable!()
         };
         let (set, mut objects, mut ranges) = pending.into_lists();
-        take_out(
-            self.alloc,
-            &mut self.namespaces,
-            set.as_slice(),
-            &mut objects,
-        );
+        self.namespaces
+            .take_out(self.alloc, set.as_slice(), &mut objects);
         self.reserved.remove(set.as_slice(), &mut ranges);
         remove_modules(&mut self.modules, set.as_slice());
         self.blocks.remove(set.as_slice());

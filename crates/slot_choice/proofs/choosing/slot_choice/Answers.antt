@@ -1,12 +1,14 @@
 use Rattle.std.proofs.Common.{rules, ◌≡◌, ◌*◌, ◌/◌, List, Some, None, refl, sym, ap, subst, ◌∙◌}
 use Rattle.std.specs.List.{Contains, find, slice_get}
+use Rattle.std.specs.Option.{option_copied}
 use Rattle.link_history.specs.Objects.{has_object}
 use Rattle.scope_rule.specs.Loading.{object_of, with_serial}
 use Rattle.scope_rule.specs.Relocation.{choice_at}
-use Rattle.scope_rule.specs.Seen.{Seen}
+use Rattle.scope_rule.specs.Seen.{Seen, seen_in}
 use Rattle.scope_rule.specs.declared.namespace.Namespace.{Namespace}
 use Rattle.seg_image.specs.Pages.{guest_address}
-use Rattle.slot_choice.proofs.Slots.{its_namespace, its_object, lacks, low, named, not_lacking, unloaded}
+use Rattle.search_lists.specs.Lists.{lists_of}
+use Rattle.slot_choice.proofs.Slots.{its_namespace, its_object, lacks, listed, low, named, not_lacking, not_none, unloaded}
 use Rattle.slot_choice.proofs.choosing.slot_choice.Goals as goal
 
 pub returns-in_default-clause-err : goal.returns-in_default-clause-err
@@ -22,28 +24,41 @@ returns-in_default-slot_at-clause-err c = λ s are.
     let one : with_serial c.in-Some.namespace.now.objects c.args.owner ≡ Some c.in-Some-object.object.now = ap (λ (v : Seen). object_of v c.args.owner) (sym c.view-view.ensures) ∙ sym c.in-Some-object.ensures in
     lacks s c.args.namespaces.now c.args.owner c.args.eights c.in-Some.namespace.now c.in-Some-object.object.now are (sym c.in-Some.ensures) one c.in_default-slot_at.ensures.none
 
-pub choose_reloc-requires : goal.choose_reloc-requires
-choose_reloc-requires c =
-    let one : with_serial c.in-Some.namespace.now.objects c.args.owner ≡ Some c.in-Some-object.object.now = ap (λ (v : Seen). object_of v c.args.owner) (sym c.view-view.ensures) ∙ sym c.in-Some-object.ensures in
-    let sound = c.requires c.in-Some.namespace.now c.in-Some-object.object.now (its_namespace c.args.namespaces.now c.args.owner c.in-Some.namespace.now (sym c.in-Some.ensures))
-    (its_object c.in-Some.namespace.now.objects c.args.owner c.in-Some-object.object.now one).0 in
-    record { symbol_is_there = named c.in-Some-object.object.now.object (c.args.eights / 8) c.in-Some-slot_at.reloc.now sound.names c.in-Some-slot_at.ensures.found }
+pub unreachable-requires : goal.unreachable-requires
+unreachable-requires c = not_none (option_copied c.args.lists) _ (ap option_copied c.in_default-lists.is) (c.requires.lists c.in-Some.namespace.now (sym c.in-Some.ensures))
+
+pub lookup_reloc-choice-requires : goal.lookup_reloc-choice-requires
+lookup_reloc-choice-requires c =
+    let ns : Namespace = c.in-Some.namespace.now in
+    let there : Contains c.args.namespaces.now ns = its_namespace c.args.namespaces.now c.args.owner ns (sym c.in-Some.ensures) in
+    let one : with_serial ns.objects c.args.owner ≡ Some c.in-Some-object.object.now = ap (λ (v : Seen). object_of v c.args.owner) (sym c.view-view.ensures) ∙ sym c.in-Some-object.ensures in
+    let sound = c.requires.sound ns c.in-Some-object.object.now there (its_object ns.objects c.args.owner c.in-Some-object.object.now one).0 in
+    record {
+      lists = listed (option_copied c.args.lists) c.in-Some-lists.lists.now (lists_of (seen_in ns)) (ap option_copied c.in-Some-lists.is) (c.requires.lists ns (sym c.in-Some.ensures)) ∙ ap lists_of (sym c.view-view.ensures);
+      tables = λ serial o is.
+          (c.requires.sound ns o there (its_object ns.objects serial o (ap (λ (v : Seen). object_of v serial) (sym c.view-view.ensures) ∙ is)).0).table;
+      owner_is_there =
+          ap (λ (v : Seen). object_of v c.in-Some-object.object.now.serial) c.view-view.ensures
+          ∙ ap (with_serial ns.objects) (its_object ns.objects c.args.owner c.in-Some-object.object.now one).1
+          ∙ one;
+      symbol_is_there = named c.in-Some-object.object.now.object (c.args.eights / 8) c.in-Some-slot_at.reloc.now sound.names c.in-Some-slot_at.ensures.found;
+    }
 
 pub moved_word-lazy-requires-clause-accepted : goal.moved_word-lazy-requires-clause-accepted
 moved_word-lazy-requires-clause-accepted c =
     let one : with_serial c.in-Some.namespace.now.objects c.args.owner ≡ Some c.in-Some-object.object.now = ap (λ (v : Seen). object_of v c.args.owner) (sym c.view-view.ensures) ∙ sym c.in-Some-object.ensures in
-    (c.requires c.in-Some.namespace.now c.in-Some-object.object.now (its_namespace c.args.namespaces.now c.args.owner c.in-Some.namespace.now (sym c.in-Some.ensures))
+    (c.requires.sound c.in-Some.namespace.now c.in-Some-object.object.now (its_namespace c.args.namespaces.now c.args.owner c.in-Some.namespace.now (sym c.in-Some.ensures))
     (its_object c.in-Some.namespace.now.objects c.args.owner c.in-Some-object.object.now one).0).image
 
 pub moved_word-lazy-requires-clause-low : goal.moved_word-lazy-requires-clause-low
 moved_word-lazy-requires-clause-low c =
     let one : with_serial c.in-Some.namespace.now.objects c.args.owner ≡ Some c.in-Some-object.object.now = ap (λ (v : Seen). object_of v c.args.owner) (sym c.view-view.ensures) ∙ sym c.in-Some-object.ensures in
-    let sound = c.requires c.in-Some.namespace.now c.in-Some-object.object.now (its_namespace c.args.namespaces.now c.args.owner c.in-Some.namespace.now (sym c.in-Some.ensures))
+    let sound = c.requires.sound c.in-Some.namespace.now c.in-Some-object.object.now (its_namespace c.args.namespaces.now c.args.owner c.in-Some.namespace.now (sym c.in-Some.ensures))
     (its_object c.in-Some.namespace.now.objects c.args.owner c.in-Some-object.object.now one).0 in
     low c.in-Some-object.object.now.object (c.args.eights / 8) c.in-Some-slot_at.reloc.now sound.image c.in-Some-slot_at.ensures.found
 
 pub may_be-code-requires : goal.may_be-code-requires
-may_be-code-requires c = λ ns o there inside. (c.requires ns o there inside).image
+may_be-code-requires c = λ ns o there inside. (c.requires.sound ns o there inside).image
 
 pub returns-clause-ok : goal.returns-clause-ok
 unfolding guest_address
@@ -61,7 +76,7 @@ returns-clause-ok c = λ s are.
         is = (its_object c.in-Some.namespace.now.objects c.args.owner c.in-Some-object.object.now one).1;
         reloc = c.in-Some-slot_at.reloc.now;
         at = ap (slice_get c.in-Some-object.object.now.object.plt_relocs) slot ∙ c.in-Some-slot_at.ensures.found;
-        chooses = c.in-Ok-choose_reloc.ensures ∙ ap (λ (v : Seen). choice_at v c.in-Some-object.object.now c.in-Some-slot_at.reloc.now) c.view-view.ensures;
+        chooses = c.lookup_reloc-choice.ensures ∙ ap (λ (v : Seen). choice_at v c.in-Some-object.object.now c.in-Some-slot_at.reloc.now) c.view-view.ensures;
       };
       place = refl;
       lazy = c.moved_word-lazy.ensures;

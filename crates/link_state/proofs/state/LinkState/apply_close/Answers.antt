@@ -32,16 +32,16 @@ invariant_of-self c =
     let next : MayFollow c.self.inside.journal.harts c.self.inside.journal.events e = follows c.self.inside.journal.harts c.self.inside.journal.events e plan.closes in
     let follow : EdgesFollow (after c.self.inside.journal.events) e =
     c.edges_follow.ensures.follow (machine_of c.self.inside.journal.harts) next.setting c.self.inside.journal.events e c.journal.ensures.lawful next.may in
-    let spaces : c.close_in.new.namespaces.items ≡ closed_by c.args.hart c.args.handle c.in_ok-plan.plan.list c.self.inside.namespaces.items =
-    c.close_in.ensures ∙ ap (λ root. closed_by c.args.hart root c.as_slice.result.now c.self.inside.namespaces.items) c.new-root.ensures
-    ∙ ap (λ (set : List ℕ). closed_by c.args.hart c.args.handle set c.self.inside.namespaces.items) c.as_slice.ensures in
+    let spaces : c.close.new.self ≡ closed_by c.args.hart c.args.handle c.in_ok-plan.plan.list c.self.inside.namespaces =
+    c.close.ensures ∙ ap (λ root. closed_by c.args.hart root c.as_slice.result.now c.self.inside.namespaces) c.new-root.ensures
+    ∙ ap (λ (set : List ℕ). closed_by c.args.hart c.args.handle set c.self.inside.namespaces) c.as_slice.ensures in
     let pushed : c.wait.new.closings.closings ≡ c.self.inside.closings.closings ++ option_to_list c.in_ok-plan.plan.pending =
     c.wait.ensures ∙ ap (λ (ps : List PendingClosing). ps ++ option_to_list c.in_ok-plan.plan.pending) c.make_room.ensures.closings in
     let state : after c.push.new.self.events ≡ step (after c.self.inside.journal.events) e =
     c.push.ensures.state ∙ ap (step (after c.make_room.new.journal.events)) c.closing.ensures ∙ ap (λ (es : List Event). step (after es) e) c.make_room.ensures.events in
     holds_after (step (after c.self.inside.journal.events) e) (after c.push.new.self.events) c.self.inside.journal.harts c.push.new.self.harts
-    (record (lists_of c.self.inside) { namespaces = c.close_in.new.namespaces.items; closings = c.wait.new.closings }) state (c.push.ensures.harts ∙ c.make_room.ensures.harts)
-    (all_closed (after c.self.inside.journal.events) c.self.inside.journal.harts c.args.hart c.args.handle c.in_ok-plan.plan.list (lists_of c.self.inside) c.close_in.new.namespaces.items c.wait.new.closings
+    (record (lists_of c.self.inside) { namespaces = c.close.new.self; closings = c.wait.new.closings }) state (c.push.ensures.harts ∙ c.make_room.ensures.harts)
+    (all_closed (after c.self.inside.journal.events) c.self.inside.journal.harts c.args.hart c.args.handle c.in_ok-plan.plan.list (lists_of c.self.inside) c.close.new.self c.wait.new.closings
     c.in_ok-plan.plan.pending c.self.invariant follow spaces pushed plan.waits plan.roomy)
 
 pub invariant_of-self-in-Err : goal.invariant_of-self-in-Err

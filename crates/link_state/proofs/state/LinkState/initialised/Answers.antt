@@ -10,7 +10,7 @@ use Rattle.link_history.specs.Step.{initialise, ready_in}
 use Rattle.lawful_journal.specs.Following.{MayFollow, machine_of}
 use Rattle.link_state.specs.Inside.{lists_of}
 use Rattle.link_state.specs.Table.{LinkTable}
-use Rattle.link_state.proofs.Advance.{all_initialised, not_finished, some_left, written_back}
+use Rattle.link_state.proofs.Advance.{all_initialised, not_finished, some_left}
 use Rattle.link_state.proofs.Held.{holds_after}
 use Rattle.link_state.proofs.state.LinkState.initialised.Goals as goal
 
@@ -44,15 +44,13 @@ invariant_of-self c =
     let finished : FinalisedOnce (after c.self.inside.journal.events) = c.finalised_once.ensures (machine_of c.self.inside.journal.harts) c.self.inside.journal.events c.journal.ensures.lawful in
     let unfinished : has (after c.self.inside.journal.events).finis c.args.serial ≡ false =
     not_finished (after c.self.inside.journal.events).inits (after c.self.inside.journal.events).finis c.args.serial finished.initialised next.may.next.may.undone in
-    let ready : take c.self.inside.namespaces.len (c.make_ready.new.namespaces ++ drop (length c.make_ready.new.namespaces) c.self.inside.namespaces.items)
-    ≡ map (ready_in c.args.serial) c.self.inside.namespaces.items =
-    written_back (ready_in c.args.serial) c.self.inside.namespaces.items c.as_mut_slice.result.now c.make_ready.new.namespaces c.self.inside.namespaces.len c.as_mut_slice.ensures.value
-    c.as_mut_slice.ensures.len c.make_ready.ensures in
+    let ready : c.make_ready.new.self ≡ map (ready_in c.args.serial) c.self.inside.namespaces =
+    c.make_ready.ensures in
     let follow : EdgesFollow (after c.self.inside.journal.events) (Init c.args.hart c.args.serial) =
     c.edges_follow.ensures.follow (machine_of c.self.inside.journal.harts) next.setting c.self.inside.journal.events (Init c.args.hart c.args.serial) c.journal.ensures.lawful next.may in
     holds_after (initialise c.args.serial (after c.self.inside.journal.events)) (after c.push_owed.new.self.events) c.self.inside.journal.harts c.push_owed.new.self.harts
-    (record (lists_of c.self.inside) { unfinished = c.push.new.self; namespaces = take c.self.inside.namespaces.len (c.make_ready.new.namespaces ++ drop (length c.make_ready.new.namespaces) c.self.inside.namespaces.items) })
+    (record (lists_of c.self.inside) { unfinished = c.push.new.self; namespaces = c.make_ready.new.self })
     c.push_owed.ensures.state c.push_owed.ensures.harts
     (all_initialised (after c.self.inside.journal.events) c.self.inside.journal.harts c.args.hart c.args.serial (lists_of c.self.inside) c.push.new.self
-    (take c.self.inside.namespaces.len (c.make_ready.new.namespaces ++ drop (length c.make_ready.new.namespaces) c.self.inside.namespaces.items))
+    c.make_ready.new.self
     c.self.invariant follow unfinished (some_left c.self.inside.journal.harts (after c.self.inside.journal.events) c.args.serial one) c.push.ensures.serials c.push.ensures.room ready)

@@ -52,7 +52,7 @@ invariant_of-self-in_err-open_in c =
       edges = c.make_room.new.edges;
       loads = c.make_room.new.loads;
     } in
-    holds_after (after c.self.inside.journal.events) (after c.make_room.new.journal.events) c.self.inside.journal.harts c.make_room.new.journal.harts (with_spaces c.open_in.new.namespaces.items)
+    holds_after (after c.self.inside.journal.events) (after c.make_room.new.journal.events) c.self.inside.journal.harts c.make_room.new.journal.harts (with_spaces c.open_in.new.self)
     (ap after c.make_room.ensures.events) c.make_room.ensures.harts
     (subst (λ (all : List Namespace). HoldsAll (after c.self.inside.journal.events) c.self.inside.journal.harts (with_spaces all)) (sym c.in_err-open_in.ensures.err)
     (all_with_room (after c.self.inside.journal.events) c.self.inside.journal.harts (lists_of c.self.inside) c.make_room.new.unfinished c.make_room.new.reserved c.make_room.new.parts c.make_room.new.edges
@@ -81,10 +81,10 @@ invariant_of-self-2 c =
     let few : (after c.self.inside.journal.events).next + length c.args.added < 2 ^ 62 =
     subst (λ (v : LinkTable). (after v.events).next + length c.args.added < 2 ^ 62) (sym c.self.view_is) c.requires.serials in
     let room : c.self.inside.unfinished.room + length c.args.added ≤ c.make_room.new.unfinished.room = omega (arith, c.in_ok-make_room.ensures.more_unfinished, c.counts_of-counts.ensures.objects) in
-    let spaces : c.open_in.new.namespaces.items ≡ with_namespace c.args.ns (λ ns. opened ns c.args.added c.args.root (is_global c.args.ask.flags)) c.self.inside.namespaces.items =
+    let spaces : c.open_in.new.self ≡ with_namespace c.args.ns (λ ns. opened ns c.args.added c.args.root (is_global c.args.ask.flags)) c.self.inside.namespaces =
     c.in_ok-open_in.ensures.ok
-    ∙ ap (λ (os : List Loaded). with_namespace c.args.ns (λ ns. opened ns os c.args.root c.is_global-global.result) c.self.inside.namespaces.items) c.requires.copies
-    ∙ ap (λ (b : Bool). with_namespace c.args.ns (λ ns. opened ns c.args.added c.args.root b) c.self.inside.namespaces.items) c.is_global-global.ensures in
+    ∙ ap (λ (os : List Loaded). with_namespace c.args.ns (λ ns. opened ns os c.args.root c.is_global-global.result) c.self.inside.namespaces) c.requires.copies
+    ∙ ap (λ (b : Bool). with_namespace c.args.ns (λ ns. opened ns c.args.added c.args.root b) c.self.inside.namespaces) c.is_global-global.ensures in
     let ranges : c.reserve_all.new.reserved.ranges ≡ c.self.inside.reserved.ranges ++ c.args.ranges =
     c.reserve_all.ensures ∙ ap (λ (rs : List Range). rs ++ c.as_slice.result.now) c.make_room.ensures.ranges ∙ ap (λ (rs : List Range). c.self.inside.reserved.ranges ++ rs) c.as_slice.ensures in
     let parts : c.keep_all.new.kept.parts ≡ c.self.inside.parts.parts
@@ -99,7 +99,7 @@ invariant_of-self-2 c =
     holds_after (open_done s c.args.hart c.args.ask c.args.ns c.args.root c.args.added c.args.ranges) (after c.push.new.self.events) c.self.inside.journal.harts c.push.new.self.harts
     (record (lists_of c.self.inside) {
       unfinished = c.make_room.new.unfinished;
-      namespaces = c.open_in.new.namespaces.items;
+      namespaces = c.open_in.new.self;
       reserved = c.reserve_all.new.reserved;
       modules = c.args.brings.modules;
       parts = c.keep_all.new.kept;
@@ -107,7 +107,7 @@ invariant_of-self-2 c =
       loads = c.note.new.self;
     })
     state (c.push.ensures.harts ∙ c.make_room.ensures.harts)
-    (all_opened s c.self.inside.journal.harts c.args.hart c.args.ns c.args.root c.args.ask c.args.added c.args.ranges (lists_of c.self.inside) c.make_room.new.unfinished c.open_in.new.namespaces.items
+    (all_opened s c.self.inside.journal.harts c.args.hart c.args.ns c.args.root c.args.ask c.args.added c.args.ranges (lists_of c.self.inside) c.make_room.new.unfinished c.open_in.new.self
     c.reserve_all.new.reserved c.args.brings.modules c.keep_all.new.kept c.hold_all.new.held c.note.new.self c.self.invariant (omega (arith, few)) follow
     (c.closings_take_as_much.ensures c.self.inside.journal.harts c.self.inside.journal.events c.args.hart c.args.ns c.args.root c.args.ask c.args.added c.args.ranges c.journal.ensures.lawful next)
     c.make_room.ensures.serials room spaces ranges is.modules is.statics is.generation parts edges more

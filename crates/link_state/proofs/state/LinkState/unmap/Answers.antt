@@ -35,8 +35,8 @@ take_out-requires c =
     sym (c.in-Some.ensures.taken ∙ ap (λ (ds : List ℕ). find (is_of c.args.hart ds) c.self.inside.closings.closings) c.as_slice.ensures) in
     let is : IsTaken (after c.self.inside.journal.events) c.args.dying.now.list c.in-Some.pending =
     taken (after c.self.inside.journal.events) c.self.inside.journal.harts c.args.hart c.args.dying.now.list (lists_of c.self.inside) c.in-Some.pending c.self.invariant found in
-    let fit : count_by (goes c.as_slice-2.result.now) (flat_map (λ (ns : Namespace). ns.objects) c.self.inside.namespaces.items) ≤ c.in-Some.pending.objects =
-    objects_fit (after c.self.inside.journal.events) c.as_slice-2.result.now c.self.inside.namespaces.items c.in-Some.pending c.self.invariant.running.spaces
+    let fit : count_by (goes c.as_slice-2.result.now) (flat_map (λ (ns : Namespace). ns.objects) c.self.inside.namespaces) ≤ c.in-Some.pending.objects =
+    objects_fit (after c.self.inside.journal.events) c.as_slice-2.result.now c.self.inside.namespaces c.in-Some.pending c.self.invariant.running.spaces
     (sym (c.as_slice-2.ensures ∙ c.into_lists-set.ensures.set)) is.roomy in
     let none : length c.into_lists-set.result.1.items ≡ 0 = ap length c.into_lists-set.ensures.no_objects in
     omega (arith, fit, none, c.into_lists-set.result.1.ok.0, c.into_lists-set.ensures.objects)
@@ -78,9 +78,9 @@ invariant_of-self c =
     follows c.self.inside.journal.harts c.self.inside.journal.events (Unmapped c.args.hart c.into_lists-set.result.0) may in
     let follow : EdgesFollow (after c.self.inside.journal.events) (Unmapped c.args.hart c.into_lists-set.result.0) =
     c.edges_follow.ensures.follow (machine_of c.self.inside.journal.harts) next.setting c.self.inside.journal.events (Unmapped c.args.hart c.into_lists-set.result.0) c.journal.ensures.lawful next.may in
-    let out : AreWithout c.args.hart c.into_lists-set.result.0 (lists_of c.self.inside) c.take_out.new.namespaces.items c.remove.new.self c.remove_modules.new.modules c.remove-2.new.self c.remove-3.new.self c.remove-4.new.self c.take.new.self =
+    let out : AreWithout c.args.hart c.into_lists-set.result.0 (lists_of c.self.inside) c.take_out.new.self c.remove.new.self c.remove_modules.new.modules c.remove-2.new.self c.remove-3.new.self c.remove-4.new.self c.take.new.self =
     record {
-      spaces = c.take_out.ensures.namespaces ∙ ap (λ (ds : List ℕ). filter is_left (map (gone_in ds) c.self.inside.namespaces.items)) c.as_slice-2.ensures;
+      spaces = c.take_out.ensures.namespaces ∙ ap (λ (ds : List ℕ). filter is_left (map (gone_in ds) c.self.inside.namespaces)) c.as_slice-2.ensures;
       ranges = c.remove.ensures.ranges ∙ ap (λ (ds : List ℕ). filter (λ r. not (goes_with ds r)) c.self.inside.reserved.ranges) c.as_slice-3.ensures;
       numbered = c.remove_modules.ensures.modules ∙ ap (λ (ds : List ℕ). filter (λ m. not (is_of_set ds m)) c.self.inside.modules.modules) c.as_slice-4.ensures;
       generation = c.remove_modules.ensures.generation ∙ ap (λ (ds : List ℕ). c.self.inside.modules.generation + length (filter (is_of_set ds) c.self.inside.modules.modules)) c.as_slice-4.ensures;
@@ -94,7 +94,7 @@ invariant_of-self c =
     } in
     holds_after (unmap c.args.hart c.into_lists-set.result.0 (after c.self.inside.journal.events)) (after c.push_owed.new.self.events) c.self.inside.journal.harts c.push_owed.new.self.harts
     (record (lists_of c.self.inside) {
-      namespaces = c.take_out.new.namespaces.items;
+      namespaces = c.take_out.new.self;
       reserved = c.remove.new.self;
       modules = c.remove_modules.new.modules;
       blocks = c.remove-2.new.self;
@@ -102,7 +102,7 @@ invariant_of-self c =
       edges = c.remove-4.new.self;
       closings = c.take.new.self;
     }) c.push_owed.ensures.state c.push_owed.ensures.harts
-    (all_unmapped (after c.self.inside.journal.events) c.self.inside.journal.harts c.args.hart c.into_lists-set.result.0 (lists_of c.self.inside) c.take_out.new.namespaces.items c.remove.new.self
+    (all_unmapped (after c.self.inside.journal.events) c.self.inside.journal.harts c.args.hart c.into_lists-set.result.0 (lists_of c.self.inside) c.take_out.new.self c.remove.new.self
     c.remove_modules.new.modules c.remove-2.new.self c.remove-3.new.self c.remove-4.new.self c.take.new.self c.self.invariant follow (c.parts_go.ensures c.into_lists-set.result.0) out)
 
 pub returns-clause-state : goal.returns-clause-state
@@ -126,8 +126,8 @@ returns-clause-removed c =
     let of : c.into_lists-set.result.0 ≡ c.args.dying.now.list = c.into_lists-set.ensures.set ∙ is.of in
     subst (λ (v : LinkTable). IsRemoved (after v.events) c.args.dying.now.list (record { objects = c.from.result; ranges = c.from-2.result })) c.self.view_is (record {
       objects = c.from.ensures ∙ c.take_out.ensures.gone
-          ∙ ap (λ (os : List Loaded). os ++ filter (goes c.as_slice-2.result.now) (flat_map (λ (ns : Namespace). ns.objects) c.self.inside.namespaces.items)) c.into_lists-set.ensures.no_objects
-          ∙ ap (λ (ds : List ℕ). filter (goes ds) (flat_map (λ (ns : Namespace). ns.objects) c.self.inside.namespaces.items)) (c.as_slice-2.ensures ∙ of)
+          ∙ ap (λ (os : List Loaded). os ++ filter (goes c.as_slice-2.result.now) (flat_map (λ (ns : Namespace). ns.objects) c.self.inside.namespaces)) c.into_lists-set.ensures.no_objects
+          ∙ ap (λ (ds : List ℕ). filter (goes ds) (flat_map (λ (ns : Namespace). ns.objects) c.self.inside.namespaces)) (c.as_slice-2.ensures ∙ of)
           ∙ ap (λ (nss : List Namespace). filter (goes c.args.dying.now.list) (flat_map (λ (ns : Namespace). ns.objects) nss)) c.self.invariant.running.spaces;
       ranges = c.from-2.ensures ∙ c.remove.ensures.gone ∙ ap (λ (rs : List Range). rs ++ filter (goes_with c.as_slice-3.result.now) c.self.inside.reserved.ranges) c.into_lists-set.ensures.no_ranges
           ∙ ap (λ (ds : List ℕ). filter (goes_with ds) c.self.inside.reserved.ranges) (c.as_slice-3.ensures ∙ of)

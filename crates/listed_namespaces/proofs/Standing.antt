@@ -1,0 +1,113 @@
+-- Lists that are kept of namespaces.
+use Rattle.std.proofs.Common.{◌≡◌, ◌⊎◌, ℕ, ◌<◌, ◌∙◌, Bool, true, false, cond, inl, inr, List, [], ◌∷◌, ap, refl, subst, sym, append-nil, eq-eqb, get_or, drop, length, map, take, ◌++◌, arith}
+use Rattle.std.specs.Prelude.{◌==◌, find, position, option_map, slice_get, nat_eq, IsSome, Option, Some, None}
+use Rattle.std.specs.Option.{is_some}
+use Rattle.std.proofs.lemmas.Bool.{cases_Bool, eqb-true}
+use Rattle.std.proofs.lemmas.Grind.{common_steps}
+use Rattle.std.proofs.lemmas.List.{drop_all, length-map, take_all}
+use Rattle.std.proofs.lemmas.List.Folds.{find_at}
+use Rattle.std.proofs.lemmas.List.Quantifiers.{position-Some}
+use Rattle.std.proofs.lemmas.Option.{slice_get-get_or, slice_get-map}
+use Rattle.ld_base.specs.declared.linking.Loaded.{Loaded}
+use Rattle.ld_base.specs.declared.linking.State.{State}
+use Rattle.ld_base.specs.declared.linking.State.TheVariants as states
+use Rattle.link_history.specs.Step.{ready_in, ready_object, ready_state}
+use Rattle.listed_namespaces.specs.Kept.{AreKept, kept_at}
+use Rattle.listed_namespaces.specs.declared.kept.KeptLists.{KeptLists}
+use Rattle.scope_rule.specs.Loading.{is_dying}
+use Rattle.scope_rule.specs.Seen.{Seen, seen_in}
+use Rattle.scope_rule.specs.declared.namespace.Namespace.{Namespace}
+use Rattle.search_lists.specs.Lists.{ChangesStateAlone, lists_of}
+use Rattle.search_lists.specs.declared.lists.SearchList.{SearchList}
+
+-- the element at the first place is the first
+found_by : {X : Type 0} (p : X → Bool) (xs : List X) (k : ℕ) → position p xs ≡ Some k → slice_get xs k ≡ find p xs
+found_by p xs k e = sym (find_at p xs ∙ ap (slice_get xs) (grind (arith, common_steps)))
+
+-- and it is there
+pub is_place : {X : Type 0} (p : X → Bool) (xs : List X) (k : ℕ) → position p xs ≡ Some k → k < length xs
+is_place p [] k e = absurd (cc e)
+is_place p (x ∷ xs) k e = (position-Some p (x ∷ xs) k x e).0
+
+pub none_found : {X : Type 0} (p : X → Bool) (xs : List X) → position p xs ≡ None → find p xs ≡ None
+none_found p [] e = refl
+none_found p (x ∷ xs) e = grind (arith, common_steps, none_found p xs)
+
+-- none is kept at first
+pub none_kept : (nss : List Namespace) (kept : KeptLists) → ((place : ℕ) → kept_at kept place ≡ None) → AreKept nss kept
+none_kept nss kept none place ns lists there has = absurd (let no : None ≡ Some lists = sym (none place) ∙ has in cc no)
+
+-- one more is kept
+pub one_kept : (nss : List Namespace) (old new : KeptLists) (place : ℕ) (ns : Namespace) (lists : List SearchList) → AreKept nss old → slice_get nss place ≡ Some ns → lists ≡ lists_of (seen_in ns)
+    → ((q : ℕ) → kept_at new q ≡ cond (nat_eq place q) (Some lists) (kept_at old q)) → AreKept nss new
+one_kept nss old new place ns lists are there right updates q other other_lists here has = by (cases_Bool (nat_eq place q))
+  where
+    by : (nat_eq place q ≡ true) ⊎ (nat_eq place q ≡ false) → other_lists ≡ lists_of (seen_in other)
+    by (inl same) =
+        let e : place ≡ q = eqb-true place q same in
+        let one : Some lists ≡ Some other_lists = ap (λ b. cond b (Some lists) (kept_at old q)) (sym same) ∙ sym (updates q) ∙ has in
+        let is : lists ≡ other_lists = cc one in
+        let two : Some ns ≡ Some other = sym there ∙ ap (slice_get nss) e ∙ here in
+        let home : ns ≡ other = cc two in
+        sym is ∙ right ∙ ap (λ (x : Namespace). lists_of (seen_in x)) home
+    by (inr apart) = are q other other_lists here (sym (updates q ∙ ap (λ b. cond b (Some lists) (kept_at old q)) apart) ∙ has)
+
+-- what is kept of the first namespace that passes are its lists
+pub first_kept : (p : Namespace → Bool) (nss : List Namespace) (kept : KeptLists) (place : ℕ) (ns : Namespace) (found : Option (List SearchList)) → AreKept nss kept → position p nss ≡ Some place → IsSome (kept_at kept place) → found ≡ kept_at kept place
+    → find p nss ≡ Some ns → found ≡ Some (lists_of (seen_in ns))
+first_kept p nss kept place ns found are at has is first = by (kept_at kept place) refl has
+  where
+    by : (o : Option (List SearchList)) → kept_at kept place ≡ o → IsSome o → found ≡ Some (lists_of (seen_in ns))
+    by (Some l) e has = is ∙ e ∙ ap (λ (x : List SearchList). Some x) (are place ns l (found_by p nss place at ∙ first) e)
+    by None e has = absurd (cc has)
+
+-- ---- an object that becomes ready
+
+with_state_alone : (o : Loaded) (st : State) → ChangesStateAlone (record o { state = st }) (ready_state (record o { state = st }))
+with_state_alone o (states.Initialising hart) = record { rest = refl; closing = refl }
+with_state_alone o states.Ready = record { rest = refl; closing = refl }
+with_state_alone o (states.Dying hart) = record { rest = refl; closing = refl }
+
+pub becomes_ready : (serial : ℕ) (o : Loaded) → ChangesStateAlone o (ready_object serial o)
+becomes_ready serial o = by (o.serial == serial)
+  where
+    by : (own : Bool) → ChangesStateAlone o (cond own (ready_state o) o)
+    by true = with_state_alone o o.state
+    by false = record { rest = refl; closing = refl }
+
+-- lists that stay
+pub ready_kept : (serial : ℕ) (nss : List Namespace) (kept : KeptLists) → ((s : Seen) (change : Loaded → Loaded) → ((o : Loaded) → ChangesStateAlone o (change o)) → lists_of (record s { objects = map change s.objects }) ≡ lists_of s)
+    → AreKept nss kept → AreKept (map (ready_in serial) nss) kept
+ready_kept serial nss kept stay are place ns lists there has = by (slice_get nss place) refl
+  where
+    at : slice_get (map (ready_in serial) nss) place ≡ option_map (ready_in serial) (slice_get nss place)
+    at = slice_get-map (ready_in serial) nss place
+
+    by : (o : Option Namespace) → slice_get nss place ≡ o → lists ≡ lists_of (seen_in ns)
+    by None is = absurd (let no : None ≡ Some ns = ap (option_map (ready_in serial)) (sym is) ∙ sym at ∙ there in cc no)
+    by (Some before) is =
+        let both : Some (ready_in serial before) ≡ Some ns = ap (option_map (ready_in serial)) (sym is) ∙ sym at ∙ there in
+        let same : ready_in serial before ≡ ns = cc both in
+        are place before lists is has ∙ sym (stay (seen_in before) (ready_object serial) (becomes_ready serial)) ∙ ap (λ (x : Namespace). lists_of (seen_in x)) same
+
+-- ---- a vector that was written through its slice
+
+pub written_back : {X : Type 0} (f : X → X) (items slice new : List X) (n : ℕ) → slice ≡ items → length slice ≡ n → new ≡ map f slice
+    → take n (new ++ drop (length new) items) ≡ map f items
+written_back f items slice new n same len is =
+    let long : length new ≡ length items = ap length is ∙ length-map slice f ∙ ap length same in
+    let none : drop (length new) items ≡ [] = drop_all (length new) items (omega (arith, long)) in
+    let plain : new ++ drop (length new) items ≡ new = ap (λ rest. new ++ rest) none ∙ append-nil new in
+    ap (take n) plain ∙ take_all n new (omega (arith, long, len, ap length same)) ∙ is ∙ ap (map f) same
+
+-- the namespace at a place
+pub at_index : (nss : List Namespace) (place : ℕ) (ns : Namespace) → place < length nss → ns ≡ get_or nss place ns → slice_get nss place ≡ Some ns
+at_index nss place ns within is = slice_get-get_or nss place ns within ∙ ap (λ (x : Namespace). Some x) (sym is)
+
+-- what was put at a place is there
+pub is_there : (place : ℕ) (lists : List SearchList) (old new : Option (List SearchList)) → new ≡ cond (nat_eq place place) (Some lists) old → IsSome new
+is_there place lists old new is = subst IsSome (sym (is ∙ ap (λ b. cond b (Some lists) old) (eq-eqb place place refl))) refl
+
+-- no lists are wanted where no namespace passes
+pub none_there : (p : Namespace → Bool) (nss : List Namespace) (ns : Namespace) (lists : Option (List SearchList)) → position p nss ≡ None → find p nss ≡ Some ns → lists ≡ Some (lists_of (seen_in ns))
+none_there p nss ns lists none first = absurd (let no : None ≡ Some ns = sym (none_found p nss none) ∙ first in cc no)

@@ -1,0 +1,17 @@
+-- Search lists that are kept of namespaces: for the code of this crate alone.
+use Rattle.std.specs.Prelude.{◌≡◌, ℕ, nat_eq, List, Option, Some}
+use Rattle.std.specs.HashMap.{get}
+use Rattle.std.specs.List.{slice_get}
+use Rattle.listed_namespaces.specs.declared.kept.KeptLists.{KeptLists}
+use Rattle.scope_rule.specs.Seen.{seen_in}
+use Rattle.scope_rule.specs.declared.namespace.Namespace.{Namespace}
+use Rattle.search_lists.specs.Lists.{lists_of}
+use Rattle.search_lists.specs.declared.lists.SearchList.{SearchList}
+
+-- the lists that are kept of the namespace at a place
+abbrev pub kept_at : KeptLists → ℕ → Option (List SearchList)
+kept_at kept place = get nat_eq kept.by_place place
+
+-- what is kept of a namespace are its lists
+abbrev pub AreKept : List Namespace → KeptLists → Type 0
+AreKept namespaces kept = (place : ℕ) (ns : Namespace) (lists : List SearchList) → slice_get namespaces place ≡ Some ns → kept_at kept place ≡ Some lists → lists ≡ lists_of (seen_in ns)
