@@ -1,0 +1,130 @@
+//! Options, and the words that they take.
+
+ghost use Rattle.std.specs.Prelude.{◌≡◌, option_and_then, option_map};
+ghost use Rattle.std.specs.List.{list_any};
+ghost use Rattle.command_line.specs.Options.{has_dash, has_value, is_choice, is_option, name_of, option_in};
+ghost use Rattle.said_words.specs.Words.{behind_value, joined_front, option_at, taking_front, taking_next, texts};
+
+use command_line::Choice;
+
+/// How an option is written.
+fn name_of(choice: Choice) -> &'static str
+    ensures { result.now ≡ name_of choice }
+{
+    match choice {
+        Choice::Lib => "--lib",
+        Choice::Preload => "--preload",
+        Choice::Harts => "--harts",
+        Choice::Fuel => "--fuel",
+        Choice::Now => "--now",
+        Choice::Trace => "--trace",
+    }
+}
+
+/// Whether the option has a value, or stands alone.
+fn has_value(choice: Choice) -> bool
+    ensures { result ≡ has_value choice }
+{
+    match choice {
+        Choice::Lib | Choice::Preload | Choice::Harts | Choice::Fuel => true,
+        Choice::Now | Choice::Trace => false,
+    }
+}
+
+/// Whether the option stands among these.
+pub(crate) fn stands_among(choice: Choice, seen: &[Choice]) -> bool
+    ensures { result ≡ list_any (is_choice choice) seen.now }
+{
+    seen.iter().any(|other| name_of(choice) == name_of(*other))
+}
+
+fn has_dash(word: &[u8]) -> bool
+    ensures { result ≡ has_dash word.now }
+{
+    match word.first() {
+        Some(byte) => *byte == b'-',
+        None => false,
+    }
+}
+
+/// Whether the word is read as an option.
+pub(crate) fn is_option(word: &[u8]) -> bool
+    ensures { result ≡ is_option word.now }
+{
+    has_dash(word) && word.len() > 1
+}
+
+/// The option that is called so, of those that a command has.
+fn option_in(known: &[Choice], name: &str) -> Option<Choice>
+    ensures { result ≡ option_in known.now name.now }
+{
+    known
+        .iter()
+        .copied()
+        .find(|choice| name_of(*choice) == name)
+}
+
+/// The words behind a value, which has no dash.
+fn behind_value(words: &[String]) -> Option<&[String]>
+    ensures { option_map (λ rest. texts rest.now) result ≡ behind_value (texts words.now) }
+{
+    match words {
+        [value, rest @ ..] if !has_dash(value.as_bytes()) => Some(rest),
+        _ => None,
+    }
+}
+
+/// What stands before the first equals sign of a word, if it has one.
+fn joined_front(word: &str) -> Option<&str>
+    ensures { option_map (λ name. name.now) result ≡ joined_front word.now }
+{
+    match word.split_once('=') {
+        Some((name, _value)) => Some(name),
+        None => None,
+    }
+}
+
+/// An option whose value is joined to it, and the words behind.
+fn with_own_value<'a>(
+    choice: Option<Choice>,
+    rest: &'a [String],
+) -> Option<(Choice, &'a [String])>
+    ensures { option_map (λ r. (r.0, texts r.1.now)) result ≡ option_and_then (taking_front (texts rest.now)) choice }
+{
+    let choice = choice?;
+    if has_value(choice) {
+        Some((choice, rest))
+    } else {
+        None
+    }
+}
+
+/// An option whose value is the next word, if it has one, and the words behind.
+fn with_next_value<'a>(
+    choice: Option<Choice>,
+    rest: &'a [String],
+) -> Option<(Choice, &'a [String])>
+    ensures { option_map (λ r. (r.0, texts r.1.now)) result ≡ option_and_then (taking_next (texts rest.now)) choice }
+{
+    let choice = choice?;
+    if has_value(choice) {
+        Some((choice, behind_value(rest)?))
+    } else {
+        Some((choice, rest))
+    }
+}
+
+/// The option that a word is, and the words behind it and its value.
+#[tactic(auto, unfolding(crate::specs::Words::option_at))]
+pub(crate) fn option_at<'a>(
+    known: &[Choice],
+    word: &str,
+    rest: &'a [String],
+) -> Option<(Choice, &'a [String])>
+    ensures { option_map (λ r. (r.0, texts r.1.now)) result ≡ option_at known.now word.now (texts rest.now) }
+{
+    match joined_front(word) {
+        Some(name) => with_own_value(option_in(known, name), rest),
+        None => with_next_value(option_in(known, word), rest),
+    }
+}
