@@ -172,9 +172,14 @@ module _ (known : List Choice) (word : Text) (rest : List Text) where
       next_value false dash =
           let at : option_at known word rest ≡ Some (c, more) = ap (option_at known word) is ∙ valued_at known word value more c plain named some dash in
           let len : length rest ≡ length (value ∷ more) = ap (λ (r : List Text). length r) is in
-          subst Choices (sym at)
-          (omega (arith, len), (Piece.valued c value, IsPieceOf.valued value,
-          λ pieces says. subst (λ (r : List Text). Says known false (word ∷ r) (Piece.valued c value ∷ pieces)) (sym is) (Says.is_valued c word value more pieces dashed plain named some dash says)))
+          subst Choices (sym at) (
+            omega (arith, len),
+            (
+              Piece.valued c value,
+              IsPieceOf.valued value,
+              λ pieces says. subst (λ (r : List Text). Says known false (word ∷ r) (Piece.valued c value ∷ pieces)) (sym is) (Says.is_valued c word value more pieces dashed plain named some dash says),
+            ),
+          )
 
   by_sign : (c : Choice) → is_option word ≡ true → is_joined word ≡ true → option_in known (front_of word) ≡ Some c → (b : Bool) → has_value c ≡ b → Choices (option_at known word rest)
   unfolding option_at

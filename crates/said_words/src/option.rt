@@ -85,10 +85,7 @@ fn joined_front(word: &str) -> Option<&str>
 }
 
 /// An option whose value is joined to it, and the words behind.
-fn with_own_value<'a>(
-    choice: Option<Choice>,
-    rest: &'a [String],
-) -> Option<(Choice, &'a [String])>
+fn with_own_value<'a>(choice: Option<Choice>, rest: &'a [String]) -> Option<(Choice, &'a [String])>
     ensures { option_map (λ r. (r.0, texts r.1.now)) result ≡ option_and_then (taking_front (texts rest.now)) choice }
 {
     let choice = choice?;
@@ -100,10 +97,7 @@ fn with_own_value<'a>(
 }
 
 /// An option whose value is the next word, if it has one, and the words behind.
-fn with_next_value<'a>(
-    choice: Option<Choice>,
-    rest: &'a [String],
-) -> Option<(Choice, &'a [String])>
+fn with_next_value<'a>(choice: Option<Choice>, rest: &'a [String]) -> Option<(Choice, &'a [String])>
     ensures { option_map (λ r. (r.0, texts r.1.now)) result ≡ option_and_then (taking_next (texts rest.now)) choice }
 {
     let choice = choice?;

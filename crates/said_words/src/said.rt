@@ -19,11 +19,7 @@ enum Front {
 }
 
 /// What a word is, and the words behind it and its value.
-fn read_front<'a>(
-    known: &[Choice],
-    word: &str,
-    rest: &'a [String],
-) -> Option<(Front, &'a [String])>
+fn read_front<'a>(known: &[Choice], word: &str, rest: &'a [String]) -> Option<(Front, &'a [String])>
     ensures { option_map (λ r. (r.0, texts r.1.now)) result ≡ read_front known.now word.now (texts rest.now) }
 {
     if word == "--" {
