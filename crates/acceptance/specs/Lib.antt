@@ -4,4 +4,5 @@ pub mod Entries
 pub mod First
 pub mod Gives
 pub mod Least
+pub mod Lemmas
 pub mod Table

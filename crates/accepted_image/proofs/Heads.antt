@@ -2,7 +2,7 @@
 use Rattle.std.proofs.Common.{◌≡◌, ◌∙◌, sym, refl, ℕ, zero, suc, ◌<◌, ◌||◌, ◌&&◌, Bool, true, false, List, length, take, Some, arith, inl, inr, nat_le}
 use Rattle.std.specs.List.{list_any, slice_get}
 use Rattle.std.proofs.lemmas.Bool.{cases_Bool, cases_lt, le-leb, or_parts}
-use Rattle.acceptance.proofs.Tables.{get-table, length-table, same_elements}
+use Rattle.acceptance.specs.Lemmas.Tables.{get-table, length-table, same_elements}
 use Rattle.ld_base.specs.declared.parts.Head.{Head}
 use Rattle.ld_base.specs.declared.parts.Header.{Header}
 use Rattle.elf_head.specs.Header.{header_at, header_count, headers_of, is_loaded, table_start}

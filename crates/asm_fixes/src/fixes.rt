@@ -150,14 +150,14 @@ impl<'a> Fixer<'a> {
     fn push_section(
         self,
         fixes: &mut Sequence<Fix>,
-        section: Section,
+        target: Section,
         statements: &Statements,
     ) -> Result<(), AllocError>
         ensures { OnOk result (IsFixerOf statements.now self.entry
-            → fixes.new ≡ fixes.old ++ section_fixes statements.now section 0 statements.now) }
+            → fixes.new ≡ fixes.old ++ section_fixes statements.now target 0 statements.now) }
     {
         for (number, line) in statements.as_slice().iter().enumerate() {
-            push_found(fixes, self.line_fix(section, number, line))?;
+            push_found(fixes, self.line_fix(target, number, line))?;
         }
         Ok(())
     }

@@ -247,8 +247,8 @@ section_from lines before (line ∷ rest) section k count whole =
     subst (λ place. AreFrom number (filled section before) (line_fixes lines section place line ++ tail)) (sym (at_line lines before (line ∷ rest) k count whole))
     (line_from lines before section line tail from)
 
-from_start : (lines : List Line) (section : Section) → AreFrom (number_of (part_of section)) 0 (section_fixes lines section 0 lines)
-from_start lines section = sooner (number_of (part_of section)) 0 (filled section []) (section_fixes lines section 0 lines) (omega arith) (section_from lines [] lines section 0 refl refl)
+from_start : (lines : List Line) (target : Section) → AreFrom (number_of (part_of target)) 0 (section_fixes lines target 0 lines)
+from_start lines target = sooner (number_of (part_of target)) 0 (filled target []) (section_fixes lines target 0 lines) (omega arith) (section_from lines [] lines target 0 refl refl)
 
 pub ascends : (lines : List Line) → length lines < 2 ^ 59 → AreFrom 0 0 (fixes_of lines)
 unfolding fixes_of

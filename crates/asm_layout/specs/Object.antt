@@ -90,7 +90,7 @@ lines_bytes lines starts section k [] = []
 lines_bytes lines starts section k (line ∷ rest) = bytes_in lines starts section k line ++ lines_bytes lines starts section (k + 1) rest
 
 abbrev pub section_bytes : List Line → Starts → Section → List ℕ
-section_bytes lines starts section = lines_bytes lines starts section 0 lines
+section_bytes lines starts target = lines_bytes lines starts target 0 lines
 
 unfoldable pub code_of : List Line → Starts → SectionBytes
 code_of lines starts = record {

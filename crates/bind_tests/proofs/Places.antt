@@ -12,7 +12,7 @@ use Rattle.guest_rule.specs.declared.view.Row.{Row}
 use Rattle.guest_rule.specs.Allowed.{IsSlot, LeadsTo}
 use Rattle.guest_rule.specs.Layout.{doublewords, first_address, IsDoubleword, place_of}
 use Rattle.guest_rule.specs.Views.{IsLong, kept_at, no_row, row_of, unmapped}
-use Rattle.guest_rule.proofs.Heeding.{kept_else, kept_here}
+use Rattle.guest_rule.specs.Lemmas.Heeding.{kept_else, kept_here}
 use Rattle.word_memory.specs.Making.{IsMade, MaySet, in_linker_page, linker_page, linker_word}
 use Rattle.word_steps.specs.Keeping.{set_as}
 use Rattle.bind_tests.specs.Stocked.{IsReady}

@@ -15,9 +15,9 @@ use Rattle.guest_rule.specs.Allowed.{IsPostable, IsSlot, LeadsTo}
 use Rattle.guest_rule.specs.KeeperSteps.{TellsAsk, awaited_if, not_found, settled_as, with_row}
 use Rattle.guest_rule.specs.Layout.{address_of, doublewords, place_of}
 use Rattle.guest_rule.specs.Views.{IsLong, first_hart, kept_at, put, row_of}
-use Rattle.guest_rule.proofs.Heeding.{kept_put, row_else, row_here, unseen}
-use Rattle.guest_rule.proofs.KeeperCalls.{map_long, map_row}
-use Rattle.guest_rule.proofs.Put.{put_each}
+use Rattle.guest_rule.specs.Lemmas.Heeding.{kept_put, row_else, row_here, unseen}
+use Rattle.guest_rule.specs.Lemmas.KeeperCalls.{map_long, map_row}
+use Rattle.guest_rule.specs.Lemmas.Put.{put_each}
 use Rattle.slot_bind.specs.Grants.{MayPost, asked_view, grant_of, posted, row_posted}
 use Rattle.slot_bind.specs.declared.slot.Asked.{Asked}
 use Rattle.slot_bind.specs.declared.slot.Asked.TheVariants.{Open, Won as SaysWon, Lost as SaysLost}

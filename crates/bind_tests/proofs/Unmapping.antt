@@ -9,7 +9,7 @@ use Rattle.guest_rule.specs.declared.view.Kept.{Kept}
 use Rattle.guest_rule.specs.Allowed.{IsSlot}
 use Rattle.guest_rule.specs.Layout.{IsDoubleword, place_of}
 use Rattle.guest_rule.specs.Views.{kept_at, row_of, unmapped}
-use Rattle.guest_rule.proofs.Heeding.{kept_else, kept_here}
+use Rattle.guest_rule.specs.Lemmas.Heeding.{kept_else, kept_here}
 use Rattle.word_memory.specs.Making.{MayRetire}
 use Rattle.word_steps.specs.Keeping.{retired}
 use Rattle.bind_tests.specs.Stocked.{IsStocked, IsUnmapped, IsUnslotted}

@@ -18,13 +18,13 @@ use Rattle.link_history.specs.Legal.{Lawful}
 use Rattle.link_history.specs.Memory.{data_at, holds, image_at, is_in, role_at}
 use Rattle.link_history.specs.Setting.{Machine}
 use Rattle.link_history.specs.State.{Linked}
-use Rattle.link_history.proofs.Accepting.{ReadLaw}
-use Rattle.link_history.proofs.Brought.{LoadLaws}
-use Rattle.link_history.proofs.Holders.{holders}
-use Rattle.link_history.proofs.Imaged.{images_mapped}
-use Rattle.link_history.proofs.Lazy.{PageLaws}
-use Rattle.link_history.proofs.Lists.{found_in}
-use Rattle.link_history.proofs.Map.{mapped_after, one_image, role_in_image}
+use Rattle.link_history.specs.Lemmas.Accepting.{ReadLaw}
+use Rattle.link_history.specs.Lemmas.Brought.{LoadLaws}
+use Rattle.link_history.specs.Lemmas.Holders.{holders}
+use Rattle.link_history.specs.Lemmas.Imaged.{images_mapped}
+use Rattle.link_history.specs.Lemmas.Lazy.{PageLaws}
+use Rattle.link_history.specs.Lemmas.Lists.{found_in}
+use Rattle.link_history.specs.Lemmas.Map.{mapped_after, one_image, role_in_image}
 use Rattle.link_service.specs.Startup.{is_executable}
 
 role_by : ℕ → Object → ℕ → Bool

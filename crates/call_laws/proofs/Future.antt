@@ -18,11 +18,11 @@ use Rattle.link_history.specs.Objects.{mapped, object_at, serial_of}
 use Rattle.link_history.specs.Setting.{Machine}
 use Rattle.link_history.specs.State.{State}
 use Rattle.link_history.specs.Step.{loaded, with_namespace}
-use Rattle.link_history.proofs.Alone.{apart}
-use Rattle.link_history.proofs.Brought.{LoadLaws}
-use Rattle.link_history.proofs.Imaged.{objects_open, reached_open}
-use Rattle.link_history.proofs.Lists.{first_or_later, found_in, from_flat, in_flat, none_in, not_found}
-use Rattle.link_history.proofs.Serials.{serials_in_order}
+use Rattle.link_history.specs.Lemmas.Alone.{apart}
+use Rattle.link_history.specs.Lemmas.Brought.{LoadLaws}
+use Rattle.link_history.specs.Lemmas.Imaged.{objects_open, reached_open}
+use Rattle.link_history.specs.Lemmas.Lists.{first_or_later, found_in, from_flat, in_flat, none_in, not_found}
+use Rattle.link_history.specs.Lemmas.Serials.{serials_in_order}
 use Rattle.call_laws.specs.Laws.{AreNumberedFrom}
 
 -- ---- numbers by places

@@ -23,15 +23,15 @@ use Rattle.link_history.specs.Objects.{mapped, serial_of}
 use Rattle.link_history.specs.Setting.{Machine, Setting}
 use Rattle.link_history.specs.State.{State}
 use Rattle.link_history.specs.Step.{loaded, namespace_before, step, with_namespace}
-use Rattle.link_history.proofs.Arrived.{Arrived}
-use Rattle.link_history.proofs.Brought.{LoadLaws, arrived_by}
-use Rattle.link_history.proofs.Dangling.{dangles}
-use Rattle.link_history.proofs.Good.{core}
-use Rattle.link_history.proofs.History.{after_push}
-use Rattle.link_history.proofs.Imaged.{objects_open, reached_open}
-use Rattle.link_history.proofs.Lists.{at_in, from_filter, from_flat, from_map, in_flat}
-use Rattle.link_history.proofs.Serials.{serials_in_order}
-use Rattle.link_history.proofs.Steps.{good_after}
+use Rattle.link_history.specs.Lemmas.Arrived.{Arrived}
+use Rattle.link_history.specs.Lemmas.Brought.{LoadLaws, arrived_by}
+use Rattle.link_history.specs.Lemmas.Dangling.{dangles}
+use Rattle.link_history.specs.Lemmas.Good.{core}
+use Rattle.link_history.specs.Lemmas.History.{after_push}
+use Rattle.link_history.specs.Lemmas.Imaged.{objects_open, reached_open}
+use Rattle.link_history.specs.Lemmas.Lists.{at_in, from_filter, from_flat, from_map, in_flat}
+use Rattle.link_history.specs.Lemmas.Serials.{serials_in_order}
+use Rattle.link_history.specs.Lemmas.Steps.{good_after}
 
 -- ---- edges of which some lead to what is new
 

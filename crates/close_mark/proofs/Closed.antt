@@ -10,7 +10,7 @@ use Rattle.std.proofs.lemmas.List.Sums.{length-filter}
 use Rattle.link_graph.specs.declared.graph.Edge.{Edge}
 use Rattle.link_graph.specs.Reached.{Reached, leads_from}
 use Rattle.link_graph.specs.Reached.Reached.{root, on}
-use Rattle.link_graph.proofs.Members.{kept, from_kept, mapped, from_mapped, count_parts}
+use Rattle.link_graph.specs.Lemmas.Members.{kept, from_kept, mapped, from_mapped, count_parts}
 use Rattle.close_mark.specs.Marks.{target_of}
 
 -- the serial is marked, or is going to be

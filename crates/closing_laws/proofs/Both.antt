@@ -16,9 +16,9 @@ use Rattle.link_history.specs.Links.{IsUnneeded, Needed, found_edges, granted_ro
 use Rattle.link_history.specs.Objects.{startup_serials}
 use Rattle.link_history.specs.State.{State}
 use Rattle.link_history.specs.Step.{lower, lowered_in, lowered_open}
-use Rattle.link_history.proofs.Dying.{granted_root, opened_root, pinned_root, startup_root, staying_root}
-use Rattle.link_history.proofs.Lists.{from_filter, from_flat, from_map, in_filter, in_flat, in_map, none_in, only_in}
-use Rattle.link_history.proofs.Scopes.{Found, breadth_in, root_in_breadth}
+use Rattle.link_history.specs.Lemmas.Dying.{granted_root, opened_root, pinned_root, startup_root, staying_root}
+use Rattle.link_history.specs.Lemmas.Lists.{from_filter, from_flat, from_map, in_filter, in_flat, in_map, none_in, only_in}
+use Rattle.link_history.specs.Lemmas.Scopes.{Found, breadth_in, root_in_breadth}
 use Rattle.scope_rule.specs.Breadth.{breadth}
 use Rattle.scope_rule.specs.Seen.{seen_in}
 use Rattle.scope_rule.specs.declared.namespace.Namespace.{Namespace}

@@ -7,7 +7,7 @@ use Rattle.closing_graph.specs.Graphs.{has_closable, is_closable}
 use Rattle.ld_base.specs.declared.fault.DlFault.TheVariants.{BadHandle}
 use Rattle.link_history.specs.Allowed.{IsBadHandle, IsOpened, closable}
 use Rattle.link_history.specs.State.{State}
-use Rattle.link_history.proofs.Lists.{any_in, found_in, in_any, not_found}
+use Rattle.link_history.specs.Lemmas.Lists.{any_in, found_in, in_any, not_found}
 use Rattle.scope_rule.specs.declared.namespace.Namespace.{Namespace}
 use Rattle.scope_rule.specs.declared.namespace.OpenRec.{OpenRec}
 

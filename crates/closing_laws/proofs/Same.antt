@@ -13,8 +13,8 @@ use Rattle.link_history.specs.Links.{bound_edges, chosen_edges, edges, found_edg
 use Rattle.link_history.specs.Objects.{mapped, serial_of}
 use Rattle.link_history.specs.State.{State}
 use Rattle.link_history.specs.Step.{lower, lowered_in, lowered_open}
-use Rattle.link_history.proofs.HeldEdges.{edges_are}
-use Rattle.link_history.proofs.Lists.{from_filter, from_flat, in_flat}
+use Rattle.link_history.specs.Lemmas.HeldEdges.{edges_are}
+use Rattle.link_history.specs.Lemmas.Lists.{from_filter, from_flat, in_flat}
 use Rattle.scope_rule.specs.Breadth.{breadth, first_kept, levels}
 use Rattle.scope_rule.specs.Seen.{Seen}
 use Rattle.scope_rule.specs.declared.namespace.Namespace.{Namespace}

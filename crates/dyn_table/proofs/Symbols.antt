@@ -5,7 +5,7 @@ use Rattle.std.specs.List.{slice_get}
 use Rattle.std.proofs.lemmas.Option.{slice_get_within}
 use Rattle.ld_base.specs.Field.{field}
 use Rattle.ld_base.specs.declared.object.Symbol.{Symbol}
-use Rattle.acceptance.proofs.Tables.{get-table, length-table}
+use Rattle.acceptance.specs.Lemmas.Tables.{get-table, length-table}
 use Rattle.dyn_table.specs.Name.{string_at, string_in}
 use Rattle.dyn_table.specs.Symbol.{bare_symbols, symbol_name, symbol_named, symbols_in, IsBare}
 

@@ -3,7 +3,7 @@ use Rattle.std.proofs.Common.{◌≡◌, subst, refl, ℕ, zero, suc, ◌<◌, �
 use Rattle.std.specs.List.{slice_get}
 use Rattle.std.proofs.lemmas.Option.{some_pair_parts}
 use Rattle.elf_dynamic.specs.Rules.{first_bad}
-use Rattle.acceptance.proofs.Finds.{finds_like, Finds}
+use Rattle.acceptance.specs.Lemmas.Finds.{finds_like, Finds}
 
 abbrev pub Ascends : ℕ → List (ℕ × Bool) → Type 0
 Ascends low [] = Unit {0}

@@ -8,7 +8,7 @@ use Rattle.std.proofs.lemmas.List.Folds.{find-append}
 use Rattle.std.proofs.lemmas.Option.{slice_get_within}
 use Rattle.ld_base.specs.declared.parts.Tag.{Tag}
 use Rattle.acceptance.specs.Table.{table}
-use Rattle.acceptance.proofs.Tables.{get-table, length-table}
+use Rattle.acceptance.specs.Lemmas.Tables.{get-table, length-table}
 use Rattle.dyn_table.specs.Name.{string_at, IsStringAt}
 use Rattle.dyn_table.specs.Symbol.{symbol_name}
 use Rattle.dyn_table.specs.Tag.{has_tag}
@@ -17,7 +17,7 @@ use Rattle.acceptance.specs.First.{IsFirst}
 use Rattle.elf_dynamic.specs.Breaks.{Lacks, LacksName, LacksSymbolName, NamesString}
 use Rattle.elf_dynamic.specs.Parts.{LacksString}
 use Rattle.elf_dynamic.specs.Rules.{bad_string, lacks_string, name_offsets}
-use Rattle.acceptance.proofs.Finds.{any_at, one_first, same_some}
+use Rattle.acceptance.specs.Lemmas.Finds.{any_at, one_first, same_some}
 use Rattle.elf_dynamic.proofs.Tests.{eq_decides}
 
 -- ---- a search for what stands at the first number

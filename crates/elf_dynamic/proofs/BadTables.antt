@@ -25,7 +25,7 @@ use Rattle.elf_dynamic.specs.Rules.{are_addresses, bad_table, first_bad, has_bad
 use Rattle.elf_dynamic.specs.Tables.{rela_span, span_of}
 use Rattle.elf_dynamic.proofs.Ascending.{bad_finds, head_of, Ascends, Passes}
 use Rattle.elf_dynamic.proofs.Features.{stands_decides}
-use Rattle.acceptance.proofs.Finds.{finds_is, finds_like, same_some, Finds}
+use Rattle.acceptance.specs.Lemmas.Finds.{finds_is, finds_like, same_some, Finds}
 use Rattle.elf_dynamic.proofs.Spans.{range_is, rela_is}
 use Rattle.elf_dynamic.proofs.Tests.{eq_decides, is_decides}
 

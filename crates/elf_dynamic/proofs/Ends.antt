@@ -8,7 +8,7 @@ use Rattle.std.proofs.lemmas.Bool.{cases_Bool, cases_eq, cases_lt, false_from_ne
 use Rattle.std.proofs.lemmas.Bool.Decides.{nat_tests}
 use Rattle.std.proofs.lemmas.List.Folds.{list_any-append}
 use Rattle.ld_base.specs.declared.object.Span.{Span}
-use Rattle.acceptance.proofs.Reading.{slice_get-front, slice_get-last, slice_get-snoc}
+use Rattle.acceptance.specs.Lemmas.Reading.{slice_get-front, slice_get-last, slice_get-snoc}
 use Rattle.elf_dynamic.specs.Ends.{IsMet, LieApart}
 use Rattle.elf_dynamic.specs.Judged.{AreEnds}
 use Rattle.elf_dynamic.specs.Marks.{is_marked, AreMarks}

@@ -20,7 +20,7 @@ use Rattle.elf_dynamic.specs.Parts.{Stands}
 use Rattle.elf_dynamic.specs.Ranges.{is_executable, is_writable}
 use Rattle.elf_dynamic.specs.Rules.{first_bad, has_open_segment, has_type, is_exec, is_other_type, refused_feature}
 use Rattle.elf_dynamic.proofs.Ascending.{bad_finds, head_of, Ascends, Passes}
-use Rattle.acceptance.proofs.Finds.{any_at, finds_like, Finds}
+use Rattle.acceptance.specs.Lemmas.Finds.{any_at, finds_like, Finds}
 use Rattle.elf_dynamic.proofs.Relocs.{get_map, map_get, unnamed}
 use Rattle.elf_dynamic.proofs.Tests.{eq_decides, is_decides}
 

@@ -31,7 +31,7 @@ use Rattle.elf_dynamic.specs.Verdict.{SpellsDynamic}
 use Rattle.elf_dynamic.specs.Verdict.Breaks.{by_tables}
 use Rattle.elf_dynamic.specs.Verdict.TablesBreak.{bad_table, bad_reloc, has_feature, bad_slot}
 use Rattle.elf_dynamic.proofs.BadTables.{slots_decides}
-use Rattle.acceptance.proofs.Finds.{never}
+use Rattle.acceptance.specs.Lemmas.Finds.{never}
 use Rattle.elf_dynamic.proofs.Relocs.{get_both, get_map}
 use Rattle.elf_dynamic.proofs.SlotReasons.{code_decides}
 use Rattle.elf_dynamic.proofs.Tests.{eq_decides, writable_decides}

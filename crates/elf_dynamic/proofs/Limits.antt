@@ -5,7 +5,7 @@ use Rattle.std.proofs.lemmas.List.{length-take}
 use Rattle.ld_base.specs.declared.object.Span.{Span}
 use Rattle.ld_base.specs.declared.parts.Header.{Header}
 use Rattle.elf_head.specs.Readable.{file_bytes, file_offset}
-use Rattle.acceptance.proofs.Tables.{length-table}
+use Rattle.acceptance.specs.Lemmas.Tables.{length-table}
 use Rattle.dyn_table.specs.Reloc.{reloc_at, relocs_of}
 use Rattle.elf_dynamic.specs.Tables.{bytes_in}
 

@@ -20,7 +20,7 @@ use Rattle.ld_base.specs.declared.parts.SysvPart.{SysvPart}
 use Rattle.ld_base.specs.declared.parts.Tag.{Tag}
 use Rattle.acceptance.specs.Entries.{AreEntries}
 use Rattle.acceptance.specs.Table.{table}
-use Rattle.acceptance.proofs.Tables.{get-table, length-table, same_elements}
+use Rattle.acceptance.specs.Lemmas.Tables.{get-table, length-table, same_elements}
 use Rattle.elf_head.specs.Readable.{file_bytes}
 use Rattle.dyn_table.specs.HashWords.{hash_words}
 use Rattle.dyn_table.specs.Name.{string_at, string_in, IsStringAt}
@@ -37,7 +37,7 @@ use Rattle.elf_dynamic.specs.Parts.NamePlaces.{no_more, place, bits}
 use Rattle.elf_dynamic.specs.Relr.{bits_of, name_more, named_by_words, relr_places, relr_words, Named}
 use Rattle.elf_dynamic.specs.Tables.{bytes_in, count_in, dynamic_tags, first_exported, flags_of, named_count, parts_in, plt_relocs, rela_relocs, rela_span, relr_bytes, span_of, strings_in, symbol_bytes, symbol_count}
 use Rattle.elf_dynamic.proofs.Features.{stands_decides}
-use Rattle.acceptance.proofs.Finds.{same_some}
+use Rattle.acceptance.specs.Lemmas.Finds.{same_some}
 use Rattle.elf_dynamic.proofs.Relocs.{get_map, map_get}
 use Rattle.elf_dynamic.proofs.Spans.{range_is, rela_is, same_span}
 use Rattle.elf_dynamic.proofs.Tests.{eq_decides, is_decides}

@@ -22,7 +22,7 @@ use Rattle.elf_dynamic.specs.Named.{doubleword, named_by, size_of}
 use Rattle.elf_dynamic.specs.Ranges.{Share}
 use Rattle.elf_dynamic.specs.Relr.{begins_odd}
 use Rattle.elf_dynamic.specs.Rules.{bad_packed, bad_rela, bad_reloc, bad_symbol, has_storage, is_bad_place, is_bad_reloc, is_bad_symbol}
-use Rattle.acceptance.proofs.Finds.{any_at, finds_append, finds_cons, finds_like, finds_position, same_some, Finds}
+use Rattle.acceptance.specs.Lemmas.Finds.{any_at, finds_append, finds_cons, finds_like, finds_position, same_some, Finds}
 use Rattle.elf_dynamic.proofs.Tests.{eq_decides, is_decides, place_decides, reloc_decides, share_decides, SameSizes}
 
 -- ---- elements of lists that were made of others

@@ -19,7 +19,7 @@ use Rattle.elf_dynamic.specs.Memory.{in_executable, in_writable, overlaps}
 use Rattle.elf_dynamic.specs.Named.{doubleword, named_by, slot_ranges}
 use Rattle.elf_dynamic.specs.Ranges.{is_executable, IsPlace, IsWritable, LiesIn, Share}
 use Rattle.elf_dynamic.specs.Rules.{bad_slot, is_bad_place, is_bad_slot, is_bad_table_of_slots, is_named_head, is_no_slot, is_shared, leads_to_code, times_named}
-use Rattle.acceptance.proofs.Finds.{any_at, finds_append, finds_like, finds_position, same_some, Finds}
+use Rattle.acceptance.specs.Lemmas.Finds.{any_at, finds_append, finds_like, finds_position, same_some, Finds}
 use Rattle.elf_dynamic.proofs.Relocs.{get_both, get_left, get_right, map_get}
 use Rattle.elf_dynamic.proofs.Tests.{eq_decides, executable_decides, is_decides, none_counted, one_or_more, place_decides, share_decides, writable_decides}
 

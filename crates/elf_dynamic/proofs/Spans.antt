@@ -11,7 +11,7 @@ use Rattle.dyn_table.specs.TagNumbers.{dt_jmprel, dt_pltrelsz, dt_rela, dt_relas
 use Rattle.elf_dynamic.specs.Parts.{IsRange, IsRela, IsTail}
 use Rattle.elf_dynamic.specs.Parts.IsRela.{whole, front}
 use Rattle.elf_dynamic.specs.Tables.{is_tail, less_tail, rela_span, span_of}
-use Rattle.acceptance.proofs.Finds.{same_some}
+use Rattle.acceptance.specs.Lemmas.Finds.{same_some}
 use Rattle.elf_dynamic.proofs.Tests.{eq_decides, le_decides}
 
 pub same_span : (s t : Span) → s.start ≡ t.start → s.size ≡ t.size → s ≡ t

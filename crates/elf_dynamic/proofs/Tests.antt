@@ -16,7 +16,7 @@ use Rattle.elf_dynamic.specs.Memory.{holds, in_executable, in_writable, overlaps
 use Rattle.elf_dynamic.specs.Named.{doubleword, named_by, size_of}
 use Rattle.elf_dynamic.specs.Ranges.{is_executable, is_writable, IsPlace, IsWritable, LiesIn, Share}
 use Rattle.elf_dynamic.specs.Rules.{is_bad_place, is_bad_reloc, is_misplaced}
-use Rattle.acceptance.proofs.Finds.{any_at, same_some}
+use Rattle.acceptance.specs.Lemmas.Finds.{any_at, same_some}
 
 pub eq_decides : (a b : ℕ) → Decides (a == b) (a ≡ b)
 eq_decides a b = (eqb-true a b, eq-eqb a b)

@@ -6,7 +6,7 @@ use Rattle.ld_base.specs.declared.fault.NotAccepted.{NotAccepted}
 use Rattle.ld_base.specs.declared.parts.DynParts.{DynParts}
 use Rattle.ld_base.specs.declared.parts.Head.{Head}
 use Rattle.ld_base.specs.declared.parts.Tag.{Tag}
-use Rattle.acceptance.proofs.Firsts.{accepts, refuses, Breaking, Listed}
+use Rattle.acceptance.specs.Lemmas.Firsts.{accepts, refuses, Breaking, Listed}
 use Rattle.dyn_table.specs.HashWords.{hash_words}
 use Rattle.dyn_table.specs.Name.{string_at, IsStringAt}
 use Rattle.dyn_table.specs.Tag.{last_of, tags_of, EndsAtNull}
@@ -24,7 +24,7 @@ use Rattle.elf_dynamic.specs.Verdict.TablesBreak.{bad_table, lacks_symbols, bad_
 use Rattle.elf_dynamic.proofs.BadNames.{string_first, StandsFirst}
 use Rattle.elf_dynamic.proofs.BadTables.{table_first}
 use Rattle.elf_dynamic.proofs.Features.{feature_finds}
-use Rattle.acceptance.proofs.Finds.{finds_is, finds_like, same_some, Finds}
+use Rattle.acceptance.specs.Lemmas.Finds.{finds_is, finds_like, same_some, Finds}
 use Rattle.elf_dynamic.proofs.ReadParts.{read, say_in, tags_are, Reads}
 use Rattle.elf_dynamic.proofs.Relocs.{reloc_finds, symbol_finds, unnamed, unnamed_sizes}
 use Rattle.elf_dynamic.proofs.SlotReasons.{slot_finds}

@@ -1,7 +1,7 @@
 -- Relocations as they are judged, one after the other: for loops of this crate alone.
-use Rattle.std.specs.Prelude.{◌≡◌, ℕ, ◌+◌, ◌<◌, Bool, true, false, List, [], ◌++◌, length, map, take, Some, None, Result, Ok, Err}
+use Rattle.std.specs.Prelude.{◌≡◌, ℕ, ◌+◌, ◌<◌, Bool, true, false, List, [], ◌∷◌, ◌++◌, length, map, take, Some, None, Result, Ok, Err}
 use Rattle.std.specs.Option.{option_map_or}
-use Rattle.std.specs.List.{slice_get}
+use Rattle.std.specs.List.{list_any, slice_get}
 use Rattle.std.specs.BTreeMap.{BTreeMap, get}
 use Rattle.std.specs.Ordering.{nat_cmp}
 use Rattle.ld_base.specs.declared.fault.NotAccepted.{NotAccepted}
@@ -13,6 +13,7 @@ use Rattle.elf_dynamic.specs.declared.apart.Apart.{Apart}
 use Rattle.elf_dynamic.specs.declared.relr.Judged.{Judged}
 use Rattle.elf_dynamic.specs.Ends.{LieApart}
 use Rattle.elf_dynamic.specs.Again.{first_again}
+use Rattle.elf_dynamic.specs.Memory.{overlaps}
 use Rattle.elf_dynamic.specs.Marks.{AreMarks}
 use Rattle.elf_dynamic.specs.Named.{doubleword, named_by}
 use Rattle.elf_dynamic.specs.Relr.{begins_odd, relr_places, relr_words}
@@ -39,6 +40,11 @@ abbrev pub Admits : List Header → List Span → List ℕ → Bool → Judged �
 Admits headers ranges places true j = IsJudged headers ranges places j
 Admits headers ranges places false j = first_again (is_bad_place headers) doubleword ranges places ≡ Some j.count
 
+-- after whichever relocations the old one was judged, it admits these places behind theirs
+abbrev pub AdmitsMore : List Header → List ℕ → Judged → Bool → Judged → Type 0
+AdmitsMore headers more old kept new =
+    (ranges : List Span) (places : List ℕ) → IsJudged headers ranges places old → Admits headers ranges (places ++ more) kept new
+
 -- the map has where each range with bytes ends, by where it begins
 pub record AreEnds (ranges : List Span) (ends : BTreeMap ℕ ℕ) : Type 0 where
   pub has : (k : ℕ) (s : Span) → slice_get ranges k ≡ Some s → 0 < s.size → get nat_cmp ends s.start ≡ Some (s.start + s.size)
@@ -49,6 +55,10 @@ pub record AreEnds (ranges : List Span) (ends : BTreeMap ℕ ℕ) : Type 0 where
 pub record AreApart (ranges : List Span) (a : Apart) : Type 0 where
   pub ends : AreEnds ranges a.ends
   pub marks : AreMarks a.named.words.items ranges
+
+-- a range that has no byte in common with those before it is kept behind them
+abbrev pub IsPutTo : List Span → Span → Apart → Type 0
+IsPutTo ranges range a = (list_any (overlaps range) ranges ≡ false) × AreApart (ranges ++ range ∷ []) a
 
 -- rule 14, of relocations of DT_RELA, and of packed ones after so many others
 abbrev pub bad_reloc_at : ℕ → NotAccepted

@@ -4,7 +4,7 @@ ghost use Rattle.std.specs.Prelude.{◌≡◌, ◌↔◌, ◌+◌, ◌<◌, ◌�
 ghost use Rattle.std.specs.List.{list_any};
 ghost use Rattle.ld_base.specs.declared.object.Span.{Span};
 ghost use Rattle.elf_dynamic.specs.Ends.{IsMet, LieApart};
-ghost use Rattle.elf_dynamic.specs.Judged.{AreApart};
+ghost use Rattle.elf_dynamic.specs.Judged.{AreApart, IsPutTo};
 ghost use Rattle.elf_dynamic.specs.Memory.{overlaps};
 
 use crate::marks::Marks;
@@ -47,7 +47,7 @@ impl Apart {
     pub(crate) fn put(&mut self, range: Span) -> Result<bool, AllocError>
         requires low { 0 < range.size → range.start + range.size ≤ 2 ^ 32 }
         requires apart { LieApart self.old.ends }
-        ensures put { IfOk result (λ put. (ranges : List Span) → AreApart ranges self.old → put ≡ true → (list_any (overlaps range) ranges ≡ false) × AreApart (ranges ++ range ∷ []) self.new) }
+        ensures put { IfOk result (λ put. (ranges : List Span) → AreApart ranges self.old → put ≡ true → IsPutTo ranges range self.new) }
         ensures met { IfOk result (λ put. (ranges : List Span) → AreApart ranges self.old → put ≡ false → list_any (overlaps range) ranges ≡ true) }
     {
         if range.size == 0 {

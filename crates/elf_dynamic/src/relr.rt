@@ -5,7 +5,7 @@ ghost use Rattle.std.specs.Prelude.{◌||◌, ◌/◌, true, false, List, ℕ, l
 ghost use Rattle.std.specs.Prelude.{if◌then◌else◌};
 ghost use Rattle.acceptance.specs.Gives.{Faults};
 ghost use Rattle.ld_base.specs.declared.object.Span.{Span};
-ghost use Rattle.elf_dynamic.specs.Judged.{most_places, packed_verdict, Admits, IsJudged};
+ghost use Rattle.elf_dynamic.specs.Judged.{most_places, packed_verdict, Admits, AdmitsMore, IsJudged};
 ghost use Rattle.elf_dynamic.specs.Marks.{is_marked};
 ghost use Rattle.elf_dynamic.specs.Memory.{AreLow};
 ghost use Rattle.elf_dynamic.specs.Relr.{begins_odd, bits_of, has_bit, name_more, relr_places, relr_words, Named};
@@ -44,7 +44,7 @@ impl Judged {
         requires few { self.old.count < 2 ^ 63 }
         requires sure { sure ≡ true → is_bad_place headers.now place ≡ false }
         requires low { AreLow headers.now }
-        ensures kept { IfOk result (λ kept. (ranges : List Span) (places : List ℕ) → IsJudged headers.now ranges places self.old → Admits headers.now ranges (places ++ place ∷ []) kept self.new) }
+        ensures kept { IfOk result (λ kept. AdmitsMore headers.now (place ∷ []) self.old kept self.new) }
         ensures few { IfOk result (λ kept. self.new.count ≤ self.old.count + 1) }
         ensures low { IfOk result (λ kept. IsTrue kept → place + 8 ≤ 2 ^ 32) }
     {
@@ -79,8 +79,8 @@ impl Judged {
         requires few { self.old.count < 2 ^ 63 }
         requires sure { sure ≡ true → is_bad_place headers.now (next + 8 * (bit - 1)) ≡ false }
         requires low { AreLow headers.now }
-        ensures kept { IfOk result (λ kept. (ranges : List Span) (places : List ℕ) → IsJudged headers.now ranges places self.old
-            → Admits headers.now ranges (places ++ (if has_bit word bit then (next + 8 * (bit - 1)) ∷ [] else [])) kept self.new) }
+        ensures kept { IfOk result
+            (λ kept. AdmitsMore headers.now (if has_bit word bit then (next + 8 * (bit - 1)) ∷ [] else []) self.old kept self.new) }
         ensures few { IfOk result (λ kept. self.new.count ≤ self.old.count + 1) }
     {
         if (word >> bit) % 2 == 1 {
@@ -95,8 +95,7 @@ impl Judged {
         requires next { next < 2 ^ 62 }
         requires few { self.old.count < 2 ^ 62 }
         requires low { AreLow headers.now }
-        ensures kept { IfOk result (λ kept. (ranges : List Span) (places : List ℕ) → IsJudged headers.now ranges places self.old
-            → Admits headers.now ranges (places ++ map (λ i. next + 8 * (i - 1)) (bits_of word)) kept self.new) }
+        ensures kept { IfOk result (λ kept. AdmitsMore headers.now (map (λ i. next + 8 * (i - 1)) (bits_of word)) self.old kept self.new) }
         ensures few { IfOk result (λ kept. self.new.count ≤ self.old.count + 64) }
     {
         let sure = is_sure(headers, next);

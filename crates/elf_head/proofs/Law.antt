@@ -11,9 +11,9 @@ use Rattle.ld_base.specs.declared.object.Kind.{Kind}
 use Rattle.ld_base.specs.declared.object.Kind.TheVariants.{Exec, Dyn}
 use Rattle.ld_base.specs.declared.parts.Head.{Head}
 use Rattle.ld_base.specs.declared.parts.Header.{Header}
-use Rattle.acceptance.proofs.Tables.{length-table, get-table, same_elements}
-use Rattle.acceptance.proofs.Leasts.{least_all, least_at, least_found, least_none}
-use Rattle.acceptance.proofs.Firsts.{accepts, refuses, Breaking, Listed}
+use Rattle.acceptance.specs.Lemmas.Tables.{length-table, get-table, same_elements}
+use Rattle.acceptance.specs.Lemmas.Leasts.{least_all, least_at, least_found, least_none}
+use Rattle.acceptance.specs.Lemmas.Firsts.{accepts, refuses, Breaking, Listed}
 use Rattle.acceptance.specs.Broken.{broken_if}
 use Rattle.acceptance.specs.First.{NoneBroken}
 use Rattle.elf_head.specs.Header.{header_at, header_count, headers_of, is_loaded, table_start}

@@ -5,7 +5,7 @@ use Rattle.std.specs.Option.{option_or}
 use Rattle.ld_base.specs.declared.fault.NotAccepted.{NotAccepted}
 use Rattle.ld_base.specs.declared.parts.Head.{Head}
 use Rattle.acceptance.specs.Broken.{first_broken}
-use Rattle.acceptance.proofs.Firsts.{first_of_both, test_kept, verdict_err_is, verdict_ok_is}
+use Rattle.acceptance.specs.Lemmas.Firsts.{first_of_both, test_kept, verdict_err_is, verdict_ok_is}
 use Rattle.elf_head.specs.Header.{table_start, header_count}
 use Rattle.elf_head.specs.Rules.{is_too_short, has_bad_program_headers, header_rules, file_rules, head_broken, head_of, head_verdict}
 

@@ -14,7 +14,7 @@ use Rattle.acceptance.specs.Gives.{Gives}
 use Rattle.elf_head.specs.Rules.{head_verdict}
 use Rattle.elf_head.specs.Verdict.{SpellsHead}
 use Rattle.elf_head.specs.Verdict.{BreaksFirst as HeadBreaks}
-use Rattle.acceptance.proofs.Reading.{bind_err, bind_ok}
+use Rattle.acceptance.specs.Lemmas.Reading.{bind_err, bind_ok}
 use Rattle.acceptance.specs.Entries.{◌>>=◌}
 use Rattle.elf_dynamic.specs.Rules.{dynamic_verdict}
 use Rattle.elf_dynamic.specs.Verdict.{SpellsDynamic}

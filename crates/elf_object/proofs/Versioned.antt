@@ -7,7 +7,7 @@ use Rattle.std.proofs.lemmas.Option.{slice_get_within}
 use Rattle.ld_base.specs.declared.object.Symbol.{Symbol}
 use Rattle.ld_base.specs.declared.parts.DynParts.{DynParts}
 use Rattle.ld_base.specs.declared.parts.Header.{Header}
-use Rattle.acceptance.proofs.Tables.{get-table, length-table}
+use Rattle.acceptance.specs.Lemmas.Tables.{get-table, length-table}
 use Rattle.dyn_table.specs.Name.{string_in}
 use Rattle.dyn_table.specs.Symbol.{symbol_name, symbol_named, symbols_in}
 use Rattle.elf_dynamic.specs.Parts.{AreParts}

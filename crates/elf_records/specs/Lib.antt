@@ -1,3 +1,4 @@
+pub mod Lemmas
 pub mod Numbers
 pub mod Reads
 pub mod Standing

@@ -28,9 +28,9 @@ use Rattle.elf_write.specs.Values.{entry_of, head_bytes}
 use Rattle.elf_written.specs.Standing.{AlignsInPages, EndsInside}
 use Rattle.elf_records.specs.Numbers.{AllFit}
 use Rattle.elf_records.specs.Standing.{StandAt}
-use Rattle.elf_records.proofs.Head.{head}
-use Rattle.elf_records.proofs.Records.{header}
-use Rattle.elf_records.proofs.Standing.{front, behind, within}
+use Rattle.elf_records.specs.Lemmas.Head.{head}
+use Rattle.elf_records.specs.Lemmas.Records.{header}
+use Rattle.elf_records.specs.Lemmas.Standing.{front, behind, within}
 use Rattle.elf_spelled.specs.Said.{said_head}
 use Rattle.elf_spelled.specs.Whole.{IsWhole}
 use Rattle.elf_spelled.proofs.Rows.{rows, same_rows}

@@ -12,7 +12,7 @@ use Rattle.elf_write.specs.declared.part.Part.TheVariants as parts
 use Rattle.elf_write.specs.Records.{header_of, first_part}
 use Rattle.elf_write.specs.Starts.{start_in, starts_of}
 use Rattle.elf_records.specs.Standing.{StandAt}
-use Rattle.elf_records.proofs.Standing.{cut_out}
+use Rattle.elf_records.specs.Lemmas.Standing.{cut_out}
 use Rattle.elf_spelled.proofs.Placed.{Apart, from_head}
 
 -- each segment has its bytes as far behind the file's begin as its address is behind the first

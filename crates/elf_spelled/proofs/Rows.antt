@@ -4,9 +4,9 @@ use Rattle.std.specs.Prelude.{Some}
 use Rattle.std.specs.List.{slice_get}
 use Rattle.std.proofs.lemmas.Option.{slice_get_within}
 use Rattle.acceptance.specs.Table.{table}
-use Rattle.acceptance.proofs.Tables.{get-table, length-table, same_elements}
+use Rattle.acceptance.specs.Lemmas.Tables.{get-table, length-table, same_elements}
 use Rattle.elf_records.specs.Standing.{StandAt}
-use Rattle.elf_records.proofs.Standing.{front, behind, within}
+use Rattle.elf_records.specs.Lemmas.Standing.{front, behind, within}
 
 pub rows : {X : Type 0} (f : X → List ℕ) (size : ℕ) → ((x : X) → length (f x) ≡ size) → (xs : List X) (i : ℕ) (x : X) → slice_get xs i ≡ Some x
     → StandAt (flat_map f xs) (size * i) (f x)

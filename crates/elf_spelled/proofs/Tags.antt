@@ -6,7 +6,7 @@ use Rattle.std.specs.Int.{from_bool}
 use Rattle.std.proofs.lemmas.Bool.Decides.{nat_tests}
 use Rattle.acceptance.specs.Before.{StandsBefore}
 use Rattle.acceptance.specs.Table.{table}
-use Rattle.acceptance.proofs.Reading.{before_from-stands}
+use Rattle.acceptance.specs.Lemmas.Reading.{before_from-stands}
 use Rattle.ld_base.specs.declared.parts.Header.{Header}
 use Rattle.ld_base.specs.declared.parts.Tag.{Tag}
 use Rattle.elf_head.specs.Readable.{file_bytes}
@@ -28,7 +28,7 @@ use Rattle.elf_write.specs.Starts.{starts_of, start_in, size_in, wrapped}
 use Rattle.elf_write.specs.Values.{dynamic_bytes}
 use Rattle.elf_written.specs.Standing.{EndsInside}
 use Rattle.elf_records.specs.Standing.{StandAt}
-use Rattle.elf_records.proofs.Records.{entry}
+use Rattle.elf_records.specs.Lemmas.Records.{entry}
 use Rattle.elf_spelled.specs.Said.{AllBelow, TellsNumbers, said_head, said_tag, said_tags, told_entries}
 use Rattle.elf_spelled.proofs.Placed.{Apart}
 use Rattle.elf_spelled.proofs.Reading.{all_placed, part_read}

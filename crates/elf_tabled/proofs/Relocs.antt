@@ -3,7 +3,7 @@ use Rattle.std.proofs.Common.{◌≡◌, ◌∙◌, ap, sym, subst, refl, ℕ, z
 use Rattle.std.specs.Prelude.{Some}
 use Rattle.std.specs.List.{slice_get}
 use Rattle.std.proofs.lemmas.Option.{slice_get_within}
-use Rattle.acceptance.proofs.Tables.{same_elements}
+use Rattle.acceptance.specs.Lemmas.Tables.{same_elements}
 use Rattle.ld_base.specs.declared.object.Reloc.{Reloc}
 use Rattle.dyn_table.specs.Reloc.{reloc_at}
 use Rattle.elf_dynamic.specs.Parts.{AreRelocs}
@@ -16,8 +16,8 @@ use Rattle.elf_write.specs.Starts.{wrapped}
 use Rattle.elf_write.specs.Values.{listed_bytes, rela_bytes, slots_from}
 use Rattle.elf_records.specs.Numbers.{AllFit}
 use Rattle.elf_records.specs.Standing.{StandAt}
-use Rattle.elf_records.proofs.Records.{rela, slot}
-use Rattle.elf_records.proofs.Standing.{behind, front as stands_front, within}
+use Rattle.elf_records.specs.Lemmas.Records.{rela, slot}
+use Rattle.elf_records.specs.Lemmas.Standing.{behind, front as stands_front, within}
 use Rattle.elf_spelled.proofs.Rows.{rows, same_rows, at_index}
 use Rattle.elf_tabled.specs.Tables.{AreSymbolNumbers, ListedFit, said_reloc, slots_at}
 

@@ -13,8 +13,8 @@ use Rattle.elf_write.specs.Records.{symbol_fields}
 use Rattle.elf_write.specs.Values.{null_symbol, symbol_bytes}
 use Rattle.elf_records.specs.Numbers.{AllFit}
 use Rattle.elf_records.specs.Standing.{StandAt}
-use Rattle.elf_records.proofs.Records.{symbol}
-use Rattle.elf_records.proofs.Standing.{behind, within}
+use Rattle.elf_records.specs.Lemmas.Records.{symbol}
+use Rattle.elf_records.specs.Lemmas.Standing.{behind, within}
 use Rattle.elf_spelled.proofs.Rows.{at_index, rows}
 use Rattle.elf_tabled.specs.Tables.{SymbolsFit, said_symbol}
 

@@ -14,7 +14,7 @@ use Rattle.acceptance.specs.Entries.{◌>>=◌}
 use Rattle.dyn_table.specs.Name.{string_at, IsStringAt}
 use Rattle.dyn_table.specs.Tag.{last_of}
 use Rattle.dyn_table.specs.TagNumbers.{dt_versym, dt_verdef, dt_verdefnum, dt_verneed, dt_verneednum}
-use Rattle.acceptance.proofs.Reading.{bind_ok, entries_from-read, read_from-entries, entries_map, some_from-ok_or, ok_or-some, ok_is}
+use Rattle.acceptance.specs.Lemmas.Reading.{bind_ok, entries_from-read, read_from-entries, entries_map, some_from-ok_or, ok_or-some, ok_is}
 use Rattle.elf_versions.specs.Need.{Need}
 use Rattle.elf_versions.specs.Linked.{linked, is_linked, place}
 use Rattle.elf_versions.specs.Record.{bad_table, distance, named, passing, record_at, value_of}

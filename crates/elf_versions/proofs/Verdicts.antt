@@ -12,8 +12,8 @@ use Rattle.ld_base.specs.declared.fault.NotAccepted.{NotAccepted}
 use Rattle.ld_base.specs.declared.parts.DynParts.{DynParts}
 use Rattle.ld_base.specs.declared.parts.Head.{Head}
 use Rattle.ld_base.specs.declared.parts.Versions.{Versions}
-use Rattle.acceptance.proofs.Reading.{bind_err, bind_ok, ok_is}
-use Rattle.acceptance.proofs.Finds.{any_at, finds_is, finds_none, finds_position, Finds}
+use Rattle.acceptance.specs.Lemmas.Reading.{bind_err, bind_ok, ok_is}
+use Rattle.acceptance.specs.Lemmas.Finds.{any_at, finds_is, finds_none, finds_position, Finds}
 use Rattle.acceptance.specs.First.{IsFirst}
 use Rattle.acceptance.specs.Entries.{◌>>=◌}
 use Rattle.dyn_table.specs.Tag.{last_of}

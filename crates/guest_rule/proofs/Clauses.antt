@@ -22,10 +22,10 @@ use Rattle.guest_rule.specs.Slots.{Did, Fated, HasLost, IsPending, Winner}
 use Rattle.guest_rule.specs.Seats.{Fits}
 use Rattle.guest_rule.specs.Rule.{IsGuest, Parts}
 use Rattle.guest_rule.specs.Clauses.{Clauses, EntryClauses, Made, RowClauses, SlotClauses, slot_of}
-use Rattle.guest_rule.proofs.Locks.{is_free}
-use Rattle.guest_rule.proofs.Rows.{not_both, not_rest}
-use Rattle.guest_rule.proofs.Seating.{no_keeper}
-use Rattle.guest_rule.proofs.SlotFrames.{at_place}
+use Rattle.guest_rule.specs.Lemmas.Locks.{is_free}
+use Rattle.guest_rule.specs.Lemmas.Rows.{not_both, not_rest}
+use Rattle.guest_rule.specs.Lemmas.Seating.{no_keeper}
+use Rattle.guest_rule.specs.Lemmas.SlotFrames.{at_place}
 
 mark_no_rest : (s : ℕ) → IsMark s → Rests s → ⊥
 mark_no_rest s mark rest = elim mark [

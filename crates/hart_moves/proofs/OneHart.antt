@@ -29,8 +29,8 @@ use Rattle.link_history.specs.State.{Linked, State}
 use Rattle.link_service.specs.Answer.{Answer, returns, loading, closing, refused, granted, told, again, over}
 use Rattle.link_service.specs.Call.{Call}
 use Rattle.link_service.specs.Functions.{AreAddresses, AreConstructors, AreDestructors, destructors, left}
-use Rattle.link_service.proofs.OneOrder.{one_finalisation, one_initialisation}
-use Rattle.link_service.proofs.Unique.{both_found}
+use Rattle.link_service.specs.Lemmas.OneOrder.{one_finalisation, one_initialisation}
+use Rattle.link_service.specs.Lemmas.Unique.{both_found}
 use Rattle.hart_moves.specs.Copying.{Copy}
 use Rattle.hart_moves.specs.Due.{Due, Return, due}
 use Rattle.hart_moves.specs.Follows.{Follows, Turned}

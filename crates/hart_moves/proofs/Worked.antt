@@ -25,21 +25,21 @@ use Rattle.link_history.specs.Race as race
 use Rattle.link_history.specs.Setting.{Setting}
 use Rattle.link_history.specs.State.{Linked, State}
 use Rattle.link_history.specs.Step.{initialise, loaded}
-use Rattle.link_history.proofs.History.{legal_push, legal_take}
-use Rattle.link_history.proofs.Matched.{first_match_legal, program_not_first}
-use Rattle.link_history.proofs.Raced.{first_not_granted, race_legal}
+use Rattle.link_history.specs.Lemmas.History.{legal_push, legal_take}
+use Rattle.link_history.specs.Lemmas.Matched.{first_match_legal, program_not_first}
+use Rattle.link_history.specs.Lemmas.Raced.{first_not_granted, race_legal}
 use Rattle.link_service.specs.Answer.{granted, over}
 use Rattle.link_service.specs.Call.{stops}
 use Rattle.link_service.specs.Ends.EndsAs.{asked}
 use Rattle.link_service.specs.Gives.Gives.{to_end}
 use Rattle.link_service.specs.Worked.{granted_to}
-use Rattle.link_service.proofs.Examples as calls
+use Rattle.link_service.specs.Lemmas.Examples as calls
 use Rattle.hart_moves.specs.Copying.{Copy, bytes_from, grown, text_words, with_bytes}
 use Rattle.hart_moves.specs.Due.{by_phase, due}
 use Rattle.hart_moves.specs.Harts.{HartState, Naming, Offered}
 use Rattle.hart_moves.specs.Moves.{Did, IsOffer, copied_item}
 use Rattle.hart_moves.specs.Worked as worked
-use Rattle.hart_moves.proofs.Legality.{turns_legal}
+use Rattle.hart_moves.specs.Lemmas.Legality.{turns_legal}
 use Rattle.hart_moves.proofs.OneHart.{copy_items}
 use Rattle.hart_moves.specs.Worked.{CopiesInside, CopiesName, EndsAtRole, EntersSecond, Exchanges, Exits, FindsNoName, FollowsItself, FollowsWinner, GoesOn, GoesOnWithoutFuel, GrantsGlobal, GrantsTheFirst, HasNoFunction, RunsWithoutFuel, ServesAtOnce, Starts, StartsEarly, TextWords, Traps}
 

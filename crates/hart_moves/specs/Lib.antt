@@ -3,6 +3,7 @@ pub mod Due
 pub mod Follows
 pub mod Harts
 pub mod Laws
+pub mod Lemmas
 pub mod Moves
 pub mod Registers
 pub mod Services

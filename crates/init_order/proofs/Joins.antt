@@ -5,7 +5,7 @@ use Rattle.std.proofs.lemmas.Bool.{cases_lt}
 use Rattle.std.proofs.lemmas.List.Elements.{All-contains, Contains-append_left, Contains-append_cases}
 use Rattle.link_graph.specs.declared.graph.Edge.{Edge}
 use Rattle.link_graph.specs.Initialised.{Reaches}
-use Rattle.link_graph.proofs.Pairs.{pairs_front}
+use Rattle.link_graph.specs.Lemmas.Pairs.{pairs_front}
 use Rattle.init_order.specs.declared.walk.Mark.{Mark}
 use Rattle.init_order.specs.declared.walk.Mark.TheVariants.{OnPath, Settled}
 use Rattle.init_order.specs.declared.walk.Step.{Step}

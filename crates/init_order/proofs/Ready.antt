@@ -6,7 +6,7 @@ use Rattle.std.proofs.lemmas.Bool.{cases_Bool, cases_eq, cases_lt, eq-eqb, eqb-t
 use Rattle.std.proofs.lemmas.List.Elements.{Contains-get_or}
 use Rattle.link_graph.specs.declared.graph.Edge.{Edge}
 use Rattle.link_graph.specs.Reached.{leads_from}
-use Rattle.link_graph.proofs.Members.{from_kept, kept}
+use Rattle.link_graph.specs.Lemmas.Members.{from_kept, kept}
 use Rattle.init_order.specs.Least.{AreMet, Blocked, IsPending, flip_of}
 
 -- ---- the order of a set of numbers

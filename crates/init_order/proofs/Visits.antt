@@ -12,8 +12,8 @@ use Rattle.link_graph.specs.declared.graph.Edge.{Edge}
 use Rattle.link_graph.specs.Reached.{leads_from}
 use Rattle.link_graph.specs.Reached.Reached.{root, on}
 use Rattle.link_graph.specs.Initialised.{Reaches}
-use Rattle.link_graph.proofs.Members.{kept, from_kept, mapped, from_mapped}
-use Rattle.link_graph.proofs.Pairs.{pairs_join}
+use Rattle.link_graph.specs.Lemmas.Members.{kept, from_kept, mapped, from_mapped}
+use Rattle.link_graph.specs.Lemmas.Pairs.{pairs_join}
 use Rattle.init_order.specs.declared.walk.Mark.{Mark}
 use Rattle.init_order.specs.declared.walk.Mark.TheVariants.{OnPath, Settled}
 use Rattle.init_order.specs.declared.walk.Step.{Step}

@@ -1,3 +1,1 @@
 mod BySource
-pub mod Members
-pub mod Pairs

@@ -1,3 +1,4 @@
 pub mod Initialised
+pub mod Lemmas
 pub mod Reached
 pub mod Sources

@@ -26,13 +26,13 @@ use Rattle.link_history.specs.Legal.{Lawful}
 use Rattle.link_history.specs.Memory.{is_in, role_at, word_at, word_in}
 use Rattle.link_history.specs.Setting.{Machine}
 use Rattle.link_history.specs.Slots.{value_at_load}
-use Rattle.link_history.proofs.Lists.{at_in, in_any}
-use Rattle.link_history.proofs.Accepting.{ReadLaw}
-use Rattle.link_history.proofs.AtLoad.{get_map}
-use Rattle.link_history.proofs.Brought.{LoadLaws}
-use Rattle.link_history.proofs.Lazy.{PageLaws}
-use Rattle.link_history.proofs.Map.{Mapped, in_pages, mapped_after, own_at, placed, role_in_image, start_at, word_in_image}
-use Rattle.link_history.proofs.Modular.{guest_of}
+use Rattle.link_history.specs.Lemmas.Lists.{at_in, in_any}
+use Rattle.link_history.specs.Lemmas.Accepting.{ReadLaw}
+use Rattle.link_history.specs.Lemmas.AtLoad.{get_map}
+use Rattle.link_history.specs.Lemmas.Brought.{LoadLaws}
+use Rattle.link_history.specs.Lemmas.Lazy.{PageLaws}
+use Rattle.link_history.specs.Lemmas.Map.{Mapped, in_pages, mapped_after, own_at, placed, role_in_image, start_at, word_in_image}
+use Rattle.link_history.specs.Lemmas.Modular.{guest_of}
 use Rattle.link_history.proofs.Tied.{images_tied}
 
 -- what a slot's word is in an image

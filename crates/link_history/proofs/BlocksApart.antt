@@ -21,16 +21,16 @@ use Rattle.link_history.specs.Memory.{covers, image_of, is_in_block}
 use Rattle.link_history.specs.Setting.{Machine}
 use Rattle.link_history.specs.Step.{block_range}
 use Rattle.link_history.specs.Storage.{late_block, module_of, tls_block, tp_of}
-use Rattle.link_history.proofs.Blocked.{blocks_placed}
-use Rattle.link_history.proofs.Brought.{LoadLaws}
-use Rattle.link_history.proofs.Calling.{images_found}
-use Rattle.link_history.proofs.Lists.{found_in, in_flat, not_found}
-use Rattle.link_history.proofs.Map.{one_cover, one_image}
-use Rattle.link_history.proofs.Moduled.{NumberLaws}
-use Rattle.link_history.proofs.Offsets.{modules_tidy}
-use Rattle.link_history.proofs.Ranges.{apart_after}
-use Rattle.link_history.proofs.Static.{statics_apart}
-use Rattle.link_history.proofs.StaticAreas.{areas_have_room}
+use Rattle.link_history.specs.Lemmas.Blocked.{blocks_placed}
+use Rattle.link_history.specs.Lemmas.Brought.{LoadLaws}
+use Rattle.link_history.specs.Lemmas.Calling.{images_found}
+use Rattle.link_history.specs.Lemmas.Lists.{found_in, in_flat, not_found}
+use Rattle.link_history.specs.Lemmas.Map.{one_cover, one_image}
+use Rattle.link_history.specs.Lemmas.Moduled.{NumberLaws}
+use Rattle.link_history.specs.Lemmas.Offsets.{modules_tidy}
+use Rattle.link_history.specs.Lemmas.Ranges.{apart_after}
+use Rattle.link_history.specs.Lemmas.Static.{statics_apart}
+use Rattle.link_history.specs.Lemmas.StaticAreas.{areas_have_room}
 
 -- a hart's block of a module that holds an address
 record Holds (s : State) (hart a : ℕ) (x : Module) : Type 0 where

@@ -24,15 +24,15 @@ use Rattle.link_history.specs.Laws.{EntersBy, ImagesAreMapped, IsCodeOf, IsImage
 use Rattle.link_history.specs.Legal.{Lawful}
 use Rattle.link_history.specs.Memory.{data_at, image_at, is_in, role_at}
 use Rattle.link_history.specs.Setting.{Machine}
-use Rattle.link_history.proofs.Lists.{at_in, found_in}
-use Rattle.link_history.proofs.Accepting.{ReadLaw}
-use Rattle.link_history.proofs.AtLoad.{loads_enter}
-use Rattle.link_history.proofs.Brought.{LoadLaws}
-use Rattle.link_history.proofs.Entering.{slots_enter}
-use Rattle.link_history.proofs.Imaged.{images_mapped}
-use Rattle.link_history.proofs.Lazy.{PageLaws, lazy_lies}
-use Rattle.link_history.proofs.Map.{Mapped, in_pages, mapped_after, own_at, placed, role_in_image, start_at}
-use Rattle.link_history.proofs.Tidy.{in_at}
+use Rattle.link_history.specs.Lemmas.Lists.{at_in, found_in}
+use Rattle.link_history.specs.Lemmas.Accepting.{ReadLaw}
+use Rattle.link_history.specs.Lemmas.AtLoad.{loads_enter}
+use Rattle.link_history.specs.Lemmas.Brought.{LoadLaws}
+use Rattle.link_history.specs.Lemmas.Entering.{slots_enter}
+use Rattle.link_history.specs.Lemmas.Imaged.{images_mapped}
+use Rattle.link_history.specs.Lemmas.Lazy.{PageLaws, lazy_lies}
+use Rattle.link_history.specs.Lemmas.Map.{Mapped, in_pages, mapped_after, own_at, placed, role_in_image, start_at}
+use Rattle.link_history.specs.Lemmas.Tidy.{in_at}
 
 linkers_rx : (s : State) (a : ℕ) → is_linkers_page a ≡ true → role_at s a ≡ Rx
 unfolding role_at

@@ -30,12 +30,12 @@ use Rattle.link_history.specs.Opening.{Loads as LoadsName, Opens, OpensName, wan
 use Rattle.link_history.specs.Setting.{Machine, Setting}
 use Rattle.link_history.specs.Step.{die, has_module, initialise, loaded, lower, step, unmap}
 use Rattle.link_history.specs.Storage.{module_of_place, pages_for, statics_with, statics_with_one, with_modules, with_place}
-use Rattle.link_history.proofs.History.{by_lawful}
-use Rattle.link_history.proofs.Lists.{first_or_later, from_filter, here, in_map, later, none_in}
-use Rattle.link_history.proofs.Brought.{LoadLaws}
-use Rattle.link_history.proofs.Pages.{page_number, range_has}
-use Rattle.link_history.proofs.Ranges.{given_free}
-use Rattle.link_history.proofs.Steps.{good_after}
+use Rattle.link_history.specs.Lemmas.History.{by_lawful}
+use Rattle.link_history.specs.Lemmas.Lists.{first_or_later, from_filter, here, in_map, later, none_in}
+use Rattle.link_history.specs.Lemmas.Brought.{LoadLaws}
+use Rattle.link_history.specs.Lemmas.Pages.{page_number, range_has}
+use Rattle.link_history.specs.Lemmas.Ranges.{given_free}
+use Rattle.link_history.specs.Lemmas.Steps.{good_after}
 
 -- ---- modules
 

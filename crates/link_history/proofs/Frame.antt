@@ -32,15 +32,15 @@ use Rattle.link_history.specs.Objects.{has}
 use Rattle.link_history.specs.Opening.{Opens}
 use Rattle.link_history.specs.Setting.{Machine, Setting}
 use Rattle.link_history.specs.Step.{binds, die, goes_with, initialise, loaded, lower, purpose_goes, seen_after, step, unmap}
-use Rattle.link_history.proofs.History.{after_push, lawful_push}
-use Rattle.link_history.proofs.Lists.{found_in, from_filter, in_filter, none_in, only_in}
-use Rattle.link_history.proofs.Accepting.{ReadLaw}
-use Rattle.link_history.proofs.Brought.{LoadLaws}
-use Rattle.link_history.proofs.Lazy.{PageLaws}
-use Rattle.link_history.proofs.Lookups.{find_front, find_kept}
-use Rattle.link_history.proofs.Map.{Mapped, covers_in, made_of, mapped_after, no_linkers, one_cover, range_in, range_lies, within_of}
-use Rattle.link_history.proofs.Placed.{HasPages, opens_pages}
-use Rattle.link_history.proofs.Ranges.{Apart, block_free, clear_free, opens_free}
+use Rattle.link_history.specs.Lemmas.History.{after_push, lawful_push}
+use Rattle.link_history.specs.Lemmas.Lists.{found_in, from_filter, in_filter, none_in, only_in}
+use Rattle.link_history.specs.Lemmas.Accepting.{ReadLaw}
+use Rattle.link_history.specs.Lemmas.Brought.{LoadLaws}
+use Rattle.link_history.specs.Lemmas.Lazy.{PageLaws}
+use Rattle.link_history.specs.Lemmas.Lookups.{find_front, find_kept}
+use Rattle.link_history.specs.Lemmas.Map.{Mapped, covers_in, made_of, mapped_after, no_linkers, one_cover, range_in, range_lies, within_of}
+use Rattle.link_history.specs.Lemmas.Placed.{HasPages, opens_pages}
+use Rattle.link_history.specs.Lemmas.Ranges.{Apart, block_free, clear_free, opens_free}
 
 -- ---- what a state shows of an address
 

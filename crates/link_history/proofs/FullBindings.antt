@@ -40,13 +40,13 @@ use Rattle.link_history.specs.Opening.{Opens}
 use Rattle.link_history.specs.Relocating.{object_fault, missing_symbol, reloc_fault, reloc_fault_by, relocation_fault}
 use Rattle.link_history.specs.Setting.{Machine, Setting}
 use Rattle.link_history.specs.Step.{binds, die, initialise, loaded, lower, seen_after, step, unmap}
-use Rattle.link_history.proofs.History.{by_lawful}
-use Rattle.link_history.proofs.Lists.{found_in, from_filter, from_flat, in_map, later, none_in, not_found, here}
-use Rattle.link_history.proofs.Accepting.{ReadLaw, opens_accepted}
-use Rattle.link_history.proofs.AtLoad.{first_none, opens_none, slots_lead}
-use Rattle.link_history.proofs.Brought.{length_range}
-use Rattle.link_history.proofs.Imaged.{images_mapped, objects_open}
-use Rattle.link_history.proofs.Map.{made_of}
+use Rattle.link_history.specs.Lemmas.History.{by_lawful}
+use Rattle.link_history.specs.Lemmas.Lists.{found_in, from_filter, from_flat, in_map, later, none_in, not_found, here}
+use Rattle.link_history.specs.Lemmas.Accepting.{ReadLaw, opens_accepted}
+use Rattle.link_history.specs.Lemmas.AtLoad.{first_none, opens_none, slots_lead}
+use Rattle.link_history.specs.Lemmas.Brought.{length_range}
+use Rattle.link_history.specs.Lemmas.Imaged.{images_mapped, objects_open}
+use Rattle.link_history.specs.Lemmas.Map.{made_of}
 
 -- ---- what is made of each relocation
 

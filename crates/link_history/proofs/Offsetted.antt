@@ -34,11 +34,11 @@ use Rattle.link_history.specs.Opening.{Opens}
 use Rattle.link_history.specs.Relocating.{is_missing, missing_symbol, object_fault, reloc_fault, reloc_fault_by, relocation_fault}
 use Rattle.link_history.specs.Setting.{Machine, Setting}
 use Rattle.link_history.specs.Step.{binds, die, initialise, loaded, lower, seen_after, step, unmap}
-use Rattle.link_history.proofs.History.{by_lawful}
-use Rattle.link_history.proofs.AtLoad.{first_none, opens_none}
+use Rattle.link_history.specs.Lemmas.History.{by_lawful}
+use Rattle.link_history.specs.Lemmas.AtLoad.{first_none, opens_none}
 use Rattle.link_history.proofs.FullBindings.{each_rela}
-use Rattle.link_history.proofs.Lists.{from_filter, none_in}
-use Rattle.link_history.proofs.Map.{made_of}
+use Rattle.link_history.specs.Lemmas.Lists.{from_filter, none_in}
+use Rattle.link_history.specs.Lemmas.Map.{made_of}
 
 -- ---- of one relocation
 

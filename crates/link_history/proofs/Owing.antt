@@ -27,11 +27,11 @@ use Rattle.link_history.specs.Owed.{IsOwed, brings, ends_at_most, ends_left, owe
 use Rattle.link_history.specs.Setting.{Machine, Setting}
 use Rattle.link_history.specs.Slots.{IsOpenGrant}
 use Rattle.link_history.specs.Step.{closing_of, die, initialise, is_closing, loaded, lower, settled_as, step, unmap}
-use Rattle.link_history.proofs.Brought.{LoadLaws}
-use Rattle.link_history.proofs.Finalised.{finished_now}
-use Rattle.link_history.proofs.Lists.{first_or_later, none_in}
-use Rattle.link_history.proofs.Pages.{range_has}
-use Rattle.link_history.proofs.Positive.{fewer_finis, fewer_inits}
+use Rattle.link_history.specs.Lemmas.Brought.{LoadLaws}
+use Rattle.link_history.specs.Lemmas.Finalised.{finished_now}
+use Rattle.link_history.specs.Lemmas.Lists.{first_or_later, none_in}
+use Rattle.link_history.specs.Lemmas.Pages.{range_has}
+use Rattle.link_history.specs.Lemmas.Positive.{fewer_finis, fewer_inits}
 
 -- ---- counts
 

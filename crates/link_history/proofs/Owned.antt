@@ -28,9 +28,9 @@ use Rattle.link_history.specs.Opening.{Opens, OpensName}
 use Rattle.link_history.specs.Setting.{Machine, Setting}
 use Rattle.link_history.specs.Step.{binds, block_ranges, die, goes_with, initialise, loaded, lower, seen_after, step, unmap}
 use Rattle.link_history.specs.Storage.{statics_with}
-use Rattle.link_history.proofs.History.{by_lawful}
-use Rattle.link_history.proofs.Lists.{first_or_later, from_filter, from_map, here, in_filter, in_map, later, none_in, only_in}
-use Rattle.link_history.proofs.Ranges.{block_free}
+use Rattle.link_history.specs.Lemmas.History.{by_lawful}
+use Rattle.link_history.specs.Lemmas.Lists.{first_or_later, from_filter, from_map, here, in_filter, in_map, later, none_in, only_in}
+use Rattle.link_history.specs.Lemmas.Ranges.{block_free}
 
 -- what a purpose is of: an image of its serial, or a block of its hart and serial
 abbrev IsOwned : List Linked → List Block → Purpose → Type 0

@@ -11,8 +11,8 @@ use Rattle.link_history.specs.Areas.{free_pages, released}
 use Rattle.link_history.specs.Legal.{Lawful}
 use Rattle.link_history.specs.Setting.{Machine}
 use Rattle.link_history.specs.Step.{goes_with}
-use Rattle.link_history.proofs.Lists.{any_in, from_filter, here, in_any, in_filter, later}
-use Rattle.link_history.proofs.Map.{ranges_apart}
+use Rattle.link_history.specs.Lemmas.Lists.{any_in, from_filter, here, in_any, in_filter, later}
+use Rattle.link_history.specs.Lemmas.Map.{ranges_apart}
 
 -- the range has the page
 abbrev page_of : ℕ → Range → Bool

@@ -12,9 +12,9 @@ use Rattle.link_history.specs.Legal.{IsOnlyBound, Legal, Whole}
 use Rattle.link_history.specs.Objects.{IsMapped}
 use Rattle.link_history.specs.Setting.{Setting}
 use Rattle.link_history.specs.Slots.{value_at_load}
-use Rattle.link_history.proofs.Brought.{LoadLaws}
-use Rattle.link_history.proofs.History.{legal_is_lawful}
-use Rattle.link_history.proofs.Tidy.{Tidy, one_number, tidy_after}
+use Rattle.link_history.specs.Lemmas.Brought.{LoadLaws}
+use Rattle.link_history.specs.Lemmas.History.{legal_is_lawful}
+use Rattle.link_history.specs.Lemmas.Tidy.{Tidy, one_number, tidy_after}
 use Rattle.link_history.proofs.Unbound.{grants_tidy}
 
 module _ (s : State) (tidy : GrantsAreTidy s) (numbers : Tidy s.grants) where

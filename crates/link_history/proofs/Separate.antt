@@ -26,7 +26,7 @@ use Rattle.link_history.specs.Parts.{file_of}
 use Rattle.link_history.specs.Namespaces.{d_of, libn, libn_in, namespaces, opens_in_base, opens_in_new, other_namespace, prog, setting, startup}
 use Rattle.link_history.specs.Relocating.{relocation_fault}
 use Rattle.link_history.specs.Step.{initialise, loaded, step}
-use Rattle.link_history.proofs.Played.{another_is_found, at_the_end, legal_by, loads, mapped_at, may_initialise, whole_by}
+use Rattle.link_history.specs.Lemmas.Played.{another_is_found, at_the_end, legal_by, loads, mapped_at, may_initialise, whole_by}
 
 abbrev files : List File
 files = map file_of (prog ∷ libn ∷ [])

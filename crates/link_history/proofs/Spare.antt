@@ -14,11 +14,11 @@ use Rattle.link_history.specs.Grants.{target_of}
 use Rattle.link_history.specs.Laws.{ClosesSpare, IsSpare}
 use Rattle.link_history.specs.Links.{Needed, stays}
 use Rattle.link_history.specs.Step.{lower, lowered_in}
-use Rattle.link_history.proofs.Lists.{here, later}
-use Rattle.link_history.proofs.Closed.{Dies, closes_dies, dies_along, dies_node, good_lower}
-use Rattle.link_history.proofs.Dangling.{leads_from}
-use Rattle.link_history.proofs.Dying.{granted_root, opened_root, pinned_root, staying_root, startup_root}
-use Rattle.link_history.proofs.Good.{Good, Inside, core}
+use Rattle.link_history.specs.Lemmas.Lists.{here, later}
+use Rattle.link_history.specs.Lemmas.Closed.{Dies, closes_dies, dies_along, dies_node, good_lower}
+use Rattle.link_history.specs.Lemmas.Dangling.{leads_from}
+use Rattle.link_history.specs.Lemmas.Dying.{granted_root, opened_root, pinned_root, staying_root, startup_root}
+use Rattle.link_history.specs.Lemmas.Good.{Good, Inside, core}
 
 -- an object that doesn't stay is ready, and may go
 goes : (b : Bool) (doing : Doing) → (b || not (elim doing [ states.Ready ↦ true | _ ↦ false ])) ≡ false → (doing ≡ states.Ready) × (b ≡ false)

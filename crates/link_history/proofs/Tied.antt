@@ -36,15 +36,15 @@ use Rattle.link_history.specs.Objects.{has}
 use Rattle.link_history.specs.Opening.{Opens}
 use Rattle.link_history.specs.Setting.{Machine, Setting}
 use Rattle.link_history.specs.Step.{binds, die, initialise, loaded, lower, namespace_before, seen_after, step, unmap}
-use Rattle.link_history.proofs.History.{by_lawful}
-use Rattle.link_history.proofs.Lists.{found_in, from_filter, from_map, here, in_map, later, none_in, not_found}
-use Rattle.link_history.proofs.Accepting.{ReadLaw, opens_accepted}
-use Rattle.link_history.proofs.Arrived.{Arrived}
-use Rattle.link_history.proofs.Brought.{LoadLaws, arrived_by, length_range}
-use Rattle.link_history.proofs.Good.{core}
-use Rattle.link_history.proofs.Lookups.{find_behind, find_first, find_kept}
-use Rattle.link_history.proofs.Map.{made_of}
-use Rattle.link_history.proofs.Steps.{good_after}
+use Rattle.link_history.specs.Lemmas.History.{by_lawful}
+use Rattle.link_history.specs.Lemmas.Lists.{found_in, from_filter, from_map, here, in_map, later, none_in, not_found}
+use Rattle.link_history.specs.Lemmas.Accepting.{ReadLaw, opens_accepted}
+use Rattle.link_history.specs.Lemmas.Arrived.{Arrived}
+use Rattle.link_history.specs.Lemmas.Brought.{LoadLaws, arrived_by, length_range}
+use Rattle.link_history.specs.Lemmas.Good.{core}
+use Rattle.link_history.specs.Lemmas.Lookups.{find_behind, find_first, find_kept}
+use Rattle.link_history.specs.Lemmas.Map.{made_of}
+use Rattle.link_history.specs.Lemmas.Steps.{good_after}
 
 -- ---- bindings
 

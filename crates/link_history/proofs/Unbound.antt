@@ -23,12 +23,12 @@ use Rattle.link_history.specs.Objects.{has}
 use Rattle.link_history.specs.Setting.{Machine, Setting}
 use Rattle.link_history.specs.Slots.{MayBind}
 use Rattle.link_history.specs.Step.{binds, die, initialise, loaded, lower, seen_after, settled_as, step, unmap}
-use Rattle.link_history.proofs.History.{by_lawful}
-use Rattle.link_history.proofs.Lists.{from_map, none_in}
-use Rattle.link_history.proofs.Brought.{LoadLaws, arrived_by}
-use Rattle.link_history.proofs.Lookups.{find_front, find_kept, find_less}
-use Rattle.link_history.proofs.Steps.{good_after}
-use Rattle.link_history.proofs.Tidy.{one_number, tidy_after, was_settled}
+use Rattle.link_history.specs.Lemmas.History.{by_lawful}
+use Rattle.link_history.specs.Lemmas.Lists.{from_map, none_in}
+use Rattle.link_history.specs.Lemmas.Brought.{LoadLaws, arrived_by}
+use Rattle.link_history.specs.Lemmas.Lookups.{find_front, find_kept, find_less}
+use Rattle.link_history.specs.Lemmas.Steps.{good_after}
+use Rattle.link_history.specs.Lemmas.Tidy.{one_number, tidy_after, was_settled}
 
 -- ---- the value at load, in a list
 

@@ -30,16 +30,16 @@ use Rattle.link_history.specs.Opening.{Loads as LoadsName, OpensName, unplaced}
 use Rattle.link_history.specs.Read.{BeginsUntouched, ObjectsAreRead, WasRead}
 use Rattle.link_history.specs.Setting.{Machine, MayRead, ReadingsBy, Setting, load_of}
 use Rattle.link_history.specs.Step.{die, dying_in, dying_object, initialise, loaded, lower, lowered_in, ready_in, ready_object, step, unmap}
-use Rattle.link_history.proofs.History.{by_lawful}
-use Rattle.link_history.proofs.Lists.{at_in, first_or_later, from_map, in_map, none_in, only_in}
-use Rattle.link_history.proofs.Accepting.{ReadLaw}
-use Rattle.link_history.proofs.Begun.{begins_untouched}
-use Rattle.link_history.proofs.Brought.{LoadLaws, all_at}
-use Rattle.link_history.proofs.Changed.{Leaves, leaves_dying, leaves_ready}
-use Rattle.link_history.proofs.Closed.{each_left, stayed}
-use Rattle.link_history.proofs.Good.{each_mapped}
-use Rattle.link_history.proofs.Imaged.{objects_open}
-use Rattle.link_history.proofs.Program.{begins_itself}
+use Rattle.link_history.specs.Lemmas.History.{by_lawful}
+use Rattle.link_history.specs.Lemmas.Lists.{at_in, first_or_later, from_map, in_map, none_in, only_in}
+use Rattle.link_history.specs.Lemmas.Accepting.{ReadLaw}
+use Rattle.link_history.specs.Lemmas.Begun.{begins_untouched}
+use Rattle.link_history.specs.Lemmas.Brought.{LoadLaws, all_at}
+use Rattle.link_history.specs.Lemmas.Changed.{Leaves, leaves_dying, leaves_ready}
+use Rattle.link_history.specs.Lemmas.Closed.{each_left, stayed}
+use Rattle.link_history.specs.Lemmas.Good.{each_mapped}
+use Rattle.link_history.specs.Lemmas.Imaged.{objects_open}
+use Rattle.link_history.specs.Lemmas.Program.{begins_itself}
 
 -- no two new objects were read at one path
 abbrev pub OnceLaw : Type 0

@@ -26,11 +26,11 @@ use Rattle.link_event.specs.declared.state.Ending.{Ending}
 use Rattle.link_event.specs.declared.state.Loading.{Loading}
 use Rattle.link_graph.specs.Initialised.{Reaches}
 use Rattle.link_graph.specs.Reached.Reached.{root}
-use Rattle.link_history.proofs.Lists.{only_in}
+use Rattle.link_history.specs.Lemmas.Lists.{only_in}
 use Rattle.link_history.specs.Relocating.{relocation_fault}
 use Rattle.link_history.specs.Step.{initialise, loaded}
-use Rattle.link_history.proofs.Lists.{here as first_in, from_filter, in_filter, none_in}
-use Rattle.link_history.proofs.Pages.{outside, page_number, page_there}
+use Rattle.link_history.specs.Lemmas.Lists.{here as first_in, from_filter, in_filter, none_in}
+use Rattle.link_history.specs.Lemmas.Pages.{outside, page_number, page_there}
 
 -- ---- where the program and its stack stand
 

@@ -15,6 +15,7 @@ pub mod Held
 pub mod Late
 pub mod Laws
 pub mod Legal
+pub mod Lemmas
 pub mod Links
 pub mod Lookup
 pub mod Memory

@@ -40,8 +40,8 @@ use Rattle.link_history.specs.Slots.{HasNoGrant, IsSlot}
 use Rattle.link_history.specs.State.{State}
 use Rattle.link_history.specs.Step.{lower}
 use Rattle.link_history.specs.Storage.{block_align, block_pages, module_of, residue, tls_block}
-use Rattle.link_history.proofs.Lists.{any_in, first_or_later, found_in, from_flat, has_in, here, in_any, in_flat, in_has, later, none_in, not_found}
-use Rattle.link_history.proofs.Played.{bad_handle}
+use Rattle.link_history.specs.Lemmas.Lists.{any_in, first_or_later, found_in, from_flat, has_in, here, in_any, in_flat, in_has, later, none_in, not_found}
+use Rattle.link_history.specs.Lemmas.Played.{bad_handle}
 use Rattle.link_service.specs.Answer.{returns, granted, again, over}
 use Rattle.link_service.specs.Call.{resolves, closes, unmaps, locates}
 use Rattle.link_service.specs.Complete.{HasAnswer}

@@ -19,13 +19,13 @@ use Rattle.link_history.specs.Objects.{has_id, has_namespace, has_object, home}
 use Rattle.link_history.specs.Setting.{Machine}
 use Rattle.link_history.specs.State.{Linked, State, empty_namespace}
 use Rattle.link_history.specs.Step.{die, dying_in, gone_in, initialise, is_left, loaded, lower, lowered_in, ready_in, unmap}
-use Rattle.link_history.proofs.Brought.{LoadLaws}
-use Rattle.link_history.proofs.Lists.{any_in, found_in, here, in_any, in_filter, in_map, not_found}
-use Rattle.link_history.proofs.Accepting.{ReadLaw}
-use Rattle.link_history.proofs.Alone.{apart}
-use Rattle.link_history.proofs.Holders.{holders}
-use Rattle.link_history.proofs.Lazy.{PageLaws}
-use Rattle.link_history.proofs.Steps.{Law, by_law}
+use Rattle.link_history.specs.Lemmas.Brought.{LoadLaws}
+use Rattle.link_history.specs.Lemmas.Lists.{any_in, found_in, here, in_any, in_filter, in_map, not_found}
+use Rattle.link_history.specs.Lemmas.Accepting.{ReadLaw}
+use Rattle.link_history.specs.Lemmas.Alone.{apart}
+use Rattle.link_history.specs.Lemmas.Holders.{holders}
+use Rattle.link_history.specs.Lemmas.Lazy.{PageLaws}
+use Rattle.link_history.specs.Lemmas.Steps.{Law, by_law}
 use Rattle.link_service.specs.Call.{caller_namespace}
 
 -- ---- the base

@@ -8,7 +8,7 @@ use Rattle.link_graph.specs.declared.graph.Edge.{Edge}
 use Rattle.link_graph.specs.Reached.{Reached, Unneeded}
 use Rattle.link_graph.specs.Reached.Reached.{root, on}
 use Rattle.link_history.specs.Objects.{has}
-use Rattle.link_history.proofs.Lists.{first_or_later, has_in, here, in_has, later, none_in}
+use Rattle.link_history.specs.Lemmas.Lists.{first_or_later, has_in, here, in_has, later, none_in}
 
 abbrev pub Decided : Type 0 → Type 0
 Decided A = A ⊎ ¬ A

@@ -12,12 +12,12 @@ use Rattle.link_history.specs.Laws.{AreApart, ModulesAreTidy}
 use Rattle.link_history.specs.Legal.{Lawful}
 use Rattle.link_history.specs.Lookup.{SymbolsAreStored}
 use Rattle.link_history.specs.Setting.{Machine, Setting}
-use Rattle.link_history.proofs.Accepting.{ReadLaw}
-use Rattle.link_history.proofs.Alone.{apart}
-use Rattle.link_history.proofs.Brought.{LoadLaws}
-use Rattle.link_history.proofs.Defined.{symbols_stored}
-use Rattle.link_history.proofs.Moduled.{NumberLaws}
-use Rattle.link_history.proofs.Offsets.{modules_tidy}
+use Rattle.link_history.specs.Lemmas.Accepting.{ReadLaw}
+use Rattle.link_history.specs.Lemmas.Alone.{apart}
+use Rattle.link_history.specs.Lemmas.Brought.{LoadLaws}
+use Rattle.link_history.specs.Lemmas.Defined.{symbols_stored}
+use Rattle.link_history.specs.Lemmas.Moduled.{NumberLaws}
+use Rattle.link_history.specs.Lemmas.Offsets.{modules_tidy}
 use Rattle.link_service.specs.Answer.{over, returns, told}
 use Rattle.link_service.specs.Call.{Call, resolves, opens, looks_up, closes, unmaps, asks_fault, locates, writes, stops}
 use Rattle.link_service.specs.Complete.{HasAnswer, MayMake}

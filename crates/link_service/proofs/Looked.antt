@@ -27,9 +27,9 @@ use Rattle.link_history.specs.Setting.{Setting}
 use Rattle.link_history.specs.State.{State}
 use Rattle.link_history.specs.Step.{step}
 use Rattle.link_history.specs.Storage.{late_block, module_of, tls_block, tp_of}
-use Rattle.link_history.proofs.History.{after_push}
-use Rattle.link_history.proofs.Lists.{any_in, not_found}
-use Rattle.link_history.proofs.Lookups.{find_behind}
+use Rattle.link_history.specs.Lemmas.History.{after_push}
+use Rattle.link_history.specs.Lemmas.Lists.{any_in, not_found}
+use Rattle.link_history.specs.Lemmas.Lookups.{find_behind}
 use Rattle.link_service.specs.Answer.{returns, refused}
 use Rattle.link_service.specs.Call.{looks_up}
 use Rattle.link_service.specs.Complete.{FitsSymbol, HasAnswer}

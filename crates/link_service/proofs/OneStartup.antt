@@ -28,10 +28,10 @@ use Rattle.link_service.specs.Startup.{FailsToStart, FindHarts, LacksHart, Start
 use Rattle.link_service.specs.Startup.FailsToStart.{is_not_opened, lacks_hart}
 use Rattle.link_service.specs.Startup.FindHarts.{no_more, one_more}
 use Rattle.link_service.specs.Startup.LacksHart.{is_refused, is_not_code, one_more as one_later}
-use Rattle.link_service.proofs.OneOrder.{one_start}
-use Rattle.link_service.proofs.Opened.{OutcomeLaws}
-use Rattle.link_service.proofs.Told.{one_opening}
-use Rattle.link_service.proofs.Unique.{found_or_refused, same_found, same_refusal}
+use Rattle.link_service.specs.Lemmas.OneOrder.{one_start}
+use Rattle.link_service.specs.Lemmas.Opened.{OutcomeLaws}
+use Rattle.link_service.specs.Lemmas.Told.{one_opening}
+use Rattle.link_service.specs.Lemmas.Unique.{found_or_refused, same_found, same_refusal}
 
 -- ---- the harts
 

@@ -25,8 +25,8 @@ use Rattle.link_history.specs.Opening.{ArePlaced, Finds, HasNoPages, HaveStorage
 use Rattle.link_history.specs.Opening.Refuses.{bad_flags, bad_namespace, has_no_pages, lacks_version, name_too_long, namespaces_full, stopped, unrelocated}
 use Rattle.link_history.specs.Setting.{Machine, Setting, load_of}
 use Rattle.link_history.specs.Storage.{statics_with}
-use Rattle.link_history.proofs.Brought.{LoadLaws}
-use Rattle.link_history.proofs.ProgramStays.{program_stays}
+use Rattle.link_history.specs.Lemmas.Brought.{LoadLaws}
+use Rattle.link_history.specs.Lemmas.ProgramStays.{program_stays}
 use Rattle.link_service.specs.Answer.{again, loading, returns}
 use Rattle.link_service.specs.Answer.{refused as is_refused}
 use Rattle.link_service.specs.Call.{opens}
@@ -34,7 +34,7 @@ use Rattle.link_service.specs.Complete.{ComesToEnd, FitsOpening, HasAnswer}
 use Rattle.link_service.specs.Gives.Answers.{is_absent, is_loaded, is_not_opened, is_there}
 use Rattle.link_service.specs.Gives.Gives.{by_event, to_again}
 use Rattle.link_service.specs.Waiting.Shows.{by_load}
-use Rattle.link_service.proofs.Opened.{same_wanted}
+use Rattle.link_service.specs.Lemmas.Opened.{same_wanted}
 use Rattle.link_service.proofs.Placing.{are_based, based, based_modules, based_same, based_unplaced, given_or_lacks, have_modules, least_below}
 
 -- ---- the namespace

@@ -17,9 +17,9 @@ use Rattle.link_history.specs.State.{Statics}
 use Rattle.link_history.specs.Areas.{Area, AreBased, AreGiven, HasNoRoom, LacksRoom, StandsAt, Where, anywhere, object_area, only}
 use Rattle.link_history.specs.Opening.{unplaced}
 use Rattle.link_history.specs.Storage.{HaveModules, IsPlaceOf, IsStaticOffset, statics_with_one, with_place}
-use Rattle.link_history.proofs.Lists.{any_in, first_or_later, in_any, none_in}
+use Rattle.link_history.specs.Lemmas.Lists.{any_in, first_or_later, in_any, none_in}
 use Rattle.link_service.proofs.Decide.{Decided, all_free, first_fit}
-use Rattle.link_service.proofs.Stored.{unbased}
+use Rattle.link_service.specs.Lemmas.Stored.{unbased}
 
 -- ---- the least number
 

@@ -26,20 +26,20 @@ use Rattle.link_history.specs.Links.{found_edges}
 use Rattle.link_history.specs.Objects.{mapped, serial_of}
 use Rattle.link_history.specs.Setting.{Machine, Setting}
 use Rattle.link_history.specs.Step.{die, dying_in, dying_object, initialise, loaded, loading_of, lower, lowered_in, namespace_before, ready_in, ready_object, step, unmap}
-use Rattle.link_history.proofs.Alone.{apart}
-use Rattle.link_history.proofs.Arrived.{Arrived}
-use Rattle.link_history.proofs.Brought.{LoadLaws, arrived_by}
-use Rattle.link_history.proofs.Changed.{Leaves, leaves_dying, leaves_ready}
-use Rattle.link_history.proofs.Closed.{each_left, stayed}
-use Rattle.link_history.proofs.Dangling.{dangles}
-use Rattle.link_history.proofs.Good.{core, each_mapped}
-use Rattle.link_history.proofs.History.{after_push, lawful_push}
-use Rattle.link_history.proofs.Imaged.{objects_open}
-use Rattle.link_history.proofs.Lists.{at_in, first_or_later, from_filter, from_flat, from_map, here, in_flat, in_map, later, only_in}
-use Rattle.link_history.proofs.Positive.{all_given}
-use Rattle.link_history.proofs.Serials.{serials_in_order}
-use Rattle.link_history.proofs.Steps.{good_after}
-use Rattle.link_history.proofs.Uninitialised.{uninitialised_stay}
+use Rattle.link_history.specs.Lemmas.Alone.{apart}
+use Rattle.link_history.specs.Lemmas.Arrived.{Arrived}
+use Rattle.link_history.specs.Lemmas.Brought.{LoadLaws, arrived_by}
+use Rattle.link_history.specs.Lemmas.Changed.{Leaves, leaves_dying, leaves_ready}
+use Rattle.link_history.specs.Lemmas.Closed.{each_left, stayed}
+use Rattle.link_history.specs.Lemmas.Dangling.{dangles}
+use Rattle.link_history.specs.Lemmas.Good.{core, each_mapped}
+use Rattle.link_history.specs.Lemmas.History.{after_push, lawful_push}
+use Rattle.link_history.specs.Lemmas.Imaged.{objects_open}
+use Rattle.link_history.specs.Lemmas.Lists.{at_in, first_or_later, from_filter, from_flat, from_map, here, in_flat, in_map, later, only_in}
+use Rattle.link_history.specs.Lemmas.Positive.{all_given}
+use Rattle.link_history.specs.Lemmas.Serials.{serials_in_order}
+use Rattle.link_history.specs.Lemmas.Steps.{good_after}
+use Rattle.link_history.specs.Lemmas.Uninitialised.{uninitialised_stay}
 use Rattle.link_service.specs.Functions.{AreConstructors, AreLeft, object_of}
 
 abbrev edges_of : State → List Edge

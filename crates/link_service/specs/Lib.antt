@@ -5,6 +5,7 @@ pub mod Ends
 pub mod Functions
 pub mod Gives
 pub mod Laws
+pub mod Lemmas
 pub mod Served
 pub mod Startup
 pub mod Waiting

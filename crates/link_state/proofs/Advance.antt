@@ -29,7 +29,7 @@ use Rattle.link_history.specs.Objects.{has, mapped, serial_of}
 use Rattle.link_history.specs.Owed.{IsOwed, ends_left, owed}
 use Rattle.link_history.specs.State.{State}
 use Rattle.link_history.specs.Step.{end_hart, finalise, initialise, ready_in, ready_object, ready_state, settle, settled_as, step, tell}
-use Rattle.link_history.proofs.Lists.{found_in, from_filter, from_flat, in_filter, in_flat, none_in, not_found}
+use Rattle.link_history.specs.Lemmas.Lists.{found_in, from_filter, from_flat, in_filter, in_flat, none_in, not_found}
 use Rattle.link_pending.specs.Pending.{GrantTable, SerialsWithRoom, has_number, is_another}
 use Rattle.scope_rule.specs.declared.namespace.Namespace.{Namespace}
 use Rattle.link_state.specs.Holding.{HoldsAll, Lists, Runs}

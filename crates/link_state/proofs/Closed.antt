@@ -23,7 +23,7 @@ use Rattle.link_history.specs.Links.{IsUnneeded, held_edges}
 use Rattle.link_history.specs.Objects.{has, mapped, serial_of, startup_serials}
 use Rattle.link_history.specs.State.{State}
 use Rattle.link_history.specs.Step.{closing_of as waiting_of, die, dying_in, dying_object, lower, lowered_in}
-use Rattle.link_history.proofs.Lists.{none_in, only_in}
+use Rattle.link_history.specs.Lemmas.Lists.{none_in, only_in}
 use Rattle.pending_closings.specs.Pending.{PendingClosing, PendingList, closing_of}
 use Rattle.scope_rule.specs.declared.namespace.Namespace.{Namespace}
 use Rattle.link_state.specs.Closing.{IsPlanOf}

@@ -23,7 +23,7 @@ use Rattle.link_history.specs.Relocating.{is_missing}
 use Rattle.link_history.specs.Slots.{HasNoGrant}
 use Rattle.link_history.specs.State.{State}
 use Rattle.link_history.specs.Step.{grant}
-use Rattle.link_history.proofs.Lists.{none_in}
+use Rattle.link_history.specs.Lemmas.Lists.{none_in}
 use Rattle.link_pending.specs.Pending.{GrantTable}
 use Rattle.link_service.specs.Answer.{granted}
 use Rattle.link_service.specs.Call.{resolves}

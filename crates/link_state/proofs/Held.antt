@@ -14,7 +14,7 @@ use Rattle.link_history.specs.Owed.{brings}
 use Rattle.link_history.specs.Setting.{Setting}
 use Rattle.link_history.specs.State.{State, empty_namespace}
 use Rattle.link_history.specs.Step.{keep, step}
-use Rattle.link_history.proofs.Lists.{none_in}
+use Rattle.link_history.specs.Lemmas.Lists.{none_in}
 use Rattle.lawful_journal.specs.Following.{MayFollow, machine_of}
 use Rattle.pending_closings.specs.Pending.{PendingClosing, closing_of}
 use Rattle.link_state.specs.Holding.{HoldsAll, Lists}

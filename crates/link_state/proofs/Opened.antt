@@ -19,7 +19,7 @@ use Rattle.link_graph.specs.declared.graph.Edge.{Edge}
 use Rattle.image_reads.specs.Reads.{ArePrepared}
 use Rattle.link_event.specs.declared.event.Event.{Event}
 use Rattle.link_history.specs.After.{after}
-use Rattle.link_history.proofs.History.{after_push}
+use Rattle.link_history.specs.Lemmas.History.{after_push}
 use Rattle.link_service.specs.Served.{AreInstalls}
 use Rattle.link_state.specs.Table.{LinkTable, appended}
 use Rattle.link_history.specs.Flags.{is_global, is_now}
@@ -29,14 +29,14 @@ use Rattle.link_history.specs.Objects.{first_serials, is_none_loaded, is_startup
 use Rattle.link_history.specs.State.{Linked, State, Statics}
 use Rattle.link_history.specs.Step.{has_module, loaded, loading_of, open_done, pinned_by, step, with_namespace}
 use Rattle.link_history.specs.Storage.{with_modules}
-use Rattle.link_history.proofs.Lists.{in_map}
+use Rattle.link_history.specs.Lemmas.Lists.{in_map}
 use Rattle.link_pending.specs.Pending.{SerialsWithRoom}
 use Rattle.load_record.specs.Loads.{LoadTable, Notes, is_first}
 use Rattle.opening_brings.specs.Brought.{IsBrought}
 use Rattle.opening_brings.specs.declared.bringing.Brings.{Brings}
 use Rattle.opening_brings.specs.declared.bringing.Planned.{Planned}
 use Rattle.opening_follows.specs.Laws.{TakesAsMuch}
-use Rattle.opening_follows.proofs.Found.{images_after}
+use Rattle.opening_follows.specs.Lemmas.Found.{images_after}
 use Rattle.opening_laws.specs.Laws.{image_made}
 use Rattle.opening_steps.specs.Steps.{statics_after, statics_of}
 use Rattle.pending_closings.specs.Pending.{PendingClosing, closing_of}

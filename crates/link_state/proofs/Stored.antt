@@ -34,7 +34,7 @@ use Rattle.link_history.specs.Objects.{has, mapped, object_at, serial_of}
 use Rattle.link_history.specs.State.{Linked, State}
 use Rattle.link_history.specs.Step.{add_block, block_range, block_ranges, goes_with}
 use Rattle.link_history.specs.Storage.{block_pages, module_of, residue, tls_block}
-use Rattle.link_history.proofs.Lists.{first_or_later, found_in, from_flat, from_map, here, later, not_found}
+use Rattle.link_history.specs.Lemmas.Lists.{first_or_later, found_in, from_flat, from_map, here, later, not_found}
 use Rattle.lawful_journal.specs.Following.{machine_of}
 use Rattle.link_served.specs.declared.installs.Installs.{Installs}
 use Rattle.link_service.specs.Ends.{bad_module, no_room}

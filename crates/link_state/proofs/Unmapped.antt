@@ -27,7 +27,7 @@ use Rattle.link_history.specs.Links.{held_edges}
 use Rattle.link_history.specs.Objects.{has, mapped, serial_of}
 use Rattle.link_history.specs.State.{Linked, State}
 use Rattle.link_history.specs.Step.{goes_with, gone_in, is_closing, is_left, unmap}
-use Rattle.link_history.proofs.Lists.{found_in, from_filter, from_map, in_filter, none_in, not_found}
+use Rattle.link_history.specs.Lemmas.Lists.{found_in, from_filter, from_map, in_filter, none_in, not_found}
 use Rattle.link_service.specs.Waiting.{HasFinished}
 use Rattle.pending_closings.specs.Pending.{PendingClosing, PendingList, closing_of, is_of}
 use Rattle.reserved_pages.specs.Laid.{RangeList}

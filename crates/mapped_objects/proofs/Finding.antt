@@ -3,7 +3,7 @@ use Rattle.std.proofs.Common.{◌≡◌, ℕ, suc, ◌+◌, ◌<◌, Bool, true,
 use Rattle.std.specs.List.{Contains, find, flat_map}
 use Rattle.std.proofs.Math.Seq.{drop-cons}
 use Rattle.ld_base.specs.declared.linking.Loaded.{Loaded}
-use Rattle.link_history.proofs.Lists.{found_in, from_flat}
+use Rattle.link_history.specs.Lemmas.Lists.{found_in, from_flat}
 use Rattle.object_holders.specs.Holders.{AllAccepted}
 use Rattle.scope_rule.specs.Loading.{with_serial}
 use Rattle.scope_rule.specs.declared.namespace.Namespace.{Namespace}

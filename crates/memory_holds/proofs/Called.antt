@@ -20,13 +20,13 @@ use Rattle.link_history.specs.Parts.{slot as slot_reloc}
 use Rattle.link_history.specs.Memory.{image_at, is_in, role_at, word_at, word_in}
 use Rattle.link_history.specs.Slots.{IsOpenGrant}
 use Rattle.link_history.specs.Step.{initialise, loaded}
-use Rattle.link_history.proofs.Chains.{in_all}
-use Rattle.link_history.proofs.Lists.{found_in, here, none_in, only_in}
+use Rattle.link_history.specs.Lemmas.Chains.{in_all}
+use Rattle.link_history.specs.Lemmas.Lists.{found_in, here, none_in, only_in}
 use Rattle.memory_holds.specs.FirstCall.{bound, called, function, lazy_word, memory_with, other_function, slot_address}
 use Rattle.memory_holds.specs.Holds.{Holds, HoldsAt, IsSlotAt, SlotHolds, Took, TookAt, lazy_at}
 use Rattle.memory_holds.specs.Holds.SlotHolds.{exchanged, first}
 use Rattle.memory_holds.specs.Memory.{IsDoubleword}
-use Rattle.memory_holds.proofs.Exchanged.{fits}
+use Rattle.memory_holds.specs.Lemmas.Exchanged.{fits}
 
 abbrev the_grant : Granting
 the_grant = record { number = 1; hart = 0; owner = 1; slot = 0; choice = Def 2 1; value = 0x15000; standing = standings.Open }

@@ -8,15 +8,15 @@ use Rattle.link_history.specs.Laws.{ImagesAreMapped, SlotsBegin, SlotsLeadToRx, 
 use Rattle.link_history.specs.Memory.{role_at, word_at}
 use Rattle.link_history.specs.Objects.{IsMapped}
 use Rattle.link_history.specs.Slots.{value_at_load}
-use Rattle.link_history.proofs.Lazy.{PageLaws}
-use Rattle.link_history.proofs.Map.{Mapped}
+use Rattle.link_history.specs.Lemmas.Lazy.{PageLaws}
+use Rattle.link_history.specs.Lemmas.Map.{Mapped}
 use Rattle.memory_holds.specs.Enters.{Enters, LoadFits, SlotTrue}
 use Rattle.memory_holds.specs.Holds.{Holds, IsSlotAt, SlotHolds, Took, TookAt}
 use Rattle.memory_holds.specs.Holds.SlotHolds.{exchanged, first}
 use Rattle.memory_holds.specs.Memory.{IsDoubleword, Memory, doubleword_of}
-use Rattle.memory_holds.proofs.Exchanged.{fits}
-use Rattle.memory_holds.proofs.Settled.{first_bound, first_lazy}
-use Rattle.memory_holds.proofs.Slots.{image_in, loaded_at, role_is}
+use Rattle.memory_holds.specs.Lemmas.Exchanged.{fits}
+use Rattle.memory_holds.specs.Lemmas.Settled.{first_bound, first_lazy}
+use Rattle.memory_holds.specs.Lemmas.Slots.{image_in, loaded_at, role_is}
 use Rattle.memory_holds.proofs.Standing.{slot_is_doubleword, slot_stands}
 use Rattle.memory_holds.proofs.Whole.{code_whole}
 

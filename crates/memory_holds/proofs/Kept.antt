@@ -13,16 +13,16 @@ use Rattle.link_history.specs.Changes.{ChangesMemory, IsUntouched, reserved, tak
 use Rattle.link_history.specs.Laws.{SlotsBegin}
 use Rattle.link_history.specs.Memory.{covers, image_at, is_in, role_at, word_at}
 use Rattle.link_history.specs.Step.{step}
-use Rattle.link_history.proofs.Good.{Good, core}
-use Rattle.link_history.proofs.Lazy.{PageLaws}
-use Rattle.link_history.proofs.Lists.{first_or_later, found_in, here, later, none_in}
-use Rattle.link_history.proofs.Map.{Mapped, image_there}
+use Rattle.link_history.specs.Lemmas.Good.{Good, core}
+use Rattle.link_history.specs.Lemmas.Lazy.{PageLaws}
+use Rattle.link_history.specs.Lemmas.Lists.{first_or_later, found_in, here, later, none_in}
+use Rattle.link_history.specs.Lemmas.Map.{Mapped, image_there}
 use Rattle.memory_holds.specs.Holds.{Holds, HoldsAt, IsSlotAt, SlotHolds, TookAt, lazy_at}
 use Rattle.memory_holds.specs.Holds.SlotHolds.{exchanged, first}
 use Rattle.memory_holds.specs.Memory.{IsDoubleword, Memory}
 use Rattle.memory_holds.specs.Remade.{Remade}
-use Rattle.memory_holds.proofs.Images.{ImagesBack, images_forth, no_data}
-use Rattle.memory_holds.proofs.Slots.{role_is}
+use Rattle.memory_holds.specs.Lemmas.Images.{ImagesBack, images_forth, no_data}
+use Rattle.memory_holds.specs.Lemmas.Slots.{role_is}
 use Rattle.memory_holds.proofs.Taking.{IsSameGrant, Taking}
 
 -- an address is of a range of the list, or of none

@@ -1,13 +1,6 @@
 pub mod Called
-pub mod Distinct
 pub mod Entered
-pub mod Exchanged
-pub mod Images
 pub mod Kept
-pub mod Settled
-pub mod Slots
 pub mod Standing
-pub mod Stayed
-pub mod Stored
 pub mod Taking
 pub mod Whole

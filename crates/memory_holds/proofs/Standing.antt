@@ -23,18 +23,18 @@ use Rattle.link_history.specs.Legal.{Lawful}
 use Rattle.link_history.specs.Setting.{Machine}
 use Rattle.link_history.specs.Slots.{IsSlot}
 use Rattle.link_history.specs.Step.{die, dying_in, dying_object, gone_in, initialise, is_left, loaded, lower, lowered_in, ready_in, ready_object, unmap}
-use Rattle.link_history.proofs.Alone.{Alone, alone_law, one_object}
-use Rattle.link_history.proofs.AtLoad.{cases, was_old}
-use Rattle.link_history.proofs.Brought.{LoadLaws}
-use Rattle.link_history.proofs.Changed.{Leaves, leaves_dying, leaves_ready}
-use Rattle.link_history.proofs.Closed.{each_left, stayed}
-use Rattle.link_history.proofs.Good.{Good, core, each_mapped}
-use Rattle.link_history.proofs.Granted.{was_there}
-use Rattle.link_history.proofs.Lazy.{PageLaws}
-use Rattle.link_history.proofs.Lists.{from_map, none_in}
-use Rattle.link_history.proofs.Map.{Mapped, image_there, in_pages, own_at, placed, range_lies, start_at}
-use Rattle.link_history.proofs.Modular.{guest_of}
-use Rattle.link_history.proofs.Steps.{Law, by_law}
+use Rattle.link_history.specs.Lemmas.Alone.{Alone, alone_law, one_object}
+use Rattle.link_history.specs.Lemmas.AtLoad.{cases, was_old}
+use Rattle.link_history.specs.Lemmas.Brought.{LoadLaws}
+use Rattle.link_history.specs.Lemmas.Changed.{Leaves, leaves_dying, leaves_ready}
+use Rattle.link_history.specs.Lemmas.Closed.{each_left, stayed}
+use Rattle.link_history.specs.Lemmas.Good.{Good, core, each_mapped}
+use Rattle.link_history.specs.Lemmas.Granted.{was_there}
+use Rattle.link_history.specs.Lemmas.Lazy.{PageLaws}
+use Rattle.link_history.specs.Lemmas.Lists.{from_map, none_in}
+use Rattle.link_history.specs.Lemmas.Map.{Mapped, image_there, in_pages, own_at, placed, range_lies, start_at}
+use Rattle.link_history.specs.Lemmas.Modular.{guest_of}
+use Rattle.link_history.specs.Lemmas.Steps.{Law, by_law}
 use Rattle.memory_holds.specs.Holds.{IsSlotAt}
 use Rattle.memory_holds.specs.Memory.{IsDoubleword}
 use Rattle.memory_holds.specs.Remade.{HasSlot}

@@ -18,8 +18,8 @@ use Rattle.link_history.specs.Allowed.{AllowedIn}
 use Rattle.link_history.specs.Grants.{is_open, is_open_standing}
 use Rattle.link_history.specs.Setting.{Setting}
 use Rattle.link_history.specs.Step.{die, initialise, loaded, lower, settled_as, step, unmap}
-use Rattle.link_history.proofs.Lists.{from_filter, from_map, in_filter, in_map}
-use Rattle.link_history.proofs.Tidy.{Tidy, in_at}
+use Rattle.link_history.specs.Lemmas.Lists.{from_filter, from_map, in_filter, in_map}
+use Rattle.link_history.specs.Lemmas.Tidy.{Tidy, in_at}
 use Rattle.memory_holds.specs.Holds.{Took}
 use Rattle.memory_holds.specs.Remade.{SettlesRightly, won_after}
 

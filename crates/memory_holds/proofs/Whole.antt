@@ -13,10 +13,10 @@ use Rattle.seg_image.specs.Roles.{is_executable, is_linkers, is_relro, is_slot, 
 use Rattle.link_history.specs.State.{Linked, State}
 use Rattle.link_history.specs.Addresses.{is_linkers_page}
 use Rattle.link_history.specs.Memory.{data_at, image_at, is_in, role_at}
-use Rattle.link_history.proofs.Lazy.{PageLaws}
-use Rattle.link_history.proofs.Lists.{found_in}
-use Rattle.link_history.proofs.Map.{Mapped, in_pages, own_at, range_in, range_lies, role_in_image, start_at, within_of}
-use Rattle.link_history.proofs.Tidy.{in_at}
+use Rattle.link_history.specs.Lemmas.Lazy.{PageLaws}
+use Rattle.link_history.specs.Lemmas.Lists.{found_in}
+use Rattle.link_history.specs.Lemmas.Map.{Mapped, in_pages, own_at, range_in, range_lies, role_in_image, start_at, within_of}
+use Rattle.link_history.specs.Lemmas.Tidy.{in_at}
 use Rattle.memory_holds.specs.Memory.{IsDoubleword, doubleword_of}
 
 -- ---- an object's own pages

@@ -28,15 +28,15 @@ use Rattle.link_history.specs.Setting.{Machine, Setting}
 use Rattle.link_history.specs.State.{Linked, State}
 use Rattle.link_history.specs.Step.{add_block, block_range, block_ranges}
 use Rattle.link_history.specs.Storage.{block_pages, late_block, module_of, residue, tls_block, tp_of}
-use Rattle.link_history.proofs.Accepting.{ReadLaw, accepted_after}
-use Rattle.link_history.proofs.Brought.{LoadLaws}
-use Rattle.link_history.proofs.Calling.{images_found}
-use Rattle.link_history.proofs.Data.{areas_data}
-use Rattle.link_history.proofs.History.{after_push, lawful_push}
-use Rattle.link_history.proofs.Lazy.{PageLaws}
-use Rattle.link_history.proofs.Lists.{found_in, here, not_found}
-use Rattle.link_history.proofs.Lookups.{find_behind}
-use Rattle.link_history.proofs.Moduled.{NumberLaws}
+use Rattle.link_history.specs.Lemmas.Accepting.{ReadLaw, accepted_after}
+use Rattle.link_history.specs.Lemmas.Brought.{LoadLaws}
+use Rattle.link_history.specs.Lemmas.Calling.{images_found}
+use Rattle.link_history.specs.Lemmas.Data.{areas_data}
+use Rattle.link_history.specs.Lemmas.History.{after_push, lawful_push}
+use Rattle.link_history.specs.Lemmas.Lazy.{PageLaws}
+use Rattle.link_history.specs.Lemmas.Lists.{found_in, here, not_found}
+use Rattle.link_history.specs.Lemmas.Lookups.{find_behind}
+use Rattle.link_history.specs.Lemmas.Moduled.{NumberLaws}
 use Rattle.link_service.specs.Served.{AreBlockInstalls, AreInstalls, AreWordsOf}
 use Rattle.seg_image.specs.Words.{word_of}
 use Rattle.seg_image.specs.declared.image.Image.{Image}

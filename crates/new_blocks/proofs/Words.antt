@@ -14,10 +14,10 @@ use Rattle.link_history.specs.Legal.{Lawful}
 use Rattle.link_history.specs.Memory.{covers, first_byte, is_data_purpose, role_at, word_at}
 use Rattle.link_history.specs.Setting.{Machine}
 use Rattle.link_history.specs.State.{State}
-use Rattle.link_history.proofs.Accepting.{ReadLaw}
-use Rattle.link_history.proofs.Brought.{LoadLaws}
-use Rattle.link_history.proofs.Data.{areas_data}
-use Rattle.link_history.proofs.Lazy.{PageLaws}
+use Rattle.link_history.specs.Lemmas.Accepting.{ReadLaw}
+use Rattle.link_history.specs.Lemmas.Brought.{LoadLaws}
+use Rattle.link_history.specs.Lemmas.Data.{areas_data}
+use Rattle.link_history.specs.Lemmas.Lazy.{PageLaws}
 use Rattle.link_service.specs.Served.{AreWordsOf}
 use Rattle.seg_image.specs.Words.{word_of}
 use Rattle.seg_image.specs.declared.image.Image.{Image}

@@ -15,7 +15,7 @@ use Rattle.ld_base.specs.declared.object.Segment.{Segment}
 use Rattle.link_history.specs.Bound.{binding_of, binds_now, place_of}
 use Rattle.link_history.specs.Relocating.{first_fault, is_missing, missing_symbol, object_fault, reloc_fault, reloc_fault_by, slot_fault}
 use Rattle.link_history.specs.State.{State}
-use Rattle.link_history.proofs.Lists.{at_in, later, here}
+use Rattle.link_history.specs.Lemmas.Lists.{at_in, later, here}
 use Rattle.relocator.specs.Bindings.{chosen}
 use Rattle.relocator.specs.Storage.{lacks_offset}
 use Rattle.relocator.specs.declared.binding.Binding.{Binding}

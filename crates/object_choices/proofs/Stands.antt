@@ -11,7 +11,7 @@ use Rattle.ld_base.specs.declared.linking.Loaded.{Loaded}
 use Rattle.ld_base.specs.declared.linking.Want.{Want}
 use Rattle.ld_base.specs.declared.object.Reloc.{Reloc}
 use Rattle.ld_base.specs.declared.object.Symbol.{Symbol}
-use Rattle.link_history.proofs.Lists.{not_found}
+use Rattle.link_history.specs.Lemmas.Lists.{not_found}
 use Rattle.scope_rule.specs.Choose.{choice_of, choose_for, first_with, is_own, pick_at, searched, want_of}
 use Rattle.scope_rule.specs.Linker.{linker_symbol}
 use Rattle.scope_rule.specs.Loading.{object_of}

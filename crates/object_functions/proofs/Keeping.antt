@@ -6,7 +6,7 @@ use Rattle.link_graph.specs.Initialised.{is_one_of}
 use Rattle.link_history.specs.Links.{unfinished}
 use Rattle.link_history.specs.State.{State}
 use Rattle.link_service.specs.Functions.{AreDestructors, AreOf, destructors, object_of}
-use Rattle.link_history.proofs.Lists.{from_filter}
+use Rattle.link_history.specs.Lemmas.Lists.{from_filter}
 
 objects_kept : (p : ℕ → Bool) (functions : List Function) → map object_of (filter (λ f. p f.object) functions) ≡ filter p (map object_of functions)
 objects_kept p [] = refl

@@ -7,7 +7,7 @@ use Rattle.ld_base.specs.declared.linking.Loaded.{Loaded}
 use Rattle.link_graph.specs.declared.graph.Edge.{Edge}
 use Rattle.link_graph.specs.Initialised.{InitOrder, program_last}
 use Rattle.link_history.specs.Objects.{serial_of}
-use Rattle.link_history.proofs.Lists.{at_in, first_or_later, from_filter, from_map, none_in}
+use Rattle.link_history.specs.Lemmas.Lists.{at_in, first_or_later, from_filter, from_map, none_in}
 use Rattle.object_functions.specs.Rooms.{AreInRow, IsPlace}
 
 -- ---- what is read of a list

@@ -11,7 +11,7 @@ use Rattle.link_history.specs.Objects.{is_startup}
 use Rattle.link_history.specs.State.{State, Statics}
 use Rattle.link_history.specs.Step.{binds, loaded, seen_after}
 use Rattle.link_history.specs.Storage.{HaveModules, with_modules}
-use Rattle.link_history.proofs.Lists.{at_in}
+use Rattle.link_history.specs.Lemmas.Lists.{at_in}
 use Rattle.object_bindings.specs.Bindings.{CanRead}
 use Rattle.opening_images.specs.Relocated.{AreChoices, AreRelocated, MayRelocateAll}
 use Rattle.opening_laws.specs.Laws.{CanBePlaced, places_after}

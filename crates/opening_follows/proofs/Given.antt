@@ -13,8 +13,8 @@ use Rattle.link_history.specs.Setting.{Setting}
 use Rattle.link_history.specs.State.{State, Statics}
 use Rattle.link_history.specs.Step.{goes_with, purpose_goes}
 use Rattle.link_history.specs.Storage.{HaveModules, statics_with}
-use Rattle.link_history.proofs.FreePages.{without_one}
-use Rattle.link_history.proofs.Lists.{first_or_later, from_map, here, later, none_in}
+use Rattle.link_history.specs.Lemmas.FreePages.{without_one}
+use Rattle.link_history.specs.Lemmas.Lists.{first_or_later, from_map, here, later, none_in}
 use Rattle.reserved_pages.specs.Laid.{AreLaid}
 
 -- ---- each is free

@@ -1,3 +1,1 @@
 pub mod Given
-pub mod Counted
-pub mod Found

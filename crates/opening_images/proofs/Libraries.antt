@@ -4,7 +4,7 @@ use Rattle.std.specs.Prelude.{if◌then◌else◌, min}
 use Rattle.std.specs.List.{Contains}
 use Rattle.ld_base.specs.declared.linking.Loaded.{Loaded}
 use Rattle.ld_base.specs.declared.object.Reloc.{Reloc}
-use Rattle.link_history.proofs.Lists.{here, later}
+use Rattle.link_history.specs.Lemmas.Lists.{here, later}
 use Rattle.object_bindings.specs.Bindings.{Copies, binding_in, bindings_in, copies_from, none_copied, rela_binding, size_in, slot_binding, value_in}
 use Rattle.relocator.specs.Bindings.{chosen, is_copy}
 use Rattle.relocator.specs.declared.binding.Binding.{Binding}

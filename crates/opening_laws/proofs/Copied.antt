@@ -13,8 +13,8 @@ use Rattle.ld_base.specs.declared.object.Symbol.{Symbol}
 use Rattle.ld_base.specs.Symbol.{is_weak}
 use Rattle.link_history.specs.Bound.{binds_now, bytes_from, copied_of, copies_made, no_binding, settled_byte}
 use Rattle.link_history.specs.State.{Linked}
-use Rattle.link_history.proofs.Lazy.{PageLaws}
-use Rattle.link_history.proofs.Lists.{found_in, from_filter, here, later}
+use Rattle.link_history.specs.Lemmas.Lazy.{PageLaws}
+use Rattle.link_history.specs.Lemmas.Lists.{found_in, from_filter, here, later}
 use Rattle.image_reads.specs.Reads.{byte_within, bytes_within}
 use Rattle.object_bindings.specs.Bindings.{Copies, binding_in, bindings_in, copies_from, none_copied, plain_byte, rela_binding, size_in, slot_binding, value_in}
 use Rattle.relocator.specs.Bindings.{chosen, is_copy}

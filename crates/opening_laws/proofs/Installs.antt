@@ -19,12 +19,12 @@ use Rattle.link_history.specs.Setting.{Machine, Setting}
 use Rattle.link_history.specs.State.{State, Statics}
 use Rattle.link_history.specs.Step.{loaded, open_done}
 use Rattle.link_history.specs.Storage.{statics_with}
-use Rattle.link_history.proofs.Accepting.{ReadLaw}
-use Rattle.link_history.proofs.Brought.{LoadLaws}
-use Rattle.link_history.proofs.Lazy.{PageLaws}
-use Rattle.link_history.proofs.Lists.{from_map, here, later, none_in}
-use Rattle.link_history.proofs.Map.{installed, range_lies}
-use Rattle.link_history.proofs.Modular.{guest_of}
+use Rattle.link_history.specs.Lemmas.Accepting.{ReadLaw}
+use Rattle.link_history.specs.Lemmas.Brought.{LoadLaws}
+use Rattle.link_history.specs.Lemmas.Lazy.{PageLaws}
+use Rattle.link_history.specs.Lemmas.Lists.{from_map, here, later, none_in}
+use Rattle.link_history.specs.Lemmas.Map.{installed, range_lies}
+use Rattle.link_history.specs.Lemmas.Modular.{guest_of}
 use Rattle.link_service.specs.Served.{AreImages, AreWordsOf, is_area}
 use Rattle.opening_images.specs.Relocated.{IsRelocated}
 use Rattle.seg_image.specs.Pages.{guest_address, low_of, own_address, pages_of}

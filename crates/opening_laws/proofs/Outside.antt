@@ -10,8 +10,8 @@ use Rattle.std.proofs.lemmas.Bool.{cases_lt, le-ltb, lt-leb, eqb-true, le-leb, l
 use Rattle.ld_base.specs.declared.object.Object.{Object}
 use Rattle.ld_base.specs.declared.object.Reloc.{Reloc}
 use Rattle.ld_base.specs.declared.object.Segment.{Segment}
-use Rattle.link_history.proofs.Lazy.{PageLaws}
-use Rattle.link_history.proofs.Lists.{found_in, here, later}
+use Rattle.link_history.specs.Lemmas.Lazy.{PageLaws}
+use Rattle.link_history.specs.Lemmas.Lists.{found_in, here, later}
 use Rattle.image_reads.specs.Reads.{byte_within}
 use Rattle.relocator.specs.Bindings.{is_copy, relas_of, slots_of}
 use Rattle.relocator.specs.Relocated.{copied_at, fills_word, image_byte, linkers_at, moved_word, over, packed_at, rela_at, settled_word, slot_at, value_of, with_copies}

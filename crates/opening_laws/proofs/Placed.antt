@@ -20,13 +20,13 @@ use Rattle.link_history.specs.Opening.{Opens}
 use Rattle.link_history.specs.Setting.{Machine, Setting}
 use Rattle.link_history.specs.State.{Linked, State}
 use Rattle.link_history.specs.Step.{binds, loaded, open_done, seen_after}
-use Rattle.link_history.proofs.Accepting.{ReadLaw, opens_accepted}
-use Rattle.link_history.proofs.Brought.{LoadLaws}
-use Rattle.link_history.proofs.History.{after_push, lawful_push}
-use Rattle.link_history.proofs.Lazy.{Lies, PageLaws, lies}
-use Rattle.link_history.proofs.Lists.{in_map}
-use Rattle.link_history.proofs.Map.{Mapped, mapped_after, range_lies}
-use Rattle.link_history.proofs.Modular.{guest_of}
+use Rattle.link_history.specs.Lemmas.Accepting.{ReadLaw, opens_accepted}
+use Rattle.link_history.specs.Lemmas.Brought.{LoadLaws}
+use Rattle.link_history.specs.Lemmas.History.{after_push, lawful_push}
+use Rattle.link_history.specs.Lemmas.Lazy.{Lies, PageLaws, lies}
+use Rattle.link_history.specs.Lemmas.Lists.{in_map}
+use Rattle.link_history.specs.Lemmas.Map.{Mapped, mapped_after, range_lies}
+use Rattle.link_history.specs.Lemmas.Modular.{guest_of}
 use Rattle.seg_image.specs.Pages.{guest_address, low_of, own_address, pages_of, start_of}
 use Rattle.opening_laws.specs.Laws.{CanBePlaced}
 

@@ -27,14 +27,14 @@ use Rattle.link_history.specs.Opening.{Opens}
 use Rattle.link_history.specs.Setting.{Machine, Setting}
 use Rattle.link_history.specs.State.{State}
 use Rattle.link_history.specs.Step.{binds, loaded, namespace_before, open_done, seen_after}
-use Rattle.link_history.proofs.Alone.{apart}
-use Rattle.link_history.proofs.Brought.{LoadLaws}
-use Rattle.link_history.proofs.Good.{Good, Has, core, safe_choice, sound_of}
-use Rattle.link_history.proofs.History.{after_push, lawful_push}
-use Rattle.link_history.proofs.Lists.{found_in, from_flat, here, not_found}
-use Rattle.link_history.proofs.Opened.{before_of, members}
-use Rattle.link_history.proofs.Startup.{changed_there}
-use Rattle.link_history.proofs.Steps.{good_after}
+use Rattle.link_history.specs.Lemmas.Alone.{apart}
+use Rattle.link_history.specs.Lemmas.Brought.{LoadLaws}
+use Rattle.link_history.specs.Lemmas.Good.{Good, Has, core, safe_choice, sound_of}
+use Rattle.link_history.specs.Lemmas.History.{after_push, lawful_push}
+use Rattle.link_history.specs.Lemmas.Lists.{found_in, from_flat, here, not_found}
+use Rattle.link_history.specs.Lemmas.Opened.{before_of, members}
+use Rattle.link_history.specs.Lemmas.Startup.{changed_there}
+use Rattle.link_history.specs.Lemmas.Steps.{good_after}
 use Rattle.object_bindings.specs.Bindings.{binding_in, bindings_in, copied_by, none_copied, rela_binding, slot_binding}
 use Rattle.relocator.specs.Bindings.{is_copy}
 use Rattle.relocator.specs.declared.binding.Binding.{Binding}

@@ -12,7 +12,7 @@ use Rattle.link_event.specs.declared.event.Range.{Range}
 use Rattle.link_history.specs.Bound.{bytes_from, copies_made, linked_with, uncopied, with_copies}
 use Rattle.link_history.specs.State.{Linked, State}
 use Rattle.link_history.specs.Step.{binds, loaded, open_done, seen_after}
-use Rattle.link_history.proofs.Lists.{here, in_map, later}
+use Rattle.link_history.specs.Lemmas.Lists.{here, in_map, later}
 use Rattle.object_bindings.specs.Bindings.{Copies, binding_in, bindings_in, none_copied, rela_binding, size_in, slot_binding, value_in}
 use Rattle.relocator.specs.Bindings.{chosen, is_copy}
 use Rattle.relocator.specs.declared.binding.Binding.{Binding}

@@ -7,8 +7,8 @@ use Rattle.std.proofs.lemmas.List.Elements.{Contains-append_left, Contains-appen
 use Rattle.address_space.specs.Pages.{AllFree, guest_pages, is_within, without}
 use Rattle.link_event.specs.declared.event.Range.{Range}
 use Rattle.link_history.specs.Areas.{free_pages}
-use Rattle.link_history.proofs.FreePages.{without_one}
-use Rattle.link_history.proofs.Lists.{any_in, from_filter, in_any, in_filter}
+use Rattle.link_history.specs.Lemmas.FreePages.{without_one}
+use Rattle.link_history.specs.Lemmas.Lists.{any_in, from_filter, in_any, in_filter}
 use Rattle.reserved_pages.specs.Laid.{AreLaid}
 
 all_pass : (xs : List ℕ) → xs ≡ filter (λ x. not false) xs

@@ -14,11 +14,11 @@ use Rattle.link_history.specs.Memory.{image_of}
 use Rattle.link_history.specs.Setting.{Setting}
 use Rattle.link_history.specs.State.{Linked}
 use Rattle.link_service.specs.Functions.{AreAddresses, destructors}
-use Rattle.link_service.proofs.Unique.{both_found}
+use Rattle.link_service.specs.Lemmas.Unique.{both_found}
 use Rattle.hart_moves.specs.Harts.{HartState}
 use Rattle.hart_moves.specs.Moves.{all_finis, events_of, settles}
 use Rattle.hart_moves.specs.Starting.{finalising_hart}
-use Rattle.hart_moves.proofs.Legality.{ended_stays}
+use Rattle.hart_moves.specs.Lemmas.Legality.{ended_stays}
 use Rattle.schedules.specs.declared.schedule.TurnItem.{TurnItem}
 use Rattle.world_turns.specs.Laws.{FinalsBeginSound, TurnsAreSound}
 use Rattle.world_turns.specs.Run.{Begins, Constructs, Ends, Finalises, Finishes, LacksMemory, Repeats, Rounds, TakesItems, all_harts, exit_code, have_ended, have_exited, is_starting}

@@ -11,12 +11,12 @@ use Rattle.link_history.specs.Accepted.{AcceptsOnly}
 use Rattle.link_history.specs.Setting.{Setting}
 use Rattle.link_history.specs.State.{start}
 use Rattle.link_service.specs.Laws.{StartsOneWay}
-use Rattle.link_service.proofs.Unique.{both_found}
+use Rattle.link_service.specs.Lemmas.Unique.{both_found}
 use Rattle.hart_moves.specs.Harts.{HartState}
 use Rattle.hart_moves.specs.Starting.{starting_harts, starting_registers}
 use Rattle.schedules.specs.declared.schedule.TurnItem.{TurnItem}
 use Rattle.turn_once.specs.Laws.{HasNoChance, OneTurn}
-use Rattle.turn_once.proofs.Memory.{all_remade, same_words}
+use Rattle.turn_once.specs.Lemmas.Memory.{all_remade, same_words}
 use Rattle.world_turns.specs.Laws.{FinalsBeginSound, StartIsSound, TurnsAreSound}
 use Rattle.world_turns.specs.Memory.{RemakesAll}
 use Rattle.world_turns.specs.Run.{Constructs, Finalises, Finishes, IsStarted, Run, TakesItems, settled}

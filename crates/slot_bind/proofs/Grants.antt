@@ -19,7 +19,7 @@ use Rattle.guest_rule.specs.Views.{IsLong, kept_at, offered, row_of, with_offere
 use Rattle.guest_rule.specs.declared.view.TrailItem.TheVariants.{Done}
 use Rattle.word_steps.specs.Views.{IsIdle}
 use Rattle.word_steps.specs.Views.{IsResting}
-use Rattle.guest_rule.proofs.Heeding.{heeds, row_here}
+use Rattle.guest_rule.specs.Lemmas.Heeding.{heeds, row_here}
 use Rattle.slot_bind.specs.declared.slot.Asked.{Asked}
 use Rattle.slot_bind.specs.declared.slot.Asked.TheVariants.{Open, Won as SaysWon, Lost as SaysLost}
 use Rattle.slot_bind.specs.declared.slot.Bound.{Bound}

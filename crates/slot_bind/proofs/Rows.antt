@@ -13,9 +13,9 @@ use Rattle.guest_rule.specs.declared.view.Row.{Row}
 use Rattle.guest_rule.specs.Allowed.{IsPostable}
 use Rattle.guest_rule.specs.KeeperSteps.{KeeperReady, awaited_if, handed, heeding, keeper_after, opened, with_row}
 use Rattle.guest_rule.specs.Views.{IsLong, grant_in, kept_at, row_of, with_field}
-use Rattle.guest_rule.proofs.Rows.{field_since}
+use Rattle.guest_rule.specs.Lemmas.Rows.{field_since}
 use Rattle.word_steps.specs.Views.{IsResting}
-use Rattle.guest_rule.proofs.Heeding.{heeds, row_else, row_here}
+use Rattle.guest_rule.specs.Lemmas.Heeding.{heeds, row_else, row_here}
 use Rattle.slot_bind.specs.Rows.{IsWaiting, MayHand, handed_over, row_with}
 use Rattle.slot_bind.specs.Grants.{MayPost, grant_of, posted}
 

@@ -10,7 +10,7 @@ use Rattle.ld_base.specs.declared.object.Object.{Object}
 use Rattle.ld_base.specs.declared.object.Reloc.{Reloc}
 use Rattle.link_history.specs.Objects.{has_object}
 use Rattle.link_history.specs.State.{State}
-use Rattle.link_history.proofs.Lists.{any_in, at_in, first_or_later, found_in, in_any, not_found}
+use Rattle.link_history.specs.Lemmas.Lists.{any_in, at_in, first_or_later, found_in, in_any, not_found}
 use Rattle.link_service.specs.Ends.{IsUnloaded, LacksSlot}
 use Rattle.scope_rule.specs.Loading.{with_serial}
 use Rattle.scope_rule.specs.declared.namespace.Namespace.{Namespace}

@@ -6,7 +6,7 @@ use Rattle.std.proofs.lemmas.List.Elements.{filter-append}
 use Rattle.area_images.specs.Areas.{IsArea}
 use Rattle.link_event.specs.declared.event.Range.{Range}
 use Rattle.link_history.specs.State.{State}
-use Rattle.link_history.proofs.Lists.{here, later}
+use Rattle.link_history.specs.Lemmas.Lists.{here, later}
 use Rattle.link_service.specs.Served.{AreImages, AreWordsOf, is_area}
 use Rattle.seg_image.specs.declared.image.Image.{Image}
 use Rattle.startup_areas.specs.Areas.{AreFilled, filling}

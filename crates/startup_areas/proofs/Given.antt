@@ -16,7 +16,7 @@ use Rattle.link_history.specs.Opening.{OpensName, wanted}
 use Rattle.link_history.specs.Setting.{Setting}
 use Rattle.link_history.specs.State.{State, Statics}
 use Rattle.link_history.specs.Storage.{is_static_area, statics_with}
-use Rattle.link_history.proofs.Lists.{first_or_later, from_map, here, later, none_in}
+use Rattle.link_history.specs.Lemmas.Lists.{first_or_later, from_map, here, later, none_in}
 use Rattle.link_service.specs.Served.{is_area}
 
 abbrev For : Area → Range → Type 0

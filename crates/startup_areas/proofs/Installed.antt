@@ -23,8 +23,8 @@ use Rattle.link_history.specs.Read.{IsUntouched}
 use Rattle.link_history.specs.State.{Linked, State, empty_namespace}
 use Rattle.link_history.specs.Step.{loaded, open_done}
 use Rattle.link_history.specs.Storage.{is_static_area, late_block, module_of, module_of_place, tls_block, tp_of}
-use Rattle.link_history.proofs.Imaged.{objects_open}
-use Rattle.link_history.proofs.Lists.{found_in, none_in, not_found, only_in}
+use Rattle.link_history.specs.Lemmas.Imaged.{objects_open}
+use Rattle.link_history.specs.Lemmas.Lists.{found_in, none_in, not_found, only_in}
 use Rattle.opening_laws.specs.Laws.{CanBePlaced, image_made}
 use Rattle.scope_rule.specs.declared.namespace.Namespace.{Namespace}
 use Rattle.startup_areas.specs.Blocks.{HoldBlocks, IsBlock, static_offset}

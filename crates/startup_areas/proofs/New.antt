@@ -15,8 +15,8 @@ use Rattle.link_history.specs.Laws.{HasStatic, IsIn, ModulesAreTidy, StaticsAreA
 use Rattle.link_history.specs.Objects.{serial_of}
 use Rattle.link_history.specs.State.{Linked, State}
 use Rattle.link_history.specs.Step.{loaded, open_done, with_namespace}
-use Rattle.link_history.proofs.Imaged.{reached_open}
-use Rattle.link_history.proofs.Lists.{at_in}
+use Rattle.link_history.specs.Lemmas.Imaged.{reached_open}
+use Rattle.link_history.specs.Lemmas.Lists.{at_in}
 use Rattle.opening_laws.specs.Laws.{CanBePlaced, image_made}
 use Rattle.scope_rule.specs.declared.namespace.Namespace.{Namespace}
 use Rattle.startup_areas.specs.Blocks.{FitBlocks, IsBlock, static_offset}

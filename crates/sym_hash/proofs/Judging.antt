@@ -14,9 +14,9 @@ use Rattle.ld_base.specs.declared.parts.GnuPart.{GnuPart}
 use Rattle.ld_base.specs.declared.parts.HashTable.{HashTable}
 use Rattle.ld_base.specs.declared.parts.Head.{Head}
 use Rattle.ld_base.specs.declared.parts.SysvPart.{SysvPart}
-use Rattle.acceptance.proofs.Finds.{finds_is, finds_none, Finds}
-use Rattle.acceptance.proofs.Leasts.{finds_least}
-use Rattle.acceptance.proofs.Firsts.{accepts, none_at, refuses, Breaking, Listed}
+use Rattle.acceptance.specs.Lemmas.Finds.{finds_is, finds_none, Finds}
+use Rattle.acceptance.specs.Lemmas.Leasts.{finds_least}
+use Rattle.acceptance.specs.Lemmas.Firsts.{accepts, none_at, refuses, Breaking, Listed}
 use Rattle.acceptance.specs.First.{IsFirst, NoneBroken}
 use Rattle.dyn_table.specs.HashWords.{hash_words}
 use Rattle.sym_hash.proofs.Chains.{gnu_from, gnu_is, walk_from, walk_is}

@@ -9,7 +9,7 @@ use Rattle.ld_base.specs.declared.object.Symbol.{Symbol}
 use Rattle.ld_base.specs.declared.parts.GnuPart.{GnuPart}
 use Rattle.ld_base.specs.declared.parts.HashTable.{HashTable}
 use Rattle.ld_base.specs.declared.parts.SysvPart.{SysvPart}
-use Rattle.acceptance.proofs.Leasts.{least_found, least_kept}
+use Rattle.acceptance.specs.Lemmas.Leasts.{least_found, least_kept}
 use Rattle.acceptance.specs.Least.{least_below}
 use Rattle.dyn_table.specs.Symbol.{IsBare}
 use Rattle.sym_hash.specs.Hashed.{first_lost, hash_by, is_lost, leads, unmet_by, AreHashed}

@@ -9,7 +9,7 @@ use Rattle.link_event.specs.declared.event.SymAsk.{SymAsk}
 use Rattle.link_history.specs.Lookup.{IsShort, RefusesSymbol, bad_handle, missing, opened_in, search, searched_object}
 use Rattle.link_history.specs.Objects.{has_id, has_namespace, namespace_of}
 use Rattle.link_history.specs.State.{State}
-use Rattle.link_history.proofs.Lists.{any_in, not_found}
+use Rattle.link_history.specs.Lemmas.Lists.{any_in, not_found}
 use Rattle.symbol_search.proofs.Searched.{by_default, on_handle}
 
 none_mapped : {X Y : Type 0} (f : X → Y) (o : Option X) → option_map f o ≡ None → o ≡ None

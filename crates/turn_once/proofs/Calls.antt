@@ -15,13 +15,13 @@ use Rattle.link_history.specs.Lookup.{RefusesSymbol}
 use Rattle.link_history.specs.Objects.{serial_of}
 use Rattle.link_history.specs.Setting.{Setting}
 use Rattle.link_history.specs.State.{State}
-use Rattle.link_history.proofs.Lists.{here}
+use Rattle.link_history.specs.Lemmas.Lists.{here}
 use Rattle.link_service.specs.Answer.{Answer, returns, loading, closing, refused, granted, told, again, over}
 use Rattle.link_service.specs.Call.{Call, resolves, opens, looks_up, closes, unmaps, asks_fault, locates, writes, stops}
 use Rattle.link_service.specs.Functions.{passed}
 use Rattle.link_service.specs.Gives.{Answers, Gives, ending}
 use Rattle.link_service.specs.Laws.{OneAnswer, OneOpening, is_chance, is_read_fault}
-use Rattle.link_service.proofs.OneOrder.{one_finalisation, one_initialisation}
+use Rattle.link_service.specs.Lemmas.OneOrder.{one_finalisation, one_initialisation}
 use Rattle.hart_moves.specs.Due.{Return}
 use Rattle.hart_moves.specs.Harts.{HartState, Purpose}
 use Rattle.hart_moves.specs.Moves.{Calls, Did, Takes, TellsOf, events_of, passing, settles, stack_start}

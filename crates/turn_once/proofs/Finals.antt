@@ -10,7 +10,7 @@ use Rattle.link_history.specs.Objects.{has, object_at}
 use Rattle.link_history.specs.Setting.{Setting}
 use Rattle.link_history.specs.State.{Linked, State}
 use Rattle.link_history.specs.Step.{step}
-use Rattle.link_history.proofs.History.{after_push}
+use Rattle.link_history.specs.Lemmas.History.{after_push}
 use Rattle.link_service.specs.Functions.{AreAddresses, destructors}
 use Rattle.hart_moves.specs.Harts.{HartState}
 use Rattle.hart_moves.specs.Moves.{Did, Finalises, Finals, all_finis, did_by, own_fini}

@@ -1,5 +1,4 @@
 pub mod Calls
 pub mod Did
 pub mod Finals
-pub mod Memory
 pub mod Turns

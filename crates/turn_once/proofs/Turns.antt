@@ -12,10 +12,10 @@ use Rattle.link_history.specs.After.{after}
 use Rattle.link_history.specs.Legal.{Lawful, Legal}
 use Rattle.link_history.specs.Setting.{Setting}
 use Rattle.link_history.specs.State.{State}
-use Rattle.link_history.proofs.History.{legal_is_lawful, legal_take}
-use Rattle.link_history.proofs.Lists.{here, in_any_not}
+use Rattle.link_history.specs.Lemmas.History.{legal_is_lawful, legal_take}
+use Rattle.link_history.specs.Lemmas.Lists.{here, in_any_not}
 use Rattle.link_service.specs.Call.{Call}
-use Rattle.link_service.proofs.Unique.{both_found}
+use Rattle.link_service.specs.Lemmas.Unique.{both_found}
 use Rattle.rv_hart.specs.Doublewords.{DoesIn}
 use Rattle.rv_hart.specs.Trail.{Chain, Place}
 use Rattle.rv_hart.specs.declared.bus.BusFault.{BusFault}
@@ -34,13 +34,13 @@ use Rattle.world_turns.specs.Next.{OneDue}
 use Rattle.world_turns.specs.Sound.{Sound}
 use Rattle.world_turns.specs.Turn.{Turn}
 use Rattle.world_turns.specs.World.{World, found_harts, found_journal, settling}
-use Rattle.world_turns.proofs.Words.{keeps_chain}
-use Rattle.world_ends.proofs.Settled.{found_keeps}
+use Rattle.world_turns.specs.Lemmas.Words.{keeps_chain}
+use Rattle.world_ends.specs.Lemmas.Settled.{found_keeps}
 use Rattle.turn_once.specs.Laws.{HasNoChance, OneTurn, comes_by_chance}
 use Rattle.turn_once.proofs.Calls.{AnswerLaws, calls_same, takes_settles}
 use Rattle.turn_once.proofs.Did.{calls_of, copy_calls, copy_is, did_copy, did_place, did_store, place_calls, place_is, store_calls, store_is}
 use Rattle.turn_once.proofs.Finals.{Alike, core_of, finalises_alike}
-use Rattle.turn_once.proofs.Memory.{all_remade}
+use Rattle.turn_once.specs.Lemmas.Memory.{all_remade}
 
 pub record TurnLaws : Type 0 where
   pub chain : OneChain

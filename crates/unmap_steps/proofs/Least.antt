@@ -13,7 +13,7 @@ use Rattle.link_history.specs.Grants.{is_open, is_open_standing, target_of}
 use Rattle.link_history.specs.Laws.{GrantsAreTidy}
 use Rattle.link_history.specs.Objects.{has}
 use Rattle.link_history.specs.State.{State}
-use Rattle.link_history.proofs.Lists.{any_in, first_or_later, found_in, from_filter, has_in, has_not, in_any, in_filter, in_has, not_found}
+use Rattle.link_history.specs.Lemmas.Lists.{any_in, first_or_later, found_in, from_filter, has_in, has_not, in_any, in_filter, in_has, not_found}
 use Rattle.link_service.specs.Waiting.{IsHeldBy, Touches}
 use Rattle.unmap_steps.specs.Touched.{is_touching}
 

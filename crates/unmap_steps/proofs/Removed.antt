@@ -8,7 +8,7 @@ use Rattle.std.proofs.lemmas.List.Elements.{All-contains, All-filter, All-head, 
 use Rattle.std.proofs.lemmas.List.Kept.{AllPairs-filter}
 use Rattle.std.proofs.Math.Seq.{drop-cons}
 use Rattle.link_event.specs.declared.state.Module.{Module}
-use Rattle.link_history.proofs.Lists.{found_in, not_found}
+use Rattle.link_history.specs.Lemmas.Lists.{found_in, not_found}
 use Rattle.tls_blocks.specs.Numbers.{AreNumbered, module_at, number_of, without_module}
 use Rattle.unmap_steps.specs.Touched.{is_of_set}
 

@@ -12,7 +12,7 @@ use Rattle.guest_rule.specs.Views.{IsLong, first_hart, kept_at, unmapped}
 use Rattle.guest_rule.specs.Start.{IsFirst}
 use Rattle.word_memory.specs.Making.{IsMade, MaySet, in_linker_page, linker_page, linker_word, new_harts}
 use Rattle.word_steps.specs.Keeping.{set_as}
-use Rattle.guest_rule.proofs.Heeding.{kept_else, kept_here}
+use Rattle.guest_rule.specs.Lemmas.Heeding.{kept_else, kept_here}
 
 pub first_made : (k : KeeperView) → IsFirst k → IsMade k 0 0
 first_made k f = record {

@@ -7,8 +7,8 @@ use Rattle.guest_rule.specs.Layout.{IsDoubleword}
 use Rattle.guest_rule.specs.declared.view.HartView.{HartView}
 use Rattle.guest_rule.specs.HartSteps.{HartLearns, HartLeaves, HartReady, hart_after}
 use Rattle.guest_rule.specs.Views.{IsLane}
-use Rattle.guest_rule.proofs.Lanes.{hart_leaves, lane_stays}
-use Rattle.guest_rule.proofs.Steps.{same_hart}
+use Rattle.guest_rule.specs.Lemmas.Lanes.{hart_leaves, lane_stays}
+use Rattle.guest_rule.specs.Lemmas.Steps.{same_hart}
 use Rattle.word_steps.specs.Views.{IsIdle}
 
 abbrev pub IsSeated : ℕ → HartView → Type 0

@@ -12,7 +12,7 @@ use Rattle.guest_rule.specs.Table.{Learns, Ready, after_step}
 use Rattle.guest_rule.specs.Joining.{HasNote, HasRoom, MayTake, takes_in}
 use Rattle.guest_rule.specs.Layout.{harts_at_most}
 use Rattle.guest_rule.specs.Views.{IsLong}
-use Rattle.guest_rule.proofs.Seating.{stays_long}
+use Rattle.guest_rule.specs.Lemmas.Seating.{stays_long}
 use Rattle.word_steps.specs.Views.{keeper_of}
 
 -- the seat is the keeper's, and holds no slot

@@ -14,8 +14,8 @@ use Rattle.guest_rule.specs.Views.{IsLong, kept_at, nothing_locked, row_of}
 use Rattle.guest_rule.specs.Allowed.{LeadsTo, NothingEnters}
 use Rattle.guest_rule.specs.Operations.{add}
 use Rattle.guest_rule.specs.KeeperSteps.{KeeperLearns, KeeperReady, Unposted, accessing, heeding, keeper_after, keeper_op, keeper_word, keeps_if, last_if, shown_if, with_kept}
-use Rattle.guest_rule.proofs.Heeding.{heeds, kept_else, kept_here}
-use Rattle.guest_rule.proofs.Unlocking.{role_is}
+use Rattle.guest_rule.specs.Lemmas.Heeding.{heeds, kept_else, kept_here}
+use Rattle.guest_rule.specs.Lemmas.Unlocking.{role_is}
 use Rattle.word_steps.specs.Views.{IsResting}
 use Rattle.word_steps.specs.Keeping.{control_found, has_locked, retired, retiring, set_as, was_shown}
 

@@ -14,7 +14,7 @@ use Rattle.guest_rule.specs.KeeperSteps.{KeeperLearns, keeper_after}
 use Rattle.guest_rule.specs.Views.{BeginsWith, known_of, longer, row_of}
 use Rattle.word_steps.specs.Views.{IsIdle, hart_of}
 use Rattle.word_steps.specs.Views.{IsResting, keeper_of}
-use Rattle.guest_rule.proofs.Heeding.{heeds}
+use Rattle.guest_rule.specs.Lemmas.Heeding.{heeds}
 
 -- ---- lists
 

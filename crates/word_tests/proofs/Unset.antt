@@ -11,7 +11,7 @@ use Rattle.guest_rule.specs.Layout.{doublewords, first_address, IsDoubleword, pl
 use Rattle.guest_rule.specs.Views.{IsLong, kept_at, unmapped}
 use Rattle.word_memory.specs.Making.{IsMade, MaySet, in_linker_page, linker_page, linker_word}
 use Rattle.word_steps.specs.Keeping.{set_as, was_shown}
-use Rattle.guest_rule.proofs.Heeding.{kept_else}
+use Rattle.guest_rule.specs.Lemmas.Heeding.{kept_else}
 use Rattle.word_tests.specs.Unset.{AreUnset}
 
 page : place_of linker_page ≡ 1048064

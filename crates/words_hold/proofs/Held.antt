@@ -15,8 +15,8 @@ use Rattle.guest_rule.specs.Rule.{Parts}
 use Rattle.guest_rule.specs.Slots.{HasWon, SlotIs, Winner}
 use Rattle.guest_rule.specs.Views.{exchanges_of, kept_at, row_of}
 use Rattle.guest_rule.specs.Words.{Holds as HoldsWord, Owner, hart, keeper, nobody}
-use Rattle.guest_rule.proofs.SlotFrames.{at_place}
-use Rattle.guest_rule.proofs.Unlocking.{role_is}
+use Rattle.guest_rule.specs.Lemmas.SlotFrames.{at_place}
+use Rattle.guest_rule.specs.Lemmas.Unlocking.{role_is}
 use Rattle.link_history.specs.Memory.{role_at, word_at}
 use Rattle.link_history.specs.Slots.{IsOpenGrant}
 use Rattle.link_history.specs.State.{State}

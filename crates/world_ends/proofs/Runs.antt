@@ -11,21 +11,21 @@ use Rattle.link_history.specs.After.{after, after_from}
 use Rattle.link_history.specs.Setting.{Setting, are_finals, exited}
 use Rattle.link_history.specs.State.{State, start}
 use Rattle.link_history.specs.Step.{loaded, step}
-use Rattle.link_history.proofs.Lists.{none_in}
+use Rattle.link_history.specs.Lemmas.Lists.{none_in}
 use Rattle.link_service.specs.Startup.{FindHarts, found_at, opening}
-use Rattle.link_service.proofs.Serving.{harts_have_entries}
+use Rattle.link_service.specs.Lemmas.Serving.{harts_have_entries}
 use Rattle.hart_moves.specs.Harts.{HartState, Purpose}
 use Rattle.hart_moves.specs.Moves.{all_finis, runs}
 use Rattle.hart_moves.specs.Starting.{starting_hart, starting_harts, starting_registers}
 use Rattle.turn_events.specs.Appends.{has_finals}
-use Rattle.turn_events.proofs.Frames.{runs_end, runs_frames}
+use Rattle.turn_events.specs.Lemmas.Frames.{runs_end, runs_frames}
 use Rattle.world_turns.specs.Run.{Ends, Finalises, Finishes, IsStarted, has_ended, have_ended}
 use Rattle.world_turns.specs.Turn.{Turn}
 use Rattle.world_turns.specs.World.{World}
-use Rattle.world_turns.proofs.Running.{constructs, finishes, items_keep}
+use Rattle.world_turns.specs.Lemmas.Running.{constructs, finishes, items_keep}
 use Rattle.world_ends.specs.Ends.{AreEndings, BeforeFinals, EndsFit, InFinals}
 use Rattle.world_ends.specs.Laws.{RunsFinish, RunsFit, StartFits}
-use Rattle.world_ends.proofs.Places.{count_none, each_passes, never, none_there}
+use Rattle.world_ends.specs.Lemmas.Places.{count_none, each_passes, never, none_there}
 use Rattle.world_ends.proofs.Turns.{exits_are, lack_done, finals_begin, finals_lack, finals_settled, finis_settled, settled_before, settled_finals, turns_keep_before, turns_keep_finals}
 
 -- ---- the start

@@ -15,24 +15,24 @@ use Rattle.link_history.specs.Allowed.{MayEnd}
 use Rattle.link_history.specs.Objects.{has}
 use Rattle.link_history.specs.Setting.{Setting, are_finals, exited, is_exit}
 use Rattle.link_history.specs.State.{State}
-use Rattle.link_history.proofs.Lists.{first_or_later, from_map, has_in, here, later, none_in}
-use Rattle.link_service.proofs.Unique.{both_found}
+use Rattle.link_history.specs.Lemmas.Lists.{first_or_later, from_map, has_in, here, later, none_in}
+use Rattle.link_service.specs.Lemmas.Unique.{both_found}
 use Rattle.hart_moves.specs.Harts.{HartState, Phase, Purpose}
 use Rattle.hart_moves.specs.Moves.{all_finis, ended, events_of, freed, settles}
 use Rattle.hart_moves.specs.Starting.{finalising_hart}
-use Rattle.hart_moves.proofs.Legality.{ended_stays}
+use Rattle.hart_moves.specs.Lemmas.Legality.{ended_stays}
 use Rattle.turn_events.specs.Appends.{AllQuiet, Appends, has_finals}
-use Rattle.turn_events.proofs.Frames.{first_end}
-use Rattle.turn_events.proofs.Turning.{finals_away, turns_append}
+use Rattle.turn_events.specs.Lemmas.Frames.{first_end}
+use Rattle.turn_events.specs.Lemmas.Turning.{finals_away, turns_append}
 use Rattle.world_turns.specs.Run.{LacksMemory, exit_code, has_ended, have_exited, settled}
 use Rattle.world_turns.specs.Turn.{Turn}
 use Rattle.world_turns.specs.World.{World, found_harts, found_journal, settling}
-use Rattle.world_turns.proofs.Turning.{freed_at, freed_length}
+use Rattle.world_turns.specs.Lemmas.Turning.{freed_at, freed_length}
 use Rattle.world_ends.specs.Ends.{AreEndings, BeforeFinals, InFinals}
 use Rattle.world_ends.specs.Laws.{FinalsBegin, FinalsLack, HartsMayEnd, SettlingFits, TurnsKeepBefore, TurnsKeepFinals}
 use Rattle.world_ends.proofs.Endings.{an_end, ended_fit, freed_fit, one_longer, quiet_events, same_fit, unmapping}
-use Rattle.world_ends.proofs.Places.{all_freed, all_pass, and_left, and_right, count_all, each_passes, freed_here, at_set, never, none_there, reason_of, runs_on}
-use Rattle.world_ends.proofs.Settled.{found_keeps, settling_keeps}
+use Rattle.world_ends.specs.Lemmas.Places.{all_freed, all_pass, and_left, and_right, count_all, each_passes, freed_here, at_set, never, none_there, reason_of, runs_on}
+use Rattle.world_ends.specs.Lemmas.Settled.{found_keeps, settling_keeps}
 
 -- ---- what settling leaves
 

@@ -14,8 +14,8 @@ use Rattle.link_history.specs.Legal.{Lawful}
 use Rattle.link_history.specs.Setting.{Machine, Setting}
 use Rattle.link_history.specs.State.{State}
 use Rattle.link_history.specs.Step.{initialise, is_closing, step, unmap}
-use Rattle.link_history.proofs.History.{after_push, lawful_push}
-use Rattle.link_history.proofs.Lists.{here, in_filter, later}
+use Rattle.link_history.specs.Lemmas.History.{after_push, lawful_push}
+use Rattle.link_history.specs.Lemmas.Lists.{here, in_filter, later}
 use Rattle.hart_moves.specs.Moves.{AreAllowed}
 use Rattle.world_frames.specs.Belong.{Owner}
 use Rattle.world_frames.proofs.Owners.{AllSpare, IsThere, Spares, loading_kept}

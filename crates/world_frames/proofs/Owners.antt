@@ -19,15 +19,15 @@ use Rattle.link_history.specs.Links.{finis_of}
 use Rattle.link_history.specs.Setting.{Setting}
 use Rattle.link_history.specs.State.{State}
 use Rattle.link_history.specs.Step.{die, initialise, loaded, lower, settle, step, unmap}
-use Rattle.link_history.proofs.History.{after_push, lawful_push}
-use Rattle.link_history.proofs.Lists.{here, later}
+use Rattle.link_history.specs.Lemmas.History.{after_push, lawful_push}
+use Rattle.link_history.specs.Lemmas.Lists.{here, later}
 use Rattle.link_service.specs.Functions.{object_of}
 use Rattle.link_service.specs.Laws.{FinishesStay, StartsStay}
 use Rattle.hart_moves.specs.Harts.{Frame, HartState, Offered, Purpose, Resolving}
 use Rattle.hart_moves.specs.Moves.{AreAllowed, Did, settles}
 use Rattle.turn_frames.specs.Runs.{AllPlain, is_plain}
 use Rattle.world_turns.specs.World.{World, found_journal, has_won, settled_by, settling, settling_event}
-use Rattle.world_turns.proofs.Events.{one_behind}
+use Rattle.world_turns.specs.Lemmas.Events.{one_behind}
 use Rattle.world_frames.specs.Belong.{AreFramesOf, IsFrameOf, IsOfClosing, IsOfOpening, Owner}
 
 -- ---- what is settled touches no frame

@@ -20,14 +20,14 @@ use Rattle.link_history.specs.Objects.{serial_of}
 use Rattle.link_history.specs.Setting.{Setting}
 use Rattle.link_history.specs.State.{State}
 use Rattle.link_history.specs.Step.{die, loaded, lower, step}
-use Rattle.link_history.proofs.History.{after_push, lawful_push, legal_is_lawful}
-use Rattle.link_history.proofs.Lists.{here}
+use Rattle.link_history.specs.Lemmas.History.{after_push, lawful_push, legal_is_lawful}
+use Rattle.link_history.specs.Lemmas.Lists.{here}
 use Rattle.link_service.specs.Functions.{AreConstructors, AreDestructors, AreLeft, left, object_of, passed}
 use Rattle.link_service.specs.Laws.{NextFinishes, NextStarts, OpeningBegins}
-use Rattle.link_service.proofs.Finishing.{passed_first}
+use Rattle.link_service.specs.Lemmas.Finishing.{passed_first}
 use Rattle.hart_moves.specs.Harts.{Purpose}
 use Rattle.hart_moves.specs.Moves.{AreAllowed, passing}
-use Rattle.world_turns.proofs.Events.{one_behind}
+use Rattle.world_turns.specs.Lemmas.Events.{one_behind}
 use Rattle.world_frames.specs.Belong.{AreFramesOf, IsFrameOf, IsOfClosing, IsOfOpening, Owner}
 use Rattle.world_frames.specs.Laws.{ClosingsPass, FramesClose, FramesPass, HasClosed, OpeningsPass}
 use Rattle.world_frames.proofs.Events.{fini_leaves, finis, inits}

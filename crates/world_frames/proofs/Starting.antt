@@ -15,7 +15,7 @@ use Rattle.link_history.specs.Objects.{mapped, serial_of}
 use Rattle.link_history.specs.Setting.{Machine, Setting}
 use Rattle.link_history.specs.State.{State, start}
 use Rattle.link_history.specs.Step.{step}
-use Rattle.link_history.proofs.Lists.{none_in}
+use Rattle.link_history.specs.Lemmas.Lists.{none_in}
 use Rattle.link_graph.specs.declared.graph.Edge.{Edge}
 use Rattle.link_graph.specs.Initialised.{InitOrder, program_last}
 use Rattle.link_service.specs.Functions.{AreConstructors, AreLeft, AreStartConstructors, object_of, preceded}
@@ -24,7 +24,7 @@ use Rattle.link_service.specs.Startup.{FindHarts, found_at, opening, program_ask
 use Rattle.hart_moves.specs.Harts.{Frame, HartState, Purpose}
 use Rattle.hart_moves.specs.Moves.{runs}
 use Rattle.hart_moves.specs.Starting.{starting_hart, starting_harts, starting_registers}
-use Rattle.turn_frames.proofs.Dues.{runs_frames}
+use Rattle.turn_frames.specs.Lemmas.Dues.{runs_frames}
 use Rattle.world_turns.specs.Run.{IsStarted}
 use Rattle.world_turns.specs.World.{World}
 use Rattle.world_frames.specs.Belong.{FramesBelong, FramesFit, IsOfOpening, Owner}

@@ -24,29 +24,29 @@ use Rattle.link_history.specs.Objects.{serial_of}
 use Rattle.link_history.specs.Setting.{Machine, Setting}
 use Rattle.link_history.specs.State.{State}
 use Rattle.link_history.specs.Step.{lower, lowered_in}
-use Rattle.link_history.proofs.Brought.{LoadLaws, in_range}
-use Rattle.link_history.proofs.History.{lawful_push, legal_is_lawful}
-use Rattle.link_history.proofs.Lists.{at_in, first_or_later, from_filter, has_in, here, in_map, none_in}
-use Rattle.link_history.proofs.Serials.{in_order_after}
-use Rattle.link_history.proofs.Tidy.{in_at}
+use Rattle.link_history.specs.Lemmas.Brought.{LoadLaws, in_range}
+use Rattle.link_history.specs.Lemmas.History.{lawful_push, legal_is_lawful}
+use Rattle.link_history.specs.Lemmas.Lists.{at_in, first_or_later, from_filter, has_in, here, in_map, none_in}
+use Rattle.link_history.specs.Lemmas.Serials.{in_order_after}
+use Rattle.link_history.specs.Lemmas.Tidy.{in_at}
 use Rattle.link_graph.specs.Initialised.{is_one_of, program_last}
 use Rattle.link_service.specs.Functions.{AreConstructors, AreDestructors, AreLeft, left, object_of, passed}
-use Rattle.link_service.proofs.Finishing.{passed_first}
-use Rattle.link_service.proofs.Unique.{both_found}
+use Rattle.link_service.specs.Lemmas.Finishing.{passed_first}
+use Rattle.link_service.specs.Lemmas.Unique.{both_found}
 use Rattle.rv_hart.specs.Registers.{Registers}
 use Rattle.scope_rule.specs.declared.namespace.Namespace.{Namespace}
 use Rattle.hart_moves.specs.Harts.{Frame, HartState, Purpose}
 use Rattle.hart_moves.specs.Moves.{AreAllowed, events_of, freed, passing, settles}
-use Rattle.hart_moves.proofs.Legality.{turns_allowed}
+use Rattle.hart_moves.specs.Lemmas.Legality.{turns_allowed}
 use Rattle.turn_frames.specs.Runs.{AllPlain, AreFrames, Runs}
-use Rattle.turn_frames.proofs.Turning.{turns_run}
+use Rattle.turn_frames.specs.Lemmas.Turning.{turns_run}
 use Rattle.world_turns.specs.Turn.{Turn}
 use Rattle.world_turns.specs.World.{World, found_harts, found_journal}
-use Rattle.world_turns.proofs.Events.{one_behind}
-use Rattle.world_turns.proofs.Turning.{freed_at}
+use Rattle.world_turns.specs.Lemmas.Events.{one_behind}
+use Rattle.world_turns.specs.Lemmas.Turning.{freed_at}
 use Rattle.world_ends.specs.Ends.{BeforeFinals}
-use Rattle.world_ends.proofs.Places.{at_set, freed_here, set_here}
-use Rattle.world_slots.proofs.Turns.{legal_front}
+use Rattle.world_ends.specs.Lemmas.Places.{at_set, freed_here, set_here}
+use Rattle.world_slots.specs.Lemmas.Turns.{legal_front}
 use Rattle.world_frames.specs.Belong.{AllDiffer, AreFramesOf, FramesBelong, FramesFit, IsFrameOf, Owner}
 use Rattle.world_frames.specs.Laws.{TurnsKeepFrames}
 use Rattle.world_frames.proofs.Events.{AllOf, ApartLaws, finis, finis_spare, inits, inits_spare, unmap_spares}

@@ -1,13 +1,3 @@
 pub mod Counting
-pub mod Events
-pub mod Exchanging
 pub mod Granted
 pub mod Next
-pub mod Offers
-pub mod Places
-pub mod Resolution
-pub mod Running
-pub mod Settling
-pub mod Starting
-pub mod Turning
-pub mod Words

@@ -1,5 +1,6 @@
 pub mod Counts
 pub mod Laws
+pub mod Lemmas
 pub mod Memory
 pub mod Next
 pub mod Run

@@ -14,13 +14,13 @@ use Rattle.link_history.specs.After.{after}
 use Rattle.link_history.specs.State.{State}
 use Rattle.link_history.specs.Grants.{is_open}
 use Rattle.link_history.specs.Step.{die, initialise, loaded, lower, settled_as, step, unmap}
-use Rattle.link_history.proofs.History.{after_push}
-use Rattle.link_history.proofs.Lists.{here, later, only_in}
-use Rattle.link_history.proofs.Tidy.{Settled, was_settled}
+use Rattle.link_history.specs.Lemmas.History.{after_push}
+use Rattle.link_history.specs.Lemmas.Lists.{here, later, only_in}
+use Rattle.link_history.specs.Lemmas.Tidy.{Settled, was_settled}
 use Rattle.link_service.specs.Laws.{hart_of}
 use Rattle.hart_moves.specs.Harts.{HartState, Offered, Resolving}
 use Rattle.world_turns.specs.World.{has_won, settled_by, settling, settling_event}
-use Rattle.world_turns.proofs.Events.{one_behind}
+use Rattle.world_turns.specs.Lemmas.Events.{one_behind}
 
 none_there : {X : Type 0} (x : X) → None ≡ Some x → ⊥
 none_there x e = let d : None ≡ Some x = e in cc

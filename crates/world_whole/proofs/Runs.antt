@@ -16,15 +16,15 @@ use Rattle.link_history.specs.Objects.{IsMapped}
 use Rattle.link_history.specs.Setting.{Machine, Setting}
 use Rattle.link_history.specs.Slots.{value_at_load}
 use Rattle.link_history.specs.State.{Linked, State}
-use Rattle.link_history.proofs.History.{legal_is_lawful}
-use Rattle.link_history.proofs.Lists.{none_in}
+use Rattle.link_history.specs.Lemmas.History.{legal_is_lawful}
+use Rattle.link_history.specs.Lemmas.Lists.{none_in}
 use Rattle.memory_holds.specs.Enters.{LoadFits}
 use Rattle.memory_holds.specs.Holds.{IsSlotAt, SlotHolds, Took, TookAt, lazy_at}
 use Rattle.memory_holds.specs.Holds.SlotHolds.{exchanged, first}
-use Rattle.memory_holds.proofs.Distinct.{one_slot}
-use Rattle.memory_holds.proofs.Exchanged.{fits}
-use Rattle.memory_holds.proofs.Settled.{first_bound, first_lazy}
-use Rattle.memory_holds.proofs.Slots.{image_in, one_image_at}
+use Rattle.memory_holds.specs.Lemmas.Distinct.{one_slot}
+use Rattle.memory_holds.specs.Lemmas.Exchanged.{fits}
+use Rattle.memory_holds.specs.Lemmas.Settled.{first_bound, first_lazy}
+use Rattle.memory_holds.specs.Lemmas.Slots.{image_in, one_image_at}
 use Rattle.hart_moves.specs.Starting.{starting_registers}
 use Rattle.schedules.specs.declared.schedule.TurnItem.{TurnItem}
 use Rattle.world_turns.specs.Laws.{FinalsBeginSound, FinalsLackSound, LoadsFit, TurnsAreSound}
@@ -34,9 +34,9 @@ use Rattle.world_turns.specs.Sound.{Sound}
 use Rattle.world_turns.specs.Throughout.{LoadsAlwaysFit, RunsAreSound, RunsSettle}
 use Rattle.world_turns.specs.Turn.{Turn}
 use Rattle.world_turns.specs.World.{World, winners}
-use Rattle.world_turns.proofs.Offers.{Know, Known}
-use Rattle.world_turns.proofs.Running.{constructs, finals, finishes, items_keep}
-use Rattle.world_turns.proofs.Starting.{start_grants}
+use Rattle.world_turns.specs.Lemmas.Offers.{Know, Known}
+use Rattle.world_turns.specs.Lemmas.Running.{constructs, finals, finishes, items_keep}
+use Rattle.world_turns.specs.Lemmas.Starting.{start_grants}
 use Rattle.world_ends.specs.Laws.{RunsFinish}
 use Rattle.world_whole.specs.Laws.{RunsAreWhole, TurnsKeepSeen}
 use Rattle.world_whole.specs.Saw.{SeesSlots}

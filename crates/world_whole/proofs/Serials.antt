@@ -21,13 +21,13 @@ use Rattle.link_history.specs.Objects.{serial_of}
 use Rattle.link_history.specs.Setting.{Machine, Setting}
 use Rattle.link_history.specs.State.{Linked, State}
 use Rattle.link_history.specs.Step.{die, initialise, loaded, lower, settle, step, unmap}
-use Rattle.link_history.proofs.Brought.{in_range}
-use Rattle.link_history.proofs.History.{after_push, by_lawful, lawful_push}
-use Rattle.link_history.proofs.Lists.{from_filter, in_map, none_in, only_in}
-use Rattle.link_history.proofs.Map.{made_of}
-use Rattle.link_history.proofs.Tidy.{was_settled}
+use Rattle.link_history.specs.Lemmas.Brought.{in_range}
+use Rattle.link_history.specs.Lemmas.History.{after_push, by_lawful, lawful_push}
+use Rattle.link_history.specs.Lemmas.Lists.{from_filter, in_map, none_in, only_in}
+use Rattle.link_history.specs.Lemmas.Map.{made_of}
+use Rattle.link_history.specs.Lemmas.Tidy.{was_settled}
 use Rattle.hart_moves.specs.Moves.{AreAllowed}
-use Rattle.world_turns.proofs.Events.{one_behind}
+use Rattle.world_turns.specs.Lemmas.Events.{one_behind}
 
 -- what is needed of serials
 pub record SerialLaws (m : Machine) : Type 0 where

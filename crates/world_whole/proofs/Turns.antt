@@ -16,23 +16,23 @@ use Rattle.link_history.specs.Legal.{Lawful, Legal}
 use Rattle.link_history.specs.Setting.{Machine, Setting}
 use Rattle.link_history.specs.State.{Linked, State}
 use Rattle.link_history.specs.Step.{step}
-use Rattle.link_history.proofs.History.{after_push, legal_is_lawful}
-use Rattle.link_history.proofs.Lists.{found_in}
-use Rattle.link_history.proofs.Tidy.{one_number}
+use Rattle.link_history.specs.Lemmas.History.{after_push, legal_is_lawful}
+use Rattle.link_history.specs.Lemmas.Lists.{found_in}
+use Rattle.link_history.specs.Lemmas.Tidy.{one_number}
 use Rattle.memory_holds.specs.Holds.{lazy_at}
 use Rattle.hart_moves.specs.Harts.{Offered, Resolving}
 use Rattle.hart_moves.specs.Moves.{AreAllowed, IsOffer, events_of, settles}
-use Rattle.hart_moves.proofs.Legality.{turns_allowed, turns_own}
+use Rattle.hart_moves.specs.Lemmas.Legality.{turns_allowed, turns_own}
 use Rattle.world_turns.specs.Laws.{LoadsFit, TurnsAreSound}
 use Rattle.world_turns.specs.Memory.{doubleword}
 use Rattle.world_turns.specs.Run.{Begins, LacksMemory, settled}
 use Rattle.world_turns.specs.Sound.{Fits, HasExchanged, Sound}
 use Rattle.world_turns.specs.Turn.{Turn}
 use Rattle.world_turns.specs.World.{World, found_journal, settling}
-use Rattle.world_turns.proofs.Offers.{Know, Stands, stands}
-use Rattle.world_ends.proofs.Settled.{found_keeps, settling_keeps}
+use Rattle.world_turns.specs.Lemmas.Offers.{Know, Stands, stands}
+use Rattle.world_ends.specs.Lemmas.Settled.{found_keeps, settling_keeps}
 use Rattle.world_slots.specs.Laws.{TurnsKeepSlots}
-use Rattle.world_slots.proofs.Turns.{legal_front}
+use Rattle.world_slots.specs.Lemmas.Turns.{legal_front}
 use Rattle.world_whole.specs.Laws.{TurnsKeepSeen}
 use Rattle.world_whole.specs.Saw.{LostSaw, SeesSlots, SlotHas}
 use Rattle.world_whole.proofs.Lost.{Came, IsDone, came, lost_before}

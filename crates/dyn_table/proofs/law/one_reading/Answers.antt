@@ -1,6 +1,6 @@
 use Rattle.std.proofs.Common.{◌≡◌, ℕ, List, take, drop, Some}
 use Rattle.std.specs.Prelude.{◌==◌}
-use Rattle.acceptance.proofs.Reading.{stands_from-before, before_from-stands, stands_within, stands_take}
+use Rattle.acceptance.specs.Lemmas.Reading.{stands_from-before, before_from-stands, stands_within, stands_take}
 use Rattle.dyn_table.specs.TagNumbers.{dt_null}
 use Rattle.dyn_table.specs.Tag.{has_tag, all_tags, tags_of}
 use Rattle.dyn_table.specs.Name.{string_at, IsStringAt}

@@ -1,4 +1,4 @@
-use Rattle.acceptance.proofs.Answers.{answers}
+use Rattle.acceptance.specs.Lemmas.Answers.{answers}
 use Rattle.elf_head.specs.Rules.{head_verdict}
 use Rattle.elf_head.specs.Verdict.{BreaksFirst, SpellsHead}
 use Rattle.elf_head.proofs.reader.read_head.Goals as goal

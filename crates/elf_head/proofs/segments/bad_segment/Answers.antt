@@ -2,7 +2,7 @@ use Rattle.std.proofs.Common.{◌≡◌, ◌∙◌, sym, length, take, true, sub
 use Rattle.std.specs.Prelude.{List}
 use Rattle.std.proofs.lemmas.List.{take_more}
 use Rattle.ld_base.specs.declared.parts.Header.{Header}
-use Rattle.acceptance.proofs.Leasts.{least_found, least_kept}
+use Rattle.acceptance.specs.Lemmas.Leasts.{least_found, least_kept}
 use Rattle.elf_head.proofs.Passing.{bad_at}
 use Rattle.elf_head.specs.Passed.{IsPassed}
 use Rattle.elf_head.specs.Segments.{bad_segment, is_bad_at}

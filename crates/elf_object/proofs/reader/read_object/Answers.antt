@@ -1,4 +1,4 @@
-use Rattle.acceptance.proofs.Answers.{answers}
+use Rattle.acceptance.specs.Lemmas.Answers.{answers}
 use Rattle.elf_object.proofs.Laws.{given_table}
 use Rattle.elf_object.specs.Spells.{Broken, Spells}
 use Rattle.elf_object.specs.Verdict.{object_verdict}

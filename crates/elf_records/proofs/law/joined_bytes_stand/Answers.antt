@@ -1,5 +1,5 @@
 -- Byte by byte.
-use Rattle.elf_records.proofs.Standing.{behind, front}
+use Rattle.elf_records.specs.Lemmas.Standing.{behind, front}
 use Rattle.elf_records.proofs.law.joined_bytes_stand.Goals as goal
 
 pub returns-clause-front : goal.returns-clause-front

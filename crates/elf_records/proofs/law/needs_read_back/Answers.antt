@@ -1,5 +1,5 @@
 -- Field by field.
-use Rattle.elf_records.proofs.Records.{need}
+use Rattle.elf_records.specs.Lemmas.Records.{need}
 use Rattle.elf_records.proofs.law.needs_read_back.Goals as goal
 
 pub returns : goal.returns

@@ -1,5 +1,5 @@
 -- Field by field.
-use Rattle.elf_records.proofs.Records.{symbol}
+use Rattle.elf_records.specs.Lemmas.Records.{symbol}
 use Rattle.elf_records.proofs.law.symbols_read_back.Goals as goal
 
 pub returns : goal.returns

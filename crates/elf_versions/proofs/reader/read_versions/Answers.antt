@@ -1,4 +1,4 @@
-use Rattle.acceptance.proofs.Answers.{answers}
+use Rattle.acceptance.specs.Lemmas.Answers.{answers}
 use Rattle.elf_versions.specs.Spells.{BreaksFirst, SpellsVersions}
 use Rattle.elf_versions.specs.Verdict.{versions_verdict}
 use Rattle.elf_versions.proofs.reader.read_versions.Goals as goal

@@ -1,6 +1,6 @@
 use Rattle.std.proofs.Common.{ℕ, ◌+◌, ◌==◌}
 use Rattle.std.proofs.lemmas.Result.{err_from_is_err_and}
-use Rattle.acceptance.proofs.Read.{entries_fault}
+use Rattle.acceptance.specs.Lemmas.Read.{entries_fault}
 use Rattle.elf_versions.specs.Linked.{place}
 use Rattle.elf_versions.specs.Record.{distance}
 use Rattle.elf_versions.specs.Verdef.{verdef_at, verdefs_from}

@@ -1,4 +1,4 @@
-use Rattle.guest_rule.proofs.Joining.{join_keeps}
+use Rattle.guest_rule.specs.Lemmas.Joining.{join_keeps}
 use Rattle.guest_rule.proofs.law.joined_seats_keep.Goals as goal
 
 pub returns : goal.returns

@@ -1,5 +1,5 @@
-use Rattle.guest_rule.proofs.Seating.{stays_long}
-use Rattle.guest_rule.proofs.Steps.{keeper_keeps}
+use Rattle.guest_rule.specs.Lemmas.Seating.{stays_long}
+use Rattle.guest_rule.specs.Lemmas.Steps.{keeper_keeps}
 use Rattle.guest_rule.proofs.law.keeper_steps_keep.Goals as goal
 
 pub returns-clause-keeps : goal.returns-clause-keeps

@@ -1,4 +1,4 @@
-use Rattle.guest_rule.proofs.Lanes.{first_lane_is, hart_leaves, keeper_leaves, lane_stays}
+use Rattle.guest_rule.specs.Lemmas.Lanes.{first_lane_is, hart_leaves, keeper_leaves, lane_stays}
 use Rattle.guest_rule.proofs.law.lanes_stay.Goals as goal
 
 pub returns-clause-first : goal.returns-clause-first

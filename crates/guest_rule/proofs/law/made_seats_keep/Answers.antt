@@ -1,4 +1,4 @@
-use Rattle.guest_rule.proofs.Joining.{made_keeps, note_keeps}
+use Rattle.guest_rule.specs.Lemmas.Joining.{made_keeps, note_keeps}
 use Rattle.guest_rule.proofs.law.made_seats_keep.Goals as goal
 
 pub returns-clause-hart : goal.returns-clause-hart

@@ -1,4 +1,4 @@
-use Rattle.guest_rule.proofs.Unlocking.{kinds_unlock, locked_stay, only_owners_change, unlocks_raise}
+use Rattle.guest_rule.specs.Lemmas.Unlocking.{kinds_unlock, locked_stay, only_owners_change, unlocks_raise}
 use Rattle.guest_rule.proofs.law.owners_change.Goals as goal
 
 pub returns-clause-raise : goal.returns-clause-raise

@@ -1,4 +1,4 @@
-use Rattle.guest_rule.proofs.Begins.{begins, is_first}
+use Rattle.guest_rule.specs.Lemmas.Begins.{begins, is_first}
 use Rattle.guest_rule.proofs.law.rule_begins.Goals as goal
 
 pub returns-clause-begins : goal.returns-clause-begins

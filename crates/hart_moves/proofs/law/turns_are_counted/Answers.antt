@@ -1,4 +1,4 @@
-use Rattle.hart_moves.proofs.Legality.{turns_count, ended_stays}
+use Rattle.hart_moves.specs.Lemmas.Legality.{turns_count, ended_stays}
 use Rattle.hart_moves.proofs.law.turns_are_counted.Goals as goal
 
 pub returns-clause-count : goal.returns-clause-count

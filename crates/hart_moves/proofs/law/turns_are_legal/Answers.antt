@@ -1,4 +1,4 @@
-use Rattle.hart_moves.proofs.Legality.{turns_legal, turns_own}
+use Rattle.hart_moves.specs.Lemmas.Legality.{turns_legal, turns_own}
 use Rattle.hart_moves.proofs.law.turns_are_legal.Goals as goal
 
 pub returns-clause-legal : goal.returns-clause-legal

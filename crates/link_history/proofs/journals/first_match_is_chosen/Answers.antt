@@ -1,4 +1,4 @@
-use Rattle.link_history.proofs.Matched.{first_match_legal, first_match_whole, last_not_chosen, no_gap, program_not_first}
+use Rattle.link_history.specs.Lemmas.Matched.{first_match_legal, first_match_whole, last_not_chosen, no_gap, program_not_first}
 use Rattle.link_history.proofs.journals.first_match_is_chosen.Goals as goal
 
 pub returns-clause-legal : goal.returns-clause-legal

@@ -1,4 +1,4 @@
-use Rattle.link_history.proofs.Raced.{closed_legal, first_not_granted, owner_stays, race_legal, race_whole}
+use Rattle.link_history.specs.Lemmas.Raced.{closed_legal, first_not_granted, owner_stays, race_legal, race_whole}
 use Rattle.link_history.proofs.journals.harts_race.Goals as goal
 
 pub returns-clause-legal : goal.returns-clause-legal

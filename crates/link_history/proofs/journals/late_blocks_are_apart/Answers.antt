@@ -1,4 +1,4 @@
-use Rattle.link_history.proofs.Lately.{late_legal, not_the_other_block}
+use Rattle.link_history.specs.Lemmas.Lately.{late_legal, not_the_other_block}
 use Rattle.link_history.proofs.journals.late_blocks_are_apart.Goals as goal
 
 pub returns-clause-legal : goal.returns-clause-legal

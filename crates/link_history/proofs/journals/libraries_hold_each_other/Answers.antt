@@ -1,4 +1,4 @@
-use Rattle.link_history.proofs.Cycled.{cycle_legal, cycle_whole, held_by_grants, not_finished, nothing_holds}
+use Rattle.link_history.specs.Lemmas.Cycled.{cycle_legal, cycle_whole, held_by_grants, not_finished, nothing_holds}
 use Rattle.link_history.proofs.journals.libraries_hold_each_other.Goals as goal
 
 pub returns-clause-legal : goal.returns-clause-legal

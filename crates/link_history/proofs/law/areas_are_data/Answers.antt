@@ -1,4 +1,4 @@
-use Rattle.link_history.proofs.Data.{areas_data}
+use Rattle.link_history.specs.Lemmas.Data.{areas_data}
 use Rattle.link_history.proofs.law.areas_are_data.Goals as goal
 
 pub returns : goal.returns

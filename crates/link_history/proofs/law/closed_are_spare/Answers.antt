@@ -1,6 +1,6 @@
 use Rattle.link_history.specs.After.{after}
 use Rattle.link_history.proofs.Spare.{closes_spare}
-use Rattle.link_history.proofs.Steps.{good_after}
+use Rattle.link_history.specs.Lemmas.Steps.{good_after}
 use Rattle.link_history.proofs.law.closed_are_spare.Goals as goal
 
 pub returns : goal.returns

@@ -1,4 +1,4 @@
-use Rattle.link_history.proofs.Once.{dies_once}
+use Rattle.link_history.specs.Lemmas.Once.{dies_once}
 use Rattle.link_history.proofs.law.each_dies_once.Goals as goal
 
 pub returns : goal.returns

@@ -1,4 +1,4 @@
-use Rattle.link_history.proofs.HeldEdges.{edges_are, edges_follow}
+use Rattle.link_history.specs.Lemmas.HeldEdges.{edges_are, edges_follow}
 use Rattle.link_history.proofs.law.edges_follow.Goals as goal
 
 pub returns-clause-are : goal.returns-clause-are

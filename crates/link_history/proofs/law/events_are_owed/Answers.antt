@@ -2,7 +2,7 @@ use Rattle.std.proofs.Common.{◌+◌, ◌≤◌, sym, subst}
 use Rattle.link_history.specs.After.{after}
 use Rattle.link_history.specs.Owed.{brings, owed}
 use Rattle.link_history.specs.State.{State}
-use Rattle.link_history.proofs.History.{after_push}
+use Rattle.link_history.specs.Lemmas.History.{after_push}
 use Rattle.link_history.proofs.Owing.{rises, spends}
 use Rattle.link_history.proofs.law.events_are_owed.Goals as goal
 

@@ -1,4 +1,4 @@
-use Rattle.link_history.proofs.Calling.{finals_follow}
+use Rattle.link_history.specs.Lemmas.Calling.{finals_follow}
 use Rattle.link_history.proofs.law.finals_follow.Goals as goal
 
 pub returns : goal.returns

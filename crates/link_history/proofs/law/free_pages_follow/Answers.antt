@@ -1,4 +1,4 @@
-use Rattle.link_history.proofs.FreePages.{free_follow, without_one}
+use Rattle.link_history.specs.Lemmas.FreePages.{free_follow, without_one}
 use Rattle.link_history.proofs.law.free_pages_follow.Goals as goal
 
 pub returns-clause-one : goal.returns-clause-one

@@ -1,4 +1,4 @@
-use Rattle.link_history.proofs.Dangling.{held}
+use Rattle.link_history.specs.Lemmas.Dangling.{held}
 use Rattle.link_history.proofs.law.grants_are_held.Goals as goal
 
 pub returns : goal.returns

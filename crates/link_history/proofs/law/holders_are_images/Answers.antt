@@ -1,4 +1,4 @@
-use Rattle.link_history.proofs.Holders.{holders}
+use Rattle.link_history.specs.Lemmas.Holders.{holders}
 use Rattle.link_history.proofs.law.holders_are_images.Goals as goal
 
 pub returns : goal.returns

@@ -1,4 +1,4 @@
-use Rattle.link_history.proofs.Calling.{images_found}
+use Rattle.link_history.specs.Lemmas.Calling.{images_found}
 use Rattle.link_history.proofs.law.images_are_found.Goals as goal
 
 pub returns : goal.returns

@@ -1,5 +1,5 @@
 use Rattle.link_history.specs.After.{after}
-use Rattle.link_history.proofs.Map.{installed, mapped_after}
+use Rattle.link_history.specs.Lemmas.Map.{installed, mapped_after}
 use Rattle.link_history.proofs.law.images_are_installed.Goals as goal
 
 pub returns : goal.returns

@@ -1,4 +1,4 @@
-use Rattle.link_history.proofs.Imaged.{images_mapped}
+use Rattle.link_history.specs.Lemmas.Imaged.{images_mapped}
 use Rattle.link_history.proofs.law.images_are_mapped.Goals as goal
 
 pub returns : goal.returns

@@ -1,4 +1,4 @@
-use Rattle.link_history.proofs.Placed.{images_placed}
+use Rattle.link_history.specs.Lemmas.Placed.{images_placed}
 use Rattle.link_history.proofs.law.images_are_placed.Goals as goal
 
 pub returns : goal.returns

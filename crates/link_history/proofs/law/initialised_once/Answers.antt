@@ -1,4 +1,4 @@
-use Rattle.link_history.proofs.Initialised.{initialised_once}
+use Rattle.link_history.specs.Lemmas.Initialised.{initialised_once}
 use Rattle.link_history.proofs.law.initialised_once.Goals as goal
 
 pub returns : goal.returns

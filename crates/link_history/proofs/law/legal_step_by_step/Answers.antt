@@ -1,4 +1,4 @@
-use Rattle.link_history.proofs.History.{after_push, legal_is_lawful, legal_push, legal_take, lawful_push, lawful_take}
+use Rattle.link_history.specs.Lemmas.History.{after_push, legal_is_lawful, legal_push, legal_take, lawful_push, lawful_take}
 use Rattle.link_history.proofs.law.legal_step_by_step.Goals as goal
 
 pub returns-clause-state : goal.returns-clause-state

@@ -1,4 +1,4 @@
-use Rattle.link_history.proofs.AtLoad.{loads_enter}
+use Rattle.link_history.specs.Lemmas.AtLoad.{loads_enter}
 use Rattle.link_history.proofs.law.loads_enter_code.Goals as goal
 
 pub returns : goal.returns

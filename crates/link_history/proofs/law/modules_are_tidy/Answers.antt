@@ -1,6 +1,6 @@
 use Rattle.link_history.specs.After.{after}
-use Rattle.link_history.proofs.Moduled.{new_numbers}
-use Rattle.link_history.proofs.Offsets.{modules_tidy}
+use Rattle.link_history.specs.Lemmas.Moduled.{new_numbers}
+use Rattle.link_history.specs.Lemmas.Offsets.{modules_tidy}
 use Rattle.link_history.proofs.law.modules_are_tidy.Goals as goal
 
 pub returns-clause-tidy : goal.returns-clause-tidy

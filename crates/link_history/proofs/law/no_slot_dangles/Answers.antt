@@ -1,4 +1,4 @@
-use Rattle.link_history.proofs.Dangling.{dangles}
+use Rattle.link_history.specs.Lemmas.Dangling.{dangles}
 use Rattle.link_history.proofs.law.no_slot_dangles.Goals as goal
 
 pub returns : goal.returns

@@ -1,4 +1,4 @@
-use Rattle.link_history.proofs.Lazy.{none_lazy}
+use Rattle.link_history.specs.Lemmas.Lazy.{none_lazy}
 use Rattle.link_history.proofs.law.none_is_lazy.Goals as goal
 
 pub returns : goal.returns

@@ -1,4 +1,4 @@
-use Rattle.link_history.proofs.Begun.{begins_untouched}
+use Rattle.link_history.specs.Lemmas.Begun.{begins_untouched}
 use Rattle.link_history.proofs.law.nothing_comes_before_startup.Goals as goal
 
 pub returns : goal.returns

@@ -1,4 +1,4 @@
-use Rattle.link_history.proofs.LeftOut.{left_out, scopes_whole}
+use Rattle.link_history.specs.Lemmas.LeftOut.{left_out, scopes_whole}
 use Rattle.link_history.proofs.law.nothing_left_out.Goals as goal
 
 pub returns-clause-none : goal.returns-clause-none

@@ -1,4 +1,4 @@
-use Rattle.link_history.proofs.Alone.{apart}
+use Rattle.link_history.specs.Lemmas.Alone.{apart}
 use Rattle.link_history.proofs.law.objects_are_apart.Goals as goal
 
 pub returns : goal.returns

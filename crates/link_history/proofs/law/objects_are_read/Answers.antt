@@ -2,7 +2,7 @@ use Rattle.std.proofs.Common.{subst}
 use Rattle.link_history.specs.After.{after}
 use Rattle.link_history.specs.Read.{WasRead}
 use Rattle.link_history.specs.Setting.{Machine}
-use Rattle.link_history.proofs.Begun.{begins_untouched}
+use Rattle.link_history.specs.Lemmas.Begun.{begins_untouched}
 use Rattle.link_history.proofs.WasRead.{objects_read, opens_read}
 use Rattle.link_history.proofs.law.objects_are_read.Goals as goal
 

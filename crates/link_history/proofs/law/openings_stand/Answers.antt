@@ -1,4 +1,4 @@
-use Rattle.link_history.proofs.Openings.{openings_stand}
+use Rattle.link_history.specs.Lemmas.Openings.{openings_stand}
 use Rattle.link_history.proofs.law.openings_stand.Goals as goal
 
 pub returns : goal.returns

@@ -1,4 +1,4 @@
-use Rattle.link_history.proofs.ProgramStays.{program_stays}
+use Rattle.link_history.specs.Lemmas.ProgramStays.{program_stays}
 use Rattle.link_history.proofs.law.program_stays.Goals as goal
 
 pub returns : goal.returns

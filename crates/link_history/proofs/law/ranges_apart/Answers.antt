@@ -1,4 +1,4 @@
-use Rattle.link_history.proofs.Map.{ranges_apart}
+use Rattle.link_history.specs.Lemmas.Map.{ranges_apart}
 use Rattle.link_history.proofs.law.ranges_apart.Goals as goal
 
 pub returns : goal.returns

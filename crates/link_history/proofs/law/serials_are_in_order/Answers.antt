@@ -1,7 +1,7 @@
 use Rattle.link_history.specs.After.{after}
-use Rattle.link_history.proofs.Brought.{LoadLaws}
-use Rattle.link_history.proofs.Serials.{new_serials, serials_in_order}
-use Rattle.link_history.proofs.Steps.{good_after}
+use Rattle.link_history.specs.Lemmas.Brought.{LoadLaws}
+use Rattle.link_history.specs.Lemmas.Serials.{new_serials, serials_in_order}
+use Rattle.link_history.specs.Lemmas.Steps.{good_after}
 use Rattle.link_history.proofs.law.serials_are_in_order.Goals as goal
 
 pub returns-clause-order : goal.returns-clause-order

@@ -1,4 +1,4 @@
-use Rattle.link_history.proofs.Entering.{slots_enter}
+use Rattle.link_history.specs.Lemmas.Entering.{slots_enter}
 use Rattle.link_history.proofs.law.slots_enter_code.Goals as goal
 
 pub returns : goal.returns

@@ -1,4 +1,4 @@
-use Rattle.link_history.proofs.Startup.{startup_stays}
+use Rattle.link_history.specs.Lemmas.Startup.{startup_stays}
 use Rattle.link_history.proofs.law.startup_stays.Goals as goal
 
 pub returns : goal.returns

@@ -1,4 +1,4 @@
-use Rattle.link_history.proofs.StaticAreas.{areas_have_room}
+use Rattle.link_history.specs.Lemmas.StaticAreas.{areas_have_room}
 use Rattle.link_history.proofs.law.static_areas_have_room.Goals as goal
 
 pub returns : goal.returns

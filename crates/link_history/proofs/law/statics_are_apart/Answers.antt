@@ -1,4 +1,4 @@
-use Rattle.link_history.proofs.Static.{statics_apart}
+use Rattle.link_history.specs.Lemmas.Static.{statics_apart}
 use Rattle.link_history.proofs.law.statics_are_apart.Goals as goal
 
 pub returns : goal.returns

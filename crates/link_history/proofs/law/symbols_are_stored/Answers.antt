@@ -1,4 +1,4 @@
-use Rattle.link_history.proofs.Defined.{symbols_stored}
+use Rattle.link_history.specs.Lemmas.Defined.{symbols_stored}
 use Rattle.link_history.proofs.law.symbols_are_stored.Goals as goal
 
 pub returns : goal.returns

@@ -1,4 +1,4 @@
-use Rattle.link_history.proofs.Uninitialised.{next_initialising, uninitialised_stay}
+use Rattle.link_history.specs.Lemmas.Uninitialised.{next_initialising, uninitialised_stay}
 use Rattle.link_history.proofs.law.uninitialised_stay.Goals as goal
 
 pub returns-clause-stay : goal.returns-clause-stay

@@ -1,6 +1,6 @@
 use Rattle.std.proofs.Common.{arith}
 use Rattle.link_history.specs.After.{after}
-use Rattle.link_history.proofs.History.{by_lawful}
+use Rattle.link_history.specs.Lemmas.History.{by_lawful}
 use Rattle.link_opening.specs.Asked.{AreFew}
 use Rattle.link_opening.proofs.Few.{stepped_few}
 use Rattle.link_opening.proofs.law.namespaces_are_few.Goals as goal

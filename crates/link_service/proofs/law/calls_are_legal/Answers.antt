@@ -1,4 +1,4 @@
-use Rattle.link_service.proofs.Given.{gives_lawful, gives_legal, serves_legal}
+use Rattle.link_service.specs.Lemmas.Given.{gives_lawful, gives_legal, serves_legal}
 use Rattle.link_service.proofs.law.calls_are_legal.Goals as goal
 
 pub returns-clause-gives : goal.returns-clause-gives

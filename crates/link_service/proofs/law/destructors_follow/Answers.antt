@@ -1,4 +1,4 @@
-use Rattle.link_service.proofs.Finishing.{finishes_stay, next_finishes}
+use Rattle.link_service.specs.Lemmas.Finishing.{finishes_stay, next_finishes}
 use Rattle.link_service.proofs.law.destructors_follow.Goals as goal
 
 pub returns-clause-next : goal.returns-clause-next

@@ -1,4 +1,4 @@
-use Rattle.link_service.proofs.Own.{events_own, few_events}
+use Rattle.link_service.specs.Lemmas.Own.{events_own, few_events}
 use Rattle.link_service.proofs.law.events_are_own.Goals as goal
 
 pub returns-clause-own : goal.returns-clause-own

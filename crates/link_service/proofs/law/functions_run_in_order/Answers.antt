@@ -1,4 +1,4 @@
-use Rattle.link_service.proofs.Finishing.{passed_first, runs_a_function}
+use Rattle.link_service.specs.Lemmas.Finishing.{passed_first, runs_a_function}
 use Rattle.link_service.proofs.law.functions_run_in_order.Goals as goal
 
 pub returns-clause-passed : goal.returns-clause-passed

@@ -1,4 +1,4 @@
-use Rattle.link_service.proofs.Told.{one_answer, one_opening}
+use Rattle.link_service.specs.Lemmas.Told.{one_answer, one_opening}
 use Rattle.link_service.proofs.law.one_answer.Goals as goal
 
 pub returns-clause-calls : goal.returns-clause-calls

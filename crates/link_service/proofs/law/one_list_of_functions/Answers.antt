@@ -1,4 +1,4 @@
-use Rattle.link_service.proofs.OneOrder.{one_finalisation, one_initialisation, one_start}
+use Rattle.link_service.specs.Lemmas.OneOrder.{one_finalisation, one_initialisation, one_start}
 use Rattle.link_service.proofs.law.one_list_of_functions.Goals as goal
 
 pub returns-clause-opening : goal.returns-clause-opening

@@ -1,4 +1,4 @@
-use Rattle.link_service.proofs.Given.{refusal_is_kept, refusal_is_told}
+use Rattle.link_service.specs.Lemmas.Given.{refusal_is_kept, refusal_is_told}
 use Rattle.std.specs.Option.{option_map}
 use Rattle.std.proofs.Common.{Option, ap, ◌∙◌}
 use Rattle.ld_base.specs.declared.fault.DlFault.{DlFault}

@@ -1,4 +1,4 @@
-use Rattle.link_service.proofs.InOrder.{ask_first, passed, stages_in_order, symbols_in_order}
+use Rattle.link_service.specs.Lemmas.InOrder.{ask_first, passed, stages_in_order, symbols_in_order}
 use Rattle.link_service.proofs.law.refusals_come_in_order.Goals as goal
 
 pub returns-clause-asked : goal.returns-clause-asked

@@ -1,4 +1,4 @@
-use Rattle.link_service.proofs.Given.{again_appends_nothing, ends_keep, refused_keeps, refused_leaves_memory}
+use Rattle.link_service.specs.Lemmas.Given.{again_appends_nothing, ends_keep, refused_keeps, refused_leaves_memory}
 use Rattle.link_service.proofs.law.refused_calls_leave.Goals as goal
 
 pub returns-clause-refused : goal.returns-clause-refused

@@ -1,4 +1,4 @@
-use Rattle.link_service.proofs.Serving.{fails_legal, harts_have_entries, served_legal, starts_legal}
+use Rattle.link_service.specs.Lemmas.Serving.{fails_legal, harts_have_entries, served_legal, starts_legal}
 use Rattle.link_service.proofs.law.served_calls_are_legal.Goals as goal
 
 pub returns-clause-served : goal.returns-clause-served

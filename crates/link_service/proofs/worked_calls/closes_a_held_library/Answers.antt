@@ -1,4 +1,4 @@
-use Rattle.link_service.proofs.Examples.{closes_one, dies_alone, finds_global, finds_no_handle, finds_on_closed}
+use Rattle.link_service.specs.Lemmas.Examples.{closes_one, dies_alone, finds_global, finds_no_handle, finds_on_closed}
 use Rattle.link_service.proofs.worked_calls.closes_a_held_library.Goals as goal
 
 pub returns-clause-closes : goal.returns-clause-closes

@@ -1,4 +1,4 @@
-use Rattle.link_service.proofs.Examples.{closes_again, dies_both, tells_bad_handle, unmaps_both}
+use Rattle.link_service.specs.Lemmas.Examples.{closes_again, dies_both, tells_bad_handle, unmaps_both}
 use Rattle.link_service.proofs.worked_calls.closes_both_libraries.Goals as goal
 
 pub returns-clause-dies : goal.returns-clause-dies

@@ -1,4 +1,4 @@
-use Rattle.link_service.proofs.Examples.{ends_unloaded, ends_without_slot}
+use Rattle.link_service.specs.Lemmas.Examples.{ends_unloaded, ends_without_slot}
 use Rattle.link_service.proofs.worked_calls.ends_without_a_slot.Goals as goal
 
 pub returns-clause-unloaded : goal.returns-clause-unloaded

@@ -1,4 +1,4 @@
-use Rattle.link_service.proofs.Examples.{finds_in_block, finds_without_block, is_bad_module, locates_in_block, locates_in_other}
+use Rattle.link_service.specs.Lemmas.Examples.{finds_in_block, finds_without_block, is_bad_module, locates_in_block, locates_in_other}
 use Rattle.link_service.proofs.worked_calls.finds_thread_local_storage.Goals as goal
 
 pub returns-clause-first : goal.returns-clause-first

@@ -1,4 +1,4 @@
-use Rattle.link_service.proofs.Examples.{grants_global, grants_the_first}
+use Rattle.link_service.specs.Lemmas.Examples.{grants_global, grants_the_first}
 use Rattle.link_service.proofs.worked_calls.grants_what_comes_first.Goals as goal
 
 pub returns-clause-global : goal.returns-clause-global

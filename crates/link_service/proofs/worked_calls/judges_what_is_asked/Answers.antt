@@ -1,5 +1,5 @@
 use Rattle.std.proofs.Common.{refl}
-use Rattle.link_service.proofs.Examples.{is_absent_by, is_missing, opens_by_flags, refuses_flags, refuses_name, refuses_shorter}
+use Rattle.link_service.specs.Lemmas.Examples.{is_absent_by, is_missing, opens_by_flags, refuses_flags, refuses_name, refuses_shorter}
 use Rattle.link_service.proofs.worked_calls.judges_what_is_asked.Goals as goal
 
 pub returns-clause-both : goal.returns-clause-both

@@ -1,4 +1,4 @@
-use Rattle.link_service.proofs.Examples.{another_opens, another_waits, itself_opens}
+use Rattle.link_service.specs.Lemmas.Examples.{another_opens, another_waits, itself_opens}
 use Rattle.link_service.proofs.worked_calls.waits_for_another_hart.Goals as goal
 
 pub returns-clause-waits : goal.returns-clause-waits

@@ -2,18 +2,18 @@ use Rattle.std.proofs.Common.{◌++◌, ◌∷◌, [], subst, sym}
 use Rattle.link_history.specs.State.{State}
 use Rattle.link_history.specs.After.{after}
 use Rattle.link_history.specs.Step.{step}
-use Rattle.link_history.proofs.Good.{Good, core}
-use Rattle.link_history.proofs.Brought.{LoadLaws}
-use Rattle.link_history.proofs.History.{after_push, lawful_push}
-use Rattle.link_history.proofs.Lazy.{PageLaws}
-use Rattle.link_history.proofs.Map.{Mapped, mapped_after}
-use Rattle.link_history.proofs.Steps.{good_after}
-use Rattle.link_history.proofs.Tidy.{Tidy, tidy_after}
+use Rattle.link_history.specs.Lemmas.Good.{Good, core}
+use Rattle.link_history.specs.Lemmas.Brought.{LoadLaws}
+use Rattle.link_history.specs.Lemmas.History.{after_push, lawful_push}
+use Rattle.link_history.specs.Lemmas.Lazy.{PageLaws}
+use Rattle.link_history.specs.Lemmas.Map.{Mapped, mapped_after}
+use Rattle.link_history.specs.Lemmas.Steps.{good_after}
+use Rattle.link_history.specs.Lemmas.Tidy.{Tidy, tidy_after}
 use Rattle.memory_holds.specs.Holds.{Holds}
 use Rattle.memory_holds.specs.Remade.{won_after}
-use Rattle.memory_holds.proofs.Images.{images_back}
+use Rattle.memory_holds.specs.Lemmas.Images.{images_back}
 use Rattle.memory_holds.proofs.Kept.{holds_after}
-use Rattle.memory_holds.proofs.Stayed.{quiet}
+use Rattle.memory_holds.specs.Lemmas.Stayed.{quiet}
 use Rattle.memory_holds.proofs.Taking.{taking_after}
 use Rattle.memory_holds.proofs.law.events_keep.Goals as goal
 

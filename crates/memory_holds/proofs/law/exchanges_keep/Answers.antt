@@ -1,8 +1,8 @@
 use Rattle.link_history.specs.After.{after}
-use Rattle.link_history.proofs.Brought.{LoadLaws}
-use Rattle.link_history.proofs.Map.{Mapped, mapped_after}
-use Rattle.link_history.proofs.Tidy.{tidy_after}
-use Rattle.memory_holds.proofs.Exchanged.{exchange_holds}
+use Rattle.link_history.specs.Lemmas.Brought.{LoadLaws}
+use Rattle.link_history.specs.Lemmas.Map.{Mapped, mapped_after}
+use Rattle.link_history.specs.Lemmas.Tidy.{tidy_after}
+use Rattle.memory_holds.specs.Lemmas.Exchanged.{exchange_holds}
 use Rattle.memory_holds.proofs.law.exchanges_keep.Goals as goal
 
 pub returns : goal.returns

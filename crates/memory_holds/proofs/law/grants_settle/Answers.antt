@@ -1,10 +1,10 @@
 use Rattle.link_history.specs.After.{after}
-use Rattle.link_history.proofs.Brought.{LoadLaws}
-use Rattle.link_history.proofs.Lazy.{PageLaws}
-use Rattle.link_history.proofs.Map.{Mapped, mapped_after}
-use Rattle.link_history.proofs.Tidy.{tidy_after}
+use Rattle.link_history.specs.Lemmas.Brought.{LoadLaws}
+use Rattle.link_history.specs.Lemmas.Lazy.{PageLaws}
+use Rattle.link_history.specs.Lemmas.Map.{Mapped, mapped_after}
+use Rattle.link_history.specs.Lemmas.Tidy.{tidy_after}
 use Rattle.memory_holds.proofs.Standing.{granted_slots}
-use Rattle.memory_holds.proofs.Settled.{may_bind, may_lose}
+use Rattle.memory_holds.specs.Lemmas.Settled.{may_bind, may_lose}
 use Rattle.memory_holds.proofs.law.grants_settle.Goals as goal
 
 pub returns-clause-bound : goal.returns-clause-bound

@@ -1,7 +1,7 @@
 use Rattle.link_history.specs.After.{after}
-use Rattle.link_history.proofs.Brought.{LoadLaws}
-use Rattle.link_history.proofs.Lazy.{PageLaws}
-use Rattle.link_history.proofs.Map.{Mapped, mapped_after}
+use Rattle.link_history.specs.Lemmas.Brought.{LoadLaws}
+use Rattle.link_history.specs.Lemmas.Lazy.{PageLaws}
+use Rattle.link_history.specs.Lemmas.Map.{Mapped, mapped_after}
 use Rattle.memory_holds.proofs.Entered.{slot_enters}
 use Rattle.memory_holds.proofs.law.slots_enter.Goals as goal
 

@@ -3,12 +3,12 @@ use Rattle.link_history.specs.State.{State}
 use Rattle.link_history.specs.After.{after}
 use Rattle.link_history.specs.Memory.{role_at}
 use Rattle.link_history.specs.Step.{step}
-use Rattle.link_history.proofs.Brought.{LoadLaws}
-use Rattle.link_history.proofs.History.{after_push, lawful_push}
-use Rattle.link_history.proofs.Lazy.{PageLaws}
-use Rattle.link_history.proofs.Map.{Mapped, mapped_after}
+use Rattle.link_history.specs.Lemmas.Brought.{LoadLaws}
+use Rattle.link_history.specs.Lemmas.History.{after_push, lawful_push}
+use Rattle.link_history.specs.Lemmas.Lazy.{PageLaws}
+use Rattle.link_history.specs.Lemmas.Map.{Mapped, mapped_after}
 use Rattle.memory_holds.specs.Enters.{SlotStays}
-use Rattle.memory_holds.proofs.Stayed.{exchange_stays, stays, stored_stays}
+use Rattle.memory_holds.specs.Lemmas.Stayed.{exchange_stays, stays, stored_stays}
 use Rattle.memory_holds.proofs.law.slots_stay.Goals as goal
 
 pub returns-clause-event : goal.returns-clause-event

@@ -1,4 +1,4 @@
-use Rattle.memory_holds.proofs.Stored.{keeps_same, stored}
+use Rattle.memory_holds.specs.Lemmas.Stored.{keeps_same, stored}
 use Rattle.memory_holds.proofs.law.stores_keep.Goals as goal
 
 pub returns-clause-store : goal.returns-clause-store

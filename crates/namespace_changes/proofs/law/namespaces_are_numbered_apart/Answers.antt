@@ -1,6 +1,6 @@
 use Rattle.std.proofs.Common.{refl}
 use Rattle.link_history.specs.After.{after}
-use Rattle.link_history.proofs.History.{by_lawful}
+use Rattle.link_history.specs.Lemmas.History.{by_lawful}
 use Rattle.namespace_changes.specs.Numbered.{AreNumberedApart}
 use Rattle.namespace_changes.proofs.Numbered.{stepped_apart}
 use Rattle.namespace_changes.proofs.law.namespaces_are_numbered_apart.Goals as goal

@@ -7,7 +7,7 @@ use Rattle.ld_base.specs.declared.linking.Loaded.{Loaded}
 use Rattle.ld_base.specs.declared.object.Reloc.{Reloc}
 use Rattle.link_history.specs.Bound.{binds_now}
 use Rattle.link_history.specs.Relocating.{first_fault, reloc_fault}
-use Rattle.link_history.proofs.Lists.{at_in}
+use Rattle.link_history.specs.Lemmas.Lists.{at_in}
 use Rattle.scope_rule.specs.Relocation.{choice_at}
 use Rattle.scope_rule.specs.Seen.{Seen, seen}
 use Rattle.sym_lookup.specs.References.{Referring}

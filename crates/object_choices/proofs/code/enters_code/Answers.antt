@@ -1,6 +1,6 @@
 use Rattle.std.proofs.Common.{◌≡◌, ◌&&◌, Bool, true, false, not, eqb, [], Some, rules, refl, sym, ap, ◌∙◌}
 use Rattle.ld_base.specs.declared.linking.Loaded.{Loaded}
-use Rattle.link_history.proofs.Lists.{found_in}
+use Rattle.link_history.specs.Lemmas.Lists.{found_in}
 use Rattle.link_history.specs.Objects.{object_at}
 use Rattle.link_history.specs.State.{start}
 use Rattle.scope_rule.specs.Loading.{object_of}

@@ -13,8 +13,8 @@ use Rattle.link_history.specs.Read.{WasRead}
 use Rattle.link_history.specs.Setting.{Machine}
 use Rattle.link_history.specs.State.{Linked, State}
 use Rattle.link_history.specs.Step.{binds, loaded, seen_after}
-use Rattle.link_history.proofs.Lists.{first_or_later, here, later, none_in}
-use Rattle.link_history.proofs.Placed.{HasPages, opens_pages}
+use Rattle.link_history.specs.Lemmas.Lists.{first_or_later, here, later, none_in}
+use Rattle.link_history.specs.Lemmas.Placed.{HasPages, opens_pages}
 use Rattle.lawful_journal.specs.Following.{machine_of}
 use Rattle.object_bindings.specs.Bindings.{Copies, bindings_in, copies_from, size_in, value_in}
 use Rattle.relocator.specs.Bindings.{chosen, is_copy}

@@ -6,7 +6,7 @@ use Rattle.link_history.specs.Accepted.{AcceptsOnly}
 use Rattle.link_history.specs.After.{after}
 use Rattle.link_history.specs.Laws.{ImagesAreBound, OffsetsAreThere}
 use Rattle.link_history.specs.Legal.{Lawful}
-use Rattle.link_history.proofs.History.{after_push, lawful_push}
+use Rattle.link_history.specs.Lemmas.History.{after_push, lawful_push}
 use Rattle.lawful_journal.specs.Following.{machine_of}
 use Rattle.opening_laws.specs.Laws.{CanBePlaced, image_made}
 use Rattle.opening_laws.proofs.Uncopied.{image_inside}

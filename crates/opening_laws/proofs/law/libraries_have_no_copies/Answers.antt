@@ -5,12 +5,12 @@ use Rattle.std.proofs.lemmas.Bool.{ne_eqb}
 use Rattle.elf_object.specs.Verdict.{object_verdict}
 use Rattle.link_history.specs.Setting.{Machine}
 use Rattle.link_history.specs.State.{State}
-use Rattle.link_history.proofs.Steps.{good_after}
+use Rattle.link_history.specs.Lemmas.Steps.{good_after}
 use Rattle.ld_base.specs.declared.linking.Loaded.{Loaded}
 use Rattle.link_history.specs.After.{after}
 use Rattle.link_history.specs.Objects.{serial_of}
 use Rattle.link_history.specs.Read.{WasRead}
-use Rattle.link_history.proofs.Lists.{first_or_later, in_map, later, none_in}
+use Rattle.link_history.specs.Lemmas.Lists.{first_or_later, in_map, later, none_in}
 use Rattle.lawful_journal.specs.Following.{machine_of}
 use Rattle.opening_laws.proofs.law.libraries_have_no_copies.Goals as goal
 

@@ -1,7 +1,7 @@
 use Rattle.std.proofs.Common.{List, drop, subst}
 use Rattle.std.specs.List.{Contains}
 use Rattle.link_history.specs.After.{after}
-use Rattle.link_history.proofs.Lists.{at_in}
+use Rattle.link_history.specs.Lemmas.Lists.{at_in}
 use Rattle.opening_images.specs.Relocated.{MayRelocate}
 use Rattle.opening_laws.specs.Laws.{places_after}
 use Rattle.relocator.specs.declared.binding.Binding.{Binding}

@@ -1,6 +1,6 @@
 use Rattle.std.proofs.Common.{List, sym, subst}
 use Rattle.link_history.specs.After.{after}
-use Rattle.link_history.proofs.Lists.{at_in}
+use Rattle.link_history.specs.Lemmas.Lists.{at_in}
 use Rattle.opening_images.specs.Relocated.{IsRelocated}
 use Rattle.opening_laws.specs.Laws.{places_after}
 use Rattle.relocator.specs.declared.binding.Binding.{Binding}

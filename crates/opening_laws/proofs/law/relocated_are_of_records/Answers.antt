@@ -1,7 +1,7 @@
 use Rattle.std.proofs.Common.{◌≡◌, List, drop, refl, sym, subst}
 use Rattle.link_history.specs.After.{after}
 use Rattle.link_history.specs.Step.{binds, seen_after}
-use Rattle.link_history.proofs.Lists.{at_in}
+use Rattle.link_history.specs.Lemmas.Lists.{at_in}
 use Rattle.object_bindings.specs.Bindings.{bindings_in}
 use Rattle.opening_images.specs.Relocated.{IsRelocated, copies_among}
 use Rattle.opening_laws.specs.Laws.{image_made, places_after}

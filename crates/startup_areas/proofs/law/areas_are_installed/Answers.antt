@@ -23,8 +23,8 @@ use Rattle.link_history.specs.Read.{IsUntouched}
 use Rattle.link_history.specs.State.{State}
 use Rattle.link_history.specs.Step.{loaded, open_done}
 use Rattle.link_history.specs.Storage.{is_static_area, tp_of}
-use Rattle.link_history.proofs.History.{after_push, lawful_push}
-use Rattle.link_history.proofs.Lists.{from_filter, none_in}
+use Rattle.link_history.specs.Lemmas.History.{after_push, lawful_push}
+use Rattle.link_history.specs.Lemmas.Lists.{from_filter, none_in}
 use Rattle.link_service.specs.Served.{AreImages, AreWordsOf, is_area}
 use Rattle.seg_image.specs.declared.image.Image.{Image}
 use Rattle.startup_areas.specs.Areas.{AreAreas, HaveBlocks, filling}

@@ -14,7 +14,7 @@ use Rattle.link_history.specs.Legal.{Lawful}
 use Rattle.link_history.specs.Objects.{serial_of}
 use Rattle.link_history.specs.State.{State}
 use Rattle.link_history.specs.Step.{loaded, open_done}
-use Rattle.link_history.proofs.History.{after_push, lawful_push}
+use Rattle.link_history.specs.Lemmas.History.{after_push, lawful_push}
 use Rattle.link_service.specs.Served.{is_area}
 use Rattle.startup_areas.proofs.Given.{some_pages}
 use Rattle.startup_areas.proofs.New.{blocks_fit}

@@ -1,4 +1,4 @@
-use Rattle.turn_events.proofs.Turning.{finals_away, turns_append}
+use Rattle.turn_events.specs.Lemmas.Turning.{finals_away, turns_append}
 use Rattle.turn_events.proofs.law.turns_append.Goals as goal
 
 pub returns-clause-events : goal.returns-clause-events

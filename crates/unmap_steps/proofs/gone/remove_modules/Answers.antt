@@ -3,7 +3,7 @@ use Rattle.std.specs.Option.{option_map}
 use Rattle.std.specs.List.{count_by, filter, find}
 use Rattle.std.proofs.lemmas.List.Sums.{count_by-le-length, length-filter}
 use Rattle.link_event.specs.declared.state.Module.{Module}
-use Rattle.link_history.proofs.Lists.{found_in}
+use Rattle.link_history.specs.Lemmas.Lists.{found_in}
 use Rattle.tls_blocks.specs.Numbers.{AreNumbered, without_module}
 use Rattle.unmap_steps.specs.Touched.{is_of_set}
 use Rattle.unmap_steps.proofs.Removed.{IsOneLess, found_number, is_there, no_more, none_go, removed_one, stays, still_numbered}

@@ -1,6 +1,6 @@
-use Rattle.link_history.proofs.Map.{mapped_after}
-use Rattle.link_history.proofs.Tidy.{tidy_after}
-use Rattle.world_slots.proofs.Turns.{turns_keep}
+use Rattle.link_history.specs.Lemmas.Map.{mapped_after}
+use Rattle.link_history.specs.Lemmas.Tidy.{tidy_after}
+use Rattle.world_slots.specs.Lemmas.Turns.{turns_keep}
 use Rattle.world_slots.proofs.law.turns_keep_slots.Goals as goal
 
 pub returns : goal.returns

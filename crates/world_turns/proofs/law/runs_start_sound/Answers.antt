@@ -1,4 +1,4 @@
-use Rattle.world_turns.proofs.Starting.{start_sound}
+use Rattle.world_turns.specs.Lemmas.Starting.{start_sound}
 use Rattle.world_turns.proofs.law.runs_start_sound.Goals as goal
 
 pub returns : goal.returns

@@ -1,5 +1,5 @@
 use Rattle.world_turns.proofs.Granted.{runs_grant, runs_settle}
-use Rattle.world_turns.proofs.Running.{constructors_keep, finals_keep, rounds_keep, runs_end, runs_leave_no_grant, runs_sound, schedule_keeps}
+use Rattle.world_turns.specs.Lemmas.Running.{constructors_keep, finals_keep, rounds_keep, runs_end, runs_leave_no_grant, runs_sound, schedule_keeps}
 use Rattle.world_turns.proofs.law.runs_stay_sound.Goals as goal
 
 pub returns-clause-constructors : goal.returns-clause-constructors

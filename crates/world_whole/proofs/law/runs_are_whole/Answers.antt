@@ -1,5 +1,5 @@
-use Rattle.link_history.proofs.Map.{mapped_after}
-use Rattle.link_history.proofs.Tidy.{tidy_after}
+use Rattle.link_history.specs.Lemmas.Map.{mapped_after}
+use Rattle.link_history.specs.Lemmas.Tidy.{tidy_after}
 use Rattle.world_whole.proofs.Runs.{runs_whole}
 use Rattle.world_whole.proofs.Turns.{turns_keep_seen}
 use Rattle.world_whole.proofs.law.runs_are_whole.Goals as goal

@@ -6,4 +6,4 @@ use Rattle.asm_fixes.proofs.fixer.Fixer.push_section.Given as goal
 
 abbrev pub invariant-loop-number : goal.invariant-loop-number
 invariant-loop-number l = IsFixerOf l.line-items l.self
-    → l.fixes ++ section_fixes l.line-items l.section l.number (drop l.number l.line-items) ≡ l.initial.fixes ++ section_fixes l.line-items l.section 0 l.line-items
+    → l.fixes ++ section_fixes l.line-items l.target l.number (drop l.number l.line-items) ≡ l.initial.fixes ++ section_fixes l.line-items l.target 0 l.line-items

@@ -1,4 +1,4 @@
-use Rattle.acceptance.proofs.Answers.{answers}
+use Rattle.acceptance.specs.Lemmas.Answers.{answers}
 use Rattle.sym_hash.specs.Breaks.{BreaksHash, IsHashTable}
 use Rattle.sym_hash.specs.Verdict.{hash_verdict}
 use Rattle.sym_hash.proofs.check.HashTableCheck.check.Goals as goal

@@ -4,7 +4,7 @@ use Rattle.guest_rule.specs.declared.view.View.TheVariants.{Keeper}
 use Rattle.guest_rule.specs.Layout.{table_words}
 use Rattle.guest_rule.specs.Rule.{IsGuest}
 use Rattle.guest_rule.specs.Start.{first_keeper}
-use Rattle.guest_rule.proofs.Begins.{begins}
+use Rattle.guest_rule.specs.Lemmas.Begins.{begins}
 use Rattle.word_steps.proofs.memory.fresh.Memory+Brand.new.Goals as goal
 
 pub of_words-requires : goal.of_words-requires

@@ -1,0 +1,21 @@
+-- Lemmas on this crate's definitions that proofs of the crates above cite, too. They define nothing that a contract means.
+pub mod Begins
+pub mod HartCalls
+pub mod HartLocks
+pub mod HartSlots
+pub mod Heeding
+pub mod Joining
+pub mod KeeperCalls
+pub mod KeeperLocks
+pub mod KeeperSlots
+pub mod Lanes
+pub mod Locks
+pub mod Marks
+pub mod Put
+pub mod Rows
+pub mod Seating
+pub mod SlotFrames
+pub mod Steps
+pub mod Table
+pub mod Trails
+pub mod Unlocking
