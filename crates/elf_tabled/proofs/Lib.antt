@@ -1,5 +1,4 @@
 pub mod Accepted
-pub mod Bytes
 pub mod Names
 pub mod Relocs
 pub mod Symbols

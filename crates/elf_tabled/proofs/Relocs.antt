@@ -18,7 +18,7 @@ use Rattle.elf_records.specs.Numbers.{AllFit}
 use Rattle.elf_records.specs.Standing.{StandAt}
 use Rattle.elf_records.specs.Lemmas.Records.{rela, slot}
 use Rattle.elf_records.specs.Lemmas.Standing.{behind, front as stands_front, within}
-use Rattle.elf_spelled.proofs.Rows.{rows, same_rows, at_index}
+use Rattle.elf_spelled.specs.Lemmas.Rows.{rows, same_rows, at_index}
 use Rattle.elf_tabled.specs.Tables.{AreSymbolNumbers, ListedFit, said_reloc, slots_at}
 
 -- The entries of relocations by their bytes

@@ -17,7 +17,7 @@ ghost use Rattle.elf_spelled.specs.Said.{TellsNumbers, said_head};
 ghost use Rattle.elf_spelled.specs.Whole.{IsWhole};
 ghost use Rattle.elf_tabled.specs.Tables.{AreSymbolNumbers, ListedFit, SaysNames, SymbolsFit, said_relocs, said_slots, said_symbol};
 
-use elf_spelled::{parts_stand_at_their_starts, the_tags_are_spelled};
+use elf_spelled::{parts_stand_at_their_starts, the_table_tells, the_tags_are_spelled};
 use elf_written::{parts_have_their_sizes, parts_stand_apart};
 
 /// The relocations that a reader finds in the bytes of their table are those of the places that are told by one.
@@ -35,6 +35,7 @@ pub fn the_relocations_are_spelled()
     parts_have_their_sizes();
     parts_stand_apart();
     parts_stand_at_their_starts();
+    the_table_tells();
     the_tags_are_spelled();
 }
 
@@ -47,6 +48,7 @@ pub fn the_slots_are_spelled()
     parts_have_their_sizes();
     parts_stand_apart();
     parts_stand_at_their_starts();
+    the_table_tells();
     the_tags_are_spelled();
 }
 
@@ -58,6 +60,7 @@ pub fn the_names_are_spelled()
     parts_have_their_sizes();
     parts_stand_apart();
     parts_stand_at_their_starts();
+    the_table_tells();
     the_tags_are_spelled();
 }
 

@@ -1,10 +1,10 @@
 -- The bytes of a part, where the reader finds them by the program headers.
-use Rattle.std.proofs.Common.{◌≡◌, ◌∙◌, ap, sym, refl, ℕ, ◌+◌, ◌-◌, ◌≤◌, ◌==◌, Bool, true, false, if◌then◌else◌, List, [], ◌∷◌, length, map, find, slice_range, arith, inl, inr}
+use Rattle.std.proofs.Common.{◌≡◌, ◌∙◌, ap, sym, refl, ℕ, ◌+◌, ◌-◌, ◌≤◌, ◌==◌, ◌&&◌, nat_le, Bool, true, false, if◌then◌else◌, List, [], ◌∷◌, length, map, find, slice_range, arith, inl, inr}
 use Rattle.std.specs.Prelude.{Some, None, Option, ⊤}
 use Rattle.std.specs.Option.{option_map}
-use Rattle.std.proofs.lemmas.Bool.{cases_eq}
-use Rattle.std.proofs.lemmas.Bool.Decides.{nat_tests}
+use Rattle.std.proofs.lemmas.Bool.{and_parts, cases_eq, leb-true, ne_eqb}
 use Rattle.ld_base.specs.declared.parts.Header.{Header}
+use Rattle.elf_head.specs.Header.{is_loaded}
 use Rattle.elf_head.specs.Readable.{covers, file_bytes, file_offset}
 use Rattle.elf_write.specs.declared.contents.Contents.{Contents}
 use Rattle.elf_write.specs.declared.entries.SegmentKind.{SegmentKind}
@@ -13,7 +13,7 @@ use Rattle.elf_write.specs.Records.{header_of, first_part}
 use Rattle.elf_write.specs.Starts.{start_in, starts_of}
 use Rattle.elf_records.specs.Standing.{StandAt}
 use Rattle.elf_records.specs.Lemmas.Standing.{cut_out}
-use Rattle.elf_spelled.proofs.Placed.{Apart, from_head}
+use Rattle.elf_spelled.specs.Lemmas.Starting.{Apart, from_head}
 
 -- each segment has its bytes as far behind the file's begin as its address is behind the first
 abbrev pub ArePlaced : ℕ → List Header → Type 0
@@ -21,7 +21,9 @@ ArePlaced head [] = ⊤
 ArePlaced head (h ∷ headers) = (h.offset + head ≡ h.vaddr) × ArePlaced head headers
 
 reached : (h : Header) (start size : ℕ) → covers start size h ≡ true → h.vaddr ≤ start
-reached h start size covered = grind (arith, nat_tests)
+reached h start size covered =
+    let (front, reaches) = and_parts (is_loaded h && nat_le h.vaddr start) (nat_le (start + size) (h.vaddr + h.filesz)) covered in
+    leb-true h.vaddr start (and_parts (is_loaded h) (nat_le h.vaddr start) front).1
 
 found_at : (head start size : ℕ) (headers : List Header) → ArePlaced head headers → (at : ℕ)
     → option_map (λ h. h.offset + (start - h.vaddr)) (find (covers start size) headers) ≡ Some at → at ≡ start - head
@@ -57,7 +59,7 @@ part_read bytes headers head start size part r placed stand long found =
           let empty : part ≡ [] = nothing part (omega (arith, long, none)) in
           sym (some_is (slice_range bytes 0 0) r is) ∙ sym empty
       | inr some ↦
-          let no : (size == 0) ≡ false = grind (arith, nat_tests) in
+          let no : (size == 0) ≡ false = ne_eqb size 0 some in
           let (at, there, is) = mapped_some (λ at. slice_range bytes at (at + size)) (option_map (λ (h : Header). h.offset + (start - h.vaddr)) (find (covers start size) headers)) r (rw no at found) in
           let place = found_at head start size headers placed at there in
           sym is ∙ ap (λ n. slice_range bytes n (n + size)) place ∙ ap (λ n. slice_range bytes (start - head) (start - head + n)) (sym long) ∙ cut_out bytes part (start - head) stand
