@@ -25,11 +25,11 @@ use Rattle.elf_tabled.specs.Tables.{AreSymbolNumbers, ListedFit, said_relocs, sa
 use Rattle.elf_spelled.specs.Lemmas.Bytes.{held_bytes, none_bad, table_bytes}
 use Rattle.elf_tabled.proofs.Relocs.{relocs_read, slots_read}
 
-told_is : (b : Bool) (n m : ℕ) → told_if b n ≡ Some m → (b ≡ true) × (m ≡ n)
+pub told_is : (b : Bool) (n m : ℕ) → told_if b n ≡ Some m → (b ≡ true) × (m ≡ n)
 told_is true n m is = let same : n ≡ m = cc in (refl, sym same)
 told_is false n m is = absurd cc
 
-empty : (bytes : List ℕ) → length bytes ≡ 0 → bytes ≡ []
+pub empty : (bytes : List ℕ) → length bytes ≡ 0 → bytes ≡ []
 empty [] none = refl
 empty (byte ∷ bytes) none = absurd (omega (arith, none))
 
