@@ -20,14 +20,11 @@ use Rattle.elf_write.specs.Values.{jmprel_bytes, rela_bytes}
 use Rattle.elf_records.specs.Standing.{StandAt}
 use Rattle.elf_spelled.specs.Said.{IsTold, said_head, said_tags, told_if}
 use Rattle.elf_spelled.specs.Lemmas.Starting.{Apart, told}
+use Rattle.elf_spelled.specs.Lemmas.Telling.{told_is}
 use Rattle.elf_spelled.specs.Lemmas.Reading.{all_placed, part_read}
 use Rattle.elf_tabled.specs.Tables.{AreSymbolNumbers, ListedFit, said_relocs, said_slots}
 use Rattle.elf_spelled.specs.Lemmas.Bytes.{held_bytes, none_bad, table_bytes}
 use Rattle.elf_tabled.proofs.Relocs.{relocs_read, slots_read}
-
-pub told_is : (b : Bool) (n m : ℕ) → told_if b n ≡ Some m → (b ≡ true) × (m ≡ n)
-told_is true n m is = let same : n ≡ m = cc in (refl, sym same)
-told_is false n m is = absurd cc
 
 pub empty : (bytes : List ℕ) → length bytes ≡ 0 → bytes ≡ []
 empty [] none = refl

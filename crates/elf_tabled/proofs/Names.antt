@@ -17,12 +17,9 @@ use Rattle.elf_write.specs.Starts.{size_in, start_in, starts_of}
 use Rattle.elf_records.specs.Standing.{StandAt}
 use Rattle.elf_spelled.specs.Said.{IsTold, said_head, said_tags}
 use Rattle.elf_spelled.specs.Lemmas.Starting.{Apart}
-use Rattle.elf_spelled.specs.Lemmas.Reading.{all_placed, part_read}
+use Rattle.elf_spelled.specs.Lemmas.Reading.{all_placed, part_read, some_is}
 use Rattle.elf_tabled.specs.Tables.{SaysNames}
 use Rattle.elf_spelled.specs.Lemmas.Bytes.{held_bytes, none_bad, table_bytes}
-
-some_is : (one other : ℕ) → Some one ≡ Some other → one ≡ other
-some_is one other is = cc
 
 pub names_are : Apart → (contents : Contents) (bytes : List ℕ) (program : Bool) (said : DynParts) → said.tags ≡ said_tags contents
     → IsTold contents (said_tags contents) → SpellsDynamic bytes (said_head contents) program said

@@ -1,8 +1,7 @@
 -- The packed places.
-use Rattle.std.proofs.Common.{◌≡◌, ◌∙◌, ap, sym, subst, refl, ℕ, zero, suc, ◌+◌, ◌-◌, ◌*◌, ◌/◌, ◌%◌, ◌^◌, ◌<◌, ◌==◌, ◌&&◌, nat_le, nat_lt, Bool, true, false, if◌then◌else◌, List, [], ◌∷◌, ◌++◌, length, map, fold, take, drop, arith, length-append, bit_or}
+use Rattle.std.proofs.Common.{◌≡◌, ◌∙◌, ap, sym, refl, ℕ, zero, suc, ◌+◌, ◌-◌, ◌*◌, ◌/◌, ◌%◌, ◌^◌, ◌<◌, ◌==◌, ◌&&◌, nat_le, nat_lt, Bool, true, false, if◌then◌else◌, List, [], ◌∷◌, ◌++◌, length, map, fold, take, drop, arith, length-append, bit_or}
 use Rattle.std.specs.Prelude.{Option, Some, None}
 use Rattle.std.specs.Int.{w64, to_le_bytes}
-use Rattle.std.specs.List.{slice_get}
 use Rattle.std.proofs.lemmas.Bool.{and_parts, ltb-true}
 use Rattle.std.proofs.lemmas.Nat.{or_lt, pow_below}
 use Rattle.ld_base.specs.Field.{field}
@@ -14,7 +13,7 @@ use Rattle.elf_records.specs.Standing.{StandAt}
 use Rattle.elf_records.specs.Lemmas.Fields.{one_read}
 use Rattle.elf_records.specs.Lemmas.Standing.{field_read}
 use Rattle.elf_spelled.specs.Said.{AllBelow}
-use Rattle.elf_spelled.specs.Lemmas.Rows.{at_index, rows}
+use Rattle.elf_spelled.specs.Lemmas.Rows.{at_index, below_at, rows}
 use Rattle.acceptance.specs.Lemmas.Tables.{same_elements}
 
 -- Words name one list of places
@@ -103,11 +102,6 @@ no_words (place ∷ places) none = absurd (omega (arith, none))
 pub doublewords_long : (ws : List ℕ) → length (doublewords ws) ≡ 8 * length ws
 doublewords_long [] = refl
 doublewords_long (w ∷ ws) = let rest = doublewords_long ws in omega (arith, length-append (to_le_bytes w64 w) (doublewords ws), rest)
-
-below_at : (bound : ℕ) (ws : List ℕ) → AllBelow bound ws → (i w : ℕ) → slice_get ws i ≡ Some w → w < bound
-below_at bound [] all i w is = absurd cc
-below_at bound (x ∷ ws) (first, all) zero w is = let same : x ≡ w = cc in subst (λ n. n < bound) same first
-below_at bound (x ∷ ws) (first, all) (suc i) w is = below_at bound ws all i w is
 
 pub doublewords_read : (ws words : List ℕ) → AllBelow (2 ^ 64) ws → AreWords (doublewords ws) words → words ≡ ws
 doublewords_read ws words all are =

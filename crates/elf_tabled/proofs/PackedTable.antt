@@ -25,7 +25,7 @@ use Rattle.elf_spelled.specs.Said.{AllBelow, IsTold, said_head, said_tags, told_
 use Rattle.elf_spelled.specs.Lemmas.Bytes.{held_bytes, none_bad, table_bytes}
 use Rattle.elf_spelled.specs.Lemmas.Reading.{all_placed, part_read}
 use Rattle.elf_spelled.specs.Lemmas.Starting.{Apart}
-use Rattle.elf_tabled.proofs.Accepted.{told_is}
+use Rattle.elf_spelled.specs.Lemmas.Telling.{told_is}
 use Rattle.elf_tabled.proofs.PackedPlaces.{doublewords_long, doublewords_read, no_words, one_list, some_words, words_below}
 
 -- addresses are numbers of 64 bits
