@@ -15,23 +15,18 @@ use Rattle.elf_write.specs.declared.part.Part.TheVariants as parts
 use Rattle.elf_write.specs.Sizes.{segments_of}
 use Rattle.elf_write.specs.Starts.{size_in, start_in, starts_of}
 use Rattle.elf_records.specs.Standing.{StandAt}
-use Rattle.elf_spelled.specs.Said.{said_head, said_tags}
-use Rattle.elf_spelled.proofs.Placed.{Apart}
-use Rattle.elf_spelled.proofs.Reading.{all_placed, part_read}
-use Rattle.elf_spelled.proofs.Told.{all_told}
+use Rattle.elf_spelled.specs.Said.{IsTold, said_head, said_tags}
+use Rattle.elf_spelled.specs.Lemmas.Starting.{Apart}
+use Rattle.elf_spelled.specs.Lemmas.Reading.{all_placed, part_read, some_is}
 use Rattle.elf_tabled.specs.Tables.{SaysNames}
-use Rattle.elf_tabled.proofs.Bytes.{held_bytes, none_bad, table_bytes}
-
-some_is : (one other : ℕ) → Some one ≡ Some other → one ≡ other
-some_is one other is = cc
+use Rattle.elf_spelled.specs.Lemmas.Bytes.{held_bytes, none_bad, table_bytes}
 
 pub names_are : Apart → (contents : Contents) (bytes : List ℕ) (program : Bool) (said : DynParts) → said.tags ≡ said_tags contents
-    → SpellsDynamic bytes (said_head contents) program said
+    → IsTold contents (said_tags contents) → SpellsDynamic bytes (said_head contents) program said
     → StandAt bytes (start_in (starts_of contents) parts.Strings - start_in (starts_of contents) parts.Head) contents.strings
     → length contents.strings ≡ size_in (starts_of contents) parts.Strings → SaysNames contents said
-names_are apart contents bytes program said same spells stand long =
+names_are apart contents bytes program said same table spells stand long =
     let are = spells.say in
-    let table = all_told contents in
     let headers = (said_head contents).headers in
     let start = start_in (starts_of contents) parts.Strings in
     let size = size_in (starts_of contents) parts.Strings in

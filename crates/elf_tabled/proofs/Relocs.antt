@@ -18,7 +18,8 @@ use Rattle.elf_records.specs.Numbers.{AllFit}
 use Rattle.elf_records.specs.Standing.{StandAt}
 use Rattle.elf_records.specs.Lemmas.Records.{rela, slot}
 use Rattle.elf_records.specs.Lemmas.Standing.{behind, front as stands_front, within}
-use Rattle.elf_spelled.proofs.Rows.{rows, same_rows, at_index}
+use Rattle.elf_spelled.specs.Lemmas.Reading.{some_is}
+use Rattle.elf_spelled.specs.Lemmas.Rows.{rows, same_rows, at_index}
 use Rattle.elf_tabled.specs.Tables.{AreSymbolNumbers, ListedFit, said_reloc, slots_at}
 
 -- The entries of relocations by their bytes
@@ -89,9 +90,6 @@ slot_fits place symbol low few = (low, (omega arith, (few, (omega arith, tt))))
 slots_long : (place : ℕ) (symbols : List ℕ) → length (slots_at place symbols) ≡ length symbols
 slots_long place [] = refl
 slots_long place (symbol ∷ symbols) = ap suc (slots_long (wrapped (place + 8)) symbols)
-
-some_is : (one other : Reloc) → Some one ≡ Some other → one ≡ other
-some_is one other is = cc
 
 each_slot : (bytes : List ℕ) (at place : ℕ) (symbols : List ℕ) → StandAt bytes at (slots_from place symbols) → place < 2 ^ 64 → AreSymbolNumbers symbols
     → (i : ℕ) (r : Reloc) → slice_get (slots_at place symbols) i ≡ Some r → reloc_at bytes (at + 24 * i) ≡ r

@@ -15,7 +15,7 @@ use Rattle.elf_records.specs.Numbers.{AllFit}
 use Rattle.elf_records.specs.Standing.{StandAt}
 use Rattle.elf_records.specs.Lemmas.Records.{symbol}
 use Rattle.elf_records.specs.Lemmas.Standing.{behind, within}
-use Rattle.elf_spelled.proofs.Rows.{at_index, rows}
+use Rattle.elf_spelled.specs.Lemmas.Rows.{at_index, rows}
 use Rattle.elf_tabled.specs.Tables.{SymbolsFit, said_symbol}
 
 module _ (starts : Starts) where

@@ -1,11 +1,12 @@
 -- Records of one size stand one behind the other, and make up a table.
-use Rattle.std.proofs.Common.{◌≡◌, ◌∙◌, ap, sym, subst, refl, ℕ, zero, suc, ◌+◌, ◌*◌, ◌<◌, List, [], ◌∷◌, ◌++◌, length, flat_map, map, arith}
+use Rattle.std.proofs.Common.{◌≡◌, ◌∙◌, ap, sym, subst, refl, ℕ, zero, suc, ◌+◌, ◌*◌, ◌<◌, List, [], ◌∷◌, ◌++◌, length, flat_map, map, arith, length-append}
 use Rattle.std.specs.Prelude.{Some}
 use Rattle.std.specs.List.{slice_get}
 use Rattle.std.proofs.lemmas.Option.{slice_get_within}
 use Rattle.acceptance.specs.Table.{table}
 use Rattle.acceptance.specs.Lemmas.Tables.{get-table, length-table, same_elements}
 use Rattle.elf_records.specs.Standing.{StandAt}
+use Rattle.elf_spelled.specs.Said.{AllBelow, AreSaidBy}
 use Rattle.elf_records.specs.Lemmas.Standing.{front, behind, within}
 
 pub rows : {X : Type 0} (f : X → List ℕ) (size : ℕ) → ((x : X) → length (f x) ≡ size) → (xs : List X) (i : ℕ) (x : X) → slice_get xs i ≡ Some x
@@ -50,3 +51,37 @@ table_of g at size xs each =
     same_rows g xs (table at 0 size (length xs)) (length-table at 0 size (length xs)) (λ i x is.
     let here : 0 + size * i ≡ size * i = omega arith in
     get-table at 0 size (length xs) i (slice_get_within xs i x is) ∙ ap (λ n. Some (at n)) here ∙ ap Some (each i x is))
+
+-- each of numbers that are all below a bound
+pub below_at : (bound : ℕ) (numbers : List ℕ) → AllBelow bound numbers → (i n : ℕ) → slice_get numbers i ≡ Some n → n < bound
+below_at bound [] all i n is = absurd cc
+below_at bound (x ∷ numbers) (first, all) zero n is = let same : x ≡ n = cc in subst (λ m. m < bound) same first
+below_at bound (x ∷ numbers) (first, all) (suc i) n is = below_at bound numbers all i n is
+
+-- nothing is said by no records
+pub nothing_said : {A B : Type 0} (Says : A → B → Type 0) (records : List A) (all : List B) → records ≡ [] → all ≡ [] → AreSaidBy Says records all
+nothing_said Says [] [] none empty = record { count = refl; each = λ i x at. absurd cc }
+nothing_said Says (r ∷ records) all none empty = absurd cc
+nothing_said Says records (x ∷ all) none empty = absurd cc
+
+-- what is said by records that stand behind others
+pub said_behind : {A B : Type 0} (Says : A → B → Type 0) (records others : List A) (all rest : List B) → AreSaidBy Says records all → AreSaidBy Says others rest
+    → AreSaidBy Says (records ++ others) (all ++ rest)
+said_behind Says records others all rest first second = record {
+  count =
+      let one = first.count in
+      let two = second.count in
+      omega (arith, length-append all rest, length-append records others, one, two);
+  each = joined Says records others all rest first.count first.each second.each;
+}
+  where
+    joined : {A B : Type 0} (Says : A → B → Type 0) (records others : List A) (all rest : List B) → length all ≡ length records
+        → ((i : ℕ) (x : B) → slice_get all i ≡ Some x → (r : A) × (slice_get records i ≡ Some r) × Says r x)
+        → ((i : ℕ) (x : B) → slice_get rest i ≡ Some x → (r : A) × (slice_get others i ≡ Some r) × Says r x)
+        → (i : ℕ) (x : B) → slice_get (all ++ rest) i ≡ Some x → (r : A) × (slice_get (records ++ others) i ≡ Some r) × Says r x
+    joined Says [] others [] rest long first second i x is = second i x is
+    joined Says [] others (y ∷ all) rest long first second i x is = absurd (omega (arith, long))
+    joined Says (r ∷ records) others [] rest long first second i x is = absurd (omega (arith, long))
+    joined Says (r ∷ records) others (y ∷ all) rest long first second zero x is = first zero x is
+    joined Says (r ∷ records) others (y ∷ all) rest long first second (suc i) x is =
+        joined Says records others all rest (omega (arith, long)) (λ j. first (suc j)) second i x is
