@@ -1,0 +1,5 @@
+pub mod Counts
+pub mod Ends
+pub mod Packs
+pub mod Sizes
+pub mod Tables
