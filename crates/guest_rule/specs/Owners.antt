@@ -1,4 +1,4 @@
--- Who changes a doubleword, a row or a trail, and who loads the count.
+-- Who changes a doubleword, a row, a trail or what is known of a slot, and who loads the count.
 use Rattle.std.specs.Prelude.{◌≡◌, ◌≢◌, ◌⊎◌, ℕ, ◌+◌, ◌%◌, ◌^◌, ◌<◌, false, List, [], ◌∷◌, ◌++◌, map, Some, None, slice_index}
 use mathlib.Core.Option.{some}
 use lib.ListN.{get_elem?}
@@ -8,13 +8,15 @@ use Rattle.guest_rule.specs.declared.kind.KeeperKind.{KeeperKind}
 use Rattle.guest_rule.specs.declared.kind.KeeperKind.TheVariants as keepers
 use Rattle.guest_rule.specs.declared.kind.StoreAsk.{StoreAsk}
 use Rattle.guest_rule.specs.declared.view.HartView.{HartView}
+use Rattle.guest_rule.specs.declared.view.Kept.{Kept}
 use Rattle.guest_rule.specs.declared.view.KeeperView.{KeeperView}
 use Rattle.guest_rule.specs.declared.view.TrailItem.{TrailItem}
 use Rattle.guest_rule.specs.declared.view.View.{View}
 use Rattle.guest_rule.specs.declared.view.View.TheVariants.{Keeper, Hart}
 use Rattle.guest_rule.specs.Layout.{control_at, count_at, row_at, state_at, value_at}
 use Rattle.guest_rule.specs.Layout.{harts_at_most, lock_bit, place_of, role_code, version_in}
-use Rattle.guest_rule.specs.Views.{kept_at, row_of}
+use Rattle.guest_rule.specs.Views.{IsLong, kept_at, row_of}
+use Rattle.guest_rule.specs.Allowed.{IsSlot}
 use Rattle.guest_rule.specs.Operations.{Op, becomes, load}
 use Rattle.guest_rule.specs.HartSteps.{Awaits, HartReady, IsMark, hart_after, hart_op, hart_word, store_place}
 use Rattle.guest_rule.specs.KeeperSteps.{KeeperReady, keeper_after, keeper_op, keeper_word}
@@ -103,3 +105,15 @@ pub record TrailsGrow : Type 0 where
   pub of_hart : (kind : HartKind) (h : HartView) (n : ℕ) → Grows h.trail (hart_after kind h n).trail
   pub of_keeper : (kind : KeeperKind) (k : KeeperView) (n : ℕ) → trails_of (Keeper (keeper_after kind k n)) ≡ trails_of (Keeper k)
   pub taken_in : (v w : View) → MayTake v w → trails_of (takes_in v w) ≡ trails_of v ++ trails_of w
+
+-- ---- slots
+
+-- the same of a doubleword, but for what was seen of it
+abbrev pub IsSameSlot : Kept → Kept → Type 0
+IsSameSlot before after = record after { fixed = None } ≡ record before { fixed = None }
+
+-- a slot that is there after a step of the keeper, and was before, is the same one
+abbrev pub SlotsStay : Type 0
+SlotsStay =
+    (kind : KeeperKind) (k : KeeperView) (n d : ℕ) → IsLong k → KeeperReady kind k → IsSlot (kept_at k) d → IsSlot (kept_at (keeper_after kind k n)) d
+    → IsSameSlot (kept_at k d) (kept_at (keeper_after kind k n) d)

@@ -13,7 +13,7 @@ ghost use Rattle.guest_rule.specs.KeeperSteps.{KeeperLeaves, KeeperReady, keeper
 ghost use Rattle.guest_rule.specs.Rule.{HartKeeps, IsGuest, KeeperKeeps};
 ghost use Rattle.guest_rule.specs.Joining.{HasNote, HasRoom, JoinKeeps, MayTake, SplitKeeps, new_hart, note_of, takes_in, with_hart};
 ghost use Rattle.guest_rule.specs.Start.{first_keeper, first_words, IsFirst};
-ghost use Rattle.guest_rule.specs.Owners.{LockedStay, OnlyOwnersChange, OnlyRowsOwnersChange, OnlyTallyCounts, TrailsGrow, UnlocksRaise};
+ghost use Rattle.guest_rule.specs.Owners.{LockedStay, OnlyOwnersChange, OnlyRowsOwnersChange, OnlyTallyCounts, SlotsStay, TrailsGrow, UnlocksRaise};
 ghost use Rattle.guest_rule.specs.Views.{IsLane, IsLong, first_lane};
 ghost use Rattle.guest_rule.specs.Worked.{AnotherHasLocked, ConditionalFails, ConditionalIsRefused, LockIsShown, LookKeeps, OneLocks, OneWins};
 ghost use Rattle.guest_rule.specs.Worked.{RoleComesAndGoes, RowGoesRound, StoreIsOwed};
@@ -53,10 +53,12 @@ pub fn rows_have_owners()
     ensures count { OnlyTallyCounts }
 {}
 
-/// A step leaves each trail as it was, or with one item behind it; and a view that the keeper took in
-/// stays with it.
-pub fn trails_grow()
-    ensures { TrailsGrow }
+/// An exchange stays in its trail: a step leaves each trail as it was, or with one item behind it. And a
+/// slot stays the same while it is one, with its image's word, its lazy word and the count at its start.
+/// So what [`rule_comes_to`] says of an exchange holds on while its slot is there.
+pub fn exchanges_stay()
+    ensures trails { TrailsGrow }
+    ensures slots { SlotsStay }
 {}
 
 /// What a hart's own view says of its calls holds after each of its steps.

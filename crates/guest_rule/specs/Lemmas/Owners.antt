@@ -1,7 +1,9 @@
--- Who changes a doubleword, a row or a trail, and who loads the count.
+-- Who changes a doubleword, a row, a trail or what is known of a slot, and who loads the count.
 use Rattle.std.proofs.Common.{◌≡◌, ◌≢◌, ◌⊎◌, ⊎_elim, inl, inr, ℕ, ◌%◌, ◌≤◌, ◌<◌, Bool, true, false, eqb, nat_le, ◌==◌, Some, None, refl, sym, ap, subst, ◌∙◌, arith}
-use Rattle.std.proofs.Common.{List, [], ◌∷◌, ◌++◌, append-nil, map, slice_index}
+use Rattle.std.proofs.Common.{List, [], ◌∷◌, ◌++◌, append-nil, length, map, slice_index, slice_index_or}
 use Rattle.std.proofs.lemmas.List.{map-append}
+use mathlib.Core.Logic.{dite}
+use native.Mathlib.Decide.{ℕ_discrete}
 use mathlib.Core.Option.{some}
 use lib.ListN.{get_elem?}
 use Rattle.ld_base.specs.declared.linking.Role.{Role}
@@ -14,24 +16,28 @@ use Rattle.guest_rule.specs.declared.kind.KeeperKind.TheVariants as keepers
 use Rattle.guest_rule.specs.declared.kind.StoreAsk.{StoreAsk}
 use Rattle.guest_rule.specs.declared.view.HartView.{HartView}
 use Rattle.guest_rule.specs.declared.view.KeeperView.{KeeperView}
+use Rattle.guest_rule.specs.declared.view.Kept.{Kept}
 use Rattle.guest_rule.specs.declared.view.Row.{Row}
 use Rattle.guest_rule.specs.declared.view.Slip.TheVariants.{OfHart, OfKeeper}
 use Rattle.guest_rule.specs.declared.view.View.{View}
 use Rattle.guest_rule.specs.declared.view.View.TheVariants.{Keeper, Hart, Note, Spent}
 use Rattle.guest_rule.specs.Layout.{control_at, count_at, index_of, row_at, state_at, value_at}
 use Rattle.guest_rule.specs.Layout.{harts_at_most, lock_bit, place_of, role_code, role_in}
-use Rattle.guest_rule.specs.Views.{kept_at, row_of}
+use Rattle.guest_rule.specs.Views.{IsLong, kept_at, row_of, unmapped}
 use Rattle.guest_rule.specs.Operations.{load}
 use Rattle.guest_rule.specs.HartSteps.{Awaits, HartReady, IsMark, ask_is_fresh, glanced, hart_after, hart_op, hart_word, heeded, locked_if, permits, store_place}
-use Rattle.guest_rule.specs.KeeperSteps.{KeeperReady, Waits, awaited_if, heeding, keeper_after, keeper_op, keeper_word, keeps_if}
+use Rattle.guest_rule.specs.KeeperSteps.{KeeperReady, Waits, awaited_if, fixed_by, heeding, keeper_after, keeper_op, keeper_word, keeps_if, with_kept}
+use Rattle.guest_rule.specs.Allowed.{IsSlot}
 use Rattle.guest_rule.specs.Calls.{Rests, Stage}
 use Rattle.guest_rule.specs.Joining.{MayTake, takes_in}
 use Rattle.guest_rule.specs.Seats.{Fits}
 use Rattle.guest_rule.specs.Rule.{IsGuest}
 use Rattle.guest_rule.specs.Owners.{Grows, HartEnters, IsOfDoubleword, IsOfRow, KeeperEnters, LockedStay, OnlyOwnersChange, OnlyRowsOwnersChange}
-use Rattle.guest_rule.specs.Owners.{OnlyTallyCounts, RaisesIfUnlocks, TrailsGrow, UnlocksRaise, trails_of}
+use Rattle.guest_rule.specs.Owners.{OnlyTallyCounts, RaisesIfUnlocks, TrailsGrow, UnlocksRaise, IsSameSlot, SlotsStay, trails_of}
 use Rattle.guest_rule.specs.Lemmas.HartCalls.{answered_if, still_if, tried_if}
 use Rattle.guest_rule.specs.Lemmas.HartLocks.{low_index}
+use Rattle.guest_rule.specs.Lemmas.Heeding.{fixed_same, kept_here, unseen}
+use Rattle.guest_rule.specs.Lemmas.Put.{set_at}
 use Rattle.guest_rule.specs.Lemmas.Unlocking.{adds_raise, loads_raise, locks_raise, roles_raise, stays}
 
 -- ---- who changes a doubleword
@@ -280,9 +286,17 @@ keeps_joined : (d : ℕ) (b : Bool) (k : KeeperView) → (keeps_if d b k).joined
 keeps_joined d true k = refl
 keeps_joined d false k = refl
 
+keeps_words : (d : ℕ) (b : Bool) (k : KeeperView) → (keeps_if d b k).words ≡ k.words
+keeps_words d true k = refl
+keeps_words d false k = refl
+
 awaited_joined : (m : ℕ) (b : Bool) (k : KeeperView) → (awaited_if m b k).joined ≡ k.joined
 awaited_joined m true k = refl
 awaited_joined m false k = refl
+
+awaited_words : (m : ℕ) (b : Bool) (k : KeeperView) → (awaited_if m b k).words ≡ k.words
+awaited_words m true k = refl
+awaited_words m false k = refl
 
 joined_stay : (kind : KeeperKind) (k : KeeperView) (n : ℕ) → (keeper_after kind k n).joined ≡ k.joined
 joined_stay (keepers.Look d) k n = refl
@@ -324,3 +338,45 @@ trails_grow = record {
   of_keeper = λ kind k n. ap (map (λ (h : HartView). h.trail)) (joined_stay kind k n);
   taken_in = both_trails;
 }
+
+-- ---- slots
+
+module _ (k : KeeperView) (d : ℕ) (long : IsLong k) (here : IsSlot (kept_at k) d) where
+  abbrev Stays : KeeperView → Type 0
+  Stays k' = IsSlot (kept_at k') d → IsSameSlot (kept_at k d) (kept_at k' d)
+
+  same_words : (k' : KeeperView) → k'.words ≡ k.words → Stays k'
+  same_words k' e now = ap (λ l. unseen (slice_index_or l d unmapped)) e
+
+  -- what is known of one doubleword changes
+  one_word : (e : ℕ) (x : Kept) → (d ≡ e → x.role ≡ SlotRole → unseen x ≡ unseen (kept_at k e)) → Stays (with_kept e x k)
+  one_word e x mine now = dite (ℕ_discrete d e)
+      (λ (is : d ≡ e).
+      let low : e < length k.words = subst (λ n. n < length k.words) is (subst (λ n. d < n) (sym long.0) here.0) in
+      let at : kept_at (with_kept e x k) d ≡ x = ap (kept_at (with_kept e x k)) is ∙ kept_here k e x low in
+      ap unseen at ∙ (mine is (subst (λ (y : Kept). y.role ≡ SlotRole) at now.1) ∙ ap (λ n. unseen (kept_at k n)) (sym is)))
+      (λ (apart : d ≢ e). ap unseen (set_at k.words e d x unmapped apart))
+
+  same_slot : (kind : KeeperKind) (n : ℕ) → KeeperReady kind k → Stays (keeper_after kind k n)
+  same_slot (keepers.Look e) n ready = λ now. refl
+  same_slot (keepers.Load e) n ready = λ now. refl
+  same_slot (keepers.Lock e control) n ready = same_words (keeper_after (keepers.Lock e control) k n) (keeps_words e (eqb n control) (heeding k))
+  same_slot (keepers.Store e x) n ready = one_word e (record (kept_at k e) { value = x }) (λ is role. absurd (ready.1 role))
+  same_slot (keepers.Unlock e old new lazy) n ready = one_word e (record { role = new; value = (kept_at k e).value; lazy = lazy; since = length k.events; fixed = None })
+      (λ is role. absurd (ready.2 (ready.1 ∙ (ap (λ i. (kept_at k i).role) (sym is) ∙ here.1))))
+  same_slot (keepers.Count e) n ready = λ now. refl
+  same_slot (keepers.Await m) n ready = same_words (keeper_after (keepers.Await m) k n) (awaited_words m (nat_le 8 n) (heeding k))
+  same_slot (keepers.Ask m) n ready = λ now. refl
+  same_slot (keepers.Saw e) n ready = one_word e (fixed_by n (kept_at k e)) (λ is role. fixed_same n (eqb n (kept_at k e).lazy) (kept_at k e))
+  same_slot (keepers.Fill m i x) n ready = λ now. refl
+  same_slot (keepers.Hand m mark) n ready = λ now. refl
+  same_slot (keepers.Open m) n ready = λ now. refl
+  same_slot (keepers.RetireSlot e) n ready = one_word e (record (kept_at k e) { role = NoRole }) (λ is (role : NoRole ≡ SlotRole). absurd (cc))
+  same_slot (keepers.Retire e old) n ready = one_word e (record (kept_at k e) { role = NoRole }) (λ is (role : NoRole ≡ SlotRole). absurd (cc))
+  same_slot (keepers.Generation g) n ready = λ now. refl
+  same_slot (keepers.Recall m i) n ready = λ now. refl
+  same_slot keepers.RecallGeneration n ready = λ now. refl
+  same_slot keepers.Listen n ready = λ now. refl
+
+pub slots_stay : SlotsStay
+slots_stay kind k n d long ready here now = same_slot k d long here kind n ready now
