@@ -75,7 +75,7 @@ pub record SlotClauses (word : ℕ → ℕ) (kept : KeeperView) (hart : ℕ → 
   pub left_by_winner : (m : ℕ) (x : Exchange) → Made kept hart m x → x.found ≡ x.grant.lazy → word (value_at (slot_of x)) ≡ x.grant.entry.value
   pub left_by_loser : (m : ℕ) (x : Exchange) → Made kept hart m x → x.found ≢ x.grant.lazy → word (value_at (slot_of x)) ≡ x.found
   pub not_lazy : (m : ℕ) (x : Exchange) → Made kept hart m x → word (value_at (slot_of x)) ≢ x.grant.lazy
-  -- one exchange may have won a slot, and did where the slot's word isn't its image's
+  -- at most one exchange won a slot, and one did where the slot's word isn't its image's
   pub one : (m n : ℕ) (x y : Exchange) → Made kept hart m x → Made kept hart n y → slot_of x ≡ slot_of y
       → x.found ≡ x.grant.lazy → y.found ≡ y.grant.lazy → (m ≡ n) × (x.grant ≡ y.grant)
   pub some : (d : ℕ) → IsSlot (kept_at kept) d → word (value_at d) ≢ (kept_at kept d).value

@@ -150,8 +150,7 @@ KeeperReady (kinds.Lock d control) k =
 KeeperReady (kinds.Store d x) k = (k.access.locked ≡ Some d) × ((kept_at k d).role ≢ SlotRole)
 KeeperReady (kinds.Unlock d old new lazy) k =
     (k.access.locked ≡ Some d) × (old ≡ (kept_at k d).role) × (old ≢ SlotRole) × (new ≢ NoRole) × ((old ≡ NoRole) ⊎ (old ≡ new))
-    × (k.access.held ≡ Some (kept_at k d).value)
-    × (new ≡ SlotRole → LeadsTo (kept_at k) (kept_at k d).value)
+    × (k.access.held ≡ Some (kept_at k d).value) × (new ≡ SlotRole → LeadsTo (kept_at k) (kept_at k d).value)
 KeeperReady (kinds.Count e) k = length k.events < 18446744073709551615
 KeeperReady (kinds.Await m) k = m < harts_at_most
 KeeperReady (kinds.Ask m) k = (m < harts_at_most) × ((g : Grant) × ((row_of k m).pending ≡ Some g))
