@@ -1,6 +1,5 @@
 -- What the rule comes to.
-use Rattle.std.proofs.Common.{◌≡◌, ◌≢◌, ◌⊎◌, ⊎_elim, inl, inr, ℕ, ◌%◌, ◌≤◌, ◌<◌, Bool, true, false, nat_lt, List, length, slice_index, Option, Some, None, refl, sym, ap, subst, ◌∙◌, arith}
-use Rattle.std.proofs.lemmas.Bool.Decides.{nat_tests}
+use Rattle.std.proofs.Common.{◌≡◌, ◌≢◌, ◌⊎◌, ⊎_elim, inl, inr, ℕ, ◌%◌, ◌<◌, Bool, true, false, List, length, slice_index, Option, Some, None, refl, sym, ap, subst, ◌∙◌, arith}
 use mathlib.Core.Logic.{dite}
 use native.Mathlib.Decide.{ℕ_discrete}
 use Rattle.ld_base.specs.declared.linking.Role.{Role}
@@ -14,18 +13,18 @@ use Rattle.guest_rule.specs.declared.view.View.{View}
 use Rattle.guest_rule.specs.declared.view.View.TheVariants.{Keeper, Hart, Note}
 use Rattle.guest_rule.specs.Layout.{control_at, doublewords, harts_at_most, lock_bit, place_of, state_at, value_at}
 use Rattle.guest_rule.specs.Views.{entry_of, exchanges_of, kept_at, row_of}
-use Rattle.guest_rule.specs.Allowed.{IsAllowed, IsOf, IsSlot, Stands}
+use Rattle.guest_rule.specs.Allowed.{IsAllowed, IsOf, IsSlot}
 use Rattle.guest_rule.specs.Words.{Holds, keeper, hart, nobody, Owner}
 use Rattle.guest_rule.specs.HartSteps.{Awaits, IsMark}
 use Rattle.guest_rule.specs.Calls.{Answered, IsEvent, Rests, RowIs, Stage, Still}
 use Rattle.guest_rule.specs.Slots.{Did, Fated, HasLost, IsPending, Winner}
 use Rattle.guest_rule.specs.Seats.{Fits}
 use Rattle.guest_rule.specs.Rule.{IsGuest, Parts}
-use Rattle.guest_rule.specs.Clauses.{Clauses, EntryClauses, Made, RowClauses, SlotClauses, slot_of}
+use Rattle.guest_rule.specs.Clauses.{Clauses, EntryClauses, HasValueOfAnother, Made, RowClauses, SlotClauses, slot_of}
 use Rattle.guest_rule.specs.Lemmas.Locks.{is_free}
 use Rattle.guest_rule.specs.Lemmas.Rows.{not_both, not_rest}
 use Rattle.guest_rule.specs.Lemmas.Seating.{no_keeper}
-use Rattle.guest_rule.specs.Lemmas.SlotFrames.{at_place}
+use Rattle.guest_rule.specs.Lemmas.SlotFrames.{at_place, in_reach}
 
 mark_no_rest : (s : ℕ) → IsMark s → Rests s → ⊥
 mark_no_rest s mark rest = elim mark [
@@ -43,6 +42,12 @@ module _ (word : ℕ → ℕ) (kept : KeeperView) (harts : ℕ → HartView) (p 
   did : (m : ℕ) (x : Exchange) → Made kept harts m x → Did (word (value_at (slot_of x))) (kept_at kept (slot_of x)).lazy (p.slots.winner (slot_of x)) m x
   did m x made = p.slots.each_exchange m made.0 x made.1 made.2
 
+  -- a slot that the keeper hasn't locked is locked by nobody
+  unlocked : (d : ℕ) → IsSlot (kept_at kept) d → kept.access.locked ≢ Some d → (o : Owner) → p.locks.owner d ≡ o → lock_bit (word (control_at d)) ≡ 0
+  unlocked d here free nobody is = (p.locks.each_word d here.0).free is
+  unlocked d here free keeper is = absurd (free (p.locks.keepers.owns d is))
+  unlocked d here free (hart m) is = let q : SlotRole ≡ Rw = sym here.1 ∙ p.locks.only_rw m d ((p.locks.of_hart m).owns d is) in absurd (cc)
+
   who : (d : ℕ) → d < doublewords → lock_bit (word (control_at d)) ≡ 1 → (o : Owner) → p.locks.owner d ≡ o → (kept.access.locked ≡ Some d) ⊎ ((m : ℕ) × ((harts m).access.locked ≡ Some d) × ((kept_at kept d).role ≡ Rw))
   who d low bit nobody is = let q : lock_bit (word (control_at d)) ≡ 0 = (p.locks.each_word d low).free is in absurd (omega arith)
   who d low bit keeper is = inl (p.locks.keepers.owns d is)
@@ -59,21 +64,13 @@ module _ (word : ℕ → ℕ) (kept : KeeperView) (harts : ℕ → HartView) (p 
   allowed d here None e = inl ((p.slots.each_slot d here).image e)
   allowed d here (Some (m, g)) e = let b = (p.slots.each_slot d here).by m g e in inr (m, g, b.1, b.0, ((p.slots.each_slot d here).bound m g e).0)
 
-  -- a hart that won a slot has a row
-  in_reach : (m : ℕ) (g : Grant) → Stands (row_of kept m) g → m < harts_at_most
-  in_reach m g st = go (nat_lt m harts_at_most) refl
-    where
-      go : (b : Bool) → nat_lt m harts_at_most ≡ b → m < harts_at_most
-      go true e = grind (arith, nat_tests)
-      go false e = let high : harts_at_most ≤ m = grind (arith, nat_tests) in absurd (p.slots.no_more m g high st)
-
   winner : (d : ℕ) → IsSlot (kept_at kept) d → word (value_at d) ≢ (kept_at kept d).value → (w : Winner) → p.slots.winner d ≡ w
       → (m : ℕ) × (x : Exchange) × Made kept harts m x × (slot_of x ≡ d) × (x.found ≡ x.grant.lazy) × (word (value_at d) ≡ x.grant.entry.value)
   winner d here other None e = absurd (other ((p.slots.each_slot d here).image e))
   winner d here other (Some (m, g)) e =
       let b = (p.slots.each_slot d here).by m g e in
       let at : place_of g.entry.slot ≡ d = at_place g d b.0.1 in
-      (m, record { grant = g; found = g.lazy }, (in_reach m g b.1, b.2, subst (λ n. IsOf (kept_at kept) n g) (sym at) b.0), at, refl, ((p.slots.each_slot d here).bound m g e).0)
+      (m, record { grant = g; found = g.lazy }, (in_reach p.slots m g b.1, b.2, subst (λ n. IsOf (kept_at kept) n g) (sym at) b.0), at, refl, ((p.slots.each_slot d here).bound m g e).0)
 
   granted : (m : ℕ) → m < harts_at_most → word (state_at m) ≡ 3 → (o : Option Grant) → (row_of kept m).pending ≡ o → (g : Grant) × ((row_of kept m).pending ≡ Some g)
   granted m few three None e = absurd ((p.slots.each_hart m few).closed e three)
@@ -90,7 +87,7 @@ module _ (word : ℕ → ℕ) (kept : KeeperView) (harts : ℕ → HartView) (p 
 
   -- the word of a slot that a grant lost
   left : (m : ℕ) (g : Grant) (d : ℕ) → IsSlot (kept_at kept) d → (w : Winner) → p.slots.winner d ≡ w → w ≢ Some (m, g)
-      → (word (value_at d) ≡ (kept_at kept d).value) ⊎ ((n : ℕ) × (q : Grant) × Stands (row_of kept n) q × IsOf (kept_at kept) d q × (word (value_at d) ≡ q.entry.value) × ((n ≢ m) ⊎ (q ≢ g)))
+      → (word (value_at d) ≡ (kept_at kept d).value) ⊎ HasValueOfAnother word kept d m g
   left m g d here None e apart = inl ((p.slots.each_slot d here).image e)
   left m g d here (Some (n, q)) e apart =
       let b = (p.slots.each_slot d here).by n q e in
@@ -147,21 +144,23 @@ module _ (word : ℕ → ℕ) (kept : KeeperView) (harts : ℕ → HartView) (p 
     fields = λ m few i. (row m few).fields i;
     stage = λ m few. (row m few).stage;
     open_row = λ m few three. granted m few three (row_of kept m).pending refl;
-    pending = λ m g few e. stated (word (state_at m)) (pending m g few e).fate;
-    in_row = λ m g few e. (pending m g few e).in_row;
-    posted = λ m g few e. let q = pending m g few e in (q.of_slot, q.free, q.lazy_is, inr (m, g, inl e, q.of_slot, refl));
-    says_won = λ m g few e four.
-        let q = pending m g few e in
+    pending = λ m g is. stated (word (state_at m)) (pending m g is.0 is.1).fate;
+    in_row = λ m g is. (pending m g is.0 is.1).in_row;
+    posted = λ m g is.
+        let q = pending m g is.0 is.1 in
+        (q.of_slot, unlocked (place_of g.entry.slot) q.of_slot.0 q.free (p.locks.owner (place_of g.entry.slot)) refl, q.lazy_is, inr (m, g, inl is.1, q.of_slot, refl));
+    says_won = λ m g is four.
+        let q = pending m g is.0 is.1 in
         let at : p.slots.winner (place_of g.entry.slot) ≡ Some (m, g) = won (word (state_at m)) four q.fate in
         let here = p.slots.each_slot (place_of g.entry.slot) q.of_slot.0 in ((here.by m g at).2, (here.bound m g at).0);
-    won_alone = λ m n g x few low e four c o.
-        let w : p.slots.winner (place_of g.entry.slot) ≡ Some (m, g) = won (word (state_at m)) four (pending m g few e).fate in
+    won_alone = λ m n g x is low four c o.
+        let w : p.slots.winner (place_of g.entry.slot) ≡ Some (m, g) = won (word (state_at m)) four (pending m g is.0 is.1).fate in
         let at : place_of x.entry.slot ≡ place_of g.entry.slot = at_place x (place_of g.entry.slot) o.1 in
         let own = did n (record { grant = x; found = x.lazy }) (low, (p.slots.each_hart n low).won x c, subst (λ i. IsOf (kept_at kept) i x) (sym at) o) in
         let z : Some (n, x) ≡ Some (m, g) = sym (own.won refl) ∙ (ap p.slots.winner at ∙ w) in
         let y : (n, x) ≡ (m, g) = cc in (ap (λ (t : ℕ × Grant). t.0) y, ap (λ (t : ℕ × Grant). t.1) y);
-    says_lost = λ m g few e five.
-        let q = pending m g few e in
+    says_lost = λ m g is five.
+        let q = pending m g is.0 is.1 in
         let l = lost (word (state_at m)) five q.fate in (l.2, l.1, left m g (place_of g.entry.slot) q.of_slot.0 (p.slots.winner (place_of g.entry.slot)) refl l.0);
   }
 
@@ -179,22 +178,22 @@ module _ (word : ℕ → ℕ) (kept : KeeperView) (harts : ℕ → HartView) (p 
 
 pub clauses : (words : List ℕ) (views : List View) (g : IsGuest words views) → Clauses words views g.kept g.hart
 clauses words views g = record {
-  locks = record {
+  seats = record {
     keeper_here = (g.keeper, g.seats.here);
-    joined = λ i j e. let gone = g.seats.gone i j e in (
-      gone.0,
-      gone.2,
-      λ a h at same.
-          let x : Fits g.kept g.keeper g.seat_of g.hart a (Hart h) = g.seats.each a (Hart h) at in
-          no_keeper views g.kept g.keeper a h g.seats.here at (sym x.1 ∙ (ap g.seat_of same ∙ gone.1)),
-    );
+    joined_numbered = λ i j e. (g.seats.gone i j e).0;
+    joined_view = λ i j e. (g.seats.gone i j e).2;
+    joined_apart = λ i a j h e at same.
+        let x : Fits g.kept g.keeper g.seat_of g.hart a (Hart h) = g.seats.each a (Hart h) at in
+        no_keeper views g.kept g.keeper a h g.seats.here at (sym x.1 ∙ (ap g.seat_of same ∙ (g.seats.gone i j e).1));
     joined_once = g.seats.once;
     one_keeper = λ a b k l at there. let x : Fits g.kept g.keeper g.seat_of g.hart a (Keeper k) = g.seats.each a (Keeper k) at in
         let y : Fits g.kept g.keeper g.seat_of g.hart b (Keeper l) = g.seats.each b (Keeper l) there in (x.1 ∙ sym y.1, x.0);
     one_number = λ a b h i at there same. let x : Fits g.kept g.keeper g.seat_of g.hart a (Hart h) = g.seats.each a (Hart h) at in
         let y : Fits g.kept g.keeper g.seat_of g.hart b (Hart i) = g.seats.each b (Hart i) there in sym x.1 ∙ (ap g.seat_of same ∙ y.1);
     last_view = λ a h at. let x : Fits g.kept g.keeper g.seat_of g.hart a (Hart h) = g.seats.each a (Hart h) at in (x.0, x.2);
-    stands = λ m low. ⊎_elim (λ e. inl (g.seat_of m, e)) (λ j. inr j) (g.seats.there m low);
+    seated_or_joined = λ m low. ⊎_elim (λ e. inl (g.seat_of m, e)) (λ j. inr j) (g.seats.there m low);
+  };
+  locks = record {
     role = λ d low. (g.parts.locks.each_word d low).role;
     locked = λ d low bit. who word g.kept g.hart g.parts d low bit (g.parts.locks.owner d) refl;
     keeper_names = λ d named. let n = g.parts.locks.keepers.named d named in (g.parts.locks.each_word d n.0).taken (λ e. let q : keeper ≡ nobody = sym n.1 ∙ e in absurd (cc));

@@ -1,9 +1,9 @@
 -- The worked steps, by computation.
-use Rattle.std.proofs.Common.{◌≡◌, ◌≤◌, ◌<◌, arith, true, false, refl, ap, ◌∙◌, inr}
+use Rattle.std.proofs.Common.{◌≡◌, ◌≤◌, ◌<◌, arith, true, false, [], ◌∷◌, ◌++◌, refl, ap, ◌∙◌, inr}
 use Rattle.guest_rule.specs.declared.kind.StoreAsk.TheVariants.{Conditional}
 use Rattle.guest_rule.specs.HartSteps.{is_fresh, last_control}
 use Rattle.guest_rule.specs.Layout.{doublewords, place_of}
-use Rattle.guest_rule.specs.Worked.{AnotherHasLocked, ConditionalFails, ConditionalIsRefused, OneLocks, OneWins, LookKeeps, RoleComesAndGoes, StoreIsOwed}
+use Rattle.guest_rule.specs.Worked.{AnotherHasLocked, ConditionalFails, ConditionalIsRefused, LockIsShown, LookKeeps, OneLocks, OneWins, RoleComesAndGoes, RowGoesRound, StoreIsOwed}
 
 pub one_locks : OneLocks
 one_locks = (refl, refl, refl, refl)
@@ -38,3 +38,13 @@ role_comes_and_goes = (refl, refl, refl, refl)
 
 pub look_keeps : LookKeeps
 look_keeps = (refl, refl)
+
+pub lock_is_shown : LockIsShown
+lock_is_shown k none_yet = (
+  ap (λ l. l ++ record { at = 0; first = 11; second = 11 } ∷ []) none_yet,
+  ap (λ l. l ++ record { at = 0; first = 3; second = 19 } ∷ []) none_yet,
+  none_yet,
+)
+
+pub row_goes_round : RowGoesRound
+row_goes_round = (refl, refl, refl, refl, refl, refl, refl)

@@ -49,7 +49,7 @@ pub record RowIs (word : ℕ → ℕ) (count m : ℕ) (row : Row) (lane : Lane) 
   pub stage : Stage (word (state_at m)) row lane lane.calling
   pub known : (c : ℕ) → row.since ≡ Some c → Known (word (state_at m)) c count row lane
   pub seen : lane.seen ≤ count
-  -- the entries of the trail are those taken, and the grant of an exchange that isn't given back
+  -- the trail has the entries that were taken, and at its end that of an exchange whose row the hart still has
   pub trail : entries ≡ lane.taken ++ tried_entry lane.tried
 
 pub record Calls (word : ℕ → ℕ) (count : ℕ) (row : ℕ → Row) (lane : ℕ → Lane) (entries : ℕ → List Entry) : Type 0 where

@@ -1,10 +1,10 @@
--- The steps of harts: of each kind its word, what is done to the word, what the hart must know before, its view after, and what
--- the rule tells of the number found.
+-- The steps of harts. A kind has a line in each of five tables: its word, what is done to the word, what the hart must know
+-- before, its view after, and what the hart learns from the number.
 use Rattle.std.specs.Prelude.{◌≡◌, ◌≢◌, ◌⊎◌, ℕ, ◌+◌, ◌%◌, ◌≤◌, Bool, true, false, cond, eqb, nat_lt, [], ◌∷◌, ◌++◌, length, Option, Some, None, Ok, Err, ◌==◌}
 use Rattle.ld_base.specs.declared.fault.Shown.TheVariants.{Locked}
 use Rattle.rv_hart.specs.Arithmetic.{combined}
 use Rattle.rv_hart.specs.Buses.{IsSize, may_fetch, may_read, may_write}
-use Rattle.rv_hart.specs.Doublewords.{lane, with_lane}
+use Rattle.rv_hart.specs.Doublewords.{lane as bytes_in, with_lane as with_bytes}
 use Rattle.rv_hart.specs.declared.bus.BusFault.{BusFault}
 use Rattle.rv_hart.specs.declared.bus.BusFault.TheVariants.{Role as RoleFault, Again}
 use Rattle.rv_hart.specs.declared.bus.Item.{Item}
@@ -28,7 +28,8 @@ use Rattle.guest_rule.specs.declared.view.Offer.{Offer}
 use Rattle.guest_rule.specs.declared.view.Told.{Told}
 use Rattle.guest_rule.specs.declared.view.TrailItem.{TrailItem}
 use Rattle.guest_rule.specs.declared.view.TrailItem.TheVariants.{Call, Took, Exchanged, Done, Generation as ReadGeneration}
-use Rattle.guest_rule.specs.Layout.{count_at, generation_at, quiet_at, state_at, row_at, index_of, value_at, control_at, place_of, IsDoubleword, IsInMemory, role_in, lock_bit, version_in, to_lock}
+use Rattle.guest_rule.specs.Layout.{control_at, count_at, generation_at, index_of, quiet_at, row_at, state_at, value_at}
+use Rattle.guest_rule.specs.Layout.{IsDoubleword, IsInMemory, lock_bit, place_of, role_in, to_lock, version_in}
 use Rattle.guest_rule.specs.Views.{BeginsWith, IsRead, IsGranted, offer_found, offered, with_offered, known_of, last_block, nothing_locked}
 use Rattle.guest_rule.specs.Operations.{Op, load, store, exchange, add}
 
@@ -115,21 +116,21 @@ failed ask = refused ask (Again (Locked 0 0))
 
 -- of a load: the control word and the value that were found
 abbrev pub loaded : LoadAsk → ℕ → ℕ → Item
-loaded (Fetch a) control value = items.Fetch a (Ok (lane value a 4))
-loaded (Read a size) control value = items.Read a size (Ok (lane value a size))
-loaded (Reserve a size) control value = items.Reserve a size (Ok (lane value a size, version_in control))
+loaded (Fetch a) control value = items.Fetch a (Ok (bytes_in value a 4))
+loaded (Read a size) control value = items.Read a size (Ok (bytes_in value a size))
+loaded (Reserve a size) control value = items.Reserve a size (Ok (bytes_in value a size, version_in control))
 
 -- of a store: the value that was there before
 abbrev pub stored : StoreAsk → ℕ → Item
 stored (Write a size v) value = items.Write a size v (Ok tt)
-stored (Amo a size op v) value = items.Amo a size op v (Ok (lane value a size))
+stored (Amo a size op v) value = items.Amo a size op v (Ok (bytes_in value a size))
 stored (Conditional a size v version) value = items.Conditional a size v version (Ok true)
 
 -- the value that it leaves
 abbrev pub made : StoreAsk → ℕ → ℕ
-made (Write a size v) value = with_lane value a size v
-made (Amo a size op v) value = with_lane value a size (combined op size (lane value a size) v)
-made (Conditional a size v version) value = with_lane value a size v
+made (Write a size v) value = with_bytes value a size v
+made (Amo a size op v) value = with_bytes value a size (combined op size (bytes_in value a size) v)
+made (Conditional a size v version) value = with_bytes value a size v
 
 -- a store of a whole doubleword need not know what was there
 abbrev pub IsWhole : StoreAsk → ℕ → Type 0
@@ -260,13 +261,15 @@ hart_after (kinds.Look ask) h n = looked ask n (heeded h)
 hart_after (kinds.Load ask) h n = entered (Call (loaded ask (last_control h.access.last) n)) (with_access nothing_locked (heeded h))
 hart_after (kinds.Hold ask) h n = with_access (record h.access { held = Some n }) (heeded h)
 hart_after (kinds.Lock ask control) h n = locked_if ask control n (eqb n control) (heeded h)
-hart_after (kinds.Store ask x) h n = entered (Call (stored ask (or_zero h.access.held))) (with_access (record h.access { held = Some x; last = None }) (heeded h))
+hart_after (kinds.Store ask x) h n =
+    entered (Call (stored ask (or_zero h.access.held))) (with_access (record h.access { held = Some x; last = None }) (heeded h))
 hart_after (kinds.Unlock d) h n = with_access nothing_locked (heeded h)
 hart_after kinds.Tally h n = with_lane_of (record h.lane { seen = n }) (heeded h)
 hart_after (kinds.Begin m) h n = with_lane_of (record h.lane { calling = true }) (heeded h)
 hart_after (kinds.Arrive m) h n = with_lane_of (arrived_if n (nat_lt n 8) h.lane) (heeded h)
 hart_after (kinds.Find m i) h n = with_lane_of (record h.lane { offer = found_in i n h.lane.offer }) (heeded h)
-hart_after (kinds.Exchange g) h n = let x : Exchange = record { grant = g; found = n } in entered (Exchanged x) (with_lane_of (record h.lane { tried = Some x }) (heeded h))
+hart_after (kinds.Exchange g) h n =
+    let x : Exchange = record { grant = g; found = n } in entered (Exchanged x) (with_lane_of (record h.lane { tried = Some x }) (heeded h))
 hart_after (kinds.Accept m e) h n = entered (Took e) (with_lane_of (record h.lane { calling = false; taken = h.lane.taken ++ e ∷ []; offer = None }) (heeded h))
 hart_after (kinds.Finish m won) h n = entered Done (with_lane_of (finished h.lane.tried h.lane) (heeded h))
 hart_after (kinds.Generation number) h n = entered (ReadGeneration n number (last_block n number h.lane.taken)) (heeded h)

@@ -6,6 +6,7 @@ use Rattle.guest_rule.specs.declared.entry.Entry.{Entry}
 use Rattle.guest_rule.specs.declared.view.Lane.{Lane}
 use Rattle.guest_rule.specs.declared.view.Offer.{Offer}
 use Rattle.guest_rule.specs.declared.view.Slip.TheVariants.{OfHart, OfKeeper}
+use Rattle.guest_rule.specs.declared.view.Told.{Told}
 use Rattle.guest_rule.specs.declared.view.View.{View}
 use Rattle.guest_rule.specs.declared.view.View.TheVariants.{Keeper, Hart, Note, Spent}
 use Rattle.guest_rule.specs.Layout.{harts_at_most}
@@ -40,15 +41,17 @@ HasNote v = ⊥
 
 -- ---- a seat takes another in
 
--- a hart isn't calling, or has read its row in full
+-- a hart that doesn't call, or one that knows all of its row
 abbrev pub IsSettled : Lane → Type 0
 IsSettled l = (l.calling ≡ false) ⊎ ((o : Offer) × (e : Entry) × (l.offer ≡ Some o) × IsRead o e)
 
 abbrev pub takes_in : View → View → View
 takes_in (Keeper k) (Hart h) = Keeper (record k { joined = k.joined ++ h ∷ [] })
-takes_in (Keeper k) (Note events (OfHart m entries)) = Keeper (record k { note = Some (record { had = k.events; told = events; number = m; entries = entries }) })
+takes_in (Keeper k) (Note events (OfHart m entries)) =
+    Keeper (record k { note = Some (record { had = k.events; told = events; number = m; entries = entries }) })
 takes_in (Hart h) (Note events (OfKeeper rows)) =
-    Hart (record h { heard = longer h.heard events; note = Some (record { had = h.heard; told = events; number = h.number; entries = (slice_index_or rows h.number no_row).issued }) })
+    let told : Told = record { had = h.heard; told = events; number = h.number; entries = (slice_index_or rows h.number no_row).issued } in
+    Hart (record h { heard = longer h.heard events; note = Some told })
 takes_in v w = v
 
 abbrev pub MayTake : View → View → Type 0
@@ -61,9 +64,13 @@ MayTake _ _ = ⊥
 
 -- a seat with this view may be cut in two
 abbrev pub SplitKeeps : ℕ → View → View → View → Type 0
-SplitKeeps seat v left right = (words : List ℕ) (views : List View) → IsGuest words views → get_elem? views seat ≡ some v → IsGuest words (slice_set views seat left ++ right ∷ [])
+SplitKeeps seat v left right =
+    (words : List ℕ) (views : List View) → IsGuest words views → get_elem? views seat ≡ some v
+    → IsGuest words (slice_set views seat left ++ right ∷ [])
 
 -- a seat may take in another
 abbrev pub JoinKeeps : ℕ → View → ℕ → View → View → Type 0
-JoinKeeps seat v other w both = (words : List ℕ) (views : List View) → IsGuest words views → get_elem? views seat ≡ some v → ¬ (other ≡ seat) → get_elem? (slice_set views seat both) other ≡ some w
+JoinKeeps seat v other w both =
+    (words : List ℕ) (views : List View) → IsGuest words views → get_elem? views seat ≡ some v → ¬ (other ≡ seat)
+    → get_elem? (slice_set views seat both) other ≡ some w
     → IsGuest words (slice_set (slice_set views seat both) other Spent)

@@ -1,6 +1,6 @@
--- The steps of the keeper: of each kind its word, what is done to the word, what the keeper must know before, its view after,
--- and what the rule tells of the number found.
-use Rattle.std.specs.Prelude.{◌≡◌, ◌≢◌, ◌⊎◌, ℕ, ◌+◌, ◌%◌, ◌≤◌, ◌<◌, Bool, true, false, eqb, nat_le, List, [], ◌∷◌, ◌++◌, length, map, Option, Some, None, slice_get, slice_set, Contains}
+-- The steps of the keeper, in the same five tables as those of harts.
+use Rattle.std.specs.Prelude.{◌≡◌, ◌≢◌, ◌⊎◌, ℕ, ◌+◌, ◌%◌, ◌≤◌, ◌<◌, Bool, true, false, eqb, nat_le}
+use Rattle.std.specs.Prelude.{List, [], ◌∷◌, ◌++◌, length, map, Option, Some, None, slice_get, slice_set, Contains}
 use Rattle.ld_base.specs.declared.linking.Role.TheVariants.{None as NoRole, Ro, Rx, Rw, Slot as SlotRole}
 use Rattle.guest_rule.specs.declared.entry.Exchange.{Exchange}
 use Rattle.guest_rule.specs.declared.entry.Grant.{Grant}
@@ -15,9 +15,10 @@ use Rattle.guest_rule.specs.declared.view.Kept.{Kept}
 use Rattle.guest_rule.specs.declared.view.Row.{Row}
 use Rattle.guest_rule.specs.declared.view.Sight.{Sight}
 use Rattle.guest_rule.specs.declared.view.Told.{Told}
-use Rattle.guest_rule.specs.Layout.{doublewords, count_at, generation_at, quiet_at, harts_at_most, state_at, row_at, index_of, value_at, control_at, place_of, role_code, lock_bit, to_lock, to_unlock}
+use Rattle.guest_rule.specs.Layout.{control_at, count_at, generation_at, index_of, quiet_at, row_at, state_at, value_at}
+use Rattle.guest_rule.specs.Layout.{doublewords, harts_at_most, lock_bit, place_of, role_code, to_lock, to_unlock}
 use Rattle.guest_rule.specs.Views.{BeginsWith, entries_of, entry_of, exchanges_of, field_of, grant_in, kept_at, nothing_locked, row_of, with_field}
-use Rattle.guest_rule.specs.Allowed.{IsDecided, IsAllowed, IsOf, IsPostable, IsSlot, LeadsTo, NothingEnters}
+use Rattle.guest_rule.specs.Allowed.{IsAllowed, IsDecided, IsLost, IsOf, IsPostable, IsSlot, IsWon, LeadsTo, NothingEnters}
 use Rattle.guest_rule.specs.Slots.{HasLost, HasWon, IsGrant, Rising}
 use Rattle.guest_rule.specs.Operations.{Op, load, store, exchange, add}
 
@@ -148,8 +149,8 @@ KeeperReady (kinds.Lock d control) k =
     (d < doublewords) × (k.access.locked ≡ None) × (k.access.last ≡ Some (d, control)) × (lock_bit control ≡ 0) × ((kept_at k d).role ≡ SlotRole → Unposted k d)
 KeeperReady (kinds.Store d x) k = (k.access.locked ≡ Some d) × ((kept_at k d).role ≢ SlotRole)
 KeeperReady (kinds.Unlock d old new lazy) k =
-    (k.access.locked ≡ Some d) × (old ≡ (kept_at k d).role) × (old ≢ SlotRole) × (new ≢ NoRole) × ((old ≡ NoRole) ⊎ (old ≡ new)) × (k.access.held ≡ Some (kept_at k d).value)
-    × (new ≡ SlotRole → LeadsTo (kept_at k) (kept_at k d).value)
+    (k.access.locked ≡ Some d) × (old ≡ (kept_at k d).role) × (old ≢ SlotRole) × (new ≢ NoRole) × ((old ≡ NoRole) ⊎ (old ≡ new))
+    × (k.access.held ≡ Some (kept_at k d).value) × (new ≡ SlotRole → LeadsTo (kept_at k) (kept_at k d).value)
 KeeperReady (kinds.Count e) k = length k.events < 18446744073709551615
 KeeperReady (kinds.Await m) k = m < harts_at_most
 KeeperReady (kinds.Ask m) k = (m < harts_at_most) × ((g : Grant) × ((row_of k m).pending ≡ Some g))
@@ -172,10 +173,12 @@ KeeperReady kinds.Listen k = Unit {0}
 -- its view after, by the number found. Each step ends what is kept of a note
 abbrev pub keeper_after : KeeperKind → KeeperView → ℕ → KeeperView
 keeper_after (kinds.Look d) k n =
-    let free = eqb (lock_bit n) 0 in record (accessing (record { locked = None; held = None; last = last_if d n free }) (heeding k)) { shown = shown_if d free n n k.shown }
+    let free = eqb (lock_bit n) 0 in
+    record (accessing (record { locked = None; held = None; last = last_if d n free }) (heeding k)) { shown = shown_if d free n n k.shown }
 keeper_after (kinds.Load d) k n = accessing nothing_locked (heeding k)
 keeper_after (kinds.Lock d control) k n = record (keeps_if d (eqb n control) (heeding k)) { shown = shown_if d (eqb n control) control n k.shown }
-keeper_after (kinds.Store d x) k n = accessing (record { locked = k.access.locked; held = Some x; last = None }) (with_kept d (record (kept_at k d) { value = x }) (heeding k))
+keeper_after (kinds.Store d x) k n =
+    accessing (record { locked = k.access.locked; held = Some x; last = None }) (with_kept d (record (kept_at k d) { value = x }) (heeding k))
 keeper_after (kinds.Unlock d old new lazy) k n =
     accessing nothing_locked (with_kept d (record { role = new; value = (kept_at k d).value; lazy = lazy; since = length k.events; fixed = None }) (heeding k))
 keeper_after (kinds.Count e) k n = record (heeding k) { events = k.events ++ e.value ∷ [] }
@@ -219,15 +222,15 @@ pub record HasTakenAll (row : Row) (n : ℕ) (j : HartView) : Type 0 where
   pub taken : j.lane.taken ≡ row.issued
   pub entries : entries_of j.trail ≡ j.lane.taken
   pub idle : n < 8
-  pub won : (g : Grant) → Contains row.settled (record { grant = g; fate = Won }) → HasWon (exchanges_of j.trail) g
-  pub lost : (g : Grant) → Contains row.settled (record { grant = g; fate = Lost }) → HasLost (exchanges_of j.trail) g
+  pub won : (g : Grant) → IsWon row g → HasWon (exchanges_of j.trail) g
+  pub lost : (g : Grant) → IsLost row g → HasLost (exchanges_of j.trail) g
   pub granted : (x : Exchange) → Contains (exchanges_of j.trail) x → IsGrant row x.grant
   pub rising : Rising (exchanges_of j.trail)
 
 -- a row with a grant whose fate isn't known is open, won or lost, and has the grant's words
 pub record TellsAsk (k : KeeperView) (m n : ℕ) : Type 0 where
   pub state : (n % 8 ≡ 3) ⊎ (n % 8 ≡ 4) ⊎ (n % 8 ≡ 5)
-  -- a hart that is known to call, or that has ended, has given the grant back
+  -- the grant isn't open with a hart that was found calling since, or that has ended
   pub waits : (c : ℕ) → (row_of k m).since ≡ Some c → n % 8 ≢ 3
   pub ended : (j : HartView) → HasEnded k m j → n % 8 ≢ 3
   pub in_row : (g : Grant) → (row_of k m).pending ≡ Some g → g ≡ grant_in (row_of k m)
@@ -235,7 +238,7 @@ pub record TellsAsk (k : KeeperView) (m n : ℕ) : Type 0 where
   pub lazy_is : (g : Grant) → (row_of k m).pending ≡ Some g → g.lazy ≡ (kept_at k (place_of g.entry.slot)).lazy
   -- the image of a slot that was won has its lazy word, and no other grant of the slot is known as won
   pub won : (g : Grant) → (row_of k m).pending ≡ Some g → n % 8 ≡ 4 → let d = place_of g.entry.slot in ((kept_at k d).value ≡ (kept_at k d).lazy)
-      × ((i : ℕ) (p : Grant) → i < harts_at_most → Contains (row_of k i).settled (record { grant = p; fate = Won }) → IsOf (kept_at k) d p → (i ≡ m) × (p ≡ g))
+      × ((i : ℕ) (p : Grant) → i < harts_at_most → IsWon (row_of k i) p → IsOf (kept_at k) d p → (i ≡ m) × (p ≡ g))
   -- what was seen of its slot is its value
   pub fixed : (g : Grant) (x : ℕ) → (row_of k m).pending ≡ Some g → n % 8 ≡ 4 → (kept_at k (place_of g.entry.slot)).fixed ≡ Some x → g.entry.value ≡ x
 
@@ -243,9 +246,9 @@ pub record TellsAsk (k : KeeperView) (m n : ℕ) : Type 0 where
 -- before, and the value of a grant that won; and it is the image's where that isn't the lazy word
 pub record TellsSlot (k : KeeperView) (d n : ℕ) : Type 0 where
   pub allowed : IsAllowed (kept_at k) (row_of k) d n
-  pub lost : (m : ℕ) (g : Grant) → m < harts_at_most → Contains (row_of k m).settled (record { grant = g; fate = Lost }) → IsOf (kept_at k) d g → n ≢ g.lazy
+  pub lost : (m : ℕ) (g : Grant) → m < harts_at_most → IsLost (row_of k m) g → IsOf (kept_at k) d g → n ≢ g.lazy
   pub fixed : (x : ℕ) → (kept_at k d).fixed ≡ Some x → n ≡ x
-  pub won : (m : ℕ) (g : Grant) → m < harts_at_most → Contains (row_of k m).settled (record { grant = g; fate = Won }) → IsOf (kept_at k) d g → n ≡ g.entry.value
+  pub won : (m : ℕ) (g : Grant) → m < harts_at_most → IsWon (row_of k m) g → IsOf (kept_at k) d g → n ≡ g.entry.value
   pub bound : (kept_at k d).value ≢ (kept_at k d).lazy → n ≡ (kept_at k d).value
 
 abbrev pub KeeperLearns : KeeperKind → KeeperView → ℕ → Type 0
@@ -253,7 +256,8 @@ KeeperLearns (kinds.Look d) k n = (n % 8 ≡ role_code (kept_at k d).role) × ((
 KeeperLearns (kinds.Load d) k n = ((kept_at k d).role ≡ Ro) ⊎ ((kept_at k d).role ≡ Rx) → n ≡ (kept_at k d).value
 KeeperLearns (kinds.Lock d control) k n = (kept_at k d).role ≢ Rw → n ≡ control
 KeeperLearns (kinds.Count e) k n = n ≡ length k.events
-KeeperLearns (kinds.Await m) k n = ((j : HartView) → HasEnded k m j → HasTakenAll (row_of k m) n j) × ((d : ℕ) → IsSlot (kept_at k) d → IsDecided (kept_at k) (row_of k) d)
+KeeperLearns (kinds.Await m) k n =
+    ((j : HartView) → HasEnded k m j → HasTakenAll (row_of k m) n j) × ((d : ℕ) → IsSlot (kept_at k) d → IsDecided (kept_at k) (row_of k) d)
 KeeperLearns (kinds.Ask m) k n = TellsAsk k m n
 KeeperLearns (kinds.Saw d) k n = TellsSlot k d n
 KeeperLearns (kinds.Recall m i) k n = n ≡ field_of i (row_of k m)

@@ -11,6 +11,7 @@ pub mod KeeperSlots
 pub mod Lanes
 pub mod Locks
 pub mod Marks
+pub mod Owners
 pub mod Put
 pub mod Rows
 pub mod Seating

@@ -8,12 +8,12 @@ pub mod KeeperSteps
 pub mod Layout
 pub mod Lemmas
 pub mod Operations
+pub mod Owners
 pub mod Rule
 pub mod Seats
 pub mod Slots
 pub mod Start
 pub mod Table
-pub mod Unlocking
 pub mod Views
 pub mod Words
 pub mod Worked

@@ -24,7 +24,8 @@ pub record Parts (word : ℕ → ℕ) (kept : KeeperView) (hart : ℕ → HartVi
   pub heard : Heard kept.events hart
   pub locks : Words word (kept_at kept) kept.access (after (λ (h : HartView). h.access) hart)
   pub calls : Calls word (length kept.events) (row_of kept) (after (λ (h : HartView). h.lane) hart) (after (λ (h : HartView). entries_of h.trail) hart)
-  pub slots : Slots word (kept_at kept) kept.access.locked (length kept.events) (row_of kept) (after (λ (h : HartView). h.lane.tried) hart) (after (λ (h : HartView). exchanges_of h.trail) hart)
+  pub slots : Slots word (kept_at kept) kept.access.locked (length kept.events) (row_of kept) (after (λ (h : HartView). h.lane.tried) hart)
+      (after (λ (h : HartView). exchanges_of h.trail) hart)
   pub generations : Generations word kept.generation (row_of kept) (after (λ (h : HartView). h.trail) hart)
 
 pub record IsGuest (words : List ℕ) (views : List View) : Type 0 where
@@ -40,12 +41,14 @@ pub record IsGuest (words : List ℕ) (views : List View) : Type 0 where
 -- what the kind tells is true
 abbrev pub HartKeeps : HartKind → ℕ → HartView → Type 0
 HartKeeps kind seat h =
-    (words : List ℕ) (views : List View) → IsGuest words views → get_elem? views seat ≡ some (Hart h) → slice_index words (hart_word kind) < 18446744073709551616
+    (words : List ℕ) (views : List View) → IsGuest words views → get_elem? views seat ≡ some (Hart h)
+    → slice_index words (hart_word kind) < 18446744073709551616
     → let n = slice_index words (hart_word kind) in
     IsGuest (slice_set words (hart_word kind) (becomes (hart_op kind) n)) (slice_set views seat (Hart (hart_after kind h n))) × HartLearns kind h n
 
 abbrev pub KeeperKeeps : KeeperKind → ℕ → KeeperView → Type 0
 KeeperKeeps kind seat k =
-    (words : List ℕ) (views : List View) → IsGuest words views → get_elem? views seat ≡ some (Keeper k) → slice_index words (keeper_word kind) < 18446744073709551616
+    (words : List ℕ) (views : List View) → IsGuest words views → get_elem? views seat ≡ some (Keeper k)
+    → slice_index words (keeper_word kind) < 18446744073709551616
     → let n = slice_index words (keeper_word kind) in
     IsGuest (slice_set words (keeper_word kind) (becomes (keeper_op kind) n)) (slice_set views seat (Keeper (keeper_after kind k n))) × KeeperLearns kind k n

@@ -32,8 +32,8 @@ abbrev pub Gone : KeeperView → ℕ → (ℕ → ℕ) → (ℕ → HartView) �
 Gone kept keeper seat_of hart j = (j.number < kept.harts) × (seat_of j.number ≡ keeper) × (hart j.number ≡ j)
 
 -- where a hart's last view stands: it is that of its seat, or one that the keeper keeps
-abbrev pub Stands : List View → KeeperView → (ℕ → ℕ) → (ℕ → HartView) → ℕ → Type 0
-Stands views kept seat_of hart m = (get_elem? views (seat_of m) ≡ some (Hart (hart m))) ⊎ ((i : ℕ) × (slice_get kept.joined i ≡ Some (hart m)))
+abbrev pub IsLastView : List View → KeeperView → (ℕ → ℕ) → (ℕ → HartView) → ℕ → Type 0
+IsLastView views kept seat_of hart m = (get_elem? views (seat_of m) ≡ some (Hart (hart m))) ⊎ ((i : ℕ) × (slice_get kept.joined i ≡ Some (hart m)))
 
 -- `hart` gives each hart's last view, and that of a new hart where no seat was made yet
 pub record Seats (views : List View) (kept : KeeperView) (keeper : ℕ) (seat_of : ℕ → ℕ) (hart : ℕ → HartView) : Type 0 where
@@ -42,7 +42,7 @@ pub record Seats (views : List View) (kept : KeeperView) (keeper : ℕ) (seat_of
   pub gone : (i : ℕ) (j : HartView) → slice_get kept.joined i ≡ Some j → Gone kept keeper seat_of hart j
   -- a hart's seat is joined once
   pub once : (i n : ℕ) (j l : HartView) → slice_get kept.joined i ≡ Some j → slice_get kept.joined n ≡ Some l → j.number ≡ l.number → i ≡ n
-  pub there : (m : ℕ) → m < kept.harts → Stands views kept seat_of hart m
+  pub there : (m : ℕ) → m < kept.harts → IsLastView views kept seat_of hart m
   pub unborn : (m : ℕ) → kept.harts ≤ m → hart m ≡ first_hart m
   pub few : kept.harts ≤ harts_at_most
   pub words_known : length kept.words ≡ doublewords

@@ -3,12 +3,11 @@ use Rattle.std.specs.Prelude.{◌≡◌, ◌≢◌, ◌⊎◌, ℕ, ◌%◌, ◌
 use Rattle.guest_rule.specs.declared.entry.Exchange.{Exchange}
 use Rattle.guest_rule.specs.declared.entry.Grant.{Grant}
 use Rattle.guest_rule.specs.declared.view.Fate.{Fate}
-use Rattle.guest_rule.specs.declared.view.Fate.TheVariants.{Won, Lost}
 use Rattle.guest_rule.specs.declared.view.Kept.{Kept}
 use Rattle.guest_rule.specs.declared.view.Row.{Row}
 use Rattle.guest_rule.specs.Layout.{harts_at_most, place_of, state_at, value_at}
 use Rattle.guest_rule.specs.Views.{grant_in}
-use Rattle.guest_rule.specs.Allowed.{IsAllowed, IsOf, IsSlot, LeadsTo, Stands}
+use Rattle.guest_rule.specs.Allowed.{IsAllowed, IsLost, IsOf, IsSlot, IsWon, LeadsTo, Stands}
 
 -- the exchange of a grant stands in a hart's trail, and found the lazy word, or another one
 abbrev pub HasWon : List Exchange → Grant → Type 0
@@ -17,12 +16,12 @@ HasWon exchanges g = Contains exchanges (record { grant = g; found = g.lazy })
 abbrev pub HasLost : List Exchange → Grant → Type 0
 HasLost exchanges g = (found : ℕ) × (found ≢ g.lazy) × Contains exchanges (record { grant = g; found = found })
 
--- of a doubleword: the hart and the grant whose exchange found the lazy word
+-- of a doubleword: the hart and the grant that won it, if one did
 abbrev pub Winner : Type 0
 Winner = Option (ℕ × Grant)
 
 -- a slot holds its image's word, or the value of the grant that won it, which isn't the lazy word; and each value that may stand
--- in it is 0 or lies in an RX word
+-- in it leads nowhere or into a word that may be run
 pub record SlotIs (value : ℕ) (known : ℕ → Kept) (count : ℕ) (row : ℕ → Row) (exchanges : ℕ → List Exchange) (winner : Winner) (d : ℕ) : Type 0 where
   pub since : (known d).since ≤ count
   pub image : winner ≡ None → value ≡ (known d).value
@@ -55,7 +54,8 @@ Fated value state winner m tried exchanges g =
     ⊎ ((state % 8 ≡ 5) × (winner ≢ Some (m, g)) × (value ≢ g.lazy) × HasLost exchanges g)
 
 -- a grant whose fate the keeper doesn't know: it is the row's, its slot is there, and the keeper hasn't locked it
-pub record IsPending (known : ℕ → Kept) (locked : Option ℕ) (value state : ℕ) (winner : Winner) (m : ℕ) (row : Row) (tried : Option Exchange) (exchanges : List Exchange) (g : Grant) : Type 0 where
+pub record IsPending (known : ℕ → Kept) (locked : Option ℕ) (value state : ℕ) (winner : Winner) (m : ℕ) (row : Row)
+    (tried : Option Exchange) (exchanges : List Exchange) (g : Grant) : Type 0 where
   pub in_row : g ≡ grant_in row
   pub of_slot : IsOf known (place_of g.entry.slot) g
   pub free : locked ≢ Some (place_of g.entry.slot)
@@ -73,18 +73,21 @@ Rising [] = Unit {0}
 Rising (x ∷ xs) = ((y : Exchange) → Contains xs y → x.grant.entry.number < y.grant.entry.number) × Rising xs
 
 -- the grants of a hart
-pub record GrantsAre (known : ℕ → Kept) (locked : Option ℕ) (count : ℕ) (word : ℕ → ℕ) (winner : ℕ → Winner) (m : ℕ) (row : Row) (tried : Option Exchange) (exchanges : List Exchange) : Type 0 where
+pub record GrantsAre (known : ℕ → Kept) (locked : Option ℕ) (count : ℕ) (word : ℕ → ℕ) (winner : ℕ → Winner) (m : ℕ) (row : Row)
+    (tried : Option Exchange) (exchanges : List Exchange) : Type 0 where
   -- a row is open only with a grant whose fate isn't known
   pub closed : row.pending ≡ None → word (state_at m) ≢ 3
-  pub pending : (g : Grant) → row.pending ≡ Some g → let d = place_of g.entry.slot in IsPending known locked (word (value_at d)) (word (state_at m)) (winner d) m row tried exchanges g
-  pub won : (g : Grant) → Contains row.settled (record { grant = g; fate = Won }) → HasWon exchanges g
-  pub lost : (g : Grant) → Contains row.settled (record { grant = g; fate = Lost }) → HasLost exchanges g
+  pub pending : (g : Grant) → row.pending ≡ Some g → let d = place_of g.entry.slot in
+      IsPending known locked (word (value_at d)) (word (state_at m)) (winner d) m row tried exchanges g
+  pub won : (g : Grant) → IsWon row g → HasWon exchanges g
+  pub lost : (g : Grant) → IsLost row g → HasLost exchanges g
   -- grants are older than a call that came to be known later
   pub counted : (g : Grant) → IsGrant row g → (g.entry.number ≤ count) × ((c : ℕ) → row.since ≡ Some c → g.entry.number ≤ c)
   pub granted : (x : Exchange) → Contains exchanges x → IsGrant row x.grant
   pub rising : Rising exchanges
 
-pub record Slots (word : ℕ → ℕ) (known : ℕ → Kept) (locked : Option ℕ) (count : ℕ) (row : ℕ → Row) (tried : ℕ → Option Exchange) (exchanges : ℕ → List Exchange) : Type 0 where
+pub record Slots (word : ℕ → ℕ) (known : ℕ → Kept) (locked : Option ℕ) (count : ℕ) (row : ℕ → Row) (tried : ℕ → Option Exchange)
+    (exchanges : ℕ → List Exchange) : Type 0 where
   pub winner : ℕ → Winner
   pub each_slot : (d : ℕ) → IsSlot known d → SlotIs (word (value_at d)) known count row exchanges (winner d) d
   pub each_hart : (m : ℕ) → m < harts_at_most → GrantsAre known locked count word winner m (row m) (tried m) (exchanges m)

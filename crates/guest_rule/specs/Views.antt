@@ -160,9 +160,11 @@ exchanges_of trail = flat_map exchanges_by trail
 
 -- an answer on thread-local storage: mark 2, or an event with a module
 abbrev pub is_block : ℕ → ℕ → Entry → Bool
-is_block generation number e = (e.slot == number) && (e.generation == generation) && (if e.mark == 2 then true else (if e.mark == 1 then (if e.slot == 0 then false else true) else false))
+is_block generation number e =
+    (e.slot == number) && (e.generation == generation)
+    && (if e.mark == 2 then true else (if e.mark == 1 then (if e.slot == 0 then false else true) else false))
 
--- the block of the last such entry, where there is one
+-- the last entry that is such an answer has the block
 abbrev pub later_block : Option ℕ → Bool → ℕ → Option ℕ
 later_block (Some b) is v = Some b
 later_block None true v = Some v

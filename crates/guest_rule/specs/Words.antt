@@ -38,5 +38,5 @@ pub record Words (word : ℕ → ℕ) (known : ℕ → Kept) (access : Access) (
   pub of_hart : (m : ℕ) → LockIs word owner (hart m) (harts m)
   -- a hart locks only RW doublewords
   pub only_rw : (m d : ℕ) → (harts m).locked ≡ Some d → (known d).role ≡ Rw
-  -- only the keeper changes the control word of a doubleword that harts may not write
+  -- harts leave the control words of doublewords that they may not write
   pub steady : (d control : ℕ) → d < doublewords → access.last ≡ Some (d, control) → (known d).role ≢ Rw → word (control_at d) ≡ control

@@ -1,21 +1,23 @@
--- Worked steps: two harts on one doubleword, a conditional store that comes after another's store, and two harts that resolve
--- one slot.
-use Rattle.std.specs.Prelude.{◌≡◌, [], ◌∷◌, None, Some, Ok, Err, false}
+-- Worked steps: two harts on one doubleword, a conditional store that comes after another's store, two harts that resolve one slot,
+-- and a row that goes between the keeper and its hart.
+use Rattle.std.specs.Prelude.{◌≡◌, [], ◌∷◌, None, Some, Ok, Err, true, false}
 use Rattle.ld_base.specs.declared.fault.Shown.TheVariants.{Locked}
 use Rattle.ld_base.specs.declared.linking.Role.TheVariants.{None as NoRole, Slot as SlotRole}
 use Rattle.rv_hart.specs.declared.bus.BusFault.TheVariants.{Again}
 use Rattle.rv_hart.specs.declared.bus.Item.TheVariants as items
+use Rattle.guest_rule.specs.declared.entry.Entry.{Entry}
 use Rattle.guest_rule.specs.declared.entry.Grant.{Grant}
 use Rattle.guest_rule.specs.declared.kind.Ask.TheVariants.{Store as Stores}
 use Rattle.guest_rule.specs.declared.kind.StoreAsk.TheVariants.{Write, Conditional}
 use Rattle.guest_rule.specs.declared.kind.HartKind.TheVariants as kinds
 use Rattle.guest_rule.specs.declared.kind.KeeperKind.TheVariants as keeps
+use Rattle.guest_rule.specs.declared.view.KeeperView.{KeeperView}
 use Rattle.guest_rule.specs.declared.view.Kept.{Kept}
 use Rattle.guest_rule.specs.declared.view.TrailItem.TheVariants.{Call, Exchanged}
 use Rattle.guest_rule.specs.Views.{first_hart}
 use Rattle.guest_rule.specs.Operations.{becomes}
 use Rattle.guest_rule.specs.HartSteps.{HartReady, hart_op, hart_after}
-use Rattle.guest_rule.specs.KeeperSteps.{fixed_by, keeper_op}
+use Rattle.guest_rule.specs.KeeperSteps.{fixed_by, keeper_after, keeper_op}
 
 -- hart 0 locks an RW doubleword of version 0, whose control word is 3, and unlocks it: version 1. Hart 1, which found 3 before,
 -- doesn't lock it: the control word stays, and the hart's access is told both words
@@ -29,7 +31,8 @@ OneLocks =
 
 -- a hart that finds another's lock is told what it found, twice
 abbrev pub AnotherHasLocked : Type 0
-AnotherHasLocked = (hart_after (kinds.Look (Stores (Write 0x10000 8 7))) (first_hart 1) 11).trail ≡ Call (items.Write 0x10000 8 7 (Err (Again (Locked 11 11)))) ∷ []
+AnotherHasLocked =
+    (hart_after (kinds.Look (Stores (Write 0x10000 8 7))) (first_hart 1) 11).trail ≡ Call (items.Write 0x10000 8 7 (Err (Again (Locked 11 11)))) ∷ []
 
 -- a conditional store by the reservation of version 0 fails where the version is 1, and is made of the word where it is 0
 abbrev pub ConditionalFails : Type 0
@@ -77,3 +80,25 @@ abbrev pub LookKeeps : Type 0
 LookKeeps =
     let slot : Kept = record { role = SlotRole; value = 5; lazy = 5; since = 1; fixed = None } in
     ((fixed_by 100 slot).fixed ≡ Some 100) × ((fixed_by 5 slot).fixed ≡ None)
+
+-- the keeper's look finds 11, the lock of an RW doubleword, and shows it twice; a lock by 3 that finds 19 shows both; and a look
+-- that finds no lock shows nothing
+abbrev pub LockIsShown : Type 0
+LockIsShown =
+    (k : KeeperView) → k.shown ≡ []
+    → ((keeper_after (keeps.Look 0) k 11).shown ≡ record { at = 0; first = 11; second = 11 } ∷ [])
+    × ((keeper_after (keeps.Lock 0 3) k 19).shown ≡ record { at = 0; first = 3; second = 19 } ∷ [])
+    × ((keeper_after (keeps.Look 0) k 3).shown ≡ [])
+
+-- the state of hart 0's row: the hart calls, an event answers it, and it takes the entry; it calls again, the row is open, and the
+-- grant has won. The next call begins with that row; and the grant might have lost
+abbrev pub RowGoesRound : Type 0
+RowGoesRound =
+    let answer : Entry = record { mark = 1; number = 1; slot = 0; value = 0; generation = 0 } in
+    (becomes (hart_op (kinds.Begin 0)) 0 ≡ 8)
+    × (becomes (keeper_op (keeps.Hand 0 1)) 8 ≡ 1)
+    × (becomes (hart_op (kinds.Accept 0 answer)) 1 ≡ 0)
+    × (becomes (keeper_op (keeps.Open 0)) 8 ≡ 3)
+    × (becomes (hart_op (kinds.Finish 0 true)) 3 ≡ 4)
+    × (becomes (hart_op (kinds.Begin 0)) 4 ≡ 12)
+    × (becomes (hart_op (kinds.Finish 0 false)) 3 ≡ 5)

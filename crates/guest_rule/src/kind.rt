@@ -9,23 +9,31 @@ use std::snapshot::Snapshot;
 /// A call of the bus that loads. Addresses and sizes are in bytes.
 #[derive(Clone, Copy)]
 pub enum LoadAsk {
+    /// Four bytes to run: their address.
     Fetch(u64),
+    /// Bytes to read: address and size.
     Read(u64, u8),
+    /// The same of an LR, which keeps the doubleword's version.
     Reserve(u64, u8),
 }
 
 /// A call of the bus that stores.
 #[derive(Clone, Copy)]
 pub enum StoreAsk {
+    /// Address, size and value.
     Write(u64, u8, u64),
+    /// Address, size, what is done to the value found, and the operand.
     Amo(u64, u8, AmoOp, u64),
+    /// Of an SC: address, size, value, and the version that the reservation keeps.
     Conditional(u64, u8, u64, u64),
 }
 
 /// What a hart asks of memory.
 #[derive(Clone, Copy)]
 pub enum Ask {
+    /// A fetch, a read or an LR.
     Load(LoadAsk),
+    /// A write, an AMO or an SC.
     Store(StoreAsk),
 }
 
@@ -37,7 +45,7 @@ pub enum HartKind {
     Look(Ask),
     /// To load the doubleword's value, which it asks for. (Load a value word.)
     Load(LoadAsk),
-    /// To load the value of the doubleword that it has locked. (Load a value word.)
+    /// To load the doubleword's value under its lock. (Load a value word.)
     Hold(StoreAsk),
     /// To lock the doubleword, whose control word was found to be this. (Lock by compare-exchange.)
     Lock(StoreAsk, u64),
@@ -49,9 +57,9 @@ pub enum HartKind {
     Tally,
     /// To begin a call. The hart's number, here and below. (Begin a call.)
     Begin(u64),
-    /// To load its row's state. (Load a word of one's own row.)
+    /// To load its row's state. (Load of the own row.)
     Arrive(u64),
-    /// To load another word of its row. (Load a word of one's own row.)
+    /// To load another word of its row. (Load of the own row.)
     Find(u64, RowWord),
     /// To exchange the slot of the grant in its row. (Exchange of a slot.)
     Exchange(Grant),
@@ -110,6 +118,8 @@ pub enum KeeperKind {
 /// What a step is for.
 #[derive(Drop)]
 pub enum Kind {
+    /// A step of a hart.
     Hart(HartKind),
+    /// A step of the keeper.
     Keeper(KeeperKind),
 }

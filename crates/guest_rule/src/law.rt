@@ -13,9 +13,10 @@ ghost use Rattle.guest_rule.specs.KeeperSteps.{KeeperLeaves, KeeperReady, keeper
 ghost use Rattle.guest_rule.specs.Rule.{HartKeeps, IsGuest, KeeperKeeps};
 ghost use Rattle.guest_rule.specs.Joining.{HasNote, HasRoom, JoinKeeps, MayTake, SplitKeeps, new_hart, note_of, takes_in, with_hart};
 ghost use Rattle.guest_rule.specs.Start.{first_keeper, first_words, IsFirst};
-ghost use Rattle.guest_rule.specs.Unlocking.{KindsUnlock, LockedStay, OnlyOwnersChange, OnlyRowsOwnersChange, OnlyTallyCounts, UnlocksRaise};
+ghost use Rattle.guest_rule.specs.Owners.{LockedStay, OnlyOwnersChange, OnlyRowsOwnersChange, OnlyTallyCounts, SlotsStay, TrailsGrow, UnlocksRaise};
 ghost use Rattle.guest_rule.specs.Views.{IsLane, IsLong, first_lane};
-ghost use Rattle.guest_rule.specs.Worked.{AnotherHasLocked, ConditionalFails, ConditionalIsRefused, LookKeeps, OneLocks, OneWins, RoleComesAndGoes, StoreIsOwed};
+ghost use Rattle.guest_rule.specs.Worked.{AnotherHasLocked, ConditionalFails, ConditionalIsRefused, LockIsShown, LookKeeps, OneLocks, OneWins};
+ghost use Rattle.guest_rule.specs.Worked.{RoleComesAndGoes, RowGoesRound, StoreIsOwed};
 
 /// The rule holds at the start, when the keeper knows of no role and of nothing that was handed over.
 pub fn rule_begins()
@@ -35,21 +36,29 @@ pub fn keeper_steps_keep()
     ensures long { (kind : KeeperKind) (k : KeeperView) (n : ℕ) → KeeperReady kind k → IsLong k → IsLong (keeper_after kind k n) }
 {}
 
-/// An unlock raises the version by one. A doubleword is changed by the seat that has locked it alone,
-/// but that it is locked, and that a slot is exchanged; and a lock leaves one that is locked already.
+/// A step that clears the lock of a control word raises its version by one. A doubleword is changed by
+/// the seat that has locked it alone, but that it is locked, and that a slot is exchanged; and a lock
+/// leaves one that is locked already.
 pub fn owners_change()
     ensures raise { UnlocksRaise }
-    ensures kinds { KindsUnlock }
     ensures owners { OnlyOwnersChange }
     ensures locked { LockedStay }
 {}
 
-/// A word of a row is changed by its hart alone, to begin a call and to give an entry or a grant back,
-/// and by the keeper while the hart is known to call and its last grant is known. A hart that is calling
-/// doesn't load the count.
+/// A word of a row is changed by its hart, at rest before a call or with a mark in one; and by the
+/// keeper, while it awaits an answer and no grant of the hart is undecided. In a call a hart doesn't
+/// look at the count.
 pub fn rows_have_owners()
     ensures rows { OnlyRowsOwnersChange }
     ensures count { OnlyTallyCounts }
+{}
+
+/// An exchange stays in its trail: a step leaves each trail as it was, or with one item behind it. And a
+/// slot stays the same while it is one, with its image's word, its lazy word and the count at its start.
+/// So what [`rule_comes_to`] says of an exchange holds on while its slot is there.
+pub fn exchanges_stay()
+    ensures trails { TrailsGrow }
+    ensures slots { SlotsStay }
 {}
 
 /// What a hart's own view says of its calls holds after each of its steps.
@@ -73,7 +82,7 @@ pub fn joined_seats_keep()
     ensures { (seat : ℕ) (v : View) (other : ℕ) (w : View) → MayTake v w → JoinKeeps seat v other w (takes_in v w) }
 {}
 
-/// Worked steps of two harts on one doubleword and on one slot, and of the keeper.
+/// Worked steps of two harts on one doubleword and on one slot, of the keeper, and on a row.
 pub fn worked_steps()
     ensures one_locks { OneLocks }
     ensures another_has_locked { AnotherHasLocked }
@@ -83,9 +92,11 @@ pub fn worked_steps()
     ensures one_wins { OneWins }
     ensures roles { RoleComesAndGoes }
     ensures looks { LookKeeps }
+    ensures shown { LockIsShown }
+    ensures rows { RowGoesRound }
 {}
 
-/// What the rule comes to: who has locked what and what unlocked words hold, that a slot has the word
+/// What the rule comes to: whose views there are, who has locked what and what unlocked words hold, that a slot has the word
 /// that its one winner left, what the count, rows and entries say, and the generation.
 pub fn rule_comes_to()
     ensures { (words : List ℕ) (views : List View) (g : IsGuest words views) → Clauses words views g.kept g.hart }

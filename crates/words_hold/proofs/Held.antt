@@ -15,7 +15,7 @@ use Rattle.guest_rule.specs.Rule.{Parts}
 use Rattle.guest_rule.specs.Slots.{HasWon, SlotIs, Winner}
 use Rattle.guest_rule.specs.Views.{exchanges_of, kept_at, row_of}
 use Rattle.guest_rule.specs.Words.{Holds as HoldsWord, Owner, hart, keeper, nobody}
-use Rattle.guest_rule.specs.Lemmas.SlotFrames.{at_place}
+use Rattle.guest_rule.specs.Lemmas.SlotFrames.{at_place, in_reach}
 use Rattle.guest_rule.specs.Lemmas.Unlocking.{role_is}
 use Rattle.link_history.specs.Memory.{role_at, word_at}
 use Rattle.link_history.specs.Slots.{IsOpenGrant}
@@ -61,14 +61,6 @@ module _ (s : State) (won : List ℕ) (number : ℕ → Grant → ℕ) (word : �
       let did = p.slots.each_exchange m low (record { grant = g; found = g.lazy }) has (subst (λ n. IsOf (kept_at kept) n g) (sym at) o) in
       sym (ap p.slots.winner at) ∙ did.won refl
 
-  -- a hart that won a slot has a row
-  in_reach : (m : ℕ) (g : Grant) → Stands (row_of kept m) g → m < harts_at_most
-  in_reach m g st = go (native.Mathlib.Decide.dec_le harts_at_most m)
-    where
-      go : Dec (harts_at_most ≤ m) → m < harts_at_most
-      go (yes high) = absurd (p.slots.no_more m g high st)
-      go (no low) = Rattle.std.proofs.Common.lt_of_not-le low
-
   -- a grant of the state that took the slot is the winner
   record Winning (a : ℕ) (x : Granting) : Type 0 where
     hart_of : ℕ
@@ -105,7 +97,7 @@ module _ (s : State) (won : List ℕ) (number : ℕ → Grant → ℕ) (word : �
       let d : ℕ = place_of a in
       let at : SlotIs (word (value_at d)) (kept_at kept) _ (row_of kept) _ (p.slots.winner d) d = p.slots.each_slot d (place_low a da, is.role a da ∙ e) in
       let by = at.by m g some' in
-      let low : m < harts_at_most = in_reach m g by.1 in
+      let low : m < harts_at_most = in_reach p.slots m g by.1 in
       let place : place_of g.entry.slot ≡ d = at_place g d by.0.1 in
       let x = is.granted m g low by.1 (subst (λ n. IsOf (kept_at kept) n g) (sym place) by.0) in
       exchanged x.0

@@ -37,7 +37,7 @@ module _ (k : KeeperView) (m : ℕ) (r : Row) (low : m < length k.rows) where
 abbrev pub unseen : Kept → Kept
 unseen x = record x { fixed = None }
 
-fixed_same : (n : ℕ) (b : Bool) (x : Kept) → unseen (fixed_if n b x) ≡ unseen x
+pub fixed_same : (n : ℕ) (b : Bool) (x : Kept) → unseen (fixed_if n b x) ≡ unseen x
 fixed_same n true x = refl
 fixed_same n false x = refl
 

@@ -99,7 +99,7 @@ known_begins word count m r l es is = go l.calling is.stage
     go false st = still st.1
     go true st = ⊎_elim (λ (w : Awaits (word (state_at m)) × Still r l). still w.1) (λ (a : Answered (word (state_at m)) r l). answered l.offer refl a) st
 
--- a hart that isn't calling, or has read its row in full, knows all that was issued to it
+-- a hart that doesn't call, or that knows all of its row, knows all that was issued to it
 knows_all : (word : ℕ → ℕ) (count m : ℕ) (r : Row) (l : Lane) (es : List Entry) → RowIs word count m r l es → IsSettled l → known_of l ≡ r.issued
 knows_all word count m r l es is settled = ⊎_elim
     (λ (idle : l.calling ≡ false). let st = subst (Stage (word (state_at m)) r l) idle is.stage in ap (λ o. l.taken ++ read_of o) st.1.no_offer ∙ (append-nil l.taken ∙ st.1.all))

@@ -656,7 +656,7 @@ module _ (word : ℕ → ℕ) (k : KeeperView) (tried : ℕ → Option Exchange)
   abbrev KeepsSlots : KeeperKind → Type 0
   KeepsSlots kind = KeeperReady kind k → After (put word (keeper_word kind) (becomes (keeper_op kind) (word (keeper_word kind)))) (keeper_after kind k (word (keeper_word kind)))
 
-  -- what the other parts tell: the keeper's locked word is in range and has the value that it holds, and a hart that is known to call has tried nothing
+  -- what the other parts tell: the keeper's locked word is in range and has the value that it holds, and a hart that was found calling has tried nothing
   pub keeper_slots : (place : (d : ℕ) → k.access.locked ≡ Some d → d < doublewords) → (held : (d x : ℕ) → k.access.locked ≡ Some d → k.access.held ≡ Some x → word (value_at d) ≡ x)
       → ((m c : ℕ) → m < harts_at_most → (row_of k m).since ≡ Some c → tried m ≡ None) → (kind : KeeperKind) → KeepsSlots kind
   keeper_slots place held still (kinds.Look d) ready = freed (put word (control_at d) (word (control_at d))) (at_control d (word (control_at d)))

@@ -23,12 +23,12 @@ module _ {A : Type 0} where
   pub put_same : (f : ℕ → A) (i : ℕ) (a : A) → f i ≡ a → put f i a ≡ f
   put_same f i a e = ext (put f i a) f (put_each (λ j x. x ≡ f j) f i a (λ j _. refl) (sym e))
 
-  set_at : (l : List A) (i j : ℕ) (a d : A) → i < length l → j ≢ i → get_or (set l i a) j d ≡ get_or l j d
-  set_at [] i j a d low apart = refl
-  set_at (x ∷ xs) zero zero a d low apart = absurd (apart refl)
-  set_at (x ∷ xs) zero (suc j) a d low apart = refl
-  set_at (x ∷ xs) (suc i) zero a d low apart = refl
-  set_at (x ∷ xs) (suc i) (suc j) a d low apart = set_at xs i j a d (omega arith) (λ e. apart (ap suc e))
+  pub set_at : (l : List A) (i j : ℕ) (a d : A) → j ≢ i → get_or (set l i a) j d ≡ get_or l j d
+  set_at [] i j a d apart = refl
+  set_at (x ∷ xs) zero zero a d apart = absurd (apart refl)
+  set_at (x ∷ xs) zero (suc j) a d apart = refl
+  set_at (x ∷ xs) (suc i) zero a d apart = refl
+  set_at (x ∷ xs) (suc i) (suc j) a d apart = set_at xs i j a d (λ e. apart (ap suc e))
 
   set_there : (l : List A) (i : ℕ) (a d : A) → i < length l → get_or (set l i a) i d ≡ a
   set_there [] i a d low = absurd (omega arith)
@@ -39,7 +39,7 @@ module _ {A : Type 0} where
   pub set_put : (l : List A) (i : ℕ) (a d : A) → i < length l → put (λ j. get_or l j d) i a ≡ (λ j. get_or (set l i a) j d)
   set_put l i a d low = ext (put (λ j. get_or l j d) i a) (λ j. get_or (set l i a) j d) (λ j. dite (ℕ_discrete j i)
       (λ (e : j ≡ i). subst (λ n. put (λ x. get_or l x d) i a n ≡ get_or (set l i a) n d) (sym e) (put_here (λ x. get_or l x d) i a ∙ sym (set_there l i a d low)))
-      (λ (apart : j ≢ i). put_else (λ x. get_or l x d) i a j apart ∙ sym (set_at l i j a d low apart)))
+      (λ (apart : j ≢ i). put_else (λ x. get_or l x d) i a j apart ∙ sym (set_at l i j a d apart)))
 
 -- a field of the values
 pub put_field : {A B : Type 0} (g : A → B) (f : ℕ → A) (i : ℕ) (a : A) → put (after g f) i (g a) ≡ after g (put f i a)

@@ -1,7 +1,7 @@
 -- The part on slots and grants, over changes that touch few of them.
-use Rattle.std.proofs.Common.{◌≡◌, ◌≢◌, ◌⊎◌, ⊎_elim, inl, inr, ℕ, ◌+◌, ◌-◌, ◌*◌, ◌/◌, ◌≤◌, ◌<◌, List, Option, Some, refl, sym, ap, subst, ◌∙◌, arith}
+use Rattle.std.proofs.Common.{◌≡◌, ◌≢◌, ◌⊎◌, ⊎_elim, inl, inr, ℕ, ◌+◌, ◌-◌, ◌*◌, ◌/◌, ◌≤◌, ◌<◌, List, Option, Some, refl, sym, ap, subst, ◌∙◌, arith, lt_of_not-le}
 use mathlib.Core.Logic.{dite}
-use native.Mathlib.Decide.{ℕ_discrete}
+use native.Mathlib.Decide.{ℕ_discrete, dec_le}
 use Rattle.guest_rule.specs.declared.entry.Exchange.{Exchange}
 use Rattle.guest_rule.specs.declared.entry.Grant.{Grant}
 use Rattle.guest_rule.specs.declared.view.Kept.{Kept}
@@ -23,6 +23,15 @@ place_at d = go d (8 * d) refl
 
 pub at_place : (g : Grant) (d : ℕ) → g.entry.slot ≡ address_of d → place_of g.entry.slot ≡ d
 at_place g d e = ap place_of e ∙ place_at d
+
+-- a hart with a grant that stands has a row
+pub in_reach : {word : ℕ → ℕ} {known : ℕ → Kept} {locked : Option ℕ} {count : ℕ} {row : ℕ → Row} {tried : ℕ → Option Exchange} {exchanges : ℕ → List Exchange}
+    → Slots word known locked count row tried exchanges → (m : ℕ) (g : Grant) → Stands (row m) g → m < harts_at_most
+in_reach {row} slots m g st = go (dec_le harts_at_most m)
+  where
+    go : Dec (harts_at_most ≤ m) → m < harts_at_most
+    go (yes high) = absurd (slots.no_more m g high st)
+    go (no low) = lt_of_not-le low
 
 -- the words of slots and the states of rows are as they were
 pub record SameSlots (word word' : ℕ → ℕ) (known : ℕ → Kept) : Type 0 where

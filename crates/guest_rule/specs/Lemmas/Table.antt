@@ -1,4 +1,4 @@
--- A seat that is ready for a kind may take its step on a table of atomic words.
+-- On a table of atomic words the step of a kind is allowed to each seat that is ready for it.
 use Rattle.std.proofs.Common.{◌≡◌, ◌≢◌, ℕ, ◌+◌, ◌%◌, ◌^◌, ◌<◌, List, [], refl, sym, ap, subst, ◌∙◌, slice_index, slice_set, ◌==◌}
 use mathlib.Core.Option.{some, none}
 use prog.Atomic.{either}

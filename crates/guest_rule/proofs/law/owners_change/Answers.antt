@@ -1,11 +1,8 @@
-use Rattle.guest_rule.specs.Lemmas.Unlocking.{kinds_unlock, locked_stay, only_owners_change, unlocks_raise}
+use Rattle.guest_rule.specs.Lemmas.Owners.{locked_stay, only_owners_change, unlocks_raise}
 use Rattle.guest_rule.proofs.law.owners_change.Goals as goal
 
 pub returns-clause-raise : goal.returns-clause-raise
 returns-clause-raise c = unlocks_raise
-
-pub returns-clause-kinds : goal.returns-clause-kinds
-returns-clause-kinds c = kinds_unlock
 
 pub returns-clause-owners : goal.returns-clause-owners
 returns-clause-owners c = only_owners_change

@@ -1,4 +1,4 @@
-use Rattle.guest_rule.specs.Lemmas.Unlocking.{only_rows_owners_change, only_tally_counts}
+use Rattle.guest_rule.specs.Lemmas.Owners.{only_rows_owners_change, only_tally_counts}
 use Rattle.guest_rule.proofs.law.rows_have_owners.Goals as goal
 
 pub returns-clause-rows : goal.returns-clause-rows

@@ -1,4 +1,4 @@
-use Rattle.guest_rule.proofs.Worked.{another_has_locked, conditional_fails, conditional_is_refused, look_keeps, one_locks, one_wins, role_comes_and_goes, store_is_owed}
+use Rattle.guest_rule.proofs.Worked.{another_has_locked, conditional_fails, conditional_is_refused, lock_is_shown, look_keeps, one_locks, one_wins, role_comes_and_goes, row_goes_round, store_is_owed}
 use Rattle.guest_rule.proofs.law.worked_steps.Goals as goal
 
 pub returns-clause-one_locks : goal.returns-clause-one_locks
@@ -24,3 +24,9 @@ returns-clause-store_is_owed c = store_is_owed
 
 pub returns-clause-looks : goal.returns-clause-looks
 returns-clause-looks c = look_keeps
+
+pub returns-clause-shown : goal.returns-clause-shown
+returns-clause-shown c = lock_is_shown
+
+pub returns-clause-rows : goal.returns-clause-rows
+returns-clause-rows c = row_goes_round
