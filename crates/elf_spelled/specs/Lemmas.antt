@@ -3,4 +3,5 @@ pub mod Bytes
 pub mod Reading
 pub mod Rows
 pub mod Starting
+pub mod Strings
 pub mod Telling

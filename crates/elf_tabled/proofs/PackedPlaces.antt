@@ -1,5 +1,5 @@
 -- The packed places.
-use Rattle.std.proofs.Common.{◌≡◌, ◌∙◌, ap, sym, refl, ℕ, zero, suc, ◌+◌, ◌-◌, ◌*◌, ◌/◌, ◌%◌, ◌^◌, ◌<◌, ◌==◌, ◌&&◌, nat_le, nat_lt, Bool, true, false, if◌then◌else◌, List, [], ◌∷◌, ◌++◌, length, map, fold, take, drop, arith, length-append, bit_or}
+use Rattle.std.proofs.Common.{◌≡◌, ◌∙◌, ap, sym, refl, ℕ, zero, suc, ◌+◌, ◌-◌, ◌*◌, ◌/◌, ◌%◌, ◌^◌, ◌<◌, ◌==◌, ◌&&◌, nat_le, nat_lt, Bool, true, false, if◌then◌else◌, List, [], ◌∷◌, ◌++◌, length, map, fold, take, drop, arith, bit_or}
 use Rattle.std.specs.Prelude.{Option, Some, None}
 use Rattle.std.specs.Int.{w64, to_le_bytes}
 use Rattle.std.proofs.lemmas.Bool.{and_parts, ltb-true}
@@ -9,6 +9,7 @@ use Rattle.elf_dynamic.specs.Parts.{AreWords, NamePlaces, bits_of}
 use Rattle.elf_write.specs.declared.field.Field.TheVariants.{Doubleword}
 use Rattle.elf_write.specs.Relr.{bit_of, is_in_map, map_of, mapped_count, relr_words, with_place, words_within}
 use Rattle.elf_write.specs.Values.{doublewords}
+use Rattle.elf_written.specs.Lemmas.Lengths.{doublewords_length}
 use Rattle.elf_records.specs.Standing.{StandAt}
 use Rattle.elf_records.specs.Lemmas.Fields.{one_read}
 use Rattle.elf_records.specs.Lemmas.Standing.{field_read}
@@ -99,14 +100,10 @@ no_words (place ∷ places) none = absurd (omega (arith, none))
 
 -- Doublewords by their bytes
 
-pub doublewords_long : (ws : List ℕ) → length (doublewords ws) ≡ 8 * length ws
-doublewords_long [] = refl
-doublewords_long (w ∷ ws) = let rest = doublewords_long ws in omega (arith, length-append (to_le_bytes w64 w) (doublewords ws), rest)
-
-pub doublewords_read : (ws words : List ℕ) → AllBelow (2 ^ 64) ws → AreWords (doublewords ws) words → words ≡ ws
-doublewords_read ws words all are =
+pub words_are : (ws words : List ℕ) → AllBelow (2 ^ 64) ws → AreWords (doublewords ws) words → words ≡ ws
+words_are ws words all are =
     let bytes = doublewords ws in
-    let count : length bytes / 8 ≡ length ws = let long = doublewords_long ws in omega (arith, long) in
+    let count : length bytes / 8 ≡ length ws = let long = doublewords_length ws in omega (arith, long) in
     same_elements words ws (are.count ∙ count) (λ i inside.
     let (w, is) = at_index ws i inside in
     let (word, at) = at_index words i (let n = are.count in omega (arith, inside, n, count)) in

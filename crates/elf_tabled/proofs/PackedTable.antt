@@ -20,13 +20,14 @@ use Rattle.elf_write.specs.Relr.{relr_words}
 use Rattle.elf_write.specs.Sizes.{has_packed, packed_count, segments_of}
 use Rattle.elf_write.specs.Starts.{address_in, size_in, start_in, starts_of}
 use Rattle.elf_write.specs.Values.{doublewords, packed_places, relr_bytes}
+use Rattle.elf_written.specs.Lemmas.Lengths.{doublewords_length}
 use Rattle.elf_records.specs.Standing.{StandAt}
 use Rattle.elf_spelled.specs.Said.{AllBelow, IsTold, said_head, said_tags, told_if}
 use Rattle.elf_spelled.specs.Lemmas.Bytes.{held_bytes, none_bad, table_bytes}
 use Rattle.elf_spelled.specs.Lemmas.Reading.{all_placed, part_read}
 use Rattle.elf_spelled.specs.Lemmas.Starting.{Apart}
 use Rattle.elf_spelled.specs.Lemmas.Telling.{told_is}
-use Rattle.elf_tabled.proofs.PackedPlaces.{doublewords_long, doublewords_read, no_words, one_list, some_words, words_below}
+use Rattle.elf_tabled.proofs.PackedPlaces.{no_words, one_list, some_words, words_are, words_below}
 
 -- addresses are numbers of 64 bits
 places_below : (starts : Starts) (fixes : List Fix) → AllBelow (2 ^ 64) (map (λ fix. address_in starts fix.spot) fixes)
@@ -47,7 +48,7 @@ module _ (starts : Starts) (fixes : List Fix) where
   unfolding relr_bytes
   packed_read words places named are said =
       let made = relr_words (packed_places starts fixes) in
-      let same = doublewords_read made words (words_below (packed_places starts fixes) (places_below starts (filter has_packed fixes))) are in
+      let same = words_are made words (words_below (packed_places starts fixes) (places_below starts (filter has_packed fixes))) are in
       one_list made 0 places (packed_places starts fixes) (subst (λ (ws : List ℕ). NamePlaces 0 ws places) same said) named
 
 module _ (apart : Apart) (contents : Contents) (bytes : List ℕ) (program : Bool) (said : DynParts) (same : said.tags ≡ said_tags contents)
@@ -69,7 +70,7 @@ module _ (apart : Apart) (contents : Contents) (bytes : List ℕ) (program : Boo
       let positive = ltb-true 0 (packed_count contents) some in
       let count = counted contents in
       let words = some_words (packed_places (starts_of contents) contents.fixes) (omega (arith, positive, count)) in
-      let size = doublewords_long (relr_words (packed_places (starts_of contents) contents.fixes)) in
+      let size = doublewords_length (relr_words (packed_places (starts_of contents) contents.fixes)) in
       omega (arith, words, size, long)
 
   no_bytes : nat_lt 0 (packed_count contents) ≡ false → relr_bytes (starts_of contents) contents.fixes ≡ []

@@ -1,11 +1,10 @@
 //! The laws.
 
-ghost use Rattle.std.specs.Prelude.{◌≡◌, ◌+◌, Bool, List, ℕ, Some, length};
-ghost use Rattle.std.specs.List.{slice_get};
+ghost use Rattle.std.specs.Prelude.{◌≡◌, ◌+◌, ◌∷◌, Bool, List, ℕ, length};
 ghost use Rattle.ld_base.specs.declared.object.Reloc.{Reloc};
 ghost use Rattle.ld_base.specs.declared.object.Symbol.{Symbol};
 ghost use Rattle.ld_base.specs.declared.parts.DynParts.{DynParts};
-ghost use Rattle.elf_dynamic.specs.Parts.{AreRelocs, AreSymbols, AreWords, IsNameAt, NamePlaces};
+ghost use Rattle.elf_dynamic.specs.Parts.{AreRelocs, AreSymbols, AreWords, NamePlaces};
 ghost use Rattle.elf_dynamic.specs.Verdict.{SpellsDynamic};
 ghost use Rattle.elf_write.specs.declared.contents.Contents.{Contents};
 ghost use Rattle.elf_write.specs.declared.contents.Fix.{Fix};
@@ -15,9 +14,9 @@ ghost use Rattle.elf_write.specs.declared.starts.Starts.{Starts};
 ghost use Rattle.elf_write.specs.Starts.{starts_of};
 ghost use Rattle.elf_write.specs.Values.{object_bytes, packed_places, rela_bytes, relr_bytes, symbol_bytes};
 ghost use Rattle.elf_written.specs.Placed.{AreAscending};
-ghost use Rattle.elf_spelled.specs.Said.{TellsNumbers, said_head};
+ghost use Rattle.elf_spelled.specs.Said.{AreSaidBy, TellsNumbers, said_head};
 ghost use Rattle.elf_spelled.specs.Whole.{IsWhole};
-ghost use Rattle.elf_tabled.specs.Tables.{AreSymbolNumbers, ListedFit, SaysNames, SymbolsFit, said_relocs, said_slots, said_symbol};
+ghost use Rattle.elf_tabled.specs.Tables.{AreSymbolNumbers, ListedFit, SaysNames, SaysSymbol, SymbolsFit, null_entry, said_relocs, said_slots};
 
 use elf_spelled::{parts_stand_at_their_starts, the_table_tells, the_tags_are_spelled};
 use elf_written::{
@@ -68,11 +67,10 @@ pub fn the_names_are_spelled()
     the_tags_are_spelled();
 }
 
-/// Of as many symbols as there are, the null symbol counted, the reader finds each behind that one, with the string at its name's offset.
+/// Of as many symbols as there are, the null symbol counted, the reader finds that one and then each other, with the string at its name's offset.
 pub fn the_table_of_symbols()
     ensures { (starts : Starts) (entries : List SymbolEntry) (strings : List ℕ) (read : List Symbol) → SymbolsFit starts entries
-        → AreSymbols (symbol_bytes starts entries) strings (1 + length entries) read → (i : ℕ) (entry : SymbolEntry) → slice_get entries i ≡ Some entry
-        → (name : List ℕ) × IsNameAt strings entry.name name × (slice_get read (1 + i) ≡ Some (said_symbol starts entry name)) }
+        → AreSymbols (symbol_bytes starts entries) strings (1 + length entries) read → AreSaidBy (SaysSymbol starts strings) (null_entry ∷ entries) read }
 {}
 
 /// The words of a packed table name one list of places.

@@ -1,5 +1,5 @@
 -- The versions that are needed, file by file.
-use Rattle.std.proofs.Common.{◌≡◌, ◌∙◌, ap, sym, subst, refl, ℕ, zero, suc, ◌+◌, ◌-◌, ◌*◌, ◌%◌, ◌<◌, ◌≤◌, ◌==◌, Bool, List, [], ◌∷◌, ◌++◌, length, map, take, drop, flat_map, arith, length-append, length-take-le}
+use Rattle.std.proofs.Common.{◌≡◌, ◌∙◌, ap, sym, subst, refl, ℕ, zero, suc, ◌+◌, ◌-◌, ◌*◌, ◌%◌, ◌<◌, ◌≤◌, ◌==◌, Bool, List, [], ◌∷◌, ◌++◌, length, map, take, drop, flat_map, arith, length-take-le}
 use Rattle.std.specs.Prelude.{Some, ⊤}
 use Rattle.std.specs.List.{slice_get}
 use Rattle.std.proofs.lemmas.Option.{slice_get_within}
@@ -15,6 +15,7 @@ use Rattle.elf_write.specs.declared.contents.NeededVersion.{NeededVersion}
 use Rattle.elf_write.specs.Fields.{record_bytes}
 use Rattle.elf_write.specs.Records.{need_fields, needed_fields}
 use Rattle.elf_write.specs.Values.{verneed_bytes}
+use Rattle.elf_written.specs.Lemmas.Lengths.{each}
 use Rattle.elf_records.specs.Reads.{ReadsNeed, ReadsNeeded}
 use Rattle.elf_records.specs.Standing.{StandAt}
 use Rattle.elf_records.specs.Lemmas.Records.{need, needed}
@@ -42,8 +43,7 @@ unfolding record_bytes needed_fields
 long_version version = refl
 
 long_files : (files : List NeedRecord) → length (flat_map file_row files) ≡ 16 * length files
-long_files [] = refl
-long_files (file ∷ files) = let one = long_file file in let rest = long_files files in omega (arith, length-append (file_row file) (flat_map file_row files), one, rest)
+long_files files = each file_row 16 long_file files
 
 -- elements of the first and of the rest of a list
 of_taken : {A : Type 0} (n : ℕ) (xs : List A) (i : ℕ) (x : A) → slice_get (take n xs) i ≡ Some x → slice_get xs i ≡ Some x

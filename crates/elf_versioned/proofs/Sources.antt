@@ -1,6 +1,6 @@
 -- What the records of versions are read from.
-use Rattle.std.proofs.Common.{◌≡◌, ◌∙◌, ap, sym, refl, ℕ, ◌+◌, ◌-◌, ◌<◌, ◌≤◌, Bool, List, [], length, inl, inr, ◌⊎◌}
-use Rattle.std.specs.Prelude.{Some, None, Option, unwrap_or}
+use Rattle.std.proofs.Common.{◌≡◌, ◌∙◌, ap, ℕ, ◌+◌, ◌-◌, ◌<◌, ◌≤◌, Bool, List, [], length}
+use Rattle.std.specs.Prelude.{unwrap_or}
 use Rattle.std.specs.Option.{option_map_or}
 use Rattle.ld_base.specs.Field.{field}
 use Rattle.ld_base.specs.declared.parts.DynParts.{DynParts}
@@ -8,7 +8,6 @@ use Rattle.ld_base.specs.declared.parts.Tag.{Tag}
 use Rattle.elf_head.specs.Readable.{file_bytes}
 use Rattle.dyn_table.specs.Tag.{last_of, value_of}
 use Rattle.dyn_table.specs.TagNumbers.{dt_strsz, dt_strtab}
-use Rattle.elf_dynamic.specs.Breaks.{no_strings}
 use Rattle.elf_dynamic.specs.Verdict.{SpellsDynamic}
 use Rattle.elf_versions.specs.Record.{distance}
 use Rattle.elf_versions.specs.Source.{Source}
@@ -16,17 +15,12 @@ use Rattle.elf_versions.specs.Spells.{StandsAt}
 use Rattle.elf_versions.specs.Verdict.{strings_of}
 use Rattle.elf_write.specs.declared.contents.Contents.{Contents}
 use Rattle.elf_write.specs.declared.part.Part.TheVariants as parts
-use Rattle.elf_write.specs.Sizes.{segments_of}
 use Rattle.elf_write.specs.Starts.{size_in, start_in, starts_of}
 use Rattle.elf_records.specs.Standing.{StandAt}
 use Rattle.elf_spelled.specs.Said.{IsTold, said_head, said_tags}
-use Rattle.elf_spelled.specs.Lemmas.Bytes.{held_bytes, none_bad}
-use Rattle.elf_spelled.specs.Lemmas.Reading.{ArePlaced, all_placed, fields_at, part_read, some_is}
+use Rattle.elf_spelled.specs.Lemmas.Reading.{ArePlaced, fields_at}
 use Rattle.elf_spelled.specs.Lemmas.Starting.{Apart}
-
-some_or_none : {A : Type 0} (o : Option A) → ((x : A) × (o ≡ Some x)) ⊎ (o ≡ None)
-some_or_none None = inr refl
-some_or_none (Some x) = inl (x, refl)
+use Rattle.elf_spelled.specs.Lemmas.Strings.{strings_stand}
 
 -- the distance of a record that stands
 pub distance_read : (src : Source) (size offset at : ℕ) (r : List ℕ) → StandsAt src size at r → distance src size offset at ≡ field 4 r offset
@@ -47,22 +41,8 @@ unfolding strings_of
 strings_read apart contents bytes program said same table spells stand long =
     let headers = (said_head contents).headers in
     let start = start_in (starts_of contents) parts.Strings in
-    let size = size_in (starts_of contents) parts.Strings in
     let at : (tag : ℕ) → last_of said.tags tag ≡ last_of (said_tags contents) tag = λ tag. ap (λ (tags : List Tag). last_of tags tag) same in
     let start_is : value_of said.tags dt_strtab ≡ start = ap (λ o. unwrap_or o 0) (at dt_strtab ∙ table.strings) in
-    let size_is : value_of said.tags dt_strsz ≡ size = ap (λ o. unwrap_or o 0) (at dt_strsz ∙ table.strings_size) in
-    let found = file_bytes bytes headers start size in
-    let is : unwrap_or found [] ≡ contents.strings = elim (some_or_none found) as (λ _. unwrap_or found [] ≡ contents.strings) [
-      | inl there ↦
-          ap (λ o. unwrap_or o []) there.1
-          ∙ part_read bytes headers (start_in (starts_of contents) parts.Head) start size contents.strings there.0 (all_placed apart contents (segments_of contents)) stand long there.1
-      | inr none ↦ absurd (none_bad bytes (said_head contents) program said spells dt_strtab (no_strings (λ s range held.
-          let (r, there) = held_bytes bytes headers s.start s.size held in
-          let start_there : s.start ≡ start = some_is s.start start (sym range.start ∙ at dt_strtab ∙ table.strings) in
-          let size_there : s.size ≡ size = some_is s.size size (sym range.bytes ∙ at dt_strsz ∙ table.strings_size) in
-          none_some r (sym none ∙ sym (ap (λ n. file_bytes bytes headers n s.size) start_there ∙ ap (file_bytes bytes headers start) size_there) ∙ there))))
-    ] in
-    ap (λ n. unwrap_or (file_bytes bytes headers n (value_of said.tags dt_strsz)) []) start_is ∙ ap (λ n. unwrap_or (file_bytes bytes headers start n) []) size_is ∙ is
-  where
-    none_some : (r : List ℕ) → None ≡ Some r → ⊥
-    none_some r is = absurd cc
+    let size_is : value_of said.tags dt_strsz ≡ size_in (starts_of contents) parts.Strings = ap (λ o. unwrap_or o 0) (at dt_strsz ∙ table.strings_size) in
+    ap (λ n. unwrap_or (file_bytes bytes headers n (value_of said.tags dt_strsz)) []) start_is ∙ ap (λ n. unwrap_or (file_bytes bytes headers start n) []) size_is
+    ∙ ap (λ o. unwrap_or o []) (strings_stand apart contents bytes program said same table spells stand long)

@@ -1,16 +1,12 @@
 -- The version indexes of symbols.
-use Rattle.std.proofs.Common.{◌≡◌, ◌∙◌, ap, refl, ℕ, ◌+◌, ◌*◌, ◌^◌, List, [], ◌∷◌, ◌++◌, length, map, flat_map, arith, true}
+use Rattle.std.proofs.Common.{◌≡◌, ◌∙◌, ap, refl, ℕ, ◌+◌, ◌^◌, List, [], ◌∷◌, ◌++◌, length, map, flat_map, arith, true}
 use Rattle.std.specs.Int.{w16, to_le_bytes}
 use Rattle.ld_base.specs.Field.{field}
 use Rattle.acceptance.specs.Table.{table}
 use Rattle.elf_write.specs.declared.contents.SymbolEntry.{SymbolEntry}
-use Rattle.elf_write.specs.declared.field.Field.TheVariants.{Half}
 use Rattle.elf_write.specs.Values.{versym_bytes}
-use Rattle.elf_records.specs.Standing.{StandAt}
-use Rattle.elf_records.specs.Lemmas.Fields.{one_read}
-use Rattle.elf_records.specs.Lemmas.Standing.{field_read}
 use Rattle.elf_spelled.specs.Said.{AllBelow}
-use Rattle.elf_spelled.specs.Lemmas.Rows.{below_at, length-map, rows, table_of}
+use Rattle.elf_spelled.specs.Lemmas.Rows.{halves_read, length-map, whole}
 
 halves : List ℕ → List ℕ
 halves numbers = flat_map (to_le_bytes w16) numbers
@@ -20,19 +16,6 @@ unfolding halves
 of_symbols [] = refl
 of_symbols (symbol ∷ symbols) = ap (λ (rest : List ℕ). to_le_bytes w16 symbol.version ++ rest) (of_symbols symbols)
 
-same_map : (numbers : List ℕ) → map (λ n. n) numbers ≡ numbers
-same_map [] = refl
-same_map (n ∷ numbers) = ap (λ (ns : List ℕ). n ∷ ns) (same_map numbers)
-
-halves_read : (numbers : List ℕ) → AllBelow (2 ^ 16) numbers → table (field 2 (halves numbers)) 0 2 (length numbers) ≡ numbers
-unfolding halves
-halves_read numbers low =
-    let bytes = flat_map (to_le_bytes w16) numbers in
-    table_of (λ (n : ℕ). n) (field 2 bytes) 2 numbers (λ i n is.
-    let stand : StandAt bytes (2 * i) (to_le_bytes w16 n) = rows (to_le_bytes w16) 2 (λ x. refl) numbers i n is in
-    let place : 2 * i ≡ 2 * i + 0 = omega arith in
-    ap (field 2 bytes) place ∙ field_read 2 bytes (to_le_bytes w16 n) (2 * i) 0 stand (omega arith) ∙ one_read (Half n) (below_at (2 ^ 16) numbers low i n is)) ∙ same_map numbers
-
 pub versym_read : (symbols : List SymbolEntry) → AllBelow (2 ^ 16) (map (λ symbol. symbol.version) symbols)
     → table (field 2 (versym_bytes true symbols)) 0 2 (1 + length symbols) ≡ 0 ∷ map (λ symbol. symbol.version) symbols
 unfolding versym_bytes halves
@@ -40,4 +23,4 @@ versym_read symbols low =
     let numbers = map (λ (symbol : SymbolEntry). symbol.version) symbols in
     let bytes : versym_bytes true symbols ≡ halves (0 ∷ numbers) = ap (λ (rest : List ℕ). 0 ∷ 0 ∷ rest) (of_symbols symbols) in
     let count : 1 + length symbols ≡ length (0 ∷ numbers) = let long = length-map (λ (symbol : SymbolEntry). symbol.version) symbols in omega (arith, long) in
-    ap (λ (part : List ℕ). table (field 2 part) 0 2 (1 + length symbols)) bytes ∙ ap (table (field 2 (halves (0 ∷ numbers))) 0 2) count ∙ halves_read (0 ∷ numbers) (omega arith, low)
+    ap (λ (part : List ℕ). table (field 2 part) 0 2 (1 + length symbols)) bytes ∙ ap (table (field 2 (halves (0 ∷ numbers))) 0 2) count ∙ halves_read (halves (0 ∷ numbers)) 0 (0 ∷ numbers) (omega arith, low) (whole (halves (0 ∷ numbers)))

@@ -1,13 +1,18 @@
 -- Records of one size stand one behind the other, and make up a table.
-use Rattle.std.proofs.Common.{◌≡◌, ◌∙◌, ap, sym, subst, refl, ℕ, zero, suc, ◌+◌, ◌*◌, ◌<◌, List, [], ◌∷◌, ◌++◌, length, flat_map, map, arith, length-append}
+use Rattle.std.proofs.Common.{◌≡◌, ◌∙◌, ap, sym, subst, refl, ℕ, zero, suc, ◌+◌, ◌-◌, ◌*◌, ◌^◌, ◌<◌, ◌≤◌, List, [], ◌∷◌, ◌++◌, length, flat_map, map, arith, length-append}
 use Rattle.std.specs.Prelude.{Some}
+use Rattle.std.specs.Int.{w16, w32, w64, to_le_bytes}
 use Rattle.std.specs.List.{slice_get}
 use Rattle.std.proofs.lemmas.Option.{slice_get_within}
 use Rattle.acceptance.specs.Table.{table}
 use Rattle.acceptance.specs.Lemmas.Tables.{get-table, length-table, same_elements}
+use Rattle.ld_base.specs.Field.{field}
+use Rattle.elf_write.specs.declared.field.Field.TheVariants.{Half, Word, Doubleword}
+use Rattle.elf_write.specs.Values.{doublewords, words}
 use Rattle.elf_records.specs.Standing.{StandAt}
 use Rattle.elf_spelled.specs.Said.{AllBelow, AreSaidBy}
-use Rattle.elf_records.specs.Lemmas.Standing.{front, behind, within}
+use Rattle.elf_records.specs.Lemmas.Fields.{one_read}
+use Rattle.elf_records.specs.Lemmas.Standing.{behind, field_read, front, within}
 
 pub rows : {X : Type 0} (f : X → List ℕ) (size : ℕ) → ((x : X) → length (f x) ≡ size) → (xs : List X) (i : ℕ) (x : X) → slice_get xs i ≡ Some x
     → StandAt (flat_map f xs) (size * i) (f x)
@@ -85,3 +90,39 @@ said_behind Says records others all rest first second = record {
     joined Says (r ∷ records) others (y ∷ all) rest long first second zero x is = first zero x is
     joined Says (r ∷ records) others (y ∷ all) rest long first second (suc i) x is =
         joined Says records others all rest (omega (arith, long)) (λ j. first (suc j)) second i x is
+
+-- bytes stand in themselves
+pub whole : (bytes : List ℕ) → StandAt bytes 0 bytes
+whole bytes k byte is = let same : k ≡ 0 + k = omega arith in subst (λ n. slice_get bytes n ≡ Some byte) same is
+
+-- bytes that stand in others end within them
+pub reaches : (bytes part : List ℕ) (at : ℕ) → StandAt bytes at part → 0 < length part → at + length part ≤ length bytes
+reaches bytes part at stand some =
+    let (byte, is) = at_index part (length part - 1) (omega (arith, some)) in
+    let inside = slice_get_within bytes (at + (length part - 1)) byte (stand (length part - 1) byte is) in
+    omega (arith, some, inside)
+
+-- numbers whose bytes stand one behind the other
+pub numbers_read : (size bound : ℕ) (bytes_of : ℕ → List ℕ) → ((n : ℕ) → length (bytes_of n) ≡ size) → ((n : ℕ) → n < bound → field size (bytes_of n) 0 ≡ n)
+    → (bytes : List ℕ) (at : ℕ) (numbers : List ℕ) → AllBelow bound numbers → StandAt bytes at (flat_map bytes_of numbers)
+    → table (field size bytes) at size (length numbers) ≡ numbers
+numbers_read size bound bytes_of sized one bytes at numbers low stand =
+    same_elements (table (field size bytes) at size (length numbers)) numbers (length-table (field size bytes) at size (length numbers)) (λ i inside.
+    let (n, is) = at_index numbers i inside in
+    let here = within bytes (flat_map bytes_of numbers) (bytes_of n) at (size * i) stand (rows bytes_of size sized numbers i n is) in
+    let place : at + size * i ≡ at + size * i + 0 = omega arith in
+    let read : field size bytes (at + size * i) ≡ n
+    = ap (field size bytes) place ∙ field_read size bytes (bytes_of n) (at + size * i) 0 here (let long = sized n in omega (arith, long)) ∙ one n (below_at bound numbers low i n is) in
+    get-table (field size bytes) at size (length numbers) i inside ∙ ap Some read ∙ sym is)
+
+-- halves, words and doublewords
+pub halves_read : (bytes : List ℕ) (at : ℕ) (numbers : List ℕ) → AllBelow (2 ^ 16) numbers → StandAt bytes at (flat_map (to_le_bytes w16) numbers)
+    → table (field 2 bytes) at 2 (length numbers) ≡ numbers
+halves_read bytes at numbers low stand = numbers_read 2 (2 ^ 16) (to_le_bytes w16) (λ n. refl) (λ n fits. one_read (Half n) fits) bytes at numbers low stand
+
+pub words_read : (bytes : List ℕ) (at : ℕ) (numbers : List ℕ) → AllBelow (2 ^ 32) numbers → StandAt bytes at (words numbers) → table (field 4 bytes) at 4 (length numbers) ≡ numbers
+words_read bytes at numbers low stand = numbers_read 4 (2 ^ 32) (to_le_bytes w32) (λ n. refl) (λ n fits. one_read (Word n) fits) bytes at numbers low stand
+
+pub doublewords_read : (bytes : List ℕ) (at : ℕ) (numbers : List ℕ) → AllBelow (2 ^ 64) numbers → StandAt bytes at (doublewords numbers)
+    → table (field 8 bytes) at 8 (length numbers) ≡ numbers
+doublewords_read bytes at numbers low stand = numbers_read 8 (2 ^ 64) (to_le_bytes w64) (λ n. refl) (λ n fits. one_read (Doubleword n) fits) bytes at numbers low stand
