@@ -6,10 +6,10 @@ use Rattle.std.specs.Option.{option_copied, option_or}
 use Rattle.std.proofs.lemmas.Bool.{true≢false}
 use Rattle.std.proofs.lemmas.List.{append-nil, length-append}
 use Rattle.std.proofs.lemmas.List.Folds.{find-append, list_any-append}
-use Rattle.std.proofs.lemmas.Slice.Eq.{bytes_eq-Decides}
 use Rattle.command_line.specs.declared.choice.Choice.{Choice}
 use Rattle.command_line.specs.declared.choice.Choice.TheVariants as choices
-use Rattle.command_line.specs.Options.{Piece, all_choices, given, has_value, is_choice, is_of, name_of, option_in, stands, value_in, words_of}
+use Rattle.command_line.specs.Lemmas.Choices.{one_choice}
+use Rattle.command_line.specs.Options.{Piece, given, has_value, is_choice, is_of, stands, value_in, words_of}
 use Rattle.said_words.specs.Said.{Tells, has_option, with_option}
 use Rattle.said_words.specs.Words.{Text}
 use Rattle.said_words.specs.declared.said.Said.{Said}
@@ -52,21 +52,6 @@ same_piece c piece own (IsPieceOf.valued value) (IsPieceOf.valued value') same =
     let values : value ≡ value' = cc in
     ap (Piece.valued c) values
 
--- ---- an option by its name
-
-named : (c : Choice) → option_in all_choices (name_of c) ≡ Some c
-named choices.Lib = refl
-named choices.Preload = refl
-named choices.Harts = refl
-named choices.Fuel = refl
-named choices.Now = refl
-named choices.Trace = refl
-
-same_option : (c d : Choice) → is_choice c d ≡ true → c ≡ d
-same_option c d same =
-    let e : Some c ≡ Some d = sym (named c) ∙ ap (option_in all_choices) ((bytes_eq-Decides (name_of c) (name_of d)).0 same) ∙ named d in
-    cc
-
 -- ---- what pieces give an option
 
 abbrev of_found : Option Piece → Option Text
@@ -104,7 +89,7 @@ given_end c d piece front o value of is none so_far = either (is_choice d c) ref
   where
     either : (b : Bool) → is_choice d c ≡ b → cond (is_choice d c) value o ≡ given d (front ++ piece ∷ [])
     either true same =
-        let free : stands d front ≡ false = ap (λ (x : Choice). stands x front) (same_option d c same) ∙ none in
+        let free : stands d front ≡ false = ap (λ (x : Choice). stands x front) (one_choice d c same) ∙ none in
         ap (λ (t : Bool). cond t value o) same ∙ sym is
         ∙ sym
         (ap of_found
@@ -130,7 +115,7 @@ given_stands c [] right some = refl
 given_stands c (Piece.flag d ∷ rest) right some = either (is_choice c d) refl (given_stands c rest right.1 some)
   where
     either : (b : Bool) → is_choice c d ≡ b → is_some (given c rest) ≡ stands c rest → is_some (of_found (cond (is_choice c d) (Some (Piece.flag d)) (find (is_of c) rest))) ≡ (is_choice c d || stands c rest)
-    either true same later = absurd (true≢false (sym some ∙ ap has_value (same_option c d same) ∙ right.0))
+    either true same later = absurd (true≢false (sym some ∙ ap has_value (one_choice c d same) ∙ right.0))
     either false same later =
         ap (λ (t : Bool). is_some (of_found (cond t (Some (Piece.flag d)) (find (is_of c) rest)))) same ∙ later ∙ sym (ap (λ (t : Bool). t || stands c rest) same)
 given_stands c (Piece.valued d value ∷ rest) right some = either (is_choice c d) refl (given_stands c rest right.1 some)
