@@ -2,15 +2,18 @@
 use Rattle.std.proofs.Common.{◌≡◌, ⊎_elim, ℕ, zero, suc, ◌^◌, ◌-◌, ◌<◌, ◌≤◌, get_or, true, false, List, [], ◌∷◌, length, Some, codes, refl, sym, ap, subst, ◌∙◌, arith, true≢false}
 use Rattle.std.specs.List.{Contains}
 use Rattle.std.specs.Fmt.{decimal, digits}
+use Rattle.std.specs.Str.{bytes_eq}
 use Rattle.std.proofs.lemmas.Bool.{cases_lt}
 use Rattle.std.proofs.lemmas.Fmt.{decimal_digit, decimal_injective, first_decimal}
 use Rattle.command_line.specs.declared.command.Command.{Command}
+use Rattle.command_line.specs.declared.command.Command.TheVariants as commands
 use Rattle.command_line.specs.declared.choice.Choice.{Choice}
 use Rattle.command_line.specs.declared.choice.Choice.TheVariants as choices
 use Rattle.command_line.specs.Options.{Piece, Says, given, stand_once, words_of}
+use Rattle.command_line.specs.Lemmas.Commands.{begins_with_word, word_of}
 use Rattle.command_line.specs.Reads.{Reads, bind_options, run_options}
 use Rattle.command_line.specs.Values.{AreFolders, AreParts, IsFuel, IsNumber}
-use Rattle.command_line.specs.Worked.{Behind, Ended, Generated, IsNone, Joined, Plain, dashed, empty_part, help_option, leading_zero, no_fuel, no_program, no_words, twice}
+use Rattle.command_line.specs.Worked.{Behind, Ended, Generated, IsNone, Joined, Plain, Scheduled, dashed, empty_part, help_option, help_word, leading_zero, no_fuel, no_program, no_words, twice}
 use Rattle.command_line.proofs.Pieces.{not_said, said_as}
 
 -- ---- commands
@@ -68,18 +71,35 @@ pub generated : Generated
 unfolding digits
 generated = Reads.gen (codes "3875" ∷ []) 3875 (record { word = codes "3875"; reads = record { pieces = Piece.other (codes "3875") ∷ []; are = record { says = Says.is_word (codes "3875") [] [] refl (Says.no_more false); once = refl; left = refl } }; is = record { is = refl; from = omega arith; to = omega arith } })
 
+pub scheduled : Scheduled
+scheduled = Reads.turns _ _ (record {
+  pieces = Piece.other (codes "1*3") ∷ Piece.other (codes "prog") ∷ [];
+  are = record { says = Says.is_word (codes "1*3") _ _ refl (Says.is_word (codes "prog") [] [] refl (Says.no_more false)); once = refl; left = refl };
+  setup = record { path = refl; folders = refl; preload = refl; now = refl; harts = refl; fuel = refl };
+})
+
 -- ---- none
 
+differ : (word : List ℕ) (rest : List (List ℕ)) → codes "help" ∷ [] ≡ word ∷ rest → bytes_eq (codes "help") word ≡ false → ⊥
+differ word rest e not = let same : codes "help" ≡ word = cc in true≢false (sym (ap (bytes_eq (codes "help")) (sym same)) ∙ not)
+
 pub none_no_words : IsNone no_words
-none_no_words command reads = absurd (nothing no_words command reads refl)
+none_no_words command reads = (let b = begins_with_word no_words command reads in nothing (word_of command) b.rest b.is)
   where
-    nothing : (words : List (List ℕ)) (c : Command) → Reads words c → words ≡ [] → ⊥
-    nothing words c (Reads.bind rest bind x) e = let no : codes "bind" ∷ rest ≡ [] = e in cc
-    nothing words c (Reads.turns rest turns x) e = let no : codes "turns" ∷ rest ≡ [] = e in cc
-    nothing words c (Reads.run rest run x) e = let no : codes "run" ∷ rest ≡ [] = e in cc
-    nothing words c (Reads.asm rest path x) e = let no : codes "asm" ∷ rest ≡ [] = e in cc
-    nothing words c (Reads.dump rest path x) e = let no : codes "dump" ∷ rest ≡ [] = e in cc
-    nothing words c (Reads.gen rest number x) e = let no : codes "gen" ∷ rest ≡ [] = e in cc
+    nothing : (word : List ℕ) (rest : List (List ℕ)) → [] ≡ word ∷ rest → ⊥
+    nothing word rest e = cc
+
+-- no command has this word
+pub none_help_word : IsNone help_word
+none_help_word command reads = (let b = begins_with_word help_word command reads in other command b.rest b.is)
+  where
+    other : (c : Command) (rest : List (List ℕ)) → codes "help" ∷ [] ≡ word_of c ∷ rest → ⊥
+    other (commands.Bind bind) rest e = differ (codes "bind") rest e refl
+    other (commands.Turns turns) rest e = differ (codes "turns") rest e refl
+    other (commands.Run run) rest e = differ (codes "run") rest e refl
+    other (commands.Assemble path) rest e = differ (codes "asm") rest e refl
+    other (commands.Dump path) rest e = differ (codes "dump") rest e refl
+    other (commands.Generate number) rest e = differ (codes "gen") rest e refl
 
 -- an option that isn't there, a value with a dash
 pub none_help_option : IsNone help_option

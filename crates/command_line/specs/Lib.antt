@@ -1,3 +1,4 @@
+pub mod Lemmas
 pub mod Options
 pub mod Reads
 pub mod Values

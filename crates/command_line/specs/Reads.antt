@@ -76,3 +76,7 @@ pub data Reads : List (List ℕ) → Command → Type 0 where
   asm : (words : List (List ℕ)) (path : List ℕ) → ReadsWord words path → Reads (codes "asm" ∷ words) (commands.Assemble path)
   dump : (words : List (List ℕ)) (path : List ℕ) → ReadsWord words path → Reads (codes "dump" ∷ words) (commands.Dump path)
   gen : (words : List (List ℕ)) (number : ℕ) → ReadsNumber words number → Reads (codes "gen" ∷ words) (commands.Generate number)
+
+-- words are one command
+abbrev pub OneCommand : Type 0
+OneCommand = (words : List (List ℕ)) (command other : Command) → Reads words command → Reads words other → command ≡ other

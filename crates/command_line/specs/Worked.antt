@@ -24,6 +24,14 @@ Ended = Reads (codes "bind" ∷ codes "--lib" ∷ codes "lib" ∷ codes "--" ∷
 abbrev pub Generated : Type 0
 Generated = Reads (codes "gen" ∷ codes "3875" ∷ []) (commands.Generate 3875)
 
+-- one hart has no turns of a second, which the schedule is asked for once it is known how many harts there are
+abbrev pub Scheduled : Type 0
+Scheduled = Reads (codes "turns" ∷ codes "1*3" ∷ codes "prog" ∷ [])
+    (commands.Turns (record {
+      setup = record { program = codes "prog"; folders = []; preload = []; bind_now = false; harts = []; fuel = 1000000 };
+      schedule = codes "1*3";
+    }))
+
 -- these are no commands
 abbrev pub IsNone : List (List ℕ) → Type 0
 IsNone words = (command : Command) → Reads words command → ⊥

@@ -13,4 +13,4 @@ mod law;
 
 pub use choice::Choice;
 pub use command::{Bind, Command, Run, Turns};
-pub use law::{words_are_commands, words_are_none, words_say_once};
+pub use law::{words_are_commands, words_are_none, words_are_one_command, words_say_once};

@@ -1,17 +1,21 @@
--- How far words are counted.
-use Rattle.std.proofs.Common.{◌≡◌, ℕ, zero, suc, ◌≤◌, ◌<◌, ◌+◌, ◌&&◌, ◌||◌, Bool, true, false, cond, IsTrue, List, [], ◌∷◌, ◌++◌, filter, length, map, nat_le, Option, Some, None, codes, refl, sym, ap, ap₂, subst, ◌∙◌, arith, rules}
+-- How far words are read.
+use Rattle.std.proofs.Common.{◌≡◌, ℕ, ◌≤◌, ◌<◌, ◌+◌, ◌&&◌, ◌||◌, Bool, true, false, cond, List, [], ◌∷◌, ◌++◌, filter, length, nat_le, Option, Some, None, Bor, refl, sym, ap, ap₂, subst, ◌∙◌, arith, rules}
 use Rattle.std.specs.List.{list_all, list_any}
+use Rattle.std.specs.Option.{option_copied, option_or}
 use Rattle.std.specs.Str.{bytes_eq}
 use Rattle.std.proofs.lemmas.Bool.{true≢false}
 use Rattle.std.proofs.lemmas.Slice.Eq.{bytes_eq-Decides}
 use Rattle.std.proofs.lemmas.List.{append-nil}
 use Rattle.command_line.specs.declared.choice.Choice.{Choice}
 use Rattle.command_line.specs.declared.choice.Choice.TheVariants as choices
-use Rattle.command_line.specs.Options.{Piece, Says, all_choices, is_choice, is_of, name_of, stand_once, words_of}
-use Rattle.said_words.specs.Words.{Counts, Text, read_front}
-use Rattle.said_words.specs.declared.said.Front.{Front}
-use Rattle.said_words.specs.declared.said.Front.TheVariants as fronts
-use Rattle.said_words.proofs.Saying.{Follow, FrontLeads, HasFront, IsPieceOf, Leads, front_leads, has_front}
+use Rattle.command_line.specs.Options.{Piece, Says, all_choices, is_choice, is_of, name_of, stand_once, stands}
+use Rattle.said_words.specs.Said.{IsSaid, IsUnsaid, Tells, has_option, with_option, with_word}
+use Rattle.said_words.specs.Words.{Text, read_front, value_at}
+use Rattle.said_words.specs.declared.said.Said.{Said}
+use Rattle.said_words.specs.declared.front.Front.{Front}
+use Rattle.said_words.specs.declared.front.Front.TheVariants as fronts
+use Rattle.said_words.proofs.Pieces.{AreRight, Grows, IsPieceOf, has_is, nothing, others_of, right_end, same_piece, told_nothing, told_option, told_words}
+use Rattle.said_words.proofs.Saying.{Follow, FrontLeads, Leads, StandsAt, front_leads, has_front}
 
 abbrev pub choices_of : List Piece → List Choice
 choices_of [] = []
@@ -30,12 +34,6 @@ choices_end [] more = refl
 choices_end (Piece.flag c ∷ acc) more = ap (λ (l : List Choice). c ∷ l) (choices_end acc more)
 choices_end (Piece.valued c value ∷ acc) more = ap (λ (l : List Choice). c ∷ l) (choices_end acc more)
 choices_end (Piece.other word ∷ acc) more = choices_end acc more
-
-words_end : (acc more : List Piece) → length (words_of (acc ++ more)) ≡ length (words_of acc) + length (words_of more)
-words_end [] more = omega arith
-words_end (Piece.flag c ∷ acc) more = words_end acc more
-words_end (Piece.valued c value ∷ acc) more = words_end acc more
-words_end (Piece.other word ∷ acc) more = let e : length (words_of (acc ++ more)) ≡ length (words_of acc) + length (words_of more) = words_end acc more in omega (arith, e)
 
 -- how often an option stands among options
 abbrev pub times : Choice → List Choice → ℕ
@@ -163,10 +161,6 @@ once_more c d seen none once false same =
     omega (arith, all, one, few)
 
 -- words behind the end of the options
-abbrev others_of : List Text → List Piece
-others_of [] = []
-others_of (word ∷ words) = Piece.other word ∷ others_of words
-
 says_others : (known : List Choice) (words : List Text) → Says known true words (others_of words)
 says_others known [] = Says.no_more true
 says_others known (word ∷ words) = Says.is_behind word words (others_of words) (says_others known words)
@@ -175,113 +169,110 @@ no_choices : (words : List Text) → choices_of (others_of words) ≡ []
 no_choices [] = refl
 no_choices (word ∷ words) = no_choices words
 
-all_words : (words : List Text) → length (words_of (others_of words)) ≡ length words
-all_words [] = refl
-all_words (word ∷ words) = let e : length (words_of (others_of words)) ≡ length words = all_words words in omega (arith, e)
+any_choice : (c : Choice) (pieces : List Piece) → list_any (is_choice c) (choices_of pieces) ≡ stands c pieces
+any_choice c [] = refl
+any_choice c (Piece.flag d ∷ rest) = ap (λ (t : Bool). is_choice c d || t) (any_choice c rest)
+any_choice c (Piece.valued d value ∷ rest) = ap (λ (t : Bool). is_choice c d || t) (any_choice c rest)
+any_choice c (Piece.other word ∷ rest) = any_choice c rest
 
 -- ---- so far
 
--- what words say begins with pieces of the options that were seen
-pub record Behind (known : List Choice) (seen : List Choice) (rest : List Text) (pieces : List Piece) : Type 0 where
-  pub front : List Piece
+-- what words say begins with these pieces
+pub record Behind (known : List Choice) (front : List Piece) (rest : List Text) (pieces : List Piece) : Type 0 where
   pub more : List Piece
   pub is : pieces ≡ front ++ more
-  pub choices : choices_of front ≡ seen
   pub says : Says known false rest more
 
-pub record At (known : List Choice) (words : List Text) (seen : List Choice) (others : ℕ) (rest : List Text) : Type 0 where
+pub record At (known : List Choice) (words : List Text) (said : Said) (rest : List Text) : Type 0 where
   pub front : List Piece
-  pub choices : choices_of front ≡ seen
-  pub count : length (words_of front) ≡ others
+  pub right : AreRight front
+  pub tells : Tells front said
+  pub once : AreOnce (choices_of front)
   pub forth : (more : List Piece) → Says known false rest more → Says known false words (front ++ more)
-  pub back : (pieces : List Piece) → Says known false words pieces → Behind known seen rest pieces
-  pub once : AreOnce seen
-  pub room : others + length rest ≤ length words
+  pub back : (pieces : List Piece) → Says known false words pieces → Behind known front rest pieces
+  pub room : said.others + length rest ≤ length words
 
-pub start : (known : List Choice) (words : List Text) → At known words [] 0 words
+pub start : (known : List Choice) (words : List Text) → At known words nothing words
 start known words = record {
   front = [];
-  choices = refl;
-  count = refl;
-  forth = λ more says. says;
-  back = λ pieces says. record { front = []; more = pieces; is = refl; choices = refl; says = says };
+  right = tt;
+  tells = told_nothing;
   once = λ c. omega arith;
+  forth = λ more says. says;
+  back = λ pieces says. record { more = pieces; is = refl; says = says };
   room = omega arith;
 }
 
-module _ (known : List Choice) (words : List Text) (seen : List Choice) (others : ℕ) where
+module _ (known : List Choice) (words : List Text) (said : Said) where
   -- nothing is left
-  pub done : At known words seen others [] → Counts known words others
+  pub done : At known words said [] → IsSaid known words said
   done at = record {
-    pieces = at.front ++ [];
-    says = at.forth [] (Says.no_more false);
-    once = to_once (at.front ++ []) (subst AreOnce (sym (ap choices_of (append-nil at.front) ∙ at.choices)) at.once);
-    count = ap (λ (ps : List Piece). length (words_of ps)) (append-nil at.front) ∙ at.count;
+    pieces = at.front;
+    says = subst (Says known false words) (append-nil at.front) (at.forth [] (Says.no_more false));
+    once = to_once at.front at.once;
+    tells = at.tells;
   }
 
-  module _ (word : Text) (rest behind : List Text) (at : At known words seen others (word ∷ rest)) where
+  module _ (word : Text) (rest behind : List Text) (at : At known words said (word ∷ rest)) where
     leads : (front : Front) → read_front known word rest ≡ Some (front, behind) → (length behind ≤ length rest) × Leads known front word rest behind
     leads front is = subst (FrontLeads known word rest) is (front_leads known word rest)
 
     -- what stands at the front is known
     abbrev Followed : Front → List Piece → Type 0
-    Followed front pieces = Follow known front word behind pieces
+    Followed front pieces = Follow known front word rest behind pieces
 
     followed : (front : Front) → read_front known word rest ≡ Some (front, behind) → (pieces : List Piece) → Says known false (word ∷ rest) pieces → Followed front pieces
     followed front is pieces says =
         let has = has_front known word rest pieces says in
         let same : (has.front, has.behind) ≡ (front, behind) = same_some (has.front, has.behind) (front, behind) (sym has.is ∙ is) in
-        subst (λ (p : Front × List Text). Follow known p.0 word p.1 pieces) same has.follow
+        subst (λ (p : Front × List Text). Follow known p.0 word rest p.1 pieces) same has.follow
       where
         same_some : (x y : Front × List Text) → Some x ≡ Some y → x ≡ y
         same_some x y e = cc
 
-    pub room_behind : (front : Front) → read_front known word rest ≡ Some (front, behind) → others + length behind < length words
+    pub room_behind : (front : Front) → read_front known word rest ≡ Some (front, behind) → said.others + length behind < length words
     room_behind front is =
         let less : length behind ≤ length rest = (leads front is).0 in
-        let room : others + length (word ∷ rest) ≤ length words = at.room in
+        let room : said.others + length (word ∷ rest) ≤ length words = at.room in
         omega (arith, less, room)
 
     pub shorter : (front : Front) → read_front known word rest ≡ Some (front, behind) → length behind ≤ length rest
     shorter front is = (leads front is).0
 
-    pub another : read_front known word rest ≡ Some (fronts.Word, behind) → At known words seen (others + 1) behind
-    another is = record {
+    grows_by : (w : Bor Text) → w.now ≡ word → Grows said (word ∷ []) (with_word said w)
+    grows_by w is = record { kept = refl; count = refl; start = copied_or said.first w ∙ ap (λ (t : Text). option_or (option_copied said.first) (Some t)) is }
+      where
+        copied_or : (o : Option (Bor Text)) (x : Bor Text) → option_copied (option_or o (Some x)) ≡ option_or (option_copied o) (Some x.now)
+        copied_or None x = refl
+        copied_or (Some y) x = refl
+
+    pub another : read_front known word rest ≡ Some (fronts.Word, behind) → (w : Bor Text) → w.now ≡ word → At known words (with_word said w) behind
+    another is w named = record {
       front = at.front ++ Piece.other word ∷ [];
-      choices = choices_end at.front (Piece.other word ∷ []) ∙ append-nil (choices_of at.front) ∙ at.choices;
-      count = words_end at.front (Piece.other word ∷ []) ∙ ap (λ (n : ℕ). n + 1) at.count;
+      right = right_end at.front (Piece.other word ∷ []) at.right (tt, tt);
+      tells = told_words at.front said (with_word said w) (word ∷ []) at.tells (grows_by w named);
+      once = subst AreOnce (sym (choices_end at.front (Piece.other word ∷ []) ∙ append-nil (choices_of at.front))) at.once;
       forth = λ more says. subst (Says known false words) (sym (grouped at.front (Piece.other word) more)) (at.forth (Piece.other word ∷ more) ((leads fronts.Word is).1 more says));
-      back = λ pieces says. (let b = at.back pieces says in on b.front b.more pieces b.is b.choices (followed fronts.Word is b.more b.says));
-      once = at.once;
-      room = (let r : others + length behind < length words = room_behind fronts.Word is in omega (arith, r));
+      back = λ pieces says. (let b = at.back pieces says in on b.more pieces b.is (followed fronts.Word is b.more b.says));
+      room = (let r : said.others + length behind < length words = room_behind fronts.Word is in omega (arith, r));
     }
       where
-        on : (front more pieces : List Piece) → pieces ≡ front ++ more → choices_of front ≡ seen → Followed fronts.Word more → Behind known seen behind pieces
-        on front more pieces same chosen (Follow.at_word _ _ others' says) = record {
-          front = front ++ Piece.other word ∷ [];
-          more = others';
-          is = same ∙ sym (grouped front (Piece.other word) others');
-          choices = choices_end front (Piece.other word ∷ []) ∙ append-nil (choices_of front) ∙ chosen;
-          says = says;
-        }
+        on : (more pieces : List Piece) → pieces ≡ at.front ++ more → Followed fronts.Word more → Behind known (at.front ++ Piece.other word ∷ []) behind pieces
+        on more pieces same (Follow.at_word _ _ _ others says) = record { more = others; is = same ∙ sym (grouped at.front (Piece.other word) others); says = says }
 
-    chosen_is : (c : Choice) (piece : Piece) → IsPieceOf c piece → choices_of (piece ∷ []) ≡ c ∷ []
-    chosen_is c piece IsPieceOf.flag = refl
-    chosen_is c piece (IsPieceOf.valued value) = refl
+    none_stands : (c : Choice) → has_option said c ≡ false → stands c at.front ≡ false
+    none_stands c none = sym (has_is at.front said at.right at.tells c) ∙ none
 
-    no_words : (c : Choice) (piece : Piece) → IsPieceOf c piece → words_of (piece ∷ []) ≡ []
-    no_words c piece IsPieceOf.flag = refl
-    no_words c piece (IsPieceOf.valued value) = refl
-
-    pub chosen : (c : Choice) → read_front known word rest ≡ Some (fronts.Option c, behind) → list_any (is_choice c) seen ≡ false → At known words (seen ++ c ∷ []) others behind
-    chosen c is none = record {
+    pub chosen : (c : Choice) → read_front known word rest ≡ Some (fronts.Option c, behind) → has_option said c ≡ false → (value : Option (Bor Text)) → option_copied value ≡ value_at c word rest
+        → At known words (with_option said c value) behind
+    chosen c is none value taken = record {
       front = at.front ++ piece ∷ [];
-      choices = choices_end at.front (piece ∷ []) ∙ ap₂ (λ (xs ys : List Choice). xs ++ ys) at.choices (chosen_is c piece of);
-      count = words_end at.front (piece ∷ []) ∙ ap₂ (λ (n : ℕ) (ws : List Text). n + length ws) at.count (no_words c piece of) ∙ omega arith;
-      forth = λ more says. subst (Says known false words) (sym (grouped at.front piece more)) (at.forth (piece ∷ more) (lead.1.2 more says));
-      back = λ pieces says. (let b = at.back pieces says in on b.front b.more pieces b.is b.choices (followed (fronts.Option c) is b.more b.says));
+      right = right_end at.front (piece ∷ []) at.right (at_word.right, tt);
+      tells = told_option c piece at.front said value at_word.of (at_word.value ∙ sym taken) (none_stands c none) at.tells;
       once = once;
-      room = (let r : others + length behind < length words = room_behind (fronts.Option c) is in omega (arith, r));
+      forth = λ more says. subst (Says known false words) (sym (grouped at.front piece more)) (at.forth (piece ∷ more) (lead.1.2 more says));
+      back = λ pieces says. (let b = at.back pieces says in on b.more pieces b.is (followed (fronts.Option c) is b.more b.says));
+      room = (let r : said.others + length behind < length words = room_behind (fronts.Option c) is in let same : (with_option said c value).others ≡ said.others = kept c in omega (arith, r, same));
     }
       where
         lead : (length behind ≤ length rest) × Leads known (fronts.Option c) word rest behind
@@ -290,52 +281,60 @@ module _ (known : List Choice) (words : List Text) (seen : List Choice) (others 
         piece : Piece
         piece = lead.1.0
 
-        of : IsPieceOf c piece
-        of = lead.1.1
+        at_word : StandsAt c word rest piece
+        at_word = lead.1.1
 
-        on : (front more pieces : List Piece) → pieces ≡ front ++ more → choices_of front ≡ seen → Followed (fronts.Option c) more → Behind known (seen ++ c ∷ []) behind pieces
-        on front more pieces same seen_is (Follow.at_choice _ own _ _ others' of' says) = record {
-          front = front ++ own ∷ [];
-          more = others';
-          is = same ∙ sym (grouped front own others');
-          choices = choices_end front (own ∷ []) ∙ ap₂ (λ (xs ys : List Choice). xs ++ ys) seen_is (chosen_is c own of');
-          says = says;
-        }
+        kept : (d : Choice) → (with_option said d value).others ≡ said.others
+        kept choices.Lib = refl
+        kept choices.Preload = refl
+        kept choices.Harts = refl
+        kept choices.Fuel = refl
+        kept choices.Now = refl
+        kept choices.Trace = refl
 
-        once : AreOnce (seen ++ c ∷ [])
-        once d = once_more c d seen none at.once (is_choice d c) refl
+        on : (more pieces : List Piece) → pieces ≡ at.front ++ more → Followed (fronts.Option c) more → Behind known (at.front ++ piece ∷ []) behind pieces
+        on more pieces same (Follow.at_choice _ own _ _ _ others stands says) =
+            let is_own : own ≡ piece = same_piece c own piece stands.of at_word.of (stands.value ∙ sym at_word.value) in
+            record { more = others; is = same ∙ ap (λ (p : Piece). at.front ++ p ∷ others) is_own ∙ sym (grouped at.front piece others); says = says }
+
+        chosen_is : (p : Piece) → IsPieceOf c p → choices_of (p ∷ []) ≡ c ∷ []
+        chosen_is p IsPieceOf.flag = refl
+        chosen_is p (IsPieceOf.valued v) = refl
+
+        once : AreOnce (choices_of (at.front ++ piece ∷ []))
+        once = subst AreOnce (sym (choices_end at.front (piece ∷ []) ∙ ap (λ (cs : List Choice). choices_of at.front ++ cs) (chosen_is piece at_word.of)))
+            (λ d. once_more c d (choices_of at.front) (any_choice c at.front ∙ none_stands c none) at.once (is_choice d c) refl)
 
     -- the end of the options
-    pub ended : read_front known word rest ≡ Some (fronts.End, behind) → Counts known words (others + length behind)
-    ended is = record {
+    pub ended : read_front known word rest ≡ Some (fronts.End, behind) → (new : Said) → Grows said behind new → IsSaid known words new
+    ended is new grows = record {
       pieces = at.front ++ others_of behind;
       says = at.forth (others_of behind) ((leads fronts.End is).1 (others_of behind) (says_others known behind));
       once = to_once (at.front ++ others_of behind)
-          (subst AreOnce (sym (choices_end at.front (others_of behind) ∙ ap₂ (λ (xs ys : List Choice). xs ++ ys) at.choices (no_choices behind) ∙ append-nil seen)) at.once);
-      count = words_end at.front (others_of behind) ∙ ap₂ (λ (n m : ℕ). n + m) at.count (all_words behind);
+          (subst AreOnce (sym (choices_end at.front (others_of behind) ∙ ap (λ (cs : List Choice). choices_of at.front ++ cs) (no_choices behind) ∙ append-nil (choices_of at.front))) at.once);
+      tells = told_words at.front said new behind at.tells grows;
     }
 
-    -- an option that was seen
-    pub twice : (c : Choice) → read_front known word rest ≡ Some (fronts.Option c, behind) → list_any (is_choice c) seen ≡ true → (n : ℕ) → Counts known words n → ⊥
-    twice c is has n counts =
-        (let b = at.back counts.pieces counts.says in
-        too_many counts.pieces b.front b.more b.is b.choices (followed (fronts.Option c) is b.more b.says) (once_of counts.pieces counts.once c))
+    -- an option that stands already
+    pub twice : (c : Choice) → read_front known word rest ≡ Some (fronts.Option c, behind) → has_option said c ≡ true → IsUnsaid known words
+    twice c is has pieces says all =
+        (let b = at.back pieces says in too_many b.more b.is (followed (fronts.Option c) is b.more b.says) (once_of pieces all c))
       where
         some : (more : List Piece) → Followed (fronts.Option c) more → 1 ≤ times c (choices_of more)
-        some more (Follow.at_choice _ own _ _ others' of says) = stands_first c own others' of
+        some more (Follow.at_choice _ own _ _ _ others stands says) = stands_first c own others stands.of
 
-        too_many : (pieces front more : List Piece) → pieces ≡ front ++ more → choices_of front ≡ seen → Followed (fronts.Option c) more → times c (choices_of pieces) ≤ 1 → ⊥
-        too_many pieces front more same seen_is follow few =
-            let all : times c (choices_of pieces) ≡ times c seen + times c (choices_of more) =
-            ap (λ (ps : List Piece). times c (choices_of ps)) same ∙ ap (times c) (choices_end front more) ∙ times_end c (choices_of front) (choices_of more)
-            ∙ ap (λ (cs : List Choice). times c cs + times c (choices_of more)) seen_is in
-            let one : 1 ≤ times c seen = has_times c seen has in
+        too_many : (more : List Piece) → pieces ≡ at.front ++ more → Followed (fronts.Option c) more → times c (choices_of pieces) ≤ 1 → ⊥
+        too_many more same follow few =
+            let split : times c (choices_of pieces) ≡ times c (choices_of at.front) + times c (choices_of more) =
+            ap (λ (ps : List Piece). times c (choices_of ps)) same ∙ ap (times c) (choices_end at.front more) ∙ times_end c (choices_of at.front) (choices_of more) in
+            let one : 1 ≤ times c (choices_of at.front) = has_times c (choices_of at.front) (any_choice c at.front ∙ sym (has_is at.front said at.right at.tells c) ∙ has) in
             let two : 1 ≤ times c (choices_of more) = some more follow in
-            omega (arith, all, one, two, few)
+            omega (arith, split, one, two, few)
 
-  pub stuck : (word : Text) (rest : List Text) → At known words seen others (word ∷ rest) → read_front known word rest ≡ None → (n : ℕ) → Counts known words n → ⊥
-  stuck word rest at none n counts =
-      let has = has_front known word rest (at.back counts.pieces counts.says).more (at.back counts.pieces counts.says).says in
+  -- nothing that words may say
+  pub stuck : (word : Text) (rest : List Text) → At known words said (word ∷ rest) → read_front known word rest ≡ None → IsUnsaid known words
+  stuck word rest at none pieces says all =
+      let has = has_front known word rest (at.back pieces says).more (at.back pieces says).says in
       none_some (has.front, has.behind) (sym none ∙ has.is)
     where
       none_some : (x : Front × List Text) → None ≡ Some x → ⊥

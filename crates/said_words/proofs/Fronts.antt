@@ -1,10 +1,10 @@
 -- What stands before an equals sign.
 use Rattle.std.proofs.Common.{◌≡◌, ℕ, ◌<◌, ◌+◌, ◌||◌, ◌==◌, Bool, true, false, not, cond, List, [], ◌∷◌, drop, length, Option, Some, None, Bor, refl, sym, ap, ◌∙◌, arith}
+use Rattle.std.proofs.lemmas.List.{length-take-le}
 use Rattle.std.specs.List.{before_first, list_any, position_or_len}
-use Rattle.std.specs.Option.{option_map}
 use Rattle.std.specs.Prelude.{MatchOption}
-use Rattle.command_line.specs.Options.{front_of, is_joined}
-use Rattle.said_words.specs.Words.{joined_front}
+use Rattle.command_line.specs.Options.{front_of, value_of}
+use Rattle.said_words.specs.Words.{joined_front, joined_value}
 
 any_from : (bs : List ℕ) → position_or_len (λ b. b == 61) bs < length bs → list_any (λ b. b == 61) bs ≡ true
 any_from [] less = absurd (omega (arith, less))
@@ -40,3 +40,11 @@ front_is word x at = ap (λ (f : List ℕ). Some f) at.1 ∙ sym (ap (λ (t : Bo
 
 pub no_front : (word : List ℕ) → AtSign word None → None ≡ joined_front word
 no_front word at = sym (ap (λ (t : Bool). cond t (Some (front_of word)) None) (none_from word at))
+
+pub value_is : (word : List ℕ) (x : Cut) → AtSign word (Some x) → Some x.1.now ≡ joined_value word
+value_is word x at =
+    ap (λ (v : List ℕ). Some v) (at.2 ∙ ap (λ (n : ℕ). drop (n + 1) word) (sym (length-take-le (position_or_len (λ b. b == 61) word) word (omega (arith, at.0)))))
+    ∙ sym (ap (λ (t : Bool). cond t (Some (value_of word)) None) (any_from word at.0))
+
+pub no_value : (word : List ℕ) → AtSign word None → None ≡ joined_value word
+no_value word at = sym (ap (λ (t : Bool). cond t (Some (value_of word)) None) (none_from word at))

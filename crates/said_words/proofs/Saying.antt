@@ -1,17 +1,18 @@
 -- What stands at the front of words, and what words say then.
-use Rattle.std.proofs.Common.{◌≡◌, ℕ, zero, suc, ◌≤◌, ◌+◌, ◌&&◌, ◌||◌, Bool, true, false, cond, List, [], ◌∷◌, ◌++◌, filter, length, map, nat_le, Option, Some, None, codes, refl, sym, ap, subst, ◌∙◌, arith, rules}
+use Rattle.std.proofs.Common.{◌≡◌, ◌≤◌, Bool, true, false, cond, List, [], ◌∷◌, length, Option, Some, None, codes, refl, sym, ap, subst, ◌∙◌, arith}
 use Rattle.std.specs.Bool.{⊤}
-use Rattle.std.specs.List.{list_all, list_any}
+use Rattle.std.specs.List.{slice_get}
 use Rattle.std.specs.Prelude.{option_and_then, option_map}
 use Rattle.std.specs.Str.{bytes_eq}
 use Rattle.std.proofs.lemmas.Bool.{true≢false}
 use Rattle.std.proofs.lemmas.Slice.Eq.{bytes_eq-Decides}
 use Rattle.command_line.specs.declared.choice.Choice.{Choice}
 use Rattle.command_line.specs.declared.choice.Choice.TheVariants as choices
-use Rattle.command_line.specs.Options.{Piece, Says, all_choices, front_of, has_dash, has_value, is_choice, is_end, is_joined, is_of, is_option, name_of, option_in, stand_once, value_of, words_of}
-use Rattle.said_words.specs.Words.{Text, at_option, behind_value, joined_front, option_at, option_named, read_front, taking_front, taking_next}
-use Rattle.said_words.specs.declared.said.Front.{Front}
-use Rattle.said_words.specs.declared.said.Front.TheVariants as fronts
+use Rattle.command_line.specs.Options.{Piece, Says, front_of, has_dash, has_value, is_joined, is_option, option_in, value_in, value_of}
+use Rattle.said_words.specs.Words.{Text, at_option, behind_value, option_at, option_named, read_front, taking_front, taking_next, value_at}
+use Rattle.said_words.specs.declared.front.Front.{Front}
+use Rattle.said_words.specs.declared.front.Front.TheVariants as fronts
+use Rattle.said_words.proofs.Pieces.{IsPieceOf, IsRight}
 
 -- ---- an option, and what it takes
 
@@ -91,45 +92,73 @@ option_front known word rest behind c none dashed at =
 
 -- ---- what is said is at the front
 
--- a piece of the option
-pub data IsPieceOf (c : Choice) : Piece → Type 0 where
-  flag : IsPieceOf c (Piece.flag c)
-  valued : (value : Text) → IsPieceOf c (Piece.valued c value)
+-- the piece of an option that stands at a word, with the value that it takes
+pub record StandsAt (c : Choice) (word : Text) (rest : List Text) (piece : Piece) : Type 0 where
+  pub of : IsPieceOf c piece
+  pub value : value_in piece ≡ value_at c word rest
+  pub right : IsRight piece
+
+flag_stands : (c : Choice) (word : Text) (rest : List Text) → has_value c ≡ false → StandsAt c word rest (Piece.flag c)
+flag_stands c word rest alone = record {
+  of = IsPieceOf.flag;
+  value = sym (ap (λ (t : Bool). cond t (cond (is_joined word) (Some (value_of word)) (slice_get rest 0)) None) alone);
+  right = alone;
+}
+
+next_stands : (c : Choice) (word value : Text) (rest : List Text) → is_joined word ≡ false → has_value c ≡ true → StandsAt c word (value ∷ rest) (Piece.valued c value)
+next_stands c word value rest plain some = record {
+  of = IsPieceOf.valued value;
+  value = sym
+      (ap (λ (t : Bool). cond t (cond (is_joined word) (Some (value_of word)) (Some value)) None) some
+      ∙ ap (λ (t : Bool). cond t (Some (value_of word)) (Some value)) plain);
+  right = some;
+}
+
+own_stands : (c : Choice) (word : Text) (rest : List Text) → is_joined word ≡ true → has_value c ≡ true → StandsAt c word rest (Piece.valued c (value_of word))
+own_stands c word rest signed some = record {
+  of = IsPieceOf.valued (value_of word);
+  value = sym
+      (ap (λ (t : Bool). cond t (cond (is_joined word) (Some (value_of word)) (slice_get rest 0)) None) some
+      ∙ ap (λ (t : Bool). cond t (Some (value_of word)) (slice_get rest 0)) signed);
+  right = some;
+}
 
 -- behind what stands at the front words say the other pieces
-pub data Follow (known : List Choice) : Front → Text → List Text → List Piece → Type 0 where
-  at_end : (word : Text) (behind : List Text) (pieces : List Piece) → Says known true behind pieces → Follow known fronts.End word behind pieces
-  at_word : (word : Text) (behind : List Text) (pieces : List Piece) → Says known false behind pieces → Follow known fronts.Word word behind (Piece.other word ∷ pieces)
-  at_choice : (c : Choice) (piece : Piece) (word : Text) (behind : List Text) (pieces : List Piece) → IsPieceOf c piece → Says known false behind pieces
-      → Follow known (fronts.Option c) word behind (piece ∷ pieces)
+pub data Follow (known : List Choice) : Front → Text → List Text → List Text → List Piece → Type 0 where
+  at_end : (word : Text) (rest behind : List Text) (pieces : List Piece) → Says known true behind pieces → Follow known fronts.End word rest behind pieces
+  at_word : (word : Text) (rest behind : List Text) (pieces : List Piece) → Says known false behind pieces
+      → Follow known fronts.Word word rest behind (Piece.other word ∷ pieces)
+  at_choice : (c : Choice) (piece : Piece) (word : Text) (rest behind : List Text) (pieces : List Piece) → StandsAt c word rest piece → Says known false behind pieces
+      → Follow known (fronts.Option c) word rest behind (piece ∷ pieces)
 
 pub record HasFront (known : List Choice) (word : Text) (rest : List Text) (pieces : List Piece) : Type 0 where
   pub front : Front
   pub behind : List Text
   pub is : read_front known word rest ≡ Some (front, behind)
-  pub follow : Follow known front word behind pieces
+  pub follow : Follow known front word rest behind pieces
 
 pub has_front : (known : List Choice) (word : Text) (rest : List Text) (pieces : List Piece) → Says known false (word ∷ rest) pieces → HasFront known word rest pieces
-has_front known word rest pieces (Says.ends _ _ says) = record { front = fronts.End; behind = rest; is = refl; follow = Follow.at_end (codes "--") rest pieces says }
+has_front known word rest pieces (Says.ends _ _ says) =
+    record { front = fronts.End; behind = rest; is = refl; follow = Follow.at_end (codes "--") rest rest pieces says }
 has_front known word rest pieces (Says.is_word _ _ others plain says) =
-    record { front = fronts.Word; behind = rest; is = word_at known word rest plain; follow = Follow.at_word word rest others says }
+    record { front = fronts.Word; behind = rest; is = word_at known word rest plain; follow = Follow.at_word word rest rest others says }
 has_front known word rest pieces (Says.is_flag c _ _ others dashed plain named alone says) = record {
   front = fronts.Option c;
   behind = rest;
   is = option_front known word rest rest c (no_end_named known word c named) dashed (flag_at known word rest c plain named alone);
-  follow = Follow.at_choice c (Piece.flag c) word rest others IsPieceOf.flag says;
+  follow = Follow.at_choice c (Piece.flag c) word rest rest others (flag_stands c word rest alone) says;
 }
 has_front known word rest pieces (Says.is_valued c _ value more others dashed plain named some dash says) = record {
   front = fronts.Option c;
   behind = more;
   is = option_front known word (value ∷ more) more c (no_end_named known word c named) dashed (valued_at known word value more c plain named some dash);
-  follow = Follow.at_choice c (Piece.valued c value) word more others (IsPieceOf.valued value) says;
+  follow = Follow.at_choice c (Piece.valued c value) word (value ∷ more) more others (next_stands c word value more plain some) says;
 }
 has_front known word rest pieces (Says.is_joined_value c _ _ others dashed signed named some says) = record {
   front = fronts.Option c;
   behind = rest;
   is = option_front known word rest rest c (no_end_joined word signed) dashed (joined_at known word rest c signed named some);
-  follow = Follow.at_choice c (Piece.valued c (value_of word)) word rest others (IsPieceOf.valued (value_of word)) says;
+  follow = Follow.at_choice c (Piece.valued c (value_of word)) word rest rest others (own_stands c word rest signed some) says;
 }
 
 -- ---- what stands at the front leads words
@@ -138,7 +167,7 @@ abbrev pub Leads : List Choice → Front → Text → List Text → List Text �
 Leads known fronts.End word rest behind = (pieces : List Piece) → Says known true behind pieces → Says known false (word ∷ rest) pieces
 Leads known fronts.Word word rest behind = (pieces : List Piece) → Says known false behind pieces → Says known false (word ∷ rest) (Piece.other word ∷ pieces)
 Leads known (fronts.Option c) word rest behind =
-    (piece : Piece) × IsPieceOf c piece × ((pieces : List Piece) → Says known false behind pieces → Says known false (word ∷ rest) (piece ∷ pieces))
+    (piece : Piece) × StandsAt c word rest piece × ((pieces : List Piece) → Says known false behind pieces → Says known false (word ∷ rest) (piece ∷ pieces))
 
 -- and takes no more words than there are
 abbrev pub FrontLeads : List Choice → Text → List Text → Option (Front × List Text) → Type 0
@@ -154,7 +183,7 @@ module _ (known : List Choice) (word : Text) (rest : List Text) where
   unfolding option_at
   by_flag c dashed plain named false alone values is =
       subst Choices (sym (flag_at known word rest c plain named alone))
-      (omega arith, (Piece.flag c, IsPieceOf.flag, λ pieces says. Says.is_flag c word rest pieces dashed plain named alone says))
+      (omega arith, (Piece.flag c, flag_stands c word rest alone, λ pieces says. Says.is_flag c word rest pieces dashed plain named alone says))
   by_flag c dashed plain named true some [] is =
       subst Choices (sym (
       ap (λ (t : Bool). option_named known word rest (cond t (Some (front_of word)) None)) plain ∙ ap (option_and_then (taking_next rest)) named
@@ -176,7 +205,7 @@ module _ (known : List Choice) (word : Text) (rest : List Text) where
             omega (arith, len),
             (
               Piece.valued c value,
-              IsPieceOf.valued value,
+              subst (λ (r : List Text). StandsAt c word r (Piece.valued c value)) (sym is) (next_stands c word value more plain some),
               λ pieces says. subst (λ (r : List Text). Says known false (word ∷ r) (Piece.valued c value ∷ pieces)) (sym is) (Says.is_valued c word value more pieces dashed plain named some dash says),
             ),
           )
@@ -185,7 +214,7 @@ module _ (known : List Choice) (word : Text) (rest : List Text) where
   unfolding option_at
   by_sign c dashed signed named true some =
       subst Choices (sym (joined_at known word rest c signed named some))
-      (omega arith, (Piece.valued c (value_of word), IsPieceOf.valued (value_of word), λ pieces says. Says.is_joined_value c word rest pieces dashed signed named some says))
+      (omega arith, (Piece.valued c (value_of word), own_stands c word rest signed some, λ pieces says. Says.is_joined_value c word rest pieces dashed signed named some says))
   by_sign c dashed signed named false alone =
       subst Choices (sym (
       ap (λ (t : Bool). option_named known word rest (cond t (Some (front_of word)) None)) signed ∙ ap (option_and_then (taking_front rest)) named

@@ -1,12 +1,13 @@
 -- Words as texts, and what an option takes of them.
-use Rattle.std.specs.Prelude.{◌≡◌, ℕ, false, IsTrue, length, if◌then◌else◌, List, [], ◌∷◌, map, Option, Some, None, option_map, option_and_then, codes, String}
+use Rattle.std.specs.Prelude.{ℕ, if◌then◌else◌, List, [], ◌∷◌, map, Option, Some, None, option_map, option_and_then, codes, String}
 use Rattle.std.specs.Global.{Global}
+use Rattle.std.specs.List.{slice_get}
 use Rattle.std.specs.String.{string_bytes}
 use Rattle.std.specs.Str.{bytes_eq}
 use Rattle.command_line.specs.declared.choice.Choice.{Choice}
-use Rattle.command_line.specs.Options.{Piece, Says, front_of, has_dash, has_value, is_joined, is_option, option_in, stand_once, words_of}
-use Rattle.said_words.specs.declared.said.Front.{Front}
-use Rattle.said_words.specs.declared.said.Front.TheVariants as fronts
+use Rattle.command_line.specs.Options.{front_of, has_dash, has_value, is_joined, is_option, option_in, value_of}
+use Rattle.said_words.specs.declared.front.Front.{Front}
+use Rattle.said_words.specs.declared.front.Front.TheVariants as fronts
 
 abbrev pub Text : Type 0
 Text = List ℕ
@@ -37,6 +38,13 @@ option_named known word rest (Some name) = option_and_then (taking_front rest) (
 unfoldable pub option_at : List Choice → Text → List Text → Option (Choice × List Text)
 option_at known word rest = option_named known word rest (joined_front word)
 
+-- the value of an option that stands at a word: what is joined to it, or the next word
+abbrev pub joined_value : Text → Option Text
+joined_value word = if is_joined word then Some (value_of word) else None
+
+abbrev pub value_at : Choice → Text → List Text → Option Text
+value_at c word rest = if has_value c then (if is_joined word then Some (value_of word) else slice_get rest 0) else None
+
 -- ---- the front of words
 
 -- two dashes, behind which all are other words; another word; or an option with its value
@@ -46,10 +54,3 @@ at_option found = option_map (λ r. (fronts.Option r.0, r.1)) found
 abbrev pub read_front : List Choice → Text → List Text → Option (Front × List Text)
 read_front known word rest =
     if bytes_eq word (codes "--") then Some (fronts.End, rest) else (if is_option word then at_option (option_at known word rest) else Some (fronts.Word, rest))
-
--- words say options of these, each at most once, and so many other words
-pub record Counts (known : List Choice) (words : List Text) (n : ℕ) : Type 0 where
-  pub pieces : List Piece
-  pub says : Says known false words pieces
-  pub once : IsTrue (stand_once pieces)
-  pub count : length (words_of pieces) ≡ n

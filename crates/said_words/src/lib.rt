@@ -1,10 +1,12 @@
 //! Words behind a command, judged.
 //!
-//! [`other_words`] tells whether words say options of a command, each at most once, and how many other words
-//! they say besides. What an option's value is it doesn't ask, but that there is one where the option has one.
+//! [`Said::of`] tells whether words say options of a command, each at most once, and what they say then: the
+//! value of each option, and the other words. What a value may be it doesn't ask, but that there is one where
+//! the option has one. It takes no memory.
 #![tactic(auto)]
 
+mod front;
 mod option;
 mod said;
 
-pub use said::other_words;
+pub use said::Said;

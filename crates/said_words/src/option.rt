@@ -1,9 +1,9 @@
 //! Options, and the words that they take.
 
 ghost use Rattle.std.specs.Prelude.{◌≡◌, option_and_then, option_map};
-ghost use Rattle.std.specs.List.{list_any};
-ghost use Rattle.command_line.specs.Options.{has_dash, has_value, is_choice, is_option, name_of, option_in};
-ghost use Rattle.said_words.specs.Words.{behind_value, joined_front, option_at, taking_front, taking_next, texts};
+ghost use Rattle.std.specs.Option.{option_copied};
+ghost use Rattle.command_line.specs.Options.{has_dash, has_value, is_option, name_of, option_in};
+ghost use Rattle.said_words.specs.Words.{behind_value, joined_front, joined_value, option_at, taking_front, taking_next, texts};
 
 use command_line::Choice;
 
@@ -22,20 +22,13 @@ fn name_of(choice: Choice) -> &'static str
 }
 
 /// Whether the option has a value, or stands alone.
-fn has_value(choice: Choice) -> bool
+pub(crate) fn has_value(choice: Choice) -> bool
     ensures { result ≡ has_value choice }
 {
     match choice {
         Choice::Lib | Choice::Preload | Choice::Harts | Choice::Fuel => true,
         Choice::Now | Choice::Trace => false,
     }
-}
-
-/// Whether the option stands among these.
-pub(crate) fn stands_among(choice: Choice, seen: &[Choice]) -> bool
-    ensures { result ≡ list_any (is_choice choice) seen.now }
-{
-    seen.iter().any(|other| name_of(choice) == name_of(*other))
 }
 
 fn has_dash(word: &[u8]) -> bool
@@ -76,10 +69,20 @@ fn behind_value(words: &[String]) -> Option<&[String]>
 
 /// What stands before the first equals sign of a word, if it has one.
 fn joined_front(word: &str) -> Option<&str>
-    ensures { option_map (λ name. name.now) result ≡ joined_front word.now }
+    ensures { option_copied result ≡ joined_front word.now }
 {
     match word.split_once('=') {
         Some((name, _value)) => Some(name),
+        None => None,
+    }
+}
+
+/// What stands behind the first equals sign of a word, if it has one.
+pub(crate) fn joined_value(word: &str) -> Option<&str>
+    ensures { option_copied result ≡ joined_value word.now }
+{
+    match word.split_once('=') {
+        Some((_name, value)) => Some(value),
         None => None,
     }
 }

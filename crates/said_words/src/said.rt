@@ -1,64 +1,130 @@
-//! What words say, without their values.
+//! What words say.
 
-ghost use Rattle.std.specs.Prelude.{◌≡◌, ℕ, Some, None, IfOk, IfSome, option_map};
-ghost use Rattle.said_words.specs.Words.{Counts, read_front, texts};
+ghost use Rattle.std.specs.Prelude.{◌≡◌, ◌+◌, ◌<◌, ◌^◌, if◌then◌else◌, IfSome, None, Some, length, slice_get};
+ghost use Rattle.std.specs.Option.{option_copied, option_or};
+ghost use Rattle.said_words.specs.Said.{IsSaid, IsUnsaid, has_option, with_option, with_word};
+ghost use Rattle.said_words.specs.Words.{texts};
 
-use crate::option::{is_option, option_at, stands_among};
+use crate::front::{Front, first_text, read_front, value_at};
 use command_line::Choice;
-use std::alloc::{AllocError, Global};
 
-/// What stands at the front of words.
+/// What words behind a command say: the values of its options, and the other words.
 #[derive(Clone, Copy, Debug)]
-enum Front {
-    /// The end of the options.
-    End,
-    /// An option, with its value if it has one.
-    Option(Choice),
-    /// Another word.
-    Word,
+pub struct Said<'a> {
+    /// The value of `--lib`, where it stands.
+    pub lib: Option<&'a str>,
+    /// The value of `--preload`.
+    pub preload: Option<&'a str>,
+    /// The value of `--harts`.
+    pub harts: Option<&'a str>,
+    /// The value of `--fuel`.
+    pub fuel: Option<&'a str>,
+    /// Whether `--now` stands.
+    pub now: bool,
+    /// Whether `--trace` stands.
+    pub trace: bool,
+    /// How many other words there are.
+    pub others: usize,
+    /// The first of them.
+    pub first: Option<&'a str>,
 }
 
-/// What a word is, and the words behind it and its value.
-fn read_front<'a>(known: &[Choice], word: &str, rest: &'a [String]) -> Option<(Front, &'a [String])>
-    ensures { option_map (λ r. (r.0, texts r.1.now)) result ≡ read_front known.now word.now (texts rest.now) }
-{
-    if word == "--" {
-        return Some((Front::End, rest));
-    }
-    if !is_option(word.as_bytes()) {
-        return Some((Front::Word, rest));
-    }
-    let (choice, rest) = option_at(known, word, rest)?;
-    Some((Front::Option(choice), rest))
-}
-
-/// How many other words there are, where the words behind a command say options of these, each at most
-/// once, and other words; none where they say something else.
-pub fn other_words(
-    alloc: Global,
-    known: &[Choice],
-    words: &[String],
-) -> Result<Option<usize>, AllocError>
-    ensures some { IfOk result (λ others. IfSome others (Counts known.now (texts words.now))) }
-    ensures none { IfOk result (λ others. others ≡ None → (n : ℕ) → Counts known.now (texts words.now) n → ⊥) }
-{
-    let mut seen = Vec::new(alloc);
-    let mut others = 0;
-    let mut rest = words;
-    while let Some((word, more)) = rest.split_first() {
-        let Some((front, more)) = read_front(known, word, more) else {
-            return Ok(None);
-        };
-        match front {
-            Front::End => {
-                others += more.len();
-                break;
-            }
-            Front::Word => others += 1,
-            Front::Option(choice) if stands_among(choice, seen.as_slice()) => return Ok(None),
-            Front::Option(choice) => seen.push(choice)?,
+impl<'a> Said<'a> {
+    /// Whether the option stands.
+    fn has(&self, choice: Choice) -> bool
+        ensures { result ≡ has_option self.entry.now choice }
+    {
+        match choice {
+            Choice::Lib => self.lib.is_some(),
+            Choice::Preload => self.preload.is_some(),
+            Choice::Harts => self.harts.is_some(),
+            Choice::Fuel => self.fuel.is_some(),
+            Choice::Now => self.now,
+            Choice::Trace => self.trace,
         }
-        rest = more;
     }
-    Ok(Some(others))
+
+    /// With an option, too, and its value if it has one; none where it stands already.
+    fn with_option(self, choice: Choice, value: Option<&'a str>) -> Option<Self>
+        ensures { result ≡ if has_option self.entry choice then None else Some (with_option self.entry choice value.entry) }
+    {
+        if self.has(choice) {
+            return None;
+        }
+        Some(match choice {
+            Choice::Lib => Said { lib: value, ..self },
+            Choice::Preload => Said {
+                preload: value,
+                ..self
+            },
+            Choice::Harts => Said {
+                harts: value,
+                ..self
+            },
+            Choice::Fuel => Said {
+                fuel: value,
+                ..self
+            },
+            Choice::Now => Said { now: true, ..self },
+            Choice::Trace => Said {
+                trace: true,
+                ..self
+            },
+        })
+    }
+
+    /// With another word, too.
+    fn with_word(self, word: &'a str) -> Self
+        requires { self.others + 1 < 2 ^ 64 }
+        ensures { result ≡ with_word self.entry word.entry }
+    {
+        Said {
+            others: self.others + 1,
+            first: self.first.or(Some(word)),
+            ..self
+        }
+    }
+
+    /// With other words, too.
+    fn with_words(self, words: &'a [String]) -> Self
+        requires { self.others + length words.now < 2 ^ 64 }
+        ensures kept { result ≡ record self.entry { others = self.entry.others + length words.entry.now; first = result.first } }
+        ensures first { option_copied result.first ≡ option_or (option_copied self.entry.first) (slice_get (texts words.entry.now) 0) }
+    {
+        let first = first_text(words);
+        Said {
+            others: self.others + words.len(),
+            first: self.first.or(first),
+            ..self
+        }
+    }
+
+    /// What words behind a command say, where they say options of these, each at most once, and other words;
+    /// none where they say something else.
+    pub fn of(known: &[Choice], words: &'a [String]) -> Option<Self>
+        ensures some { IfSome result (IsSaid known.now (texts words.entry.now)) }
+        ensures none { result ≡ None → IsUnsaid known.now (texts words.entry.now) }
+    {
+        let mut said = Said {
+            lib: None,
+            preload: None,
+            harts: None,
+            fuel: None,
+            now: false,
+            trace: false,
+            others: 0,
+            first: None,
+        };
+        let mut rest = words;
+        while let Some((word, more)) = rest.split_first() {
+            let (front, behind) = read_front(known, word, more)?;
+            said = match front {
+                Front::End => return Some(said.with_words(behind)),
+                Front::Word => said.with_word(word),
+                Front::Option(choice) => said.with_option(choice, value_at(choice, word, more))?,
+            };
+            rest = behind;
+        }
+        Some(said)
+    }
 }

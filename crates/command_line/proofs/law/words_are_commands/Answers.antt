@@ -1,4 +1,4 @@
-use Rattle.command_line.proofs.Worked.{behind, ended, generated, joined, plain}
+use Rattle.command_line.proofs.Worked.{behind, ended, generated, joined, plain, scheduled}
 use Rattle.command_line.proofs.law.words_are_commands.Goals as goal
 
 pub returns-clause-plain : goal.returns-clause-plain
@@ -15,3 +15,6 @@ returns-clause-ended c = ended
 
 pub returns-clause-generated : goal.returns-clause-generated
 returns-clause-generated c = generated
+
+pub returns-clause-scheduled : goal.returns-clause-scheduled
+returns-clause-scheduled c = scheduled

@@ -1,4 +1,4 @@
-use Rattle.command_line.proofs.Worked.{none_dashed, none_empty_part, none_help_option, none_leading_zero, none_no_fuel, none_no_program, none_no_words, none_twice}
+use Rattle.command_line.proofs.Worked.{none_dashed, none_empty_part, none_help_option, none_help_word, none_leading_zero, none_no_fuel, none_no_program, none_no_words, none_twice}
 use Rattle.command_line.proofs.law.words_are_none.Goals as goal
 
 pub returns-clause-no_words : goal.returns-clause-no_words
@@ -24,3 +24,6 @@ returns-clause-no_fuel c = none_no_fuel
 
 pub returns-clause-leading_zero : goal.returns-clause-leading_zero
 returns-clause-leading_zero c = none_leading_zero
+
+pub returns-clause-help_word : goal.returns-clause-help_word
+returns-clause-help_word c = none_help_word
