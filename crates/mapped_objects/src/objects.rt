@@ -3,10 +3,10 @@
 ghost use Rattle.std.specs.Prelude.{◌≡◌, find};
 ghost use Rattle.std.specs.List.{flat_map};
 ghost use Rattle.std.specs.Option.{option_copied};
-ghost use Rattle.link_history.specs.Objects.{has_object};
+ghost use Rattle.link_history.specs.Objects.{has_id, has_object};
 ghost use Rattle.scope_rule.specs.Loading.{with_serial};
 
-use ld_base::{Loaded, Serial};
+use ld_base::{Loaded, NsId, Serial};
 use scope_rule::Namespace;
 
 /// The first mapped object with a serial.
@@ -33,6 +33,18 @@ pub fn home_in(namespaces: &[Namespace], serial: Serial) -> Option<&Namespace>
     None
 }
 
+/// The namespace with a number.
+pub fn namespace_in(namespaces: &[Namespace], id: NsId) -> Option<&Namespace>
+    ensures { option_copied result ≡ find (has_id id) namespaces.now }
+{
+    for namespace in namespaces {
+        if namespace.id == id {
+            return Some(namespace);
+        }
+    }
+    None
+}
+
 /// The first of some objects with a serial.
 fn object_among(objects: &[Loaded], serial: Serial) -> Option<&Loaded>
     ensures { option_copied result ≡ with_serial objects.now serial }
@@ -46,7 +58,7 @@ fn object_among(objects: &[Loaded], serial: Serial) -> Option<&Loaded>
 }
 
 /// Whether an object of a namespace has a serial.
-fn has_object(namespace: &Namespace, serial: Serial) -> bool
+pub fn has_object(namespace: &Namespace, serial: Serial) -> bool
     ensures { result ≡ has_object serial namespace.now }
 {
     let objects = namespace.objects.as_slice();

@@ -23,8 +23,10 @@ area_alone image = record { images = []; slots = []; areas = image ∷ [] }
 
 -- pages for data are what memory gets, where each byte is the one that was put there first
 abbrev pub AreasHaveWords : Type 0
-AreasHaveWords = (m : Machine) (events : List Event) (r : Range) (at : ℕ) (bytes : List ℕ) (image : Image) → AcceptsOnly m → Lawful m events → Contains (after events).ranges r → IsTrue (is_area r)
-    → ((a : ℕ) → IsTrue (covers a r) → byte_among at bytes a ≡ first_byte (after events) r.purpose a) → IsArea r.address r.pages at bytes image → AreWordsOf (after events) r image
+AreasHaveWords = (m : Machine) (events : List Event) (r : Range) (at : ℕ) (bytes : List ℕ) (image : Image) → AcceptsOnly m → Lawful m events
+    → Contains (after events).ranges r → IsTrue (is_area r)
+    → ((a : ℕ) → IsTrue (covers a r) → byte_among at bytes a ≡ first_byte (after events) r.purpose a)
+    → IsArea r.address r.pages at bytes image → AreWordsOf (after events) r image
 
 -- where a hart may have a new block of an object's module, pages with the bytes that the object's image gives for it are what memory gets
 abbrev pub NewBlocksAreInstalled : Type 0

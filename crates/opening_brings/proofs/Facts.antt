@@ -9,13 +9,13 @@ use Rattle.link_history.specs.Accepted.{IsAccepted}
 use Rattle.link_history.specs.Bound.{place_of}
 use Rattle.link_history.specs.Objects.{is_startup}
 use Rattle.link_history.specs.State.{State, Statics}
-use Rattle.link_history.specs.Step.{binds, loaded, seen_after}
+use Rattle.link_history.specs.Step.{binds, loaded}
 use Rattle.link_history.specs.Storage.{HaveModules, with_modules}
 use Rattle.link_history.specs.Lemmas.Lists.{at_in}
 use Rattle.object_bindings.specs.Bindings.{CanRead}
 use Rattle.opening_images.specs.Relocated.{AreChoices, AreRelocated, MayRelocateAll}
 use Rattle.opening_laws.specs.Laws.{CanBePlaced, places_after}
-use Rattle.opening_brings.specs.Brought.{AreModules, seen_with}
+use Rattle.opening_brings.specs.Brought.{AreModules, seen_of, seen_with}
 use Rattle.opening_brings.specs.declared.bringing.Planned.{Planned}
 use Rattle.opening_steps.specs.Steps.{statics_after, statics_of}
 use Rattle.relocator.specs.declared.binding.ModulePlace.{ModulePlace}
@@ -26,9 +26,6 @@ use Rattle.startup_areas.specs.Areas.{AreAreas}
 use Rattle.startup_areas.specs.Blocks.{FitBlocks}
 use Rattle.startup_areas.specs.Laws.{parts_made, statics_then}
 use Rattle.tls_blocks.specs.Numbers.{ModuleTable}
-
-abbrev pub seen_of : State → Planned → Seen
-seen_of s p = seen_after s p.ask.now p.ns p.root p.added.now
 
 abbrev pub places_of : State → Planned → List ModulePlace
 places_of s p = places_after s p.hart p.ask.now p.ns p.root p.added.now p.ranges.now

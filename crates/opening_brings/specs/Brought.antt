@@ -1,24 +1,27 @@
 -- What an opening brings to a linker's lists.
-use Rattle.std.specs.Prelude.{◌≡◌, ℕ, ◌+◌, List, find, filter, length, map, Some, None}
-use Rattle.image_parts.specs.Parts.{part_of}
+use Rattle.std.specs.Prelude.{◌≡◌, ℕ, ◌+◌, Bool, List, filter, length}
 use Rattle.image_reads.specs.Reads.{ArePrepared}
+use Rattle.ld_base.specs.declared.linking.Choice.{Choice}
+use Rattle.ld_base.specs.declared.linking.Loaded.{Loaded}
 use Rattle.link_event.specs.declared.event.Event.{Event}
 use Rattle.link_event.specs.declared.event.Event.TheVariants.{Open}
 use Rattle.link_event.specs.declared.event.OpenAnswer.TheVariants.{Done}
+use Rattle.link_event.specs.declared.event.OpenAsk.{OpenAsk}
+use Rattle.link_event.specs.declared.event.Range.{Range}
 use Rattle.link_history.specs.Flags.{is_global}
 use Rattle.link_history.specs.Held.{gained}
-use Rattle.link_history.specs.Objects.{has_id, is_startup}
-use Rattle.link_history.specs.State.{State, empty_namespace}
-use Rattle.link_history.specs.Step.{has_module, open_done}
+use Rattle.link_history.specs.State.{State, start}
+use Rattle.link_history.specs.Step.{has_module, open_done, seen_after}
 use Rattle.link_history.specs.Storage.{with_modules}
 use Rattle.link_service.specs.Served.{AreInstalls}
 use Rattle.opening_brings.specs.declared.bringing.Brings.{Brings}
 use Rattle.opening_brings.specs.declared.bringing.Planned.{Planned}
-use Rattle.opening_laws.specs.Laws.{image_made}
-use Rattle.opening_steps.specs.Steps.{statics_after, statics_of}
+use Rattle.opening_images.specs.Relocated.{AreChoices}
+use Rattle.opening_steps.specs.Steps.{statics_of}
 use Rattle.scope_rule.specs.Opening.{opened}
 use Rattle.scope_rule.specs.Seen.{Seen, seen_in}
 use Rattle.scope_rule.specs.declared.namespace.Namespace.{Namespace}
+use Rattle.startup_areas.specs.Laws.{parts_made, statics_then}
 use Rattle.tls_blocks.specs.Numbers.{ModuleTable}
 
 -- the event of an opening
@@ -30,9 +33,20 @@ abbrev pub done_state : State → Planned → State
 done_state s p = open_done s p.hart p.ask.now p.ns p.root p.added.now p.ranges.now
 
 -- what is seen of its namespace then
+abbrev pub seen_of : State → Planned → Seen
+seen_of s p = seen_after s p.ask.now p.ns p.root p.added.now
+
+-- that depends on the namespaces alone
 abbrev pub seen_with : List Namespace → Planned → Seen
-seen_with namespaces p =
-    seen_in (opened (elim (find (has_id p.ns) namespaces) [ Some ns ↦ ns | None ↦ empty_namespace p.ns ]) p.added.now p.root (is_global p.ask.now.flags))
+seen_with namespaces p = seen_of (record start { namespaces = namespaces }) p
+
+-- what is seen of a namespace that is opened so
+abbrev pub seen_over : Namespace → Planned → Seen
+seen_over ns p = seen_in (opened ns p.added.now p.root (is_global p.ask.now.flags))
+
+-- there is a list of choices for each new object: those of what is seen then
+abbrev pub AreChosenFor : State → Planned → Bool → List (List Choice) → Type 0
+AreChosenFor s p now choices = AreChoices (seen_of s p) now p.added.now choices
 
 -- the modules are the state's
 pub record AreModules (s : State) (table : ModuleTable) : Type 0 where
@@ -40,13 +54,17 @@ pub record AreModules (s : State) (table : ModuleTable) : Type 0 where
   pub statics : statics_of table ≡ s.statics
   pub generation : table.generation ≡ s.generation
 
--- what an opening brings is what the state after it has
+-- what an opening brings to the lists is what they have in the state after it
+pub record OfLists (s : State) (hart : ℕ) (ask : OpenAsk) (id root : ℕ) (added : List Loaded) (ranges : List Range) (b : Brings) : Type 0 where
+  pub modules : b.modules.modules ≡ with_modules added s.modules
+  pub statics : statics_of b.modules ≡ statics_then s added
+  pub generation : b.modules.generation ≡ s.generation + length (filter has_module added)
+  pub edges : b.edges.items ≡ gained s (Open hart ask (Done id root added ranges))
+  pub parts : b.parts.items ≡ parts_made s hart ask id root added ranges
+
+-- and what it brings to memory is what that state asks for
 pub record IsBrought (s : State) (p : Planned) (b : Brings) : Type 0 where
-  pub modules : b.modules.modules ≡ with_modules p.added.now s.modules
-  pub statics : statics_of b.modules ≡ statics_after (is_startup s) p.added.now s.statics
-  pub generation : b.modules.generation ≡ s.generation + length (filter has_module p.added.now)
-  pub edges : b.edges.items ≡ gained s (done p)
-  pub parts : b.parts.items ≡ map part_of (map (image_made s p.hart p.ask.now p.ns p.root p.added.now p.ranges.now) p.added.now)
+  pub lists : OfLists s p.hart p.ask.now p.ns p.root p.added.now p.ranges.now b
   pub installs : AreInstalls (done_state s p) p.added.now p.ranges.now b.installs
   -- each image is of the record that this state has
   pub prepared : ArePrepared (done_state s p) p.added.now b.installs.images

@@ -8,7 +8,7 @@ ghost use Rattle.link_history.specs.After.{after};
 ghost use Rattle.link_history.specs.Objects.{is_startup};
 ghost use Rattle.link_history.specs.Step.{binds, seen_after};
 ghost use Rattle.link_service.specs.Served.{slots_of};
-ghost use Rattle.opening_brings.specs.Brought.{AreModules, IsBrought, done};
+ghost use Rattle.opening_brings.specs.Brought.{AreChosenFor, AreModules, IsBrought, done};
 ghost use Rattle.opening_images.specs.Relocated.{AreChoices, AreRelocated};
 ghost use Rattle.opening_laws.specs.Laws.{image_made, places_after};
 ghost use Rattle.opening_steps.specs.Steps.{statics_of};
@@ -34,9 +34,13 @@ use tls_blocks::TlsModules;
 /// An opening that is to be made.
 #[derive(Clone, Copy)]
 pub struct Planned<'a> {
+    /// The hart whose call it is.
     pub hart: HartId,
+    /// What is asked.
     pub ask: &'a OpenAsk,
+    /// The namespace that it opens in.
     pub ns: NsId,
+    /// The object that it opens.
     pub root: Serial,
     /// The new objects, in load order.
     pub added: &'a [Loaded],
@@ -78,7 +82,7 @@ pub fn prepare(
     requires modules { AreModules (after journal.now.events) modules.now }
     requires startup { startup ≡ is_startup (after journal.now.events) }
     requires now { now ≡ binds (after journal.now.events) planned.now.ask.now }
-    requires choices { AreChoices (seen_after (after journal.now.events) planned.now.ask.now planned.now.ns planned.now.root planned.now.added.now) now planned.now.added.now choices.now }
+    requires choices { AreChosenFor (after journal.now.events) planned.now now choices.now }
     ensures { IfOk result (IsBrought (after journal.now.events) planned.now) }
 {
     new_modules_have_places();

@@ -1,19 +1,15 @@
 //! Images of new objects, over the namespace as the opening leaves it.
 
-ghost use Rattle.std.specs.Prelude.{◌≡◌, find, map, IfOk};
-ghost use Rattle.std.specs.Option.{option_copied};
+ghost use Rattle.std.specs.Prelude.{◌≡◌, map, IfOk};
 ghost use Rattle.link_history.specs.Bound.{place_of};
-ghost use Rattle.link_history.specs.Flags.{is_global};
-ghost use Rattle.link_history.specs.Objects.{has_id};
 ghost use Rattle.link_history.specs.State.{empty_namespace};
-ghost use Rattle.opening_brings.specs.Brought.{seen_with};
+ghost use Rattle.opening_brings.specs.Brought.{seen_over, seen_with};
 ghost use Rattle.opening_images.specs.Relocated.{AreChoices, AreRelocated, MayRelocateAll};
-ghost use Rattle.scope_rule.specs.Opening.{opened};
-ghost use Rattle.scope_rule.specs.Seen.{seen_in};
 
 use crate::bringing::Planned;
 use ld_base::{Added, NsId, Serials};
 use link_event::{Choices, Module};
+use mapped_objects::namespace_in;
 use open_flags::is_global;
 use opening_images::images_of;
 use relocator::{ModulePlace, TlsPlaces};
@@ -79,9 +75,9 @@ fn images_over(
     choices: &[Choices],
     places: &TlsPlaces,
 ) -> Result<Images, AllocError>
-    requires choices { AreChoices (seen_in (opened namespace.now planned.now.added.now planned.now.root (is_global planned.now.ask.now.flags))) now planned.now.added.now choices.now }
-    requires may { MayRelocateAll (seen_in (opened namespace.now planned.now.added.now planned.now.root (is_global planned.now.ask.now.flags))) now places.now planned.now.added.now }
-    ensures { IfOk result (AreRelocated (seen_in (opened namespace.now planned.now.added.now planned.now.root (is_global planned.now.ask.now.flags))) now places.now planned.now.added.now) }
+    requires choices { AreChoices (seen_over namespace.now planned.now) now planned.now.added.now choices.now }
+    requires may { MayRelocateAll (seen_over namespace.now planned.now) now places.now planned.now.added.now }
+    ensures { IfOk result (AreRelocated (seen_over namespace.now planned.now) now places.now planned.now.added.now) }
 {
     let before = namespace.view_with(planned.added);
     let lists = opened_lists(alloc, &before, planned.root, is_global(planned.ask.flags))?;
@@ -93,18 +89,6 @@ fn images_over(
         choices,
         places,
     )
-}
-
-/// The namespace with a number.
-fn namespace_in(namespaces: &[Namespace], id: NsId) -> Option<&Namespace>
-    ensures { option_copied result ≡ find (has_id id) namespaces.now }
-{
-    for namespace in namespaces {
-        if namespace.id == id {
-            return Some(namespace);
-        }
-    }
-    None
 }
 
 /// A namespace without objects.

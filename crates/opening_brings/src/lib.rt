@@ -1,10 +1,9 @@
 //! All that an opening brings, made before anything changes.
 //!
 //! [`prepare`] makes of an opening that may come next the images of its new objects, with what is kept of
-//! them, the edges to what their relocations chose, and the modules with theirs. A linker that has them
-//! and room in its lists carries the opening out without a want of memory.
+//! them, the edges to what their relocations chose, and the modules with theirs.
 //!
-//! What is promised: each is what the state after the opening has (`Brought` in specs/).
+//! What is promised: each is what the state after the opening has (`IsBrought` in specs/).
 #![tactic(auto)]
 
 mod bringing;

@@ -26,7 +26,8 @@ pub record TakesAsMuch (set : List ℕ) (old new : State) : Type 0 where
   pub ranges : count_by (goes_with set) new.ranges ≡ count_by (goes_with set) old.ranges
 
 abbrev pub ClosingsTakeAsMuch : Type 0
-ClosingsTakeAsMuch = OfOpenings (λ s hart ask id root added ranges. (c : Closing) → Contains s.closings c → TakesAsMuch c.set s (open_done s hart ask id root added ranges))
+ClosingsTakeAsMuch = OfOpenings (λ s hart ask id root added ranges. (c : Closing) → Contains s.closings c
+    → TakesAsMuch c.set s (open_done s hart ask id root added ranges))
 
 -- each is found by its serial
 abbrev pub NewImagesAreFound : Type 0

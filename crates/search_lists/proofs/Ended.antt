@@ -2,7 +2,7 @@
 use Rattle.std.proofs.Common.{◌≡◌, ℕ, ◌+◌, ◌-◌, ◌≤◌, Bool, true, false, cond, List, [], ◌∷◌, ◌++◌, drop, map, take, refl, sym, ap, ◌∙◌, eq-eqb, arith}
 use Rattle.std.specs.List.{flat_map, list_all}
 use Rattle.std.proofs.lemmas.Bool.{and_parts, eqb-true}
-use Rattle.std.specs.Prelude.{◌==◌, ◌||◌, Option, Some, None}
+use Rattle.std.specs.Prelude.{◌==◌, ◌&&◌, ◌||◌, Option, Some, None}
 use Rattle.ld_base.specs.declared.linking.Loaded.{Loaded}
 use Rattle.scope_rule.specs.Breadth.{extend, has, order_to}
 use Rattle.scope_rule.specs.Loading.{found_of, object_of, with_serial}
@@ -87,7 +87,7 @@ all_linked s all found is are q x there some = by (q == 0) there
 
 -- ---- what each of a list passes
 
-pub each_passes : (p : ℕ → Bool) (xs : List ℕ) (x : ℕ) → list_all p xs ≡ true → has xs x ≡ true → p x ≡ true
+each_passes : (p : ℕ → Bool) (xs : List ℕ) (x : ℕ) → list_all p xs ≡ true → has xs x ≡ true → p x ≡ true
 each_passes p [] x all there = absurd (cc there)
 each_passes p (y ∷ ys) x all there =
     let parts = and_parts (p y) (list_all p ys) all in
@@ -96,3 +96,6 @@ each_passes p (y ∷ ys) x all there =
     by_place : (own : Bool) → (y == x) ≡ own → p y ≡ true → (has ys x ≡ true → p x ≡ true) → (own || has ys x) ≡ true → p x ≡ true
     by_place true same first later e = ap p (sym (eqb-true y x same)) ∙ first
     by_place false other first later e = later e
+
+pub all_pass : (p : ℕ → Bool) (other : Bool) (xs : List ℕ) (x : ℕ) → (other && list_all p xs) ≡ true → has xs x ≡ true → p x ≡ true
+all_pass p other xs x all there = each_passes p xs x (and_parts other (list_all p xs) all).1 there

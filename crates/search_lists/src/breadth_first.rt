@@ -1,7 +1,7 @@
 //! Breadth-first order, in one step for each object that an object's names found, up to the level with which
 //! all are there.
 
-ghost use Rattle.std.specs.Prelude.{◌≡◌, ◌≤◌, ◌∷◌, [], ℕ, true, length, drop, flat_map, IfOk, IsTrue, OnOk};
+ghost use Rattle.std.specs.Prelude.{◌≡◌, ◌≤◌, ◌∷◌, ◌&&◌, [], nat_le, length, drop, flat_map, IfOk, OnOk};
 ghost use Rattle.std.specs.List.{list_all};
 ghost use Rattle.scope_rule.specs.Breadth.{breadth, extend, has, order_to};
 ghost use Rattle.scope_rule.specs.Loading.{found_of};
@@ -54,24 +54,17 @@ fn extend_by_level(
     Ok(())
 }
 
-/// Whether the order has an object.
-fn has_one(order: &IndexSet<Serial>, serial: Serial) -> bool
-    ensures { result ≡ has order.now.keys serial }
-{
-    order.contains(&serial)
-}
-
 /// Whether the order has each of some objects.
 fn has_each(order: &IndexSet<Serial>, serials: &[Serial]) -> bool
     ensures { result ≡ list_all (λ serial. has order.now.keys serial) serials.now }
 {
-    serials.iter().all(|serial| has_one(order, *serial))
+    serials.iter().all(|serial| order.contains(serial))
 }
 
 /// Whether the order has everything that any object found, so that no level puts anything at its end. It is
 /// looked through only where the order is as long.
 fn has_all(order: &IndexSet<Serial>, all: &[Serial]) -> bool
-    ensures { IsTrue result → (serial : ℕ) → has all.now serial ≡ true → has order.now.keys serial ≡ true }
+    ensures { result ≡ (nat_le (length all.now) (length order.now.keys) && list_all (λ serial. has order.now.keys serial) all.now) }
 {
     order.len() >= all.len() && has_each(order, all)
 }

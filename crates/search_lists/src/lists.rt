@@ -19,13 +19,16 @@ use version_places::VersionNames;
 /// stand.
 #[derive(Drop)]
 pub struct SearchList {
+    /// The object whose references these are.
     pub owner: Serial,
+    /// The objects that are searched, in order.
     pub scope: Serials,
+    /// Where the names of the owner's versions stand.
     pub names: VersionNames,
 }
 
-/// Where the references of each object of a namespace are searched, made once an opening or closing.
-/// Contracts see it as the lists in load order.
+/// Where the references of each object of a namespace are searched, as the namespace stood when they were
+/// made. Contracts see it as the lists in load order.
 #[derive(Drop)]
 pub struct SearchLists {
     lists: Sequence<SearchList>,
@@ -145,10 +148,8 @@ impl SearchLists {
     pub fn names_at(&self, place: usize) -> Option<&VersionNames>
         ensures { (s : Seen) (o : loaded) → self.now ≡ lists_of s → slice_get s.objects place ≡ Some o → option_copied result ≡ Some (places_of o.object) }
     {
-        match list_at(self.lists.as_slice(), place) {
-            Some(list) => Some(&list.names),
-            None => None,
-        }
+        let list = list_at(self.lists.as_slice(), place)?;
+        Some(&list.names)
     }
 
     /// The place in load order of the object with a serial, of any namespace whose lists these are.

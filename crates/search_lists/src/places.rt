@@ -87,9 +87,7 @@ impl Places {
         requires { ArePlaces (serials_of (seen view.now)) self.now }
         ensures { option_copied result ≡ object_of (seen view.now) serial }
     {
-        match self.get(serial) {
-            Some(place) => object_at(view, place),
-            None => None,
-        }
+        let place = self.get(serial)?;
+        object_at(view, place)
     }
 }

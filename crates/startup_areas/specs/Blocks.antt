@@ -21,7 +21,8 @@ pub record IsBlock (objects : List Loaded) (parts : List Part) (k offset : ℕ) 
 -- static blocks end in the first so many bytes of an area, tp being so far from its start, and each is apart from the others
 pub record FitBlocks (tp size : ℕ) (objects : List Loaded) (parts : List Part) : Type 0 where
   pub within : (k x : ℕ) (bytes : List ℕ) → IsBlock objects parts k x bytes → tp + x + length bytes ≤ size
-  pub apart : (k l x y : ℕ) (bytes more : List ℕ) → IsBlock objects parts k x bytes → IsBlock objects parts l y more → k ≢ l → (x + length bytes ≤ y) ⊎ (y + length more ≤ x)
+  pub apart : (k l x y : ℕ) (bytes more : List ℕ) → IsBlock objects parts k x bytes → IsBlock objects parts l y more → k ≢ l
+      → (x + length bytes ≤ y) ⊎ (y + length more ≤ x)
 
 -- the bytes of an area are those of the blocks where these stand, and 0 beside them
 pub record HoldBlocks (tp : ℕ) (objects : List Loaded) (parts : List Part) (area : List ℕ) : Type 0 where

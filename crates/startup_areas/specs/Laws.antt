@@ -23,7 +23,7 @@ parts_made s hart ask id root added ranges = map part_of (map (image_made s hart
 abbrev pub statics_then : State → List Loaded → Statics
 statics_then s added = statics_after (is_startup s) added s.statics
 
--- static blocks fit into an area, and areas into guest memory
+-- static blocks fit into an area, and areas end below 2^32
 pub record Fit (s : State) (hart : ℕ) (ask : OpenAsk) (id root : ℕ) (added : List Loaded) (ranges : List Range) : Type 0 where
   pub blocks : FitBlocks (statics_then s added).tp ((statics_then s added).tp + (statics_then s added).size) added (parts_made s hart ask id root added ranges)
   pub low : (r : Range) → Contains ranges r → IsTrue (is_area r) → r.address + 4096 * r.pages ≤ 2 ^ 32

@@ -75,6 +75,8 @@ fn image_of(alloc: Global, range: &Range, bytes: &[u8]) -> Result<Image, AllocEr
         Purpose::StaticTls(_) => {
             area_image(alloc, range.address, range.pages, range.address, bytes)
         }
-        _ => area_image(alloc, range.address, range.pages, range.address, &[]),
+        Purpose::Object(_) | Purpose::Stack(_) | Purpose::Block(_, _) => {
+            area_image(alloc, range.address, range.pages, range.address, &[])
+        }
     }
 }

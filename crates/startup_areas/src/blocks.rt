@@ -41,10 +41,7 @@ pub fn static_bytes(
 fn static_offset(object: &Loaded) -> Option<u64>
     ensures { result ≡ static_offset object.now }
 {
-    match object.module {
-        Some(place) => place.offset,
-        None => None,
-    }
+    object.module?.offset
 }
 
 /// Writes a block over the bytes from a place on.
@@ -54,7 +51,5 @@ fn write(bytes: &mut [u8], at: usize, block: &[u8])
     ensures inside { (i : ℕ) → i < length block.now → slice_index bytes.new (at + i) ≡ slice_index block.now i }
     ensures beside { (v : ℕ) → (v < at) ⊎ (at + length block.now ≤ v) → slice_index bytes.new v ≡ slice_index bytes.old v }
 {
-    for (index, byte) in block.iter().enumerate() {
-        bytes[at + index] = *byte;
-    }
+    bytes[at..at + block.len()].copy_from_slice(block);
 }

@@ -7,8 +7,7 @@ use new_blocks::{areas_have_words, blocks_begin_as_kept};
 use opening_follows::new_images_are_found;
 use opening_laws::new_objects_are_placed;
 
-/// The static blocks of new objects fit into an area, each apart from the others; so do all pages that are
-/// reserved with them into guest memory.
+/// The static blocks of new objects fit into an area, each apart from the others, and areas end below 2^32.
 pub fn static_blocks_fit()
     ensures { StaticBlocksFit }
 {

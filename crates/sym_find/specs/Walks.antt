@@ -1,5 +1,6 @@
 -- The walks of hash tables: for the walks of this crate alone.
-use Rattle.std.specs.Prelude.{◌≡◌, ◌≢◌, ◌↔◌, ℕ, ◌+◌, ◌-◌, ◌/◌, ◌%◌, ◌^◌, ◌<◌, ◌≤◌, ◌==◌, ◌||◌, nat_lt, if◌then◌else◌, Bool, IsTrue, List, length, Option, Some, None}
+use Rattle.std.specs.Prelude.{◌≡◌, ◌≢◌, ◌↔◌, ℕ, ◌+◌, ◌-◌, ◌/◌, ◌%◌, ◌^◌, ◌<◌, ◌≤◌, ◌==◌, ◌||◌, nat_lt, if◌then◌else◌, Bool, IsTrue}
+use Rattle.std.specs.Prelude.{List, length, Option, Some, None}
 use Rattle.std.specs.List.{slice_get}
 use Rattle.ld_base.specs.declared.parts.GnuPart.{GnuPart}
 use Rattle.sym_hash.specs.Gnu.{has_bit}

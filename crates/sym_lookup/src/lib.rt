@@ -17,4 +17,4 @@ mod searching;
 pub use law::tables_are_there;
 pub use looking::{lookup, lookup_in, lookup_reloc};
 pub use references::References;
-pub use search_lists::{SearchList, SearchLists, lists_stay};
+pub use search_lists::SearchLists;

@@ -1,6 +1,6 @@
 //! The references of one object, each symbol looked up once.
 
-ghost use Rattle.std.specs.Prelude.{◌≡◌, ◌<◌, ℕ, Bool, false, length, None, Option, slice_index_or, IfOk, IfSome, IsTrue, OnOk};
+ghost use Rattle.std.specs.Prelude.{◌≡◌, ◌↔◌, ◌<◌, ℕ, Bool, false, length, None, Option, slice_index_or, IfOk, IfSome, IsTrue, OnOk};
 ghost use Rattle.ld_base.specs.declared.linking.Loaded.{Loaded as loaded};
 ghost use Rattle.ld_base.specs.declared.object.Symbol.{Symbol as Sym};
 ghost use Rattle.scope_rule.specs.Choose.{choice_of};
@@ -104,7 +104,7 @@ fn keep(kept: &mut [Option<Choice>], index: u32, choice: &Choice)
 
 /// Whether two symbols of an object ask for the same name and version.
 fn is_alike(one: &Symbol, other: &Symbol) -> bool
-    ensures { IsTrue result → IsAlike one.now other.now }
+    ensures { IsTrue result ↔ IsAlike one.now other.now }
 {
     one.version_index() == other.version_index() && one.name.is(other.name.as_bytes())
 }
@@ -141,14 +141,12 @@ fn kept_alike(
     if stays_own(symbol, copy) || stays_own(before, copy) || !is_alike(before, symbol) {
         return None;
     }
-    match kept_at(kept, other) {
-        Some(choice) => Some(choice_as(symbol, &choice)),
-        None => None,
-    }
+    let choice = kept_at(kept, other)?;
+    Some(choice_as(symbol, &choice))
 }
 
 /// The choice for a symbol of which none is kept.
-fn search_once(searching: &Searching, kept: &mut Kept, index: u32, copy: bool) -> Choice
+fn choice_of_unkept(searching: &Searching, kept: &mut Kept, index: u32, copy: bool) -> Choice
     requires symbol { index < length searching.now.owner.object.symbols }
     requires kept { AreKept searching.now.seen searching.now.owner copy kept.old.choices.items }
     ensures choice { result ≡ choice_of_symbol searching.now.seen searching.now.owner index copy }
@@ -173,7 +171,7 @@ fn kept_or_searched(searching: &Searching, kept: &mut Kept, index: u32, copy: bo
     match kept_at(kept.choices.as_slice(), index) {
         Some(choice) => choice,
         None => {
-            let choice = search_once(searching, kept, index, copy);
+            let choice = choice_of_unkept(searching, kept, index, copy);
             keep(kept.choices.as_mut_slice(), index, &choice);
             choice
         }

@@ -26,10 +26,7 @@ pub(crate) struct Searched {
 fn object_of<'a>(view: &View<'a>, place: Option<usize>) -> Option<&'a Loaded>
     ensures { option_copied result ≡ at_place (seen view.now) place }
 {
-    match place {
-        Some(place) => object_at(view, place),
-        None => None,
-    }
+    object_at(view, place?)
 }
 
 /// The names of the versions of the object at a place, if there is one.

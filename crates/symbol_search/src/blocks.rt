@@ -12,7 +12,7 @@ use std::alloc::AllocError;
 use tls_blocks::TlsModules;
 
 /// The module of an object.
-pub fn module_in(modules: &[Module], serial: Serial) -> Option<Module>
+fn module_in(modules: &[Module], serial: Serial) -> Option<Module>
     ensures { result ≡ find (λ m. m.serial == serial) modules.now }
 {
     for module in modules {

@@ -9,7 +9,7 @@ ghost use Rattle.link_history.specs.State.{State};
 ghost use Rattle.symbol_search.specs.Finding.{IsSymFault};
 ghost use Rattle.symbol_search.specs.declared.finding.SymFault.TheVariants.{Memory};
 
-use crate::search_in;
+use crate::searching::{DEFAULT, search_in};
 use ld_base::{DlFault, Name, Serial, Want};
 use link_event::SymAsk;
 use mapped_objects::object_in;
@@ -84,11 +84,9 @@ fn missing_symbol(
 fn searched_object(namespaces: &[Namespace], handle: u64) -> Option<&Name>
     ensures { (s : State) → s.namespaces ≡ namespaces.now → option_copied result ≡ searched_object s handle }
 {
-    if handle == 0 {
+    if handle == DEFAULT {
         return None;
     }
-    match object_in(namespaces, Serial::new(handle)) {
-        Some(object) => Some(&object.path),
-        None => None,
-    }
+    let object = object_in(namespaces, Serial::new(handle))?;
+    Some(&object.path)
 }

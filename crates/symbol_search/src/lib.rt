@@ -1,9 +1,9 @@
 //! What a look-up of a symbol reads of the linker's lists.
 //!
-//! [`symbol_ask`] is what a look-up asks for, [`search_in`] searches a name where dlsym and dlvsym do, and
-//! [`find_symbol`] says too why nothing is found. [`symbol_in`] is the symbol of a definition,
-//! [`variable_in`] its value if it is of thread-local storage, and [`block_in`] is where a hart has its
-//! block of an object's thread-local storage. They change nothing.
+//! [`symbol_ask`] is what a look-up asks for, and [`find_symbol`] searches a name where dlsym and dlvsym do,
+//! and says why nothing is found. [`variable_in`] is the value of a definition's symbol if that is of
+//! thread-local storage, and [`block_in`] is where a hart has its block of an object's thread-local storage.
+//! They change nothing.
 #![tactic(auto)]
 
 mod asking;
@@ -13,7 +13,6 @@ mod searching;
 mod symbols;
 
 pub use asking::symbol_ask;
-pub use blocks::{block_in, module_in};
+pub use blocks::block_in;
 pub use finding::{SymFault, find_symbol};
-pub use searching::search_in;
-pub use symbols::{symbol_in, variable_in};
+pub use symbols::variable_in;

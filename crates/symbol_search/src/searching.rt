@@ -3,16 +3,16 @@
 ghost use Rattle.std.specs.Prelude.{◌≡◌, find, IfOk};
 ghost use Rattle.std.specs.Option.{option_copied};
 ghost use Rattle.link_history.specs.Lookup.{found_default, is_opened, search, wanted_of};
-ghost use Rattle.link_history.specs.Objects.{has_id};
 ghost use Rattle.link_history.specs.State.{State};
 
-use ld_base::{NsId, Serial, Want};
+use ld_base::{Serial, Want};
 use link_event::SymAsk;
+use mapped_objects::namespace_in;
 use scope_rule::{Namespace, search_breadth, search_global};
 use std::alloc::{AllocError, Global};
 
 /// The handle of all that is global (RTLD_DEFAULT).
-const DEFAULT: u64 = 0;
+pub(crate) const DEFAULT: u64 = 0;
 
 /// What a look-up finds: none where there is no namespace to search, which is that of the caller or that
 /// of the handle, and none in it where nothing in there defines the name.
@@ -20,7 +20,7 @@ const DEFAULT: u64 = 0;
 /// # Errors
 ///
 /// Want of memory.
-pub fn search_in(
+pub(crate) fn search_in(
     alloc: Global,
     namespaces: &[Namespace],
     ask: &SymAsk,
@@ -49,22 +49,8 @@ fn search_default(
     requires { want.now ≡ wanted_of ask.now.version }
     ensures { (s : State) → s.namespaces ≡ namespaces.now → result ≡ found_default s ask.now }
 {
-    match namespace_in(namespaces, ask.ns) {
-        Some(namespace) => Some(search_global(&namespace.view(), ask.name.as_bytes(), want)),
-        None => None,
-    }
-}
-
-/// The namespace with a number.
-fn namespace_in(namespaces: &[Namespace], id: NsId) -> Option<&Namespace>
-    ensures { option_copied result ≡ find (has_id id) namespaces.now }
-{
-    for namespace in namespaces {
-        if namespace.id == id {
-            return Some(namespace);
-        }
-    }
-    None
+    let namespace = namespace_in(namespaces, ask.ns)?;
+    Some(search_global(&namespace.view(), ask.name.as_bytes(), want))
 }
 
 /// The namespace in which a handle's object was opened.

@@ -12,13 +12,11 @@ use mapped_objects::object_in;
 use scope_rule::Namespace;
 
 /// The symbol of a definition by a mapped object; none of the linker's own.
-pub fn symbol_in(namespaces: &[Namespace], serial: Serial, index: u32) -> Option<&Symbol>
+fn symbol_in(namespaces: &[Namespace], serial: Serial, index: u32) -> Option<&Symbol>
     ensures { (s : State) → s.namespaces ≡ namespaces.now → option_copied result ≡ chosen_symbol s (Def serial index) }
 {
-    match object_in(namespaces, serial) {
-        Some(object) => object.object.symbols.as_slice().get(index as usize),
-        None => None,
-    }
+    let object = object_in(namespaces, serial)?;
+    object.object.symbols.as_slice().get(index as usize)
 }
 
 /// The value of a symbol of thread-local storage; none of any other.

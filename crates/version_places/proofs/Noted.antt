@@ -1,17 +1,16 @@
 -- Places of versions.
-use Rattle.std.proofs.Common.{◌≡◌, ℕ, zero, suc, ◌+◌, ◌<◌, ◌≤◌, ◌==◌, Bool, true, false, cond, inl, inr, List, [], ◌∷◌, ◌++◌, length, get_or, map, take, refl, sym, ap, ◌∙◌, arith}
-use Rattle.std.specs.Prelude.{◌&&◌, not, max, find, position, option_map, slice_get, slice_index_or, Option, Some, None}
+use Rattle.std.proofs.Common.{◌≡◌, ℕ, ◌+◌, ◌<◌, ◌≤◌, ◌==◌, Bool, true, false, cond, inl, inr, List, [], ◌∷◌, ◌++◌, length, get_or, map, take, refl, sym, ap, ◌∙◌, arith}
+use Rattle.std.specs.Prelude.{◌&&◌, not, max, find, fold, position, option_map, slice_get, slice_index_or, Option, Some, None}
 use Rattle.std.specs.List.{position_or_len, range_with_len}
 use Rattle.std.specs.Option.{is_some, option_or}
 use Rattle.std.proofs.lemmas.Bool.{cases_Bool, cases_lt, eqb-true}
 use Rattle.std.proofs.lemmas.Grind.{common_steps}
-use Rattle.std.proofs.lemmas.List.{length-append, take_more, get_or_past, drop_more}
+use Rattle.std.proofs.lemmas.List.{length-append, take_more, get_or_past}
 use Rattle.std.proofs.lemmas.List.Folds.{find_at, position_or_len_push}
 use Rattle.std.proofs.lemmas.List.FromFn.{get_or-map-range_with_len, length-map-range_with_len}
 use Rattle.std.proofs.lemmas.List.Quantifiers.{position-Some}
 use Rattle.std.proofs.lemmas.List.Sums.{prefix_len-le-length}
 use Rattle.std.proofs.lemmas.Option.{slice_get-get_or}
-use Rattle.std.proofs.Math.ListN.{drop}
 use Rattle.ld_base.specs.Version.{is_base, verdef_of, verneed_of, version_name}
 use Rattle.ld_base.specs.declared.object.Object.{Object}
 use Rattle.ld_base.specs.declared.object.Verdef.{Verdef}
@@ -50,12 +49,12 @@ noted_more p to xs i x before old new within is so_far step =
 
 -- ---- the greatest index
 
-pub past_more : {X : Type 0} (f : X → ℕ) (xs : List X) (i n m : ℕ) (x : X) → i < length xs → x ≡ get_or xs i x → max n (past (map f (drop i xs))) ≡ past (map f xs) → m ≡ max n (f x + 1)
-    → max m (past (map f (drop (i + 1) xs))) ≡ past (map f xs)
-past_more f xs i n m x within is so_far greater =
-    let parts : drop i xs ≡ x ∷ drop (i + 1) xs = drop_more xs i x within ∙ ap (λ y. y ∷ drop (i + 1) xs) (sym is) in
-    let whole : past (map f (drop i xs)) ≡ max (suc (f x)) (past (map f (drop (i + 1) xs))) = ap (λ ys. past (map f ys)) parts in
-    omega arith
+folded_from : {X : Type 0} (f : X → ℕ) (xs : List X) (n : ℕ) → fold (λ m x. max m (f x + 1)) n xs ≡ max n (past (map f xs))
+folded_from f [] n = omega arith
+folded_from f (x ∷ xs) n = folded_from f xs (max n (f x + 1)) ∙ omega arith
+
+pub folded : {X : Type 0} (f : X → ℕ) (xs : List X) → fold (λ m x. max m (f x + 1)) 0 xs ≡ past (map f xs)
+folded f xs = folded_from f xs 0 ∙ omega arith
 
 -- no entry has an index past the greatest
 none_past : {X : Type 0} (f : X → ℕ) (p : X → Bool) (index : ℕ) (xs : List X) → ((x : X) → p x ≡ true → f x ≡ index) → past (map f xs) ≤ index → position p xs ≡ None

@@ -1,5 +1,5 @@
 -- Where the names of an object's versions stand (Drepper, "ELF Symbol Versioning").
-use Rattle.std.specs.Prelude.{ℕ, zero, suc, ◌&&◌, ◌==◌, not, max, List, [], ◌∷◌, map, position, Option, Some, None, option_map, slice_get}
+use Rattle.std.specs.Prelude.{ℕ, suc, ◌&&◌, ◌==◌, not, max, List, [], ◌∷◌, map, position, Option, Some, None, option_map, slice_get}
 use Rattle.std.specs.List.{range_with_len}
 use Rattle.std.specs.Option.{option_or}
 use Rattle.ld_base.specs.Version.{is_base}
@@ -7,9 +7,16 @@ use Rattle.ld_base.specs.declared.object.Object.{Object}
 use Rattle.version_places.specs.declared.names.VersionPlace.{VersionPlace}
 use Rattle.version_places.specs.declared.names.VersionPlace.TheVariants.{Defined, Needed}
 
+-- where the first definition with an index stands that has a name, and the first needed version with it
+abbrev pub defined_at : Object → ℕ → Option ℕ
+defined_at o index = position (λ d. d.index == index && not (is_base d)) o.verdefs
+
+abbrev pub needed_at : Object → ℕ → Option ℕ
+needed_at o index = position (λ n. n.index == index) o.verneeds
+
 -- the entry that names an index: the first definition with it, else the first needed version with it
 abbrev pub place_of : Object → ℕ → Option VersionPlace
-place_of o index = option_or (option_map Defined (position (λ d. d.index == index && not (is_base d)) o.verdefs)) (option_map Needed (position (λ n. n.index == index) o.verneeds))
+place_of o index = option_or (option_map Defined (defined_at o index)) (option_map Needed (needed_at o index))
 
 -- the name at a place
 abbrev pub name_in : Object → Option VersionPlace → Option (List ℕ)

@@ -53,20 +53,16 @@ fn place_at(noted: &Noted, past: usize, index: u16) -> Option<VersionPlace>
 fn defined_name(object: &Object, number: usize) -> Option<&Name>
     ensures { option_copied result ≡ option_map (λ d. d.name) (slice_get object.now.verdefs number) }
 {
-    match object.verdefs.as_slice().get(number) {
-        Some(verdef) => Some(&verdef.name),
-        None => None,
-    }
+    let verdef = object.verdefs.as_slice().get(number)?;
+    Some(&verdef.name)
 }
 
 /// The name of the version that is needed at a place.
 fn needed_name(object: &Object, number: usize) -> Option<&Name>
     ensures { option_copied result ≡ option_map (λ n. n.name) (slice_get object.now.verneeds number) }
 {
-    match object.verneeds.as_slice().get(number) {
-        Some(verneed) => Some(&verneed.name),
-        None => None,
-    }
+    let verneed = object.verneeds.as_slice().get(number)?;
+    Some(&verneed.name)
 }
 
 /// The name at a place.

@@ -22,22 +22,16 @@ pub(crate) struct Noted {
 fn past_defined(verdefs: &[Verdef]) -> usize
     ensures { result ≡ past (map (λ d. d.index) verdefs.now) }
 {
-    let mut past: usize = 0;
-    for verdef in verdefs {
-        past = past.max(usize::from(verdef.index) + 1);
-    }
-    past
+    verdefs
+        .iter()
+        .fold(0, |past, verdef| past.max(usize::from(verdef.index) + 1))
 }
 
 /// One more than the greatest index of the versions that are needed.
 fn past_needed(verneeds: &[Verneed]) -> usize
     ensures { result ≡ past (map (λ n. n.index) verneeds.now) }
 {
-    let mut past: usize = 0;
-    for verneed in verneeds {
-        past = past.max(usize::from(verneed.index) + 1);
-    }
-    past
+    verneeds.iter().fold(0, |past, verneed| past.max(usize::from(verneed.index) + 1))
 }
 
 /// One more than the greatest index of an object's versions.
@@ -92,7 +86,7 @@ impl Noted {
     }
 
     /// Notes a version that is defined. That of the object itself has no name.
-    fn note_one(&mut self, verdef: &Verdef, number: usize) -> Result<(), AllocError>
+    fn note_verdef(&mut self, verdef: &Verdef, number: usize) -> Result<(), AllocError>
         ensures { OnOk result ((k : ℕ) → noted_at self.new k
             ≡ option_or (noted_at self.old k) (if verdef.now.index == k && not (is_base verdef.now) then Some (Defined number) else None)) }
     {
@@ -108,7 +102,7 @@ impl Noted {
             ≡ option_or (noted_at self.old k) (option_map Defined (position (λ d. d.index == k && not (is_base d)) verdefs.now))) }
     {
         for (number, verdef) in verdefs.iter().enumerate() {
-            self.note_one(verdef, number)?;
+            self.note_verdef(verdef, number)?;
         }
         Ok(())
     }

@@ -9,6 +9,7 @@ use Rattle.link_history.specs.State.{State, Statics}
 use Rattle.link_history.specs.Objects.{is_startup}
 use Rattle.link_history.specs.Step.{binds, has_module, loaded}
 use Rattle.link_history.specs.Storage.{with_modules}
+use Rattle.opening_brings.specs.Brought.{seen_of}
 use Rattle.opening_brings.specs.declared.bringing.Planned.{Planned}
 use Rattle.opening_images.specs.Relocated.{AreChoices, AreRelocated}
 use Rattle.opening_laws.specs.Laws.{CanBePlaced, image_made}
@@ -17,7 +18,7 @@ use Rattle.startup_areas.specs.Laws.{statics_then}
 use Rattle.opening_steps.specs.Steps.{AreOfRecords, statics_after, statics_of}
 use Rattle.object_bindings.specs.Bindings.{CanRead}
 use Rattle.relocator.specs.declared.binding.ModulePlace.{ModulePlace}
-use Rattle.opening_brings.proofs.Facts.{areas_there, can_read, choices_there, fit_there, have_there, may_there, parts_of, places_of, places_there, relocated_there, seen_of, statics_there}
+use Rattle.opening_brings.proofs.Facts.{areas_there, can_read, choices_there, fit_there, have_there, may_there, parts_of, places_of, places_there, relocated_there, statics_there}
 use Rattle.opening_brings.proofs.bringing.prepare.Goals as goal
 
 pub modules_with-requires-clause-have : goal.modules_with-requires-clause-have
@@ -144,12 +145,13 @@ returns c =
     let statics : statics_of c.in_ok-modules.modules ≡ statics_then (after c.args.journal.now.events) c.args.planned.now.added.now =
     statics_there s p c.args.modules.now c.in_ok-modules.modules c.args.startup c.requires.modules c.requires.startup c.in_ok-modules.ensures.statics in
     record {
-      modules = c.in_ok-modules.ensures.modules ∙ ap (with_modules p.added.now) c.requires.modules.modules;
-      statics = c.in_ok-modules.ensures.statics ∙ ap (λ (b : Bool). statics_after b p.added.now (statics_of c.args.modules.now)) c.requires.startup
-          ∙ ap (statics_after (is_startup s) p.added.now) c.requires.modules.statics;
-      generation = c.in_ok-modules.ensures.generation ∙ ap (λ (n : ℕ). n + length (filter has_module p.added.now)) c.requires.modules.generation;
-      edges = c.in_ok-edges.ensures (loaded s p.hart p.ask.now p.ns p.root p.added.now p.ranges.now) (seen_of s p) (binds s p.ask.now) chosen;
-      parts = parts;
+      lists = record {
+        modules = c.in_ok-modules.ensures.modules ∙ ap (with_modules p.added.now) c.requires.modules.modules;
+        statics = statics;
+        generation = c.in_ok-modules.ensures.generation ∙ ap (λ (n : ℕ). n + length (filter has_module p.added.now)) c.requires.modules.generation;
+        edges = c.in_ok-edges.ensures (loaded s p.hart p.ask.now p.ns p.root p.added.now p.ranges.now) (seen_of s p) (binds s p.ask.now) chosen;
+        parts = parts;
+      };
       installs = record {
         images = c.relocated_are_installs.ensures c.args.journal.now.harts c.args.journal.now.events p.hart p.ns p.root p.ask.now p.added.now p.ranges.now c.journal.ensures.lawful c.requires.may
             c.in_ok-images.images are;

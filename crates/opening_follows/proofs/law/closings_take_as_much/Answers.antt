@@ -7,7 +7,7 @@ use Rattle.link_history.specs.After.{after}
 use Rattle.link_history.specs.Flags.{is_global}
 use Rattle.link_history.specs.Objects.{has, serial_of}
 use Rattle.link_history.specs.Step.{goes_with, loaded}
-use Rattle.opening_follows.specs.Lemmas.Counted.{count_with, counted_with, is_not_of, new_from}
+use Rattle.opening_follows.proofs.Counted.{count_with, counted_with, is_not_of, new_from}
 use Rattle.opening_follows.proofs.Given.{ranges_stay}
 use Rattle.opening_follows.proofs.law.closings_take_as_much.Goals as goal
 

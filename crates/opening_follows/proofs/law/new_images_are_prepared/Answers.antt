@@ -1,7 +1,7 @@
 use Rattle.lawful_journal.specs.Following.{machine_of}
 use Rattle.link_history.specs.After.{after}
 use Rattle.opening_laws.specs.Laws.{image_made}
-use Rattle.opening_follows.specs.Lemmas.Found.{image_found}
+use Rattle.opening_follows.proofs.Found.{image_found}
 use Rattle.opening_follows.proofs.law.new_images_are_prepared.Goals as goal
 
 pub returns : goal.returns

@@ -1,9 +1,9 @@
-use Rattle.std.proofs.Common.{◌≡◌, ℕ, List, ◌∙◌, ap, length, drop, arith}
+use Rattle.std.proofs.Common.{◌≡◌, ℕ, List, ◌∙◌, ap, sym, length, drop, arith}
 use Rattle.std.specs.List.{flat_map}
 use Rattle.scope_rule.specs.Loading.{found_of}
 use Rattle.scope_rule.specs.Seen.{seen}
 use Rattle.scope_rule.specs.Breadth.{extend, has}
-use Rattle.search_lists.proofs.Ended.{has_levels}
+use Rattle.search_lists.proofs.Ended.{all_pass, has_levels}
 use Rattle.search_lists.proofs.Orders.{all_levels, extended_length, grown_at, kept_step, level_step}
 use Rattle.search_lists.proofs.breadth_first.extend_by_levels.Goals as goal
 
@@ -30,4 +30,5 @@ returns-then-start-end c =
 pub returns-then-has_all : goal.returns-then-has_all
 returns-then-has_all c =
     has_levels c.extends_at_the_end.ensures.one_by_one (found_of (seen c.args.view.now)) c.args.order.now.keys c.loop.order.keys c.loop.counter c.args.most c.loop.start (omega arith)
-    (λ z y there some. c.has_all.ensures c.if-has_all.true y (ap (λ (xs : List ℕ). has xs y) c.as_slice.ensures ∙ c.requires.all z y there some)) c.loop.invariant.kept c.loop.invariant.grown
+    (λ z y there some. all_pass (λ q. has c.loop.order.keys q) _ c.as_slice.result.now y (sym c.has_all.ensures ∙ c.if-has_all.true) (ap (λ (xs : List ℕ). has xs y) c.as_slice.ensures ∙ c.requires.all z y there some))
+    c.loop.invariant.kept c.loop.invariant.grown

@@ -8,4 +8,4 @@ use Rattle.version_places.proofs.noting.Noted.note_defined.Goals as goal
 pub loop-number-preserved : goal.loop-number-preserved
 loop-number-preserved c = λ k.
     noted_more (λ (d : Verdef). d.index == k && not (is_base d)) (λ n. Defined n) c.args.verdefs.now c.loop-number.number c.index-verdefs-number.result _ _ _ c.loop-number-test.true c.index-verdefs-number.is
-    (c.loop-number.invariant k) (c.in_ok-note_one.ensures k)
+    (c.loop-number.invariant k) (c.in_ok-note_verdef.ensures k)

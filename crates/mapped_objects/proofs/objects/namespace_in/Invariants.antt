@@ -1,7 +1,7 @@
 use Rattle.std.proofs.Common.{◌≡◌, drop}
 use Rattle.std.specs.List.{find}
 use Rattle.link_history.specs.Objects.{has_id}
-use Rattle.opening_brings.proofs.images.namespace_in.Given as goal
+use Rattle.mapped_objects.proofs.objects.namespace_in.Given as goal
 
 -- the search of the rest is the search of the whole
 abbrev pub invariant-loop-namespace : goal.invariant-loop-namespace
