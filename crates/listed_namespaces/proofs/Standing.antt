@@ -107,7 +107,3 @@ at_index nss place ns within is = slice_get-get_or nss place ns within ∙ ap (�
 -- what was put at a place is there
 pub is_there : (place : ℕ) (lists : List SearchList) (old new : Option (List SearchList)) → new ≡ cond (nat_eq place place) (Some lists) old → IsSome new
 is_there place lists old new is = subst IsSome (sym (is ∙ ap (λ b. cond b (Some lists) old) (eq-eqb place place refl))) refl
-
--- no lists are wanted where no namespace passes
-pub none_there : (p : Namespace → Bool) (nss : List Namespace) (ns : Namespace) (lists : Option (List SearchList)) → position p nss ≡ None → find p nss ≡ Some ns → lists ≡ Some (lists_of (seen_in ns))
-none_there p nss ns lists none first = absurd (let no : None ≡ Some ns = sym (none_found p nss none) ∙ first in cc no)

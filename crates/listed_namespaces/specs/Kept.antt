@@ -14,4 +14,5 @@ kept_at kept place = get nat_eq kept.by_place place
 
 -- what is kept of a namespace are its lists
 abbrev pub AreKept : List Namespace → KeptLists → Type 0
-AreKept namespaces kept = (place : ℕ) (ns : Namespace) (lists : List SearchList) → slice_get namespaces place ≡ Some ns → kept_at kept place ≡ Some lists → lists ≡ lists_of (seen_in ns)
+AreKept namespaces kept = (place : ℕ) (ns : Namespace) (lists : List SearchList) → slice_get namespaces place ≡ Some ns → kept_at kept place ≡ Some lists
+    → lists ≡ lists_of (seen_in ns)

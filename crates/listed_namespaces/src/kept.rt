@@ -6,6 +6,7 @@ ghost use Rattle.link_history.specs.Objects.{has_object};
 ghost use Rattle.listed_namespaces.specs.Kept.{AreKept, kept_at};
 
 use ld_base::Serial;
+use mapped_objects::has_object;
 use scope_rule::Namespace;
 use search_lists::SearchLists;
 use std::alloc::{AllocError, Global};
@@ -24,17 +25,6 @@ pub(crate) fn home(namespaces: &[Namespace], owner: Serial) -> Option<usize>
     namespaces
         .iter()
         .position(|namespace| has_object(namespace, owner))
-}
-
-/// Whether a namespace has an object.
-fn has_object(namespace: &Namespace, owner: Serial) -> bool
-    ensures { result ≡ has_object owner namespace.now }
-{
-    namespace
-        .objects
-        .as_slice()
-        .iter()
-        .any(|object| object.serial == owner)
 }
 
 impl KeptLists {

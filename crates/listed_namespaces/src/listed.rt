@@ -51,12 +51,10 @@ fn chosen(
     ensures kept { AreKept namespaces.now lists.new }
 {
     let Some(place) = home(namespaces, owner) else {
-        return slot_choice(namespaces, None, owner, eights);
+        return Err(SlotFault::Unloaded);
     };
-    match lists.make(alloc, namespaces, place) {
-        Ok(()) => slot_choice(namespaces, lists.get(place), owner, eights),
-        Err(_) => Err(SlotFault::Memory),
-    }
+    lists.make(alloc, namespaces, place)?;
+    slot_choice(namespaces, lists.get(place).unwrap(), owner, eights)
 }
 
 impl ListedNamespaces {
@@ -93,7 +91,9 @@ impl ListedNamespaces {
     ///
     /// # Errors
     ///
-    /// That no such object is mapped, that it has no such slot, or want of memory.
+    /// - Unloaded: no such object is mapped.
+    /// - NoSlot: it has no such slot.
+    /// - Memory: want of memory, or the slot's number is past 32 bits.
     pub fn slot_choice(
         &mut self,
         alloc: Global,

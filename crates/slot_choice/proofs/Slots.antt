@@ -1,6 +1,6 @@
 -- What is known of a slot that is found.
 use Rattle.std.proofs.Common.{◌≡◌, ℕ, ◌*◌, ◌<◌, ◌^◌, Bool, true, eqb, List, [], ◌∷◌, ◌++◌, length, Some, None, sym, subst, ◌∙◌, arith, ◌⊎◌, inl, inr}
-use Rattle.std.specs.Prelude.{nat_lt, Option}
+use Rattle.std.specs.Prelude.{nat_lt}
 use Rattle.std.specs.List.{Contains, find, list_all, slice_get}
 use Rattle.std.proofs.lemmas.Bool.{and_parts, eq-eqb, eqb-true, ltb-true, true≢false}
 use Rattle.std.proofs.lemmas.List.Elements.{All-contains, Contains-append_right}
@@ -14,14 +14,7 @@ use Rattle.link_history.specs.Lemmas.Lists.{any_in, at_in, first_or_later, found
 use Rattle.link_service.specs.Ends.{IsUnloaded, LacksSlot}
 use Rattle.scope_rule.specs.Loading.{with_serial}
 use Rattle.scope_rule.specs.declared.namespace.Namespace.{Namespace}
-use Rattle.search_lists.specs.declared.lists.SearchList.{SearchList}
 use Rattle.seg_image.specs.Accepted.{Accepted, IsPlace, IsSegment}
-
-pub unloaded : (s : State) (nss : List Namespace) (owner : ℕ) → s.namespaces ≡ nss → find (has_object owner) nss ≡ None → IsUnloaded s owner
-unloaded s nss owner are none m =
-    let there : Contains nss m.namespace = subst (λ (all : List Namespace). Contains all m.namespace) are m.there in
-    let has : has_object owner m.namespace ≡ true = in_any (λ (o : Loaded). eqb o.serial owner) m.namespace.objects m.object m.inside (eq-eqb m.object.serial owner m.is) in
-    absurd (true≢false (sym has ∙ not_found (has_object owner) nss m.namespace none there))
 
 -- a namespace that has the object has it
 pub not_lacking : (nss : List Namespace) (owner : ℕ) (ns : Namespace) → find (has_object owner) nss ≡ Some ns → with_serial ns.objects owner ≡ None → ⊥
@@ -72,10 +65,3 @@ low o slot r accepted at =
     let place : IsPlace o r.place = All-contains (λ (x : Reloc). IsPlace o x.place) o.plt_relocs r accepted.slots (at_in o.plt_relocs slot r at) in
     let seg : IsSegment place.writable.segment = All-contains IsSegment o.segments place.writable.segment accepted.segments (at_in o.segments place.writable.at place.writable.segment place.writable.is) in
     omega (arith, seg.low, place.writable.high)
-
--- lists that are handed in
-pub listed : (handed : Option (List SearchList)) (lists all : List SearchList) → handed ≡ Some lists → handed ≡ Some all → lists ≡ all
-listed handed lists all one other = (let same : Some lists ≡ Some all = sym one ∙ other in cc same)
-
-pub not_none : (handed : Option (List SearchList)) (all : List SearchList) → handed ≡ None → handed ≡ Some all → ⊥
-not_none handed all none one = absurd (let no : None ≡ Some all = sym none ∙ one in cc no)

@@ -1,5 +1,5 @@
 -- What a slot chooses in a state.
-use Rattle.std.specs.Prelude.{◌≡◌, ℕ, ◌*◌, List, find, Contains, IsTrue, Option, Some}
+use Rattle.std.specs.Prelude.{◌≡◌, ℕ, ◌*◌, List, find, Contains, IsTrue, Some}
 use Rattle.elf_object.specs.Object.{names_own_symbols}
 use Rattle.ld_base.specs.declared.linking.Loaded.{Loaded}
 use Rattle.link_history.specs.Addresses.{address, leads_to_code}
@@ -29,8 +29,8 @@ abbrev pub AllSound : List Namespace → Type 0
 AllSound namespaces = (ns : Namespace) (o : Loaded) → Contains namespaces ns → Contains ns.objects o → IsSound o
 
 -- these are the search lists of the namespace that has an object, if one has it
-abbrev pub AreListsOf : List Namespace → ℕ → Option (List SearchList) → Type 0
-AreListsOf namespaces owner lists = (ns : Namespace) → find (has_object owner) namespaces ≡ Some ns → lists ≡ Some (lists_of (seen_in ns))
+abbrev pub AreListsOf : List Namespace → ℕ → List SearchList → Type 0
+AreListsOf namespaces owner lists = (ns : Namespace) → find (has_object owner) namespaces ≡ Some ns → lists ≡ lists_of (seen_in ns)
 
 -- a slot of a mapped object: where it stands, what it holds until it is bound, what it chooses now, and whether it may be bound to that
 pub record ChoosesSlot (s : State) (owner eights : ℕ) (x : SlotChoice) : Type 0 where

@@ -1,28 +1,30 @@
 //! Choosing for a slot.
 
 ghost use Rattle.std.specs.Prelude.{◌≡◌, ℕ, ◌*◌, ◌/◌, None, Some, slice_get, IfErr, IfNone, IfOk, IfSome};
-ghost use Rattle.std.specs.Option.{option_copied};
 ghost use Rattle.link_history.specs.Addresses.{address, leads_to_code};
 ghost use Rattle.link_history.specs.State.{State};
 ghost use Rattle.object_holders.specs.Holders.{AllAccepted};
-ghost use Rattle.seg_image.specs.Accepted.{Accepted};
 ghost use Rattle.slot_choice.specs.Choosing.{AllSound, AreListsOf, ChoosesSlot, IsFaultOf};
+ghost use Rattle.slot_choice.specs.declared.choosing.SlotFault.TheVariants.{Memory};
 
 use ld_base::{Choice, Object, Reloc, Serial};
 use mapped_objects::{address_of, home_in, leads_to_code};
 use scope_rule::Namespace;
 use search_lists::SearchLists;
 use slot_words::moved_word;
+use std::alloc::AllocError;
 use sym_lookup::lookup_reloc;
 
 /// What a slot would be bound to.
 #[derive(Clone, Copy, Debug, PartialEq, Eq)]
 pub struct SlotChoice {
+    /// Its number among its object's slots.
     pub slot: u32,
     /// Where the slot stands.
     pub address: u64,
     /// What it holds until it is bound.
     pub lazy: u64,
+    /// The definition that it would be bound to, if there is one.
     pub choice: Choice,
     /// The address of the choice.
     pub value: u64,
@@ -41,28 +43,36 @@ pub enum SlotFault {
     Memory,
 }
 
+impl From<AllocError> for SlotFault {
+    ghost from_gives = { λ _ fault. fault ≡ Memory };
+
+    fn from(_: AllocError) -> Self {
+        SlotFault::Memory
+    }
+}
+
 /// What the slot of an object chooses now, `eights` being eight times its number. The lists are those of
 /// the namespace that has the object, if one has it. It takes no memory.
 ///
 /// # Errors
 ///
-/// That no such object is mapped, that it has no such slot, or that the slot's number is no `u32`, for which
-/// no memory would do.
+/// - Unloaded: no such object is mapped.
+/// - NoSlot: it has no such slot.
+/// - Memory: the slot's number is past 32 bits; no object that is read has as many slots.
 pub fn slot_choice(
     namespaces: &[Namespace],
-    lists: Option<&SearchLists>,
+    lists: &SearchLists,
     owner: Serial,
     eights: u64,
 ) -> Result<SlotChoice, SlotFault>
     requires sound { AllSound namespaces.now }
-    requires lists { AreListsOf namespaces.now owner (option_copied lists) }
+    requires lists { AreListsOf namespaces.now owner lists.now }
     ensures ok { IfOk result (λ x. (s : State) → s.namespaces ≡ namespaces.now → ChoosesSlot s owner eights x) }
     ensures err { IfErr result (λ e. (s : State) → s.namespaces ≡ namespaces.now → IsFaultOf s owner eights e) }
 {
     let Some(namespace) = home_in(namespaces, owner) else {
         return Err(SlotFault::Unloaded);
     };
-    let Some(lists) = lists else { unreachable!() };
     let view = namespace.view();
     let Some(object) = view.object(owner) else {
         return Err(SlotFault::Unloaded);

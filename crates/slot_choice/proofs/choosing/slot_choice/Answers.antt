@@ -1,6 +1,5 @@
 use Rattle.std.proofs.Common.{rules, ◌≡◌, ◌*◌, ◌/◌, List, Some, None, refl, sym, ap, subst, ◌∙◌}
 use Rattle.std.specs.List.{Contains, find, slice_get}
-use Rattle.std.specs.Option.{option_copied}
 use Rattle.link_history.specs.Objects.{has_object}
 use Rattle.scope_rule.specs.Loading.{object_of, with_serial}
 use Rattle.scope_rule.specs.Relocation.{choice_at}
@@ -8,7 +7,8 @@ use Rattle.scope_rule.specs.Seen.{Seen, seen_in}
 use Rattle.scope_rule.specs.declared.namespace.Namespace.{Namespace}
 use Rattle.seg_image.specs.Pages.{guest_address}
 use Rattle.search_lists.specs.Lists.{lists_of}
-use Rattle.slot_choice.proofs.Slots.{its_namespace, its_object, lacks, listed, low, named, not_lacking, not_none, unloaded}
+use Rattle.slot_choice.specs.Lemmas.Unloaded.{unloaded}
+use Rattle.slot_choice.proofs.Slots.{its_namespace, its_object, lacks, low, named, not_lacking}
 use Rattle.slot_choice.proofs.choosing.slot_choice.Goals as goal
 
 pub returns-in_default-clause-err : goal.returns-in_default-clause-err
@@ -24,9 +24,6 @@ returns-in_default-slot_at-clause-err c = λ s are.
     let one : with_serial c.in-Some.namespace.now.objects c.args.owner ≡ Some c.in-Some-object.object.now = ap (λ (v : Seen). object_of v c.args.owner) (sym c.view-view.ensures) ∙ sym c.in-Some-object.ensures in
     lacks s c.args.namespaces.now c.args.owner c.args.eights c.in-Some.namespace.now c.in-Some-object.object.now are (sym c.in-Some.ensures) one c.in_default-slot_at.ensures.none
 
-pub unreachable-requires : goal.unreachable-requires
-unreachable-requires c = not_none (option_copied c.args.lists) _ (ap option_copied c.in_default-lists.is) (c.requires.lists c.in-Some.namespace.now (sym c.in-Some.ensures))
-
 pub lookup_reloc-choice-requires : goal.lookup_reloc-choice-requires
 lookup_reloc-choice-requires c =
     let ns : Namespace = c.in-Some.namespace.now in
@@ -34,7 +31,7 @@ lookup_reloc-choice-requires c =
     let one : with_serial ns.objects c.args.owner ≡ Some c.in-Some-object.object.now = ap (λ (v : Seen). object_of v c.args.owner) (sym c.view-view.ensures) ∙ sym c.in-Some-object.ensures in
     let sound = c.requires.sound ns c.in-Some-object.object.now there (its_object ns.objects c.args.owner c.in-Some-object.object.now one).0 in
     record {
-      lists = listed (option_copied c.args.lists) c.in-Some-lists.lists.now (lists_of (seen_in ns)) (ap option_copied c.in-Some-lists.is) (c.requires.lists ns (sym c.in-Some.ensures)) ∙ ap lists_of (sym c.view-view.ensures);
+      lists = c.requires.lists ns (sym c.in-Some.ensures) ∙ ap lists_of (sym c.view-view.ensures);
       tables = λ serial o is.
           (c.requires.sound ns o there (its_object ns.objects serial o (ap (λ (v : Seen). object_of v serial) (sym c.view-view.ensures) ∙ is)).0).table;
       owner_is_there =
