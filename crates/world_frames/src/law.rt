@@ -1,6 +1,6 @@
 //! What holds of the frames of every run.
 
-ghost use Rattle.world_frames.specs.Laws.{ClosingsPass, FramesClose, FramesPass, OpeningsPass, StartBelongs, TurnsKeepFrames};
+ghost use Rattle.world_frames.specs.Laws.{ClosingsPass, FramesClose, FramesPass, OpeningsPass, RunsBelong, StartBelongs, TurnsKeepFrames};
 
 /// When a run starts each frame is of an opening, and so it is, of an opening or a closing, behind each
 /// turn before the final destructors.
@@ -17,7 +17,17 @@ pub fn frames_belong()
     link_service::destructors_follow();
 }
 
-/// So the objects in front may be passed: those of a frame, of an opening and of a closing; and a closing
+/// So it is behind each part of a run, until the final destructors begin.
+pub fn runs_belong()
+    ensures { RunsBelong }
+{
+    world_turns::runs_start_sound();
+    world_turns::turns_stay_sound();
+    world_ends::ends_fit();
+    frames_belong();
+}
+
+/// The objects in front may be passed: those of a frame, of an opening and of a closing; and a closing
 /// whose functions have run may be unmapped, but for what open grants hold.
 pub fn functions_may_pass()
     ensures frames { FramesPass }

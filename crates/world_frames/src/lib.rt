@@ -9,4 +9,4 @@
 
 mod law;
 
-pub use law::{frames_belong, functions_may_pass};
+pub use law::{frames_belong, functions_may_pass, runs_belong};
