@@ -1,11 +1,9 @@
 pub mod Closing
 pub mod Granting
-pub mod Holding
 pub mod Inside
 pub mod Locating
 pub mod Looking
 pub mod Opening
-pub mod Settling
 pub mod Table
 pub mod TlsFaults
 pub mod Unmapping

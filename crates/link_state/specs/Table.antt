@@ -1,13 +1,6 @@
--- What contracts see of the linker's state, and what calls append.
-use Rattle.std.specs.Prelude.{ℕ, Bool, true, false, List, [], ◌∷◌, ◌++◌}
-use Rattle.ld_base.specs.declared.fault.DlFault.{DlFault}
-use Rattle.link_event.specs.declared.event.Ask.{Ask}
-use Rattle.link_event.specs.declared.event.Ask.TheVariants as asks
-use Rattle.link_event.specs.declared.event.CloseAnswer.TheVariants as closes
+-- What contracts see of the linker's state.
+use Rattle.std.specs.Prelude.{ℕ, List, [], ◌∷◌, ◌++◌}
 use Rattle.link_event.specs.declared.event.Event.{Event}
-use Rattle.link_event.specs.declared.event.Event.TheVariants as events
-use Rattle.link_event.specs.declared.event.OpenAnswer.TheVariants as opens
-use Rattle.link_event.specs.declared.event.SymAnswer.TheVariants as syms
 use Rattle.link_served.specs.declared.installs.Installs.{Installs}
 
 pub record LinkTable : Type 0 where
@@ -21,14 +14,3 @@ pub record LinkTable : Type 0 where
 -- with one event more
 abbrev pub appended : LinkTable → Event → LinkTable
 appended table e = record table { events = table.events ++ e ∷ [] }
-
--- the event of a call that is refused
-abbrev pub refusal : ℕ → Ask → DlFault → Event
-refusal hart (asks.Open ask) fault = events.Open hart ask (opens.Refused fault)
-refusal hart (asks.Sym ask) fault = events.Sym hart ask (syms.Refused fault)
-refusal hart (asks.Close handle) fault = events.Close hart handle (closes.Refused fault)
-
--- the event of a grant that is settled: its slot got its value, or had the word that was seen
-abbrev pub settled : ℕ → Bool → ℕ → Event
-settled grant true saw = events.Bound grant
-settled grant false saw = events.Lost grant saw

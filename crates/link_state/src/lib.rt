@@ -7,12 +7,8 @@
 #![tactic(auto)]
 
 mod faults;
-mod granting;
 mod reading;
-mod refusing;
-mod running;
 mod state;
-mod storing;
 
 pub use faults::{CloseFault, GrantFault, TlsFault};
 pub use state::LinkState;

@@ -18,7 +18,8 @@ ghost use Rattle.lawful_journal.specs.Following.{MayFollow, machine_of};
 ghost use Rattle.object_holders.specs.Holders.{HasNone, IsFound};
 ghost use Rattle.slot_choice.specs.Choosing.{ChoosesSlot, IsFaultOf};
 ghost use Rattle.link_state.specs.Granting.{IsGranted, IsNotGranted};
-ghost use Rattle.link_state.specs.Table.{appended, refusal, settled};
+ghost use Rattle.link_state.specs.Table.{appended};
+ghost use Rattle.linker_lists.specs.Events.{refusal, settled};
 
 mod closing;
 mod locating;
@@ -27,10 +28,7 @@ mod opening;
 mod unmapping;
 
 use crate::faults::GrantFault;
-use crate::granting::{self, granted, granting, is_missing, open, unresolved};
 use crate::reading::namespace_in;
-use crate::refusing::{copy_of, make_room, refusal};
-use crate::running::{base_namespaces, hold, nothing, settled};
 use accepted_image::one_image;
 use address_space::Regions;
 use elf_object::one_object;
@@ -47,6 +45,10 @@ use link_history::{
 };
 use link_pending::{OpenGrants, Unfinished};
 use link_served::Installs;
+use linker_lists::{
+    base_namespaces, end_event, grant_event, granted, hold, is_missing, kept_copy, nothing,
+    open_grant, refusal_event, room_for_grant, room_for_refusal, settled_event, unresolved_event,
+};
 use listed_namespaces::ListedNamespaces;
 use load_record::LoadRecord;
 use object_holders::holder_in;
@@ -84,7 +86,7 @@ impl Model for LinkState {
 
     ghost Value = { LinkTable };
 
-    ghost use Rattle.link_state.specs.Holding.{HoldsAll};
+    ghost use Rattle.linker_lists.specs.Holding.{HoldsAll};
     ghost use Rattle.link_state.specs.Inside.{lists_of};
 
     ghost view = { λ s. record { harts = s.journal.harts; events = s.journal.events; made = s.made } };
@@ -257,7 +259,7 @@ impl LinkState {
         ensures ok { IfOk result (λ fault. self.new ≡ appended self.old (Told hart fault)) }
         ensures err { OnErr result (self.new ≡ self.old) }
     {
-        let fault = copy_of(self.alloc, &self.kept, hart)?;
+        let fault = kept_copy(self.alloc, &self.kept, hart)?;
         self.journal.make_room(1)?;
         let told = self.kept.take(hart);
         self.journal.push(Event::Told { hart, fault });
@@ -279,10 +281,10 @@ impl LinkState {
         ensures ok { OnOk result (self.new ≡ appended self.old (refusal hart ask fault)) }
         ensures err { OnErr result (self.new ≡ self.old) }
     {
-        match make_room(self.alloc, &mut self.kept, &mut self.journal, &fault) {
+        match room_for_refusal(self.alloc, &mut self.kept, &mut self.journal, &fault) {
             Ok(copy) => {
                 self.kept.keep(hart, copy);
-                self.journal.push(refusal(hart, ask, fault));
+                self.journal.push(refusal_event(hart, ask, fault));
                 Ok(())
             }
             Err(error) => Err(error),
@@ -368,10 +370,10 @@ impl LinkState {
         let Some(number) = self.settling.next() else {
             return Err(GrantFault::Memory);
         };
-        match granting::make_room(&mut self.settling, &mut self.edges, &mut self.journal) {
+        match room_for_grant(&mut self.settling, &mut self.edges, &mut self.journal) {
             Ok(()) => {
-                open(&mut self.settling, hart, owner, chosen);
-                self.journal.push(granting(number, hart, owner, chosen));
+                open_grant(&mut self.settling, hart, owner, chosen);
+                self.journal.push(grant_event(number, hart, owner, chosen));
                 let event = self.journal.journal().len() as u64;
                 Ok(granted(event, number, owner, chosen))
             }
@@ -391,7 +393,7 @@ impl LinkState {
         ensures err { OnErr result (self.new ≡ self.old) }
     {
         self.journal.make_room(1)?;
-        self.journal.push(unresolved(hart, owner, chosen));
+        self.journal.push(unresolved_event(hart, owner, chosen));
         Ok(())
     }
 
@@ -405,7 +407,7 @@ impl LinkState {
         let _ = self.journal.journal();
         let granting = self.settling.settle(grant);
         hold(&mut self.edges, granting, won);
-        self.journal.push_owed(settled(grant, won, saw));
+        self.journal.push_owed(settled_event(grant, won, saw));
     }
 
     /// The constructors of an object have run: it is ready.
@@ -445,15 +447,8 @@ impl LinkState {
         requires may { MayFollow self.old.harts self.old.events (Ended hart «end») }
         ensures { self.new ≡ appended self.old (Ended hart «end») }
     {
-        let event = end_of(hart, &end);
+        let event = end_event(hart, &end);
         self.ends.push(hart, end);
         self.journal.push_owed(event);
     }
-}
-
-/// The event of a hart's end.
-fn end_of(hart: HartId, end: &HartEnd) -> Event
-    ensures { result ≡ Ended hart «end».now }
-{
-    Event::Ended { hart, end: *end }
 }

@@ -23,10 +23,6 @@ use Rattle.seg_image.specs.Images.{IsImage}
 use Rattle.seg_image.specs.Pages.{own_address, pages_of}
 use Rattle.seg_image.specs.declared.image.Image.{Image}
 
--- what an object's relocations choose when it is loaded: those of DT_RELA, and those of slots, where they are bound then
-abbrev pub choices_at_load : Seen → Bool → Loaded → List Choice
-choices_at_load ns now o = map (choice_at ns o) o.object.relocs ++ (if binds_now now o.object then map (choice_at ns o) o.object.plt_relocs else [])
-
 -- ---- what a choice comes to
 
 abbrev pub address_in : Seen → Choice → ℕ

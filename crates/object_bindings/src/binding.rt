@@ -4,7 +4,8 @@ ghost use Rattle.std.specs.Prelude.{◌≡◌, ℕ, ◌≤◌, Bool, ◌++◌, l
 ghost use Rattle.std.specs.List.{range_with_len, slice_get};
 ghost use Rattle.ld_base.specs.declared.object.Reloc.{Reloc as Relocation};
 ghost use Rattle.link_history.specs.Bound.{binds_now, no_binding};
-ghost use Rattle.object_bindings.specs.Bindings.{AreMade, CanRead, binding_in, copied_bytes, bindings_in, choices_at_load, copied_by, copies_from, rela_binding};
+ghost use Rattle.load_choices.specs.Choices.{choices_of};
+ghost use Rattle.object_bindings.specs.Bindings.{AreMade, CanRead, binding_in, copied_bytes, bindings_in, copied_by, copies_from, rela_binding};
 ghost use Rattle.relocator.specs.Bindings.{chosen};
 ghost use Rattle.scope_rule.specs.Relocation.{choice_at};
 ghost use Rattle.scope_rule.specs.Seen.{seen};
@@ -17,8 +18,8 @@ use scope_rule::{View, is_copy};
 use std::alloc::{AllocError, Global};
 
 /// The bindings of an object: those of DT_RELA, and then those of its slots. `choices` is what its
-/// relocations choose, and that of its slots where `now` says that slots are bound at load or the object
-/// asks for it.
+/// relocations choose, one choice a relocation; that of a slot counts where `now` says that slots are bound
+/// at load or the object asks for it.
 ///
 /// # Errors
 ///
@@ -31,7 +32,7 @@ pub fn bindings_of(
     owner: &Loaded,
     choices: &[Choice],
 ) -> Result<Bindings, AllocError>
-    requires choices { choices.now ≡ choices_at_load (seen view.now) now owner.now }
+    requires choices { choices.now ≡ choices_of (seen view.now) now owner.now }
     requires made { AreMade (seen view.now) now made.now.places.now made.now.objects.now made.now.images.now }
     ensures { IfOk result (λ bindings. bindings ≡ bindings_in (copies_from (seen view.now) now made.now.places.now made.now.objects.now) (seen view.now) now owner.now) }
 {

@@ -1,24 +1,8 @@
--- What the relocations of new objects choose when they are loaded, and how that is refused (psABI, "Relocations"; dlopen(3)).
-use Rattle.std.specs.Prelude.{◌≡◌, Bool, List, ◌++◌, map, Option, Some}
-use Rattle.std.specs.Option.{unwrap_or}
+-- How what the relocations of new objects choose is refused (dlopen(3)).
+use Rattle.std.specs.Prelude.{◌≡◌, Option, Some}
 use Rattle.ld_base.specs.declared.fault.DlFault.{DlFault}
-use Rattle.ld_base.specs.declared.linking.Choice.{Choice}
-use Rattle.ld_base.specs.declared.linking.Choice.TheVariants.{WeakZero}
-use Rattle.ld_base.specs.declared.linking.Loaded.{Loaded}
-use Rattle.ld_base.specs.declared.object.Reloc.{Reloc}
-use Rattle.link_history.specs.Bound.{slot_choice}
-use Rattle.scope_rule.specs.Relocation.{choice_at}
-use Rattle.scope_rule.specs.Seen.{Seen}
 use Rattle.object_choices.specs.declared.choosing.ChoiceFault.{ChoiceFault}
 use Rattle.object_choices.specs.declared.choosing.ChoiceFault.TheVariants.{Refused, Memory}
-
--- a slot's entry: WeakZero stands where it stays lazy and chooses nothing
-abbrev pub slot_entry : Seen → Bool → Loaded → Reloc → Choice
-slot_entry ns now o r = unwrap_or (slot_choice ns now o r) WeakZero
-
--- one entry a relocation, DT_RELA before the slots
-abbrev pub choices_of : Seen → Bool → Loaded → List Choice
-choices_of ns now o = map (choice_at ns o) o.object.relocs ++ map (slot_entry ns now o) o.object.plt_relocs
 
 -- it is the refusal, or there was no memory
 abbrev pub IsFaultOf : Option DlFault → ChoiceFault → Type 0

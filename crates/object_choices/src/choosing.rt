@@ -5,11 +5,12 @@ ghost use Rattle.ld_base.specs.declared.linking.Loaded.{Loaded as LoadedObject};
 ghost use Rattle.link_history.specs.Bound.{place_of};
 ghost use Rattle.link_history.specs.Relocating.{first_fault, object_fault, reloc_fault, relocation_fault};
 ghost use Rattle.link_history.specs.State.{State};
+ghost use Rattle.load_choices.specs.Choices.{choices_of};
 ghost use Rattle.scope_rule.specs.Relocation.{choice_at, names_symbols};
 ghost use Rattle.scope_rule.specs.Seen.{seen};
 ghost use Rattle.seg_image.specs.Accepted.{Accepted};
 ghost use Rattle.sym_lookup.specs.Looking.{HaveTables};
-ghost use Rattle.object_choices.specs.Choices.{IsFaultOf, choices_of};
+ghost use Rattle.object_choices.specs.Choices.{IsFaultOf};
 ghost use Rattle.object_choices.specs.Sight.{AreNamed, AreSlots, CanSee, IsNew, Shows, chosen_at, faults_at};
 
 use crate::faults::{reloc_fault, slot_fault};

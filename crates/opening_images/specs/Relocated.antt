@@ -4,7 +4,8 @@ use Rattle.std.specs.List.{slice_get}
 use Rattle.ld_base.specs.declared.linking.Choice.{Choice}
 use Rattle.ld_base.specs.declared.linking.Loaded.{Loaded}
 use Rattle.ld_base.specs.declared.object.Reloc.{Reloc}
-use Rattle.object_bindings.specs.Bindings.{AreMade, Copies, bindings_in, choices_at_load, copies_from}
+use Rattle.load_choices.specs.Choices.{choices_of}
+use Rattle.object_bindings.specs.Bindings.{AreMade, Copies, bindings_in, copies_from}
 use Rattle.relocator.specs.Bindings.{AreBindings, is_copy}
 use Rattle.relocator.specs.Relocated.{image_word}
 use Rattle.relocator.specs.Storage.{first_without_offset}
@@ -35,7 +36,7 @@ pub record MayRelocateAll (ns : Seen) (now : Bool) (places : List ModulePlace) (
 -- a list of choices an object
 pub record AreChoices (ns : Seen) (now : Bool) (objects : List Loaded) (choices : List (List Choice)) : Type 0 where
   pub count : length choices ≡ length objects
-  pub each : (k : ℕ) (o : Loaded) → slice_get objects k ≡ Some o → slice_get choices k ≡ Some (choices_at_load ns now o)
+  pub each : (k : ℕ) (o : Loaded) → slice_get objects k ≡ Some o → slice_get choices k ≡ Some (choices_of ns now o)
 
 -- the image is that of the object, relocated by its bindings
 abbrev pub IsRelocated : Loaded → List Binding → List ModulePlace → Image → Type 0

@@ -3,7 +3,8 @@
 ghost use Rattle.std.specs.Prelude.{◌≡◌, ℕ, Some, IfOk};
 ghost use Rattle.std.specs.List.{slice_get};
 ghost use Rattle.ld_base.specs.declared.linking.Loaded.{Loaded as loaded};
-ghost use Rattle.object_bindings.specs.Bindings.{AreMade, bindings_in, choices_at_load, copies_from, none_copied};
+ghost use Rattle.load_choices.specs.Choices.{choices_of};
+ghost use Rattle.object_bindings.specs.Bindings.{AreMade, bindings_in, copies_from, none_copied};
 ghost use Rattle.opening_images.specs.Relocated.{AreBehind, AreChoices, AreRelocated, IsRelocated, MayRelocate, MayRelocateAll};
 ghost use Rattle.scope_rule.specs.Seen.{seen};
 
@@ -59,7 +60,7 @@ fn images_behind(
     choices: &[Choices],
     places: &TlsPlaces,
 ) -> Result<Images, AllocError>
-    requires choice { choice.now ≡ choices_at_load (seen view.now) now first.now }
+    requires choice { choice.now ≡ choices_of (seen view.now) now first.now }
     requires choices { AreChoices (seen view.now) now rest.now choices.now }
     requires first { MayRelocate first.now (bindings_in (copies_from (seen view.now) now places.now rest.now) (seen view.now) now first.now) places.now }
     requires rest { (k : ℕ) (o : loaded) → slice_get rest.now k ≡ Some o → MayRelocate o (bindings_in none_copied (seen view.now) now o) places.now }
@@ -107,7 +108,7 @@ fn library_image(
     choices: &[Choice],
     places: &TlsPlaces,
 ) -> Result<Image, AllocError>
-    requires choices { choices.now ≡ choices_at_load (seen view.now) now object.now }
+    requires choices { choices.now ≡ choices_of (seen view.now) now object.now }
     requires may { MayRelocate object.now (bindings_in none_copied (seen view.now) now object.now) places.now }
     ensures { IfOk result (IsRelocated object.now (bindings_in none_copied (seen view.now) now object.now) places.now) }
 {
@@ -128,7 +129,7 @@ fn relocated(
     object: &Loaded,
     choices: &[Choice],
 ) -> Result<Image, AllocError>
-    requires choices { choices.now ≡ choices_at_load (seen view.now) now object.now }
+    requires choices { choices.now ≡ choices_of (seen view.now) now object.now }
     requires made { AreMade (seen view.now) now made.now.places.now made.now.objects.now made.now.images.now }
     requires may { MayRelocate object.now
         (bindings_in (copies_from (seen view.now) now made.now.places.now made.now.objects.now) (seen view.now) now object.now) made.now.places.now }

@@ -1,6 +1,6 @@
 //! Closings.
 
-ghost use Rattle.std.specs.Prelude.{◌≡◌, ◌<◌, ◌++◌, IfErr, IfOk, OnErr, OnOk};
+ghost use Rattle.std.specs.Prelude.{◌≡◌, IfErr, IfOk, OnErr, OnOk};
 ghost use Rattle.link_event.specs.declared.event.CloseAnswer.TheVariants.{Done};
 ghost use Rattle.link_event.specs.declared.event.Event.TheVariants.{Close};
 ghost use Rattle.link_history.specs.After.{after};
@@ -14,13 +14,10 @@ use closing_graph::opened_in;
 use closing_laws::first_is_opened;
 use closing_plans::{ClosingPlan, wait};
 use closing_sets::closing_set;
-use lawful_journal::LawfulJournal;
-use ld_base::{HartId, Serial, Serials};
-use link_event::{CloseAnswer, Dying, Event};
+use ld_base::{HartId, Serial};
+use link_event::Dying;
 use link_history::{edges_follow, serials_are_in_order};
-use load_record::LoadRecord;
-use pending_closings::PendingClosings;
-use std::alloc::{AllocError, Global};
+use linker_lists::{closing_event, fixed_roots, room_for_closing};
 
 impl LinkState {
     /// One opening less of a handle counts. The objects of its namespace that nothing needs then die by the
@@ -38,7 +35,7 @@ impl LinkState {
         edges_follow();
         let _ = self.journal.journal();
         let plan = self.plan_close(hart, handle)?;
-        match make_room(&mut self.closings, &mut self.journal) {
+        match room_for_closing(&mut self.closings, &mut self.journal) {
             Ok(()) => {
                 let ClosingPlan {
                     list,
@@ -49,7 +46,7 @@ impl LinkState {
                 self.namespaces
                     .close(self.alloc, hart, root, list.as_slice());
                 wait(&mut self.closings, pending);
-                self.journal.push(closing(hart, handle, list));
+                self.journal.push(closing_event(hart, handle, list));
                 Ok(dying)
             }
             Err(_) => Err(CloseFault::Memory),
@@ -80,46 +77,5 @@ impl LinkState {
         )?;
         let plan = ClosingPlan::new(self.alloc, hart, set, namespaces, &self.reserved)?;
         Ok(plan)
-    }
-}
-
-/// Room for a closing that waits, for its event, and for that of its unmapping.
-///
-/// # Errors
-///
-/// Want of memory.
-fn make_room(closings: &mut PendingClosings, journal: &mut LawfulJournal) -> Result<(), AllocError>
-    ensures closings { closings.new.closings ≡ closings.old.closings }
-    ensures spare { OnOk result (0 < closings.new.spare) }
-    ensures harts { journal.new.harts ≡ journal.old.harts }
-    ensures events { journal.new.events ≡ journal.old.events }
-    ensures room { OnOk result (1 < journal.new.spare) }
-{
-    closings.make_room()?;
-    journal.make_room(2)
-}
-
-/// The objects that startup loaded, and the roots that stay.
-///
-/// # Errors
-///
-/// Want of memory.
-fn fixed_roots(alloc: Global, loads: &LoadRecord) -> Result<Vec<Serial>, AllocError>
-    ensures { IfOk result (λ roots. roots.items ≡ loads.now.startup ++ loads.now.pinned) }
-{
-    let mut roots = Vec::from_slice(alloc, loads.startup())?;
-    roots.extend_from_slice(loads.pinned())?;
-    Ok(roots)
-}
-
-/// The event of a closing.
-fn closing(hart: HartId, handle: u64, list: Serials) -> Event
-    ensures { result ≡ Close hart handle (Done list) }
-{
-    let answer = CloseAnswer::Done(list);
-    Event::Close {
-        hart,
-        handle,
-        answer,
     }
 }

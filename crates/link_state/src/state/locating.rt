@@ -5,13 +5,13 @@ ghost use Rattle.link_history.specs.After.{after};
 ghost use Rattle.link_history.specs.Storage.{tls_block};
 ghost use Rattle.link_state.specs.Locating.{IsLocated, IsModuleOf, IsNotLocated, PlansBlock, PlansNone};
 
+use crate::LinkState;
 use crate::faults::TlsFault;
-use crate::running::nothing;
-use crate::{LinkState, storing};
 use accepted_image::accepted_object;
 use ld_base::{HartId, Serial};
 use link_event::Event;
 use link_history::{images_are_found, objects_are_read};
+use linker_lists::{nothing, put_block, room_for_block};
 use mapped_objects::object_in;
 use new_blocks::{BlockFault, NewBlock, new_block, new_blocks_are_installed};
 use std::alloc::AllocError;
@@ -93,14 +93,14 @@ impl LinkState {
         accepted_object();
         let _ = self.journal.journal();
         let block = self.plan_block(serial)?;
-        storing::make_room(
+        room_for_block(
             &mut self.reserved,
             &mut self.blocks,
             &mut self.closings,
             &mut self.journal,
             1,
         )?;
-        storing::put(&mut self.reserved, &mut self.blocks, hart, serial, &block);
+        put_block(&mut self.reserved, &mut self.blocks, hart, serial, &block);
         let NewBlock {
             address,
             installs,

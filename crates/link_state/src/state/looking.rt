@@ -12,12 +12,12 @@ ghost use Rattle.link_state.specs.Looking.{FindsVariable, IsLookedUp, sym_fault}
 ghost use Rattle.symbol_search.specs.Asking.{ask_of};
 ghost use Rattle.symbol_search.specs.Finding.{IsSymFault};
 
-use crate::running::nothing;
-use crate::{LinkState, storing};
+use crate::LinkState;
 use accepted_image::accepted_object;
 use ld_base::{Choice, DlFault, HartId, NsId, Serial, Want};
-use link_event::{Event, SymAnswer, SymAsk};
+use link_event::{Event, SymAsk};
 use link_history::symbols_are_stored;
+use linker_lists::{found_event, nothing, put_block, room_for_block};
 use mapped_objects::address_of;
 use new_blocks::{BlockFault, NewBlock, harts_have_new_blocks, new_blocks_are_installed};
 use symbol_search::{SymFault, find_symbol, symbol_ask, variable_in};
@@ -98,7 +98,8 @@ impl LinkState {
     {
         self.journal.make_room(1)?;
         self.made = nothing(self.alloc);
-        self.journal.push(found(hart, ask, serial, index, value));
+        self.journal
+            .push(found_event(hart, ask, serial, index, value));
         Ok(value)
     }
 
@@ -127,14 +128,14 @@ impl LinkState {
             Ok(block) => block,
             Err(fault) => return Err(sym_fault(fault)),
         };
-        storing::make_room(
+        room_for_block(
             &mut self.reserved,
             &mut self.blocks,
             &mut self.closings,
             &mut self.journal,
             2,
         )?;
-        storing::put(&mut self.reserved, &mut self.blocks, hart, serial, &block);
+        put_block(&mut self.reserved, &mut self.blocks, hart, serial, &block);
         let NewBlock {
             address,
             installs,
@@ -147,17 +148,10 @@ impl LinkState {
             owner: serial,
             address,
         });
-        self.journal.push(found(hart, ask, serial, index, value));
+        self.journal
+            .push(found_event(hart, ask, serial, index, value));
         Ok(value)
     }
-}
-
-/// The event of a look-up that found this.
-fn found(hart: HartId, ask: SymAsk, serial: Serial, index: u32, value: u64) -> Event
-    ensures { result ≡ Sym hart ask (Found serial index value) }
-{
-    let answer = SymAnswer::Found(serial, index, value);
-    Event::Sym { hart, ask, answer }
 }
 
 /// Why a look-up has no block.

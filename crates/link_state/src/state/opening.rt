@@ -1,6 +1,6 @@
 //! Openings that load something, or raise a count.
 
-ghost use Rattle.std.specs.Prelude.{◌≡◌, ◌+◌, ◌*◌, ◌<◌, ◌≤◌, ◌^◌, ◌||◌, if◌then◌else◌, length, IfOk, IsTrue, OnErr, OnOk};
+ghost use Rattle.std.specs.Prelude.{◌≡◌, ◌+◌, ◌<◌, ◌^◌, ◌||◌, if◌then◌else◌, length, IfOk, IsTrue, OnErr, OnOk};
 ghost use Rattle.image_reads.specs.Reads.{ArePrepared};
 ghost use Rattle.lawful_journal.specs.Following.{MayFollow};
 ghost use Rattle.link_event.specs.declared.event.Event.TheVariants.{Open};
@@ -15,23 +15,17 @@ ghost use Rattle.opening_brings.specs.Brought.{IsBrought, done};
 ghost use Rattle.opening_images.specs.Relocated.{AreChoices};
 
 use crate::LinkState;
-use crate::running::nothing;
-use held_edges::HeldEdges;
-use image_parts::ImageParts;
-use lawful_journal::LawfulJournal;
 use ld_base::{Added, HartId, NsId, Serial};
-use link_event::{ChoiceLists, Choices, Event, OpenAnswer, OpenAsk, Opening, Ranges};
+use link_event::{ChoiceLists, Choices, OpenAnswer, OpenAsk, Opening, Ranges};
 use link_history::edges_follow;
-use link_pending::Unfinished;
 use link_served::Installs;
-use load_record::LoadRecord;
+use linker_lists::{OpeningCounts, absent_event, nothing, opened_event, room_for_opening};
 use namespace_changes::namespaces_are_numbered_apart;
 use open_flags::{is_global, is_now};
 use opening_brings::{Brings, Planned, prepare};
 use opening_follows::{closings_take_as_much, new_ranges_are_laid};
 use opening_steps::{hold_all, keep_all, reserve_all};
 use record_copies::Copied;
-use reserved_pages::ReservedPages;
 use std::alloc::AllocError;
 
 impl LinkState {
@@ -79,7 +73,7 @@ impl LinkState {
         ensures err { OnErr result (self.new ≡ self.old) }
     {
         self.journal.make_room(1)?;
-        self.journal.push(absent(hart, ask));
+        self.journal.push(absent_event(hart, ask));
         Ok(nothing(self.alloc))
     }
 
@@ -167,7 +161,7 @@ impl LinkState {
         closings_take_as_much();
         let _ = self.journal.journal();
         let counts = counts_of(&added, &ranges, &brings);
-        make_room(
+        room_for_opening(
             &mut self.unfinished,
             &mut self.reserved,
             &mut self.parts,
@@ -191,7 +185,7 @@ impl LinkState {
         self.loads.note(ask.flags, root, added.as_slice());
         self.modules = modules;
         self.journal
-            .push(opened(hart, ask, ns, root, added, ranges));
+            .push(opened_event(hart, ask, ns, root, added, ranges));
         Ok(installs)
     }
 }
@@ -200,22 +194,13 @@ impl LinkState {
 const LIMIT: u64 = 1 << 62;
 
 /// How many things an opening brings.
-#[derive(Clone, Copy)]
-struct Counts {
-    objects: usize,
-    ranges: usize,
-    edges: usize,
-    parts: usize,
-}
-
-/// How many things an opening brings.
-fn counts_of(added: &Added, ranges: &Ranges, brings: &Brings) -> Counts
+fn counts_of(added: &Added, ranges: &Ranges, brings: &Brings) -> OpeningCounts
     ensures objects { result.objects ≡ length added.now }
     ensures ranges { result.ranges ≡ length ranges.now }
     ensures edges { result.edges ≡ length brings.now.edges.items }
     ensures parts { result.parts ≡ length brings.now.parts.items }
 {
-    Counts {
+    OpeningCounts {
         objects: added.len(),
         ranges: ranges.len(),
         edges: brings.edges.len(),
@@ -235,74 +220,4 @@ fn has_serials(next: Serial, objects: usize) -> bool
     ensures { IsTrue result → next + objects < 2 ^ 62 }
 {
     next.number() < LIMIT && (objects as u64) < LIMIT - next.number()
-}
-
-/// Room for what an opening brings to the lists.
-///
-/// # Errors
-///
-/// Want of memory.
-fn make_room(
-    unfinished: &mut Unfinished,
-    reserved: &mut ReservedPages,
-    parts: &mut ImageParts,
-    edges: &mut HeldEdges,
-    loads: &mut LoadRecord,
-    journal: &mut LawfulJournal,
-    counts: &Counts,
-) -> Result<(), AllocError>
-    requires few { counts.now.objects < 2 ^ 62 }
-    ensures serials { unfinished.new.serials ≡ unfinished.old.serials }
-    ensures unfinished_room { unfinished.old.room ≤ unfinished.new.room }
-    ensures more_unfinished { OnOk result (unfinished.old.room + counts.now.objects ≤ unfinished.new.room) }
-    ensures ranges { reserved.new.ranges ≡ reserved.old.ranges }
-    ensures more_ranges { OnOk result (counts.now.ranges ≤ reserved.new.spare) }
-    ensures parts { parts.new.parts ≡ parts.old.parts }
-    ensures more_parts { OnOk result (counts.now.parts ≤ parts.new.room) }
-    ensures edges { edges.new.edges ≡ edges.old.edges }
-    ensures edge_room { edges.old.room ≤ edges.new.room }
-    ensures more_edges { OnOk result (edges.old.room + counts.now.edges ≤ edges.new.room) }
-    ensures binds { loads.new.binds ≡ loads.old.binds }
-    ensures next { loads.new.next ≡ loads.old.next }
-    ensures startup { loads.new.startup ≡ loads.old.startup }
-    ensures pinned { loads.new.pinned ≡ loads.old.pinned }
-    ensures more_startup { OnOk result (counts.now.objects ≤ loads.new.startup_room) }
-    ensures more_pinned { OnOk result (0 < loads.new.pinned_room) }
-    ensures harts { journal.new.harts ≡ journal.old.harts }
-    ensures events { journal.new.events ≡ journal.old.events }
-    ensures more_events { OnOk result (2 * counts.now.objects < journal.new.spare) }
-{
-    unfinished.make_room(counts.objects)?;
-    reserved.make_room(counts.ranges)?;
-    parts.make_room(counts.parts)?;
-    edges.make_room(counts.edges)?;
-    loads.make_room(counts.objects)?;
-    journal.make_room(2 * counts.objects + 1)
-}
-
-/// The event of an opening that is absent.
-fn absent(hart: HartId, ask: OpenAsk) -> Event
-    ensures { result ≡ Open hart ask Absent }
-{
-    Event::Open {
-        hart,
-        ask,
-        answer: OpenAnswer::Absent,
-    }
-}
-
-/// The event of an opening that isn't absent.
-fn opened(hart: HartId, ask: OpenAsk, ns: NsId, root: Serial, added: Added, ranges: Ranges) -> Event
-    ensures { result ≡ Open hart ask (Done ns root added ranges) }
-{
-    Event::Open {
-        hart,
-        ask,
-        answer: OpenAnswer::Done {
-            ns,
-            root,
-            added,
-            ranges,
-        },
-    }
 }

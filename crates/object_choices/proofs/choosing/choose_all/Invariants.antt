@@ -2,7 +2,7 @@ use Rattle.std.proofs.Common.{◌≡◌, ◌++◌, drop, map, take}
 use Rattle.link_history.specs.Relocating.{first_fault, object_fault}
 use Rattle.link_history.specs.State.{State}
 use Rattle.scope_rule.specs.Seen.{seen}
-use Rattle.object_choices.specs.Choices.{choices_of}
+use Rattle.load_choices.specs.Choices.{choices_of}
 use Rattle.object_choices.specs.Sight.{Shows}
 use Rattle.object_choices.proofs.choosing.choose_all.Given as goal
 

@@ -11,7 +11,7 @@ use Rattle.link_history.specs.Lemmas.Lists.{at_in}
 use Rattle.scope_rule.specs.Relocation.{choice_at}
 use Rattle.scope_rule.specs.Seen.{Seen, seen}
 use Rattle.sym_lookup.specs.References.{Referring}
-use Rattle.object_choices.specs.Choices.{slot_entry}
+use Rattle.load_choices.specs.Choices.{slot_entry}
 use Rattle.object_choices.specs.Sight.{chosen_at, faults_at}
 use Rattle.object_choices.proofs.Refused.{by_slots, relocs_named, slots_named}
 use Rattle.object_choices.proofs.choosing.choose_at.Goals.{then-now, else-now}

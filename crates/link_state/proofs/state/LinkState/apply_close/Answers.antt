@@ -12,17 +12,17 @@ use Rattle.pending_closings.specs.Pending.{PendingClosing}
 use Rattle.link_state.specs.Closing.{IsPlanOf}
 use Rattle.link_state.specs.Inside.{lists_of}
 use Rattle.link_state.specs.Table.{LinkTable}
-use Rattle.link_state.proofs.Closed.{all_closed, all_with_room}
-use Rattle.link_state.proofs.Held.{follows, holds_after}
+use Rattle.linker_lists.specs.Lemmas.Closed.{all_closed, all_with_room}
+use Rattle.linker_lists.specs.Lemmas.Held.{follows, holds_after}
 use Rattle.link_state.proofs.state.LinkState.apply_close.Goals as goal
 
 pub push-requires-clause-may : goal.push-requires-clause-may
 push-requires-clause-may c =
     let plan : IsPlanOf (after c.self.inside.journal.events) c.args.hart c.args.handle c.in_ok-plan.plan =
     subst (λ (v : LinkTable). IsPlanOf (after v.events) c.args.hart c.args.handle c.in_ok-plan.plan) (sym c.self.view_is) c.in_ok-plan.ensures.ok in
-    subst (λ (es : List Event). MayFollow c.make_room.new.journal.harts es c.closing.result) (sym c.make_room.ensures.events)
-    (subst (MayFollow c.make_room.new.journal.harts c.self.inside.journal.events) (sym c.closing.ensures)
-    (follows c.make_room.new.journal.harts c.self.inside.journal.events (Close c.args.hart c.args.handle (Done c.in_ok-plan.plan.list)) plan.closes))
+    subst (λ (es : List Event). MayFollow c.room_for_closing.new.journal.harts es c.closing_event.result) (sym c.room_for_closing.ensures.events)
+    (subst (MayFollow c.room_for_closing.new.journal.harts c.self.inside.journal.events) (sym c.closing_event.ensures)
+    (follows c.room_for_closing.new.journal.harts c.self.inside.journal.events (Close c.args.hart c.args.handle (Done c.in_ok-plan.plan.list)) plan.closes))
 
 pub invariant_of-self : goal.invariant_of-self
 invariant_of-self c =
@@ -36,22 +36,22 @@ invariant_of-self c =
     c.close.ensures ∙ ap (λ root. closed_by c.args.hart root c.as_slice.result.now c.self.inside.namespaces) c.new-root.ensures
     ∙ ap (λ (set : List ℕ). closed_by c.args.hart c.args.handle set c.self.inside.namespaces) c.as_slice.ensures in
     let pushed : c.wait.new.closings.closings ≡ c.self.inside.closings.closings ++ option_to_list c.in_ok-plan.plan.pending =
-    c.wait.ensures ∙ ap (λ (ps : List PendingClosing). ps ++ option_to_list c.in_ok-plan.plan.pending) c.make_room.ensures.closings in
+    c.wait.ensures ∙ ap (λ (ps : List PendingClosing). ps ++ option_to_list c.in_ok-plan.plan.pending) c.room_for_closing.ensures.closings in
     let state : after c.push.new.self.events ≡ step (after c.self.inside.journal.events) e =
-    c.push.ensures.state ∙ ap (step (after c.make_room.new.journal.events)) c.closing.ensures ∙ ap (λ (es : List Event). step (after es) e) c.make_room.ensures.events in
+    c.push.ensures.state ∙ ap (step (after c.room_for_closing.new.journal.events)) c.closing_event.ensures ∙ ap (λ (es : List Event). step (after es) e) c.room_for_closing.ensures.events in
     holds_after (step (after c.self.inside.journal.events) e) (after c.push.new.self.events) c.self.inside.journal.harts c.push.new.self.harts
-    (record (lists_of c.self.inside) { namespaces = c.close.new.self; closings = c.wait.new.closings }) state (c.push.ensures.harts ∙ c.make_room.ensures.harts)
+    (record (lists_of c.self.inside) { namespaces = c.close.new.self; closings = c.wait.new.closings }) state (c.push.ensures.harts ∙ c.room_for_closing.ensures.harts)
     (all_closed (after c.self.inside.journal.events) c.self.inside.journal.harts c.args.hart c.args.handle c.in_ok-plan.plan.list (lists_of c.self.inside) c.close.new.self c.wait.new.closings
     c.in_ok-plan.plan.pending c.self.invariant follow spaces pushed plan.waits plan.roomy)
 
 pub invariant_of-self-in-Err : goal.invariant_of-self-in-Err
 invariant_of-self-in-Err c =
-    holds_after (after c.self.inside.journal.events) (after c.make_room.new.journal.events) c.self.inside.journal.harts c.make_room.new.journal.harts
-    (record (lists_of c.self.inside) { closings = c.make_room.new.closings }) (ap after c.make_room.ensures.events) c.make_room.ensures.harts
-    (all_with_room (after c.self.inside.journal.events) c.self.inside.journal.harts (lists_of c.self.inside) c.make_room.new.closings c.self.invariant c.make_room.ensures.closings)
+    holds_after (after c.self.inside.journal.events) (after c.room_for_closing.new.journal.events) c.self.inside.journal.harts c.room_for_closing.new.journal.harts
+    (record (lists_of c.self.inside) { closings = c.room_for_closing.new.closings }) (ap after c.room_for_closing.ensures.events) c.room_for_closing.ensures.harts
+    (all_with_room (after c.self.inside.journal.events) c.self.inside.journal.harts (lists_of c.self.inside) c.room_for_closing.new.closings c.self.invariant c.room_for_closing.ensures.closings)
 
 pub invariant_of-self-in-Err-2 : goal.invariant_of-self-in-Err-2
 invariant_of-self-in-Err-2 c =
-    holds_after (after c.self.inside.journal.events) (after c.make_room.new.journal.events) c.self.inside.journal.harts c.make_room.new.journal.harts
-    (record (lists_of c.self.inside) { closings = c.make_room.new.closings }) (ap after c.make_room.ensures.events) c.make_room.ensures.harts
-    (all_with_room (after c.self.inside.journal.events) c.self.inside.journal.harts (lists_of c.self.inside) c.make_room.new.closings c.self.invariant c.make_room.ensures.closings)
+    holds_after (after c.self.inside.journal.events) (after c.room_for_closing.new.journal.events) c.self.inside.journal.harts c.room_for_closing.new.journal.harts
+    (record (lists_of c.self.inside) { closings = c.room_for_closing.new.closings }) (ap after c.room_for_closing.ensures.events) c.room_for_closing.ensures.harts
+    (all_with_room (after c.self.inside.journal.events) c.self.inside.journal.harts (lists_of c.self.inside) c.room_for_closing.new.closings c.self.invariant c.room_for_closing.ensures.closings)

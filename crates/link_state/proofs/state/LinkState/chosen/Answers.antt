@@ -5,7 +5,7 @@ use Rattle.link_history.specs.Laws.{IsIn}
 use Rattle.link_history.specs.Read.{WasRead}
 use Rattle.lawful_journal.specs.Following.{machine_of}
 use Rattle.scope_rule.specs.declared.namespace.Namespace.{Namespace}
-use Rattle.link_state.specs.Holding.{HoldsAll}
+use Rattle.linker_lists.specs.Holding.{HoldsAll}
 use Rattle.link_state.specs.Inside.{lists_of}
 use Rattle.link_state.proofs.state.LinkState.chosen.Goals as goal
 

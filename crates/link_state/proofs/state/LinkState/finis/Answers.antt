@@ -4,7 +4,7 @@ use Rattle.link_history.specs.After.{after}
 use Rattle.link_history.specs.Memory.{image_of}
 use Rattle.link_service.specs.Functions.{destructors}
 use Rattle.link_state.specs.Table.{LinkTable}
-use Rattle.link_state.proofs.Parts.{finis_found}
+use Rattle.linker_lists.specs.Lemmas.Parts.{finis_found}
 use Rattle.link_state.proofs.state.LinkState.finis.Goals as goal
 
 pub returns-in-Some : goal.returns-in-Some

@@ -3,7 +3,7 @@ use Rattle.link_event.specs.declared.event.Event.TheVariants.{Unresolved}
 use Rattle.link_history.specs.After.{after}
 use Rattle.link_state.specs.Table.{appended}
 use Rattle.link_state.proofs.Granted.{may_not, missing, not_missing}
-use Rattle.link_state.proofs.Held.{follows}
+use Rattle.linker_lists.specs.Lemmas.Held.{follows}
 use Rattle.link_state.proofs.state.LinkState.grant_choice.Goals as goal
 
 pub note_unresolved-requires : goal.note_unresolved-requires

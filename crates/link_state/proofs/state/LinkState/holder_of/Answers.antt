@@ -7,7 +7,7 @@ use Rattle.link_history.specs.After.{after}
 use Rattle.link_history.specs.Allowed.{IsUngranted}
 use Rattle.unmap_steps.specs.Touched.{is_touching}
 use Rattle.link_state.specs.Table.{LinkTable}
-use Rattle.link_state.proofs.Unmapped.{free_if}
+use Rattle.linker_lists.specs.Lemmas.Unmapped.{free_if}
 use Rattle.link_state.proofs.state.LinkState.holder_of.Goals as goal
 
 pub returns-clause-free : goal.returns-clause-free

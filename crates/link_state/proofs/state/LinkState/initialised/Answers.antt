@@ -10,8 +10,8 @@ use Rattle.link_history.specs.Step.{initialise, ready_in}
 use Rattle.lawful_journal.specs.Following.{MayFollow, machine_of}
 use Rattle.link_state.specs.Inside.{lists_of}
 use Rattle.link_state.specs.Table.{LinkTable}
-use Rattle.link_state.proofs.Advance.{all_initialised, not_finished, some_left}
-use Rattle.link_state.proofs.Held.{holds_after}
+use Rattle.linker_lists.specs.Lemmas.Advance.{all_initialised, not_finished, some_left}
+use Rattle.linker_lists.specs.Lemmas.Held.{holds_after}
 use Rattle.link_state.proofs.state.LinkState.initialised.Goals as goal
 
 pub push-requires : goal.push-requires

@@ -13,7 +13,8 @@ use Rattle.link_history.specs.Step.{lower}
 use Rattle.link_state.specs.Closing.{IsPlanOf}
 use Rattle.link_state.specs.Inside.{lists_of}
 use Rattle.link_state.specs.Table.{LinkTable}
-use Rattle.link_state.proofs.Closed.{graph_of, plan_of}
+use Rattle.link_state.proofs.Closed.{plan_of}
+use Rattle.linker_lists.specs.Lemmas.Closed.{graph_of}
 use Rattle.link_state.proofs.state.LinkState.plan_close.Goals as goal
 
 pub returns-clause-ok : goal.returns-clause-ok

@@ -14,8 +14,9 @@ use Rattle.slot_choice.specs.Choosing.{ChoosesSlot}
 use Rattle.link_state.specs.Granting.{IsGranted}
 use Rattle.link_state.specs.Inside.{lists_of}
 use Rattle.link_state.specs.Table.{LinkTable}
-use Rattle.link_state.proofs.Granted.{all_granted, all_roomier, appended_is, gives_grant, may_grant}
-use Rattle.link_state.proofs.Held.{follows, holds_after}
+use Rattle.link_state.proofs.Granted.{appended_is, gives_grant, may_grant}
+use Rattle.linker_lists.specs.Lemmas.Granted.{all_granted, all_roomier}
+use Rattle.linker_lists.specs.Lemmas.Held.{follows, holds_after}
 use Rattle.link_state.proofs.state.LinkState.post.Goals as goal
 
 pub push-requires-clause-may : goal.push-requires-clause-may
@@ -26,9 +27,9 @@ push-requires-clause-may c =
     let may : MayGrant (after c.self.inside.journal.events) c.in-Some.number c.args.hart c.args.owner c.args.chosen.now.slot c.args.chosen.now.choice c.args.chosen.now.value =
     may_grant (after c.self.inside.journal.events) c.args.hart c.args.owner c.args.eights c.in-Some.number c.args.chosen.now free chosen c.requires.code
     (c.in-Some.ensures.number ∙ ap (λ n. n + 1) c.self.invariant.running.count) in
-    subst (λ (es : List Event). MayFollow c.make_room.new.journal.harts es c.granting.result) (sym c.make_room.ensures.events)
-    (subst (MayFollow c.make_room.new.journal.harts c.self.inside.journal.events) (sym c.granting.ensures)
-    (follows c.make_room.new.journal.harts c.self.inside.journal.events
+    subst (λ (es : List Event). MayFollow c.room_for_grant.new.journal.harts es c.grant_event.result) (sym c.room_for_grant.ensures.events)
+    (subst (MayFollow c.room_for_grant.new.journal.harts c.self.inside.journal.events) (sym c.grant_event.ensures)
+    (follows c.room_for_grant.new.journal.harts c.self.inside.journal.events
     (Grant c.in-Some.number c.args.hart c.args.owner c.args.chosen.now.slot c.args.chosen.now.choice c.args.chosen.now.value) may))
 
 pub invariant_of-self : goal.invariant_of-self
@@ -52,23 +53,23 @@ invariant_of-self c =
       value = c.args.chosen.now.value;
       standing = Open;
     } in
-    let grants : c.open.new.settling.grants ≡ c.self.inside.settling.grants ++ g c.self.inside.settling.count ∷ [] =
-    c.open.ensures.grants ∙ ap (λ (gs : List Granting). gs ++ g c.make_room.new.settling.count ∷ []) c.make_room.ensures.grants
-    ∙ ap (λ n. c.self.inside.settling.grants ++ g n ∷ []) c.make_room.ensures.count in
-    let count : c.open.new.settling.count ≡ c.self.inside.settling.count + 1 = c.open.ensures.count ∙ ap (λ n. n + 1) c.make_room.ensures.count in
+    let grants : c.open_grant.new.settling.grants ≡ c.self.inside.settling.grants ++ g c.self.inside.settling.count ∷ [] =
+    c.open_grant.ensures.grants ∙ ap (λ (gs : List Granting). gs ++ g c.room_for_grant.new.settling.count ∷ []) c.room_for_grant.ensures.grants
+    ∙ ap (λ n. c.self.inside.settling.grants ++ g n ∷ []) c.room_for_grant.ensures.count in
+    let count : c.open_grant.new.settling.count ≡ c.self.inside.settling.count + 1 = c.open_grant.ensures.count ∙ ap (λ n. n + 1) c.room_for_grant.ensures.count in
     let state : after c.push.new.self.events ≡ step (after c.self.inside.journal.events) e =
-    c.push.ensures.state ∙ ap (step (after c.make_room.new.journal.events)) c.granting.ensures ∙ ap (λ (es : List Event). step (after es) e) c.make_room.ensures.events in
+    c.push.ensures.state ∙ ap (step (after c.room_for_grant.new.journal.events)) c.grant_event.ensures ∙ ap (λ (es : List Event). step (after es) e) c.room_for_grant.ensures.events in
     holds_after (step (after c.self.inside.journal.events) e) (after c.push.new.self.events) c.self.inside.journal.harts c.push.new.self.harts
-    (record (lists_of c.self.inside) { settling = c.open.new.settling; edges = c.make_room.new.edges }) state (c.push.ensures.harts ∙ c.make_room.ensures.harts)
+    (record (lists_of c.self.inside) { settling = c.open_grant.new.settling; edges = c.room_for_grant.new.edges }) state (c.push.ensures.harts ∙ c.room_for_grant.ensures.harts)
     (all_granted (after c.self.inside.journal.events) c.self.inside.journal.harts c.in-Some.number c.args.hart c.args.owner c.args.chosen.now.slot c.args.chosen.now.choice c.args.chosen.now.value
-    (lists_of c.self.inside) c.open.new.settling c.make_room.new.edges c.self.invariant follow c.in-Some.ensures.number grants count c.make_room.ensures.edges c.in-Ok.ensures.more)
+    (lists_of c.self.inside) c.open_grant.new.settling c.room_for_grant.new.edges c.self.invariant follow c.in-Some.ensures.number grants count c.room_for_grant.ensures.edges c.in-Ok.ensures.more)
 
 pub invariant_of-self-in-Err : goal.invariant_of-self-in-Err
 invariant_of-self-in-Err c =
-    holds_after (after c.self.inside.journal.events) (after c.make_room.new.journal.events) c.self.inside.journal.harts c.make_room.new.journal.harts
-    (record (lists_of c.self.inside) { settling = c.make_room.new.settling; edges = c.make_room.new.edges }) (ap after c.make_room.ensures.events) c.make_room.ensures.harts
-    (all_roomier (after c.self.inside.journal.events) c.self.inside.journal.harts (lists_of c.self.inside) c.make_room.new.settling c.make_room.new.edges c.self.invariant c.make_room.ensures.grants
-    c.make_room.ensures.count c.make_room.ensures.edges c.make_room.ensures.edge_room)
+    holds_after (after c.self.inside.journal.events) (after c.room_for_grant.new.journal.events) c.self.inside.journal.harts c.room_for_grant.new.journal.harts
+    (record (lists_of c.self.inside) { settling = c.room_for_grant.new.settling; edges = c.room_for_grant.new.edges }) (ap after c.room_for_grant.ensures.events) c.room_for_grant.ensures.harts
+    (all_roomier (after c.self.inside.journal.events) c.self.inside.journal.harts (lists_of c.self.inside) c.room_for_grant.new.settling c.room_for_grant.new.edges c.self.invariant c.room_for_grant.ensures.grants
+    c.room_for_grant.ensures.count c.room_for_grant.ensures.edges c.room_for_grant.ensures.edge_room)
 
 pub returns-in-Ok-clause-ok : goal.returns-in-Ok-clause-ok
 returns-in-Ok-clause-ok c =
@@ -78,9 +79,9 @@ returns-in-Ok-clause-ok c =
     may_grant (after c.args.self.now.events) c.args.hart c.args.owner c.args.eights c.in-Some.number c.args.chosen.now c.requires.free c.requires.chosen c.requires.code numbered in
     let e : Event = Grant c.in-Some.number c.args.hart c.args.owner c.args.chosen.now.slot c.args.chosen.now.choice c.args.chosen.now.value in
     let events : c.push.new.self.events ≡ c.args.self.now.events ++ e ∷ [] =
-    c.push.ensures.events ∙ ap (λ (es : List Event). es ++ c.granting.result ∷ []) (c.make_room.ensures.events ∙ ap (λ (v : LinkTable). v.events) c.self.view_is)
-    ∙ ap (λ (x : Event). c.args.self.now.events ++ x ∷ []) c.granting.ensures in
-    let harts : c.push.new.self.harts ≡ c.args.self.now.harts = c.push.ensures.harts ∙ c.make_room.ensures.harts ∙ ap (λ (v : LinkTable). v.harts) c.self.view_is in
+    c.push.ensures.events ∙ ap (λ (es : List Event). es ++ c.grant_event.result ∷ []) (c.room_for_grant.ensures.events ∙ ap (λ (v : LinkTable). v.events) c.self.view_is)
+    ∙ ap (λ (x : Event). c.args.self.now.events ++ x ∷ []) c.grant_event.ensures in
+    let harts : c.push.new.self.harts ≡ c.args.self.now.harts = c.push.ensures.harts ∙ c.room_for_grant.ensures.harts ∙ ap (λ (v : LinkTable). v.harts) c.self.view_is in
     subst (λ (g : Granted). IsGranted c.args.self.now c.args.hart c.args.owner c.args.eights g
     (record { harts = c.push.new.self.harts; events = c.push.new.self.events; made = c.self.inside.made })) (sym c.granted.ensures) (record {
       slot = c.args.chosen.now.slot;

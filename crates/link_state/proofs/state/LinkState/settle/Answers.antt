@@ -7,9 +7,10 @@ use Rattle.link_history.specs.Step.{step}
 use Rattle.lawful_journal.specs.Following.{MayFollow, machine_of}
 use Rattle.link_pending.specs.Pending.{has_number}
 use Rattle.link_state.specs.Inside.{lists_of}
-use Rattle.link_state.specs.Table.{LinkTable, settled}
-use Rattle.link_state.proofs.Advance.{all_settled, room_enough}
-use Rattle.link_state.proofs.Held.{holds_after}
+use Rattle.link_state.specs.Table.{LinkTable}
+use Rattle.linker_lists.specs.Events.{settled}
+use Rattle.linker_lists.specs.Lemmas.Advance.{all_settled, room_enough}
+use Rattle.linker_lists.specs.Lemmas.Held.{holds_after}
 use Rattle.link_state.proofs.state.LinkState.settle.Goals as goal
 
 pub hold-requires : goal.hold-requires
@@ -26,6 +27,6 @@ invariant_of-self c =
     let tidy : GrantsAreTidy (after c.self.inside.journal.events) = c.grants_are_tidy.ensures (machine_of c.self.inside.journal.harts) c.self.inside.journal.events c.journal.ensures.lawful in
     holds_after (step (after c.self.inside.journal.events) (settled c.args.grant c.args.won c.args.saw)) (after c.push_owed.new.self.events) c.self.inside.journal.harts c.push_owed.new.self.harts
     (record (lists_of c.self.inside) { settling = c.settle-granting.new.self; edges = c.hold.new.edges })
-    (c.push_owed.ensures.state ∙ ap (step (after c.self.inside.journal.events)) c.settled.ensures) c.push_owed.ensures.harts
+    (c.push_owed.ensures.state ∙ ap (step (after c.self.inside.journal.events)) c.settled_event.ensures) c.push_owed.ensures.harts
     (all_settled (after c.self.inside.journal.events) c.self.inside.journal.harts c.args.grant c.args.won c.args.saw (lists_of c.self.inside) c.settle-granting.new.self c.hold.new.edges c.settle-granting.result
     c.self.invariant follow tidy c.settle-granting.ensures.grants c.settle-granting.ensures.count c.settle-granting.ensures.grant c.hold.ensures.edges c.hold.ensures.room)

@@ -4,7 +4,7 @@ use Rattle.link_event.specs.declared.event.Event.TheVariants.{Told}
 use Rattle.link_harts.specs.Kept.{fault_of}
 use Rattle.link_history.specs.After.{after}
 use Rattle.link_history.specs.Allowed.{kept_for}
-use Rattle.link_state.proofs.Held.{follows}
+use Rattle.linker_lists.specs.Lemmas.Held.{follows}
 use Rattle.link_state.proofs.state.LinkState.told.Goals as goal
 
 pub push-requires-clause-may : goal.push-requires-clause-may

@@ -18,8 +18,8 @@ use Rattle.link_state.specs.Inside.{lists_of}
 use Rattle.link_state.specs.Table.{LinkTable}
 use Rattle.link_state.specs.Unmapping.{IsRemoved}
 use Rattle.link_state.proofs.Granted.{appended_is}
-use Rattle.link_state.proofs.Held.{follows, holds_after}
-use Rattle.link_state.proofs.Unmapped.{AreWithout, IsTaken, all_unmapped, may_unmap, objects_fit, ranges_fit, taken, waiting}
+use Rattle.linker_lists.specs.Lemmas.Held.{follows, holds_after}
+use Rattle.linker_lists.specs.Lemmas.Unmapped.{AreWithout, IsTaken, all_unmapped, may_unmap, objects_fit, ranges_fit, taken, waiting}
 use Rattle.link_state.proofs.state.LinkState.unmap.Goals as goal
 
 pub unreachable-requires : goal.unreachable-requires

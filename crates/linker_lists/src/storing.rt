@@ -21,7 +21,7 @@ use std::alloc::AllocError;
 /// # Errors
 ///
 /// Want of memory.
-pub fn make_room(
+pub fn room_for_block(
     reserved: &mut ReservedPages,
     blocks: &mut LateBlocks,
     closings: &mut PendingClosings,
@@ -45,7 +45,7 @@ pub fn make_room(
 }
 
 /// The hart has the block, in pages that are free.
-pub fn put(
+pub fn put_block(
     reserved: &mut ReservedPages,
     blocks: &mut LateBlocks,
     hart: HartId,

@@ -17,8 +17,8 @@ use Rattle.link_history.specs.Step.{keep, step}
 use Rattle.link_history.specs.Lemmas.Lists.{none_in}
 use Rattle.lawful_journal.specs.Following.{MayFollow, machine_of}
 use Rattle.pending_closings.specs.Pending.{PendingClosing, closing_of}
-use Rattle.link_state.specs.Holding.{HoldsAll, Lists}
-use Rattle.link_state.specs.Table.{refusal}
+use Rattle.linker_lists.specs.Holding.{HoldsAll, Lists}
+use Rattle.linker_lists.specs.Events.{refusal}
 
 -- nothing was given: for events that may come whatever was
 abbrev bare : ℕ → Setting

@@ -32,9 +32,9 @@ use Rattle.link_history.specs.Step.{end_hart, finalise, initialise, ready_in, re
 use Rattle.link_history.specs.Lemmas.Lists.{found_in, from_filter, from_flat, in_filter, in_flat, none_in, not_found}
 use Rattle.link_pending.specs.Pending.{GrantTable, SerialsWithRoom, has_number, is_another}
 use Rattle.scope_rule.specs.declared.namespace.Namespace.{Namespace}
-use Rattle.link_state.specs.Holding.{HoldsAll, Lists, Runs}
-use Rattle.link_state.specs.Settling.{edges_spent, settled_edges}
-use Rattle.link_state.specs.Table.{settled}
+use Rattle.linker_lists.specs.Holding.{HoldsAll, Lists, Runs}
+use Rattle.linker_lists.specs.Settling.{edges_spent, settled_edges}
+use Rattle.linker_lists.specs.Events.{settled}
 
 -- ---- grants that are settled
 

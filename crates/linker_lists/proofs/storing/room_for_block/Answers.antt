@@ -1,5 +1,5 @@
-use Rattle.link_state.proofs.Stored.{room_by, same_room}
-use Rattle.link_state.proofs.storing.make_room.Goals as goal
+use Rattle.linker_lists.specs.Lemmas.Stored.{room_by, same_room}
+use Rattle.linker_lists.proofs.storing.room_for_block.Goals as goal
 
 pub returns-in_err-make_room-clause-closings : goal.returns-in_err-make_room-clause-closings
 returns-in_err-make_room-clause-closings c = same_room c.args.closings.now.closings

@@ -1,14 +1,13 @@
 //! Grants of slots.
 
 ghost use Rattle.std.specs.Prelude.{◌≡◌, ◌+◌, ◌<◌, ◌≤◌, ◌^◌, [], ◌∷◌, ◌++◌, OnOk};
-ghost use Rattle.link_event.specs.declared.event.Event.TheVariants.{Grant, Unresolved};
 ghost use Rattle.link_event.specs.declared.state.Standing.TheVariants as standings;
 ghost use Rattle.link_history.specs.Relocating.{is_missing};
 
 use held_edges::HeldEdges;
 use lawful_journal::LawfulJournal;
 use ld_base::{Choice, GrantNo, HartId, Serial};
-use link_event::{Event, Granted};
+use link_event::Granted;
 use link_pending::OpenGrants;
 use slot_choice::SlotChoice;
 use std::alloc::AllocError;
@@ -18,7 +17,7 @@ use std::alloc::AllocError;
 /// # Errors
 ///
 /// Want of memory.
-pub fn make_room(
+pub fn room_for_grant(
     settling: &mut OpenGrants,
     edges: &mut HeldEdges,
     journal: &mut LawfulJournal,
@@ -39,7 +38,7 @@ pub fn make_room(
 }
 
 /// One grant more of a slot.
-pub fn open(settling: &mut OpenGrants, hart: HartId, owner: Serial, chosen: &SlotChoice)
+pub fn open_grant(settling: &mut OpenGrants, hart: HartId, owner: Serial, chosen: &SlotChoice)
     requires room { 0 < settling.old.spare }
     requires few { settling.old.count < 2 ^ 62 }
     ensures grants { settling.new.grants ≡ settling.old.grants ++ record {
@@ -54,32 +53,6 @@ pub fn open(settling: &mut OpenGrants, hart: HartId, owner: Serial, chosen: &Slo
     ensures count { settling.new.count ≡ settling.old.count + 1 }
 {
     settling.push(hart, owner, chosen.slot, chosen.choice, chosen.value);
-}
-
-/// The event of a grant.
-pub fn granting(grant: GrantNo, hart: HartId, owner: Serial, chosen: &SlotChoice) -> Event
-    ensures { result ≡ Grant grant hart owner chosen.now.slot chosen.now.choice chosen.now.value }
-{
-    Event::Grant {
-        grant,
-        hart,
-        owner,
-        slot: chosen.slot,
-        choice: chosen.choice,
-        value: chosen.value,
-    }
-}
-
-/// The event of a slot that may not be bound.
-pub fn unresolved(hart: HartId, owner: Serial, chosen: &SlotChoice) -> Event
-    ensures { result ≡ Unresolved hart owner chosen.now.slot chosen.now.choice }
-{
-    Event::Unresolved {
-        hart,
-        owner,
-        slot: chosen.slot,
-        choice: chosen.choice,
-    }
 }
 
 /// A grant as its hart gets it.

@@ -1,46 +1,20 @@
-//! Refusals: their events, and the copies that are kept.
+//! Refusals, and the copies that are kept.
 
 ghost use Rattle.std.specs.Prelude.{◌≡◌, ◌<◌, IfOk, OnOk};
 ghost use Rattle.link_harts.specs.Kept.{fault_of};
-ghost use Rattle.link_state.specs.Table.{refusal};
 
 use lawful_journal::LawfulJournal;
 use ld_base::{DlFault, HartId};
-use link_event::{Ask, CloseAnswer, Event, OpenAnswer, SymAnswer};
 use link_harts::KeptFaults;
 use record_copies::Copied;
 use std::alloc::{AllocError, Global};
-
-/// The event of a call that is refused.
-pub fn refusal(hart: HartId, ask: Ask, fault: DlFault) -> Event
-    ensures { result ≡ refusal hart ask fault }
-{
-    match ask {
-        Ask::Open(ask) => {
-            let answer = OpenAnswer::Refused(fault);
-            Event::Open { hart, ask, answer }
-        }
-        Ask::Sym(ask) => {
-            let answer = SymAnswer::Refused(fault);
-            Event::Sym { hart, ask, answer }
-        }
-        Ask::Close(handle) => {
-            let answer = CloseAnswer::Refused(fault);
-            Event::Close {
-                hart,
-                handle,
-                answer,
-            }
-        }
-    }
-}
 
 /// A copy of the refusal that is kept for a hart.
 ///
 /// # Errors
 ///
 /// Want of memory.
-pub fn copy_of(
+pub fn kept_copy(
     alloc: Global,
     kept: &KeptFaults,
     hart: HartId,
@@ -58,7 +32,7 @@ pub fn copy_of(
 /// # Errors
 ///
 /// Want of memory.
-pub fn make_room(
+pub fn room_for_refusal(
     alloc: Global,
     kept: &mut KeptFaults,
     journal: &mut LawfulJournal,

@@ -35,7 +35,7 @@ use Rattle.scope_rule.specs.declared.namespace.Namespace.{Namespace}
 use Rattle.tls_blocks.specs.Numbers.{ModuleTable}
 use Rattle.unmap_steps.specs.Touched.{is_of_set, is_touching}
 use Rattle.unmapped_objects.specs.Taken.{goes}
-use Rattle.link_state.specs.Holding.{HoldsAll, Lists}
+use Rattle.linker_lists.specs.Holding.{HoldsAll, Lists}
 
 -- ---- what waits
 

@@ -1,0 +1,4 @@
+pub mod Events
+pub mod Holding
+pub mod Lemmas
+pub mod Settling
