@@ -10,24 +10,17 @@ use Rattle.link_service.specs.Served.{AreInstalls}
 use Rattle.link_state.specs.Table.{LinkTable, appended}
 use Rattle.link_history.specs.State.{State}
 use Rattle.link_history.specs.Step.{open_done, step}
-use Rattle.opening_brings.specs.Brought.{IsBrought}
+use Rattle.opening_brings.specs.Brought.{IsBrought, OfLists}
 use Rattle.opening_brings.specs.declared.bringing.Brings.{Brings}
 use Rattle.opening_brings.specs.declared.bringing.Planned.{Planned}
-use Rattle.link_state.specs.Opening.{Brought}
 
 -- ---- what was brought, over plain lists
 
 pub brought : (s : State) (p : Planned) (added : List Loaded) (ranges : List Range) (b : Brings) → IsBrought s p b → p.added.now ≡ added → p.ranges.now ≡ ranges
-    → Brought s p.hart p.ask.now p.ns p.root added ranges b
+    → OfLists s p.hart p.ask.now p.ns p.root added ranges b
 brought s p added ranges b is same laid =
-    subst (λ (os : List Loaded). Brought s p.hart p.ask.now p.ns p.root os ranges b) same
-    (subst (λ (rs : List Range). Brought s p.hart p.ask.now p.ns p.root p.added.now rs b) laid (record {
-      modules = is.modules;
-      statics = is.statics;
-      generation = is.generation;
-      edges = is.edges;
-      parts = is.parts;
-    }))
+    subst (λ (os : List Loaded). OfLists s p.hart p.ask.now p.ns p.root os ranges b) same
+    (subst (λ (rs : List Range). OfLists s p.hart p.ask.now p.ns p.root p.added.now rs b) laid is.lists)
 
 -- ---- what is handed out
 

@@ -1,6 +1,5 @@
--- What an opening brings to the lists.
-use Rattle.std.specs.Prelude.{◌≡◌, ℕ, ◌+◌, List, filter, length, map}
-use Rattle.image_parts.specs.Parts.{part_of}
+-- What an opening asks for, and what it gives.
+use Rattle.std.specs.Prelude.{List}
 use Rattle.image_reads.specs.Reads.{ArePrepared}
 use Rattle.ld_base.specs.declared.linking.Choice.{Choice}
 use Rattle.ld_base.specs.declared.linking.Loaded.{Loaded}
@@ -11,27 +10,11 @@ use Rattle.link_event.specs.declared.event.OpenAnswer.TheVariants.{Absent, Done,
 use Rattle.link_event.specs.declared.event.OpenAsk.{OpenAsk}
 use Rattle.link_event.specs.declared.event.Range.{Range}
 use Rattle.link_event.specs.declared.handed.Opening.{Opening}
-use Rattle.link_history.specs.Held.{gained}
-use Rattle.link_history.specs.Objects.{is_startup}
 use Rattle.link_history.specs.State.{State}
-use Rattle.link_history.specs.Step.{binds, has_module, seen_after}
-use Rattle.link_history.specs.Storage.{with_modules}
+use Rattle.link_history.specs.Step.{binds, seen_after}
 use Rattle.link_served.specs.declared.installs.Installs.{Installs}
 use Rattle.link_service.specs.Served.{AreInstalls, InstallsNothing}
-use Rattle.opening_brings.specs.declared.bringing.Brings.{Brings}
 use Rattle.opening_images.specs.Relocated.{AreChoices}
-use Rattle.opening_laws.specs.Laws.{image_made}
-use Rattle.opening_steps.specs.Steps.{statics_after, statics_of}
-
--- what the lists take in
-pub record Brought (s : State) (hart : ℕ) (ask : OpenAsk) (id root : ℕ) (added : List Loaded) (ranges : List Range) (b : Brings) : Type 0 where
-  pub modules : b.modules.modules ≡ with_modules added s.modules
-  pub statics : statics_of b.modules ≡ statics_after (is_startup s) added s.statics
-  pub generation : b.modules.generation ≡ s.generation + length (filter has_module added)
-  pub edges : b.edges.items ≡ gained s (Open hart ask (Done id root added ranges))
-  pub parts : b.parts.items ≡ map part_of (map (image_made s hart ask id root added ranges) added)
-
--- ---- the call
 
 -- the event of an opening
 abbrev pub event_of : Opening → Event

@@ -1,13 +1,12 @@
 //! The linker's state, which changes in place: each change is an event of its journal.
 //!
 //! [`LinkState`] has the journal of a run so far and the lists that are the state after it
-//! (`link_history`). Contracts see the number of harts and the events; that the lists are those of
-//! the state is the type's own business. Each call appends one event that may come next, or leaves all
-//! as before.
+//! (`link_history`). Contracts see the number of harts, the events, and what the latest look-up put into
+//! memory; that the lists are those of the state is the type's own business. A call appends its event,
+//! one that may come next (a look-up's new block first, where it makes one), or leaves all as before.
 #![tactic(auto)]
 
 mod faults;
-mod reading;
 mod state;
 
 pub use faults::{CloseFault, GrantFault, TlsFault};

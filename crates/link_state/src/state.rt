@@ -28,7 +28,6 @@ mod opening;
 mod unmapping;
 
 use crate::faults::GrantFault;
-use crate::reading::namespace_in;
 use accepted_image::one_image;
 use address_space::Regions;
 use elf_object::one_object;
@@ -51,6 +50,7 @@ use linker_lists::{
 };
 use listed_namespaces::ListedNamespaces;
 use load_record::LoadRecord;
+use mapped_objects::namespace_in;
 use object_holders::holder_in;
 use pending_closings::PendingClosings;
 use reserved_pages::ReservedPages;
@@ -60,7 +60,8 @@ use std::alloc::{AllocError, Global};
 use std::marker::Model;
 use tls_blocks::TlsModules;
 
-/// The state of a linker for so many harts. Contracts see the harts and the events so far.
+/// The state of a linker for so many harts. Contracts see the harts, the events so far, and what the latest
+/// look-up put into memory.
 #[derive(Drop)]
 pub struct LinkState {
     alloc: Global,

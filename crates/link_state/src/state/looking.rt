@@ -25,7 +25,8 @@ use symbol_search::{SymFault, find_symbol, symbol_ask, variable_in};
 impl LinkState {
     /// Where the definition of a name is that a look-up by a caller in a namespace finds (dlsym(3),
     /// dlvsym(3)); a variable of thread-local storage is in the hart's block, which is made at its first
-    /// use.
+    /// use. `want` is dlsym's or dlvsym's; name and version have at most 255 bytes, since what is longer is
+    /// refused by `apply_refusal`.
     ///
     /// # Errors
     ///

@@ -9,9 +9,9 @@ ghost use Rattle.link_history.specs.After.{after};
 ghost use Rattle.link_history.specs.Flags.{is_now};
 ghost use Rattle.link_history.specs.Step.{binds, seen_after};
 ghost use Rattle.link_service.specs.Served.{AreInstalls, InstallsNothing};
-ghost use Rattle.link_state.specs.Opening.{AreChosen, Brought, IsPut, event_of};
+ghost use Rattle.link_state.specs.Opening.{AreChosen, IsPut, event_of};
 ghost use Rattle.link_state.specs.Table.{appended};
-ghost use Rattle.opening_brings.specs.Brought.{IsBrought, done};
+ghost use Rattle.opening_brings.specs.Brought.{IsBrought, OfLists, done};
 ghost use Rattle.opening_images.specs.Relocated.{AreChoices};
 
 use crate::LinkState;
@@ -150,7 +150,7 @@ impl LinkState {
         requires may { MayFollow self.old.harts self.old.events (Open hart ask (Done ns root added ranges)) }
         requires copies { copies ≡ added }
         requires serials { (after self.old.events).next + length added < 2 ^ 62 }
-        requires brought { Brought (after self.old.events) hart ask ns root added ranges brings }
+        requires brought { OfLists (after self.old.events) hart ask ns root added ranges brings }
         ensures ok { OnOk result (self.new ≡ appended self.old (Open hart ask (Done ns root added ranges))) }
         ensures installs { IfOk result (λ made. made ≡ brings.installs) }
         ensures err { OnErr result (self.new ≡ self.old) }

@@ -23,7 +23,7 @@ use Rattle.linker_lists.specs.Holding.{HoldsAll, Lists}
 use Rattle.link_state.specs.Inside.{lists_of}
 use Rattle.link_state.specs.Table.{LinkTable}
 use Rattle.linker_lists.specs.Lemmas.Held.{holds_after}
-use Rattle.link_state.specs.Opening.{Brought}
+use Rattle.opening_brings.specs.Brought.{OfLists}
 use Rattle.linker_lists.specs.Lemmas.Opened.{all_opened, all_with_room, notes_over}
 use Rattle.link_state.proofs.state.LinkState.take_in.Goals as goal
 
@@ -76,8 +76,8 @@ invariant_of-self-2 c =
     subst (λ (v : LinkTable). MayFollow v.harts v.events (Open c.args.hart c.args.ask (Done c.args.ns c.args.root c.args.added c.args.ranges))) (sym c.self.view_is) c.requires.may in
     let follow : EdgesFollow (after c.self.inside.journal.events) (Open c.args.hart c.args.ask (Done c.args.ns c.args.root c.args.added c.args.ranges)) =
     c.edges_follow.ensures.follow (machine_of c.self.inside.journal.harts) next.setting c.self.inside.journal.events e c.journal.ensures.lawful next.may in
-    let is : Brought (after c.self.inside.journal.events) c.args.hart c.args.ask c.args.ns c.args.root c.args.added c.args.ranges c.args.brings =
-    subst (λ (v : LinkTable). Brought (after v.events) c.args.hart c.args.ask c.args.ns c.args.root c.args.added c.args.ranges c.args.brings) (sym c.self.view_is) c.requires.brought in
+    let is : OfLists (after c.self.inside.journal.events) c.args.hart c.args.ask c.args.ns c.args.root c.args.added c.args.ranges c.args.brings =
+    subst (λ (v : LinkTable). OfLists (after v.events) c.args.hart c.args.ask c.args.ns c.args.root c.args.added c.args.ranges c.args.brings) (sym c.self.view_is) c.requires.brought in
     let few : (after c.self.inside.journal.events).next + length c.args.added < 2 ^ 62 =
     subst (λ (v : LinkTable). (after v.events).next + length c.args.added < 2 ^ 62) (sym c.self.view_is) c.requires.serials in
     let room : c.self.inside.unfinished.room + length c.args.added ≤ c.room_for_opening.new.unfinished.room = omega (arith, c.in_ok-room_for_opening.ensures.more_unfinished, c.counts_of-counts.ensures.objects) in
