@@ -16,7 +16,7 @@ work=$(cd "$2" && pwd)
 millions=${3:-20}
 top=$(cd "$(dirname "$0")/.." && pwd)
 
-below='ld_base rv_isa rv_hart link_event guest_rule word_steps word_access word_memory'
+below='ld_base rv_isa rv_hart link_event guest_rule word_steps word_access word_keeping word_memory word_seats'
 mkdir -p "$work/repo/crates/bench/src" "$work/repo/crates/bench/proofs/put_data"
 cp "$top/HANDLES" "$work/repo/"
 for crate in $below; do
@@ -89,7 +89,7 @@ MAIN
 
 ghost use Rattle.std.specs.Prelude.{◌≡◌, ◌≢◌, ◌≤◌, ◌<◌, ◌+◌};
 ghost use Rattle.ld_base.specs.declared.linking.Role.TheVariants.{None as NoRole, Slot as SlotRole};
-ghost use Rattle.word_memory.specs.Making.{IsMade};
+ghost use Rattle.word_seats.specs.Making.{IsMade};
 ghost use Rattle.bench.specs.Unset.{AreUnset};
 
 use ld_base::Role;
@@ -97,7 +97,8 @@ use rv_hart::{Bus, Hart, step};
 use std::alloc::{AllocError, Global};
 use std::marker::Brand;
 use std::thread::{Threads, join};
-use word_memory::{Fresh, HartSeat, HartSeats, KeeperSeat, Memory, Naming, Seats, TableBus, name_memory, set_word};
+use word_memory::{Fresh, HartSeat, KeeperSeat, Memory, Naming, TableBus, set_word};
+use word_seats::{HartSeats, Seats, name_memory};
 
 MAIN
     cat "$work/common"

@@ -13,8 +13,9 @@ use Rattle.guest_rule.specs.Allowed.{IsSlot, LeadsTo}
 use Rattle.guest_rule.specs.Layout.{doublewords, first_address, IsDoubleword, place_of}
 use Rattle.guest_rule.specs.Views.{IsLong, kept_at, no_row, row_of, unmapped}
 use Rattle.guest_rule.specs.Lemmas.Heeding.{kept_else, kept_here}
-use Rattle.word_memory.specs.Making.{IsMade, MaySet, in_linker_page, linker_page, linker_word}
-use Rattle.word_steps.specs.Keeping.{set_as}
+use Rattle.word_memory.specs.Roles.{MaySet}
+use Rattle.word_seats.specs.Making.{IsMade, in_linker_page, linker_page, linker_word}
+use Rattle.word_keeping.specs.Keeping.{set_as}
 use Rattle.bind_tests.specs.Stocked.{IsReady}
 
 -- ---- places

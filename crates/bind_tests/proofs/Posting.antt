@@ -21,8 +21,8 @@ use Rattle.guest_rule.specs.Lemmas.Put.{put_each}
 use Rattle.slot_bind.specs.Grants.{MayPost, asked_view, grant_of, posted, row_posted}
 use Rattle.slot_bind.specs.declared.slot.Asked.{Asked}
 use Rattle.slot_bind.specs.declared.slot.Asked.TheVariants.{Open, Won as SaysWon, Lost as SaysLost}
-use Rattle.word_memory.specs.Making.{new_harts}
-use Rattle.word_steps.specs.Keeping.{counted}
+use Rattle.word_seats.specs.Making.{new_harts}
+use Rattle.word_steps.specs.Knowing.{counted}
 use Rattle.bind_tests.specs.Stocked.{HasAsked, HasPosted, IsFor, IsNew, IsStocked}
 use Rattle.bind_tests.proofs.Places.{first_place, low_place, second_place, slot_place}
 

@@ -10,8 +10,8 @@ use Rattle.guest_rule.specs.Allowed.{IsSlot}
 use Rattle.guest_rule.specs.Layout.{IsDoubleword, place_of}
 use Rattle.guest_rule.specs.Views.{kept_at, row_of, unmapped}
 use Rattle.guest_rule.specs.Lemmas.Heeding.{kept_else, kept_here}
-use Rattle.word_memory.specs.Making.{MayRetire}
-use Rattle.word_steps.specs.Keeping.{retired}
+use Rattle.word_memory.specs.Roles.{MayRetire}
+use Rattle.word_keeping.specs.Keeping.{retired}
 use Rattle.bind_tests.specs.Stocked.{IsStocked, IsUnmapped, IsUnslotted}
 use Rattle.bind_tests.proofs.Places.{first_place, lazy_place, low_place, second_place, slot_place}
 

@@ -12,7 +12,7 @@ use slot_bind::{Asked, Bound, look};
 use std::alloc::{AllocError, Global};
 use std::marker::Brand;
 use std::test::Fail;
-use word_memory::{Fresh, HartSeat, KeeperSeat, Memory, Naming, Seats, TableBus, name_memory};
+use word_memory::{Fresh, HartSeat, KeeperSeat, Memory, Naming, TableBus};
 
 /// What two harts found that resolve one slot, and what the keeper found then.
 #[derive(Clone, Copy, PartialEq, Eq)]

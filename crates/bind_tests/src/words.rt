@@ -4,15 +4,15 @@ ghost use Rattle.std.specs.Prelude.{◌≡◌, ◌≢◌, ℕ, None, IfOk, IfSom
 ghost use Rattle.ld_base.specs.declared.linking.Role.TheVariants.{None as NoRole, Rw};
 ghost use Rattle.guest_rule.specs.Layout.{place_of};
 ghost use Rattle.guest_rule.specs.Views.{IsLong, kept_at, row_of};
-ghost use Rattle.word_memory.specs.Making.{IsMade, MayRetire, MaySet};
-ghost use Rattle.word_steps.specs.Keeping.{retired, set_as};
+ghost use Rattle.word_memory.specs.Roles.{MayRetire, MaySet};
+ghost use Rattle.word_seats.specs.Making.{IsMade};
+ghost use Rattle.word_keeping.specs.Keeping.{retired, set_as};
 ghost use Rattle.bind_tests.specs.Stocked.{IsNew, IsReady, IsStocked, IsUnmapped, IsUnslotted};
 
 use ld_base::Role;
 use std::alloc::{AllocError, Global};
-use word_memory::{
-    Fresh, HartSeat, KeeperSeat, Memory, Naming, Seats, name_memory, retire, set_word,
-};
+use word_memory::{Fresh, HartSeat, KeeperSeat, Memory, Naming, retire, set_word};
+use word_seats::{Seats, name_memory};
 
 /// A slot of libo.so, and the word that stands in it until it is bound.
 pub const SLOT: u64 = 0x3_7010;

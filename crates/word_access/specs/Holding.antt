@@ -12,7 +12,7 @@ use Rattle.guest_rule.specs.declared.kind.StoreAsk.TheVariants.{Write, Amo, Cond
 use Rattle.guest_rule.specs.declared.view.HartView.{HartView}
 use Rattle.guest_rule.specs.declared.view.TrailItem.TheVariants.{Call}
 use Rattle.guest_rule.specs.Layout.{role_in, lock_bit}
-use Rattle.word_steps.specs.Keeping.{IsShown}
+use Rattle.word_steps.specs.Showing.{IsShown}
 use Rattle.guest_rule.specs.HartSteps.{ask_is_fresh, ask_place, entered, failed, is_fresh, load_refused, loaded, permits, refused, stored, store_place, store_refused, with_access}
 
 -- only a conditional store may come too late

@@ -7,10 +7,11 @@ ghost use Rattle.guest_rule.specs.KeeperSteps.{KeeperLearns, KeeperLeaves, Keepe
 ghost use Rattle.guest_rule.specs.Layout.{place_of, table_words};
 ghost use Rattle.guest_rule.specs.Operations.{load, store};
 ghost use Rattle.guest_rule.specs.Views.{BeginsWith, IsLong, first_hart, kept_at, known_of, row_of};
-ghost use Rattle.word_steps.specs.Keeping.{IsShown};
+ghost use Rattle.word_steps.specs.Knowing.{counted, with_joined};
+ghost use Rattle.word_steps.specs.Showing.{IsShown};
 ghost use Rattle.word_steps.specs.Views.{IsResting};
-ghost use Rattle.word_memory.specs.Making.{MayRetire, MaySet};
-ghost use Rattle.word_steps.specs.Keeping.{counted, retired, set_as, was_shown, with_joined};
+ghost use Rattle.word_keeping.specs.Keeping.{retired, set_as, was_shown};
+ghost use Rattle.word_memory.specs.Roles.{MayRetire, MaySet};
 
 use crate::HartSeat;
 use guest_rule::KeeperKind;
@@ -57,9 +58,14 @@ pub fn set_word<J: Naming>(
     ensures writable { IfErr result (λ shown. (kept_at keeper.old (place_of address)).role ≡ Rw) }
     ensures long { IsLong keeper.old }
 {
-    keeper
-        .desk
-        .set(memory, place_at(address), value, role, lazy)
+    word_keeping::set(
+        memory,
+        &mut keeper.desk,
+        place_at(address),
+        value,
+        role,
+        lazy,
+    )
 }
 
 /// Takes a doubleword's role away.
@@ -79,7 +85,7 @@ pub fn retire<J: Naming>(
     ensures shown { IfErr result IsShown }
     ensures writable { IfErr result (λ shown. (kept_at keeper.old (place_of address)).role ≡ Rw) }
 {
-    keeper.desk.retire(memory, place_at(address))
+    word_keeping::retire(memory, &mut keeper.desk, place_at(address))
 }
 
 /// Counts an event.
@@ -106,7 +112,7 @@ pub fn tell<J: Naming>(memory: &Memory<J>, keeper: &mut KeeperSeat<J>, seat: &mu
     ensures keeper { keeper.new ≡ keeper.old }
     ensures issued { known_of seat.old.lane ≡ (row_of keeper.old seat.old.number).issued }
 {
-    keeper.desk.tell(memory, &mut seat.hand);
+    word_keeping::tell(memory, &mut keeper.desk, &mut seat.hand);
 }
 
 /// Sets the generation of the TLS modules.
@@ -124,7 +130,7 @@ pub fn set_generation<J: Naming>(memory: &Memory<J>, keeper: &mut KeeperSeat<J>,
 
 impl<J: Naming> KeeperSeat<J> {
     /// The first seat of a memory.
-    pub(crate) fn new(desk: Desk<J>) -> Self
+    pub fn new(desk: Desk<J>) -> Self
         requires { IsResting desk }
         ensures { result ≡ desk }
     {
@@ -132,7 +138,7 @@ impl<J: Naming> KeeperSeat<J> {
     }
 
     /// The seat of the next hart, which has this number.
-    pub(crate) fn make_hart(&mut self, memory: &Memory<J>, number: u64) -> HartSeat<J>
+    pub fn make_hart(&mut self, memory: &Memory<J>, number: u64) -> HartSeat<J>
         requires { (number ≡ self.old.harts) × (number < 16) }
         ensures keeper { self.new ≡ record self.old { harts = self.old.harts + 1 } }
         ensures hart { result ≡ first_hart number }

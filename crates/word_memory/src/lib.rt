@@ -2,11 +2,12 @@
 //!
 //! [`Memory`] is a table of atomic words under the rule of `guest_rule`: of each doubleword its value
 //! and its control word, the rows between the linker and the harts, the count and the generation.
-//! Whoever steps on it has a seat: a [`HartSeat`] for each hart, and one for the linker's keeper. Each
-//! step is one of the kinds of `guest_rule` (`word_steps`).
+//! Whoever steps on it has a seat: a [`HartSeat`] for each hart, and one for the linker's keeper
+//! ([`KeeperSeat`]); `word_seats` makes them. Each step is one of the kinds of `guest_rule`
+//! (`word_steps`), by the accesses of `word_access` and the changes of `word_keeping`.
 //!
-//! [`TableBus`] is that memory as a hart's bus, by the accesses of `word_access`. It appends each call to
-//! the trail in the seat's view at the step that found the answer or made the store.
+//! [`TableBus`] is that memory as a hart's bus. It appends each call to the trail in the seat's view at
+//! the step that found the answer or made the store.
 //!
 //! No call of a bus takes memory or waits: a doubleword that another seat has locked, or that changed
 //! under the call, is answered by `Again`.
@@ -14,11 +15,9 @@
 
 mod bus;
 mod keeper;
-mod making;
 mod seat;
 
 pub use bus::TableBus;
 pub use keeper::{KeeperSeat, count_up, join_hart, retire, set_generation, set_word, tell};
-pub use making::{HartSeats, Seats, name_memory};
 pub use seat::{HartSeat, generation};
 pub use word_steps::{Fresh, Memory, Naming, place_at, row_word, state_word, value_word};

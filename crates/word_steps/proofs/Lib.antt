@@ -1,5 +1,4 @@
 pub mod Hands
 pub mod Desks
-pub mod Held
 pub mod Told
 pub mod Firsts

@@ -1,2 +1,3 @@
 pub mod Views
-pub mod Keeping
+pub mod Knowing
+pub mod Showing

@@ -7,7 +7,7 @@ ghost use Rattle.guest_rule.specs.KeeperSteps.{KeeperLearns, KeeperReady, heedin
 ghost use Rattle.guest_rule.specs.declared.view.View.TheVariants.{Keeper};
 ghost use Rattle.guest_rule.specs.Joining.{MayTake, note_of, takes_in};
 ghost use Rattle.guest_rule.specs.Views.{IsLong, first_hart};
-ghost use Rattle.word_steps.specs.Keeping.{counted, with_joined};
+ghost use Rattle.word_steps.specs.Knowing.{counted, with_joined};
 ghost use Rattle.word_steps.specs.Views.{keeper_of};
 
 use crate::hand::Hand;

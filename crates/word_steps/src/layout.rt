@@ -14,7 +14,7 @@ pub const FIRST_ADDRESS: u64 = 0x10000;
 pub const DOUBLEWORDS: u64 = 1 << 20;
 
 /// The word that nothing changes.
-pub(crate) const QUIET: usize = 0;
+pub const QUIET: usize = 0;
 
 /// The word with the generation of the modules with thread-local storage.
 pub const GENERATION: usize = 1;
@@ -114,7 +114,7 @@ pub fn role_of(control: u64) -> Role
 }
 
 /// A role as control words have it.
-pub(crate) fn code_of(role: Role) -> u64
+pub fn code_of(role: Role) -> u64
     ensures code { result ≡ role_code role }
     ensures low { result < 5 }
 {

@@ -5,21 +5,20 @@
 //! `guest_rule`: the four functions of the module `steps` are the only ones that touch the table, and
 //! each asks that its word and its operation are those of the kind.
 //!
-//! `word_memory` puts harts' accesses and the keeper's calls together of these steps. The keeper's
-//! changes of a doubleword and what it tells a hart, each a few steps, stand here.
+//! `word_access` puts a hart's accesses together of these steps, and `word_keeping` the keeper's changes
+//! of a doubleword.
 #![tactic(auto)]
 
 mod desk;
 mod hand;
-mod keeping;
 mod layout;
 mod memory;
-mod telling;
+mod notes;
 
 pub use desk::Desk;
 pub use hand::Hand;
 pub use layout::{
-    COUNT, DOUBLEWORDS, FIRST_ADDRESS, GENERATION, LOCK, control_word, is_locked, place_at,
-    role_of, row_word, state_word, value_word, version_of,
+    COUNT, DOUBLEWORDS, FIRST_ADDRESS, GENERATION, LOCK, QUIET, code_of, control_word, is_locked,
+    place_at, role_of, row_word, state_word, value_word, version_of,
 };
 pub use memory::{Fresh, Memory, Naming};

@@ -9,8 +9,9 @@ use Rattle.guest_rule.specs.declared.view.KeeperView.{KeeperView}
 use Rattle.guest_rule.specs.declared.view.Kept.{Kept}
 use Rattle.guest_rule.specs.Layout.{doublewords, first_address, IsDoubleword, place_of}
 use Rattle.guest_rule.specs.Views.{IsLong, kept_at, unmapped}
-use Rattle.word_memory.specs.Making.{IsMade, MaySet, in_linker_page, linker_page, linker_word}
-use Rattle.word_steps.specs.Keeping.{set_as, was_shown}
+use Rattle.word_memory.specs.Roles.{MaySet}
+use Rattle.word_seats.specs.Making.{IsMade, in_linker_page, linker_page, linker_word}
+use Rattle.word_keeping.specs.Keeping.{set_as, was_shown}
 use Rattle.guest_rule.specs.Lemmas.Heeding.{kept_else}
 use Rattle.word_tests.specs.Unset.{AreUnset}
 

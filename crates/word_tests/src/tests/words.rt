@@ -2,14 +2,15 @@
 
 ghost use Rattle.std.specs.Prelude.{◌≡◌, ◌≢◌, ◌<◌, ◌+◌};
 ghost use Rattle.ld_base.specs.declared.linking.Role.TheVariants.{None as NoRole, Slot as SlotRole};
-ghost use Rattle.word_memory.specs.Making.{IsMade};
+ghost use Rattle.word_seats.specs.Making.{IsMade};
 ghost use Rattle.word_tests.specs.Unset.{AreUnset};
 
 use super::plain::Plain;
 use ld_base::Role;
 use rv_hart::Doubleword;
 use std::alloc::{AllocError, Global};
-use word_memory::{Fresh, HartSeat, KeeperSeat, Memory, Naming, Seats, name_memory, set_word};
+use word_memory::{Fresh, HartSeat, KeeperSeat, Memory, Naming, set_word};
+use word_seats::{Seats, name_memory};
 
 /// Code, as GNU as gives it: addi x1, x0, 5; sub x6, x6, x28; amoadd.w x10, x11, (x12); lr.w x5, (x12);
 /// sc.w x7, x11, (x12); lr.d x13; sc.d x14, x1; sc.d x15, x1; amoswap.d x16, x11; amoor.w x17, x1;

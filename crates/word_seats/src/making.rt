@@ -2,12 +2,11 @@
 
 ghost use Rattle.std.specs.Prelude.{◌≡◌, ◌≤◌, ◌<◌, ◌+◌, IfOk, OnOk};
 ghost use Rattle.guest_rule.specs.Start.{IsFirst};
-ghost use Rattle.word_memory.specs.Making.{IsMade, new_harts};
+ghost use Rattle.word_seats.specs.Making.{IsMade, new_harts};
 
-use crate::{HartSeat, KeeperSeat, set_word};
 use ld_base::{Role, Sequence};
 use std::alloc::{AllocError, Global};
-use word_steps::{Fresh, Memory, Naming};
+use word_memory::{Fresh, HartSeat, KeeperSeat, Memory, Naming, set_word};
 
 /// The linker's own page: its address, how many doublewords a page has, and two ebreaks.
 const LINKER_PAGE: u64 = 0x80_f000;

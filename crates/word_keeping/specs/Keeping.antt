@@ -1,15 +1,12 @@
--- What the keeper's calls leave in its view, and what an Again shows.
-use Rattle.std.specs.Prelude.{◌≡◌, ◌≢◌, ◌⊎◌, ℕ, [], ◌∷◌, ◌++◌, length, None, Some}
+-- What the keeper's changes of a doubleword leave in its view.
+use Rattle.std.specs.Prelude.{ℕ, [], ◌∷◌, ◌++◌, length, None, Some}
 use Rattle.ld_base.specs.declared.fault.Shown.{Shown}
-use Rattle.ld_base.specs.declared.fault.Shown.TheVariants.{Locked, Initialising, Closing, OpenGrant}
+use Rattle.ld_base.specs.declared.fault.Shown.TheVariants.{Locked}
 use Rattle.ld_base.specs.declared.linking.Role.{Role}
 use Rattle.ld_base.specs.declared.linking.Role.TheVariants.{None as NoRole, Slot as SlotRole}
-use Rattle.link_event.specs.declared.event.Event.{Event}
 use Rattle.guest_rule.specs.declared.kind.KeeperKind.{KeeperKind}
 use Rattle.guest_rule.specs.declared.kind.KeeperKind.TheVariants as kinds
-use Rattle.guest_rule.specs.declared.view.HartView.{HartView}
 use Rattle.guest_rule.specs.declared.view.KeeperView.{KeeperView}
-use Rattle.guest_rule.specs.Layout.{lock_bit}
 use Rattle.guest_rule.specs.Views.{kept_at}
 use Rattle.guest_rule.specs.KeeperSteps.{accessing, with_kept}
 
@@ -38,18 +35,3 @@ retired d k = with_kept d (record (kept_at k d) { role = NoRole }) k
 abbrev pub retiring : ℕ → Role → KeeperKind
 retiring d SlotRole = kinds.RetireSlot d
 retiring d old = kinds.Retire d old
-
--- an event more
-abbrev pub counted : Event → KeeperView → KeeperView
-counted e k = record k { events = k.events ++ e ∷ [] }
-
--- a hart whose seat is joined
-abbrev pub with_joined : HartView → KeeperView → KeeperView
-with_joined h k = record k { joined = k.joined ++ h ∷ [] }
-
--- what an Again shows: a control word with another seat's lock, or two control words that differ
-abbrev pub IsShown : Shown → Type 0
-IsShown (Locked a b) = ((a ≡ b) × (lock_bit a ≡ 1)) ⊎ (a ≢ b)
-IsShown (Initialising serial) = ⊥
-IsShown (Closing serial) = ⊥
-IsShown (OpenGrant g) = ⊥

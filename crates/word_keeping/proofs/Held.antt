@@ -17,7 +17,7 @@ use Rattle.guest_rule.specs.KeeperSteps.{KeeperLearns, KeeperReady, Unposted, ac
 use Rattle.guest_rule.specs.Lemmas.Heeding.{heeds, kept_else, kept_here}
 use Rattle.guest_rule.specs.Lemmas.Unlocking.{role_is}
 use Rattle.word_steps.specs.Views.{IsResting}
-use Rattle.word_steps.specs.Keeping.{control_found, has_locked, retired, retiring, set_as, was_shown}
+use Rattle.word_keeping.specs.Keeping.{control_found, has_locked, retired, retiring, set_as, was_shown}
 
 set_twice : {A : Type 0} (l : List A) (i : ℕ) (a b : A) → set (set l i a) i b ≡ set l i b
 set_twice [] i a b = refl

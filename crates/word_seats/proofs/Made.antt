@@ -10,8 +10,9 @@ use Rattle.guest_rule.specs.declared.view.Kept.{Kept}
 use Rattle.guest_rule.specs.Layout.{doublewords, place_of}
 use Rattle.guest_rule.specs.Views.{IsLong, first_hart, kept_at, unmapped}
 use Rattle.guest_rule.specs.Start.{IsFirst}
-use Rattle.word_memory.specs.Making.{IsMade, MaySet, in_linker_page, linker_page, linker_word, new_harts}
-use Rattle.word_steps.specs.Keeping.{set_as}
+use Rattle.word_memory.specs.Roles.{MaySet}
+use Rattle.word_seats.specs.Making.{IsMade, in_linker_page, linker_page, linker_word, new_harts}
+use Rattle.word_keeping.specs.Keeping.{set_as}
 use Rattle.guest_rule.specs.Lemmas.Heeding.{kept_else, kept_here}
 
 pub first_made : (k : KeeperView) → IsFirst k → IsMade k 0 0
@@ -22,6 +23,7 @@ first_made k f = record {
   harts_are = f.no_harts;
   no_modules = f.no_modules;
   none_joined = f.none_joined;
+  none_shown = f.none_shown;
 }
   where
     nothing_in : (d : ℕ) → in_linker_page 0 d ≡ false
@@ -60,6 +62,7 @@ page_more k k' i address low is made inside now = subst (λ k. IsMade k (i + 1) 
   harts_are = made.harts_are;
   no_modules = made.no_modules;
   none_joined = made.none_joined;
+  none_shown = made.none_shown;
 })
   where
     x : Kept
@@ -90,6 +93,7 @@ hart_more k k' n made now = subst (λ k. IsMade k 512 (n + 1)) (sym now) (record
   harts_are = ap (λ m. m + 1) made.harts_are;
   no_modules = made.no_modules;
   none_joined = made.none_joined;
+  none_shown = made.none_shown;
 })
 
 pub new_more : (n : ℕ) → new_harts (n + 1) ≡ new_harts n ++ first_hart n ∷ []

@@ -1,6 +1,6 @@
 use Rattle.std.proofs.Common.{refl}
-use Rattle.word_memory.proofs.Made.{page_done, page_set}
-use Rattle.word_memory.proofs.making.make_linker_word.Goals as goal
+use Rattle.word_seats.proofs.Made.{page_done, page_set}
+use Rattle.word_seats.proofs.making.make_linker_word.Goals as goal
 
 pub set_word-requires : goal.set_word-requires
 set_word-requires g c = page_set c.args.keeper.now c.args.index _ c.requires.low refl c.requires.made
