@@ -26,6 +26,10 @@ begins h h1 h2 m n1 n2 idle e1 e2 = e ∙ ap (λ n. begun n h) (sym (ap (λ (h :
 pub arrives : (h h' : HartView) (m n : ℕ) → IsIdle h → h' ≡ hart_after (kinds.Arrive m) h n → h' ≡ found_state n h
 arrives h h' m n idle e = e ∙ ap (λ h. found_state n h) (idle_heeded h idle)
 
+-- a row that the hart found its own is found so again
+pub arrived_again : (h : HartView) (m n : ℕ) → HartLearns (kinds.Arrive m) h n → (o : Offer) → h.lane.offer ≡ Some o → n ≡ o.mark
+arrived_again h m n learns o has = (learns.1 o has).0
+
 -- ---- a row is read
 
 -- a hart that has a row calls

@@ -1,8 +1,9 @@
 //! A hart's side of a call.
 
-ghost use Rattle.std.specs.Prelude.{◌≡◌, ◌≢◌, ◌⊎◌, ◌≤◌, ℕ, true, false, None, Some, length};
+ghost use Rattle.std.specs.Prelude.{◌≡◌, ◌≢◌, ◌⊎◌, ◌≤◌, ℕ, true, false, Some, length};
 ghost use Rattle.guest_rule.specs.HartSteps.{Awaits, IsMark};
 ghost use Rattle.guest_rule.specs.Views.{offered, with_offered};
+ghost use Rattle.guest_rule.specs.declared.view.Offer.{Offer};
 ghost use Rattle.slot_bind.specs.Rows.{HasRow, IsEntryOf, IsRowOf, begun, found_state, full_offer, offer_of, with_offer, with_taken};
 
 use guest_rule::{Entry, Grant, HartKind, RowWord};
@@ -22,12 +23,13 @@ pub fn begin_call<J: Naming>(memory: &Memory<J>, seat: &mut HartSeat<J>)
 }
 
 /// The state of the hart's row. Below 8 it is the mark of an entry: 1, 2, 3 or 6, and the row is the
-/// hart's own; else the row awaits an answer: 8, 12 or 13.
-#[tactic(auto, using(crate::proofs::Harts::arrives))]
+/// hart's own; else the row awaits an answer: 8, 12 or 13. A row that was found its own has its mark still.
+#[tactic(auto, using(crate::proofs::Harts::arrives, crate::proofs::Harts::arrived_again))]
 pub fn arrived<J: Naming>(memory: &Memory<J>, seat: &mut HartSeat<J>) -> u64
-    requires { (seat.old.lane.calling ≡ true) × (seat.old.lane.offer ≡ None) }
+    requires { seat.old.lane.calling ≡ true }
     ensures found { seat.new ≡ found_state result seat.old }
     ensures mark { Awaits result ⊎ IsMark result }
+    ensures again { (o : Offer) → seat.old.lane.offer ≡ Some o → result ≡ o.mark }
 {
     let number = seat.number();
     seat.load_word(memory, state_word(number), HartKind::Arrive(number))

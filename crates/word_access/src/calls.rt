@@ -1,8 +1,4 @@
 //! The calls of a bus, by a hart's hand between two accesses.
-//!
-//! Addresses and sizes are in bytes; a value is a number of so many bytes. Each answers `Misaligned`
-//! where the address is no multiple of the size, the role `None` where it isn't one of guest memory, the
-//! role found where that permits no such access, and `Again` where another seat was in the way.
 
 ghost use Rattle.std.specs.Prelude.{◌≡◌, ◌<◌, ◌*◌, ◌^◌, IfOk};
 ghost use Rattle.rv_isa.specs.Encoding.{IsAtomicSize};
@@ -21,7 +17,7 @@ use word_steps::{Hand, Memory, Naming, version_of};
 ///
 /// # Errors
 ///
-/// As the module says.
+/// As the crate says.
 pub fn fetch<J: Naming>(
     memory: &Memory<J>,
     hand: &mut Hand<J>,
@@ -40,7 +36,7 @@ pub fn fetch<J: Naming>(
 ///
 /// # Errors
 ///
-/// As the module says.
+/// As the crate says.
 pub fn read<J: Naming>(
     memory: &Memory<J>,
     hand: &mut Hand<J>,
@@ -62,7 +58,7 @@ pub fn read<J: Naming>(
 ///
 /// # Errors
 ///
-/// As the module says.
+/// As the crate says.
 pub fn reserve<J: Naming>(
     memory: &Memory<J>,
     hand: &mut Hand<J>,
@@ -84,7 +80,7 @@ pub fn reserve<J: Naming>(
 ///
 /// # Errors
 ///
-/// As the module says. Nothing is stored then.
+/// As the crate says. Nothing is stored then.
 pub fn write<J: Naming>(
     memory: &Memory<J>,
     hand: &mut Hand<J>,
@@ -107,7 +103,7 @@ pub fn write<J: Naming>(
 ///
 /// # Errors
 ///
-/// As the module says. Nothing is stored then.
+/// As the crate says. Nothing is stored then.
 pub fn amo<J: Naming>(
     memory: &Memory<J>,
     hand: &mut Hand<J>,
@@ -135,7 +131,7 @@ pub fn amo<J: Naming>(
 ///
 /// # Errors
 ///
-/// As the module says. Nothing is stored then.
+/// As the crate says. Nothing is stored then.
 pub fn conditional<J: Naming>(
     memory: &Memory<J>,
     hand: &mut Hand<J>,

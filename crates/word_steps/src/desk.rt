@@ -97,11 +97,11 @@ impl<J: Naming> Desk<J> {
     }
 
     /// Counts an event.
-    pub fn count(&mut self, memory: &Memory<J>, event: &Event) -> u64
+    pub fn count(&mut self, memory: &Memory<J>, event: &Event)
         requires { length self.old.events < 18446744073709551615 }
         ensures { self.new ≡ heeding (counted event.now self.old) }
     {
-        self.add_word(memory, COUNT, 1, KeeperKind::Count(Snapshot::of(event)))
+        self.add_word(memory, COUNT, 1, KeeperKind::Count(Snapshot::of(event)));
     }
 
     /// The first seat of a memory.
