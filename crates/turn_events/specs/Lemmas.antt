@@ -1,3 +1,5 @@
 -- Lemmas on this crate's definitions that proofs of the crates above cite, too. They define nothing that a contract means.
+pub mod Dues
 pub mod Frames
+pub mod Kinds
 pub mod Turning

@@ -1,5 +1,5 @@
 -- What each turn makes of its hart's frames, by the kinds of turns.
-use Rattle.std.proofs.Common.{◌≡◌, ◌⊎◌, inl, inr, ℕ, ◌+◌, ◌*◌, List, [], ◌∷◌, ◌++◌, map, Option, Some, None, Result, Ok, Err, refl, sym, ap, subst, ◌∙◌}
+use Rattle.std.proofs.Common.{◌≡◌, ◌⊎◌, inl, inr, ℕ, List, [], ◌∷◌, ◌++◌, drop, map, Option, Some, None, refl, sym, ap, subst, ◌∙◌}
 use Rattle.ld_base.specs.declared.fault.DlFault.{DlFault}
 use Rattle.ld_base.specs.declared.linking.Loaded.{Loaded}
 use Rattle.link_event.specs.declared.event.CloseAnswer.TheVariants as closings
@@ -9,14 +9,7 @@ use Rattle.link_event.specs.declared.event.OpenAnswer.TheVariants as openings
 use Rattle.link_event.specs.declared.event.OpenAsk.{OpenAsk}
 use Rattle.link_event.specs.declared.event.Range.{Range}
 use Rattle.link_event.specs.declared.event.SymAsk.{SymAsk}
-use Rattle.link_event.specs.declared.hart_end.HartEnd.{HartEnd}
-use Rattle.rv_hart.specs.declared.bus.BusFault.{BusFault}
-use Rattle.rv_hart.specs.declared.bus.BusFault.TheVariants.{Role as RoleFault, Misaligned, Again}
-use Rattle.rv_hart.specs.declared.bus.Item.{Item}
-use Rattle.rv_hart.specs.declared.bus.Item.TheVariants.{Write}
-use Rattle.rv_hart.specs.declared.stepping.Stop.{Stop}
-use Rattle.rv_hart.specs.declared.stepping.Stop.TheVariants as stop
-use Rattle.rv_hart.specs.Trail.{Place, Ready, Accessing, Stopped}
+use Rattle.link_event.specs.declared.handed.Function.{Function}
 use Rattle.link_history.specs.After.{after}
 use Rattle.link_history.specs.Objects.{serial_of}
 use Rattle.link_history.specs.Setting.{Setting}
@@ -25,12 +18,31 @@ use Rattle.link_service.specs.Call.{Call, resolves, opens, looks_up, closes, unm
 use Rattle.link_service.specs.Functions.{AreConstructors, AreDestructors, left, passed}
 use Rattle.link_service.specs.Gives.{Answers, Gives, Serves, ending}
 use Rattle.link_service.specs.Served.{answer_text}
-use Rattle.hart_moves.specs.Copying.{Copy, text_words}
-use Rattle.hart_moves.specs.Due.{Due, Return, by_phase, by_resolving, due, within_fuel}
-use Rattle.hart_moves.specs.Harts.{Frame, HartState, Purpose, Resolving}
-use Rattle.hart_moves.specs.Moves.{Did, events_of, spent, freed, Ends, Goes, Traps, Trap, trap_of, Refuses, Stops, Comes, Unread, CopiesBy, copied_item, StoresBy, stored_to, passing, Takes, TellsOf, telling, MovesAs, Moves}
-use Rattle.turn_frames.specs.Runs.{AllPlain, AreFrames, Runs, TurnsRun}
-use Rattle.turn_frames.specs.Lemmas.Dues.{AskedFrom, IsFrom, runs_frames, within_from}
+use Rattle.hart_moves.specs.Copying.{text_words}
+use Rattle.hart_moves.specs.Due.{Return}
+use Rattle.hart_moves.specs.Harts.{Frame, HartState, Purpose}
+use Rattle.hart_moves.specs.Moves.{Did, Finalises, Finals, Takes, TellsOf, after_all, events_of, final_functions, freed, freed_by, own_fini, passing, runs, spent, telling, with_first}
+use Rattle.turn_events.specs.Lemmas.Dues.{AskedFrom, HasRun}
+use Rattle.turn_events.specs.Lemmas.Frames.{did_events, telling_frames}
+use Rattle.turn_events.specs.Lemmas.Kinds.{Kind, kind_of}
+use Rattle.turn_frames.specs.Leaves.{AreFrames, LeavesFrames, NoneTouchesFrames, TurnsLeaveFrames}
+
+-- ---- functions that are run
+
+first_frames : (purpose : Purpose) (object : ℕ) (addresses : List ℕ) (rest : List Function) (below : List Frame) (b : HartState)
+    → (with_first purpose object addresses rest below b).frames ≡ record { purpose = purpose; queue = record { object = object; addresses = drop 1 addresses } ∷ rest } ∷ below
+first_frames purpose object [] rest below b = refl
+first_frames purpose object (function ∷ more) rest below b = refl
+
+all_frames : (purpose : Purpose) (below : List Frame) (b : HartState) → AreFrames purpose [] below (after_all purpose below b).frames
+all_frames (Purpose.of_startup registers) below b = refl
+all_frames (Purpose.of_opening to root) below b = refl
+all_frames (Purpose.of_closing to set) below b = refl
+all_frames (Purpose.of_end code) below b = refl
+
+pub runs_frames : (purpose : Purpose) (functions : List Function) (below : List Frame) (b : HartState) → AreFrames purpose functions below (runs purpose functions below b).frames
+runs_frames purpose [] below b = all_frames purpose below b
+runs_frames purpose (f ∷ rest) below b = first_frames purpose f.object f.addresses rest below b
 
 -- ---- what a call appends
 
@@ -54,7 +66,7 @@ record IsClosing (h : ℕ) (call : Call) (given : List Event) (set : List ℕ) :
 
 -- other answers leave what is to be run
 record IsOther (call : Call) (given : List Event) : Type 0 where
-  pub plain : AllPlain given
+  pub touches_none : NoneTouchesFrames given
   pub not_unmaps : (set : List ℕ) → call ≡ unmaps set → ⊥
 
 abbrev ComesTo : ℕ → Call → List Event → Answer → Type 0
@@ -62,10 +74,10 @@ ComesTo h call given (returns value) = IsOther call given ⊎ ((set : List ℕ) 
 ComesTo h call given (loading root added) = IsLoading h call given root added
 ComesTo h call given (closing set) = IsClosing h call given set
 ComesTo h call given (refused fault) = IsOther call given
-ComesTo h call given (granted g) = AllPlain given
+ComesTo h call given (granted g) = NoneTouchesFrames given
 ComesTo h call given (told fault) = IsOther call given
-ComesTo h call given (again for) = AllPlain given
-ComesTo h call given (over reason) = AllPlain given
+ComesTo h call given (again for) = NoneTouchesFrames given
+ComesTo h call given (over reason) = NoneTouchesFrames given
 
 no_open : (ask : OpenAsk) (set : List ℕ) → opens ask ≡ unmaps set → ⊥
 no_open ask set e = let no : opens ask ≡ unmaps set = e in cc
@@ -87,30 +99,30 @@ no_locate number offset set e = let no : locates number offset ≡ unmaps set = 
 
 answer_comes : (h : ℕ) (call : Call) (e : Event) (answer : Answer) → Answers h call e answer → ComesTo h call (e ∷ ending h answer) answer
 answer_comes h call e answer (Answers.is_loaded ask id root first rest ranges) = record { ask = ask; id = id; first = first; rest = rest; ranges = ranges; asked = refl; are = refl; is = refl }
-answer_comes h call e answer (Answers.is_there ask id root ranges) = inl (record { plain = (refl, tt); not_unmaps = no_open ask })
-answer_comes h call e answer (Answers.is_absent ask) = inl (record { plain = (refl, tt); not_unmaps = no_open ask })
-answer_comes h call e answer (Answers.is_not_opened ask fault) = record { plain = (refl, tt); not_unmaps = no_open ask }
+answer_comes h call e answer (Answers.is_there ask id root ranges) = inl (record { touches_none = (refl, tt); not_unmaps = no_open ask })
+answer_comes h call e answer (Answers.is_absent ask) = inl (record { touches_none = (refl, tt); not_unmaps = no_open ask })
+answer_comes h call e answer (Answers.is_not_opened ask fault) = record { touches_none = (refl, tt); not_unmaps = no_open ask }
 answer_comes h call e answer (Answers.dies handle first rest) = record { handle = handle; first = first; rest = rest; asked = refl; are = refl; is = refl }
-answer_comes h call e answer (Answers.stays handle) = inl (record { plain = (refl, tt); not_unmaps = no_close handle })
-answer_comes h call e answer (Answers.is_not_closed handle fault) = record { plain = (refl, tt); not_unmaps = no_close handle }
+answer_comes h call e answer (Answers.stays handle) = inl (record { touches_none = (refl, tt); not_unmaps = no_close handle })
+answer_comes h call e answer (Answers.is_not_closed handle fault) = record { touches_none = (refl, tt); not_unmaps = no_close handle }
 answer_comes h call e answer (Answers.is_unmapped set) = inr (set, refl, refl)
 answer_comes h call e answer (Answers.is_granted owner eights slot number choice value is) = (refl, tt)
 answer_comes h call e answer (Answers.is_unresolved owner eights slot is) = (refl, (refl, tt))
 answer_comes h call e answer (Answers.is_not_code owner eights slot serial index is) = (refl, (refl, tt))
-answer_comes h call e answer (Answers.is_found ask serial index value) = inl (record { plain = (refl, tt); not_unmaps = no_look ask })
-answer_comes h call e answer (Answers.is_not_found ask fault) = record { plain = (refl, tt); not_unmaps = no_look ask }
-answer_comes h call e answer (Answers.is_told fault) = record { plain = (refl, tt); not_unmaps = no_fault }
-answer_comes h call e answer (Answers.is_written bytes) = inl (record { plain = (refl, tt); not_unmaps = no_write bytes })
+answer_comes h call e answer (Answers.is_found ask serial index value) = inl (record { touches_none = (refl, tt); not_unmaps = no_look ask })
+answer_comes h call e answer (Answers.is_not_found ask fault) = record { touches_none = (refl, tt); not_unmaps = no_look ask }
+answer_comes h call e answer (Answers.is_told fault) = record { touches_none = (refl, tt); not_unmaps = no_fault }
+answer_comes h call e answer (Answers.is_written bytes) = inl (record { touches_none = (refl, tt); not_unmaps = no_write bytes })
 
 given_comes : (w : Setting) (past : List Event) (h : ℕ) (call : Call) (given : List Event) (answer : Answer) → Gives w past h call given answer → ComesTo h call (given ++ ending h answer) answer
 given_comes w past h call given answer (Gives.by_event _ e _ answers may) = answer_comes h call e answer answers
 given_comes w past h call given answer (Gives.by_first_block ask e f value finds) = inl (record {
-  plain = subst (λ (x : Event). AllPlain (x ∷ f ∷ [])) (sym finds.gets) (subst (λ (x : Event). AllPlain (events.Tls h finds.serial finds.block ∷ x ∷ [])) (sym finds.finds) (refl, (refl, tt)));
+  touches_none = subst (λ (x : Event). NoneTouchesFrames (x ∷ f ∷ [])) (sym finds.gets) (subst (λ (x : Event). NoneTouchesFrames (events.Tls h finds.serial finds.block ∷ x ∷ [])) (sym finds.finds) (refl, (refl, tt)));
   not_unmaps = no_look ask;
 })
 given_comes w past h call given answer (Gives.in_new_block number offset block e gets) =
-    inl (record { plain = subst (λ (x : Event). AllPlain (x ∷ [])) (sym gets.is) (refl, tt); not_unmaps = no_locate number offset })
-given_comes w past h call given answer (Gives.in_block number offset block has) = inl (record { plain = tt; not_unmaps = no_locate number offset })
+    inl (record { touches_none = subst (λ (x : Event). NoneTouchesFrames (x ∷ [])) (sym gets.is) (refl, tt); not_unmaps = no_locate number offset })
+given_comes w past h call given answer (Gives.in_block number offset block has) = inl (record { touches_none = tt; not_unmaps = no_locate number offset })
 given_comes w past h call given answer (Gives.to_again _ for shows) = tt
 given_comes w past h call given answer (Gives.to_end _ reason ends) = (refl, tt)
 
@@ -133,76 +145,23 @@ to_same b (stops reason) to not_so from = from
 -- ---- a turn
 
 module _ (w : Setting) (past : List Event) (h : ℕ) (b : HartState) where
-  by_plain : (x : HartState) (added : List Event) (did : Did) (c : HartState) → x.frames ≡ b.frames → AllPlain added → events_of did ≡ added → c ≡ x → Runs past h b did c
-  by_plain x added did c same plain are leaves = Runs.stays (subst AllPlain (sym are) plain) (ap (λ (y : HartState). y.frames) leaves ∙ same)
+  by_touching_none : (x : HartState) (added : List Event) (did : Did) (c : HartState) → x.frames ≡ b.frames → NoneTouchesFrames added → events_of did ≡ added → c ≡ x → LeavesFrames w past h b did c
+  by_touching_none x added did c same none are leaves = LeavesFrames.stays (subst NoneTouchesFrames (sym are) none) (ap (λ (y : HartState). y.frames) leaves ∙ same)
 
-  goes : (x : HartState) (items : List Item) (did : Did) (c : HartState) → x.frames ≡ b.frames → Goes items x did c → Runs past h b did c
-  goes x items did c same y = by_plain (spent x) [] did c same tt (ap events_of y.is) y.leaves
+  by_telling : (text : ℕ) (to : Return) (fault : Option DlFault) (appended : List Event) (did : Did) (c : HartState) → to.frames ≡ b.frames → NoneTouchesFrames appended → TellsOf text b to fault appended did c → LeavesFrames w past h b did c
+  by_telling text to (Some fault) appended did c same none x =
+      by_touching_none (spent (telling text (text_words (answer_text fault)) (freed b))) appended did c (telling_frames text (text_words (answer_text fault)) (freed b)) none (ap events_of x.is) x.leaves
+  by_telling text to None appended did c same none x = by_touching_none _ appended did c same none (ap events_of x.is) x.leaves
 
-  stops_here : (x : HartState) (items : List Item) (reason : HartEnd) (did : Did) (c : HartState) → x.frames ≡ b.frames → Ends w past h x items reason did c → Runs past h b did c
-  stops_here x items reason did c same y = Runs.stays (subst AllPlain (sym (ap events_of y.is)) (refl, tt)) (ap (λ (z : HartState). z.frames) y.leaves ∙ same)
-
-  by_trap : (items : List Item) (trap : Trap) (did : Did) (c : HartState) → Traps w past h b items trap did c → Runs past h b did c
-  by_trap items (Trap.exits code) did c x = stops_here (spent b) items _ did c refl x
-  by_trap items (Trap.gives value) did c x = goes _ items did c refl x
-  by_trap items Trap.writes did c x = goes _ items did c refl x
-
-  by_refusal : (items : List Item) (address : ℕ) (fault : BusFault) (did : Did) (c : HartState) → Refuses w past h b items address fault did c → Runs past h b did c
-  by_refusal items address (RoleFault role) did c x = stops_here (spent b) items _ did c refl x
-  by_refusal items address Misaligned did c x = stops_here (spent b) items _ did c refl x
-  by_refusal items address (Again shown) did c x = goes b items did c refl x
-
-  by_stop : (items : List Item) (s : Stop) (did : Did) (c : HartState) → Stops w past h b items s did c → Runs past h b did c
-  by_stop items stop.Ecall did c x = by_trap items (trap_of b.registers) did c x
-  by_stop items stop.Break did c x = stops_here (spent b) items _ did c refl x
-  by_stop items (stop.Bad word) did c x = stops_here (spent b) items _ did c refl x
-  by_stop items (stop.Misaligned address) did c x = stops_here (spent b) items _ did c refl x
-  by_stop items (stop.Refused address fault) did c x = by_refusal items address fault did c x
-
-  by_place : (items : List Item) (place : Place) (did : Did) (c : HartState) → Comes w past h b items place did c → Runs past h b did c
-  by_place items (Ready r) did c x = goes _ items did c refl x
-  by_place items (Accessing r decoded) did c x = absurd x
-  by_place items (Stopped r s) did c x = by_stop items s did c x
-
-  by_unread : (items : List Item) (copy : Copy) (address : ℕ) (did : Did) (c : HartState) → Unread w past h b items copy address did c → Runs past h b did c
-  by_unread items (Copy.of_name n) address did c x = stops_here (spent b) items _ did c refl x
-  by_unread items (Copy.of_version name) address did c x = stops_here (spent b) items _ did c refl x
-  by_unread items Copy.of_pair address did c x = stops_here (spent b) items _ did c refl x
-  by_unread items (Copy.of_text count) address did c x = goes _ items did c refl x
-
-  by_copy : (items : List Item) (copy : Copy) (start : ℕ) (bytes : List ℕ) (answer : Result ℕ BusFault) (did : Did) (c : HartState) → CopiesBy w past h b items copy start bytes answer did c → Runs past h b did c
-  by_copy items copy start bytes (Ok word) did c x = goes _ items did c refl x
-  by_copy items copy start bytes (Err (RoleFault role)) did c x = by_unread items copy _ did c x
-  by_copy items copy start bytes (Err Misaligned) did c x = absurd x
-  by_copy items copy start bytes (Err (Again shown)) did c x = goes b items did c refl x
-
-  stored_frames : (text stored : ℕ) (more : List ℕ) → (stored_to text stored more b).frames ≡ b.frames
-  stored_frames text stored [] = refl
-  stored_frames text stored (word ∷ more) = refl
-
-  by_store : (items : List Item) (text stored : ℕ) (more : List ℕ) (answer : Result Unit BusFault) (did : Did) (c : HartState) → StoresBy w past h b items text stored more answer did c → Runs past h b did c
-  by_store items text stored more (Ok done) did c x = goes (stored_to text stored more b) items did c (stored_frames text stored more) x
-  by_store items text stored more (Err (RoleFault role)) did c x = stops_here (spent b) items _ did c refl x
-  by_store items text stored more (Err Misaligned) did c x = absurd x
-  by_store items text stored more (Err (Again shown)) did c x = goes b items did c refl x
-
-  telling_frames : (text : ℕ) (words : List ℕ) (x : HartState) → (telling text words x).frames ≡ x.frames
-  telling_frames text [] x = refl
-  telling_frames text (word ∷ more) x = refl
-
-  by_telling : (text : ℕ) (to : Return) (fault : Option DlFault) (appended : List Event) (did : Did) (c : HartState) → to.frames ≡ b.frames → AllPlain appended → TellsOf text b to fault appended did c → Runs past h b did c
-  by_telling text to (Some fault) appended did c same plain x =
-      by_plain (spent (telling text (text_words (answer_text fault)) (freed b))) appended did c (telling_frames text (text_words (answer_text fault)) (freed b)) plain (ap events_of x.is) x.leaves
-  by_telling text to None appended did c same plain x = by_plain _ appended did c same plain (ap events_of x.is) x.leaves
-
-  by_answer : (asked : Call) (to : Return) (answer : Answer) (appended : List Event) (did : Did) (c : HartState) → AskedFrom b asked to → ComesTo h asked appended answer → Takes w past h b asked to answer appended did c → Runs past h b did c
-  by_answer asked to (returns value) appended did c from (inl other) x = by_plain _ appended did c (to_same b asked to other.not_unmaps from) other.plain (ap events_of x.is) x.leaves
+  by_answer : (asked : Call) (to : Return) (answer : Answer) (appended : List Event) (did : Did) (c : HartState) → AskedFrom b asked to → ComesTo h asked appended answer → Takes w past h b asked to answer appended did c
+      → LeavesFrames w past h b did c
+  by_answer asked to (returns value) appended did c from (inl other) x = by_touching_none _ appended did c (to_same b asked to other.not_unmaps from) other.touches_none (ap events_of x.is) x.leaves
   by_answer asked to (returns value) appended did c from (inr (set, is, are)) x =
       let at = subst (λ (call : Call). AskedFrom b call to) is from in
-      Runs.unmaps at.0 set to.frames at.1 (ap events_of x.is ∙ are) (ap (λ (z : HartState). z.frames) x.leaves)
+      LeavesFrames.unmaps at.0 set to.frames at.1 (ap events_of x.is ∙ are) (ap (λ (z : HartState). z.frames) x.leaves)
   by_answer asked to (loading root added) appended did c from it x =
       let same : to.frames ≡ b.frames = to_same b asked to (λ set e. no_open it.ask set (sym it.asked ∙ e)) from in
-      Runs.loads to.to root it.id it.ask it.first it.rest it.ranges x.functions
+      LeavesFrames.loads to.to root it.id it.ask it.first it.rest it.ranges x.functions
       (subst (λ (es : List Event). AreConstructors (after (past ++ es)) (map serial_of (it.first ∷ it.rest)) x.functions) it.is (subst (λ (os : List Loaded). AreConstructors (after (past ++ appended)) (map serial_of os) x.functions) it.are x.are))
       (ap events_of x.passes.is ∙ ap (λ (es : List Event). es ++ map (passing (Purpose.of_opening to.to root) h) (passed x.functions)) it.is)
       (subst (λ (fs : List Frame). AreFrames (Purpose.of_opening to.to root) (left x.functions) fs c.frames) same
@@ -210,7 +169,7 @@ module _ (w : Setting) (past : List Event) (h : ℕ) (b : HartState) where
       (runs_frames (Purpose.of_opening to.to root) (left x.functions) to.frames (freed b))))
   by_answer asked to (closing set) appended did c from it x =
       let same : to.frames ≡ b.frames = to_same b asked to (λ other e. no_close it.handle other (sym it.asked ∙ e)) from in
-      Runs.dies to.to it.handle it.first it.rest x.functions
+      LeavesFrames.dies to.to it.handle it.first it.rest x.functions
       (subst (λ (es : List Event). AreDestructors (after (past ++ es)) (it.first ∷ it.rest) x.functions) it.is (subst (λ (os : List ℕ). AreDestructors (after (past ++ appended)) os x.functions) it.are x.are))
       (ap events_of x.passes.is ∙ ap (λ (es : List Event). es ++ map (passing (Purpose.of_closing to.to set) h) (passed x.functions)) it.is
       ∙ ap (λ (os : List ℕ). events.Close h it.handle (closings.Done (it.first ∷ it.rest)) ∷ map (passing (Purpose.of_closing to.to os) h) (passed x.functions)) it.are)
@@ -218,39 +177,32 @@ module _ (w : Setting) (past : List Event) (h : ℕ) (b : HartState) where
       (subst (λ (fs : List Frame). AreFrames (Purpose.of_closing to.to set) (left x.functions) fs c.frames) same
       (subst (λ (fs : List Frame). AreFrames (Purpose.of_closing to.to set) (left x.functions) to.frames fs) (sym (ap (λ (z : HartState). z.frames) x.passes.leaves))
       (runs_frames (Purpose.of_closing to.to set) (left x.functions) to.frames (freed b)))))
-  by_answer asked to (refused fault) appended did c from other x = by_plain _ appended did c (to_same b asked to other.not_unmaps from) other.plain (ap events_of x.is) x.leaves
-  by_answer asked to (granted g) appended did c from plain x = by_plain _ appended did c refl plain (ap events_of x.is) x.leaves
-  by_answer asked to (told fault) appended did c from other x = by_telling _ to fault appended did c (to_same b asked to other.not_unmaps from) other.plain x
-  by_answer asked to (again for) appended did c from plain x = by_plain _ [] did c refl tt (ap events_of x.is) x.leaves
-  by_answer asked to (over reason) appended did c from plain x = by_plain _ appended did c refl plain (ap events_of x.is) x.leaves
+  by_answer asked to (refused fault) appended did c from other x = by_touching_none _ appended did c (to_same b asked to other.not_unmaps from) other.touches_none (ap events_of x.is) x.leaves
+  by_answer asked to (granted g) appended did c from none x = by_touching_none _ appended did c refl none (ap events_of x.is) x.leaves
+  by_answer asked to (told fault) appended did c from other x = by_telling _ to fault appended did c (to_same b asked to other.not_unmaps from) other.touches_none x
+  by_answer asked to (again for) appended did c from none x = by_touching_none _ [] did c refl tt (ap events_of x.is) x.leaves
+  by_answer asked to (over reason) appended did c from none x = by_touching_none _ appended did c refl none (ap events_of x.is) x.leaves
 
-  by_due : (d : Due) (did : Did) (c : HartState) → IsFrom b d → MovesAs w past h b d did c → Runs past h b did c
-  by_due Due.nothing did c from x = absurd x
-  by_due (Due.exchange o) did c from x = by_plain _ [] did c refl tt (ap events_of x.is) x.leaves
-  by_due (Due.finish o found) did c from x = by_plain _ [] did c refl tt (ap events_of x.is) x.leaves
-  by_due Due.fuel_out did c from x = stops_here b [] _ did c refl x
-  by_due Due.instruction did c from x = by_place x.items x.place did c x.comes
-  by_due (Due.copy copy start bytes) did c from x = by_copy (copied_item start bytes x.answer ∷ []) copy start bytes x.answer did c x.comes
-  by_due (Due.serve asked to) did c from x = by_answer asked to x.answer x.appended did c from (serves_comes w past h asked x.appended x.answer x.serves) x.takes
-  by_due (Due.store text stored word more) did c from x = by_store (Write (text + 8 * stored) 8 word x.answer ∷ []) text stored more x.answer did c x.comes
-  by_due (Due.enter function frames) did c from x =
-      Runs.enters from.purpose from.function from.next from.rest from.below from.before from.same (ap events_of x.is) (ap (λ (z : HartState). z.frames) x.leaves ∙ from.after)
-  by_due (Due.complete purpose object rest below) did c from x =
-      Runs.completes purpose from.function rest below from.not_end from.before
+  by_finalising : (code object : ℕ) (rest : List Function) (below : List Frame) (did : Did) (c : HartState) → HasRun b.frames (Purpose.of_end code) object rest below → Finalises w past h b code object did c → LeavesFrames w past h b did c
+  by_finalising code object rest below did c from x =
+      LeavesFrames.finalises code from.function rest below x.events x.next from.before
+      (subst (λ (o : ℕ). Finals w h (past ++ own_fini (after past) h o) x.events x.next) (sym from.is) x.finals)
+      (ap events_of x.is ∙ did_events (own_fini (after past) h object ++ x.events) ∙ ap (λ (o : ℕ). own_fini (after past) h o ++ x.events) (sym from.is))
+      (subst (λ (fs : List Frame). AreFrames (Purpose.of_end code) (final_functions x.next) [] fs) (sym (ap (λ (z : HartState). z.frames) x.leaves))
+      (runs_frames (Purpose.of_end code) (final_functions x.next) [] (freed_by (own_fini (after past) h object ++ x.events) b)))
+
+  by_kind : (did : Did) (c : HartState) → Kind w past h b did c → LeavesFrames w past h b did c
+  by_kind did c (Kind.goes none frames runs_on) = LeavesFrames.stays (subst NoneTouchesFrames (sym none) tt) frames
+  by_kind did c (Kind.ends reason is frames ended) = LeavesFrames.stays (subst NoneTouchesFrames (sym is) (refl, tt)) frames
+  by_kind did c (Kind.calls asked to from x) = by_answer asked to x.answer x.appended did c from (serves_comes w past h asked x.appended x.answer x.serves) x.takes
+  by_kind did c (Kind.enters function frames from x) =
+      LeavesFrames.enters from.purpose from.function function from.more from.rest from.below from.before from.next (ap events_of x.is)
+      (ap (λ (z : HartState). z.registers.pc) x.leaves) (ap (λ (z : HartState). z.frames) x.leaves ∙ from.after)
+  by_kind did c (Kind.completes purpose object rest below not_end from x) =
+      LeavesFrames.completes purpose from.function rest below not_end from.before
       (ap events_of x.passes.is ∙ ap (λ (o : ℕ). passing purpose h o ∷ map (passing purpose h) (passed rest)) (sym from.is))
       (subst (λ (fs : List Frame). AreFrames purpose (left rest) below fs) (sym (ap (λ (z : HartState). z.frames) x.passes.leaves)) (runs_frames purpose (left rest) below (freed b)))
-  by_due (Due.finalise code object) did c from x = Runs.ends from
+  by_kind did c (Kind.finalises code object rest below from x) = by_finalising code object rest below did c from x
 
-  by_state : (e : Option HartEnd) (r : Resolving) (did : Did) (c : HartState) → MovesAs w past h b (elim e [ Some reason ↦ Due.nothing | None ↦ by_resolving (after past) b r ]) did c → Runs past h b did c
-  by_state (Some reason) r did c x = absurd x
-  by_state None Resolving.idle did c x = by_due (within_fuel b (by_phase (after past) b b.phase)) did c (within_from (after past) b) x
-  by_state None (Resolving.to_exchange o) did c x = by_due (Due.exchange o) did c tt x
-  by_state None (Resolving.to_finish o found) did c x = by_due (Due.finish o found) did c tt x
-  by_state None (Resolving.to_settle o found) did c x = by_due (within_fuel b (by_phase (after past) b b.phase)) did c (within_from (after past) b) x
-
-  runs_so : (did : Did) (c : HartState) → Moves w past h b did c → Runs past h b did c
-  unfolding due
-  runs_so did c moves = by_state b.«end» b.resolving did c moves
-
-pub turns_run : TurnsRun
-turns_run w past h b c did moves = runs_so w past h b did c moves
+pub turns_leave_frames : TurnsLeaveFrames
+turns_leave_frames w past h b c did moves = by_kind w past h b did c (kind_of w past h b did c moves)

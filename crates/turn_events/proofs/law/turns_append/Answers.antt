@@ -1,4 +1,4 @@
-use Rattle.turn_events.specs.Lemmas.Turning.{finals_away, turns_append}
+use Rattle.turn_events.specs.Lemmas.Turning.{finals_away, finals_stay, turns_append}
 use Rattle.turn_events.proofs.law.turns_append.Goals as goal
 
 pub returns-clause-events : goal.returns-clause-events
@@ -6,3 +6,6 @@ returns-clause-events c = turns_append
 
 pub returns-clause-no_finals : goal.returns-clause-no_finals
 returns-clause-no_finals c = finals_away
+
+pub returns-clause-finals : goal.returns-clause-finals
+returns-clause-finals c = finals_stay

@@ -1,5 +1,5 @@
 -- Which frames a due turn goes on with.
-use Rattle.std.proofs.Common.{◌≡◌, ℕ, Bool, true, false, cond, List, [], ◌∷◌, length, Option, Some, None, refl, ap, ◌==◌}
+use Rattle.std.proofs.Common.{◌≡◌, ℕ, Bool, true, false, cond, List, [], ◌∷◌, length, Option, Some, None, refl, ◌==◌}
 use Rattle.std.specs.Prelude.{nat_lt, ◌%◌}
 use Rattle.link_event.specs.declared.handed.Function.{Function}
 use Rattle.link_event.specs.declared.hart_end.HartEnd.TheVariants as ends
@@ -9,13 +9,9 @@ use Rattle.link_service.specs.Call as call
 use Rattle.hart_moves.specs.Copying.{Copy, number_in}
 use Rattle.hart_moves.specs.Due.{Due, Return, all_done, at_service, back, behind, by_frames, by_name, by_phase, by_queue, call_of, done, within_fuel, write_count}
 use Rattle.hart_moves.specs.Harts.{Frame, HartState, Naming, Phase, Purpose}
-use Rattle.hart_moves.specs.Moves.{after_all, runs, with_first}
 use Rattle.hart_moves.specs.Registers.{a0, a1, a2, ra}
 use Rattle.hart_moves.specs.Services.{Service, service_at}
-use Rattle.turn_events.specs.Appends.{has_finals, is_of_end}
-use Rattle.turn_frames.specs.Runs.{AreFrames}
-
--- ---- of a due turn
+use Rattle.turn_events.specs.Appends.{is_of_end}
 
 -- a call returns to the hart's frames, an unmapping to those behind its closing
 abbrev pub AskedFrom : HartState → Call → Return → Type 0
@@ -29,21 +25,22 @@ AskedFrom b (locates number offset) to = to.frames ≡ b.frames
 AskedFrom b (writes bytes) to = to.frames ≡ b.frames
 AskedFrom b (stops reason) to = to.frames ≡ b.frames
 
-pub record EntersFirst (old new : List Frame) : Type 0 where
+-- the next function of the first object is entered
+pub record EntersFirst (old : List Frame) (address : ℕ) (new : List Frame) : Type 0 where
   pub purpose : Purpose
   pub function : Function
-  pub next : Function
+  pub more : List ℕ
   pub rest : List Function
   pub below : List Frame
   pub before : old ≡ record { purpose = purpose; queue = function ∷ rest } ∷ below
-  pub same : next.object ≡ function.object
-  pub after : new ≡ record { purpose = purpose; queue = next ∷ rest } ∷ below
+  pub next : function.addresses ≡ address ∷ more
+  pub after : new ≡ record { purpose = purpose; queue = record function { addresses = more } ∷ rest } ∷ below
 
-pub record CompletesFirst (frames : List Frame) (purpose : Purpose) (object : ℕ) (rest : List Function) (below : List Frame) : Type 0 where
+-- the first object's functions have run
+pub record HasRun (frames : List Frame) (purpose : Purpose) (object : ℕ) (rest : List Function) (below : List Frame) : Type 0 where
   pub function : Function
   pub is : function.object ≡ object
   pub before : frames ≡ record { purpose = purpose; queue = function ∷ rest } ∷ below
-  pub not_end : is_of_end purpose ≡ false
 
 abbrev pub IsFrom : HartState → Due → Type 0
 IsFrom b Due.nothing = Unit {0}
@@ -54,9 +51,9 @@ IsFrom b Due.instruction = Unit {0}
 IsFrom b (Due.copy copy start bytes) = Unit {0}
 IsFrom b (Due.serve asked to) = AskedFrom b asked to
 IsFrom b (Due.store text stored word more) = Unit {0}
-IsFrom b (Due.enter function frames) = EntersFirst b.frames frames
-IsFrom b (Due.complete purpose object rest below) = CompletesFirst b.frames purpose object rest below
-IsFrom b (Due.finalise code object) = has_finals b.frames ≡ true
+IsFrom b (Due.enter function frames) = EntersFirst b.frames function frames
+IsFrom b (Due.complete purpose object rest below) = HasRun b.frames purpose object rest below × (is_of_end purpose ≡ false)
+IsFrom b (Due.finalise code object) = (rest : List Function) × (below : List Frame) × HasRun b.frames (Purpose.of_end code) object rest below
 
 either_from : (b : HartState) (t : Bool) (x y : Due) → IsFrom b x → IsFrom b y → IsFrom b (cond t x y)
 either_from b true x y one other = one
@@ -71,10 +68,10 @@ name_from s b Naming.dlsym = tt
 name_from s b Naming.dlvsym = tt
 
 done_from : (b : HartState) (purpose : Purpose) (f : Function) (rest : List Function) (below : List Frame) → b.frames ≡ record { purpose = purpose; queue = f ∷ rest } ∷ below → IsFrom b (done purpose f.object rest below)
-done_from b (Purpose.of_startup registers) f rest below e = record { function = f; is = refl; before = e; not_end = refl }
-done_from b (Purpose.of_opening to root) f rest below e = record { function = f; is = refl; before = e; not_end = refl }
-done_from b (Purpose.of_closing to set) f rest below e = record { function = f; is = refl; before = e; not_end = refl }
-done_from b (Purpose.of_end code) f rest below e = ap has_finals e
+done_from b (Purpose.of_startup registers) f rest below e = (record { function = f; is = refl; before = e }, refl)
+done_from b (Purpose.of_opening to root) f rest below e = (record { function = f; is = refl; before = e }, refl)
+done_from b (Purpose.of_closing to set) f rest below e = (record { function = f; is = refl; before = e }, refl)
+done_from b (Purpose.of_end code) f rest below e = (rest, below, record { function = f; is = refl; before = e })
 
 all_from : (b : HartState) (purpose : Purpose) (below : List Frame) → b.frames ≡ record { purpose = purpose; queue = [] } ∷ below → IsFrom b (all_done b purpose below)
 all_from b (Purpose.of_startup registers) below e = refl
@@ -82,14 +79,14 @@ all_from b (Purpose.of_opening to root) below e = refl
 all_from b (Purpose.of_closing to set) below e = (to, e)
 all_from b (Purpose.of_end code) below e = refl
 
-addresses_from : (b : HartState) (purpose : Purpose) (f : Function) (rest : List Function) (below : List Frame) (addresses : List ℕ) → b.frames ≡ record { purpose = purpose; queue = f ∷ rest } ∷ below
+addresses_from : (b : HartState) (purpose : Purpose) (f : Function) (rest : List Function) (below : List Frame) (addresses : List ℕ) → f.addresses ≡ addresses → b.frames ≡ record { purpose = purpose; queue = f ∷ rest } ∷ below
     → IsFrom b (elim addresses [ [] ↦ done purpose f.object rest below | function ∷ more ↦ Due.enter function (record { purpose = purpose; queue = record f { addresses = more } ∷ rest } ∷ below) ])
-addresses_from b purpose f rest below [] e = done_from b purpose f rest below e
-addresses_from b purpose f rest below (function ∷ more) e = record { purpose = purpose; function = f; next = record f { addresses = more }; rest = rest; below = below; before = e; same = refl; after = refl }
+addresses_from b purpose f rest below [] are e = done_from b purpose f rest below e
+addresses_from b purpose f rest below (function ∷ more) are e = record { purpose = purpose; function = f; more = more; rest = rest; below = below; before = e; next = are; after = refl }
 
 queue_from : (b : HartState) (purpose : Purpose) (queue : List Function) (below : List Frame) → b.frames ≡ record { purpose = purpose; queue = queue } ∷ below → IsFrom b (by_queue b purpose queue below)
 queue_from b purpose [] below e = all_from b purpose below e
-queue_from b purpose (f ∷ rest) below e = addresses_from b purpose f rest below f.addresses e
+queue_from b purpose (f ∷ rest) below e = addresses_from b purpose f rest below f.addresses refl e
 
 frames_from : (b : HartState) (frames : List Frame) → b.frames ≡ frames → IsFrom b (by_frames b frames)
 frames_from b [] are = refl
@@ -130,19 +127,3 @@ phase_from s b (Phase.storing text stored word more) = tt
 
 pub within_from : (s : State) (b : HartState) → IsFrom b (within_fuel b (by_phase s b b.phase))
 within_from s b = either_from b (nat_lt b.turns b.fuel) (by_phase s b b.phase) Due.fuel_out (phase_from s b b.phase) tt
-
--- ---- of functions that are run
-
-first_frames : (purpose : Purpose) (f : Function) (addresses : List ℕ) (rest : List Function) (below : List Frame) (b : HartState) → AreFrames purpose (f ∷ rest) below (with_first purpose f.object addresses rest below b).frames
-first_frames purpose f [] rest below b = (record { object = f.object; addresses = [] }, refl, refl)
-first_frames purpose f (function ∷ more) rest below b = (record { object = f.object; addresses = more }, refl, refl)
-
-all_frames : (purpose : Purpose) (below : List Frame) (b : HartState) → AreFrames purpose [] below (after_all purpose below b).frames
-all_frames (Purpose.of_startup registers) below b = refl
-all_frames (Purpose.of_opening to root) below b = refl
-all_frames (Purpose.of_closing to set) below b = refl
-all_frames (Purpose.of_end code) below b = refl
-
-pub runs_frames : (purpose : Purpose) (functions : List Function) (below : List Frame) (b : HartState) → AreFrames purpose functions below (runs purpose functions below b).frames
-runs_frames purpose [] below b = all_frames purpose below b
-runs_frames purpose (f ∷ rest) below b = first_frames purpose f f.addresses rest below b
