@@ -1,8 +1,9 @@
 -- Each grant of a run is of one of its harts, and none is left open.
-use Rattle.std.proofs.Common.{◌≡◌, ⊎_elim, ℕ, zero, suc, ◌<◌, Bool, true, false, cond, List, [], ◌∷◌, ◌++◌, length, map, Some, None, refl, sym, ap, subst, ◌∙◌, append-nil, arith}
+use Rattle.std.proofs.Common.{◌≡◌, ⊎_elim, ℕ, zero, suc, ◌<◌, Bool, true, false, cond, List, [], ◌∷◌, ◌++◌, length, map, Some, refl, sym, ap, subst, ◌∙◌, append-nil, arith}
 use Rattle.std.specs.Prelude.{◌==◌, ◌&&◌}
 use Rattle.std.specs.List.{Contains, slice_get}
 use Rattle.std.proofs.lemmas.List.{length-set}
+use Rattle.std.proofs.lemmas.Option.{none-some}
 use Rattle.link_event.specs.declared.event.Event.{Event}
 use Rattle.link_event.specs.declared.event.Event.TheVariants as events
 use Rattle.link_event.specs.declared.hart_end.HartEnd.TheVariants as ends
@@ -36,24 +37,21 @@ use Rattle.world_turns.specs.Lemmas.Turning.{freed_length}
 
 -- ---- one event
 
-none_there : {X : Type 0} (x : X) → None ≡ Some x → ⊥
-none_there x e = let d : None ≡ Some x = e in cc
-
 granted_own : (e : Event) (h k : ℕ) → hart_of e ≡ Some h → granted_to e ≡ Some k → h ≡ k
-granted_own (events.Open hart ask answer) h k of to = absurd (none_there k to)
-granted_own (events.Close hart handle answer) h k of to = absurd (none_there k to)
-granted_own (events.Unmapped hart set) h k of to = absurd (none_there k to)
+granted_own (events.Open hart ask answer) h k of to = absurd (none-some k to)
+granted_own (events.Close hart handle answer) h k of to = absurd (none-some k to)
+granted_own (events.Unmapped hart set) h k of to = absurd (none-some k to)
 granted_own (events.Grant number hart owner slot choice value) h k of to = both_found (Some hart) h k of to
-granted_own (events.Bound number) h k of to = absurd (none_there k to)
-granted_own (events.Lost number saw) h k of to = absurd (none_there k to)
-granted_own (events.Unresolved hart owner slot choice) h k of to = absurd (none_there k to)
-granted_own (events.Sym hart ask answer) h k of to = absurd (none_there k to)
-granted_own (events.Tls hart owner address) h k of to = absurd (none_there k to)
-granted_own (events.Init hart object) h k of to = absurd (none_there k to)
-granted_own (events.Fini hart object) h k of to = absurd (none_there k to)
-granted_own (events.Wrote hart bytes) h k of to = absurd (none_there k to)
-granted_own (events.Told hart fault) h k of to = absurd (none_there k to)
-granted_own (events.Ended hart reason) h k of to = absurd (none_there k to)
+granted_own (events.Bound number) h k of to = absurd (none-some k to)
+granted_own (events.Lost number saw) h k of to = absurd (none-some k to)
+granted_own (events.Unresolved hart owner slot choice) h k of to = absurd (none-some k to)
+granted_own (events.Sym hart ask answer) h k of to = absurd (none-some k to)
+granted_own (events.Tls hart owner address) h k of to = absurd (none-some k to)
+granted_own (events.Init hart object) h k of to = absurd (none-some k to)
+granted_own (events.Fini hart object) h k of to = absurd (none-some k to)
+granted_own (events.Wrote hart bytes) h k of to = absurd (none-some k to)
+granted_own (events.Told hart fault) h k of to = absurd (none-some k to)
+granted_own (events.Ended hart reason) h k of to = absurd (none-some k to)
 
 -- the harts of a state's grants are below a number
 abbrev AllBelow : ℕ → State → Type 0
@@ -110,7 +108,7 @@ all_settled n past (b ∷ rest) all = place_settled n past (settling rest) b.res
 -- ---- a turn
 
 at_less : (harts : List HartState) (h : ℕ) (b : HartState) → slice_get harts h ≡ Some b → h < length harts
-at_less [] h b at = absurd (none_there b at)
+at_less [] h b at = absurd (none-some b at)
 at_less (c ∷ rest) zero b at = omega arith
 at_less (c ∷ rest) (suc h) b at = let less = at_less rest h b at in omega (arith, less)
 

@@ -1,17 +1,18 @@
 -- Events remake memory, and it holds.
 use Rattle.std.proofs.Common.{◌≡◌, ℕ, List, [], ◌∷◌, ◌++◌, length, Some, None, refl, sym, ap, subst, ◌∙◌, append_assoc, append-nil}
 use Rattle.std.specs.List.{Contains}
+use Rattle.std.proofs.Math.Seq.{take-append_seam}
 use Rattle.rv_hart.specs.declared.doubleword.Doubleword.{Doubleword}
 use Rattle.link_event.specs.declared.event.Event.{Event}
 use Rattle.link_event.specs.declared.event.Event.TheVariants as events
 use Rattle.link_history.specs.Accepted.{AcceptsOnly}
 use Rattle.link_history.specs.After.{after}
 use Rattle.link_history.specs.Allowed.{Allowed}
-use Rattle.link_history.specs.Legal.{Lawful}
+use Rattle.link_history.specs.Legal.{Lawful, Legal}
 use Rattle.link_history.specs.Setting.{Machine, Setting}
 use Rattle.link_history.specs.State.{State}
 use Rattle.link_history.specs.Step.{step}
-use Rattle.link_history.specs.Lemmas.History.{after_push, lawful_push}
+use Rattle.link_history.specs.Lemmas.History.{after_push, lawful_push, legal_take}
 use Rattle.link_history.specs.Lemmas.Lists.{here, later}
 use Rattle.link_service.specs.Laws.{hart_of}
 use Rattle.memory_holds.specs.Holds.{Holds}
@@ -78,6 +79,10 @@ OfHarts (e ∷ rest) = ((h : ℕ) × (hart_of e ≡ Some h)) × OfHarts rest
 pub of_hart : (h : ℕ) (added : List Event) → ((e : Event) → Contains added e → hart_of e ≡ Some h) → OfHarts added
 of_hart h [] of = tt
 of_hart h (e ∷ rest) of = ((h, of e (here e rest)), of_hart h rest (λ x there. of x (later e rest x there)))
+
+-- a history that is legal with events behind it is legal
+pub legal_front : (w : Setting) (past added : List Event) → Legal w (past ++ added) → Legal w past
+legal_front w past added legal = subst (Legal w) (take-append_seam past added) (legal_take w (past ++ added) (length past) legal)
 
 pub one_behind : (past : List Event) (e : Event) (more : List Event) → (past ++ e ∷ []) ++ more ≡ past ++ e ∷ more
 one_behind past e more = append_assoc past (e ∷ []) more

@@ -1,7 +1,9 @@
 -- Every world of a run is sound, and at its end no hart has an open grant.
-use Rattle.std.proofs.Common.{◌≡◌, ℕ, zero, suc, ◌<◌, Bool, true, false, ◌&&◌, IsTrue, List, [], ◌∷◌, length, map, Option, Some, None, refl, sym, ap, subst, ◌∙◌, arith}
+use Rattle.std.proofs.Common.{◌≡◌, ℕ, zero, suc, ◌<◌, Bool, ◌&&◌, IsTrue, List, [], ◌∷◌, length, map, Option, Some, None, refl, sym, ap, subst, ◌∙◌, arith}
 use Rattle.std.specs.List.{list_all, slice_get}
 use Rattle.std.specs.Option.{is_some}
+use Rattle.std.proofs.lemmas.Bool.{and_parts, false≢true}
+use Rattle.std.proofs.lemmas.Option.{none-some}
 use Rattle.link_event.specs.declared.hart_end.HartEnd.{HartEnd}
 use Rattle.link_served.specs.declared.startup.Setup.{Setup}
 use Rattle.rv_hart.specs.Registers.{Registers}
@@ -35,7 +37,7 @@ module _ (w : Setting) (Holds : World → Type 0) (turns : (h : ℕ) (old new : 
 
   repeats : (h count : ℕ) (old new : World) → Repeats w h count old new → Holds old → Holds new
   repeats h count old new (Repeats.no_more _) x = x
-  repeats h count old new (Repeats.one_more rest _ between _ turn more) x = repeats h rest between new more (takes h old between turn x)
+  repeats h count old new (Repeats.one_more rest _ between _ taken more) x = repeats h rest between new more (takes h old between taken x)
 
   pub items_keep : (items : List TurnItem) (old new : World) → TakesItems w items old new → Holds old → Holds new
   items_keep items old new (TakesItems.no_more _) x = x
@@ -43,7 +45,7 @@ module _ (w : Setting) (Holds : World → Type 0) (turns : (h : ℕ) (old new : 
 
   rounds : (harts : List ℕ) (old new : World) → Rounds w harts old new → Holds old → Holds new
   rounds harts old new (Rounds.no_more _) x = x
-  rounds harts old new (Rounds.one_more h rest _ between _ turn more) x = rounds rest between new more (takes h old between turn x)
+  rounds harts old new (Rounds.one_more h rest _ between _ taken more) x = rounds rest between new more (takes h old between taken x)
 
   pub finishes : (old new : World) → Finishes w old new → Holds old → Holds new
   finishes old new (Finishes.no_more _ all) x = x
@@ -94,22 +96,19 @@ runs_sound start turns begin lack settle w setup items world run only fit =
 
 -- ---- ends
 
-and_right : (a b : Bool) → IsTrue (a && b) → IsTrue b
-and_right true b is = is
-and_right false b is = absurd (let no : false ≡ true = is in cc)
+-- what doesn't look at a slot holds of harts that are freed where it holds of them
+pub freed_alike : (p : HartState → Bool) → ((b : HartState) → p (freed b) ≡ p b) → (harts : List HartState) → list_all p (map freed harts) ≡ list_all p harts
+freed_alike p same [] = refl
+freed_alike p same (b ∷ rest) = ap (λ (t : Bool). t && list_all p (map freed rest)) (same b) ∙ ap (λ (t : Bool). p b && t) (freed_alike p same rest)
 
-freed_alike : (harts : List HartState) → list_all has_ended (map freed harts) ≡ list_all has_ended harts
-freed_alike [] = refl
-freed_alike (b ∷ rest) = ap (λ (t : Bool). has_ended b && t) (freed_alike rest)
-
-abbrev HaveEnded : List HartState → Type 0
+abbrev pub HaveEnded : List HartState → Type 0
 HaveEnded harts = IsTrue (list_all has_ended harts)
 
-rounds_end : (w : Setting) (old new : World) → Finishes w old new → HaveEnded new.harts
+pub rounds_end : (w : Setting) (old new : World) → Finishes w old new → HaveEnded new.harts
 rounds_end w old new (Finishes.no_more _ all) = all
 rounds_end w old new (Finishes.one_more _ between _ runs round more) = rounds_end w between new more
 
-turns_end : (w : Setting) (old new : World) → Ends w old new → HaveEnded new.harts
+pub turns_end : (w : Setting) (old new : World) → Ends w old new → HaveEnded new.harts
 turns_end w old new (Ends.no_more _ all) = all
 turns_end w old new (Ends.one_more _ between _ runs turn more) = turns_end w between new more
 
@@ -118,7 +117,7 @@ finals_end w registers old new over (Finalises.none_runs exited same) = subst (�
 finals_end w registers old new over (Finalises.none_is_left none same) = subst (λ (x : World). HaveEnded x.harts) (sym same) over
 finals_end w registers old new over (Finalises.no_memory exited lack) =
     subst (λ (x : World). HaveEnded x.harts) (sym lack.leaves)
-    (freed_alike lack.others ∙ and_right (has_ended lack.first) (list_all has_ended lack.others) (subst HaveEnded lack.harts over))
+    (freed_alike has_ended (λ b. refl) lack.others ∙ (and_parts (has_ended lack.first) (list_all has_ended lack.others) (subst HaveEnded lack.harts over)).1)
 finals_end w registers old new over (Finalises.all_run begun exited begin run) = turns_end w begun new run
 
 finalised_end : (w : Setting) (setup : Setup) (items : List TurnItem) (world : World) (run : Run w setup items world) → HaveEnded run.finalised.harts
@@ -126,27 +125,20 @@ finalised_end w setup items world run = finals_end w (starting_registers run.ent
 
 pub runs_end : RunsEnd
 runs_end w setup items world run =
-    subst (λ (x : World). HaveEnded x.harts) (sym run.ends) (freed_alike run.finalised.harts ∙ finalised_end w setup items world run)
+    subst (λ (x : World). HaveEnded x.harts) (sym run.ends) (freed_alike has_ended (λ b. refl) run.finalised.harts ∙ finalised_end w setup items world run)
 
 -- ---- grants
 
-none_there : {X : Type 0} (x : X) → None ≡ Some x → ⊥
-none_there x e = let d : None ≡ Some x = e in cc
-
-some_end : (e : Option HartEnd) → IsTrue (is_some e) → (reason : HartEnd) × (e ≡ Some reason)
+pub some_end : (e : Option HartEnd) → IsTrue (is_some e) → (reason : HartEnd) × (e ≡ Some reason)
 some_end (Some reason) is = (reason, refl)
-some_end None is = absurd (let no : false ≡ true = is in cc)
-
-and_left : (a b : Bool) → IsTrue (a && b) → IsTrue a
-and_left true b is = refl
-and_left false b is = is
+some_end None is = absurd (false≢true is)
 
 each_ended : (harts : List HartState) (h : ℕ) (b : HartState) → HaveEnded harts → slice_get harts h ≡ Some b → (reason : HartEnd) × (b.«end» ≡ Some reason)
-each_ended [] h b all at = absurd (none_there b at)
+each_ended [] h b all at = absurd (none-some b at)
 each_ended (c ∷ rest) zero b all at =
     let same : c ≡ b = cc in
-    some_end b.«end» (subst (λ (x : HartState). IsTrue (has_ended x)) same (and_left (has_ended c) (list_all has_ended rest) all))
-each_ended (c ∷ rest) (suc h) b all at = each_ended rest h b (and_right (has_ended c) (list_all has_ended rest) all) at
+    some_end b.«end» (subst (λ (x : HartState). IsTrue (has_ended x)) same (and_parts (has_ended c) (list_all has_ended rest) all).0)
+each_ended (c ∷ rest) (suc h) b all at = each_ended rest h b (and_parts (has_ended c) (list_all has_ended rest) all).1 at
 
 there : (harts : List HartState) (h : ℕ) → h < length harts → (b : HartState) × (slice_get harts h ≡ Some b)
 there [] h less = absurd (omega (arith, less))

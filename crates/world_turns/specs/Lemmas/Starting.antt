@@ -1,7 +1,8 @@
 -- A run is sound when it starts.
-use Rattle.std.proofs.Common.{◌≡◌, ℕ, suc, ◌+◌, zero, Bool, true, false, IsTrue, true≢false, List, [], ◌∷◌, ◌++◌, length, map, Some, None, refl, sym, ap, subst, ◌∙◌}
+use Rattle.std.proofs.Common.{◌≡◌, ℕ, suc, ◌+◌, zero, Bool, true, false, IsTrue, true≢false, List, [], ◌∷◌, ◌++◌, length, map, Some, refl, sym, ap, subst, ◌∙◌}
 use Rattle.std.specs.Prelude.{if◌then◌else◌}
 use Rattle.std.specs.List.{Contains, slice_get}
+use Rattle.std.proofs.lemmas.Option.{none-some}
 use Rattle.rv_hart.specs.declared.doubleword.Doubleword.{Doubleword}
 use Rattle.ld_base.specs.declared.linking.Role.TheVariants.{None as NoRole, Rx}
 use Rattle.link_event.specs.declared.event.Event.{Event}
@@ -52,16 +53,13 @@ runs_idle purpose (f ∷ rest) below b = first_idle purpose f.object f.addresses
 abbrev AllIdle : List HartState → Type 0
 AllIdle harts = (h : ℕ) (b : HartState) → slice_get harts h ≡ Some b → b.resolving ≡ Resolving.idle
 
-none_there : {X : Type 0} (x : X) → None ≡ Some x → ⊥
-none_there x e = let d : None ≡ Some x = e in cc
-
 others_idle : (fuel : ℕ) (entries : List HartEntry) → AllIdle (map (starting_hart fuel) entries)
-others_idle fuel [] h b at = absurd (none_there b at)
+others_idle fuel [] h b at = absurd (none-some b at)
 others_idle fuel (entry ∷ rest) zero b at = let same : starting_hart fuel entry ≡ b = cc in ap (λ (x : HartState). x.resolving) (sym same)
 others_idle fuel (entry ∷ rest) (suc h) b at = others_idle fuel rest h b at
 
 start_idle : (fuel : ℕ) (functions : List Function) (entries : List HartEntry) → AllIdle (starting_harts fuel functions entries)
-start_idle fuel functions [] h b at = absurd (none_there b at)
+start_idle fuel functions [] h b at = absurd (none-some b at)
 start_idle fuel functions (entry ∷ rest) zero b at =
     let same : runs (Purpose.of_startup (starting_registers entry)) functions [] (starting_hart fuel entry) ≡ b = cc in
     ap (λ (x : HartState). x.resolving) (sym same) ∙ runs_idle (Purpose.of_startup (starting_registers entry)) functions [] (starting_hart fuel entry)
@@ -136,7 +134,7 @@ nobody s h none g there = absurd (none_in g (subst (λ (gs : List Granting). Con
 
 none_lawful : (m : Machine) → Lawful m []
 unfolding Lawful
-none_lawful m k e at = absurd (none_there e at)
+none_lawful m k e at = absurd (none-some e at)
 
 pub start_sound : MemoryBegins → EventsKeep → (w : Setting) (setup : Setup) (world : World) → AcceptsOnly w.machine → IsStarted w setup world → Sound w world
 unfolding after_from

@@ -4,7 +4,7 @@ use Rattle.std.specs.Prelude.{slice_set}
 use Rattle.std.specs.List.{Contains, slice_get}
 use Rattle.std.specs.Option.{option_map}
 use Rattle.std.proofs.lemmas.List.{length-set}
-use Rattle.std.proofs.lemmas.Option.{slice_get-map}
+use Rattle.std.proofs.lemmas.Option.{none-some, slice_get-map}
 use Rattle.std.proofs.lemmas.List.Elements.{Contains-append_right}
 use Rattle.ld_base.specs.declared.linking.Role.TheVariants.{Rw, Slot}
 use Rattle.ld_base.specs.declared.fault.Shown.{Shown}
@@ -66,16 +66,13 @@ pub freed_length : (harts : List HartState) → length (map freed harts) ≡ len
 freed_length [] = refl
 freed_length (b ∷ rest) = ap suc (freed_length rest)
 
-none_there : {X : Type 0} (x : X) → None ≡ Some x → ⊥
-none_there x e = let d : None ≡ Some x = e in cc
-
 place_at : (harts : List HartState) (h : ℕ) (b : HartState) → slice_get harts h ≡ Some b → slice_get (resolvings harts) h ≡ Some b.resolving
-place_at [] h b at = absurd (none_there b at)
+place_at [] h b at = absurd (none-some b at)
 place_at (c ∷ rest) zero b at = let same : c ≡ b = cc in ap (λ (x : HartState). Some x.resolving) same
 place_at (c ∷ rest) (suc h) b at = place_at rest h b at
 
 hart_at : (harts : List HartState) (h : ℕ) (r : Resolving) → slice_get (resolvings harts) h ≡ Some r → (b : HartState) × (slice_get harts h ≡ Some b) × (b.resolving ≡ r)
-hart_at [] h r at = absurd (none_there r at)
+hart_at [] h r at = absurd (none-some r at)
 hart_at (c ∷ rest) zero r at = (c, refl, (let same : c.resolving ≡ r = cc in same))
 hart_at (c ∷ rest) (suc h) r at = hart_at rest h r at
 
@@ -93,7 +90,7 @@ set_at (x ∷ rest) (suc h) zero c b at = inr at
 set_at (x ∷ rest) (suc h) (suc j) c b at = set_at rest h j c b at
 
 pub freed_at : (harts : List HartState) (j : ℕ) (b : HartState) → slice_get (map freed harts) j ≡ Some b → (x : HartState) × (slice_get harts j ≡ Some x) × (freed x ≡ b)
-freed_at [] j b at = absurd (none_there b at)
+freed_at [] j b at = absurd (none-some b at)
 freed_at (x ∷ rest) zero b at = (x, refl, (let same : freed x ≡ b = cc in same))
 freed_at (x ∷ rest) (suc j) b at = freed_at rest j b at
 
@@ -114,7 +111,7 @@ record Around (rs : List Resolving) (h : ℕ) (p : Resolving) : Type 0 where
   pub at : length front ≡ h
 
 around : (rs : List Resolving) (h : ℕ) (p : Resolving) → slice_get rs h ≡ Some p → Around rs h p
-around [] h p at = absurd (none_there p at)
+around [] h p at = absurd (none-some p at)
 around (r ∷ rest) zero p at = record { front = []; rest = rest; is = ap (λ (q : Resolving). q ∷ rest) (let same : r ≡ p = cc in same); at = refl }
 around (r ∷ rest) (suc h) p at = let x = around rest h p at in record { front = r ∷ x.front; rest = x.rest; is = ap (λ (qs : List Resolving). r ∷ qs) x.is; at = ap suc x.at }
 
@@ -166,7 +163,7 @@ module _ (w : Setting) (only : AcceptsOnly w.machine) (know : Know w.machine) (c
   }
 
   spared : (e : Event) → granted_to e ≡ None → (j : ℕ) (r : Resolving) → Spares e j r
-  spared e none j Resolving.idle = λ same. none_there j (sym none ∙ same)
+  spared e none j Resolving.idle = λ same. none-some j (sym none ∙ same)
   spared e none j (Resolving.to_exchange o) = tt
   spared e none j (Resolving.to_finish o found) = tt
   spared e none j (Resolving.to_settle o found) = tt
@@ -480,7 +477,7 @@ lacks_sound needs w old new only loads sound x =
   where
     over_by : (e : Option HartEnd) (code : ℕ) → elim e [ Some reason ↦ elim reason [ ends.Exit n ↦ Some n | _ ↦ None ] | None ↦ None ] ≡ Some code → (reason : HartEnd) × (e ≡ Some reason)
     over_by (Some reason) code is = (reason, refl)
-    over_by None code is = absurd (none_there code is)
+    over_by None code is = absurd (none-some code is)
 
     first_rests : settled_resolving x.first.resolving ≡ Resolving.idle
     first_rests = let over = over_by x.first.«end» x.code x.exited in sound.rests 0 x.first over.0 (ap (λ (bs : List HartState). slice_get bs 0) x.harts) over.1

@@ -22,7 +22,7 @@ use Rattle.world_turns.specs.Memory.{doubleword, lowest, memory_of}
 -- ---- one doubleword
 
 -- a doubleword of guest memory is found by its own address alone
-found_at : (words : List Doubleword) (a : ℕ) → IsDoubleword a → doubleword words a ≡ get_or words ((a - lowest) / 8) nowhere
+pub found_at : (words : List Doubleword) (a : ℕ) → IsDoubleword a → doubleword words a ≡ get_or words ((a - lowest) / 8) nowhere
 found_at words a is = ap (λ (t : Bool). cond t nowhere (slice_index_or words ((a - lowest) / 8) nowhere)) (le-ltb a lowest (let low : 0x10000 ≤ a = is.low in low))
 
 -- another one is put there, or none where nothing is
