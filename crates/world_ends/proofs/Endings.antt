@@ -3,7 +3,9 @@ use Rattle.std.proofs.Common.{◌≡◌, ⊎_elim, ℕ, ◌+◌, true, List, [],
 use Rattle.std.specs.Prelude.{slice_set}
 use Rattle.std.specs.List.{Contains, slice_get}
 use Rattle.std.specs.Option.{is_some}
+use Rattle.std.proofs.lemmas.Bool.{false≢true}
 use Rattle.std.proofs.lemmas.List.{length-append}
+use Rattle.std.proofs.lemmas.Option.{none-some}
 use Rattle.std.proofs.lemmas.List.Elements.{Contains-append_cases, Contains-append_left, Contains-append_right}
 use Rattle.link_event.specs.declared.event.CloseAnswer.TheVariants as closes
 use Rattle.link_event.specs.declared.event.Event.{Event}
@@ -19,39 +21,39 @@ use Rattle.link_history.specs.Lemmas.History.{after_push}
 use Rattle.link_history.specs.Lemmas.Lists.{here, only_in}
 use Rattle.hart_moves.specs.Harts.{HartState}
 use Rattle.hart_moves.specs.Moves.{freed}
-use Rattle.turn_events.specs.Appends.{AllQuiet, is_quiet}
+use Rattle.turn_events.specs.Appends.{NoneEndsOrUnmaps, neither_ends_nor_unmaps}
 use Rattle.world_turns.specs.Lemmas.Events.{one_behind}
 use Rattle.world_turns.specs.Lemmas.Turning.{freed_at}
 use Rattle.world_ends.specs.Ends.{AreEndings}
-use Rattle.world_ends.specs.Lemmas.Places.{at_set, count_freed, count_more, count_same, ended_by, freed_here, in_set, never, none_there, runs_on, set_here}
+use Rattle.world_ends.specs.Lemmas.Places.{at_set, count_freed, count_more, count_same, ended_by, freed_here, in_set, runs_on, set_here}
 
 -- ---- events
 
-quiet_step : (s : State) (e : Event) → is_quiet e ≡ true → (step s e).endings ≡ s.endings
+sparing_step : (s : State) (e : Event) → neither_ends_nor_unmaps e ≡ true → (step s e).endings ≡ s.endings
 unfolding loaded die lower unmap initialise
-quiet_step s (events.Open hart ask (opens.Done id root added ranges)) quiet = refl
-quiet_step s (events.Open hart ask opens.Absent) quiet = refl
-quiet_step s (events.Open hart ask (opens.Refused fault)) quiet = refl
-quiet_step s (events.Close hart handle (closes.Done set)) quiet = refl
-quiet_step s (events.Close hart handle (closes.Refused fault)) quiet = refl
-quiet_step s (events.Unmapped hart set) quiet = refl
-quiet_step s (events.Grant number hart owner slot choice value) quiet = refl
-quiet_step s (events.Bound number) quiet = refl
-quiet_step s (events.Lost number saw) quiet = refl
-quiet_step s (events.Unresolved hart owner slot choice) quiet = refl
-quiet_step s (events.Sym hart ask (syms.Found serial index value)) quiet = refl
-quiet_step s (events.Sym hart ask (syms.Refused fault)) quiet = refl
-quiet_step s (events.Tls hart owner address) quiet = refl
-quiet_step s (events.Init hart object) quiet = refl
-quiet_step s (events.Fini hart object) quiet = refl
-quiet_step s (events.Wrote hart bytes) quiet = refl
-quiet_step s (events.Told hart fault) quiet = refl
-quiet_step s (events.Ended hart reason) quiet = absurd (never quiet)
+sparing_step s (events.Open hart ask (opens.Done id root added ranges)) spares = refl
+sparing_step s (events.Open hart ask opens.Absent) spares = refl
+sparing_step s (events.Open hart ask (opens.Refused fault)) spares = refl
+sparing_step s (events.Close hart handle (closes.Done set)) spares = refl
+sparing_step s (events.Close hart handle (closes.Refused fault)) spares = refl
+sparing_step s (events.Unmapped hart set) spares = refl
+sparing_step s (events.Grant number hart owner slot choice value) spares = refl
+sparing_step s (events.Bound number) spares = refl
+sparing_step s (events.Lost number saw) spares = refl
+sparing_step s (events.Unresolved hart owner slot choice) spares = refl
+sparing_step s (events.Sym hart ask (syms.Found serial index value)) spares = refl
+sparing_step s (events.Sym hart ask (syms.Refused fault)) spares = refl
+sparing_step s (events.Tls hart owner address) spares = refl
+sparing_step s (events.Init hart object) spares = refl
+sparing_step s (events.Fini hart object) spares = refl
+sparing_step s (events.Wrote hart bytes) spares = refl
+sparing_step s (events.Told hart fault) spares = refl
+sparing_step s (events.Ended hart reason) spares = absurd (false≢true spares)
 
-pub quiet_events : (past added : List Event) → AllQuiet added → (after (past ++ added)).endings ≡ (after past).endings
-quiet_events past [] quiet = ap (λ (es : List Event). (after es).endings) (append-nil past)
-quiet_events past (e ∷ rest) quiet =
-    ap (λ (es : List Event). (after es).endings) (sym (one_behind past e rest)) ∙ quiet_events (past ++ e ∷ []) rest quiet.1 ∙ ap (λ (s : State). s.endings) (after_push past e) ∙ quiet_step (after past) e quiet.0
+pub sparing_events : (past added : List Event) → NoneEndsOrUnmaps added → (after (past ++ added)).endings ≡ (after past).endings
+sparing_events past [] spares = ap (λ (es : List Event). (after es).endings) (append-nil past)
+sparing_events past (e ∷ rest) spares =
+    ap (λ (es : List Event). (after es).endings) (sym (one_behind past e rest)) ∙ sparing_events (past ++ e ∷ []) rest spares.1 ∙ ap (λ (s : State). s.endings) (after_push past e) ∙ sparing_step (after past) e spares.0
 
 unmapped_step : (s : State) (h : ℕ) (set : List ℕ) → (step s (events.Unmapped h set)).endings ≡ s.endings
 unfolding unmap
@@ -60,12 +62,12 @@ unmapped_step s h set = refl
 pub unmapping : (past : List Event) (h : ℕ) (set : List ℕ) → (after (past ++ events.Unmapped h set ∷ [])).endings ≡ (after past).endings
 unmapping past h set = ap (λ (s : State). s.endings) (after_push past (events.Unmapped h set)) ∙ unmapped_step (after past) h set
 
-pub an_end : (past front : List Event) (h : ℕ) (reason : HartEnd) → AllQuiet front
+pub an_end : (past front : List Event) (h : ℕ) (reason : HartEnd) → NoneEndsOrUnmaps front
     → (after (past ++ (front ++ events.Ended h reason ∷ []))).endings ≡ (after past).endings ++ record { hart = h; «end» = reason } ∷ []
-an_end past front h reason quiet =
+an_end past front h reason spares =
     ap (λ (es : List Event). (after es).endings) (sym (append_assoc past front (events.Ended h reason ∷ [])))
     ∙ ap (λ (s : State). s.endings) (after_push (past ++ front) (events.Ended h reason))
-    ∙ ap (λ (es : List Ending). es ++ record { hart = h; «end» = reason } ∷ []) (quiet_events past front quiet)
+    ∙ ap (λ (es : List Ending). es ++ record { hart = h; «end» = reason } ∷ []) (sparing_events past front spares)
 
 pub one_longer : (endings : List Ending) (e : Ending) → length (endings ++ e ∷ []) ≡ length endings + 1
 one_longer endings e = length-append endings (e ∷ [])
@@ -121,7 +123,7 @@ module _ (endings : List Ending) (harts : List HartState) (x : AreEndings ending
 
         each_of : (e : Ending) → (d : HartState) × (slice_get harts e.hart ≡ Some d) × (d.«end» ≡ Some e.«end») → (d : HartState) × (slice_get (slice_set harts h c) e.hart ≡ Some d) × (d.«end» ≡ Some e.«end»)
         each_of e (d, there, so) = ⊎_elim
-            (λ (y : (d ≡ b) × (slice_get (slice_set harts h c) e.hart ≡ Some c)). absurd (none_there e.«end» (sym runs ∙ ap (λ (z : HartState). z.«end») (sym y.0) ∙ so)))
+            (λ (y : (d ≡ b) × (slice_get (slice_set harts h c) e.hart ≡ Some c)). absurd (none-some e.«end» (sym runs ∙ ap (λ (z : HartState). z.«end») (sym y.0) ∙ so)))
             (λ (y : slice_get (slice_set harts h c) e.hart ≡ Some d). (d, y, so))
             (in_set harts h b c at e.hart d there)
 

@@ -1,6 +1,8 @@
 -- The ends of a run's worlds, from its start to its end.
 use Rattle.std.proofs.Common.{◌≡◌, inl, inr, ⊎_elim, ℕ, zero, suc, ◌+◌, false, IsTrue, List, [], ◌∷◌, ◌++◌, length, map, Some, None, refl, sym, ap, subst, ◌∙◌}
 use Rattle.std.specs.List.{Contains, slice_get}
+use Rattle.std.proofs.lemmas.Bool.{false≢true}
+use Rattle.std.proofs.lemmas.Option.{none-some}
 use Rattle.link_event.specs.declared.event.Event.{Event}
 use Rattle.link_event.specs.declared.handed.Function.{Function}
 use Rattle.link_event.specs.declared.handed.HartEntry.{HartEntry}
@@ -18,14 +20,14 @@ use Rattle.hart_moves.specs.Harts.{HartState, Purpose}
 use Rattle.hart_moves.specs.Moves.{all_finis, runs}
 use Rattle.hart_moves.specs.Starting.{starting_hart, starting_harts, starting_registers}
 use Rattle.turn_events.specs.Appends.{has_finals}
-use Rattle.turn_events.specs.Lemmas.Frames.{runs_end, runs_frames}
-use Rattle.world_turns.specs.Run.{Ends, Finalises, Finishes, IsStarted, has_ended, have_ended}
+use Rattle.turn_events.specs.Lemmas.Frames.{runs_end, runs_finals}
+use Rattle.world_turns.specs.Run.{Ends, Finalises, IsStarted, has_ended, have_ended}
 use Rattle.world_turns.specs.Turn.{Turn}
 use Rattle.world_turns.specs.World.{World}
-use Rattle.world_turns.specs.Lemmas.Running.{constructs, finishes, items_keep}
+use Rattle.world_turns.specs.Lemmas.Running.{constructs, finishes, items_keep, rounds_end, turns_end}
 use Rattle.world_ends.specs.Ends.{AreEndings, BeforeFinals, EndsFit, InFinals}
 use Rattle.world_ends.specs.Laws.{RunsFinish, RunsFit, StartFits}
-use Rattle.world_ends.specs.Lemmas.Places.{count_none, each_passes, never, none_there}
+use Rattle.world_ends.specs.Lemmas.Places.{count_none, each_passes}
 use Rattle.world_ends.proofs.Turns.{exits_are, lack_done, finals_begin, finals_lack, finals_settled, finis_settled, settled_before, settled_finals, turns_keep_before, turns_keep_finals}
 
 -- ---- the start
@@ -39,17 +41,17 @@ abbrev AllBegun : List HartState → Type 0
 AllBegun harts = (h : ℕ) (b : HartState) → slice_get harts h ≡ Some b → IsBegun b
 
 others_begun : (fuel : ℕ) (entries : List HartEntry) → AllBegun (map (starting_hart fuel) entries)
-others_begun fuel [] h b at = absurd (none_there b at)
+others_begun fuel [] h b at = absurd (none-some b at)
 others_begun fuel (entry ∷ rest) zero b at = subst IsBegun (let same : starting_hart fuel entry ≡ b = cc in same) (record { runs = refl; none = refl })
 others_begun fuel (entry ∷ rest) (suc h) b at = others_begun fuel rest h b at
 
 all_begun : (fuel : ℕ) (functions : List Function) (entries : List HartEntry) → AllBegun (starting_harts fuel functions entries)
-all_begun fuel functions [] h b at = absurd (none_there b at)
+all_begun fuel functions [] h b at = absurd (none-some b at)
 all_begun fuel functions (entry ∷ rest) zero b at =
     let same : runs (Purpose.of_startup (starting_registers entry)) functions [] (starting_hart fuel entry) ≡ b = cc in
     subst IsBegun same (record {
       runs = runs_end (Purpose.of_startup (starting_registers entry)) functions [] (starting_hart fuel entry) refl;
-      none = runs_frames (Purpose.of_startup (starting_registers entry)) functions [] (starting_hart fuel entry) refl refl;
+      none = runs_finals (Purpose.of_startup (starting_registers entry)) functions [] (starting_hart fuel entry) refl;
     })
 all_begun fuel functions (entry ∷ rest) (suc h) b at = others_begun fuel rest h b at
 
@@ -77,7 +79,7 @@ none_told : (harts : List HartState) → AllBegun harts → (endings : List Endi
 none_told harts begun endings none = record {
   all = ap (λ (es : List Ending). length es) none ∙ sym (count_none harts (λ h b at. (begun h b at).runs));
   each = λ e there. absurd (none_in e (subst (λ (es : List Ending). Contains es e) none there));
-  told = λ h b reason at over. absurd (none_there reason (sym (begun h b at).runs ∙ over));
+  told = λ h b reason at over. absurd (none-some reason (sym (begun h b at).runs ∙ over));
 }
 
 pub start_fits : StartFits
@@ -121,21 +123,13 @@ runs_fit w setup items world run =
 
 -- ---- what is left at its end
 
-rounds_end : (w : Setting) (old new : World) → Finishes w old new → IsTrue (have_ended new)
-rounds_end w old new (Finishes.no_more _ all) = all
-rounds_end w old new (Finishes.one_more _ between _ runs round more) = rounds_end w between new more
-
-turns_end : (w : Setting) (old new : World) → Ends w old new → IsTrue (have_ended new)
-turns_end w old new (Ends.no_more _ all) = all
-turns_end w old new (Ends.one_more _ between _ runs turn more) = turns_end w between new more
-
 done_of : (w : Setting) (world : World) (x : InFinals w world) → IsTrue (have_ended world) → IsTrue (are_finals w (after world.journal)) → all_finis (after world.journal) ≡ []
 done_of w world x over are = x.done (each_passes has_ended world.harts 0 x.first over (ap (λ (bs : List HartState). slice_get bs 0) x.harts)) are
 
 finalised_done : (w : Setting) (registers : Registers) (old new : World) → Finalises w registers old new → IsTrue (have_ended old) → BeforeFinals w old → IsTrue (are_finals w (after new.journal))
     → all_finis (after new.journal) ≡ []
 finalised_done w registers old new (Finalises.none_runs exited same) over x are =
-    absurd (never (sym exited ∙ exits_are w old over x (subst (λ (y : World). IsTrue (are_finals w (after y.journal))) same are)))
+    absurd (false≢true (sym exited ∙ exits_are w old over x (subst (λ (y : World). IsTrue (are_finals w (after y.journal))) same are)))
 finalised_done w registers old new (Finalises.none_is_left none same) over x are = ap (λ (y : World). all_finis (after y.journal)) same ∙ none
 finalised_done w registers old new (Finalises.no_memory exited lack) over x are = lack_done w old new exited lack x are
 finalised_done w registers old new (Finalises.all_run begun exited begin run) over x are =

@@ -3,7 +3,8 @@ use Rattle.std.proofs.Common.{◌≡◌, inl, inr, ⊎_elim, ℕ, zero, suc, ◌
 use Rattle.std.specs.Prelude.{nat_le, slice_set, take}
 use Rattle.std.specs.List.{Contains, list_all, slice_get}
 use Rattle.std.specs.Option.{is_some}
-use Rattle.std.proofs.lemmas.Bool.{eq-eqb, eqb-true, le-leb}
+use Rattle.std.proofs.lemmas.Bool.{and_parts, eq-eqb, eqb-true, false≢true, le-leb}
+use Rattle.std.proofs.lemmas.Option.{none-some}
 use Rattle.std.proofs.lemmas.List.{length-set, take_all}
 use Rattle.link_event.specs.declared.event.Event.{Event}
 use Rattle.link_event.specs.declared.event.Event.TheVariants as events
@@ -21,17 +22,18 @@ use Rattle.hart_moves.specs.Harts.{HartState, Phase, Purpose}
 use Rattle.hart_moves.specs.Moves.{all_finis, ended, events_of, freed, settles}
 use Rattle.hart_moves.specs.Starting.{finalising_hart}
 use Rattle.hart_moves.specs.Lemmas.Legality.{ended_stays}
-use Rattle.turn_events.specs.Appends.{AllQuiet, Appends, has_finals}
-use Rattle.turn_events.specs.Lemmas.Frames.{first_end}
-use Rattle.turn_events.specs.Lemmas.Turning.{finals_away, turns_append}
+use Rattle.turn_events.specs.Appends.{Appends, NoneEndsOrUnmaps, has_finals}
+use Rattle.turn_events.specs.Lemmas.Frames.{first_end, first_finals}
+use Rattle.turn_events.specs.Lemmas.Turning.{finals_away, finals_stay, turns_append}
 use Rattle.world_turns.specs.Run.{LacksMemory, exit_code, has_ended, have_exited, settled}
 use Rattle.world_turns.specs.Turn.{Turn}
 use Rattle.world_turns.specs.World.{World, found_harts, found_journal, settling}
+use Rattle.world_turns.specs.Lemmas.Running.{freed_alike}
 use Rattle.world_turns.specs.Lemmas.Turning.{freed_at, freed_length}
-use Rattle.world_ends.specs.Ends.{AreEndings, BeforeFinals, InFinals}
+use Rattle.world_ends.specs.Ends.{AreEndings, BeforeFinals, InFinals, has_exited}
 use Rattle.world_ends.specs.Laws.{FinalsBegin, FinalsLack, HartsMayEnd, SettlingFits, TurnsKeepBefore, TurnsKeepFinals}
-use Rattle.world_ends.proofs.Endings.{an_end, ended_fit, freed_fit, one_longer, quiet_events, same_fit, unmapping}
-use Rattle.world_ends.specs.Lemmas.Places.{all_freed, all_pass, and_left, and_right, count_all, each_passes, freed_here, at_set, never, none_there, reason_of, runs_on}
+use Rattle.world_ends.proofs.Endings.{an_end, ended_fit, freed_fit, one_longer, sparing_events, same_fit, unmapping}
+use Rattle.world_ends.specs.Lemmas.Places.{all_pass, at_set, count_all, each_passes, exited_ends, freed_here, reason_of, running, runs_on}
 use Rattle.world_ends.specs.Lemmas.Settled.{found_keeps, settling_keeps}
 
 -- ---- what settling leaves
@@ -51,7 +53,7 @@ endings_stay = settling_keeps (List Ending) endings_of (λ s number standing. re
 -- as many have ended as there are harts
 finals_all : (w : Setting) (endings : List Ending) → finals_in w endings ≡ true → length endings ≡ w.machine.harts
 finals_all w endings is =
-    eqb-true (length endings) w.machine.harts (and_left (length endings == w.machine.harts) (nat_le w.machine.harts (length endings) && list_all exited (take w.machine.harts endings)) is)
+    eqb-true (length endings) w.machine.harts (and_parts (length endings == w.machine.harts) (nat_le w.machine.harts (length endings) && list_all exited (take w.machine.harts endings)) is).0
 
 -- so no more can be
 no_more : (w : Setting) (endings : List Ending) (e : Ending) → length endings ≡ w.machine.harts → finals_in w (endings ++ e ∷ []) ≡ true → ⊥
@@ -63,11 +65,12 @@ no_more w endings e all is =
     past_it : (n k m : ℕ) → k ≡ m + 1 → k ≡ n → m ≡ n → ⊥
     past_it n k m a b c = omega (arith, a, b, c)
 
--- ---- a turn
+-- ---- ends by exit
 
-running : (e : Option HartEnd) → ((reason : HartEnd) → e ≡ Some reason → ⊥) → e ≡ None
-running None never_so = refl
-running (Some reason) never_so = absurd (never_so reason refl)
+abbrev exit_of_end : HartEnd → Option ℕ
+exit_of_end reason = elim reason [ ends.Exit code ↦ Some code | _ ↦ None ]
+
+-- ---- a turn
 
 module _ (w : Setting) (h : ℕ) (old new : World) (turn : Turn w h old new) where
   abbrev past : List Event
@@ -86,16 +89,16 @@ module _ (w : Setting) (h : ℕ) (old new : World) (turn : Turn w h old new) whe
   found_endings = found_keeps (List Ending) endings_of (λ s number standing. refl) old turn.did
 
   -- the journal's ends after the turn, by what it appended
-  quiet_endings : AllQuiet (events_of turn.did) → (after new.journal).endings ≡ (after old.journal).endings
-  quiet_endings quiet = ap (λ (es : List Event). (after es).endings) turn.journal ∙ quiet_events past (events_of turn.did) quiet ∙ found_endings
+  sparing_endings : NoneEndsOrUnmaps (events_of turn.did) → (after new.journal).endings ≡ (after old.journal).endings
+  sparing_endings spares = ap (λ (es : List Event). (after es).endings) turn.journal ∙ sparing_events past (events_of turn.did) spares ∙ found_endings
 
   unmapped_endings : (set : List ℕ) → events_of turn.did ≡ events.Unmapped h set ∷ [] → (after new.journal).endings ≡ (after old.journal).endings
   unmapped_endings set is = ap (λ (es : List Event). (after es).endings) (turn.journal ∙ ap (λ (es : List Event). past ++ es) is) ∙ unmapping past h set ∙ found_endings
 
-  end_endings : (front : List Event) (reason : HartEnd) → AllQuiet front → events_of turn.did ≡ front ++ events.Ended h reason ∷ []
+  end_endings : (front : List Event) (reason : HartEnd) → NoneEndsOrUnmaps front → events_of turn.did ≡ front ++ events.Ended h reason ∷ []
       → (after new.journal).endings ≡ (after old.journal).endings ++ record { hart = h; «end» = reason } ∷ []
-  end_endings front reason quiet is =
-      ap (λ (es : List Event). (after es).endings) (turn.journal ∙ ap (λ (es : List Event). past ++ es) is) ∙ an_end past front h reason quiet
+  end_endings front reason spares is =
+      ap (λ (es : List Event). (after es).endings) (turn.journal ∙ ap (λ (es : List Event). past ++ es) is) ∙ an_end past front h reason spares
       ∙ ap (λ (es : List Ending). es ++ record { hart = h; «end» = reason } ∷ []) found_endings
 
   -- ---- before the final destructors
@@ -132,14 +135,14 @@ module _ (w : Setting) (h : ℕ) (old new : World) (turn : Turn w h old new) whe
         (same_fit (after old.journal).endings harts (found_fit (settles turn.did)) h b.0 turn.left b.1 (same ∙ sym b.2)))
 
     endings_fit : Appends past h turn.before turn.did turn.left → AreEndings (after new.journal).endings new.harts
-    endings_fit (Appends.no_end quiet same) = same_endings same (quiet_endings quiet)
+    endings_fit (Appends.no_end spares same) = same_endings same (sparing_endings spares)
     endings_fit (Appends.unmapping set is same) = same_endings same (unmapped_endings set is)
-    endings_fit (Appends.an_end front reason quiet is over) =
+    endings_fit (Appends.an_end front reason spares is over) =
         let b = found_hart (settles turn.did) in
-        subst (λ (es : List Ending). AreEndings es new.harts) (sym (end_endings front reason quiet is))
+        subst (λ (es : List Ending). AreEndings es new.harts) (sym (end_endings front reason spares is))
         (subst (λ (bs : List HartState). AreEndings ((after old.journal).endings ++ record { hart = h; «end» = reason } ∷ []) bs) (sym turn.harts)
         (ended_fit (after old.journal).endings harts (found_fit (settles turn.did)) h b.0 turn.left b.1 reason (b.2 ∙ runs) over))
-    endings_fit (Appends.after_finals code quiet finals over none) = absurd (never (sym no_finals ∙ finals))
+    endings_fit (Appends.after_finals code spares finals over none) = absurd (false≢true (sym no_finals ∙ finals))
 
     none_after : (j : ℕ) (b : HartState) → slice_get new.harts j ≡ Some b → has_finals b.frames ≡ false
     none_after j b at = ⊎_elim
@@ -156,7 +159,7 @@ module _ (w : Setting) (h : ℕ) (old new : World) (turn : Turn w h old new) whe
     -- the turn is the first hart's
     is_first : (j : ℕ) → slice_get (x.first ∷ x.others) j ≡ Some turn.before → (j ≡ 0) × (x.first ≡ turn.before)
     is_first zero at = (refl, (let same : x.first ≡ turn.before = cc in same))
-    is_first (suc j) at = absurd (never (sym (runs_on turn.before runs) ∙ each_passes has_ended x.others j turn.before x.over at))
+    is_first (suc j) at = absurd (false≢true (sym (runs_on turn.before runs) ∙ exited_ends turn.before (each_passes has_exited x.others j turn.before x.over at)))
 
     first_is : (h ≡ 0) × (x.first ≡ turn.before)
     first_is = is_first h (ap (λ (bs : List HartState). slice_get bs h) (sym x.harts) ∙ turn.there)
@@ -174,31 +177,36 @@ module _ (w : Setting) (h : ℕ) (old new : World) (turn : Turn w h old new) whe
     split true = ap (λ (bs : List HartState). slice_set (map freed bs) 0 turn.left) x.harts
     split false = ap (λ (bs : List HartState). slice_set bs 0 turn.left) x.harts
 
-    others_over : (t : Bool) → IsTrue (list_all has_ended (others_found t))
-    others_over true = all_freed x.others ∙ x.over
+    others_over : (t : Bool) → IsTrue (list_all has_exited (others_found t))
+    others_over true = freed_alike has_exited (λ b. refl) x.others ∙ x.over
     others_over false = x.over
+
+    frames_after : turn.left.«end» ≡ None → IsTrue (has_finals turn.left.frames)
+    frames_after none =
+        finals_stay w past h turn.before turn.left turn.did turn.moves
+        (ap (λ (b : HartState). has_finals b.frames) (sym first_is.1) ∙ x.frames (ap (λ (b : HartState). b.«end») first_is.1 ∙ runs)) none
 
     finals_still : (after new.journal).endings ≡ (after old.journal).endings → IsTrue (are_finals w (after new.journal))
     finals_still same = ap (finals_in w) same ∙ are_so
 
     not_over : {T : Type 0} → turn.left.«end» ≡ turn.before.«end» → IsTrue (has_ended turn.left) → T
-    not_over {T} same over = absurd (never (sym (ap is_some same ∙ runs_on turn.before runs) ∙ over))
+    not_over {T} same over = absurd (false≢true (sym (ap is_some same ∙ runs_on turn.before runs) ∙ over))
 
     not_running : {T : Type 0} (reason : HartEnd) → turn.left.«end» ≡ Some reason → turn.left.«end» ≡ None → T
-    not_running {T} reason over none = absurd (none_there reason (sym none ∙ over))
+    not_running {T} reason over none = absurd (none-some reason (sym none ∙ over))
 
     runs_after : Appends past h turn.before turn.did turn.left → turn.left.«end» ≡ None → IsTrue (are_finals w (after new.journal))
-    runs_after (Appends.no_end quiet same) none = finals_still (quiet_endings quiet)
+    runs_after (Appends.no_end spares same) none = finals_still (sparing_endings spares)
     runs_after (Appends.unmapping set is same) none = finals_still (unmapped_endings set is)
-    runs_after (Appends.an_end front reason quiet is over) none = not_running reason over none
-    runs_after (Appends.after_finals code quiet finals over last) none = not_running (ends.Exit code) over none
+    runs_after (Appends.an_end front reason spares is over) none = not_running reason over none
+    runs_after (Appends.after_finals code spares finals over last) none = not_running (ends.Exit code) over none
 
     done_after : Appends past h turn.before turn.did turn.left → IsTrue (has_ended turn.left) → IsTrue (are_finals w (after new.journal)) → all_finis (after new.journal) ≡ []
-    done_after (Appends.no_end quiet same) over are = not_over same over
+    done_after (Appends.no_end spares same) over are = not_over same over
     done_after (Appends.unmapping set is same) over are = not_over same over
-    done_after (Appends.an_end front reason quiet is so) over are =
-        absurd (no_more w (after old.journal).endings (record { hart = h; «end» = reason }) all_ended (ap (finals_in w) (sym (end_endings front reason quiet is)) ∙ are))
-    done_after (Appends.after_finals code quiet finals so last) over are = ap (λ (es : List Event). all_finis (after es)) turn.journal ∙ last
+    done_after (Appends.an_end front reason spares is so) over are =
+        absurd (no_more w (after old.journal).endings (record { hart = h; «end» = reason }) all_ended (ap (finals_in w) (sym (end_endings front reason spares is)) ∙ are))
+    done_after (Appends.after_finals code spares finals so last) over are = ap (λ (es : List Event). all_finis (after es)) turn.journal ∙ last
 
     pub finals_kept : InFinals w new
     finals_kept = record {
@@ -206,6 +214,7 @@ module _ (w : Setting) (h : ℕ) (old new : World) (turn : Turn w h old new) whe
       others = others_found (settles turn.did);
       harts = turn.harts ∙ ap (λ (n : ℕ). slice_set harts n turn.left) first_is.0 ∙ split (settles turn.did);
       over = others_over (settles turn.did);
+      frames = frames_after;
       runs = runs_after appends;
       done = done_after appends;
     }
@@ -225,55 +234,47 @@ all_in p (e ∷ rest) each = ap (λ (t : Bool). t && list_all p rest) (each e (h
 from_all : (p : Ending → Bool) (endings : List Ending) (e : Ending) → list_all p endings ≡ true → Contains endings e → p e ≡ true
 from_all p [] e all there = absurd (none_in e there)
 from_all p (d ∷ rest) e all there = ⊎_elim
-    (λ (same : d ≡ e). ap p (sym same) ∙ and_left (p d) (list_all p rest) all)
-    (λ (more : Contains rest e). from_all p rest e (and_right (p d) (list_all p rest) all) more)
+    (λ (same : d ≡ e). ap p (sym same) ∙ (and_parts (p d) (list_all p rest) all).0)
+    (λ (more : Contains rest e). from_all p rest e (and_parts (p d) (list_all p rest) all).1 more)
     (first_or_later d rest e there)
-
--- ends by exit
-abbrev exit_of_end : HartEnd → Option ℕ
-exit_of_end reason = elim reason [ ends.Exit code ↦ Some code | _ ↦ None ]
 
 exit_of : (reason : HartEnd) → is_some (exit_of_end reason) ≡ true → is_exit reason ≡ true
 exit_of (ends.Exit code) is = refl
-exit_of ends.FuelOut is = absurd (never is)
-exit_of (ends.NotMapped pc address) is = absurd (never is)
-exit_of (ends.SlotStore pc address) is = absurd (never is)
-exit_of (ends.BadInstruction pc word) is = absurd (never is)
-exit_of (ends.Misaligned pc address) is = absurd (never is)
-exit_of (ends.Break pc) is = absurd (never is)
-exit_of (ends.BadModule number) is = absurd (never is)
-exit_of (ends.Unloaded owner) is = absurd (never is)
-exit_of (ends.NoSlot owner eights) is = absurd (never is)
-exit_of (ends.Unresolved owner slot) is = absurd (never is)
-exit_of (ends.NotCode owner slot) is = absurd (never is)
-exit_of (ends.AddressSpaceFull pages) is = absurd (never is)
-exit_of ends.Memory is = absurd (never is)
+exit_of ends.FuelOut is = absurd (false≢true is)
+exit_of (ends.NotMapped pc address) is = absurd (false≢true is)
+exit_of (ends.SlotStore pc address) is = absurd (false≢true is)
+exit_of (ends.BadInstruction pc word) is = absurd (false≢true is)
+exit_of (ends.Misaligned pc address) is = absurd (false≢true is)
+exit_of (ends.Break pc) is = absurd (false≢true is)
+exit_of (ends.BadModule number) is = absurd (false≢true is)
+exit_of (ends.Unloaded owner) is = absurd (false≢true is)
+exit_of (ends.NoSlot owner eights) is = absurd (false≢true is)
+exit_of (ends.Unresolved owner slot) is = absurd (false≢true is)
+exit_of (ends.NotCode owner slot) is = absurd (false≢true is)
+exit_of (ends.AddressSpaceFull pages) is = absurd (false≢true is)
+exit_of ends.Memory is = absurd (false≢true is)
 
 code_of : (reason : HartEnd) → is_exit reason ≡ true → is_some (exit_of_end reason) ≡ true
 code_of (ends.Exit code) is = refl
-code_of ends.FuelOut is = absurd (never is)
-code_of (ends.NotMapped pc address) is = absurd (never is)
-code_of (ends.SlotStore pc address) is = absurd (never is)
-code_of (ends.BadInstruction pc word) is = absurd (never is)
-code_of (ends.Misaligned pc address) is = absurd (never is)
-code_of (ends.Break pc) is = absurd (never is)
-code_of (ends.BadModule number) is = absurd (never is)
-code_of (ends.Unloaded owner) is = absurd (never is)
-code_of (ends.NoSlot owner eights) is = absurd (never is)
-code_of (ends.Unresolved owner slot) is = absurd (never is)
-code_of (ends.NotCode owner slot) is = absurd (never is)
-code_of (ends.AddressSpaceFull pages) is = absurd (never is)
-code_of ends.Memory is = absurd (never is)
+code_of ends.FuelOut is = absurd (false≢true is)
+code_of (ends.NotMapped pc address) is = absurd (false≢true is)
+code_of (ends.SlotStore pc address) is = absurd (false≢true is)
+code_of (ends.BadInstruction pc word) is = absurd (false≢true is)
+code_of (ends.Misaligned pc address) is = absurd (false≢true is)
+code_of (ends.Break pc) is = absurd (false≢true is)
+code_of (ends.BadModule number) is = absurd (false≢true is)
+code_of (ends.Unloaded owner) is = absurd (false≢true is)
+code_of (ends.NoSlot owner eights) is = absurd (false≢true is)
+code_of (ends.Unresolved owner slot) is = absurd (false≢true is)
+code_of (ends.NotCode owner slot) is = absurd (false≢true is)
+code_of (ends.AddressSpaceFull pages) is = absurd (false≢true is)
+code_of ends.Memory is = absurd (false≢true is)
 
 coded : (b : HartState) (reason : HartEnd) → b.«end» ≡ Some reason → is_some (exit_code b) ≡ true → is_exit reason ≡ true
 coded b reason over is = exit_of reason (sym (ap (λ (e : Option HartEnd). is_some (elim e [ Some why ↦ exit_of_end why | None ↦ None ])) over) ∙ is)
 
-code_ends : (e : Option HartEnd) → is_some (elim e [ Some why ↦ exit_of_end why | None ↦ None ]) ≡ true → is_some e ≡ true
-code_ends (Some reason) is = refl
-code_ends None is = absurd (never is)
-
 all_over : (harts : List HartState) → IsTrue (list_all (λ b. is_some (exit_code b)) harts) → IsTrue (list_all has_ended harts)
-all_over harts all = all_pass has_ended harts (λ h b at. code_ends b.«end» (each_passes (λ c. is_some (exit_code c)) harts h b all at))
+all_over harts all = all_pass has_ended harts (λ h b at. exited_ends b (each_passes (λ c. is_some (exit_code c)) harts h b all at))
 
 le_same : (n k : ℕ) → k ≡ n → nat_le n k ≡ true
 le_same n k same = le-leb n k (let e : k ≡ n = same in omega (arith, e))
@@ -294,8 +295,8 @@ module _ (w : Setting) (old : World) (over : IsTrue (have_exited old)) (x : Befo
       ∙ ap (λ (ys : List Ending). list_all exited ys) (take_all w.machine.harts (after old.journal).endings (let e : length (after old.journal).endings ≡ w.machine.harts = as_many in omega (arith, e)))
       ∙ all_in exited (after old.journal).endings each_exited
 
-  split_over : (first : HartState) (others : List HartState) → old.harts ≡ first ∷ others → IsTrue (list_all has_ended others)
-  split_over first others are = and_right (has_ended first) (list_all has_ended others) (subst (λ (bs : List HartState). IsTrue (list_all has_ended bs)) are (all_over old.harts over))
+  split_over : (first : HartState) (others : List HartState) → old.harts ≡ first ∷ others → IsTrue (list_all has_exited others)
+  split_over first others are = (and_parts (has_exited first) (list_all has_exited others) (subst (λ (bs : List HartState). IsTrue (list_all has_exited bs)) are over)).1
 
 pub finals_begin : FinalsBegin
 finals_begin w registers old new over x before = subst (InFinals w) (sym x.begun) (record {
@@ -303,8 +304,9 @@ finals_begin w registers old new over x before = subst (InFinals w) (sym x.begun
   others = x.others;
   harts = refl;
   over = split_over w old over before x.first x.others x.harts;
+  frames = λ none. first_finals (Purpose.of_end x.code) x.object x.addresses [] [] (record x.first { registers = registers; phase = Phase.at_pc; frames = []; «end» = None });
   runs = λ none. finals_are w old over before;
-  done = λ ended_so are. absurd (never (sym (runs_on begun begun_runs) ∙ ended_so));
+  done = λ ended_so are. absurd (false≢true (sym (runs_on begun begun_runs) ∙ ended_so));
 })
   where
     begun : HartState
@@ -321,8 +323,9 @@ finals_lack w old new over x before = subst (InFinals w) (sym x.leaves) (record 
   first = ended ends.Memory x.first;
   others = map freed x.others;
   harts = refl;
-  over = all_freed x.others ∙ split_over w old over before x.first x.others x.harts;
-  runs = λ none. absurd (none_there ends.Memory (sym none));
+  over = freed_alike has_exited (λ b. refl) x.others ∙ split_over w old over before x.first x.others x.harts;
+  frames = λ none. absurd (none-some ends.Memory (sym none));
+  runs = λ none. absurd (none-some ends.Memory (sym none));
   done = λ ended_so are. absurd (no_more w (after old.journal).endings (record { hart = 0; «end» = ends.Memory }) (as_many w old over before) (ap (finals_in w) (sym (lack_endings old)) ∙ are));
 })
 
@@ -343,8 +346,9 @@ exits_are w world over x are = all_pass (λ b. is_some (exit_code b)) world.hart
     es = (after world.journal).endings
 
     all_of : list_all exited (take w.machine.harts (after world.journal).endings) ≡ true
-    all_of = and_right (nat_le w.machine.harts (length (after world.journal).endings)) (list_all exited (take w.machine.harts (after world.journal).endings))
-        (and_right (length (after world.journal).endings == w.machine.harts) (nat_le w.machine.harts (length (after world.journal).endings) && list_all exited (take w.machine.harts (after world.journal).endings)) are)
+    all_of =
+        (and_parts (nat_le w.machine.harts (length (after world.journal).endings)) (list_all exited (take w.machine.harts (after world.journal).endings))
+        (and_parts (length (after world.journal).endings == w.machine.harts) (nat_le w.machine.harts (length (after world.journal).endings) && list_all exited (take w.machine.harts (after world.journal).endings)) are).1).1
 
     whole : take w.machine.harts (after world.journal).endings ≡ (after world.journal).endings
     whole = take_all w.machine.harts (after world.journal).endings (let e : length (after world.journal).endings ≡ w.machine.harts = finals_all w (after world.journal).endings are in omega (arith, e))
@@ -369,7 +373,8 @@ settled_finals w world x = record {
   first = freed x.first;
   others = map freed x.others;
   harts = ap (λ (bs : List HartState). map freed bs) x.harts;
-  over = all_freed x.others ∙ x.over;
+  over = freed_alike has_exited (λ b. refl) x.others ∙ x.over;
+  frames = x.frames;
   runs = λ none. ap (finals_in w) (endings_stay world.journal world.harts) ∙ x.runs none;
   done = λ over are. finis_stay world.journal world.harts ∙ x.done over (ap (finals_in w) (sym (endings_stay world.journal world.harts)) ∙ are);
 }
@@ -393,11 +398,11 @@ not_told w world h b x at none true is =
     let y = from_map (λ (e : Ending). e.hart) (after world.journal).endings h (has_in (map (λ e. e.hart) (after world.journal).endings) h is) in
     let z = x.endings.each y.0 y.1 in
     let same : z.0 ≡ b = both_found (slice_get world.harts h) z.0 b (ap (λ (n : ℕ). slice_get world.harts n) (sym y.2) ∙ z.1) at in
-    absurd (none_there y.0.«end» (sym none ∙ ap (λ (c : HartState). c.«end») (sym same) ∙ z.2))
+    absurd (none-some y.0.«end» (sym none ∙ ap (λ (c : HartState). c.«end») (sym same) ∙ z.2))
 
 first_may : (w : Setting) (world : World) (x : InFinals w world) (h : ℕ) (b : HartState) → slice_get (x.first ∷ x.others) h ≡ Some b → b.«end» ≡ None → MayEnd w (after world.journal) h
 first_may w world x zero b at none = inr (refl, x.runs (ap (λ (c : HartState). c.«end») (let same : x.first ≡ b = cc in same) ∙ none))
-first_may w world x (suc j) b at none = absurd (never (sym (runs_on b none) ∙ each_passes has_ended x.others j b x.over at))
+first_may w world x (suc j) b at none = absurd (false≢true (sym (runs_on b none) ∙ exited_ends b (each_passes has_exited x.others j b x.over at)))
 
 pub harts_may_end : HartsMayEnd
 harts_may_end w world x h b at none = ⊎_elim

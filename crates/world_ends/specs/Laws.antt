@@ -26,7 +26,8 @@ abbrev pub TurnsKeepFinals : Type 0
 TurnsKeepFinals = (w : Setting) (h : ℕ) (old new : World) → Turn w h old new → InFinals w old → InFinals w new
 
 abbrev pub FinalsBegin : Type 0
-FinalsBegin = (w : Setting) (registers : Registers) (old new : World) → IsTrue (have_exited old) → Begins registers old new → BeforeFinals w old → InFinals w new
+FinalsBegin = (w : Setting) (registers : Registers) (old new : World) → IsTrue (have_exited old) → Begins registers old new → BeforeFinals w old
+    → InFinals w new
 
 abbrev pub FinalsLack : Type 0
 FinalsLack = (w : Setting) (old new : World) → IsTrue (have_exited old) → LacksMemory w old new → BeforeFinals w old → InFinals w new
