@@ -17,8 +17,8 @@ use Rattle.link_history.specs.Step.{initialise, is_closing, step, unmap}
 use Rattle.link_history.specs.Lemmas.History.{after_push, lawful_push}
 use Rattle.link_history.specs.Lemmas.Lists.{here, in_filter, later}
 use Rattle.hart_moves.specs.Moves.{AreAllowed}
-use Rattle.world_frames.specs.Belong.{Owner}
-use Rattle.world_frames.proofs.Owners.{AllSpare, IsThere, Spares, loading_kept}
+use Rattle.world_frames.specs.Belong.{Origin}
+use Rattle.world_frames.proofs.Origins.{AllSpare, IsThere, Spares, loading_kept}
 
 -- what is needed of openings and closings
 pub record ApartLaws (m : Machine) : Type 0 where
@@ -62,13 +62,13 @@ fini_leaves s h o c there = there
 
 module _ (m : Machine) (laws : ApartLaws m) (w : Setting) (same : w.machine ≡ m) where
   -- an initialisation of an object of an opening spares what is of no other
-  inits_spare_one : (past : List Event) (h o : ℕ) (l : Loading) → Lawful m past → Contains (after past).loadings l → Contains l.serials o → (q : Owner) → q ≢ Owner.opening l → IsThere (after past) q → Spares (after past) (events.Init h o) q
-  inits_spare_one past h o l lawful there inside (Owner.opening k) differs at = λ j d is has_it.
-      differs (ap (λ (x : Loading). Owner.opening x) ((laws.order past lawful).loaded k l o at there (subst (Contains k.serials) (sym (same_init h o j d is)) has_it) inside))
-  inits_spare_one past h o l lawful there inside (Owner.closing c) differs at = (λ j d is has_it. not_init h o j d is, init_leaves (after past) h o c at)
+  inits_spare_one : (past : List Event) (h o : ℕ) (l : Loading) → Lawful m past → Contains (after past).loadings l → Contains l.serials o → (q : Origin) → q ≢ Origin.opening l → IsThere (after past) q → Spares (after past) (events.Init h o) q
+  inits_spare_one past h o l lawful there inside (Origin.opening k) differs at = λ j d is has_it.
+      differs (ap (λ (x : Loading). Origin.opening x) ((laws.order past lawful).loaded k l o at there (subst (Contains k.serials) (sym (same_init h o j d is)) has_it) inside))
+  inits_spare_one past h o l lawful there inside (Origin.closing c) differs at = (λ j d is has_it. not_init h o j d is, init_leaves (after past) h o c at)
 
   pub inits_spare : (past : List Event) (h : ℕ) (objects : List ℕ) (l : Loading) → Lawful m past → AreAllowed w past (inits h objects) → Contains (after past).loadings l → AllOf l.serials objects
-      → AllSpare (λ q. q ≢ Owner.opening l) past (inits h objects)
+      → AllSpare (λ q. q ≢ Origin.opening l) past (inits h objects)
   inits_spare past h [] l lawful may there all = tt
   inits_spare past h (o ∷ rest) l lawful may there all = (
     λ q differs at. inits_spare_one past h o l lawful there (all o (here o rest)) q differs at,
@@ -77,15 +77,15 @@ module _ (m : Machine) (laws : ApartLaws m) (w : Setting) (same : w.machine ≡ 
         (λ d inside. all d (later o rest d inside)),
   )
 
-  finis_spare_one : (past : List Event) (h o : ℕ) (c : Closing) → Lawful m past → Contains (after past).closings c → Contains c.set o → (q : Owner) → q ≢ Owner.closing c → IsThere (after past) q → Spares (after past) (events.Fini h o) q
-  finis_spare_one past h o c lawful there inside (Owner.opening l) differs at = λ j d is has_it. not_fini h o j d is
-  finis_spare_one past h o c lawful there inside (Owner.closing k) differs at = (
-    λ j d is has_it. differs (ap (λ (x : Closing). Owner.closing x) ((laws.dies past lawful).once k c o at there (subst (Contains k.set) (sym (same_fini h o j d is)) has_it) inside)),
+  finis_spare_one : (past : List Event) (h o : ℕ) (c : Closing) → Lawful m past → Contains (after past).closings c → Contains c.set o → (q : Origin) → q ≢ Origin.closing c → IsThere (after past) q → Spares (after past) (events.Fini h o) q
+  finis_spare_one past h o c lawful there inside (Origin.opening l) differs at = λ j d is has_it. not_fini h o j d is
+  finis_spare_one past h o c lawful there inside (Origin.closing k) differs at = (
+    λ j d is has_it. differs (ap (λ (x : Closing). Origin.closing x) ((laws.dies past lawful).once k c o at there (subst (Contains k.set) (sym (same_fini h o j d is)) has_it) inside)),
     fini_leaves (after past) h o k at,
   )
 
   pub finis_spare : (past : List Event) (h : ℕ) (objects : List ℕ) (c : Closing) → Lawful m past → AreAllowed w past (finis h objects) → Contains (after past).closings c → AllOf c.set objects
-      → AllSpare (λ q. q ≢ Owner.closing c) past (finis h objects)
+      → AllSpare (λ q. q ≢ Origin.closing c) past (finis h objects)
   finis_spare past h [] c lawful may there all = tt
   finis_spare past h (o ∷ rest) c lawful may there all = (
     λ q differs at. finis_spare_one past h o c lawful there (all o (here o rest)) q differs at,
@@ -108,12 +108,12 @@ unmap_leaves s h set c k by whole differs there = in_filter (λ x. not (is_closi
         named : k.hart ≡ c.hart → k.set ≡ c.set → k ≡ c
         named a b = ap (λ (n : ℕ). record { hart = n; set = k.set }) a ∙ ap (λ (os : List ℕ). record { hart = c.hart; set = os }) b
 
-pub unmap_spares : (past : List Event) (h : ℕ) (c : Closing) → c.hart ≡ h → AllSpare (λ q. q ≢ Owner.closing c) past (events.Unmapped h c.set ∷ [])
-unmap_spares past h c by = (by_owner, tt)
+pub unmap_spares : (past : List Event) (h : ℕ) (c : Closing) → c.hart ≡ h → AllSpare (λ q. q ≢ Origin.closing c) past (events.Unmapped h c.set ∷ [])
+unmap_spares past h c by = (by_origin, tt)
   where
-    by_owner : (q : Owner) → q ≢ Owner.closing c → IsThere (after past) q → Spares (after past) (events.Unmapped h c.set) q
-    by_owner (Owner.opening l) differs at = λ j d is inside. not_unmapped_init h c.set j d is
-    by_owner (Owner.closing k) differs at = (
+    by_origin : (q : Origin) → q ≢ Origin.closing c → IsThere (after past) q → Spares (after past) (events.Unmapped h c.set) q
+    by_origin (Origin.opening l) differs at = λ j d is inside. not_unmapped_init h c.set j d is
+    by_origin (Origin.closing k) differs at = (
       λ j d is inside. not_unmapped_fini h c.set j d is,
-      unmap_leaves (after past) h c.set c k by refl (λ e. differs (ap (λ (x : Closing). Owner.closing x) e)) at,
+      unmap_leaves (after past) h c.set c k by refl (λ e. differs (ap (λ (x : Closing). Origin.closing x) e)) at,
     )

@@ -1,5 +1,7 @@
 pub mod Events
-pub mod Owners
+pub mod Finals
+pub mod Origins
 pub mod Passing
+pub mod Runs
 pub mod Starting
 pub mod Turns

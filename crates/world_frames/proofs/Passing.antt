@@ -1,7 +1,7 @@
 -- The objects in front of a frame are passed, one after another.
-use Rattle.std.proofs.Common.{◌≡◌, ℕ, List, [], ◌∷◌, ◌++◌, map, refl, sym, ap, subst, ◌∙◌, append-nil}
+use Rattle.std.proofs.Common.{◌≡◌, ◌≢◌, ⊎_elim, ℕ, List, [], ◌∷◌, ◌++◌, map, refl, sym, ap, subst, ◌∙◌, append-nil}
 use Rattle.std.specs.List.{Contains}
-use Rattle.std.proofs.lemmas.List.Elements.{Contains-append_right}
+use Rattle.std.proofs.lemmas.List.Elements.{Contains-append_cases, Contains-append_right}
 use Rattle.ld_base.specs.declared.linking.Loaded.{Loaded}
 use Rattle.link_event.specs.declared.event.CloseAnswer.TheVariants as closings
 use Rattle.link_event.specs.declared.event.Event.{Event}
@@ -9,6 +9,7 @@ use Rattle.link_event.specs.declared.event.Event.TheVariants as events
 use Rattle.link_event.specs.declared.event.OpenAnswer.TheVariants as openings
 use Rattle.link_event.specs.declared.event.OpenAsk.{OpenAsk}
 use Rattle.link_event.specs.declared.event.Range.{Range}
+use Rattle.link_event.specs.declared.event.SymAnswer.TheVariants as symbols
 use Rattle.link_event.specs.declared.handed.Function.{Function}
 use Rattle.link_event.specs.declared.state.Closing.{Closing}
 use Rattle.link_event.specs.declared.state.Loading.{Loading}
@@ -19,24 +20,55 @@ use Rattle.link_history.specs.Links.{finis_of}
 use Rattle.link_history.specs.Objects.{serial_of}
 use Rattle.link_history.specs.Setting.{Setting}
 use Rattle.link_history.specs.State.{State}
-use Rattle.link_history.specs.Step.{die, loaded, lower, step}
-use Rattle.link_history.specs.Lemmas.History.{after_push, lawful_push, legal_is_lawful}
-use Rattle.link_history.specs.Lemmas.Lists.{here}
+use Rattle.link_history.specs.Step.{closing_of, die, initialise, loaded, lower, step, unmap}
+use Rattle.link_history.specs.Lemmas.History.{after_push, by_lawful, lawful_push, legal_is_lawful}
+use Rattle.link_history.specs.Lemmas.Lists.{from_filter, here, none_in, only_in}
 use Rattle.link_service.specs.Functions.{AreConstructors, AreDestructors, AreLeft, left, object_of, passed}
 use Rattle.link_service.specs.Laws.{NextFinishes, NextStarts, OpeningBegins}
 use Rattle.link_service.specs.Lemmas.Finishing.{passed_first}
 use Rattle.hart_moves.specs.Harts.{Purpose}
 use Rattle.hart_moves.specs.Moves.{AreAllowed, passing}
 use Rattle.world_turns.specs.Lemmas.Events.{one_behind}
-use Rattle.world_frames.specs.Belong.{AreFramesOf, IsFrameOf, IsOfClosing, IsOfOpening, Owner}
-use Rattle.world_frames.specs.Laws.{ClosingsPass, FramesClose, FramesPass, HasClosed, OpeningsPass}
+use Rattle.world_frames.specs.Belong.{AreFramesOf, IsFrameOf, IsOfClosing, IsOfOpening, Origin}
+use Rattle.world_frames.specs.Laws.{ClosingsPass, FramesClose, FramesPass, OpeningsPass}
 use Rattle.world_frames.proofs.Events.{fini_leaves, finis, inits}
-use Rattle.world_frames.proofs.Owners.{loading_kept}
+use Rattle.world_frames.proofs.Origins.{loading_kept}
 
 pub record NextLaws : Type 0 where
   pub starts : NextStarts
   pub finishes : NextFinishes
   pub begins : OpeningBegins
+
+-- ---- closings have objects
+
+abbrev HaveObjects : State → Type 0
+HaveObjects s = (c : Closing) → Contains s.closings c → c.set ≢ []
+
+some_of : (hart : ℕ) (set : List ℕ) (c : Closing) → Contains (closing_of hart set) c → c.set ≢ []
+some_of hart [] c there = absurd (none_in c there)
+some_of hart (d ∷ rest) c there = λ none. let no : d ∷ rest ≡ [] = ap (λ (k : Closing). k.set) (only_in (record { hart = hart; set = d ∷ rest }) c there) ∙ none in cc
+
+some_step : (s : State) (e : Event) → HaveObjects s → HaveObjects (step s e)
+unfolding loaded die lower unmap initialise
+some_step s (events.Open hart ask (openings.Done id root added ranges)) have c there = have c there
+some_step s (events.Open hart ask openings.Absent) have c there = have c there
+some_step s (events.Open hart ask (openings.Refused fault)) have c there = have c there
+some_step s (events.Close hart handle (closings.Done set)) have c there =
+    ⊎_elim (λ (old : Contains s.closings c). have c old) (λ (new : Contains (closing_of hart set) c). some_of hart set c new) (Contains-append_cases s.closings (closing_of hart set) c there)
+some_step s (events.Close hart handle (closings.Refused fault)) have c there = have c there
+some_step s (events.Unmapped hart set) have c there = have c (from_filter _ s.closings c there).0
+some_step s (events.Grant number hart owner slot choice value) have c there = have c there
+some_step s (events.Bound number) have c there = have c there
+some_step s (events.Lost number saw) have c there = have c there
+some_step s (events.Unresolved hart owner slot choice) have c there = have c there
+some_step s (events.Sym hart ask (symbols.Found serial index value)) have c there = have c there
+some_step s (events.Sym hart ask (symbols.Refused fault)) have c there = have c there
+some_step s (events.Tls hart owner address) have c there = have c there
+some_step s (events.Init hart object) have c there = have c there
+some_step s (events.Fini hart object) have c there = have c there
+some_step s (events.Wrote hart bytes) have c there = have c there
+some_step s (events.Told hart fault) have c there = have c there
+some_step s (events.Ended hart reason) have c there = have c there
 
 -- ---- of an opening
 
@@ -104,34 +136,46 @@ closing_passes laws w past h set c f rest legal x =
     (finishes_pass laws w past c (f.object ∷ passed rest) (map object_of (left rest)) (legal_is_lawful w past legal) x.there
     (ap (λ (os : List ℕ). finis_of (after past) os) x.whole ∙ x.left ∙ passed_and_left f rest)).may
 
-frame_passes : NextLaws → (w : Setting) (past : List Event) (h : ℕ) (o : Owner) (purpose : Purpose) (f : Function) (rest : List Function) → Legal w past → IsFrameOf (after past) h o purpose (f ∷ rest)
+frame_passes : NextLaws → (w : Setting) (past : List Event) (h : ℕ) (o : Origin) (purpose : Purpose) (f : Function) (rest : List Function) → Legal w past → IsFrameOf (after past) h o purpose (f ∷ rest)
     → AreAllowed w past (map (passing purpose h) (f.object ∷ passed rest))
-frame_passes laws w past h (Owner.opening l) (Purpose.of_startup registers) f rest legal x = opening_passes laws w past h l f rest legal x
-frame_passes laws w past h (Owner.opening l) (Purpose.of_opening to root) f rest legal x = opening_passes laws w past h l f rest legal x
-frame_passes laws w past h (Owner.opening l) (Purpose.of_closing to set) f rest legal x = absurd x
-frame_passes laws w past h (Owner.opening l) (Purpose.of_end code) f rest legal x = absurd x
-frame_passes laws w past h (Owner.closing c) (Purpose.of_startup registers) f rest legal x = absurd x
-frame_passes laws w past h (Owner.closing c) (Purpose.of_opening to root) f rest legal x = absurd x
-frame_passes laws w past h (Owner.closing c) (Purpose.of_closing to set) f rest legal x = closing_passes laws w past h set c f rest legal x
-frame_passes laws w past h (Owner.closing c) (Purpose.of_end code) f rest legal x = absurd x
+frame_passes laws w past h (Origin.opening l) (Purpose.of_startup registers) f rest legal x = opening_passes laws w past h l f rest legal x
+frame_passes laws w past h (Origin.opening l) (Purpose.of_opening to root) f rest legal x = opening_passes laws w past h l f rest legal x
+frame_passes laws w past h (Origin.opening l) (Purpose.of_closing to set) f rest legal x = absurd x
+frame_passes laws w past h (Origin.opening l) (Purpose.of_end code) f rest legal x = absurd x
+frame_passes laws w past h (Origin.closing c) (Purpose.of_startup registers) f rest legal x = absurd x
+frame_passes laws w past h (Origin.closing c) (Purpose.of_opening to root) f rest legal x = absurd x
+frame_passes laws w past h (Origin.closing c) (Purpose.of_closing to set) f rest legal x = closing_passes laws w past h set c f rest legal x
+frame_passes laws w past h (Origin.closing c) (Purpose.of_end code) f rest legal x = absurd x
 
 pub frames_pass : NextLaws → FramesPass
-frames_pass laws w past h purpose f rest below legal x = by x.owners x.are
+frames_pass laws w past h purpose f rest below legal x = by x.origins x.are
   where
-    by : (owners : List Owner) → AreFramesOf (after past) h owners (record { purpose = purpose; queue = f ∷ rest } ∷ below) → AreAllowed w past (map (passing purpose h) (f.object ∷ passed rest))
+    by : (origins : List Origin) → AreFramesOf (after past) h origins (record { purpose = purpose; queue = f ∷ rest } ∷ below) → AreAllowed w past (map (passing purpose h) (f.object ∷ passed rest))
     by [] are = absurd are
-    by (o ∷ owners) are = frame_passes laws w past h o purpose f rest legal are.0
+    by (o ∷ origins) are = frame_passes laws w past h o purpose f rest legal are.0
+
+-- a closing has objects
+closings_some : (w : Setting) (past : List Event) → Legal w past → (c : Closing) → Contains (after past).closings c → c.set ≢ []
+closings_some w past legal = by_lawful w.machine HaveObjects (λ c there. absurd (none_in c there)) (λ v before e same lawful have may. some_step (after before) e have) past (legal_is_lawful w past legal)
 
 pub frames_close : FramesClose
-frames_close w past h to set below x = by x.owners x.are
+frames_close w past h to set below legal x free = by x.origins x.are
   where
-    one : (o : Owner) → IsFrameOf (after past) h o (Purpose.of_closing to set) [] → HasClosed w past h set
-    one (Owner.opening l) are = absurd are
-    one (Owner.closing c) are = record { closing = c; there = are.there; by = are.by; whole = are.whole; done = are.left }
+    one : (o : Origin) → IsFrameOf (after past) h o (Purpose.of_closing to set) [] → Allowed w past (events.Unmapped h set)
+    one (Origin.opening l) are = absurd are
+    one (Origin.closing c) are = record {
+      some = λ none. closings_some w past legal c are.there (are.whole ∙ none);
+      closing = c;
+      there = are.there;
+      by = are.by;
+      whole = are.whole;
+      done = are.left;
+      free = free;
+    }
 
-    by : (owners : List Owner) → AreFramesOf (after past) h owners (record { purpose = Purpose.of_closing to set; queue = [] } ∷ below) → HasClosed w past h set
+    by : (origins : List Origin) → AreFramesOf (after past) h origins (record { purpose = Purpose.of_closing to set; queue = [] } ∷ below) → Allowed w past (events.Unmapped h set)
     by [] are = absurd are
-    by (o ∷ owners) are = one o are.0
+    by (o ∷ origins) are = one o are.0
 
 -- ---- behind an opening, and a closing
 

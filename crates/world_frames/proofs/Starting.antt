@@ -1,6 +1,7 @@
 -- When a run starts the first hart has the constructors of the program's opening to run.
-use Rattle.std.proofs.Common.{◌≡◌, ℕ, zero, suc, ◌+◌, List, [], ◌∷◌, ◌++◌, flat_map, map, Some, None, refl, sym, ap, subst, ◌∙◌}
+use Rattle.std.proofs.Common.{◌≡◌, ℕ, zero, suc, ◌+◌, List, [], ◌∷◌, ◌++◌, flat_map, map, Some, refl, sym, ap, subst, ◌∙◌}
 use Rattle.std.specs.List.{Contains, slice_get}
+use Rattle.std.proofs.lemmas.Option.{none-some}
 use Rattle.ld_base.specs.declared.linking.Loaded.{Loaded}
 use Rattle.link_event.specs.declared.event.Event.{Event}
 use Rattle.link_event.specs.declared.handed.Function.{Function}
@@ -24,15 +25,13 @@ use Rattle.link_service.specs.Startup.{FindHarts, found_at, opening, program_ask
 use Rattle.hart_moves.specs.Harts.{Frame, HartState, Purpose}
 use Rattle.hart_moves.specs.Moves.{runs}
 use Rattle.hart_moves.specs.Starting.{starting_hart, starting_harts, starting_registers}
-use Rattle.turn_frames.specs.Lemmas.Dues.{runs_frames}
+use Rattle.turn_frames.specs.Leaves.{behind_first}
+use Rattle.turn_frames.specs.Lemmas.Turning.{runs_frames}
 use Rattle.world_turns.specs.Run.{IsStarted}
 use Rattle.world_turns.specs.World.{World}
-use Rattle.world_frames.specs.Belong.{FramesBelong, FramesFit, IsOfOpening, Owner}
+use Rattle.world_frames.specs.Belong.{FramesBelong, FramesFit, IsOfOpening, Origin}
 use Rattle.world_frames.specs.Laws.{StartBelongs}
 use Rattle.world_frames.proofs.Passing.{new_loading}
-
-none_there : {X : Type 0} (x : X) → None ≡ Some x → ⊥
-none_there x e = let d : None ≡ Some x = e in cc
 
 -- look-ups that find something leave the state as it is
 finds_keep : (w : Setting) (past : List Event) (h : ℕ) (names : List (List ℕ)) (found : List Event) (addresses : List ℕ) → FindHarts w past h names found addresses → (s : State) → after_from s found ≡ s
@@ -52,12 +51,12 @@ preceded_objects before (f ∷ rest) = refl
 
 none_lawful : (m : Machine) → Lawful m []
 unfolding Lawful
-none_lawful m k e at = absurd (none_there e at)
+none_lawful m k e at = absurd (none-some e at)
 
 -- of no new objects there are no constructors
 none_left : (edges : List Edge) (order : List ℕ) → InitOrder edges (program_last (Some 1) []) order → order ≡ []
 none_left edges [] x = refl
-none_left edges (o ∷ rest) x = absurd (none_there o ((x.each 0 o refl).stands))
+none_left edges (o ∷ rest) x = absurd (none-some o ((x.each 0 o refl).stands))
 
 module _ (begins : OpeningBegins) (w : Setting) (setup : Setup) (world : World) (is : IsStarted w setup world) where
   abbrev functions : List Function
@@ -85,7 +84,7 @@ module _ (begins : OpeningBegins) (w : Setting) (setup : Setup) (world : World) 
       }
 
   none_fit : (h : ℕ) (frames : List Frame) → frames ≡ [] → FramesFit (after world.journal) h frames
-  none_fit h frames none = subst (FramesFit (after world.journal) h) (sym none) (record { owners = []; are = tt; once = tt })
+  none_fit h frames none = subst (FramesFit (after world.journal) h) (sym none) (record { origins = []; are = tt; once = tt })
 
   -- the first hart's
   first_fit : (entry : HartEntry) (fs : List Function) → is.started.functions ≡ fs → (added : List Loaded) → is.starts.added ≡ added → FramesFit (after world.journal) 0 (runs (Purpose.of_startup (starting_registers entry)) fs [] (starting_hart setup.fuel entry)).frames
@@ -99,30 +98,25 @@ module _ (begins : OpeningBegins) (w : Setting) (setup : Setup) (world : World) 
       some_left : [] ≡ f.object ∷ map object_of rest → ⊥
       some_left e = let no : [] ≡ f.object ∷ map object_of rest = e in cc
   first_fit entry (f ∷ rest) are (o ∷ others) news =
-      let frames = runs_frames (Purpose.of_startup (starting_registers entry)) (f ∷ rest) [] (starting_hart setup.fuel entry) in
-      subst (FramesFit (after world.journal) 0) (sym frames.2)
+      subst (FramesFit (after world.journal) 0) (sym (runs_frames (Purpose.of_startup (starting_registers entry)) (f ∷ rest) [] (starting_hart setup.fuel entry)))
       (record {
-        owners = Owner.opening (loading_of_start o others) ∷ [];
-        are = (left_with o others news frames.0 (frames.1), tt);
-        once = (λ there. none_in (Owner.opening (loading_of_start o others)) there, tt);
+        origins = Origin.opening (loading_of_start o others) ∷ [];
+        are = (left_with, tt);
+        once = (λ there. none_in (Origin.opening (loading_of_start o others)) there, tt);
       })
     where
-      left_with : (o : Loaded) (others : List Loaded) → is.starts.added ≡ o ∷ others → (g : Function) → g.object ≡ f.object → IsOfOpening (after world.journal) 0 (loading_of_start o others) (g ∷ rest)
-      left_with o others news g same =
+      left_with : IsOfOpening (after world.journal) 0 (loading_of_start o others) (behind_first f ∷ rest)
+      left_with =
           let x = left_at_start o others news in
-          record {
-            there = x.there;
-            by = x.by;
-            left = subst (AreLeft (after world.journal) (loading_of_start o others)) (ap (λ (fs : List Function). map object_of fs) are ∙ ap (λ (n : ℕ). n ∷ map object_of rest) (sym same)) x.left;
-          }
+          record { there = x.there; by = x.by; left = subst (AreLeft (after world.journal) (loading_of_start o others)) (ap (λ (fs : List Function). map object_of fs) are) x.left }
 
   others_fit : (entries : List HartEntry) (h k : ℕ) (b : HartState) → slice_get (map (starting_hart setup.fuel) entries) h ≡ Some b → FramesFit (after world.journal) k b.frames
-  others_fit [] h k b at = absurd (none_there b at)
+  others_fit [] h k b at = absurd (none-some b at)
   others_fit (entry ∷ rest) zero k b at = none_fit k b.frames (ap (λ (x : HartState). x.frames) (let same : b ≡ starting_hart setup.fuel entry = cc in same))
   others_fit (entry ∷ rest) (suc h) k b at = others_fit rest h k b at
 
   all_fit : (entries : List HartEntry) (h : ℕ) (b : HartState) → slice_get (starting_harts setup.fuel is.started.functions entries) h ≡ Some b → FramesFit (after world.journal) h b.frames
-  all_fit [] h b at = absurd (none_there b at)
+  all_fit [] h b at = absurd (none-some b at)
   all_fit (entry ∷ rest) zero b at =
       subst (λ (x : HartState). FramesFit (after world.journal) 0 x.frames) (let same : runs (Purpose.of_startup (starting_registers entry)) is.started.functions [] (starting_hart setup.fuel entry) ≡ b = cc in same)
       (first_fit entry is.started.functions refl is.starts.added refl)

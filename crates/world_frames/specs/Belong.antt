@@ -11,9 +11,9 @@ use Rattle.link_service.specs.Functions.{AreLeft, object_of}
 use Rattle.hart_moves.specs.Harts.{Frame, HartState, Purpose}
 use Rattle.world_turns.specs.World.{World}
 
-pub data Owner : Type 0 where
-  opening : Loading → Owner
-  closing : Closing → Owner
+pub data Origin : Type 0 where
+  opening : Loading → Origin
+  closing : Closing → Origin
 
 -- the objects of the queue are those that the hart's opening has still to initialise, in their order
 pub record IsOfOpening (s : State) (h : ℕ) (l : Loading) (queue : List Function) : Type 0 where
@@ -28,32 +28,32 @@ pub record IsOfClosing (s : State) (h : ℕ) (set : List ℕ) (c : Closing) (que
   pub whole : c.set ≡ set
   pub left : finis_of s set ≡ map object_of queue
 
-abbrev pub IsFrameOf : State → ℕ → Owner → Purpose → List Function → Type 0
-IsFrameOf s h (Owner.opening l) (Purpose.of_startup registers) queue = IsOfOpening s h l queue
-IsFrameOf s h (Owner.opening l) (Purpose.of_opening to root) queue = IsOfOpening s h l queue
-IsFrameOf s h (Owner.opening l) (Purpose.of_closing to set) queue = ⊥
-IsFrameOf s h (Owner.opening l) (Purpose.of_end code) queue = ⊥
-IsFrameOf s h (Owner.closing c) (Purpose.of_startup registers) queue = ⊥
-IsFrameOf s h (Owner.closing c) (Purpose.of_opening to root) queue = ⊥
-IsFrameOf s h (Owner.closing c) (Purpose.of_closing to set) queue = IsOfClosing s h set c queue
-IsFrameOf s h (Owner.closing c) (Purpose.of_end code) queue = ⊥
+abbrev pub IsFrameOf : State → ℕ → Origin → Purpose → List Function → Type 0
+IsFrameOf s h (Origin.opening l) (Purpose.of_startup registers) queue = IsOfOpening s h l queue
+IsFrameOf s h (Origin.opening l) (Purpose.of_opening to root) queue = IsOfOpening s h l queue
+IsFrameOf s h (Origin.opening l) (Purpose.of_closing to set) queue = ⊥
+IsFrameOf s h (Origin.opening l) (Purpose.of_end code) queue = ⊥
+IsFrameOf s h (Origin.closing c) (Purpose.of_startup registers) queue = ⊥
+IsFrameOf s h (Origin.closing c) (Purpose.of_opening to root) queue = ⊥
+IsFrameOf s h (Origin.closing c) (Purpose.of_closing to set) queue = IsOfClosing s h set c queue
+IsFrameOf s h (Origin.closing c) (Purpose.of_end code) queue = ⊥
 
 -- each frame is of one
-abbrev pub AreFramesOf : State → ℕ → List Owner → List Frame → Type 0
+abbrev pub AreFramesOf : State → ℕ → List Origin → List Frame → Type 0
 AreFramesOf s h [] [] = Unit {0}
 AreFramesOf s h [] (frame ∷ below) = ⊥
-AreFramesOf s h (o ∷ owners) [] = ⊥
-AreFramesOf s h (o ∷ owners) (frame ∷ below) = IsFrameOf s h o frame.purpose frame.queue × AreFramesOf s h owners below
+AreFramesOf s h (o ∷ origins) [] = ⊥
+AreFramesOf s h (o ∷ origins) (frame ∷ below) = IsFrameOf s h o frame.purpose frame.queue × AreFramesOf s h origins below
 
-abbrev pub AllDiffer : List Owner → Type 0
+abbrev pub AllDiffer : List Origin → Type 0
 AllDiffer [] = Unit {0}
-AllDiffer (o ∷ owners) = ¬ (Contains owners o) × AllDiffer owners
+AllDiffer (o ∷ origins) = ¬ (Contains origins o) × AllDiffer origins
 
 -- and no two are of one
 pub record FramesFit (s : State) (h : ℕ) (frames : List Frame) : Type 0 where
-  pub owners : List Owner
-  pub are : AreFramesOf s h owners frames
-  pub once : AllDiffer owners
+  pub origins : List Origin
+  pub are : AreFramesOf s h origins frames
+  pub once : AllDiffer origins
 
 abbrev pub FramesBelong : World → Type 0
 FramesBelong world = (h : ℕ) (b : HartState) → slice_get world.harts h ≡ Some b → FramesFit (after world.journal) h b.frames

@@ -1,29 +1,32 @@
--- What holds of the frames of every run, before its final destructors.
-use Rattle.std.specs.Prelude.{◌≡◌, ℕ, List, [], ◌∷◌, ◌++◌, map, Contains}
+-- What holds of the frames of every run, before its final destructors and in them.
+use Rattle.std.specs.Prelude.{◌≡◌, ℕ, List, [], ◌∷◌, ◌++◌, map, IsTrue}
 use Rattle.ld_base.specs.declared.linking.Loaded.{Loaded}
 use Rattle.link_event.specs.declared.event.CloseAnswer.TheVariants as closings
 use Rattle.link_event.specs.declared.event.Event.{Event}
-use Rattle.link_event.specs.declared.event.Event.TheVariants.{Close, Open}
+use Rattle.link_event.specs.declared.event.Event.TheVariants.{Close, Fini, Open, Unmapped}
 use Rattle.link_event.specs.declared.event.OpenAnswer.TheVariants as openings
 use Rattle.link_event.specs.declared.event.OpenAsk.{OpenAsk}
 use Rattle.link_event.specs.declared.event.Range.{Range}
 use Rattle.link_event.specs.declared.handed.Function.{Function}
-use Rattle.link_event.specs.declared.state.Closing.{Closing}
 use Rattle.link_served.specs.declared.startup.Setup.{Setup}
+use Rattle.rv_hart.specs.Registers.{Registers}
+use Rattle.link_history.specs.Accepted.{AcceptsOnly}
 use Rattle.link_history.specs.After.{after}
-use Rattle.link_history.specs.Allowed.{Allowed}
+use Rattle.link_history.specs.Allowed.{Allowed, IsUngranted}
 use Rattle.link_history.specs.Legal.{Legal}
-use Rattle.link_history.specs.Links.{finis_of}
 use Rattle.link_history.specs.Objects.{serial_of}
-use Rattle.link_history.specs.Setting.{Setting}
+use Rattle.link_history.specs.Setting.{Setting, have_exited as have_all_exited}
 use Rattle.link_service.specs.Functions.{AreConstructors, AreDestructors, passed}
 use Rattle.hart_moves.specs.Harts.{Frame, Purpose}
-use Rattle.hart_moves.specs.Moves.{AreAllowed, passing}
-use Rattle.world_turns.specs.Run.{IsStarted}
+use Rattle.hart_moves.specs.Moves.{AreAllowed, all_finis, own_fini, passing}
+use Rattle.schedules.specs.declared.schedule.TurnItem.{TurnItem}
+use Rattle.world_turns.specs.Run.{Begins, IsStarted, Run, have_exited}
+use Rattle.world_turns.specs.Throughout.{LoadsAlwaysFit}
 use Rattle.world_turns.specs.Turn.{Turn}
 use Rattle.world_turns.specs.World.{World}
-use Rattle.world_ends.specs.Ends.{BeforeFinals}
+use Rattle.world_ends.specs.Ends.{BeforeFinals, InFinals}
 use Rattle.world_frames.specs.Belong.{FramesBelong, FramesFit}
+use Rattle.world_frames.specs.Finals.{FinalsBelong, FinalsFit}
 
 -- ---- what keeps it
 
@@ -31,7 +34,8 @@ abbrev pub StartBelongs : Type 0
 StartBelongs = (w : Setting) (setup : Setup) (world : World) → IsStarted w setup world → FramesBelong world
 
 abbrev pub TurnsKeepFrames : Type 0
-TurnsKeepFrames = (w : Setting) (h : ℕ) (old new : World) → Legal w new.journal → Turn w h old new → BeforeFinals w old → FramesBelong old → FramesBelong new
+TurnsKeepFrames = (w : Setting) (h : ℕ) (old new : World) → Legal w new.journal → Turn w h old new → BeforeFinals w old → FramesBelong old
+    → FramesBelong new
 
 -- ---- what it is for
 
@@ -42,8 +46,8 @@ FramesPass = (w : Setting) (past : List Event) (h : ℕ) (purpose : Purpose) (f 
 
 -- behind an opening the new objects in front that have none
 abbrev pub OpeningsPass : Type 0
-OpeningsPass = (w : Setting) (past : List Event) (h to id root : ℕ) (ask : OpenAsk) (first : Loaded) (rest : List Loaded) (ranges : List Range) (functions : List Function)
-    → Legal w past → Allowed w past (Open h ask (openings.Done id root (first ∷ rest) ranges))
+OpeningsPass = (w : Setting) (past : List Event) (h to id root : ℕ) (ask : OpenAsk) (first : Loaded) (rest : List Loaded) (ranges : List Range)
+    (functions : List Function) → Legal w past → Allowed w past (Open h ask (openings.Done id root (first ∷ rest) ranges))
     → AreConstructors (after (past ++ Open h ask (openings.Done id root (first ∷ rest) ranges) ∷ [])) (map serial_of (first ∷ rest)) functions
     → AreAllowed w (past ++ Open h ask (openings.Done id root (first ∷ rest) ranges) ∷ []) (map (passing (Purpose.of_opening to root) h) (passed functions))
 
@@ -54,14 +58,41 @@ ClosingsPass = (w : Setting) (past : List Event) (h to handle first : ℕ) (rest
     → AreDestructors (after (past ++ Close h handle (closings.Done (first ∷ rest)) ∷ [])) (first ∷ rest) functions
     → AreAllowed w (past ++ Close h handle (closings.Done (first ∷ rest)) ∷ []) (map (passing (Purpose.of_closing to (first ∷ rest)) h) (passed functions))
 
--- a closing whose objects are to be unmapped is there, and each of them is finalised
-pub record HasClosed (w : Setting) (past : List Event) (h : ℕ) (set : List ℕ) : Type 0 where
-  pub closing : Closing
-  pub there : Contains (after past).closings closing
-  pub by : closing.hart ≡ h
-  pub whole : closing.set ≡ set
-  pub done : finis_of (after past) set ≡ []
-
+-- a closing whose functions have run may have its objects unmapped, but for what open grants hold
 abbrev pub FramesClose : Type 0
-FramesClose = (w : Setting) (past : List Event) (h to : ℕ) (set : List ℕ) (below : List Frame)
-    → FramesFit (after past) h (record { purpose = Purpose.of_closing to set; queue = [] } ∷ below) → HasClosed w past h set
+FramesClose = (w : Setting) (past : List Event) (h to : ℕ) (set : List ℕ) (below : List Frame) → Legal w past
+    → FramesFit (after past) h (record { purpose = Purpose.of_closing to set; queue = [] } ∷ below) → IsUngranted (after past) set
+    → Allowed w past (Unmapped h set)
+
+-- ---- the final destructors
+
+abbrev pub FinalsBeginBelong : Type 0
+FinalsBeginBelong = (w : Setting) (registers : Registers) (old new : World) → IsTrue (have_exited old) → Begins registers old new → BeforeFinals w old
+    → FinalsBelong w new
+
+abbrev pub FinalsKeepFrames : Type 0
+FinalsKeepFrames = (w : Setting) (h : ℕ) (old new : World) → Legal w new.journal → Turn w h old new → InFinals w old → FinalsBelong w old
+    → FinalsBelong w new
+
+-- so the object whose destructors have run may be finalised, if it is still to be
+abbrev pub FinalsFinish : Type 0
+FinalsFinish = (w : Setting) (past : List Event) (code : ℕ) (f : Function) (rest : List Function) (below : List Frame)
+    → FinalsFit w past (record { purpose = Purpose.of_end code; queue = f ∷ rest } ∷ below) → AreAllowed w past (own_fini (after past) 0 f.object)
+
+-- and the one that is next of all, which passes where it has none
+abbrev pub FinalsPass : Type 0
+FinalsPass = (w : Setting) (past : List Event) (object : ℕ) (rest : List ℕ) → IsTrue (have_all_exited w (after past))
+    → all_finis (after past) ≡ object ∷ rest → Allowed w past (Fini 0 object)
+
+-- ---- a run
+
+-- the frames of its worlds belong to openings and closings, until the final destructors begin
+pub record FramesBelongThroughout (w : Setting) (setup : Setup) (items : List TurnItem) (world : World) (run : Run w setup items world) : Type 0 where
+  pub started : FramesBelong run.started
+  pub constructed : FramesBelong run.constructed
+  pub scheduled : FramesBelong run.scheduled
+  pub finished : FramesBelong run.finished
+
+abbrev pub RunsBelong : Type 0
+RunsBelong = (w : Setting) (setup : Setup) (items : List TurnItem) (world : World) (run : Run w setup items world) → AcceptsOnly w.machine
+    → LoadsAlwaysFit w → FramesBelongThroughout w setup items world run

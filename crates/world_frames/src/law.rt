@@ -1,6 +1,7 @@
 //! What holds of the frames of every run.
 
-ghost use Rattle.world_frames.specs.Laws.{ClosingsPass, FramesClose, FramesPass, OpeningsPass, StartBelongs, TurnsKeepFrames};
+ghost use Rattle.world_frames.specs.Laws.{ClosingsPass, FinalsBeginBelong, FinalsFinish, FinalsKeepFrames, FinalsPass, FramesClose};
+ghost use Rattle.world_frames.specs.Laws.{FramesPass, OpeningsPass, RunsBelong, StartBelongs, TurnsKeepFrames};
 
 /// When a run starts each frame is of an opening, and so it is, of an opening or a closing, behind each
 /// turn before the final destructors.
@@ -17,7 +18,17 @@ pub fn frames_belong()
     link_service::destructors_follow();
 }
 
-/// So the objects in front may be passed: those of a frame, of an opening and of a closing; and a closing
+/// So it is behind each part of a run, until the final destructors begin.
+pub fn runs_belong()
+    ensures { RunsBelong }
+{
+    world_turns::runs_start_sound();
+    world_turns::turns_stay_sound();
+    world_ends::ends_fit();
+    frames_belong();
+}
+
+/// The objects in front may be passed: those of a frame, of an opening and of a closing; and a closing
 /// whose functions have run may be unmapped, but for what open grants hold.
 pub fn functions_may_pass()
     ensures frames { FramesPass }
@@ -28,3 +39,25 @@ pub fn functions_may_pass()
     link_service::constructors_follow();
     link_service::destructors_follow();
 }
+
+/// In the final destructors the first hart runs those of one object, until it ends, below what they have
+/// begun themselves: when they begin, and behind each turn.
+pub fn finals_belong()
+    ensures begin { FinalsBeginBelong }
+    ensures turns { FinalsKeepFrames }
+{
+    scope_rule::serials_follow();
+    scope_rule::found_stands();
+    link_history::serials_are_in_order();
+    link_history::each_dies_once();
+    link_history::closed_are_spare();
+    link_service::constructors_follow();
+    link_service::destructors_follow();
+    world_ends::ends_fit();
+}
+
+/// So that object may be finalised when they have run, and the next of all may pass.
+pub fn finals_may_pass()
+    ensures own { FinalsFinish }
+    ensures next { FinalsPass }
+{}
