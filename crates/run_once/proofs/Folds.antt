@@ -1,7 +1,7 @@
 -- One part of a run after another: each comes to one world.
-use Rattle.std.proofs.Common.{◌≡◌, ℕ, suc, Bool, true, false, cond, ◌||◌, IsTrue, List, [], ◌∷◌, ◌++◌, Option, Some, None, refl, sym, ap, subst, ◌∙◌, append-nil, append_assoc}
-use Rattle.std.specs.List.{list_any, slice_get}
-use Rattle.std.proofs.lemmas.List.Folds.{list_any-append}
+use Rattle.std.proofs.Common.{◌≡◌, ℕ, cond, List, [], ◌∷◌, ◌++◌, Option, Some, None, refl, sym, ap, subst, ◌∙◌, append-nil, append_assoc}
+use Rattle.std.specs.List.{slice_get}
+use Rattle.std.proofs.lemmas.Bool.{true≢false}
 use Rattle.ld_base.specs.declared.linking.File.{File}
 use Rattle.link_event.specs.declared.event.Event.{Event}
 use Rattle.link_event.specs.declared.event.Event.TheVariants as events
@@ -21,12 +21,13 @@ use Rattle.hart_moves.specs.Starting.{finalising_hart}
 use Rattle.hart_moves.specs.Lemmas.Legality.{ended_stays}
 use Rattle.schedules.specs.declared.schedule.TurnItem.{TurnItem}
 use Rattle.world_turns.specs.Laws.{FinalsBeginSound, TurnsAreSound}
-use Rattle.world_turns.specs.Run.{Begins, Constructs, Ends, Finalises, Finishes, LacksMemory, Repeats, Rounds, TakesItems, all_harts, exit_code, have_ended, have_exited, is_starting}
+use Rattle.world_turns.specs.Run.{Begins, Constructs, Ends, Finalises, Finishes, LacksMemory, Repeats, Rounds, TakesItems, all_harts, exit_code}
 use Rattle.world_turns.specs.Sound.{Sound}
 use Rattle.world_turns.specs.Throughout.{LoadsAlwaysFit}
 use Rattle.world_turns.specs.Turn.{TakesTurn, Turn}
 use Rattle.world_turns.specs.World.{World, found_journal, settling}
-use Rattle.turn_once.specs.Laws.{HasNoChance, OneTurn, comes_by_chance}
+use Rattle.turn_once.specs.Laws.{NothingFails, OneTurn}
+use Rattle.turn_once.specs.Lemmas.Failing.{front_part, last_part}
 
 -- ---- journals grow
 
@@ -49,17 +50,15 @@ turn_grows w h old new turn = record {
   is = turn.journal ∙ append_assoc old.journal (cond (settles turn.did) (settling old.harts) []) (events_of turn.did);
 }
 
-either_false : (a b : Bool) → (a || b) ≡ false → a ≡ false
-either_false true b e = e
-either_false false b e = refl
+-- no turn of a run has failed, so that the next may come
+abbrev pub HasNotFailed : World → Type 0
+HasNotFailed world = NothingFails world.journal
 
-pub no_chance_yet : (old new : World) → Grows old new → HasNoChance new → HasNoChance old
-no_chance_yet old new x none =
-    either_false (list_any comes_by_chance old.journal) (list_any comes_by_chance x.more)
-    (sym (list_any-append comes_by_chance old.journal x.more) ∙ sym (ap (λ (es : List Event). list_any comes_by_chance es) x.is) ∙ none)
+pub none_yet : (old new : World) → Grows old new → HasNotFailed new → HasNotFailed old
+none_yet old new x none = front_part old.journal x.more (subst NothingFails x.is none)
 
-never : (t : Bool) → t ≡ true → t ≡ false → ⊥
-never t holds fails = let e : true ≡ false = sym holds ∙ fails in cc
+none_in : (w : Setting) (h : ℕ) (old new : World) (t : Turn w h old new) → HasNotFailed new → NothingFails (events_of t.did)
+none_in w h old new t none = last_part (found_journal old t.did) (events_of t.did) (subst NothingFails t.journal none)
 
 module _ (w : Setting) where
   takes_grow : (h : ℕ) (old new : World) → TakesTurn w h old new → Grows old new
@@ -105,19 +104,10 @@ module _ (w : Setting) where
   finals_grow registers old new (Finalises.no_memory exited lack) = lacks_grow old new lack
   finals_grow registers old new (Finalises.all_run begun exited begin run) = both old begun new (begins_grow registers old begun begin) (ends_grow begun new run)
 
--- want of memory is chance
-any_last : (es : List Event) (e : Event) → comes_by_chance e ≡ true → list_any comes_by_chance (es ++ e ∷ []) ≡ true
-any_last [] e is = ap (λ (t : Bool). t || false) is
-any_last (d ∷ rest) e is = ap (λ (t : Bool). comes_by_chance d || t) (any_last rest e is) ∙ last (comes_by_chance d)
-  where
-    last : (t : Bool) → (t || true) ≡ true
-    last true = refl
-    last false = refl
-
-lacks_chance : (w : Setting) (old new : World) → LacksMemory w old new → HasNoChance new → ⊥
-lacks_chance w old new x none =
-    never (list_any comes_by_chance new.journal)
-    (ap (λ (y : World). list_any comes_by_chance y.journal) x.leaves ∙ any_last (old.journal ++ settling old.harts) (events.Ended 0 ends.Memory) refl) none
+-- want of memory is a failure
+lacks_none : (w : Setting) (old new : World) → LacksMemory w old new → HasNotFailed new → ⊥
+lacks_none w old new x none =
+    true≢false (last_part (old.journal ++ settling old.harts) (events.Ended 0 ends.Memory ∷ []) (subst NothingFails (ap (λ (y : World). y.journal) x.leaves) none))
 
 -- ---- the final destructors begin in one way
 
@@ -157,8 +147,8 @@ module _ (laws : TurnLaws) (w : Setting) (files : List File) (files_are : w.file
   sound_turn : (h : ℕ) (old new : World) → Sound w old → Turn w h old new → Sound w new
   sound_turn h old new x t = laws.sound w h old new only (fit old.journal x.legal) x t
 
-  turn_once : (h : ℕ) (old new other : World) → Sound w old → Turn w h old new → Turn w h old other → HasNoChance new → HasNoChance other → new ≡ other
-  turn_once h old new other x s t none nor = laws.turn w files h old new other files_are only (fit old.journal x.legal) x s t none nor
+  turn_once : (h : ℕ) (old new other : World) → Sound w old → Turn w h old new → Turn w h old other → HasNotFailed new → HasNotFailed other → new ≡ other
+  turn_once h old new other x s t none nor = laws.turn w files h old new other s t files_are only (fit old.journal x.legal) x (none_in w h old new s none) (none_in w h old other t nor)
 
   sound_takes : (h : ℕ) (old new : World) → Sound w old → TakesTurn w h old new → Sound w new
   sound_takes h old new x (TakesTurn.turn t) = sound_turn h old new x t
@@ -169,78 +159,78 @@ module _ (laws : TurnLaws) (w : Setting) (files : List File) (files_are : w.file
       let same : t.before ≡ b = both_found (slice_get old.harts h) t.before b t.there at in
       ended_stays w (found_journal old t.did) h t.before t.left t.did reason (ap (λ (x : HartState). x.«end») same ∙ over) t.moves
 
-  takes_once : (h : ℕ) (old new other : World) → Sound w old → TakesTurn w h old new → TakesTurn w h old other → HasNoChance new → HasNoChance other → new ≡ other
+  takes_once : (h : ℕ) (old new other : World) → Sound w old → TakesTurn w h old new → TakesTurn w h old other → HasNotFailed new → HasNotFailed other → new ≡ other
   takes_once h old new other x (TakesTurn.turn s) (TakesTurn.turn t) none nor = turn_once h old new other x s t none nor
   takes_once h old new other x (TakesTurn.turn s) (TakesTurn.passed_over b reason at over same) none nor = absurd (no_turn h old new b reason at over s)
   takes_once h old new other x (TakesTurn.passed_over b reason at over same) (TakesTurn.turn t) none nor = absurd (no_turn h old other b reason at over t)
   takes_once h old new other x (TakesTurn.passed_over b reason at over same) (TakesTurn.passed_over c why place is also) none nor = same ∙ sym also
 
-  pub constructs_once : (old new other : World) → Sound w old → Constructs w old new → Constructs w old other → HasNoChance new → HasNoChance other → new ≡ other
+  pub constructs_once : (old new other : World) → Sound w old → Constructs w old new → Constructs w old other → HasNotFailed new → HasNotFailed other → new ≡ other
   constructs_once old new other x (Constructs.no_more _ stop) (Constructs.no_more _ halt) none nor = refl
-  constructs_once old new other x (Constructs.no_more _ stop) (Constructs.one_more _ between _ starts t more) none nor = absurd (never (is_starting old) starts stop)
-  constructs_once old new other x (Constructs.one_more _ between _ starts t more) (Constructs.no_more _ stop) none nor = absurd (never (is_starting old) starts stop)
+  constructs_once old new other x (Constructs.no_more _ stop) (Constructs.one_more _ between _ starts t more) none nor = absurd (true≢false (sym starts ∙ stop))
+  constructs_once old new other x (Constructs.one_more _ between _ starts t more) (Constructs.no_more _ stop) none nor = absurd (true≢false (sym starts ∙ stop))
   constructs_once old new other x (Constructs.one_more _ between _ starts s more) (Constructs.one_more _ middle _ begins t others) none nor =
-      let same : between ≡ middle = turn_once 0 old between middle x s t (no_chance_yet between new (constructs_grow w between new more) none) (no_chance_yet middle other (constructs_grow w middle other others) nor) in
+      let same : between ≡ middle = turn_once 0 old between middle x s t (none_yet between new (constructs_grow w between new more) none) (none_yet middle other (constructs_grow w middle other others) nor) in
       constructs_once between new other (sound_turn 0 old between x s) more (subst (λ (y : World). Constructs w y other) (sym same) others) none nor
 
-  repeats_once : (h count : ℕ) (old new other : World) → Sound w old → Repeats w h count old new → Repeats w h count old other → HasNoChance new → HasNoChance other → new ≡ other
+  repeats_once : (h count : ℕ) (old new other : World) → Sound w old → Repeats w h count old new → Repeats w h count old other → HasNotFailed new → HasNotFailed other → new ≡ other
   repeats_once h count old new other x (Repeats.no_more _) (Repeats.no_more _) none nor = refl
   repeats_once h count old new other x (Repeats.one_more rest _ between _ s more) (Repeats.one_more _ _ middle _ t others) none nor =
-      let same : between ≡ middle = takes_once h old between middle x s t (no_chance_yet between new (repeats_grow w h rest between new more) none) (no_chance_yet middle other (repeats_grow w h rest middle other others) nor) in
+      let same : between ≡ middle = takes_once h old between middle x s t (none_yet between new (repeats_grow w h rest between new more) none) (none_yet middle other (repeats_grow w h rest middle other others) nor) in
       repeats_once h rest between new other (sound_takes h old between x s) more (subst (λ (y : World). Repeats w h rest y other) (sym same) others) none nor
 
   sound_repeats : (h count : ℕ) (old new : World) → Sound w old → Repeats w h count old new → Sound w new
   sound_repeats h count old new x (Repeats.no_more _) = x
   sound_repeats h count old new x (Repeats.one_more rest _ between _ s more) = sound_repeats h rest between new (sound_takes h old between x s) more
 
-  pub items_once : (items : List TurnItem) (old new other : World) → Sound w old → TakesItems w items old new → TakesItems w items old other → HasNoChance new → HasNoChance other → new ≡ other
+  pub items_once : (items : List TurnItem) (old new other : World) → Sound w old → TakesItems w items old new → TakesItems w items old other → HasNotFailed new → HasNotFailed other → new ≡ other
   items_once items old new other x (TakesItems.no_more _) (TakesItems.no_more _) none nor = refl
   items_once items old new other x (TakesItems.one_more item rest _ between _ s more) (TakesItems.one_more _ _ _ middle _ t others) none nor =
-      let same : between ≡ middle = repeats_once item.hart item.count old between middle x s t (no_chance_yet between new (items_grow w rest between new more) none) (no_chance_yet middle other (items_grow w rest middle other others) nor) in
+      let same : between ≡ middle = repeats_once item.hart item.count old between middle x s t (none_yet between new (items_grow w rest between new more) none) (none_yet middle other (items_grow w rest middle other others) nor) in
       items_once rest between new other (sound_repeats item.hart item.count old between x s) more (subst (λ (y : World). TakesItems w rest y other) (sym same) others) none nor
 
-  rounds_once : (harts : List ℕ) (old new other : World) → Sound w old → Rounds w harts old new → Rounds w harts old other → HasNoChance new → HasNoChance other → new ≡ other
+  rounds_once : (harts : List ℕ) (old new other : World) → Sound w old → Rounds w harts old new → Rounds w harts old other → HasNotFailed new → HasNotFailed other → new ≡ other
   rounds_once harts old new other x (Rounds.no_more _) (Rounds.no_more _) none nor = refl
   rounds_once harts old new other x (Rounds.one_more h rest _ between _ s more) (Rounds.one_more _ _ _ middle _ t others) none nor =
-      let same : between ≡ middle = takes_once h old between middle x s t (no_chance_yet between new (rounds_grow w rest between new more) none) (no_chance_yet middle other (rounds_grow w rest middle other others) nor) in
+      let same : between ≡ middle = takes_once h old between middle x s t (none_yet between new (rounds_grow w rest between new more) none) (none_yet middle other (rounds_grow w rest middle other others) nor) in
       rounds_once rest between new other (sound_takes h old between x s) more (subst (λ (y : World). Rounds w rest y other) (sym same) others) none nor
 
   sound_rounds : (harts : List ℕ) (old new : World) → Sound w old → Rounds w harts old new → Sound w new
   sound_rounds harts old new x (Rounds.no_more _) = x
   sound_rounds harts old new x (Rounds.one_more h rest _ between _ s more) = sound_rounds rest between new (sound_takes h old between x s) more
 
-  pub finishes_once : (old new other : World) → Sound w old → Finishes w old new → Finishes w old other → HasNoChance new → HasNoChance other → new ≡ other
+  pub finishes_once : (old new other : World) → Sound w old → Finishes w old new → Finishes w old other → HasNotFailed new → HasNotFailed other → new ≡ other
   finishes_once old new other x (Finishes.no_more _ all) (Finishes.no_more _ over) none nor = refl
-  finishes_once old new other x (Finishes.no_more _ all) (Finishes.one_more _ between _ runs s more) none nor = absurd (never (have_ended old) all runs)
-  finishes_once old new other x (Finishes.one_more _ between _ runs s more) (Finishes.no_more _ all) none nor = absurd (never (have_ended old) all runs)
+  finishes_once old new other x (Finishes.no_more _ all) (Finishes.one_more _ between _ runs s more) none nor = absurd (true≢false (sym all ∙ runs))
+  finishes_once old new other x (Finishes.one_more _ between _ runs s more) (Finishes.no_more _ all) none nor = absurd (true≢false (sym all ∙ runs))
   finishes_once old new other x (Finishes.one_more _ between _ runs s more) (Finishes.one_more _ middle _ goes t others) none nor =
-      let same : between ≡ middle = rounds_once (all_harts old) old between middle x s t (no_chance_yet between new (finishes_grow w between new more) none) (no_chance_yet middle other (finishes_grow w middle other others) nor) in
+      let same : between ≡ middle = rounds_once (all_harts old) old between middle x s t (none_yet between new (finishes_grow w between new more) none) (none_yet middle other (finishes_grow w middle other others) nor) in
       finishes_once between new other (sound_rounds (all_harts old) old between x s) more (subst (λ (y : World). Finishes w y other) (sym same) others) none nor
 
-  ends_once : (old new other : World) → Sound w old → Ends w old new → Ends w old other → HasNoChance new → HasNoChance other → new ≡ other
+  ends_once : (old new other : World) → Sound w old → Ends w old new → Ends w old other → HasNotFailed new → HasNotFailed other → new ≡ other
   ends_once old new other x (Ends.no_more _ all) (Ends.no_more _ over) none nor = refl
-  ends_once old new other x (Ends.no_more _ all) (Ends.one_more _ between _ runs s more) none nor = absurd (never (have_ended old) all runs)
-  ends_once old new other x (Ends.one_more _ between _ runs s more) (Ends.no_more _ all) none nor = absurd (never (have_ended old) all runs)
+  ends_once old new other x (Ends.no_more _ all) (Ends.one_more _ between _ runs s more) none nor = absurd (true≢false (sym all ∙ runs))
+  ends_once old new other x (Ends.one_more _ between _ runs s more) (Ends.no_more _ all) none nor = absurd (true≢false (sym all ∙ runs))
   ends_once old new other x (Ends.one_more _ between _ runs s more) (Ends.one_more _ middle _ goes t others) none nor =
-      let same : between ≡ middle = turn_once 0 old between middle x s t (no_chance_yet between new (ends_grow w between new more) none) (no_chance_yet middle other (ends_grow w middle other others) nor) in
+      let same : between ≡ middle = turn_once 0 old between middle x s t (none_yet between new (ends_grow w between new more) none) (none_yet middle other (ends_grow w middle other others) nor) in
       ends_once between new other (sound_turn 0 old between x s) more (subst (λ (y : World). Ends w y other) (sym same) others) none nor
 
   no_first : (registers : Registers) (old new : World) → all_finis (after old.journal) ≡ [] → Begins registers old new → ⊥
   no_first registers old new none x = let no : [] ≡ x.object ∷ x.rest = sym none ∙ x.next in cc
 
-  pub finals_once : (registers : Registers) (old new other : World) → Sound w old → Finalises w registers old new → Finalises w registers old other → HasNoChance new → HasNoChance other → new ≡ other
+  pub finals_once : (registers : Registers) (old new other : World) → Sound w old → Finalises w registers old new → Finalises w registers old other → HasNotFailed new → HasNotFailed other → new ≡ other
   finals_once registers old new other x (Finalises.none_runs runs same) (Finalises.none_runs going also) none nor = same ∙ sym also
   finals_once registers old new other x (Finalises.none_runs runs same) (Finalises.none_is_left left also) none nor = same ∙ sym also
-  finals_once registers old new other x (Finalises.none_runs runs same) (Finalises.no_memory exited lack) none nor = absurd (never (have_exited old) exited runs)
-  finals_once registers old new other x (Finalises.none_runs runs same) (Finalises.all_run begun exited begin run) none nor = absurd (never (have_exited old) exited runs)
+  finals_once registers old new other x (Finalises.none_runs runs same) (Finalises.no_memory exited lack) none nor = absurd (true≢false (sym exited ∙ runs))
+  finals_once registers old new other x (Finalises.none_runs runs same) (Finalises.all_run begun exited begin run) none nor = absurd (true≢false (sym exited ∙ runs))
   finals_once registers old new other x (Finalises.none_is_left left same) (Finalises.none_runs going also) none nor = same ∙ sym also
   finals_once registers old new other x (Finalises.none_is_left left same) (Finalises.none_is_left right also) none nor = same ∙ sym also
-  finals_once registers old new other x (Finalises.none_is_left left same) (Finalises.no_memory exited lack) none nor = absurd (lacks_chance w old other lack nor)
+  finals_once registers old new other x (Finalises.none_is_left left same) (Finalises.no_memory exited lack) none nor = absurd (lacks_none w old other lack nor)
   finals_once registers old new other x (Finalises.none_is_left left same) (Finalises.all_run begun exited begin run) none nor = absurd (no_first registers old begun left begin)
-  finals_once registers old new other x (Finalises.no_memory exited lack) y none nor = absurd (lacks_chance w old new lack none)
-  finals_once registers old new other x (Finalises.all_run begun exited begin run) (Finalises.none_runs going also) none nor = absurd (never (have_exited old) exited going)
+  finals_once registers old new other x (Finalises.no_memory exited lack) y none nor = absurd (lacks_none w old new lack none)
+  finals_once registers old new other x (Finalises.all_run begun exited begin run) (Finalises.none_runs going also) none nor = absurd (true≢false (sym exited ∙ going))
   finals_once registers old new other x (Finalises.all_run begun exited begin run) (Finalises.none_is_left left also) none nor = absurd (no_first registers old begun left begin)
-  finals_once registers old new other x (Finalises.all_run begun exited begin run) (Finalises.no_memory over lack) none nor = absurd (lacks_chance w old other lack nor)
+  finals_once registers old new other x (Finalises.all_run begun exited begin run) (Finalises.no_memory over lack) none nor = absurd (lacks_none w old other lack nor)
   finals_once registers old new other x (Finalises.all_run begun exited begin run) (Finalises.all_run first over starts goes) none nor =
       let same : begun ≡ first = begins_once registers old begun first begin starts in
       ends_once begun new other (laws.begins w registers old begun begin x) run (subst (λ (y : World). Ends w y other) (sym same) goes) none nor

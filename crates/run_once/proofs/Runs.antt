@@ -1,5 +1,5 @@
--- A run comes to one world, chance apart.
-use Rattle.std.proofs.Common.{◌≡◌, ℕ, List, [], ◌∷◌, ◌++◌, length, Option, Some, refl, sym, ap, subst, ◌∙◌}
+-- A run comes to one world, failed reads and want of memory apart.
+use Rattle.std.proofs.Common.{◌≡◌, List, Some, refl, sym, ap, subst, ◌∙◌}
 use Rattle.std.specs.List.{slice_get}
 use Rattle.ld_base.specs.declared.linking.File.{File}
 use Rattle.link_event.specs.declared.event.Event.{Event}
@@ -15,7 +15,7 @@ use Rattle.link_service.specs.Lemmas.Unique.{both_found}
 use Rattle.hart_moves.specs.Harts.{HartState}
 use Rattle.hart_moves.specs.Starting.{starting_harts, starting_registers}
 use Rattle.schedules.specs.declared.schedule.TurnItem.{TurnItem}
-use Rattle.turn_once.specs.Laws.{HasNoChance, OneTurn}
+use Rattle.turn_once.specs.Laws.{OneTurn}
 use Rattle.turn_once.specs.Lemmas.Memory.{all_remade, same_words}
 use Rattle.world_turns.specs.Laws.{FinalsBeginSound, StartIsSound, TurnsAreSound}
 use Rattle.world_turns.specs.Memory.{RemakesAll}
@@ -24,7 +24,7 @@ use Rattle.world_turns.specs.Sound.{Sound}
 use Rattle.world_turns.specs.Throughout.{LoadsAlwaysFit}
 use Rattle.world_turns.specs.World.{World, settling}
 use Rattle.run_once.specs.Laws.{OneRun}
-use Rattle.run_once.proofs.Folds.{Grows, TurnLaws, constructs_grow, constructs_once, finals_grow, finals_once, finishes_grow, finishes_once, items_grow, items_once, no_chance_yet, sound_constructs, sound_finishes, sound_items}
+use Rattle.run_once.proofs.Folds.{Grows, HasNotFailed, TurnLaws, constructs_once, finals_grow, finals_once, finishes_grow, finishes_once, items_grow, items_once, none_yet, sound_constructs, sound_finishes, sound_items}
 
 pub record RunLaws : Type 0 where
   pub turn : OneTurn
@@ -64,21 +64,21 @@ settled_grows : (world : World) → Grows world (settled world)
 settled_grows world = record { more = settling world.harts; is = refl }
 
 module _ (laws : RunLaws) (w : Setting) (setup : Setup) (items : List TurnItem) (files : List File) (files_are : w.files ≡ Some files) (only : AcceptsOnly w.machine) (fit : LoadsAlwaysFit w) (world other : World)
-    (x : Run w setup items world) (y : Run w setup items other) (none : HasNoChance world) (nor : HasNoChance other) where
+    (x : Run w setup items world) (y : Run w setup items other) (none : HasNotFailed world) (nor : HasNotFailed other) where
   turns : TurnLaws
   turns = record { turn = laws.turn; sound = laws.sound; begins = laws.begins }
 
-  none_finalised : (v : World) (z : Run w setup items v) → HasNoChance v → HasNoChance z.finalised
-  none_finalised v z free = no_chance_yet z.finalised (settled z.finalised) (settled_grows z.finalised) (subst HasNoChance z.ends free)
+  none_finalised : (v : World) (z : Run w setup items v) → HasNotFailed v → HasNotFailed z.finalised
+  none_finalised v z free = none_yet z.finalised (settled z.finalised) (settled_grows z.finalised) (subst HasNotFailed z.ends free)
 
-  none_finished : (v : World) (z : Run w setup items v) → HasNoChance v → HasNoChance z.finished
-  none_finished v z free = no_chance_yet z.finished z.finalised (finals_grow w (starting_registers z.entry) z.finished z.finalised z.finalises) (none_finalised v z free)
+  none_finished : (v : World) (z : Run w setup items v) → HasNotFailed v → HasNotFailed z.finished
+  none_finished v z free = none_yet z.finished z.finalised (finals_grow w (starting_registers z.entry) z.finished z.finalised z.finalises) (none_finalised v z free)
 
-  none_scheduled : (v : World) (z : Run w setup items v) → HasNoChance v → HasNoChance z.scheduled
-  none_scheduled v z free = no_chance_yet z.scheduled z.finished (finishes_grow w z.scheduled z.finished z.finishes) (none_finished v z free)
+  none_scheduled : (v : World) (z : Run w setup items v) → HasNotFailed v → HasNotFailed z.scheduled
+  none_scheduled v z free = none_yet z.scheduled z.finished (finishes_grow w z.scheduled z.finished z.finishes) (none_finished v z free)
 
-  none_constructed : (v : World) (z : Run w setup items v) → HasNoChance v → HasNoChance z.constructed
-  none_constructed v z free = no_chance_yet z.constructed z.scheduled (items_grow w items z.constructed z.scheduled z.follows) (none_scheduled v z free)
+  none_constructed : (v : World) (z : Run w setup items v) → HasNotFailed v → HasNotFailed z.constructed
+  none_constructed v z free = none_yet z.constructed z.scheduled (items_grow w items z.constructed z.scheduled z.follows) (none_scheduled v z free)
 
   started : x.started ≡ y.started
   started = start_once laws w setup files files_are x.started y.started x.starts y.starts

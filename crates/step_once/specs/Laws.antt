@@ -15,8 +15,8 @@ OneChain = (first : ℕ) (words left other : List Doubleword) (items : List Item
 
 -- a read gets one answer, and so does a write
 abbrev pub OneRead : Type 0
-OneRead = (first : ℕ) (words left other : List Doubleword) (address size : ℕ) (answer also : Result ℕ BusFault) → DoesIn first words (Read address size answer) left
-    → DoesIn first words (Read address size also) other → answer ≡ also
+OneRead = (first : ℕ) (words left other : List Doubleword) (address size : ℕ) (answer also : Result ℕ BusFault)
+    → DoesIn first words (Read address size answer) left → DoesIn first words (Read address size also) other → answer ≡ also
 
 abbrev pub OneWrite : Type 0
 OneWrite = (first : ℕ) (words left other : List Doubleword) (address size value : ℕ) (answer also : Result Unit BusFault)
@@ -28,5 +28,5 @@ pub record IsOneStep (items others : List Item) (end also : Place) : Type 0 wher
   pub place : end ≡ also
 
 abbrev pub OneStep : Type 0
-OneStep = (first : ℕ) (r : Registers) (words left other : List Doubleword) (items others : List Item) (end also : Place) → IsStep r items end → IsStep r others also
-    → Chain (DoesIn first) words items left → Chain (DoesIn first) words others other → IsOneStep items others end also
+OneStep = (first : ℕ) (r : Registers) (words left other : List Doubleword) (items others : List Item) (end also : Place) → IsStep r items end
+    → IsStep r others also → Chain (DoesIn first) words items left → Chain (DoesIn first) words others other → IsOneStep items others end also

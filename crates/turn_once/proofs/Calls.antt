@@ -1,7 +1,6 @@
--- What a call comes to, chance apart.
+-- What a call comes to, failed reads and want of memory apart.
 use Rattle.std.proofs.Common.{◌≡◌, ℕ, true, false, List, [], ◌∷◌, ◌++◌, map, Option, Some, None, refl, sym, ap, subst, ◌∙◌}
-use Rattle.std.specs.List.{Contains}
-use Rattle.std.proofs.lemmas.List.Elements.{Contains-append_left, Contains-append_right}
+use Rattle.std.proofs.lemmas.Bool.{or_parts}
 use Rattle.ld_base.specs.declared.fault.DlFault.{DlFault}
 use Rattle.ld_base.specs.declared.linking.File.{File}
 use Rattle.link_event.specs.declared.event.Event.{Event}
@@ -15,17 +14,17 @@ use Rattle.link_history.specs.Lookup.{RefusesSymbol}
 use Rattle.link_history.specs.Objects.{serial_of}
 use Rattle.link_history.specs.Setting.{Setting}
 use Rattle.link_history.specs.State.{State}
-use Rattle.link_history.specs.Lemmas.Lists.{here}
 use Rattle.link_service.specs.Answer.{Answer, returns, loading, closing, refused, granted, told, again, over}
 use Rattle.link_service.specs.Call.{Call, resolves, opens, looks_up, closes, unmaps, asks_fault, locates, writes, stops}
 use Rattle.link_service.specs.Functions.{passed}
 use Rattle.link_service.specs.Gives.{Answers, Gives, ending}
-use Rattle.link_service.specs.Laws.{OneAnswer, OneOpening, is_chance, is_read_fault}
+use Rattle.link_service.specs.Laws.{OneAnswer, OneOpening, is_chance, is_memory, is_read_fault}
 use Rattle.link_service.specs.Lemmas.OneOrder.{one_finalisation, one_initialisation}
 use Rattle.hart_moves.specs.Due.{Return}
 use Rattle.hart_moves.specs.Harts.{HartState, Purpose}
 use Rattle.hart_moves.specs.Moves.{Calls, Did, Takes, TellsOf, events_of, passing, settles, stack_start}
-use Rattle.turn_once.specs.Laws.{comes_by_chance}
+use Rattle.turn_once.specs.Laws.{NothingFails, is_from_outside}
+use Rattle.turn_once.specs.Lemmas.Failing.{front_part, last_part}
 
 -- ---- a service settles
 
@@ -43,10 +42,7 @@ takes_settles w past h b call to (told fault) appended did c x = telling_settles
 takes_settles w past h b call to (again for) appended did c x = ap settles x.is
 takes_settles w past h b call to (over reason) appended did c x = ap settles x.is
 
--- ---- chance shows in the journal
-
-abbrev NoneByChance : List Event → Type 0
-NoneByChance added = (e : Event) → Contains added e → comes_by_chance e ≡ false
+-- ---- what fails shows in the journal
 
 abbrev IsSafe : Answer → Type 0
 IsSafe (returns value) = Unit {0}
@@ -64,7 +60,7 @@ not_found s h ask fault (RefusesSymbol.bad_handle short nonzero none) = refl
 not_found s h ask fault (RefusesSymbol.missing short found) = refl
 not_found s h ask fault (RefusesSymbol.no_room serial index pages short found storage none) = refl
 
-answer_safe : (w : Setting) (past : List Event) (h : ℕ) (call : Call) (e : Event) (answer : Answer) → Answers h call e answer → Allowed w past e → comes_by_chance e ≡ false → IsSafe answer
+answer_safe : (w : Setting) (past : List Event) (h : ℕ) (call : Call) (e : Event) (answer : Answer) → Answers h call e answer → Allowed w past e → is_from_outside e ≡ false → IsSafe answer
 answer_safe w past h call e answer (Answers.is_loaded ask id root first rest ranges) may none = tt
 answer_safe w past h call e answer (Answers.is_there ask id root ranges) may none = tt
 answer_safe w past h call e answer (Answers.is_absent ask) may none = tt
@@ -81,8 +77,8 @@ answer_safe w past h call e answer (Answers.is_not_found ask fault) may none = n
 answer_safe w past h call e answer (Answers.is_told fault) may none = tt
 answer_safe w past h call e answer (Answers.is_written bytes) may none = tt
 
-given_safe : (w : Setting) (past : List Event) (h : ℕ) (call : Call) (given : List Event) (answer : Answer) → Gives w past h call given answer → NoneByChance given → IsSafe answer
-given_safe w past h call given answer (Gives.by_event _ e _ answers may) none = answer_safe w past h call e answer answers may (none e (here e []))
+given_safe : (w : Setting) (past : List Event) (h : ℕ) (call : Call) (given : List Event) (answer : Answer) → Gives w past h call given answer → NothingFails given → IsSafe answer
+given_safe w past h call given answer (Gives.by_event _ e _ answers may) none = answer_safe w past h call e answer answers may (or_parts (is_from_outside e) false none).0
 given_safe w past h call given answer (Gives.by_first_block ask e f value finds) none = tt
 given_safe w past h call given answer (Gives.in_new_block number offset block e gets) none = tt
 given_safe w past h call given answer (Gives.in_block number offset block has_it) none = tt
@@ -91,20 +87,18 @@ given_safe w past h call given answer (Gives.to_end _ reason ends) none = tt
 
 -- what a call appended stands in what its turn did, where it isn't to be made again
 no_chance : (w : Setting) (past : List Event) (h : ℕ) (b : HartState) (call : Call) (to : Return) (answer : Answer) (appended given : List Event) (did : Did) (c : HartState) → Takes w past h b call to answer appended did c → appended ≡ given ++ ending h answer
-    → Gives w past h call given answer → NoneByChance (events_of did) → is_chance answer ≡ false
+    → Gives w past h call given answer → NothingFails (events_of did) → is_chance answer ≡ false
 no_chance w past h b call to (returns value) appended given did c x are gives none = refl
 no_chance w past h b call to (loading root added) appended given did c x are gives none = refl
 no_chance w past h b call to (closing set) appended given did c x are gives none = refl
 no_chance w past h b call to (refused fault) appended given did c x are gives none =
     given_safe w past h call given (refused fault) gives
-    (λ e there. none e (subst (λ (es : List Event). Contains es e) (sym (ap events_of x.is ∙ are)) (Contains-append_left given [] e there)))
+    (front_part given (ending h (refused fault)) (subst NothingFails (ap events_of x.is ∙ are) none))
 no_chance w past h b call to (granted g) appended given did c x are gives none = refl
 no_chance w past h b call to (told fault) appended given did c x are gives none = refl
 no_chance w past h b call to (again for) appended given did c x are gives none = refl
 no_chance w past h b call to (over reason) appended given did c x are gives none =
-    none (events.Ended h reason)
-    (subst (λ (es : List Event). Contains es (events.Ended h reason)) (sym (ap events_of x.is ∙ are))
-    (Contains-append_right given (events.Ended h reason ∷ []) (events.Ended h reason) (here (events.Ended h reason) [])))
+    (or_parts (is_memory reason) false (last_part given (events.Ended h reason ∷ []) (subst NothingFails (ap events_of x.is ∙ are) none))).0
 
 -- ---- one answer
 
@@ -146,7 +140,7 @@ takes_same w past h b call to (again for) appended did also c d x y = x.is ∙ s
 takes_same w past h b call to (over reason) appended did also c d x y = x.is ∙ sym y.is
 
 pub calls_same : AnswerLaws → (w : Setting) (files : List File) (past : List Event) (h : ℕ) (b : HartState) (call : Call) (to : Return) (did also : Did) (c d : HartState) → w.files ≡ Some files → Lawful w.machine past
-    → Calls w past h b call to did c → Calls w past h b call to also d → NoneByChance (events_of did) → NoneByChance (events_of also) → did ≡ also
+    → Calls w past h b call to did c → Calls w past h b call to also d → NothingFails (events_of did) → NothingFails (events_of also) → did ≡ also
 calls_same laws w files past h b call to did also c d files_are lawful x y none nor =
     let both = one_of laws w files past h call x.serves.given y.serves.given x.answer y.answer files_are lawful x.serves.gives y.serves.gives
     (no_chance w past h b call to x.answer x.appended x.serves.given did c x.takes x.serves.are x.serves.gives none)

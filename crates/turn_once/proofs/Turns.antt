@@ -1,19 +1,15 @@
--- A turn of a hart from a world is one, chance apart.
-use Rattle.std.proofs.Common.{◌≡◌, inl, inr, ℕ, ◌+◌, ◌*◌, Bool, true, false, cond, List, [], ◌∷◌, ◌++◌, length, Some, Result, refl, sym, ap, subst, ◌∙◌}
+-- A turn of a hart from a world is one, failed reads and want of memory apart.
+use Rattle.std.proofs.Common.{◌≡◌, inl, inr, ℕ, ◌+◌, ◌*◌, Bool, true, cond, List, [], ◌∷◌, ◌++◌, length, Some, Result, refl, sym, ap, subst, ◌∙◌}
 use Rattle.std.specs.Prelude.{slice_set}
-use Rattle.std.specs.List.{Contains, slice_get}
-use Rattle.std.proofs.Math.Seq.{take-append_seam}
-use Rattle.std.proofs.lemmas.List.Elements.{Contains-append_right}
+use Rattle.std.specs.List.{slice_get}
+use Rattle.std.proofs.lemmas.Bool.{true≢false}
 use Rattle.ld_base.specs.declared.linking.File.{File}
 use Rattle.link_event.specs.declared.event.Event.{Event}
-use Rattle.link_event.specs.declared.event.Event.TheVariants as events
-use Rattle.link_event.specs.declared.hart_end.HartEnd.TheVariants as ends
 use Rattle.link_history.specs.After.{after}
 use Rattle.link_history.specs.Legal.{Lawful, Legal}
 use Rattle.link_history.specs.Setting.{Setting}
 use Rattle.link_history.specs.State.{State}
-use Rattle.link_history.specs.Lemmas.History.{legal_is_lawful, legal_take}
-use Rattle.link_history.specs.Lemmas.Lists.{here, in_any_not}
+use Rattle.link_history.specs.Lemmas.History.{legal_is_lawful}
 use Rattle.link_service.specs.Call.{Call}
 use Rattle.link_service.specs.Lemmas.Unique.{both_found}
 use Rattle.rv_hart.specs.Doublewords.{DoesIn}
@@ -34,9 +30,10 @@ use Rattle.world_turns.specs.Next.{OneDue}
 use Rattle.world_turns.specs.Sound.{Sound}
 use Rattle.world_turns.specs.Turn.{Turn}
 use Rattle.world_turns.specs.World.{World, found_harts, found_journal, settling}
+use Rattle.world_turns.specs.Lemmas.Events.{legal_front}
 use Rattle.world_turns.specs.Lemmas.Words.{keeps_chain}
 use Rattle.world_ends.specs.Lemmas.Settled.{found_keeps}
-use Rattle.turn_once.specs.Laws.{HasNoChance, OneTurn, comes_by_chance}
+use Rattle.turn_once.specs.Laws.{NothingFails, OneTurn}
 use Rattle.turn_once.proofs.Calls.{AnswerLaws, calls_same, takes_settles}
 use Rattle.turn_once.proofs.Did.{calls_of, copy_calls, copy_is, did_copy, did_place, did_store, place_calls, place_is, store_calls, store_is}
 use Rattle.turn_once.proofs.Finals.{Alike, core_of, finalises_alike}
@@ -51,9 +48,6 @@ pub record TurnLaws : Type 0 where
   pub answers : AnswerLaws
   pub due : OneDue
   pub sound : TurnsAreSound
-
-legal_front : (w : Setting) (past added : List Event) → Legal w (past ++ added) → Legal w past
-legal_front w past added legal = subst (Legal w) (take-append_seam past added) (legal_take w (past ++ added) (length past) legal)
 
 -- ---- the calls of the bus
 
@@ -75,10 +69,6 @@ one_item words did item is x =
 
 -- ---- what was done
 
--- no event of the turn came by chance
-abbrev NoneByChance : Did → Type 0
-NoneByChance did = (e : Event) → Contains (events_of did) e → comes_by_chance e ≡ false
-
 -- the word that an exchange found
 abbrev Finds : List Doubleword → Did → Type 0
 Finds words (Did.quiet items) = Unit {0}
@@ -95,7 +85,7 @@ finds past (Did.exchanges o found) old new x = x.0
 finds past Did.finishes old new x = tt
 
 module _ (laws : TurnLaws) (w : Setting) (files : List File) (told : w.files ≡ Some files) (h : ℕ) (old : World) (b : HartState) (did also : Did) (c d : HartState)
-    (one : Called old.words did) (two : Called old.words also) (found : Finds old.words did) (saw : Finds old.words also) (none : NoneByChance did) (nor : NoneByChance also)
+    (one : Called old.words did) (two : Called old.words also) (found : Finds old.words did) (saw : Finds old.words also) (none : NothingFails (events_of did)) (nor : NothingFails (events_of also))
     (lawful : Lawful w.machine (found_journal old did)) where
   exchange_same : (o : Offered) (f g : ℕ) → did ≡ Did.exchanges o f → also ≡ Did.exchanges o g → did ≡ also
   exchange_same o f g x y =
@@ -146,8 +136,8 @@ module _ (laws : TurnLaws) (w : Setting) (files : List File) (told : w.files ≡
   -- the end of an object's destructors: nothing is told, or what is settled comes before it
   finals_same : (code object : ℕ) → EndsObject w (found_journal old did) h b code object did c → EndsObject w (found_journal old also) h b code object also d → did ≡ also
   finals_same code object (inl x) (inl y) = finalises_alike w (found_journal old did) (found_journal old also) h b code object did also c d alike x y
-  finals_same code object (inr x) y = absurd (let no : true ≡ false = none (events.Ended h ends.Memory) (subst (λ (es : List Event). Contains es (events.Ended h ends.Memory)) (sym (ap events_of x.is)) (here (events.Ended h ends.Memory) [])) in cc)
-  finals_same code object (inl x) (inr y) = absurd (let no : true ≡ false = nor (events.Ended h ends.Memory) (subst (λ (es : List Event). Contains es (events.Ended h ends.Memory)) (sym (ap events_of y.is)) (here (events.Ended h ends.Memory) [])) in cc)
+  finals_same code object (inr x) y = absurd (true≢false (subst NothingFails (ap events_of x.is) none))
+  finals_same code object (inl x) (inr y) = absurd (true≢false (subst NothingFails (ap events_of y.is) nor))
 
   did_same : (due_is : Due) → MovesAs w (found_journal old did) h b due_is did c → MovesAs w (found_journal old also) h b due_is also d → did ≡ also
   did_same Due.nothing x y = absurd x
@@ -180,13 +170,8 @@ module _ (laws : TurnLaws) (past : List Event) (old : List Doubleword) (all : le
 
 -- ---- a turn
 
-no_chance_in : (w : Setting) (h : ℕ) (old new : World) (turn : Turn w h old new) → HasNoChance new → NoneByChance turn.did
-no_chance_in w h old new turn none e there =
-    in_any_not comes_by_chance new.journal e none
-    (subst (λ (es : List Event). Contains es e) (sym turn.journal) (Contains-append_right (found_journal old turn.did) (events_of turn.did) e there))
-
 module _ (laws : TurnLaws) (w : Setting) (files : List File) (told : w.files ≡ Some files) (h : ℕ) (old new other : World) (sound : Sound w old) (legal : Legal w new.journal) (one : Turn w h old new) (two : Turn w h old other)
-    (none : HasNoChance new) (nor : HasNoChance other) where
+    (none : NothingFails (events_of one.did)) (nor : NothingFails (events_of two.did)) where
   hart_same : one.before ≡ two.before
   hart_same = both_found (slice_get old.harts h) one.before two.before one.there two.there
 
@@ -200,7 +185,7 @@ module _ (laws : TurnLaws) (w : Setting) (files : List File) (told : w.files ≡
   did_is = did_same laws w files told h old one.before one.did two.did one.left two.left
       (called (found_journal old one.did) one.did old.words new.words one.does) (called (found_journal old two.did) two.did old.words other.words two.does)
       (finds (found_journal old one.did) one.did old.words new.words one.does) (finds (found_journal old two.did) two.did old.words other.words two.does)
-      (no_chance_in w h old new one none) (no_chance_in w h old other two nor)
+      none nor
       (legal_is_lawful w (found_journal old one.did) (legal_front w (found_journal old one.did) (events_of one.did) (subst (Legal w) one.journal legal)))
       (due (after (found_journal old one.did)) one.before) one.moves moves_again
 
@@ -226,5 +211,5 @@ module _ (laws : TurnLaws) (w : Setting) (files : List File) (told : w.files ≡
       ∙ ap (λ (bs : List HartState). record { journal = other.journal; words = other.words; harts = bs }) harts_are
 
 pub one_turn : TurnLaws → OneTurn
-one_turn laws w files h old new other told only loads sound one two none nor =
+one_turn laws w files h old new other one two told only loads sound none nor =
     worlds_are laws w files told h old new other sound (laws.sound w h old new only loads sound one).legal one two none nor

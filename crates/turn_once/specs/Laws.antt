@@ -9,23 +9,25 @@ use Rattle.link_history.specs.Accepted.{AcceptsOnly}
 use Rattle.link_history.specs.After.{after}
 use Rattle.link_history.specs.Setting.{Setting}
 use Rattle.link_service.specs.Laws.{is_memory, is_read_fault}
+use Rattle.hart_moves.specs.Moves.{events_of}
 use Rattle.world_turns.specs.Laws.{LoadsFit}
 use Rattle.world_turns.specs.Sound.{Sound}
 use Rattle.world_turns.specs.Turn.{Turn}
 use Rattle.world_turns.specs.World.{World}
 
 -- an opening that was refused for a failed read, or an end for want of memory
-abbrev pub comes_by_chance : Event → Bool
-comes_by_chance e = elim e [
+abbrev pub is_from_outside : Event → Bool
+is_from_outside e = elim e [
   | Open hart ask answer ↦ elim answer [ Refused fault ↦ is_read_fault fault | _ ↦ false ]
   | Ended hart reason ↦ is_memory reason
   | _ ↦ false
 ]
 
-abbrev pub HasNoChance : World → Type 0
-HasNoChance world = list_any comes_by_chance world.journal ≡ false
+-- no read failed, and memory sufficed
+abbrev pub NothingFails : List Event → Type 0
+NothingFails events = list_any is_from_outside events ≡ false
 
--- where the library tells its files, a hart's turn from a world has one outcome, chance apart
+-- where the library tells its files, a hart's turn from a world has one outcome, failed reads and want of memory in it apart
 abbrev pub OneTurn : Type 0
-OneTurn = (w : Setting) (files : List File) (h : ℕ) (old new other : World) → w.files ≡ Some files → AcceptsOnly w.machine → LoadsFit (after old.journal)
-    → Sound w old → Turn w h old new → Turn w h old other → HasNoChance new → HasNoChance other → new ≡ other
+OneTurn = (w : Setting) (files : List File) (h : ℕ) (old new other : World) (one : Turn w h old new) (two : Turn w h old other) → w.files ≡ Some files
+    → AcceptsOnly w.machine → LoadsFit (after old.journal) → Sound w old → NothingFails (events_of one.did) → NothingFails (events_of two.did) → new ≡ other

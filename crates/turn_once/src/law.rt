@@ -3,7 +3,7 @@
 ghost use Rattle.turn_once.specs.Laws.{OneTurn};
 
 /// Two turns of one hart from one world leave the same world, where neither met a failed read or want of
-/// memory.
+/// memory. What failed before doesn't matter.
 pub fn turns_are_one()
     ensures { OneTurn }
 {

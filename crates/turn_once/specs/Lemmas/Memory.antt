@@ -1,8 +1,6 @@
 -- What events make of memory is one.
-use Rattle.std.proofs.Common.{◌≡◌, ◌⊎◌, ⊎_elim, ℕ, zero, suc, ◌+◌, ◌-◌, ◌*◌, ◌/◌, ◌<◌, ◌≤◌, Bool, true, false, cond, List, [], ◌∷◌, length, get_or, refl, sym, ap, subst, ◌∙◌, arith}
-use Rattle.std.specs.Prelude.{slice_index_or}
+use Rattle.std.proofs.Common.{◌≡◌, ◌⊎◌, ⊎_elim, ℕ, zero, suc, ◌+◌, ◌-◌, ◌*◌, ◌/◌, ◌<◌, Bool, true, false, List, [], ◌∷◌, length, get_or, refl, sym, ap, subst, ◌∙◌, arith}
 use Rattle.std.specs.List.{Contains, list_any}
-use Rattle.std.proofs.lemmas.Bool.{le-ltb}
 use Rattle.std.proofs.lemmas.List.{same_lists}
 use Rattle.link_event.specs.declared.event.Event.{Event}
 use Rattle.link_event.specs.declared.event.Range.{Range}
@@ -14,15 +12,10 @@ use Rattle.link_history.specs.Lemmas.Lists.{any_in, in_any_not}
 use Rattle.memory_holds.specs.Memory.{IsDoubleword}
 use Rattle.rv_hart.specs.Doublewords.{nowhere}
 use Rattle.rv_hart.specs.declared.doubleword.Doubleword.{Doubleword}
-use Rattle.world_turns.specs.Memory.{Remakes, RemakesAll, doubleword, lowest, word_count}
+use Rattle.world_turns.specs.Memory.{Remakes, RemakesAll, doubleword, word_count}
+use Rattle.world_turns.specs.Lemmas.Words.{found_at}
 
 -- doublewords that are alike at each address are the same
-address : ℕ → ℕ
-address k = 0x10000 + 8 * k
-
-found_at : (words : List Doubleword) (a : ℕ) → IsDoubleword a → doubleword words a ≡ get_or words ((a - lowest) / 8) nowhere
-found_at words a is = ap (λ (t : Bool). cond t nowhere (slice_index_or words ((a - lowest) / 8) nowhere)) (le-ltb a lowest (let low : 0x10000 ≤ a = is.low in low))
-
 pub same_words : (one other : List Doubleword) → length one ≡ word_count → length other ≡ word_count → ((a : ℕ) → IsDoubleword a → doubleword one a ≡ doubleword other a) → one ≡ other
 same_words one other all also same = same_lists one other (all ∙ sym also) (λ k d less. at k d less)
   where
