@@ -171,7 +171,11 @@ same_objects s h (Origin.closing c) (Purpose.of_end code) f g rest same x = absu
 -- ---- what a turn leaves: frames of other harts, and the hart's own
 
 module _ (w : Setting) (laws : FrameLaws w.machine) (past : List Event) (lawful : Lawful w.machine past) (h : ℕ) (before left_frames : List Frame) (x : FramesFit (after past) h before) where
+<<<<<<< HEAD
   record Left (added : List Event) : Type 0 where
+=======
+  pub record Left (added : List Event) : Type 0 where
+>>>>>>> 644f4cb3f8cfdef510eda1615d81b17cb4d09629
     pub others : (j : ℕ) (origins : List Origin) (frames : List Frame) → j ≢ h → AreFramesOf (after past) j origins frames → AreFramesOf (after (past ++ added)) j origins frames
     pub own : FramesFit (after (past ++ added)) h left_frames
 
@@ -179,7 +183,11 @@ module _ (w : Setting) (laws : FrameLaws w.machine) (past : List Event) (lawful 
   not_own : (own : Origin) → hart_of_origin own ≡ h → (j : ℕ) → j ≢ h → (o : Origin) → hart_of_origin o ≡ j → o ≢ own
   not_own own by j differs o of same = differs (sym of ∙ ap hart_of_origin same ∙ by)
 
+<<<<<<< HEAD
   stays_left : (added : List Event) → AreAllowed w past added → NoneTouchesFrames added → left_frames ≡ before → Left added
+=======
+  pub stays_left : (added : List Event) → AreAllowed w past added → NoneTouchesFrames added → left_frames ≡ before → Left added
+>>>>>>> 644f4cb3f8cfdef510eda1615d81b17cb4d09629
   stays_left added may untouched same = record {
     others = λ j origins frames differs are. events_leave laws.follow w (λ o. Unit {0}) past added lawful may (none_touches (λ o. Unit {0}) past added untouched) j origins frames (λ o there of. tt) are;
     own = subst (FramesFit (after (past ++ added)) h) (sym same) (record {
@@ -189,7 +197,7 @@ module _ (w : Setting) (laws : FrameLaws w.machine) (past : List Event) (lawful 
     });
   }
 
-  enters_left : (purpose : Purpose) (f g : Function) (rest : List Function) (below : List Frame) → before ≡ record { purpose = purpose; queue = f ∷ rest } ∷ below → g.object ≡ f.object
+  pub enters_left : (purpose : Purpose) (f g : Function) (rest : List Function) (below : List Frame) → before ≡ record { purpose = purpose; queue = f ∷ rest } ∷ below → g.object ≡ f.object
       → left_frames ≡ record { purpose = purpose; queue = g ∷ rest } ∷ below → Left []
   enters_left purpose f g rest below was same is = record {
     others = λ j origins frames differs are. subst (λ (es : List Event). AreFramesOf (after es) j origins frames) (sym (append-nil past)) are;
@@ -204,7 +212,7 @@ module _ (w : Setting) (laws : FrameLaws w.machine) (past : List Event) (lawful 
   out_of : (own : Origin) → (IsThere (after past) own → ⊥) → Contains x.origins own → ⊥
   out_of own none there = none (all_there w laws past lawful h (after past) x.origins before x.are own there)
 
-  loads_left : (to root id : ℕ) (ask : OpenAsk) (first : Loaded) (rest : List Loaded) (ranges : List Range) (functions : List Function)
+  pub loads_left : (to root id : ℕ) (ask : OpenAsk) (first : Loaded) (rest : List Loaded) (ranges : List Range) (functions : List Function)
       → AreConstructors (after (past ++ events.Open h ask (openings.Done id root (first ∷ rest) ranges) ∷ [])) (map serial_of (first ∷ rest)) functions
       → AreAllowed w past (events.Open h ask (openings.Done id root (first ∷ rest) ranges) ∷ inits h (passed functions)) → AreFrames (Purpose.of_opening to root) (left functions) before left_frames
       → Left (events.Open h ask (openings.Done id root (first ∷ rest) ranges) ∷ inits h (passed functions))
@@ -244,7 +252,7 @@ module _ (w : Setting) (laws : FrameLaws w.machine) (past : List Event) (lawful 
         inits_spare w.machine laws.apart w refl (past ++ e ∷ []) h (passed functions) l (lawful_push w.machine w past e refl lawful may.0) may.1 (new_loading past h id root ask first rest ranges) all,
       )
 
-  dies_left : (to handle first : ℕ) (rest : List ℕ) (functions : List Function) → AreDestructors (after (past ++ events.Close h handle (closings.Done (first ∷ rest)) ∷ [])) (first ∷ rest) functions
+  pub dies_left : (to handle first : ℕ) (rest : List ℕ) (functions : List Function) → AreDestructors (after (past ++ events.Close h handle (closings.Done (first ∷ rest)) ∷ [])) (first ∷ rest) functions
       → AreAllowed w past (events.Close h handle (closings.Done (first ∷ rest)) ∷ finis h (passed functions)) → AreFrames (Purpose.of_closing to (first ∷ rest)) (left functions) before left_frames
       → Left (events.Close h handle (closings.Done (first ∷ rest)) ∷ finis h (passed functions))
   dies_left to handle first rest functions are may frames = record {
@@ -338,7 +346,7 @@ module _ (w : Setting) (laws : FrameLaws w.machine) (past : List Event) (lawful 
       (λ s there left_so of. closing_frames w laws past lawful h s c to set (left rest) origins below left_frames frames there is.by is.whole (ap (λ (os : List ℕ). finis_of s os) (sym is.whole) ∙ left_so) of out once)
   completes_by (Origin.closing c) origins (Purpose.of_end code) f rest below is are out once may frames = absurd is
 
-  completes_left : (purpose : Purpose) (f : Function) (rest : List Function) (below : List Frame) → before ≡ record { purpose = purpose; queue = f ∷ rest } ∷ below → AreAllowed w past (map (passing purpose h) (f.object ∷ passed rest))
+  pub completes_left : (purpose : Purpose) (f : Function) (rest : List Function) (below : List Frame) → before ≡ record { purpose = purpose; queue = f ∷ rest } ∷ below → AreAllowed w past (map (passing purpose h) (f.object ∷ passed rest))
       → AreFrames purpose (left rest) below left_frames → Left (map (passing purpose h) (f.object ∷ passed rest))
   completes_left purpose f rest below was may frames = by x.origins (subst (AreFramesOf (after past) h x.origins) was x.are) x.once
     where
@@ -361,7 +369,11 @@ module _ (w : Setting) (laws : FrameLaws w.machine) (past : List Event) (lawful 
       spares : AllSpare D past (events.Unmapped h set ∷ [])
       spares = subst (λ (os : List ℕ). AllSpare D past (events.Unmapped h os ∷ [])) is.whole (unmap_spares past h c is.by)
 
+<<<<<<< HEAD
   unmaps_left : (to : ℕ) (set : List ℕ) (below : List Frame) → before ≡ record { purpose = Purpose.of_closing to set; queue = [] } ∷ below → AreAllowed w past (events.Unmapped h set ∷ []) → left_frames ≡ below → Left (events.Unmapped h set ∷ [])
+=======
+  pub unmaps_left : (to : ℕ) (set : List ℕ) (below : List Frame) → before ≡ record { purpose = Purpose.of_closing to set; queue = [] } ∷ below → AreAllowed w past (events.Unmapped h set ∷ []) → left_frames ≡ below → Left (events.Unmapped h set ∷ [])
+>>>>>>> 644f4cb3f8cfdef510eda1615d81b17cb4d09629
   unmaps_left to set below was may frames = by x.origins (subst (AreFramesOf (after past) h x.origins) was x.are) x.once
     where
       by : (origins : List Origin) → AreFramesOf (after past) h origins (record { purpose = Purpose.of_closing to set; queue = [] } ∷ below) → AllDiffer origins → Left (events.Unmapped h set ∷ [])

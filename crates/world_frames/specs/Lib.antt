@@ -1,2 +1,3 @@
 pub mod Belong
+pub mod Finals
 pub mod Laws

@@ -1,6 +1,11 @@
 //! What holds of the frames of every run.
 
+<<<<<<< HEAD
 ghost use Rattle.world_frames.specs.Laws.{ClosingsPass, FramesClose, FramesPass, OpeningsPass, RunsBelong, StartBelongs, TurnsKeepFrames};
+=======
+ghost use Rattle.world_frames.specs.Laws.{ClosingsPass, FinalsBeginBelong, FinalsFinish, FinalsKeepFrames, FinalsPass, FramesClose};
+ghost use Rattle.world_frames.specs.Laws.{FramesPass, OpeningsPass, RunsBelong, StartBelongs, TurnsKeepFrames};
+>>>>>>> 644f4cb3f8cfdef510eda1615d81b17cb4d09629
 
 /// When a run starts each frame is of an opening, and so it is, of an opening or a closing, behind each
 /// turn before the final destructors.
@@ -38,3 +43,25 @@ pub fn functions_may_pass()
     link_service::constructors_follow();
     link_service::destructors_follow();
 }
+
+/// In the final destructors the first hart runs those of one object, until it ends, below what they have
+/// begun themselves: when they begin, and behind each turn.
+pub fn finals_belong()
+    ensures begin { FinalsBeginBelong }
+    ensures turns { FinalsKeepFrames }
+{
+    scope_rule::serials_follow();
+    scope_rule::found_stands();
+    link_history::serials_are_in_order();
+    link_history::each_dies_once();
+    link_history::closed_are_spare();
+    link_service::constructors_follow();
+    link_service::destructors_follow();
+    world_ends::ends_fit();
+}
+
+/// So that object may be finalised when they have run, and the next of all may pass.
+pub fn finals_may_pass()
+    ensures own { FinalsFinish }
+    ensures next { FinalsPass }
+{}

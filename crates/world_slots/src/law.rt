@@ -1,6 +1,6 @@
-//! What holds of slots through every turn.
+//! What holds of slots through every turn, and from each world of a run to each later one.
 
-ghost use Rattle.world_slots.specs.Laws.{TurnsKeepSlots};
+ghost use Rattle.world_slots.specs.Laws.{LaterIsSound, LaterKeepsSlots, RunsGoOn, TurnsKeepSlots};
 
 /// A slot that isn't lazy reads the same behind each turn, where its object is mapped before and after
 /// it: harts can't store to it, an exchange finds it taken, and an event leaves it alone.
@@ -16,4 +16,20 @@ pub fn turns_keep_slots()
     memory_holds::slots_stand();
     memory_holds::slots_stay();
     world_turns::turns_stay_sound();
+}
+
+/// So it does in every later world of a run in which its object is still mapped: behind turns, when the
+/// final destructors begin or lack memory, and when what is left is settled. A run goes from its start to
+/// its end by these steps.
+pub fn later_worlds_keep_slots()
+    ensures sound { LaterIsSound }
+    ensures slots { LaterKeepsSlots }
+    ensures runs { RunsGoOn }
+{
+    scope_rule::serials_follow();
+    scope_rule::found_stands();
+    link_history::serials_are_in_order();
+    link_history::images_are_mapped();
+    world_turns::turns_stay_sound();
+    turns_keep_slots();
 }

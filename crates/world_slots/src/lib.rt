@@ -6,4 +6,4 @@
 
 mod law;
 
-pub use law::turns_keep_slots;
+pub use law::{later_worlds_keep_slots, turns_keep_slots};

@@ -1,4 +1,3 @@
 pub mod Lost
 pub mod Runs
-pub mod Serials
 pub mod Turns

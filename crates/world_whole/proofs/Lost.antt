@@ -1,7 +1,8 @@
 -- Where a lost grant of a state comes from.
-use Rattle.std.proofs.Common.{◌≡◌, ◌⊎◌, inl, inr, ⊎_elim, ℕ, suc, Bool, true, false, cond, List, [], ◌∷◌, ◌++◌, map, Some, None, refl, sym, ap, subst, ◌∙◌, append-nil}
+use Rattle.std.proofs.Common.{◌≡◌, ◌⊎◌, inl, inr, ⊎_elim, ℕ, suc, Bool, true, false, cond, List, [], ◌∷◌, ◌++◌, map, Some, refl, sym, ap, subst, ◌∙◌, append-nil}
 use Rattle.std.specs.List.{Contains, slice_get}
 use Rattle.std.proofs.lemmas.List.Elements.{Contains-append_cases}
+use Rattle.std.proofs.lemmas.Option.{none-some}
 use Rattle.link_event.specs.declared.event.CloseAnswer.TheVariants as closes
 use Rattle.link_event.specs.declared.event.Event.{Event}
 use Rattle.link_event.specs.declared.event.Event.TheVariants as events
@@ -22,9 +23,6 @@ use Rattle.hart_moves.specs.Harts.{HartState, Offered, Resolving}
 use Rattle.world_turns.specs.World.{has_won, settled_by, settling, settling_event}
 use Rattle.world_turns.specs.Lemmas.Events.{one_behind}
 
-none_there : {X : Type 0} (x : X) → None ≡ Some x → ⊥
-none_there x e = let d : None ≡ Some x = e in cc
-
 -- ---- a hart's event loses no grant
 
 lost_step : (s : State) (e : Event) (h : ℕ) → hart_of e ≡ Some h → (g : Granting) (saw : ℕ) → Contains (step s e).grants g → g.standing ≡ standings.Lost saw → Contains s.grants g
@@ -42,8 +40,8 @@ lost_step s (events.Grant number hart owner slot choice value) h of g saw there 
   where
     new : Granting
     new = record { number = number; hart = hart; owner = owner; slot = slot; choice = choice; value = value; standing = standings.Open }
-lost_step s (events.Bound number) h of g saw there lost = absurd (none_there h of)
-lost_step s (events.Lost number word) h of g saw there lost = absurd (none_there h of)
+lost_step s (events.Bound number) h of g saw there lost = absurd (none-some h of)
+lost_step s (events.Lost number word) h of g saw there lost = absurd (none-some h of)
 lost_step s (events.Unresolved hart owner slot choice) h of g saw there lost = there
 lost_step s (events.Sym hart ask (syms.Found serial index value)) h of g saw there lost = there
 lost_step s (events.Sym hart ask (syms.Refused fault)) h of g saw there lost = there

@@ -16,8 +16,10 @@ use Rattle.link_history.specs.Legal.{Lawful, Legal}
 use Rattle.link_history.specs.Setting.{Machine, Setting}
 use Rattle.link_history.specs.State.{Linked, State}
 use Rattle.link_history.specs.Step.{step}
+use Rattle.link_history.specs.Lemmas.Brought.{LoadLaws}
 use Rattle.link_history.specs.Lemmas.History.{after_push, legal_is_lawful}
 use Rattle.link_history.specs.Lemmas.Lists.{found_in}
+use Rattle.link_history.specs.Lemmas.Steps.{good_after}
 use Rattle.link_history.specs.Lemmas.Tidy.{one_number}
 use Rattle.memory_holds.specs.Holds.{lazy_at}
 use Rattle.hart_moves.specs.Harts.{Offered, Resolving}
@@ -29,14 +31,14 @@ use Rattle.world_turns.specs.Run.{Begins, LacksMemory, settled}
 use Rattle.world_turns.specs.Sound.{Fits, HasExchanged, Sound}
 use Rattle.world_turns.specs.Turn.{Turn}
 use Rattle.world_turns.specs.World.{World, found_journal, settling}
+use Rattle.world_turns.specs.Lemmas.Events.{legal_front}
 use Rattle.world_turns.specs.Lemmas.Offers.{Know, Stands, stands}
 use Rattle.world_ends.specs.Lemmas.Settled.{found_keeps, settling_keeps}
 use Rattle.world_slots.specs.Laws.{TurnsKeepSlots}
-use Rattle.world_slots.specs.Lemmas.Turns.{legal_front}
+use Rattle.world_slots.specs.Lemmas.Serials.{SerialLaws, was_there}
 use Rattle.world_whole.specs.Laws.{TurnsKeepSeen}
 use Rattle.world_whole.specs.Saw.{LostSaw, SeesSlots, SlotHas}
 use Rattle.world_whole.proofs.Lost.{Came, IsDone, came, lost_before}
-use Rattle.world_whole.proofs.Serials.{SerialLaws, owners_below, was_there}
 
 -- ---- what was settled
 
@@ -113,7 +115,7 @@ module _ (w : Setting) (know : Know w.machine) (old : World) (sound : Sound w ol
 
 -- ---- a turn
 
-module _ (w : Setting) (only : AcceptsOnly w.machine) (know : Know w.machine) (serials : SerialLaws w.machine) (slots : TurnsKeepSlots) (h : ℕ) (old new : World) (loads : LoadsFit (after old.journal)) (sound : Sound w old) (legal : Legal w new.journal)
+module _ (w : Setting) (only : AcceptsOnly w.machine) (know : Know w.machine) (load : LoadLaws) (serials : SerialLaws w.machine) (slots : TurnsKeepSlots) (h : ℕ) (old new : World) (loads : LoadsFit (after old.journal)) (sound : Sound w old) (legal : Legal w new.journal)
     (turn : Turn w h old new) (sees : SeesSlots old) where
   abbrev past : List Event
   past = found_journal old turn.did
@@ -128,7 +130,7 @@ module _ (w : Setting) (only : AcceptsOnly w.machine) (know : Know w.machine) (s
   turn_sees g saw i there lost inside serial =
       let g_then : Contains (after past).grants g = lost_before past (events_of turn.did) h (turns_own w past h turn.before turn.left turn.did turn.moves) g saw
       (subst (λ (es : List Event). Contains (after es).grants g) turn.journal there) lost in
-      let low : i.serial < (after past).next = subst (λ (n : ℕ). n < (after past).next) (sym serial) (owners_below w.machine serials past past_lawful g g_then) in
+      let low : i.serial < (after past).next = subst (λ (n : ℕ). n < (after past).next) (sym serial) ((good_after load w.machine past past_lawful).grants_low g g_then) in
       let i_then : Contains (after past).images i = was_there w.machine serials w past (events_of turn.did) refl past_lawful may i low (subst (λ (es : List Event). Contains (after es).images i) turn.journal inside) in
       let i_old : Contains (after old.journal).images i = subst (λ (is : List Linked). Contains is i) (found_keeps (List Linked) (λ t. t.images) (λ t number standing. refl) old turn.did) i_then in
       let x = found_saw w know old sound sees (settles turn.did) g saw i g_then lost i_old serial in
@@ -140,9 +142,9 @@ module _ (w : Setting) (only : AcceptsOnly w.machine) (know : Know w.machine) (s
         taken = λ e. x.taken (e ∙ stays.lazy);
       }
 
-pub turns_keep_seen : ((m : Machine) → AcceptsOnly m → Know m) → ((m : Machine) → SerialLaws m) → TurnsAreSound → TurnsKeepSlots → TurnsKeepSeen
-turns_keep_seen know serials turns slots w h old new only loads sound turn sees =
-    turn_sees w only (know w.machine only) (serials w.machine) slots h old new loads sound (turns w h old new only loads sound turn).legal turn sees
+pub turns_keep_seen : ((m : Machine) → AcceptsOnly m → Know m) → LoadLaws → ((m : Machine) → SerialLaws m) → TurnsAreSound → TurnsKeepSlots → TurnsKeepSeen
+turns_keep_seen know load serials turns slots w h old new only loads sound turn sees =
+    turn_sees w only (know w.machine only) load (serials w.machine) slots h old new loads sound (turns w h old new only loads sound turn).legal turn sees
 
 -- ---- the final destructors begin, or lack memory
 

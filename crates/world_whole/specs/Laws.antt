@@ -16,8 +16,10 @@ use Rattle.world_whole.specs.Saw.{SeesSlots}
 
 -- what a grant that is lost saw stays in its slot, turn by turn
 abbrev pub TurnsKeepSeen : Type 0
-TurnsKeepSeen = (w : Setting) (h : ℕ) (old new : World) → AcceptsOnly w.machine → LoadsFit (after old.journal) → Sound w old → Turn w h old new → SeesSlots old → SeesSlots new
+TurnsKeepSeen = (w : Setting) (h : ℕ) (old new : World) → AcceptsOnly w.machine → LoadsFit (after old.journal) → Sound w old → Turn w h old new
+    → SeesSlots old → SeesSlots new
 
 -- at the end of a run the journal is whole: no grant is open, each lost one saw what its slot holds, and what was initialised was finalised
 abbrev pub RunsAreWhole : Type 0
-RunsAreWhole = (w : Setting) (setup : Setup) (items : List TurnItem) (world : World) → AcceptsOnly w.machine → LoadsAlwaysFit w → Run w setup items world → Whole w world.journal
+RunsAreWhole = (w : Setting) (setup : Setup) (items : List TurnItem) (world : World) → AcceptsOnly w.machine → LoadsAlwaysFit w
+    → Run w setup items world → Whole w world.journal

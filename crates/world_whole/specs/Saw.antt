@@ -21,7 +21,8 @@ pub record SlotHas (s : State) (words : List Doubleword) (g : Granting) (saw : �
 
 -- what a lost grant saw stands in its slot still, while its object is mapped
 abbrev pub LostSaw : State → List Doubleword → Type 0
-LostSaw s words = (g : Granting) (saw : ℕ) (i : Linked) → Contains s.grants g → g.standing ≡ Lost saw → Contains s.images i → i.serial ≡ g.owner → SlotHas s words g saw i
+LostSaw s words = (g : Granting) (saw : ℕ) (i : Linked) → Contains s.grants g → g.standing ≡ Lost saw → Contains s.images i → i.serial ≡ g.owner
+    → SlotHas s words g saw i
 
 abbrev pub SeesSlots : World → Type 0
 SeesSlots world = LostSaw (after world.journal) world.words

@@ -3,13 +3,22 @@ use Rattle.std.proofs.Common.{◌≡◌, ◌⊎◌, inl, inr, ⊎_elim, ℕ, zer
 use Rattle.std.specs.Prelude.{filter, slice_set}
 use Rattle.std.specs.List.{list_all, slice_get}
 use Rattle.std.specs.Option.{is_some}
+<<<<<<< HEAD
 use Rattle.std.proofs.lemmas.Bool.{and_parts}
+=======
+use Rattle.std.proofs.lemmas.Bool.{and_parts, false≢true}
+>>>>>>> 644f4cb3f8cfdef510eda1615d81b17cb4d09629
 use Rattle.std.proofs.lemmas.Option.{none-some}
 use Rattle.link_event.specs.declared.hart_end.HartEnd.{HartEnd}
+use Rattle.link_event.specs.declared.hart_end.HartEnd.TheVariants.{Exit}
 use Rattle.hart_moves.specs.Harts.{HartState}
 use Rattle.hart_moves.specs.Moves.{freed}
 use Rattle.world_turns.specs.Run.{has_ended}
 use Rattle.world_turns.specs.Lemmas.Running.{some_end}
+<<<<<<< HEAD
+=======
+use Rattle.world_ends.specs.Ends.{has_exited}
+>>>>>>> 644f4cb3f8cfdef510eda1615d81b17cb4d09629
 
 -- ---- ends
 
@@ -21,6 +30,18 @@ runs_on b none = ap is_some none
 
 pub reason_of : (b : HartState) → has_ended b ≡ true → (reason : HartEnd) × (b.«end» ≡ Some reason)
 reason_of b is = some_end b.«end» is
+
+pub running : (e : Option HartEnd) → ((reason : HartEnd) → e ≡ Some reason → ⊥) → e ≡ None
+running None never_so = refl
+running (Some reason) never_so = absurd (never_so reason refl)
+
+-- an exit is an end
+pub exited_ends : (b : HartState) → has_exited b ≡ true → has_ended b ≡ true
+exited_ends b is = by b.«end» is
+  where
+    by : (e : Option HartEnd) → is_some (elim e [ Some reason ↦ elim reason [ Exit code ↦ Some code | _ ↦ None ] | None ↦ None ]) ≡ true → is_some e ≡ true
+    by (Some reason) exits = refl
+    by None exits = absurd (false≢true exits)
 
 pub each_passes : (p : HartState → Bool) (harts : List HartState) (h : ℕ) (b : HartState) → IsTrue (list_all p harts) → slice_get harts h ≡ Some b → p b ≡ true
 each_passes p [] h b all at = absurd (none-some b at)

@@ -1,5 +1,5 @@
--- An object that had a grant isn't loaded anew: its image was there.
-use Rattle.std.proofs.Common.{◌≡◌, ◌⊎◌, inl, inr, ⊎_elim, ℕ, ◌+◌, ◌<◌, ◌≤◌, List, [], ◌∷◌, ◌++◌, length, map, refl, sym, ap, subst, ◌∙◌, append-nil, arith}
+-- An image that is there isn't made anew: it was there before, if its object was loaded then.
+use Rattle.std.proofs.Common.{◌≡◌, ◌⊎◌, inl, inr, ⊎_elim, ℕ, ◌+◌, ◌<◌, ◌≤◌, List, [], ◌∷◌, ◌++◌, length, map, sym, ap, subst, append-nil, arith}
 use Rattle.std.specs.List.{Contains, range_with_len}
 use Rattle.std.proofs.lemmas.List.Elements.{Contains-append_cases}
 use Rattle.ld_base.specs.declared.linking.Loaded.{Loaded}
@@ -10,34 +10,28 @@ use Rattle.link_event.specs.declared.event.OpenAnswer.TheVariants as opens
 use Rattle.link_event.specs.declared.event.OpenAsk.{OpenAsk}
 use Rattle.link_event.specs.declared.event.Range.{Range}
 use Rattle.link_event.specs.declared.event.SymAnswer.TheVariants as syms
-use Rattle.link_event.specs.declared.state.Granting.{Granting}
-use Rattle.link_event.specs.declared.state.Standing.{Standing}
-use Rattle.link_event.specs.declared.state.Standing.TheVariants as standings
 use Rattle.link_history.specs.After.{after}
 use Rattle.link_history.specs.Allowed.{Allowed, AllowedIn}
-use Rattle.link_history.specs.Laws.{SerialsAreInOrder}
 use Rattle.link_history.specs.Legal.{Lawful}
 use Rattle.link_history.specs.Objects.{serial_of}
 use Rattle.link_history.specs.Setting.{Machine, Setting}
 use Rattle.link_history.specs.State.{Linked, State}
-use Rattle.link_history.specs.Step.{die, initialise, loaded, lower, settle, step, unmap}
+use Rattle.link_history.specs.Step.{die, initialise, loaded, lower, step, unmap}
 use Rattle.link_history.specs.Lemmas.Brought.{in_range}
-use Rattle.link_history.specs.Lemmas.History.{after_push, by_lawful, lawful_push}
-use Rattle.link_history.specs.Lemmas.Lists.{from_filter, in_map, none_in, only_in}
+use Rattle.link_history.specs.Lemmas.History.{after_push, lawful_push}
+use Rattle.link_history.specs.Lemmas.Lists.{from_filter, in_map}
 use Rattle.link_history.specs.Lemmas.Map.{made_of}
-use Rattle.link_history.specs.Lemmas.Tidy.{was_settled}
 use Rattle.hart_moves.specs.Moves.{AreAllowed}
 use Rattle.world_turns.specs.Lemmas.Events.{one_behind}
 
 -- what is needed of serials
 pub record SerialLaws (m : Machine) : Type 0 where
-  pub order : (journal : List Event) → Lawful m journal → SerialsAreInOrder (after journal)
   pub new : (w : Setting) (past : List Event) (hart id root : ℕ) (ask : OpenAsk) (added : List Loaded) (ranges : List Range) → w.machine ≡ m → Lawful m past
       → Allowed w past (events.Open hart ask (opens.Done id root added ranges)) → map serial_of added ≡ range_with_len (after past).next (length added)
 
 -- ---- the serial of the next object
 
-next_grows : (s : State) (e : Event) → s.next ≤ (step s e).next
+pub next_grows : (s : State) (e : Event) → s.next ≤ (step s e).next
 unfolding loaded die lower unmap initialise
 next_grows s (events.Open hart ask (opens.Done id root added ranges)) = grows s.next (length added)
   where
@@ -61,57 +55,11 @@ next_grows s (events.Wrote hart bytes) = omega arith
 next_grows s (events.Told hart fault) = omega arith
 next_grows s (events.Ended hart reason) = omega arith
 
-below_grows : (k n m : ℕ) → k < n → n ≤ m → k < m
+pub below_grows : (k n m : ℕ) → k < n → n ≤ m → k < m
 below_grows k n m a b = omega (arith, a, b)
 
--- ---- grants are of objects that were loaded
-
-abbrev pub OwnersBelow : State → Type 0
-OwnersBelow s = (g : Granting) → Contains s.grants g → g.owner < s.next
-
-settled_below : (s : State) (number : ℕ) (standing : Standing) → OwnersBelow s → OwnersBelow (settle number standing s)
-settled_below s number standing below g there =
-    let was = was_settled number standing s.grants g there in
-    subst (λ (n : ℕ). n < s.next) was.2.owner (below was.0 was.1)
-
-same_below : (s : State) (e : Event) → (step s e).grants ≡ s.grants → OwnersBelow s → OwnersBelow (step s e)
-same_below s e same below g there = below_grows g.owner s.next (step s e).next (below g (subst (λ (gs : List Granting). Contains gs g) same there)) (next_grows s e)
-
 module _ (m : Machine) (laws : SerialLaws m) where
-  step_below : (w : Setting) (past : List Event) (e : Event) → w.machine ≡ m → Lawful m past → OwnersBelow (after past) → AllowedIn w past (after past) e → OwnersBelow (step (after past) e)
-  unfolding loaded die lower unmap initialise
-  step_below w past (events.Open hart ask (opens.Done id root added ranges)) same lawful below may = same_below (after past) (events.Open hart ask (opens.Done id root added ranges)) refl below
-  step_below w past (events.Open hart ask opens.Absent) same lawful below may = below
-  step_below w past (events.Open hart ask (opens.Refused fault)) same lawful below may = below
-  step_below w past (events.Close hart handle (closes.Done set)) same lawful below may = below
-  step_below w past (events.Close hart handle (closes.Refused fault)) same lawful below may = below
-  step_below w past (events.Unmapped hart set) same lawful below may = below
-  step_below w past (events.Grant number hart owner slot choice value) same lawful below may = λ g there. ⊎_elim
-      (λ (old : Contains (after past).grants g). below g old)
-      (λ (one : Contains (new ∷ []) g).
-      let it = may.may.is_slot in
-      subst (λ (n : ℕ). n < (after past).next) (it.is ∙ ap (λ (q : Granting). q.owner) (only_in new g one)) ((laws.order past lawful).below it.namespace it.object (record { there = it.there; inside = it.inside })))
-      (Contains-append_cases (after past).grants (new ∷ []) g there)
-    where
-      new : Granting
-      new = record { number = number; hart = hart; owner = owner; slot = slot; choice = choice; value = value; standing = standings.Open }
-  step_below w past (events.Bound number) same lawful below may = settled_below (after past) number standings.Bound below
-  step_below w past (events.Lost number saw) same lawful below may = settled_below (after past) number (standings.Lost saw) below
-  step_below w past (events.Unresolved hart owner slot choice) same lawful below may = below
-  step_below w past (events.Sym hart ask (syms.Found serial index value)) same lawful below may = below
-  step_below w past (events.Sym hart ask (syms.Refused fault)) same lawful below may = below
-  step_below w past (events.Tls hart owner address) same lawful below may = below
-  step_below w past (events.Init hart object) same lawful below may = below
-  step_below w past (events.Fini hart object) same lawful below may = below
-  step_below w past (events.Wrote hart bytes) same lawful below may = below
-  step_below w past (events.Told hart fault) same lawful below may = below
-  step_below w past (events.Ended hart reason) same lawful below may = below
-
-  pub owners_below : (journal : List Event) → Lawful m journal → OwnersBelow (after journal)
-  owners_below journal lawful = by_lawful m OwnersBelow (λ g there. absurd (none_in g there)) step_below journal lawful
-
-  -- ---- new images are of new objects
-
+  -- new images are of new objects
   image_was : (w : Setting) (past : List Event) (e : Event) → w.machine ≡ m → Lawful m past → AllowedIn w past (after past) e → (i : Linked) → Contains (step (after past) e).images i → Contains (after past).images i ⊎ ((after past).next ≤ i.serial)
   unfolding loaded die lower unmap initialise
   image_was w past (events.Open hart ask (opens.Done id root added ranges)) same lawful may i there = ⊎_elim

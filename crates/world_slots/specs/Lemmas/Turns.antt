@@ -1,7 +1,6 @@
 -- Each turn leaves a slot that isn't lazy as it was.
-use Rattle.std.proofs.Common.{◌≡◌, ◌≢◌, ℕ, ◌%◌, Bool, true, false, cond, eqb, List, [], ◌∷◌, ◌++◌, length, Some, refl, sym, ap, subst, ◌∙◌, append-nil, arith}
+use Rattle.std.proofs.Common.{◌≡◌, ◌≢◌, ℕ, ◌%◌, Bool, true, false, cond, eqb, List, [], ◌∷◌, ◌++◌, Some, refl, sym, ap, subst, ◌∙◌, append-nil, arith}
 use Rattle.std.specs.List.{Contains, slice_get}
-use Rattle.std.proofs.Math.Seq.{take-append_seam}
 use Rattle.std.proofs.lemmas.Bool.{eqb-true}
 use Rattle.ld_base.specs.declared.linking.Role.TheVariants.{Rw, Slot}
 use Rattle.ld_base.specs.declared.object.Reloc.{Reloc}
@@ -19,7 +18,7 @@ use Rattle.link_history.specs.Legal.{Lawful, Legal}
 use Rattle.link_history.specs.Memory.{role_at}
 use Rattle.link_history.specs.Setting.{Machine, Setting}
 use Rattle.link_history.specs.State.{Linked, State}
-use Rattle.link_history.specs.Lemmas.History.{after_push, lawful_push, legal_is_lawful, legal_take}
+use Rattle.link_history.specs.Lemmas.History.{after_push, lawful_push, legal_is_lawful}
 use Rattle.memory_holds.specs.Enters.{SlotStays}
 use Rattle.memory_holds.specs.Holds.{lazy_at}
 use Rattle.memory_holds.specs.Memory.{IsDoubleword, Memory, doubleword_of}
@@ -34,13 +33,13 @@ use Rattle.world_turns.specs.Memory.{Does, Remakes, RemakesAll, doubleword, exch
 use Rattle.world_turns.specs.Sound.{Fits, HasOffer, Sound}
 use Rattle.world_turns.specs.Turn.{Turn}
 use Rattle.world_turns.specs.World.{World, found_journal, winners}
-use Rattle.world_turns.specs.Lemmas.Events.{one_behind, remade}
+use Rattle.world_turns.specs.Lemmas.Events.{legal_front, one_behind, remade}
 use Rattle.world_turns.specs.Lemmas.Offers.{Know, Stands, stands}
 use Rattle.world_turns.specs.Lemmas.Resolution.{Resolution, resolution}
 use Rattle.world_turns.specs.Lemmas.Words.{keeps_chain, puts}
 use Rattle.world_ends.specs.Lemmas.Settled.{found_keeps}
 use Rattle.world_slots.specs.Laws.{TurnsKeepSlots}
-use Rattle.world_slots.specs.Lemmas.Images.{AllKeep, quiet_all, with_end}
+use Rattle.world_slots.specs.Lemmas.Images.{AllKeep, sparing_all, with_end}
 
 -- what is needed of the linker's state and of memory
 pub record Needs (m : Machine) : Type 0 where
@@ -52,9 +51,6 @@ pub record Needs (m : Machine) : Type 0 where
 
 both : (s t u : State) (old mid new : Memory) (a : ℕ) → SlotStays s t old mid a → SlotStays t u mid new a → SlotStays s u old new a
 both s t u old mid new a x y = record { value = y.value ∙ x.value; lazy = y.lazy ∙ x.lazy }
-
-pub legal_front : (w : Setting) (past added : List Event) → Legal w (past ++ added) → Legal w past
-legal_front w past added legal = subst (Legal w) (take-append_seam past added) (legal_take w (past ++ added) (length past) legal)
 
 module _ (w : Setting) (needs : Needs w.machine) (i : Linked) (slot : ℕ) (r : Reloc) (at : slice_get i.object.plt_relocs slot ≡ Some r) where
   abbrev a : ℕ
@@ -164,7 +160,7 @@ module _ (w : Setting) (needs : Needs w.machine) (i : Linked) (slot : ℕ) (r : 
         kept keep = events_stay past added between new.words lawful may (subst AllKeep are keep) there_yet remakes
 
         by : Appends past h turn.before turn.did turn.left → SlotStays (after past) (after (past ++ added)) (memory_of between) (memory_of new.words) (slot_address i r)
-        by (Appends.no_end quiet so) = kept (quiet_all (events_of turn.did) quiet)
+        by (Appends.no_end spares so) = kept (sparing_all (events_of turn.did) spares)
         by (Appends.unmapping set one so) =
             let alone : added ≡ events.Unmapped h set ∷ [] = sym are ∙ one in
             let remade_so : RemakesAll (after past) (events.Unmapped h set ∷ []) between new.words = subst (λ (es : List Event). RemakesAll (after past) es between new.words) alone remakes in
@@ -172,8 +168,8 @@ module _ (w : Setting) (needs : Needs w.machine) (i : Linked) (slot : ℕ) (r : 
             (event_stays past (events.Unmapped h set) between new.words lawful (subst (AreAllowed w past) alone may).0 there_yet
             (subst (λ (es : List Event). Contains (after es).images i) (turn.journal ∙ ap (λ (es : List Event). past ++ es) one) behind)
             (subst (λ (ws : List Doubleword). Remakes (after past) (events.Unmapped h set) between ws) (sym remade_so.2) remade_so.1))
-        by (Appends.an_end front reason quiet one so) = kept (subst AllKeep (sym one) (with_end front h reason quiet))
-        by (Appends.after_finals code quiet finals so none) = kept (quiet_all (events_of turn.did) quiet)
+        by (Appends.an_end front reason spares one so) = kept (subst AllKeep (sym one) (with_end front h reason spares))
+        by (Appends.after_finals code spares finals so none) = kept (sparing_all (events_of turn.did) spares)
 
     by_did : (did : Did) → turn.did ≡ did → Does past old.words did new.words → Stays new.journal new.words
     by_did (Did.quiet items) same does = to_new (Did.quiet items) new.words same (no_event new.words (found_stays new.words (no_store new.words items does)))

@@ -15,7 +15,8 @@ returns-clause-turn c = turns_keep_seen
       stand = λ i slot r. c.slots_stand.ensures.there m journal i slot r only lawful;
       whole = λ i slot r. c.slots_stand.ensures.whole m journal i slot r only lawful;
     })
-    (λ m. record { order = c.serials_are_in_order.ensures.order m; new = λ w past hart id root ask added ranges. c.serials_are_in_order.ensures.new m w past hart id root ask added ranges })
+    (record { serials = c.serials_follow.ensures; leads = c.found_stands.ensures.names; founds = c.found_stands.ensures.founds })
+    (λ m. record { new = λ w past hart id root ask added ranges. c.serials_are_in_order.ensures.new m w past hart id root ask added ranges })
     c.turns_stay_sound.ensures.turns c.turns_keep_slots.ensures
 
 pub returns-clause-run : goal.returns-clause-run
