@@ -33,7 +33,7 @@ use Rattle.elf_records.specs.Lemmas.Records.{header}
 use Rattle.elf_records.specs.Lemmas.Standing.{front, behind, within}
 use Rattle.elf_spelled.specs.Said.{said_head}
 use Rattle.elf_spelled.specs.Whole.{IsWhole}
-use Rattle.elf_spelled.proofs.Rows.{rows, same_rows}
+use Rattle.elf_spelled.specs.Lemmas.Rows.{rows, same_rows}
 
 -- Values that 64 bits hold
 

@@ -1,5 +1,5 @@
 -- Each part stands where it starts.
-use Rattle.std.proofs.Common.{◌≡◌, ap, refl, ℕ, suc, ◌+◌, ◌-◌, ◌<◌, ◌≤◌, ◌&&◌, Bool, true, nat_le, List, [], ◌∷◌, length, arith, slice_index, inl, inr}
+use Rattle.std.proofs.Common.{◌≡◌, refl, ℕ, suc, ◌+◌, ◌-◌, ◌≤◌, ◌&&◌, Bool, true, nat_le, List, [], ◌∷◌, length, arith}
 use Rattle.std.specs.Prelude.{Some}
 use Rattle.std.specs.List.{slice_get}
 use Rattle.std.proofs.lemmas.Bool.Decides.{nat_tests}
@@ -15,8 +15,8 @@ use Rattle.elf_write.specs.Values.{part_bytes, relr_bytes, object_bytes}
 use Rattle.elf_written.specs.Fitting.{FitsSections, HasOwnBytes}
 use Rattle.elf_written.specs.Standing.{AlignsInPages, PacksBehind}
 use Rattle.elf_records.specs.Standing.{StandAt}
-use Rattle.std.proofs.lemmas.Bool.{cases_eq}
 use Rattle.elf_spelled.specs.Whole.{IsWhole}
+use Rattle.elf_spelled.specs.Lemmas.Starting.{Apart, from_head, told}
 use Rattle.elf_spelled.proofs.Joined.{AreBehind, all_stand}
 
 -- the laws that these lemmas rest on
@@ -27,45 +27,6 @@ Sized = (starts : Starts) (contents : Contents) (code : SectionBytes) → FitsSe
 abbrev pub Packed : Type 0
 Packed = (contents : Contents) → AlignsInPages contents → PacksBehind (starts_of contents) contents.fixes
     → length (relr_bytes (starts_of contents) contents.fixes) ≡ relr_size contents
-
-abbrev pub Apart : Type 0
-Apart = (contents : Contents) (one other : Part) → number_of one < number_of other
-    → start_in (starts_of contents) one + size_in (starts_of contents) one ≤ start_in (starts_of contents) other
-
--- no part starts before the first
-pub from_head : Apart → (contents : Contents) (part : Part) → start_in (starts_of contents) parts.Head ≤ start_in (starts_of contents) part
-from_head apart contents part = elim (cases_eq (number_of part) 0) as (λ _. start_in (starts_of contents) parts.Head ≤ start_in (starts_of contents) part) [
-  | inl is ↦ omega (arith, ap (slice_index (starts_of contents).addresses) is)
-  | inr later ↦ let above = apart contents parts.Head part (omega arith) in omega (arith, above)
-]
-
-pub told : (contents : Contents) (part : Part) → size_in (starts_of contents) part ≡ size_of contents part
-unfolding starts_of
-told contents parts.Head = refl
-told contents parts.GnuHash = refl
-told contents parts.SysvHash = refl
-told contents parts.Symbols = refl
-told contents parts.Strings = refl
-told contents parts.Versym = refl
-told contents parts.Verdef = refl
-told contents parts.Verneed = refl
-told contents parts.Rela = refl
-told contents parts.Relr = refl
-told contents parts.Jmprel = refl
-told contents parts.Rodata = refl
-told contents parts.Plt = refl
-told contents parts.Text = refl
-told contents parts.Dynamic = refl
-told contents parts.Got = refl
-told contents parts.PreinitArray = refl
-told contents parts.InitArray = refl
-told contents parts.FiniArray = refl
-told contents parts.Relro = refl
-told contents parts.Tdata = refl
-told contents parts.Tbss = refl
-told contents parts.GotPlt = refl
-told contents parts.Data = refl
-told contents parts.Bss = refl
 
 -- a part has no more bytes than its size
 module _ (sized : Sized) (packed : Packed) (contents : Contents) (code : SectionBytes) (fits : FitsSections contents code) (aligns : AlignsInPages contents)

@@ -30,9 +30,9 @@ use Rattle.elf_written.specs.Standing.{EndsInside}
 use Rattle.elf_records.specs.Standing.{StandAt}
 use Rattle.elf_records.specs.Lemmas.Records.{entry}
 use Rattle.elf_spelled.specs.Said.{AllBelow, TellsNumbers, said_head, said_tag, said_tags, told_entries}
-use Rattle.elf_spelled.proofs.Placed.{Apart}
-use Rattle.elf_spelled.proofs.Reading.{all_placed, part_read}
-use Rattle.elf_spelled.proofs.Rows.{rows, table_of}
+use Rattle.elf_spelled.specs.Lemmas.Starting.{Apart}
+use Rattle.elf_spelled.specs.Lemmas.Reading.{all_placed, part_read}
+use Rattle.elf_spelled.specs.Lemmas.Rows.{rows, table_of}
 
 -- an entry that ends nothing, of numbers of 64 bits
 record Tells (starts : Starts) (e : DynamicEntry) : Type 0 where

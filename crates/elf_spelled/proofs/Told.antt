@@ -19,7 +19,7 @@ use Rattle.elf_write.specs.declared.starts.Starts.{Starts}
 use Rattle.elf_write.specs.Sizes.{name_entries, symbol_entries, flag_entries, arrays_entries, array_entries, reloc_entries, version_entries, where_some, tells_number, count_in, plain_size}
 use Rattle.elf_write.specs.Starts.{starts_of, start_in, size_in, size_of}
 use Rattle.elf_spelled.specs.Said.{IsTold, SaysByItself, said_tag, said_tags, span_if, told_if}
-use Rattle.elf_spelled.proofs.Placed.{told}
+use Rattle.elf_spelled.specs.Lemmas.Starting.{told}
 use Rattle.elf_spelled.proofs.LookUps as look
 use Rattle.elf_spelled.proofs.LookUps.{gnu_entry, sysv_entry, table_entries, flags_entry, more_flags_entry, part_entries, rela_entries, relr_entries, slot_entries, versym_entry, verdef_entries, verneed_entries}
 

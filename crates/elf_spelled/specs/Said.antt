@@ -1,6 +1,8 @@
 -- What an object says, part by part, of what it holds.
 use Rattle.std.specs.Prelude.{◌≡◌, ℕ, ◌+◌, ◌*◌, ◌^◌, ◌<◌, ◌||◌, ⊤, Bool, true, false, nat_lt, List, [], ◌∷◌, ◌++◌, map, length, is_some, Option, Some, None, IfSome}
 use Rattle.std.specs.Int.{from_bool}
+use Rattle.std.specs.List.{slice_get}
+use Rattle.acceptance.specs.Entries.{AreEntries}
 use Rattle.dyn_table.specs.Tag.{last_of, values_of}
 use Rattle.dyn_table.specs.TagNumbers.{dt_bind_now, dt_fini, dt_fini_array, dt_fini_arraysz, dt_flags, dt_flags_1, dt_gnu_hash, dt_hash, dt_init, dt_init_array, dt_init_arraysz}
 use Rattle.dyn_table.specs.TagNumbers.{dt_jmprel, dt_needed, dt_pltgot, dt_pltrelsz, dt_preinit_array, dt_preinit_arraysz, dt_rela, dt_relasz, dt_relr, dt_relrsz, dt_soname}
@@ -100,3 +102,7 @@ pub record SaysByItself (contents : Contents) (said : DynParts) : Type 0 where
   pub init_array : said.init_array ≡ span_if (nat_lt 0 (count_in contents parts.InitArray)) (start_in (starts_of contents) parts.InitArray) (size_in (starts_of contents) parts.InitArray)
   pub fini_array : said.fini_array ≡ span_if (nat_lt 0 (count_in contents parts.FiniArray)) (start_in (starts_of contents) parts.FiniArray) (size_in (starts_of contents) parts.FiniArray)
   pub flags : said.flags ≡ contents.flags
+
+-- each of these is said by the record of its index
+abbrev pub AreSaidBy : {A B : Type 0} → (A → B → Type 0) → List A → List B → Type 0
+AreSaidBy {A} Says records all = AreEntries (λ i x. (r : A) × (slice_get records i ≡ Some r) × Says r x) (length records) all

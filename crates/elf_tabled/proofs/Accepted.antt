@@ -18,19 +18,15 @@ use Rattle.elf_write.specs.Sizes.{listed_count, plain_size, segments_of}
 use Rattle.elf_write.specs.Starts.{size_in, size_of, start_in, starts_of, wrapped}
 use Rattle.elf_write.specs.Values.{jmprel_bytes, rela_bytes}
 use Rattle.elf_records.specs.Standing.{StandAt}
-use Rattle.elf_spelled.specs.Said.{said_head, said_tags, told_if}
-use Rattle.elf_spelled.proofs.Placed.{Apart, told}
-use Rattle.elf_spelled.proofs.Reading.{all_placed, part_read}
-use Rattle.elf_spelled.proofs.Told.{all_told}
+use Rattle.elf_spelled.specs.Said.{IsTold, said_head, said_tags, told_if}
+use Rattle.elf_spelled.specs.Lemmas.Starting.{Apart, told}
+use Rattle.elf_spelled.specs.Lemmas.Telling.{told_is}
+use Rattle.elf_spelled.specs.Lemmas.Reading.{all_placed, part_read}
 use Rattle.elf_tabled.specs.Tables.{AreSymbolNumbers, ListedFit, said_relocs, said_slots}
-use Rattle.elf_tabled.proofs.Bytes.{held_bytes, none_bad, table_bytes}
+use Rattle.elf_spelled.specs.Lemmas.Bytes.{held_bytes, none_bad, table_bytes}
 use Rattle.elf_tabled.proofs.Relocs.{relocs_read, slots_read}
 
-told_is : (b : Bool) (n m : ℕ) → told_if b n ≡ Some m → (b ≡ true) × (m ≡ n)
-told_is true n m is = let same : n ≡ m = cc in (refl, sym same)
-told_is false n m is = absurd cc
-
-empty : (bytes : List ℕ) → length bytes ≡ 0 → bytes ≡ []
+pub empty : (bytes : List ℕ) → length bytes ≡ 0 → bytes ≡ []
 empty [] none = refl
 empty (byte ∷ bytes) none = absurd (omega (arith, none))
 
@@ -47,21 +43,19 @@ some_or : (n size : ℕ) → size ≡ 24 * n → nat_lt 0 n ≡ true → 0 < siz
 some_or n size is some = let above : 0 < n = grind (arith, nat_tests) in omega (arith, is, above)
 
 module _ (apart : Apart) (contents : Contents) (bytes : List ℕ) (program : Bool) (said : DynParts) (same : said.tags ≡ said_tags contents)
-    (spells : SpellsDynamic bytes (said_head contents) program said) where
+    (table : IsTold contents (said_tags contents)) (spells : SpellsDynamic bytes (said_head contents) program said) where
   at : (tag : ℕ) → last_of said.tags tag ≡ last_of (said_tags contents) tag
   at tag = ap (λ (tags : List Tag). last_of tags tag) same
 
   -- the ranges of the two tables are those of their parts
   rela_range : (s : Span) → IsRange said.tags dt_rela dt_relasz s → (s.start ≡ start_in (starts_of contents) parts.Rela) × (s.size ≡ size_in (starts_of contents) parts.Rela)
   rela_range s range =
-      let table = all_told contents in
       let start = told_is (nat_lt 0 (listed_count contents)) (start_in (starts_of contents) parts.Rela) s.start (sym table.rela ∙ sym (at dt_rela) ∙ range.start) in
       let size = told_is (nat_lt 0 (listed_count contents)) (size_in (starts_of contents) parts.Rela) s.size (sym table.rela_size ∙ sym (at dt_relasz) ∙ range.bytes) in
       (start.1, size.1)
 
   slots_range : (s : Span) → IsRange said.tags dt_jmprel dt_pltrelsz s → (s.start ≡ start_in (starts_of contents) parts.Jmprel) × (s.size ≡ size_in (starts_of contents) parts.Jmprel)
   slots_range s range =
-      let table = all_told contents in
       let start = told_is (nat_lt 0 (length contents.slots)) (start_in (starts_of contents) parts.Jmprel) s.start (sym table.slots ∙ sym (at dt_jmprel) ∙ range.start) in
       let size = told_is (nat_lt 0 (length contents.slots)) (size_in (starts_of contents) parts.Jmprel) s.size (sym table.slots_size ∙ sym (at dt_pltrelsz) ∙ range.bytes) in
       (start.1, size.1)
@@ -84,7 +78,6 @@ module _ (apart : Apart) (contents : Contents) (bytes : List ℕ) (program : Boo
         → rela_bytes (starts_of contents) contents.fixes ≡ []
     rela_there none = elim (cases_Bool (nat_lt 0 (listed_count contents))) as (λ _. rela_bytes (starts_of contents) contents.fixes ≡ []) [
       | inl some ↦
-          let table = all_told contents in
           let s : Span = record { start = start_in (starts_of contents) parts.Rela; size = size_in (starts_of contents) parts.Rela } in
           let range : IsRange said.tags dt_rela dt_relasz s = record {
             start = at dt_rela ∙ table.rela ∙ ap (λ b. told_if b s.start) some;
@@ -114,7 +107,6 @@ module _ (apart : Apart) (contents : Contents) (bytes : List ℕ) (program : Boo
         → jmprel_bytes (starts_of contents) contents.slots ≡ []
     slots_there none = elim (cases_Bool (nat_lt 0 (length contents.slots))) as (λ _. jmprel_bytes (starts_of contents) contents.slots ≡ []) [
       | inl some ↦
-          let table = all_told contents in
           let s : Span = record { start = start_in (starts_of contents) parts.Jmprel; size = size_in (starts_of contents) parts.Jmprel } in
           let range : IsRange said.tags dt_jmprel dt_pltrelsz s = record {
             start = at dt_jmprel ∙ table.slots ∙ ap (λ b. told_if b s.start) some;

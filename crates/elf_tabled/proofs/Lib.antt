@@ -1,5 +1,6 @@
 pub mod Accepted
-pub mod Bytes
 pub mod Names
+pub mod PackedPlaces
+pub mod PackedTable
 pub mod Relocs
 pub mod Symbols

@@ -14,11 +14,13 @@ use Rattle.elf_write.specs.Records.{rela_fields, slot_fields}
 use Rattle.elf_write.specs.Sizes.{has_listed}
 use Rattle.elf_write.specs.Starts.{wrapped}
 use Rattle.elf_write.specs.Values.{listed_bytes, rela_bytes, slots_from}
+use Rattle.elf_written.specs.Lemmas.Lengths.{each}
 use Rattle.elf_records.specs.Numbers.{AllFit}
 use Rattle.elf_records.specs.Standing.{StandAt}
 use Rattle.elf_records.specs.Lemmas.Records.{rela, slot}
 use Rattle.elf_records.specs.Lemmas.Standing.{behind, front as stands_front, within}
-use Rattle.elf_spelled.proofs.Rows.{rows, same_rows, at_index}
+use Rattle.elf_spelled.specs.Lemmas.Reading.{some_is}
+use Rattle.elf_spelled.specs.Lemmas.Rows.{rows, same_rows, at_index}
 use Rattle.elf_tabled.specs.Tables.{AreSymbolNumbers, ListedFit, said_reloc, slots_at}
 
 -- The entries of relocations by their bytes
@@ -52,17 +54,13 @@ module _ (starts : Starts) where
       let cases : (here : Bool) → P here = λ here. elim here as P [ true ↦ λ listed at. here_or x (filter has_listed fixes) (first listed) rest i fix at | false ↦ λ _ at. rest i fix at ] in
       cases (has_listed x) refl is
 
-  long_rows : (fixes : List Fix) → length (flat_map row fixes) ≡ 24 * length fixes
-  long_rows [] = refl
-  long_rows (fix ∷ fixes) = let one = long_row fix in let rest = long_rows fixes in omega (arith, length-append (row fix) (flat_map row fixes), one, rest)
-
   pub relocs_read : (fixes : List Fix) → ListedFit starts fixes → (relocs : List Reloc) → AreRelocs (rela_bytes starts fixes) relocs → relocs ≡ map (said_reloc starts) (filter has_listed fixes)
   unfolding rela_bytes
   relocs_read fixes fit relocs are =
       let listed = filter has_listed fixes in
       let part = flat_map (listed_bytes starts) fixes in
       let same = listed_rows fixes in
-      let count : length part / 24 ≡ length listed = let long = long_rows listed in let size = ap length same in omega (arith, long, size) in
+      let count : length part / 24 ≡ length listed = let long = each row 24 long_row listed in let size = ap length same in omega (arith, long, size) in
       same_rows (said_reloc starts) listed relocs (are.count ∙ count) (λ i fix is.
       let inside : i < length relocs = let below = slice_get_within listed i fix is in omega (arith, below, are.count, count) in
       let (r, at) = at_index relocs i inside in
@@ -89,9 +87,6 @@ slot_fits place symbol low few = (low, (omega arith, (few, (omega arith, tt))))
 slots_long : (place : ℕ) (symbols : List ℕ) → length (slots_at place symbols) ≡ length symbols
 slots_long place [] = refl
 slots_long place (symbol ∷ symbols) = ap suc (slots_long (wrapped (place + 8)) symbols)
-
-some_is : (one other : Reloc) → Some one ≡ Some other → one ≡ other
-some_is one other is = cc
 
 each_slot : (bytes : List ℕ) (at place : ℕ) (symbols : List ℕ) → StandAt bytes at (slots_from place symbols) → place < 2 ^ 64 → AreSymbolNumbers symbols
     → (i : ℕ) (r : Reloc) → slice_get (slots_at place symbols) i ≡ Some r → reloc_at bytes (at + 24 * i) ≡ r

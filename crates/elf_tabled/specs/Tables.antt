@@ -1,10 +1,10 @@
 -- What the tables of an object say of what it holds.
-use Rattle.std.specs.Prelude.{◌≡◌, ℕ, ◌+◌, ◌^◌, ◌<◌, ⊤, true, pos, List, [], ◌∷◌, map, filter}
+use Rattle.std.specs.Prelude.{◌≡◌, ℕ, ◌+◌, ◌^◌, ◌<◌, ⊤, true, pos, List, [], ◌∷◌, map, filter, None}
 use Rattle.std.specs.Int.{w64, cast_signed}
 use Rattle.ld_base.specs.declared.object.Reloc.{Reloc}
 use Rattle.ld_base.specs.declared.object.Symbol.{Symbol}
 use Rattle.ld_base.specs.declared.parts.DynParts.{DynParts}
-use Rattle.elf_dynamic.specs.Parts.{AreNamesAt, IsNameOf}
+use Rattle.elf_dynamic.specs.Parts.{AreNamesAt, IsNameAt, IsNameOf}
 use Rattle.elf_write.specs.declared.contents.Contents.{Contents}
 use Rattle.elf_write.specs.declared.contents.Fix.{Fix}
 use Rattle.elf_write.specs.declared.contents.SymbolEntry.{SymbolEntry}
@@ -55,6 +55,15 @@ said_symbol starts entry name = record {
   size = entry.size;
   version = 0;
 }
+
+-- the null symbol
+abbrev pub null_entry : SymbolEntry
+null_entry = record { name = 0; info = 0; other = 0; spot = None; size = 0; version = 0 }
+
+-- a symbol whose name is the string at its offset
+pub record SaysSymbol (starts : Starts) (strings : List ℕ) (entry : SymbolEntry) (said : Symbol) : Type 0 where
+  pub name : IsNameAt strings entry.name said.name
+  pub fields : said ≡ said_symbol starts entry said.name
 
 abbrev pub SymbolsFit : Starts → List SymbolEntry → Type 0
 SymbolsFit starts [] = ⊤

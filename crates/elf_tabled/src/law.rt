@@ -1,24 +1,27 @@
 //! The laws.
 
-ghost use Rattle.std.specs.Prelude.{◌≡◌, ◌+◌, Bool, List, ℕ, Some, length};
-ghost use Rattle.std.specs.List.{slice_get};
+ghost use Rattle.std.specs.Prelude.{◌≡◌, ◌+◌, ◌∷◌, Bool, List, ℕ, length};
 ghost use Rattle.ld_base.specs.declared.object.Reloc.{Reloc};
 ghost use Rattle.ld_base.specs.declared.object.Symbol.{Symbol};
 ghost use Rattle.ld_base.specs.declared.parts.DynParts.{DynParts};
-ghost use Rattle.elf_dynamic.specs.Parts.{AreRelocs, AreSymbols, IsNameAt};
+ghost use Rattle.elf_dynamic.specs.Parts.{AreRelocs, AreSymbols, AreWords, NamePlaces};
 ghost use Rattle.elf_dynamic.specs.Verdict.{SpellsDynamic};
 ghost use Rattle.elf_write.specs.declared.contents.Contents.{Contents};
+ghost use Rattle.elf_write.specs.declared.contents.Fix.{Fix};
 ghost use Rattle.elf_write.specs.declared.contents.SectionBytes.{SectionBytes};
 ghost use Rattle.elf_write.specs.declared.contents.SymbolEntry.{SymbolEntry};
 ghost use Rattle.elf_write.specs.declared.starts.Starts.{Starts};
 ghost use Rattle.elf_write.specs.Starts.{starts_of};
-ghost use Rattle.elf_write.specs.Values.{object_bytes, rela_bytes, symbol_bytes};
-ghost use Rattle.elf_spelled.specs.Said.{TellsNumbers, said_head};
+ghost use Rattle.elf_write.specs.Values.{object_bytes, packed_places, rela_bytes, relr_bytes, symbol_bytes};
+ghost use Rattle.elf_written.specs.Placed.{AreAscending};
+ghost use Rattle.elf_spelled.specs.Said.{AreSaidBy, TellsNumbers, said_head};
 ghost use Rattle.elf_spelled.specs.Whole.{IsWhole};
-ghost use Rattle.elf_tabled.specs.Tables.{AreSymbolNumbers, ListedFit, SaysNames, SymbolsFit, said_relocs, said_slots, said_symbol};
+ghost use Rattle.elf_tabled.specs.Tables.{AreSymbolNumbers, ListedFit, SaysNames, SaysSymbol, SymbolsFit, null_entry, said_relocs, said_slots};
 
-use elf_spelled::{parts_stand_at_their_starts, the_tags_are_spelled};
-use elf_written::{parts_have_their_sizes, parts_stand_apart};
+use elf_spelled::{parts_stand_at_their_starts, the_table_tells, the_tags_are_spelled};
+use elf_written::{
+    packed_places_read_back, packed_table_has_its_size, parts_have_their_sizes, parts_stand_apart,
+};
 
 /// The relocations that a reader finds in the bytes of their table are those of the places that are told by one.
 pub fn the_table_of_relocations()
@@ -35,6 +38,7 @@ pub fn the_relocations_are_spelled()
     parts_have_their_sizes();
     parts_stand_apart();
     parts_stand_at_their_starts();
+    the_table_tells();
     the_tags_are_spelled();
 }
 
@@ -47,6 +51,7 @@ pub fn the_slots_are_spelled()
     parts_have_their_sizes();
     parts_stand_apart();
     parts_stand_at_their_starts();
+    the_table_tells();
     the_tags_are_spelled();
 }
 
@@ -58,12 +63,40 @@ pub fn the_names_are_spelled()
     parts_have_their_sizes();
     parts_stand_apart();
     parts_stand_at_their_starts();
+    the_table_tells();
     the_tags_are_spelled();
 }
 
-/// Of as many symbols as there are, the null symbol counted, the reader finds each behind that one, with the string at its name's offset.
+/// Of as many symbols as there are, the null symbol counted, the reader finds that one and then each other, with the string at its name's offset.
 pub fn the_table_of_symbols()
     ensures { (starts : Starts) (entries : List SymbolEntry) (strings : List ℕ) (read : List Symbol) → SymbolsFit starts entries
-        → AreSymbols (symbol_bytes starts entries) strings (1 + length entries) read → (i : ℕ) (entry : SymbolEntry) → slice_get entries i ≡ Some entry
-        → (name : List ℕ) × IsNameAt strings entry.name name × (slice_get read (1 + i) ≡ Some (said_symbol starts entry name)) }
+        → AreSymbols (symbol_bytes starts entries) strings (1 + length entries) read → AreSaidBy (SaysSymbol starts strings) (null_entry ∷ entries) read }
 {}
+
+/// The words of a packed table name one list of places.
+pub fn words_name_one_list()
+    ensures { (words : List ℕ) (next : ℕ) (one other : List ℕ) → NamePlaces next words one → NamePlaces next words other → one ≡ other }
+{}
+
+/// The places that a reader finds in the bytes of the packed table are those that it was made from.
+pub fn the_table_of_packed_places()
+    ensures { (starts : Starts) (fixes : List Fix) → AreAscending 0 (packed_places starts fixes) → (words places : List ℕ)
+        → AreWords (relr_bytes starts fixes) words → NamePlaces 0 words places → places ≡ packed_places starts fixes }
+{
+    packed_places_read_back();
+}
+
+/// The packed places that an accepted object says are those that are packed, in order.
+pub fn the_packed_places_are_spelled()
+    ensures { (contents : Contents) (code : SectionBytes) → IsWhole contents code → TellsNumbers contents
+        → AreAscending 0 (packed_places (starts_of contents) contents.fixes) → (program : Bool) (said : DynParts)
+        → SpellsDynamic (object_bytes (starts_of contents) contents code) (said_head contents) program said
+        → said.relr ≡ packed_places (starts_of contents) contents.fixes }
+{
+    packed_places_read_back();
+    packed_table_has_its_size();
+    parts_stand_apart();
+    parts_stand_at_their_starts();
+    the_table_tells();
+    the_tags_are_spelled();
+}

@@ -1,5 +1,5 @@
 -- The file is as long as its size says.
-use Rattle.std.proofs.Common.{◌≡◌, ◌∙◌, ap, sym, ℕ, zero, suc, ◌+◌, ◌-◌, ◌^◌, ◌<◌, ◌≤◌, ◌==◌, Bool, true, false, if◌then◌else◌, List, [], ◌∷◌, ◌++◌, length, fold, replicate, refl, arith, slice_index, length-append}
+use Rattle.std.proofs.Common.{◌≡◌, ◌∙◌, ap, sym, ℕ, suc, ◌+◌, ◌-◌, ◌^◌, ◌<◌, ◌≤◌, ◌==◌, Bool, true, false, if◌then◌else◌, List, [], ◌∷◌, ◌++◌, length, fold, replicate, refl, arith, slice_index, length-append}
 use Rattle.std.proofs.lemmas.List.{length-replicate}
 use Rattle.std.proofs.lemmas.Bool.{cases_eq}
 use Rattle.std.proofs.Common.{inl, inr}
@@ -9,7 +9,7 @@ use Rattle.elf_write.specs.declared.part.Part.{Part}
 use Rattle.elf_write.specs.declared.part.Part.TheVariants as parts
 use Rattle.elf_write.specs.declared.starts.Starts.{Starts}
 use Rattle.elf_write.specs.Parts.{number_of, all_parts}
-use Rattle.elf_write.specs.Records.{end_behind, end_of, file_parts, file_size}
+use Rattle.elf_write.specs.Records.{end_behind, file_parts, file_size}
 use Rattle.elf_write.specs.Sizes.{plain_size}
 use Rattle.elf_write.specs.Starts.{starts_of, start_in, size_in, size_of, wrapped}
 use Rattle.elf_write.specs.Values.{part_bytes, joined, join_part, object_bytes}

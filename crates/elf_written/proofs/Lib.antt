@@ -1,6 +1,5 @@
 pub mod Apart
 pub mod File
-pub mod Lengths
 pub mod Packed
 pub mod Parts
 pub mod ReadBack

@@ -1,19 +1,17 @@
 -- The packed table has the size that was counted before the third segment had its address.
-use Rattle.std.proofs.Common.{◌≡◌, ◌∙◌, ap, sym, ℕ, zero, suc, ◌+◌, ◌-◌, ◌*◌, ◌%◌, ◌/◌, ◌^◌, ◌<◌, ◌≤◌, ◌==◌, Bool, true, false, if◌then◌else◌, List, [], ◌∷◌, length, map, filter, drop, refl, arith, slice_index}
-use Rattle.std.proofs.lemmas.Nat.{div-add-mod'}
+use Rattle.std.proofs.Common.{◌≡◌, ◌∙◌, ap, sym, ℕ, zero, suc, ◌+◌, ◌-◌, ◌*◌, ◌/◌, ◌^◌, ◌<◌, ◌≤◌, Bool, true, false, if◌then◌else◌, List, [], ◌∷◌, length, map, filter, drop, refl, arith, slice_index}
 use Rattle.elf_write.specs.declared.contents.Contents.{Contents}
 use Rattle.elf_write.specs.declared.contents.Extent.{Extent}
 use Rattle.elf_write.specs.declared.contents.Fix.{Fix}
 use Rattle.elf_write.specs.declared.part.Part.{Part}
 use Rattle.elf_write.specs.declared.part.Part.TheVariants as parts
-use Rattle.elf_write.specs.declared.starts.Starts.{Starts}
 use Rattle.elf_write.specs.Parts.{number_of, all_parts}
 use Rattle.elf_write.specs.Relr.{relr_words}
 use Rattle.elf_write.specs.Sizes.{has_packed}
 use Rattle.elf_write.specs.Starts.{padding, page, starts_from, starts_of, start_in, base_of, extent_of, plain_extent, size_of, third_parts, third_starts, place_in, packed_from, relr_size, address_in, wrapped, align_of}
 use Rattle.elf_write.specs.Values.{packed_places, relr_bytes}
 use Rattle.elf_written.proofs.Apart.{number_below}
-use Rattle.elf_written.proofs.Lengths.{doublewords_length}
+use Rattle.elf_written.specs.Lemmas.Lengths.{doublewords_length}
 use Rattle.elf_written.proofs.Shifted.{shifted, same_table}
 use Rattle.elf_written.specs.Standing.{AlignsInPages, StandsBehind, PacksBehind}
 

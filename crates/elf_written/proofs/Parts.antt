@@ -18,7 +18,7 @@ use Rattle.elf_write.specs.Records.{need_fields, needed_fields, dynamic_fields}
 use Rattle.elf_write.specs.Sizes.{gnu_size, sysv_size, segments_of, dynamic_entries, has_listed, stands_in, got_plt_size}
 use Rattle.elf_write.specs.Values.{head_bytes, gnu_bytes, sysv_bytes, count_word, words, doublewords, symbol_bytes, versym_bytes, verneed_bytes}
 use Rattle.elf_write.specs.Values.{rela_bytes, slots_from, dynamic_bytes, fixed_bytes, lazy_words, slot_words}
-use Rattle.elf_written.proofs.Lengths.{each, some, words_length, doublewords_length}
+use Rattle.elf_written.specs.Lemmas.Lengths.{each, some, words_length, doublewords_length}
 
 pub head : (starts : Starts) (contents : Contents) → length (head_bytes starts contents) ≡ 64 + 56 * length (segments_of contents)
 unfolding head_bytes record_bytes head_fields header_fields

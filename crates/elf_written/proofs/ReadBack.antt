@@ -1,5 +1,5 @@
 -- The packed table's words name the places that they were made from.
-use Rattle.std.proofs.Common.{◌≡◌, ◌∙◌, ap, sym, subst, ℕ, zero, suc, ◌+◌, ◌-◌, ◌*◌, ◌/◌, ◌%◌, ◌^◌, ◌<◌, ◌≤◌, ◌==◌, Bool, true, false, if◌then◌else◌, ◌||◌, List, [], ◌∷◌, ◌++◌, length, map, filter, fold, take, drop, take_while, cond, max, refl, arith, inl, inr, bit_or, length-take-le, length-drop}
+use Rattle.std.proofs.Common.{◌≡◌, ◌∙◌, ap, sym, subst, ℕ, zero, suc, ◌+◌, ◌-◌, ◌*◌, ◌/◌, ◌%◌, ◌^◌, ◌<◌, ◌≤◌, ◌==◌, Bool, true, false, if◌then◌else◌, ◌||◌, List, [], ◌∷◌, ◌++◌, length, map, filter, fold, take, drop, cond, max, refl, arith, inl, inr, bit_or, length-take-le, length-drop}
 use Rattle.std.specs.Prelude.{Option, Some, None, ⊤}
 use Rattle.std.specs.Int.{bit_at}
 use Rattle.std.specs.List.{list_any, prefix_len, range_with_len}
@@ -10,7 +10,7 @@ use Rattle.std.proofs.lemmas.List.Sums.{prefix_len-le-length}
 use Rattle.std.proofs.lemmas.Nat.Bits.{bit_at_lowest, bit_at_or, bit_at-pow_same, bit_at-pow_other}
 use Rattle.dyn_table.specs.Bits.{has_bit}
 use Rattle.elf_dynamic.specs.Parts.{bits_of, NamePlaces, no_more, place as names_place, bits as names_bits}
-use Rattle.elf_write.specs.Relr.{is_in_map, bit_of, with_place, map_of, mapped_count, words_within, relr_words}
+use Rattle.elf_write.specs.Relr.{is_in_map, with_place, map_of, mapped_count, words_within, relr_words}
 use Rattle.elf_written.specs.Placed.{AreAscending}
 
 -- Numbers that a test picks from a range

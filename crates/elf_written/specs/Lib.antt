@@ -1,3 +1,4 @@
 pub mod Fitting
+pub mod Lemmas
 pub mod Placed
 pub mod Standing

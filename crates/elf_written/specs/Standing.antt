@@ -7,7 +7,7 @@ use Rattle.elf_write.specs.declared.part.Part.TheVariants as parts
 use Rattle.elf_write.specs.declared.starts.Starts.{Starts}
 use Rattle.elf_write.specs.Parts.{number_of}
 use Rattle.elf_write.specs.Sizes.{has_packed}
-use Rattle.elf_write.specs.Starts.{align_of, page, start_in, size_in, starts_of}
+use Rattle.elf_write.specs.Starts.{align_of, page, start_in, size_in}
 
 -- each alignment divides a page
 abbrev pub AlignsInPages : Contents → Type 0

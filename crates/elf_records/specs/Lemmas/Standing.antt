@@ -2,7 +2,7 @@
 use Rattle.std.proofs.Common.{◌≡◌, ◌∙◌, ap, sym, subst, ℕ, zero, suc, ◌+◌, ◌*◌, ◌<◌, ◌≤◌, List, [], ◌∷◌, ◌++◌, length, refl, arith, slice_index, slice_range, take, drop, ◌-◌}
 use Rattle.std.specs.Prelude.{Some}
 use Rattle.std.specs.List.{slice_get}
-use Rattle.std.proofs.lemmas.Option.{slice_get-get_or, get_or_from_slice_get}
+use Rattle.std.proofs.lemmas.Option.{slice_get-get_or, get_or_from_slice_get, slice_get_within}
 use Rattle.std.proofs.lemmas.List.{take-append-drop}
 use Rattle.ld_base.specs.Field.{little, field}
 use Rattle.elf_records.specs.Standing.{StandAt}
@@ -62,3 +62,16 @@ pub begun : (bytes part : List ℕ) → StandAt bytes 0 part → bytes ≡ part 
 begun bytes part stand =
     let front : take (length part) bytes ≡ part = taken part bytes (λ k byte is. (let same : k ≡ 0 + k = omega arith in ap (slice_get bytes) same ∙ stand k byte is)) in
     sym (take-append-drop (length part) bytes) ∙ ap (λ (all : List ℕ). all ++ drop (length part) bytes) front
+
+taken_byte : (bytes : List ℕ) (n k : ℕ) → k < n → slice_get (take n bytes) k ≡ slice_get bytes k
+taken_byte bytes zero k inside = absurd (omega (arith, inside))
+taken_byte [] (suc n) k inside = refl
+taken_byte (byte ∷ bytes) (suc n) zero inside = refl
+taken_byte (byte ∷ bytes) (suc n) (suc k) inside = taken_byte bytes n k (omega (arith, inside))
+
+-- bytes that stand at a place stand at the begin of what is cut out there, if enough is
+pub cut_stands : (bytes part : List ℕ) (at end : ℕ) → StandAt bytes at part → at + length part ≤ end → StandAt (slice_range bytes at end) 0 part
+cut_stands bytes part at end stand room k byte is =
+    let inside = slice_get_within part k byte is in
+    let same : 0 + k ≡ k = omega arith in
+    ap (slice_get (slice_range bytes at end)) same ∙ taken_byte (drop at bytes) (end - at) k (omega (arith, inside, room)) ∙ dropped bytes at k ∙ stand k byte is

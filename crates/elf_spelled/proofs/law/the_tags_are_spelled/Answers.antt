@@ -3,7 +3,7 @@ use Rattle.std.proofs.Common.{◌∙◌, sym}
 use Rattle.elf_write.specs.declared.part.Part.TheVariants as parts
 use Rattle.elf_write.specs.Starts.{size_of, starts_of}
 use Rattle.elf_write.specs.Values.{object_bytes, part_bytes}
-use Rattle.elf_spelled.proofs.Placed.{told}
+use Rattle.elf_spelled.specs.Lemmas.Starting.{told}
 use Rattle.elf_spelled.proofs.Tags.{tags_said}
 use Rattle.elf_spelled.proofs.law.the_tags_are_spelled.Goals as goal
 

@@ -3,7 +3,7 @@ use Rattle.std.proofs.Common.{◌∙◌, sym}
 use Rattle.elf_write.specs.declared.part.Part.TheVariants as parts
 use Rattle.elf_write.specs.Starts.{size_of, starts_of}
 use Rattle.elf_write.specs.Values.{object_bytes, part_bytes}
-use Rattle.elf_spelled.proofs.Placed.{told}
+use Rattle.elf_spelled.specs.Lemmas.Starting.{told}
 use Rattle.elf_tabled.proofs.Accepted.{slots_are}
 use Rattle.elf_tabled.proofs.law.the_slots_are_spelled.Goals as goal
 
@@ -11,6 +11,6 @@ pub returns : goal.returns
 unfolding part_bytes size_of
 returns c = λ contents code whole tells fit program said spells.
     slots_are c.parts_stand_apart.ensures contents (object_bytes (starts_of contents) contents code) program said
-    (c.the_tags_are_spelled.ensures contents code whole tells said.tags spells.say.tags) spells
+    (c.the_tags_are_spelled.ensures contents code whole tells said.tags spells.say.tags) (c.the_table_tells.ensures contents) spells
     (c.parts_stand_at_their_starts.ensures contents code whole parts.Jmprel)
     (c.parts_have_their_sizes.ensures (starts_of contents) contents code whole.fits parts.Jmprel tt ∙ sym (told contents parts.Jmprel)) fit

@@ -1,0 +1,4 @@
+pub mod Counted
+pub mod Ends
+pub mod Tables
+pub mod Words
