@@ -21,65 +21,24 @@ use Rattle.asm_statement.specs.declared.line.Line.{Line}
 use Rattle.asm_statement.specs.declared.line.Statement.{Statement}
 use Rattle.asm_statement.specs.declared.line.Statement.TheVariants as statements
 use Rattle.elf_write.specs.declared.contents.Spot.{Spot}
-use Rattle.asm_layout.specs.declared.uses.Exported.{Exported}
 use Rattle.asm_layout.specs.declared.uses.GotKind.TheVariants as gots
 use Rattle.asm_layout.specs.declared.uses.GotUse.{GotUse}
-use Rattle.asm_layout.specs.Contents.{contents_of, export_names, exports_at, files_at, imports_at, needed_at, needed_names, needed_versions_at, offsets_from, soname_offset, string_bytes, string_names, strings_of, versions_at}
+use Rattle.asm_layout.specs.Contents.{contents_of, export_names, exports_at, files_at, imports_at, needed_at, needed_names, needed_versions_at, soname_offset, string_bytes, string_names, strings_of, versions_at}
 use Rattle.asm_layout.specs.Fixes.{array_fixes, fixes_of, got_fix, got_fixes, line_fixes, section_fixes, statement_fixes}
 use Rattle.asm_layout.specs.Places.{filled, is_section, place_at}
 use Rattle.asm_layout.specs.Spots.{sections_of, spot_of}
 use Rattle.asm_layout.specs.Symbols.{export_entries, first_export, import_entries, sorted_exports, symbol_index}
 use Rattle.asm_layout.specs.Tables.{entries, got_words, has_gnu, has_sysv, hash_of, needed, soname, versions}
 use Rattle.asm_layout.specs.Uses.{got_uses, imports, slots}
-use Rattle.asm_layout.specs.Versions.{file_versions, first_needed, need_records, needed_files, needed_of, needed_records, records_for, strings_length, version_records, word}
+use Rattle.asm_layout.specs.Versions.{first_needed, needed_files, word}
 use Rattle.asm_laws.specs.Lemmas.Each.{Each, each}
+use Rattle.asm_laws.specs.Lemmas.Fewer.{entries_few, uses_few}
 use Rattle.asm_laws.specs.Said.{IsSaid}
 use Rattle.asm_laws.specs.Short.{AreOfSource}
-use Rattle.asm_bounds.proofs.Counts.{entries_few, exports_sorted, files_few, imports_few, needed_few, slots_few, uses_few, versions_few, versions_needed}
+use Rattle.asm_bounds.specs.Lemmas.Counts.{exports_sorted, files_few, imports_few, needed_few, slots_few, versions_few, versions_needed}
+use Rattle.asm_bounds.specs.Lemmas.Records.{exports_long, files_long, imports_long, needed_long, offsets_long, records_few}
 use Rattle.asm_bounds.proofs.Tables.{counted_few, gnu_few, packed_few, segments_few, sysv_few}
 use Rattle.asm_bounds.proofs.Tables.{entries_few as tags_few}
-
--- Records, one for each name
-
-imports_long : (lines : List Line) (at : ℕ) (names : List (List ℕ)) → length (import_entries lines at names) ≡ length names
-imports_long lines at [] = refl
-imports_long lines at (name ∷ names) = ap suc (imports_long lines (at + length name + 1) names)
-
-exports_long : (lines : List Line) (at : ℕ) (all : List Exported) → length (export_entries lines at all) ≡ length all
-exports_long lines at [] = refl
-exports_long lines at (exported ∷ rest) = ap suc (exports_long lines (at + length exported.name + 1) rest)
-
-offsets_long : (at : ℕ) (names : List (List ℕ)) → length (offsets_from at names) ≡ length names
-offsets_long at [] = refl
-offsets_long at (name ∷ names) = ap suc (offsets_long (at + length name + 1) names)
-
-versions_long : (index at : ℕ) (names : List (List ℕ)) → length (version_records index at names) ≡ length names
-versions_long index at [] = refl
-versions_long index at (name ∷ names) = ap suc (versions_long (index + 1) (at + length name + 1) names)
-
--- the base stands before the versions
-records_few : (own : List ℕ) (own_at at : ℕ) (names : List (List ℕ)) → length (records_for own own_at at names) ≤ 1 + length names
-records_few own own_at at [] = omega arith
-records_few own own_at at (name ∷ names) = let rest = versions_long 2 at (name ∷ names) in omega (arith, rest)
-
-files_long : (lines : List Line) (before at : ℕ) (files : List (List ℕ)) → length (need_records lines before at files) ≡ length files
-files_long lines before at [] = refl
-files_long lines before at (file ∷ files) = ap suc (files_long lines (before + length (file_versions lines file)) (at + length file + 1) files)
-
-of_file_long : (lines : List Line) (file : List ℕ) (index at : ℕ) (names : List (List ℕ)) → length (needed_of lines file index at names) ≡ length names
-of_file_long lines file index at [] = refl
-of_file_long lines file index at (version ∷ rest) = ap suc (of_file_long lines file (index + 1) (at + length version + 1) rest)
-
-needed_long : (lines : List Line) (index at : ℕ) (files : List (List ℕ)) → length (needed_records lines index at files) ≡ length (flat_map (file_versions lines) files)
-needed_long lines index at [] = refl
-needed_long lines index at (file ∷ files) =
-    let names = file_versions lines file in
-    let first = of_file_long lines file index at names in
-    let next = at + strings_length names in
-    let rest = needed_long lines (index + length names) next files in
-    let one = length-append (needed_of lines file index at names) (needed_records lines (index + length names) next files) in
-    let other = length-append names (flat_map (file_versions lines) files) in
-    omega (arith, first, rest, one, other)
 
 -- Places that the linker fills
 

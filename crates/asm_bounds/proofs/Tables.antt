@@ -22,7 +22,7 @@ use Rattle.elf_write.specs.Relr.{map_of, mapped_count, relr_words, words_within}
 use Rattle.elf_write.specs.Sizes.{array_entries, arrays_entries, count_in, dynamic_entries, flag_entries, gnu_size, has_packed, has_run, has_tls, has_written, listed_count, name_entries, packed_count, reloc_entries, segment_if, segments_of, symbol_entries, sysv_size, tells_number, tells_size, tells_start, version_entries, where_some}
 use Rattle.elf_write.specs.Starts.{packed_from, place_in, relr_size, third_starts}
 use Rattle.hash_build.specs.Hashed.{bucket_count, bucket_of, buckets_of, gnu_of, links_of, sysv_of, word}
-use Rattle.asm_bounds.proofs.Counts.{buckets_few, chain_long, filter_fewer, links_long}
+use Rattle.asm_bounds.specs.Lemmas.Counts.{buckets_few, chain_long, filter_fewer, links_long}
 
 -- The dynamic table
 

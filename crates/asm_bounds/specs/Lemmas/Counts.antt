@@ -1,6 +1,5 @@
 -- How many things of a kind there are at most: as many as lines, twice as many, or a product of these.
 use Rattle.std.proofs.Common.{◌≡◌, ap, refl, ℕ, suc, ◌+◌, ◌*◌, ◌%◌, ◌^◌, ◌≤◌, ◌==◌, Bool, true, false, if◌then◌else◌, List, [], ◌∷◌, length, map, filter, filter_map, flat_map, fold, arith, length-append}
-use Rattle.std.specs.Prelude.{Option}
 use Rattle.std.specs.List.{range_with_len}
 use Rattle.std.specs.Str.{bytes_eq}
 use Rattle.std.proofs.Math.Nat.{mul-le-mul_left, mul-le-mul_right}
@@ -8,15 +7,14 @@ use Rattle.std.proofs.lemmas.List.{length-map}
 use Rattle.std.proofs.lemmas.List.FromFn.{length-range_with_len}
 use Rattle.hash_build.specs.Hashed.{bucket_count, by_bucket, chain_of, links_of}
 use Rattle.sym_hash.specs.Hash.{gnu_hash}
-use Rattle.asm_statement.specs.declared.directive.Array.{Array}
 use Rattle.asm_statement.specs.declared.directive.Need.{Need}
 use Rattle.asm_statement.specs.declared.line.Line.{Line}
 use Rattle.asm_layout.specs.Contents.{needed_names}
 use Rattle.asm_layout.specs.Symbols.{sorted_exports}
-use Rattle.asm_layout.specs.Tables.{entries, entry_in, library_needed, needed, version_defined, versions}
-use Rattle.asm_layout.specs.Uses.{callee, distinct, exported_by, exports, got_use, got_uses, if_foreign, if_labelled, if_preemptible, imports, mention, need_of, needs, same_export, same_use, slots, with_need}
+use Rattle.asm_layout.specs.Tables.{library_needed, needed, version_defined, versions}
+use Rattle.asm_layout.specs.Uses.{callee, exported_by, exports, if_foreign, if_labelled, if_preemptible, imports, mention, need_of, needs, same_export, slots, with_need}
 use Rattle.asm_layout.specs.Versions.{file_versions, is_of_file, needed_files}
-use Rattle.asm_laws.specs.Lemmas.Fewer.{distinct_fewer, some_fewer}
+use Rattle.asm_laws.specs.Lemmas.Fewer.{once_fewer, once_of, some_fewer}
 
 -- Lists
 
@@ -26,21 +24,14 @@ product a b c d one other =
     let second = mul-le-mul_left c other in
     omega (arith, first, second)
 
-once_fewer : {A : Type 0} (same : A → A → Bool) (xs : List A) → length (distinct same xs) ≤ length xs
-unfolding distinct
-once_fewer same xs = distinct_fewer same [] xs
-
-once_of : {X A : Type 0} (same : A → A → Bool) (f : X → Option A) (xs : List X) → length (distinct same (filter_map f xs)) ≤ length xs
-once_of same f xs =
-    let one = once_fewer same (filter_map f xs) in
-    let other = some_fewer f xs in
-    omega (arith, one, other)
-
 pub filter_fewer : {A : Type 0} (test : A → Bool) (xs : List A) → length (filter test xs) ≤ length xs
 filter_fewer test [] = omega arith
 filter_fewer test (x ∷ xs) =
     let rest = filter_fewer test xs in
-    elim (test x) as (λ b. length (if b then x ∷ filter test xs else filter test xs) ≤ length (x ∷ xs)) [ true ↦ omega (arith, rest) | false ↦ omega (arith, rest) ]
+    elim (test x) as (λ b. length (if b then x ∷ filter test xs else filter test xs) ≤ length (x ∷ xs)) [
+      | true ↦ omega (arith, rest)
+      | false ↦ omega (arith, rest)
+    ]
 
 pub joined_few : {X A : Type 0} (f : X → List A) (most : ℕ) → ((x : X) → length (f x) ≤ most) → (xs : List X) → length (flat_map f xs) ≤ length xs * most
 joined_few f most few [] = omega arith
@@ -56,8 +47,9 @@ joined_few f most few (x ∷ xs) =
 -- of things by their buckets there are no more in each than in all
 bucketed_few : {A : Type 0} (hash : A → ℕ) (buckets : ℕ) (xs : List A) → length (by_bucket hash buckets xs) ≤ buckets * length xs
 unfolding by_bucket
-bucketed_few hash buckets xs =
-    let all = joined_few (λ bucket. filter (λ x. hash x % buckets == bucket) xs) (length xs) (λ bucket. filter_fewer (λ x. hash x % buckets == bucket) xs) (range_with_len 0 buckets) in
+bucketed_few {A} hash buckets xs =
+    let in_bucket : ℕ → List A = λ bucket. filter (λ x. hash x % buckets == bucket) xs in
+    let all = joined_few in_bucket (length xs) (λ bucket. filter_fewer (λ x. hash x % buckets == bucket) xs) (range_with_len 0 buckets) in
     let count = length-range_with_len 0 buckets in
     rw count at all
 
@@ -88,10 +80,6 @@ pub slots_few : (lines : List Line) → length (slots lines) ≤ length lines
 unfolding slots
 slots_few lines = once_of bytes_eq (λ line. if_preemptible lines (callee line.statement)) lines
 
-pub uses_few : (lines : List Line) → length (got_uses lines) ≤ length lines
-unfolding got_uses
-uses_few lines = once_of same_use (λ line. got_use line.statement) lines
-
 pub versions_few : (lines : List Line) → length (versions lines) ≤ length lines
 unfolding versions
 versions_few lines = once_of bytes_eq (λ line. version_defined line.statement) lines
@@ -100,15 +88,14 @@ pub needed_few : (lines : List Line) → length (needed lines) ≤ length lines
 unfolding needed
 needed_few lines = some_fewer (λ line. library_needed line.statement) lines
 
-pub entries_few : (array : Array) (lines : List Line) → length (entries array lines) ≤ length lines
-unfolding entries
-entries_few array lines = some_fewer (λ line. entry_in array line.statement) lines
-
 put_few : (all : List Need) (need : Need) → length (with_need all need) ≤ length all + 1
 put_few [] need = omega arith
 put_few (first ∷ rest) need =
     let more = put_few rest need in
-    elim (bytes_eq need.name first.name) as (λ b. length (if b then need ∷ rest else first ∷ with_need rest need) ≤ length (first ∷ rest) + 1) [ true ↦ omega arith | false ↦ omega (arith, more) ]
+    elim (bytes_eq need.name first.name) as (λ b. length (if b then need ∷ rest else first ∷ with_need rest need) ≤ length (first ∷ rest) + 1) [
+      | true ↦ omega arith
+      | false ↦ omega (arith, more)
+    ]
 
 folded_few : (before all : List Need) → length (fold with_need before all) ≤ length before + length all
 folded_few before [] = omega arith
@@ -152,7 +139,8 @@ module _ (lines : List Line) (few : length lines ≤ 2 ^ 20 + 1) where
       let exported = exports_few lines in
       let all = bucketed_few (λ exported. gnu_hash exported.name) (bucket_count (length (exports lines))) (exports lines) in
       let buckets = buckets_few (length (exports lines)) (2 ^ 18 + 1) (omega (arith, exported, few)) in
-      let times = product (bucket_count (length (exports lines))) (length (exports lines)) (2 ^ 18 + 2) (2 ^ 20 + 1) (omega (arith, buckets)) (omega (arith, exported, few)) in
+      let count = length (exports lines) in
+      let times = product (bucket_count count) count (2 ^ 18 + 2) (2 ^ 20 + 1) (omega (arith, buckets)) (omega (arith, exported, few)) in
       omega (arith, all, times)
 
   -- and a number of files times that of the versions of each
