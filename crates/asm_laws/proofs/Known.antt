@@ -1,24 +1,21 @@
 -- What an instruction of lines without a fault goes to is there.
-use Rattle.std.proofs.Common.{◌≡◌, ◌∙◌, ap, sym, subst, ℕ, zero, suc, ◌+◌, ◌<◌, ◌≤◌, ℤ, pos, Bool, true, false, not, ◌&&◌, ◌||◌, if◌then◌else◌, List, [], ◌∷◌, ◌++◌, length, filter_map, refl, arith, append_assoc, ◌-◌, ◌^◌, neg_ℤ}
-use Rattle.std.specs.Prelude.{⊤, Option, Some, None, option_map, nat_lt, position, slice_get}
+use Rattle.std.proofs.Common.{◌≡◌, ◌∙◌, ap, sym, subst, ℕ, ℤ, pos, Bool, true, false, not, ◌&&◌, ◌||◌, if◌then◌else◌, List, [], ◌∷◌, ◌++◌, length, filter_map, refl, append_assoc, ◌-◌, ◌^◌, neg_ℤ}
+use Rattle.std.specs.Prelude.{⊤, Option, Some, None, option_map, nat_lt, position}
 use Rattle.std.specs.List.{list_any}
 use Rattle.std.specs.Option.{is_some}
 use Rattle.std.specs.Str.{bytes_eq}
 use Rattle.std.proofs.lemmas.List.Elements.{filter_map-append}
 use Rattle.std.proofs.lemmas.List.Folds.{list_any-append}
 use Rattle.std.proofs.lemmas.Slice.Eq.{bytes_eq-Decides}
-use Rattle.ld_base.specs.declared.fault.AsmCause.{AsmCause}
 use Rattle.asm_statement.specs.declared.line.Line.{Line}
-use Rattle.asm_statement.specs.declared.line.Statement.{Statement}
-use Rattle.asm_statement.specs.declared.number.Number.{Number}
 use Rattle.asm_layout.specs.declared.place.Place.{Place}
 use Rattle.asm_layout.specs.declared.uses.GotUse.{GotUse}
 use Rattle.asm_layout.specs.declared.uses.GotKind.{GotKind}
 use Rattle.asm_layout.specs.declared.uses.GotKind.TheVariants as gots
 use Rattle.asm_layout.specs.Expansions.{Operand, Registers, Immediate, Upper, Word, Label, Code, Entry}
-use Rattle.asm_layout.specs.Faults.{first_fault, is_known, is_usable, number_fits, operand_is_known}
+use Rattle.asm_layout.specs.Faults.{is_known, is_usable, number_fits, operand_is_known}
 use Rattle.asm_layout.specs.Labels.{is_label, label, defines}
-use Rattle.asm_layout.specs.Names.{is_foreign, is_got_plt, is_preemptible, is_library, kind_of, is_exported, is_kept}
+use Rattle.asm_layout.specs.Names.{is_got_plt, is_preemptible, is_library, kind_of, is_exported, is_kept}
 use Rattle.asm_layout.specs.Numbers.{is_between, value_of}
 use Rattle.asm_layout.specs.Places.{place_at}
 use Rattle.asm_layout.specs.Uses.{slots, got_uses, same_use, same_kind, distinct_after}

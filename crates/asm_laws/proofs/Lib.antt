@@ -1,5 +1,5 @@
-pub mod Filled
 pub mod Known
 pub mod Ordered
 pub mod Sized
 pub mod Small
+pub mod Strings

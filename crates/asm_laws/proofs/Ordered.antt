@@ -1,14 +1,12 @@
 -- The places list by list.
-use Rattle.std.proofs.Common.{◌≡◌, ◌∙◌, ap, sym, subst, ℕ, zero, suc, ◌+◌, ◌-◌, ◌*◌, ◌%◌, ◌^◌, ◌<◌, ◌≤◌, Bool, true, false, if◌then◌else◌, List, [], ◌∷◌, ◌++◌, length, filter_map, fold, take, drop, inl, inr, refl, arith}
-use Rattle.std.specs.Prelude.{Option, Some, None, ◌⊎◌, ⊤}
+use Rattle.std.proofs.Common.{◌≡◌, ◌∙◌, ap, sym, subst, ℕ, ◌+◌, ◌*◌, ◌^◌, ◌<◌, ◌≤◌, Bool, true, false, if◌then◌else◌, List, [], ◌∷◌, ◌++◌, length, take, inl, inr, refl, arith}
+use Rattle.std.specs.Prelude.{Option, Some, None, ⊤}
 use Rattle.std.proofs.Common.{append_assoc}
-use Rattle.std.specs.List.{list_any}
 use Rattle.elf_write.specs.declared.contents.Fix.{Fix}
 use Rattle.elf_write.specs.declared.part.Part.{Part}
 use Rattle.elf_write.specs.declared.part.Part.TheVariants as parts
 use Rattle.elf_write.specs.Parts.{number_of}
 use Rattle.elf_write.specs.Starts.{wrapped}
-use Rattle.asm_statement.specs.declared.directive.Array.{Array}
 use Rattle.asm_statement.specs.declared.directive.Array.TheVariants as arrays
 use Rattle.asm_statement.specs.declared.directive.Directive.{Directive}
 use Rattle.asm_statement.specs.declared.directive.Section.{Section}
@@ -21,14 +19,15 @@ use Rattle.asm_statement.specs.declared.line.Statement.TheVariants as statements
 use Rattle.asm_layout.specs.declared.place.Place.{Place}
 use Rattle.asm_layout.specs.declared.uses.GotKind.TheVariants as gots
 use Rattle.asm_layout.specs.declared.uses.GotUse.{GotUse}
-use Rattle.asm_layout.specs.Fixes.{got_fixes, got_fix, array_fix, array_fixes, section_fixes, line_fixes, statement_fixes, address_fix, tls_fix, fixes_of}
+use Rattle.asm_layout.specs.Fixes.{got_fixes, got_fix, array_fixes, section_fixes, line_fixes, statement_fixes, fixes_of}
 use Rattle.asm_layout.specs.Numbers.{count_of}
 use Rattle.std.proofs.Common.{length-append}
 use Rattle.asm_layout.specs.Places.{place_after, place_at, filled, section_after, is_section, size_at, directive_size}
 use Rattle.asm_layout.specs.Spots.{spot_of, part_of}
-use Rattle.asm_layout.specs.Tables.{got_words, entries, entry_in}
-use Rattle.asm_layout.specs.Uses.{got_uses, got_use, distinct, distinct_after, same_use}
-use Rattle.asm_laws.proofs.Filled.{one_more, is_same}
+use Rattle.asm_layout.specs.Tables.{got_words, entries}
+use Rattle.asm_layout.specs.Uses.{got_uses}
+use Rattle.asm_laws.specs.Lemmas.Fewer.{entries_few, uses_few}
+use Rattle.asm_laws.specs.Lemmas.Filled.{one_more, is_same}
 use Rattle.asm_laws.specs.Ascending.{AreFrom, StandsFrom, room}
 
 -- all of these stand in parts up to this number
@@ -106,33 +105,6 @@ array_from lines part offset [] fits = tt
 array_from lines part offset (name ∷ names) fits =
     let one = unwrapped offset (omega arith) in
     (inr (refl, omega (arith, one)), sooner (number_of part) (wrapped offset + 8) (offset + 8) (array_fixes lines part (offset + 8) names) (omega (arith, one)) (array_from lines part (offset + 8) names (omega arith)))
-
--- How many there are
-
-distinct_fewer : {A : Type 0} (same : A → A → Bool) (seen xs : List A) → length (distinct_after same seen xs) ≤ length xs
-distinct_fewer same seen [] = omega arith
-distinct_fewer same seen (x ∷ xs) =
-    let without = distinct_fewer same seen xs in
-    let with_it = distinct_fewer same (seen ++ x ∷ []) xs in
-    elim (list_any (same x) seen) as (λ there. length (if there then distinct_after same seen xs else x ∷ distinct_after same (seen ++ x ∷ []) xs) ≤ length (x ∷ xs)) [
-      | true ↦ omega (arith, without)
-      | false ↦ omega (arith, with_it)
-    ]
-
-some_fewer : {A B : Type 0} (f : A → Option B) (xs : List A) → length (filter_map f xs) ≤ length xs
-some_fewer f [] = omega arith
-some_fewer f (x ∷ xs) = let rest = some_fewer f xs in grind (arith, rest)
-
-uses_few : (lines : List Line) → length (got_uses lines) ≤ length lines
-unfolding got_uses distinct
-uses_few lines =
-    let few = some_fewer (λ line. got_use line.statement) lines in
-    let fewer = distinct_fewer same_use [] (filter_map (λ line. got_use line.statement) lines) in
-    omega (arith, few, fewer)
-
-names_few : (array : Array) (lines : List Line) → length (entries array lines) ≤ length lines
-unfolding entries
-names_few array lines = some_fewer (λ line. entry_in array line.statement) lines
 
 -- A section
 
@@ -254,9 +226,9 @@ pub ascends : (lines : List Line) → length lines < 2 ^ 59 → AreFrom 0 0 (fix
 unfolding fixes_of
 ascends lines few =
     let uses = uses_few lines in
-    let some = names_few arrays.Preinit lines in
-    let more = names_few arrays.Init lines in
-    let last = names_few arrays.Fini lines in
+    let some = entries_few arrays.Preinit lines in
+    let more = entries_few arrays.Init lines in
+    let last = entries_few arrays.Fini lines in
     let got : Ordered 15 (got_fixes lines 0 (got_uses lines)) = record {
       from = earlier 0 15 0 (got_fixes lines 0 (got_uses lines)) (omega arith) (got_from lines 0 (got_uses lines) (omega (arith, uses, few)));
       inside = got_in lines 0 (got_uses lines);

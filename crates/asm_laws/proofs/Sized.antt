@@ -1,21 +1,13 @@
 -- The bytes of a section are as many as its lines fill.
-use Rattle.std.proofs.Common.{◌≡◌, ◌∙◌, ap, sym, subst, ℕ, zero, suc, ◌+◌, ◌-◌, ◌*◌, ◌<◌, ◌≤◌, ℤ, pos, ◌-ℤ◌, Bool, true, false, not, ◌&&◌, ◌||◌, if◌then◌else◌, List, [], ◌∷◌, ◌++◌, length, map, flat_map, filter_map, replicate, take, refl, arith, length-append, append_assoc, append-nil}
-use Rattle.std.specs.Prelude.{⊤, Option, Some, None, option_map, nat_lt, slice_get}
+use Rattle.std.proofs.Common.{◌≡◌, ◌∙◌, ap, sym, subst, ℕ, zero, suc, ◌+◌, ◌*◌, ℤ, pos, ◌-ℤ◌, Bool, true, false, ◌&&◌, if◌then◌else◌, List, [], ◌∷◌, ◌++◌, length, flat_map, filter_map, replicate, refl, arith, length-append, append_assoc, append-nil}
+use Rattle.std.specs.Prelude.{Option, Some, None, nat_lt, slice_get}
 use Rattle.std.specs.List.{list_any, range_with_len}
 use Rattle.std.specs.Option.{is_some}
-use Rattle.std.specs.Int.{w16, w32, w64, to_le_bytes}
+use Rattle.std.specs.Int.{w32, to_le_bytes}
 use Rattle.std.specs.Str.{bytes_eq}
 use Rattle.std.proofs.lemmas.List.{length-map, length-replicate}
-use Rattle.ld_base.specs.declared.fault.AsmCause.{AsmCause}
-use Rattle.elf_write.specs.declared.contents.Contents.{Contents}
-use Rattle.elf_write.specs.declared.contents.SectionBytes.{SectionBytes}
 use Rattle.elf_write.specs.declared.starts.Starts.{Starts}
-use Rattle.elf_write.specs.declared.part.Part.TheVariants as parts
-use Rattle.elf_write.specs.Records.{file_size}
 use Rattle.elf_write.specs.Sizes.{plt_size}
-use Rattle.elf_write.specs.Starts.{starts_of}
-use Rattle.elf_write.specs.Values.{object_bytes}
-use Rattle.rv_isa.specs.declared.instr.Instr.{Instr}
 use Rattle.rv_isa.specs.Encoding.{word_of}
 use Rattle.asm_statement.specs.declared.directive.DataSize.{DataSize}
 use Rattle.asm_statement.specs.declared.directive.DataSize.TheVariants as sizes
@@ -32,45 +24,19 @@ use Rattle.asm_layout.specs.declared.place.Place.{Place}
 use Rattle.asm_layout.specs.declared.uses.GotUse.{GotUse}
 use Rattle.asm_layout.specs.Contents.{contents_of}
 use Rattle.asm_layout.specs.Expansions.{Operand, Registers, Immediate, Upper, Word, Label, Code, Entry, expansion, operand_of}
-use Rattle.asm_layout.specs.Faults.{HasNoFault, fault_at, fault_of, line_fault, first_fault, for_statement, statement_fits, statement_is_known, statement_may_stand, directive_may_stand, number_fits, all_have_form, instruction_fits, operand_is_known}
-use Rattle.asm_layout.specs.Fixes.{addend_of, fixes_of}
-use Rattle.asm_layout.specs.Labels.{is_taken, defined_by}
-use Rattle.asm_layout.specs.Names.{is_preemptible}
+use Rattle.asm_layout.specs.Faults.{HasNoFault, for_statement, statement_fits, statement_is_known, statement_may_stand, directive_may_stand, number_fits, all_have_form, operand_is_known}
+use Rattle.asm_layout.specs.Fixes.{addend_of}
 use Rattle.asm_layout.specs.Numbers.{bytes_of, count_of}
-use Rattle.asm_layout.specs.Object.{instr_bytes, slot_code, plt_begin, plt_slot, plt_bytes, data_bytes, dword_bytes, directive_bytes, statement_bytes, bytes_in, lines_bytes, section_bytes, code_of, object_of}
-use Rattle.asm_layout.specs.Places.{directive_size, filled, filling, is_section, padding, place_after, place_at, section_after, size_at, words_in}
-use Rattle.asm_layout.specs.Spots.{sections_of, extent_of}
+use Rattle.asm_layout.specs.Object.{instr_bytes, slot_code, plt_begin, plt_bytes, data_bytes, directive_bytes, statement_bytes, bytes_in, lines_bytes, section_bytes, code_of}
+use Rattle.asm_layout.specs.Places.{directive_size, filled, filling, is_section, padding, place_after, place_at, size_at, words_in}
+use Rattle.asm_layout.specs.Spots.{sections_of}
 use Rattle.asm_layout.specs.Uses.{slots, got_uses, got_use, callee, code_name, entry_of, if_preemptible, same_use, distinct}
 use Rattle.asm_layout.specs.Words.{address_at, instrs_at, instrs_of, line_words, operand_value, statement_words, words_at, words_or_none}
-use Rattle.asm_laws.proofs.Filled.{one_more, is_same}
-use Rattle.asm_laws.proofs.Known.{given, same_name, same_as_itself, mapped, HasSlot, valued}
+use Rattle.asm_laws.specs.Lemmas.Passed.{Passes, got_at, passes}
+use Rattle.asm_laws.specs.Lemmas.Filled.{one_more, is_same}
+use Rattle.asm_laws.proofs.Known.{given, same_name, same_as_itself, HasSlot, valued}
 use Rattle.asm_laws.proofs.Ordered.{at_line}
 use Rattle.elf_written.specs.Fitting.{FitsSections}
-use Rattle.elf_written.specs.Standing.{AlignsInPages, EndsInside, PacksBehind}
-
--- A line without a fault
-
-all_pass : (a b c d : Bool) (w x y z : AsmCause) → first_fault ((a, w) ∷ (b, x) ∷ (c, y) ∷ (d, z) ∷ []) ≡ None → (a ≡ true) × ((c ≡ true) × (d ≡ true))
-all_pass true true true true w x y z none = (refl, (refl, refl))
-all_pass true true true false w x y z none = absurd (cc none)
-all_pass true true false d w x y z none = absurd (cc none)
-all_pass true false c d w x y z none = absurd (cc none)
-all_pass false b c d w x y z none = absurd (cc none)
-
-abbrev Passes : List Line → ℕ → Line → Type 0
-Passes lines k line = (for_statement (statement_fits lines k) line.statement ≡ true)
-    × ((for_statement (statement_is_known lines) line.statement ≡ true) × (for_statement (statement_may_stand (place_at lines k).section) line.statement ≡ true))
-
-got_at : (before : List Line) (line : Line) (rest : List Line) → slice_get (before ++ line ∷ rest) (length before) ≡ Some line
-got_at [] line rest = refl
-got_at (first ∷ before) line rest = got_at before line rest
-
-passes : (lines : List Line) (k : ℕ) (line : Line) → HasNoFault lines → slice_get lines k ≡ Some line → Passes lines k line
-unfolding fault_at
-passes lines k line faultless is =
-    let none : line_fault lines k line ≡ None = ap (fault_of lines k) (sym is) ∙ faultless k in
-    all_pass (for_statement (statement_fits lines k) line.statement) (not (is_taken (take k lines) (defined_by line)))
-    (for_statement (statement_is_known lines) line.statement) (for_statement (statement_may_stand (place_at lines k).section) line.statement) _ _ _ _ none
 
 first_of : (a b : Bool) → (a && b) ≡ true → a ≡ true
 first_of true b both = refl
@@ -239,20 +205,3 @@ sections_fit room lines faultless starts = record {
   tdata = sized room lines faultless starts sections.Tdata refl;
   content = sized room lines faultless starts sections.Data refl;
 }
-
-same_fixes : (lines : List Line) → (contents_of lines).fixes ≡ fixes_of lines
-unfolding contents_of
-same_fixes lines = refl
-
-pub object_sized : HasRoom
-    → ((contents : Contents) (code : SectionBytes) → FitsSections contents code → AlignsInPages contents → PacksBehind (starts_of contents) contents.fixes
-    → EndsInside (starts_of contents) → length (object_bytes (starts_of contents) contents code) ≡ file_size (starts_of contents))
-    → (lines : List Line) → HasNoFault lines → AlignsInPages (contents_of lines) → PacksBehind (starts_of (contents_of lines)) (fixes_of lines)
-    → EndsInside (starts_of (contents_of lines)) → length (object_of lines) ≡ file_size (starts_of (contents_of lines))
-unfolding object_of
-object_sized room file lines faultless aligns behind inside =
-    let starts = starts_of (contents_of lines) in
-    file (contents_of lines) (code_of lines starts) (sections_fit room lines faultless starts) aligns (packs lines behind) inside
-  where
-    packs : (lines : List Line) → PacksBehind (starts_of (contents_of lines)) (fixes_of lines) → PacksBehind (starts_of (contents_of lines)) (contents_of lines).fixes
-    packs lines behind = subst (λ fixes. PacksBehind (starts_of (contents_of lines)) fixes) (sym (same_fixes lines)) behind

@@ -1,7 +1,6 @@
 -- A line adds 2^32 bytes at most.
-use Rattle.std.proofs.Common.{◌≡◌, ◌∙◌, ap, sym, subst, ℕ, zero, suc, ◌+◌, ◌-◌, ◌*◌, ◌%◌, ◌^◌, ◌<◌, ◌≤◌, ℤ, pos, Bool, true, false, if◌then◌else◌, ◌&&◌, int_le, List, [], ◌∷◌, ◌++◌, length, refl, arith, length-append, append_assoc, append-nil}
+use Rattle.std.proofs.Common.{◌≡◌, sym, ℕ, zero, suc, ◌+◌, ◌-◌, ◌*◌, ◌%◌, ◌^◌, ◌<◌, ◌≤◌, ℤ, pos, Bool, true, false, if◌then◌else◌, List, [], ◌∷◌, ◌++◌, length, take, refl, arith, append_assoc, append-nil, length-take}
 use Rattle.std.specs.Prelude.{Option, Some, None}
-use Rattle.std.proofs.lemmas.Bool.Decides.{nat_tests}
 use Rattle.std.proofs.Math.Nat.{mod-le}
 use Rattle.asm_statement.specs.declared.directive.DataSize.{DataSize}
 use Rattle.asm_statement.specs.declared.directive.DataSize.TheVariants as sizes
@@ -14,11 +13,11 @@ use Rattle.asm_statement.specs.declared.instruction.Instruction.TheVariants as i
 use Rattle.asm_statement.specs.declared.line.Line.{Line}
 use Rattle.asm_statement.specs.declared.line.Statement.{Statement}
 use Rattle.asm_statement.specs.declared.line.Statement.TheVariants as statements
-use Rattle.asm_statement.specs.declared.number.Number.{Number}
-use Rattle.asm_layout.specs.Expansions.{expansion, li_instrs, address_expansion}
-use Rattle.asm_layout.specs.Numbers.{bytes_of, count_of, counted, fits_addi, is_between, value_in}
+use Rattle.asm_layout.specs.Expansions.{expansion, li_instrs}
+use Rattle.asm_layout.specs.Numbers.{bytes_of, fits_addi}
 use Rattle.asm_layout.specs.Places.{directive_size, filled, filling, is_section, padding, section_after, size_at, words_in}
-use Rattle.asm_laws.proofs.Filled.{one_more}
+use Rattle.asm_laws.specs.Lemmas.Counted.{small_count}
+use Rattle.asm_laws.specs.Lemmas.Filled.{one_more}
 use Rattle.asm_laws.specs.Short.{IsShort, IsShortDirective, AreShort, AreOfSource}
 
 of_li : (short : Bool) (rd : ℕ) (value : ℤ) → length (li_instrs short rd value) ≤ 2
@@ -56,15 +55,6 @@ few_bytes : (size : DataSize) → bytes_of size ≤ 4
 few_bytes sizes.Word = omega arith
 few_bytes sizes.Half = omega arith
 few_bytes sizes.Byte = omega arith
-
-small_count : (is_negative : Bool) (magnitude : Option ℕ) → counted (is_between (pos 0) (pos (2 ^ 32 - 1)) (value_in is_negative magnitude)) magnitude ≤ 2 ^ 32
-small_count is_negative None = omega arith
-small_count true (Some zero) = omega arith
-small_count true (Some (suc n)) = omega arith
-small_count false (Some n) =
-    let P : Bool → Type 0 = λ fits. is_between (pos 0) (pos (2 ^ 32 - 1)) (Some (pos n)) ≡ fits → counted fits (Some n) ≤ 2 ^ 32 in
-    let cases : (fits : Bool) → P fits = λ fits. elim fits as P [ true ↦ λ is. grind (arith, nat_tests) | false ↦ λ is. omega arith ] in
-    cases (is_between (pos 0) (pos (2 ^ 32 - 1)) (Some (pos n))) refl
 
 small_padding : (offset alignment : ℕ) → alignment ≤ 4096 → padding offset alignment ≤ 2 ^ 32
 small_padding offset alignment few = let less = mod-le (alignment - offset % alignment) alignment in omega (arith, less, few)
@@ -118,9 +108,16 @@ nothing : (section : Section) → filled section [] ≡ 0
 unfolding filling
 nothing section = refl
 
-pub small : (lines : List Line) → AreOfSource lines → (section : Section) → filled section lines < 2 ^ 53
-small lines source section =
-    let all = small_behind section [] lines source.short in
+short_front : (lines : List Line) (k : ℕ) → AreShort lines → AreShort (take k lines)
+short_front [] zero short = tt
+short_front [] (suc k) short = tt
+short_front (line ∷ lines) zero short = tt
+short_front (line ∷ lines) (suc k) (first, short) = (first, short_front lines k short)
+
+pub small : (lines : List Line) → AreOfSource lines → (k : ℕ) (section : Section) → filled section (take k lines) < 2 ^ 53
+small lines source k section =
+    let all = small_behind section [] (take k lines) (short_front lines k source.short) in
     let none = nothing section in
     let few = source.count in
-    omega (arith, all, none, few)
+    let fewer = length-take k lines in
+    omega (arith, all, none, few, fewer)

@@ -1,2 +1,4 @@
 pub mod Ascending
+pub mod Lemmas
+pub mod Said
 pub mod Short

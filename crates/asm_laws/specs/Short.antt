@@ -5,6 +5,7 @@ use Rattle.asm_statement.specs.declared.directive.Directive.TheVariants as direc
 use Rattle.asm_statement.specs.declared.line.Line.{Line}
 use Rattle.asm_statement.specs.declared.line.Statement.{Statement}
 use Rattle.asm_statement.specs.declared.line.Statement.TheVariants as statements
+use Rattle.asm_laws.specs.Said.{IsSaid}
 
 -- a text is part of the source, and an alignment is 4,096 at most
 abbrev pub IsShortDirective : Directive → Type 0
@@ -21,7 +22,8 @@ abbrev pub AreShort : List Line → Type 0
 AreShort [] = ⊤
 AreShort (line ∷ lines) = IsShort line.statement × AreShort lines
 
--- a source has a line more than it has line feeds
+-- a source has a line more than it has line feeds, and its names are parts of it
 pub record AreOfSource (lines : List Line) : Type 0 where
   pub count : length lines ≤ 2 ^ 20 + 1
   pub short : AreShort lines
+  pub named : (name : List ℕ) → IsSaid lines name → length name ≤ 2 ^ 20

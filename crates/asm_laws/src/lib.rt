@@ -3,10 +3,10 @@
 //! - [`fixes_ascend`]: the places that the linker fills stand in ascending order of address, and none reaches
 //!   into the next.
 //! - [`sections_have_their_sizes`]: the bytes of each section are as many as its lines fill.
-//! - [`object_has_its_size`]: the object has as many bytes as the file's size says, by which it is judged too big.
+//! - [`strings_are_said`]: the names in the strings are names that the lines say.
 //! - [`sections_are_small`]: no section of a source comes near 2^64 bytes.
 #![tactic(auto)]
 
 mod law;
 
-pub use law::{fixes_ascend, object_has_its_size, sections_are_small, sections_have_their_sizes};
+pub use law::{fixes_ascend, sections_are_small, sections_have_their_sizes, strings_are_said};

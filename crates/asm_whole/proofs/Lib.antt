@@ -1,2 +1,4 @@
 pub mod Aligned
+pub mod Directives
+pub mod Instructions
 pub mod Said

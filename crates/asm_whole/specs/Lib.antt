@@ -1,1 +1,2 @@
 pub mod Aligned
+pub mod Named

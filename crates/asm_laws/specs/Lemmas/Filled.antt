@@ -1,11 +1,10 @@
 -- How far a section is filled before a line, and behind it.
-use Rattle.std.proofs.Common.{◌≡◌, ◌∙◌, ap, sym, subst, ℕ, zero, suc, ◌+◌, ◌<◌, ◌≤◌, ◌==◌, Bool, true, false, if◌then◌else◌, List, [], ◌∷◌, ◌++◌, length, fold, take, refl, arith}
+use Rattle.std.proofs.Common.{◌≡◌, ◌∙◌, ap, sym, ℕ, zero, suc, ◌+◌, true, if◌then◌else◌, List, [], ◌∷◌, ◌++◌, fold, refl, arith}
 use Rattle.std.proofs.lemmas.Bool.Decides.{nat_tests}
 use Rattle.asm_statement.specs.declared.directive.Section.{Section}
 use Rattle.asm_statement.specs.declared.directive.Section.TheVariants as sections
 use Rattle.asm_statement.specs.declared.line.Line.{Line}
-use Rattle.asm_layout.specs.declared.place.Place.{Place}
-use Rattle.asm_layout.specs.Places.{filling, filled, growth, next_section, section_after, section_number, is_section, size_at, place_at}
+use Rattle.asm_layout.specs.Places.{filling, filled, growth, next_section, section_after, section_number, is_section, size_at}
 
 -- the section that a fold goes through is that of the lines
 same_section : (section begin : Section) (size : ℕ) (lines : List Line)
@@ -24,7 +23,8 @@ fold_more f begin [] x = refl
 fold_more f begin (y ∷ xs) x = fold_more f (f begin y) xs x
 
 pub one_more : (section : Section) (lines : List Line) (line : Line)
-    → filled section (lines ++ line ∷ []) ≡ (if is_section section (section_after lines) then filled section lines + size_at (filled section lines) line.statement else filled section lines)
+    → filled section (lines ++ line ∷ [])
+    ≡ (if is_section section (section_after lines) then filled section lines + size_at (filled section lines) line.statement else filled section lines)
 unfolding filling
 one_more section lines line =
     let step : fold (λ before line. growth section line before) (sections.Text, 0) (lines ++ line ∷ []) ≡ growth section line (filling section lines)

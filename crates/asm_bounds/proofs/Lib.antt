@@ -1,0 +1,4 @@
+pub mod Ends
+pub mod Packs
+pub mod Sizes
+pub mod Tables

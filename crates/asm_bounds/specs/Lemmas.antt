@@ -1,0 +1,4 @@
+-- Lemmas that proofs of the crates above cite, too. They define nothing that a contract means.
+pub mod Counts
+pub mod Fixes
+pub mod Records

@@ -1,0 +1,67 @@
+//! The laws.
+
+ghost use Rattle.std.specs.Prelude.{◌≡◌, ◌+◌, ◌<◌, ◌≤◌, ◌^◌, List, ℕ, length};
+ghost use Rattle.elf_write.specs.declared.part.Part.{Part};
+ghost use Rattle.elf_write.specs.Records.{file_size};
+ghost use Rattle.elf_write.specs.Starts.{size_in, start_in, starts_of};
+ghost use Rattle.elf_written.specs.Standing.{PacksBehind};
+ghost use Rattle.elf_spelled.specs.Whole.{IsWhole};
+ghost use Rattle.asm_statement.specs.declared.line.Line.{Line};
+ghost use Rattle.asm_layout.specs.Contents.{contents_of};
+ghost use Rattle.asm_layout.specs.Faults.{HasNoFault};
+ghost use Rattle.asm_layout.specs.Fixes.{fixes_of};
+ghost use Rattle.asm_layout.specs.Object.{code_of, object_of};
+ghost use Rattle.asm_grammar.specs.Grammar.{SaysSource};
+ghost use Rattle.asm_denotes.specs.Denotes.{Denotes};
+
+use asm_laws::{sections_are_small, sections_have_their_sizes, strings_are_said};
+use asm_whole::{alignments_divide_pages, sources_are_short};
+use elf_written::file_has_its_size;
+
+/// Each part of a source's object ends below 2^62.
+pub fn parts_end_low()
+    ensures { (source : List ℕ) (lines : List Line) → SaysSource source lines → (part : Part)
+        → start_in (starts_of (contents_of lines)) part + size_in (starts_of (contents_of lines)) part < 2 ^ 62 }
+{
+    sources_are_short();
+    sections_are_small();
+    strings_are_said();
+    alignments_divide_pages();
+}
+
+/// The places of a source that are packed stand in the third segment or behind it.
+pub fn packed_places_stand_behind()
+    ensures { (source : List ℕ) (lines : List Line) → SaysSource source lines → PacksBehind (starts_of (contents_of lines)) (fixes_of lines) }
+{
+    sources_are_short();
+    sections_are_small();
+    parts_end_low();
+}
+
+/// What a source's object holds is whole, where no line has a fault: its parts have the bytes and the places that they are to have.
+pub fn objects_are_whole()
+    ensures { (source : List ℕ) (lines : List Line) → SaysSource source lines → HasNoFault lines
+        → IsWhole (contents_of lines) (code_of lines (starts_of (contents_of lines))) }
+{
+    sources_are_short();
+    alignments_divide_pages();
+    sections_have_their_sizes();
+    packed_places_stand_behind();
+    parts_end_low();
+}
+
+/// The object of a source without a fault has as many bytes as the size of its file says, by which it is judged too big.
+pub fn object_has_its_size()
+    ensures { (source : List ℕ) (lines : List Line) → SaysSource source lines → HasNoFault lines
+        → length (object_of lines) ≡ file_size (starts_of (contents_of lines)) }
+{
+    objects_are_whole();
+    file_has_its_size();
+}
+
+/// An object that a source denotes has 8 MiB at most.
+pub fn denoted_objects_are_small()
+    ensures { (source bytes : List ℕ) → Denotes source bytes → length bytes ≤ 8_388_608 }
+{
+    object_has_its_size();
+}

@@ -1,0 +1,3 @@
+pub mod Relocs
+pub mod Symbols
+pub mod Told
