@@ -192,6 +192,7 @@ clauses words views g = record {
         let y : Fits g.kept g.keeper g.seat_of g.hart b (Hart i) = g.seats.each b (Hart i) there in sym x.1 ∙ (ap g.seat_of same ∙ y.1);
     last_view = λ a h at. let x : Fits g.kept g.keeper g.seat_of g.hart a (Hart h) = g.seats.each a (Hart h) at in (x.0, x.2);
     seated_or_joined = λ m low. ⊎_elim (λ e. inl (g.seat_of m, e)) (λ j. inr j) (g.seats.there m low);
+    unborn = g.seats.unborn;
   };
   locks = record {
     role = λ d low. (g.parts.locks.each_word d low).role;

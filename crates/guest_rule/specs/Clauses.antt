@@ -17,7 +17,7 @@ use Rattle.guest_rule.specs.declared.view.View.{View}
 use Rattle.guest_rule.specs.declared.view.View.TheVariants.{Keeper, Hart, Note}
 use Rattle.guest_rule.specs.Layout.{control_at, count_at, generation_at, index_of, row_at, state_at, value_at}
 use Rattle.guest_rule.specs.Layout.{doublewords, harts_at_most, lock_bit, place_of, role_code}
-use Rattle.guest_rule.specs.Views.{BeginsWith, entries_of, entry_of, exchanges_of, field_of, grant_in, kept_at, row_of, tried_entry}
+use Rattle.guest_rule.specs.Views.{BeginsWith, entries_of, entry_of, exchanges_of, field_of, first_hart, grant_in, kept_at, row_of, tried_entry}
 use Rattle.guest_rule.specs.HartSteps.{Awaits, IsMark}
 use Rattle.guest_rule.specs.Calls.{IsEvent, Stage}
 use Rattle.guest_rule.specs.Generations.{AllKept}
@@ -39,6 +39,8 @@ pub record SeatClauses (views : List View) (kept : KeeperView) (hart : ℕ → H
   pub last_view : (a : ℕ) (h : HartView) → get_elem? views a ≡ some (Hart h) → (h.number < kept.harts) × (hart h.number ≡ h)
   pub seated_or_joined : (m : ℕ) → m < kept.harts
       → ((a : ℕ) × (get_elem? views a ≡ some (Hart (hart m)))) ⊎ ((i : ℕ) × (slice_get kept.joined i ≡ Some (hart m)))
+  -- a hart that isn't there yet has done nothing
+  pub unborn : (m : ℕ) → kept.harts ≤ m → hart m ≡ first_hart m
 
 -- ---- words and locks
 
