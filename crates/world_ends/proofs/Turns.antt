@@ -33,11 +33,7 @@ use Rattle.world_turns.specs.Lemmas.Turning.{freed_at, freed_length}
 use Rattle.world_ends.specs.Ends.{AreEndings, BeforeFinals, InFinals, has_exited}
 use Rattle.world_ends.specs.Laws.{FinalsBegin, FinalsLack, HartsMayEnd, SettlingFits, TurnsKeepBefore, TurnsKeepFinals}
 use Rattle.world_ends.proofs.Endings.{an_end, ended_fit, freed_fit, one_longer, sparing_events, same_fit, unmapping}
-<<<<<<< HEAD
-use Rattle.world_ends.specs.Lemmas.Places.{all_pass, at_set, count_all, each_passes, freed_here, reason_of, runs_on}
-=======
 use Rattle.world_ends.specs.Lemmas.Places.{all_pass, at_set, count_all, each_passes, exited_ends, freed_here, reason_of, running, runs_on}
->>>>>>> 644f4cb3f8cfdef510eda1615d81b17cb4d09629
 use Rattle.world_ends.specs.Lemmas.Settled.{found_keeps, settling_keeps}
 
 -- ---- what settling leaves
@@ -70,18 +66,6 @@ no_more w endings e all is =
     past_it n k m a b c = omega (arith, a, b, c)
 
 -- ---- ends by exit
-<<<<<<< HEAD
-
-abbrev exit_of_end : HartEnd → Option ℕ
-exit_of_end reason = elim reason [ ends.Exit code ↦ Some code | _ ↦ None ]
-
-code_ends : (e : Option HartEnd) → is_some (elim e [ Some why ↦ exit_of_end why | None ↦ None ]) ≡ true → is_some e ≡ true
-code_ends (Some reason) is = refl
-code_ends None is = absurd (false≢true is)
-
--- ---- a turn
-=======
->>>>>>> 644f4cb3f8cfdef510eda1615d81b17cb4d09629
 
 abbrev exit_of_end : HartEnd → Option ℕ
 exit_of_end reason = elim reason [ ends.Exit code ↦ Some code | _ ↦ None ]
@@ -175,11 +159,7 @@ module _ (w : Setting) (h : ℕ) (old new : World) (turn : Turn w h old new) whe
     -- the turn is the first hart's
     is_first : (j : ℕ) → slice_get (x.first ∷ x.others) j ≡ Some turn.before → (j ≡ 0) × (x.first ≡ turn.before)
     is_first zero at = (refl, (let same : x.first ≡ turn.before = cc in same))
-<<<<<<< HEAD
-    is_first (suc j) at = absurd (false≢true (sym (runs_on turn.before runs) ∙ code_ends turn.before.«end» (each_passes has_exited x.others j turn.before x.over at)))
-=======
     is_first (suc j) at = absurd (false≢true (sym (runs_on turn.before runs) ∙ exited_ends turn.before (each_passes has_exited x.others j turn.before x.over at)))
->>>>>>> 644f4cb3f8cfdef510eda1615d81b17cb4d09629
 
     first_is : (h ≡ 0) × (x.first ≡ turn.before)
     first_is = is_first h (ap (λ (bs : List HartState). slice_get bs h) (sym x.harts) ∙ turn.there)
@@ -422,11 +402,7 @@ not_told w world h b x at none true is =
 
 first_may : (w : Setting) (world : World) (x : InFinals w world) (h : ℕ) (b : HartState) → slice_get (x.first ∷ x.others) h ≡ Some b → b.«end» ≡ None → MayEnd w (after world.journal) h
 first_may w world x zero b at none = inr (refl, x.runs (ap (λ (c : HartState). c.«end») (let same : x.first ≡ b = cc in same) ∙ none))
-<<<<<<< HEAD
-first_may w world x (suc j) b at none = absurd (false≢true (sym (runs_on b none) ∙ code_ends b.«end» (each_passes has_exited x.others j b x.over at)))
-=======
 first_may w world x (suc j) b at none = absurd (false≢true (sym (runs_on b none) ∙ exited_ends b (each_passes has_exited x.others j b x.over at)))
->>>>>>> 644f4cb3f8cfdef510eda1615d81b17cb4d09629
 
 pub harts_may_end : HartsMayEnd
 harts_may_end w world x h b at none = ⊎_elim

@@ -171,11 +171,7 @@ same_objects s h (Origin.closing c) (Purpose.of_end code) f g rest same x = absu
 -- ---- what a turn leaves: frames of other harts, and the hart's own
 
 module _ (w : Setting) (laws : FrameLaws w.machine) (past : List Event) (lawful : Lawful w.machine past) (h : ℕ) (before left_frames : List Frame) (x : FramesFit (after past) h before) where
-<<<<<<< HEAD
-  record Left (added : List Event) : Type 0 where
-=======
   pub record Left (added : List Event) : Type 0 where
->>>>>>> 644f4cb3f8cfdef510eda1615d81b17cb4d09629
     pub others : (j : ℕ) (origins : List Origin) (frames : List Frame) → j ≢ h → AreFramesOf (after past) j origins frames → AreFramesOf (after (past ++ added)) j origins frames
     pub own : FramesFit (after (past ++ added)) h left_frames
 
@@ -183,11 +179,7 @@ module _ (w : Setting) (laws : FrameLaws w.machine) (past : List Event) (lawful 
   not_own : (own : Origin) → hart_of_origin own ≡ h → (j : ℕ) → j ≢ h → (o : Origin) → hart_of_origin o ≡ j → o ≢ own
   not_own own by j differs o of same = differs (sym of ∙ ap hart_of_origin same ∙ by)
 
-<<<<<<< HEAD
-  stays_left : (added : List Event) → AreAllowed w past added → NoneTouchesFrames added → left_frames ≡ before → Left added
-=======
   pub stays_left : (added : List Event) → AreAllowed w past added → NoneTouchesFrames added → left_frames ≡ before → Left added
->>>>>>> 644f4cb3f8cfdef510eda1615d81b17cb4d09629
   stays_left added may untouched same = record {
     others = λ j origins frames differs are. events_leave laws.follow w (λ o. Unit {0}) past added lawful may (none_touches (λ o. Unit {0}) past added untouched) j origins frames (λ o there of. tt) are;
     own = subst (FramesFit (after (past ++ added)) h) (sym same) (record {
@@ -369,11 +361,7 @@ module _ (w : Setting) (laws : FrameLaws w.machine) (past : List Event) (lawful 
       spares : AllSpare D past (events.Unmapped h set ∷ [])
       spares = subst (λ (os : List ℕ). AllSpare D past (events.Unmapped h os ∷ [])) is.whole (unmap_spares past h c is.by)
 
-<<<<<<< HEAD
-  unmaps_left : (to : ℕ) (set : List ℕ) (below : List Frame) → before ≡ record { purpose = Purpose.of_closing to set; queue = [] } ∷ below → AreAllowed w past (events.Unmapped h set ∷ []) → left_frames ≡ below → Left (events.Unmapped h set ∷ [])
-=======
   pub unmaps_left : (to : ℕ) (set : List ℕ) (below : List Frame) → before ≡ record { purpose = Purpose.of_closing to set; queue = [] } ∷ below → AreAllowed w past (events.Unmapped h set ∷ []) → left_frames ≡ below → Left (events.Unmapped h set ∷ [])
->>>>>>> 644f4cb3f8cfdef510eda1615d81b17cb4d09629
   unmaps_left to set below was may frames = by x.origins (subst (AreFramesOf (after past) h x.origins) was x.are) x.once
     where
       by : (origins : List Origin) → AreFramesOf (after past) h origins (record { purpose = Purpose.of_closing to set; queue = [] } ∷ below) → AllDiffer origins → Left (events.Unmapped h set ∷ [])

@@ -1,27 +1,15 @@
-<<<<<<< HEAD
--- What holds of the frames of every run, before its final destructors.
-use Rattle.std.specs.Prelude.{ℕ, List, [], ◌∷◌, ◌++◌, map}
-use Rattle.ld_base.specs.declared.linking.Loaded.{Loaded}
-use Rattle.link_event.specs.declared.event.CloseAnswer.TheVariants as closings
-use Rattle.link_event.specs.declared.event.Event.{Event}
-use Rattle.link_event.specs.declared.event.Event.TheVariants.{Close, Open, Unmapped}
-=======
 -- What holds of the frames of every run, before its final destructors and in them.
 use Rattle.std.specs.Prelude.{◌≡◌, ℕ, List, [], ◌∷◌, ◌++◌, map, IsTrue}
 use Rattle.ld_base.specs.declared.linking.Loaded.{Loaded}
 use Rattle.link_event.specs.declared.event.CloseAnswer.TheVariants as closings
 use Rattle.link_event.specs.declared.event.Event.{Event}
 use Rattle.link_event.specs.declared.event.Event.TheVariants.{Close, Fini, Open, Unmapped}
->>>>>>> 644f4cb3f8cfdef510eda1615d81b17cb4d09629
 use Rattle.link_event.specs.declared.event.OpenAnswer.TheVariants as openings
 use Rattle.link_event.specs.declared.event.OpenAsk.{OpenAsk}
 use Rattle.link_event.specs.declared.event.Range.{Range}
 use Rattle.link_event.specs.declared.handed.Function.{Function}
 use Rattle.link_served.specs.declared.startup.Setup.{Setup}
-<<<<<<< HEAD
-=======
 use Rattle.rv_hart.specs.Registers.{Registers}
->>>>>>> 644f4cb3f8cfdef510eda1615d81b17cb4d09629
 use Rattle.link_history.specs.Accepted.{AcceptsOnly}
 use Rattle.link_history.specs.After.{after}
 use Rattle.link_history.specs.Allowed.{Allowed, IsUngranted}
@@ -30,15 +18,9 @@ use Rattle.link_history.specs.Objects.{serial_of}
 use Rattle.link_history.specs.Setting.{Setting, have_exited as have_all_exited}
 use Rattle.link_service.specs.Functions.{AreConstructors, AreDestructors, passed}
 use Rattle.hart_moves.specs.Harts.{Frame, Purpose}
-<<<<<<< HEAD
-use Rattle.hart_moves.specs.Moves.{AreAllowed, passing}
-use Rattle.schedules.specs.declared.schedule.TurnItem.{TurnItem}
-use Rattle.world_turns.specs.Run.{IsStarted, Run}
-=======
 use Rattle.hart_moves.specs.Moves.{AreAllowed, all_finis, own_fini, passing}
 use Rattle.schedules.specs.declared.schedule.TurnItem.{TurnItem}
 use Rattle.world_turns.specs.Run.{Begins, IsStarted, Run, have_exited}
->>>>>>> 644f4cb3f8cfdef510eda1615d81b17cb4d09629
 use Rattle.world_turns.specs.Throughout.{LoadsAlwaysFit}
 use Rattle.world_turns.specs.Turn.{Turn}
 use Rattle.world_turns.specs.World.{World}
@@ -82,8 +64,6 @@ FramesClose = (w : Setting) (past : List Event) (h to : ℕ) (set : List ℕ) (b
     → FramesFit (after past) h (record { purpose = Purpose.of_closing to set; queue = [] } ∷ below) → IsUngranted (after past) set
     → Allowed w past (Unmapped h set)
 
-<<<<<<< HEAD
-=======
 -- ---- the final destructors
 
 abbrev pub FinalsBeginBelong : Type 0
@@ -104,7 +84,6 @@ abbrev pub FinalsPass : Type 0
 FinalsPass = (w : Setting) (past : List Event) (object : ℕ) (rest : List ℕ) → IsTrue (have_all_exited w (after past))
     → all_finis (after past) ≡ object ∷ rest → Allowed w past (Fini 0 object)
 
->>>>>>> 644f4cb3f8cfdef510eda1615d81b17cb4d09629
 -- ---- a run
 
 -- the frames of its worlds belong to openings and closings, until the final destructors begin

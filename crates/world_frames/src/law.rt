@@ -1,11 +1,7 @@
 //! What holds of the frames of every run.
 
-<<<<<<< HEAD
-ghost use Rattle.world_frames.specs.Laws.{ClosingsPass, FramesClose, FramesPass, OpeningsPass, RunsBelong, StartBelongs, TurnsKeepFrames};
-=======
 ghost use Rattle.world_frames.specs.Laws.{ClosingsPass, FinalsBeginBelong, FinalsFinish, FinalsKeepFrames, FinalsPass, FramesClose};
 ghost use Rattle.world_frames.specs.Laws.{FramesPass, OpeningsPass, RunsBelong, StartBelongs, TurnsKeepFrames};
->>>>>>> 644f4cb3f8cfdef510eda1615d81b17cb4d09629
 
 /// When a run starts each frame is of an opening, and so it is, of an opening or a closing, behind each
 /// turn before the final destructors.

@@ -10,8 +10,4 @@
 
 mod law;
 
-<<<<<<< HEAD
-pub use law::{frames_belong, functions_may_pass, runs_belong};
-=======
 pub use law::{finals_belong, finals_may_pass, frames_belong, functions_may_pass, runs_belong};
->>>>>>> 644f4cb3f8cfdef510eda1615d81b17cb4d09629

@@ -1,17 +1,11 @@
 -- Lists that are no longer than those that they are made from.
 use Rattle.std.proofs.Common.{◌≤◌, Bool, true, false, if◌then◌else◌, List, [], ◌∷◌, ◌++◌, length, filter_map, arith}
-<<<<<<< HEAD
 use Rattle.std.specs.Prelude.{Option, Some, None}
 use Rattle.std.specs.List.{cons_option, list_any}
-use Rattle.asm_layout.specs.Uses.{distinct_after}
-=======
-use Rattle.std.specs.Prelude.{Option}
-use Rattle.std.specs.List.{list_any}
 use Rattle.asm_statement.specs.declared.directive.Array.{Array}
 use Rattle.asm_statement.specs.declared.line.Line.{Line}
 use Rattle.asm_layout.specs.Tables.{entries, entry_in}
 use Rattle.asm_layout.specs.Uses.{distinct, distinct_after, got_use, got_uses, same_use}
->>>>>>> 376a152faa4a14e364323e556150ab23cda4ea9d
 
 pub distinct_fewer : {A : Type 0} (same : A → A → Bool) (seen xs : List A) → length (distinct_after same seen xs) ≤ length xs
 distinct_fewer same seen [] = omega arith
@@ -26,15 +20,12 @@ distinct_fewer same seen (x ∷ xs) =
 
 pub some_fewer : {A B : Type 0} (f : A → Option B) (xs : List A) → length (filter_map f xs) ≤ length xs
 some_fewer f [] = omega arith
-<<<<<<< HEAD
 some_fewer f (x ∷ xs) =
     let rest = some_fewer f xs in
     elim (f x) as (λ found. length (cons_option found (filter_map f xs)) ≤ length (x ∷ xs)) [
       | None ↦ omega (arith, rest)
       | Some y ↦ omega (arith, rest)
     ]
-=======
-some_fewer f (x ∷ xs) = let rest = some_fewer f xs in grind (arith, rest)
 
 pub once_fewer : {A : Type 0} (same : A → A → Bool) (xs : List A) → length (distinct same xs) ≤ length xs
 unfolding distinct
@@ -53,4 +44,3 @@ uses_few lines = once_of same_use (λ line. got_use line.statement) lines
 pub entries_few : (array : Array) (lines : List Line) → length (entries array lines) ≤ length lines
 unfolding entries
 entries_few array lines = some_fewer (λ line. entry_in array line.statement) lines
->>>>>>> 376a152faa4a14e364323e556150ab23cda4ea9d

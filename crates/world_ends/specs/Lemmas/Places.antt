@@ -1,13 +1,9 @@
 -- One hart of a list is put in the place of another: what stands where, and how many have ended.
-use Rattle.std.proofs.Common.{◌≡◌, ◌⊎◌, inl, inr, ⊎_elim, ℕ, zero, suc, ◌+◌, Bool, true, false, cond, ◌&&◌, IsTrue, List, [], ◌∷◌, length, map, Some, None, refl, sym, ap, ◌∙◌, arith}
+use Rattle.std.proofs.Common.{◌≡◌, ◌⊎◌, inl, inr, ⊎_elim, ℕ, zero, suc, ◌+◌, Bool, true, false, cond, ◌&&◌, IsTrue, List, [], ◌∷◌, length, map, Option, Some, None, refl, sym, ap, ◌∙◌, arith}
 use Rattle.std.specs.Prelude.{filter, slice_set}
 use Rattle.std.specs.List.{list_all, slice_get}
 use Rattle.std.specs.Option.{is_some}
-<<<<<<< HEAD
-use Rattle.std.proofs.lemmas.Bool.{and_parts}
-=======
 use Rattle.std.proofs.lemmas.Bool.{and_parts, false≢true}
->>>>>>> 644f4cb3f8cfdef510eda1615d81b17cb4d09629
 use Rattle.std.proofs.lemmas.Option.{none-some}
 use Rattle.link_event.specs.declared.hart_end.HartEnd.{HartEnd}
 use Rattle.link_event.specs.declared.hart_end.HartEnd.TheVariants.{Exit}
@@ -15,10 +11,7 @@ use Rattle.hart_moves.specs.Harts.{HartState}
 use Rattle.hart_moves.specs.Moves.{freed}
 use Rattle.world_turns.specs.Run.{has_ended}
 use Rattle.world_turns.specs.Lemmas.Running.{some_end}
-<<<<<<< HEAD
-=======
 use Rattle.world_ends.specs.Ends.{has_exited}
->>>>>>> 644f4cb3f8cfdef510eda1615d81b17cb4d09629
 
 -- ---- ends
 
