@@ -1,5 +1,5 @@
 -- How far a section is filled before a line, and behind it.
-use Rattle.std.proofs.Common.{◌≡◌, ◌∙◌, ap, sym, ℕ, zero, suc, ◌+◌, true, if◌then◌else◌, List, [], ◌∷◌, ◌++◌, fold, refl, arith}
+use Rattle.std.proofs.Common.{◌≡◌, ◌∙◌, ap, sym, ℕ, zero, suc, ◌+◌, true, if◌then◌else◌, List, [], ◌∷◌, ◌++◌, fold, refl}
 use Rattle.std.proofs.lemmas.Bool.{eqb-true}
 use Rattle.asm_statement.specs.declared.directive.Section.{Section}
 use Rattle.asm_statement.specs.declared.directive.Section.TheVariants as sections
