@@ -1,0 +1,4 @@
+pub mod Buckets
+pub mod Lines
+pub mod Numbers
+pub mod Sorted

@@ -1,0 +1,16 @@
+//! The laws.
+
+ghost use Rattle.std.specs.Prelude.{List, ℕ};
+ghost use Rattle.asm_statement.specs.declared.line.Line.{Line};
+ghost use Rattle.asm_layout.specs.Contents.{contents_of};
+ghost use Rattle.asm_grammar.specs.Grammar.{SaysSource};
+ghost use Rattle.elf_hashed.specs.Hashes.{HashesFit};
+
+use asm_whole::sources_are_short;
+
+/// The numbers of the hash tables of a source's object fit their words, and the GNU table ends with the chain of its greatest bucket.
+pub fn hash_tables_fit()
+    ensures { (source : List ℕ) (lines : List Line) → SaysSource source lines → HashesFit (contents_of lines) }
+{
+    sources_are_short();
+}

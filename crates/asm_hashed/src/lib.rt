@@ -1,0 +1,9 @@
+//! The hash tables and symbols of a source's object: laws; a crate without code.
+//!
+//! - [`hash_tables_fit`]: the numbers of the hash tables fit their words, and nothing but the chain of its greatest
+//!   bucket has to tell where the GNU table ends.
+#![tactic(auto)]
+
+mod law;
+
+pub use law::hash_tables_fit;
