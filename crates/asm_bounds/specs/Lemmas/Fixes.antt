@@ -116,8 +116,8 @@ module _ (Q : ℕ → Type 0) (none : Q 0) (lines : List Line) where
         let uses = uses_few lines in
         let array : (part : Part) → number_of parts.Dynamic ≤ number_of part → (which : Array) → Each (IsFit Q) (array_fixes lines part 0 (entries which lines))
         = λ part behind which. let some = entries_few which lines in array_fit part behind 0 (entries which lines) (omega (arith, some, few)) in
-        let section : (section : Section) → number_of parts.Dynamic ≤ number_of (part_of section) → Each (IsFit Q) (section_fixes lines section 0 lines)
-        = λ section behind. section_fit section behind 0 lines adds in
+        let section : (target : Section) → number_of parts.Dynamic ≤ number_of (part_of target) → Each (IsFit Q) (section_fixes lines target 0 lines)
+        = λ target behind. section_fit target behind 0 lines adds in
         both (IsFit Q) _ (section_fixes lines sections.Bss 0 lines)
         (both (IsFit Q) _ (section_fixes lines sections.Data 0 lines)
         (both (IsFit Q) _ (section_fixes lines sections.Tdata 0 lines)
