@@ -3,4 +3,5 @@ pub mod Counted
 pub mod Each
 pub mod Fewer
 pub mod Filled
+pub mod Lists
 pub mod Passed
