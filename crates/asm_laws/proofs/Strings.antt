@@ -24,65 +24,7 @@ use Rattle.asm_layout.specs.Uses.{distinct, distinct_after, exported_by, exports
 use Rattle.asm_layout.specs.Versions.{file_versions, is_of_file, needed_files}
 use Rattle.asm_laws.specs.Said.{IsSaid, line_names, operand_names, said_names, statement_names}
 use Rattle.asm_laws.specs.Lemmas.Each.{Each, all, both, each}
-
--- Lists
-
-abbrev IfThere : {A : Type 0} → (A → Type 0) → Option A → Type 0
-IfThere P None = ⊤
-IfThere P (Some x) = P x
-
-second : {A : Type 0} (P : A → Type 0) (xs ys : List A) → Each P (xs ++ ys) → Each P ys
-second P [] ys all = all
-second P (x ∷ xs) ys (first, all) = second P xs ys all
-
-first : {A : Type 0} (P : A → Type 0) (xs ys : List A) → Each P (xs ++ ys) → Each P xs
-first P [] ys all = tt
-first P (x ∷ xs) ys (one, all) = (one, first P xs ys all)
-
-as_list : {A : Type 0} (P : A → Type 0) (o : Option A) → IfThere P o → Each P (option_to_list o)
-as_list P None there = tt
-as_list P (Some x) there = (there, tt)
-
-gathered : {X A : Type 0} (Q : X → Type 0) (P : A → Type 0) (f : X → Option A) → ((x : X) → Q x → IfThere P (f x)) → (xs : List X) → Each Q xs → Each P (filter_map f xs)
-gathered Q P f gives [] all = tt
-gathered {X} {A} Q P f gives (x ∷ xs) (first, all) =
-    let rest = gathered Q P f gives xs all in
-    let M : Option A → Type 0 = λ o. IfThere P o → Each P (cons_option o (filter_map f xs)) in
-    let cases : (o : Option A) → M o = λ o. elim o as M [ None ↦ λ _. rest | Some y ↦ λ is. (is, rest) ] in
-    cases (f x) (gives x first)
-
-mapped : {X A : Type 0} (Q : X → Type 0) (P : A → Type 0) (f : X → A) → ((x : X) → Q x → P (f x)) → (xs : List X) → Each Q xs → Each P (map f xs)
-mapped Q P f gives [] all = tt
-mapped Q P f gives (x ∷ xs) (first, all) = (gives x first, mapped Q P f gives xs all)
-
-filtered : {A : Type 0} (P : A → Type 0) (test : A → Bool) (xs : List A) → Each P xs → Each P (filter test xs)
-filtered P test [] all = tt
-filtered {A} P test (x ∷ xs) (first, all) =
-    let rest = filtered P test xs all in
-    elim (test x) as (λ b. Each P (if b then x ∷ filter test xs else filter test xs)) [ true ↦ (first, rest) | false ↦ rest ]
-
--- whatever the lists are made from
-joined : {X A : Type 0} (P : A → Type 0) (f : X → List A) → ((x : X) → Each P (f x)) → (xs : List X) → Each P (flat_map f xs)
-joined P f gives [] = tt
-joined P f gives (x ∷ xs) = both P (f x) (flat_map f xs) (gives x) (joined P f gives xs)
-
-once_after : {A : Type 0} (P : A → Type 0) (same : A → A → Bool) (seen xs : List A) → Each P xs → Each P (distinct_after same seen xs)
-once_after P same seen [] all = tt
-once_after {A} P same seen (x ∷ xs) (first, all) =
-    let without = once_after P same seen xs all in
-    let with_it = once_after P same (seen ++ x ∷ []) xs all in
-    elim (list_any (same x) seen) as (λ b. Each P (if b then distinct_after same seen xs else x ∷ distinct_after same (seen ++ x ∷ []) xs)) [
-      | true ↦ without
-      | false ↦ (first, with_it)
-    ]
-
-once : {A : Type 0} (P : A → Type 0) (same : A → A → Bool) (xs : List A) → Each P xs → Each P (distinct same xs)
-unfolding distinct
-once P same xs all = once_after P same [] xs all
-
-bucketed : {A : Type 0} (P : A → Type 0) (hash : A → ℕ) (buckets : ℕ) (xs : List A) → Each P xs → Each P (by_bucket hash buckets xs)
-unfolding by_bucket
-bucketed P hash buckets xs all = joined P (λ bucket. filter (λ x. hash x % buckets == bucket) xs) (λ bucket. filtered P (λ x. hash x % buckets == bucket) xs all) (range_with_len 0 buckets)
+use Rattle.asm_laws.specs.Lemmas.Lists.{IfThere, as_list, bucketed, filtered, first, gathered, joined, mapped, needs_each, once, second}
 
 module _ (P : List ℕ → Type 0) where
   Says : Line → Type 0
@@ -191,18 +133,12 @@ module _ (P : List ℕ → Type 0) where
   need_given (Some (statements.Directive (directives.Need need))) (name, (version, (file, says))) = (version, file)
   need_given _ says = tt
 
-  need_put : (all : List Need) (need : Need) → Each Needs all → Needs need → Each Needs (with_need all need)
-  need_put [] need some there = (there, tt)
-  need_put (first ∷ rest) need (one, some) there =
-      elim (bytes_eq need.name first.name) as (λ b. Each Needs (if b then need ∷ rest else first ∷ with_need rest need)) [ true ↦ (there, some) | false ↦ (one, need_put rest need some there) ]
-
-  needs_folded : (before all : List Need) → Each Needs before → Each Needs all → Each Needs (fold with_need before all)
-  needs_folded before [] some rest = some
-  needs_folded before (need ∷ all) some (first, rest) = needs_folded (with_need before need) all (need_put before need some first) rest
+  each_need : (lines : List Line) → Each Says lines → Each (λ line. IfThere Needs (need_of line.statement)) lines
+  each_need [] all = tt
+  each_need (line ∷ lines) (first, all) = (need_given line.statement (stated line first), each_need lines all)
 
   needs_said : (lines : List Line) → Each Says lines → Each Needs (needs lines)
-  unfolding needs
-  needs_said lines all = needs_folded [] _ tt (gathered Says Needs (λ line. need_of line.statement) (λ line says. need_given line.statement (stated line says)) lines all)
+  needs_said lines all = needs_each Needs lines (each_need lines all)
 
   files_said : (lines : List Line) → Each Says lines → Each P (needed_files lines)
   unfolding needed_files Needs

@@ -4,4 +4,5 @@ pub mod Each
 pub mod Fewer
 pub mod Filled
 pub mod Given
+pub mod Lists
 pub mod Passed
