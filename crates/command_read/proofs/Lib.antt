@@ -1,0 +1,4 @@
+pub mod Folding
+pub mod Parts
+pub mod Reading
+pub mod Taking
