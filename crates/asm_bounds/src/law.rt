@@ -3,7 +3,9 @@
 ghost use Rattle.std.specs.Prelude.{◌≡◌, ◌+◌, ◌<◌, ◌≤◌, ◌^◌, List, ℕ, length};
 ghost use Rattle.elf_write.specs.declared.part.Part.{Part};
 ghost use Rattle.elf_write.specs.Records.{file_size};
+ghost use Rattle.elf_write.specs.Sizes.{plain_size};
 ghost use Rattle.elf_write.specs.Starts.{size_in, start_in, starts_of};
+ghost use Rattle.elf_written.specs.Fitting.{HasOwnBytes};
 ghost use Rattle.elf_written.specs.Standing.{PacksBehind};
 ghost use Rattle.elf_spelled.specs.Whole.{IsWhole};
 ghost use Rattle.asm_statement.specs.declared.line.Line.{Line};
@@ -16,7 +18,8 @@ ghost use Rattle.asm_denotes.specs.Denotes.{Denotes};
 
 use asm_laws::{sections_are_small, sections_have_their_sizes, strings_are_said};
 use asm_whole::{alignments_divide_pages, sources_are_short};
-use elf_written::file_has_its_size;
+use elf_spelled::parts_stand_at_their_starts;
+use elf_written::{file_has_its_size, parts_have_their_sizes};
 
 /// Each part of a source's object ends below 2^62.
 pub fn parts_end_low()
@@ -64,4 +67,15 @@ pub fn denoted_objects_are_small()
     ensures { (source bytes : List ℕ) → Denotes source bytes → length bytes ≤ 8_388_608 }
 {
     object_has_its_size();
+}
+
+/// Each part of an object that a source denotes has 8 MiB at most, where its bytes stand in the file.
+pub fn parts_are_within_the_object()
+    ensures { (source bytes : List ℕ) → (denotes : Denotes source bytes) → (part : Part) → HasOwnBytes part
+        → plain_size (contents_of denotes.lines) part ≤ 8_388_608 }
+{
+    objects_are_whole();
+    denoted_objects_are_small();
+    parts_have_their_sizes();
+    parts_stand_at_their_starts();
 }

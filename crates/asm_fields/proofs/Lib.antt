@@ -1,3 +1,4 @@
 pub mod Relocs
+pub mod Strings
 pub mod Symbols
 pub mod Told

@@ -5,10 +5,14 @@ ghost use Rattle.asm_statement.specs.declared.line.Line.{Line};
 ghost use Rattle.asm_layout.specs.Contents.{contents_of};
 ghost use Rattle.asm_layout.specs.Faults.{HasNoFault};
 ghost use Rattle.asm_grammar.specs.Grammar.{SaysSource};
+ghost use Rattle.asm_denotes.specs.Denotes.{Denotes};
+ghost use Rattle.asm_fields.specs.Strings.{NamesStand};
 ghost use Rattle.asm_fields.specs.Fitting.{NumbersFit};
 
-use asm_laws::sections_are_small;
+use asm_bounds::{denoted_objects_are_small, objects_are_whole};
+use asm_laws::{sections_are_small, strings_are_said};
 use asm_whole::sources_are_short;
+use elf_spelled::parts_stand_at_their_starts;
 
 /// The numbers of a source's object are ones that the fields of its tables hold, where no line has a fault.
 pub fn numbers_fit_their_fields()
@@ -16,4 +20,15 @@ pub fn numbers_fit_their_fields()
 {
     sources_are_short();
     sections_are_small();
+}
+
+/// The names of a source that denotes an object stand in the object's strings, each at its offset.
+pub fn names_stand_at_their_offsets()
+    ensures { (source bytes : List ℕ) → (denotes : Denotes source bytes) → NamesStand denotes.lines }
+{
+    sources_are_short();
+    strings_are_said();
+    objects_are_whole();
+    denoted_objects_are_small();
+    parts_stand_at_their_starts();
 }
