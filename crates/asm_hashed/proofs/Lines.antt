@@ -34,7 +34,7 @@ unfolding sorted_exports
 exports_sorted lines = as_many (λ exported. gnu_hash exported.name) (bucket_count (length (exports lines))) (exports lines) (omega arith)
 
 -- the table behind a choice
-chosen : {A : Type 0} (b : Bool) (made x : A) → (if b then Some made else None) ≡ Some x → (b ≡ true) × (made ≡ x)
+pub chosen : {A : Type 0} (b : Bool) (made x : A) → (if b then Some made else None) ≡ Some x → (b ≡ true) × (made ≡ x)
 chosen true made x is = (refl, some_is made x is)
 chosen false made x is = absurd cc
 
@@ -45,7 +45,7 @@ module _ (lines : List Line) (few : length lines ≤ 2 ^ 20 + 1) where
   abbrev sysv_hashes : List ℕ
   sysv_hashes = map (λ exported. sysv_hash exported.name) (sorted_exports lines)
 
-  first_is : word (first_export lines) ≡ first_export lines
+  pub first_is : word (first_export lines) ≡ first_export lines
   first_is = let imports = imports_few lines in omega (arith, imports, few)
 
   room : (hashes : List ℕ) → length hashes ≡ length (sorted_exports lines) → word (first_export lines) + length hashes < 2 ^ 32

@@ -2,8 +2,10 @@
 //!
 //! - [`hash_tables_fit`]: the numbers of the hash tables fit their words, and nothing but the chain of its greatest
 //!   bucket has to tell where the GNU table ends.
+//! - [`hash_tables_count_symbols`]: they tell how many symbols there are, and relocations and slots name some of
+//!   those.
 #![tactic(auto)]
 
 mod law;
 
-pub use law::hash_tables_fit;
+pub use law::{hash_tables_count_symbols, hash_tables_fit};

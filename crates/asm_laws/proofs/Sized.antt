@@ -34,7 +34,8 @@ use Rattle.asm_layout.specs.Uses.{slots, got_uses, got_use, callee, code_name, e
 use Rattle.asm_layout.specs.Words.{address_at, instrs_at, instrs_of, line_words, operand_value, statement_words, words_at, words_or_none}
 use Rattle.asm_laws.specs.Lemmas.Passed.{Passes, got_at, passes}
 use Rattle.asm_laws.specs.Lemmas.Filled.{one_more, is_same}
-use Rattle.asm_laws.proofs.Known.{given, same_name, same_as_itself, HasSlot, valued}
+use Rattle.asm_laws.specs.Lemmas.Given.{given, same_name}
+use Rattle.asm_laws.proofs.Known.{same_as_itself, HasSlot, valued}
 use Rattle.asm_laws.proofs.Ordered.{at_line}
 use Rattle.elf_written.specs.Fitting.{FitsSections}
 

@@ -3,5 +3,6 @@ pub mod Counted
 pub mod Each
 pub mod Fewer
 pub mod Filled
+pub mod Given
 pub mod Lists
 pub mod Passed
