@@ -19,7 +19,8 @@ use seg_image::pages_hold_segments;
 /// object that is read of a file.
 pub fn one_image()
     ensures spelled { (bytes : List ℕ) (program : Bool) (object : Object) → Spells bytes program object → Accepted object }
-    ensures read { (bytes : List ℕ) (program : Bool) (object : Object) (table : HashTable) → object_verdict bytes program ≡ Ok (object, table) → Accepted object }
+    ensures read { (bytes : List ℕ) (program : Bool) (object : Object) (table : HashTable) → object_verdict bytes program ≡ Ok (object, table)
+        → Accepted object }
 {
     elf_head::one_verdict();
     accepted_head();
@@ -36,7 +37,8 @@ pub fn accepted_object()
     ensures spelled { (bytes : List ℕ) (program : Bool) (o : Object) → Spells bytes program o → IsAccepted o }
     ensures read { (bytes : List ℕ) (program : Bool) (o : Object) (table : HashTable) → object_verdict bytes program ≡ Ok (o, table) → IsAccepted o }
     ensures machine { (m : Machine) → m.verdict ≡ object_verdict → AcceptsOnly m }
-    ensures library { (bytes : List ℕ) (o : Object) (table : HashTable) → object_verdict bytes false ≡ Ok (o, table) → (r : Reloc) → Contains o.relocs r → r.kind ≢ 4 }
+    ensures library { (bytes : List ℕ) (o : Object) (table : HashTable) → object_verdict bytes false ≡ Ok (o, table) → (r : Reloc) → Contains o.relocs r
+        → r.kind ≢ 4 }
     ensures copied { (bytes : List ℕ) (program : Bool) (o : Object) (table : HashTable) → object_verdict bytes program ≡ Ok (o, table)
         → (r : Reloc) → Contains o.relocs r → r.kind ≡ 4 → r.symbol ≢ 0 }
 {

@@ -4,7 +4,8 @@
 //! where sections start ([`Bases`]): either no line has a fault and the answer is each line's words
 //! ([`LineWords`]), or the answer is the first line that has one, with its first fault; or there was no
 //! memory. The words are those of the table of instructions in `asm_layout`, encoded by `rv_isa`.
-//! [`instruction_words`] gives those of an instruction by itself. [`directive_fits`] and [`number_fits`] judge the numbers of statements, [`may_stand`] their sections.
+//! [`instruction_words`] gives those of an instruction by itself. [`directive_fits`] and [`number_fits`] judge the numbers of statements,
+//! [`may_stand`] their sections.
 //! What all that means is in `asm_layout`, definitions over the lines.
 #![tactic(auto)]
 

@@ -2,7 +2,8 @@
 
 ghost use Rattle.std.specs.Prelude.{◌≡◌, ◌%◌, List, option_to_list};
 ghost use Rattle.asm_statement.specs.declared.line.Line.{Line};
-ghost use Rattle.asm_layout.specs.Fixes.{addend_of, address_fix, address_way, array_fix, array_way, copy_fix, is_at_doubleword, own_way, phase, statement_fixes, table_spot, target_of, tls_fix};
+ghost use Rattle.asm_layout.specs.Fixes.{addend_of, address_fix, address_way, array_fix, array_way, copy_fix, is_at_doubleword, own_way, phase};
+ghost use Rattle.asm_layout.specs.Fixes.{statement_fixes, table_spot, target_of, tls_fix};
 ghost use Rattle.asm_layout.specs.Names.{is_executable};
 ghost use Rattle.asm_layout.specs.Places.{padding};
 ghost use Rattle.asm_layout.specs.Spots.{sections_of};

@@ -84,7 +84,8 @@ contents_of lines = record {
   flags = flags_of lines;
   symbols = import_entries lines (imports_at lines) (imports lines) ++ export_entries lines (exports_at lines) (sorted_exports lines);
   gnu = if has_gnu (hash_of lines) then Some (gnu_of (word (first_export lines)) (map (λ exported. gnu_hash exported.name) (sorted_exports lines))) else None;
-  sysv = if has_sysv (hash_of lines) then Some (sysv_of (word (first_export lines)) (map (λ exported. sysv_hash exported.name) (sorted_exports lines))) else None;
+  sysv = if has_sysv (hash_of lines) then Some (sysv_of (word (first_export lines)) (map (λ exported. sysv_hash exported.name) (sorted_exports lines)))
+      else None;
   has_versions = has_versions lines;
   versions = records_for (unwrap_or (soname lines) []) (unwrap_or (soname_offset (soname lines)) 0) (versions_at lines) (versions lines);
   files = need_records lines 0 (files_at lines) (needed_files lines);

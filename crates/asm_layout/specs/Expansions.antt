@@ -1,4 +1,5 @@
--- What each instruction stands for, a line a variant (Unprivileged ISA 20191213, chapters 24 and 25; RISC-V Assembly Programmer's Manual, "Pseudoinstructions").
+-- What each instruction stands for, a line a variant (Unprivileged ISA 20191213, chapters 24 and 25; RISC-V Assembly Programmer's Manual,
+-- "Pseudoinstructions").
 use Rattle.std.specs.Prelude.{ℕ, ◌+◌, ◌*◌, ◌^◌, ℤ, pos, ◌+ℤ◌, ◌-ℤ◌, ◌*ℤ◌, Bool, true, false, List, [], ◌∷◌}
 use Rattle.std.specs.Int.{w32, cast_unsigned, cast_signed, from_bool, int_rem_euclid}
 use Rattle.rv_isa.specs.declared.instr.Instr.{Instr}

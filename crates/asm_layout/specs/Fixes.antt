@@ -42,7 +42,8 @@ phase lines part = 0
 abbrev pub is_at_doubleword : List Line → Spot → Bool
 is_at_doubleword lines spot = (phase lines spot.part + spot.offset) % 8 == 0
 
--- how the linker is told of an address of the object's own: an executable's is final; a place that the packed table can name stands there, if the source asks for that
+-- how the linker is told of an address of the object's own: an executable's is final; a place that the packed table can name stands there, if the
+-- source asks for that
 abbrev pub own_way : List Line → Spot → Way
 own_way lines spot =
     if is_executable (kind_of lines) then ways.Plain else if is_relr lines && is_at_doubleword lines spot then ways.Packed else ways.Listed

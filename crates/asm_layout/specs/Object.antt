@@ -1,5 +1,6 @@
 -- The bytes of the object that a source denotes.
-use Rattle.std.specs.Prelude.{Bool, ℕ, ◌+◌, ◌*◌, ℤ, pos, negsuc, ◌-ℤ◌, nat_lt, if◌then◌else◌, List, [], ◌∷◌, ◌++◌, flat_map, replicate, length, is_some, Option, Some, None}
+use Rattle.std.specs.Prelude.{Bool, ℕ, ◌+◌, ◌*◌, ℤ, pos, negsuc, ◌-ℤ◌, nat_lt, if◌then◌else◌, List, [], ◌∷◌, ◌++◌, flat_map, replicate, length, is_some}
+use Rattle.std.specs.Prelude.{Option, Some, None}
 use Rattle.std.specs.Int.{w8, w16, w32, w64, to_le_bytes}
 use Rattle.rv_isa.specs.declared.instr.Instr.{Instr}
 use Rattle.rv_isa.specs.declared.instr.Instr.TheVariants as instrs

@@ -70,7 +70,8 @@ abbrev pub type_at : Option Place → ℕ
 type_at None = 0
 type_at (Some place) = type_in place.section
 
--- how far a label's symbol reaches: to the next line of its section that defines a name, or to the section's end; a copy has its own size, and a label beside it none
+-- how far a label's symbol reaches: to the next line of its section that defines a name, or to the section's end; a copy has its own size, and a
+-- label beside it none
 abbrev pub defines_in : List Line → Section → ℕ → Line → Bool
 defines_in lines section k line = is_section section (place_at lines k).section && not (length (defined_by line) == 0)
 
@@ -97,7 +98,8 @@ size_at_line lines name (Some k) = size_of_line lines name k (find (defines name
 unfoldable pub label_size : List Line → List ℕ → ℕ
 label_size lines name = size_at_line lines name (position (defines name) lines)
 
--- versions: 0 where the object has none; a symbol without one has that of the object, 1; VERSYM_HIDDEN (0x8000) where references without a version don't find it
+-- versions: 0 where the object has none; a symbol without one has that of the object, 1; VERSYM_HIDDEN (0x8000) where references without a version
+-- don't find it
 abbrev pub need_index : List Line → List ℕ → ℕ
 need_index lines name = option_map_or (λ need. needed_index lines need.file need.version) (find (λ need. bytes_eq name need.name) (needs lines)) 1
 

@@ -19,4 +19,5 @@ pub record AreFilesOf (lines : List Line) (needed : NeededFiles) : Type 0 where
 
 -- the number of a version of the file at a place among them
 abbrev pub number_within : List Line → ℕ → List ℕ → List ℕ → Option ℕ
-number_within lines at file version = option_map (λ place. version_count lines (take at (needed_files lines)) + place) (position (bytes_eq version) (file_versions lines file))
+number_within lines at file version =
+    option_map (λ place. version_count lines (take at (needed_files lines)) + place) (position (bytes_eq version) (file_versions lines file))

@@ -26,7 +26,8 @@ use Rattle.asm_layout.specs.Labels.{label}
 use Rattle.asm_layout.specs.Object.{object_of}
 use Rattle.asm_layout.specs.Parts.{start_of}
 use Rattle.asm_layout.specs.Spots.{label_spot, sections_of}
-use Rattle.asm_layout.specs.Symbols.{binding, first_export, hidden_bit, if_versioned, label_size, need_index, own_index, sorted_exports, symbol_index, type_at, visibility}
+use Rattle.asm_layout.specs.Symbols.{binding, first_export, hidden_bit, if_versioned, label_size, need_index, own_index, sorted_exports, symbol_index}
+use Rattle.asm_layout.specs.Symbols.{type_at, visibility}
 use Rattle.asm_layout.specs.Tables.{entries, flags_of, has_gnu, hash_of, needed, soname, versions}
 use Rattle.asm_layout.specs.Uses.{imports, slots}
 use Rattle.asm_layout.specs.Versions.{file_versions, first_needed, has_versions, needed_files, version_flags}

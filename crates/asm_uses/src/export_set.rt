@@ -4,7 +4,8 @@ ghost use Rattle.std.specs.Prelude.{◌≡◌, ◌≤◌, [], ℕ, List, Some, N
 ghost use Rattle.std.specs.Option.{option_or};
 ghost use Rattle.asm_statement.specs.declared.line.Line.{Line};
 ghost use Rattle.asm_layout.specs.Labels.{copy_name};
-ghost use Rattle.asm_layout.specs.Uses.{copies as makes_copy, exported_by, exported_by_directive, exports, if_labelled, is_copy_label, needs as needs_of, label_symbol, own_symbol, own_version, same_export};
+ghost use Rattle.asm_layout.specs.Uses.{copies as makes_copy, exported_by, exported_by_directive, exports, if_labelled, is_copy_label, needs as needs_of};
+ghost use Rattle.asm_layout.specs.Uses.{label_symbol, own_symbol, own_version, same_export};
 ghost use Rattle.asm_uses.specs.Exports.{export_as, exported_as, is_copied, IsSourceOf};
 ghost use Rattle.asm_uses.specs.Lines.{AreCopiesOf, AreLabelsOf};
 ghost use Rattle.asm_uses.specs.Numbers.{number_of};

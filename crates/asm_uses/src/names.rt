@@ -2,7 +2,8 @@
 
 ghost use Rattle.std.specs.Prelude.{◌≡◌, [], List, OnOk, option_map};
 ghost use Rattle.asm_statement.specs.declared.line.Line.{Line};
-ghost use Rattle.asm_layout.specs.Uses.{callee, directive_mention, dword_mention, foreign_name, if_foreign, if_preemptible, imports, line_operand, mention, slots};
+ghost use Rattle.asm_layout.specs.Uses.{callee, directive_mention, dword_mention, foreign_name, if_foreign, if_preemptible, imports, line_operand, mention};
+ghost use Rattle.asm_layout.specs.Uses.{slots};
 ghost use Rattle.asm_layout.specs.Tables.{version_defined, versions};
 ghost use Rattle.asm_uses.specs.Lines.{AreLabelsOf};
 ghost use Rattle.asm_uses.specs.Preemption.{IsPreemptionOf};

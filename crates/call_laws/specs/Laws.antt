@@ -88,7 +88,8 @@ abbrev pub NewEdgesSuffice : Type 0
 NewEdgesSuffice = (m : Machine) (w : Setting) (past : List Event) (h id root : ℕ) (ask : OpenAsk) (added : List Loaded) (ranges : List Range) (order : List ℕ)
     → w.machine ≡ m → Lawful m past → Allowed w past (Open h ask (Done id root added ranges))
     → InitOrder (flat_map found_edges added) (program_last (Some 1) (map serial_of added)) order
-    → InitOrder (flat_map found_edges (mapped (after (past ++ Open h ask (Done id root added ranges) ∷ [])))) (program_last (Some 1) (map serial_of added)) order
+    → InitOrder (flat_map found_edges (mapped (after (past ++ Open h ask (Done id root added ranges) ∷ []))))
+        (program_last (Some 1) (map serial_of added)) order
 
 -- ---- closings
 

@@ -28,7 +28,8 @@ defined_text s = if is_defined s then codes "def" else codes "undef"
 -- a symbol: its index, its name, the name of its version, its value, and whether it is a definition
 unfoldable pub symbol_line : Object → ℕ × Symbol → List ℕ
 symbol_line o (index, s) =
-    codes "symbol " ++ decimal index ++ 32 ∷ name_text s.name ++ 32 ∷ name_or_none (version_name o (version_index s)) ++ 32 ∷ hex_text s.value ++ 32 ∷ defined_text s ++ 10 ∷ []
+    codes "symbol " ++ decimal index ++ 32 ∷ name_text s.name ++ 32 ∷ name_or_none (version_name o (version_index s)) ++ 32 ∷ hex_text s.value ++ 32 ∷
+    defined_text s ++ 10 ∷ []
 
 -- a relocation: its number, its type, the place that it is for, the index of its symbol, and its addend
 unfoldable pub reloc_line : ℕ × Reloc → List ℕ

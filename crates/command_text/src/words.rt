@@ -1,7 +1,8 @@
 //! The words of the command line.
 
 ghost use Rattle.std.specs.Prelude.{◌≡◌, IfOk, map, option_map};
-ghost use Rattle.command_text.specs.Words.{has_dash, is_option, parts_of, none_is_empty, are_parts, are_short, folders_of, preload_of, value_first, flag_first, only_word, read_bind, reads};
+ghost use Rattle.command_text.specs.Words.{has_dash, is_option, parts_of, none_is_empty, are_parts, are_short, folders_of, preload_of, value_first};
+ghost use Rattle.command_text.specs.Words.{flag_first, only_word, read_bind, reads};
 ghost use Rattle.std.specs.Option.{option_copied};
 
 use ld_base::{Name, Names};

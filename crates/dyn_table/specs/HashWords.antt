@@ -1,5 +1,6 @@
 -- The words of hash tables in a file (gABI, "Hash Table"; the GNU hash table has no section of the gABI).
-use Rattle.std.specs.Prelude.{ℕ, ◌+◌, ◌-◌, ◌*◌, ◌/◌, ◌%◌, ◌==◌, Bool, nat_lt, nat_le, max, if◌then◌else◌, List, [], length, drop, take, fold, position, Option, Some, None, option_map}
+use Rattle.std.specs.Prelude.{ℕ, ◌+◌, ◌-◌, ◌*◌, ◌/◌, ◌%◌, ◌==◌, Bool, nat_lt, nat_le, max, if◌then◌else◌, List, [], length, drop, take, fold, position}
+use Rattle.std.specs.Prelude.{Option, Some, None, option_map}
 use Rattle.std.specs.Option.{option_and_then}
 use Rattle.ld_base.specs.Field.{field}
 use Rattle.ld_base.specs.declared.parts.GnuPart.{GnuPart}
@@ -61,7 +62,8 @@ gnu_part bytes chain = record {
 -- the chain of a GNU hash table
 unfoldable pub gnu_chain : List ℕ → Option (List ℕ)
 gnu_chain bytes =
-    chain_words (field 4 bytes 4) (fold max 0 (ints bytes (buckets_at bytes) (field 4 bytes 0))) (ints bytes (chain_at bytes) ((length bytes - chain_at bytes) / 4))
+    chain_words (field 4 bytes 4) (fold max 0 (ints bytes (buckets_at bytes) (field 4 bytes 0)))
+        (ints bytes (chain_at bytes) ((length bytes - chain_at bytes) / 4))
 
 -- the words of a GNU hash table, from the bytes at its address on: nbuckets, symoffset, bloom_size, bloom_shift, the bloom words, the buckets, the chain
 unfoldable pub gnu_words : List ℕ → Option GnuPart

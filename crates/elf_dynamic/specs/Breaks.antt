@@ -18,7 +18,10 @@ use Rattle.elf_head.specs.Header.{is_loaded}
 use Rattle.elf_head.specs.Readable.{file_bytes, readable}
 use Rattle.dyn_table.specs.Symbol.{symbol_name}
 use Rattle.dyn_table.specs.Tag.{has_flag, last_of, value_of}
-use Rattle.dyn_table.specs.TagNumbers.{dt_fini_array, dt_fini_arraysz, dt_flags, dt_gnu_hash, dt_hash, dt_init_array, dt_init_arraysz, dt_jmprel, dt_needed, dt_pltgot, dt_pltrel, dt_pltrelsz, dt_preinit_array, dt_preinit_arraysz, dt_rel, dt_rela, dt_relaent, dt_relasz, dt_relr, dt_relrent, dt_relrsz, dt_soname, dt_strsz, dt_strtab, dt_syment, dt_symtab, dt_textrel, dt_verdef, dt_verdefnum, dt_verneed, dt_verneednum}
+use Rattle.dyn_table.specs.TagNumbers.{dt_fini_array, dt_fini_arraysz, dt_flags, dt_gnu_hash, dt_hash, dt_init_array, dt_init_arraysz, dt_jmprel, dt_needed}
+use Rattle.dyn_table.specs.TagNumbers.{dt_pltgot, dt_pltrel, dt_pltrelsz, dt_preinit_array, dt_preinit_arraysz, dt_rel, dt_rela, dt_relaent, dt_relasz}
+use Rattle.dyn_table.specs.TagNumbers.{dt_relr, dt_relrent, dt_relrsz, dt_soname, dt_strsz, dt_strtab, dt_syment, dt_symtab, dt_textrel, dt_verdef}
+use Rattle.dyn_table.specs.TagNumbers.{dt_verdefnum, dt_verneed, dt_verneednum}
 use Rattle.elf_dynamic.specs.Named.{doubleword, named_by, slot_ranges}
 use Rattle.elf_dynamic.specs.Parts.{IsRange, IsRela, LacksString, Stands}
 use Rattle.elf_dynamic.specs.Ranges.{is_executable, is_writable, IsPlace, IsWritable, LiesIn, Share}
@@ -77,7 +80,8 @@ pub data IsBadTable (headers : List Header) (tags : List Tag) (words : HashTable
   bad_slots : (s : Span) → IsRange tags dt_jmprel dt_pltrelsz s → (AreSlots headers tags s → ⊥) → IsBadTable headers tags words dt_jmprel
   bad_array : (tag size : ℕ) → IsArray tag size → (s : Span) → IsRange tags tag size s → (AreAddresses headers s → ⊥) → IsBadTable headers tags words tag
   bad_packed : (s : Span) → IsRange tags dt_relr dt_relrsz s → (HasEntries headers tags dt_relrent 8 s → ⊥) → IsBadTable headers tags words dt_relr
-  bad_gnu_hash : Stands tags dt_gnu_hash → ((g : GnuPart) → words.gnu ≡ Some g → 0 < length g.buckets → 0 < length g.bloom → ⊥) → IsBadTable headers tags words dt_gnu_hash
+  bad_gnu_hash : Stands tags dt_gnu_hash → ((g : GnuPart) → words.gnu ≡ Some g → 0 < length g.buckets → 0 < length g.bloom → ⊥)
+      → IsBadTable headers tags words dt_gnu_hash
 
 -- there is no symbol, or not all of so many have their bytes in the file
 pub data LacksSymbols (headers : List Header) (tags : List Tag) (count : ℕ) : Type 0 where
@@ -147,7 +151,8 @@ pub record SharesBefore (ranges : List Span) (k : ℕ) : Type 0 where
 pub data IsBadRelocAt (headers : List Header) (symbols : List Symbol) (relocs : List Reloc) (words places : List ℕ) (k : ℕ) : Type 0 where
   by_itself : (r : Reloc) → slice_get relocs k ≡ Some r → IsBadReloc headers symbols r → IsBadRelocAt headers symbols relocs words places k
   begins_with_bits : (word : ℕ) → slice_get words 0 ≡ Some word → word % 2 ≡ 1 → k ≡ length relocs → IsBadRelocAt headers symbols relocs words places k
-  bad_place : (i place : ℕ) → k ≡ length relocs + i → slice_get places i ≡ Some place → (IsPlace headers place → ⊥) → IsBadRelocAt headers symbols relocs words places k
+  bad_place : (i place : ℕ) → k ≡ length relocs + i → slice_get places i ≡ Some place → (IsPlace headers place → ⊥)
+      → IsBadRelocAt headers symbols relocs words places k
   named_twice : SharesBefore (named symbols relocs places) k → IsBadRelocAt headers symbols relocs words places k
 
 -- ---- rule 15: what isn't linked
@@ -164,7 +169,8 @@ known_types = 0 ∷ 2 ∷ 3 ∷ 4 ∷ 5 ∷ 7 ∷ 9 ∷ 11 ∷ 1 ∷ 12 ∷ 58 �
 -- what an object has that isn't linked, by its number: STT_GNU_IFUNC is 10, R_RISCV_IRELATIVE 58, STB_GNU_UNIQUE 10, R_RISCV_TLSDESC 12,
 -- R_RISCV_32 1, DF_TEXTREL 4, R_RISCV_COPY 4
 pub data HasFeature (head : Head) (program : Bool) (tags : List Tag) (symbols : List Symbol) (relocs : List Reloc) : ℕ → Type 0 where
-  indirect_function : (i : ℕ) (s : Symbol) → slice_get symbols i ≡ Some s → IsTrue (is_defined s) → type_of s ≡ 10 → HasFeature head program tags symbols relocs 1
+  indirect_function : (i : ℕ) (s : Symbol) → slice_get symbols i ≡ Some s → IsTrue (is_defined s) → type_of s ≡ 10
+      → HasFeature head program tags symbols relocs 1
   irelative : HasType 58 relocs → HasFeature head program tags symbols relocs 2
   unique_symbol : (i : ℕ) (s : Symbol) → slice_get symbols i ≡ Some s → binding s ≡ 10 → HasFeature head program tags symbols relocs 3
   tls_descriptor : HasType 12 relocs → HasFeature head program tags symbols relocs 4
@@ -172,8 +178,10 @@ pub data HasFeature (head : Head) (program : Bool) (tags : List Tag) (symbols : 
   rel_table : Stands tags dt_rel → HasFeature head program tags symbols relocs 6
   text_relocations : Stands tags dt_textrel ⊎ IsTrue (has_flag tags dt_flags 4) → HasFeature head program tags symbols relocs 7
   copy_in_library : program ≡ false → HasType 4 relocs → HasFeature head program tags symbols relocs 8
-  other_relocation : (i : ℕ) (r : Reloc) → slice_get relocs i ≡ Some r → ((j kind : ℕ) → slice_get known_types j ≡ Some kind → r.kind ≢ kind) → HasFeature head program tags symbols relocs 9
-  open_segment : (i : ℕ) (h : Header) → slice_get head.headers i ≡ Some h → IsTrue (is_loaded h) → IsTrue (is_writable h) → IsTrue (is_executable h) → HasFeature head program tags symbols relocs 11
+  other_relocation : (i : ℕ) (r : Reloc) → slice_get relocs i ≡ Some r → ((j kind : ℕ) → slice_get known_types j ≡ Some kind → r.kind ≢ kind)
+      → HasFeature head program tags symbols relocs 9
+  open_segment : (i : ℕ) (h : Header) → slice_get head.headers i ≡ Some h → IsTrue (is_loaded h) → IsTrue (is_writable h) → IsTrue (is_executable h)
+      → HasFeature head program tags symbols relocs 11
   fixed_library : program ≡ false → head.kind ≡ Exec → HasFeature head program tags symbols relocs 12
 
 -- ---- rule 16: the slots
@@ -202,7 +210,8 @@ pub record IsSlotTable (headers : List Header) (ranges : List Span) (start : ℕ
   pub free : (j : ℕ) (s : Span) → slice_get ranges j ≡ Some s → Share (record { start = start; size = 16 }) s → ⊥
 
 -- the slot of this index is bad; or there are slots and their table is bad, which counts as the one after them
-pub data IsBadSlotAt (bytes : List ℕ) (headers : List Header) (symbols : List Symbol) (others : List Span) (slots : List Reloc) (pltgot : Option ℕ) (k : ℕ) : Type 0 where
+pub data IsBadSlotAt (bytes : List ℕ) (headers : List Header) (symbols : List Symbol) (others : List Span) (slots : List Reloc)
+    (pltgot : Option ℕ) (k : ℕ) : Type 0 where
   bad_slot : (r : Reloc) → slice_get slots k ≡ Some r → IsBadSlot bytes headers symbols others (slot_ranges symbols slots) k r
       → IsBadSlotAt bytes headers symbols others slots pltgot k
   bad_table : k ≡ length slots → 0 < length slots → (start : ℕ) → pltgot ≡ Some start → (IsSlotTable headers (others ++ slot_ranges symbols slots) start → ⊥)

@@ -28,7 +28,8 @@ counted_in bytes headers tags = record {
 abbrev pub rules_from_names : List ℕ → Head → Bool → List Tag → List (Option ℕ)
 rules_from_names bytes head program tags =
     bad_string (strings_in bytes head.headers tags) tags (symbol_bytes bytes head.headers tags) (count_in bytes head.headers tags)
-    ∷ rules_on bytes head program tags (bare_in bytes head.headers tags) (rela_relocs bytes head.headers tags) (plt_relocs bytes head.headers tags) (relr_bytes bytes head.headers tags)
+    ∷ rules_on bytes head program tags (bare_in bytes head.headers tags) (rela_relocs bytes head.headers tags)
+    (plt_relocs bytes head.headers tags) (relr_bytes bytes head.headers tags)
 
 -- tables of an accepted head that were read and judged, whose symbols are in the file
 pub record AreJudged (bytes : List ℕ) (head : Head) (tags : List Tag) (counted : Counted) (judged : Judged) : Type 0 where

@@ -48,7 +48,8 @@ AdmitsMore headers more old kept new =
 -- the map has where each range with bytes ends, by where it begins
 pub record AreEnds (ranges : List Span) (ends : BTreeMap ℕ ℕ) : Type 0 where
   pub has : (k : ℕ) (s : Span) → slice_get ranges k ≡ Some s → 0 < s.size → get nat_cmp ends s.start ≡ Some (s.start + s.size)
-  pub only : (start end : ℕ) → get nat_cmp ends start ≡ Some end → (k : ℕ) × (s : Span) × (slice_get ranges k ≡ Some s) × (0 < s.size) × (s.start ≡ start) × (s.start + s.size ≡ end)
+  pub only : (start end : ℕ) → get nat_cmp ends start ≡ Some end
+      → (k : ℕ) × (s : Span) × (slice_get ranges k ≡ Some s) × (0 < s.size) × (s.start ≡ start) × (s.start + s.size ≡ end)
   pub apart : LieApart ends
 
 -- ranges that lie apart, as they are kept

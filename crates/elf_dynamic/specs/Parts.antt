@@ -1,7 +1,8 @@
 -- What the dynamic table and the tables that it names say, field by field, whatever the rules (gABI, "Dynamic Section", "Symbol Table",
 -- "String Table", "Relocation"; psABI, "Relocations"). A table that isn't there, or whose bytes the file doesn't have, has no entry here, and a
 -- name that is no string is empty: which have to be there is a rule's part.
-use Rattle.std.specs.Prelude.{◌≡◌, ◌≢◌, ◌↔◌, ◌⊎◌, ℕ, ◌+◌, ◌-◌, ◌*◌, ◌/◌, ◌%◌, ◌^◌, ◌==◌, ◌<◌, ◌≤◌, Bool, IsTrue, List, [], ◌∷◌, ◌++◌, length, map, filter, Option, Some, None}
+use Rattle.std.specs.Prelude.{◌≡◌, ◌≢◌, ◌↔◌, ◌⊎◌, ℕ, ◌+◌, ◌-◌, ◌*◌, ◌/◌, ◌%◌, ◌^◌, ◌==◌, ◌<◌, ◌≤◌, Bool, IsTrue, List, [], ◌∷◌, ◌++◌, length, map, filter}
+use Rattle.std.specs.Prelude.{Option, Some, None}
 use Rattle.std.specs.List.{range_with_len, slice_get}
 use Rattle.ld_base.specs.Field.{field}
 use Rattle.ld_base.specs.declared.object.ObjFlags.{ObjFlags}
@@ -22,7 +23,9 @@ use Rattle.dyn_table.specs.Name.{IsStringAt}
 use Rattle.dyn_table.specs.Reloc.{reloc_at}
 use Rattle.dyn_table.specs.Symbol.{symbol_name, symbol_named}
 use Rattle.dyn_table.specs.Tag.{has_flag, last_of, value_of, values_of, EndsAtNull}
-use Rattle.dyn_table.specs.TagNumbers.{dt_bind_now, dt_fini, dt_fini_array, dt_fini_arraysz, dt_flags, dt_flags_1, dt_init, dt_init_array, dt_init_arraysz, dt_jmprel, dt_needed, dt_pltgot, dt_pltrelsz, dt_preinit_array, dt_preinit_arraysz, dt_rela, dt_relasz, dt_relr, dt_relrsz, dt_soname, dt_strsz, dt_strtab, dt_symbolic, dt_symtab}
+use Rattle.dyn_table.specs.TagNumbers.{dt_bind_now, dt_fini, dt_fini_array, dt_fini_arraysz, dt_flags, dt_flags_1, dt_init, dt_init_array, dt_init_arraysz}
+use Rattle.dyn_table.specs.TagNumbers.{dt_jmprel, dt_needed, dt_pltgot, dt_pltrelsz, dt_preinit_array, dt_preinit_arraysz, dt_rela, dt_relasz, dt_relr}
+use Rattle.dyn_table.specs.TagNumbers.{dt_relrsz, dt_soname, dt_strsz, dt_strtab, dt_symbolic, dt_symtab}
 
 -- ---- where the tables stand
 
@@ -114,7 +117,8 @@ IsNameAt strings offset name = IsStringAt strings offset name ⊎ (LacksString s
 
 -- the names at these offsets
 abbrev pub AreNamesAt : List ℕ → List ℕ → List (List ℕ) → Type 0
-AreNamesAt strings offsets names = AreEntries (λ i name. (offset : ℕ) × (slice_get offsets i ≡ Some offset) × IsNameAt strings offset name) (length offsets) names
+AreNamesAt strings offsets names = AreEntries (λ i name. (offset : ℕ) × (slice_get offsets i ≡ Some offset)
+    × IsNameAt strings offset name) (length offsets) names
 
 -- the name at an offset, where there is one
 pub data IsNameOf (strings : List ℕ) : Option ℕ → Option (List ℕ) → Type 0 where

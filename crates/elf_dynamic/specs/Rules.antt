@@ -1,6 +1,7 @@
 -- The rules 10 to 16 as tests, which the code of this crate is proved against: each is true where the rule that it is named after is broken. What
 -- it is to break a rule is said by the relations of `Breaks`, and the law of this crate that both are one.
-use Rattle.std.specs.Prelude.{ℕ, ◌+◌, ◌*◌, ◌%◌, ◌==◌, ◌&&◌, ◌||◌, Bool, true, false, not, nat_lt, nat_le, if◌then◌else◌, List, [], ◌∷◌, ◌++◌, length, map, find, count_by, position, Option, Some, None, is_some, option_map, Result, Ok, Err}
+use Rattle.std.specs.Prelude.{ℕ, ◌+◌, ◌*◌, ◌%◌, ◌==◌, ◌&&◌, ◌||◌, Bool, true, false, not, nat_lt, nat_le, if◌then◌else◌, List, [], ◌∷◌, ◌++◌, length, map}
+use Rattle.std.specs.Prelude.{find, count_by, position, Option, Some, None, is_some, option_map, Result, Ok, Err}
 use Rattle.std.specs.Option.{option_map_or, option_or}
 use Rattle.std.specs.List.{list_any}
 use Rattle.ld_base.specs.Field.{field}
@@ -27,10 +28,14 @@ use Rattle.elf_dynamic.specs.Again.{first_again}
 use Rattle.elf_dynamic.specs.Named.{doubleword, named_by, slot_ranges}
 use Rattle.elf_dynamic.specs.Relr.{begins_odd, relr_places, relr_words}
 use Rattle.dyn_table.specs.Symbol.{symbol_name}
-use Rattle.elf_dynamic.specs.Tables.{bare_in, count_in, dynamic_tags, parts_in, plt_relocs, rela_relocs, rela_span, relr_bytes, span_of, strings_in, symbol_bytes}
+use Rattle.elf_dynamic.specs.Tables.{bare_in, count_in, dynamic_tags, parts_in, plt_relocs, rela_relocs, rela_span, relr_bytes, span_of, strings_in}
+use Rattle.elf_dynamic.specs.Tables.{symbol_bytes}
 use Rattle.dyn_table.specs.Tag.{value_of, has, has_flag}
 use Rattle.dyn_table.specs.Tag.{has_tag, last_of}
-use Rattle.dyn_table.specs.TagNumbers.{dt_fini_array, dt_fini_arraysz, dt_flags, dt_gnu_hash, dt_hash, dt_init_array, dt_init_arraysz, dt_jmprel, dt_needed, dt_pltgot, dt_pltrel, dt_pltrelsz, dt_preinit_array, dt_preinit_arraysz, dt_rel, dt_rela, dt_relaent, dt_relasz, dt_relr, dt_relrent, dt_relrsz, dt_soname, dt_strsz, dt_strtab, dt_syment, dt_symtab, dt_textrel, dt_verdef, dt_verdefnum, dt_verneed, dt_verneednum}
+use Rattle.dyn_table.specs.TagNumbers.{dt_fini_array, dt_fini_arraysz, dt_flags, dt_gnu_hash, dt_hash, dt_init_array, dt_init_arraysz, dt_jmprel, dt_needed}
+use Rattle.dyn_table.specs.TagNumbers.{dt_pltgot, dt_pltrel, dt_pltrelsz, dt_preinit_array, dt_preinit_arraysz, dt_rel, dt_rela, dt_relaent, dt_relasz}
+use Rattle.dyn_table.specs.TagNumbers.{dt_relr, dt_relrent, dt_relrsz, dt_soname, dt_strsz, dt_strtab, dt_syment, dt_symtab, dt_textrel, dt_verdef}
+use Rattle.dyn_table.specs.TagNumbers.{dt_verdefnum, dt_verneed, dt_verneednum}
 
 -- ---- rule 11: the tables
 
@@ -70,7 +75,8 @@ has_bad_symbols tags = not (has tags dt_symtab && value_of tags dt_syment == 24)
 -- relocations with addends, less those of slots; where none is left the table counts as not there
 abbrev pub has_bad_rela : List Header → List Tag → Bool
 has_bad_rela headers tags =
-    (has tags dt_rela && not (has tags dt_relasz)) || option_map_or (λ s. not (has_entries tags dt_relaent 24 s && is_readable headers s)) (rela_span tags) false
+    (has tags dt_rela && not (has tags dt_relasz))
+    || option_map_or (λ s. not (has_entries tags dt_relaent 24 s && is_readable headers s)) (rela_span tags) false
 
 -- slots: relocations with addends, and the table of slots
 abbrev pub has_bad_jmprel : List Header → List Tag → Bool
@@ -254,7 +260,8 @@ is_bad_table_of_slots headers others slots start =
 unfoldable pub bad_slot : List ℕ → List Header → List Symbol → List Span → List Reloc → Option ℕ → Option ℕ
 bad_slot bytes headers symbols others slots pltgot =
     option_or (position (is_bad_slot bytes headers symbols others (slot_ranges symbols slots)) slots)
-    (if not (length slots == 0) && option_map_or (is_bad_table_of_slots headers others (slot_ranges symbols slots)) pltgot false then Some (length slots) else None)
+    (if not (length slots == 0) && option_map_or (is_bad_table_of_slots headers others (slot_ranges symbols slots)) pltgot false then Some (length slots)
+    else None)
 
 -- ---- the verdict
 
@@ -276,7 +283,8 @@ abbrev pub rules_of : List ℕ → Head → Bool → List Tag → List (Option �
 rules_of bytes head program tags =
     bad_table head.headers tags (hash_words bytes head.headers tags) (count_in bytes head.headers tags)
     ∷ bad_string (strings_in bytes head.headers tags) tags (symbol_bytes bytes head.headers tags) (count_in bytes head.headers tags)
-    ∷ rules_on bytes head program tags (bare_in bytes head.headers tags) (rela_relocs bytes head.headers tags) (plt_relocs bytes head.headers tags) (relr_bytes bytes head.headers tags)
+    ∷ rules_on bytes head program tags (bare_in bytes head.headers tags) (rela_relocs bytes head.headers tags)
+    (plt_relocs bytes head.headers tags) (relr_bytes bytes head.headers tags)
 
 -- rule 10: no dynamic table, or none that ends
 abbrev pub no_dynamic : NotAccepted

@@ -1,6 +1,7 @@
 -- What the dynamic table and the tables that it names say as functions, which the code of this crate is proved against: `AreParts` says what
 -- they give (gABI, "Dynamic Section").
-use Rattle.std.specs.Prelude.{ℕ, ◌+◌, ◌-◌, ◌*◌, ◌==◌, ◌&&◌, ◌||◌, Bool, nat_le, max, if◌then◌else◌, List, [], ◌++◌, length, map, find, fold, Option, Some, None, option_map, unwrap_or}
+use Rattle.std.specs.Prelude.{ℕ, ◌+◌, ◌-◌, ◌*◌, ◌==◌, ◌&&◌, ◌||◌, Bool, nat_le, max, if◌then◌else◌, List, [], ◌++◌, length, map, find, fold, Option, Some}
+use Rattle.std.specs.Prelude.{None, option_map, unwrap_or}
 use Rattle.std.specs.Option.{option_and_then, option_map_or}
 use Rattle.ld_base.specs.declared.object.Reloc.{Reloc}
 use Rattle.ld_base.specs.declared.object.ObjFlags.{ObjFlags}
@@ -17,7 +18,9 @@ use Rattle.elf_dynamic.specs.Relr.{relr_places}
 use Rattle.dyn_table.specs.Reloc.{relocs_of}
 use Rattle.dyn_table.specs.Symbol.{bare_symbols, symbols_in}
 use Rattle.dyn_table.specs.Tag.{has, has_flag, last_of, tags_of, value_of, values_of}
-use Rattle.dyn_table.specs.TagNumbers.{dt_bind_now, dt_fini, dt_fini_array, dt_fini_arraysz, dt_flags, dt_flags_1, dt_init, dt_init_array, dt_init_arraysz, dt_jmprel, dt_needed, dt_pltgot, dt_pltrelsz, dt_preinit_array, dt_preinit_arraysz, dt_rela, dt_relasz, dt_relr, dt_relrsz, dt_soname, dt_strsz, dt_strtab, dt_symbolic, dt_symtab}
+use Rattle.dyn_table.specs.TagNumbers.{dt_bind_now, dt_fini, dt_fini_array, dt_fini_arraysz, dt_flags, dt_flags_1, dt_init, dt_init_array, dt_init_arraysz}
+use Rattle.dyn_table.specs.TagNumbers.{dt_jmprel, dt_needed, dt_pltgot, dt_pltrelsz, dt_preinit_array, dt_preinit_arraysz, dt_rela, dt_relasz, dt_relr}
+use Rattle.dyn_table.specs.TagNumbers.{dt_relrsz, dt_soname, dt_strsz, dt_strtab, dt_symbolic, dt_symtab}
 
 -- the entries of the dynamic table, whose header is PT_DYNAMIC (2): those before the first DT_NULL, where the bytes that its header names are there
 unfoldable pub dynamic_tags : List ℕ → List Header → Option (List Tag)

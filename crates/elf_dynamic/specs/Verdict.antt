@@ -12,23 +12,30 @@ use Rattle.elf_dynamic.specs.Parts.{AreParts, AreTags}
 
 -- tables that say these parts break the rule with this number
 pub data TablesBreak (bytes : List ℕ) (head : Head) (program : Bool) (parts : DynParts) (say : AreParts bytes head.headers parts) : ℕ → ℕ → Type 0 where
-  bad_table : (tag : ℕ) → IsFirst (IsBadTable head.headers parts.tags (hash_words bytes head.headers parts.tags)) tag → TablesBreak bytes head program parts say 11 tag
+  bad_table : (tag : ℕ) → IsFirst (IsBadTable head.headers parts.tags (hash_words bytes head.headers parts.tags)) tag
+      → TablesBreak bytes head program parts say 11 tag
   lacks_symbols : ((tag : ℕ) → IsBadTable head.headers parts.tags (hash_words bytes head.headers parts.tags) tag → ⊥)
       → LacksSymbols head.headers parts.tags (length parts.symbols) → TablesBreak bytes head program parts say 11 dt_symtab
-  bad_name : (k offset : ℕ) → IsFirst (Lacks (LacksName say.strings parts.tags)) k → LacksName say.strings parts.tags k offset → TablesBreak bytes head program parts say 12 offset
+  bad_name : (k offset : ℕ) → IsFirst (Lacks (LacksName say.strings parts.tags)) k → LacksName say.strings parts.tags k offset
+      → TablesBreak bytes head program parts say 12 offset
   bad_symbol_name : ((k : ℕ) → Lacks (LacksName say.strings parts.tags) k → ⊥) → (symbol offset : ℕ)
-      → IsFirst (Lacks (LacksSymbolName say.strings say.table (length parts.symbols))) symbol → LacksSymbolName say.strings say.table (length parts.symbols) symbol offset
+      → IsFirst (Lacks (LacksSymbolName say.strings say.table (length parts.symbols))) symbol
+      → LacksSymbolName say.strings say.table (length parts.symbols) symbol offset
       → TablesBreak bytes head program parts say 12 offset
   bad_symbol : (symbol : ℕ) → IsFirst (IsBadSymbolAt head.headers parts.symbols) symbol → TablesBreak bytes head program parts say 13 symbol
-  bad_reloc : (index : ℕ) → IsFirst (IsBadRelocAt head.headers parts.symbols parts.relocs say.words parts.relr) index → TablesBreak bytes head program parts say 14 index
-  has_feature : (feature : ℕ) → IsFirst (HasFeature head program parts.tags parts.symbols (parts.relocs ++ parts.plt_relocs)) feature → TablesBreak bytes head program parts say 15 feature
-  bad_slot : (index : ℕ) → IsFirst (IsBadSlotAt bytes head.headers parts.symbols (named parts.symbols parts.relocs parts.relr) parts.plt_relocs parts.pltgot) index
+  bad_reloc : (index : ℕ) → IsFirst (IsBadRelocAt head.headers parts.symbols parts.relocs say.words parts.relr) index
+      → TablesBreak bytes head program parts say 14 index
+  has_feature : (feature : ℕ) → IsFirst (HasFeature head program parts.tags parts.symbols (parts.relocs ++ parts.plt_relocs)) feature
+      → TablesBreak bytes head program parts say 15 feature
+  bad_slot : (index : ℕ)
+      → IsFirst (IsBadSlotAt bytes head.headers parts.symbols (named parts.symbols parts.relocs parts.relr) parts.plt_relocs parts.pltgot) index
       → TablesBreak bytes head program parts say 16 index
 
 -- the file breaks the rule with this number: it has no dynamic table that ends, or its tables break it
 pub data Breaks (bytes : List ℕ) (head : Head) (program : Bool) : ℕ → ℕ → Type 0 where
   no_table : ((tags : List Tag) → AreTags bytes head.headers tags → ⊥) → Breaks bytes head program 10 0
-  by_tables : (parts : DynParts) (say : AreParts bytes head.headers parts) (rule number : ℕ) → TablesBreak bytes head program parts say rule number → Breaks bytes head program rule number
+  by_tables : (parts : DynParts) (say : AreParts bytes head.headers parts) (rule number : ℕ) → TablesBreak bytes head program parts say rule number
+      → Breaks bytes head program rule number
 
 -- no rule is broken, and the tables say each field
 pub record SpellsDynamic (bytes : List ℕ) (head : Head) (program : Bool) (parts : DynParts) : Type 0 where

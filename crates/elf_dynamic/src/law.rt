@@ -13,8 +13,10 @@ use dyn_table::one_reading;
 /// The tables of a file have one verdict: either they break no rule, and one record alone has what
 /// they say, or one rule is the least that they break, with one number.
 pub fn one_verdict()
-    ensures accepted { (bytes : List ℕ) (head : Head) (program : Bool) (parts : DynParts) → (dynamic_verdict bytes head program ≡ Ok parts) ↔ SpellsDynamic bytes head program parts }
-    ensures refused { (bytes : List ℕ) (head : Head) (program : Bool) (fault : NotAccepted) → (dynamic_verdict bytes head program ≡ Err fault) ↔ BreaksFirst bytes head program fault }
+    ensures accepted { (bytes : List ℕ) (head : Head) (program : Bool) (parts : DynParts)
+        → (dynamic_verdict bytes head program ≡ Ok parts) ↔ SpellsDynamic bytes head program parts }
+    ensures refused { (bytes : List ℕ) (head : Head) (program : Bool) (fault : NotAccepted)
+        → (dynamic_verdict bytes head program ≡ Err fault) ↔ BreaksFirst bytes head program fault }
 {
     one_reading();
 }

@@ -294,7 +294,8 @@ fn judge_tables(
     requires readable { IsTrue (readable head.now.headers (value_of tags.now dt_symtab) (24 * counted.now.count)) }
     requires counted { counted.now ≡ counted_in bytes.now head.now.headers tags.now }
     ensures { MatchResult result
-        (λ judged. (first_broken 12 (rules_from_names bytes.now head.now program tags.now) ≡ None) × ArePlaces judged (relr_places (relr_bytes bytes.now head.now.headers tags.now)))
+        (λ judged. (first_broken 12 (rules_from_names bytes.now head.now program tags.now) ≡ None)
+        × ArePlaces judged (relr_places (relr_bytes bytes.now head.now.headers tags.now)))
         (λ fault. Faults fault (option_map_or Err (first_broken 12 (rules_from_names bytes.now head.now program tags.now)) (Ok (tt {0})))) }
 {
     accepted_head();

@@ -109,7 +109,8 @@ fn is_bad_slot(slots: Slots, named: &Marks, naming: &Naming, slot: Reloc) -> boo
     requires low { AreLow slots.head.now.headers }
     requires told { TellsOf naming.now (slot_ranges slots.symbols.now slots.relocs.now) }
     ensures { (others : List Span) → AreMarks named.now.words.items others
-        → result ≡ is_bad_slot slots.entry.bytes.now slots.entry.head.now.headers slots.entry.symbols.now others (slot_ranges slots.entry.symbols.now slots.entry.relocs.now) slot }
+        → result ≡ is_bad_slot slots.entry.bytes.now slots.entry.head.now.headers slots.entry.symbols.now others
+        (slot_ranges slots.entry.symbols.now slots.entry.relocs.now) slot }
 {
     if is_no_slot(slots, slot) {
         return true;
@@ -163,7 +164,8 @@ fn has_bad_table(slots: Slots, named: &Marks, naming: &Naming) -> bool
     requires low { AreLow slots.head.now.headers }
     requires told { TellsOf naming.now (slot_ranges slots.symbols.now slots.relocs.now) }
     ensures { (others : List Span) → AreMarks named.now.words.items others
-        → result ≡ option_map_or (is_bad_table_of_slots slots.entry.head.now.headers others (slot_ranges slots.entry.symbols.now slots.entry.relocs.now)) slots.entry.table false }
+        → result ≡ option_map_or
+        (is_bad_table_of_slots slots.entry.head.now.headers others (slot_ranges slots.entry.symbols.now slots.entry.relocs.now)) slots.entry.table false }
 {
     match slots.table {
         Some(start) => is_bad_table_of_slots(slots, named, naming, start),

@@ -4,7 +4,8 @@ ghost use Rattle.std.specs.Prelude.{◌≡◌, ◌==◌, ◌+◌, ◌*◌, ◌�
 ghost use Rattle.std.specs.Option.{option_copied, option_and_then, option_map_or};
 ghost use Rattle.elf_head.specs.Rules.{head_verdict};
 ghost use Rattle.ld_base.specs.declared.object.Reloc.{Reloc};
-ghost use Rattle.elf_dynamic.specs.Tables.{bytes_in, dynamic_tags, flags_of, first_exported, is_tail, less_tail, named_count, plt_span, rela_span, span_of, symbol_count};
+ghost use Rattle.elf_dynamic.specs.Tables.{bytes_in, dynamic_tags, flags_of, first_exported, is_tail, less_tail, named_count, plt_span, rela_span, span_of};
+ghost use Rattle.elf_dynamic.specs.Tables.{symbol_count};
 ghost use Rattle.dyn_table.specs.Tag.{has, has_flag, value_of};
 
 use dyn_table::{

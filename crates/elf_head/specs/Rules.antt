@@ -1,5 +1,6 @@
 -- The ELF header (gABI, "ELF Header"; psABI, "File Header"), and the first nine rules of acceptance.
-use Rattle.std.specs.Prelude.{ℕ, ◌+◌, ◌*◌, Bool, not, ◌&&◌, ◌||◌, ◌==◌, nat_lt, Option, Result, Ok, Err, if◌then◌else◌, nat_eq, bit_and, List, [], ◌∷◌, ◌++◌, length, slice_index}
+use Rattle.std.specs.Prelude.{ℕ, ◌+◌, ◌*◌, Bool, not, ◌&&◌, ◌||◌, ◌==◌, nat_lt, Option, Result, Ok, Err, if◌then◌else◌, nat_eq, bit_and, List, [], ◌∷◌, ◌++◌}
+use Rattle.std.specs.Prelude.{length, slice_index}
 use Rattle.std.specs.List.{starts_with}
 use Rattle.std.specs.Option.{option_map_or}
 use Rattle.ld_base.specs.Field.{field}

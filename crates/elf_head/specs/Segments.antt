@@ -1,6 +1,7 @@
 -- What a linker asks of program headers (gABI, "Program Header" and "Program Loading").
 -- Each test here is true where a header breaks the rule that it is named after.
-use Rattle.std.specs.Prelude.{ℕ, ◌+◌, ◌-◌, ◌/◌, ◌%◌, ◌^◌, Bool, false, not, ◌&&◌, ◌||◌, ◌==◌, nat_lt, nat_le, Option, None, Some, if◌then◌else◌, List, length, take}
+use Rattle.std.specs.Prelude.{ℕ, ◌+◌, ◌-◌, ◌/◌, ◌%◌, ◌^◌, Bool, false, not, ◌&&◌, ◌||◌, ◌==◌, nat_lt, nat_le, Option, None, Some, if◌then◌else◌, List, length}
+use Rattle.std.specs.Prelude.{take}
 use Rattle.std.specs.Option.{option_or, option_map_or}
 use Rattle.std.specs.List.{list_any, slice_get}
 use Rattle.std.specs.Int.{is_power_of_two}

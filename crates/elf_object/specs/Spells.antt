@@ -61,4 +61,5 @@ pub data Broken (bytes : List ℕ) (program : Bool) : NotAccepted → Type 0 whe
   by_versions : (head : Head) → SpellsHead bytes head → (parts : DynParts) → SpellsDynamic bytes head program parts
       → (fault : NotAccepted) → VersionsBreak bytes head parts fault → Broken bytes program fault
   by_hash : (head : Head) → SpellsHead bytes head → (parts : DynParts) → SpellsDynamic bytes head program parts
-      → (versions : Versions) → SpellsVersions bytes head parts versions → (fault : NotAccepted) → BreaksHash bytes head parts fault → Broken bytes program fault
+      → (versions : Versions) → SpellsVersions bytes head parts versions → (fault : NotAccepted) → BreaksHash bytes head parts fault
+      → Broken bytes program fault

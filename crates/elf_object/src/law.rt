@@ -16,12 +16,17 @@ pub fn one_object()
     ensures verdict { (bytes : List ℕ) (program : Bool) (object : Object)
         → ((table : HashTable) × (object_verdict bytes program ≡ Ok (object, table))) ↔ Spells bytes program object }
     ensures one { (bytes : List ℕ) (program : Bool) (first second : Object) → Spells bytes program first → Spells bytes program second → first ≡ second }
-    ensures exactly { (bytes : List ℕ) (program : Bool) → ((object : Object) × Spells bytes program object) ⊎ ((fault : NotAccepted) × Broken bytes program fault) }
-    ensures never_both { (bytes : List ℕ) (program : Bool) (object : Object) (fault : NotAccepted) → Spells bytes program object → Broken bytes program fault → ⊥ }
-    ensures one_fault { (bytes : List ℕ) (program : Bool) (first second : NotAccepted) → Broken bytes program first → Broken bytes program second → first ≡ second }
+    ensures exactly { (bytes : List ℕ) (program : Bool)
+        → ((object : Object) × Spells bytes program object) ⊎ ((fault : NotAccepted) × Broken bytes program fault) }
+    ensures never_both { (bytes : List ℕ) (program : Bool) (object : Object) (fault : NotAccepted) → Spells bytes program object → Broken bytes program fault
+        → ⊥ }
+    ensures one_fault { (bytes : List ℕ) (program : Bool) (first second : NotAccepted) → Broken bytes program first → Broken bytes program second
+        → first ≡ second }
     ensures refused { (bytes : List ℕ) (program : Bool) (fault : NotAccepted) → (object_verdict bytes program ≡ Err fault) ↔ Broken bytes program fault }
-    ensures table { (bytes : List ℕ) (program : Bool) (object : Object) (table : HashTable) → object_verdict bytes program ≡ Ok (object, table) → IsTableOf table object }
-    ensures names { (bytes : List ℕ) (program : Bool) (object : Object) (table : HashTable) → object_verdict bytes program ≡ Ok (object, table) → IsTrue (names_own_symbols object) }
+    ensures table { (bytes : List ℕ) (program : Bool) (object : Object) (table : HashTable) → object_verdict bytes program ≡ Ok (object, table)
+        → IsTableOf table object }
+    ensures names { (bytes : List ℕ) (program : Bool) (object : Object) (table : HashTable) → object_verdict bytes program ≡ Ok (object, table)
+        → IsTrue (names_own_symbols object) }
 {
     elf_head::one_verdict();
     elf_dynamic::one_verdict();

@@ -18,7 +18,8 @@ ghost use Rattle.elf_write.specs.declared.entries.DynamicEntry.{DynamicEntry};
 ghost use Rattle.elf_write.specs.declared.field.Field.{Field};
 ghost use Rattle.elf_write.specs.declared.starts.Starts.{Starts};
 ghost use Rattle.elf_write.specs.Fields.{record_bytes};
-ghost use Rattle.elf_write.specs.Records.{dynamic_fields, head_fields, header_fields, need_fields, needed_fields, rela_fields, slot_fields, symbol_fields, version_fields};
+ghost use Rattle.elf_write.specs.Records.{dynamic_fields, head_fields, header_fields, need_fields, needed_fields, rela_fields, slot_fields, symbol_fields};
+ghost use Rattle.elf_write.specs.Records.{version_fields};
 ghost use Rattle.elf_write.specs.Records.{fix_addend, reloc_type, section_index, symbol_value, target_symbol, told_value};
 ghost use Rattle.elf_write.specs.Starts.{address_in};
 ghost use Rattle.elf_records.specs.Numbers.{AllFit, Fits, number, width, widths};
@@ -49,7 +50,8 @@ pub fn bytes_are_cut_out()
 
 /// The ELF header at the begin of a file: a reader has nothing against it, and finds the kind, the entry and the number of program headers.
 pub fn heads_read_back()
-    ensures { (bytes : List ℕ) (kind : Kind) (entry headers : ℕ) → entry < 2 ^ 64 → headers < 2 ^ 16 → StandAt bytes 0 (record_bytes (head_fields kind entry headers))
+    ensures { (bytes : List ℕ) (kind : Kind) (entry headers : ℕ) → entry < 2 ^ 64 → headers < 2 ^ 16
+        → StandAt bytes 0 (record_bytes (head_fields kind entry headers))
         → ReadsHead bytes kind entry headers }
 {}
 
@@ -60,21 +62,32 @@ pub fn headers_read_back()
 
 /// An entry of the dynamic table.
 pub fn entries_read_back()
-    ensures { (bytes : List ℕ) (at : ℕ) (starts : Starts) (e : DynamicEntry) → AllFit (dynamic_fields starts e) → StandAt bytes at (record_bytes (dynamic_fields starts e))
+    ensures { (bytes : List ℕ) (at : ℕ) (starts : Starts) (e : DynamicEntry) → AllFit (dynamic_fields starts e)
+        → StandAt bytes at (record_bytes (dynamic_fields starts e))
         → tag_at bytes at ≡ record { tag = e.tag; value = told_value starts e.told } }
 {}
 
 /// A symbol, and the offset of its name.
 pub fn symbols_read_back()
-    ensures { (bytes : List ℕ) (at : ℕ) (starts : Starts) (s : SymbolEntry) → AllFit (symbol_fields starts s) → StandAt bytes at (record_bytes (symbol_fields starts s))
+    ensures { (bytes : List ℕ) (at : ℕ) (starts : Starts) (s : SymbolEntry) → AllFit (symbol_fields starts s)
+        → StandAt bytes at (record_bytes (symbol_fields starts s))
         → (symbol_name bytes at ≡ s.name)
         × ((name : List ℕ) → symbol_named bytes at name
-        ≡ record { name = name; info = s.info; other = s.other; shndx = section_index s.spot; value = symbol_value starts s.spot; size = s.size; version = 0 }) }
+        ≡ record {
+          name = name;
+          info = s.info;
+          other = s.other;
+          shndx = section_index s.spot;
+          value = symbol_value starts s.spot;
+          size = s.size;
+          version = 0;
+        }) }
 {}
 
 /// A relocation of a place that the linker fills.
 pub fn relocations_read_back()
-    ensures { (bytes : List ℕ) (at : ℕ) (starts : Starts) (fix : Fix) → AllFit (rela_fields starts fix) → StandAt bytes at (record_bytes (rela_fields starts fix))
+    ensures { (bytes : List ℕ) (at : ℕ) (starts : Starts) (fix : Fix) → AllFit (rela_fields starts fix)
+        → StandAt bytes at (record_bytes (rela_fields starts fix))
         → reloc_at bytes at ≡ record {
           place = address_in starts fix.spot;
           kind = reloc_type fix.kind fix.target;
@@ -91,7 +104,8 @@ pub fn slots_read_back()
 
 /// A version that is defined.
 pub fn versions_read_back()
-    ensures { (bytes : List ℕ) (at : ℕ) (v : VersionRecord) → AllFit (version_fields v) → StandAt bytes at (record_bytes (version_fields v)) → ReadsVersion bytes at v }
+    ensures { (bytes : List ℕ) (at : ℕ) (v : VersionRecord) → AllFit (version_fields v) → StandAt bytes at (record_bytes (version_fields v))
+        → ReadsVersion bytes at v }
 {}
 
 /// A file of which versions are needed.
@@ -101,5 +115,6 @@ pub fn needs_read_back()
 
 /// A version that is needed.
 pub fn needed_versions_read_back()
-    ensures { (bytes : List ℕ) (at : ℕ) (n : NeededVersion) → AllFit (needed_fields n) → StandAt bytes at (record_bytes (needed_fields n)) → ReadsNeeded bytes at n }
+    ensures { (bytes : List ℕ) (at : ℕ) (n : NeededVersion) → AllFit (needed_fields n) → StandAt bytes at (record_bytes (needed_fields n))
+        → ReadsNeeded bytes at n }
 {}

@@ -1,11 +1,14 @@
 -- What an object says, part by part, of what it holds.
-use Rattle.std.specs.Prelude.{◌≡◌, ℕ, ◌+◌, ◌*◌, ◌^◌, ◌<◌, ◌||◌, ⊤, Bool, true, false, nat_lt, List, [], ◌∷◌, ◌++◌, map, length, is_some, Option, Some, None, IfSome}
+use Rattle.std.specs.Prelude.{◌≡◌, ℕ, ◌+◌, ◌*◌, ◌^◌, ◌<◌, ◌||◌, ⊤, Bool, true, false, nat_lt, List, [], ◌∷◌, ◌++◌, map, length, is_some, Option, Some, None}
+use Rattle.std.specs.Prelude.{IfSome}
 use Rattle.std.specs.Int.{from_bool}
 use Rattle.std.specs.List.{slice_get}
 use Rattle.acceptance.specs.Entries.{AreEntries}
 use Rattle.dyn_table.specs.Tag.{last_of, values_of}
-use Rattle.dyn_table.specs.TagNumbers.{dt_bind_now, dt_fini, dt_fini_array, dt_fini_arraysz, dt_flags, dt_flags_1, dt_gnu_hash, dt_hash, dt_init, dt_init_array, dt_init_arraysz}
-use Rattle.dyn_table.specs.TagNumbers.{dt_jmprel, dt_needed, dt_pltgot, dt_pltrelsz, dt_preinit_array, dt_preinit_arraysz, dt_rela, dt_relasz, dt_relr, dt_relrsz, dt_soname}
+use Rattle.dyn_table.specs.TagNumbers.{dt_bind_now, dt_fini, dt_fini_array, dt_fini_arraysz, dt_flags, dt_flags_1, dt_gnu_hash, dt_hash, dt_init}
+use Rattle.dyn_table.specs.TagNumbers.{dt_init_array, dt_init_arraysz}
+use Rattle.dyn_table.specs.TagNumbers.{dt_jmprel, dt_needed, dt_pltgot, dt_pltrelsz, dt_preinit_array, dt_preinit_arraysz, dt_rela, dt_relasz, dt_relr}
+use Rattle.dyn_table.specs.TagNumbers.{dt_relrsz, dt_soname}
 use Rattle.dyn_table.specs.TagNumbers.{dt_strsz, dt_strtab, dt_symbolic, dt_symtab, dt_verdef, dt_verdefnum, dt_verneed, dt_verneednum, dt_versym}
 use Rattle.elf_write.specs.declared.part.Part.TheVariants as parts
 use Rattle.ld_base.specs.declared.object.Span.{Span}
@@ -16,7 +19,8 @@ use Rattle.elf_write.specs.declared.contents.Contents.{Contents}
 use Rattle.elf_write.specs.declared.entries.DynamicEntry.{DynamicEntry}
 use Rattle.elf_write.specs.declared.starts.Starts.{Starts}
 use Rattle.elf_write.specs.Records.{header_of, told_value}
-use Rattle.elf_write.specs.Sizes.{count_in, listed_count, packed_count, segments_of, name_entries, symbol_entries, flag_entries, arrays_entries, reloc_entries, version_entries}
+use Rattle.elf_write.specs.Sizes.{count_in, listed_count, packed_count, segments_of, name_entries, symbol_entries, flag_entries, arrays_entries}
+use Rattle.elf_write.specs.Sizes.{reloc_entries, version_entries}
 use Rattle.elf_write.specs.Starts.{size_in, start_in, starts_of}
 use Rattle.elf_write.specs.Values.{entry_of}
 
@@ -31,7 +35,8 @@ said_head contents = record {
 -- the entries of its dynamic table before the one that ends it
 abbrev pub told_entries : Contents → List DynamicEntry
 told_entries contents =
-    name_entries contents ++ symbol_entries contents ++ flag_entries contents.flags ++ arrays_entries contents ++ reloc_entries contents ++ version_entries contents
+    name_entries contents ++ symbol_entries contents ++ flag_entries contents.flags ++ arrays_entries contents ++ reloc_entries contents
+        ++ version_entries contents
 
 abbrev pub said_tag : Starts → DynamicEntry → Tag
 said_tag starts entry = record { tag = entry.tag; value = told_value starts entry.told }
@@ -68,14 +73,17 @@ pub record IsTold (contents : Contents) (tags : List Tag) : Type 0 where
   pub strings : last_of tags dt_strtab ≡ Some (start_in (starts_of contents) parts.Strings)
   pub strings_size : last_of tags dt_strsz ≡ Some (size_in (starts_of contents) parts.Strings)
   pub symbols : last_of tags dt_symtab ≡ Some (start_in (starts_of contents) parts.Symbols)
-  pub flags : last_of tags dt_flags ≡ told_if (contents.flags.symbolic || contents.flags.bind_now) (2 * from_bool contents.flags.symbolic + 8 * from_bool contents.flags.bind_now)
+  pub flags : last_of tags dt_flags ≡ told_if (contents.flags.symbolic
+      || contents.flags.bind_now) (2 * from_bool contents.flags.symbolic + 8 * from_bool contents.flags.bind_now)
   pub more_flags : last_of tags dt_flags_1 ≡ told_if contents.flags.nodelete 8
   pub symbolic : last_of tags dt_symbolic ≡ None
   pub bind_now : last_of tags dt_bind_now ≡ None
   pub init : last_of tags dt_init ≡ None
   pub fini : last_of tags dt_fini ≡ None
-  pub preinit_array : last_of tags dt_preinit_array ≡ told_if (nat_lt 0 (count_in contents parts.PreinitArray)) (start_in (starts_of contents) parts.PreinitArray)
-  pub preinit_size : last_of tags dt_preinit_arraysz ≡ told_if (nat_lt 0 (count_in contents parts.PreinitArray)) (size_in (starts_of contents) parts.PreinitArray)
+  pub preinit_array : last_of tags dt_preinit_array
+      ≡ told_if (nat_lt 0 (count_in contents parts.PreinitArray)) (start_in (starts_of contents) parts.PreinitArray)
+  pub preinit_size : last_of tags dt_preinit_arraysz
+      ≡ told_if (nat_lt 0 (count_in contents parts.PreinitArray)) (size_in (starts_of contents) parts.PreinitArray)
   pub init_array : last_of tags dt_init_array ≡ told_if (nat_lt 0 (count_in contents parts.InitArray)) (start_in (starts_of contents) parts.InitArray)
   pub init_size : last_of tags dt_init_arraysz ≡ told_if (nat_lt 0 (count_in contents parts.InitArray)) (size_in (starts_of contents) parts.InitArray)
   pub fini_array : last_of tags dt_fini_array ≡ told_if (nat_lt 0 (count_in contents parts.FiniArray)) (start_in (starts_of contents) parts.FiniArray)
@@ -98,9 +106,13 @@ pub record SaysByItself (contents : Contents) (said : DynParts) : Type 0 where
   pub pltgot : said.pltgot ≡ told_if (nat_lt 0 (length contents.slots)) (start_in (starts_of contents) parts.GotPlt)
   pub init : said.init ≡ None
   pub fini : said.fini ≡ None
-  pub preinit : said.preinit ≡ span_if (nat_lt 0 (count_in contents parts.PreinitArray)) (start_in (starts_of contents) parts.PreinitArray) (size_in (starts_of contents) parts.PreinitArray)
-  pub init_array : said.init_array ≡ span_if (nat_lt 0 (count_in contents parts.InitArray)) (start_in (starts_of contents) parts.InitArray) (size_in (starts_of contents) parts.InitArray)
-  pub fini_array : said.fini_array ≡ span_if (nat_lt 0 (count_in contents parts.FiniArray)) (start_in (starts_of contents) parts.FiniArray) (size_in (starts_of contents) parts.FiniArray)
+  pub preinit : said.preinit
+      ≡ span_if (nat_lt 0 (count_in contents parts.PreinitArray)) (start_in (starts_of contents) parts.PreinitArray)
+      (size_in (starts_of contents) parts.PreinitArray)
+  pub init_array : said.init_array
+      ≡ span_if (nat_lt 0 (count_in contents parts.InitArray)) (start_in (starts_of contents) parts.InitArray) (size_in (starts_of contents) parts.InitArray)
+  pub fini_array : said.fini_array
+      ≡ span_if (nat_lt 0 (count_in contents parts.FiniArray)) (start_in (starts_of contents) parts.FiniArray) (size_in (starts_of contents) parts.FiniArray)
   pub flags : said.flags ≡ contents.flags
 
 -- each of these is said by the record of its index

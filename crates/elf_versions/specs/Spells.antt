@@ -74,7 +74,8 @@ pub record IsVernauxAt (src : Source) (file : List ℕ) (is_last : Bool) (at : �
 -- the versions that are needed of these files, file by file
 pub data AreVersions (src : Source) : List Need → List Verneed → Type 0 where
   no_more : AreVersions src [] []
-  and_then : (need : Need) (needs : List Need) (first rest : List Verneed) → AreLinked (IsVernauxAt src need.file) (distance src 16 12) need.versions need.count first
+  and_then : (need : Need) (needs : List Need) (first rest : List Verneed)
+      → AreLinked (IsVernauxAt src need.file) (distance src 16 12) need.versions need.count first
       → AreVersions src needs rest → AreVersions src (need ∷ needs) (first ++ rest)
 
 -- the versions that so many records from a start on need
@@ -125,10 +126,13 @@ pub record SpellsVersions (bytes : List ℕ) (head : Head) (parts : DynParts) (v
 
 -- this rule is broken, and none before it
 pub data BreaksFirst (bytes : List ℕ) (head : Head) (parts : DynParts) : NotAccepted → Type 0 where
-  bad_versym : ((entries : List ℕ) → IsVersym (source_of bytes head.headers parts.tags dt_versym) parts.tags (length parts.symbols) entries → ⊥) → BreaksFirst bytes head parts (bad_table dt_versym)
+  bad_versym : ((entries : List ℕ) → IsVersym (source_of bytes head.headers parts.tags dt_versym) parts.tags (length parts.symbols) entries → ⊥)
+      → BreaksFirst bytes head parts (bad_table dt_versym)
   bad_verdefs : (entries : List ℕ) → IsVersym (source_of bytes head.headers parts.tags dt_versym) parts.tags (length parts.symbols) entries
-      → ((ds : List Verdef) → AreVerdefs (source_of bytes head.headers parts.tags dt_verdef) parts.tags ds → ⊥) → BreaksFirst bytes head parts (bad_table dt_verdef)
+      → ((ds : List Verdef) → AreVerdefs (source_of bytes head.headers parts.tags dt_verdef) parts.tags ds → ⊥)
+      → BreaksFirst bytes head parts (bad_table dt_verdef)
   bad_verneeds : (entries : List ℕ) → IsVersym (source_of bytes head.headers parts.tags dt_versym) parts.tags (length parts.symbols) entries
       → (ds : List Verdef) → AreVerdefs (source_of bytes head.headers parts.tags dt_verdef) parts.tags ds
-      → ((ns : List Verneed) → AreVerneeds (source_of bytes head.headers parts.tags dt_verneed) parts.tags ns → ⊥) → BreaksFirst bytes head parts (bad_table dt_verneed)
+      → ((ns : List Verneed) → AreVerneeds (source_of bytes head.headers parts.tags dt_verneed) parts.tags ns → ⊥)
+      → BreaksFirst bytes head parts (bad_table dt_verneed)
   unknown : (v : Versions) → Say bytes head parts v → (symbol : ℕ) → IsFirst (IsUnknownAt v) symbol → BreaksFirst bytes head parts (bad_index symbol)

@@ -13,8 +13,10 @@ use dyn_table::one_reading;
 /// The tables of an object have one verdict: either they break no rule, and one record alone has what
 /// they say, or one rule is the first that they break, with one number.
 pub fn one_verdict()
-    ensures accepted { (bytes : List ℕ) (head : Head) (parts : DynParts) (versions : Versions) → (versions_verdict bytes head parts ≡ Ok versions) ↔ SpellsVersions bytes head parts versions }
-    ensures refused { (bytes : List ℕ) (head : Head) (parts : DynParts) (fault : NotAccepted) → (versions_verdict bytes head parts ≡ Err fault) ↔ BreaksFirst bytes head parts fault }
+    ensures accepted { (bytes : List ℕ) (head : Head) (parts : DynParts) (versions : Versions)
+        → (versions_verdict bytes head parts ≡ Ok versions) ↔ SpellsVersions bytes head parts versions }
+    ensures refused { (bytes : List ℕ) (head : Head) (parts : DynParts) (fault : NotAccepted)
+        → (versions_verdict bytes head parts ≡ Err fault) ↔ BreaksFirst bytes head parts fault }
 {
     one_reading();
 }

@@ -61,7 +61,8 @@ fn verdefs_from(
     start: u64,
     count: u64,
 ) -> Result<Vec<VerdefRecord>, ReadFault>
-    ensures { Gives (result_map_both (λ verdefs. map (defined records.now.strings) verdefs.items) (λ fault. fault) result) (verdefs_from records.now start count) }
+    ensures { Gives (result_map_both (λ verdefs. map (defined records.now.strings) verdefs.items) (λ fault. fault) result)
+        (verdefs_from records.now start count) }
 {
     let mut verdefs = Vec::new(alloc);
     let mut at = start;

@@ -72,7 +72,8 @@ fn needs_from(
     start: u64,
     count: u64,
 ) -> Result<Vec<NeedRecord>, ReadFault>
-    ensures read { Gives (result_map_both (λ needs. map (need_of records.now.strings) needs.items) (λ fault. fault) result) (needs_from records.now start count) }
+    ensures read { Gives (result_map_both (λ needs. map (need_of records.now.strings) needs.items) (λ fault. fault) result)
+        (needs_from records.now start count) }
     ensures count { IfOk result (λ needs. length needs.items ≡ count) }
 {
     let mut needs = Vec::new(alloc);
@@ -93,7 +94,8 @@ fn vernaux_at(
     at: u64,
     is_last: bool,
 ) -> Result<(VerneedRecord, u64), ReadFault>
-    ensures read { Gives (result_map_both (λ r. needed records.now.strings r.0) (λ fault. fault) result) (vernaux_at records.now (string_in records.now.strings file) is_last at) }
+    ensures read { Gives (result_map_both (λ r. needed records.now.strings r.0) (λ fault. fault) result)
+        (vernaux_at records.now (string_in records.now.strings file) is_last at) }
     ensures next { IfOk result (λ r. r.1 ≡ at + distance records.now 16 12 at) }
 {
     let entry = records.bytes_at(at, RECORD_SIZE)?;
@@ -117,7 +119,8 @@ fn versions_of(
     records: &Records,
     need: NeedRecord,
 ) -> Result<Vec<VerneedRecord>, ReadFault>
-    ensures { Gives (result_map_both (λ verneeds. map (needed records.now.strings) verneeds.items) (λ fault. fault) result) (versions_of records.now (need_of records.now.strings need)) }
+    ensures { Gives (result_map_both (λ verneeds. map (needed records.now.strings) verneeds.items) (λ fault. fault) result)
+        (versions_of records.now (need_of records.now.strings need)) }
 {
     let mut verneeds = Vec::new(alloc);
     let mut at = need.versions;

@@ -73,7 +73,8 @@ name_entries contents = map (tells_number dt_needed) contents.needed ++ option_t
 -- the hash tables, the strings, the symbols
 abbrev pub symbol_entries : Contents → List DynamicEntry
 symbol_entries contents =
-    where_some (is_some contents.gnu) (tells_start dt_gnu_hash parts.GnuHash ∷ []) ++ where_some (is_some contents.sysv) (tells_start dt_hash parts.SysvHash ∷ [])
+    where_some (is_some contents.gnu) (tells_start dt_gnu_hash parts.GnuHash ∷ [])
+    ++ where_some (is_some contents.sysv) (tells_start dt_hash parts.SysvHash ∷ [])
     ++ tells_start dt_strtab parts.Strings ∷ tells_size dt_strsz parts.Strings ∷ tells_start dt_symtab parts.Symbols ∷ tells_number dt_syment 24 ∷ []
 
 -- DF_SYMBOLIC is 2, DF_BIND_NOW 8; DF_1_NODELETE is 8

@@ -44,7 +44,8 @@ count_word numbers = length numbers % 2 ^ 32
 
 -- the hash tables
 unfoldable pub gnu_bytes : GnuPart → List ℕ
-gnu_bytes gnu = words (count_word gnu.buckets ∷ gnu.symoffset ∷ count_word gnu.bloom ∷ gnu.shift ∷ []) ++ doublewords gnu.bloom ++ words gnu.buckets ++ words gnu.chain
+gnu_bytes gnu = words (count_word gnu.buckets ∷ gnu.symoffset ∷ count_word gnu.bloom ∷ gnu.shift ∷ []) ++ doublewords gnu.bloom ++ words gnu.buckets
+    ++ words gnu.chain
 
 unfoldable pub sysv_bytes : SysvPart → List ℕ
 sysv_bytes sysv = words (count_word sysv.buckets ∷ count_word sysv.chain ∷ []) ++ words sysv.buckets ++ words sysv.chain

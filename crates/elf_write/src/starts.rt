@@ -3,7 +3,8 @@
 ghost use Rattle.std.specs.Prelude.{◌≡◌, ◌+◌, ◌-◌, IfOk, map, slice_index};
 ghost use Rattle.elf_write.specs.declared.part.Part.TheVariants as parts;
 ghost use Rattle.elf_write.specs.Parts.{number_of, all_parts};
-ghost use Rattle.elf_write.specs.Starts.{start_in, size_in, address_in, padding, starts_from, wrapped, packed_from, third_starts, relr_size, extent_of, base_of};
+ghost use Rattle.elf_write.specs.Starts.{start_in, size_in, address_in, padding, starts_from, wrapped, packed_from, third_starts, relr_size, extent_of};
+ghost use Rattle.elf_write.specs.Starts.{base_of};
 
 use crate::contents::{Contents, Extent, Fix, Spot};
 use crate::dynamic::is_packed;

@@ -123,7 +123,8 @@ fn push_entries(addresses: &mut Vec<u64>, image: &Image, object: &Object, array:
     requires array { (s : Span) → array ≡ Some s → IsArray object.now s }
     requires all { length image.now.words ≡ 512 * pages_of object.now }
     requires room { vec_len addresses.old + entries_in array ≤ vec_capacity addresses.old }
-    ensures addresses { (base : ℕ) (value : ℕ → ℕ) → IsImage object.now base value image.now → addresses.new.items ≡ addresses.old.items ++ words_of value array }
+    ensures addresses { (base : ℕ) (value : ℕ → ℕ) → IsImage object.now base value image.now
+        → addresses.new.items ≡ addresses.old.items ++ words_of value array }
     ensures count { vec_len addresses.new ≡ vec_len addresses.old + entries_in array }
     ensures capacity { vec_capacity addresses.new ≡ vec_capacity addresses.old }
 {

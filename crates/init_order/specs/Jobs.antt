@@ -45,7 +45,8 @@ pub record Adds (old new : List Edge) (P : Edge → Type 0) : Type 0 where
 pub record AreFirstsTo (xs : List ℕ) (n : ℕ) (line : List ℕ) : Type 0 where
   pub apart : AllPairs (λ a b. a ≢ b) line
   pub each : (d : ℕ) → Contains (take n xs) d → Contains line d
-  pub stands : (k o : ℕ) → slice_get line k ≡ Some o → (place : ℕ) × (slice_get xs place ≡ Some o) × ((earlier e : ℕ) → earlier < place → slice_get xs earlier ≡ Some e → Contains (take k line) e)
+  pub stands : (k o : ℕ) → slice_get line k ≡ Some o
+      → (place : ℕ) × (slice_get xs place ≡ Some o) × ((earlier e : ℕ) → earlier < place → slice_get xs earlier ≡ Some e → Contains (take k line) e)
 
 abbrev pub AreFirsts : List ℕ → List ℕ → Type 0
 AreFirsts xs line = AreFirstsTo xs (length xs) line

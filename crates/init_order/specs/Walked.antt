@@ -1,5 +1,6 @@
 -- How a walk stands between two of its steps.
-use Rattle.std.specs.Prelude.{◌≡◌, ℕ, ◌+◌, ◌*◌, ◌<◌, ◌≤◌, ◌⊎◌, not, List, [], ◌∷◌, ◌++◌, length, count_by, Option, Some, is_some, Contains, AllPairs, ◌≢◌, slice_index_or}
+use Rattle.std.specs.Prelude.{◌≡◌, ℕ, ◌+◌, ◌*◌, ◌<◌, ◌≤◌, ◌⊎◌, not, List, [], ◌∷◌, ◌++◌, length, count_by, Option, Some, is_some, Contains, AllPairs, ◌≢◌}
+use Rattle.std.specs.Prelude.{slice_index_or}
 use Rattle.link_graph.specs.declared.graph.Edge.{Edge}
 use Rattle.link_graph.specs.Initialised.{Reaches}
 use Rattle.init_order.specs.declared.walk.Mark.{Mark}

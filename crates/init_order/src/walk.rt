@@ -136,7 +136,8 @@ impl Walk {
             self.old.visited.items (length self.old.components.items) }
         requires last { (start : ℕ) → Contains self.old.starts.items start → start ≤ step.place }
         ensures walked { OnOk result (IsWalked successors.now self.new) }
-        ensures less { OnOk result (work_of successors.now self.new < work successors.now (at self.old) self.old.starts.items (self.old.pending.items ++ step ∷ [])) }
+        ensures less { OnOk result (work_of successors.now self.new
+            < work successors.now (at self.old) self.old.starts.items (self.old.pending.items ++ step ∷ [])) }
         ensures grows { OnOk result (Grows self.old.visited.items self.new.visited.items) }
     {
         match self.marks.get(&step.target).copied() {

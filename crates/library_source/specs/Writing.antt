@@ -20,7 +20,8 @@ TakesFront old bytes new = (rest : List ℕ) × TakesBefore rest old bytes new
 -- failure, an answer that it took nothing, or want of memory, the sink isn't asked again
 pub data Puts {K : Type 0} (writes : K → List ℕ → Result ℕ WriteError → K → Type 0) : List ℕ → K → Result (Unit {0}) WriteError → K → Type 0 where
   all : {sink : K} → Puts writes [] sink (Ok tt) sink
-  more : {rest : List ℕ} {before next after : K} {answer : Result (Unit {0}) WriteError} (n : ℕ) → 0 < length rest → 0 < n → writes before rest (Ok n) next → Puts writes (drop n rest) next answer after → Puts writes rest before answer after
+  more : {rest : List ℕ} {before next after : K} {answer : Result (Unit {0}) WriteError} (n : ℕ) → 0 < length rest → 0 < n → writes before rest (Ok n) next
+      → Puts writes (drop n rest) next answer after → Puts writes rest before answer after
   stuck : {rest : List ℕ} {before after : K} → 0 < length rest → writes before rest (Ok 0) after → Puts writes rest before (Err Failed) after
   stops : {rest : List ℕ} {before after : K} (why : WriteError) → 0 < length rest → writes before rest (Err why) after → Puts writes rest before (Err why) after
 

@@ -1,5 +1,6 @@
 -- What holds in each state of a lawful history.
-use Rattle.std.specs.Prelude.{◌≡◌, ◌≢◌, ℕ, ◌+◌, ◌-◌, ◌*◌, ◌^◌, ◌<◌, ◌≤◌, ◌⊎◌, ◌==◌, if◌then◌else◌, Contains, drop, find, flat_map, length, map, List, Option, IsTrue, Some, None, false, ◌∷◌, ◌++◌}
+use Rattle.std.specs.Prelude.{◌≡◌, ◌≢◌, ℕ, ◌+◌, ◌-◌, ◌*◌, ◌^◌, ◌<◌, ◌≤◌, ◌⊎◌, ◌==◌, if◌then◌else◌, Contains, drop, find, flat_map, length, map, List, Option}
+use Rattle.std.specs.Prelude.{IsTrue, Some, None, false, ◌∷◌, ◌++◌}
 use Rattle.std.specs.List.{slice_get}
 use Rattle.std.specs.Option.{is_some, option_and_then}
 use Rattle.address_space.specs.Pages.{guest_pages, is_within, IsGuestRange}
@@ -129,7 +130,8 @@ pub record AreApart (s : State) : Type 0 where
 pub record SerialsAreInOrder (s : State) : Type 0 where
   pub from : (ns : Namespace) (o : Loaded) → IsIn s ns o → 1 ≤ o.serial
   pub below : (ns : Namespace) (o : Loaded) → IsIn s ns o → o.serial < s.next
-  pub rising : (ns : Namespace) (i j : ℕ) (o p : Loaded) → Contains s.namespaces ns → slice_get ns.objects i ≡ Some o → slice_get ns.objects j ≡ Some p → i < j → o.serial < p.serial
+  pub rising : (ns : Namespace) (i j : ℕ) (o p : Loaded) → Contains s.namespaces ns → slice_get ns.objects i ≡ Some o → slice_get ns.objects j ≡ Some p
+      → i < j → o.serial < p.serial
   pub of : (ns : Namespace) (o : Loaded) → IsIn s ns o → (l : Loading) × Contains s.loadings l × Contains l.serials o.serial
   pub loaded : (l k : Loading) (d : ℕ) → Contains s.loadings l → Contains s.loadings k → Contains l.serials d → Contains k.serials d → l ≡ k
 
@@ -175,9 +177,12 @@ pub record OpeningsStand (s : State) : Type 0 where
 
 -- what each lost grant of a mapped object's slot saw is one value, and that of the bound grant, where there is one
 pub record LostSawTheValue (s : State) : Type 0 where
-  pub one : (g h : Granting) (saw word : ℕ) → Contains s.grants g → Contains s.grants h → g.standing ≡ Lost saw → h.standing ≡ Lost word → g.owner ≡ h.owner → g.slot ≡ h.slot → IsMapped s g.owner → saw ≡ word
-  pub bound : (g h : Granting) (saw : ℕ) → Contains s.grants g → Contains s.grants h → g.standing ≡ Lost saw → h.standing ≡ Bound → g.owner ≡ h.owner → g.slot ≡ h.slot → IsMapped s g.owner → saw ≡ h.value
-  pub at_load : (g : Granting) (saw value : ℕ) → Contains s.grants g → g.standing ≡ Lost saw → value_at_load s g.owner g.slot ≡ Some value → IsMapped s g.owner → saw ≡ value
+  pub one : (g h : Granting) (saw word : ℕ) → Contains s.grants g → Contains s.grants h → g.standing ≡ Lost saw → h.standing ≡ Lost word → g.owner ≡ h.owner
+      → g.slot ≡ h.slot → IsMapped s g.owner → saw ≡ word
+  pub bound : (g h : Granting) (saw : ℕ) → Contains s.grants g → Contains s.grants h → g.standing ≡ Lost saw → h.standing ≡ Bound → g.owner ≡ h.owner
+      → g.slot ≡ h.slot → IsMapped s g.owner → saw ≡ h.value
+  pub at_load : (g : Granting) (saw value : ℕ) → Contains s.grants g → g.standing ≡ Lost saw → value_at_load s g.owner g.slot ≡ Some value
+      → IsMapped s g.owner → saw ≡ value
 
 -- whoever sees a dying object dies with it: leaving dying objects out of a scope leaves none out
 abbrev pub NothingLeftOut : State → Type 0
@@ -186,7 +191,8 @@ NothingLeftOut s = (ns : Namespace) (o : Loaded) → IsIn s ns o → scope (seen
 -- a scope has its parts: the global list, what each opening leads to that leads to the object, what the object leads to, and the linker's own
 pub record ScopeIsWhole (ns : Namespace) (o : Loaded) : Type 0 where
   pub global : (d : ℕ) → Contains ns.global d → Contains (scope (seen_in ns) o) d
-  pub opened : (r : OpenRec) (d : ℕ) → Contains ns.opens r → Contains (breadth (seen_in ns) r.root) o.serial → Contains (breadth (seen_in ns) r.root) d → Contains (scope (seen_in ns) o) d
+  pub opened : (r : OpenRec) (d : ℕ) → Contains ns.opens r → Contains (breadth (seen_in ns) r.root) o.serial → Contains (breadth (seen_in ns) r.root) d
+      → Contains (scope (seen_in ns) o) d
   pub own : (d : ℕ) → Contains (breadth (seen_in ns) o.serial) d → Contains (scope (seen_in ns) o) d
   pub linker : Contains (scope (seen_in ns) o) 0
 
@@ -225,9 +231,11 @@ LoadsEnterCode s = (ns : Namespace) (o : Loaded) (slot value : ℕ) → IsIn s n
 
 -- no value of a mapped object's slot is the word that the slot holds until it is bound
 pub record NoneIsLazy (s : State) : Type 0 where
-  pub granted : (ns : Namespace) (o : Loaded) (g : Granting) (r : Reloc) → IsIn s ns o → Contains s.grants g → g.owner ≡ o.serial → slice_get o.object.plt_relocs g.slot ≡ Some r
+  pub granted : (ns : Namespace) (o : Loaded) (g : Granting) (r : Reloc) → IsIn s ns o → Contains s.grants g → g.owner ≡ o.serial
+      → slice_get o.object.plt_relocs g.slot ≡ Some r
       → g.value ≢ lazy_word o r
-  pub at_load : (ns : Namespace) (o : Loaded) (slot value : ℕ) (r : Reloc) → IsIn s ns o → value_at_load s o.serial slot ≡ Some value → slice_get o.object.plt_relocs slot ≡ Some r
+  pub at_load : (ns : Namespace) (o : Loaded) (slot value : ℕ) (r : Reloc) → IsIn s ns o → value_at_load s o.serial slot ≡ Some value
+      → slice_get o.object.plt_relocs slot ≡ Some r
       → value ≢ lazy_word o r
 
 -- no page is of two reserved ranges, and each reserved page is one of guest memory that may be given away
@@ -240,7 +248,8 @@ pub record RangesAreApart (s : State) : Type 0 where
 -- pages that are reserved for an object are those of an image, and for a block those of a block; and each block has its pages
 pub record RangesAreOwned (s : State) : Type 0 where
   pub object : (r : Range) (serial : ℕ) → Contains s.ranges r → r.purpose ≡ purposes.Object serial → (i : Linked) × Contains s.images i × (i.serial ≡ serial)
-  pub late : (r : Range) (hart serial : ℕ) → Contains s.ranges r → r.purpose ≡ purposes.Block hart serial → (b : Block) × Contains s.blocks b × (b.hart ≡ hart) × (b.serial ≡ serial)
+  pub late : (r : Range) (hart serial : ℕ) → Contains s.ranges r → r.purpose ≡ purposes.Block hart serial
+      → (b : Block) × Contains s.blocks b × (b.hart ≡ hart) × (b.serial ≡ serial)
   pub block : (b : Block) → Contains s.blocks b → (r : Range) × Contains s.ranges r × (r.purpose ≡ purposes.Block b.hart b.serial)
 
 -- grants have the numbers from 1 on; a hart has at most one that is open; and of a slot at most one is bound, and none where the slot got its
@@ -264,15 +273,18 @@ pub record HasStatic (s : State) (o : Loaded) (offset : ℕ) (seg : TlsSeg) : Ty
 -- static blocks end where the state says, and each is apart from those of other objects
 pub record StaticsAreApart (s : State) : Type 0 where
   pub within : (o : Loaded) (offset : ℕ) (seg : TlsSeg) → HasStatic s o offset seg → offset + seg.memsz ≤ s.statics.size
-  pub apart : (o p : Loaded) (x y : ℕ) (seg tseg : TlsSeg) → HasStatic s o x seg → HasStatic s p y tseg → o.serial ≢ p.serial → (x + seg.memsz ≤ y) ⊎ (y + tseg.memsz ≤ x)
+  pub apart : (o p : Loaded) (x y : ℕ) (seg tseg : TlsSeg) → HasStatic s o x seg → HasStatic s p y tseg → o.serial ≢ p.serial
+      → (x + seg.memsz ≤ y) ⊎ (y + tseg.memsz ≤ x)
 
 -- a hart's static area has room for all static blocks, and for what stands before them
 pub record StaticAreasHaveRoom (m : Machine) (s : State) : Type 0 where
   pub pages : (r : Range) (hart : ℕ) → Contains s.ranges r → r.purpose ≡ purposes.StaticTls hart → r.pages ≡ pages_for (s.statics.tp + s.statics.size)
-  pub there : (o : Loaded) (offset : ℕ) (seg : TlsSeg) (hart : ℕ) → HasStatic s o offset seg → hart < m.harts → (r : Range) × Contains s.ranges r × (r.purpose ≡ purposes.StaticTls hart)
+  pub there : (o : Loaded) (offset : ℕ) (seg : TlsSeg) (hart : ℕ) → HasStatic s o offset seg → hart < m.harts
+      → (r : Range) × Contains s.ranges r × (r.purpose ≡ purposes.StaticTls hart)
   -- a hart's block of an object stands in it whole
   pub covered : (o : Loaded) (offset : ℕ) (seg : TlsSeg) (hart : ℕ) → HasStatic s o offset seg → hart < m.harts
-      → (r : Range) × Contains s.ranges r × (r.purpose ≡ purposes.StaticTls hart) × ((a : ℕ) → tp_of s hart + offset ≤ a → a < tp_of s hart + offset + seg.memsz → IsTrue (covers a r))
+      → (r : Range) × Contains s.ranges r × (r.purpose ≡ purposes.StaticTls hart)
+      × ((a : ℕ) → tp_of s hart + offset ≤ a → a < tp_of s hart + offset + seg.memsz → IsTrue (covers a r))
 
 -- a block that a hart got at its first use stands in pages of its own: at its segment's residue behind their start, and whole
 pub record IsBlockPlaced (s : State) (b : Block) : Type 0 where
@@ -321,7 +333,8 @@ ImagesArePlaced s = (i : Linked) → Contains s.images i → IsRangeOf s.ranges 
 
 -- a mapped object whose pages hold an address is the one whose image is there, and the only one
 pub record HoldersAreImages (s : State) : Type 0 where
-  pub image : (ns : Namespace) (o : Loaded) (a : ℕ) → a < 2 ^ 64 → IsIn s ns o → IsTrue (holds o a) → (i : Linked) × (image_at s a ≡ Some i) × (i.serial ≡ o.serial)
+  pub image : (ns : Namespace) (o : Loaded) (a : ℕ) → a < 2 ^ 64 → IsIn s ns o → IsTrue (holds o a)
+      → (i : Linked) × (image_at s a ≡ Some i) × (i.serial ≡ o.serial)
   pub one : (ns ms : Namespace) (o p : Loaded) (a : ℕ) → a < 2 ^ 64 → IsIn s ns o → IsIn s ms p → IsTrue (holds o a) → IsTrue (holds p a) → o ≡ p
   pub object : (i : Linked) (a : ℕ) → image_at s a ≡ Some i → (ns : Namespace) × (o : Loaded) × IsIn s ns o × (o.serial ≡ i.serial) × IsTrue (holds o a)
   pub none : (ns : Namespace) (o : Loaded) (a : ℕ) → image_at s a ≡ None → IsIn s ns o → holds o a ≡ false
@@ -345,14 +358,17 @@ BlocksAreApart m s = (h k a : ℕ) (x y : Module) → h < m.harts → k < m.hart
 
 -- the words of an image that was relocated by its record are those of memory, with their roles
 abbrev pub ImagesAreInstalled : State → Type 0
-ImagesAreInstalled s = (i : Linked) → Contains s.images i → (image : Image) → IsImage i.object i.base (image_word i.object i.base i.serial i.bindings i.places) image → (k : ℕ) → k < length image.words
+ImagesAreInstalled s = (i : Linked) → Contains s.images i → (image : Image)
+    → IsImage i.object i.base (image_word i.object i.base i.serial i.bindings i.places) image → (k : ℕ) → k < length image.words
     → slice_get image.words k ≡ Some (record { value = word_at s (image.start + 8 * k); role = role_at s (image.start + 8 * k) })
 
 -- where slots lead is code that memory holds: a value of a mapped object's slot is 0 or lies in an RX word, and so does the word that a slot
 -- holds until it is bound
 pub record SlotsLeadToRx (s : State) : Type 0 where
-  pub granted : (g : Granting) → Contains s.grants g → ((saw : ℕ) → g.standing ≢ Lost saw) → IsMapped s g.owner → g.value < 2 ^ 64 → (g.value ≡ 0) ⊎ (role_at s g.value ≡ Rx)
-  pub at_load : (ns : Namespace) (o : Loaded) (slot value : ℕ) → IsIn s ns o → value_at_load s o.serial slot ≡ Some value → value < 2 ^ 64 → (value ≡ 0) ⊎ (role_at s value ≡ Rx)
+  pub granted : (g : Granting) → Contains s.grants g → ((saw : ℕ) → g.standing ≢ Lost saw) → IsMapped s g.owner → g.value < 2 ^ 64
+      → (g.value ≡ 0) ⊎ (role_at s g.value ≡ Rx)
+  pub at_load : (ns : Namespace) (o : Loaded) (slot value : ℕ) → IsIn s ns o → value_at_load s o.serial slot ≡ Some value → value < 2 ^ 64
+      → (value ≡ 0) ⊎ (role_at s value ≡ Rx)
   pub lazy : (ns : Namespace) (o : Loaded) (slot : ℕ) (r : Reloc) → IsIn s ns o → slice_get o.object.plt_relocs slot ≡ Some r → role_at s (lazy_word o r) ≡ Rx
 
 -- what a binding says that its relocation chose, the value that it gives its slot, and the object that it leads to
@@ -397,7 +413,8 @@ slot_address i r = guest_address i.base r.place
 
 -- the word that was put into a slot first: the value that it got when its object was loaded, or else the word that it holds until it is bound
 pub record SlotsBegin (s : State) : Type 0 where
-  pub at_load : (i : Linked) (slot value : ℕ) (r : Reloc) → Contains s.images i → slice_get i.object.plt_relocs slot ≡ Some r → value_at_load s i.serial slot ≡ Some value → value < 2 ^ 64
+  pub at_load : (i : Linked) (slot value : ℕ) (r : Reloc) → Contains s.images i → slice_get i.object.plt_relocs slot ≡ Some r
+      → value_at_load s i.serial slot ≡ Some value → value < 2 ^ 64
       → word_at s (slot_address i r) ≡ value
   pub lazy : (i : Linked) (slot : ℕ) (r : Reloc) → Contains s.images i → slice_get i.object.plt_relocs slot ≡ Some r → value_at_load s i.serial slot ≡ None
       → word_at s (slot_address i r) ≡ moved_word i.object i.base r.place
@@ -429,4 +446,5 @@ pub record ModulesAreFew (m : Machine) (s : State) : Type 0 where
 
 -- new modules take their numbers in load order, each the least that is free then
 abbrev pub TakesLeast : State → List Loaded → Type 0
-TakesLeast s added = (before behind : List Loaded) (o : Loaded) (place : TlsPlace) → added ≡ before ++ o ∷ behind → o.«module» ≡ Some place → IsLeastFree (with_modules before s.modules) place.number
+TakesLeast s added = (before behind : List Loaded) (o : Loaded) (place : TlsPlace) → added ≡ before ++ o ∷ behind → o.«module» ≡ Some place
+    → IsLeastFree (with_modules before s.modules) place.number

@@ -92,7 +92,8 @@ pub record HasStorage (s : State) (serial : ℕ) : Type 0 where
 
 -- a variable of thread-local storage that a look-up finds is defined by an object that has some
 abbrev pub SymbolsAreStored : State → Type 0
-SymbolsAreStored s = (ask : SymAsk) (serial index : ℕ) → search s ask ≡ Some (Some (serial, index)) → IsTrue (is_storage_symbol s serial index) → HasStorage s serial
+SymbolsAreStored s = (ask : SymAsk) (serial index : ℕ) → search s ask ≡ Some (Some (serial, index)) → IsTrue (is_storage_symbol s serial index)
+    → HasStorage s serial
 
 -- a late module of which the hart has no block yet
 pub record WantsBlock (s : State) (hart serial : ℕ) (seg : TlsSeg) : Type 0 where

@@ -70,7 +70,8 @@ segment_byte m seg block a =
 -- the hart's block of the module holds the address
 abbrev pub is_in_block : State → ℕ → ℕ → Module → Bool
 is_in_block s hart a m =
-    option_map_or (λ block. option_map_or (λ seg. nat_le block a && nat_lt a (block + seg.memsz)) (option_and_then (λ i. i.object.tls) (image_of s m.serial)) false)
+    option_map_or (λ block. option_map_or (λ seg. nat_le block a
+    && nat_lt a (block + seg.memsz)) (option_and_then (λ i. i.object.tls) (image_of s m.serial)) false)
     (tls_block s hart m.serial) false
 
 abbrev pub block_byte : State → ℕ → ℕ → Module → ℕ

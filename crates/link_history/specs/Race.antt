@@ -14,7 +14,8 @@ use Rattle.link_history.specs.Setting.{Setting}
 abbrev pub prog : Held
 prog = record {
   path = codes "prog";
-  object = object [] (code ∷ slots ∷ []) (undefined (codes "dlopen") ∷ undefined (codes "dlsym") ∷ defined (codes "h1") 0x1058 ∷ []) (slot 0x3010 1 ∷ slot 0x3018 2 ∷ []);
+  object = object [] (code ∷ slots ∷ []) (undefined (codes "dlopen") ∷ undefined (codes "dlsym") ∷ defined (codes "h1") 0x1058 ∷ [])
+      (slot 0x3010 1 ∷ slot 0x3018 2 ∷ []);
 }
 
 abbrev pub libo : Held

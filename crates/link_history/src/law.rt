@@ -19,10 +19,14 @@ ghost use Rattle.address_space.specs.Pages.{without};
 ghost use Rattle.link_history.specs.Areas.{Area, AreGiven, free_pages, released};
 ghost use Rattle.link_history.specs.Allowed.{Allowed, IsFirst};
 ghost use Rattle.link_history.specs.Changes.{ChangesMemory};
-ghost use Rattle.link_history.specs.Laws.{AreApart, AreasAreData, BlocksAreApart, BlocksArePlaced, ClosesSpare, EachDiesOnce, FinalisedOnce, FindsImage, GrantsAreHeld, GrantsAreTidy, HasAll, HoldersAreImages, ImagesAreBound, ImagesAreInstalled, ImagesAreMapped};
-ghost use Rattle.link_history.specs.Laws.{ImagesArePlaced, ImagesAreTied, InitialisedOnce, IsInitialising, LoadsEnterCode, LostSawTheValue, ModulesAreFew, ModulesAreTidy};
-ghost use Rattle.link_history.specs.Laws.{NoneIsLazy, NothingDangles, NothingLeftOut, OffsetsAreThere, OpeningsStand, RangesAreApart, RangesAreOwned, ScopesAreWhole};
-ghost use Rattle.link_history.specs.Laws.{SerialsAreInOrder, SlotsBegin, SlotsEnterCode, SlotsLeadToRx, StartupStays, StaticAreasHaveRoom, StaticsAreApart, TakesLeast, UninitialisedStay};
+ghost use Rattle.link_history.specs.Laws.{AreApart, AreasAreData, BlocksAreApart, BlocksArePlaced, ClosesSpare, EachDiesOnce, FinalisedOnce, FindsImage};
+ghost use Rattle.link_history.specs.Laws.{GrantsAreHeld, GrantsAreTidy, HasAll, HoldersAreImages, ImagesAreBound, ImagesAreInstalled, ImagesAreMapped};
+ghost use Rattle.link_history.specs.Laws.{ImagesArePlaced, ImagesAreTied, InitialisedOnce, IsInitialising, LoadsEnterCode, LostSawTheValue, ModulesAreFew};
+ghost use Rattle.link_history.specs.Laws.{ModulesAreTidy};
+ghost use Rattle.link_history.specs.Laws.{NoneIsLazy, NothingDangles, NothingLeftOut, OffsetsAreThere, OpeningsStand, RangesAreApart, RangesAreOwned};
+ghost use Rattle.link_history.specs.Laws.{ScopesAreWhole};
+ghost use Rattle.link_history.specs.Laws.{SerialsAreInOrder, SlotsBegin, SlotsEnterCode, SlotsLeadToRx, StartupStays, StaticAreasHaveRoom, StaticsAreApart};
+ghost use Rattle.link_history.specs.Laws.{TakesLeast, UninitialisedStay};
 ghost use Rattle.link_history.specs.Exits.{exits, initialised_by_another, setting, unmapped_unclosed};
 ghost use Rattle.link_history.specs.Legal.{Lawful, Legal, Whole};
 ghost use Rattle.link_history.specs.Lookup.{SymbolsAreStored};
@@ -43,7 +47,8 @@ pub fn legal_step_by_step()
     ensures lawful { (w : Setting) (events : List Event) → Legal w events → Lawful w.machine events }
     ensures push { (w : Setting) (events : List Event) (e : Event) → Legal w events → Allowed w events e → Legal w (events ++ e ∷ []) }
     ensures front { (w : Setting) (events : List Event) (k : ℕ) → Legal w events → Legal w (take k events) }
-    ensures lawful_push { (m : Machine) (w : Setting) (events : List Event) (e : Event) → w.machine ≡ m → Lawful m events → Allowed w events e → Lawful m (events ++ e ∷ []) }
+    ensures lawful_push { (m : Machine) (w : Setting) (events : List Event) (e : Event) → w.machine ≡ m → Lawful m events → Allowed w events e
+        → Lawful m (events ++ e ∷ []) }
     ensures lawful_front { (m : Machine) (events : List Event) (k : ℕ) → Lawful m events → Lawful m (take k events) }
 {}
 
@@ -94,7 +99,8 @@ pub fn objects_are_apart()
 pub fn serials_are_in_order()
     ensures order { (m : Machine) (events : List Event) → Lawful m events → SerialsAreInOrder (after events) }
     ensures new { (m : Machine) (w : Setting) (past : List Event) (hart id root : ℕ) (ask : OpenAsk) (added : List Loaded) (ranges : List Range) →
-        w.machine ≡ m → Lawful m past → Allowed w past (Open hart ask (Done id root added ranges)) → map serial_of added ≡ range_with_len (after past).next (length added) }
+        w.machine ≡ m → Lawful m past → Allowed w past (Open hart ask (Done id root added ranges))
+        → map serial_of added ≡ range_with_len (after past).next (length added) }
 {
     scope_rule::serials_follow();
     scope_rule::found_stands();
@@ -113,7 +119,8 @@ pub fn initialised_once()
 /// loaded it; so is an object that may be initialised next.
 pub fn uninitialised_stay()
     ensures stay { (m : Machine) (events : List Event) → Lawful m events → UninitialisedStay (after events) }
-    ensures next { (m : Machine) (w : Setting) (past : List Event) (hart object : ℕ) → Lawful m past → Allowed w past (Init hart object) → IsInitialising (after past) object hart }
+    ensures next { (m : Machine) (w : Setting) (past : List Event) (hart object : ℕ) → Lawful m past → Allowed w past (Init hart object)
+        → IsInitialising (after past) object hart }
 {
     scope_rule::serials_follow();
     scope_rule::found_stands();
@@ -259,7 +266,8 @@ pub fn offsets_are_there()
 /// table. The program alone was read as one. And each new object of an opening was read so.
 pub fn objects_are_read()
     ensures mapped { (m : Machine) (events : List Event) → Lawful m events → ObjectsAreRead m (after events) }
-    ensures new { (m : Machine) (w : Setting) (past : List Event) (hart id root : ℕ) (ask : OpenAsk) (added : List Loaded) (ranges : List Range) → w.machine ≡ m → Lawful m past →
+    ensures new { (m : Machine) (w : Setting) (past : List Event) (hart id root : ℕ) (ask : OpenAsk) (added : List Loaded) (ranges : List Range)
+        → w.machine ≡ m → Lawful m past →
         Allowed w past (Open hart ask (Done id root added ranges)) → (o : Loaded) → Contains added o → WasRead m o }
 {
     scope_rule::serials_follow();
@@ -329,7 +337,8 @@ pub fn holders_are_images()
 /// What was the next to be finalised of all mapped objects, at a moment after every hart had ended by exit,
 /// hart 0 may finalise at the end, while it is mapped and wasn't finalised.
 pub fn finals_follow()
-    ensures { (w : Setting) (before since : List Event) (o : ℕ) → IsTrue (have_exited w (after before)) → IsFirst (finis_of (after before) (map serial_of (mapped (after before)))) o →
+    ensures { (w : Setting) (before since : List Event) (o : ℕ) → IsTrue (have_exited w (after before))
+        → IsFirst (finis_of (after before) (map serial_of (mapped (after before)))) o →
         IsMapped (after (before ++ since)) o → has (after (before ++ since)).finis o ≡ false → Allowed w (before ++ since) (Fini 0 o) }
 {}
 
@@ -370,14 +379,16 @@ pub fn blocks_are_apart()
 /// before nor the new ones have.
 pub fn free_pages_follow()
     ensures one { (ranges : List Range) (r : Range) → without (free_pages ranges) r.address r.pages ≡ free_pages (ranges ++ r ∷ []) }
-    ensures all { (ranges new : List Range) (wanted : List Area) (left : List ℕ) → AreGiven (free_pages ranges) wanted new left → left ≡ free_pages (ranges ++ new) }
+    ensures all { (ranges new : List Range) (wanted : List Area) (left : List ℕ) → AreGiven (free_pages ranges) wanted new left
+        → left ≡ free_pages (ranges ++ new) }
 {}
 
 /// Where the pages of the ranges that go with an unmapping are given back, one range after another, the
 /// pages that are free are those that no other range has.
 pub fn released_are_free()
     ensures { (m : Machine) (events : List Event) → Lawful m events → (set : List ℕ) →
-        released (free_pages (after events).ranges) (filter (goes_with set) (after events).ranges) ≡ free_pages (filter (λ r. not (goes_with set r)) (after events).ranges) }
+        released (free_pages (after events).ranges) (filter (goes_with set) (after events).ranges)
+        ≡ free_pages (filter (λ r. not (goes_with set r)) (after events).ranges) }
 {}
 
 /// The pages of stacks, static areas and blocks are of no object, and not the linker's: memory has them for
@@ -444,7 +455,8 @@ pub fn slots_begin()
 /// An event changes memory in the ranges that it reserves or takes away alone. What it reserves had no
 /// role before, and what it takes away has none after.
 pub fn memory_changes()
-    ensures { (m : Machine) (w : Setting) (past : List Event) (e : Event) → w.machine ≡ m → AcceptsOnly m → Lawful m past → Allowed w past e → ChangesMemory (after past) e }
+    ensures { (m : Machine) (w : Setting) (past : List Event) (e : Event) → w.machine ≡ m → AcceptsOnly m → Lawful m past → Allowed w past e
+        → ChangesMemory (after past) e }
 {
     scope_rule::serials_follow();
     scope_rule::found_stands();
@@ -476,8 +488,10 @@ pub fn edges_follow()
 /// What is reached, and so what nothing needs, depends on the members of edges and roots alone: neither
 /// on their order nor on how often one stands there.
 pub fn members_decide()
-    ensures reached { (edges more : List Edge) (roots others : List ℕ) → HasAll more edges → HasAll others roots → (d : ℕ) → Reached edges roots d → Reached more others d }
-    ensures unneeded { (edges more : List Edge) (roots others nodes set : List ℕ) → HasAll more edges → HasAll edges more → HasAll others roots → HasAll roots others →
+    ensures reached { (edges more : List Edge) (roots others : List ℕ) → HasAll more edges → HasAll others roots → (d : ℕ) → Reached edges roots d
+        → Reached more others d }
+    ensures unneeded { (edges more : List Edge) (roots others nodes set : List ℕ) → HasAll more edges → HasAll edges more → HasAll others roots
+        → HasAll roots others →
         Unneeded edges roots nodes set → Unneeded more others nodes set }
 {}
 

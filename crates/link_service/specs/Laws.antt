@@ -158,7 +158,8 @@ OneOpening = (w : Setting) (past : List Event) (h : ℕ) (ask : OpenAsk) (files 
 
 -- where the files are told, a run whose program loads and whose harts are all found doesn't fail to start, but for reads that fail
 abbrev pub StartsOrFails : Type 0
-StartsOrFails = (w : Setting) (setup : Setup) (files : List File) (root : ℕ) (added : List Loaded) (ranges : List Range) (found failed : List Event) (addresses : List ℕ)
+StartsOrFails = (w : Setting) (setup : Setup) (files : List File) (root : ℕ) (added : List Loaded) (ranges : List Range)
+    (found failed : List Event) (addresses : List ℕ)
     (fault : DlFault) → w.files ≡ Some files → Allowed w [] (opening setup root added ranges)
     → FindHarts w (opening setup root added ranges ∷ []) 1 setup.harts found addresses → FailsToStart w setup fault failed → IsTrue (is_read_fault fault)
 
@@ -177,7 +178,8 @@ FailsOneWay = (w : Setting) (setup : Setup) (files : List File) (journal others 
 
 -- the names that a program needs before its own are nothing to the load of another object
 abbrev pub BringsWithPreload : Type 0
-BringsWithPreload = (load : Load) (names : List (List ℕ)) (walk : Walk) → load.program ≡ false → Brings load walk → Brings (record load { preload = names }) walk
+BringsWithPreload = (load : Load) (names : List (List ℕ)) (walk : Walk) → load.program ≡ false → Brings load walk
+    → Brings (record load { preload = names }) walk
 
 abbrev pub StopsWithPreload : Type 0
 StopsWithPreload = (load : Load) (names : List (List ℕ)) (why : Stop) → load.program ≡ false → Stops load why → Stops (record load { preload = names }) why

@@ -86,7 +86,8 @@ pub data Makes (s : State) : List Event → Installs → Type 0 where
 -- ---- what a call answers
 
 -- new objects are loaded: what memory gets, and their constructors
-pub record IsOpened (w : Setting) (past : List Event) (h : ℕ) (call : Call) (root : ℕ) (installs : Installs) (functions : List Function) (given : List Event) : Type 0 where
+pub record IsOpened (w : Setting) (past : List Event) (h : ℕ) (call : Call) (root : ℕ) (installs : Installs)
+    (functions : List Function) (given : List Event) : Type 0 where
   pub ask : OpenAsk
   pub id : ℕ
   pub added : List Loaded

@@ -1,5 +1,6 @@
 -- How a run starts: the program's opening, where harts start, and with which registers.
-use Rattle.std.specs.Prelude.{◌≡◌, ℕ, ◌+◌, ◌-◌, ◌*◌, Bool, false, ◌==◌, if◌then◌else◌, List, [], ◌∷◌, ◌++◌, length, map, find, Option, Some, None, Result, IsTrue}
+use Rattle.std.specs.Prelude.{◌≡◌, ℕ, ◌+◌, ◌-◌, ◌*◌, Bool, false, ◌==◌, if◌then◌else◌, List, [], ◌∷◌, ◌++◌, length, map, find, Option, Some, None, Result}
+use Rattle.std.specs.Prelude.{IsTrue}
 use Rattle.std.specs.Option.{option_map_or}
 use Rattle.ld_base.specs.declared.fault.DlFault.{DlFault}
 use Rattle.ld_base.specs.declared.fault.DlFault.TheVariants.{NotCode}
@@ -79,9 +80,11 @@ pub data FindHarts (w : Setting) : List Event → ℕ → List (List ℕ) → Li
 
 -- the first name at which no hart of this program can start: it isn't found, or not in executable words. No later name is looked up.
 pub data LacksHart (w : Setting) (program : List ℕ) : List Event → ℕ → List (List ℕ) → List Event → DlFault → Type 0 where
-  is_refused : (past : List Event) (h : ℕ) (name : List ℕ) (names : List (List ℕ)) (fault : DlFault) → Allowed w past (Sym h (hart_ask name) (symbols.Refused fault))
+  is_refused : (past : List Event) (h : ℕ) (name : List ℕ) (names : List (List ℕ)) (fault : DlFault)
+      → Allowed w past (Sym h (hart_ask name) (symbols.Refused fault))
       → LacksHart w program past h (name ∷ names) (Sym h (hart_ask name) (symbols.Refused fault) ∷ []) fault
-  is_not_code : (past : List Event) (h : ℕ) (name : List ℕ) (names : List (List ℕ)) (serial index value : ℕ) → Allowed w past (found_at h name serial index value)
+  is_not_code : (past : List Event) (h : ℕ) (name : List ℕ) (names : List (List ℕ)) (serial index value : ℕ)
+      → Allowed w past (found_at h name serial index value)
       → is_executable (after past) value ≡ false
       → LacksHart w program past h (name ∷ names) (found_at h name serial index value ∷ []) (NotCode program name)
   one_more : (past : List Event) (h : ℕ) (name : List ℕ) (names : List (List ℕ)) (serial index value : ℕ) (events : List Event) (fault : DlFault)
@@ -137,4 +140,5 @@ pub data FailsToStart (w : Setting) (setup : Setup) : DlFault → List Event →
   is_not_opened : (fault : DlFault) → Allowed w [] (Open 0 (program_ask setup) (openings.Refused fault))
       → FailsToStart w setup fault (Open 0 (program_ask setup) (openings.Refused fault) ∷ [])
   lacks_hart : (root : ℕ) (added : List Loaded) (ranges : List Range) (events : List Event) (fault : DlFault) → Allowed w [] (opening setup root added ranges)
-      → LacksHart w setup.program (opening setup root added ranges ∷ []) 1 setup.harts events fault → FailsToStart w setup fault (opening setup root added ranges ∷ events)
+      → LacksHart w setup.program (opening setup root added ranges ∷ []) 1 setup.harts events fault
+      → FailsToStart w setup fault (opening setup root added ranges ∷ events)

@@ -5,7 +5,8 @@ ghost use Rattle.link_service.specs.Laws.{AgainAppendsNothing, AskFirst, Callers
 ghost use Rattle.link_service.specs.Laws.{FinishesStay, NextFinishes, NextStarts, OneFinalisation, OneInitialisation, OneStart, OpeningBegins};
 ghost use Rattle.link_service.specs.Laws.{BringsWithPreload, FailsOneWay, StartsOneWay, StartsOrFails, StopsWithPreload};
 ghost use Rattle.link_service.specs.Laws.{PassedComeFirst, PassedOpens, RunsAFunction, StartsStay};
-ghost use Rattle.link_service.specs.Laws.{RefusalIsKept, RefusalIsTold, TextIsOfKept, RefusedKeeps, RefusedLeavesMemory, ServesLegal, StagesInOrder, SymbolsInOrder};
+ghost use Rattle.link_service.specs.Laws.{RefusalIsKept, RefusalIsTold, TextIsOfKept, RefusedKeeps, RefusedLeavesMemory, ServesLegal, StagesInOrder};
+ghost use Rattle.link_service.specs.Laws.{SymbolsInOrder};
 ghost use Rattle.link_service.specs.Laws.{CallersAreHolders, EventsAreOwn, FailsLegal, FewEvents, HartsHaveEntries, OthersAreBase, ServedLegal, StartsLegal};
 
 /// A history that is legal before a call is legal with what the call gives, and with the end of the

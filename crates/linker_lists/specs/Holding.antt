@@ -68,7 +68,8 @@ pub record Maps (laid : List Range) (numbered : List Module) (statics : Statics)
   pub parts : read.parts ≡ map part_of images
 
 -- what keeps objects mapped, with room for an edge of each grant that is still to be settled; and what waits to be unmapped
-pub record Keeps (held : List Edge) (grants : List Granting) (serials : List ℕ) (laid : List Range) (waiting : List Closing) (edges : EdgesWithRoom) (pending : PendingList) : Type 0 where
+pub record Keeps (held : List Edge) (grants : List Granting) (serials : List ℕ) (laid : List Range)
+    (waiting : List Closing) (edges : EdgesWithRoom) (pending : PendingList) : Type 0 where
   pub every : HasAll edges.edges held
   pub only : HasAll held edges.edges
   pub room : length (filter is_open grants) ≤ edges.room

@@ -86,7 +86,8 @@ EndsWith load w faults.Memory = Unit {0}
 -- what comes next of a load: its next name finds a serial, or a path has to be read, or no name is left, or the next name
 -- ends the load
 abbrev pub Looks : LoadAsk → List Loaded → Walker → Result Next LoadFault → Type 0
-Looks ask there w (Ok (next.Found serial)) = (reading : List ℕ → Reading) → Agrees reading w → step (load_of ask there reading) (walk_of w) ≡ Ok (with_found (walk_of w) serial)
+Looks ask there w (Ok (next.Found serial)) = (reading : List ℕ → Reading) → Agrees reading w
+    → step (load_of ask there reading) (walk_of w) ≡ Ok (with_found (walk_of w) serial)
 Looks ask there w (Ok (next.Read path)) = IsToRead ask there w path
 Looks ask there w (Ok next.Done) = length w.names ≤ length w.found
 Looks ask there w (Err fault) = (reading : List ℕ → Reading) → Agrees reading w → EndsWith (load_of ask there reading) (walk_of w) fault

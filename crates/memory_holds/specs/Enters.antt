@@ -24,6 +24,7 @@ pub record SlotStays (s t : State) (old new : Memory) (a : ℕ) : Type 0 where
 
 -- each slot of each mapped object holds its first word or the value of the one grant that took it, and leads to code or to 0
 pub record SlotTrue (s : State) (won : List ℕ) (memory : Memory) : Type 0 where
-  pub holds : (i : Linked) (slot : ℕ) (r : Reloc) → Contains s.images i → slice_get i.object.plt_relocs slot ≡ Some r → SlotHolds s won (slot_address i r) (memory.value (slot_address i r))
+  pub holds : (i : Linked) (slot : ℕ) (r : Reloc) → Contains s.images i → slice_get i.object.plt_relocs slot ≡ Some r
+      → SlotHolds s won (slot_address i r) (memory.value (slot_address i r))
   pub enters : (i : Linked) (slot : ℕ) (r : Reloc) → Contains s.images i → slice_get i.object.plt_relocs slot ≡ Some r → LoadFits s i.serial slot
       → memory.value (slot_address i r) < 2 ^ 64 → Enters memory (memory.value (slot_address i r))

@@ -45,7 +45,8 @@ pub record TookAt (s : State) (won : List ℕ) (a : ℕ) (g : Granting) : Type 0
 -- what a slot holds: its first word, while no grant took it; else the value of the one that did, the slot's first word having been the lazy one
 pub data SlotHolds (s : State) (won : List ℕ) (a value : ℕ) : Type 0 where
   first : value ≡ word_at s a → ((g : Granting) → ¬ (TookAt s won a g)) → SlotHolds s won a value
-  exchanged : (g : Granting) → TookAt s won a g → value ≡ g.value → word_at s a ≡ lazy_at s a → ((h : Granting) → TookAt s won a h → h.number ≡ g.number) → SlotHolds s won a value
+  exchanged : (g : Granting) → TookAt s won a g → value ≡ g.value → word_at s a ≡ lazy_at s a → ((h : Granting) → TookAt s won a h → h.number ≡ g.number)
+      → SlotHolds s won a value
 
 pub record HoldsAt (s : State) (won : List ℕ) (memory : Memory) (a : ℕ) : Type 0 where
   pub role : memory.role a ≡ role_at s a

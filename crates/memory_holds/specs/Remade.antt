@@ -26,7 +26,8 @@ pub record Begins (memory : Memory) : Type 0 where
 -- what is reserved gets the roles and the words of the state after it, what is taken away loses its role, and all else stays
 pub record Remade (s : State) (e : Event) (old new : Memory) : Type 0 where
   pub kept : (a : ℕ) → IsDoubleword a → IsUntouched s e a → (new.value a ≡ old.value a) × (new.role a ≡ old.role a)
-  pub given : (r : Range) (a : ℕ) → IsDoubleword a → Contains (reserved s e) r → IsTrue (covers a r) → (new.value a ≡ word_at (step s e) a) × (new.role a ≡ role_at (step s e) a)
+  pub given : (r : Range) (a : ℕ) → IsDoubleword a → Contains (reserved s e) r → IsTrue (covers a r)
+      → (new.value a ≡ word_at (step s e) a) × (new.role a ≡ role_at (step s e) a)
   pub gone : (r : Range) (a : ℕ) → IsDoubleword a → Contains (taken s e) r → IsTrue (covers a r) → new.role a ≡ NoRole
 
 -- the grants that have won and aren't settled, after an event

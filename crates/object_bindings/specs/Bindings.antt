@@ -96,4 +96,5 @@ pub record AreMade (ns : Seen) (now : Bool) (places : List ModulePlace) (objects
 pub record CanRead (objects : List Loaded) (images : List Image) : Type 0 where
   pub count : length images ≡ length objects
   pub accepted : (k : ℕ) (o : Loaded) → slice_get objects k ≡ Some o → Accepted o.object
-  pub whole : (k : ℕ) (o : Loaded) (image : Image) → slice_get objects k ≡ Some o → slice_get images k ≡ Some image → length image.words ≡ 512 * pages_of o.object
+  pub whole : (k : ℕ) (o : Loaded) (image : Image) → slice_get objects k ≡ Some o → slice_get images k ≡ Some image
+      → length image.words ≡ 512 * pages_of o.object

@@ -34,7 +34,8 @@ pub fn bindings_of(
 ) -> Result<Bindings, AllocError>
     requires choices { choices.now ≡ choices_of (seen view.now) now owner.now }
     requires made { AreMade (seen view.now) now made.now.places.now made.now.objects.now made.now.images.now }
-    ensures { IfOk result (λ bindings. bindings ≡ bindings_in (copies_from (seen view.now) now made.now.places.now made.now.objects.now) (seen view.now) now owner.now) }
+    ensures { IfOk result (λ bindings. bindings
+        ≡ bindings_in (copies_from (seen view.now) now made.now.places.now made.now.objects.now) (seen view.now) now owner.now) }
 {
     let mut bindings = Bindings::new(alloc);
     push_relas(alloc, view, made, owner, choices, &mut bindings)?;
@@ -64,7 +65,8 @@ fn push_relas(
     bindings: &mut Bindings,
 ) -> Result<(), AllocError>
     requires count { length owner.now.object.relocs ≤ length choices.now }
-    requires choices { (k : ℕ) (r : Relocation) → slice_get owner.now.object.relocs k ≡ Some r → slice_get choices.now k ≡ Some (choice_at (seen view.now) owner.now r) }
+    requires choices { (k : ℕ) (r : Relocation) → slice_get owner.now.object.relocs k ≡ Some r
+        → slice_get choices.now k ≡ Some (choice_at (seen view.now) owner.now r) }
     requires read { CanRead made.now.objects.now made.now.images.now }
     ensures { OnOk result ((now : Bool) → AreMade (seen view.now) now made.now.places.now made.now.objects.now made.now.images.now → bindings.new ≡ bindings.old
         ++ map (rela_binding (copies_from (seen view.now) now made.now.places.now made.now.objects.now) (seen view.now) owner.now) owner.now.object.relocs) }
@@ -121,7 +123,8 @@ fn rela_binding(
 ) -> Result<Binding, AllocError>
     requires { CanRead made.now.objects.now made.now.images.now }
     ensures { IfOk result (λ binding. (now : Bool) → AreMade (seen view.now) now made.now.places.now made.now.objects.now made.now.images.now
-        → binding ≡ copied_by (copies_from (seen view.now) now made.now.places.now made.now.objects.now) owner.now reloc.now (binding_in (seen view.now) reloc.now choice.now)) }
+        → binding ≡ copied_by (copies_from (seen view.now) now made.now.places.now made.now.objects.now) owner.now reloc.now
+        (binding_in (seen view.now) reloc.now choice.now)) }
 {
     let copied = copied_for(alloc, view, made, owner, reloc, choice)?;
     Ok(binding_of(view, reloc, choice, copied))

@@ -109,7 +109,8 @@ impl ConstructorRooms {
     /// Want of memory.
     pub fn new(alloc: Global, added: &[Loaded]) -> Result<Self, AllocError>
         requires { AreInRow added.now }
-        ensures order { IfOk result (λ rooms. InitOrder (flat_map found_edges added.now) (program_last (Some 1) (map serial_of added.now)) (map room_object rooms)) }
+        ensures order { IfOk result (λ rooms. InitOrder (flat_map found_edges added.now) (program_last (Some 1) (map serial_of added.now))
+            (map room_object rooms)) }
         ensures enough { IfOk result (AreRooms added.now) }
     {
         let order = constructor_order(alloc, added)?;

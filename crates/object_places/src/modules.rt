@@ -39,9 +39,11 @@ pub(crate) fn give_modules(
 fn give_module(modules: &mut TlsModules, late: bool, object: &mut Loaded) -> Result<(), AllocError>
     requires { HasFewBytes object.old }
     ensures same { unplaced object.new ≡ unplaced object.old }
-    ensures place { OnOk result (IsPlaceOf (not late) modules.old.modules (statics_of modules.old) object.new.serial object.new.object.tls object.new.«module») }
+    ensures place { OnOk result (IsPlaceOf (not late) modules.old.modules (statics_of modules.old)
+        object.new.serial object.new.object.tls object.new.«module») }
     ensures modules { OnOk result (modules.new.modules ≡ with_place object.new modules.old.modules) }
-    ensures statics { OnOk result (late ≡ false → statics_of modules.new ≡ statics_with_one (statics_of modules.old) object.new.serial object.new.object.tls object.new.«module») }
+    ensures statics { OnOk result (late ≡ false
+        → statics_of modules.new ≡ statics_with_one (statics_of modules.old) object.new.serial object.new.object.tls object.new.«module») }
 {
     object.module = module_for(modules, late, object.serial, object.object.tls)?;
     Ok(())

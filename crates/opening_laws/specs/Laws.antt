@@ -38,11 +38,13 @@ abbrev pub NewObjectsArePlaced : Type 0
 NewObjectsArePlaced = OfOpenings (λ s hart ask id root added ranges. (o : Loaded) → Contains added o → CanBePlaced o)
 
 abbrev pub LibrariesHaveNoCopies : Type 0
-LibrariesHaveNoCopies = OfOpenings (λ s hart ask id root added ranges. (o : Loaded) → Contains (drop 1 added) o → (r : Reloc) → Contains o.object.relocs r → is_copy r ≡ false)
+LibrariesHaveNoCopies = OfOpenings (λ s hart ask id root added ranges. (o : Loaded) → Contains (drop 1 added) o → (r : Reloc) → Contains o.object.relocs r
+    → is_copy r ≡ false)
 
 abbrev pub NewBindingsAreSeen : Type 0
 NewBindingsAreSeen = OfOpenings (λ s hart ask id root added ranges. (o : Loaded) → Contains added o
-    → (uncopied (loaded s hart ask id root added ranges) (seen_after s ask id root added) (binds s ask) o).bindings ≡ bindings_in none_copied (seen_after s ask id root added) (binds s ask) o)
+    → (uncopied (loaded s hart ask id root added ranges) (seen_after s ask id root added) (binds s ask) o).bindings
+    ≡ bindings_in none_copied (seen_after s ask id root added) (binds s ask) o)
 
 -- the image that the history's state has of a new object
 abbrev pub image_made : State → ℕ → OpenAsk → ℕ → ℕ → List Loaded → List Range → Loaded → Linked
@@ -68,7 +70,8 @@ ImagesRelocate = OfOpenings (λ s hart ask id root added ranges. (o : Loaded) �
 
 -- an object without copies is bound as is seen in its namespace, wherever copies would take their bytes
 abbrev pub UncopiedAreSeen : Type 0
-UncopiedAreSeen = OfOpenings (λ s hart ask id root added ranges. (o : Loaded) → Contains added o → ((r : Reloc) → Contains o.object.relocs r → is_copy r ≡ false) → (bytes : Copies)
+UncopiedAreSeen = OfOpenings (λ s hart ask id root added ranges. (o : Loaded) → Contains added o
+    → ((r : Reloc) → Contains o.object.relocs r → is_copy r ≡ false) → (bytes : Copies)
     → (image_made s hart ask id root added ranges o).bindings ≡ bindings_in bytes (seen_after s ask id root added) (binds s ask) o)
 
 -- where the modules of the state with the new objects are
@@ -79,11 +82,13 @@ places_after s hart ask id root added ranges = map place_of (loaded s hart ask i
 abbrev pub CopiesAreSeen : Type 0
 CopiesAreSeen = OfOpenings (λ s hart ask id root added ranges. (o : Loaded) → Contains added o
     → (image_made s hart ask id root added ranges o).bindings
-    ≡ bindings_in (copies_among (seen_after s ask id root added) (binds s ask) (places_after s hart ask id root added ranges) added) (seen_after s ask id root added) (binds s ask) o)
+    ≡ bindings_in (copies_among (seen_after s ask id root added) (binds s ask)
+        (places_after s hart ask id root added ranges) added) (seen_after s ask id root added) (binds s ask) o)
 
 -- what relocating the new objects asks for
 abbrev pub OpeningsRelocate : Type 0
-OpeningsRelocate = OfOpenings (λ s hart ask id root added ranges. MayRelocateAll (seen_after s ask id root added) (binds s ask) (places_after s hart ask id root added ranges) added)
+OpeningsRelocate = OfOpenings (λ s hart ask id root added ranges. MayRelocateAll (seen_after s ask id root added) (binds s ask)
+        (places_after s hart ask id root added ranges) added)
 
 -- their images, relocated by what is seen, are what memory gets of them
 abbrev pub RelocatedAreInstalls : Type 0
@@ -95,4 +100,5 @@ RelocatedAreInstalls = OfOpenings (λ s hart ask id root added ranges. (images :
 abbrev pub RelocatedAreOfRecords : Type 0
 RelocatedAreOfRecords = OfOpenings (λ s hart ask id root added ranges. (images : List Image)
     → AreRelocated (seen_after s ask id root added) (binds s ask) (places_after s hart ask id root added ranges) added images
-    → (k : ℕ) (o : Loaded) (image : Image) → slice_get added k ≡ Some o → slice_get images k ≡ Some image → IsImageOf (image_made s hart ask id root added ranges o) o.object o.base image)
+    → (k : ℕ) (o : Loaded) (image : Image) → slice_get added k ≡ Some o → slice_get images k ≡ Some image
+    → IsImageOf (image_made s hart ask id root added ranges o) o.object o.base image)

@@ -41,4 +41,5 @@ pub record AreBindings (o : Object) (bindings : List Binding) : Type 0 where
 
 -- a copy has at most as many bytes as its symbol
 abbrev pub AreCopied : Object → List Binding → Type 0
-AreCopied o bindings = (k : ℕ) (r : Reloc) (b : Binding) → slice_get (relas_of o bindings) k ≡ Some (r, b) → IsTrue (is_copy r) → length b.copied ≤ symbol_size o r
+AreCopied o bindings = (k : ℕ) (r : Reloc) (b : Binding) → slice_get (relas_of o bindings) k ≡ Some (r, b) → IsTrue (is_copy r)
+    → length b.copied ≤ symbol_size o r

@@ -1,6 +1,7 @@
 -- The bytes of an object once it is relocated (psABI, "Relocations"; gABI, "Relative Relocation Table" and "Procedure Linkage Table").
 -- Addresses are the object's own. Sums wrap at 64 bits.
-use Rattle.std.specs.Prelude.{ℕ, ◌+◌, ◌-◌, ◌*◌, ◌/◌, ◌%◌, ◌^◌, Bool, ◌&&◌, ◌||◌, ◌==◌, false, nat_le, nat_lt, List, length, slice_index, Option, Some, None, find, unwrap_or, if◌then◌else◌}
+use Rattle.std.specs.Prelude.{ℕ, ◌+◌, ◌-◌, ◌*◌, ◌/◌, ◌%◌, ◌^◌, Bool, ◌&&◌, ◌||◌, ◌==◌, false, nat_le, nat_lt, List, length, slice_index, Option, Some, None}
+use Rattle.std.specs.Prelude.{find, unwrap_or, if◌then◌else◌}
 use Rattle.std.specs.Int.{w64, cast_unsigned}
 use Rattle.std.specs.List.{list_any}
 use Rattle.std.specs.Option.{option_map, option_map_or}

@@ -3,7 +3,8 @@
 use Rattle.std.specs.Prelude.{ℕ, ◌+◌, ◌-◌, ◌*◌, ◌/◌, ◌%◌, ◌^◌, ℤ, negsuc, bit_and, bit_or, bit_xor, int_lt, int_div, int_rem, nat_lt, ◌==◌, if◌then◌else◌}
 use Rattle.std.specs.Int.{Width, w32, w64, w128, cast_signed, cast_unsigned, from_bool, int_shr}
 use Rattle.rv_isa.specs.declared.operation.RegOp.{RegOp}
-use Rattle.rv_isa.specs.declared.operation.RegOp.TheVariants.{Add, Sll, Slt, Sltu, Xor, Srl, Or, And, Sub, Sra, Mul, Mulh, Mulhsu, Mulhu, Div, Divu, Rem, Remu, Addw, Sllw, Srlw, Subw, Sraw, Mulw, Divw, Divuw, Remw, Remuw}
+use Rattle.rv_isa.specs.declared.operation.RegOp.TheVariants.{Add, Sll, Slt, Sltu, Xor, Srl, Or, And, Sub, Sra, Mul, Mulh, Mulhsu, Mulhu, Div, Divu, Rem}
+use Rattle.rv_isa.specs.declared.operation.RegOp.TheVariants.{Remu, Addw, Sllw, Srlw, Subw, Sraw, Mulw, Divw, Divuw, Remw, Remuw}
 use Rattle.rv_isa.specs.declared.operation.AmoOp.{AmoOp}
 use Rattle.rv_isa.specs.declared.operation.AmoOp.TheVariants.{Add as AmoAdd, Swap, Xor as AmoXor, Or as AmoOr, And as AmoAnd, Min, Max, Minu, Maxu}
 use Rattle.rv_isa.specs.declared.operation.ImmOp.{ImmOp}

@@ -1,5 +1,6 @@
 -- A doubleword of memory, its lanes, and what each call of a bus does to it.
-use Rattle.std.specs.Prelude.{◌≡◌, ℕ, ◌+◌, ◌-◌, ◌*◌, ◌/◌, ◌%◌, ◌^◌, List, [], ◌∷◌, Bool, true, Option, Some, None, Result, Ok, Err, slice_index_or, slice_set, nat_lt, ◌==◌, if◌then◌else◌}
+use Rattle.std.specs.Prelude.{◌≡◌, ℕ, ◌+◌, ◌-◌, ◌*◌, ◌/◌, ◌%◌, ◌^◌, List, [], ◌∷◌, Bool, true, Option, Some, None, Result, Ok, Err, slice_index_or, slice_set}
+use Rattle.std.specs.Prelude.{nat_lt, ◌==◌, if◌then◌else◌}
 use Rattle.ld_base.specs.declared.linking.Role.{Role}
 use Rattle.ld_base.specs.declared.linking.Role.TheVariants.{None as NoRole}
 use Rattle.rv_isa.specs.Word.{bits, joined}
@@ -60,10 +61,15 @@ if_stored _ changed word = word
 abbrev pub DoesAt : Doubleword → Item → Doubleword → Type 0
 DoesAt word (Fetch address answer) word' = (answer ≡ checked may_fetch address 4 word.role (lane word.value address 4)) × (word' ≡ word)
 DoesAt word (Read address size answer) word' = (answer ≡ checked may_read address size word.role (lane word.value address size)) × (word' ≡ word)
-DoesAt word (Write address size value answer) word' = (answer ≡ checked may_write address size word.role tt) × (word' ≡ if_ok answer (stored word address size value) word)
-DoesAt word (Amo address size op value answer) word' = (answer ≡ checked may_write address size word.role (lane word.value address size)) × (word' ≡ if_ok answer (stored word address size (combined op size (lane word.value address size) value)) word)
-DoesAt word (Reserve address size answer) word' = (answer ≡ checked may_read address size word.role (lane word.value address size, word.version)) × (word' ≡ word)
-DoesAt word (Conditional address size value version answer) word' = (answer ≡ checked may_write address size word.role (word.version == version)) × (word' ≡ if_stored answer (stored word address size value) word)
+DoesAt word (Write address size value answer) word' =
+    (answer ≡ checked may_write address size word.role tt) × (word' ≡ if_ok answer (stored word address size value) word)
+DoesAt word (Amo address size op value answer) word' =
+    (answer ≡ checked may_write address size word.role (lane word.value address size))
+    × (word' ≡ if_ok answer (stored word address size (combined op size (lane word.value address size) value)) word)
+DoesAt word (Reserve address size answer) word' =
+    (answer ≡ checked may_read address size word.role (lane word.value address size, word.version)) × (word' ≡ word)
+DoesAt word (Conditional address size value version answer) word' =
+    (answer ≡ checked may_write address size word.role (word.version == version)) × (word' ≡ if_stored answer (stored word address size value) word)
 
 -- a doubleword that isn't there
 abbrev pub nowhere : Doubleword

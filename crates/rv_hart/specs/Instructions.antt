@@ -1,6 +1,7 @@
 -- What each instruction does to a hart, and the access that it makes (Unprivileged ISA 20191213,
 -- chapters 2, 5, 7 and 8).
-use Rattle.std.specs.Prelude.{◌≡◌, ℕ, ◌+◌, ◌*◌, ◌/◌, ◌%◌, ◌^◌, ◌<◌, Bool, true, false, not, ◌&&◌, Option, Some, None, ℤ, slice_index, int_lt, nat_lt, ◌==◌, if◌then◌else◌, IfSome}
+use Rattle.std.specs.Prelude.{◌≡◌, ℕ, ◌+◌, ◌*◌, ◌/◌, ◌%◌, ◌^◌, ◌<◌, Bool, true, false, not, ◌&&◌, Option, Some, None, ℤ, slice_index, int_lt, nat_lt, ◌==◌}
+use Rattle.std.specs.Prelude.{if◌then◌else◌, IfSome}
 use Rattle.std.specs.Int.{w8, w16, w32, w64, cast_signed, cast_unsigned}
 use Rattle.rv_isa.specs.declared.operation.BranchOp.{BranchOp}
 use Rattle.rv_isa.specs.declared.operation.BranchOp.TheVariants.{Beq, Bne, Blt, Bge, Bltu, Bgeu}
@@ -9,7 +10,8 @@ use Rattle.rv_isa.specs.declared.operation.LoadOp.TheVariants.{Lb, Lh, Lw, Ld, L
 use Rattle.rv_isa.specs.declared.operation.StoreOp.{StoreOp}
 use Rattle.rv_isa.specs.declared.operation.StoreOp.TheVariants.{Sb, Sh, Sw, Sd}
 use Rattle.rv_isa.specs.declared.instr.Instr.{Instr}
-use Rattle.rv_isa.specs.declared.instr.Instr.TheVariants.{Lui, Auipc, Jal, Jalr, Branch, Load, Store, Imm, Op, Amo as AmoInstr, Lr, Sc, Fence, Ecall as EcallInstr, Ebreak}
+use Rattle.rv_isa.specs.declared.instr.Instr.TheVariants.{Lui, Auipc, Jal, Jalr, Branch, Load, Store, Imm, Op, Amo as AmoInstr, Lr, Sc, Fence}
+use Rattle.rv_isa.specs.declared.instr.Instr.TheVariants.{Ecall as EcallInstr, Ebreak}
 use Rattle.rv_isa.specs.Encoding.{IsInstr, IsAtomicSize}
 use Rattle.rv_hart.specs.declared.hart.Held.{Held}
 use Rattle.rv_hart.specs.declared.action.Access.{Access}
@@ -123,7 +125,8 @@ found_in r rd extended (Value value) = result_in r rd (extended value)
 found_in r rd extended _ = r
 
 abbrev pub reserved : Registers → ℕ → ℕ → ℕ → Answer → Registers
-reserved r rd address size (HeldAnswer value version) = record { pc = next r.pc; x = written r.x rd (atomic_loaded size value); held = Some (record { address = address; size = size; version = version }) }
+reserved r rd address size (HeldAnswer value version) =
+    record { pc = next r.pc; x = written r.x rd (atomic_loaded size value); held = Some (record { address = address; size = size; version = version }) }
 reserved r rd address size _ = r
 
 -- an SC ends the reservation, whether it stored or not
@@ -131,7 +134,11 @@ abbrev pub released : Registers → ℕ → Answer → Registers
 released r rd answer = record { pc = next r.pc; x = written r.x rd (sc_code answer); held = None }
 
 abbrev pub branched : Registers → BranchOp → ℕ → ℕ → ℤ → Registers
-branched r op rs1 rs2 offset = record { pc = if is_taken op (slice_index r.x rs1) (slice_index r.x rs2) then offset_by r.pc offset else next r.pc; x = r.x; held = r.held }
+branched r op rs1 rs2 offset = record {
+  pc = if is_taken op (slice_index r.x rs1) (slice_index r.x rs2) then offset_by r.pc offset else next r.pc;
+  x = r.x;
+  held = r.held;
+}
 
 abbrev pub after : Registers → Instr → Answer → Registers
 after r (Lui rd number) answer = result_in r rd (cast_unsigned w64 number)

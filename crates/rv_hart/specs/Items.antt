@@ -22,7 +22,8 @@ left_by has_word (Read address size answer) = if is_shown has_word address size 
 left_by has_word (Write address size value answer) = if is_shown has_word address size answer then [] else Write address size value answer ∷ []
 left_by has_word (Amo address size op value answer) = if is_shown has_word address size answer then [] else Amo address size op value answer ∷ []
 left_by has_word (Reserve address size answer) = if is_shown has_word address size answer then [] else Reserve address size answer ∷ []
-left_by has_word (Conditional address size value version answer) = if is_shown has_word address size answer then [] else Conditional address size value version answer ∷ []
+left_by has_word (Conditional address size value version answer) =
+    if is_shown has_word address size answer then [] else Conditional address size value version answer ∷ []
 
 abbrev pub items_left : (ℕ → Bool) → List Item → List Item
 items_left has_word calls = flat_map (left_by has_word) calls

@@ -27,4 +27,5 @@ SilentSteps = (has_word : ℕ → Bool) (r : Registers) (end : Place) → StepLe
 
 -- division by zero, and the one signed division that overflows (Unprivileged ISA 20191213, "Division Operations")
 abbrev pub DivisionEdges : Type 0
-DivisionEdges = (a : ℕ) → (unsigned_quotient w64 a 0 ≡ 2 ^ 64 - 1) × (unsigned_remainder a 0 ≡ a) × (quotient w64 a 0 ≡ all_ones w64) × (remainder w64 a 0 ≡ a) × (quotient w64 (2 ^ 63) (all_ones w64) ≡ 2 ^ 63) × (remainder w64 (2 ^ 63) (all_ones w64) ≡ 0)
+DivisionEdges = (a : ℕ) → (unsigned_quotient w64 a 0 ≡ 2 ^ 64 - 1) × (unsigned_remainder a 0 ≡ a) × (quotient w64 a 0 ≡ all_ones w64)
+    × (remainder w64 a 0 ≡ a) × (quotient w64 (2 ^ 63) (all_ones w64) ≡ 2 ^ 63) × (remainder w64 (2 ^ 63) (all_ones w64) ≡ 0)

@@ -10,7 +10,8 @@ use Rattle.rv_hart.specs.declared.action.Answer.TheVariants.{Nothing as NoAnswer
 use Rattle.rv_hart.specs.declared.bus.BusFault.{BusFault}
 use Rattle.rv_hart.specs.declared.bus.BusFault.TheVariants.{Again}
 use Rattle.rv_hart.specs.declared.bus.Item.{Item}
-use Rattle.rv_hart.specs.declared.bus.Item.TheVariants.{Fetch, Read as ReadItem, Write as WriteItem, Amo as AmoItem, Reserve as ReserveItem, Conditional as ConditionalItem}
+use Rattle.rv_hart.specs.declared.bus.Item.TheVariants.{Fetch, Read as ReadItem, Write as WriteItem, Amo as AmoItem, Reserve as ReserveItem}
+use Rattle.rv_hart.specs.declared.bus.Item.TheVariants.{Conditional as ConditionalItem}
 use Rattle.rv_hart.specs.declared.stepping.Stop.{Stop}
 use Rattle.rv_hart.specs.declared.stepping.Stop.TheVariants.{Ecall as EcallStop, Break as BreakStop, Bad as BadStop, Misaligned as MisalignedStop, Refused}
 use Rattle.rv_hart.specs.Buses.{HasValue}
@@ -51,10 +52,14 @@ concluded r decoded address kind (Err fault) = Stopped r (Refused address fault)
 -- the second call of an instruction: the access that it asks for
 abbrev pub Ends : Registers → Option Instr → Item → Place → Type 0
 Ends r decoded (ReadItem address size answer) end = (access_for r decoded ≡ Read address size) × (end ≡ concluded r decoded address Value answer)
-Ends r decoded (WriteItem address size value answer) end = (access_for r decoded ≡ Write address size value) × (end ≡ concluded r decoded address (λ _. NoAnswer) answer)
-Ends r decoded (AmoItem address size op value answer) end = (access_for r decoded ≡ Amo address size op value) × (end ≡ concluded r decoded address Value answer)
-Ends r decoded (ReserveItem address size answer) end = (access_for r decoded ≡ Reserve address size) × (end ≡ concluded r decoded address (λ found. Held found.0 found.1) answer)
-Ends r decoded (ConditionalItem address size value version answer) end = (access_for r decoded ≡ Conditional address size value version) × (end ≡ concluded r decoded address Stored answer)
+Ends r decoded (WriteItem address size value answer) end =
+    (access_for r decoded ≡ Write address size value) × (end ≡ concluded r decoded address (λ _. NoAnswer) answer)
+Ends r decoded (AmoItem address size op value answer) end =
+    (access_for r decoded ≡ Amo address size op value) × (end ≡ concluded r decoded address Value answer)
+Ends r decoded (ReserveItem address size answer) end =
+    (access_for r decoded ≡ Reserve address size) × (end ≡ concluded r decoded address (λ found. Held found.0 found.1) answer)
+Ends r decoded (ConditionalItem address size value version answer) end =
+    (access_for r decoded ≡ Conditional address size value version) × (end ≡ concluded r decoded address Stored answer)
 Ends r decoded (Fetch address answer) end = ⊥
 
 -- a hart that was told to try again begins the instruction anew; no other that is stopped goes on
@@ -103,11 +108,17 @@ answered address kind (Err fault) = Err (Refused address fault)
 -- an access was made by the one call that it asks for, or by none, and gave this
 abbrev pub Performs : {B : Type 0} → (B → Item → B → Type 0) → B → B → ℕ → Access → Result Answer Stop → Type 0
 Performs does bus bus' word Nothing result = (bus' ≡ bus) × (result ≡ Ok NoAnswer)
-Performs does bus bus' word (Read address size) result = (answer : Result ℕ BusFault) × HasValue size answer × does bus (ReadItem address size answer) bus' × (result ≡ answered address Value answer)
-Performs does bus bus' word (Write address size value) result = (answer : Result Unit BusFault) × does bus (WriteItem address size value answer) bus' × (result ≡ answered address (λ _. NoAnswer) answer)
-Performs does bus bus' word (Amo address size op value) result = (answer : Result ℕ BusFault) × HasValue size answer × does bus (AmoItem address size op value answer) bus' × (result ≡ answered address Value answer)
-Performs does bus bus' word (Reserve address size) result = (answer : Result (ℕ × ℕ) BusFault) × IfOk answer (λ found. found.0 < 2 ^ (8 * size)) × does bus (ReserveItem address size answer) bus' × (result ≡ answered address (λ found. Held found.0 found.1) answer)
-Performs does bus bus' word (Conditional address size value version) result = (answer : Result Bool BusFault) × does bus (ConditionalItem address size value version answer) bus' × (result ≡ answered address Stored answer)
+Performs does bus bus' word (Read address size) result =
+    (answer : Result ℕ BusFault) × HasValue size answer × does bus (ReadItem address size answer) bus' × (result ≡ answered address Value answer)
+Performs does bus bus' word (Write address size value) result =
+    (answer : Result Unit BusFault) × does bus (WriteItem address size value answer) bus' × (result ≡ answered address (λ _. NoAnswer) answer)
+Performs does bus bus' word (Amo address size op value) result =
+    (answer : Result ℕ BusFault) × HasValue size answer × does bus (AmoItem address size op value answer) bus' × (result ≡ answered address Value answer)
+Performs does bus bus' word (Reserve address size) result =
+    (answer : Result (ℕ × ℕ) BusFault) × IfOk answer (λ found. found.0 < 2 ^ (8 * size)) × does bus (ReserveItem address size answer) bus'
+    × (result ≡ answered address (λ found. Held found.0 found.1) answer)
+Performs does bus bus' word (Conditional address size value version) result =
+    (answer : Result Bool BusFault) × does bus (ConditionalItem address size value version answer) bus' × (result ≡ answered address Stored answer)
 Performs does bus bus' word Ecall result = (bus' ≡ bus) × (result ≡ Err EcallStop)
 Performs does bus bus' word Break result = (bus' ≡ bus) × (result ≡ Err BreakStop)
 Performs does bus bus' word Bad result = (bus' ≡ bus) × (result ≡ Err (BadStop word))

@@ -21,12 +21,14 @@ fields_of (Lui rd number) = (7, 0x37) ∷ (5, rd) ∷ (20, part number 12 20) �
 fields_of (Auipc rd number) = (7, 0x17) ∷ (5, rd) ∷ (20, part number 12 20) ∷ []
 fields_of (Jal rd offset) = (7, 0x6f) ∷ (5, rd) ∷ (8, part offset 12 8) ∷ (1, part offset 11 1) ∷ (10, part offset 1 10) ∷ (1, part offset 20 1) ∷ []
 fields_of (Jalr rd rs1 offset) = (7, 0x67) ∷ (5, rd) ∷ (3, 0) ∷ (5, rs1) ∷ (12, part offset 0 12) ∷ []
-fields_of (Branch op rs1 rs2 offset) = (7, 0x63) ∷ (1, part offset 11 1) ∷ (4, part offset 1 4) ∷ (3, branch_code op) ∷ (5, rs1) ∷ (5, rs2) ∷ (6, part offset 5 6) ∷ (1, part offset 12 1) ∷ []
+fields_of (Branch op rs1 rs2 offset) = (7, 0x63) ∷ (1, part offset 11 1) ∷ (4, part offset 1 4) ∷ (3, branch_code op) ∷ (5, rs1) ∷ (5, rs2) ∷
+    (6, part offset 5 6) ∷ (1, part offset 12 1) ∷ []
 fields_of (Load op rd rs1 offset) = (7, 0x03) ∷ (5, rd) ∷ (3, load_code op) ∷ (5, rs1) ∷ (12, part offset 0 12) ∷ []
 fields_of (Store op rs1 rs2 offset) = (7, 0x23) ∷ (5, part offset 0 5) ∷ (3, store_code op) ∷ (5, rs1) ∷ (5, rs2) ∷ (7, part offset 5 7) ∷ []
 fields_of (Imm op rd rs1 number) = let code = imm_code op in (7, code.0) ∷ (5, rd) ∷ (3, code.1) ∷ (5, rs1) ∷ upper_fields code.2 number
 fields_of (Op op rd rs1 rs2) = let code = reg_code op in (7, code.0) ∷ (5, rd) ∷ (3, code.2) ∷ (5, rs1) ∷ (5, rs2) ∷ (7, code.1) ∷ []
-fields_of (Amo op size rd rs1 rs2 aq rl) = (7, 0x2f) ∷ (5, rd) ∷ (3, size_code size) ∷ (5, rs1) ∷ (5, rs2) ∷ (1, from_bool rl) ∷ (1, from_bool aq) ∷ (5, amo_code op) ∷ []
+fields_of (Amo op size rd rs1 rs2 aq rl) = (7, 0x2f) ∷ (5, rd) ∷ (3, size_code size) ∷ (5, rs1) ∷ (5, rs2) ∷ (1, from_bool rl) ∷ (1, from_bool aq) ∷
+    (5, amo_code op) ∷ []
 fields_of (Lr size rd rs1 aq rl) = (7, 0x2f) ∷ (5, rd) ∷ (3, size_code size) ∷ (5, rs1) ∷ (5, 0) ∷ (1, from_bool rl) ∷ (1, from_bool aq) ∷ (5, 2) ∷ []
 fields_of (Sc size rd rs1 rs2 aq rl) = (7, 0x2f) ∷ (5, rd) ∷ (3, size_code size) ∷ (5, rs1) ∷ (5, rs2) ∷ (1, from_bool rl) ∷ (1, from_bool aq) ∷ (5, 3) ∷ []
 fields_of (Fence word) = (32, word) ∷ []

@@ -11,7 +11,8 @@ use Rattle.rv_isa.specs.declared.operation.StoreOp.TheVariants.{Sb, Sh, Sw, Sd}
 use Rattle.rv_isa.specs.declared.operation.ImmOp.{ImmOp}
 use Rattle.rv_isa.specs.declared.operation.ImmOp.TheVariants.{Addi, Slti, Sltiu, Xori, Ori, Andi, Slli, Srli, Srai, Addiw, Slliw, Srliw, Sraiw}
 use Rattle.rv_isa.specs.declared.operation.RegOp.{RegOp}
-use Rattle.rv_isa.specs.declared.operation.RegOp.TheVariants.{Add, Sll, Slt, Sltu, Xor, Srl, Or, And, Sub, Sra, Mul, Mulh, Mulhsu, Mulhu, Div, Divu, Rem, Remu, Addw, Sllw, Srlw, Subw, Sraw, Mulw, Divw, Divuw, Remw, Remuw}
+use Rattle.rv_isa.specs.declared.operation.RegOp.TheVariants.{Add, Sll, Slt, Sltu, Xor, Srl, Or, And, Sub, Sra, Mul, Mulh, Mulhsu, Mulhu, Div, Divu, Rem}
+use Rattle.rv_isa.specs.declared.operation.RegOp.TheVariants.{Remu, Addw, Sllw, Srlw, Subw, Sraw, Mulw, Divw, Divuw, Remw, Remuw}
 use Rattle.rv_isa.specs.declared.operation.AmoOp.{AmoOp}
 use Rattle.rv_isa.specs.declared.operation.AmoOp.TheVariants.{Add as AmoAdd, Swap, Xor as AmoXor, Or as AmoOr, And as AmoAnd, Min, Max, Minu, Maxu}
 use Rattle.rv_isa.specs.declared.instr.Instr.{Instr}
@@ -48,7 +49,8 @@ abbrev pub has_reg_code : ℕ → ℕ → ℕ → RegOp → Bool
 has_reg_code opcode funct7 funct3 op = let code = reg_code op in (code.0 == opcode) && ((code.1 == funct7) && (code.2 == funct3))
 
 abbrev pub reg_ops : List RegOp
-reg_ops = Add ∷ Sll ∷ Slt ∷ Sltu ∷ Xor ∷ Srl ∷ Or ∷ And ∷ Sub ∷ Sra ∷ Mul ∷ Mulh ∷ Mulhsu ∷ Mulhu ∷ Div ∷ Divu ∷ Rem ∷ Remu ∷ Addw ∷ Sllw ∷ Srlw ∷ Subw ∷ Sraw ∷ Mulw ∷ Divw ∷ Divuw ∷ Remw ∷ Remuw ∷ []
+reg_ops = Add ∷ Sll ∷ Slt ∷ Sltu ∷ Xor ∷ Srl ∷ Or ∷ And ∷ Sub ∷ Sra ∷ Mul ∷ Mulh ∷ Mulhsu ∷ Mulhu ∷ Div ∷ Divu ∷ Rem ∷ Remu ∷ Addw ∷ Sllw ∷ Srlw ∷ Subw ∷
+    Sraw ∷ Mulw ∷ Divw ∷ Divuw ∷ Remw ∷ Remuw ∷ []
 
 abbrev pub reg_of : ℕ → ℕ → ℕ → Option RegOp
 reg_of opcode funct7 funct3 = find (has_reg_code opcode funct7 funct3) reg_ops
@@ -115,7 +117,8 @@ abbrev pub branch_of_word : ℕ → Option Instr
 branch_of_word word = option_map (λ op. Branch op (bits 15 5 word) (bits 20 5 word) (b_number word)) (branch_of (bits 12 3 word))
 
 abbrev pub imm_of_word : ℕ → ℕ → Option Instr
-imm_of_word opcode word = option_map (λ op. let code = imm_code op in Imm op (bits 7 5 word) (bits 15 5 word) (number_of code.2 word)) (imm_of opcode (bits 12 3 word) word)
+imm_of_word opcode word =
+    option_map (λ op. let code = imm_code op in Imm op (bits 7 5 word) (bits 15 5 word) (number_of code.2 word)) (imm_of opcode (bits 12 3 word) word)
 
 abbrev pub reg_of_word : ℕ → ℕ → Option Instr
 reg_of_word opcode word = option_map (λ op. Op op (bits 7 5 word) (bits 15 5 word) (bits 20 5 word)) (reg_of opcode (bits 25 7 word) (bits 12 3 word))

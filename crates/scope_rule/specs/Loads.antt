@@ -84,7 +84,8 @@ at_first there (path ∷ paths) = option_or (with_path there path) (at_first the
 -- the object that is there for the load's own name: the one that gives itself this name, unless the name is a path, else the one at
 -- the first of its paths that has one
 abbrev pub named_there : Load → Option Loaded
-named_there load = option_or (if load.program || is_path load.name then None else with_soname load.there load.name) (at_first load.there (paths_of load 0 load.name))
+named_there load = option_or (if load.program || is_path load.name then None
+    else with_soname load.there load.name) (at_first load.there (paths_of load 0 load.name))
 
 -- a load that brings its root alone
 abbrev pub alone : ℕ → Walk

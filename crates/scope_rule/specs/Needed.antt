@@ -44,7 +44,8 @@ first_lack objects o = find (lacks_version objects o) o.object.verneeds
 -- the first refusal of new objects in load order
 abbrev pub missing_version : List Loaded → List Loaded → Option DlFault
 missing_version objects [] = None
-missing_version objects (o ∷ rest) = elim (first_lack objects o) [ Some v ↦ Some (faults.MissingVersion o.path v.file v.name) | None ↦ missing_version objects rest ]
+missing_version objects (o ∷ rest) =
+    elim (first_lack objects o) [ Some v ↦ Some (faults.MissingVersion o.path v.file v.name) | None ↦ missing_version objects rest ]
 
 -- that of new objects behind those that were there
 abbrev pub version_fault : List Loaded → List Loaded → Option DlFault

@@ -13,8 +13,10 @@ pub fn pages_hold_segments()
     ensures low { (o : Object) (v : ℕ) → Accepted o → IsInside o v → low_of o ≤ v }
     ensures high { (o : Object) (v : ℕ) → Accepted o → IsInside o v → v < low_of o + page_size * pages_of o }
     ensures from { (o : Object) (k : ℕ) (g : Segment) (v : ℕ) → Accepted o → slice_get o.segments k ≡ Some g → start_of g ≤ v → low_of o ≤ v }
-    ensures to { (o : Object) (k : ℕ) (g : Segment) (v : ℕ) → Accepted o → slice_get o.segments k ≡ Some g → v < end_of g → v < low_of o + page_size * pages_of o }
+    ensures to { (o : Object) (k : ℕ) (g : Segment) (v : ℕ) → Accepted o → slice_get o.segments k ≡ Some g → v < end_of g
+        → v < low_of o + page_size * pages_of o }
     ensures some { (o : Object) → Accepted o → 0 < pages_of o }
     ensures few { (o : Object) → Accepted o → low_of o + page_size * pages_of o < 2 ^ 33 }
-    ensures one { (o : Object) (k : ℕ) (g : Segment) (v : ℕ) → Accepted o → slice_get o.segments k ≡ Some g → start_of g ≤ v → v < end_of g → segment_at o v ≡ Some g }
+    ensures one { (o : Object) (k : ℕ) (g : Segment) (v : ℕ) → Accepted o → slice_get o.segments k ≡ Some g → start_of g ≤ v → v < end_of g
+        → segment_at o v ≡ Some g }
 {}

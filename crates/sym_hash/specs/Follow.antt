@@ -1,5 +1,6 @@
 -- Following many links of a System V chain at once, and counting them: for the code of this crate alone.
-use Rattle.std.specs.Prelude.{◌≡◌, ◌<◌, Some, unwrap_or, ℕ, zero, suc, ◌+◌, ◌-◌, ◌/◌, ◌%◌, ◌^◌, ◌==◌, ◌&&◌, Bool, not, nat_lt, nat_le, min, if◌then◌else◌, List, length, slice_index}
+use Rattle.std.specs.Prelude.{◌≡◌, ◌<◌, Some, unwrap_or, ℕ, zero, suc, ◌+◌, ◌-◌, ◌/◌, ◌%◌, ◌^◌, ◌==◌, ◌&&◌, Bool, not, nat_lt, nat_le, min, if◌then◌else◌}
+use Rattle.std.specs.Prelude.{List, length, slice_index}
 use Rattle.std.specs.List.{slice_get}
 use Rattle.std.specs.Option.{option_map_or}
 use Rattle.sym_hash.specs.declared.follow.Start.{Start}
@@ -30,7 +31,10 @@ trip chain links at = record { end = follow chain links at; links = followed cha
 
 -- a trip, and then the one of these that begins where it ends
 abbrev pub then_trip : List Trip → Trip → Trip
-then_trip trips t = option_map_or (λ (next : Trip). record { end = next.end; links = min (t.links + next.links) 0xffff_ffff_ffff_ffff }) (slice_get trips t.end) t
+then_trip trips t = option_map_or (λ (next : Trip). record {
+  end = next.end;
+  links = min (t.links + next.links) 0xffff_ffff_ffff_ffff;
+}) (slice_get trips t.end) t
 
 -- a walk goes on by these trips where the number of its steps has this bit
 abbrev pub carried : List Trip → ℕ → Walk → Walk

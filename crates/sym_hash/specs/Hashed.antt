@@ -31,12 +31,14 @@ first_lost found symbols first = least_below (is_lost found symbols first) (leng
 
 -- what breaks rule 19, of symbols with these hashes
 unfoldable pub unmet_by : HashTable → List Symbol → List ℕ → ℕ → Option ℕ
-unmet_by t symbols hashes first = option_or (if walks_end t (length symbols) then None else Some 0) (first_lost (λ i. leads t (slice_index hashes i) i) symbols first)
+unmet_by t symbols hashes first = option_or (if walks_end t (length symbols) then None
+    else Some 0) (first_lost (λ i. leads t (slice_index hashes i) i) symbols first)
 
 -- symbols in all but their names, and the hashes of those
 pub record AreHashed (hash : List ℕ → ℕ) (symbols bare : List Symbol) (hashes : List ℕ) : Type 0 where
   pub count : length bare ≡ length symbols
-  pub each : (i : ℕ) (s : Symbol) → slice_get symbols i ≡ Some s → (b : Symbol) × (slice_get bare i ≡ Some b) × (is_visible_definition b ≡ is_visible_definition s)
+  pub each : (i : ℕ) (s : Symbol) → slice_get symbols i ≡ Some s
+      → (b : Symbol) × (slice_get bare i ≡ Some b) × (is_visible_definition b ≡ is_visible_definition s)
   pub hashed : (i : ℕ) (s : Symbol) → slice_get symbols i ≡ Some s → slice_get hashes i ≡ Some (hash s.name)
 
 -- how the ends stand before a symbol: from each chain word on there is one, of those before the symbol, where the word is below a number

@@ -182,7 +182,8 @@ fn first_lost(gnu: &GnuPart, symbols: &[Symbol], hashes: &[u32], first: u32) -> 
 /// What breaks rule 19, of symbols whose names have these hashes.
 pub(crate) fn unmet(gnu: &GnuPart, symbols: &[Symbol], hashes: &[u32], first: u32) -> Option<usize>
     requires { length hashes.now ≡ length symbols.now }
-    ensures { result ≡ option_or (if gnu_walks_end gnu.now (length symbols.now) then None else Some 0) (first_lost (λ i. gnu_leads gnu.now (slice_index hashes.now i) i) symbols.now first) }
+    ensures { result ≡ option_or (if gnu_walks_end gnu.now (length symbols.now) then None
+        else Some 0) (first_lost (λ i. gnu_leads gnu.now (slice_index hashes.now i) i) symbols.now first) }
 {
     if walks_end(gnu, symbols.len()) {
         first_lost(gnu, symbols, hashes, first)

@@ -50,7 +50,8 @@ fn table_hashes(
     symbols: &SymbolTable,
 ) -> Result<Vec<u32>, AllocError>
     ensures length { IfOk result (λ hashes. length hashes.items ≡ length symbols.now) }
-    ensures each { IfOk result (λ hashes. (i : ℕ) (s : Symbol) → slice_get symbols.now i ≡ Some s → slice_get hashes.items i ≡ Some (hash_by table.now s.name)) }
+    ensures each { IfOk result (λ hashes. (i : ℕ) (s : Symbol) → slice_get symbols.now i ≡ Some s
+        → slice_get hashes.items i ≡ Some (hash_by table.now s.name)) }
 {
     let mut hashes = Vec::with_capacity(alloc, symbols.len() as usize)?;
     for index in 0..symbols.len() {

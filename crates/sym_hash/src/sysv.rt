@@ -74,7 +74,8 @@ fn starts_of(
     requires short { (at : ℕ) → (trip_from trips.now at).links < 2 ^ 32 }
     requires few { length hashes.now < 2 ^ 32 }
     ensures length { IfOk result (λ starts. length starts.items ≡ length hashes.now) }
-    ensures starts { IfOk result (λ starts. (i hash : ℕ) → slice_get hashes.now i ≡ Some hash → slice_get starts.items i ≡ Some (start_to trips.now (sysv_bucket sysv.now hash) i)) }
+    ensures starts { IfOk result (λ starts. (i hash : ℕ) → slice_get hashes.now i ≡ Some hash
+        → slice_get starts.items i ≡ Some (start_to trips.now (sysv_bucket sysv.now hash) i)) }
 {
     let mut starts = Vec::with_capacity(alloc, hashes.len())?;
     for (index, hash) in hashes.iter().enumerate() {
@@ -123,7 +124,8 @@ pub(crate) fn unmet(
     requires chain { length sysv.now.chain < 2 ^ 32 }
     requires few { length symbols.now < 2 ^ 32 }
     requires same { length hashes.now ≡ length symbols.now }
-    ensures { IfOk result (λ number. number ≡ option_or (if sysv_walks_end sysv.now then None else Some 0) (first_lost (λ i. sysv_leads sysv.now (slice_index hashes.now i) i) symbols.now first)) }
+    ensures { IfOk result (λ number. number ≡ option_or (if sysv_walks_end sysv.now then None
+        else Some 0) (first_lost (λ i. sysv_leads sysv.now (slice_index hashes.now i) i) symbols.now first)) }
 {
     let chain = sysv.chain.as_slice();
     let trips = full_trips(alloc, chain)?;

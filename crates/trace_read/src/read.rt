@@ -35,7 +35,8 @@ pub fn read_event(alloc: Global, line: &[u8]) -> Result<EventLine, TraceFault>
     ensures line { IfOk result (HasLine line.now) }
     ensures only { IfOk result (λ event. (other : ALine) → HasLine line.now other → other ≡ event) }
     ensures not_a_line { IfErr result (λ fault. fault ≡ NotALine → (event : ALine) → HasLine line.now event → ⊥) }
-    ensures inverse { (event : AnEvent) → IsWritable (said_of event) → line.now ≡ line_text event → IfOk result (λ read. read ≡ said_of event) × IfErr result (λ fault. fault ≡ Memory) }
+    ensures inverse { (event : AnEvent) → IsWritable (said_of event) → line.now ≡ line_text event
+        → IfOk result (λ read. read ≡ said_of event) × IfErr result (λ fault. fault ≡ Memory) }
 {
     read_line(alloc, line)
 }

@@ -2,7 +2,8 @@
 
 ghost use Rattle.std.specs.Prelude.{◌≡◌, codes, option_map};
 ghost use Rattle.trace_read.specs.Pieces.{labelled};
-ghost use Rattle.trace_read.specs.Steps.{step_word, granted, refused, grant_step, lost_step, unresolved_step, tls_step, hart_and_object, ended_step, step_behind};
+ghost use Rattle.trace_read.specs.Steps.{step_word, granted, refused, grant_step, lost_step, unresolved_step, tls_step, hart_and_object, ended_step};
+ghost use Rattle.trace_read.specs.Steps.{step_behind};
 
 use crate::ends::end;
 use crate::numbers::{decimal, decimal_field, decimal32_field, definition, hexadecimal};

@@ -37,7 +37,8 @@ open_answer_text (opens.Refused fault) = refused_text fault
 
 unfoldable pub open_text : ℕ → OpenAsk → OpenAnswer → List ℕ
 open_text hart ask answer =
-    said (codes "open" ∷ hart_word hart ∷ (codes "ns=" ++ asked_text ask.ns) ∷ (codes "name=" ++ name_or_none ask.name) ∷ (codes "flags=" ++ hex_text ask.flags) ∷ [])
+    said (codes "open" ∷ hart_word hart ∷ (codes "ns=" ++ asked_text ask.ns)
+        ∷ (codes "name=" ++ name_or_none ask.name) ∷ (codes "flags=" ++ hex_text ask.flags) ∷ [])
     (open_answer_text answer)
 
 abbrev pub close_answer_text : CloseAnswer → List ℕ
@@ -54,7 +55,8 @@ sym_answer_text (syms.Refused fault) = refused_text fault
 
 unfoldable pub sym_text : ℕ → SymAsk → SymAnswer → List ℕ
 sym_text hart ask answer =
-    said (codes "sym" ∷ hart_word hart ∷ (codes "ns=" ++ decimal ask.ns) ∷ (codes "handle=" ++ hex_text ask.handle) ∷ (codes "name=" ++ name_text ask.name) ∷ (codes "ver=" ++ name_or_none ask.version) ∷ [])
+    said (codes "sym" ∷ hart_word hart ∷ (codes "ns=" ++ decimal ask.ns) ∷ (codes "handle=" ++ hex_text ask.handle)
+        ∷ (codes "name=" ++ name_text ask.name) ∷ (codes "ver=" ++ name_or_none ask.version) ∷ [])
     (sym_answer_text answer)
 
 -- what a slot is to get
@@ -108,6 +110,7 @@ line_text event = words_text event ++ 10 ∷ []
 
 -- a grant has something to give, 0 by a weak symbol; what isn't there at all is no weak symbol's
 abbrev pub IsSayable : Event → Type 0
-IsSayable (events.Grant grant hart owner slot choice value) = elim choice [ choices.Def serial index ↦ Unit {0} | choices.WeakZero ↦ value ≡ 0 | choices.Missing ↦ ⊥ ]
+IsSayable (events.Grant grant hart owner slot choice value) =
+    elim choice [ choices.Def serial index ↦ Unit {0} | choices.WeakZero ↦ value ≡ 0 | choices.Missing ↦ ⊥ ]
 IsSayable (events.Unresolved hart owner slot choice) = elim choice [ choices.Def serial index ↦ Unit {0} | choices.WeakZero ↦ ⊥ | choices.Missing ↦ Unit {0} ]
 IsSayable other = Unit {0}

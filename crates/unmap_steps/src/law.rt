@@ -18,7 +18,8 @@ use link_history::grants_are_tidy;
 pub fn first_is_least()
     ensures least { (m : Machine) (events : List Event) → Lawful m events → (set : List ℕ) (g : Granting) →
         find (is_touching set) (filter is_open (after events).grants) ≡ Some g → IsHeldBy (after events) set g.number }
-    ensures none { (events : List Event) (set : List ℕ) → find (is_touching set) (filter is_open (after events).grants) ≡ None → IsUngranted (after events) set }
+    ensures none { (events : List Event) (set : List ℕ) → find (is_touching set) (filter is_open (after events).grants) ≡ None
+        → IsUngranted (after events) set }
 {
     grants_are_tidy();
 }

@@ -13,7 +13,8 @@ use Rattle.guest_rule.specs.declared.view.HartView.{HartView}
 use Rattle.guest_rule.specs.declared.view.TrailItem.TheVariants.{Call}
 use Rattle.guest_rule.specs.Layout.{role_in, lock_bit}
 use Rattle.word_steps.specs.Showing.{IsShown}
-use Rattle.guest_rule.specs.HartSteps.{ask_is_fresh, ask_place, entered, failed, is_fresh, load_refused, loaded, permits, refused, stored, store_place, store_refused, with_access}
+use Rattle.guest_rule.specs.HartSteps.{ask_is_fresh, ask_place, entered, failed, is_fresh, load_refused, loaded, permits, refused, stored, store_place}
+use Rattle.guest_rule.specs.HartSteps.{store_refused, with_access}
 
 -- only a conditional store may come too late
 abbrev pub IsConditional : StoreAsk → Type 0
@@ -55,7 +56,8 @@ after_glance ask control false h = entered (Call (failed ask)) h
 
 -- the access may go on, or ended with why it may not
 abbrev pub Glances : Ask → HartView → Result ℕ BusFault → HartView → Type 0
-Glances ask before (Ok control) now = (now ≡ after_glance ask control (ask_is_fresh ask control) before) × (lock_bit control ≡ 0) × (permits ask (role_in control) ≡ true)
+Glances ask before (Ok control) now = (now ≡ after_glance ask control (ask_is_fresh ask control) before) × (lock_bit control ≡ 0)
+    × (permits ask (role_in control) ≡ true)
 Glances ask before (Err fault) now = (now ≡ entered (Call (refused ask fault)) before) × Refuses ask fault
 
 -- a load found the control word and the value, or was refused

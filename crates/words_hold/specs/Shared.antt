@@ -36,14 +36,17 @@ pub record IsOfState (s : State) (k : KeeperView) (number : ℕ → Grant → �
   pub word : (a : ℕ) → IsDoubleword a → (role_at s a ≡ Ro) ⊎ (role_at s a ≡ Rx) ⊎ (role_at s a ≡ Slot) → (kept_at k (place_of a)).value ≡ word_at s a
   pub lazy : (a : ℕ) → IsDoubleword a → role_at s a ≡ Slot → (kept_at k (place_of a)).lazy ≡ lazy_at s a
   -- a grant that stands is one of the state's
-  pub granted : (m : ℕ) (g : Grant) → m < harts_at_most → Stands (row_of k m) g → IsOf (kept_at k) (place_of g.entry.slot) g → (x : Granting) × (x.number ≡ number m g) × IsGrantOf s k m g x
+  pub granted : (m : ℕ) (g : Grant) → m < harts_at_most → Stands (row_of k m) g → IsOf (kept_at k) (place_of g.entry.slot) g
+      → (x : Granting) × (x.number ≡ number m g) × IsGrantOf s k m g x
   -- and each of the state's that is open or bound, of a slot that is there, is one that stands
   pub stands : (a : ℕ) (x : Granting) → IsDoubleword a → Contains s.grants x → (x.standing ≡ Bound) ⊎ (x.standing ≡ Open) → IsSlotAt s a x.owner x.slot
       → (m : ℕ) × (g : Grant) × (m < harts_at_most) × Stands (row_of k m) g × IsOf (kept_at k) (place_of a) g × (number m g ≡ x.number) × IsGrantOf s k m g x
   -- a number is that of one grant
-  pub one : (m n : ℕ) (g p : Grant) → m < harts_at_most → n < harts_at_most → Stands (row_of k m) g → Stands (row_of k n) p → number m g ≡ number n p → (m ≡ n) × (g ≡ p)
+  pub one : (m n : ℕ) (g p : Grant) → m < harts_at_most → n < harts_at_most → Stands (row_of k m) g → Stands (row_of k n) p → number m g ≡ number n p
+      → (m ≡ n) × (g ≡ p)
 
 -- the grants that have won, of those that the keeper hasn't asked for
 pub record HaveWon (k : KeeperView) (hart : ℕ → HartView) (number : ℕ → Grant → ℕ) (won : List ℕ) : Type 0 where
   pub all : (m : ℕ) (g : Grant) → m < harts_at_most → (row_of k m).pending ≡ Some g → HasWon (exchanges_of (hart m).trail) g → Contains won (number m g)
-  pub only : (n : ℕ) → Contains won n → (m : ℕ) × (g : Grant) × (m < harts_at_most) × ((row_of k m).pending ≡ Some g) × HasWon (exchanges_of (hart m).trail) g × (number m g ≡ n)
+  pub only : (n : ℕ) → Contains won n → (m : ℕ) × (g : Grant) × (m < harts_at_most) × ((row_of k m).pending ≡ Some g) × HasWon (exchanges_of (hart m).trail) g
+      × (number m g ≡ n)

@@ -41,5 +41,6 @@ pub record Sound (w : Setting) (world : World) : Type 0 where
   pub words : length world.words ≡ word_count
   pub holds : Holds (after world.journal) (winners world.harts) (memory_of world.words)
   -- a hart that has ended is at no slot, but that a grant of its may be left to settle
-  pub rests : (h : ℕ) (b : HartState) (reason : HartEnd) → slice_get world.harts h ≡ Some b → b.«end» ≡ Some reason → settled_resolving b.resolving ≡ Resolving.idle
+  pub rests : (h : ℕ) (b : HartState) (reason : HartEnd) → slice_get world.harts h ≡ Some b → b.«end» ≡ Some reason
+      → settled_resolving b.resolving ≡ Resolving.idle
   pub fits : (h : ℕ) (b : HartState) → slice_get world.harts h ≡ Some b → Fits (after world.journal) world.words h b.resolving

@@ -2,7 +2,8 @@
 
 ghost use Rattle.world_turns.specs.Counts.{CountsJoin, NoneIsInvented, NothingShows, RunsShowInCounts};
 ghost use Rattle.world_turns.specs.Next.{OneDue, SettlingKeepsDue};
-ghost use Rattle.world_turns.specs.Throughout.{ConstructorsKeep, FinalsKeep, ItemsKeep, RoundsKeep, RunsAreSound, RunsEnd, RunsGrantHarts, RunsLeaveNoGrant, RunsSettle};
+ghost use Rattle.world_turns.specs.Throughout.{ConstructorsKeep, FinalsKeep, ItemsKeep, RoundsKeep, RunsAreSound, RunsEnd, RunsGrantHarts, RunsLeaveNoGrant};
+ghost use Rattle.world_turns.specs.Throughout.{RunsSettle};
 ghost use Rattle.world_turns.specs.Laws.{FinalsBeginSound, FinalsLackSound, SettlingIsSound, SoundIsSlotTrue, StartIsSound, TurnsAreSound};
 
 /// A run is sound when it starts: its journal is legal, memory is as the journal says, and no hart has a
