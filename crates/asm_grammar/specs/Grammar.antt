@@ -62,7 +62,7 @@ abbrev pub SaysOf : List ℕ → List ℕ → Statement → Type 0
 SaysOf word text (statements.Directive says) = (which : DirectiveWord) × (directive_word word ≡ Some which) × (directive which text ≡ Some says)
 SaysOf word text (statements.Instruction says) =
     (form : Form) × (operands : List (List ℕ)) × (directive_word word ≡ None) × (mnemonic word ≡ Some form) × AreOperands text operands
-        × (instruction form operands ≡ Some says)
+    × (instruction form operands ≡ Some says)
 
 -- a text that is a statement: its first word is a name
 pub record SaysStatement (text : List ℕ) (says : Statement) : Type 0 where

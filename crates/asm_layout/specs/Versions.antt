@@ -65,7 +65,7 @@ abbrev pub version_records : ℕ → ℕ → List (List ℕ) → List VersionRec
 version_records index at [] = []
 version_records index at (name ∷ names) =
     record { flags = 0; index = half index; hash = sysv_hash name; name = word at; next = next_version names } ∷
-        version_records (index + 1) (at + length name + 1) names
+    version_records (index + 1) (at + length name + 1) names
 
 -- the base, with VER_FLG_BASE: it has the object's own name, which is empty where it has none
 abbrev pub base_record : List ℕ → ℕ → List (List ℕ) → VersionRecord

@@ -89,7 +89,7 @@ NewEdgesSuffice = (m : Machine) (w : Setting) (past : List Event) (h id root : �
     → w.machine ≡ m → Lawful m past → Allowed w past (Open h ask (Done id root added ranges))
     → InitOrder (flat_map found_edges added) (program_last (Some 1) (map serial_of added)) order
     → InitOrder (flat_map found_edges (mapped (after (past ++ Open h ask (Done id root added ranges) ∷ []))))
-        (program_last (Some 1) (map serial_of added)) order
+    (program_last (Some 1) (map serial_of added)) order
 
 -- ---- closings
 

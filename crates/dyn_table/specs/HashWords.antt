@@ -63,7 +63,7 @@ gnu_part bytes chain = record {
 unfoldable pub gnu_chain : List ℕ → Option (List ℕ)
 gnu_chain bytes =
     chain_words (field 4 bytes 4) (fold max 0 (ints bytes (buckets_at bytes) (field 4 bytes 0)))
-        (ints bytes (chain_at bytes) ((length bytes - chain_at bytes) / 4))
+    (ints bytes (chain_at bytes) ((length bytes - chain_at bytes) / 4))
 
 -- the words of a GNU hash table, from the bytes at its address on: nbuckets, symoffset, bloom_size, bloom_shift, the bloom words, the buckets, the chain
 unfoldable pub gnu_words : List ℕ → Option GnuPart

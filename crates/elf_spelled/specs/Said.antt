@@ -36,7 +36,7 @@ said_head contents = record {
 abbrev pub told_entries : Contents → List DynamicEntry
 told_entries contents =
     name_entries contents ++ symbol_entries contents ++ flag_entries contents.flags ++ arrays_entries contents ++ reloc_entries contents
-        ++ version_entries contents
+    ++ version_entries contents
 
 abbrev pub said_tag : Starts → DynamicEntry → Tag
 said_tag starts entry = record { tag = entry.tag; value = told_value starts entry.told }

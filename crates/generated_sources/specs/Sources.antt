@@ -20,7 +20,7 @@ needed_line libraries d = if nat_lt d libraries then codes ".needed lib" ++ (dec
 abbrev pub function_lines : ℕ → ℕ → List ℕ
 function_lines i j =
     codes ".global f_" ++ (decimal i ++ (codes "_" ++ (decimal j ++ (10 ∷
-        (codes "f_" ++ (decimal i ++ (codes "_" ++ (decimal j ++ (codes ": tail g" ++ 10 ∷ [])))))))))
+    (codes "f_" ++ (decimal i ++ (codes "_" ++ (decimal j ++ (codes ": tail g" ++ 10 ∷ [])))))))))
 
 -- which every library defines, and which answers its number and 1
 abbrev pub last_lines : ℕ → List ℕ

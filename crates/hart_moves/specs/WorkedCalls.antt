@@ -80,7 +80,7 @@ StoresFirst w past =
 abbrev pub StoresLast : (w : Setting) → List Event → Type 0
 StoresLast w past =
     Moves w past 1 (teller (Phase.storing 0x14000 1 0x73 []))
-        (Did.quiet (Write 0x14008 8 0x73 (Ok tt) ∷ [])) (spent (hart_at 0x11100 (with_two 1 0x11100 10 0x14000)))
+    (Did.quiet (Write 0x14008 8 0x73 (Ok tt) ∷ [])) (spent (hart_at 0x11100 (with_two 1 0x11100 10 0x14000)))
 
 -- ---- an unmapping
 
@@ -127,12 +127,14 @@ without_functions = record { object = 2; addresses = [] } ∷ record { object = 
 abbrev pub EntersPreinit : Type 0
 EntersPreinit =
     runs (Purpose.of_startup (hart_at 0x11000 (replicate 32 0)).registers) (preceded (0x11080 ∷ []) without_functions) [] (hart_at 0x11000 (replicate 32 0))
-        ≡ start_of 0x11080 []
+    ≡ start_of 0x11080 []
 
 abbrev pub CompletesBehind : State → Type 0
 CompletesBehind s =
-    due s (start_of 0x80f080 []) ≡ Due.complete (Purpose.of_startup (hart_at 0x11000 (replicate 32 0)).registers) 2 (record { object = 1;
-        addresses = 0x11040 ∷ [] } ∷ []) []
+    due s (start_of 0x80f080 []) ≡ Due.complete (Purpose.of_startup (hart_at 0x11000 (replicate 32 0)).registers) 2 (record {
+      object = 1;
+      addresses = 0x11040 ∷ [];
+    } ∷ []) []
 
 -- ---- fuel
 

@@ -39,7 +39,7 @@ is_linkable_type s = nat_le (type_of s) 2 || type_of s == 5 || is_tls s
 abbrev pub is_visible_definition : Symbol → Bool
 is_visible_definition s =
     is_defined s && not (is_local s) && not (visibility s == 1) && not (visibility s == 2) && is_linkable_type s
-        && (not (s.value == 0) || is_absolute s || is_tls s)
+    && (not (s.value == 0) || is_absolute s || is_tls s)
 
 -- the version's index, without the bit that hides the definition
 abbrev pub version_index : Symbol → ℕ

@@ -83,12 +83,12 @@ abbrev pub CopiesAreSeen : Type 0
 CopiesAreSeen = OfOpenings (λ s hart ask id root added ranges. (o : Loaded) → Contains added o
     → (image_made s hart ask id root added ranges o).bindings
     ≡ bindings_in (copies_among (seen_after s ask id root added) (binds s ask)
-        (places_after s hart ask id root added ranges) added) (seen_after s ask id root added) (binds s ask) o)
+    (places_after s hart ask id root added ranges) added) (seen_after s ask id root added) (binds s ask) o)
 
 -- what relocating the new objects asks for
 abbrev pub OpeningsRelocate : Type 0
 OpeningsRelocate = OfOpenings (λ s hart ask id root added ranges. MayRelocateAll (seen_after s ask id root added) (binds s ask)
-        (places_after s hart ask id root added ranges) added)
+    (places_after s hart ask id root added ranges) added)
 
 -- their images, relocated by what is seen, are what memory gets of them
 abbrev pub RelocatedAreInstalls : Type 0

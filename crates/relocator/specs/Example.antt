@@ -99,7 +99,7 @@ own = record { bound = true; choice = Def 7 0; value = 0x99; size = 0; object = 
 abbrev pub example_bindings : List Binding
 example_bindings =
     defined 0x40000 8 [] ∷ undefined ∷ defined 0x10 8 [] ∷ defined 0x10 8 [] ∷ own ∷ defined 0x40020 3 (0xaa ∷ 0xbb ∷ 0xcc ∷ []) ∷ undefined ∷ undefined ∷
-        undefined
+    undefined
     ∷ defined 0xffffffffffffffff 8 []
     ∷ lazily ∷ defined 0x45678 8 [] ∷ []
 

@@ -80,8 +80,16 @@ grant_of x generation = record { entry = record { mark = 3; number = x.event; sl
 
 -- the grant is posted in the hart's row
 abbrev pub row_posted : Grant → Row → Row
-row_posted g r = record r { number = g.entry.number; slot = g.entry.slot; lazy = g.lazy; value = g.entry.value; generation = g.entry.generation;
-    issued = r.issued ++ g.entry ∷ []; since = None; pending = Some g }
+row_posted g r = record r {
+  number = g.entry.number;
+  slot = g.entry.slot;
+  lazy = g.lazy;
+  value = g.entry.value;
+  generation = g.entry.generation;
+  issued = r.issued ++ g.entry ∷ [];
+  since = None;
+  pending = Some g;
+}
 
 abbrev pub posted : ℕ → Grant → KeeperView → KeeperView
 posted m g k = with_row m (row_posted g (row_of k m)) k

@@ -27,8 +27,14 @@ with_offer o h = with_lane_of (record h.lane { offer = Some o }) h
 
 -- all words of a row, read
 abbrev pub full_offer : Grant → Offer
-full_offer g = record { mark = g.entry.mark; number = Some g.entry.number; slot = Some g.entry.slot; lazy = Some g.lazy; value = Some g.entry.value;
-    generation = Some g.entry.generation }
+full_offer g = record {
+  mark = g.entry.mark;
+  number = Some g.entry.number;
+  slot = Some g.entry.slot;
+  lazy = Some g.lazy;
+  value = Some g.entry.value;
+  generation = Some g.entry.generation;
+}
 
 -- what it knows of its row, where it has an offer
 abbrev pub offer_or : Option Offer → Offer

@@ -38,7 +38,7 @@ open_answer_text (opens.Refused fault) = refused_text fault
 unfoldable pub open_text : ℕ → OpenAsk → OpenAnswer → List ℕ
 open_text hart ask answer =
     said (codes "open" ∷ hart_word hart ∷ (codes "ns=" ++ asked_text ask.ns)
-        ∷ (codes "name=" ++ name_or_none ask.name) ∷ (codes "flags=" ++ hex_text ask.flags) ∷ [])
+    ∷ (codes "name=" ++ name_or_none ask.name) ∷ (codes "flags=" ++ hex_text ask.flags) ∷ [])
     (open_answer_text answer)
 
 abbrev pub close_answer_text : CloseAnswer → List ℕ
@@ -56,7 +56,7 @@ sym_answer_text (syms.Refused fault) = refused_text fault
 unfoldable pub sym_text : ℕ → SymAsk → SymAnswer → List ℕ
 sym_text hart ask answer =
     said (codes "sym" ∷ hart_word hart ∷ (codes "ns=" ++ decimal ask.ns) ∷ (codes "handle=" ++ hex_text ask.handle)
-        ∷ (codes "name=" ++ name_text ask.name) ∷ (codes "ver=" ++ name_or_none ask.version) ∷ [])
+    ∷ (codes "name=" ++ name_text ask.name) ∷ (codes "ver=" ++ name_or_none ask.version) ∷ [])
     (sym_answer_text answer)
 
 -- what a slot is to get

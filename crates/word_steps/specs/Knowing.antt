@@ -20,5 +20,7 @@ told_of h k = record k { note = Some (record { had = k.events; told = h.heard; n
 -- a hart was told of the keeper's knowledge: it has the longer list, and keeps both until its next load
 abbrev pub told_by : KeeperView → HartView → HartView
 told_by k h =
-    record h { heard = longer h.heard k.events;
-        note = Some (record { had = h.heard; told = k.events; number = h.number; entries = (row_of k h.number).issued }) }
+    record h {
+      heard = longer h.heard k.events;
+      note = Some (record { had = h.heard; told = k.events; number = h.number; entries = (row_of k h.number).issued });
+    }
