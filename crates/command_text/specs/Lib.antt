@@ -3,4 +3,3 @@ pub mod DumpLines
 pub mod Lines
 pub mod Named
 pub mod Refusal
-pub mod Words

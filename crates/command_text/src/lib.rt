@@ -1,8 +1,7 @@
-//! What the commands read and write, apart from how they come to it.
+//! What the commands write, apart from how they come to it.
 //!
-//! [`reads`] gives the command that the words of a command line are. [`bind_objects`] is what `bind`
-//! writes of a namespace whose objects are all there, or the one reference for which it refuses them.
-//! [`dump_text`] is what `dump` writes of an object.
+//! [`bind_objects`] is what `bind` writes of a namespace whose objects are all there, or the one reference
+//! for which it refuses them. [`dump_text`] is what `dump` writes of an object.
 //!
 //! Each text is the definition's, byte for byte, or there was no memory for it.
 #![tactic(auto)]
@@ -12,8 +11,6 @@ mod lines;
 mod objects;
 mod references;
 mod refusal;
-mod words;
 
 pub use dump_lines::dump_text;
 pub use objects::{Binding, bind_objects};
-pub use words::{Bind, Command, reads};

@@ -10,9 +10,9 @@ use Rattle.library_source.specs.Count.{Rises}
 use Rattle.library_source.specs.Files.{AreFiles, Over, file_at}
 use Rattle.scope_rule.specs.Finding.{Reading, here, unaccepted, absent, failed}
 use Rattle.command_text.specs.Refusal.{first_refusal}
-use Rattle.command_text.specs.declared.words.Bind.{Bind}
-use Rattle.command_text.specs.declared.words.Command.{Command}
-use Rattle.command_text.specs.declared.words.Command.TheVariants as commands
+use Rattle.command_line.specs.declared.command.Bind.{Bind}
+use Rattle.command_line.specs.declared.command.Command.{Command}
+use Rattle.command_line.specs.declared.command.Command.TheVariants as commands
 use Rattle.ldso_cli.specs.Asm.{SourceRead, SourceComes, ReadsSource, GivesCause, AsmComes}
 use Rattle.ldso_cli.specs.Bind.{BindComes, cause_of, namespace_of}
 use Rattle.ldso_cli.specs.Command.{Answers, IsAnswer, IsUsage, Misses, told_to}
@@ -85,21 +85,21 @@ dump_own path before after file absent gives =
 dump_own path before after file failed gives =
     record { no_usage = λ e. cc e; no_write = λ e. cc e; read_fault = λ at e. gives; missing = λ name e. absurd (cc e) }
 
-source_own : (path bytes text : List ℕ) (before after : LibraryAt) (cause : Cause) → SourceComes bytes cause text → IsOwn (commands.Asm path) before after cause
-source_own path bytes text before after causes.Done comes = quiet_own (commands.Asm path) before after causes.Done tt
-source_own path bytes text before after (causes.AsmRefused line why) comes = quiet_own (commands.Asm path) before after (causes.AsmRefused line why) tt
+source_own : (path bytes text : List ℕ) (before after : LibraryAt) (cause : Cause) → SourceComes bytes cause text → IsOwn (commands.Assemble path) before after cause
+source_own path bytes text before after causes.Done comes = quiet_own (commands.Assemble path) before after causes.Done tt
+source_own path bytes text before after (causes.AsmRefused line why) comes = quiet_own (commands.Assemble path) before after (causes.AsmRefused line why) tt
 source_own path bytes text before after (causes.Refused fault) comes = absurd comes
 source_own path bytes text before after causes.Usage comes = absurd comes
 source_own path bytes text before after causes.WriteFault comes = absurd comes
 source_own path bytes text before after causes.Memory comes = absurd comes
 
-asm_own : (path : List ℕ) (before after : LibraryAt) (file : Option (List ℕ)) (read : SourceRead) (cause : Cause) → ReadsSource before after file read → GivesCause path read cause → IsOwn (commands.Asm path) before after cause
+asm_own : (path : List ℕ) (before after : LibraryAt) (file : Option (List ℕ)) (read : SourceRead) (cause : Cause) → ReadsSource before after file read → GivesCause path read cause → IsOwn (commands.Assemble path) before after cause
 asm_own path before after file (SourceRead.source bytes) cause reads gives = source_own path bytes gives.0 before after cause gives.1
 asm_own path before after file SourceRead.missing cause reads gives =
-    let P : Cause → Type 0 = λ c. IsOwn (commands.Asm path) before after c in
+    let P : Cause → Type 0 = λ c. IsOwn (commands.Assemble path) before after c in
     subst P (sym gives) (record { no_usage = λ e. cc e; no_write = λ e. cc e; read_fault = λ at e. absurd (cc e); missing = λ name e. (same_name path name e, reads.1) })
 asm_own path before after file SourceRead.failed cause reads gives =
-    let P : Cause → Type 0 = λ c. IsOwn (commands.Asm path) before after c in
+    let P : Cause → Type 0 = λ c. IsOwn (commands.Assemble path) before after c in
     subst P (sym gives) (record { no_usage = λ e. cc e; no_write = λ e. cc e; read_fault = λ at e. reads; missing = λ name e. absurd (cc e) })
 
 -- ---- a command's own end
@@ -121,9 +121,12 @@ own_end (commands.Bind bind) before after end text over =
 own_end (commands.Dump path) before after end text over =
     let comes = over.holds.comes in
     at_end (commands.Dump path) before after comes.cause end comes.end_is (dump_comes path before after over.files comes.cause comes.by)
-own_end (commands.Asm path) before after end text over =
+own_end (commands.Assemble path) before after end text over =
     let comes = over.holds.comes in
-    at_end (commands.Asm path) before after comes.cause end comes.end_is (asm_own path before after (file_at over.files path) comes.by.read comes.cause comes.by.reads comes.by.gives)
+    at_end (commands.Assemble path) before after comes.cause end comes.end_is (asm_own path before after (file_at over.files path) comes.by.read comes.cause comes.by.reads comes.by.gives)
+own_end (commands.Turns turns) before after end text over = absurd over.holds.comes
+own_end (commands.Run run) before after end text over = absurd over.holds.comes
+own_end (commands.Generate number) before after end text over = absurd over.holds.comes
 
 -- ---- what is written
 

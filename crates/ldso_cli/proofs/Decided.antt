@@ -13,9 +13,9 @@ use Rattle.scope_rule.specs.Needed.{version_fault}
 use Rattle.scope_rule.specs.Finding.{Reading, here, unaccepted, absent, failed}
 use Rattle.scope_rule.specs.Load.{Brings, Load, Stop, Stops, Walk, records_of, refuses}
 use Rattle.command_text.specs.Refusal.{first_refusal}
-use Rattle.command_text.specs.declared.words.Bind.{Bind}
-use Rattle.command_text.specs.declared.words.Command.{Command}
-use Rattle.command_text.specs.declared.words.Command.TheVariants as commands
+use Rattle.command_line.specs.declared.command.Bind.{Bind}
+use Rattle.command_line.specs.declared.command.Command.{Command}
+use Rattle.command_line.specs.declared.command.Command.TheVariants as commands
 use Rattle.ldso_cli.proofs.Assembling.{SourceLaw, asm_end}
 use Rattle.ldso_cli.proofs.Same.{OneWalk, one_list}
 use Rattle.ldso_cli.specs.Bind.{IsLoaded, IsNotLoaded, ask_of, cause_of, namespace_of, program_load}
@@ -107,7 +107,10 @@ one_end one_walk one_stop not_both sources (commands.Dump path) files before aft
     let one = gives_is path before after (file_at files path) p.by.reading p.by.gives (λ e. quiet path (ap (λ (end : End). end.cause) p.end_is ∙ p.by.cause_is ∙ e)) in
     let two = gives_is path before' after' (file_at files path) q.by.reading q.by.gives (λ e. quiet' path (ap (λ (end : End). end.cause) q.end_is ∙ q.by.cause_is ∙ e)) in
     p.end_is ∙ ap bare (p.by.cause_is ∙ ap (dump_cause path) (sym one ∙ two) ∙ sym q.by.cause_is) ∙ sym q.end_is
-one_end one_walk one_stop not_both sources (commands.Asm path) files before after before' after' a b p quiet q quiet' =
+one_end one_walk one_stop not_both sources (commands.Assemble path) files before after before' after' a b p quiet q quiet' =
     let fails : (path : List ℕ) → p.cause ≡ causes.Refused (dl.ReadFault path) → ⊥ = λ path e. quiet path (ap (λ (end : End). end.cause) p.end_is ∙ e) in
     let fails' : (path : List ℕ) → q.cause ≡ causes.Refused (dl.ReadFault path) → ⊥ = λ path e. quiet' path (ap (λ (end : End). end.cause) q.end_is ∙ e) in
     p.end_is ∙ ap bare (asm_end sources path before after before' after' files p.cause q.cause p.by fails q.by fails') ∙ sym q.end_is
+one_end one_walk one_stop not_both sources (commands.Turns turns) files before after before' after' a b p quiet q quiet' = absurd p
+one_end one_walk one_stop not_both sources (commands.Run run) files before after before' after' a b p quiet q quiet' = absurd p
+one_end one_walk one_stop not_both sources (commands.Generate number) files before after before' after' a b p quiet q quiet' = absurd p

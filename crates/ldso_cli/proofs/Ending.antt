@@ -34,8 +34,8 @@ use Rattle.scope_rule.specs.declared.namespace.Namespace.{Namespace}
 use Rattle.ldso_cli.specs.declared.outcome.Cause.{Cause}
 use Rattle.ldso_cli.specs.declared.outcome.Cause.TheVariants as causes
 use Rattle.ldso_cli.specs.declared.outcome.End.{End}
-use Rattle.command_text.specs.declared.words.Bind.{Bind}
-use Rattle.command_text.specs.declared.words.Command.TheVariants as commands
+use Rattle.command_line.specs.declared.command.Bind.{Bind}
+use Rattle.command_line.specs.declared.command.Command.TheVariants as commands
 use Rattle.ldso_cli.specs.Bind.{BindComes, BindPrints, Loads, ask_of, cause_of, namespace_of, nothing_loaded, objects_text, program_load, unopened}
 use Rattle.ldso_cli.specs.Command.{Answers}
 use Rattle.ldso_cli.specs.End.{bare}

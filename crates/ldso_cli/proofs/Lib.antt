@@ -1,3 +1,4 @@
+pub mod Asking
 pub mod Assembling
 pub mod Causes
 pub mod Decided
@@ -5,3 +6,4 @@ pub mod Dumping
 pub mod Ending
 pub mod Same
 pub mod Whole
+pub mod Written

@@ -5,9 +5,9 @@ use Rattle.ld_base.specs.declared.linking.Loaded.{Loaded}
 use Rattle.scope_rule.specs.Load.{Brings, Load, Walk, records_of}
 use Rattle.command_text.specs.DumpLines.{dump_text}
 use Rattle.command_text.specs.Lines.{bound_text}
-use Rattle.command_text.specs.declared.words.Bind.{Bind}
-use Rattle.command_text.specs.declared.words.Command.{Command}
-use Rattle.command_text.specs.declared.words.Command.TheVariants as commands
+use Rattle.command_line.specs.declared.command.Bind.{Bind}
+use Rattle.command_line.specs.declared.command.Command.{Command}
+use Rattle.command_line.specs.declared.command.Command.TheVariants as commands
 use Rattle.ldso_cli.proofs.Assembling.{OneObject, asm_text}
 use Rattle.ldso_cli.specs.Bind.{BindPrints, IsBound, Loads, namespace_of, program_load}
 use Rattle.ldso_cli.specs.Command.{Prints}
@@ -53,4 +53,7 @@ dumped_text path files causes.Memory a b p q = absurd p
 pub one_text : OneWalk → OneObject → (command : Command) (files : List File) (end : End) (a b : List ℕ) → Prints command files end a → Prints command files end b → a ≡ b
 one_text law sources (commands.Bind bind) files end a b p q = bind_text law bind files end.cause a b p q
 one_text law sources (commands.Dump path) files end a b p q = dumped_text path files end.cause a b p q
-one_text law sources (commands.Asm path) files end a b p q = asm_text sources path files end.cause a b p q
+one_text law sources (commands.Assemble path) files end a b p q = asm_text sources path files end.cause a b p q
+one_text law sources (commands.Turns turns) files end a b p q = absurd p
+one_text law sources (commands.Run run) files end a b p q = absurd p
+one_text law sources (commands.Generate number) files end a b p q = absurd p

@@ -4,8 +4,9 @@ use Rattle.std.specs.Io.KnownBytes.{append_known}
 use Rattle.ld_base.specs.declared.fault.DlFault.TheVariants as dl
 use Rattle.ld_base.specs.declared.linking.File.{File}
 use Rattle.library_source.specs.Files.{Over}
-use Rattle.command_text.specs.Words.{reads}
-use Rattle.command_text.specs.declared.words.Command.{Command}
+use Rattle.command_line.specs.declared.command.Command.{Command}
+use Rattle.command_line.specs.Reads.{OneCommand}
+use Rattle.ldso_cli.proofs.Asking.{one_asked}
 use Rattle.ldso_cli.proofs.Assembling.{SourceLaw}
 use Rattle.ldso_cli.proofs.Decided.{NotBoth, OneStop, one_end}
 use Rattle.ldso_cli.proofs.Same.{OneWalk, one_text}
@@ -60,7 +61,11 @@ module _ (handed handed' : Handing) (one_walk : OneWalk) (one_stop : OneStop) (n
       let prints : Prints command files first.end two.text = subst (λ (e : End). Prints command files e two.text) (sym end) b.prints in
       come_to_one (Some command) one two end (one_text one_walk sources.one command files first.end one.text two.text a.prints prints)
 
-pub one_answer : OneWalk → OneStop → NotBoth → SourceLaw → (handed handed' : Handing) (words : List (List ℕ)) (files : List File) (first second : RunAt) → IsUndisturbed handed words files first → IsUndisturbed handed' words files second → ComeToOne handed handed' first second
-one_answer one_walk one_stop not_both sources handed handed' words files first second p q =
-    one_of handed handed' one_walk one_stop not_both sources files first second p.told q.told (reads words)
-    (told handed (reads words) first p.writes_well p.has_memory p.ends) (told handed' (reads words) second q.writes_well q.has_memory q.ends) p.reads_well q.reads_well
+pub one_answer : OneCommand → OneWalk → OneStop → NotBoth → SourceLaw → (handed handed' : Handing) (words : List (List ℕ)) (files : List File) (first second : RunAt) → IsUndisturbed handed words files first
+    → IsUndisturbed handed' words files second → ComeToOne handed handed' first second
+one_answer one one_walk one_stop not_both sources handed handed' words files first second p q =
+    let same : q.ends.asked ≡ p.ends.asked = one_asked one words q.ends.asked p.ends.asked q.ends.asks p.ends.asks in
+    let ends : Ends handed' p.ends.asked second.before second.after second.old second.new second.end =
+    subst (λ (c : Option Command). Ends handed' c second.before second.after second.old second.new second.end) same q.ends.holds in
+    one_of handed handed' one_walk one_stop not_both sources files first second p.told q.told p.ends.asked (told handed p.ends.asked first p.writes_well p.has_memory p.ends.holds)
+    (told handed' p.ends.asked second q.writes_well q.has_memory ends) p.reads_well q.reads_well

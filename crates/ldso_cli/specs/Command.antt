@@ -4,8 +4,8 @@ use Rattle.ld_base.specs.declared.fault.DlFault.TheVariants as dl
 use Rattle.ld_base.specs.declared.linking.File.{File}
 use Rattle.library_source.specs.Count.{Rises}
 use Rattle.library_source.specs.Files.{Over}
-use Rattle.command_text.specs.declared.words.Command.{Command}
-use Rattle.command_text.specs.declared.words.Command.TheVariants.{Asm, Bind, Dump}
+use Rattle.command_line.specs.declared.command.Command.{Command}
+use Rattle.command_line.specs.declared.command.Command.TheVariants as commands
 use Rattle.ldso_cli.specs.Asm.{AsmComes, AsmPrints}
 use Rattle.ldso_cli.specs.Bind.{BindComes, BindMisses, BindPrints}
 use Rattle.ldso_cli.specs.Dump.{DumpComes, DumpPrints}
@@ -22,23 +22,32 @@ pub record EndsBare (comes : Cause → Type 0) (end : End) : Type 0 where
   pub end_is : end ≡ bare cause
   pub by : comes cause
 
--- how a command comes to an end over files, while its library goes on from one state to another
+-- how a command comes to an end over files, while its library goes on from one state to another; one that isn't built comes to none
 abbrev pub Comes : Command → LibraryAt → LibraryAt → List File → End → Type 0
-Comes (Bind bind) before after files end = EndsBare (BindComes bind before after files) end
-Comes (Dump path) before after files end = EndsBare (DumpComes path before after files) end
-Comes (Asm path) before after files end = EndsBare (AsmComes path before after files) end
+Comes (commands.Bind bind) before after files end = EndsBare (BindComes bind before after files) end
+Comes (commands.Dump path) before after files end = EndsBare (DumpComes path before after files) end
+Comes (commands.Assemble path) before after files end = EndsBare (AsmComes path before after files) end
+Comes (commands.Turns turns) before after files end = ⊥
+Comes (commands.Run run) before after files end = ⊥
+Comes (commands.Generate number) before after files end = ⊥
 
 -- the text that a command prints at an end, over files
 abbrev pub Prints : Command → List File → End → List ℕ → Type 0
-Prints (Bind bind) files end text = BindPrints bind files end.cause text
-Prints (Dump path) files end text = DumpPrints path files end.cause text
-Prints (Asm path) files end text = AsmPrints path files end.cause text
+Prints (commands.Bind bind) files end text = BindPrints bind files end.cause text
+Prints (commands.Dump path) files end text = DumpPrints path files end.cause text
+Prints (commands.Assemble path) files end text = AsmPrints path files end.cause text
+Prints (commands.Turns turns) files end text = ⊥
+Prints (commands.Run run) files end text = ⊥
+Prints (commands.Generate number) files end text = ⊥
 
 -- the library missed each file that a command's name could be
 abbrev pub Misses : Command → LibraryAt → LibraryAt → List ℕ → Type 0
-Misses (Bind bind) before after name = Over before.files (BindMisses bind before after name)
-Misses (Dump path) before after name = (name ≡ path) × Rises before.misses after.misses
-Misses (Asm path) before after name = (name ≡ path) × Rises before.misses after.misses
+Misses (commands.Bind bind) before after name = Over before.files (BindMisses bind before after name)
+Misses (commands.Dump path) before after name = (name ≡ path) × Rises before.misses after.misses
+Misses (commands.Assemble path) before after name = (name ≡ path) × Rises before.misses after.misses
+Misses (commands.Turns turns) before after name = ⊥
+Misses (commands.Run run) before after name = ⊥
+Misses (commands.Generate number) before after name = ⊥
 
 -- the end isn't that of a failed read
 abbrev pub NoReadFails : End → Type 0

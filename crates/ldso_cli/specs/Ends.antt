@@ -7,8 +7,8 @@ use Rattle.library_source.specs.Count.{Rises}
 use Rattle.library_source.specs.Writing.{TakesFront}
 use Rattle.library_source.specs.declared.sink.WriteError.{WriteError}
 use Rattle.library_source.specs.declared.sink.WriteError.TheVariants as writes
-use Rattle.command_text.specs.declared.words.Command.{Command}
-use Rattle.command_text.specs.Words.{reads}
+use Rattle.command_line.specs.declared.command.Command.{Command}
+use Rattle.ldso_cli.specs.Asked.{OfAsked}
 use Rattle.ldso_cli.specs.Command.{Answers, Misses, NoReadFails}
 use Rattle.ldso_cli.specs.End.{bare}
 use Rattle.ldso_cli.specs.Outside.{LibraryAt, SinkAt}
@@ -63,7 +63,7 @@ Ends handed command before after old new end = IsAnswered handed command before 
 
 -- each cause comes only where it is so
 pub record IsCaused (command : Option Command) (before after : LibraryAt) (old new : SinkAt) (cause : Cause) : Type 0 where
-  -- exactly where the words are no command, unless the text couldn't be written
+  -- exactly where the words ask for no command, unless the text couldn't be written
   pub usage : cause ≡ causes.Usage → command ≡ None
   pub no_command : command ≡ None → (cause ≡ causes.Usage) ⊎ (cause ≡ causes.WriteFault) ⊎ (cause ≡ causes.Memory)
   -- only where the library failed, or missed a file, or the sink failed
@@ -82,7 +82,7 @@ pub record RunAt : Type 0 where
 -- a call with these words over these files, which the library tells, in which no read and no write fails and memory suffices
 pub record IsUndisturbed (handed : Handing) (words : List (List ℕ)) (files : List File) (run : RunAt) : Type 0 where
   pub told : run.before.files ≡ Some files
-  pub ends : Ends handed (reads words) run.before run.after run.old run.new run.end
+  pub ends : OfAsked words (λ command. Ends handed command run.before run.after run.old run.new run.end)
   pub reads_well : NoReadFails run.end
   pub writes_well : run.end.cause ≢ causes.WriteFault
   pub has_memory : run.end.cause ≢ causes.Memory

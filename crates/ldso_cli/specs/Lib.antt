@@ -1,3 +1,4 @@
+pub mod Asked
 pub mod Asm
 pub mod Bind
 pub mod Command

@@ -7,7 +7,7 @@ ghost use Rattle.ldso_cli.specs.Outside.{library_at};
 
 use crate::answer::{Answer, asm_refused, assembled, refused};
 use asm_object::{AsmFault, assemble};
-use command_text::Command;
+use command_line::Command;
 use ld_base::{DlFault, Name};
 use library_source::{Library, ReadError};
 use std::alloc::{AllocError, Global};
@@ -29,7 +29,7 @@ pub(crate) fn asm<L: Library>(
     path: Name,
     library: &mut L,
 ) -> Result<Answer, AllocError>
-    ensures answers { IfOk result (λ answer. Answers (Some (Command.Asm path)) (library_at L.files L.faults L.misses library.old)
+    ensures answers { IfOk result (λ answer. Answers (Some (Command.Assemble path)) (library_at L.files L.faults L.misses library.old)
         (library_at L.files L.faults L.misses library.new) answer.end answer.text) }
 
     // What the library is left as.

@@ -13,7 +13,8 @@ ghost use Rattle.ldso_cli.specs.End.{bare};
 ghost use Rattle.ldso_cli.specs.Outside.{library_at};
 
 use crate::answer::{Answer, done, refused};
-use command_text::{Bind, Binding, Command, bind_objects};
+use command_line::{Bind, Command};
+use command_text::{Binding, bind_objects};
 use elf_object::one_object;
 use ld_base::{Added, DlFault, HartId, NsId, Serial, Serials};
 use library_source::Library;

@@ -2,12 +2,13 @@
 
 ghost use Rattle.std.specs.Prelude.{◌≡◌, ℕ, List};
 ghost use Rattle.ld_base.specs.declared.linking.File.{File};
-ghost use Rattle.command_text.specs.declared.words.Command.{Command};
+ghost use Rattle.command_line.specs.declared.command.Command.{Command};
 ghost use Rattle.ldso_cli.specs.Command.{Comes, NoReadFails, Prints};
 ghost use Rattle.ldso_cli.specs.Ends.{ComeToOne, IsUndisturbed, RunAt};
 ghost use Rattle.ldso_cli.specs.Outside.{LibraryAt, handed_to};
 ghost use Rattle.ldso_cli.specs.declared.outcome.End.{End};
 
+use command_line::words_are_one_command;
 use library_source::Sink;
 use scope_rule::one_outcome;
 
@@ -18,6 +19,7 @@ pub fn one_answer<K: Sink, J: Sink>()
         IsUndisturbed (handed_to K.writes old new) words files first → IsUndisturbed (handed_to J.writes old' new') words files second →
         ComeToOne (handed_to K.writes old new) (handed_to J.writes old' new') first second }
 {
+    words_are_one_command();
     one_outcome();
     asm_denotes::one_answer();
 }

@@ -1,8 +1,8 @@
 //! The command `ldso`: which definition each procedure linkage slot of a program gets, what an object
 //! holds, and the object that an assembler source denotes.
 //!
-//! [`ldso`] is the whole of it, over any library of files and any sink of bytes. What its words and
-//! its texts are stands in `command_text`.
+//! [`ldso`] is the whole of it, over any library of files and any sink of bytes. Which command words are
+//! stands in `command_line`, and what its texts are in `command_text`.
 #![tactic(auto)]
 
 mod answer;

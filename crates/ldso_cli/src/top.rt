@@ -1,8 +1,8 @@
 //! The top call.
 
-ghost use Rattle.std.specs.Prelude.{◌≡◌, ◌≤◌, map, IfOk, MatchResult};
-ghost use Rattle.std.specs.String.{string_bytes};
-ghost use Rattle.command_text.specs.Words.{reads};
+ghost use Rattle.std.specs.Prelude.{◌≡◌, ◌≤◌, IfOk, MatchResult};
+ghost use Rattle.said_words.specs.Words.{texts};
+ghost use Rattle.ldso_cli.specs.Asked.{OfAsked};
 ghost use Rattle.ldso_cli.specs.Command.{Answers};
 ghost use Rattle.ldso_cli.specs.End.{end_of};
 ghost use Rattle.ldso_cli.specs.Ends.{Ends, IsCaused, IsUnanswered, Written};
@@ -14,23 +14,12 @@ use crate::asm::asm;
 use crate::bind::bind;
 use crate::dump::dump;
 use crate::outcome::{Cause, End, Outcome};
-use command_text::{Command, reads};
-use ld_base::{Name, Names};
+use command_line::{Command, words_are_one_command};
+use command_read::{WordsFault, read_command};
 use library_source::{Library, Sink, WriteError, put_all};
 use std::alloc::{AllocError, Global};
 use std::sync::Wait;
 use std::thread::Threads;
-
-/// The words as lists of bytes.
-fn bytes_of(alloc: Global, words: &[String]) -> Result<Names, AllocError>
-    ensures { IfOk result (λ names. names ≡ map (λ word. string_bytes word) words.now) }
-{
-    let mut names = Names::new(alloc);
-    for word in words {
-        names.push(Name::new(alloc, word.as_bytes())?)?;
-    }
-    Ok(names)
-}
 
 /// What the words come to.
 fn answer<L: Library>(
@@ -38,18 +27,21 @@ fn answer<L: Library>(
     words: &[String],
     library: &mut L,
 ) -> Result<Answer, AllocError>
-    ensures answers { IfOk result (λ answer. Answers (reads (map (λ word. string_bytes word) words.now)) (library_at L.files L.faults L.misses library.old)
-        (library_at L.files L.faults L.misses library.new) answer.end answer.text) }
+    ensures answers { OfAsked (texts words.now) (λ command. IfOk result (λ answer. Answers command (library_at L.files L.faults L.misses library.old)
+        (library_at L.files L.faults L.misses library.new) answer.end answer.text)) }
     ensures files { L.files library.new ≡ L.files library.old }
     ensures faults { L.faults library.old ≤ L.faults library.new }
     ensures misses { L.misses library.old ≤ L.misses library.new }
 {
-    let words = bytes_of(alloc, words)?;
-    match reads(alloc, words.as_slice())? {
-        Some(Command::Bind(command)) => bind(alloc, command, library),
-        Some(Command::Dump(path)) => dump(alloc, path, library),
-        Some(Command::Asm(path)) => asm(alloc, path, library),
-        None => usage(alloc),
+    words_are_one_command();
+    match read_command(alloc, words) {
+        Ok(Command::Bind(command)) => bind(alloc, command, library),
+        Ok(Command::Dump(path)) => dump(alloc, path, library),
+        Ok(Command::Assemble(path)) => asm(alloc, path, library),
+        // These aren't built yet.
+        Ok(Command::Turns(_) | Command::Run(_) | Command::Generate(_)) => usage(alloc),
+        Err(WordsFault::Usage) => usage(alloc),
+        Err(WordsFault::Memory) => Err(AllocError),
     }
 }
 
@@ -87,11 +79,12 @@ pub fn ldso<R: Threads + Wait + Sync, L: Library + Send + Drop, K: Sink>(
     out: &mut K,
 ) -> (Outcome, L)
     // How it ends, the text that it prints then, and how that was written.
-    ensures ends { Ends (handed_to K.writes out.old out.new)
-        (reads (map (λ word. string_bytes word) words.items)) (library_at L.files L.faults L.misses library)
-        (library_at L.files L.faults L.misses result.1) (sink_at K.taken K.faults out.old) (sink_at K.taken K.faults out.new) (end_of result.0) }
-    ensures causes { IsCaused (reads (map (λ word. string_bytes word) words.items)) (library_at L.files L.faults L.misses library)
-        (library_at L.files L.faults L.misses result.1) (sink_at K.taken K.faults out.old) (sink_at K.taken K.faults out.new) result.0.cause }
+    ensures ends { OfAsked (texts words.items) (λ command. Ends (handed_to K.writes out.old out.new)
+        command (library_at L.files L.faults L.misses library) (library_at L.files L.faults L.misses result.1)
+        (sink_at K.taken K.faults out.old) (sink_at K.taken K.faults out.new) (end_of result.0)) }
+    ensures causes { OfAsked (texts words.items) (λ command. IsCaused
+        command (library_at L.files L.faults L.misses library) (library_at L.files L.faults L.misses result.1)
+        (sink_at K.taken K.faults out.old) (sink_at K.taken K.faults out.new) result.0.cause) }
     ensures status { result.0.status ≡ status_of (end_of result.0) }
 
     // What the library and the sink are left as.

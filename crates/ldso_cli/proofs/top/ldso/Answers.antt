@@ -1,22 +1,38 @@
-use Rattle.std.proofs.Common.{◌≡◌, map, ap, subst, sym, String, Global, List, ℕ}
-use Rattle.std.specs.String.{string_bytes}
-use Rattle.command_text.specs.Words.{reads}
-use Rattle.ldso_cli.specs.Ends.{IsCaused}
+use Rattle.std.proofs.Common.{◌≡◌, Option, ap, subst, sym, String, Global, List}
+use Rattle.command_line.specs.declared.command.Command.{Command}
+use Rattle.said_words.specs.Words.{texts}
+use Rattle.ldso_cli.specs.Asked.{OfAsked}
+use Rattle.ldso_cli.specs.Command.{Answers}
+use Rattle.ldso_cli.specs.Ends.{Ends, IsCaused}
 use Rattle.ldso_cli.specs.Outside.{handed_to, library_at, sink_at}
 use Rattle.ldso_cli.specs.declared.outcome.Cause.{Cause}
 use Rattle.ldso_cli.specs.declared.outcome.End.{End}
+use Rattle.ldso_cli.proofs.Asking.{along}
 use Rattle.ldso_cli.proofs.Causes.{end_caused}
+use Rattle.ldso_cli.proofs.Written.{ended}
 use Rattle.ldso_cli.proofs.top.ldso.Goals as goal
 
-pub returns-clause-causes : goal.returns-clause-causes
-returns-clause-causes g c =
-    let command = reads (map (λ (word : String Global). string_bytes word) c.args.words.items) in
+pub returns-clause-ends : goal.returns-clause-ends
+returns-clause-ends g c =
     let before = library_at g.L.Library.files g.L.Library.faults g.L.Library.misses c.args.library in
     let after = library_at g.L.Library.files g.L.Library.faults g.L.Library.misses c.answer-answer.new.library in
     let old = sink_at g.K.Sink.taken g.K.Sink.faults c.args.out.now in
     let new = sink_at g.K.Sink.taken g.K.Sink.faults c.write_answer-end.new.out in
+    let handed = handed_to g.K.Sink.writes c.args.out.now c.write_answer-end.new.out in
+    let P : Option Command → End → Type 0 = λ command end. Ends handed command before after old new end in
+    along (texts c.as_slice.result.now) (texts c.args.words.items) (ap (λ (ws : List (String Global)). texts ws) c.as_slice.ensures.value)
+    (λ command answers. subst (P command) (sym c.into_outcome.ensures.end) (ended handed command before after old new c.answer-answer.result c.write_answer-end.result answers c.write_answer-end.ensures.written))
+    c.answer-answer.ensures.answers
+
+pub returns-clause-causes : goal.returns-clause-causes
+returns-clause-causes g c =
+    let before = library_at g.L.Library.files g.L.Library.faults g.L.Library.misses c.args.library in
+    let after = library_at g.L.Library.files g.L.Library.faults g.L.Library.misses c.answer-answer.new.library in
+    let old = sink_at g.K.Sink.taken g.K.Sink.faults c.args.out.now in
+    let new = sink_at g.K.Sink.taken g.K.Sink.faults c.write_answer-end.new.out in
+    let handed = handed_to g.K.Sink.writes c.args.out.now c.write_answer-end.new.out in
     let same : c.into_outcome.result.cause ≡ c.write_answer-end.result.cause = ap (λ (e : End). e.cause) c.into_outcome.ensures.end in
-    let P : Cause → Type 0 = λ cause. IsCaused command before after old new cause in
-    subst P (sym same)
-    (end_caused (handed_to g.K.Sink.writes c.args.out.now c.write_answer-end.new.out) command before after old new c.answer-answer.result c.write_answer-end.result
-    (rw c.as_slice.ensures.value at c.answer-answer.ensures.answers) c.write_answer-end.ensures.written)
+    let P : Option Command → Cause → Type 0 = λ command cause. IsCaused command before after old new cause in
+    along (texts c.as_slice.result.now) (texts c.args.words.items) (ap (λ (ws : List (String Global)). texts ws) c.as_slice.ensures.value)
+    (λ command answers. subst (P command) (sym same) (end_caused handed command before after old new c.answer-answer.result c.write_answer-end.result answers c.write_answer-end.ensures.written))
+    c.answer-answer.ensures.answers

@@ -1,6 +1,0 @@
-use Rattle.std.proofs.Common.{◌≡◌, map, take}
-use Rattle.command_text.proofs.words.parts_of.Given as goal
-
--- the names so far are the parts so far
-abbrev pub invariant-loop-part : goal.invariant-loop-part
-invariant-loop-part l = l.names ≡ map (λ part. part.now) (take l.part-index l.part-items)
