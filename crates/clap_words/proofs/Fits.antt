@@ -7,8 +7,8 @@ use Rattle.std.proofs.lemmas.Bool.{true≢false}
 use Rattle.clap.specs.Simple.{built, is_simple}
 use Rattle.clap.specs.Takes.{default_passes, is_valid}
 use Rattle.clap.specs.Walk.{Row, Rule, Text}
-use Rattle.command_line.specs.declared.choice.Choice.{Choice}
-use Rattle.command_line.specs.declared.choice.Choice.TheVariants as choices
+use Rattle.command_line.specs.declared.switch.Switch.{Switch}
+use Rattle.command_line.specs.declared.switch.Switch.TheVariants as switches
 use Rattle.command_line.specs.Options.{has_value}
 use Rattle.clap_words.specs.declared.form.Form.{Form}
 use Rattle.clap_words.specs.declared.form.Form.TheVariants as forms
@@ -33,7 +33,7 @@ pub record Fits (form : Form) (name : Text) : Type 0 where
   pub defaults : list_all default_passes (rules_of form name) ≡ true
   pub valid : (rs : List Row) → is_valid (built (app_of name form)).top rs false ≡ true
   -- no option with a value, and no other word, has a default
-  pub quiet : (c : Choice) → has_value c ≡ true → list_all (is_quiet (id_of c)) (rules_of form name) ≡ true
+  pub quiet : (c : Switch) → has_value c ≡ true → list_all (is_quiet (id_of c)) (rules_of form name) ≡ true
   pub quiet_words : AreQuiet (names_of form) (rules_of form name)
 
 none_some : {A X : Type 0} (x : X) → None ≡ Some x → A
@@ -45,66 +45,66 @@ no_value e = absurd (true≢false (sym e))
 -- ---- options
 
 bind_options : (name : Text) → FindsOptions (rules_of forms.Bind name) (options_of forms.Bind)
-bind_options name choices.Lib is = (refl, refl)
-bind_options name choices.Preload is = (refl, refl)
-bind_options name choices.Harts is = none_some choices.Harts is
-bind_options name choices.Fuel is = none_some choices.Fuel is
-bind_options name choices.Now is = (refl, refl)
-bind_options name choices.Trace is = none_some choices.Trace is
+bind_options name switches.Lib is = (refl, refl)
+bind_options name switches.Preload is = (refl, refl)
+bind_options name switches.Harts is = none_some switches.Harts is
+bind_options name switches.Fuel is = none_some switches.Fuel is
+bind_options name switches.Now is = (refl, refl)
+bind_options name switches.Trace is = none_some switches.Trace is
 
 turns_options : (name : Text) → FindsOptions (rules_of forms.Turns name) (options_of forms.Turns)
-turns_options name choices.Lib is = (refl, refl)
-turns_options name choices.Preload is = (refl, refl)
-turns_options name choices.Harts is = (refl, refl)
-turns_options name choices.Fuel is = (refl, refl)
-turns_options name choices.Now is = (refl, refl)
-turns_options name choices.Trace is = none_some choices.Trace is
+turns_options name switches.Lib is = (refl, refl)
+turns_options name switches.Preload is = (refl, refl)
+turns_options name switches.Harts is = (refl, refl)
+turns_options name switches.Fuel is = (refl, refl)
+turns_options name switches.Now is = (refl, refl)
+turns_options name switches.Trace is = none_some switches.Trace is
 
 run_options : (name : Text) → FindsOptions (rules_of forms.Run name) (options_of forms.Run)
-run_options name choices.Lib is = (refl, refl)
-run_options name choices.Preload is = (refl, refl)
-run_options name choices.Harts is = (refl, refl)
-run_options name choices.Fuel is = (refl, refl)
-run_options name choices.Now is = (refl, refl)
-run_options name choices.Trace is = (refl, refl)
+run_options name switches.Lib is = (refl, refl)
+run_options name switches.Preload is = (refl, refl)
+run_options name switches.Harts is = (refl, refl)
+run_options name switches.Fuel is = (refl, refl)
+run_options name switches.Now is = (refl, refl)
+run_options name switches.Trace is = (refl, refl)
 
 -- ---- names
 
 -- a name is none of the options'
 abbrev IsApart : Text → Type 0
-IsApart name = (c : Choice) → (bytes_eq (id_of c) name ≡ false) × (bytes_eq name (id_of c) ≡ false)
+IsApart name = (c : Switch) → (bytes_eq (id_of c) name ≡ false) × (bytes_eq name (id_of c) ≡ false)
 
 program_apart : IsApart (codes "program")
-program_apart choices.Lib = (refl, refl)
-program_apart choices.Preload = (refl, refl)
-program_apart choices.Harts = (refl, refl)
-program_apart choices.Fuel = (refl, refl)
-program_apart choices.Now = (refl, refl)
-program_apart choices.Trace = (refl, refl)
+program_apart switches.Lib = (refl, refl)
+program_apart switches.Preload = (refl, refl)
+program_apart switches.Harts = (refl, refl)
+program_apart switches.Fuel = (refl, refl)
+program_apart switches.Now = (refl, refl)
+program_apart switches.Trace = (refl, refl)
 
 schedule_apart : IsApart (codes "schedule")
-schedule_apart choices.Lib = (refl, refl)
-schedule_apart choices.Preload = (refl, refl)
-schedule_apart choices.Harts = (refl, refl)
-schedule_apart choices.Fuel = (refl, refl)
-schedule_apart choices.Now = (refl, refl)
-schedule_apart choices.Trace = (refl, refl)
+schedule_apart switches.Lib = (refl, refl)
+schedule_apart switches.Preload = (refl, refl)
+schedule_apart switches.Harts = (refl, refl)
+schedule_apart switches.Fuel = (refl, refl)
+schedule_apart switches.Now = (refl, refl)
+schedule_apart switches.Trace = (refl, refl)
 
 path_apart : IsApart (codes "path")
-path_apart choices.Lib = (refl, refl)
-path_apart choices.Preload = (refl, refl)
-path_apart choices.Harts = (refl, refl)
-path_apart choices.Fuel = (refl, refl)
-path_apart choices.Now = (refl, refl)
-path_apart choices.Trace = (refl, refl)
+path_apart switches.Lib = (refl, refl)
+path_apart switches.Preload = (refl, refl)
+path_apart switches.Harts = (refl, refl)
+path_apart switches.Fuel = (refl, refl)
+path_apart switches.Now = (refl, refl)
+path_apart switches.Trace = (refl, refl)
 
 number_apart : IsApart (codes "number")
-number_apart choices.Lib = (refl, refl)
-number_apart choices.Preload = (refl, refl)
-number_apart choices.Harts = (refl, refl)
-number_apart choices.Fuel = (refl, refl)
-number_apart choices.Now = (refl, refl)
-number_apart choices.Trace = (refl, refl)
+number_apart switches.Lib = (refl, refl)
+number_apart switches.Preload = (refl, refl)
+number_apart switches.Harts = (refl, refl)
+number_apart switches.Fuel = (refl, refl)
+number_apart switches.Now = (refl, refl)
+number_apart switches.Trace = (refl, refl)
 
 alone : (name : Text) → IsApart name → AreApart (name ∷ [])
 alone name apart = (λ c. (apart c).0, λ c. (apart c).1, refl, tt)
@@ -114,45 +114,45 @@ both = (λ c. (schedule_apart c).0, λ c. (schedule_apart c).1, refl, alone (cod
 
 -- ---- quiet arguments
 
-bind_quiet : (name : Text) (c : Choice) → has_value c ≡ true → list_all (is_quiet (id_of c)) (rules_of forms.Bind name) ≡ true
-bind_quiet name choices.Lib valued = refl
-bind_quiet name choices.Preload valued = refl
-bind_quiet name choices.Harts valued = refl
-bind_quiet name choices.Fuel valued = refl
-bind_quiet name choices.Now valued = no_value valued
-bind_quiet name choices.Trace valued = no_value valued
+bind_quiet : (name : Text) (c : Switch) → has_value c ≡ true → list_all (is_quiet (id_of c)) (rules_of forms.Bind name) ≡ true
+bind_quiet name switches.Lib valued = refl
+bind_quiet name switches.Preload valued = refl
+bind_quiet name switches.Harts valued = refl
+bind_quiet name switches.Fuel valued = refl
+bind_quiet name switches.Now valued = no_value valued
+bind_quiet name switches.Trace valued = no_value valued
 
-turns_quiet : (name : Text) (c : Choice) → has_value c ≡ true → list_all (is_quiet (id_of c)) (rules_of forms.Turns name) ≡ true
-turns_quiet name choices.Lib valued = refl
-turns_quiet name choices.Preload valued = refl
-turns_quiet name choices.Harts valued = refl
-turns_quiet name choices.Fuel valued = refl
-turns_quiet name choices.Now valued = no_value valued
-turns_quiet name choices.Trace valued = no_value valued
+turns_quiet : (name : Text) (c : Switch) → has_value c ≡ true → list_all (is_quiet (id_of c)) (rules_of forms.Turns name) ≡ true
+turns_quiet name switches.Lib valued = refl
+turns_quiet name switches.Preload valued = refl
+turns_quiet name switches.Harts valued = refl
+turns_quiet name switches.Fuel valued = refl
+turns_quiet name switches.Now valued = no_value valued
+turns_quiet name switches.Trace valued = no_value valued
 
-run_quiet : (name : Text) (c : Choice) → has_value c ≡ true → list_all (is_quiet (id_of c)) (rules_of forms.Run name) ≡ true
-run_quiet name choices.Lib valued = refl
-run_quiet name choices.Preload valued = refl
-run_quiet name choices.Harts valued = refl
-run_quiet name choices.Fuel valued = refl
-run_quiet name choices.Now valued = no_value valued
-run_quiet name choices.Trace valued = no_value valued
+run_quiet : (name : Text) (c : Switch) → has_value c ≡ true → list_all (is_quiet (id_of c)) (rules_of forms.Run name) ≡ true
+run_quiet name switches.Lib valued = refl
+run_quiet name switches.Preload valued = refl
+run_quiet name switches.Harts valued = refl
+run_quiet name switches.Fuel valued = refl
+run_quiet name switches.Now valued = no_value valued
+run_quiet name switches.Trace valued = no_value valued
 
-path_quiet : (name : Text) (c : Choice) → has_value c ≡ true → list_all (is_quiet (id_of c)) (rules_of forms.Path name) ≡ true
-path_quiet name choices.Lib valued = refl
-path_quiet name choices.Preload valued = refl
-path_quiet name choices.Harts valued = refl
-path_quiet name choices.Fuel valued = refl
-path_quiet name choices.Now valued = no_value valued
-path_quiet name choices.Trace valued = no_value valued
+path_quiet : (name : Text) (c : Switch) → has_value c ≡ true → list_all (is_quiet (id_of c)) (rules_of forms.Path name) ≡ true
+path_quiet name switches.Lib valued = refl
+path_quiet name switches.Preload valued = refl
+path_quiet name switches.Harts valued = refl
+path_quiet name switches.Fuel valued = refl
+path_quiet name switches.Now valued = no_value valued
+path_quiet name switches.Trace valued = no_value valued
 
-number_quiet : (name : Text) (c : Choice) → has_value c ≡ true → list_all (is_quiet (id_of c)) (rules_of forms.Number name) ≡ true
-number_quiet name choices.Lib valued = refl
-number_quiet name choices.Preload valued = refl
-number_quiet name choices.Harts valued = refl
-number_quiet name choices.Fuel valued = refl
-number_quiet name choices.Now valued = no_value valued
-number_quiet name choices.Trace valued = no_value valued
+number_quiet : (name : Text) (c : Switch) → has_value c ≡ true → list_all (is_quiet (id_of c)) (rules_of forms.Number name) ≡ true
+number_quiet name switches.Lib valued = refl
+number_quiet name switches.Preload valued = refl
+number_quiet name switches.Harts valued = refl
+number_quiet name switches.Fuel valued = refl
+number_quiet name switches.Now valued = no_value valued
+number_quiet name switches.Trace valued = no_value valued
 
 -- ---- forms
 

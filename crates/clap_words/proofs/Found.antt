@@ -9,9 +9,9 @@ use Rattle.std.proofs.lemmas.Slice.Eq.{bytes_eq-Decides}
 use Rattle.clap.specs.Walk.{Row, Rule, Text, arg_by_id, default_rows, first_of, has_row, is_empty, more_values, reading_by, with_default}
 use Rattle.clap.specs.declared.builder.value_parser.Reading.{Reading}
 use Rattle.clap.specs.declared.parser.matches.ValueSource.TheVariants.{DefaultValue}
-use Rattle.command_line.specs.declared.choice.Choice.{Choice}
-use Rattle.command_line.specs.declared.choice.Choice.TheVariants as choices
-use Rattle.command_line.specs.Options.{Piece, Says, all_choices, given, has_value, is_choice, is_of, name_of, option_in, stands, value_in, words_of}
+use Rattle.command_line.specs.declared.switch.Switch.{Switch}
+use Rattle.command_line.specs.declared.switch.Switch.TheVariants as switches
+use Rattle.command_line.specs.Options.{Piece, Says, all_switches, given, has_value, is_switch, is_of, name_of, option_in, stands, value_in, words_of}
 use Rattle.clap_words.specs.Forms.{id_of}
 use Rattle.clap_words.specs.Taken.{AreNamed}
 use Rattle.clap_words.proofs.Rows.{AreApart, alike, missing_at, row, rows}
@@ -24,7 +24,7 @@ AreFormed (Piece.flag c ∷ rest) = (has_value c ≡ false) × AreFormed rest
 AreFormed (Piece.valued c v ∷ rest) = (has_value c ≡ true) × AreFormed rest
 AreFormed (Piece.other word ∷ rest) = AreFormed rest
 
-pub formed : (known : List Choice) (ended : Bool) (words : List Text) (pieces : List Piece) → Says known ended words pieces → AreFormed pieces
+pub formed : (known : List Switch) (ended : Bool) (words : List Text) (pieces : List Piece) → Says known ended words pieces → AreFormed pieces
 formed known ended words pieces (Says.no_more _) = tt
 formed known ended words pieces (Says.ends rest others says) = formed known true rest others says
 formed known ended words pieces (Says.is_word word rest others plain says) = formed known false rest others says
@@ -35,28 +35,28 @@ formed known ended words pieces (Says.is_joined_value c word rest others dashed 
 
 -- ---- options of one name
 
-by_name : (c : Choice) → option_in all_choices (name_of c) ≡ Some c
-by_name choices.Lib = refl
-by_name choices.Preload = refl
-by_name choices.Harts = refl
-by_name choices.Fuel = refl
-by_name choices.Now = refl
-by_name choices.Trace = refl
+by_name : (c : Switch) → option_in all_switches (name_of c) ≡ Some c
+by_name switches.Lib = refl
+by_name switches.Preload = refl
+by_name switches.Harts = refl
+by_name switches.Fuel = refl
+by_name switches.Now = refl
+by_name switches.Trace = refl
 
-same_is : (c d : Choice) → is_choice c d ≡ true → c ≡ d
-same_is c d same = some_is c d (sym (by_name c) ∙ ap (option_in all_choices) ((bytes_eq-Decides (name_of c) (name_of d)).0 same) ∙ by_name d)
+same_is : (c d : Switch) → is_switch c d ≡ true → c ≡ d
+same_is c d same = some_is c d (sym (by_name c) ∙ ap (option_in all_switches) ((bytes_eq-Decides (name_of c) (name_of d)).0 same) ∙ by_name d)
   where
-    some_is : (x y : Choice) → Some x ≡ Some y → x ≡ y
+    some_is : (x y : Switch) → Some x ≡ Some y → x ≡ y
     some_is x y e = cc
 
-differ : (c d : Choice) (v : Bool) → has_value c ≡ v → has_value d ≡ not v → is_choice c d ≡ false
-differ c d v one other = either (is_choice c d) refl
+differ : (c d : Switch) (v : Bool) → has_value c ≡ v → has_value d ≡ not v → is_switch c d ≡ false
+differ c d v one other = either (is_switch c d) refl
   where
     no_both : (b : Bool) → b ≡ not b → ⊥
     no_both true e = true≢false e
     no_both false e = true≢false (sym e)
 
-    either : (b : Bool) → is_choice c d ≡ b → is_choice c d ≡ false
+    either : (b : Bool) → is_switch c d ≡ b → is_switch c d ≡ false
     either true is = absurd (no_both v (sym one ∙ ap has_value (same_is c d is) ∙ other))
     either false is = is
 
@@ -71,16 +71,16 @@ first_value = option_and_then (λ r. slice_get r.values 0)
 abbrev piece_value : Option Piece → Option Text
 piece_value o = elim o [ Some piece ↦ value_in piece | None ↦ None ]
 
-pub value_found : (c : Choice) → has_value c ≡ true → (pieces : List Piece) (names : List Text) → AreFormed pieces → AreApart names → first_of (id_of c) (rows pieces names) ≡ given c pieces
+pub value_found : (c : Switch) → has_value c ≡ true → (pieces : List Piece) (names : List Text) → AreFormed pieces → AreApart names → first_of (id_of c) (rows pieces names) ≡ given c pieces
 value_found c valued [] names form apart = refl
 value_found c valued (Piece.flag d ∷ rest) names form apart =
-    let no : is_choice c d ≡ false = differ c d true valued form.0 in
+    let no : is_switch c d ≡ false = differ c d true valued form.0 in
     ap (λ (t : Bool). first_value (cond t (Some (row (id_of d) (codes "true"))) (row_in (id_of c) (rows rest names)))) (alike c d ∙ no)
     ∙ value_found c valued rest names form.1 apart
     ∙ sym (ap (λ (t : Bool). piece_value (cond t (Some (Piece.flag d)) (find (is_of c) rest))) no)
-value_found c valued (Piece.valued d v ∷ rest) names form apart = either (is_choice c d) refl (value_found c valued rest names form.1 apart)
+value_found c valued (Piece.valued d v ∷ rest) names form apart = either (is_switch c d) refl (value_found c valued rest names form.1 apart)
   where
-    either : (b : Bool) → is_choice c d ≡ b → first_of (id_of c) (rows rest names) ≡ given c rest
+    either : (b : Bool) → is_switch c d ≡ b → first_of (id_of c) (rows rest names) ≡ given c rest
         → first_of (id_of c) (rows (Piece.valued d v ∷ rest) names) ≡ given c (Piece.valued d v ∷ rest)
     either true is later =
         ap (λ (t : Bool). first_value (cond t (Some (row (id_of d) v)) (row_in (id_of c) (rows rest names)))) (alike c d ∙ is)
@@ -95,24 +95,24 @@ value_found c valued (Piece.other word ∷ rest) (name ∷ names) form apart =
     ∙ value_found c valued rest names form apart.3
 
 -- a flag's row, where it stands
-abbrev pub flag_row : Choice → Bool → Option Row
+abbrev pub flag_row : Switch → Bool → Option Row
 flag_row c b = cond b (Some (row (id_of c) (codes "true"))) None
 
-pub flag_found : (c : Choice) → has_value c ≡ false → (pieces : List Piece) (names : List Text) → AreFormed pieces → AreApart names
+pub flag_found : (c : Switch) → has_value c ≡ false → (pieces : List Piece) (names : List Text) → AreFormed pieces → AreApart names
     → row_in (id_of c) (rows pieces names) ≡ flag_row c (stands c pieces)
 flag_found c flag [] names form apart = refl
 flag_found c flag (Piece.valued d v ∷ rest) names form apart =
-    let no : is_choice c d ≡ false = differ c d false flag form.0 in
+    let no : is_switch c d ≡ false = differ c d false flag form.0 in
     ap (λ (t : Bool). cond t (Some (row (id_of d) v)) (row_in (id_of c) (rows rest names))) (alike c d ∙ no)
     ∙ flag_found c flag rest names form.1 apart
     ∙ sym (ap (λ (t : Bool). flag_row c (t || list_any (is_of c) rest)) no)
-flag_found c flag (Piece.flag d ∷ rest) names form apart = either (is_choice c d) refl (flag_found c flag rest names form.1 apart)
+flag_found c flag (Piece.flag d ∷ rest) names form apart = either (is_switch c d) refl (flag_found c flag rest names form.1 apart)
   where
-    either : (b : Bool) → is_choice c d ≡ b → row_in (id_of c) (rows rest names) ≡ flag_row c (stands c rest)
+    either : (b : Bool) → is_switch c d ≡ b → row_in (id_of c) (rows rest names) ≡ flag_row c (stands c rest)
         → row_in (id_of c) (rows (Piece.flag d ∷ rest) names) ≡ flag_row c (stands c (Piece.flag d ∷ rest))
     either true is later =
         ap (λ (t : Bool). cond t (Some (row (id_of d) (codes "true"))) (row_in (id_of c) (rows rest names))) (alike c d ∙ is)
-        ∙ ap (λ (x : Choice). Some (row (id_of x) (codes "true"))) (sym (same_is c d is))
+        ∙ ap (λ (x : Switch). Some (row (id_of x) (codes "true"))) (sym (same_is c d is))
         ∙ sym (ap (λ (t : Bool). flag_row c (t || list_any (is_of c) rest)) is)
     either false is later =
         ap (λ (t : Bool). cond t (Some (row (id_of d) (codes "true"))) (row_in (id_of c) (rows rest names))) (alike c d ∙ is)
@@ -135,7 +135,7 @@ passed_over (name ∷ names) (word ∷ words) r rs none named =
     split true b e = absurd (true≢false e)
     split false b e = (refl, e)
 
-no_name : (c : Choice) (names : List Text) → AreApart names → list_any (bytes_eq (id_of c)) names ≡ false
+no_name : (c : Switch) (names : List Text) → AreApart names → list_any (bytes_eq (id_of c)) names ≡ false
 no_name c [] apart = refl
 no_name c (name ∷ names) apart = ap (λ (t : Bool). t || list_any (bytes_eq (id_of c)) names) (apart.0 c) ∙ no_name c names apart.3
 

@@ -8,8 +8,8 @@ use Rattle.std.proofs.lemmas.List.Sums.{take_while-cons}
 use Rattle.std.proofs.lemmas.Slice.Eq.{bytes_eq-Decides}
 use Rattle.clap.specs.Lexer.{long_of, long_of_rest, short_of, short_of_rest, strip_byte}
 use Rattle.clap.specs.Walk.{Text}
-use Rattle.command_line.specs.declared.choice.Choice.{Choice}
-use Rattle.command_line.specs.declared.choice.Choice.TheVariants as choices
+use Rattle.command_line.specs.declared.switch.Switch.{Switch}
+use Rattle.command_line.specs.declared.switch.Switch.TheVariants as switches
 use Rattle.command_line.specs.Options.{front_of, has_dash, is_joined, is_option, name_of, option_in, value_of}
 use Rattle.clap_words.specs.Forms.{id_of}
 
@@ -58,57 +58,57 @@ no_dash (x ∷ rest) none = stripped x rest none
 
 -- ---- names of options
 
-pub named : (known : List Choice) (word : Text) (c : Choice) → option_in known word ≡ Some c → name_of c ≡ word
+pub named : (known : List Switch) (word : Text) (c : Switch) → option_in known word ≡ Some c → name_of c ≡ word
 named [] word c e = absurd (none_some c e)
   where
-    none_some : (c : Choice) → None ≡ Some c → ⊥
+    none_some : (c : Switch) → None ≡ Some c → ⊥
     none_some c e = let d : None ≡ Some c = e in cc
 named (d ∷ known) word c e = either (bytes_eq (name_of d) word) refl (named known word c)
   where
-    some_is : (x y : Choice) → Some x ≡ Some y → x ≡ y
+    some_is : (x y : Switch) → Some x ≡ Some y → x ≡ y
     some_is x y e = cc
 
     either : (b : Bool) → bytes_eq (name_of d) word ≡ b → (option_in known word ≡ Some c → name_of c ≡ word) → name_of c ≡ word
     either true is later =
         let same : d ≡ c = some_is d c (sym (ap (λ (t : Bool). cond t (Some d) (option_in known word)) is) ∙ e) in
-        subst (λ (x : Choice). name_of x ≡ word) same ((bytes_eq-Decides (name_of d) word).0 is)
+        subst (λ (x : Switch). name_of x ≡ word) same ((bytes_eq-Decides (name_of d) word).0 is)
     either false is later = later (sym (ap (λ (t : Bool). cond t (Some d) (option_in known word)) is) ∙ e)
 
-pub long_is : (c : Choice) → long_of (name_of c) ≡ Some (id_of c, None)
-long_is choices.Lib = refl
-long_is choices.Preload = refl
-long_is choices.Harts = refl
-long_is choices.Fuel = refl
-long_is choices.Now = refl
-long_is choices.Trace = refl
+pub long_is : (c : Switch) → long_of (name_of c) ≡ Some (id_of c, None)
+long_is switches.Lib = refl
+long_is switches.Preload = refl
+long_is switches.Harts = refl
+long_is switches.Fuel = refl
+long_is switches.Now = refl
+long_is switches.Trace = refl
 
-pub no_end_is : (c : Choice) → bytes_eq (name_of c) dashes ≡ false
-no_end_is choices.Lib = refl
-no_end_is choices.Preload = refl
-no_end_is choices.Harts = refl
-no_end_is choices.Fuel = refl
-no_end_is choices.Now = refl
-no_end_is choices.Trace = refl
+pub no_end_is : (c : Switch) → bytes_eq (name_of c) dashes ≡ false
+no_end_is switches.Lib = refl
+no_end_is switches.Preload = refl
+no_end_is switches.Harts = refl
+no_end_is switches.Fuel = refl
+no_end_is switches.Now = refl
+no_end_is switches.Trace = refl
 
 -- with a value behind an equals sign
-abbrev pub joined : Choice → Text → Text
+abbrev pub joined : Switch → Text → Text
 joined c value = name_of c ++ 61 ∷ value
 
-pub long_joined : (c : Choice) (value : Text) → long_of (joined c value) ≡ Some (id_of c, Some value)
-long_joined choices.Lib value = refl
-long_joined choices.Preload value = refl
-long_joined choices.Harts value = refl
-long_joined choices.Fuel value = refl
-long_joined choices.Now value = refl
-long_joined choices.Trace value = refl
+pub long_joined : (c : Switch) (value : Text) → long_of (joined c value) ≡ Some (id_of c, Some value)
+long_joined switches.Lib value = refl
+long_joined switches.Preload value = refl
+long_joined switches.Harts value = refl
+long_joined switches.Fuel value = refl
+long_joined switches.Now value = refl
+long_joined switches.Trace value = refl
 
-pub no_end_joined : (c : Choice) (value : Text) → bytes_eq (joined c value) dashes ≡ false
-no_end_joined choices.Lib value = refl
-no_end_joined choices.Preload value = refl
-no_end_joined choices.Harts value = refl
-no_end_joined choices.Fuel value = refl
-no_end_joined choices.Now value = refl
-no_end_joined choices.Trace value = refl
+pub no_end_joined : (c : Switch) (value : Text) → bytes_eq (joined c value) dashes ≡ false
+no_end_joined switches.Lib value = refl
+no_end_joined switches.Preload value = refl
+no_end_joined switches.Harts value = refl
+no_end_joined switches.Fuel value = refl
+no_end_joined switches.Now value = refl
+no_end_joined switches.Trace value = refl
 
 -- ---- a word with an equals sign is its front, the sign and its value
 
@@ -135,5 +135,5 @@ split (x ∷ xs) is = either (x == 61) refl (split xs)
         let more : is_joined xs ≡ true = sym (ap (λ (t : Bool). t || is_joined xs) e) ∙ is in
         ap (λ (l : Text). x ∷ l) (later more ∙ ap (λ (l : Text). front_of xs ++ 61 ∷ l) (sym (behind (front_of xs)))) ∙ sym (from (front_of (x ∷ xs)) (x ∷ front_of xs) (front false e))
 
-pub is_joined_word : (known : List Choice) (word : Text) (c : Choice) → is_joined word ≡ true → option_in known (front_of word) ≡ Some c → joined c (value_of word) ≡ word
+pub is_joined_word : (known : List Switch) (word : Text) (c : Switch) → is_joined word ≡ true → option_in known (front_of word) ≡ Some c → joined c (value_of word) ≡ word
 is_joined_word known word c is option = ap (λ (f : Text). f ++ 61 ∷ value_of word) (named known (front_of word) c option) ∙ sym (split word is)

@@ -12,14 +12,14 @@ use Rattle.clap.specs.Walk.{Row, Rule, Text, at_row, has_row, more_values, used,
 use Rattle.clap.specs.declared.builder.value_parser.Reading.TheVariants as reading
 use Rattle.clap.specs.declared.parser.matches.ValueSource.{ValueSource}
 use Rattle.clap.specs.declared.parser.matches.ValueSource.TheVariants.{CommandLine}
-use Rattle.command_line.specs.declared.choice.Choice.{Choice}
-use Rattle.command_line.specs.declared.choice.Choice.TheVariants as choices
-use Rattle.command_line.specs.Options.{Piece, has_value, is_choice, is_of}
+use Rattle.command_line.specs.declared.switch.Switch.{Switch}
+use Rattle.command_line.specs.declared.switch.Switch.TheVariants as switches
+use Rattle.command_line.specs.Options.{Piece, has_value, is_switch, is_of}
 use Rattle.clap_words.specs.Forms.{id_of, option_rule}
 
 -- ---- the arguments, once they are built
 
-abbrev pub built_option : Choice → Rule
+abbrev pub built_option : Switch → Rule
 built_option c = filled (option_rule c)
 
 abbrev pub built_word : ℕ → Text → Rule
@@ -62,42 +62,42 @@ appended id s value rs none =
 passes : (b again : Bool) → b ≡ false → ((not b || again) && true) ≡ true
 passes b again none = ap (λ (t : Bool). (not t || again) && true) none
 
-pub flag_passes : (c : Choice) (again : Bool) (rs : List Row) → has_value c ≡ false → has_row (id_of c) rs ≡ false → use_passes again (built_option c) [] rs ≡ true
-flag_passes choices.Lib again rs flag none = absurd (true≢false flag)
-flag_passes choices.Preload again rs flag none = absurd (true≢false flag)
-flag_passes choices.Harts again rs flag none = absurd (true≢false flag)
-flag_passes choices.Fuel again rs flag none = absurd (true≢false flag)
-flag_passes choices.Now again rs flag none = passes (has_row (codes "now") rs) again none
-flag_passes choices.Trace again rs flag none = passes (has_row (codes "trace") rs) again none
+pub flag_passes : (c : Switch) (again : Bool) (rs : List Row) → has_value c ≡ false → has_row (id_of c) rs ≡ false → use_passes again (built_option c) [] rs ≡ true
+flag_passes switches.Lib again rs flag none = absurd (true≢false flag)
+flag_passes switches.Preload again rs flag none = absurd (true≢false flag)
+flag_passes switches.Harts again rs flag none = absurd (true≢false flag)
+flag_passes switches.Fuel again rs flag none = absurd (true≢false flag)
+flag_passes switches.Now again rs flag none = passes (has_row (codes "now") rs) again none
+flag_passes switches.Trace again rs flag none = passes (has_row (codes "trace") rs) again none
 
-pub flag_used : (c : Choice) (rs : List Row) → has_value c ≡ false → has_row (id_of c) rs ≡ false → used (built_option c) [] rs ≡ rs ++ row (id_of c) (codes "true") ∷ []
-flag_used choices.Lib rs flag none = absurd (true≢false flag)
-flag_used choices.Preload rs flag none = absurd (true≢false flag)
-flag_used choices.Harts rs flag none = absurd (true≢false flag)
-flag_used choices.Fuel rs flag none = absurd (true≢false flag)
-flag_used choices.Now rs flag none = appended (codes "now") CommandLine (codes "true") rs none
-flag_used choices.Trace rs flag none = appended (codes "trace") CommandLine (codes "true") rs none
+pub flag_used : (c : Switch) (rs : List Row) → has_value c ≡ false → has_row (id_of c) rs ≡ false → used (built_option c) [] rs ≡ rs ++ row (id_of c) (codes "true") ∷ []
+flag_used switches.Lib rs flag none = absurd (true≢false flag)
+flag_used switches.Preload rs flag none = absurd (true≢false flag)
+flag_used switches.Harts rs flag none = absurd (true≢false flag)
+flag_used switches.Fuel rs flag none = absurd (true≢false flag)
+flag_used switches.Now rs flag none = appended (codes "now") CommandLine (codes "true") rs none
+flag_used switches.Trace rs flag none = appended (codes "trace") CommandLine (codes "true") rs none
 
 no_value : {A : Type 0} → false ≡ true → A
 no_value e = absurd (true≢false (sym e))
 
-pub value_passes : (c : Choice) (again : Bool) (value : Text) (rs : List Row) → has_value c ≡ true → has_row (id_of c) rs ≡ false
+pub value_passes : (c : Switch) (again : Bool) (value : Text) (rs : List Row) → has_value c ≡ true → has_row (id_of c) rs ≡ false
     → use_passes again (built_option c) (value ∷ []) rs ≡ true
-value_passes choices.Lib again value rs valued none = passes (has_row (codes "lib") rs) again none
-value_passes choices.Preload again value rs valued none = passes (has_row (codes "preload") rs) again none
-value_passes choices.Harts again value rs valued none = passes (has_row (codes "harts") rs) again none
-value_passes choices.Fuel again value rs valued none = passes (has_row (codes "fuel") rs) again none
-value_passes choices.Now again value rs valued none = no_value valued
-value_passes choices.Trace again value rs valued none = no_value valued
+value_passes switches.Lib again value rs valued none = passes (has_row (codes "lib") rs) again none
+value_passes switches.Preload again value rs valued none = passes (has_row (codes "preload") rs) again none
+value_passes switches.Harts again value rs valued none = passes (has_row (codes "harts") rs) again none
+value_passes switches.Fuel again value rs valued none = passes (has_row (codes "fuel") rs) again none
+value_passes switches.Now again value rs valued none = no_value valued
+value_passes switches.Trace again value rs valued none = no_value valued
 
-pub value_used : (c : Choice) (value : Text) (rs : List Row) → has_value c ≡ true → has_row (id_of c) rs ≡ false
+pub value_used : (c : Switch) (value : Text) (rs : List Row) → has_value c ≡ true → has_row (id_of c) rs ≡ false
     → used (built_option c) (value ∷ []) rs ≡ rs ++ row (id_of c) value ∷ []
-value_used choices.Lib value rs valued none = appended (codes "lib") CommandLine value rs none
-value_used choices.Preload value rs valued none = appended (codes "preload") CommandLine value rs none
-value_used choices.Harts value rs valued none = appended (codes "harts") CommandLine value rs none
-value_used choices.Fuel value rs valued none = appended (codes "fuel") CommandLine value rs none
-value_used choices.Now value rs valued none = no_value valued
-value_used choices.Trace value rs valued none = no_value valued
+value_used switches.Lib value rs valued none = appended (codes "lib") CommandLine value rs none
+value_used switches.Preload value rs valued none = appended (codes "preload") CommandLine value rs none
+value_used switches.Harts value rs valued none = appended (codes "harts") CommandLine value rs none
+value_used switches.Fuel value rs valued none = appended (codes "fuel") CommandLine value rs none
+value_used switches.Now value rs valued none = no_value valued
+value_used switches.Trace value rs valued none = no_value valued
 
 pub word_passes : (k : ℕ) (name word : Text) (again : Bool) (rs : List Row) → has_row name rs ≡ false → use_passes again (built_word k name) (word ∷ []) rs ≡ true
 word_passes k name word again rs none = passes (has_row name rs) again none
@@ -108,12 +108,12 @@ word_used k name word rs none = appended name CommandLine word rs none
 -- ---- what has no row yet
 
 -- an option that has a row stands no more
-pub record IsOnce (c : Choice) (rs : List Row) (pieces : List Piece) : Type 0 where
+pub record IsOnce (c : Switch) (rs : List Row) (pieces : List Piece) : Type 0 where
   pub free : has_row (id_of c) rs ≡ true → length (filter (is_of c) pieces) ≡ 0
   pub once : length (filter (is_of c) pieces) ≤ 1
 
 abbrev pub AreOnce : List Row → List Piece → Type 0
-AreOnce rs pieces = (c : Choice) → IsOnce c rs pieces
+AreOnce rs pieces = (c : Switch) → IsOnce c rs pieces
 
 -- the names that are left have no row
 abbrev pub AreFresh : List Text → List Row → Type 0
@@ -123,43 +123,43 @@ AreFresh (name ∷ names) rs = (has_row name rs ≡ false) × AreFresh names rs
 -- no name is another's, or an option's
 abbrev pub AreApart : List Text → Type 0
 AreApart [] = ⊤
-AreApart (name ∷ names) = ((c : Choice) → bytes_eq (id_of c) name ≡ false) × ((c : Choice) → bytes_eq name (id_of c) ≡ false) × (list_any (bytes_eq name) names ≡ false) × AreApart names
+AreApart (name ∷ names) = ((c : Switch) → bytes_eq (id_of c) name ≡ false) × ((c : Switch) → bytes_eq name (id_of c) ≡ false) × (list_any (bytes_eq name) names ≡ false) × AreApart names
 
 -- the option of a piece
-pub data IsPieceOf : Choice → Piece → Text → Type 0 where
-  flag : (c : Choice) → IsPieceOf c (Piece.flag c) (codes "true")
-  valued : (c : Choice) (value : Text) → IsPieceOf c (Piece.valued c value) value
+pub data IsPieceOf : Switch → Piece → Text → Type 0 where
+  flag : (c : Switch) → IsPieceOf c (Piece.flag c) (codes "true")
+  valued : (c : Switch) (value : Text) → IsPieceOf c (Piece.valued c value) value
 
-same_choice : (c : Choice) → is_choice c c ≡ true
-same_choice choices.Lib = refl
-same_choice choices.Preload = refl
-same_choice choices.Harts = refl
-same_choice choices.Fuel = refl
-same_choice choices.Now = refl
-same_choice choices.Trace = refl
+same_switch : (c : Switch) → is_switch c c ≡ true
+same_switch switches.Lib = refl
+same_switch switches.Preload = refl
+same_switch switches.Harts = refl
+same_switch switches.Fuel = refl
+same_switch switches.Now = refl
+same_switch switches.Trace = refl
 
-abbrev Alike : Choice → Choice → Type 0
-Alike c d = bytes_eq (id_of d) (id_of c) ≡ is_choice c d
+abbrev Alike : Switch → Switch → Type 0
+Alike c d = bytes_eq (id_of d) (id_of c) ≡ is_switch c d
 
-elim_choice : (c : Choice) → Alike c choices.Lib → Alike c choices.Preload → Alike c choices.Harts → Alike c choices.Fuel → Alike c choices.Now → Alike c choices.Trace
-    → (d : Choice) → Alike c d
-elim_choice c lib preload harts fuel now trace choices.Lib = lib
-elim_choice c lib preload harts fuel now trace choices.Preload = preload
-elim_choice c lib preload harts fuel now trace choices.Harts = harts
-elim_choice c lib preload harts fuel now trace choices.Fuel = fuel
-elim_choice c lib preload harts fuel now trace choices.Now = now
-elim_choice c lib preload harts fuel now trace choices.Trace = trace
+elim_switch : (c : Switch) → Alike c switches.Lib → Alike c switches.Preload → Alike c switches.Harts → Alike c switches.Fuel → Alike c switches.Now → Alike c switches.Trace
+    → (d : Switch) → Alike c d
+elim_switch c lib preload harts fuel now trace switches.Lib = lib
+elim_switch c lib preload harts fuel now trace switches.Preload = preload
+elim_switch c lib preload harts fuel now trace switches.Harts = harts
+elim_switch c lib preload harts fuel now trace switches.Fuel = fuel
+elim_switch c lib preload harts fuel now trace switches.Now = now
+elim_switch c lib preload harts fuel now trace switches.Trace = trace
 
 -- names are alike where the options are the same
-pub alike : (c d : Choice) → bytes_eq (id_of d) (id_of c) ≡ is_choice c d
-alike choices.Lib = elim_choice choices.Lib refl refl refl refl refl refl
-alike choices.Preload = elim_choice choices.Preload refl refl refl refl refl refl
-alike choices.Harts = elim_choice choices.Harts refl refl refl refl refl refl
-alike choices.Fuel = elim_choice choices.Fuel refl refl refl refl refl refl
-alike choices.Now = elim_choice choices.Now refl refl refl refl refl refl
-alike choices.Trace = elim_choice choices.Trace refl refl refl refl refl refl
+pub alike : (c d : Switch) → bytes_eq (id_of d) (id_of c) ≡ is_switch c d
+alike switches.Lib = elim_switch switches.Lib refl refl refl refl refl refl
+alike switches.Preload = elim_switch switches.Preload refl refl refl refl refl refl
+alike switches.Harts = elim_switch switches.Harts refl refl refl refl refl refl
+alike switches.Fuel = elim_switch switches.Fuel refl refl refl refl refl refl
+alike switches.Now = elim_switch switches.Now refl refl refl refl refl refl
+alike switches.Trace = elim_switch switches.Trace refl refl refl refl refl refl
 
-of_piece : (c d : Choice) (piece : Piece) (value : Text) → IsPieceOf d piece value → is_of c piece ≡ is_choice c d
+of_piece : (c d : Switch) (piece : Piece) (value : Text) → IsPieceOf d piece value → is_of c piece ≡ is_switch c d
 of_piece c d piece value (IsPieceOf.flag _) = refl
 of_piece c d piece value (IsPieceOf.valued _ _) = refl
 
@@ -170,27 +170,27 @@ or_false false = refl
 has_last : (id : Text) (rs : List Row) (r : Row) → has_row id (rs ++ r ∷ []) ≡ (has_row id rs || bytes_eq r.id id)
 has_last id rs r = list_any-append (λ (x : Row). bytes_eq x.id id) rs (r ∷ []) ∙ ap (λ (t : Bool). has_row id rs || t) (or_false (bytes_eq r.id id))
 
-still : (c : Choice) (pieces : List Piece) (piece : Piece) (b : Bool) → is_of c piece ≡ b → length (filter (is_of c) (piece ∷ pieces)) ≡ cond b (length (filter (is_of c) pieces) + 1) (length (filter (is_of c) pieces))
+still : (c : Switch) (pieces : List Piece) (piece : Piece) (b : Bool) → is_of c piece ≡ b → length (filter (is_of c) (piece ∷ pieces)) ≡ cond b (length (filter (is_of c) pieces) + 1) (length (filter (is_of c) pieces))
 still c pieces piece true is = ap (λ (t : Bool). length (cond t (piece ∷ filter (is_of c) pieces) (filter (is_of c) pieces))) is ∙ omega arith
 still c pieces piece false is = ap (λ (t : Bool). length (cond t (piece ∷ filter (is_of c) pieces) (filter (is_of c) pieces))) is
 
 -- the option of the first piece has no row
-pub fresh_option : (d : Choice) (piece : Piece) (value : Text) (pieces : List Piece) (rs : List Row) → IsPieceOf d piece value → AreOnce rs (piece ∷ pieces) → has_row (id_of d) rs ≡ false
+pub fresh_option : (d : Switch) (piece : Piece) (value : Text) (pieces : List Piece) (rs : List Row) → IsPieceOf d piece value → AreOnce rs (piece ∷ pieces) → has_row (id_of d) rs ≡ false
 fresh_option d piece value pieces rs of once = either (has_row (id_of d) rs) refl
   where
     either : (b : Bool) → has_row (id_of d) rs ≡ b → has_row (id_of d) rs ≡ false
     either true is =
         let none : length (filter (is_of d) (piece ∷ pieces)) ≡ 0 = (once d).free is in
-        let some : length (filter (is_of d) (piece ∷ pieces)) ≡ length (filter (is_of d) pieces) + 1 = still d pieces piece true (of_piece d d piece value of ∙ same_choice d) in
+        let some : length (filter (is_of d) (piece ∷ pieces)) ≡ length (filter (is_of d) pieces) + 1 = still d pieces piece true (of_piece d d piece value of ∙ same_switch d) in
         absurd (omega (arith, none, some))
     either false is = is
 
 -- with its row it stands no more
-pub once_more : (d : Choice) (piece : Piece) (value : Text) (pieces : List Piece) (rs : List Row) → IsPieceOf d piece value → AreOnce rs (piece ∷ pieces)
+pub once_more : (d : Switch) (piece : Piece) (value : Text) (pieces : List Piece) (rs : List Row) → IsPieceOf d piece value → AreOnce rs (piece ∷ pieces)
     → AreOnce (rs ++ row (id_of d) value ∷ []) pieces
-once_more d piece value pieces rs of once c = either (is_choice c d) refl
+once_more d piece value pieces rs of once c = either (is_switch c d) refl
   where
-    either : (b : Bool) → is_choice c d ≡ b → IsOnce c (rs ++ row (id_of d) value ∷ []) pieces
+    either : (b : Bool) → is_switch c d ≡ b → IsOnce c (rs ++ row (id_of d) value ∷ []) pieces
     either true is =
         let count : length (filter (is_of c) (piece ∷ pieces)) ≡ length (filter (is_of c) pieces) + 1 = still c pieces piece true (of_piece c d piece value of ∙ is) in
         let most : length (filter (is_of c) (piece ∷ pieces)) ≤ 1 = (once c).once in
@@ -200,7 +200,7 @@ once_more d piece value pieces rs of once c = either (is_choice c d) refl
         let old : has_row (id_of c) (rs ++ row (id_of d) value ∷ []) ≡ has_row (id_of c) rs = has_last (id_of c) rs (row (id_of d) value) ∙ ap (λ (t : Bool). has_row (id_of c) rs || t) (alike c d ∙ is) ∙ or_false (has_row (id_of c) rs) in
         record { free = λ has. sym count ∙ (once c).free (sym old ∙ has); once = subst (λ (n : ℕ). n ≤ 1) count (once c).once }
 
-pub once_word : (word name : Text) (pieces : List Piece) (rs : List Row) → ((c : Choice) → bytes_eq name (id_of c) ≡ false) → AreOnce rs (Piece.other word ∷ pieces)
+pub once_word : (word name : Text) (pieces : List Piece) (rs : List Row) → ((c : Switch) → bytes_eq name (id_of c) ≡ false) → AreOnce rs (Piece.other word ∷ pieces)
     → AreOnce (rs ++ row name word ∷ []) pieces
 once_word word name pieces rs apart once c =
     let old : has_row (id_of c) (rs ++ row name word ∷ []) ≡ has_row (id_of c) rs = has_last (id_of c) rs (row name word) ∙ ap (λ (t : Bool). has_row (id_of c) rs || t) (apart c) ∙ or_false (has_row (id_of c) rs) in
@@ -209,7 +209,7 @@ once_word word name pieces rs apart once c =
 still_fresh : (name : Text) (rs : List Row) (r : Row) → bytes_eq r.id name ≡ false → has_row name rs ≡ false → has_row name (rs ++ r ∷ []) ≡ false
 still_fresh name rs r apart none = has_last name rs r ∙ ap (λ (t : Bool). has_row name rs || t) apart ∙ ap (λ (t : Bool). t || false) none
 
-pub fresh_names : (names : List Text) (d : Choice) (value : Text) (rs : List Row) → AreApart names → AreFresh names rs → AreFresh names (rs ++ row (id_of d) value ∷ [])
+pub fresh_names : (names : List Text) (d : Switch) (value : Text) (rs : List Row) → AreApart names → AreFresh names rs → AreFresh names (rs ++ row (id_of d) value ∷ [])
 fresh_names [] d value rs apart fresh = tt
 fresh_names (name ∷ names) d value rs apart fresh = (still_fresh name rs (row (id_of d) value) (apart.0 d) fresh.0, fresh_names names d value rs apart.3 fresh.1)
 

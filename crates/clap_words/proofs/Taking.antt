@@ -6,14 +6,15 @@ use Rattle.std.proofs.lemmas.Bool.{true≢false}
 use Rattle.clap.proofs.TakesLemmas.{leaf_takes}
 use Rattle.clap.specs.Simple.{Shape, built, label_of, matches_of}
 use Rattle.clap.specs.Takes.{takes}
+use Rattle.clap.specs.Values.{bool_text}
 use Rattle.clap.specs.Walk.{Row, Rule, Text, finished, nothing_held, one_of, reading_by, row_text, rows_after, walk, with_default}
-use Rattle.command_line.specs.declared.choice.Choice.{Choice}
-use Rattle.command_line.specs.declared.choice.Choice.TheVariants as choices
-use Rattle.command_line.specs.Options.{Piece, all_choices, has_value, is_of, name_of, option_in, stand_once, stands, words_of}
+use Rattle.command_line.specs.declared.switch.Switch.{Switch}
+use Rattle.command_line.specs.declared.switch.Switch.TheVariants as switches
+use Rattle.command_line.specs.Options.{Piece, all_switches, has_value, is_of, name_of, option_in, stand_once, stands, words_of}
 use Rattle.command_line.specs.Reads.{Are}
 use Rattle.clap_words.specs.declared.form.Form.{Form}
 use Rattle.clap_words.specs.Forms.{app_of, id_of, names_of, options_of}
-use Rattle.clap_words.specs.Taken.{AreNamed, IsTaken, Match, truth}
+use Rattle.clap_words.specs.Taken.{AreNamed, IsTaken, Match}
 use Rattle.clap_words.proofs.Fits.{AreQuiet, Fits, fits, rules_of}
 use Rattle.clap_words.proofs.Found.{default_given, default_row, flag_found, flag_row, formed, quiet_kept, row_in, row_kept, value_found, words_found}
 use Rattle.clap_words.proofs.Rows.{AreFresh, AreOnce, built_option, row, rows}
@@ -25,26 +26,26 @@ split false b e = absurd (true≢false (sym e))
 
 -- ---- before the words
 
-first : (p : Choice → Bool) (c : Choice) (more : List Choice) → list_all p (c ∷ more) ≡ true → (p c ≡ true) × (list_all p more ≡ true)
+first : (p : Switch → Bool) (c : Switch) (more : List Switch) → list_all p (c ∷ more) ≡ true → (p c ≡ true) × (list_all p more ≡ true)
 first p c more all = split (p c) (list_all p more) all
 
-each : (p : Choice → Bool) → list_all p all_choices ≡ true → (c : Choice) → p c ≡ true
+each : (p : Switch → Bool) → list_all p all_switches ≡ true → (c : Switch) → p c ≡ true
 each p all c =
-    let lib = first p choices.Lib (choices.Preload ∷ choices.Harts ∷ choices.Fuel ∷ choices.Now ∷ choices.Trace ∷ []) all in
-    let preload = first p choices.Preload (choices.Harts ∷ choices.Fuel ∷ choices.Now ∷ choices.Trace ∷ []) lib.1 in
-    let harts = first p choices.Harts (choices.Fuel ∷ choices.Now ∷ choices.Trace ∷ []) preload.1 in
-    let fuel = first p choices.Fuel (choices.Now ∷ choices.Trace ∷ []) harts.1 in
-    let now = first p choices.Now (choices.Trace ∷ []) fuel.1 in
-    let trace = first p choices.Trace [] now.1 in
+    let lib = first p switches.Lib (switches.Preload ∷ switches.Harts ∷ switches.Fuel ∷ switches.Now ∷ switches.Trace ∷ []) all in
+    let preload = first p switches.Preload (switches.Harts ∷ switches.Fuel ∷ switches.Now ∷ switches.Trace ∷ []) lib.1 in
+    let harts = first p switches.Harts (switches.Fuel ∷ switches.Now ∷ switches.Trace ∷ []) preload.1 in
+    let fuel = first p switches.Fuel (switches.Now ∷ switches.Trace ∷ []) harts.1 in
+    let now = first p switches.Now (switches.Trace ∷ []) fuel.1 in
+    let trace = first p switches.Trace [] now.1 in
     of_each lib.0 preload.0 harts.0 fuel.0 now.0 trace.0 c
   where
-    of_each : p choices.Lib ≡ true → p choices.Preload ≡ true → p choices.Harts ≡ true → p choices.Fuel ≡ true → p choices.Now ≡ true → p choices.Trace ≡ true → (d : Choice) → p d ≡ true
-    of_each lib preload harts fuel now trace choices.Lib = lib
-    of_each lib preload harts fuel now trace choices.Preload = preload
-    of_each lib preload harts fuel now trace choices.Harts = harts
-    of_each lib preload harts fuel now trace choices.Fuel = fuel
-    of_each lib preload harts fuel now trace choices.Now = now
-    of_each lib preload harts fuel now trace choices.Trace = trace
+    of_each : p switches.Lib ≡ true → p switches.Preload ≡ true → p switches.Harts ≡ true → p switches.Fuel ≡ true → p switches.Now ≡ true → p switches.Trace ≡ true → (d : Switch) → p d ≡ true
+    of_each lib preload harts fuel now trace switches.Lib = lib
+    of_each lib preload harts fuel now trace switches.Preload = preload
+    of_each lib preload harts fuel now trace switches.Harts = harts
+    of_each lib preload harts fuel now trace switches.Fuel = fuel
+    of_each lib preload harts fuel now trace switches.Now = now
+    of_each lib preload harts fuel now trace switches.Trace = trace
 
 once : (pieces : List Piece) → stand_once pieces ≡ true → AreOnce [] pieces
 once pieces all c = record { free = λ has. absurd (true≢false (sym has)); once = most (each (λ d. nat_le (length (filter (is_of d) pieces)) 1) all c) }
@@ -67,24 +68,24 @@ kept_names (name ∷ names) (word ∷ words) rs rules quiet named =
 no_value : {A : Type 0} → true ≡ false → A
 no_value e = absurd (true≢false e)
 
-falsely : (c : Choice) → has_value c ≡ false → (built_option c).defaults ≡ codes "false" ∷ []
-falsely choices.Lib flag = no_value flag
-falsely choices.Preload flag = no_value flag
-falsely choices.Harts flag = no_value flag
-falsely choices.Fuel flag = no_value flag
-falsely choices.Now flag = refl
-falsely choices.Trace flag = refl
+falsely : (c : Switch) → has_value c ≡ false → (built_option c).defaults ≡ codes "false" ∷ []
+falsely switches.Lib flag = no_value flag
+falsely switches.Preload flag = no_value flag
+falsely switches.Harts flag = no_value flag
+falsely switches.Fuel flag = no_value flag
+falsely switches.Now flag = refl
+falsely switches.Trace flag = refl
 
-default_text : (c : Choice) → has_value c ≡ false → row_text (default_row (built_option c).id (reading_by (built_option c)) (codes "false") []) ≡ Some (codes "false")
-default_text choices.Lib flag = no_value flag
-default_text choices.Preload flag = no_value flag
-default_text choices.Harts flag = no_value flag
-default_text choices.Fuel flag = no_value flag
-default_text choices.Now flag = refl
-default_text choices.Trace flag = refl
+default_text : (c : Switch) → has_value c ≡ false → row_text (default_row (built_option c).id (reading_by (built_option c)) (codes "false") []) ≡ Some (codes "false")
+default_text switches.Lib flag = no_value flag
+default_text switches.Preload flag = no_value flag
+default_text switches.Harts flag = no_value flag
+default_text switches.Fuel flag = no_value flag
+default_text switches.Now flag = refl
+default_text switches.Trace flag = refl
 
-flag_given : (form : Form) (name : Text) (fit : Fits form name) (pieces : List Piece) (rs : List Row) (c : Choice) → has_value c ≡ false → option_in (options_of form) (name_of c) ≡ Some c
-    → (b : Bool) → row_in (id_of c) rs ≡ flag_row c b → one_of (id_of c) (fold with_default rs (rules_of form name)) ≡ Some (truth b)
+flag_given : (form : Form) (name : Text) (fit : Fits form name) (pieces : List Piece) (rs : List Row) (c : Switch) → has_value c ≡ false → option_in (options_of form) (name_of c) ≡ Some c
+    → (b : Bool) → row_in (id_of c) rs ≡ flag_row c b → one_of (id_of c) (fold with_default rs (rules_of form name)) ≡ Some (bool_text b)
 flag_given form name fit pieces rs c flag known true found = ap (option_and_then row_text) (row_kept (id_of c) (rules_of form name) rs (row (id_of c) (codes "true")) found)
 flag_given form name fit pieces rs c flag known false found =
     ap (option_and_then row_text) (default_given (id_of c) (rules_of form name) rs (built_option c) (codes "false") found (fit.options c known).1 (falsely c flag))

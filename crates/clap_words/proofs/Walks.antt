@@ -9,8 +9,8 @@ use Rattle.clap.specs.Lexer.{long_of, usize_max}
 use Rattle.clap.specs.Simple.{Shape}
 use Rattle.clap.specs.Takes.{bundle_passes, flag_word_passes, long_passes, option_passes, other_passes, positional_passes, react_passes, settle_passes, step_passes, turn_passes, use_passes, walk_passes}
 use Rattle.clap.specs.Walk.{Held, Outcome, Row, Rule, Step, Text, Waiting, Walk, after_flag, after_step, arg_by_id, arg_by_index, arg_by_long, flag_met, has_row, idle, is_pending, long_met, long_or_other, most_values, next, option, option_met, option_word, pending_count, plain_word, pushed, reacted, settled, settled_rows, short_or_plain, takes_values, to_positional, trailing, used, used_by_id, value, walked, word_met}
-use Rattle.command_line.specs.declared.choice.Choice.{Choice}
-use Rattle.command_line.specs.declared.choice.Choice.TheVariants as choices
+use Rattle.command_line.specs.declared.switch.Switch.{Switch}
+use Rattle.command_line.specs.declared.switch.Switch.TheVariants as switches
 use Rattle.command_line.specs.Options.{Piece, Says, front_of, has_value, name_of, option_in, value_of, words_of}
 use Rattle.clap_words.specs.Forms.{id_of}
 use Rattle.clap_words.proofs.Front.{IsPlain, dashes, is_joined_word, joined, long_is, long_joined, named, no_dash, no_end_is, no_end_joined, no_option}
@@ -31,8 +31,8 @@ in_turn (x ∷ xs) y ys = ap (λ (l : List Row). x ∷ l) (in_turn xs y ys)
 -- ---- what is asked of the arguments
 
 -- an option that is known is found by its name
-abbrev pub FindsOptions : List Rule → List Choice → Type 0
-FindsOptions c known = (x : Choice) → option_in known (name_of x) ≡ Some x → (arg_by_long c (id_of x) ≡ Some (built_option x)) × (arg_by_id c (id_of x) ≡ Some (built_option x))
+abbrev pub FindsOptions : List Rule → List Switch → Type 0
+FindsOptions c known = (x : Switch) → option_in known (name_of x) ≡ Some x → (arg_by_long c (id_of x) ≡ Some (built_option x)) × (arg_by_id c (id_of x) ≡ Some (built_option x))
 
 -- behind k others the words have these names
 abbrev pub FindsWords : List Rule → ℕ → List Text → Type 0
@@ -45,7 +45,7 @@ FindsWords c k (name ∷ names) =
 abbrev pub walk_at : Held → ℕ → Bool → Walk
 walk_at h k ended = record { held = h; waiting = idle; position = suc k; is_trailing = ended; stopped = None }
 
-module _ (s : Shape) (known : List Choice) (finds : FindsOptions s.rules known) where
+module _ (s : Shape) (known : List Switch) (finds : FindsOptions s.rules known) where
   -- what is held comes to these rows
   pub record Comes (h : Held) (rs : List Row) : Type 0 where
     pub settled : settled_rows s.rules h.pending h.rows ≡ rs
@@ -134,22 +134,22 @@ module _ (s : Shape) (known : List Choice) (finds : FindsOptions s.rules known) 
 
   -- ---- an option by its long name
 
-  takes_is : (c : Choice) → takes_values (built_option c) ≡ has_value c
-  takes_is choices.Lib = refl
-  takes_is choices.Preload = refl
-  takes_is choices.Harts = refl
-  takes_is choices.Fuel = refl
-  takes_is choices.Now = refl
-  takes_is choices.Trace = refl
+  takes_is : (c : Switch) → takes_values (built_option c) ≡ has_value c
+  takes_is switches.Lib = refl
+  takes_is switches.Preload = refl
+  takes_is switches.Harts = refl
+  takes_is switches.Fuel = refl
+  takes_is switches.Now = refl
+  takes_is switches.Trace = refl
 
-  id_is : (c : Choice) → (built_option c).id ≡ id_of c
+  id_is : (c : Switch) → (built_option c).id ≡ id_of c
   id_is c = refl
 
   -- what a long name does
-  abbrev does : Choice → Bool → Option Text → Held → Held × Outcome
+  abbrev does : Switch → Bool → Option Text → Held → Held × Outcome
   does c takes v h = cond takes (option_met s.rules (built_option c) v h) (flag_met s.rules (built_option c) v h)
 
-  long_does : (h : Held) (k : ℕ) (c : Choice) (word : Text) (v : Option Text) → arg_by_long s.rules (id_of c) ≡ Some (built_option c) → bytes_eq word dashes ≡ false
+  long_does : (h : Held) (k : ℕ) (c : Switch) (word : Text) (v : Option Text) → arg_by_long s.rules (id_of c) ≡ Some (built_option c) → bytes_eq word dashes ≡ false
       → long_of word ≡ Some (id_of c, v)
       → word_met s.rules [] false idle (suc k) word h ≡ after_flag s.rules idle word (does c (has_value c) v h).0 (does c (has_value c) v h).1
   long_does h k c word v found no_end long =
@@ -158,7 +158,7 @@ module _ (s : Shape) (known : List Choice) (finds : FindsOptions s.rules known) 
       ∙ ap (λ (o : Option Rule). after_flag s.rules idle word (long_met s.rules o v h).0 (long_met s.rules o v h).1) found
       ∙ ap (λ (t : Bool). after_flag s.rules idle word (does c t v h).0 (does c t v h).1) (takes_is c)
 
-  long_asks : (h : Held) (c : Choice) (word : Text) (v : Option Text) → arg_by_long s.rules (id_of c) ≡ Some (built_option c) → bytes_eq word dashes ≡ false
+  long_asks : (h : Held) (c : Switch) (word : Text) (v : Option Text) → arg_by_long s.rules (id_of c) ≡ Some (built_option c) → bytes_eq word dashes ≡ false
       → long_of word ≡ Some (id_of c, v)
       → other_passes s None word h ≡ cond (has_value c) (option_passes s.rules s.args_override_self (built_option c) v h) (not (is_some v) && react_passes s.rules s.args_override_self (built_option c) [] h)
   long_asks h c word v found no_end long =
@@ -168,23 +168,23 @@ module _ (s : Shape) (known : List Choice) (finds : FindsOptions s.rules known) 
       ∙ ap (λ (t : Bool). cond t (option_passes s.rules s.args_override_self (built_option c) v h) (not (is_some v) && react_passes s.rules s.args_override_self (built_option c) [] h)) (takes_is c)
 
   -- the rows of an option that is done
-  reacted_comes : (h : Held) (c : Choice) (values : List Text) (rs after : List Row) → Comes h rs → used (built_option c) values rs ≡ after → Comes (reacted s.rules (built_option c) values h) after
+  reacted_comes : (h : Held) (c : Switch) (values : List Text) (rs after : List Row) → Comes h rs → used (built_option c) values rs ≡ after → Comes (reacted s.rules (built_option c) values h) after
   reacted_comes h c values rs after comes is = record { settled = ap (used (built_option c) values) comes.settled ∙ is; passes = refl }
 
-  react_asks : (h : Held) (c : Choice) (values : List Text) (rs : List Row) → Comes h rs → use_passes s.args_override_self (built_option c) values rs ≡ true
+  react_asks : (h : Held) (c : Switch) (values : List Text) (rs : List Row) → Comes h rs → use_passes s.args_override_self (built_option c) values rs ≡ true
       → react_passes s.rules s.args_override_self (built_option c) values h ≡ true
   react_asks h c values rs comes pass =
       ap₂ (λ (a b : Bool). a && b) comes.passes (ap (λ (r : List Row). use_passes s.args_override_self (built_option c) values r) comes.settled ∙ pass)
 
   -- ---- a flag
 
-  flag_does : (h : Held) (k : ℕ) (c : Choice) → has_value c ≡ false → arg_by_long s.rules (id_of c) ≡ Some (built_option c)
+  flag_does : (h : Held) (k : ℕ) (c : Switch) → has_value c ≡ false → arg_by_long s.rules (id_of c) ≡ Some (built_option c)
       → word_met s.rules [] false idle (suc k) (name_of c) h ≡ (reacted s.rules (built_option c) [] h, next idle)
   flag_does h k c flag found =
       long_does h k c (name_of c) None found (no_end_is c) (long_is c)
       ∙ ap (λ (t : Bool). after_flag s.rules idle (name_of c) (does c t None h).0 (does c t None h).1) flag
 
-  flag_turn : (h : Held) (k : ℕ) (c : Choice) (rs : List Row) → has_value c ≡ false → arg_by_long s.rules (id_of c) ≡ Some (built_option c) → Comes h rs → has_row (id_of c) rs ≡ false
+  flag_turn : (h : Held) (k : ℕ) (c : Switch) (rs : List Row) → has_value c ≡ false → arg_by_long s.rules (id_of c) ≡ Some (built_option c) → Comes h rs → has_row (id_of c) rs ≡ false
       → turn_passes s [] (walk_at h k false) (name_of c) ≡ true
   flag_turn h k c rs flag found comes none =
       ap₂ (λ (a b : Bool). a && b)
@@ -193,20 +193,20 @@ module _ (s : Shape) (known : List Choice) (finds : FindsOptions s.rules known) 
       ∙ react_asks h c [] rs comes (flag_passes c s.args_override_self rs flag none))
       (ap (λ (m : Held × Step). step_passes s (suc k) m.0 m.1) (flag_does h k c flag found))
 
-  flag_goes : (h : Held) (k : ℕ) (c : Choice) → has_value c ≡ false → arg_by_long s.rules (id_of c) ≡ Some (built_option c)
+  flag_goes : (h : Held) (k : ℕ) (c : Switch) → has_value c ≡ false → arg_by_long s.rules (id_of c) ≡ Some (built_option c)
       → walked s.rules [] (walk_at h k false) (name_of c) ≡ walk_at (reacted s.rules (built_option c) [] h) k false
   unfolding walked
   flag_goes h k c flag found = ap (λ (m : Held × Step). after_step s.rules (name_of c) (walk_at h k false) m.0 m.1) (flag_does h k c flag found)
 
   -- ---- an option with a value that is joined to it
 
-  joined_does : (h : Held) (k : ℕ) (c : Choice) (v : Text) → has_value c ≡ true → arg_by_long s.rules (id_of c) ≡ Some (built_option c)
+  joined_does : (h : Held) (k : ℕ) (c : Switch) (v : Text) → has_value c ≡ true → arg_by_long s.rules (id_of c) ≡ Some (built_option c)
       → word_met s.rules [] false idle (suc k) (joined c v) h ≡ (reacted s.rules (built_option c) (v ∷ []) h, next idle)
   joined_does h k c v valued found =
       long_does h k c (joined c v) (Some v) found (no_end_joined c v) (long_joined c v)
       ∙ ap (λ (t : Bool). after_flag s.rules idle (joined c v) (does c t (Some v) h).0 (does c t (Some v) h).1) valued
 
-  joined_turn : (h : Held) (k : ℕ) (c : Choice) (v : Text) (rs : List Row) → has_value c ≡ true → arg_by_long s.rules (id_of c) ≡ Some (built_option c) → Comes h rs
+  joined_turn : (h : Held) (k : ℕ) (c : Switch) (v : Text) (rs : List Row) → has_value c ≡ true → arg_by_long s.rules (id_of c) ≡ Some (built_option c) → Comes h rs
       → has_row (id_of c) rs ≡ false → turn_passes s [] (walk_at h k false) (joined c v) ≡ true
   joined_turn h k c v rs valued found comes none =
       ap₂ (λ (a b : Bool). a && b)
@@ -215,26 +215,26 @@ module _ (s : Shape) (known : List Choice) (finds : FindsOptions s.rules known) 
       ∙ react_asks h c (v ∷ []) rs comes (value_passes c s.args_override_self v rs valued none))
       (ap (λ (m : Held × Step). step_passes s (suc k) m.0 m.1) (joined_does h k c v valued found))
 
-  joined_goes : (h : Held) (k : ℕ) (c : Choice) (v : Text) → has_value c ≡ true → arg_by_long s.rules (id_of c) ≡ Some (built_option c)
+  joined_goes : (h : Held) (k : ℕ) (c : Switch) (v : Text) → has_value c ≡ true → arg_by_long s.rules (id_of c) ≡ Some (built_option c)
       → walked s.rules [] (walk_at h k false) (joined c v) ≡ walk_at (reacted s.rules (built_option c) (v ∷ []) h) k false
   unfolding walked
   joined_goes h k c v valued found = ap (λ (m : Held × Step). after_step s.rules (joined c v) (walk_at h k false) m.0 m.1) (joined_does h k c v valued found)
 
   -- ---- an option whose value follows
 
-  abbrev asked : Held → Choice → Held
+  abbrev asked : Held → Switch → Held
   asked h c = record { rows = settled_rows s.rules h.pending h.rows; pending = Some (id_of c, []); skip = h.skip }
 
-  abbrev walk_asking : Held → ℕ → Choice → Walk
+  abbrev walk_asking : Held → ℕ → Switch → Walk
   walk_asking h k c = record { held = asked h c; waiting = option (id_of c); position = suc k; is_trailing = false; stopped = None }
 
-  name_does : (h : Held) (k : ℕ) (c : Choice) → has_value c ≡ true → arg_by_long s.rules (id_of c) ≡ Some (built_option c)
+  name_does : (h : Held) (k : ℕ) (c : Switch) → has_value c ≡ true → arg_by_long s.rules (id_of c) ≡ Some (built_option c)
       → word_met s.rules [] false idle (suc k) (name_of c) h ≡ (asked h c, next (option (id_of c)))
   name_does h k c valued found =
       long_does h k c (name_of c) None found (no_end_is c) (long_is c)
       ∙ ap (λ (t : Bool). after_flag s.rules idle (name_of c) (does c t None h).0 (does c t None h).1) valued
 
-  name_turn : (h : Held) (k : ℕ) (c : Choice) (rs : List Row) → has_value c ≡ true → arg_by_long s.rules (id_of c) ≡ Some (built_option c) → Comes h rs
+  name_turn : (h : Held) (k : ℕ) (c : Switch) (rs : List Row) → has_value c ≡ true → arg_by_long s.rules (id_of c) ≡ Some (built_option c) → Comes h rs
       → turn_passes s [] (walk_at h k false) (name_of c) ≡ true
   name_turn h k c rs valued found comes =
       ap₂ (λ (a b : Bool). a && b)
@@ -242,21 +242,21 @@ module _ (s : Shape) (known : List Choice) (finds : FindsOptions s.rules known) 
       ∙ ap (λ (t : Bool). cond t (settle_passes s.rules s.args_override_self h) (react_passes s.rules s.args_override_self (built_option c) [] h)) valued ∙ comes.passes)
       (ap (λ (m : Held × Step). step_passes s (suc k) m.0 m.1) (name_does h k c valued found))
 
-  name_goes : (h : Held) (k : ℕ) (c : Choice) → has_value c ≡ true → arg_by_long s.rules (id_of c) ≡ Some (built_option c)
+  name_goes : (h : Held) (k : ℕ) (c : Switch) → has_value c ≡ true → arg_by_long s.rules (id_of c) ≡ Some (built_option c)
       → walked s.rules [] (walk_at h k false) (name_of c) ≡ walk_asking h k c
   unfolding walked
   name_goes h k c valued found = ap (λ (m : Held × Step). after_step s.rules (name_of c) (walk_at h k false) m.0 m.1) (name_does h k c valued found)
 
-  one_value : (c : Choice) (v : Text) → has_value c ≡ true
+  one_value : (c : Switch) (v : Text) → has_value c ≡ true
       → cond (nat_lt (pending_count (built_option c) (Some (id_of c, v ∷ []))) (most_values (built_option c))) (option (id_of c)) idle ≡ idle
-  one_value choices.Lib v valued = refl
-  one_value choices.Preload v valued = refl
-  one_value choices.Harts v valued = refl
-  one_value choices.Fuel v valued = refl
-  one_value choices.Now v valued = absurd (true≢false (sym valued))
-  one_value choices.Trace v valued = absurd (true≢false (sym valued))
+  one_value switches.Lib v valued = refl
+  one_value switches.Preload v valued = refl
+  one_value switches.Harts v valued = refl
+  one_value switches.Fuel v valued = refl
+  one_value switches.Now v valued = absurd (true≢false (sym valued))
+  one_value switches.Trace v valued = absurd (true≢false (sym valued))
 
-  value_does : (h : Held) (k : ℕ) (c : Choice) (v : Text) → has_value c ≡ true → IsPlain v → arg_by_id s.rules (id_of c) ≡ Some (built_option c)
+  value_does : (h : Held) (k : ℕ) (c : Switch) (v : Text) → has_value c ≡ true → IsPlain v → arg_by_id s.rules (id_of c) ≡ Some (built_option c)
       → word_met s.rules [] false (option (id_of c)) (suc k) v (asked h c) ≡ (at_word h (id_of c) v, next idle)
   value_does h k c v valued plain found =
       ap (λ (t : Bool). cond t (asked h c, trailing (suc k)) (long_or_other s.rules (option (id_of c)) v (long_of v) (asked h c))) plain.no_end
@@ -264,18 +264,18 @@ module _ (s : Shape) (known : List Choice) (finds : FindsOptions s.rules known) 
       ∙ ap (λ (o : Option Rule). ((option_word o (id_of c) v (asked h c)).0, next (option_word o (id_of c) v (asked h c)).1)) found
       ∙ ap (λ (w : Waiting). (at_word h (id_of c) v, next w)) (one_value c v valued)
 
-  value_turn : (h : Held) (k : ℕ) (c : Choice) (v : Text) → has_value c ≡ true → IsPlain v → arg_by_id s.rules (id_of c) ≡ Some (built_option c)
+  value_turn : (h : Held) (k : ℕ) (c : Switch) (v : Text) → has_value c ≡ true → IsPlain v → arg_by_id s.rules (id_of c) ≡ Some (built_option c)
       → turn_passes s [] (walk_asking h k c) v ≡ true
   value_turn h k c v valued plain found =
       ap₂ (λ (a b : Bool). a && b) (plain_passes (asked h c) v plain)
       (ap (λ (m : Held × Step). step_passes s (suc k) m.0 m.1) (value_does h k c v valued plain found))
 
-  value_goes : (h : Held) (k : ℕ) (c : Choice) (v : Text) → has_value c ≡ true → IsPlain v → arg_by_id s.rules (id_of c) ≡ Some (built_option c)
+  value_goes : (h : Held) (k : ℕ) (c : Switch) (v : Text) → has_value c ≡ true → IsPlain v → arg_by_id s.rules (id_of c) ≡ Some (built_option c)
       → walked s.rules [] (walk_asking h k c) v ≡ walk_at (at_word h (id_of c) v) k false
   unfolding walked
   value_goes h k c v valued plain found = ap (λ (m : Held × Step). after_step s.rules v (walk_asking h k c) m.0 m.1) (value_does h k c v valued plain found)
 
-  value_comes : (h : Held) (c : Choice) (v : Text) (rs : List Row) → has_value c ≡ true → arg_by_id s.rules (id_of c) ≡ Some (built_option c) → Comes h rs → has_row (id_of c) rs ≡ false
+  value_comes : (h : Held) (c : Switch) (v : Text) (rs : List Row) → has_value c ≡ true → arg_by_id s.rules (id_of c) ≡ Some (built_option c) → Comes h rs → has_row (id_of c) rs ≡ false
       → Comes (at_word h (id_of c) v) (rs ++ row (id_of c) v ∷ [])
   value_comes h c v rs valued found comes none = record {
     settled =
@@ -323,7 +323,7 @@ module _ (s : Shape) (known : List Choice) (finds : FindsOptions s.rules known) 
   the_end rest pieces goes_on k names h rs at apart comes once fresh count =
       goes (walk_at h k false) (walk_at h k true) (codes "--") rest (rs ++ rows pieces names) refl refl (goes_on k names h rs at apart comes once fresh count)
 
-  one_flag : (c : Choice) (rest : List Text) (pieces : List Piece) → option_in known (name_of c) ≡ Some c → has_value c ≡ false → Walks false rest pieces
+  one_flag : (c : Switch) (rest : List Text) (pieces : List Piece) → option_in known (name_of c) ≡ Some c → has_value c ≡ false → Walks false rest pieces
       → Walks false (name_of c ∷ rest) (Piece.flag c ∷ pieces)
   one_flag c rest pieces is flag goes_on k names h rs at apart comes once fresh count =
       let found = (finds c is).0 in
@@ -335,7 +335,7 @@ module _ (s : Shape) (known : List Choice) (finds : FindsOptions s.rules known) 
       (goes_on k names (reacted s.rules (built_option c) [] h) (rs ++ row (id_of c) (codes "true") ∷ []) at apart (reacted_comes h c [] rs _ comes (flag_used c rs flag none))
       (once_more c (Piece.flag c) (codes "true") pieces rs (IsPieceOf.flag c) once) (fresh_names names c (codes "true") rs apart fresh) count))
 
-  one_joined : (c : Choice) (v : Text) (rest : List Text) (pieces : List Piece) → option_in known (name_of c) ≡ Some c → has_value c ≡ true → Walks false rest pieces
+  one_joined : (c : Switch) (v : Text) (rest : List Text) (pieces : List Piece) → option_in known (name_of c) ≡ Some c → has_value c ≡ true → Walks false rest pieces
       → Walks false (joined c v ∷ rest) (Piece.valued c v ∷ pieces)
   one_joined c v rest pieces is valued goes_on k names h rs at apart comes once fresh count =
       let found = (finds c is).0 in
@@ -347,7 +347,7 @@ module _ (s : Shape) (known : List Choice) (finds : FindsOptions s.rules known) 
       (goes_on k names (reacted s.rules (built_option c) (v ∷ []) h) (rs ++ row (id_of c) v ∷ []) at apart (reacted_comes h c (v ∷ []) rs _ comes (value_used c v rs valued none))
       (once_more c (Piece.valued c v) v pieces rs (IsPieceOf.valued c v) once) (fresh_names names c v rs apart fresh) count))
 
-  one_valued : (c : Choice) (v : Text) (rest : List Text) (pieces : List Piece) → option_in known (name_of c) ≡ Some c → has_value c ≡ true → IsPlain v → Walks false rest pieces
+  one_valued : (c : Switch) (v : Text) (rest : List Text) (pieces : List Piece) → option_in known (name_of c) ≡ Some c → has_value c ≡ true → IsPlain v → Walks false rest pieces
       → Walks false (name_of c ∷ v ∷ rest) (Piece.valued c v ∷ pieces)
   one_valued c v rest pieces is valued plain goes_on k names h rs at apart comes once fresh count =
       let found = finds c is in

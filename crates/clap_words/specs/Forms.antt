@@ -4,8 +4,8 @@ use Rattle.clap.specs.Simple.{App, Shape, new_rule, new_shape}
 use Rattle.clap.specs.Walk.{Rule, Text}
 use Rattle.clap.specs.declared.builder.action.ArgAction.{ArgAction}
 use Rattle.clap.specs.declared.builder.action.ArgAction.TheVariants.{Set, SetTrue}
-use Rattle.command_line.specs.declared.choice.Choice.{Choice}
-use Rattle.command_line.specs.declared.choice.Choice.TheVariants as choices
+use Rattle.command_line.specs.declared.switch.Switch.{Switch}
+use Rattle.command_line.specs.declared.switch.Switch.TheVariants as switches
 use Rattle.command_line.specs.Options.{has_value}
 use Rattle.command_line.specs.Reads.{bind_options, run_options, turns_options}
 use Rattle.clap_words.specs.declared.form.Form.{Form}
@@ -13,7 +13,7 @@ use Rattle.clap_words.specs.declared.form.Form.TheVariants as forms
 
 -- ---- what a form has
 
-abbrev pub options_of : Form → List Choice
+abbrev pub options_of : Form → List Switch
 options_of forms.Bind = bind_options
 options_of forms.Turns = turns_options
 options_of forms.Run = run_options
@@ -31,19 +31,19 @@ names_of forms.Number = codes "number" ∷ []
 -- ---- arguments
 
 -- an option's name without its dashes
-abbrev pub id_of : Choice → Text
-id_of choices.Lib = codes "lib"
-id_of choices.Preload = codes "preload"
-id_of choices.Harts = codes "harts"
-id_of choices.Fuel = codes "fuel"
-id_of choices.Now = codes "now"
-id_of choices.Trace = codes "trace"
+abbrev pub id_of : Switch → Text
+id_of switches.Lib = codes "lib"
+id_of switches.Preload = codes "preload"
+id_of switches.Harts = codes "harts"
+id_of switches.Fuel = codes "fuel"
+id_of switches.Now = codes "now"
+id_of switches.Trace = codes "trace"
 
-abbrev pub action_for : Choice → ArgAction
+abbrev pub action_for : Switch → ArgAction
 action_for c = if has_value c then Set else SetTrue
 
 -- an option of one value, or a flag
-abbrev pub option_rule : Choice → Rule
+abbrev pub option_rule : Switch → Rule
 option_rule c = record (new_rule (id_of c)) { long = Some (id_of c); action = Some (action_for c) }
 
 abbrev pub rules_of : Form → List Rule

@@ -1,16 +1,14 @@
 -- Words that are taken, and the matches that they have.
-use Rattle.std.specs.Prelude.{◌≡◌, Bool, true, false, if◌then◌else◌, List, [], ◌∷◌, length, Some, codes}
+use Rattle.std.specs.Prelude.{◌≡◌, true, false, List, [], ◌∷◌, length, Some, codes}
 use Rattle.clap.specs.Simple.{is_simple, matches_of}
 use Rattle.clap.specs.Takes.{takes}
+use Rattle.clap.specs.Values.{bool_text}
 use Rattle.clap.specs.Walk.{Row, Text, first_of, one_of}
-use Rattle.command_line.specs.declared.choice.Choice.{Choice}
+use Rattle.command_line.specs.declared.switch.Switch.{Switch}
 use Rattle.command_line.specs.Options.{Piece, given, has_value, name_of, option_in, stands}
 use Rattle.command_line.specs.Reads.{Are}
 use Rattle.clap_words.specs.declared.form.Form.{Form}
 use Rattle.clap_words.specs.Forms.{app_of, id_of, names_of, options_of}
-
-abbrev pub truth : Bool → Text
-truth b = if b then codes "true" else codes "false"
 
 -- the other words have their names, one by one
 abbrev pub AreNamed : List Text → List Text → List Row → Type 0
@@ -20,9 +18,9 @@ AreNamed (name ∷ names) (word ∷ words) rows = (first_of name rows ≡ Some w
 
 -- the matches have the values that the pieces give
 pub record Match (form : Form) (pieces : List Piece) (others : List Text) (rows : List Row) : Type 0 where
-  pub values : (c : Choice) → has_value c ≡ true → first_of (id_of c) rows ≡ given c pieces
-  pub flags : (c : Choice) → has_value c ≡ false → option_in (options_of form) (name_of c) ≡ Some c
-      → one_of (id_of c) rows ≡ Some (truth (stands c pieces))
+  pub values : (c : Switch) → has_value c ≡ true → first_of (id_of c) rows ≡ given c pieces
+  pub flags : (c : Switch) → has_value c ≡ false → option_in (options_of form) (name_of c) ≡ Some c
+      → one_of (id_of c) rows ≡ Some (bool_text (stands c pieces))
   pub words : AreNamed (names_of form) others rows
 
 -- behind the command's own word

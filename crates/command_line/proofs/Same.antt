@@ -4,8 +4,8 @@ use Rattle.std.specs.Str.{bytes_eq}
 use Rattle.std.proofs.lemmas.Fmt.{decimal_injective}
 use Rattle.std.proofs.lemmas.Slice.Eq.{bytes_eq-Decides}
 use Rattle.link_served.specs.declared.startup.Setup.{Setup}
-use Rattle.command_line.specs.declared.choice.Choice.{Choice}
-use Rattle.command_line.specs.declared.choice.Choice.TheVariants as choices
+use Rattle.command_line.specs.declared.switch.Switch.{Switch}
+use Rattle.command_line.specs.declared.switch.Switch.TheVariants as switches
 use Rattle.command_line.specs.declared.command.Bind.{Bind}
 use Rattle.command_line.specs.declared.command.Command.{Command}
 use Rattle.command_line.specs.declared.command.Command.TheVariants as commands
@@ -42,10 +42,10 @@ same_fuel (Some text) m n a b = same_number 1 (2 ^ 32) text m n (omega arith) a 
 
 -- ---- what stands behind a command's word
 
-same_pieces : (known : List Choice) (words : List Text) (pieces others : List Piece) (left left' : List Text) → Are known words pieces left → Are known words others left' → others ≡ pieces
+same_pieces : (known : List Switch) (words : List Text) (pieces others : List Piece) (left left' : List Text) → Are known words pieces left → Are known words others left' → others ≡ pieces
 same_pieces known words pieces others left left' a b = one_saying known words others pieces b.says a.says
 
-same_left : (known : List Choice) (words : List Text) (pieces others : List Piece) (left left' : List Text) → Are known words pieces left → Are known words others left' → left ≡ left'
+same_left : (known : List Switch) (words : List Text) (pieces others : List Piece) (left left' : List Text) → Are known words pieces left → Are known words others left' → left ≡ left'
 same_left known words pieces others left left' a b =
     sym a.left ∙ ap (λ (ps : List Piece). words_of ps) (sym (same_pieces known words pieces others left left' a b)) ∙ b.left
 
@@ -72,17 +72,17 @@ same_setup_parts s s' program folders preload now harts fuel =
     ∙ ap (λ (x : ℕ). record { program = s'.program; folders = s'.folders; preload = s'.preload; bind_now = s'.bind_now; harts = s'.harts; fuel = x }) fuel
 
 same_setup : (pieces : List Piece) (s s' : Setup) → s.program ≡ s'.program → IsSetup pieces s.program s → IsSetup pieces s'.program s' → s ≡ s'
-same_setup pieces s s' program a b = same_setup_parts s s' program (same_parts 58 16 1000 (given choices.Lib pieces) s.folders s'.folders a.folders b.folders)
-    (same_preloads (given choices.Preload pieces) s.preload s'.preload a.preload b.preload) (a.now ∙ sym b.now)
-    (same_parts 44 15 255 (given choices.Harts pieces) s.harts s'.harts a.harts b.harts) (same_fuel (given choices.Fuel pieces) s.fuel s'.fuel a.fuel b.fuel)
+same_setup pieces s s' program a b = same_setup_parts s s' program (same_parts 58 16 1000 (given switches.Lib pieces) s.folders s'.folders a.folders b.folders)
+    (same_preloads (given switches.Preload pieces) s.preload s'.preload a.preload b.preload) (a.now ∙ sym b.now)
+    (same_parts 44 15 255 (given switches.Harts pieces) s.harts s'.harts a.harts b.harts) (same_fuel (given switches.Fuel pieces) s.fuel s'.fuel a.fuel b.fuel)
 
 same_bind : (words : List Text) (b b' : Bind) → ReadsBind words b → ReadsBind words b' → b ≡ b'
 same_bind words b b' x y =
     let ps = same_pieces bind_options words x.pieces y.pieces (b.program ∷ []) (b'.program ∷ []) x.are y.are in
     same_bind_parts b b'
-    (same_parts 58 16 1000 (given choices.Lib x.pieces) b.folders b'.folders x.folders (subst (λ (p : List Piece). AreFolders (given choices.Lib p) b'.folders) ps y.folders))
-    (same_preloads (given choices.Preload x.pieces) b.preload b'.preload x.preload (subst (λ (p : List Piece). ArePreloads (given choices.Preload p) b'.preload) ps y.preload))
-    (x.now ∙ sym (y.now ∙ ap (λ (p : List Piece). stands choices.Now p) ps))
+    (same_parts 58 16 1000 (given switches.Lib x.pieces) b.folders b'.folders x.folders (subst (λ (p : List Piece). AreFolders (given switches.Lib p) b'.folders) ps y.folders))
+    (same_preloads (given switches.Preload x.pieces) b.preload b'.preload x.preload (subst (λ (p : List Piece). ArePreloads (given switches.Preload p) b'.preload) ps y.preload))
+    (x.now ∙ sym (y.now ∙ ap (λ (p : List Piece). stands switches.Now p) ps))
     (head_of b.program b'.program [] [] (same_left bind_options words x.pieces y.pieces (b.program ∷ []) (b'.program ∷ []) x.are y.are))
 
 same_turns : (words : List Text) (t t' : Turns) → ReadsTurns words t → ReadsTurns words t' → t ≡ t'
@@ -99,7 +99,7 @@ same_run words r r' x y =
     let ps = same_pieces run_options words x.pieces y.pieces (r.setup.program ∷ []) (r'.setup.program ∷ []) x.are y.are in
     let programs = head_of r.setup.program r'.setup.program [] [] (same_left run_options words x.pieces y.pieces (r.setup.program ∷ []) (r'.setup.program ∷ []) x.are y.are) in
     let setups = same_setup x.pieces r.setup r'.setup programs x.setup (subst (λ (p : List Piece). IsSetup p r'.setup.program r'.setup) ps y.setup) in
-    ap₂ (λ (s : Setup) (t : Bool). record { setup = s; trace = t }) setups (x.trace ∙ sym (y.trace ∙ ap (λ (p : List Piece). stands choices.Trace p) ps))
+    ap₂ (λ (s : Setup) (t : Bool). record { setup = s; trace = t }) setups (x.trace ∙ sym (y.trace ∙ ap (λ (p : List Piece). stands switches.Trace p) ps))
 
 same_word : (words : List Text) (w w' : Text) → ReadsWord words w → ReadsWord words w' → w ≡ w'
 same_word words w w' x y = head_of w w' [] [] (same_left [] words x.pieces y.pieces (w ∷ []) (w' ∷ []) x.are y.are)

@@ -7,8 +7,8 @@ use Rattle.std.proofs.lemmas.Bool.{cases_lt}
 use Rattle.std.proofs.lemmas.Fmt.{decimal_digit, decimal_injective, first_decimal}
 use Rattle.command_line.specs.declared.command.Command.{Command}
 use Rattle.command_line.specs.declared.command.Command.TheVariants as commands
-use Rattle.command_line.specs.declared.choice.Choice.{Choice}
-use Rattle.command_line.specs.declared.choice.Choice.TheVariants as choices
+use Rattle.command_line.specs.declared.switch.Switch.{Switch}
+use Rattle.command_line.specs.declared.switch.Switch.TheVariants as switches
 use Rattle.command_line.specs.Options.{Piece, Says, given, stand_once, words_of}
 use Rattle.command_line.specs.Lemmas.Commands.{begins_with_word, word_of}
 use Rattle.command_line.specs.Reads.{Reads, bind_options, run_options}
@@ -38,21 +38,21 @@ folders = record {
     no_letters e = let n : 3 ≡ 0 = ap (λ (xs : List ℕ). length xs) e in omega (arith, n)
 
 abbrev pieces : List Piece
-pieces = Piece.valued choices.Lib (codes "lib") ∷ Piece.other (codes "prog") ∷ []
+pieces = Piece.valued switches.Lib (codes "lib") ∷ Piece.other (codes "prog") ∷ []
 
-says_program : (known : List Choice) → Says known false (codes "prog" ∷ []) (Piece.other (codes "prog") ∷ [])
+says_program : (known : List Switch) → Says known false (codes "prog" ∷ []) (Piece.other (codes "prog") ∷ [])
 says_program known = Says.is_word (codes "prog") [] [] refl (Says.no_more false)
 
 pub plain : Plain
-plain = Reads.bind _ _ (record { pieces = pieces; are = record { says = Says.is_valued choices.Lib (codes "--lib") (codes "lib") (codes "prog" ∷ []) _ refl refl refl refl refl (says_program bind_options); once = refl; left = refl }; folders = folders; preload = refl; now = refl })
+plain = Reads.bind _ _ (record { pieces = pieces; are = record { says = Says.is_valued switches.Lib (codes "--lib") (codes "lib") (codes "prog" ∷ []) _ refl refl refl refl refl (says_program bind_options); once = refl; left = refl }; folders = folders; preload = refl; now = refl })
 
 pub joined : Joined
-joined = Reads.bind _ _ (record { pieces = pieces; are = record { says = Says.is_joined_value choices.Lib (codes "--lib=lib") (codes "prog" ∷ []) _ refl refl refl refl (says_program bind_options); once = refl; left = refl }; folders = folders; preload = refl; now = refl })
+joined = Reads.bind _ _ (record { pieces = pieces; are = record { says = Says.is_joined_value switches.Lib (codes "--lib=lib") (codes "prog" ∷ []) _ refl refl refl refl (says_program bind_options); once = refl; left = refl }; folders = folders; preload = refl; now = refl })
 
 pub behind : Behind
 behind = Reads.bind _ _ (record {
-  pieces = Piece.other (codes "prog") ∷ Piece.valued choices.Lib (codes "lib") ∷ [];
-  are = record { says = Says.is_word (codes "prog") _ _ refl (Says.is_valued choices.Lib (codes "--lib") (codes "lib") [] [] refl refl refl refl refl (Says.no_more false)); once = refl; left = refl };
+  pieces = Piece.other (codes "prog") ∷ Piece.valued switches.Lib (codes "lib") ∷ [];
+  are = record { says = Says.is_word (codes "prog") _ _ refl (Says.is_valued switches.Lib (codes "--lib") (codes "lib") [] [] refl refl refl refl refl (Says.no_more false)); once = refl; left = refl };
   folders = folders;
   preload = refl;
   now = refl;
@@ -61,7 +61,7 @@ behind = Reads.bind _ _ (record {
 pub ended : Ended
 ended = Reads.bind _ _ (record {
   pieces = pieces;
-  are = record { says = Says.is_valued choices.Lib (codes "--lib") (codes "lib") (codes "--" ∷ codes "prog" ∷ []) _ refl refl refl refl refl (Says.ends (codes "prog" ∷ []) _ (Says.is_behind (codes "prog") [] [] (Says.no_more true))); once = refl; left = refl };
+  are = record { says = Says.is_valued switches.Lib (codes "--lib") (codes "lib") (codes "--" ∷ codes "prog" ∷ []) _ refl refl refl refl refl (Says.ends (codes "prog" ∷ []) _ (Says.is_behind (codes "prog") [] [] (Says.no_more true))); once = refl; left = refl };
   folders = folders;
   preload = refl;
   now = refl;
@@ -111,7 +111,7 @@ none_dashed command (Reads.bind rest bind x) = not_said bind_options (codes "--l
 -- an option that stands twice
 pub none_twice : IsNone twice
 none_twice command (Reads.bind rest bind x) =
-    let pieces : x.pieces ≡ Piece.valued choices.Lib (codes "lib") ∷ Piece.valued choices.Lib (codes "lib") ∷ Piece.other (codes "prog") ∷ [] =
+    let pieces : x.pieces ≡ Piece.valued switches.Lib (codes "lib") ∷ Piece.valued switches.Lib (codes "lib") ∷ Piece.other (codes "prog") ∷ [] =
     said_as bind_options (codes "--lib" ∷ codes "lib" ∷ codes "--lib" ∷ codes "lib" ∷ codes "prog" ∷ []) x.pieces _ refl x.are.says in
     true≢false (sym x.are.once ∙ ap (λ (ps : List Piece). stand_once ps) pieces)
 
@@ -127,17 +127,17 @@ none_no_program command (Reads.run rest run x) =
 -- a folder without a name
 pub none_empty_part : IsNone empty_part
 none_empty_part command (Reads.bind rest bind x) =
-    let pieces : x.pieces ≡ Piece.valued choices.Lib (codes "a::b") ∷ Piece.other (codes "prog") ∷ [] =
+    let pieces : x.pieces ≡ Piece.valued switches.Lib (codes "a::b") ∷ Piece.other (codes "prog") ∷ [] =
     said_as bind_options (codes "--lib" ∷ codes "a::b" ∷ codes "prog" ∷ []) x.pieces _ refl x.are.says in
-    let folders : AreParts 58 16 1000 (codes "a::b") bind.folders = subst (λ (ps : List Piece). AreFolders (given choices.Lib ps) bind.folders) pieces x.folders in
+    let folders : AreParts 58 16 1000 (codes "a::b") bind.folders = subst (λ (ps : List Piece). AreFolders (given switches.Lib ps) bind.folders) pieces x.folders in
     folders.some [] (subst (λ (ps : List (List ℕ)). Contains ps []) (sym folders.are) (1, omega arith, refl)) refl
 
 -- no turn
 pub none_no_fuel : IsNone no_fuel
 none_no_fuel command (Reads.run rest run x) =
-    let pieces : x.pieces ≡ Piece.valued choices.Fuel (codes "0") ∷ Piece.other (codes "prog") ∷ [] =
+    let pieces : x.pieces ≡ Piece.valued switches.Fuel (codes "0") ∷ Piece.other (codes "prog") ∷ [] =
     said_as run_options (codes "--fuel" ∷ codes "0" ∷ codes "prog" ∷ []) x.pieces _ refl x.are.says in
-    let number : IsNumber 1 (2 ^ 32) (codes "0") run.setup.fuel = subst (λ (ps : List Piece). IsFuel (given choices.Fuel ps) run.setup.fuel) pieces x.setup.fuel in
+    let number : IsNumber 1 (2 ^ 32) (codes "0") run.setup.fuel = subst (λ (ps : List Piece). IsFuel (given switches.Fuel ps) run.setup.fuel) pieces x.setup.fuel in
     none (run.setup.fuel) number
   where
     none : (fuel : ℕ) → IsNumber 1 (2 ^ 32) (codes "0") fuel → ⊥

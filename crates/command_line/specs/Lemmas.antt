@@ -1,3 +1,3 @@
 -- Lemmas on this crate's definitions that proofs of the crates above cite, too. They define nothing that a contract means.
-pub mod Choices
+pub mod Switches
 pub mod Commands

@@ -4,27 +4,27 @@ use Rattle.std.specs.Prelude.{Some, None, codes}
 use Rattle.std.specs.List.{list_all, list_any, slice_get}
 use Rattle.std.specs.Option.{option_map_or}
 use Rattle.std.specs.Str.{bytes_eq}
-use Rattle.command_line.specs.declared.choice.Choice.{Choice}
-use Rattle.command_line.specs.declared.choice.Choice.TheVariants as choices
+use Rattle.command_line.specs.declared.switch.Switch.{Switch}
+use Rattle.command_line.specs.declared.switch.Switch.TheVariants as switches
 
 -- ---- options
 
-abbrev pub name_of : Choice → List ℕ
-name_of choices.Lib = codes "--lib"
-name_of choices.Preload = codes "--preload"
-name_of choices.Harts = codes "--harts"
-name_of choices.Fuel = codes "--fuel"
-name_of choices.Now = codes "--now"
-name_of choices.Trace = codes "--trace"
+abbrev pub name_of : Switch → List ℕ
+name_of switches.Lib = codes "--lib"
+name_of switches.Preload = codes "--preload"
+name_of switches.Harts = codes "--harts"
+name_of switches.Fuel = codes "--fuel"
+name_of switches.Now = codes "--now"
+name_of switches.Trace = codes "--trace"
 
 -- some have a value, and some stand alone
-abbrev pub has_value : Choice → Bool
-has_value choices.Lib = true
-has_value choices.Preload = true
-has_value choices.Harts = true
-has_value choices.Fuel = true
-has_value choices.Now = false
-has_value choices.Trace = false
+abbrev pub has_value : Switch → Bool
+has_value switches.Lib = true
+has_value switches.Preload = true
+has_value switches.Harts = true
+has_value switches.Fuel = true
+has_value switches.Now = false
+has_value switches.Trace = false
 
 -- ---- words
 
@@ -51,52 +51,52 @@ abbrev pub value_of : List ℕ → List ℕ
 value_of word = drop (length (front_of word) + 1) word
 
 -- the option that is called so, of those that a command has
-abbrev pub option_in : List Choice → List ℕ → Option Choice
+abbrev pub option_in : List Switch → List ℕ → Option Switch
 option_in known name = find (λ c. bytes_eq (name_of c) name) known
 
 -- ---- pieces
 
 -- an option, with its value if it has one, or another word
 pub data Piece : Type 0 where
-  flag : Choice → Piece
-  valued : Choice → List ℕ → Piece
+  flag : Switch → Piece
+  valued : Switch → List ℕ → Piece
   other : List ℕ → Piece
 
 -- what words say: of an option with a value that isn't joined to it, the next word, which has no dash, is the value
-pub data Says (known : List Choice) : (ended : Bool) → List (List ℕ) → List Piece → Type 0 where
+pub data Says (known : List Switch) : (ended : Bool) → List (List ℕ) → List Piece → Type 0 where
   no_more : (ended : Bool) → Says known ended [] []
   ends : (rest : List (List ℕ)) (pieces : List Piece) → Says known true rest pieces → Says known false (codes "--" ∷ rest) pieces
   is_word : (word : List ℕ) (rest : List (List ℕ)) (pieces : List Piece) → is_option word ≡ false → Says known false rest pieces
       → Says known false (word ∷ rest) (Piece.other word ∷ pieces)
   is_behind : (word : List ℕ) (rest : List (List ℕ)) (pieces : List Piece) → Says known true rest pieces
       → Says known true (word ∷ rest) (Piece.other word ∷ pieces)
-  is_flag : (choice : Choice) (word : List ℕ) (rest : List (List ℕ)) (pieces : List Piece) → is_option word ≡ true → is_joined word ≡ false
-      → option_in known word ≡ Some choice → has_value choice ≡ false
-      → Says known false rest pieces → Says known false (word ∷ rest) (Piece.flag choice ∷ pieces)
-  is_valued : (choice : Choice) (word value : List ℕ) (rest : List (List ℕ)) (pieces : List Piece) → is_option word ≡ true → is_joined word ≡ false
-      → option_in known word ≡ Some choice
-      → has_value choice ≡ true → has_dash value ≡ false → Says known false rest pieces
-      → Says known false (word ∷ value ∷ rest) (Piece.valued choice value ∷ pieces)
-  is_joined_value : (choice : Choice) (word : List ℕ) (rest : List (List ℕ)) (pieces : List Piece) → is_option word ≡ true → is_joined word ≡ true
-      → option_in known (front_of word) ≡ Some choice → has_value choice ≡ true
-      → Says known false rest pieces → Says known false (word ∷ rest) (Piece.valued choice (value_of word) ∷ pieces)
+  is_flag : (switch : Switch) (word : List ℕ) (rest : List (List ℕ)) (pieces : List Piece) → is_option word ≡ true → is_joined word ≡ false
+      → option_in known word ≡ Some switch → has_value switch ≡ false
+      → Says known false rest pieces → Says known false (word ∷ rest) (Piece.flag switch ∷ pieces)
+  is_valued : (switch : Switch) (word value : List ℕ) (rest : List (List ℕ)) (pieces : List Piece) → is_option word ≡ true → is_joined word ≡ false
+      → option_in known word ≡ Some switch
+      → has_value switch ≡ true → has_dash value ≡ false → Says known false rest pieces
+      → Says known false (word ∷ value ∷ rest) (Piece.valued switch value ∷ pieces)
+  is_joined_value : (switch : Switch) (word : List ℕ) (rest : List (List ℕ)) (pieces : List Piece) → is_option word ≡ true → is_joined word ≡ true
+      → option_in known (front_of word) ≡ Some switch → has_value switch ≡ true
+      → Says known false rest pieces → Says known false (word ∷ rest) (Piece.valued switch (value_of word) ∷ pieces)
 
 -- ---- what pieces hold
 
-abbrev pub is_choice : Choice → Choice → Bool
-is_choice c d = bytes_eq (name_of c) (name_of d)
+abbrev pub is_switch : Switch → Switch → Bool
+is_switch c d = bytes_eq (name_of c) (name_of d)
 
-abbrev pub is_of : Choice → Piece → Bool
-is_of c (Piece.flag d) = is_choice c d
-is_of c (Piece.valued d value) = is_choice c d
+abbrev pub is_of : Switch → Piece → Bool
+is_of c (Piece.flag d) = is_switch c d
+is_of c (Piece.valued d value) = is_switch c d
 is_of c (Piece.other word) = false
 
 -- each option stands at most once
-abbrev pub all_choices : List Choice
-all_choices = choices.Lib ∷ choices.Preload ∷ choices.Harts ∷ choices.Fuel ∷ choices.Now ∷ choices.Trace ∷ []
+abbrev pub all_switches : List Switch
+all_switches = switches.Lib ∷ switches.Preload ∷ switches.Harts ∷ switches.Fuel ∷ switches.Now ∷ switches.Trace ∷ []
 
 abbrev pub stand_once : List Piece → Bool
-stand_once pieces = list_all (λ c. nat_le (length (filter (is_of c) pieces)) 1) all_choices
+stand_once pieces = list_all (λ c. nat_le (length (filter (is_of c) pieces)) 1) all_switches
 
 abbrev pub value_in : Piece → Option (List ℕ)
 value_in (Piece.flag c) = None
@@ -104,10 +104,10 @@ value_in (Piece.valued c value) = Some value
 value_in (Piece.other word) = None
 
 -- the value of an option, if it stands
-abbrev pub given : Choice → List Piece → Option (List ℕ)
+abbrev pub given : Switch → List Piece → Option (List ℕ)
 given c pieces = elim (find (is_of c) pieces) [ Some piece ↦ value_in piece | None ↦ None ]
 
-abbrev pub stands : Choice → List Piece → Bool
+abbrev pub stands : Switch → List Piece → Bool
 stands c pieces = list_any (is_of c) pieces
 
 -- the other words, in order
@@ -119,5 +119,5 @@ words_of (Piece.other word ∷ rest) = word ∷ words_of rest
 
 -- words say one list of pieces
 abbrev pub OneSaying : Type 0
-OneSaying = (known : List Choice) (words : List (List ℕ)) (pieces others : List Piece) → Says known false words pieces → Says known false words others
+OneSaying = (known : List Switch) (words : List (List ℕ)) (pieces others : List Piece) → Says known false words pieces → Says known false words others
     → pieces ≡ others

@@ -1,7 +1,7 @@
 -- Reads: the command that words are, with its values.
 use Rattle.std.specs.Prelude.{◌≡◌, ℕ, ◌-◌, ◌^◌, false, List, [], ◌∷◌, IsTrue, codes}
-use Rattle.command_line.specs.declared.choice.Choice.{Choice}
-use Rattle.command_line.specs.declared.choice.Choice.TheVariants as choices
+use Rattle.command_line.specs.declared.switch.Switch.{Switch}
+use Rattle.command_line.specs.declared.switch.Switch.TheVariants as switches
 use Rattle.command_line.specs.declared.command.Bind.{Bind}
 use Rattle.command_line.specs.declared.command.Command.{Command}
 use Rattle.command_line.specs.declared.command.Command.TheVariants as commands
@@ -13,17 +13,17 @@ use Rattle.command_line.specs.Values.{AreFolders, AreHarts, ArePreloads, IsFuel,
 
 -- ---- the options of each command
 
-abbrev pub bind_options : List Choice
-bind_options = choices.Lib ∷ choices.Preload ∷ choices.Now ∷ []
+abbrev pub bind_options : List Switch
+bind_options = switches.Lib ∷ switches.Preload ∷ switches.Now ∷ []
 
-abbrev pub turns_options : List Choice
-turns_options = choices.Lib ∷ choices.Preload ∷ choices.Harts ∷ choices.Fuel ∷ choices.Now ∷ []
+abbrev pub turns_options : List Switch
+turns_options = switches.Lib ∷ switches.Preload ∷ switches.Harts ∷ switches.Fuel ∷ switches.Now ∷ []
 
-abbrev pub run_options : List Choice
-run_options = choices.Lib ∷ choices.Preload ∷ choices.Harts ∷ choices.Fuel ∷ choices.Now ∷ choices.Trace ∷ []
+abbrev pub run_options : List Switch
+run_options = switches.Lib ∷ switches.Preload ∷ switches.Harts ∷ switches.Fuel ∷ switches.Now ∷ switches.Trace ∷ []
 
 -- the words say these pieces, each option once, and these other words
-pub record Are (known : List Choice) (words : List (List ℕ)) (pieces : List Piece) (others : List (List ℕ)) : Type 0 where
+pub record Are (known : List Switch) (words : List (List ℕ)) (pieces : List Piece) (others : List (List ℕ)) : Type 0 where
   pub says : Says known false words pieces
   pub once : IsTrue (stand_once pieces)
   pub left : words_of pieces ≡ others
@@ -32,18 +32,18 @@ pub record Are (known : List Choice) (words : List (List ℕ)) (pieces : List Pi
 
 pub record IsSetup (pieces : List Piece) (program : List ℕ) (setup : Setup) : Type 0 where
   pub path : setup.program ≡ program
-  pub folders : AreFolders (given choices.Lib pieces) setup.folders
-  pub preload : ArePreloads (given choices.Preload pieces) setup.preload
-  pub now : setup.bind_now ≡ stands choices.Now pieces
-  pub harts : AreHarts (given choices.Harts pieces) setup.harts
-  pub fuel : IsFuel (given choices.Fuel pieces) setup.fuel
+  pub folders : AreFolders (given switches.Lib pieces) setup.folders
+  pub preload : ArePreloads (given switches.Preload pieces) setup.preload
+  pub now : setup.bind_now ≡ stands switches.Now pieces
+  pub harts : AreHarts (given switches.Harts pieces) setup.harts
+  pub fuel : IsFuel (given switches.Fuel pieces) setup.fuel
 
 pub record ReadsBind (words : List (List ℕ)) (bind : Bind) : Type 0 where
   pub pieces : List Piece
   pub are : Are bind_options words pieces (bind.program ∷ [])
-  pub folders : AreFolders (given choices.Lib pieces) bind.folders
-  pub preload : ArePreloads (given choices.Preload pieces) bind.preload
-  pub now : bind.now ≡ stands choices.Now pieces
+  pub folders : AreFolders (given switches.Lib pieces) bind.folders
+  pub preload : ArePreloads (given switches.Preload pieces) bind.preload
+  pub now : bind.now ≡ stands switches.Now pieces
 
 -- the schedule stands before the program; whether it is one is asked once it is known how many harts there are
 pub record ReadsTurns (words : List (List ℕ)) (turns : Turns) : Type 0 where
@@ -55,7 +55,7 @@ pub record ReadsRun (words : List (List ℕ)) (run : Run) : Type 0 where
   pub pieces : List Piece
   pub are : Are run_options words pieces (run.setup.program ∷ [])
   pub setup : IsSetup pieces run.setup.program run.setup
-  pub trace : run.trace ≡ stands choices.Trace pieces
+  pub trace : run.trace ≡ stands switches.Trace pieces
 
 -- a command without options has one word
 pub record ReadsWord (words : List (List ℕ)) (word : List ℕ) : Type 0 where

@@ -7,10 +7,10 @@
 //! There is no code but laws: functions without a body, whose contract is the law.
 #![tactic(auto)]
 
-mod choice;
 mod command;
 mod law;
+mod switch;
 
-pub use choice::Choice;
 pub use command::{Bind, Command, Run, Turns};
 pub use law::{words_are_commands, words_are_none, words_are_one_command, words_say_once};
+pub use switch::Switch;

@@ -4,26 +4,27 @@ use Rattle.std.specs.List.{slice_get}
 use Rattle.std.proofs.lemmas.Slice.Eq.{bytes_eq-Decides}
 use Rattle.std.specs.Str.{bytes_eq}
 use Rattle.clap.specs.Matches.{first_value, one_text}
+use Rattle.clap.specs.Values.{bool_text}
 use Rattle.clap.specs.Walk.{rows_of}
 use Rattle.clap.specs.declared.parser.matches.Found.{Found}
 use Rattle.clap.proofs.WalkLemmas.{first_value-rows, one_text-rows}
 use Rattle.link_served.specs.declared.startup.Setup.{Setup}
-use Rattle.command_line.specs.declared.choice.Choice.{Choice}
-use Rattle.command_line.specs.declared.choice.Choice.TheVariants as choices
+use Rattle.command_line.specs.declared.switch.Switch.{Switch}
+use Rattle.command_line.specs.declared.switch.Switch.TheVariants as switches
 use Rattle.command_line.specs.declared.command.Bind.{Bind}
 use Rattle.command_line.specs.declared.command.Command.{Command}
 use Rattle.command_line.specs.declared.command.Command.TheVariants as commands
 use Rattle.command_line.specs.declared.command.Run.{Run}
 use Rattle.command_line.specs.declared.command.Turns.{Turns}
-use Rattle.command_line.specs.Lemmas.Choices.{one_choice}
+use Rattle.command_line.specs.Lemmas.Switches.{one_switch}
 use Rattle.command_line.specs.Lemmas.Commands.{ReadsBehind, begin_with_word, begins_with_word, word_of}
-use Rattle.command_line.specs.Options.{Piece, Says, front_of, given, has_value, is_choice, is_of, name_of, option_in, stands, value_in, value_of}
+use Rattle.command_line.specs.Options.{Piece, Says, front_of, given, has_value, is_switch, is_of, name_of, option_in, stands, value_in, value_of}
 use Rattle.command_line.specs.Reads.{Are, IsSetup, Reads, ReadsBind, ReadsNumber, ReadsRun, ReadsTurns, ReadsWord, bind_options, run_options, turns_options}
 use Rattle.command_line.specs.Values.{AreFolders, AreHarts, ArePreloads, IsFuel, IsNumber}
 use Rattle.clap_words.specs.declared.form.Form.{Form}
 use Rattle.clap_words.specs.declared.form.Form.TheVariants as forms
 use Rattle.clap_words.specs.Forms.{id_of, names_of, options_of}
-use Rattle.clap_words.specs.Taken.{AreNamed, truth}
+use Rattle.clap_words.specs.Taken.{AreNamed}
 use Rattle.command_read.specs.Judged.{GivenValues, HasFolders, HasFuel, HasHarts, HasNumber, HasPreloads, IsOf, IsSomeNumber, parts_in}
 use Rattle.command_read.specs.Found.{FoundBind, FoundCommand, FoundNumber, FoundRun, FoundSetup, FoundTurns, HasCommand, HasFlag, HasSetup}
 use Rattle.command_read.specs.Matched.{IsMatched}
@@ -34,7 +35,7 @@ use Rattle.said_words.specs.Words.{Text}
 
 -- ---- options that a form doesn't have
 
-named_so : (known : List Choice) (name : Text) (c : Choice) → option_in known name ≡ Some c → bytes_eq (name_of c) name ≡ true
+named_so : (known : List Switch) (name : Text) (c : Switch) → option_in known name ≡ Some c → bytes_eq (name_of c) name ≡ true
 named_so [] name c is = let e : None ≡ Some c = is in absurd cc
 named_so (d ∷ known) name c is = either (bytes_eq (name_of d) name) refl (named_so known name c)
   where
@@ -42,33 +43,33 @@ named_so (d ∷ known) name c is = either (bytes_eq (name_of d) name) refl (name
     either true here later =
         let e : Some d ≡ Some c = sym (ap (λ (t : Bool). cond t (Some d) (option_in known name)) here) ∙ is in
         let same : d ≡ c = cc in
-        sym (ap (λ (x : Choice). bytes_eq (name_of x) name) same) ∙ here
+        sym (ap (λ (x : Switch). bytes_eq (name_of x) name) same) ∙ here
     either false here later = later (sym (ap (λ (t : Bool). cond t (Some d) (option_in known name)) here) ∙ is)
 
 -- an option of which no word is known isn't the one of a word
-other_choice : (known : List Choice) (name : Text) (c d : Choice) → option_in known name ≡ Some d → option_in known (name_of c) ≡ None → is_choice c d ≡ false
-other_choice known name c d is none = either (is_choice c d) refl
+other_switch : (known : List Switch) (name : Text) (c d : Switch) → option_in known name ≡ Some d → option_in known (name_of c) ≡ None → is_switch c d ≡ false
+other_switch known name c d is none = either (is_switch c d) refl
   where
-    either : (b : Bool) → is_choice c d ≡ b → is_choice c d ≡ false
+    either : (b : Bool) → is_switch c d ≡ b → is_switch c d ≡ false
     either true same =
-        let names : name_of c ≡ name = ap name_of (one_choice c d same) ∙ (bytes_eq-Decides (name_of d) name).0 (named_so known name d is) in
+        let names : name_of c ≡ name = ap name_of (one_switch c d same) ∙ (bytes_eq-Decides (name_of d) name).0 (named_so known name d is) in
         let e : None ≡ Some d = sym none ∙ ap (option_in known) names ∙ is in
         absurd cc
     either false same = same
 
-find_none : (c : Choice) (known : List Choice) (ended : Bool) (words : List Text) (pieces : List Piece) → Says known ended words pieces → option_in known (name_of c) ≡ None → find (is_of c) pieces ≡ None
+find_none : (c : Switch) (known : List Switch) (ended : Bool) (words : List Text) (pieces : List Piece) → Says known ended words pieces → option_in known (name_of c) ≡ None → find (is_of c) pieces ≡ None
 find_none c known ended words pieces (Says.no_more _) none = refl
 find_none c known ended words pieces (Says.ends rest _ says) none = find_none c known true rest pieces says none
 find_none c known ended words pieces (Says.is_word word rest others plain says) none = find_none c known false rest others says none
 find_none c known ended words pieces (Says.is_behind word rest others says) none = find_none c known true rest others says none
 find_none c known ended words pieces (Says.is_flag d word rest others dashed plain is alone says) none =
-    ap (λ (t : Bool). cond t (Some (Piece.flag d)) (find (is_of c) others)) (other_choice known word c d is none) ∙ find_none c known false rest others says none
+    ap (λ (t : Bool). cond t (Some (Piece.flag d)) (find (is_of c) others)) (other_switch known word c d is none) ∙ find_none c known false rest others says none
 find_none c known ended words pieces (Says.is_valued d word value rest others dashed plain is some dash says) none =
-    ap (λ (t : Bool). cond t (Some (Piece.valued d value)) (find (is_of c) others)) (other_choice known word c d is none) ∙ find_none c known false rest others says none
+    ap (λ (t : Bool). cond t (Some (Piece.valued d value)) (find (is_of c) others)) (other_switch known word c d is none) ∙ find_none c known false rest others says none
 find_none c known ended words pieces (Says.is_joined_value d word rest others dashed signed is some says) none =
-    ap (λ (t : Bool). cond t (Some (Piece.valued d (value_of word))) (find (is_of c) others)) (other_choice known (front_of word) c d is none) ∙ find_none c known false rest others says none
+    ap (λ (t : Bool). cond t (Some (Piece.valued d (value_of word))) (find (is_of c) others)) (other_switch known (front_of word) c d is none) ∙ find_none c known false rest others says none
 
-given_none : (c : Choice) (known : List Choice) (words : List Text) (pieces : List Piece) → Says known false words pieces → option_in known (name_of c) ≡ None → given c pieces ≡ None
+given_none : (c : Switch) (known : List Switch) (words : List Text) (pieces : List Piece) → Says known false words pieces → option_in known (name_of c) ≡ None → given c pieces ≡ None
 given_none c known words pieces says none =
     ap (λ (found : Option Piece). elim found [ Some piece ↦ value_in piece | None ↦ None ]) (find_none c known false words pieces says none)
 
@@ -95,8 +96,8 @@ bind_is_of words bind reads = record {
   values = record {
     folders = (bind.folders, reads.folders);
     preloads = (bind.preload, reads.preload);
-    names = no_harts (given_none choices.Harts bind_options words reads.pieces reads.are.says refl);
-    turns = no_fuel (given_none choices.Fuel bind_options words reads.pieces reads.are.says refl);
+    names = no_harts (given_none switches.Harts bind_options words reads.pieces reads.are.says refl);
+    turns = no_fuel (given_none switches.Fuel bind_options words reads.pieces reads.are.says refl);
   };
   number = tt;
 }
@@ -127,10 +128,10 @@ run_is_of words run reads = record {
 
 no_values : (words : List Text) (pieces : List Piece) → Says [] false words pieces → GivenValues pieces
 no_values words pieces says = record {
-  folders = no_folders (given_none choices.Lib [] words pieces says refl);
-  preloads = no_preloads (given_none choices.Preload [] words pieces says refl);
-  names = no_harts (given_none choices.Harts [] words pieces says refl);
-  turns = no_fuel (given_none choices.Fuel [] words pieces says refl);
+  folders = no_folders (given_none switches.Lib [] words pieces says refl);
+  preloads = no_preloads (given_none switches.Preload [] words pieces says refl);
+  names = no_harts (given_none switches.Harts [] words pieces says refl);
+  turns = no_fuel (given_none switches.Fuel [] words pieces says refl);
 }
 
 path_is_of : (words : List Text) (path : Text) → ReadsWord words path → IsOf forms.Path words
@@ -169,7 +170,7 @@ two_words (first ∷ second ∷ more ∷ rest) count = absurd (omega (arith, cou
 some_bind : (words : List Text) → IsOf forms.Bind words → (bind : Bind) × ReadsBind words bind
 some_bind words of =
     let program = one_word of.others of.count in (
-      record { folders = of.values.folders.0; preload = of.values.preloads.0; now = stands choices.Now of.pieces; program = program.0 },
+      record { folders = of.values.folders.0; preload = of.values.preloads.0; now = stands switches.Now of.pieces; program = program.0 },
       record { pieces = of.pieces; are = subst (Are bind_options words of.pieces) program.1 of.are; folders = of.values.folders.1; preload = of.values.preloads.1; now = refl },
     )
 
@@ -179,7 +180,7 @@ some_setup pieces program values = (
     program = program;
     folders = values.folders.0;
     preload = values.preloads.0;
-    bind_now = stands choices.Now pieces;
+    bind_now = stands switches.Now pieces;
     harts = values.names.0;
     fuel = values.turns.0;
   },
@@ -203,7 +204,7 @@ some_run : (words : List Text) → IsOf forms.Run words → (run : Run) × Reads
 some_run words of =
     let program = one_word of.others of.count in
     let setup = some_setup of.pieces program.0 of.values in (
-      record { setup = setup.0; trace = stands choices.Trace of.pieces },
+      record { setup = setup.0; trace = stands switches.Trace of.pieces },
       record {
         pieces = of.pieces;
         are = subst (Are run_options words of.pieces) (program.1 ∙ ap (λ (w : Text). w ∷ []) (sym setup.1)) of.are;
@@ -226,10 +227,10 @@ some_number words of =
 -- ---- values that are found
 
 module _ (form : Form) (words : List Text) (found : Found) (m : IsMatched form words found) where
-  value_found : (c : Choice) → has_value c ≡ true → first_value found (id_of c) ≡ given c m.of.pieces
+  value_found : (c : Switch) → has_value c ≡ true → first_value found (id_of c) ≡ given c m.of.pieces
   value_found c some = first_value-rows found (id_of c) ∙ m.matches.values c some
 
-  flag_found : (c : Choice) → has_value c ≡ false → option_in (options_of form) (name_of c) ≡ Some c → one_text found (id_of c) ≡ Some (truth (stands c m.of.pieces))
+  flag_found : (c : Switch) → has_value c ≡ false → option_in (options_of form) (name_of c) ≡ Some c → one_text found (id_of c) ≡ Some (bool_text (stands c m.of.pieces))
   flag_found c alone known = one_text-rows found (id_of c) ∙ m.matches.flags c alone known
 
   -- the one other word
@@ -258,14 +259,14 @@ is_some_of (Some y) x e = refl
 
 -- ---- flags
 
-same_truth : (a b : Bool) → truth a ≡ truth b → a ≡ b
-same_truth true true e = refl
-same_truth false false e = refl
-same_truth true false e = let n : 4 ≡ 5 = ap (λ (t : Text). length t) e in absurd (omega (arith, n))
-same_truth false true e = let n : 5 ≡ 4 = ap (λ (t : Text). length t) e in absurd (omega (arith, n))
+same_text : (a b : Bool) → bool_text a ≡ bool_text b → a ≡ b
+same_text true true e = refl
+same_text false false e = refl
+same_text true false e = let n : 4 ≡ 5 = ap (λ (t : Text). length t) e in absurd (omega (arith, n))
+same_text false true e = let n : 5 ≡ 4 = ap (λ (t : Text). length t) e in absurd (omega (arith, n))
 
-same_flag : (a b : Bool) → Some (truth a) ≡ Some (truth b) → a ≡ b
-same_flag a b e = same_truth a b (same_some (truth a) (truth b) e)
+same_flag : (a b : Bool) → Some (bool_text a) ≡ Some (bool_text b) → a ≡ b
+same_flag a b e = same_bool_text a b (same_some (bool_text a) (bool_text b) e)
 
 -- ---- parts that are found
 
@@ -284,45 +285,45 @@ harts_are (Some value) names has is = subst (AreHarts (Some value)) (has.1.are �
 -- ---- commands
 
 module _ (form : Form) (words : List Text) (found : Found) (m : IsMatched form words found) where
-  has_flag : (c : Choice) → has_value c ≡ false → option_in (options_of form) (name_of c) ≡ Some c → HasFlag found (id_of c)
+  has_flag : (c : Switch) → has_value c ≡ false → option_in (options_of form) (name_of c) ≡ Some c → HasFlag found (id_of c)
   has_flag c alone known = (stands c m.of.pieces, flag_found form words found m c alone known)
 
-  has_setup : (program : Text) → first_value found (codes "program") ≡ Some program → option_in (options_of form) (codes "--now") ≡ Some choices.Now → HasSetup found
+  has_setup : (program : Text) → first_value found (codes "program") ≡ Some program → option_in (options_of form) (codes "--now") ≡ Some switches.Now → HasSetup found
   has_setup program is known = record {
     program = is_some_of (first_value found (codes "program")) program is;
-    turns = subst HasFuel (sym (value_found form words found m choices.Fuel refl)) m.of.values.turns;
-    now = has_flag choices.Now refl known;
+    turns = subst HasFuel (sym (value_found form words found m switches.Fuel refl)) m.of.values.turns;
+    now = has_flag switches.Now refl known;
   }
 
-  is_setup : option_in (options_of form) (codes "--now") ≡ Some choices.Now → (setup : Setup) → FoundSetup found setup → IsSetup m.of.pieces setup.program setup
+  is_setup : option_in (options_of form) (codes "--now") ≡ Some switches.Now → (setup : Setup) → FoundSetup found setup → IsSetup m.of.pieces setup.program setup
   is_setup known setup given_setup = record {
     path = refl;
-    folders = folders_are (given choices.Lib m.of.pieces) setup.folders m.of.values.folders (given_setup.folders ∙ ap (parts_in 58) (value_found form words found m choices.Lib refl));
-    preload = preloads_are (given choices.Preload m.of.pieces) setup.preload m.of.values.preloads (given_setup.preload ∙ ap (parts_in 58) (value_found form words found m choices.Preload refl));
-    now = same_flag setup.bind_now (stands choices.Now m.of.pieces) (sym given_setup.now ∙ flag_found form words found m choices.Now refl known);
-    harts = harts_are (given choices.Harts m.of.pieces) setup.harts m.of.values.names (given_setup.harts ∙ ap (parts_in 44) (value_found form words found m choices.Harts refl));
-    fuel = subst (λ (v : Option Text). IsFuel v setup.fuel) (value_found form words found m choices.Fuel refl) given_setup.fuel;
+    folders = folders_are (given switches.Lib m.of.pieces) setup.folders m.of.values.folders (given_setup.folders ∙ ap (parts_in 58) (value_found form words found m switches.Lib refl));
+    preload = preloads_are (given switches.Preload m.of.pieces) setup.preload m.of.values.preloads (given_setup.preload ∙ ap (parts_in 58) (value_found form words found m switches.Preload refl));
+    now = same_flag setup.bind_now (stands switches.Now m.of.pieces) (sym given_setup.now ∙ flag_found form words found m switches.Now refl known);
+    harts = harts_are (given switches.Harts m.of.pieces) setup.harts m.of.values.names (given_setup.harts ∙ ap (parts_in 44) (value_found form words found m switches.Harts refl));
+    fuel = subst (λ (v : Option Text). IsFuel v setup.fuel) (value_found form words found m switches.Fuel refl) given_setup.fuel;
   }
 
   -- the one other word is what is found
-  is_word : (name : Text) → names_of form ≡ name ∷ [] → (known : List Choice) → options_of form ≡ known → (word : Text) → first_value found name ≡ Some word → Are known words m.of.pieces (word ∷ [])
+  is_word : (name : Text) → names_of form ≡ name ∷ [] → (known : List Switch) → options_of form ≡ known → (word : Text) → first_value found name ≡ Some word → Are known words m.of.pieces (word ∷ [])
   is_word name named known has word is =
       let one = word_found form words found m name named in
       let same : one.0 ≡ word = same_some one.0 word (sym one.2 ∙ is) in
-      subst (λ (cs : List Choice). Are cs words m.of.pieces (word ∷ [])) has
+      subst (λ (cs : List Switch). Are cs words m.of.pieces (word ∷ [])) has
       (subst (λ (ws : List Text). Are (options_of form) words m.of.pieces ws) (one.1 ∙ ap (λ (w : Text). w ∷ []) same) m.of.are)
 
   some_word : (name : Text) → names_of form ≡ name ∷ [] → IsSome (first_value found name)
   some_word name named = (let one = word_found form words found m name named in is_some_of (first_value found name) one.0 one.2)
 
 pub has_command : (verb : Verb) (words : List Text) (found : Found) → IsMatched (form_of verb) words found → HasCommand verb found
-has_command verbs.Bind words found m = record { program = some_word forms.Bind words found m (codes "program") refl; now = has_flag forms.Bind words found m choices.Now refl refl }
+has_command verbs.Bind words found m = record { program = some_word forms.Bind words found m (codes "program") refl; now = has_flag forms.Bind words found m switches.Now refl refl }
 has_command verbs.Turns words found m =
     let both = words_found words found m in
     record { setup = has_setup forms.Turns words found m both.1 both.4 refl; schedule = is_some_of (first_value found (codes "schedule")) both.0 both.3 }
 has_command verbs.Run words found m =
     let one = word_found forms.Run words found m (codes "program") refl in
-    record { setup = has_setup forms.Run words found m one.0 one.2 refl; trace = has_flag forms.Run words found m choices.Trace refl refl }
+    record { setup = has_setup forms.Run words found m one.0 one.2 refl; trace = has_flag forms.Run words found m switches.Trace refl refl }
 has_command verbs.Assemble words found m = some_word forms.Path words found m (codes "path") refl
 has_command verbs.Dump words found m = some_word forms.Path words found m (codes "path") refl
 has_command verbs.Generate words found m =
@@ -333,9 +334,9 @@ bind_reads : (words : List Text) (found : Found) (m : IsMatched forms.Bind words
 bind_reads words found m bind f = record {
   pieces = m.of.pieces;
   are = is_word forms.Bind words found m (codes "program") refl bind_options refl bind.program f.program;
-  folders = folders_are (given choices.Lib m.of.pieces) bind.folders m.of.values.folders (f.folders ∙ ap (parts_in 58) (value_found forms.Bind words found m choices.Lib refl));
-  preload = preloads_are (given choices.Preload m.of.pieces) bind.preload m.of.values.preloads (f.preload ∙ ap (parts_in 58) (value_found forms.Bind words found m choices.Preload refl));
-  now = same_flag bind.now (stands choices.Now m.of.pieces) (sym f.now ∙ flag_found forms.Bind words found m choices.Now refl refl);
+  folders = folders_are (given switches.Lib m.of.pieces) bind.folders m.of.values.folders (f.folders ∙ ap (parts_in 58) (value_found forms.Bind words found m switches.Lib refl));
+  preload = preloads_are (given switches.Preload m.of.pieces) bind.preload m.of.values.preloads (f.preload ∙ ap (parts_in 58) (value_found forms.Bind words found m switches.Preload refl));
+  now = same_flag bind.now (stands switches.Now m.of.pieces) (sym f.now ∙ flag_found forms.Bind words found m switches.Now refl refl);
 }
 
 turns_reads : (words : List Text) (found : Found) (m : IsMatched forms.Turns words found) (turns : Turns) → FoundTurns found turns → ReadsTurns words turns
@@ -354,7 +355,7 @@ run_reads words found m run f = record {
   pieces = m.of.pieces;
   are = is_word forms.Run words found m (codes "program") refl run_options refl run.setup.program f.setup.path;
   setup = is_setup forms.Run words found m refl run.setup f.setup;
-  trace = same_flag run.trace (stands choices.Trace m.of.pieces) (sym f.trace ∙ flag_found forms.Run words found m choices.Trace refl refl);
+  trace = same_flag run.trace (stands switches.Trace m.of.pieces) (sym f.trace ∙ flag_found forms.Run words found m switches.Trace refl refl);
 }
 
 number_reads : (words : List Text) (found : Found) (m : IsMatched forms.Number words found) (number : ℕ) → FoundNumber found number → ReadsNumber words number

@@ -1,5 +1,6 @@
 -- Commands by the values that are found.
 use Rattle.std.specs.Prelude.{◌≡◌, ◌^◌, ◌-◌, ℕ, Bool, Some, IsSome, codes}
+use Rattle.clap.specs.Values.{bool_text}
 use Rattle.clap.specs.Matches.{first_value, one_text}
 use Rattle.clap.specs.declared.parser.matches.Found.{Found}
 use Rattle.link_served.specs.declared.startup.Setup.{Setup}
@@ -9,7 +10,6 @@ use Rattle.command_line.specs.declared.command.Command.{Command}
 use Rattle.command_line.specs.declared.command.Command.TheVariants as commands
 use Rattle.command_line.specs.declared.command.Run.{Run}
 use Rattle.command_line.specs.declared.command.Turns.{Turns}
-use Rattle.clap_words.specs.Taken.{truth}
 use Rattle.command_read.specs.Judged.{HasFuel, IsSomeNumber, parts_in}
 use Rattle.command_read.specs.declared.verb.Verb.{Verb}
 use Rattle.command_read.specs.declared.verb.Verb.TheVariants as verbs
@@ -19,7 +19,7 @@ use Rattle.said_words.specs.Words.{Text}
 
 -- the flag is found, as one that stands or as one that doesn't
 abbrev pub HasFlag : Found → Text → Type 0
-HasFlag found name = (stands : Bool) × (one_text found name ≡ Some (truth stands))
+HasFlag found name = (stands : Bool) × (one_text found name ≡ Some (bool_text stands))
 
 pub record HasSetup (found : Found) : Type 0 where
   pub program : IsSome (first_value found (codes "program"))
@@ -52,14 +52,14 @@ pub record FoundSetup (found : Found) (setup : Setup) : Type 0 where
   pub path : first_value found (codes "program") ≡ Some setup.program
   pub folders : setup.folders ≡ parts_in 58 (first_value found (codes "lib"))
   pub preload : setup.preload ≡ parts_in 58 (first_value found (codes "preload"))
-  pub now : one_text found (codes "now") ≡ Some (truth setup.bind_now)
+  pub now : one_text found (codes "now") ≡ Some (bool_text setup.bind_now)
   pub harts : setup.harts ≡ parts_in 44 (first_value found (codes "harts"))
   pub fuel : IsFuel (first_value found (codes "fuel")) setup.fuel
 
 pub record FoundBind (found : Found) (bind : Bind) : Type 0 where
   pub folders : bind.folders ≡ parts_in 58 (first_value found (codes "lib"))
   pub preload : bind.preload ≡ parts_in 58 (first_value found (codes "preload"))
-  pub now : one_text found (codes "now") ≡ Some (truth bind.now)
+  pub now : one_text found (codes "now") ≡ Some (bool_text bind.now)
   pub program : first_value found (codes "program") ≡ Some bind.program
 
 pub record FoundTurns (found : Found) (turns : Turns) : Type 0 where
@@ -68,7 +68,7 @@ pub record FoundTurns (found : Found) (turns : Turns) : Type 0 where
 
 pub record FoundRun (found : Found) (run : Run) : Type 0 where
   pub setup : FoundSetup found run.setup
-  pub trace : one_text found (codes "trace") ≡ Some (truth run.trace)
+  pub trace : one_text found (codes "trace") ≡ Some (bool_text run.trace)
 
 pub record FoundNumber (found : Found) (number : ℕ) : Type 0 where
   pub word : Text

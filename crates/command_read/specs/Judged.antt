@@ -3,7 +3,7 @@ use Rattle.std.specs.Prelude.{◌≡◌, ◌^◌, ◌-◌, ℕ, List, [], length
 use Rattle.std.specs.Bool.{⊤}
 use Rattle.std.specs.List.{slice_get}
 use Rattle.std.specs.Option.{option_copied}
-use Rattle.command_line.specs.declared.choice.Choice.TheVariants as choices
+use Rattle.command_line.specs.declared.switch.Switch.TheVariants as switches
 use Rattle.command_line.specs.Options.{Piece, given}
 use Rattle.command_line.specs.Reads.{Are}
 use Rattle.command_line.specs.Values.{AreFolders, AreHarts, ArePreloads, IsFuel, IsNumber, parts_by}
@@ -38,7 +38,7 @@ abbrev pub SaidValues : Said → Type 0
 SaidValues said = HaveValues (option_copied said.lib) (option_copied said.preload) (option_copied said.harts) (option_copied said.fuel)
 
 abbrev pub GivenValues : List Piece → Type 0
-GivenValues pieces = HaveValues (given choices.Lib pieces) (given choices.Preload pieces) (given choices.Harts pieces) (given choices.Fuel pieces)
+GivenValues pieces = HaveValues (given switches.Lib pieces) (given switches.Preload pieces) (given switches.Harts pieces) (given switches.Fuel pieces)
 
 -- the parts of a value, if there is one
 abbrev pub parts_in : ℕ → Option Text → List Text

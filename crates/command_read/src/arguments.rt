@@ -8,29 +8,29 @@ ghost use Rattle.command_read.specs.Matched.{program_name};
 
 use clap::{Arg, ArgAction, Command};
 use clap_words::Form;
-use command_line::Choice;
+use command_line::Switch;
 use std::alloc::{AllocError, Global};
 
 /// The options that a form has.
-pub(crate) fn options_of(form: Form) -> &'static [Choice]
+pub(crate) fn options_of(form: Form) -> &'static [Switch]
     ensures { result.now ≡ options_of form }
 {
     match form {
-        Form::Bind => &[Choice::Lib, Choice::Preload, Choice::Now],
+        Form::Bind => &[Switch::Lib, Switch::Preload, Switch::Now],
         Form::Turns => &[
-            Choice::Lib,
-            Choice::Preload,
-            Choice::Harts,
-            Choice::Fuel,
-            Choice::Now,
+            Switch::Lib,
+            Switch::Preload,
+            Switch::Harts,
+            Switch::Fuel,
+            Switch::Now,
         ],
         Form::Run => &[
-            Choice::Lib,
-            Choice::Preload,
-            Choice::Harts,
-            Choice::Fuel,
-            Choice::Now,
-            Choice::Trace,
+            Switch::Lib,
+            Switch::Preload,
+            Switch::Harts,
+            Switch::Fuel,
+            Switch::Now,
+            Switch::Trace,
         ],
         Form::Path | Form::Number => &[],
     }
@@ -49,36 +49,36 @@ pub(crate) fn names_of(form: Form) -> &'static [&'static str]
 }
 
 /// An option's name without its dashes.
-fn id_of(choice: Choice) -> &'static str
-    ensures { result.now ≡ id_of choice }
+fn id_of(switch: Switch) -> &'static str
+    ensures { result.now ≡ id_of switch }
 {
-    match choice {
-        Choice::Lib => "lib",
-        Choice::Preload => "preload",
-        Choice::Harts => "harts",
-        Choice::Fuel => "fuel",
-        Choice::Now => "now",
-        Choice::Trace => "trace",
+    match switch {
+        Switch::Lib => "lib",
+        Switch::Preload => "preload",
+        Switch::Harts => "harts",
+        Switch::Fuel => "fuel",
+        Switch::Now => "now",
+        Switch::Trace => "trace",
     }
 }
 
 /// Whether an option takes one value, or is a flag.
-fn action_for(choice: Choice) -> ArgAction
-    ensures { result ≡ action_for choice }
+fn action_for(switch: Switch) -> ArgAction
+    ensures { result ≡ action_for switch }
 {
-    match choice {
-        Choice::Lib | Choice::Preload | Choice::Harts | Choice::Fuel => ArgAction::Set,
-        Choice::Now | Choice::Trace => ArgAction::SetTrue,
+    match switch {
+        Switch::Lib | Switch::Preload | Switch::Harts | Switch::Fuel => ArgAction::Set,
+        Switch::Now | Switch::Trace => ArgAction::SetTrue,
     }
 }
 
 /// An option.
-fn option_argument<'a>(alloc: Global, choice: Choice) -> Arg<'a>
-    ensures rule { rule_of result ≡ option_rule choice }
+fn option_argument<'a>(alloc: Global, switch: Switch) -> Arg<'a>
+    ensures rule { rule_of result ≡ option_rule switch }
     ensures own { result.global ≡ false }
 {
-    let id: &'a str = id_of(choice);
-    Arg::new(alloc, id).long(id).action(action_for(choice))
+    let id: &'a str = id_of(switch);
+    Arg::new(alloc, id).long(id).action(action_for(switch))
 }
 
 /// Another word.
@@ -93,13 +93,13 @@ fn word_argument<'a>(alloc: Global, name: &'a str) -> Arg<'a>
 fn with_options<'a>(
     alloc: Global,
     command: Command<'a>,
-    options: &[Choice],
+    options: &[Switch],
 ) -> Result<Command<'a>, AllocError>
     ensures { IfOk result (λ c. app_of c ≡ fold with_rule (app_of command.entry) (map option_rule options.now)) }
 {
     let mut command = command;
-    for choice in options {
-        command = command.arg(option_argument(alloc, *choice))?;
+    for switch in options {
+        command = command.arg(option_argument(alloc, *switch))?;
     }
     Ok(command)
 }

@@ -6,17 +6,17 @@ use Rattle.std.specs.Option.{option_copied, option_or}
 use Rattle.std.proofs.lemmas.Bool.{true≢false}
 use Rattle.std.proofs.lemmas.List.{append-nil, length-append}
 use Rattle.std.proofs.lemmas.List.Folds.{find-append, list_any-append}
-use Rattle.command_line.specs.declared.choice.Choice.{Choice}
-use Rattle.command_line.specs.declared.choice.Choice.TheVariants as choices
-use Rattle.command_line.specs.Lemmas.Choices.{one_choice}
-use Rattle.command_line.specs.Options.{Piece, given, has_value, is_choice, is_of, stands, value_in, words_of}
+use Rattle.command_line.specs.declared.switch.Switch.{Switch}
+use Rattle.command_line.specs.declared.switch.Switch.TheVariants as switches
+use Rattle.command_line.specs.Lemmas.Switches.{one_switch}
+use Rattle.command_line.specs.Options.{Piece, given, has_value, is_switch, is_of, stands, value_in, words_of}
 use Rattle.said_words.specs.Said.{Tells, has_option, with_option}
 use Rattle.said_words.specs.Words.{Text}
 use Rattle.said_words.specs.declared.said.Said.{Said}
 
 -- ---- a piece of an option
 
-pub data IsPieceOf (c : Choice) : Piece → Type 0 where
+pub data IsPieceOf (c : Switch) : Piece → Type 0 where
   flag : IsPieceOf c (Piece.flag c)
   valued : (value : Text) → IsPieceOf c (Piece.valued c value)
 
@@ -34,16 +34,16 @@ pub right_end : (front more : List Piece) → AreRight front → AreRight more �
 right_end [] more right last = last
 right_end (piece ∷ front) more right last = (right.0, right_end front more right.1 last)
 
-of_is : (c d : Choice) (piece : Piece) → IsPieceOf c piece → is_of d piece ≡ is_choice d c
+of_is : (c d : Switch) (piece : Piece) → IsPieceOf c piece → is_of d piece ≡ is_switch d c
 of_is c d piece IsPieceOf.flag = refl
 of_is c d piece (IsPieceOf.valued value) = refl
 
-pub no_words : (c : Choice) (piece : Piece) → IsPieceOf c piece → words_of (piece ∷ []) ≡ []
+pub no_words : (c : Switch) (piece : Piece) → IsPieceOf c piece → words_of (piece ∷ []) ≡ []
 no_words c piece IsPieceOf.flag = refl
 no_words c piece (IsPieceOf.valued value) = refl
 
 -- its option and its value say which it is
-pub same_piece : (c : Choice) (piece own : Piece) → IsPieceOf c piece → IsPieceOf c own → value_in piece ≡ value_in own → piece ≡ own
+pub same_piece : (c : Switch) (piece own : Piece) → IsPieceOf c piece → IsPieceOf c own → value_in piece ≡ value_in own → piece ≡ own
 same_piece c piece own IsPieceOf.flag IsPieceOf.flag same = refl
 same_piece c piece own IsPieceOf.flag (IsPieceOf.valued value) same = let e : None ≡ Some value = same in absurd cc
 same_piece c piece own (IsPieceOf.valued value) IsPieceOf.flag same = let e : Some value ≡ None = same in absurd cc
@@ -71,11 +71,11 @@ none_found p (piece ∷ pieces) none = either (p piece) refl (none_found p piece
         ap (λ (t : Bool). cond t (Some piece) (find p pieces)) is ∙ later (sym (ap (λ (t : Bool). t || list_any p pieces) is) ∙ none)
 
 -- pieces of other options, and other words, give it nothing
-pub given_kept : (d : Choice) (front more : List Piece) → stands d more ≡ false → given d (front ++ more) ≡ given d front
+pub given_kept : (d : Switch) (front more : List Piece) → stands d more ≡ false → given d (front ++ more) ≡ given d front
 given_kept d front more none =
     ap of_found (find-append (is_of d) front more ∙ ap (option_or (find (is_of d) front)) (none_found (is_of d) more none) ∙ or_none (find (is_of d) front))
 
-pub stands_kept : (d : Choice) (front more : List Piece) → stands d more ≡ false → stands d (front ++ more) ≡ stands d front
+pub stands_kept : (d : Switch) (front more : List Piece) → stands d more ≡ false → stands d (front ++ more) ≡ stands d front
 stands_kept d front more none = list_any-append (is_of d) front more ∙ ap (λ (t : Bool). stands d front || t) none ∙ or_false (stands d front)
   where
     or_false : (b : Bool) → (b || false) ≡ b
@@ -83,13 +83,13 @@ stands_kept d front more none = list_any-append (is_of d) front more ∙ ap (λ 
     or_false false = refl
 
 -- a piece of an option that doesn't stand yet gives it its value
-given_end : (c d : Choice) (piece : Piece) (front : List Piece) (o value : Option Text) → IsPieceOf c piece → value_in piece ≡ value → stands c front ≡ false → o ≡ given d front
-    → cond (is_choice d c) value o ≡ given d (front ++ piece ∷ [])
-given_end c d piece front o value of is none so_far = either (is_choice d c) refl
+given_end : (c d : Switch) (piece : Piece) (front : List Piece) (o value : Option Text) → IsPieceOf c piece → value_in piece ≡ value → stands c front ≡ false → o ≡ given d front
+    → cond (is_switch d c) value o ≡ given d (front ++ piece ∷ [])
+given_end c d piece front o value of is none so_far = either (is_switch d c) refl
   where
-    either : (b : Bool) → is_choice d c ≡ b → cond (is_choice d c) value o ≡ given d (front ++ piece ∷ [])
+    either : (b : Bool) → is_switch d c ≡ b → cond (is_switch d c) value o ≡ given d (front ++ piece ∷ [])
     either true same =
-        let free : stands d front ≡ false = ap (λ (x : Choice). stands x front) (one_choice d c same) ∙ none in
+        let free : stands d front ≡ false = ap (λ (x : Switch). stands x front) (one_switch d c same) ∙ none in
         ap (λ (t : Bool). cond t value o) same ∙ sym is
         ∙ sym
         (ap of_found
@@ -98,9 +98,9 @@ given_end c d piece front o value of is none so_far = either (is_choice d c) ref
     either false same =
         ap (λ (t : Bool). cond t value o) same ∙ so_far ∙ sym (given_kept d front (piece ∷ []) (ap (λ (t : Bool). t || false) (of_is c d piece of ∙ same)))
 
-stands_end : (c d : Choice) (piece : Piece) (front : List Piece) (b : Bool) → IsPieceOf c piece → b ≡ stands d front → cond (is_choice d c) true b ≡ stands d (front ++ piece ∷ [])
+stands_end : (c d : Switch) (piece : Piece) (front : List Piece) (b : Bool) → IsPieceOf c piece → b ≡ stands d front → cond (is_switch d c) true b ≡ stands d (front ++ piece ∷ [])
 stands_end c d piece front b of so_far =
-    either (is_choice d c) b ∙ ap (λ (t : Bool). t || (is_choice d c || false)) so_far
+    either (is_switch d c) b ∙ ap (λ (t : Bool). t || (is_switch d c || false)) so_far
     ∙ ap (λ (t : Bool). stands d front || (t || false)) (sym (of_is c d piece of)) ∙ sym (list_any-append (is_of d) front (piece ∷ []))
   where
     either : (t u : Bool) → cond t true u ≡ (u || (t || false))
@@ -110,18 +110,18 @@ stands_end c d piece front b of so_far =
     either false false = refl
 
 -- an option that has a value stands where it has one
-given_stands : (c : Choice) (pieces : List Piece) → AreRight pieces → has_value c ≡ true → is_some (given c pieces) ≡ stands c pieces
+given_stands : (c : Switch) (pieces : List Piece) → AreRight pieces → has_value c ≡ true → is_some (given c pieces) ≡ stands c pieces
 given_stands c [] right some = refl
-given_stands c (Piece.flag d ∷ rest) right some = either (is_choice c d) refl (given_stands c rest right.1 some)
+given_stands c (Piece.flag d ∷ rest) right some = either (is_switch c d) refl (given_stands c rest right.1 some)
   where
-    either : (b : Bool) → is_choice c d ≡ b → is_some (given c rest) ≡ stands c rest → is_some (of_found (cond (is_choice c d) (Some (Piece.flag d)) (find (is_of c) rest))) ≡ (is_choice c d || stands c rest)
-    either true same later = absurd (true≢false (sym some ∙ ap has_value (one_choice c d same) ∙ right.0))
+    either : (b : Bool) → is_switch c d ≡ b → is_some (given c rest) ≡ stands c rest → is_some (of_found (cond (is_switch c d) (Some (Piece.flag d)) (find (is_of c) rest))) ≡ (is_switch c d || stands c rest)
+    either true same later = absurd (true≢false (sym some ∙ ap has_value (one_switch c d same) ∙ right.0))
     either false same later =
         ap (λ (t : Bool). is_some (of_found (cond t (Some (Piece.flag d)) (find (is_of c) rest)))) same ∙ later ∙ sym (ap (λ (t : Bool). t || stands c rest) same)
-given_stands c (Piece.valued d value ∷ rest) right some = either (is_choice c d) refl (given_stands c rest right.1 some)
+given_stands c (Piece.valued d value ∷ rest) right some = either (is_switch c d) refl (given_stands c rest right.1 some)
   where
-    either : (b : Bool) → is_choice c d ≡ b → is_some (given c rest) ≡ stands c rest
-        → is_some (of_found (cond (is_choice c d) (Some (Piece.valued d value)) (find (is_of c) rest))) ≡ (is_choice c d || stands c rest)
+    either : (b : Bool) → is_switch c d ≡ b → is_some (given c rest) ≡ stands c rest
+        → is_some (of_found (cond (is_switch c d) (Some (Piece.valued d value)) (find (is_of c) rest))) ≡ (is_switch c d || stands c rest)
     either true same later =
         ap (λ (t : Bool). is_some (of_found (cond t (Some (Piece.valued d value)) (find (is_of c) rest)))) same ∙ sym (ap (λ (t : Bool). t || stands c rest) same)
     either false same later =
@@ -134,13 +134,13 @@ copied_some : {X : Type 0} (o : Option (Bor X)) → is_some (option_copied o) �
 copied_some None = refl
 copied_some (Some x) = refl
 
-pub has_is : (pieces : List Piece) (said : Said) → AreRight pieces → Tells pieces said → (c : Choice) → has_option said c ≡ stands c pieces
-has_is pieces said right tells choices.Lib = sym (copied_some said.lib) ∙ ap (λ (o : Option Text). is_some o) tells.lib ∙ given_stands choices.Lib pieces right refl
-has_is pieces said right tells choices.Preload = sym (copied_some said.preload) ∙ ap (λ (o : Option Text). is_some o) tells.preload ∙ given_stands choices.Preload pieces right refl
-has_is pieces said right tells choices.Harts = sym (copied_some said.harts) ∙ ap (λ (o : Option Text). is_some o) tells.harts ∙ given_stands choices.Harts pieces right refl
-has_is pieces said right tells choices.Fuel = sym (copied_some said.fuel) ∙ ap (λ (o : Option Text). is_some o) tells.fuel ∙ given_stands choices.Fuel pieces right refl
-has_is pieces said right tells choices.Now = tells.now
-has_is pieces said right tells choices.Trace = tells.trace
+pub has_is : (pieces : List Piece) (said : Said) → AreRight pieces → Tells pieces said → (c : Switch) → has_option said c ≡ stands c pieces
+has_is pieces said right tells switches.Lib = sym (copied_some said.lib) ∙ ap (λ (o : Option Text). is_some o) tells.lib ∙ given_stands switches.Lib pieces right refl
+has_is pieces said right tells switches.Preload = sym (copied_some said.preload) ∙ ap (λ (o : Option Text). is_some o) tells.preload ∙ given_stands switches.Preload pieces right refl
+has_is pieces said right tells switches.Harts = sym (copied_some said.harts) ∙ ap (λ (o : Option Text). is_some o) tells.harts ∙ given_stands switches.Harts pieces right refl
+has_is pieces said right tells switches.Fuel = sym (copied_some said.fuel) ∙ ap (λ (o : Option Text). is_some o) tells.fuel ∙ given_stands switches.Fuel pieces right refl
+has_is pieces said right tells switches.Now = tells.now
+has_is pieces said right tells switches.Trace = tells.trace
 
 -- no words say anything
 abbrev pub nothing : Said
@@ -150,25 +150,25 @@ pub told_nothing : Tells [] nothing
 told_nothing = record { lib = refl; preload = refl; harts = refl; fuel = refl; now = refl; trace = refl; others = refl; first = refl }
 
 -- each option has the new value, or its own
-abbrev merged : Said → Choice → Option (Bor Text) → Said
+abbrev merged : Said → Switch → Option (Bor Text) → Said
 merged said c value = record {
-  lib = cond (is_choice choices.Lib c) value said.lib;
-  preload = cond (is_choice choices.Preload c) value said.preload;
-  harts = cond (is_choice choices.Harts c) value said.harts;
-  fuel = cond (is_choice choices.Fuel c) value said.fuel;
-  now = cond (is_choice choices.Now c) true said.now;
-  trace = cond (is_choice choices.Trace c) true said.trace;
+  lib = cond (is_switch switches.Lib c) value said.lib;
+  preload = cond (is_switch switches.Preload c) value said.preload;
+  harts = cond (is_switch switches.Harts c) value said.harts;
+  fuel = cond (is_switch switches.Fuel c) value said.fuel;
+  now = cond (is_switch switches.Now c) true said.now;
+  trace = cond (is_switch switches.Trace c) true said.trace;
   others = said.others;
   first = said.first;
 }
 
-merged_is : (said : Said) (c : Choice) (value : Option (Bor Text)) → merged said c value ≡ with_option said c value
-merged_is said choices.Lib value = refl
-merged_is said choices.Preload value = refl
-merged_is said choices.Harts value = refl
-merged_is said choices.Fuel value = refl
-merged_is said choices.Now value = refl
-merged_is said choices.Trace value = refl
+merged_is : (said : Said) (c : Switch) (value : Option (Bor Text)) → merged said c value ≡ with_option said c value
+merged_is said switches.Lib value = refl
+merged_is said switches.Preload value = refl
+merged_is said switches.Harts value = refl
+merged_is said switches.Fuel value = refl
+merged_is said switches.Now value = refl
+merged_is said switches.Trace value = refl
 
 copied_cond : {X : Type 0} (b : Bool) (o o' : Option (Bor X)) → option_copied (cond b o o') ≡ cond b (option_copied o) (option_copied o')
 copied_cond true o o' = refl
@@ -180,21 +180,21 @@ words_end (Piece.flag c ∷ front) more = words_end front more
 words_end (Piece.valued c value ∷ front) more = words_end front more
 words_end (Piece.other word ∷ front) more = ap (λ (ws : List Text). word ∷ ws) (words_end front more)
 
-pub told_option : (c : Choice) (piece : Piece) (front : List Piece) (said : Said) (value : Option (Bor Text)) → IsPieceOf c piece → value_in piece ≡ option_copied value
+pub told_option : (c : Switch) (piece : Piece) (front : List Piece) (said : Said) (value : Option (Bor Text)) → IsPieceOf c piece → value_in piece ≡ option_copied value
     → stands c front ≡ false → Tells front said → Tells (front ++ piece ∷ []) (with_option said c value)
 told_option c piece front said value of is none tells = subst (Tells (front ++ piece ∷ [])) (merged_is said c value) (record {
-  lib = slot choices.Lib said.lib tells.lib;
-  preload = slot choices.Preload said.preload tells.preload;
-  harts = slot choices.Harts said.harts tells.harts;
-  fuel = slot choices.Fuel said.fuel tells.fuel;
-  now = stands_end c choices.Now piece front said.now of tells.now;
-  trace = stands_end c choices.Trace piece front said.trace of tells.trace;
+  lib = slot switches.Lib said.lib tells.lib;
+  preload = slot switches.Preload said.preload tells.preload;
+  harts = slot switches.Harts said.harts tells.harts;
+  fuel = slot switches.Fuel said.fuel tells.fuel;
+  now = stands_end c switches.Now piece front said.now of tells.now;
+  trace = stands_end c switches.Trace piece front said.trace of tells.trace;
   others = tells.others ∙ ap (λ (ws : List Text). length ws) (sym words);
   first = tells.first ∙ ap (λ (ws : List Text). slice_get ws 0) (sym words);
 })
   where
-    slot : (d : Choice) (own : Option (Bor Text)) → option_copied own ≡ given d front → option_copied (cond (is_choice d c) value own) ≡ given d (front ++ piece ∷ [])
-    slot d own so_far = copied_cond (is_choice d c) value own ∙ given_end c d piece front (option_copied own) (option_copied value) of is none so_far
+    slot : (d : Switch) (own : Option (Bor Text)) → option_copied own ≡ given d front → option_copied (cond (is_switch d c) value own) ≡ given d (front ++ piece ∷ [])
+    slot d own so_far = copied_cond (is_switch d c) value own ∙ given_end c d piece front (option_copied own) (option_copied value) of is none so_far
 
     words : words_of (front ++ piece ∷ []) ≡ words_of front
     words = words_end front (piece ∷ []) ∙ ap (λ (ws : List Text). words_of front ++ ws) (no_words c piece of) ∙ append-nil (words_of front)
@@ -209,7 +209,7 @@ pub right_others : (words : List Text) → AreRight (others_of words)
 right_others [] = tt
 right_others (word ∷ words) = (tt, right_others words)
 
-none_stand : (c : Choice) (words : List Text) → stands c (others_of words) ≡ false
+none_stand : (c : Switch) (words : List Text) → stands c (others_of words) ≡ false
 none_stand c [] = refl
 none_stand c (word ∷ words) = none_stand c words
 
@@ -229,12 +229,12 @@ pub record Grows (said : Said) (words : List Text) (new : Said) : Type 0 where
 
 pub told_words : (front : List Piece) (said new : Said) (words : List Text) → Tells front said → Grows said words new → Tells (front ++ others_of words) new
 told_words front said new words tells grows = record {
-  lib = ap (λ (s : Said). option_copied s.lib) grows.kept ∙ tells.lib ∙ sym (given_kept choices.Lib front (others_of words) (none_stand choices.Lib words));
-  preload = ap (λ (s : Said). option_copied s.preload) grows.kept ∙ tells.preload ∙ sym (given_kept choices.Preload front (others_of words) (none_stand choices.Preload words));
-  harts = ap (λ (s : Said). option_copied s.harts) grows.kept ∙ tells.harts ∙ sym (given_kept choices.Harts front (others_of words) (none_stand choices.Harts words));
-  fuel = ap (λ (s : Said). option_copied s.fuel) grows.kept ∙ tells.fuel ∙ sym (given_kept choices.Fuel front (others_of words) (none_stand choices.Fuel words));
-  now = ap (λ (s : Said). s.now) grows.kept ∙ tells.now ∙ sym (stands_kept choices.Now front (others_of words) (none_stand choices.Now words));
-  trace = ap (λ (s : Said). s.trace) grows.kept ∙ tells.trace ∙ sym (stands_kept choices.Trace front (others_of words) (none_stand choices.Trace words));
+  lib = ap (λ (s : Said). option_copied s.lib) grows.kept ∙ tells.lib ∙ sym (given_kept switches.Lib front (others_of words) (none_stand switches.Lib words));
+  preload = ap (λ (s : Said). option_copied s.preload) grows.kept ∙ tells.preload ∙ sym (given_kept switches.Preload front (others_of words) (none_stand switches.Preload words));
+  harts = ap (λ (s : Said). option_copied s.harts) grows.kept ∙ tells.harts ∙ sym (given_kept switches.Harts front (others_of words) (none_stand switches.Harts words));
+  fuel = ap (λ (s : Said). option_copied s.fuel) grows.kept ∙ tells.fuel ∙ sym (given_kept switches.Fuel front (others_of words) (none_stand switches.Fuel words));
+  now = ap (λ (s : Said). s.now) grows.kept ∙ tells.now ∙ sym (stands_kept switches.Now front (others_of words) (none_stand switches.Now words));
+  trace = ap (λ (s : Said). s.trace) grows.kept ∙ tells.trace ∙ sym (stands_kept switches.Trace front (others_of words) (none_stand switches.Trace words));
   others = (let n : said.others ≡ length (words_of front) = tells.others in let m : length (words_of (front ++ others_of words)) ≡ length (words_of front ++ words) = ap (λ (ws : List Text). length ws) all in let k : length (words_of front ++ words) ≡ length (words_of front) + length words = length-append (words_of front) words in omega (arith, n, m, k, grows.count));
   first = grows.start ∙ ap (λ (o : Option Text). option_or o (slice_get words 0)) tells.first ∙ sym (first_end (words_of front) words) ∙ ap (λ (ws : List Text). slice_get ws 0) (sym all);
 }

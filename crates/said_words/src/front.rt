@@ -5,7 +5,7 @@ ghost use Rattle.std.specs.Option.{option_copied};
 ghost use Rattle.said_words.specs.Words.{read_front, texts, value_at};
 
 use crate::option::{has_value, is_option, joined_value, option_at};
-use command_line::Choice;
+use command_line::Switch;
 
 /// What stands at the front of words.
 #[derive(Clone, Copy, Debug)]
@@ -13,14 +13,14 @@ pub(crate) enum Front {
     /// The end of the options.
     End,
     /// An option, with its value if it has one.
-    Option(Choice),
+    Option(Switch),
     /// Another word.
     Word,
 }
 
 /// What a word is, and the words behind it and its value.
 pub(crate) fn read_front<'a>(
-    known: &[Choice],
+    known: &[Switch],
     word: &str,
     rest: &'a [String],
 ) -> Option<(Front, &'a [String])>
@@ -32,8 +32,8 @@ pub(crate) fn read_front<'a>(
     if !is_option(word.as_bytes()) {
         return Some((Front::Word, rest));
     }
-    let (choice, rest) = option_at(known, word, rest)?;
-    Some((Front::Option(choice), rest))
+    let (switch, rest) = option_at(known, word, rest)?;
+    Some((Front::Option(switch), rest))
 }
 
 /// The first of words.
@@ -47,10 +47,10 @@ pub(crate) fn first_text(words: &[String]) -> Option<&str>
 }
 
 /// The value of an option that stands at a word, if it has one: what is joined to it, or the next word.
-pub(crate) fn value_at<'a>(choice: Choice, word: &'a str, rest: &'a [String]) -> Option<&'a str>
-    ensures { option_copied result ≡ value_at choice word.now (texts rest.now) }
+pub(crate) fn value_at<'a>(switch: Switch, word: &'a str, rest: &'a [String]) -> Option<&'a str>
+    ensures { option_copied result ≡ value_at switch word.now (texts rest.now) }
 {
-    if !has_value(choice) {
+    if !has_value(switch) {
         return None;
     }
     match joined_value(word) {

@@ -5,29 +5,29 @@ ghost use Rattle.std.specs.Option.{option_copied};
 ghost use Rattle.command_line.specs.Options.{has_dash, has_value, is_option, name_of, option_in};
 ghost use Rattle.said_words.specs.Words.{behind_value, joined_front, joined_value, option_at, taking_front, taking_next, texts};
 
-use command_line::Choice;
+use command_line::Switch;
 
 /// How an option is written.
-fn name_of(choice: Choice) -> &'static str
-    ensures { result.now ≡ name_of choice }
+fn name_of(switch: Switch) -> &'static str
+    ensures { result.now ≡ name_of switch }
 {
-    match choice {
-        Choice::Lib => "--lib",
-        Choice::Preload => "--preload",
-        Choice::Harts => "--harts",
-        Choice::Fuel => "--fuel",
-        Choice::Now => "--now",
-        Choice::Trace => "--trace",
+    match switch {
+        Switch::Lib => "--lib",
+        Switch::Preload => "--preload",
+        Switch::Harts => "--harts",
+        Switch::Fuel => "--fuel",
+        Switch::Now => "--now",
+        Switch::Trace => "--trace",
     }
 }
 
 /// Whether the option has a value, or stands alone.
-pub(crate) fn has_value(choice: Choice) -> bool
-    ensures { result ≡ has_value choice }
+pub(crate) fn has_value(switch: Switch) -> bool
+    ensures { result ≡ has_value switch }
 {
-    match choice {
-        Choice::Lib | Choice::Preload | Choice::Harts | Choice::Fuel => true,
-        Choice::Now | Choice::Trace => false,
+    match switch {
+        Switch::Lib | Switch::Preload | Switch::Harts | Switch::Fuel => true,
+        Switch::Now | Switch::Trace => false,
     }
 }
 
@@ -48,13 +48,13 @@ pub(crate) fn is_option(word: &[u8]) -> bool
 }
 
 /// The option that is called so, of those that a command has.
-fn option_in(known: &[Choice], name: &str) -> Option<Choice>
+fn option_in(known: &[Switch], name: &str) -> Option<Switch>
     ensures { result ≡ option_in known.now name.now }
 {
     known
         .iter()
         .copied()
-        .find(|choice| name_of(*choice) == name)
+        .find(|switch| name_of(*switch) == name)
 }
 
 /// The words behind a value, which has no dash.
@@ -88,36 +88,36 @@ pub(crate) fn joined_value(word: &str) -> Option<&str>
 }
 
 /// An option whose value is joined to it, and the words behind.
-fn with_own_value<'a>(choice: Option<Choice>, rest: &'a [String]) -> Option<(Choice, &'a [String])>
-    ensures { option_map (λ r. (r.0, texts r.1.now)) result ≡ option_and_then (taking_front (texts rest.now)) choice }
+fn with_own_value<'a>(switch: Option<Switch>, rest: &'a [String]) -> Option<(Switch, &'a [String])>
+    ensures { option_map (λ r. (r.0, texts r.1.now)) result ≡ option_and_then (taking_front (texts rest.now)) switch }
 {
-    let choice = choice?;
-    if has_value(choice) {
-        Some((choice, rest))
+    let switch = switch?;
+    if has_value(switch) {
+        Some((switch, rest))
     } else {
         None
     }
 }
 
 /// An option whose value is the next word, if it has one, and the words behind.
-fn with_next_value<'a>(choice: Option<Choice>, rest: &'a [String]) -> Option<(Choice, &'a [String])>
-    ensures { option_map (λ r. (r.0, texts r.1.now)) result ≡ option_and_then (taking_next (texts rest.now)) choice }
+fn with_next_value<'a>(switch: Option<Switch>, rest: &'a [String]) -> Option<(Switch, &'a [String])>
+    ensures { option_map (λ r. (r.0, texts r.1.now)) result ≡ option_and_then (taking_next (texts rest.now)) switch }
 {
-    let choice = choice?;
-    if has_value(choice) {
-        Some((choice, behind_value(rest)?))
+    let switch = switch?;
+    if has_value(switch) {
+        Some((switch, behind_value(rest)?))
     } else {
-        Some((choice, rest))
+        Some((switch, rest))
     }
 }
 
 /// The option that a word is, and the words behind it and its value.
 #[tactic(auto, unfolding(crate::specs::Words::option_at))]
 pub(crate) fn option_at<'a>(
-    known: &[Choice],
+    known: &[Switch],
     word: &str,
     rest: &'a [String],
-) -> Option<(Choice, &'a [String])>
+) -> Option<(Switch, &'a [String])>
     ensures { option_map (λ r. (r.0, texts r.1.now)) result ≡ option_at known.now word.now (texts rest.now) }
 {
     match joined_front(word) {

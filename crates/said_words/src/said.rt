@@ -6,7 +6,7 @@ ghost use Rattle.said_words.specs.Said.{IsSaid, IsUnsaid, has_option, with_optio
 ghost use Rattle.said_words.specs.Words.{texts};
 
 use crate::front::{Front, first_text, read_front, value_at};
-use command_line::Choice;
+use command_line::Switch;
 
 /// What words behind a command say: the values of its options, and the other words.
 #[derive(Clone, Copy, Debug)]
@@ -31,42 +31,42 @@ pub struct Said<'a> {
 
 impl<'a> Said<'a> {
     /// Whether the option stands.
-    fn has(&self, choice: Choice) -> bool
-        ensures { result ≡ has_option self.entry.now choice }
+    fn has(&self, switch: Switch) -> bool
+        ensures { result ≡ has_option self.entry.now switch }
     {
-        match choice {
-            Choice::Lib => self.lib.is_some(),
-            Choice::Preload => self.preload.is_some(),
-            Choice::Harts => self.harts.is_some(),
-            Choice::Fuel => self.fuel.is_some(),
-            Choice::Now => self.now,
-            Choice::Trace => self.trace,
+        match switch {
+            Switch::Lib => self.lib.is_some(),
+            Switch::Preload => self.preload.is_some(),
+            Switch::Harts => self.harts.is_some(),
+            Switch::Fuel => self.fuel.is_some(),
+            Switch::Now => self.now,
+            Switch::Trace => self.trace,
         }
     }
 
     /// With an option, too, and its value if it has one; none where it stands already.
-    fn with_option(self, choice: Choice, value: Option<&'a str>) -> Option<Self>
-        ensures { result ≡ if has_option self.entry choice then None else Some (with_option self.entry choice value.entry) }
+    fn with_option(self, switch: Switch, value: Option<&'a str>) -> Option<Self>
+        ensures { result ≡ if has_option self.entry switch then None else Some (with_option self.entry switch value.entry) }
     {
-        if self.has(choice) {
+        if self.has(switch) {
             return None;
         }
-        Some(match choice {
-            Choice::Lib => Said { lib: value, ..self },
-            Choice::Preload => Said {
+        Some(match switch {
+            Switch::Lib => Said { lib: value, ..self },
+            Switch::Preload => Said {
                 preload: value,
                 ..self
             },
-            Choice::Harts => Said {
+            Switch::Harts => Said {
                 harts: value,
                 ..self
             },
-            Choice::Fuel => Said {
+            Switch::Fuel => Said {
                 fuel: value,
                 ..self
             },
-            Choice::Now => Said { now: true, ..self },
-            Choice::Trace => Said {
+            Switch::Now => Said { now: true, ..self },
+            Switch::Trace => Said {
                 trace: true,
                 ..self
             },
@@ -101,7 +101,7 @@ impl<'a> Said<'a> {
 
     /// What words behind a command say, where they say options of these, each at most once, and other words;
     /// none where they say something else.
-    pub fn of(known: &[Choice], words: &'a [String]) -> Option<Self>
+    pub fn of(known: &[Switch], words: &'a [String]) -> Option<Self>
         ensures some { IfSome result (IsSaid known.now (texts words.entry.now)) }
         ensures none { result ≡ None → IsUnsaid known.now (texts words.entry.now) }
     {
@@ -121,7 +121,7 @@ impl<'a> Said<'a> {
             said = match front {
                 Front::End => return Some(said.with_words(behind)),
                 Front::Word => said.with_word(word),
-                Front::Option(choice) => said.with_option(choice, value_at(choice, word, more))?,
+                Front::Option(switch) => said.with_option(switch, value_at(switch, word, more))?,
             };
             rest = behind;
         }

@@ -4,7 +4,7 @@ use Rattle.clap_words.specs.Forms.{option_rule}
 use Rattle.command_read.proofs.Folding.{grown}
 use Rattle.command_read.proofs.arguments.with_options.Goals as goal
 
-pub loop-choice-preserved : goal.loop-choice-preserved
-loop-choice-preserved c =
-    grown option_rule (app_of c.args.command) c.args.options.now c.loop-choice.choice-index _ (app_of c.loop-choice.command) (app_of c.in_ok-command.command) c.loop-choice-test.true c.loop-choice.invariant
-    (c.in_ok-command.ensures.shape c.option_argument.ensures.own ∙ ap (with_rule (app_of c.loop-choice.command)) c.option_argument.ensures.rule)
+pub loop-switch-preserved : goal.loop-switch-preserved
+loop-switch-preserved c =
+    grown option_rule (app_of c.args.command) c.args.options.now c.loop-switch.switch-index _ (app_of c.loop-switch.command) (app_of c.in_ok-command.command) c.loop-switch-test.true c.loop-switch.invariant
+    (c.in_ok-command.ensures.shape c.option_argument.ensures.own ∙ ap (with_rule (app_of c.loop-switch.command)) c.option_argument.ensures.rule)

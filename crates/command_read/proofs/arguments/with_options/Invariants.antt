@@ -4,5 +4,5 @@ use Rattle.clap_words.specs.Forms.{option_rule}
 use Rattle.command_read.proofs.arguments.with_options.Given as goal
 
 -- the options so far
-abbrev pub invariant-loop-choice : goal.invariant-loop-choice
-invariant-loop-choice l = app_of l.command ≡ fold with_rule (app_of l.fn.command) (map option_rule (take l.choice-index l.options))
+abbrev pub invariant-loop-switch : goal.invariant-loop-switch
+invariant-loop-switch l = app_of l.command ≡ fold with_rule (app_of l.fn.command) (map option_rule (take l.switch-index l.options))

@@ -36,10 +36,10 @@ returns-in-End-clause-some c =
 pub returns-in_err-said-in-Option-clause-none : goal.returns-in_err-said-in-Option-clause-none
 returns-in_err-said-in-Option-clause-none c e =
     let spelled : texts c.loop-word.rest.now ≡ string_bytes c.in-Some.word.now ∷ texts c.in-Some.more.now = search rules in
-    let is : read_front c.args.known.now (string_bytes c.in-Some.word.now) (texts c.in-Some.more.now) ≡ Some (fronts.Option c.in-Option.choice, texts c.in_ok-front.behind.now) = search rules in
-    let none : cond (has_option c.loop-word.said c.in-Option.choice) None (Some (with_option c.loop-word.said c.in-Option.choice c.value_at.result)) ≡ None = search rules in
+    let is : read_front c.args.known.now (string_bytes c.in-Some.word.now) (texts c.in-Some.more.now) ≡ Some (fronts.Option c.in-Option.switch, texts c.in_ok-front.behind.now) = search rules in
+    let none : cond (has_option c.loop-word.said c.in-Option.switch) None (Some (with_option c.loop-word.said c.in-Option.switch c.value_at.result)) ≡ None = search rules in
     twice c.args.known.now (texts c.args.words.now) c.loop-word.said (string_bytes c.in-Some.word.now) (texts c.in-Some.more.now) (texts c.in_ok-front.behind.now)
-    (subst (At c.args.known.now (texts c.args.words.now) c.loop-word.said) spelled c.loop-word.invariant) c.in-Option.choice is (was_there (has_option c.loop-word.said c.in-Option.choice) (with_option c.loop-word.said c.in-Option.choice c.value_at.result) none)
+    (subst (At c.args.known.now (texts c.args.words.now) c.loop-word.said) spelled c.loop-word.invariant) c.in-Option.switch is (was_there (has_option c.loop-word.said c.in-Option.switch) (with_option c.loop-word.said c.in-Option.switch c.value_at.result) none)
 
 pub loop-word-preserved-in-Word : goal.loop-word-preserved-in-Word
 loop-word-preserved-in-Word c =
@@ -52,9 +52,9 @@ loop-word-preserved-in-Word c =
 pub loop-word-smaller : goal.loop-word-smaller
 loop-word-smaller c =
     let spelled : texts c.loop-word.rest.now ≡ string_bytes c.in-Some.word.now ∷ texts c.in-Some.more.now = search rules in
-    let is : read_front c.args.known.now (string_bytes c.in-Some.word.now) (texts c.in-Some.more.now) ≡ Some (fronts.Option c.in-Option.choice, texts c.in_ok-front.behind.now) = search rules in
+    let is : read_front c.args.known.now (string_bytes c.in-Some.word.now) (texts c.in-Some.more.now) ≡ Some (fronts.Option c.in-Option.switch, texts c.in_ok-front.behind.now) = search rules in
     let less : length (texts c.in_ok-front.behind.now) ≤ length (texts c.in-Some.more.now) = shorter c.args.known.now (texts c.args.words.now) c.loop-word.said (string_bytes c.in-Some.word.now) (texts c.in-Some.more.now) (texts c.in_ok-front.behind.now)
-    (subst (At c.args.known.now (texts c.args.words.now) c.loop-word.said) spelled c.loop-word.invariant) (fronts.Option c.in-Option.choice) is in
+    (subst (At c.args.known.now (texts c.args.words.now) c.loop-word.said) spelled c.loop-word.invariant) (fronts.Option c.in-Option.switch) is in
     let before : length (texts c.loop-word.rest.now) ≡ length c.loop-word.rest.now = length-map c.loop-word.rest.now string_bytes in
     let after : length (texts c.in_ok-front.behind.now) ≡ length c.in_ok-front.behind.now = length-map c.in_ok-front.behind.now string_bytes in
     let one : length (texts c.loop-word.rest.now) ≡ length (string_bytes c.in-Some.word.now ∷ texts c.in-Some.more.now) = ap (λ (ws : List Text). length ws) spelled in
@@ -63,12 +63,12 @@ loop-word-smaller c =
 pub loop-word-preserved : goal.loop-word-preserved
 loop-word-preserved c =
     let spelled : texts c.loop-word.rest.now ≡ string_bytes c.in-Some.word.now ∷ texts c.in-Some.more.now = search rules in
-    let is : read_front c.args.known.now (string_bytes c.in-Some.word.now) (texts c.in-Some.more.now) ≡ Some (fronts.Option c.in-Option.choice, texts c.in_ok-front.behind.now) = search rules in
-    let some : cond (has_option c.loop-word.said c.in-Option.choice) None (Some (with_option c.loop-word.said c.in-Option.choice c.value_at.result)) ≡ Some c.in_ok-said-in-Option.said = search rules in
-    let free = was_free (has_option c.loop-word.said c.in-Option.choice) (with_option c.loop-word.said c.in-Option.choice c.value_at.result) c.in_ok-said-in-Option.said some in
+    let is : read_front c.args.known.now (string_bytes c.in-Some.word.now) (texts c.in-Some.more.now) ≡ Some (fronts.Option c.in-Option.switch, texts c.in_ok-front.behind.now) = search rules in
+    let some : cond (has_option c.loop-word.said c.in-Option.switch) None (Some (with_option c.loop-word.said c.in-Option.switch c.value_at.result)) ≡ Some c.in_ok-said-in-Option.said = search rules in
+    let free = was_free (has_option c.loop-word.said c.in-Option.switch) (with_option c.loop-word.said c.in-Option.switch c.value_at.result) c.in_ok-said-in-Option.said some in
     subst (λ (s : Said). At c.args.known.now (texts c.args.words.now) s (texts c.in_ok-front.behind.now)) free.1
     (chosen c.args.known.now (texts c.args.words.now) c.loop-word.said (string_bytes c.in-Some.word.now) (texts c.in-Some.more.now) (texts c.in_ok-front.behind.now)
-    (subst (At c.args.known.now (texts c.args.words.now) c.loop-word.said) spelled c.loop-word.invariant) c.in-Option.choice is free.0 c.value_at.result (search rules))
+    (subst (At c.args.known.now (texts c.args.words.now) c.loop-word.said) spelled c.loop-word.invariant) c.in-Option.switch is free.0 c.value_at.result (search rules))
 
 no_texts : (words : List (String Global)) → length words ≡ 0 → texts words ≡ []
 no_texts [] e = refl

@@ -2,7 +2,7 @@
 
 /// An option of a command.
 #[derive(Clone, Copy, Debug, PartialEq, Eq)]
-pub enum Choice {
+pub enum Switch {
     /// Where libraries are looked for.
     Lib,
     /// What is loaded before the program's own libraries.
