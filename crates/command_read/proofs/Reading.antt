@@ -266,7 +266,7 @@ same_text true false e = let n : 4 ≡ 5 = ap (λ (t : Text). length t) e in abs
 same_text false true e = let n : 5 ≡ 4 = ap (λ (t : Text). length t) e in absurd (omega (arith, n))
 
 same_flag : (a b : Bool) → Some (bool_text a) ≡ Some (bool_text b) → a ≡ b
-same_flag a b e = same_bool_text a b (same_some (bool_text a) (bool_text b) e)
+same_flag a b e = same_text a b (same_some (bool_text a) (bool_text b) e)
 
 -- ---- parts that are found
 
