@@ -1,0 +1,30 @@
+use Rattle.std.proofs.Common.{List, Some, ℕ, refl, subst}
+use Rattle.command_line.specs.Reads.{Reads}
+use Rattle.command_line.specs.declared.command.Command.{Command}
+use Rattle.command_line.specs.declared.command.Command.TheVariants as commands
+use Rattle.said_words.specs.Words.{texts}
+use Rattle.ldso_cli.proofs.Asking.{unanswered}
+use Rattle.ldso_cli.proofs.top.answer.Goals as goal
+
+pub returns-in-Ok-Bind-clause-answers : goal.returns-in-Ok-Bind-clause-answers
+returns-in-Ok-Bind-clause-answers g c =
+    let reads : Reads (texts c.args.words.now) (commands.Bind c.in-Ok-Bind.command) =
+    subst (λ (command : Command). Reads (texts c.args.words.now) command) c.in-Ok-Bind.field-0-is c.in-Ok-Bind.ensures.is in
+    record { asked = Some (commands.Bind c.in-Ok-Bind.command); asks = (reads, refl); holds = c.bind.ensures.answers }
+
+pub returns-in-Ok-Dump-clause-answers : goal.returns-in-Ok-Dump-clause-answers
+returns-in-Ok-Dump-clause-answers g c =
+    let reads : Reads (texts c.args.words.now) (commands.Dump c.in-Ok-Dump.path) =
+    subst (λ (command : Command). Reads (texts c.args.words.now) command) c.in-Ok-Dump.field-0-is c.in-Ok-Dump.ensures.is in
+    record { asked = Some (commands.Dump c.in-Ok-Dump.path); asks = (reads, refl); holds = c.dump.ensures.answers }
+
+pub returns-in-Ok-Assemble-clause-answers : goal.returns-in-Ok-Assemble-clause-answers
+returns-in-Ok-Assemble-clause-answers g c =
+    let reads : Reads (texts c.args.words.now) (commands.Assemble c.in-Ok-Assemble.path) =
+    subst (λ (command : Command). Reads (texts c.args.words.now) command) c.in-Ok-Assemble.field-0-is c.in-Ok-Assemble.ensures.is in
+    record { asked = Some (commands.Assemble c.in-Ok-Assemble.path); asks = (reads, refl); holds = c.asm.ensures.answers }
+
+pub returns-clause-answers : goal.returns-clause-answers
+returns-clause-answers g c =
+    let memory = c.in-Err-Memory.ensures.memory c.in-Err-Memory.field-0-is in
+    unanswered c.words_are_one_command.ensures (texts c.args.words.now) memory.0 memory.1 (λ _. tt)
