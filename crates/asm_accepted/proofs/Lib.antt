@@ -1,0 +1,11 @@
+pub mod Arrays
+pub mod Bounds
+pub mod Distinct
+pub mod Fields
+pub mod Named
+pub mod Naming
+pub mod Pairs
+pub mod Record
+pub mod Symbols
+pub mod Table
+pub mod Versions

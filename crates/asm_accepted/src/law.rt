@@ -1,0 +1,68 @@
+//! The laws.
+
+ghost use Rattle.std.specs.Prelude.{◌≡◌, Bool, List, ℕ};
+ghost use Rattle.ld_base.specs.declared.object.Object.{Object};
+ghost use Rattle.ld_base.specs.declared.parts.DynParts.{DynParts};
+ghost use Rattle.elf_dynamic.specs.Verdict.{SpellsDynamic};
+ghost use Rattle.elf_object.specs.Spells.{Spells};
+ghost use Rattle.elf_write.specs.declared.contents.Contents.{Contents};
+ghost use Rattle.elf_write.specs.declared.contents.SectionBytes.{SectionBytes};
+ghost use Rattle.elf_write.specs.Starts.{starts_of};
+ghost use Rattle.elf_write.specs.Values.{object_bytes};
+ghost use Rattle.elf_spelled.specs.Said.{said_head};
+ghost use Rattle.elf_spelled.specs.Whole.{IsWhole};
+ghost use Rattle.elf_hashed.specs.Hashes.{FitsTables};
+ghost use Rattle.asm_denotes.specs.Denotes.{Denotes};
+ghost use Rattle.asm_record.specs.Record.{record_of};
+ghost use Rattle.asm_accepted.specs.Strings.{NamesAreStrings};
+
+use asm_bounds::{objects_are_whole, parts_end_low};
+use asm_fields::{names_stand_at_their_offsets, numbers_fit_their_fields};
+use asm_hashed::{hash_tables_count_symbols, hash_tables_fit};
+use asm_packed::packed_places_ascend;
+use asm_record::the_head_is_said;
+use asm_versioned::versions_lead_on;
+use asm_whole::sources_are_short;
+use elf_accepted::the_object_is_spelled;
+use elf_hashed::{the_symbols_are_counted, the_symbols_are_spelled};
+use elf_spelled::{
+    parts_stand_at_their_starts, the_head_is_spelled, the_table_tells, the_tags_are_spelled,
+};
+use elf_written::{parts_have_their_sizes, parts_stand_apart};
+
+/// The name of an accepted object, those of the libraries that it needs and those of its symbols are strings of its table, each at its
+/// offset: a reader refuses an object of whose names one isn't, as is one of 4,096 bytes or more.
+pub fn the_names_are_strings()
+    ensures { (contents : Contents) (code : SectionBytes) → IsWhole contents code → FitsTables contents → (program : Bool) (said : DynParts)
+        → SpellsDynamic (object_bytes (starts_of contents) contents code) (said_head contents) program said → NamesAreStrings contents said }
+{
+    parts_have_their_sizes();
+    parts_stand_apart();
+    parts_stand_at_their_starts();
+    the_symbols_are_counted();
+    the_symbols_are_spelled();
+    the_table_tells();
+    the_tags_are_spelled();
+}
+
+/// What a reader makes of bytes that a source denotes, if it accepts them, as the program or as another object, is the record that the
+/// statements of the source say, with no field left out. The reader's rules know nothing of sources, nor of how objects are written: so the
+/// bytes are what an independent reader accepts as the record of the statements.
+pub fn the_object_is_the_record()
+    ensures { (source bytes : List ℕ) → (denotes : Denotes source bytes) → (program : Bool) (object : Object)
+        → Spells bytes program object → object ≡ record_of denotes.lines }
+{
+    hash_tables_count_symbols();
+    hash_tables_fit();
+    names_stand_at_their_offsets();
+    numbers_fit_their_fields();
+    objects_are_whole();
+    packed_places_ascend();
+    parts_end_low();
+    sources_are_short();
+    the_head_is_said();
+    the_head_is_spelled();
+    the_names_are_strings();
+    the_object_is_spelled();
+    versions_lead_on();
+}
