@@ -1,5 +1,5 @@
 -- The numbers of namespaces are below 16: that of the base, and those that were free when their namespaces came.
-use Rattle.std.proofs.Common.{◌≡◌, ℕ, ◌<◌, Bool, true, false, ◌||◌, cond, eqb, List, [], ◌∷◌, ◌++◌, map, Option, Some, None, refl, sym, ap, subst, ◌∙◌, arith}
+use Rattle.std.proofs.Common.{◌≡◌, ℕ, ◌<◌, Bool, true, false, ◌||◌, cond, eqb, List, [], ◌∷◌, ◌++◌, map, Option, Some, None, refl, sym, subst, arith}
 use Rattle.std.specs.Prelude.{if◌then◌else◌}
 use Rattle.std.specs.List.{filter, find, list_any}
 use Rattle.std.proofs.lemmas.Bool.{eqb-true, true≢false}
@@ -12,11 +12,10 @@ use Rattle.link_event.specs.declared.event.OpenAnswer.TheVariants as opens
 use Rattle.link_event.specs.declared.event.OpenAsk.{OpenAsk}
 use Rattle.link_event.specs.declared.event.SymAnswer.{SymAnswer}
 use Rattle.link_event.specs.declared.event.SymAnswer.TheVariants as syms
-use Rattle.link_history.specs.After.{after}
 use Rattle.link_history.specs.Allowed.{AllowedIn}
 use Rattle.link_history.specs.Asking.{IsNamespace}
 use Rattle.link_history.specs.Flags.{is_global}
-use Rattle.link_history.specs.Objects.{has_id, has_namespace}
+use Rattle.link_history.specs.Objects.{has_id}
 use Rattle.link_history.specs.Opening.{MayOpen}
 use Rattle.link_history.specs.Setting.{Setting}
 use Rattle.link_history.specs.State.{State, empty_namespace}

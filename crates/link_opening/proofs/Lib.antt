@@ -1,1 +1,4 @@
 pub mod Few
+pub mod Judged
+pub mod Objects
+pub mod Whole

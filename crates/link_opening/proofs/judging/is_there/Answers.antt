@@ -1,4 +1,4 @@
-use Rattle.std.proofs.Common.{◌≡◌, Some, None, sym, ap, ◌∙◌}
+use Rattle.std.proofs.Common.{sym, ap, ◌∙◌}
 use Rattle.link_history.specs.After.{after}
 use Rattle.link_history.specs.Objects.{namespace_of}
 use Rattle.link_opening.proofs.Few.{found_none, found_there}

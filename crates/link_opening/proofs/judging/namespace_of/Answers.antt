@@ -1,4 +1,4 @@
-use Rattle.std.proofs.Common.{◌≡◌, ℕ, List, Option, Some, None, false, refl, sym, subst, ◌∙◌}
+use Rattle.std.proofs.Common.{◌≡◌, ℕ, List, Option, Some, None, false, refl, sym, subst}
 use Rattle.std.specs.Prelude.{◌<◌, ◌≢◌, IsTrue}
 use Rattle.ld_base.specs.declared.fault.DlFault.TheVariants.{BadNamespace, NamespacesFull}
 use Rattle.link_history.specs.After.{after}

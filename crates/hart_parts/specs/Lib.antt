@@ -1,0 +1,3 @@
+pub mod Queues
+pub mod Turns
+pub mod Views

@@ -1,0 +1,4 @@
+pub mod Copied
+pub mod Inside
+pub mod Phases
+pub mod Table

@@ -1,0 +1,154 @@
+//! What a hart's next turn is.
+
+ghost use Rattle.std.specs.Prelude.{◌≡◌, ℕ, List, [], None};
+ghost use Rattle.link_history.specs.State.{State};
+ghost use Rattle.hart_moves.specs.Due.{back, by_phase, call_of, due, within_fuel};
+ghost use Rattle.hart_moves.specs.Due.{Due as is_due};
+ghost use Rattle.hart_moves.specs.Harts.{Phase as phase_is};
+ghost use Rattle.hart_parts.specs.Views.{due_in, naming_of};
+ghost use Rattle.hart_parts.specs.Turns.{HasFuel, HasParts};
+
+use crate::LinkedHart;
+use crate::hart::{A0, A1, A2, RA};
+use crate::phase::{Phase, Resolving};
+use hart_parts::{Call, Copying, Due, Naming, number_at};
+
+/// The bytes of a module's number and an offset.
+const PAIR: usize = 16;
+
+impl LinkedHart {
+    /// What the hart's next turn is, whatever the linker's state.
+    #[tactic(auto, unfolding(hart_moves::specs::Due::due))]
+    pub fn due(&self) -> Due<'_>
+        ensures is { (s : State) → due_in s self.now.hart result ≡ due s self.now.hart }
+        ensures fuel { HasFuel self.now.hart result }
+        ensures parts { HasParts self.now.hart result }
+    {
+        if self.end.is_some() {
+            return Due::Nothing;
+        }
+        match self.resolving {
+            Resolving::ToExchange(offered) => Due::Exchange(offered),
+            Resolving::ToFinish(offered, found) => Due::Finish(offered, found),
+            Resolving::Idle | Resolving::ToSettle(..) => self.within_fuel(),
+        }
+    }
+
+    /// A hart whose turns have reached its fuel takes no other.
+    fn within_fuel(&self) -> Due<'_>
+        ensures is { (s : State) → due_in s self.now.hart result ≡ within_fuel self.now.hart (by_phase s self.now.hart self.now.hart.phase) }
+        ensures fuel { HasFuel self.now.hart result }
+        ensures parts { HasParts self.now.hart result }
+    {
+        if self.turns < self.fuel {
+            self.by_phase()
+        } else {
+            Due::FuelOut
+        }
+    }
+
+    /// By what it has of what it passes.
+    #[tactic(auto, unfolding(hart_moves::specs::Due::by_phase))]
+    fn by_phase(&self) -> Due<'_>
+        ensures is { (s : State) → due_in s self.now.hart result ≡ by_phase s self.now.hart self.now.hart.phase }
+        ensures parts { HasParts self.now.hart result }
+    {
+        match self.phase {
+            Phase::AtPc => self.at_pc(),
+            Phase::Naming(naming) => {
+                Due::Copy(
+                    Copying::Name(naming),
+                    self.name_start(naming),
+                    self.bytes.as_slice(),
+                )
+            }
+            Phase::Versioning => Due::Copy(
+                Copying::Version(self.bytes.as_slice()),
+                self.registers.x[A2],
+                self.version.as_slice(),
+            ),
+            Phase::Named(naming) => Due::Serve(self.named_call(naming)),
+            Phase::Pairing => self.pairing(),
+            Phase::Writing => self.writing(),
+            Phase::Storing { text, stored } => Due::Store {
+                text,
+                stored,
+                word: number_at(self.message.as_bytes(), (8 * stored) as usize),
+            },
+        }
+    }
+
+    /// The call of a function that takes names, once they are copied.
+    #[tactic(auto, unfolding(hart_moves::specs::Due::call_of))]
+    fn named_call(&self, naming: Naming) -> Call<'_>
+        ensures { (s : State) (name version : List ℕ) → self.now.hart.phase ≡ phase_is.named (naming_of naming) name version
+            → due_in s self.now.hart (Due.Serve result) ≡
+            is_due.serve (call_of s self.now.hart.registers (naming_of naming) name version) (back self.now.hart) }
+    {
+        let caller = self.registers.x[RA];
+        let (a0, a1, a2) = (
+            self.registers.x[A0],
+            self.registers.x[A1],
+            self.registers.x[A2],
+        );
+        let name = self.bytes.as_slice();
+        match naming {
+            Naming::Dlopen => Call::Dlopen {
+                caller,
+                name: Some(name),
+                flags: a1,
+            },
+            Naming::Dlmopen => Call::Dlmopen {
+                namespace: a0,
+                name: Some(name),
+                flags: a2,
+            },
+            Naming::Dlsym => Call::Dlsym {
+                caller,
+                handle: a0,
+                name,
+            },
+            Naming::Dlvsym => {
+                let version = self.version.as_slice();
+                Call::Dlvsym {
+                    caller,
+                    handle: a0,
+                    name,
+                    version,
+                }
+            }
+        }
+    }
+
+    /// A module's number and an offset.
+    #[tactic(auto, unfolding(hart_moves::specs::Due::by_phase, hart_moves::specs::Copying::number_in))]
+    fn pairing(&self) -> Due<'_>
+        ensures is { (s : State) (bytes : List ℕ) → self.now.hart.phase ≡ phase_is.pairing bytes
+            → due_in s self.now.hart result ≡ by_phase s self.now.hart (phase_is.pairing bytes) }
+        ensures parts { HasParts self.now.hart result }
+    {
+        let bytes = self.bytes.as_slice();
+        if bytes.len() < PAIR {
+            return Due::Copy(Copying::Pair, self.registers.x[A0], bytes);
+        }
+        Due::Serve(Call::Locate {
+            number: number_at(bytes, 0),
+            offset: number_at(bytes, 8),
+        })
+    }
+
+    /// Bytes to write.
+    #[tactic(auto, unfolding(hart_moves::specs::Due::by_phase))]
+    fn writing(&self) -> Due<'_>
+        ensures is { (s : State) (bytes : List ℕ) → self.now.hart.phase ≡ phase_is.writing bytes
+            → due_in s self.now.hart result ≡ by_phase s self.now.hart (phase_is.writing bytes) }
+        ensures parts { HasParts self.now.hart result }
+    {
+        let bytes = self.bytes.as_slice();
+        let count = self.write_count();
+        if bytes.len() < count {
+            return Due::Copy(Copying::Text(count as u64), self.registers.x[A1], bytes);
+        }
+        Due::Serve(Call::Write(bytes))
+    }
+}

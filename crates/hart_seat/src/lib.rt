@@ -1,0 +1,15 @@
+//! A hart between two turns.
+//!
+//! A [`LinkedHart`] is a hart that runs with its linker: its registers, what it has copied of what it
+//! passes, how far it is with a slot, the functions that the linker has it run, and its turns.
+//! [`LinkedHart::due`] says what its next turn is. Each other method is what a kind of turn makes of it,
+//! as the table of `hart_moves` has it. What memory and the linker answer comes in as arguments.
+//!
+//! No method takes memory but [`LinkedHart::make_room`], which is called before a service that may have
+//! the hart run functions.
+#![tactic(auto)]
+
+mod hart;
+mod phase;
+
+pub use hart::LinkedHart;

@@ -1,0 +1,43 @@
+-- What planning an opening is lent of the linker's state.
+use Rattle.std.specs.Prelude.{◌≡◌, ℕ, List, Option}
+use Rattle.std.specs.List.{AllByRecursion}
+use Rattle.ld_base.specs.declared.linking.File.{File}
+use Rattle.ld_base.specs.declared.linking.Loaded.{Loaded}
+use Rattle.link_event.specs.declared.event.Event.{Event}
+use Rattle.link_event.specs.declared.event.OpenAsk.{OpenAsk}
+use Rattle.link_history.specs.After.{after}
+use Rattle.link_history.specs.Areas.{free_pages}
+use Rattle.link_history.specs.Flags.{is_global}
+use Rattle.link_history.specs.Legal.{Lawful}
+use Rattle.link_history.specs.Setting.{Setting}
+use Rattle.object_places.specs.Placing.{statics_of}
+use Rattle.opening_load.specs.Finding.{IsMade}
+use Rattle.scope_rule.specs.Opening.{opened}
+use Rattle.scope_rule.specs.Seen.{Seen, seen_in}
+use Rattle.seg_image.specs.Accepted.{Accepted}
+use Rattle.sym_hash.specs.Reached.{IsTableOf}
+use Rattle.opening_plan.specs.declared.before.Before.{Before}
+
+-- the table of an object is its own, and it may have an image
+pub record IsObject (o : Loaded) : Type 0 where
+  pub table : IsTableOf o.table o.object
+  pub image : Accepted o.object
+
+-- the namespace has objects alone
+abbrev pub HasObjects : Before → Type 0
+HasObjects b = AllByRecursion IsObject b.namespace.now.objects
+
+-- what is seen of the namespace once these objects were opened
+abbrev pub seen_with : Before → OpenAsk → ℕ → List Loaded → Seen
+seen_with b ask root added = seen_in (opened b.namespace.now added root (is_global ask.flags))
+
+-- after these events an opening by name is to be made, and what is lent is what the state has; the run reads these files as objects, in these
+-- folders
+pub record IsBefore (w : Setting) (past : List Event) (ask : OpenAsk) (name : List ℕ) (id : ℕ) (b : Before) (folders : List (List ℕ))
+    (files : Option (List File)) : Type 0 where
+  pub lawful : Lawful w.machine past
+  pub made : IsMade w (after past) ask name id b.namespace.now b.next folders files
+  pub free : b.regions.now ≡ free_pages (after past).ranges
+  pub modules : b.modules.now.modules ≡ (after past).modules
+  pub statics : statics_of b.modules.now ≡ (after past).statics
+  pub binds : b.binds_now ≡ (after past).now
