@@ -1,10 +1,11 @@
 //! The laws.
 
 ghost use Rattle.std.specs.Prelude.{◌≡◌, Bool, List, ℕ};
+ghost use Rattle.ld_base.specs.declared.fault.NotAccepted.{NotAccepted};
 ghost use Rattle.ld_base.specs.declared.object.Object.{Object};
 ghost use Rattle.ld_base.specs.declared.parts.DynParts.{DynParts};
 ghost use Rattle.elf_dynamic.specs.Verdict.{SpellsDynamic};
-ghost use Rattle.elf_object.specs.Spells.{Spells};
+ghost use Rattle.elf_object.specs.Spells.{Broken, Spells};
 ghost use Rattle.elf_write.specs.declared.contents.Contents.{Contents};
 ghost use Rattle.elf_write.specs.declared.contents.SectionBytes.{SectionBytes};
 ghost use Rattle.elf_write.specs.Starts.{starts_of};
@@ -25,6 +26,7 @@ use asm_versioned::versions_lead_on;
 use asm_whole::sources_are_short;
 use elf_accepted::the_object_is_spelled;
 use elf_hashed::{the_symbols_are_counted, the_symbols_are_spelled};
+use elf_object::one_object;
 use elf_spelled::{
     parts_stand_at_their_starts, the_head_is_spelled, the_table_tells, the_tags_are_spelled,
 };
@@ -65,4 +67,13 @@ pub fn the_object_is_the_record()
     the_names_are_strings();
     the_object_is_spelled();
     versions_lead_on();
+}
+
+/// Bytes that a source denotes and that break no rule of objects are spelled by the record that its statements say.
+pub fn unbroken_bytes_spell_the_record()
+    ensures { (source bytes : List ℕ) → (denotes : Denotes source bytes) → (program : Bool) → ((fault : NotAccepted) → Broken bytes program fault → ⊥)
+        → Spells bytes program (record_of denotes.lines) }
+{
+    one_object();
+    the_object_is_the_record();
 }
