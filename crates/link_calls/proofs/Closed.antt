@@ -1,6 +1,5 @@
 -- What a closing comes to.
-use Rattle.std.proofs.Common.{◌≡◌, ◌≢◌, ℕ, ◌==◌, Bool, true, false, List, [], ◌∷◌, length, Result, Ok, Err, IfOk, OnOk, refl, sym, ap, subst, ◌∙◌, arith}
-use Rattle.std.proofs.lemmas.Bool.{eqb-true, false≢true}
+use Rattle.std.proofs.Common.{◌≡◌, ◌≢◌, ℕ, List, [], ◌∷◌, Result, Ok, Err, IfOk, OnOk, refl, sym, ap, subst, ◌∙◌}
 use Rattle.call_laws.specs.Coming.{IsOn}
 use Rattle.call_laws.specs.Laws.{ClosingKeepsImages, ClosingKeepsOrder}
 use Rattle.lawful_journal.specs.Following.{MayFollow, machine_of}
@@ -34,15 +33,6 @@ use Rattle.link_calls.proofs.Refused.{nothing_came, refused_so}
 pub unclosed : (old new : LinkTable) (hart handle : ℕ) → new ≡ old → ComesIn old hart (closes handle) served.Memory new
 unclosed old new hart handle is =
     subst (λ (t : LinkTable). ComesIn old hart (closes handle) served.Memory t) (sym is) (nothing_came (IsOn (machine_of old.harts)) old.events hart (closes handle))
-
--- ---- whether something dies
-
-pub none_of : (ds : List ℕ) (b : Bool) → b ≡ (length ds == 0) → b ≡ true → ds ≡ []
-none_of [] b is zero_is = refl
-none_of (d ∷ rest) b is zero_is = absurd (omega (arith, eqb-true (length (d ∷ rest)) 0 (sym is ∙ zero_is)))
-
-pub some_of : (ds : List ℕ) (b : Bool) → b ≡ (length ds == 0) → b ≡ false → ds ≢ []
-some_of ds b is zero_isnt none = false≢true (sym zero_isnt ∙ is ∙ ap (λ (xs : List ℕ). length xs == 0) none)
 
 -- ---- a handle that is closed
 

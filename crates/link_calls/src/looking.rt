@@ -9,6 +9,7 @@ ghost use Rattle.link_history.specs.Relocating.{version_of};
 ghost use Rattle.link_service.specs.Call.{dlsym_in, dlvsym_in, looks_up};
 ghost use Rattle.symbol_search.specs.Asking.{ask_of};
 
+use crate::names::LONG_NAME;
 use crate::refusing::refuse;
 use ld_base::{DlFault, HartId, Name, NsId, Want};
 use link_event::Ask;
@@ -16,9 +17,6 @@ use link_served::Served;
 use link_state::{LinkState, SymFault};
 use std::alloc::{AllocError, Global};
 use symbol_search::symbol_ask;
-
-/// Of a longer name 256 bytes are known.
-const LONG_NAME: usize = 256;
 
 /// Looks a name up for a caller in a namespace (dlsym(3)): on the handle 0 among all that is global there, and
 /// on another in what its object leads to. A variable of thread-local storage is in the hart's block, which is

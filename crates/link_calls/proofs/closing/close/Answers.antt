@@ -7,7 +7,8 @@ use Rattle.link_service.specs.Functions.{AreDestructors}
 use Rattle.link_state.specs.Closing.{IsNotClosed}
 use Rattle.link_state.specs.Table.{LinkTable}
 use Rattle.linker_lists.specs.Events.{refusal}
-use Rattle.link_calls.proofs.Closed.{closed_dies, closed_stays, may_refuse_close, none_of, not_closed, some_of}
+use Rattle.link_calls.proofs.Closed.{closed_dies, closed_stays, may_refuse_close, not_closed}
+use Rattle.link_calls.proofs.Empty.{none_of, some_of}
 use Rattle.link_calls.proofs.Refused.{still}
 use Rattle.link_calls.proofs.closing.close.Goals as goal
 
