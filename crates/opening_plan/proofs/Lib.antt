@@ -1,8 +1,11 @@
 pub mod Faults
 pub mod Found
+pub mod Lent
 pub mod News
 pub mod Objects
+pub mod Program
 pub mod Results
 pub mod Shown
+pub mod Starting
 pub mod Steps
 pub mod There

@@ -11,6 +11,19 @@ use Rattle.link_history.specs.Opening.{unplaced}
 use Rattle.opening_load.specs.Finding.{WasLibrary}
 use Rattle.scope_rule.specs.Load.{Load, Walk, found_by, record_of, records, records_of}
 use Rattle.scope_rule.specs.declared.arrival.Arrival.{Arrival}
+use Rattle.opening_plan.specs.Before.{WasRead}
+
+-- ---- lists
+
+pub all_by : {X : Type 0} (P Q : X → Type 0) (xs : List X) → ((x : X) → P x → Q x) → AllByRecursion P xs → AllByRecursion Q xs
+all_by P Q [] every all = tt
+all_by P Q (x ∷ xs) every all = (every x all.0, all_by P Q xs every all.1)
+
+pub all_joined : {X : Type 0} (P : X → Type 0) (xs ys : List X) → AllByRecursion P xs → AllByRecursion P ys → AllByRecursion P (xs ++ ys)
+all_joined P [] ys all more = more
+all_joined P (x ∷ xs) ys all more = (all.0, all_joined P xs ys all.1 more)
+
+-- ---- new objects
 
 -- records of new objects have no places yet
 records_unplaced : (hart : ℕ) (deep : Bool) (serial : ℕ) (arrivals : List Arrival) (founds : List (List ℕ)) → map unplaced (records hart deep serial arrivals founds) ≡ records hart deep serial arrivals founds
@@ -37,21 +50,24 @@ numbered follow load deep walk news added are same =
     serials ∙ ap (range_with_len load.next) count
 
 -- their places change nothing of what was read
-pub still_read : (xs ys : List Loaded) → map unplaced xs ≡ map unplaced ys → AllByRecursion WasLibrary ys → AllByRecursion WasLibrary xs
-still_read [] ys same all = tt
-still_read (x ∷ xs) [] same all = absurd (let e : map unplaced (x ∷ xs) ≡ [] = same in cc)
-still_read (x ∷ xs) (y ∷ ys) same all =
+still_by : (P : Loaded → Type 0) → ((o q : Loaded) → unplaced o ≡ unplaced q → P q → P o) → (xs ys : List Loaded) → map unplaced xs ≡ map unplaced ys
+    → AllByRecursion P ys → AllByRecursion P xs
+still_by P every [] ys same all = tt
+still_by P every (x ∷ xs) [] same all = absurd (let e : map unplaced (x ∷ xs) ≡ [] = same in cc)
+still_by P every (x ∷ xs) (y ∷ ys) same all =
     let first : unplaced x ≡ unplaced y = cc in
     let rest : map unplaced xs ≡ map unplaced ys = cc in
-    let was : WasLibrary y = all.0 in
-    (record { bytes = was.bytes; is = subst (λ (o : Loaded). object_verdict was.bytes false ≡ Ok (o.object, o.table)) (sym first) was.is }, still_read xs ys rest all.1)
+    (every x y first all.0, still_by P every xs ys rest all.1)
 
--- ---- lists
+pub still_read : (xs ys : List Loaded) → map unplaced xs ≡ map unplaced ys → AllByRecursion WasLibrary ys → AllByRecursion WasLibrary xs
+still_read xs ys same all = still_by WasLibrary
+    (λ o q is was. record { bytes = was.bytes; is = subst (λ (x : Loaded). object_verdict was.bytes false ≡ Ok (x.object, x.table)) (sym is) was.is }) xs ys same all
 
-pub all_by : {X : Type 0} (P Q : X → Type 0) (xs : List X) → ((x : X) → P x → Q x) → AllByRecursion P xs → AllByRecursion Q xs
-all_by P Q [] every all = tt
-all_by P Q (x ∷ xs) every all = (every x all.0, all_by P Q xs every all.1)
+pub still_was : (xs ys : List Loaded) → map unplaced xs ≡ map unplaced ys → AllByRecursion WasRead ys → AllByRecursion WasRead xs
+still_was xs ys same all = still_by WasRead
+    (λ o q is was. record { bytes = was.bytes; program = was.program; is = subst (λ (x : Loaded). object_verdict was.bytes was.program ≡ Ok (x.object, x.table)) (sym is) was.is })
+    xs ys same all
 
-pub all_joined : {X : Type 0} (P : X → Type 0) (xs ys : List X) → AllByRecursion P xs → AllByRecursion P ys → AllByRecursion P (xs ++ ys)
-all_joined P [] ys all more = more
-all_joined P (x ∷ xs) ys all more = (all.0, all_joined P xs ys all.1 more)
+-- a library was read
+pub are_read : (objects : List Loaded) → AllByRecursion WasLibrary objects → AllByRecursion WasRead objects
+are_read objects all = all_by WasLibrary WasRead objects (λ o was. record { bytes = was.bytes; program = false; is = was.is }) all

@@ -1,5 +1,5 @@
 -- Objects that were read of files: their tables are their own, they may have images, and their relocations name symbols of their own.
-use Rattle.std.proofs.Common.{◌≡◌, ℕ, Bool, false, List, ◌++◌, Ok, ap, ◌∙◌}
+use Rattle.std.proofs.Common.{◌≡◌, ℕ, Bool, List, ◌++◌, Ok, ap, ◌∙◌}
 use Rattle.std.specs.Prelude.{IsTrue}
 use Rattle.std.specs.List.{AllByRecursion, Contains}
 use Rattle.elf_object.specs.Object.{names_own_symbols}
@@ -8,7 +8,6 @@ use Rattle.ld_base.specs.declared.linking.Loaded.{Loaded}
 use Rattle.ld_base.specs.declared.object.Object.{Object}
 use Rattle.ld_base.specs.declared.parts.HashTable.{HashTable}
 use Rattle.link_history.specs.Lemmas.Brought.{all_at}
-use Rattle.opening_load.specs.Finding.{WasLibrary}
 use Rattle.link_event.specs.declared.event.OpenAsk.{OpenAsk}
 use Rattle.link_history.specs.Flags.{is_global}
 use Rattle.scope_rule.specs.Opening.{global_after, opens_after}
@@ -17,7 +16,7 @@ use Rattle.scope_rule.specs.Seen.{Seen, seen_in, with_added}
 use Rattle.scope_rule.specs.declared.namespace.OpenRec.{OpenRec}
 use Rattle.seg_image.specs.Accepted.{Accepted}
 use Rattle.sym_hash.specs.Reached.{IsTableOf}
-use Rattle.opening_plan.specs.Before.{IsObject, seen_with}
+use Rattle.opening_plan.specs.Before.{IsObject, WasRead, seen_with}
 use Rattle.opening_plan.specs.declared.before.Before.{Before}
 use Rattle.opening_plan.proofs.News.{all_by, all_joined}
 
@@ -27,9 +26,9 @@ HoldsOfRead P = (bytes : List ℕ) (program : Bool) (object : Object) (table : H
 
 -- those that were there and those that were read are objects
 pub are_objects : HoldsOfRead (λ object table. IsTableOf table object) → HoldsOfRead (λ object table. Accepted object) → (there added : List Loaded)
-    → AllByRecursion IsObject there → AllByRecursion WasLibrary added → AllByRecursion IsObject (there ++ added)
-are_objects tables images there added old new = all_joined IsObject there added old (all_by WasLibrary IsObject added
-    (λ o was. record { table = tables was.bytes false o.object o.table was.is; image = images was.bytes false o.object o.table was.is }) new)
+    → AllByRecursion IsObject there → AllByRecursion WasRead added → AllByRecursion IsObject (there ++ added)
+are_objects tables images there added old new = all_joined IsObject there added old (all_by WasRead IsObject added
+    (λ o was. record { table = tables was.bytes was.program o.object o.table was.is; image = images was.bytes was.program o.object o.table was.is }) new)
 
 pub have_tables : (objects : List Loaded) → AllByRecursion IsObject objects → AllByRecursion (λ o. IsTableOf o.table o.object) objects
 have_tables objects all = all_by IsObject (λ o. IsTableOf o.table o.object) objects (λ o is. is.table) all
@@ -37,10 +36,10 @@ have_tables objects all = all_by IsObject (λ o. IsTableOf o.table o.object) obj
 pub has_image : (objects : List Loaded) (o : Loaded) → AllByRecursion IsObject objects → Contains objects o → Accepted o.object
 has_image objects o all inside = (all_at IsObject objects o all inside).image
 
-pub of_read : (P : Object → Type 0) → HoldsOfRead (λ object table. P object) → (added : List Loaded) (o : Loaded) → AllByRecursion WasLibrary added → Contains added o → P o.object
-of_read P holds added o all inside = let was = all_at WasLibrary added o all inside in holds was.bytes false o.object o.table was.is
+pub of_read : (P : Object → Type 0) → HoldsOfRead (λ object table. P object) → (added : List Loaded) (o : Loaded) → AllByRecursion WasRead added → Contains added o → P o.object
+of_read P holds added o all inside = let was = all_at WasRead added o all inside in holds was.bytes was.program o.object o.table was.is
 
-pub names_own : HoldsOfRead (λ object table. IsTrue (names_own_symbols object)) → (added : List Loaded) (o : Loaded) → AllByRecursion WasLibrary added → Contains added o
+pub names_own : HoldsOfRead (λ object table. IsTrue (names_own_symbols object)) → (added : List Loaded) (o : Loaded) → AllByRecursion WasRead added → Contains added o
     → IsTrue (names_symbols o.object)
 names_own holds added o all inside = of_read (λ object. IsTrue (names_own_symbols object)) holds added o all inside
 

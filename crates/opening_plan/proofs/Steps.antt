@@ -1,8 +1,6 @@
 -- One stage of an opening after another.
-use Rattle.std.proofs.Common.{◌≡◌, ℕ, ◌||◌, Bool, false, List, length, map, Option, None, sym, ap, subst, ◌∙◌}
-use Rattle.std.specs.Prelude.{if◌then◌else◌}
+use Rattle.std.proofs.Common.{◌≡◌, ℕ, ◌||◌, Bool, true, List, length, map, Option, Some, None, refl, sym, ap, subst, ◌∙◌}
 use Rattle.call_laws.specs.Laws.{AreNumberedFrom, NewStandBehind}
-use Rattle.ld_base.specs.declared.linking.File.{File}
 use Rattle.ld_base.specs.declared.linking.Choice.{Choice}
 use Rattle.ld_base.specs.declared.linking.Loaded.{Loaded}
 use Rattle.link_event.specs.declared.event.Event.{Event}
@@ -20,7 +18,7 @@ use Rattle.link_history.specs.Opening.{ArePlaced, HaveStorage, has_no_pages, ref
 use Rattle.link_history.specs.Relocating.{relocation_fault}
 use Rattle.link_history.specs.Setting.{Machine, Setting, load_of}
 use Rattle.link_history.specs.State.{State, Statics}
-use Rattle.link_history.specs.Step.{binds, loaded, seen_after}
+use Rattle.link_history.specs.Step.{loaded, seen_after}
 use Rattle.link_history.specs.Storage.{HaveModules, statics_with, with_modules}
 use Rattle.load_choices.specs.Choices.{choices_of}
 use Rattle.object_choices.specs.Choices.{IsFaultOf}
@@ -37,7 +35,8 @@ use Rattle.scope_rule.specs.Opening.{opened}
 use Rattle.scope_rule.specs.Seen.{Seen, seen_in}
 use Rattle.scope_rule.specs.declared.namespace.Namespace.{Namespace}
 use Rattle.std.specs.List.{range_with_len}
-use Rattle.opening_plan.specs.Before.{IsBefore, seen_with}
+use Rattle.std.specs.Option.{is_some}
+use Rattle.opening_plan.specs.Before.{IsLent, seen_with}
 use Rattle.opening_plan.specs.Planned.{IsUnopened, PlansNew, choice_fault, place_fault}
 use Rattle.opening_plan.specs.declared.before.Before.{Before}
 use Rattle.opening_plan.proofs.News.{as_found, numbered}
@@ -59,8 +58,14 @@ pub record PlanLaws : Type 0 where
   pub order : (m : Machine) (events : List Event) → Lawful m events → SerialsAreInOrder (after events)
   pub follow : (load : Load) (deep : Bool) (w : Walk) → map serial_of (records_of load deep w) ≡ range_with_len load.next (length w.arrivals)
 
-module _ (laws : PlanLaws) (w : Setting) (past : List Event) (hart id root : ℕ) (ask : OpenAsk) (name : List ℕ) (b : Before) (folders : List (List ℕ)) (files : Option (List File))
-    (is : IsBefore w past ask name id b folders files) (news added : List Loaded) (finds : FindsAll w (after past) hart ask name id root news) (same : map unplaced added ≡ map unplaced news) where
+-- after startup nothing is wanted beside the objects, however many harts there are
+counted : (harts : Option ℕ) (count : ℕ) (st : Statics) (added : List Loaded) → ((n : ℕ) → harts ≡ Some n → count ≡ n)
+    → areas_by harts st added ≡ areas (is_some harts) st count added
+counted None count st added are = refl
+counted (Some n) count st added are = ap (λ (k : ℕ). areas true st k added) (sym (are n refl))
+
+module _ (laws : PlanLaws) (w : Setting) (past : List Event) (hart id root : ℕ) (ask : OpenAsk) (name : List ℕ) (harts : Option ℕ) (b : Before)
+    (is : IsLent w past ask name id harts b) (news added : List Loaded) (finds : FindsAll w (after past) hart ask name id root news) (same : map unplaced added ≡ map unplaced news) where
   abbrev pub s : State
   s = after past
 
@@ -73,26 +78,24 @@ module _ (laws : PlanLaws) (w : Setting) (past : List Event) (hart id root : ℕ
 
   -- what is seen of the namespace, and whether slots are bound
   seen_is : seen_with b ask root added ≡ seen_after s ask id root added
-  seen_is = ap (λ (ns : Namespace). seen_in (opened ns added root (is_global ask.flags))) is.made.namespace
+  seen_is = ap (λ (ns : Namespace). seen_in (opened ns added root (is_global ask.flags))) is.namespace
 
-  binds_is : (b.binds_now || is_now ask.flags) ≡ binds s ask
-  binds_is =
-      ap (λ (n : Bool). n || is_now ask.flags) is.binds
-      ∙ sym (ap (λ (first : Bool). (if first then is_now ask.flags else s.now) || is_now ask.flags) is.made.started)
-
-  stored : HaveModules false b.modules.now.modules (statics_of b.modules.now) added → HaveStorage s news added
+  stored : HaveModules (is_some harts) b.modules.now.modules (statics_of b.modules.now) added → HaveStorage s news added
   stored have = record {
     same = are_found;
     modules =
-        subst (λ (first : Bool). HaveModules first s.modules s.statics added) (sym is.made.started)
-        (subst (λ (ms : List Module). HaveModules false ms s.statics added) is.modules
-        (subst (λ (st : Statics). HaveModules false b.modules.now.modules st added) is.statics have));
+        subst (λ (first : Bool). HaveModules first s.modules s.statics added) (sym is.startup)
+        (subst (λ (ms : List Module). HaveModules (is_some harts) ms s.statics added) is.modules
+        (subst (λ (st : Statics). HaveModules (is_some harts) b.modules.now.modules st added) is.statics have));
   }
 
-  wanted_is : areas_by None (statics_with added (statics_of b.modules.now)) added ≡ wanted w s added
-  wanted_is = sym (ap (λ (first : Bool). areas first (statics_with added s.statics) w.machine.harts added) is.made.started)
+  wanted_is : areas_by harts (statics_with added (statics_of b.modules.now)) added ≡ wanted w s added
+  wanted_is =
+      ap (λ (st : Statics). areas_by harts (statics_with added st) added) is.statics
+      ∙ counted harts w.machine.harts (statics_with added s.statics) added is.count
+      ∙ sym (ap (λ (first : Bool). areas first (statics_with added s.statics) w.machine.harts added) is.startup)
 
-  placed : (ranges : List Range) (left : List ℕ) → AreGiven b.regions.now (areas_by None (statics_with added (statics_of b.modules.now)) added) ranges left → AreBased added ranges
+  placed : (ranges : List Range) (left : List ℕ) → AreGiven b.regions.now (areas_by harts (statics_with added (statics_of b.modules.now)) added) ranges left → AreBased added ranges
       → ArePlaced w s added ranges
   placed ranges left given based = record {
     left = left;
@@ -111,11 +114,11 @@ module _ (laws : PlanLaws) (w : Setting) (past : List Event) (hart id root : ℕ
       → relocation_fault (loaded s hart ask id root added ranges) (seen_with b ask root added) (b.binds_now || is_now ask.flags) added ≡ refused s hart ask id root added ranges
   refused_is ranges =
       ap (λ (ns : Seen). relocation_fault (loaded s hart ask id root added ranges) ns (b.binds_now || is_now ask.flags) added) seen_is
-      ∙ ap (λ (now : Bool). relocation_fault (loaded s hart ask id root added ranges) (seen_after s ask id root added) now added) binds_is
+      ∙ ap (λ (now : Bool). relocation_fault (loaded s hart ask id root added ranges) (seen_after s ask id root added) now added) is.binds_are
 
   -- ---- what it comes to
 
-  pub plans_new : (p : Places) (choices : List (List Choice)) → HavePlaces b.regions.now b.modules.now None added p
+  pub plans_new : (p : Places) (choices : List (List Choice)) → HavePlaces b.regions.now b.modules.now harts added p
       → choices ≡ map (choices_of (seen_with b ask root added) (b.binds_now || is_now ask.flags)) added
       → AreRelocated b ask root p.modules.modules added
       → PlansNew w s hart ask name id (record { root = root; added = added; ranges = p.ranges; choices = choices })
@@ -130,13 +133,13 @@ module _ (laws : PlanLaws) (w : Setting) (past : List Event) (hart id root : ℕ
     };
     choices = are
         ∙ ap (λ (ns : Seen). map (choices_of ns (b.binds_now || is_now ask.flags)) added) seen_is
-        ∙ ap (λ (now : Bool). map (choices_of (seen_after s ask id root added) now) added) binds_is;
+        ∙ ap (λ (now : Bool). map (choices_of (seen_after s ask id root added) now) added) is.binds_are;
     numbered = are_numbered;
   }
 
-  pub no_places : (fault : PlaceFault) → IsUnplaced b.regions.now b.modules.now None added fault → IsUnopened w s hart ask (place_fault fault)
+  pub no_places : (fault : PlaceFault) → IsUnplaced b.regions.now b.modules.now harts added fault → IsUnopened w s hart ask (place_fault fault)
   no_places (placing.Full pages) lack = has_no_pages name id pages (record {
-    named = is.made.named;
+    named = is.named;
     root = root;
     news = news;
     finds = finds.finds;
@@ -147,10 +150,10 @@ module _ (laws : PlanLaws) (w : Setting) (past : List Event) (hart id root : ℕ
   })
   no_places placing.Memory lack = tt
 
-  pub no_choices : (p : Places) (fault : ChoiceFault) → HavePlaces b.regions.now b.modules.now None added p
+  pub no_choices : (p : Places) (fault : ChoiceFault) → HavePlaces b.regions.now b.modules.now harts added p
       → AreFaultedBy b ask root fault p.modules.modules added → IsUnopened w s hart ask (choice_fault fault)
   no_choices p (choosing.Refused fault) have refuses = unrelocated name id fault (record {
-    named = is.made.named;
+    named = is.named;
     root = root;
     news = news;
     finds = finds.finds;

@@ -1,15 +1,20 @@
 -- What planning an opening is lent of the linker's state.
-use Rattle.std.specs.Prelude.{◌≡◌, ℕ, List, Option}
+use Rattle.std.specs.Prelude.{◌≡◌, ℕ, ◌||◌, Bool, List, Option, Some, Ok}
 use Rattle.std.specs.List.{AllByRecursion}
+use Rattle.std.specs.Option.{is_some}
+use Rattle.elf_object.specs.Verdict.{object_verdict}
 use Rattle.ld_base.specs.declared.linking.File.{File}
 use Rattle.ld_base.specs.declared.linking.Loaded.{Loaded}
 use Rattle.link_event.specs.declared.event.Event.{Event}
 use Rattle.link_event.specs.declared.event.OpenAsk.{OpenAsk}
 use Rattle.link_history.specs.After.{after}
 use Rattle.link_history.specs.Areas.{free_pages}
-use Rattle.link_history.specs.Flags.{is_global}
+use Rattle.link_history.specs.Flags.{is_global, is_now}
 use Rattle.link_history.specs.Legal.{Lawful}
+use Rattle.link_history.specs.Objects.{is_startup}
+use Rattle.link_history.specs.Opening.{IsNamed}
 use Rattle.link_history.specs.Setting.{Setting}
+use Rattle.link_history.specs.Step.{binds, namespace_before}
 use Rattle.object_places.specs.Placing.{statics_of}
 use Rattle.opening_load.specs.Finding.{IsMade}
 use Rattle.scope_rule.specs.Opening.{opened}
@@ -41,3 +46,23 @@ pub record IsBefore (w : Setting) (past : List Event) (ask : OpenAsk) (name : Li
   pub modules : b.modules.now.modules ≡ (after past).modules
   pub statics : statics_of b.modules.now ≡ (after past).statics
   pub binds : b.binds_now ≡ (after past).now
+
+-- ---- for the code of this crate alone
+
+-- an object was read of some bytes, as a program or as a library
+pub record WasRead (o : Loaded) : Type 0 where
+  pub bytes : List ℕ
+  pub program : Bool
+  pub is : object_verdict bytes program ≡ Ok (o.object, o.table)
+
+-- what is lent is what the state has after these events, where new objects are to be opened by name: at startup for so many harts
+pub record IsLent (w : Setting) (past : List Event) (ask : OpenAsk) (name : List ℕ) (id : ℕ) (harts : Option ℕ) (b : Before) : Type 0 where
+  pub lawful : Lawful w.machine past
+  pub named : IsNamed (after past) ask name id
+  pub startup : is_startup (after past) ≡ is_some harts
+  pub count : (n : ℕ) → harts ≡ Some n → w.machine.harts ≡ n
+  pub namespace : b.namespace.now ≡ namespace_before (after past) id
+  pub free : b.regions.now ≡ free_pages (after past).ranges
+  pub modules : b.modules.now.modules ≡ (after past).modules
+  pub statics : statics_of b.modules.now ≡ (after past).statics
+  pub binds_are : (b.binds_now || is_now ask.flags) ≡ binds (after past) ask

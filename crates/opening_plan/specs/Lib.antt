@@ -1,3 +1,4 @@
 pub mod Before
 pub mod Lemmas
 pub mod Planned
+pub mod Startup

@@ -5,7 +5,7 @@ use ld_base::Serial;
 use scope_rule::Namespace;
 use tls_blocks::TlsModules;
 
-/// What is lent of the linker's state as it is before an opening, once startup is over.
+/// What is lent of the linker's state as it is before an opening, or before the first event.
 #[derive(Clone, Copy)]
 pub struct Before<'a> {
     /// The namespace that the opening is made in; an empty one where it is new.

@@ -10,8 +10,7 @@ ghost use Rattle.link_history.specs.State.{State};
 ghost use Rattle.load_choices.specs.Choices.{choices_of};
 ghost use Rattle.object_choices.specs.Choices.{IsFaultOf};
 ghost use Rattle.object_choices.specs.Sight.{Shows};
-ghost use Rattle.opening_load.specs.Finding.{WasLibrary};
-ghost use Rattle.opening_plan.specs.Before.{HasObjects, seen_with};
+ghost use Rattle.opening_plan.specs.Before.{HasObjects, WasRead, seen_with};
 
 use crate::before::Before;
 use accepted_image::one_image;
@@ -58,7 +57,7 @@ pub(crate) fn choose_new(
     modules: &[Module],
 ) -> Result<ChoiceLists, ChoiceFault>
     requires there { HasObjects before.now }
-    requires read { AllByRecursion WasLibrary added.now }
+    requires read { AllByRecursion WasRead added.now }
     ensures choices { IfOk result (λ all.
         all ≡ map (choices_of (seen_with before.now ask.now root added.now) (before.now.binds_now || is_now ask.now.flags)) added.now) }
     ensures relocated { IfOk result (λ all. (s : State) → Shows s (seen_with before.now ask.now root added.now) (map place_of modules.now)

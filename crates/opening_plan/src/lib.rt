@@ -1,8 +1,9 @@
-//! What an opening by name is to bring, worked out before anything changes.
+//! What an opening by name, and startup, is to bring, worked out before anything changes.
 //!
 //! [`plan_named`] finds what the name leads to, and gives the new objects their modules, their pages and what
-//! their relocations choose (dlopen(3)). It reads what it is lent of the linker's state ([`Before`]) and
-//! changes nothing but the library's counts.
+//! their relocations choose (dlopen(3)). [`plan_program`] does the same for the program of a run, with each
+//! hart's stack and static area. They read what they are lent of the linker's state ([`Before`]) and change
+//! nothing but the library's counts.
 //!
 //! What is promised: the plan, or why there is none, is what the history asks of an opening.
 #![tactic(auto)]
@@ -10,6 +11,8 @@
 mod before;
 mod choosing;
 mod planning;
+mod startup;
 
 pub use before::Before;
 pub use planning::{NewObjects, Planned, Unopened, plan_named};
+pub use startup::plan_program;

@@ -1,15 +1,15 @@
 //! Planning an opening by name.
 
-ghost use Rattle.std.specs.Prelude.{◌≡◌, ◌≤◌, ℕ, List, Option, true, IfErr, IfOk};
-ghost use Rattle.ld_base.specs.declared.linking.File.{File};
+ghost use Rattle.std.specs.Prelude.{◌≡◌, ◌≤◌, ℕ, List, map, true, IfErr, IfOk};
 ghost use Rattle.std.specs.List.{AllByRecursion};
 ghost use Rattle.call_laws.specs.Counts.{ArePaths, ShowsInCounts};
 ghost use Rattle.link_event.specs.declared.event.Event.{Event};
 ghost use Rattle.link_history.specs.After.{after};
 ghost use Rattle.link_history.specs.Flags.{is_noload};
+ghost use Rattle.link_history.specs.Opening.{unplaced};
 ghost use Rattle.link_history.specs.Setting.{Setting};
 ghost use Rattle.opening_load.specs.Finding.{FindsAll, WasLibrary};
-ghost use Rattle.opening_plan.specs.Before.{HasObjects, IsBefore};
+ghost use Rattle.opening_plan.specs.Before.{HasObjects, IsBefore, IsLent, WasRead};
 ghost use Rattle.opening_plan.specs.Planned.{IsPlanned, IsUnopened, PlansNew, NeedsNoFile, choice_fault, load_fault, objects_of, place_fault, refusal_in};
 ghost use Rattle.opening_plan.specs.declared.planning.Unopened.TheVariants.{Memory, Refused};
 
@@ -153,30 +153,29 @@ pub fn plan_named<L: Library>(
     match found {
         Found::Absent => Ok(Planned::Absent),
         Found::There(root) => Ok(Planned::There(root)),
-        Found::New(plan) => Ok(Planned::New(place_new(alloc, before, ask, plan)?)),
+        Found::New(plan) => Ok(Planned::New(place_new(alloc, before, None, ask, plan)?)),
     }
 }
 
-/// Gives what a load brings its places and choices.
+/// Gives what a load brings its places and choices; at startup, for so many harts, with stacks and static areas.
 ///
 /// # Errors
 ///
 /// The pages that have no room, the first relocation that is refused, or want of memory.
-fn place_new(
+pub(crate) fn place_new(
     alloc: Global,
     before: &Before,
+    harts: Option<u32>,
     ask: &OpenAsk,
     plan: LoadPlan,
 ) -> Result<NewObjects, Unopened>
     requires there { HasObjects before.now }
-    requires read { AllByRecursion WasLibrary plan.added }
-    ensures read { IfOk result (λ news. AllByRecursion WasLibrary news.added) }
-    ensures planned { (w : Setting) (past : List Event) (hart id : ℕ) (name : List ℕ) (folders : List (List ℕ)) (files : Option (List File))
-        → IsBefore w past ask.now name id before.now folders files → FindsAll w (after past) hart ask.now name id plan.root plan.added
-        → IfOk result (PlansNew w (after past) hart ask.now name id) }
-    ensures unopened { (w : Setting) (past : List Event) (hart id : ℕ) (name : List ℕ) (folders : List (List ℕ)) (files : Option (List File))
-        → IsBefore w past ask.now name id before.now folders files → FindsAll w (after past) hart ask.now name id plan.root plan.added
-        → IfErr result (IsUnopened w (after past) hart ask.now) }
+    requires read { AllByRecursion WasRead plan.added }
+    ensures same { IfOk result (λ news. map unplaced news.added ≡ map unplaced plan.added) }
+    ensures planned { (w : Setting) (past : List Event) (hart id : ℕ) (name : List ℕ) → IsLent w past ask.now name id harts before.now
+        → FindsAll w (after past) hart ask.now name id plan.root plan.added → IfOk result (PlansNew w (after past) hart ask.now name id) }
+    ensures unopened { (w : Setting) (past : List Event) (hart id : ℕ) (name : List ℕ) → IsLent w past ask.now name id harts before.now
+        → FindsAll w (after past) hart ask.now name id plan.root plan.added → IfErr result (IsUnopened w (after past) hart ask.now) }
     ensures no_file { IfErr result NeedsNoFile }
 {
     accepted_object();
@@ -190,7 +189,7 @@ fn place_new(
         alloc,
         before.regions,
         before.modules,
-        None,
+        harts,
         added.as_mut_slice(),
     )?;
     let Places { modules, ranges } = places;

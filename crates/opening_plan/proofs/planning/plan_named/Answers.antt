@@ -1,10 +1,13 @@
 use Rattle.std.proofs.Common.{Err, ap, subst}
 use Rattle.call_laws.specs.Counts.{ArePaths}
+use Rattle.std.specs.List.{AllByRecursion}
 use Rattle.link_history.specs.After.{after}
-use Rattle.opening_load.specs.Finding.{LeadsTo}
+use Rattle.opening_load.specs.Finding.{LeadsTo, WasLibrary, news_of}
 use Rattle.opening_load.specs.declared.finding.Found.{Found}
 use Rattle.opening_plan.specs.Planned.{IsUnopened, load_fault}
 use Rattle.opening_plan.proofs.Found.{counts_found, stopped_so}
+use Rattle.opening_plan.proofs.Lent.{lent}
+use Rattle.opening_plan.proofs.News.{are_read, still_read}
 use Rattle.opening_plan.proofs.Results.{counts_as, err_as}
 use Rattle.opening_plan.proofs.There.{there_alone}
 use Rattle.opening_plan.proofs.planning.plan_named.Goals as goal
@@ -26,7 +29,8 @@ pub returns-in_err-place_new-in-New-clause-unopened : goal.returns-in_err-place_
 returns-in_err-place_new-in-New-clause-unopened g c = λ w past id is.
     err_as c.from_residual-in_err-place_new-in-New.result c.in_err-place_new-in-New.field-0.0 (IsUnopened w (after past) c.args.hart c.args.ask.now)
     c.from_residual-in_err-place_new-in-New.ensures.1
-    (c.in_err-place_new-in-New.ensures.unopened w past c.args.hart id c.args.name.now c.args.folders.now _ is
+    (c.in_err-place_new-in-New.ensures.unopened w past c.args.hart id c.args.name.now
+    (lent w past c.args.ask.now c.args.name.now id c.args.before.now c.args.folders.now (g.L.Library.files c.args.library.now) is)
     (subst (λ (f : Found). LeadsTo w (after past) c.args.hart c.args.ask.now c.args.name.now id f) c.in-New.is (c.in_ok-found.ensures.found w (after past) id is.made)))
 
 pub returns-in-Absent-clause-planned : goal.returns-in-Absent-clause-planned
@@ -40,5 +44,15 @@ returns-in-There-clause-planned g c = λ w past id is.
 
 pub returns-in_ok-place_new-in-New-clause-planned : goal.returns-in_ok-place_new-in-New-clause-planned
 returns-in_ok-place_new-in-New-clause-planned g c = λ w past id is.
-    c.in_ok-place_new-in-New.ensures.planned w past c.args.hart id c.args.name.now c.args.folders.now _ is
+    c.in_ok-place_new-in-New.ensures.planned w past c.args.hart id c.args.name.now
+    (lent w past c.args.ask.now c.args.name.now id c.args.before.now c.args.folders.now (g.L.Library.files c.args.library.now) is)
     (subst (λ (f : Found). LeadsTo w (after past) c.args.hart c.args.ask.now c.args.name.now id f) c.in-New.is (c.in_ok-found.ensures.found w (after past) id is.made))
+
+pub place_new-requires-clause-read : goal.place_new-requires-clause-read
+place_new-requires-clause-read g c =
+    are_read c.in-New.plan.added (subst (λ (f : Found). AllByRecursion WasLibrary (news_of f)) c.in-New.is c.in_ok-found.ensures.read)
+
+pub returns-in_ok-place_new-in-New-clause-read : goal.returns-in_ok-place_new-in-New-clause-read
+returns-in_ok-place_new-in-New-clause-read g c =
+    still_read c.in_ok-place_new-in-New.field-0.added c.in-New.plan.added c.in_ok-place_new-in-New.ensures.same
+    (subst (λ (f : Found). AllByRecursion WasLibrary (news_of f)) c.in-New.is c.in_ok-found.ensures.read)
