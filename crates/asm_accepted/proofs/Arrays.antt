@@ -107,8 +107,8 @@ module _ (lines : List Line) where
       both (λ fix. fix.spot.part ≡ part_of section) (line_fixes lines section place line) (section_fixes lines section (k + 1) rest) (cases (is_section section place.section) refl) (of_section section (k + 1) rest)
 
   -- no section's places stand in an array
-  no_section : (part : Part) (section : Section) → same_part part (part_of section) ≡ false → counted part (section_fixes lines section 0 lines) ≡ 0
-  no_section part section differ = none_of part (part_of section) differ (section_fixes lines section 0 lines) (of_section section 0 lines)
+  no_section : (part : Part) (own : Section) → same_part part (part_of own) ≡ false → counted part (section_fixes lines own 0 lines) ≡ 0
+  no_section part own differ = none_of part (part_of own) differ (section_fixes lines own 0 lines) (of_section own 0 lines)
 
   no_array : (part other : Part) → same_part part other ≡ false → (array : Array) → counted part (array_fixes lines other 0 (entries array lines)) ≡ 0
   no_array part other differ array = none_of part other differ (array_fixes lines other 0 (entries array lines)) (of_array other 0 (entries array lines))

@@ -25,9 +25,10 @@ use std::marker::Model;
 
 const RA: usize = 1;
 
-const T0: usize = 5;
-
-const T1: usize = 6;
+/// Where an entry of the procedure linkage table passes the serial of its slot's object: t0.
+const OWNER: usize = 5;
+/// Where it passes eight times the slot's number: t1.
+const EIGHTS: usize = 6;
 
 const A0: usize = 10;
 

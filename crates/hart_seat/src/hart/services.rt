@@ -9,7 +9,7 @@ ghost use Rattle.hart_parts.specs.Views.{due_in, naming_of, service_of};
 ghost use Rattle.hart_parts.specs.Turns.{HasParts};
 
 use crate::LinkedHart;
-use crate::hart::{A0, A1, A2, RA, T0, T1};
+use crate::hart::{A0, A1, A2, EIGHTS, OWNER, RA};
 use hart_parts::{Call, Copying, Due, Naming, Service, service_at};
 use link_event::HartEnd;
 
@@ -34,8 +34,8 @@ impl LinkedHart {
         let a0 = self.registers.x[A0];
         match service {
             Service::Resolve => Due::Serve(Call::Resolve {
-                owner: self.registers.x[T0],
-                eights: self.registers.x[T1],
+                owner: self.registers.x[OWNER],
+                eights: self.registers.x[EIGHTS],
             }),
             Service::Name(naming) => self.by_name(naming),
             Service::Dlclose => Due::Serve(Call::Dlclose(a0)),
