@@ -49,54 +49,162 @@ fn memory(code: u64, data: u64, role: Role) -> Halves {
     }
 }
 
-/// A turn of a hart at an address, and where the hart is then.
-fn turn_of(alloc: Global, pc: u64, a0: u64, memory: &mut Halves) -> (Option<Turned>, u64, u64) {
-    let mut hart = hart_at(alloc, pc, a0);
-    let turned = take_turn(&mut hart, memory);
+/// Turns of a hart, what came of the last one, and where the hart is then.
+struct Row {
+    code: u64,
+    data: u64,
+    role: Role,
+    pc: u64,
+    a0: u64,
+    turns: u32,
+    turned: Turned,
+    pc_after: u64,
+    a0_after: u64,
+}
+
+/// addi a7, x0, 93; ecall
+const EXIT: u64 = 0x0000_0073_05d0_0893;
+/// addi a7, x0, 64; ecall
+const WRITE: u64 = 0x0000_0073_0400_0893;
+/// sd zero, 0(a0); ld a0, 0(a0)
+const STORE: u64 = 0x0005_3503_0005_3023;
+
+const ROWS: [Row; 10] = [
+    Row {
+        code: EXIT,
+        data: 0,
+        role: Role::Rw,
+        pc: 0x1_1000,
+        a0: 7,
+        turns: 2,
+        turned: Turned::Ends(HartEnd::Exit(7)),
+        pc_after: 0x1_1004,
+        a0_after: 7,
+    },
+    // An ecall without a number is none that there is.
+    Row {
+        code: EXIT,
+        data: 0,
+        role: Role::Rw,
+        pc: 0x1_1004,
+        a0: 7,
+        turns: 1,
+        turned: Turned::Over,
+        pc_after: 0x1_1008,
+        a0_after: 0xffff_ffff_ffff_ffda,
+    },
+    // A write of no bytes, and one to no file that there is.
+    Row {
+        code: WRITE,
+        data: 0,
+        role: Role::Rw,
+        pc: 0x1_1000,
+        a0: 1,
+        turns: 2,
+        turned: Turned::Over,
+        pc_after: 0x1_1008,
+        a0_after: 0,
+    },
+    Row {
+        code: WRITE,
+        data: 0,
+        role: Role::Rw,
+        pc: 0x1_1000,
+        a0: 3,
+        turns: 2,
+        turned: Turned::Over,
+        pc_after: 0x1_1008,
+        a0_after: 0xffff_ffff_ffff_fff7,
+    },
+    // A slot is stored to, read, and run.
+    Row {
+        code: STORE,
+        data: 0x1_1000,
+        role: Role::Slot,
+        pc: 0x1_1000,
+        a0: 0x2_0010,
+        turns: 1,
+        turned: Turned::Ends(HartEnd::SlotStore(0x1_1000, 0x2_0010)),
+        pc_after: 0x1_1000,
+        a0_after: 0x2_0010,
+    },
+    Row {
+        code: STORE,
+        data: 0x1_1000,
+        role: Role::Slot,
+        pc: 0x1_1004,
+        a0: 0x2_0010,
+        turns: 1,
+        turned: Turned::Over,
+        pc_after: 0x1_1008,
+        a0_after: 0x1_1000,
+    },
+    Row {
+        code: STORE,
+        data: 0x1_1000,
+        role: Role::Slot,
+        pc: 0x2_0010,
+        a0: 0,
+        turns: 1,
+        turned: Turned::Ends(HartEnd::NotMapped(0x2_0010, 0x2_0010)),
+        pc_after: 0x2_0010,
+        a0_after: 0,
+    },
+    Row {
+        code: STORE,
+        data: 0,
+        role: Role::Rw,
+        pc: 0x1_1000,
+        a0: 0x2_0011,
+        turns: 1,
+        turned: Turned::Ends(HartEnd::Misaligned(0x1_1000, 0x2_0011)),
+        pc_after: 0x1_1000,
+        a0_after: 0x2_0011,
+    },
+    // dlopen's name, and none that can be read.
+    Row {
+        code: STORE,
+        data: 0x6762_696c_0000_0000,
+        role: Role::Ro,
+        pc: 0x80_f010,
+        a0: 0x2_0004,
+        turns: 1,
+        turned: Turned::Over,
+        pc_after: 0x80_f010,
+        a0_after: 0x2_0004,
+    },
+    Row {
+        code: STORE,
+        data: 0,
+        role: Role::None,
+        pc: 0x80_f010,
+        a0: 0x2_0004,
+        turns: 1,
+        turned: Turned::Ends(HartEnd::NotMapped(0x80_f010, 0x2_0004)),
+        pc_after: 0x80_f010,
+        a0_after: 0x2_0004,
+    },
+];
+
+/// What came of the last of a row's turns, and the hart then.
+fn turned(alloc: Global, row: &Row) -> (Option<Turned>, u64, u64) {
+    let mut memory = memory(row.code, row.data, row.role);
+    let mut hart = hart_at(alloc, row.pc, row.a0);
+    let mut turned = None;
+    for _ in 0..row.turns {
+        turned = take_turn(&mut hart, &mut memory);
+    }
     let registers = hart.registers();
     (turned, registers.pc, registers.x[10])
 }
 
 #[test]
-fn instructions_and_ecalls(rt: HostRuntime) -> Result<(), Fail> {
-    // addi a7, x0, 93; ecall
-    let mut exits = memory(0x0000_0073_05d0_0893, 0, Role::Rw);
-    let mut hart = hart_at(rt.alloc(), 0x1_1000, 7);
-    assert_eq!(rt; take_turn(&mut hart, &mut exits), Some(Turned::Over));
-    assert_eq!(rt;
-        take_turn(&mut hart, &mut exits),
-        Some(Turned::Ends(HartEnd::Exit(7)))
-    );
-
-    // An ecall without a number is none that there is.
-    let no_call = Some(Turned::Over);
-    assert_eq!(rt;
-        turn_of(rt.alloc(), 0x1_1004, 7, &mut exits),
-        (no_call, 0x1_1008, 38u64.wrapping_neg())
-    );
-
-    // sd zero, 0(a0), to a slot; what is read of a slot; an instruction in one
-    let mut stores = memory(0x0005_3503_0005_3023, 0x1_1000, Role::Slot);
-    let stored = Some(Turned::Ends(HartEnd::SlotStore(0x1_1000, 0x2_0010)));
-    assert_eq!(rt;
-        turn_of(rt.alloc(), 0x1_1000, 0x2_0010, &mut stores),
-        (stored, 0x1_1000, 0x2_0010)
-    );
-    let read = Some(Turned::Over);
-    assert_eq!(rt;
-        turn_of(rt.alloc(), 0x1_1004, 0x2_0010, &mut stores),
-        (read, 0x1_1008, 0x1_1000)
-    );
-    let fetched = Some(Turned::Ends(HartEnd::NotMapped(0x2_0010, 0x2_0010)));
-    assert_eq!(rt;
-        turn_of(rt.alloc(), 0x2_0010, 0, &mut stores),
-        (fetched, 0x2_0010, 0)
-    );
-    let odd = Some(Turned::Ends(HartEnd::Misaligned(0x1_1000, 0x2_0011)));
-    assert_eq!(rt;
-        turn_of(rt.alloc(), 0x1_1000, 0x2_0011, &mut stores),
-        (odd, 0x1_1000, 0x2_0011)
-    );
+fn single_turns(rt: HostRuntime) -> Result<(), Fail> {
+    for row in &ROWS {
+        let (came, pc, a0) = turned(rt.alloc(), row);
+        assert_eq!(rt; came, Some(row.turned));
+        assert_eq!(rt; (pc, a0), (row.pc_after, row.a0_after));
+    }
     Ok(())
 }
 
@@ -138,9 +246,6 @@ fn names_and_texts(rt: HostRuntime) -> Result<(), Fail> {
     let mut inside = hart_at(rt.alloc(), 0x80_f010, 0x2_0004);
     assert_eq!(rt; take_turn(&mut inside, &mut halves), Some(Turned::Over));
     assert!(rt; copies(&inside, 0x2_0004, b"libg"));
-    let mut nothing = memory(0, 0, Role::None);
-    let unread = Some(Turned::Ends(HartEnd::NotMapped(0x80_f010, 0x2_0008)));
-    assert_eq!(rt; take_turn(&mut inside, &mut nothing), unread);
 
     // dlerror's text
     let mut stack = memory(0, 0, Role::Rw);
