@@ -26,9 +26,10 @@ use std::alloc::{AllocError, Global};
 const NEW_NAMESPACE: u64 = u64::MAX;
 
 /// Opens an object by its name, with all that it needs, in the namespace of the caller; where there is no name
-/// it opens the program (dlopen(3)). Startup is over. Where objects are loaded, the hart is to run their
-/// constructors; where another hart starts or closes an object that is found, it is to try again. The
-/// library's counts show which reads failed, and which paths were missed.
+/// it opens the program, of the base alone (dlopen(3)). Startup is over. Where objects are loaded, the hart is to
+/// run their constructors; with RTLD_NOLOAD an object that isn't there answers 0; where another hart starts or
+/// closes an object that is found, the hart is to try again. The library's counts show that a read failed, and
+/// that paths were missed.
 pub fn dlopen<L: Library>(
     alloc: Global,
     state: &mut LinkState,
@@ -57,7 +58,7 @@ pub fn dlopen<L: Library>(
     open(alloc, state, hart, ns, name, flags, folders, library).unwrap_or(Served::Memory)
 }
 
-/// The same in the namespace with a number, or in a new one (dlmopen(3)).
+/// Opens an object as [`dlopen`] does, in the namespace with a number, or in a new one (dlmopen(3)).
 pub fn dlmopen<L: Library>(
     alloc: Global,
     state: &mut LinkState,

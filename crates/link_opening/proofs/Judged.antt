@@ -12,14 +12,14 @@ use Rattle.link_history.specs.Opening.{IsRefused}
 use Rattle.link_history.specs.Setting.{Setting}
 use Rattle.link_history.specs.State.{State}
 use Rattle.link_service.specs.Laws.{RefusesAsk, flags, full, long, space}
-use Rattle.opening_plan.specs.Planned.{NeedsNoFile}
+use Rattle.opening_plan.specs.Planned.{ShowsInNoCount}
 use Rattle.opening_plan.specs.declared.planning.Unopened.TheVariants.{Refused}
 
 pub refused_asking : RefusedByAsking → (w : Setting) (s : State) (hart : ℕ) (ask : OpenAsk) (fault : DlFault) → is_startup s ≡ false → RefusesAsk s ask fault
     → ((name : List ℕ) → ask.name ≡ Some name → length name ≤ 256) → IsRefused w s hart ask fault
 refused_asking law w s hart ask fault started h known = record { may = λ first. absurd (true≢false (sym first ∙ started)); refuses = law w s hart ask fault h known }
 
-pub asking_needs_none : (s : State) (ask : OpenAsk) (fault : DlFault) → RefusesAsk s ask fault → NeedsNoFile (Refused fault)
+pub asking_needs_none : (s : State) (ask : OpenAsk) (fault : DlFault) → RefusesAsk s ask fault → ShowsInNoCount (Refused fault)
 asking_needs_none s ask _ (long h) = tt
 asking_needs_none s ask _ (flags h k) = tt
 asking_needs_none s ask _ (space number h k bad) = tt

@@ -24,8 +24,8 @@ const NAMESPACES: u32 = 16;
 ///
 /// # Errors
 ///
-/// That the name is too long, that the flags are none, that there is no such namespace, or that there are as
-/// many as there may be: the first of these that holds.
+/// That the name is too long, that the flags aren't those of an opening, that there is no such namespace, or that
+/// there are as many as there may be: the first of these that holds.
 pub fn judge(state: &LinkState, ask: &OpenAsk) -> Result<NsId, DlFault>
     requires started { is_startup (after state.now.events) ≡ false }
     ensures asked { IfOk result (λ id. IsAsked (after state.now.events) ask.now id) }

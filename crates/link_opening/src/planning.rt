@@ -51,7 +51,7 @@ pub struct OpenPlan {
 /// # Errors
 ///
 /// The first refusal, in the order in which the history has them; that the opening has to wait for another
-/// hart; or want of memory. The library's counts show which reads failed, and which paths were missed.
+/// hart; or want of memory. The library's counts show that a read failed, and that paths were missed.
 pub fn plan<L: Library>(
     alloc: Global,
     state: &LinkState,

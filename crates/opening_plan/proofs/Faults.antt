@@ -20,11 +20,11 @@ use Rattle.object_choices.specs.Choices.{IsFaultOf}
 use Rattle.object_choices.specs.Sight.{Shows}
 use Rattle.object_choices.specs.declared.choosing.ChoiceFault.{ChoiceFault}
 use Rattle.object_choices.specs.declared.choosing.ChoiceFault.TheVariants as choosing
-use Rattle.opening_plan.specs.Planned.{NeedsNoFile, choice_fault}
+use Rattle.opening_plan.specs.Planned.{ShowsInNoCount, choice_fault}
 use Rattle.opening_plan.specs.declared.planning.Unopened.TheVariants.{Refused}
 
 abbrev IsOfNone : DlFault → Type 0
-IsOfNone fault = NeedsNoFile (Refused fault)
+IsOfNone fault = ShowsInNoCount (Refused fault)
 
 of_some : (a fault : DlFault) → IsOfNone a → Some a ≡ Some fault → IsOfNone fault
 of_some a fault p e = let same : a ≡ fault = cc in subst IsOfNone same p
@@ -67,7 +67,7 @@ object_is s ns now o fault is = by (first_fault (reloc_fault s ns o) o.object.re
     by (Some a) e at = of_some a fault (first_is (reloc_fault s ns o) (reloc_is s ns o) o.object.relocs a e) at
     by None e at = first_is (slot_fault s ns now o) (slot_is s ns now o) o.object.plt_relocs fault at
 
-needs_no_file : (s : State) (ns : Seen) (now : Bool) (added : List Loaded) (fault : DlFault) → relocation_fault s ns now added ≡ Some fault → NeedsNoFile (Refused fault)
+needs_no_file : (s : State) (ns : Seen) (now : Bool) (added : List Loaded) (fault : DlFault) → relocation_fault s ns now added ≡ Some fault → ShowsInNoCount (Refused fault)
 unfolding relocation_fault
 needs_no_file s ns now added fault is = first_is (object_fault s ns now) (object_is s ns now) added fault is
 
@@ -80,6 +80,6 @@ shows_it : (ns : Seen) (modules : List Module) → Shows (state_with ns modules)
 shows_it ns modules = record { objects = λ d o is. ap (λ (os : List Loaded). with_serial os d) (append-nil ns.objects) ∙ is; modules = refl }
 
 pub choice_needs_none : (ns : Seen) (now : Bool) (added : List Loaded) (modules : List Module) (fault : ChoiceFault)
-    → ((s : State) → Shows s ns (map place_of modules) → IsFaultOf (relocation_fault s ns now added) fault) → NeedsNoFile (choice_fault fault)
+    → ((s : State) → Shows s ns (map place_of modules) → IsFaultOf (relocation_fault s ns now added) fault) → ShowsInNoCount (choice_fault fault)
 choice_needs_none ns now added modules (choosing.Refused fault) is = needs_no_file (state_with ns modules) ns now added fault (is (state_with ns modules) (shows_it ns modules))
 choice_needs_none ns now added modules choosing.Memory is = tt

@@ -55,11 +55,11 @@ abbrev pub refusal_in : {X : Type 0} → Result X Unopened → Option DlFault
 refusal_in (Ok plan) = None
 refusal_in (Err why) = fault_in why
 
--- no file is the cause of it
-abbrev pub NeedsNoFile : Unopened → Type 0
-NeedsNoFile (unopened.Refused (dl.ReadFault path)) = ⊥
-NeedsNoFile (unopened.Refused (dl.MissingLibrary name)) = ⊥
-NeedsNoFile why = Unit {0}
+-- neither a failed read nor a missing file is the cause of it
+abbrev pub ShowsInNoCount : Unopened → Type 0
+ShowsInNoCount (unopened.Refused (dl.ReadFault path)) = ⊥
+ShowsInNoCount (unopened.Refused (dl.MissingLibrary name)) = ⊥
+ShowsInNoCount why = Unit {0}
 
 -- why nothing is opened, where nothing is found, has places or is chosen
 abbrev pub load_fault : LoadFault → Unopened

@@ -10,7 +10,7 @@ ghost use Rattle.link_history.specs.Opening.{unplaced};
 ghost use Rattle.link_history.specs.Setting.{Setting};
 ghost use Rattle.opening_load.specs.Finding.{FindsAll, WasLibrary};
 ghost use Rattle.opening_plan.specs.Before.{HasObjects, IsBefore, IsLent, WasRead};
-ghost use Rattle.opening_plan.specs.Planned.{IsPlanned, IsUnopened, PlansNew, NeedsNoFile, choice_fault, load_fault, objects_of, place_fault, refusal_in};
+ghost use Rattle.opening_plan.specs.Planned.{IsPlanned, IsUnopened, PlansNew, ShowsInNoCount, choice_fault, load_fault, objects_of, place_fault, refusal_in};
 ghost use Rattle.opening_plan.specs.declared.planning.Unopened.TheVariants.{Memory, Refused};
 
 use crate::before::Before;
@@ -117,7 +117,7 @@ impl From<ChoiceFault> for Unopened {
 /// # Errors
 ///
 /// The first refusal, in the order in which the history has them; that the opening has to wait for another
-/// hart; or want of memory. The library's counts show which reads failed, and which paths were missed.
+/// hart; or want of memory. The library's counts show that a read failed, and that paths were missed.
 pub fn plan_named<L: Library>(
     alloc: Global,
     before: &Before,
@@ -176,7 +176,7 @@ pub(crate) fn place_new(
         → FindsAll w (after past) hart ask.now name id plan.root plan.added → IfOk result (PlansNew w (after past) hart ask.now name id) }
     ensures unopened { (w : Setting) (past : List Event) (hart id : ℕ) (name : List ℕ) → IsLent w past ask.now name id harts before.now
         → FindsAll w (after past) hart ask.now name id plan.root plan.added → IfErr result (IsUnopened w (after past) hart ask.now) }
-    ensures no_file { IfErr result NeedsNoFile }
+    ensures no_file { IfErr result ShowsInNoCount }
 {
     accepted_object();
     new_objects_stand_behind();

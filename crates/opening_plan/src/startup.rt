@@ -24,7 +24,7 @@ use std::alloc::{AllocError, Global};
 /// # Errors
 ///
 /// The first refusal, in the order in which the history has them, or want of memory. Nobody is there to wait
-/// for. The library's counts show which reads failed, and which paths were missed.
+/// for. The library's counts show that a read failed, and that paths were missed.
 pub fn plan_program<L: Library>(
     alloc: Global,
     before: &Before,

@@ -8,7 +8,7 @@ use Rattle.link_history.specs.Flags.{is_now}
 use Rattle.link_history.specs.Opening.{unplaced}
 use Rattle.load_choices.specs.Choices.{choices_of}
 use Rattle.opening_plan.specs.Before.{WasRead, seen_with}
-use Rattle.opening_plan.specs.Planned.{IsUnopened, NeedsNoFile, PlansNew, choice_fault, place_fault}
+use Rattle.opening_plan.specs.Planned.{IsUnopened, ShowsInNoCount, PlansNew, choice_fault, place_fault}
 use Rattle.opening_plan.proofs.Faults.{choice_needs_none}
 use Rattle.opening_plan.proofs.News.{still_was}
 use Rattle.opening_plan.proofs.Objects.{of_read}
@@ -53,7 +53,7 @@ returns-in_err-choices-clause-unopened c = λ w past hart id name is finds.
 
 pub returns-in_err-choices-clause-no_file : goal.returns-in_err-choices-clause-no_file
 returns-in_err-choices-clause-no_file c =
-    err_as c.from_residual-in_err-choices.result (choice_fault c.in_err-choices.field-0.0) NeedsNoFile c.from_residual-in_err-choices.ensures.1
+    err_as c.from_residual-in_err-choices.result (choice_fault c.in_err-choices.field-0.0) ShowsInNoCount c.from_residual-in_err-choices.ensures.1
     (choice_needs_none (seen_with c.args.before.now c.args.ask.now c.args.plan.root c.as_slice.result.now) (c.args.before.now.binds_now || is_now c.args.ask.now.flags) c.as_slice.result.now
     c.as_slice-2.result.now c.in_err-choices.field-0.0 c.in_err-choices.ensures.refused)
 
