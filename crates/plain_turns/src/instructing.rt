@@ -10,7 +10,8 @@ ghost use Rattle.hart_moves.specs.Moves.{Refuses, Stops, Traps, is_store, trap_o
 ghost use Rattle.plain_turns.specs.Turns.{Turns, TurnsTo, Watches};
 
 use crate::ending::{end_with, role_end};
-use crate::{Trap, Turned, Watched, trap_of};
+use crate::watched::Watched;
+use crate::{Trap, Turned, trap_of};
 use hart_seat::LinkedHart;
 use link_event::HartEnd;
 use rv_hart::{Bus, BusFault, Stop};

@@ -21,4 +21,3 @@ pub use storing::store;
 pub use trap::{Trap, trap_of};
 pub use turned::Turned;
 pub use turns::{finish, take_turn};
-pub use watched::Watched;

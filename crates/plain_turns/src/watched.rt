@@ -9,21 +9,21 @@ use rv_isa::AmoOp;
 
 /// A bus, and whether it was asked to store something.
 #[derive(Drop)]
-pub struct Watched<'a, B: Bus> {
+pub(crate) struct Watched<'a, B: Bus> {
     bus: &'a mut B,
     stores: bool,
 }
 
 impl<'a, B: Bus> Watched<'a, B> {
     /// A bus that wasn't asked yet.
-    pub fn new(bus: &'a mut B) -> Self
+    pub(crate) fn new(bus: &'a mut B) -> Self
         ensures { (result.bus ≡ bus.entry) × (result.stores ≡ false) }
     {
         Watched { bus, stores: false }
     }
 
     /// Whether it was asked to store something.
-    pub fn stores(&self) -> bool
+    pub(crate) fn stores(&self) -> bool
         ensures { result ≡ self.now.stores }
     {
         self.stores
