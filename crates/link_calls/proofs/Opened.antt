@@ -52,6 +52,7 @@ use Rattle.linker_lists.specs.Events.{refusal}
 use Rattle.load_choices.specs.Choices.{choices_of}
 use Rattle.object_functions.specs.Rooms.{AreInRow, CanReadAll}
 use Rattle.opening_images.specs.Relocated.{AreChoices}
+use Rattle.opening_plan.specs.Lemmas.Counts.{counts_none}
 use Rattle.opening_plan.specs.declared.planning.NewObjects.{NewObjects}
 use Rattle.opening_plan.specs.declared.planning.Planned.TheVariants as plans
 use Rattle.scope_rule.specs.Seen.{Seen}
@@ -266,13 +267,10 @@ not_opened (Err e) old new folders files hart ask fault refuses is noted = is
 
 -- ---- what the library's counts show
 
-pub shows_none : (Are : List ℕ → List (List ℕ) → Type 0) (failures failures' misses misses' : ℕ) → ShowsInCounts Are None failures failures' misses misses'
-shows_none Are failures failures' misses misses' = record { failed = λ path is. absurd cc; missed = λ name is. absurd cc }
-
 pub unrefused_shows : {E : Type 0} (r : Result Served E) (Are : List ℕ → List (List ℕ) → Type 0) (failures failures' misses misses' : ℕ) → IfOk r (λ came. refusal_of came ≡ None)
     → IfOk r (λ came. ShowsInCounts Are (refusal_of came) failures failures' misses misses')
 unrefused_shows (Ok came) Are failures failures' misses misses' none =
-    subst (λ (f : Option DlFault). ShowsInCounts Are f failures failures' misses misses') (sym none) (shows_none Are failures failures' misses misses')
+    subst (λ (f : Option DlFault). ShowsInCounts Are f failures failures' misses misses') (sym none) (counts_none Are failures failures' misses misses')
 unrefused_shows (Err e) Are failures failures' misses misses' none = none
 
 pub refused_shows : {E : Type 0} (r : Result Served E) (Are : List ℕ → List (List ℕ) → Type 0) (fault : DlFault) (failures failures' misses misses' : ℕ)

@@ -28,7 +28,7 @@ use Rattle.opening_plan.specs.declared.before.Before.{Before}
 use Rattle.opening_plan.proofs.Found.{stopped_so}
 use Rattle.opening_plan.proofs.Program.{is_named, program_finds, program_stops}
 
-nothing_yet : after [] ≡ start
+pub nothing_yet : after [] ≡ start
 unfolding after_from
 nothing_yet = refl
 

@@ -1,11 +1,13 @@
 //! Planning startup.
 
-ghost use Rattle.std.specs.Prelude.{◌≡◌, ◌≤◌, [], IfErr, IfOk};
+ghost use Rattle.std.specs.Prelude.{◌≡◌, ◌≢◌, ◌≤◌, [], IfErr, IfOk};
+ghost use Rattle.ld_base.specs.declared.fault.Shown.{Shown};
 ghost use Rattle.call_laws.specs.Counts.{ArePathsAtStart, ShowsInCounts};
 ghost use Rattle.link_history.specs.After.{after};
 ghost use Rattle.link_service.specs.Startup.{harts_of, program_ask};
 ghost use Rattle.opening_plan.specs.Planned.{IsUnopened, PlansNew, refusal_in};
 ghost use Rattle.opening_plan.specs.Startup.{IsFirst, program_load, run_of};
+ghost use Rattle.opening_plan.specs.declared.planning.Unopened.TheVariants.{Wait};
 
 use crate::before::Before;
 use crate::planning::{NewObjects, Unopened, place_new};
@@ -15,6 +17,7 @@ use link_event::OpenAsk;
 use link_served::Setup;
 use load_order::{LoadAsk, plan_load};
 use record_copies::Copied;
+use scope_rule::never_waits;
 use std::alloc::{AllocError, Global};
 
 /// Plans the opening of a run's program, for so many harts: finds it with all that it needs, gives the objects
@@ -38,12 +41,14 @@ pub fn plan_program<L: Library>(
     requires ask { ask.now ≡ program_ask setup.now }
     ensures planned { IfOk result (PlansNew (run_of setup.now (L.files library.old)) (after []) 0 ask.now setup.now.program 0) }
     ensures unopened { IfErr result (IsUnopened (run_of setup.now (L.files library.old)) (after []) 0 ask.now) }
+    ensures alone { IfErr result (λ why. (shown : Shown) → why ≢ Wait shown) }
     ensures counts { ShowsInCounts (ArePathsAtStart setup.now.folders setup.now.program) (refusal_in result)
         (L.faults library.old) (L.faults library.new) (L.misses library.old) (L.misses library.new) }
     ensures files { L.files library.new ≡ L.files library.old }
     ensures faults { L.faults library.old ≤ L.faults library.new }
     ensures misses { L.misses library.old ≤ L.misses library.new }
 {
+    never_waits();
     let load = program_load(alloc, before.next, setup)?;
     let plan = plan_load(alloc, before.namespace, &load, library)?;
     place_new(alloc, before, Some(harts), ask, plan)

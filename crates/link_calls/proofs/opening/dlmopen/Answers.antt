@@ -5,7 +5,8 @@ use Rattle.call_laws.specs.Counts.{ArePaths, ShowsInCounts}
 use Rattle.link_history.specs.After.{after}
 use Rattle.link_service.specs.Call.{asked_namespace, dlmopen, opens}
 use Rattle.link_calls.specs.Opening.{OpensIn, asked}
-use Rattle.link_calls.proofs.Opened.{shows_none, unopened_none, whole_of}
+use Rattle.opening_plan.specs.Lemmas.Counts.{counts_none}
+use Rattle.link_calls.proofs.Opened.{unopened_none, whole_of}
 use Rattle.link_calls.proofs.Refused.{answered}
 use Rattle.link_calls.proofs.opening.dlmopen.Goals as goal
 
@@ -24,7 +25,7 @@ returns-clause-counts g c =
     answered c.open.result c.unwrap_or.result c.args.state.now c.open.new.state
     (λ came. ShowsInCounts (ArePaths c.args.folders.now) (refusal_of came) (g.L.Library.faults c.args.library.now) (g.L.Library.faults c.open.new.library) (g.L.Library.misses c.args.library.now) (g.L.Library.misses c.open.new.library))
     c.unwrap_or.ensures c.open.ensures.counts c.open.ensures.err
-    (λ same. shows_none (ArePaths c.args.folders.now) (g.L.Library.faults c.args.library.now) (g.L.Library.faults c.open.new.library) (g.L.Library.misses c.args.library.now) (g.L.Library.misses c.open.new.library))
+    (λ same. counts_none (ArePaths c.args.folders.now) (g.L.Library.faults c.args.library.now) (g.L.Library.faults c.open.new.library) (g.L.Library.misses c.args.library.now) (g.L.Library.misses c.open.new.library))
 
 pub returns-clause-whole : goal.returns-clause-whole
 returns-clause-whole g c =

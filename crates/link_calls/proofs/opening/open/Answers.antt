@@ -10,7 +10,8 @@ use Rattle.link_service.specs.Call.{opens}
 use Rattle.opening_plan.specs.Planned.{fault_in}
 use Rattle.opening_plan.specs.declared.planning.Unopened.{Unopened}
 use Rattle.link_calls.specs.Opening.{OpensIn}
-use Rattle.link_calls.proofs.Opened.{few_known, may_plan, may_refuse_open, not_opened, refused_shows, shows_none, unrefused_shows, waits_so}
+use Rattle.opening_plan.specs.Lemmas.Counts.{counts_none}
+use Rattle.link_calls.proofs.Opened.{few_known, may_plan, may_refuse_open, not_opened, refused_shows, unrefused_shows, waits_so}
 use Rattle.link_calls.proofs.opening.open.Goals as goal
 
 pub plan-requires : goal.plan-requires
@@ -66,7 +67,7 @@ returns-in-Err-Refused-clause-counts g c =
 
 pub returns-in-Err-Wait-clause-counts : goal.returns-in-Err-Wait-clause-counts
 returns-in-Err-Wait-clause-counts g c =
-    shows_none (ArePaths c.args.folders.now) (g.L.Library.faults c.args.library.now) (g.L.Library.faults c.plan.new.library) (g.L.Library.misses c.args.library.now)
+    counts_none (ArePaths c.args.folders.now) (g.L.Library.faults c.args.library.now) (g.L.Library.faults c.plan.new.library) (g.L.Library.misses c.args.library.now)
     (g.L.Library.misses c.plan.new.library)
 
 pub returns-in-Ok-clause-unread : goal.returns-in-Ok-clause-unread

@@ -4,6 +4,7 @@ use Rattle.ld_base.specs.declared.fault.DlFault.TheVariants.{MissingLibrary}
 use Rattle.link_history.specs.After.{after}
 use Rattle.opening_plan.specs.Planned.{IsUnopened, load_fault}
 use Rattle.opening_plan.specs.Startup.{run_of}
+use Rattle.opening_plan.proofs.Alone.{all_alone}
 use Rattle.opening_plan.proofs.Found.{counts_found}
 use Rattle.opening_plan.proofs.Program.{missed_at_start, were_read}
 use Rattle.opening_plan.proofs.Results.{counts_as, err_as}
@@ -17,6 +18,15 @@ returns-in_err-plan-clause-unopened g c =
     (stops_first c.args.setup.now (g.L.Library.files c.args.library.now) c.args.ask.now c.in_ok-load.load c.args.before.now (g.L.Library.misses c.args.library.now)
     (g.L.Library.misses c.plan_load.new.library) c.in_err-plan.field-0.0 c.requires.first c.requires.ask c.in_ok-load.ensures
     (λ why is. c.in_err-plan.ensures.refused why (ap (λ e. Err e) is)) (λ shown is. c.in_err-plan.ensures.waits shown (ap (λ e. Err e) is)))
+
+pub returns-in_err-plan-clause-alone : goal.returns-in_err-plan-clause-alone
+returns-in_err-plan-clause-alone g c =
+    all_alone c.never_waits.ensures (run_of c.args.setup.now (g.L.Library.files c.args.library.now)) c.args.ask.now c.from_residual-in_err-plan.result
+    (err_as c.from_residual-in_err-plan.result (load_fault c.in_err-plan.field-0.0) (IsUnopened (run_of c.args.setup.now (g.L.Library.files c.args.library.now)) (after []) 0 c.args.ask.now)
+    c.from_residual-in_err-plan.ensures.1
+    (stops_first c.args.setup.now (g.L.Library.files c.args.library.now) c.args.ask.now c.in_ok-load.load c.args.before.now (g.L.Library.misses c.args.library.now)
+    (g.L.Library.misses c.plan_load.new.library) c.in_err-plan.field-0.0 c.requires.first c.requires.ask c.in_ok-load.ensures
+    (λ why is. c.in_err-plan.ensures.refused why (ap (λ e. Err e) is)) (λ shown is. c.in_err-plan.ensures.waits shown (ap (λ e. Err e) is))))
 
 pub returns-in_err-plan-clause-counts : goal.returns-in_err-plan-clause-counts
 returns-in_err-plan-clause-counts g c =
@@ -48,3 +58,11 @@ returns-clause-unopened g c =
     (lent_first c.args.setup.now (g.L.Library.files c.args.library.now) c.args.ask.now c.args.harts c.args.before.now c.requires.first c.requires.ask c.requires.harts)
     (finds_first c.args.setup.now (g.L.Library.files c.args.library.now) c.args.ask.now c.in_ok-load.load c.args.before.now c.in_ok-plan.plan c.requires.first c.requires.ask
     c.in_ok-load.ensures c.in_ok-plan.ensures.plan)
+
+pub returns-clause-alone : goal.returns-clause-alone
+returns-clause-alone g c =
+    all_alone c.never_waits.ensures (run_of c.args.setup.now (g.L.Library.files c.args.library.now)) c.args.ask.now c.place_new.result
+    (c.place_new.ensures.unopened (run_of c.args.setup.now (g.L.Library.files c.args.library.now)) [] 0 0 c.args.setup.now.program
+    (lent_first c.args.setup.now (g.L.Library.files c.args.library.now) c.args.ask.now c.args.harts c.args.before.now c.requires.first c.requires.ask c.requires.harts)
+    (finds_first c.args.setup.now (g.L.Library.files c.args.library.now) c.args.ask.now c.in_ok-load.load c.args.before.now c.in_ok-plan.plan c.requires.first c.requires.ask
+    c.in_ok-load.ensures c.in_ok-plan.ensures.plan))
