@@ -20,5 +20,5 @@ pub use due::{Call, Copying, Due, Naming, Offered, first_left};
 pub use number::number_at;
 pub use passed::PassedBytes;
 pub use queue::{FunctionQueue, Purpose, passed_objects};
-pub use registers::{NEXT_FUNCTION, enter_function, return_with, start};
+pub use registers::{A0, A1, A2, NEXT_FUNCTION, RA, enter_function, return_with, start};
 pub use service::{Service, service_at};

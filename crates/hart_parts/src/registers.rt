@@ -11,13 +11,14 @@ use rv_hart::Hart;
 /// Where a constructor or a destructor returns to.
 pub const NEXT_FUNCTION: u64 = 0x80_f080;
 
-const RA: usize = 1;
-
-const A0: usize = 10;
-
-const A1: usize = 11;
-
-const A2: usize = 12;
+/// The register of the return address (psABI, "Integer Register Convention").
+pub const RA: usize = 1;
+/// The register of the first argument, and of what a call returns.
+pub const A0: usize = 10;
+/// That of the second argument.
+pub const A1: usize = 11;
+/// That of the third argument.
+pub const A2: usize = 12;
 
 /// A hart with the registers with which it starts.
 pub fn start(entry: HartEntry) -> Hart

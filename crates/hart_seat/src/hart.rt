@@ -23,18 +23,10 @@ use rv_hart::{Bus, Hart, Stop};
 use std::alloc::{AllocError, Global};
 use std::marker::Model;
 
-const RA: usize = 1;
-
 /// Where an entry of the procedure linkage table passes the serial of its slot's object: t0.
 const OWNER: usize = 5;
 /// Where it passes eight times the slot's number: t1.
 const EIGHTS: usize = 6;
-
-const A0: usize = 10;
-
-const A1: usize = 11;
-
-const A2: usize = 12;
 
 /// A hart that runs with its linker. Contracts see the hart, and the room that is kept for functions
 /// that the linker may have it run.

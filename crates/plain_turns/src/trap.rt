@@ -5,12 +5,10 @@ ghost use Rattle.rv_hart.specs.Registers.{registers_of};
 ghost use Rattle.hart_moves.specs.Moves.{trap_of, write_trap};
 ghost use Rattle.plain_turns.specs.Turns.{trap_in};
 
+use hart_parts::{A0, A2};
 use rv_hart::Hart;
 
-const A0: usize = 10;
-
-const A2: usize = 12;
-
+/// Where an ecall passes its number: a7.
 const A7: usize = 17;
 
 /// The numbers of exit and of write.

@@ -10,9 +10,8 @@ ghost use Rattle.hart_parts.specs.Views.{closing_back, purpose_of};
 ghost use Rattle.hart_seat.specs.Table.{closing_return};
 
 use crate::LinkedHart;
-use crate::hart::RA;
 use crate::phase::Phase;
-use hart_parts::{Purpose, return_with};
+use hart_parts::{Purpose, RA, return_with};
 use ld_base::Name;
 
 impl LinkedHart {

@@ -9,9 +9,8 @@ ghost use Rattle.hart_seat.specs.Copied.{begun, copied_phase, more_bytes};
 ghost use Rattle.hart_seat.specs.Phases.{IsInside, phase_of};
 
 use crate::LinkedHart;
-use crate::hart::{A0, A1, A2};
 use crate::phase::Phase;
-use hart_parts::{Naming, PassedBytes, Service, first_left, service_at};
+use hart_parts::{A0, A1, A2, Naming, PassedBytes, Service, first_left, service_at};
 
 /// How many bytes of a name, or of what is written, are copied at most.
 const MOST: usize = 256;

@@ -9,9 +9,8 @@ ghost use Rattle.hart_parts.specs.Views.{due_in, naming_of};
 ghost use Rattle.hart_parts.specs.Turns.{HasFuel, HasParts};
 
 use crate::LinkedHart;
-use crate::hart::{A0, A1, A2, RA};
 use crate::phase::{Phase, Resolving};
-use hart_parts::{Call, Copying, Due, Naming, number_at};
+use hart_parts::{A0, A1, A2, Call, Copying, Due, Naming, RA, number_at};
 
 /// The bytes of a module's number and an offset.
 const PAIR: usize = 16;

@@ -9,8 +9,8 @@ ghost use Rattle.hart_parts.specs.Views.{due_in, naming_of, service_of};
 ghost use Rattle.hart_parts.specs.Turns.{HasParts};
 
 use crate::LinkedHart;
-use crate::hart::{A0, A1, A2, EIGHTS, OWNER, RA};
-use hart_parts::{Call, Copying, Due, Naming, Service, service_at};
+use crate::hart::{EIGHTS, OWNER};
+use hart_parts::{A0, A1, A2, Call, Copying, Due, Naming, RA, Service, service_at};
 use link_event::HartEnd;
 
 impl LinkedHart {
