@@ -11,4 +11,5 @@ mod order;
 mod rooms;
 
 pub use kept::keep_only;
+pub use order::constructor_order;
 pub use rooms::ConstructorRooms;

@@ -15,7 +15,11 @@ use std::alloc::{AllocError, Global};
 const PROGRAM: u64 = 1;
 
 /// The order in which the constructors of new objects run, by what their names found.
-pub(crate) fn constructor_order(alloc: Global, added: &[Loaded]) -> Result<Vec<Serial>, AllocError>
+///
+/// # Errors
+///
+/// Want of memory.
+pub fn constructor_order(alloc: Global, added: &[Loaded]) -> Result<Vec<Serial>, AllocError>
     ensures { IfOk result (λ order. InitOrder (flat_map found_edges added.now) (program_last (Some 1) (map serial_of added.now)) order.items) }
 {
     let graph = Graph {
