@@ -36,7 +36,7 @@ use image_parts::ImageParts;
 use late_blocks::LateBlocks;
 use lawful_journal::LawfulJournal;
 use ld_base::{Bytes, DlFault, GrantNo, HartId, NsId, Serial};
-use link_event::{Addresses, Ask, Event, Granted, HartEnd, Journal};
+use link_event::{Addresses, Ask, Event, Granted, HartEnd, Journal, Range};
 use link_harts::{HartEnds, KeptFaults};
 use link_history::{
     edges_follow, events_are_owed, finalised_once, grants_are_tidy, images_are_found,
@@ -158,6 +158,13 @@ impl LinkState {
         ensures { result.now ≡ free_pages (after self.now.events).ranges }
     {
         self.reserved.regions()
+    }
+
+    /// The pages that are reserved, and what for.
+    pub fn ranges(&self) -> &[Range]
+        ensures { result.now ≡ (after self.now.events).ranges }
+    {
+        self.reserved.as_slice()
     }
 
     /// The modules of thread-local storage.
