@@ -1,0 +1,43 @@
+-- What guest memory gets of the events of a turn.
+use Rattle.std.specs.Prelude.{◌≡◌, ◌⊎◌, List, [], ◌∷◌}
+use Rattle.ld_base.specs.declared.linking.Loaded.{Loaded}
+use Rattle.link_event.specs.declared.event.Event.{Event}
+use Rattle.link_event.specs.declared.event.Range.{Range}
+use Rattle.link_history.specs.Changes.{reserved, taken}
+use Rattle.link_history.specs.State.{State}
+use Rattle.link_history.specs.Step.{step}
+use Rattle.link_served.specs.declared.installs.Installs.{Installs}
+use Rattle.link_service.specs.Served.{AreInstalls, InstallsNothing}
+use Rattle.turn_answers.specs.declared.answered.MemoryChange.{MemoryChange}
+use Rattle.turn_answers.specs.declared.answered.MemoryChange.TheVariants as change
+
+-- none of these events reserves pages or takes any away
+abbrev pub LeaveMemory : State → List Event → Type 0
+LeaveMemory s [] = Unit {0}
+LeaveMemory s (e ∷ rest) = (reserved s e ≡ []) × (taken s e ≡ []) × LeaveMemory (step s e) rest
+
+-- the first event reserves pages, of which these are the words, and those behind it leave memory
+pub record AreReserved (s : State) (events : List Event) (installs : Installs) : Type 0 where
+  pub first : Event
+  pub behind : List Event
+  pub are : events ≡ first ∷ behind
+  pub takes_none : taken s first ≡ []
+  pub added : List Loaded
+  pub installed : AreInstalls (step s first) added (reserved s first) installs
+  pub leave : LeaveMemory (step s first) behind
+
+-- the first event takes these pages away, and those behind it leave memory
+pub record AreTaken (s : State) (events : List Event) (ranges : List Range) : Type 0 where
+  pub first : Event
+  pub behind : List Event
+  pub are : events ≡ first ∷ behind
+  pub reserves_none : reserved s first ≡ []
+  pub takes : ranges ≡ taken s first
+  pub leave : LeaveMemory (step s first) behind
+
+-- these events come to this change of memory; `made` is what the state has made last, behind them
+abbrev pub Changes : State → List Event → (made : Installs) → MemoryChange → Type 0
+Changes s events made change.Nothing = LeaveMemory s events
+Changes s events made (change.Installs installs) = AreReserved s events installs
+Changes s events made change.Made = AreReserved s events made ⊎ (InstallsNothing made × LeaveMemory s events)
+Changes s events made (change.Removes ranges) = AreTaken s events ranges
