@@ -58,7 +58,7 @@ pub record IsNext (s : State) (object : ℕ) : Type 0 where
 mapped_from : (s : State) (o : Loaded) → Contains (mapped s) o → IsMapped s o.serial
 mapped_from s o there = let x = from_flat (λ ns. ns.objects) s.namespaces o there in record { namespace = x.0; object = o; there = x.1; inside = x.2; is = refl }
 
-is_next : (s : State) (object : ℕ) (rest : List ℕ) → all_finis s ≡ object ∷ rest → IsNext s object
+pub is_next : (s : State) (object : ℕ) (rest : List ℕ) → all_finis s ≡ object ∷ rest → IsNext s object
 is_next s object rest next =
     let kept = from_filter (is_one_of (map serial_of (mapped s))) (reverse (unfinished s)) object (subst (λ (os : List ℕ). Contains os object) (sym next) (here object rest)) in
     let part = from_filter (λ (o : ℕ). not (has s.finis o)) s.inits object (from_reverse (unfinished s) object kept.0) in
@@ -66,10 +66,10 @@ is_next s object rest next =
     record { mapped = subst (IsMapped s) of.2 (mapped_from s of.0 of.1); initialised = in_has s.inits object part.0; unfinished = not-true (has s.finis object) part.1 }
 
 -- since this moment, where every hart has ended by exit
-was_next : (w : Setting) (past : List Event) (object : ℕ) (rest : List ℕ) → IsTrue (have_all_exited w (after past)) → all_finis (after past) ≡ object ∷ rest → WasNext w past object
+pub was_next : (w : Setting) (past : List Event) (object : ℕ) (rest : List ℕ) → IsTrue (have_all_exited w (after past)) → all_finis (after past) ≡ object ∷ rest → WasNext w past object
 was_next w past object rest over next = record { before = past; since = []; are = sym (append-nil past); over = over; next = ap (λ (os : List ℕ). slice_get os 0) next }
 
-was_grows : (w : Setting) (past added : List Event) (object : ℕ) → WasNext w past object → WasNext w (past ++ added) object
+pub was_grows : (w : Setting) (past added : List Event) (object : ℕ) → WasNext w past object → WasNext w (past ++ added) object
 was_grows w past added object x = record {
   before = x.before;
   since = x.since ++ added;
@@ -106,7 +106,7 @@ inits_step s (events.Wrote hart bytes) o there = there
 inits_step s (events.Told hart fault) o there = there
 inits_step s (events.Ended hart reason) o there = there
 
-inits_kept : (past added : List Event) (o : ℕ) → Contains (after past).inits o → Contains (after (past ++ added)).inits o
+pub inits_kept : (past added : List Event) (o : ℕ) → Contains (after past).inits o → Contains (after (past ++ added)).inits o
 inits_kept past [] o there = subst (λ (es : List Event). Contains (after es).inits o) (sym (append-nil past)) there
 inits_kept past (e ∷ rest) o there =
     subst (λ (es : List Event). Contains (after es).inits o) (one_behind past e rest)
@@ -121,17 +121,17 @@ tail_is : {X : Type 0} (a b : X) (xs ys : List X) → a ∷ xs ≡ b ∷ ys → 
 tail_is a b xs ys e = let same : a ∷ xs ≡ b ∷ ys = e in cc
 
 -- the first frame is the last one, or stands above it
-data Top (above : List Frame) (last first : Frame) (below : List Frame) : Type 0 where
+pub data Top (above : List Frame) (last first : Frame) (below : List Frame) : Type 0 where
   is_last : above ≡ [] → last ≡ first → below ≡ [] → Top above last first below
   is_above : (rest : List Frame) → above ≡ first ∷ rest → below ≡ rest ++ last ∷ [] → Top above last first below
 
-top_of : (above : List Frame) (last first : Frame) (below : List Frame) → above ++ last ∷ [] ≡ first ∷ below → Top above last first below
+pub top_of : (above : List Frame) (last first : Frame) (below : List Frame) → above ++ last ∷ [] ≡ first ∷ below → Top above last first below
 top_of [] last first below e = Top.is_last refl (head_is last first [] below e) (sym (tail_is last first [] below e))
 top_of (frame ∷ rest) last first below e =
     Top.is_above rest (ap (λ (x : Frame). x ∷ rest) (head_is frame first (rest ++ last ∷ []) below e)) (sym (tail_is frame first (rest ++ last ∷ []) below e))
 
 -- a frame of the run's end stands nowhere else
-none_above : (s : State) (h code : ℕ) (queue : List Function) (below : List Frame) → FramesFit s h (record { purpose = Purpose.of_end code; queue = queue } ∷ below) → ⊥
+pub none_above : (s : State) (h code : ℕ) (queue : List Function) (below : List Frame) → FramesFit s h (record { purpose = Purpose.of_end code; queue = queue } ∷ below) → ⊥
 none_above s h code queue below x = by x.origins x.are
   where
     by : (origins : List Origin) → AreFramesOf s h origins (record { purpose = Purpose.of_end code; queue = queue } ∷ below) → ⊥
@@ -258,17 +258,17 @@ module _ (w : Setting) (laws : FrameLaws w.machine) (past : List Event) (lawful 
 -- ---- a turn
 
 -- the hart that runs is the first
-first_runs : (w : Setting) (world : World) → InFinals w world → (h : ℕ) (b : HartState) → slice_get world.harts h ≡ Some b → b.«end» ≡ None → h ≡ 0
+pub first_runs : (w : Setting) (world : World) → InFinals w world → (h : ℕ) (b : HartState) → slice_get world.harts h ≡ Some b → b.«end» ≡ None → h ≡ 0
 first_runs w world x h b at runs = by h (ap (λ (bs : List HartState). slice_get bs h) (sym x.harts) ∙ at)
   where
     by : (j : ℕ) → slice_get (x.first ∷ x.others) j ≡ Some b → j ≡ 0
     by zero here = refl
     by (suc j) here = absurd (false≢true (sym (runs_on b runs) ∙ exited_ends b (each_passes has_exited x.others j b x.over here)))
 
-first_of : (w : Setting) (world : World) (x : InFinals w world) (b : HartState) → slice_get world.harts 0 ≡ Some b → x.first ≡ b
+pub first_of : (w : Setting) (world : World) (x : InFinals w world) (b : HartState) → slice_get world.harts 0 ≡ Some b → x.first ≡ b
 first_of w world x b at = both_found (slice_get world.harts 0) x.first b (ap (λ (bs : List HartState). slice_get bs 0) x.harts) at
 
-have_exited_in : (w : Setting) (s : State) → IsTrue (are_finals w s) → IsTrue (have_all_exited w s)
+pub have_exited_in : (w : Setting) (s : State) → IsTrue (are_finals w s) → IsTrue (have_all_exited w s)
 have_exited_in w s are = (and_parts _ (have_all_exited w s) are).1
 
 module _ (laws : (m : Machine) → FrameLaws m) (keeps : TurnsKeepFinals) where
@@ -377,6 +377,19 @@ object_mapped s object (Some o) is there =
     let at = found_in (λ (q : Loaded). eqb q.serial object) (mapped s) o is in
     subst (IsMapped s) (eqb-true o.serial object at.1) (mapped_from s o at.0)
 
+-- the object whose destructors have run is the one that was next
+pub final_object : (w : Setting) (past : List Event) (code : ℕ) (f : Function) (rest : List Function) (below : List Frame)
+    → (x : FinalsFit w past (record { purpose = Purpose.of_end code; queue = f ∷ rest } ∷ below)) → x.function.object ≡ f.object
+final_object w past code f rest below x =
+    object_is (top_of x.above (final_frame x.code x.function) (record { purpose = Purpose.of_end code; queue = f ∷ rest }) below (sym x.are))
+  where
+    object_is : Top x.above (final_frame x.code x.function) (record { purpose = Purpose.of_end code; queue = f ∷ rest }) below → x.function.object ≡ f.object
+    object_is (Top.is_last none same under) = head_object (ap (λ (frame : Frame). frame.queue) same)
+      where
+        head_object : x.function ∷ [] ≡ f ∷ rest → x.function.object ≡ f.object
+        head_object e = ap (λ (g : Function). g.object) (head_is x.function f [] rest e)
+    object_is (Top.is_above others are under) = absurd (none_above (after past) 0 code (f ∷ rest) others (subst (FramesFit (after past) 0) are x.fit))
+
 pub finals_finish : FinalsFinish
 finals_finish w past code f rest below x = by (is_some (object_at (after past) f.object) && not (has (after past).finis f.object)) refl
   where
@@ -391,15 +404,8 @@ finals_finish w past code f rest below x = by (is_some (object_at (after past) f
           was = was;
         })
 
-    object_is : Top x.above (final_frame x.code x.function) (record { purpose = Purpose.of_end code; queue = f ∷ rest }) below → x.function.object ≡ f.object
-    object_is (Top.is_last none same under) = head_object (ap (λ (frame : Frame). frame.queue) same)
-      where
-        head_object : x.function ∷ [] ≡ f ∷ rest → x.function.object ≡ f.object
-        head_object e = ap (λ (g : Function). g.object) (head_is x.function f [] rest e)
-    object_is (Top.is_above others are under) = absurd (none_above (after past) 0 code (f ∷ rest) others (subst (FramesFit (after past) 0) are x.fit))
-
     same : x.function.object ≡ f.object
-    same = object_is (top_of x.above (final_frame x.code x.function) (record { purpose = Purpose.of_end code; queue = f ∷ rest }) below (sym x.are))
+    same = final_object w past code f rest below x
 
     by : (t : Bool) → (is_some (object_at (after past) f.object) && not (has (after past).finis f.object)) ≡ t → AreAllowed w past (cond t (events.Fini 0 f.object ∷ []) [])
     by true both = (of_it (subst (λ (o : ℕ). IsTrue (has (after past).inits o)) same x.initialised) (subst (WasNext w past) same x.was) both, tt)

@@ -66,7 +66,7 @@ module _ (h : ℕ) (origins : List Origin) (frames : List Frame) where
   place_settled past more (Resolving.to_finish o found) rest x = rest past x
   place_settled past more (Resolving.to_settle o found) rest x = subst Are (one_behind past (settling_event o found) more) (rest (past ++ settling_event o found ∷ []) (one_settled past o found x))
 
-  all_settled : (past : List Event) (harts : List HartState) → Are past → Are (past ++ settling harts)
+  pub all_settled : (past : List Event) (harts : List HartState) → Are past → Are (past ++ settling harts)
   all_settled past [] x = subst Are (sym (append-nil past)) x
   all_settled past (b ∷ rest) x = place_settled past (settling rest) b.resolving (λ journal y. all_settled journal rest y) x
 

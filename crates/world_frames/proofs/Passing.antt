@@ -25,12 +25,13 @@ use Rattle.link_history.specs.Lemmas.History.{after_push, by_lawful, lawful_push
 use Rattle.link_history.specs.Lemmas.Lists.{from_filter, here, none_in, only_in}
 use Rattle.link_service.specs.Functions.{AreConstructors, AreDestructors, AreLeft, left, object_of, passed}
 use Rattle.link_service.specs.Laws.{NextFinishes, NextStarts, OpeningBegins}
+use Rattle.link_service.specs.Waiting.{HasFinished}
 use Rattle.link_service.specs.Lemmas.Finishing.{passed_first}
 use Rattle.hart_moves.specs.Harts.{Purpose}
 use Rattle.hart_moves.specs.Moves.{AreAllowed, passing}
 use Rattle.world_turns.specs.Lemmas.Events.{one_behind}
 use Rattle.world_frames.specs.Belong.{AreFramesOf, IsFrameOf, IsOfClosing, IsOfOpening, Origin}
-use Rattle.world_frames.specs.Laws.{ClosingsPass, FramesClose, FramesPass, OpeningsPass}
+use Rattle.world_frames.specs.Laws.{ClosingsPass, FramesClose, FramesFinish, FramesPass, OpeningsPass}
 use Rattle.world_frames.proofs.Events.{fini_leaves, finis, inits}
 use Rattle.world_frames.proofs.Origins.{loading_kept}
 
@@ -158,10 +159,11 @@ frames_pass laws w past h purpose f rest below legal x = by x.origins x.are
 closings_some : (w : Setting) (past : List Event) → Legal w past → (c : Closing) → Contains (after past).closings c → c.set ≢ []
 closings_some w past legal = by_lawful w.machine HaveObjects (λ c there. absurd (none_in c there)) (λ v before e same lawful have may. some_step (after before) e have) past (legal_is_lawful w past legal)
 
-pub frames_close : FramesClose
-frames_close w past h to set below legal x free = by x.origins x.are
+-- its closing has finished, whatever open grants hold
+pub frames_finish : FramesFinish
+frames_finish w past h to set below legal x = by x.origins x.are
   where
-    one : (o : Origin) → IsFrameOf (after past) h o (Purpose.of_closing to set) [] → Allowed w past (events.Unmapped h set)
+    one : (o : Origin) → IsFrameOf (after past) h o (Purpose.of_closing to set) [] → HasFinished (after past) h set
     one (Origin.opening l) are = absurd are
     one (Origin.closing c) are = record {
       some = λ none. closings_some w past legal c are.there (are.whole ∙ none);
@@ -170,12 +172,16 @@ frames_close w past h to set below legal x free = by x.origins x.are
       by = are.by;
       whole = are.whole;
       done = are.left;
-      free = free;
     }
 
-    by : (origins : List Origin) → AreFramesOf (after past) h origins (record { purpose = Purpose.of_closing to set; queue = [] } ∷ below) → Allowed w past (events.Unmapped h set)
+    by : (origins : List Origin) → AreFramesOf (after past) h origins (record { purpose = Purpose.of_closing to set; queue = [] } ∷ below) → HasFinished (after past) h set
     by [] are = absurd are
     by (o ∷ origins) are = one o are.0
+
+pub frames_close : FramesClose
+frames_close w past h to set below legal x free =
+    let is : HasFinished (after past) h set = frames_finish w past h to set below legal x in
+    record { some = is.some; closing = is.closing; there = is.there; by = is.by; whole = is.whole; done = is.done; free = free }
 
 -- ---- behind an opening, and a closing
 

@@ -17,10 +17,11 @@ use Rattle.link_history.specs.Legal.{Legal}
 use Rattle.link_history.specs.Objects.{serial_of}
 use Rattle.link_history.specs.Setting.{Setting, have_exited as have_all_exited}
 use Rattle.link_service.specs.Functions.{AreConstructors, AreDestructors, passed}
+use Rattle.link_service.specs.Waiting.{HasFinished}
 use Rattle.hart_moves.specs.Harts.{Frame, Purpose}
 use Rattle.hart_moves.specs.Moves.{AreAllowed, all_finis, own_fini, passing}
 use Rattle.schedules.specs.declared.schedule.TurnItem.{TurnItem}
-use Rattle.world_turns.specs.Run.{Begins, IsStarted, Run, have_exited}
+use Rattle.world_turns.specs.Run.{Begins, IsStarted, Run, have_exited, settled}
 use Rattle.world_turns.specs.Throughout.{LoadsAlwaysFit}
 use Rattle.world_turns.specs.Turn.{Turn}
 use Rattle.world_turns.specs.World.{World}
@@ -63,6 +64,20 @@ abbrev pub FramesClose : Type 0
 FramesClose = (w : Setting) (past : List Event) (h to : ℕ) (set : List ℕ) (below : List Frame) → Legal w past
     → FramesFit (after past) h (record { purpose = Purpose.of_closing to set; queue = [] } ∷ below) → IsUngranted (after past) set
     → Allowed w past (Unmapped h set)
+
+-- and where no object of it is left to finalise, its closing has finished, whatever open grants hold
+abbrev pub FramesFinish : Type 0
+FramesFinish = (w : Setting) (past : List Event) (h to : ℕ) (set : List ℕ) (below : List Frame) → Legal w past
+    → FramesFit (after past) h (record { purpose = Purpose.of_closing to set; queue = [] } ∷ below) → HasFinished (after past) h set
+
+-- ---- what is settled
+
+-- it neither initialises, finalises nor unmaps, so each frame stays what it is of
+abbrev pub SettlingKeepsFrames : Type 0
+SettlingKeepsFrames = (world : World) → FramesBelong world → FramesBelong (settled world)
+
+abbrev pub SettlingKeepsFinals : Type 0
+SettlingKeepsFinals = (w : Setting) (world : World) → FinalsBelong w world → FinalsBelong w (settled world)
 
 -- ---- the final destructors
 

@@ -1,7 +1,8 @@
 //! What holds of the frames of every run.
 
 ghost use Rattle.world_frames.specs.Laws.{ClosingsPass, FinalsBeginBelong, FinalsFinish, FinalsKeepFrames, FinalsPass, FramesClose};
-ghost use Rattle.world_frames.specs.Laws.{FramesPass, OpeningsPass, RunsBelong, StartBelongs, TurnsKeepFrames};
+ghost use Rattle.world_frames.specs.Laws.{FramesFinish, FramesPass, OpeningsPass, RunsBelong, SettlingKeepsFinals, SettlingKeepsFrames};
+ghost use Rattle.world_frames.specs.Laws.{StartBelongs, TurnsKeepFrames};
 
 /// When a run starts each frame is of an opening, and so it is, of an opening or a closing, behind each
 /// turn before the final destructors.
@@ -29,11 +30,12 @@ pub fn runs_belong()
 }
 
 /// The objects in front may be passed: those of a frame, of an opening and of a closing; and a closing
-/// whose functions have run may be unmapped, but for what open grants hold.
+/// whose functions have run has finished, and may be unmapped, but for what open grants hold.
 pub fn functions_may_pass()
     ensures frames { FramesPass }
     ensures openings { OpeningsPass }
     ensures closings { ClosingsPass }
+    ensures finished { FramesFinish }
     ensures closed { FramesClose }
 {
     link_service::constructors_follow();
@@ -55,6 +57,12 @@ pub fn finals_belong()
     link_service::destructors_follow();
     world_ends::ends_fit();
 }
+
+/// What is settled leaves frames as they are, before the final destructors and in them.
+pub fn settling_keeps_frames()
+    ensures frames { SettlingKeepsFrames }
+    ensures finals { SettlingKeepsFinals }
+{}
 
 /// So that object may be finalised when they have run, and the next of all may pass.
 pub fn finals_may_pass()

@@ -10,4 +10,7 @@
 
 mod law;
 
-pub use law::{finals_belong, finals_may_pass, frames_belong, functions_may_pass, runs_belong};
+pub use law::{
+    finals_belong, finals_may_pass, frames_belong, functions_may_pass, runs_belong,
+    settling_keeps_frames,
+};

@@ -1,4 +1,4 @@
-use Rattle.world_frames.proofs.Passing.{closings_pass, frames_close, frames_pass, openings_pass}
+use Rattle.world_frames.proofs.Passing.{closings_pass, frames_close, frames_finish, frames_pass, openings_pass}
 use Rattle.world_frames.proofs.law.functions_may_pass.Goals as goal
 
 pub returns-clause-frames : goal.returns-clause-frames
@@ -12,6 +12,9 @@ returns-clause-openings c =
 pub returns-clause-closings : goal.returns-clause-closings
 returns-clause-closings c =
     closings_pass (record { starts = c.constructors_follow.ensures.next; finishes = c.destructors_follow.ensures.next; begins = c.constructors_follow.ensures.begins })
+
+pub returns-clause-finished : goal.returns-clause-finished
+returns-clause-finished c = frames_finish
 
 pub returns-clause-closed : goal.returns-clause-closed
 returns-clause-closed c = frames_close
