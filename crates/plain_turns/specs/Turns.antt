@@ -13,7 +13,7 @@ use Rattle.rv_hart.specs.declared.stepping.Stop.{Stop}
 use Rattle.hart_moves.specs.Copying.{Copy}
 use Rattle.hart_moves.specs.Due.{Due}
 use Rattle.hart_moves.specs.Harts.{HartState}
-use Rattle.hart_moves.specs.Moves.{Did, MovesAs, Trap, ended, is_store}
+use Rattle.hart_moves.specs.Moves.{Did, MovesAs, Trap, ended, is_store, spent}
 use Rattle.plain_turns.specs.declared.trap.Trap.{Trap as code_trap}
 use Rattle.plain_turns.specs.declared.trap.Trap.TheVariants as trap
 use Rattle.plain_turns.specs.declared.turned.Turned.{Turned}
@@ -38,6 +38,12 @@ abbrev pub TurnsTo : (Did → HartState → Type 0) → Setting → List Event �
 TurnsTo Row w past h items Over c = Row (Did.quiet items) c
 TurnsTo Row w past h items (Again shown) c = Row (Did.quiet items) c
 TurnsTo Row w past h items (Ends reason) c = MayEnd w (after past) h → Row (Did.serves items (Ended h reason ∷ [])) (ended reason c)
+
+-- a hart that is to end has its turn counted, and nothing else has changed
+abbrev pub LeavesSpent : HartState → Turned → HartState → Type 0
+LeavesSpent b Over c = Unit {0}
+LeavesSpent b (Again shown) c = Unit {0}
+LeavesSpent b (Ends reason) c = c ≡ spent b
 
 -- a hart, whose next turn this is, took it over a bus, after whatever history
 pub record Turns {B : Type 0} (does : B → Item → B → Type 0) (bus bus' : B) (d : Due) (b c : HartState) (result : Turned) : Type 0 where
@@ -68,5 +74,5 @@ is_own (Due.finalise code object) = false
 
 -- the turn was taken, if it is one of these; else nothing was done
 abbrev pub TakesOwn : {B : Type 0} → (B → Item → B → Type 0) → B → B → Due → HartState → HartState → Option Turned → Type 0
-TakesOwn does bus bus' d b c (Some result) = Turns does bus bus' d b c result
+TakesOwn does bus bus' d b c (Some result) = Turns does bus bus' d b c result × LeavesSpent b result c
 TakesOwn does bus bus' d b c None = (is_own d ≡ false) × (bus' ≡ bus) × (c ≡ b)

@@ -7,7 +7,7 @@ ghost use Rattle.link_history.specs.Setting.{Setting};
 ghost use Rattle.rv_hart.specs.declared.bus.Item.{Item};
 ghost use Rattle.hart_moves.specs.Due.{Due};
 ghost use Rattle.hart_moves.specs.Moves.{Refuses, Stops, Traps, is_store, trap_of};
-ghost use Rattle.plain_turns.specs.Turns.{Turns, TurnsTo, Watches};
+ghost use Rattle.plain_turns.specs.Turns.{LeavesSpent, Turns, TurnsTo, Watches};
 
 use crate::ending::{end_with, role_end};
 use crate::watched::Watched;
@@ -19,7 +19,8 @@ use rv_hart::{Bus, BusFault, Stop};
 /// The turn of an instruction.
 pub fn instruct<B: Bus>(hart: &mut LinkedHart, bus: &mut B) -> Turned
     requires { hart.old.hart.turns < hart.old.hart.fuel }
-    ensures { Turns B.does bus.old bus.new Due.instruction hart.old.hart hart.new.hart result }
+    ensures turn { Turns B.does bus.old bus.new Due.instruction hart.old.hart hart.new.hart result }
+    ensures ends { LeavesSpent hart.old.hart result hart.new.hart }
 {
     let (stepped, stores) = step(hart, bus);
     match stepped {
@@ -45,8 +46,9 @@ fn step<B: Bus>(hart: &mut LinkedHart, bus: &mut B) -> (Result<(), Stop>, bool)
 /// What comes of an instruction that stops its hart.
 fn stopped(hart: &mut LinkedHart, stop: Stop, stores: bool) -> Turned
     requires { hart.old.hart.turns < hart.old.hart.fuel }
-    ensures { (w : Setting) (past : List Event) (h : ℕ) (items : List Item) → stores ≡ list_any is_store items
+    ensures turn { (w : Setting) (past : List Event) (h : ℕ) (items : List Item) → stores ≡ list_any is_store items
         → TurnsTo (Stops w past h hart.old.hart items stop) w past h items result hart.new.hart }
+    ensures ends { LeavesSpent hart.old.hart result hart.new.hart }
 {
     let pc = hart.registers().pc;
     match stop {
@@ -61,8 +63,9 @@ fn stopped(hart: &mut LinkedHart, stop: Stop, stores: bool) -> Turned
 /// What comes of an ecall.
 fn trapped(hart: &mut LinkedHart) -> Turned
     requires { hart.old.hart.turns < hart.old.hart.fuel }
-    ensures { (w : Setting) (past : List Event) (h : ℕ) (items : List Item)
+    ensures turn { (w : Setting) (past : List Event) (h : ℕ) (items : List Item)
         → TurnsTo (Traps w past h hart.old.hart items (trap_of hart.old.hart.registers)) w past h items result hart.new.hart }
+    ensures ends { LeavesSpent hart.old.hart result hart.new.hart }
 {
     match trap_of(hart.registers()) {
         Trap::Exits(code) => return end_with(hart, HartEnd::Exit(code)),
@@ -76,8 +79,9 @@ fn trapped(hart: &mut LinkedHart) -> Turned
 /// What comes of an access, or a fetch, that the bus refuses.
 fn refused(hart: &mut LinkedHart, address: u64, fault: BusFault, stores: bool) -> Turned
     requires { hart.old.hart.turns < hart.old.hart.fuel }
-    ensures { (w : Setting) (past : List Event) (h : ℕ) (items : List Item) → stores ≡ list_any is_store items
+    ensures turn { (w : Setting) (past : List Event) (h : ℕ) (items : List Item) → stores ≡ list_any is_store items
         → TurnsTo (Refuses w past h hart.old.hart items address fault) w past h items result hart.new.hart }
+    ensures ends { LeavesSpent hart.old.hart result hart.new.hart }
 {
     let pc = hart.registers().pc;
     match fault {

@@ -3,7 +3,7 @@
 ghost use Rattle.std.specs.Prelude.{◌≡◌, ℕ, ◌+◌, ◌*◌, ◌%◌, ◌<◌, List};
 ghost use Rattle.hart_moves.specs.Due.{Due};
 ghost use Rattle.hart_moves.specs.Harts.Phase.{storing};
-ghost use Rattle.plain_turns.specs.Turns.{Turns};
+ghost use Rattle.plain_turns.specs.Turns.{LeavesSpent, Turns};
 
 use crate::Turned;
 use crate::ending::{end_with, role_end};
@@ -14,8 +14,9 @@ use rv_hart::{Bus, BusFault};
 pub fn store<B: Bus>(hart: &mut LinkedHart, bus: &mut B, address: u64, word: u64) -> Turned
     requires fuel { hart.old.hart.turns < hart.old.hart.fuel }
     requires aligned { address % 8 ≡ 0 }
-    ensures { (text stored : ℕ) (more : List ℕ) → hart.old.hart.phase ≡ storing text stored word more → address ≡ text + 8 * stored
+    ensures turn { (text stored : ℕ) (more : List ℕ) → hart.old.hart.phase ≡ storing text stored word more → address ≡ text + 8 * stored
         → Turns B.does bus.old bus.new (Due.store text stored word more) hart.old.hart hart.new.hart result }
+    ensures ends { LeavesSpent hart.old.hart result hart.new.hart }
 {
     match bus.write(address, 8, word) {
         Ok(()) => {
