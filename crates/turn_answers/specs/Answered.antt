@@ -1,5 +1,5 @@
 -- What came of a call, as the linker's answer.
-use Rattle.std.specs.Prelude.{◌≡◌, ℕ, ◌<◌, List, ◌++◌, map, Some, None}
+use Rattle.std.specs.Prelude.{◌≡◌, ℕ, List, ◌++◌, map, Some, None}
 use Rattle.ld_base.specs.declared.fault.DlFault.{DlFault}
 use Rattle.ld_base.specs.declared.fault.Shown.{Shown}
 use Rattle.ld_base.specs.declared.linking.Loaded.{Loaded}
@@ -17,8 +17,7 @@ use Rattle.link_service.specs.Call.{Call}
 use Rattle.link_service.specs.Functions.{AreConstructors, AreDestructors}
 use Rattle.link_service.specs.Gives.{Serves}
 use Rattle.link_service.specs.Served.{answer_text}
-use Rattle.hart_moves.specs.Due.{Due, Return, due}
-use Rattle.hart_moves.specs.Harts.{HartState}
+use Rattle.hart_moves.specs.Due.{Due, Return}
 use Rattle.hart_moves.specs.Moves.{IsOffer, stack_start}
 use Rattle.hart_parts.specs.Views.{offered_of}
 use Rattle.hart_parts.specs.declared.due.Offered.{Offered as code_offered}

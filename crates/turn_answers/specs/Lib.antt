@@ -1,3 +1,4 @@
 pub mod Answered
 pub mod Changes
+pub mod Following
 pub mod Turn
