@@ -1,0 +1,5 @@
+pub mod Found
+pub mod Further
+pub mod Opened
+pub mod Registers
+pub mod Seeing

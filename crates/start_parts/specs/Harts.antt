@@ -1,0 +1,46 @@
+-- Names at which harts start, in each run: none of what is asked for here is of its folders or files.
+use Rattle.std.specs.Prelude.{◌≡◌, ℕ, List, [], ◌∷◌, ◌++◌}
+use Rattle.ld_base.specs.declared.fault.DlFault.{DlFault}
+use Rattle.link_event.specs.declared.event.Event.{Event}
+use Rattle.link_history.specs.After.{after}
+use Rattle.link_history.specs.Setting.{Setting}
+use Rattle.link_service.specs.Startup.{FindHarts, FindsStart, LacksHart, found_at, program_entry}
+use Rattle.start_parts.specs.declared.harts.Unstarted.{Unstarted}
+use Rattle.start_parts.specs.declared.harts.Unstarted.TheVariants as unstarted
+
+-- the hart's name is found at this address, and its event noted
+pub record StartsAt (past : List Event) (hart : ℕ) (name : List ℕ) (value : ℕ) (events : List Event) : Type 0 where
+  pub serial : ℕ
+  pub index : ℕ
+  pub are : events ≡ past ++ found_at hart name serial index value ∷ []
+  pub finds : (w : Setting) → FindsStart w past hart name serial index value
+
+-- the harts from one with this number on start at these names
+pub record FoundFrom (past : List Event) (hart : ℕ) (names : List (List ℕ)) (addresses : List ℕ) (events : List Event) : Type 0 where
+  pub found : List Event
+  pub are : events ≡ past ++ found
+  pub finds : (w : Setting) → FindHarts w past hart names found addresses
+
+-- all harts start: the first one at the program's entry point. The state is as before.
+pub record FoundAll (past : List Event) (names : List (List ℕ)) (starts : List ℕ) (events : List Event) : Type 0 where
+  pub addresses : List ℕ
+  pub first : starts ≡ program_entry (after past) ∷ addresses
+  pub further : FoundFrom past 1 names addresses events
+  pub same : after events ≡ after past
+
+-- the first name at which no hart of this program can start, among those of the harts from one with this number on
+pub record LacksFrom (past : List Event) (hart : ℕ) (program : List ℕ) (names : List (List ℕ)) (fault : DlFault) (events : List Event) : Type 0 where
+  pub given : List Event
+  pub are : events ≡ past ++ given
+  pub lacks : (w : Setting) → LacksHart w program past hart names given fault
+
+-- why harts don't start: at one of their names none can, or memory is wanted
+abbrev pub IsLackingFrom : List Event → ℕ → List ℕ → List (List ℕ) → Unstarted → List Event → Type 0
+IsLackingFrom past hart program names (unstarted.Refused fault) events = LacksFrom past hart program names fault events
+IsLackingFrom past hart program names unstarted.Memory events = Unit {0}
+
+abbrev pub IsLacking : List Event → List ℕ → List (List ℕ) → Unstarted → List Event → Type 0
+IsLacking past program names why events = IsLackingFrom past 1 program names why events
+
+abbrev pub IsLackingAt : List Event → ℕ → List ℕ → List ℕ → Unstarted → List Event → Type 0
+IsLackingAt past hart program name why events = IsLackingFrom past hart program (name ∷ []) why events

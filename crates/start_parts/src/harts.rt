@@ -1,0 +1,144 @@
+//! Where harts start.
+
+ghost use Rattle.std.specs.Prelude.{◌≡◌, ◌+◌, ◌≤◌, ◌<◌, IfErr, IfOk, length};
+ghost use Rattle.link_history.specs.Addresses.{is_linkers_page};
+ghost use Rattle.link_history.specs.After.{after};
+ghost use Rattle.link_service.specs.Startup.{is_executable};
+ghost use Rattle.start_parts.specs.Loaded.{HasLoaded};
+ghost use Rattle.start_parts.specs.Harts.{FoundAll, IsLacking, IsLackingAt, StartsAt};
+ghost use Rattle.start_parts.specs.declared.harts.Unstarted.TheVariants.{Memory};
+
+use crate::entries::{object_with, program_entry, startup_objects};
+use accepted_image::{accepted_object, one_image};
+use call_laws::executable_by_holder;
+use ld_base::{DlFault, HartId, Name, NsId};
+use link_calls::dlsym;
+use link_event::Addresses;
+use link_history::{modules_are_tidy, objects_are_apart, objects_are_read};
+use link_served::{Served, Setup};
+use link_state::LinkState;
+use mapped_objects::is_code_in;
+use record_copies::Copied;
+use std::alloc::{AllocError, Global};
+
+/// Stands for all that is global (RTLD_DEFAULT).
+const DEFAULT_HANDLE: u64 = 0;
+/// The linker's own page.
+const LINKER_PAGE: u64 = 0x80f000;
+/// Where the linker's own page ends.
+const LINKER_END: u64 = 0x81_0000;
+
+/// Why a run doesn't start.
+#[derive(Debug, Drop)]
+pub enum Unstarted {
+    /// The first refusal, which is noted.
+    Refused(DlFault),
+    /// Want of memory.
+    Memory,
+}
+
+impl From<AllocError> for Unstarted {
+    ghost from_gives = { λ _ why. why ≡ Memory };
+
+    fn from(_: AllocError) -> Self {
+        Unstarted::Memory
+    }
+}
+
+/// The addresses at which the harts start, once the program is opened: the first one at the program's entry
+/// point, and each further one at the name that it is given.
+///
+/// # Errors
+///
+/// The first name at which no hart can start, with the events of the look-ups up to it; or want of memory, with
+/// the events of the look-ups until then.
+pub fn find_harts(
+    alloc: Global,
+    state: &mut LinkState,
+    setup: &Setup,
+) -> Result<Addresses, Unstarted>
+    requires loaded { HasLoaded state.old.events }
+    requires harts { length setup.now.harts + 1 ≤ state.old.harts }
+    ensures found { IfOk result (λ starts. FoundAll state.old.events setup.now.harts starts state.new.events) }
+    ensures lacks { IfErr result (λ why. IsLacking state.old.events setup.now.program setup.now.harts why state.new.events) }
+    ensures same { state.new.harts ≡ state.old.harts }
+{
+    let _ = state.harts();
+    let mut starts = Addresses::new(alloc);
+    starts.push(program_entry(state))?;
+    for (index, name) in setup.harts.as_slice().iter().enumerate() {
+        let hart = HartId::new(index as u32 + 1);
+        starts.push(find_start(alloc, state, hart, &setup.program, name)?)?;
+    }
+    Ok(starts)
+}
+
+/// The address of the name at which a hart starts, in executable words.
+///
+/// # Errors
+///
+/// The name isn't found, or not in executable words, with the event of its look-up; or want of memory.
+fn find_start(
+    alloc: Global,
+    state: &mut LinkState,
+    hart: HartId,
+    program: &Name,
+    name: &Name,
+) -> Result<u64, Unstarted>
+    requires loaded { HasLoaded state.old.events }
+    requires hart { hart < state.old.harts }
+    ensures found { IfOk result (λ value. StartsAt state.old.events hart name.now value state.new.events) }
+    ensures lacks { IfErr result (λ why. IsLackingAt state.old.events hart program.now name.now why state.new.events) }
+    ensures same { state.new.harts ≡ state.old.harts }
+{
+    modules_are_tidy();
+    let _ = state.journal();
+    match dlsym(
+        alloc,
+        state,
+        hart,
+        NsId::BASE,
+        DEFAULT_HANDLE,
+        name.as_bytes(),
+    ) {
+        Served::Done(address) => {
+            if is_executable(state, address) {
+                return Ok(address);
+            }
+            let fault = DlFault::NotCode(program.copy(alloc)?, name.copy(alloc)?);
+            Err(Unstarted::Refused(fault))
+        }
+        Served::Refused(fault) => Err(Unstarted::Refused(fault)),
+        _ => Err(Unstarted::Memory),
+    }
+}
+
+/// Whether an address lies in executable words: of the object whose pages hold it, or of the linker's own page.
+fn is_executable(state: &LinkState, address: u64) -> bool
+    requires loaded { HasLoaded state.now.events }
+    ensures { result ≡ is_executable (after state.now.events) address }
+{
+    executable_by_holder();
+    accepted_object();
+    one_image();
+    objects_are_apart();
+    objects_are_read();
+    let _ = state.journal();
+    match state.holder(address) {
+        Some((_, serial)) => {
+            let (objects, _) = startup_objects(state);
+            match object_with(objects, serial) {
+                Some(object) => is_code_in(object, address),
+                None => false,
+            }
+        }
+        None => is_linkers_page(address),
+    }
+}
+
+/// Whether an address is one of the linker's own page.
+fn is_linkers_page(address: u64) -> bool
+    ensures { result ≡ is_linkers_page address }
+{
+    (LINKER_PAGE..LINKER_END).contains(&address)
+}
