@@ -1,0 +1,29 @@
+-- What is settled may be settled, hart by hart.
+use Rattle.std.specs.Prelude.{◌≡◌, ℕ, List, ◌++◌, take, Some}
+use Rattle.std.specs.List.{slice_get}
+use Rattle.link_event.specs.declared.event.Event.{Event}
+use Rattle.link_history.specs.Accepted.{AcceptsOnly}
+use Rattle.link_history.specs.After.{after}
+use Rattle.link_history.specs.Setting.{Setting}
+use Rattle.hart_moves.specs.Harts.{HartState}
+use Rattle.hart_moves.specs.Moves.{AreAllowed}
+use Rattle.world_turns.specs.Laws.{LoadsFit}
+use Rattle.world_turns.specs.Sound.{Sound}
+use Rattle.world_turns.specs.World.{World, settled_by, settling}
+
+-- some events may come one after another where those in front may, and then those behind
+abbrev pub AllowedSplit : Type 0
+AllowedSplit = (w : Setting) (past front rest : List Event) → AreAllowed w past (front ++ rest) → AreAllowed w past front × AreAllowed w (past ++ front) rest
+
+abbrev pub AllowedJoin : Type 0
+AllowedJoin = (w : Setting) (past front rest : List Event) → AreAllowed w past front → AreAllowed w (past ++ front) rest → AreAllowed w past (front ++ rest)
+
+-- in a sound world the harts may be settled, in their order
+abbrev pub SettlingMayCome : Type 0
+SettlingMayCome = (w : Setting) (world : World) → AcceptsOnly w.machine → LoadsFit (after world.journal) → Sound w world
+    → AreAllowed w world.journal (settling world.harts)
+
+-- so each may be where those before it are
+abbrev pub NextMaySettle : Type 0
+NextMaySettle = (w : Setting) (world : World) (h : ℕ) (b : HartState) → AcceptsOnly w.machine → LoadsFit (after world.journal) → Sound w world
+    → slice_get world.harts h ≡ Some b → AreAllowed w (world.journal ++ settling (take h world.harts)) (settled_by b.resolving)

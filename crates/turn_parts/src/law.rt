@@ -1,0 +1,33 @@
+//! What holds of each part.
+
+ghost use Rattle.turn_parts.specs.Freed.{FreedIsDue, FreedMoves, FreedTakesTurns};
+ghost use Rattle.turn_parts.specs.Leaving.{AllLeave, AllStay, OneStays, OthersLeave};
+ghost use Rattle.turn_parts.specs.Settling.{AllowedJoin, AllowedSplit, NextMaySettle, SettlingMayCome};
+
+/// A hart whose grant is settled is due the same turn, and where that turn settles it is one of the hart
+/// as it was before.
+pub fn freed_harts_move()
+    ensures due { FreedIsDue }
+    ensures moves { FreedMoves }
+    ensures turn { FreedTakesTurns }
+{}
+
+/// In a sound world harts may be settled one after another, each behind those before it. Events that may
+/// come are those in front and those behind them, so that a loop over harts has the rest to go.
+pub fn settling_may_come()
+    ensures all { SettlingMayCome }
+    ensures next { NextMaySettle }
+    ensures split { AllowedSplit }
+    ensures join { AllowedJoin }
+{
+    world_turns::turns_stay_sound();
+}
+
+/// But for openings that succeed, unmappings and blocks, events neither reserve pages nor take any away,
+/// and memory stays as it is.
+pub fn others_leave_memory()
+    ensures leave { OthersLeave }
+    ensures all { AllLeave }
+    ensures one_stays { OneStays }
+    ensures all_stay { AllStay }
+{}
