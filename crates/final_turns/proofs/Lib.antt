@@ -1,0 +1,5 @@
+pub mod First
+pub mod Left
+pub mod Passing
+pub mod Planning
+pub mod Settling
