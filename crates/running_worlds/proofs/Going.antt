@@ -67,7 +67,7 @@ module _ (laws : Laws) where
 
   pub turns_run : TurnsRun
   turns_run w h old new only fit running turn =
-      let sound : Sound w new = laws.turns_sound w h old new only (fit old.journal running.sound.legal) running.sound turn in record {
+      let sound : Sound w new = laws.turns_sound w h old new only fit running.sound turn in record {
         loaded = turn_loaded w h old new turn running.loaded;
         sound = sound;
         moment = turn_moment w h old new sound turn running.moment;
@@ -95,7 +95,7 @@ module _ (laws : Laws) where
   pub finals_lack_runs : FinalsLackRuns
   finals_lack_runs w old new only fit over lack before running = record {
     loaded = subst (λ (v : World). is_startup (after v.journal) ≡ false) (sym lack.leaves) (laws.past (old.journal ++ settling old.harts) _ (laws.past old.journal (settling old.harts) running.loaded));
-    sound = laws.lack_sound w old new only (fit old.journal running.sound.legal) running.sound lack;
+    sound = laws.lack_sound w old new only fit running.sound lack;
     moment = in_finals (laws.finals_lack w old new over lack before) (lack_belongs w old new lack);
   }
 
@@ -108,6 +108,6 @@ module _ (laws : Laws) where
   pub settled_runs : SettledRuns
   settled_runs w world only fit running = record {
     loaded = laws.past world.journal (settling world.harts) running.loaded;
-    sound = laws.settling_sound w world only (fit world.journal running.sound.legal) running.sound;
+    sound = laws.settling_sound w world only fit running.sound;
     moment = settled_moment w world running.moment;
   }
