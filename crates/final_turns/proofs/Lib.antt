@@ -1,3 +1,4 @@
+pub mod Exited
 pub mod First
 pub mod Left
 pub mod Passing

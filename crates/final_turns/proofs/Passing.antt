@@ -1,6 +1,6 @@
 -- A planned turn is a turn of the final destructors, and its events may come.
 use Rattle.std.proofs.Common.{◌≡◌, ◌≢◌, ℕ, zero, suc, ◌<◌, Bool, true, false, not, ◌&&◌, cond, eqb, List, [], ◌∷◌, ◌++◌, get_or, length, map, take, Option, Some, None, refl, sym, ap, subst, ◌∙◌, append-nil, append_assoc, arith}
-use Rattle.std.specs.List.{Contains, filter, find, slice_get}
+use Rattle.std.specs.List.{Contains, filter, find}
 use Rattle.std.specs.Option.{is_some}
 use Rattle.std.proofs.lemmas.Bool.{true≢false}
 use Rattle.std.proofs.lemmas.List.{map-append}
@@ -16,7 +16,7 @@ use Rattle.link_history.specs.Objects.{has, object_at}
 use Rattle.link_history.specs.Setting.{Setting}
 use Rattle.link_history.specs.State.{Linked, State}
 use Rattle.link_history.specs.Lemmas.History.{after_push}
-use Rattle.link_history.specs.Lemmas.Lists.{has_in, here, in_has, later}
+use Rattle.link_history.specs.Lemmas.Lists.{here, later}
 use Rattle.lawful_journal.specs.Following.{MayFollow}
 use Rattle.link_state.specs.Table.{LinkTable}
 use Rattle.link_service.specs.Functions.{AreAddresses, AreOf, destructors, left, object_of, passed}

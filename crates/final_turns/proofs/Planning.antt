@@ -1,12 +1,11 @@
 -- What a turn is planned of: all that are left, with the object among them or without.
-use Rattle.std.proofs.Common.{◌≡◌, ℕ, suc, Bool, true, false, not, ◌&&◌, cond, drop, eqb, List, [], ◌∷◌, ◌++◌, length, map, take, refl, sym, ap, subst, ◌∙◌, arith}
+use Rattle.std.proofs.Common.{◌≡◌, ℕ, suc, Bool, true, false, not, cond, drop, eqb, List, [], ◌∷◌, ◌++◌, length, map, take, refl, sym, ap, subst, ◌∙◌, arith}
 use Rattle.std.specs.List.{Contains, filter, list_any}
-use Rattle.std.specs.Option.{is_some}
 use Rattle.std.proofs.lemmas.List.{map-append}
 use Rattle.link_event.specs.declared.event.Event.{Event}
 use Rattle.link_event.specs.declared.event.Event.TheVariants.{Fini}
 use Rattle.link_event.specs.declared.handed.Function.{Function}
-use Rattle.link_history.specs.Objects.{has, object_at}
+use Rattle.link_history.specs.Objects.{has}
 use Rattle.link_history.specs.State.{State}
 use Rattle.link_history.specs.Lemmas.Lists.{from_filter}
 use Rattle.link_service.specs.Functions.{AreFinalDestructors, left, object_of, passed}

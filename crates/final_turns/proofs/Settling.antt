@@ -1,9 +1,8 @@
 -- A settled grant leaves what is left to be finalised.
-use Rattle.std.proofs.Common.{◌≡◌, ◌⊎◌, inl, inr, ⊎_elim, ℕ, Bool, true, false, not, ◌&&◌, cond, List, [], ◌∷◌, ◌++◌, map, sym, ap, subst, ◌∙◌, append_assoc, refl}
+use Rattle.std.proofs.Common.{◌≡◌, inl, inr, ⊎_elim, ℕ, Bool, true, false, not, ◌&&◌, cond, List, [], ◌∷◌, ◌++◌, sym, ap, subst, ◌∙◌, append_assoc}
 use Rattle.std.specs.Option.{is_some}
 use Rattle.link_event.specs.declared.event.Event.{Event}
 use Rattle.link_event.specs.declared.event.Event.TheVariants.{Fini}
-use Rattle.link_event.specs.declared.state.Granting.{Granting}
 use Rattle.link_event.specs.declared.state.Standing.{Standing}
 use Rattle.link_event.specs.declared.state.Standing.TheVariants as standings
 use Rattle.link_history.specs.After.{after}
@@ -15,8 +14,8 @@ use Rattle.link_history.specs.Step.{settle}
 use Rattle.link_history.specs.Lemmas.History.{after_push}
 use Rattle.linker_lists.specs.Events.{settled}
 use Rattle.hart_moves.specs.Moves.{AreAllowed, own_fini}
+use Rattle.final_turns.specs.Laws.{SettlingKeepsOwn, SettlingKeepsPlans}
 use Rattle.final_turns.specs.Planned.{IsPlanned}
-use Rattle.final_turns.specs.Table.{FinalPlan}
 
 -- how it stands then
 standing_of : Bool → ℕ → Standing
@@ -28,8 +27,8 @@ unfolding standing_of
 after_settled past grant saw true = after_push past (settled grant true saw)
 after_settled past grant saw false = after_push past (settled grant false saw)
 
-pub planned_stays : (past : List Event) (grant saw : ℕ) (won : Bool) (plan : FinalPlan) → IsPlanned (after past) plan → IsPlanned (after (past ++ settled grant won saw ∷ [])) plan
-planned_stays past grant saw won plan is = subst (λ (s : State). IsPlanned s plan) (sym (after_settled past grant saw won)) here
+pub plan_stays : SettlingKeepsPlans
+plan_stays past grant saw won plan is = subst (λ (s : State). IsPlanned s plan) (sym (after_settled past grant saw won)) here
   where
     here : IsPlanned (settle grant (standing_of won saw) (after past)) plan
     here = record { others = is.others; order = is.order; addresses = is.addresses; events = is.events; next = is.next }
@@ -54,8 +53,7 @@ fini_stays w past h d grant standing e may = ⊎_elim
     }))
     may
 
-pub own_stays : (w : Setting) (past : List Event) (h object grant saw : ℕ) (won : Bool) → AreAllowed w past (own_fini (after past) h object)
-    → AreAllowed w (past ++ settled grant won saw ∷ []) (own_fini (after (past ++ settled grant won saw ∷ [])) h object)
+pub own_stays : SettlingKeepsOwn
 own_stays w past h object grant saw won may =
     subst (λ (s : State). AreAllowed w (past ++ e ∷ []) (own_fini s h object)) (sym (after_settled past grant saw won))
     (by (is_some (object_at (after past) object) && not (has (after past).finis object)) may)

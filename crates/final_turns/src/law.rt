@@ -1,19 +1,16 @@
-//! What settling leaves of a planned turn.
+//! What holds of the final destructors, whoever carries them out.
 
-ghost use Rattle.std.specs.Prelude.{ℕ, Bool, List, [], ◌∷◌, ◌++◌};
-ghost use Rattle.link_event.specs.declared.event.Event.{Event};
-ghost use Rattle.link_history.specs.After.{after};
-ghost use Rattle.link_history.specs.Setting.{Setting};
-ghost use Rattle.linker_lists.specs.Events.{settled};
-ghost use Rattle.hart_moves.specs.Moves.{AreAllowed, own_fini};
-ghost use Rattle.final_turns.specs.Planned.{IsPlanned};
-ghost use Rattle.final_turns.specs.Table.{FinalPlan};
+ghost use Rattle.final_turns.specs.Laws.{FinalsGoOn, SettlingKeepsExits, SettlingKeepsOwn, SettlingKeepsPlans};
 
-/// A grant that is settled leaves a planned turn as it is, and the object whose destructors have run may
-/// be finalised as before.
+/// A grant that is settled leaves a planned turn as it is, and its events may come as before.
 pub fn settling_keeps_finals()
-    ensures planned { (past : List Event) (grant saw : ℕ) (won : Bool) (plan : FinalPlan) → IsPlanned (after past) plan
-        → IsPlanned (after (past ++ settled grant won saw ∷ [])) plan }
-    ensures own { (w : Setting) (past : List Event) (h object grant saw : ℕ) (won : Bool) → AreAllowed w past (own_fini (after past) h object)
-        → AreAllowed w (past ++ settled grant won saw ∷ []) (own_fini (after (past ++ settled grant won saw ∷ [])) h object) }
+    ensures plans { SettlingKeepsPlans }
+    ensures own { SettlingKeepsOwn }
+    ensures exits { SettlingKeepsExits }
+{}
+
+/// The events of a turn may come, where that of its object may, and that of the object that is next of all
+/// once every hart has ended by exit.
+pub fn finals_go_on()
+    ensures { FinalsGoOn }
 {}

@@ -1,4 +1,4 @@
-use Rattle.std.proofs.Common.{◌≡◌, ap, ◌∙◌}
+use Rattle.std.proofs.Common.{ap, ◌∙◌}
 use Rattle.lawful_journal.specs.Following.{machine_of}
 use Rattle.link_history.specs.After.{after}
 use Rattle.link_history.specs.Laws.{InitialisedOnce}
