@@ -1,0 +1,4 @@
+pub mod Passing
+pub mod Rows
+pub mod Running
+pub mod Stacks

@@ -1,0 +1,15 @@
+//! What the linker's answer makes of a hart, and the turn in which the functions of an object have run.
+//!
+//! [`take_answer`] takes the turn of a hart whose call the linker has answered: the call returns, waits or
+//! is over, a slot is offered, or functions are to run first. [`complete`] takes the turn in which the
+//! constructors or destructors of an object have run. Both note the objects without functions that pass
+//! with it. Each is a row of the table of `hart_moves`. Neither takes memory.
+#![tactic(auto)]
+
+mod answer;
+mod completion;
+mod noting;
+mod returning;
+
+pub use answer::take_answer;
+pub use completion::complete;
