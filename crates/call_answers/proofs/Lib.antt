@@ -1,0 +1,11 @@
+pub mod Came
+pub mod Ends
+pub mod Granted
+pub mod Holding
+pub mod Located
+pub mod Looked
+pub mod Opened
+pub mod Own
+pub mod Plain
+pub mod Quiet
+pub mod Turned
