@@ -1,8 +1,8 @@
 -- Calls whose answer is known: what a hart gets of it.
 use Rattle.std.proofs.Common.{◌≡◌, ℕ, List, [], ◌∷◌, ◌++◌, refl, sym, ap, subst, ◌∙◌, append_assoc}
-use Rattle.std.specs.Prelude.{IsTrue, Option, None}
+use Rattle.std.specs.Prelude.{IsTrue, Option}
 use Rattle.std.proofs.lemmas.List.{append-nil}
-use Rattle.call_laws.specs.Coming.{Comes, IsOn}
+use Rattle.call_laws.specs.Coming.{Comes}
 use Rattle.lawful_journal.specs.Following.{machine_of}
 use Rattle.ld_base.specs.declared.linking.File.{File}
 use Rattle.link_event.specs.declared.event.Event.{Event}

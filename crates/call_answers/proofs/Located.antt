@@ -1,5 +1,5 @@
 -- Blocks of thread-local storage that a hart has, and those that it doesn't get.
-use Rattle.std.proofs.Common.{◌≡◌, ℕ, List, [], ◌++◌, refl, sym, ap, subst, ◌∙◌}
+use Rattle.std.proofs.Common.{◌≡◌, ℕ, List, [], refl, sym, ap, subst, ◌∙◌}
 use Rattle.std.proofs.lemmas.List.{append-nil}
 use Rattle.link_event.specs.declared.event.Event.{Event}
 use Rattle.link_event.specs.declared.event.Event.TheVariants.{Ended}
@@ -21,7 +21,7 @@ use Rattle.turn_answers.specs.declared.answered.Answered.TheVariants as answered
 use Rattle.turn_answers.specs.declared.answered.MemoryChange.TheVariants as change
 use Rattle.call_answers.specs.Answers.{AnswersIn, MayEndIn}
 use Rattle.call_answers.specs.Faults.{tls_end}
-use Rattle.call_answers.proofs.Came.{goes_on, over_in, still_may_end}
+use Rattle.call_answers.proofs.Came.{goes_on, over_in}
 use Rattle.call_answers.proofs.Quiet.{locate_changes}
 
 pub located_in : (old new : LinkTable) (h number offset block value : ℕ) → IsLocated old h number block new → value ≡ variable_at block offset

@@ -1,6 +1,6 @@
 -- Look-ups and closings, as their hart gets them.
 use Rattle.std.proofs.Common.{◌≡◌, ℕ, List, [], None, refl, subst}
-use Rattle.call_laws.specs.Coming.{Comes, IsOn, MadeBy}
+use Rattle.call_laws.specs.Coming.{IsOn, MadeBy}
 use Rattle.lawful_journal.specs.Following.{machine_of}
 use Rattle.link_calls.specs.Coming.{ComesIn, LooksUpIn}
 use Rattle.link_event.specs.declared.event.Event.{Event}

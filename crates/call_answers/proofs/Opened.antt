@@ -1,7 +1,7 @@
 -- What openings come to, and show in the library's counts.
 use Rattle.std.proofs.Common.{◌≡◌, ℕ, false, List, [], ◌∷◌, ◌++◌, Option, Some, None, refl, sym, ap, subst, ◌∙◌, append_assoc}
 use Rattle.std.proofs.lemmas.List.{append-nil, append_cancel_left}
-use Rattle.call_laws.specs.Coming.{Comes, IsOver, refusal_of}
+use Rattle.call_laws.specs.Coming.{IsOver, refusal_of}
 use Rattle.call_laws.specs.Counts.{ArePaths, ShowsInCounts}
 use Rattle.lawful_journal.specs.Following.{machine_of}
 use Rattle.ld_base.specs.declared.fault.DlFault.{DlFault}
@@ -18,8 +18,8 @@ use Rattle.link_history.specs.Objects.{is_startup}
 use Rattle.link_history.specs.Setting.{Setting}
 use Rattle.link_served.specs.declared.served.Served.{Served}
 use Rattle.link_served.specs.declared.served.Served.TheVariants as served
-use Rattle.link_service.specs.Answer.{Answer, returns, loading, closing, refused, granted, told, again, over}
-use Rattle.link_service.specs.Call.{Call, resolves, opens, looks_up, closes, unmaps, asks_fault, locates, writes, stops}
+use Rattle.link_service.specs.Answer.{Answer, refused, again, over}
+use Rattle.link_service.specs.Call.{Call, opens}
 use Rattle.link_service.specs.Complete.{OpensOr}
 use Rattle.link_service.specs.Gives.{Answers, Gives}
 use Rattle.link_service.specs.Served.{IsServed}

@@ -1,5 +1,5 @@
 -- Writes, texts that are told, unmappings, and ends of a hart's own.
-use Rattle.std.proofs.Common.{◌≡◌, ℕ, List, [], ◌∷◌, ◌++◌, length, Option, Some, None, refl, sym, ap, subst, ◌∙◌}
+use Rattle.std.proofs.Common.{◌≡◌, ℕ, List, [], ◌∷◌, length, Option, Some, None, refl, sym, ap, subst, ◌∙◌}
 use Rattle.std.specs.Prelude.{IsTrue}
 use Rattle.std.specs.Option.{option_map}
 use Rattle.std.proofs.lemmas.List.{append-nil}
@@ -8,7 +8,6 @@ use Rattle.ld_base.specs.declared.fault.DlFault.{DlFault}
 use Rattle.ld_base.specs.declared.fault.Shown.TheVariants.{OpenGrant}
 use Rattle.link_calls.specs.Coming.{TellsIn}
 use Rattle.link_event.specs.declared.event.Event.TheVariants.{Ended, Unmapped, Wrote}
-use Rattle.link_event.specs.declared.event.Range.{Range}
 use Rattle.link_event.specs.declared.handed.Removed.{Removed}
 use Rattle.link_event.specs.declared.hart_end.HartEnd.{HartEnd}
 use Rattle.link_event.specs.declared.hart_end.HartEnd.TheVariants as ends

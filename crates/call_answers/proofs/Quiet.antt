@@ -1,7 +1,6 @@
 -- What memory gets of the events of a call, by what the call answers.
 use Rattle.std.proofs.Common.{◌≡◌, inl, inr, ℕ, Bool, true, false, List, [], ◌∷◌, ◌++◌, Option, Some, None, refl, sym, ap, subst, ◌∙◌, append_assoc}
 use Rattle.std.proofs.lemmas.Bool.{true≢false}
-use Rattle.ld_base.specs.declared.linking.Loaded.{Loaded}
 use Rattle.link_event.specs.declared.event.Event.{Event}
 use Rattle.link_event.specs.declared.event.Event.TheVariants as events
 use Rattle.link_event.specs.declared.event.OpenAsk.{OpenAsk}

@@ -1,24 +1,20 @@
 -- The turn of a call that was made.
-use Rattle.std.proofs.Common.{◌≡◌, ℕ, true, false, List, Option, Some, None, refl, sym, subst, ◌∙◌}
-use Rattle.call_laws.specs.Coming.{IsOn, IsOver, NeedsNoRead}
+use Rattle.std.proofs.Common.{◌≡◌, ℕ, true, false, List, Option, sym, subst, ◌∙◌}
+use Rattle.call_laws.specs.Coming.{NeedsNoRead}
 use Rattle.hart_moves.specs.Due.{Due, Return, due}
 use Rattle.hart_moves.specs.Harts.{HartState}
 use Rattle.hart_parts.specs.Views.{back_of, call_in, due_in}
 use Rattle.hart_parts.specs.declared.due.Call.{Call as code_call}
 use Rattle.hart_parts.specs.declared.due.Due.TheVariants as code
-use Rattle.lawful_journal.specs.Following.{machine_of}
 use Rattle.ld_base.specs.declared.linking.File.{File}
 use Rattle.link_event.specs.declared.event.Event.{Event}
 use Rattle.link_event.specs.declared.event.OpenAsk.{OpenAsk}
-use Rattle.link_history.specs.After.{after}
-use Rattle.link_history.specs.Setting.{Setting}
 use Rattle.link_history.specs.State.{State}
 use Rattle.link_service.specs.Call.{Call, opens}
 use Rattle.link_state.specs.Table.{LinkTable}
-use Rattle.turn_answers.specs.Answered.{AnswersTurn}
 use Rattle.turn_answers.specs.declared.answered.Answered.{Answered}
 use Rattle.call_answers.specs.Answers.{AnswersDue, AnswersIn, AnswersOver, is_service}
-use Rattle.call_answers.specs.Openings.{OpensUnlessReadsFail, OpensWholly, ReadsNothing, RefusalShows, ShowsRefusal}
+use Rattle.call_answers.specs.Openings.{OpensUnlessReadsFail, OpensWholly, ReadsNothing, RefusalShows}
 
 -- ---- what came
 

@@ -1,4 +1,4 @@
-use Rattle.std.proofs.Common.{◌≡◌, ℕ, List, Option, Some, refl, sym, subst}
+use Rattle.std.proofs.Common.{sym}
 use Rattle.std.specs.Option.{option_copied}
 use Rattle.hart_moves.specs.Due.{due}
 use Rattle.hart_parts.specs.Views.{back_of, call_in}
@@ -6,7 +6,7 @@ use Rattle.hart_parts.specs.declared.due.Call.TheVariants as call
 use Rattle.link_history.specs.After.{after}
 use Rattle.call_answers.specs.Openings.{dlmopen_ask, dlopen_ask}
 use Rattle.call_answers.proofs.Own.{own_end}
-use Rattle.call_answers.proofs.Turned.{due_of, needs_none, none_shows, other_shows, other_wholly, turned, turned_over, wholly}
+use Rattle.call_answers.proofs.Turned.{due_of, needs_none, other_shows, other_wholly, turned, turned_over, wholly}
 use Rattle.call_answers.proofs.answering.answer.Goals as goal
 
 pub returns-in-Serve-Resolve-clause-answered : goal.returns-in-Serve-Resolve-clause-answered

@@ -1,5 +1,4 @@
 use Rattle.std.proofs.Common.{[], None, refl}
-use Rattle.lawful_journal.specs.Following.{machine_of}
 use Rattle.link_history.specs.Setting.{Setting}
 use Rattle.call_answers.proofs.Came.{given_to}
 use Rattle.call_answers.proofs.ending.end.Goals as goal

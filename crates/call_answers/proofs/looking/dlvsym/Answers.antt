@@ -1,4 +1,4 @@
-use Rattle.std.proofs.Common.{◌≡◌, ℕ, sym, subst, ◌∙◌, ap}
+use Rattle.std.proofs.Common.{ℕ, subst, ◌∙◌, ap}
 use Rattle.link_calls.specs.Coming.{LooksUpIn}
 use Rattle.link_event.specs.declared.event.SymAsk.{SymAsk}
 use Rattle.link_history.specs.After.{after}

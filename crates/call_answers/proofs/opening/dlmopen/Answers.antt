@@ -1,8 +1,5 @@
-use Rattle.std.proofs.Common.{◌≡◌, ℕ, Some, sym, subst, ◌∙◌, ap}
+use Rattle.std.proofs.Common.{◌∙◌, ap}
 use Rattle.std.specs.Option.{option_copied}
-use Rattle.call_laws.specs.Coming.{NeedsNoRead}
-use Rattle.link_calls.specs.Opening.{OpensIn, OpensUnlessReadsFail, asked}
-use Rattle.link_history.specs.After.{after}
 use Rattle.link_service.specs.Call.{opens}
 use Rattle.turn_answers.specs.declared.answered.MemoryChange.TheVariants.{Nothing}
 use Rattle.link_state.specs.Table.{LinkTable}

@@ -1,4 +1,4 @@
-use Rattle.std.proofs.Common.{◌≡◌, ℕ, Some, sym, subst, ◌∙◌, ap}
+use Rattle.std.proofs.Common.{ℕ, Some, sym, subst, ◌∙◌, ap}
 use Rattle.std.specs.Option.{option_copied}
 use Rattle.call_laws.specs.Coming.{NeedsNoRead}
 use Rattle.link_calls.specs.Opening.{OpensIn, OpensUnlessReadsFail, asked}

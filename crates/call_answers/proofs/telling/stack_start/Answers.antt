@@ -1,4 +1,4 @@
-use Rattle.std.proofs.Common.{◌≡◌, ℕ, List, Option, Some, None, ap, subst, find}
+use Rattle.std.proofs.Common.{◌≡◌, List, Option, Some, None, ap, subst, find}
 use Rattle.std.specs.Option.{option_map_or}
 use Rattle.link_event.specs.declared.event.Range.{Range}
 use Rattle.link_service.specs.Startup.{is_stack}
