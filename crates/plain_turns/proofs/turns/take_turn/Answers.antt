@@ -7,8 +7,9 @@ use Rattle.plain_turns.proofs.Rows.{quietly}
 use Rattle.plain_turns.proofs.turns.take_turn.Goals as goal
 
 pub returns-in-Enter : goal.returns-in-Enter
-returns-in-Enter g c = λ s.
-    (subst (λ (d : Due). Turns g.B.Bus.does c.args.bus.now c.args.bus.now d c.args.hart.now.hart c.enter.new.hart.hart c.enter.result) (c.in-Enter.ensures.is s)
-    (quietly g.B.Bus.does c.args.bus.now (Due.enter c.in-Enter.function (entered_frames c.args.hart.now.hart.frames)) c.args.hart.now.hart c.enter.new.hart.hart c.enter.result
-    c.enter.ensures.result c.enter.ensures.row),
-    subst (λ (r : Turned). LeavesSpent c.args.hart.now.hart r c.enter.new.hart.hart) (sym c.enter.ensures.result) tt)
+returns-in-Enter g c = λ s. (
+  subst (λ (d : Due). Turns g.B.Bus.does c.args.bus.now c.args.bus.now d c.args.hart.now.hart c.enter.new.hart.hart c.enter.result) (c.in-Enter.ensures.is s)
+      (quietly g.B.Bus.does c.args.bus.now (Due.enter c.in-Enter.function (entered_frames c.args.hart.now.hart.frames)) c.args.hart.now.hart c.enter.new.hart.hart c.enter.result
+      c.enter.ensures.result c.enter.ensures.row),
+  subst (λ (r : Turned). LeavesSpent c.args.hart.now.hart r c.enter.new.hart.hart) (sym c.enter.ensures.result) tt,
+)
