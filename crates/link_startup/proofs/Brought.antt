@@ -1,0 +1,81 @@
+-- What an opening brings: its objects follow one another, their images can be read, and their constructors are in order.
+use Rattle.std.proofs.Common.{◌≡◌, ℕ, ◌+◌, Bool, List, map, Some, Ok, sym, ap, subst, arith}
+use Rattle.std.specs.List.{Contains, flat_map}
+use Rattle.call_laws.specs.Laws.{AreNumberedFrom, NewEdgesSuffice, NumberedByPlace}
+use Rattle.elf_object.specs.Verdict.{object_verdict}
+use Rattle.image_reads.specs.Reads.{ArePrepared}
+use Rattle.lawful_journal.specs.Following.{MayFollow, machine_of}
+use Rattle.ld_base.specs.declared.linking.Loaded.{Loaded}
+use Rattle.ld_base.specs.declared.object.Object.{Object}
+use Rattle.ld_base.specs.declared.parts.HashTable.{HashTable}
+use Rattle.link_event.specs.declared.event.Event.TheVariants.{Open}
+use Rattle.link_event.specs.declared.event.OpenAnswer.TheVariants.{Done}
+use Rattle.link_event.specs.declared.event.OpenAnswer.{OpenAnswer}
+use Rattle.link_event.specs.declared.event.OpenAsk.{OpenAsk}
+use Rattle.link_event.specs.declared.event.Range.{Range}
+use Rattle.link_event.specs.declared.handed.Function.{Function}
+use Rattle.link_event.specs.declared.handed.Opening.{Opening}
+use Rattle.link_graph.specs.Initialised.{InitOrder, program_last}
+use Rattle.link_history.specs.Accepted.{IsAccepted}
+use Rattle.link_history.specs.After.{after}
+use Rattle.link_history.specs.Legal.{Lawful}
+use Rattle.link_history.specs.Lemmas.Lists.{at_in}
+use Rattle.link_history.specs.Links.{found_edges}
+use Rattle.link_history.specs.Objects.{mapped, serial_of}
+use Rattle.link_history.specs.Read.{WasRead}
+use Rattle.link_history.specs.State.{State}
+use Rattle.link_served.specs.declared.installs.Installs.{Installs}
+use Rattle.link_service.specs.Functions.{AreConstructors, AreOf, constructors, object_of}
+use Rattle.link_state.specs.Opening.{ArePut, IsPut, event_of}
+use Rattle.link_state.specs.Table.{LinkTable, appended}
+use Rattle.object_functions.specs.Rooms.{AreInRow, CanReadAll}
+use Rattle.link_startup.specs.Bringing.{CameLast}
+
+pub in_row : NumberedByPlace → (next : ℕ) (added : List Loaded) → AreNumberedFrom next added → AreInRow added
+in_row by_place next added numbered = λ k first o begins at.
+    let here : first.serial ≡ next + 0 = by_place next 0 added first numbered begins in
+    let there : o.serial ≡ next + k = by_place next k added o numbered at in
+    omega (arith, here, there)
+
+-- the images are those of the objects, which were read
+pub readable : (harts : ℕ) (new : LinkTable) (added : List Loaded) (installs : Installs)
+    → ArePrepared (after new.events) added installs.images → ((o : Loaded) → Contains added o → WasRead (machine_of harts) o)
+    → ((bytes : List ℕ) (program : Bool) (o : Object) (table : HashTable) → object_verdict bytes program ≡ Ok (o, table) → IsAccepted o) → CanReadAll added installs.images
+readable harts new added installs prepared read accepts = record {
+  count = prepared.count;
+  each = λ k o image at at_image.
+      let was = read o (at_in added k o at) in
+      record { accepted = accepts was.bytes was.program o.object o.table was.is; whole = (prepared.each k o image at at_image).is.relocated.all };
+}
+
+pub constructed : NewEdgesSuffice → (old new : LinkTable) (hart id root : ℕ) (ask : OpenAsk) (added : List Loaded) (ranges : List Range) (order : List ℕ) (functions : List Function)
+    → Lawful (machine_of old.harts) old.events → MayFollow old.harts old.events (Open hart ask (Done id root added ranges))
+    → new ≡ appended old (Open hart ask (Done id root added ranges))
+    → InitOrder (flat_map found_edges added) (program_last (Some 1) (map serial_of added)) order → map object_of functions ≡ order
+    → AreOf (after new.events) constructors functions → AreConstructors (after new.events) (map serial_of added) functions
+constructed suffices old new hart id root ask added ranges order functions lawful may is ordered are addresses = record {
+  order = subst (λ (t : LinkTable). InitOrder (flat_map found_edges (mapped (after t.events))) (program_last (Some 1) (map serial_of added)) (map object_of functions)) (sym is)
+      (suffices (machine_of old.harts) may.setting old.events hart id root ask added ranges (map object_of functions) may.machine lawful may.may
+      (subst (InitOrder (flat_map found_edges added) (program_last (Some 1) (map serial_of added))) (sym are) ordered));
+  addresses = addresses;
+}
+
+-- the state with the event
+pub came_last : (old new : LinkTable) (hart id root : ℕ) (ask : OpenAsk) (added : List Loaded) (ranges : List Range) → new ≡ appended old (Open hart ask (Done id root added ranges))
+    → CameLast new.events added
+came_last old new hart id root ask added ranges is = record {
+  past = old.events;
+  hart = hart;
+  ask = ask;
+  id = id;
+  root = root;
+  ranges = ranges;
+  are = ap (λ (t : LinkTable). t.events) is;
+}
+
+-- what memory gets of an opening that brings objects
+pub put_so : (s : State) (hart id root : ℕ) (ask : OpenAsk) (added : List Loaded) (ranges : List Range) (o : Opening) (installs : Installs)
+    → event_of o ≡ Open hart ask (Done id root added ranges) → IsPut s o.answer installs → ArePut s added ranges installs
+put_so s hart id root ask added ranges o installs is put =
+    let same : o.answer ≡ Done id root added ranges = cc in
+    subst (λ (a : OpenAnswer). IsPut s a installs) same put

@@ -1,0 +1,4 @@
+pub mod Brought
+pub mod Fails
+pub mod First
+pub mod Opened

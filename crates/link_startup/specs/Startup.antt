@@ -1,0 +1,87 @@
+-- What startup comes to.
+use Rattle.std.specs.Prelude.{◌≡◌, ℕ, List, [], ◌∷◌, Option, Some, None, Result, Ok, Err}
+use Rattle.ld_base.specs.declared.fault.DlFault.{DlFault}
+use Rattle.ld_base.specs.declared.linking.File.{File}
+use Rattle.ld_base.specs.declared.linking.Loaded.{Loaded}
+use Rattle.library_source.specs.Count.{Rises}
+use Rattle.link_event.specs.declared.event.Event.{Event}
+use Rattle.link_event.specs.declared.event.Range.{Range}
+use Rattle.link_history.specs.After.{after}
+use Rattle.link_history.specs.Allowed.{Allowed}
+use Rattle.link_history.specs.Setting.{Setting}
+use Rattle.link_served.specs.declared.startup.Setup.{Setup}
+use Rattle.link_served.specs.declared.startup.StartFault.{StartFault}
+use Rattle.link_served.specs.declared.startup.StartFault.TheVariants as starts
+use Rattle.link_service.specs.Startup.{FailsToStart, FindHarts, opening, program_ask}
+use Rattle.opening_plan.specs.Planned.{PlansNew, ShowsInNoCount}
+use Rattle.opening_plan.specs.Startup.{run_of}
+use Rattle.opening_plan.specs.declared.planning.NewObjects.{NewObjects}
+use Rattle.opening_plan.specs.declared.planning.Unopened.TheVariants as unopened
+use Rattle.start_parts.specs.declared.harts.Unstarted.{Unstarted}
+use Rattle.start_parts.specs.declared.harts.Unstarted.TheVariants as unstarted
+
+-- it doesn't start: the first refusal and the events up to it, or memory is wanted
+abbrev pub IsNotStarted : Setting → Setup → StartFault → Type 0
+IsNotStarted w setup (starts.Refused fault journal) = FailsToStart w setup fault journal.events
+IsNotStarted w setup starts.Memory = Unit {0}
+
+-- which refusal it is, if it is one
+abbrev pub fault_of : StartFault → Option DlFault
+fault_of (starts.Refused fault journal) = Some fault
+fault_of starts.Memory = None
+
+abbrev pub refusal_in : {X : Type 0} → Result X StartFault → Option DlFault
+refusal_in (Ok run) = None
+refusal_in (Err why) = fault_of why
+
+-- it starts, or memory is wanted
+abbrev pub StartsOr : {X : Type 0} → Result X StartFault → Type 0
+StartsOr (Ok run) = Unit {0}
+StartsOr (Err (starts.Refused fault journal)) = ⊥
+StartsOr (Err starts.Memory) = Unit {0}
+
+-- the program opens, and the harts' names are found
+pub record MayStart (w : Setting) (setup : Setup) : Type 0 where
+  pub root : ℕ
+  pub added : List Loaded
+  pub ranges : List Range
+  pub found : List Event
+  pub addresses : List ℕ
+  pub opens : Allowed w [] (opening setup root added ranges)
+  pub finds : FindHarts w (opening setup root added ranges ∷ []) 1 setup.harts found addresses
+
+-- where the library tells its files and no read failed, a run that may start over them starts
+abbrev pub StartsWhole : {X : Type 0} → Setup → Option (List File) → ℕ → ℕ → Result X StartFault → Type 0
+StartsWhole setup files failures failures' result =
+    (told : List File) → files ≡ Some told → ¬ (Rises failures failures') → MayStart (run_of setup files) setup → StartsOr result
+
+-- ---- for the code of this crate alone
+
+-- what the opening of the program is to bring, over these files
+abbrev pub PlansStart : Setup → Option (List File) → NewObjects → Type 0
+PlansStart setup files news = PlansNew (run_of setup files) (after []) 0 (program_ask setup) setup.program 0 news
+
+abbrev pub fault_in : Unstarted → Option DlFault
+fault_in (unstarted.Refused fault) = Some fault
+fault_in unstarted.Memory = None
+
+abbrev pub refusal_of : {X : Type 0} → Result X Unstarted → Option DlFault
+refusal_of (Ok started) = None
+refusal_of (Err why) = fault_in why
+
+-- the first refusal is noted, with the events up to it
+abbrev pub IsUnstarted : Setting → Setup → List Event → Unstarted → Type 0
+IsUnstarted w setup events (unstarted.Refused fault) = FailsToStart w setup fault events
+IsUnstarted w setup events unstarted.Memory = Unit {0}
+
+-- no file is the cause of it
+abbrev pub IsOfNoFile : Unstarted → Type 0
+IsOfNoFile (unstarted.Refused fault) = ShowsInNoCount (unopened.Refused fault)
+IsOfNoFile unstarted.Memory = Unit {0}
+
+-- the same cause, with the events so far
+abbrev pub FailsAs : List Event → Unstarted → StartFault → Type 0
+FailsAs events (unstarted.Refused fault) (starts.Refused other journal) = (other ≡ fault) × (journal.events ≡ events)
+FailsAs events (unstarted.Refused fault) starts.Memory = ⊥
+FailsAs events unstarted.Memory (starts.Refused other journal) = ⊥
+FailsAs events unstarted.Memory starts.Memory = Unit {0}

@@ -1,0 +1,54 @@
+//! What runs before all constructors.
+
+ghost use Rattle.std.specs.Prelude.{◌≡◌, IfOk};
+ghost use Rattle.link_history.specs.After.{after};
+ghost use Rattle.link_history.specs.Memory.{image_of};
+ghost use Rattle.link_service.specs.Functions.{AreAddresses, preceded, preinits};
+ghost use Rattle.link_startup.specs.Bringing.{IsBrought};
+
+use image_reads::{preinit_count, push_preinits};
+use link_event::{Addresses, Functions};
+use link_served::Installs;
+use link_state::LinkState;
+use start_parts::startup_objects;
+use std::alloc::{AllocError, Global};
+
+/// The entries of the program's DT_PREINIT_ARRAY, once it is opened.
+///
+/// # Errors
+///
+/// Want of memory.
+pub(crate) fn preinits(
+    alloc: Global,
+    state: &LinkState,
+    installs: &Installs,
+) -> Result<Vec<u64>, AllocError>
+    requires { IsBrought state.now.events installs.now }
+    ensures { IfOk result (λ addresses. AreAddresses preinits addresses.items (image_of (after state.now.events) 1)) }
+{
+    let (objects, _) = startup_objects(state);
+    let program = &objects[0];
+    let image = &installs.images.as_slice()[0];
+    let mut addresses = Vec::with_capacity(alloc, preinit_count(&program.object))?;
+    push_preinits(&mut addresses, image, &program.object, program.base);
+    Ok(addresses)
+}
+
+/// Functions with these addresses in front of the first object's.
+///
+/// # Errors
+///
+/// Want of memory.
+pub(crate) fn preceded(
+    mut addresses: Vec<u64>,
+    functions: Functions,
+) -> Result<Functions, AllocError>
+    ensures { IfOk result (λ all. all ≡ preceded addresses.items functions) }
+{
+    let mut functions = functions.into_vec();
+    if let Some(first) = functions.first_mut() {
+        addresses.extend_from_slice(first.addresses.as_slice())?;
+        first.addresses = Addresses::from(addresses);
+    }
+    Ok(Functions::from(functions))
+}
