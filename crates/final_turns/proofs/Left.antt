@@ -18,6 +18,7 @@ use Rattle.link_history.specs.State.{State}
 use Rattle.link_history.specs.Step.{finalise}
 use Rattle.link_history.specs.Lemmas.Finalised.{from_reverse}
 use Rattle.link_history.specs.Lemmas.Lists.{from_filter, here, in_has, later}
+use Rattle.link_service.specs.Lemmas.Finishing.{filter_reverse}
 use Rattle.hart_moves.specs.Moves.{all_finis}
 use Rattle.final_turns.specs.Planned.{is_other}
 
@@ -35,15 +36,6 @@ filter_alike : {X : Type 0} (p q : X → Bool) (xs : List X) → ((x : X) → p 
 filter_alike {X} p q [] alike = refl
 filter_alike {X} p q (x ∷ xs) alike =
     ap (λ (b : Bool). cond b (x ∷ filter p xs) (filter p xs)) (alike x) ∙ ap (λ (ys : List X). cond (q x) (x ∷ ys) ys) (filter_alike p q xs alike)
-
-filter_reverse : {X : Type 0} (p : X → Bool) (xs : List X) → filter p (reverse xs) ≡ reverse (filter p xs)
-filter_reverse {X} p [] = refl
-filter_reverse {X} p (x ∷ xs) =
-    ap (filter p) (reverse_onto xs x []) ∙ filter-append p (reverse xs) (x ∷ []) ∙ ap (λ (ys : List X). ys ++ filter p (x ∷ [])) (filter_reverse p xs) ∙ by (p x)
-  where
-    by : (b : Bool) → reverse (filter p xs) ++ cond b (x ∷ []) [] ≡ reverse (cond b (x ∷ filter p xs) (filter p xs))
-    by true = sym (reverse_onto (filter p xs) x [])
-    by false = append-nil (reverse (filter p xs))
 
 -- the others alone
 pub all_others : (d : ℕ) (xs : List ℕ) → ((x : ℕ) → Contains xs x → d ≢ x) → filter (is_other d) xs ≡ xs

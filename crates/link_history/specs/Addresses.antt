@@ -1,5 +1,5 @@
 -- What a choice comes to: S, the address of its definition (psABI, "Relocations"), and whether it is code.
-use Rattle.std.specs.Prelude.{ℕ, ◌+◌, ◌*◌, Bool, true, false, not, ◌&&◌, ◌==◌, nat_le, nat_lt, if◌then◌else◌, Option, Some, None}
+use Rattle.std.specs.Prelude.{ℕ, ◌+◌, ◌*◌, ◌%◌, ◌^◌, Bool, true, false, not, ◌&&◌, ◌==◌, nat_le, nat_lt, if◌then◌else◌, Option, Some, None}
 use Rattle.std.specs.List.{slice_get}
 use Rattle.std.specs.Option.{option_map_or, option_and_then}
 use Rattle.ld_base.specs.Symbol.{is_absolute}
@@ -25,9 +25,9 @@ is_linkers_page a = nat_le linker_page a && nat_lt a 0x810000
 abbrev pub linker_function : ℕ → ℕ
 linker_function index = linker_page + 16 * index
 
--- the address of an object's symbol: its value and the base, or the value alone (SHN_ABS)
+-- the address of an object's symbol, of 64 bits: its value and the base, or the value alone (SHN_ABS)
 abbrev pub symbol_address : Loaded → Symbol → ℕ
-symbol_address o symbol = if is_absolute symbol then symbol.value else guest_address o.base symbol.value
+symbol_address o symbol = if is_absolute symbol then symbol.value % 2 ^ 64 else guest_address o.base symbol.value
 
 abbrev pub symbol_at : Object → ℕ → Option Symbol
 symbol_at o index = slice_get o.symbols index

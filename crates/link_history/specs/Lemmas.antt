@@ -26,10 +26,12 @@ pub mod Holders
 pub mod Imaged
 pub mod InRow
 pub mod Initialised
+pub mod InPlace
 pub mod Lately
 pub mod Lazy
 pub mod LeftOut
 pub mod Lists
+pub mod LoadWords
 pub mod Lookups
 pub mod Map
 pub mod Matched

@@ -108,9 +108,10 @@ fn definition_in(object: &Loaded, index: u32) -> u64
 fn symbol_address(object: &Loaded, symbol: &Symbol) -> u64
     ensures { result ≡ symbol_address object.now symbol.now }
 {
+    let value = symbol.value;
     if symbol.is_absolute() {
-        symbol.value
+        value
     } else {
-        object.base.wrapping_add(symbol.value)
+        object.base.wrapping_add(value)
     }
 }

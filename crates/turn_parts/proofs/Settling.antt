@@ -6,25 +6,13 @@ use Rattle.link_event.specs.declared.event.Event.{Event}
 use Rattle.link_history.specs.Allowed.{Allowed}
 use Rattle.link_history.specs.Legal.{Legal}
 use Rattle.link_history.specs.Setting.{Setting}
+use Rattle.link_history.specs.Lemmas.History.{one_behind}
 use Rattle.hart_moves.specs.Harts.{HartState}
 use Rattle.hart_moves.specs.Moves.{AreAllowed}
+use Rattle.hart_moves.specs.Lemmas.Legality.{allowed_split}
 use Rattle.world_turns.specs.Laws.{SettlingIsSound}
 use Rattle.world_turns.specs.World.{settled_by, settling}
-use Rattle.world_turns.specs.Lemmas.Events.{one_behind}
-use Rattle.turn_parts.specs.Settling.{AllowedJoin, AllowedSplit, NextMaySettle, SettlingMayCome}
-
--- ---- some events after others
-
-pub allowed_split : AllowedSplit
-allowed_split w past [] rest may = (tt, subst (λ (es : List Event). AreAllowed w es rest) (sym (append-nil past)) may)
-allowed_split w past (e ∷ front) rest may =
-    let more = allowed_split w (past ++ e ∷ []) front rest may.1 in
-    ((may.0, more.0), subst (λ (es : List Event). AreAllowed w es rest) (one_behind past e front) more.1)
-
-pub allowed_join : AllowedJoin
-allowed_join w past [] rest first more = subst (λ (es : List Event). AreAllowed w es rest) (append-nil past) more
-allowed_join w past (e ∷ front) rest first more =
-    (first.0, allowed_join w (past ++ e ∷ []) front rest first.1 (subst (λ (es : List Event). AreAllowed w es rest) (sym (one_behind past e front)) more))
+use Rattle.turn_parts.specs.Settling.{NextMaySettle, SettlingMayCome}
 
 at_seam : (past : List Event) (e : Event) (rest : List Event) → slice_get (past ++ e ∷ rest) (length past) ≡ Some e
 at_seam [] e rest = refl

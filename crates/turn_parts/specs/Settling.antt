@@ -11,13 +11,6 @@ use Rattle.world_turns.specs.Laws.{LoadsFit}
 use Rattle.world_turns.specs.Sound.{Sound}
 use Rattle.world_turns.specs.World.{World, settled_by, settling}
 
--- some events may come one after another where those in front may, and then those behind
-abbrev pub AllowedSplit : Type 0
-AllowedSplit = (w : Setting) (past front rest : List Event) → AreAllowed w past (front ++ rest) → AreAllowed w past front × AreAllowed w (past ++ front) rest
-
-abbrev pub AllowedJoin : Type 0
-AllowedJoin = (w : Setting) (past front rest : List Event) → AreAllowed w past front → AreAllowed w (past ++ front) rest → AreAllowed w past (front ++ rest)
-
 -- in a sound world the harts may be settled, in their order
 abbrev pub SettlingMayCome : Type 0
 SettlingMayCome = (w : Setting) (world : World) → AcceptsOnly w.machine → LoadsFit (after world.journal) → Sound w world

@@ -2,7 +2,7 @@
 
 ghost use Rattle.turn_parts.specs.Freed.{FreedIsDue, FreedMoves, FreedTakesTurns};
 ghost use Rattle.turn_parts.specs.Leaving.{AllLeave, AllStay, OneStays, OthersLeave};
-ghost use Rattle.turn_parts.specs.Settling.{AllowedJoin, AllowedSplit, NextMaySettle, SettlingMayCome};
+ghost use Rattle.turn_parts.specs.Settling.{NextMaySettle, SettlingMayCome};
 
 /// A hart whose grant is settled is due the same turn, and where that turn settles it is one of the hart
 /// as it was before.
@@ -12,13 +12,10 @@ pub fn freed_harts_move()
     ensures turn { FreedTakesTurns }
 {}
 
-/// In a sound world harts may be settled one after another, each behind those before it. Events that may
-/// come are those in front and those behind them, so that a loop over harts has the rest to go.
+/// In a sound world harts may be settled one after another, each behind those before it.
 pub fn settling_may_come()
     ensures all { SettlingMayCome }
     ensures next { NextMaySettle }
-    ensures split { AllowedSplit }
-    ensures join { AllowedJoin }
 {
     world_turns::turns_stay_sound();
 }

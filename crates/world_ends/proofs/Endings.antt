@@ -17,12 +17,11 @@ use Rattle.link_event.specs.declared.state.Ending.{Ending}
 use Rattle.link_history.specs.After.{after}
 use Rattle.link_history.specs.State.{State}
 use Rattle.link_history.specs.Step.{die, initialise, loaded, lower, step, unmap}
-use Rattle.link_history.specs.Lemmas.History.{after_push}
+use Rattle.link_history.specs.Lemmas.History.{after_push, one_behind}
 use Rattle.link_history.specs.Lemmas.Lists.{here, only_in}
 use Rattle.hart_moves.specs.Harts.{HartState}
 use Rattle.hart_moves.specs.Moves.{freed}
 use Rattle.turn_events.specs.Appends.{NoneEndsOrUnmaps, neither_ends_nor_unmaps}
-use Rattle.world_turns.specs.Lemmas.Events.{one_behind}
 use Rattle.world_turns.specs.Lemmas.Turning.{freed_at}
 use Rattle.world_ends.specs.Ends.{AreEndings}
 use Rattle.world_ends.specs.Lemmas.Places.{at_set, count_freed, count_more, count_same, ended_by, freed_here, in_set, runs_on, set_here}

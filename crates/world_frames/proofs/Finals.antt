@@ -23,7 +23,7 @@ use Rattle.link_history.specs.Setting.{Machine, Setting, are_finals, have_exited
 use Rattle.link_history.specs.State.{State}
 use Rattle.link_history.specs.Step.{die, initialise, loaded, lower, step, unmap}
 use Rattle.link_history.specs.Lemmas.Finalised.{from_reverse}
-use Rattle.link_history.specs.Lemmas.History.{after_push, legal_is_lawful}
+use Rattle.link_history.specs.Lemmas.History.{after_push, legal_is_lawful, one_behind}
 use Rattle.link_history.specs.Lemmas.Lists.{found_in, from_filter, from_flat, from_map, has_in, here, in_has}
 use Rattle.link_service.specs.Functions.{left, passed}
 use Rattle.link_service.specs.Lemmas.Unique.{both_found}
@@ -36,7 +36,7 @@ use Rattle.turn_frames.specs.Leaves.{AreFrames, LeavesFrames, behind_first}
 use Rattle.turn_frames.specs.Lemmas.Turning.{runs_frames, turns_leave_frames}
 use Rattle.world_turns.specs.Turn.{Turn}
 use Rattle.world_turns.specs.World.{World, found_harts, found_journal}
-use Rattle.world_turns.specs.Lemmas.Events.{legal_front, one_behind}
+use Rattle.world_turns.specs.Lemmas.Events.{legal_front}
 use Rattle.world_ends.specs.Ends.{InFinals, has_exited}
 use Rattle.world_ends.specs.Laws.{FinalsBegin, TurnsKeepFinals}
 use Rattle.world_ends.specs.Lemmas.Places.{each_passes, exited_ends, freed_here, running, runs_on, set_here}

@@ -20,7 +20,7 @@ use Rattle.link_history.specs.Links.{finis_of}
 use Rattle.link_history.specs.Setting.{Setting}
 use Rattle.link_history.specs.State.{State}
 use Rattle.link_history.specs.Step.{die, initialise, loaded, lower, settle, step, unmap}
-use Rattle.link_history.specs.Lemmas.History.{after_push, lawful_push}
+use Rattle.link_history.specs.Lemmas.History.{after_push, lawful_push, one_behind}
 use Rattle.link_history.specs.Lemmas.Lists.{here, later}
 use Rattle.link_service.specs.Functions.{object_of}
 use Rattle.link_service.specs.Laws.{FinishesStay, StartsStay}
@@ -28,7 +28,6 @@ use Rattle.hart_moves.specs.Harts.{Frame, HartState, Offered, Purpose, Resolving
 use Rattle.hart_moves.specs.Moves.{AreAllowed, Did, settles}
 use Rattle.turn_frames.specs.Leaves.{NoneTouchesFrames, touches_no_frame}
 use Rattle.world_turns.specs.World.{World, found_journal, has_won, settled_by, settling, settling_event}
-use Rattle.world_turns.specs.Lemmas.Events.{one_behind}
 use Rattle.world_frames.specs.Belong.{AreFramesOf, IsFrameOf, IsOfClosing, IsOfOpening, Origin}
 
 -- ---- what is settled touches no frame

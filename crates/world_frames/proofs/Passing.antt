@@ -21,7 +21,7 @@ use Rattle.link_history.specs.Objects.{serial_of}
 use Rattle.link_history.specs.Setting.{Setting}
 use Rattle.link_history.specs.State.{State}
 use Rattle.link_history.specs.Step.{closing_of, die, initialise, loaded, lower, step, unmap}
-use Rattle.link_history.specs.Lemmas.History.{after_push, by_lawful, lawful_push, legal_is_lawful}
+use Rattle.link_history.specs.Lemmas.History.{after_push, by_lawful, lawful_push, legal_is_lawful, one_behind}
 use Rattle.link_history.specs.Lemmas.Lists.{from_filter, here, none_in, only_in}
 use Rattle.link_service.specs.Functions.{AreConstructors, AreDestructors, AreLeft, left, object_of, passed}
 use Rattle.link_service.specs.Laws.{NextFinishes, NextStarts, OpeningBegins}
@@ -29,7 +29,6 @@ use Rattle.link_service.specs.Waiting.{HasFinished}
 use Rattle.link_service.specs.Lemmas.Finishing.{passed_first}
 use Rattle.hart_moves.specs.Harts.{Purpose}
 use Rattle.hart_moves.specs.Moves.{AreAllowed, passing}
-use Rattle.world_turns.specs.Lemmas.Events.{one_behind}
 use Rattle.world_frames.specs.Belong.{AreFramesOf, IsFrameOf, IsOfClosing, IsOfOpening, Origin}
 use Rattle.world_frames.specs.Laws.{ClosingsPass, FramesClose, FramesFinish, FramesPass, OpeningsPass}
 use Rattle.world_frames.proofs.Events.{fini_leaves, finis, inits}

@@ -25,7 +25,7 @@ use Rattle.link_history.specs.Setting.{Machine, Setting}
 use Rattle.link_history.specs.State.{State}
 use Rattle.link_history.specs.Step.{lower, lowered_in}
 use Rattle.link_history.specs.Lemmas.Brought.{LoadLaws, in_range}
-use Rattle.link_history.specs.Lemmas.History.{lawful_push, legal_is_lawful}
+use Rattle.link_history.specs.Lemmas.History.{lawful_push, legal_is_lawful, one_behind}
 use Rattle.link_history.specs.Lemmas.Lists.{at_in, first_or_later, from_filter, has_in, here, in_map, none_in}
 use Rattle.link_history.specs.Lemmas.Serials.{in_order_after}
 use Rattle.link_history.specs.Lemmas.Tidy.{in_at}
@@ -43,7 +43,7 @@ use Rattle.turn_frames.specs.Leaves.{AreFrames, LeavesFrames, NoneTouchesFrames,
 use Rattle.turn_frames.specs.Lemmas.Turning.{turns_leave_frames}
 use Rattle.world_turns.specs.Turn.{Turn}
 use Rattle.world_turns.specs.World.{World, found_harts, found_journal}
-use Rattle.world_turns.specs.Lemmas.Events.{legal_front, one_behind}
+use Rattle.world_turns.specs.Lemmas.Events.{legal_front}
 use Rattle.world_turns.specs.Lemmas.Turning.{freed_at}
 use Rattle.world_ends.specs.Ends.{BeforeFinals}
 use Rattle.world_ends.specs.Lemmas.Places.{at_set, freed_here, set_here}

@@ -15,7 +15,7 @@ use Rattle.link_history.specs.Legal.{Lawful, Legal}
 use Rattle.link_history.specs.Setting.{Machine, Setting}
 use Rattle.link_history.specs.State.{Linked, State}
 use Rattle.link_history.specs.Lemmas.Brought.{LoadLaws}
-use Rattle.link_history.specs.Lemmas.History.{after_push, legal_is_lawful}
+use Rattle.link_history.specs.Lemmas.History.{after_push, legal_is_lawful, one_behind}
 use Rattle.link_history.specs.Lemmas.Steps.{good_after}
 use Rattle.memory_holds.specs.Enters.{SlotStays}
 use Rattle.memory_holds.specs.Holds.{lazy_at}
@@ -28,7 +28,6 @@ use Rattle.world_turns.specs.Sound.{Sound}
 use Rattle.world_turns.specs.Throughout.{LoadsAlwaysFit}
 use Rattle.world_turns.specs.Turn.{Turn}
 use Rattle.world_turns.specs.World.{World, settling}
-use Rattle.world_turns.specs.Lemmas.Events.{one_behind}
 use Rattle.world_turns.specs.Lemmas.Running.{constructs, finishes, items_keep}
 use Rattle.world_ends.specs.Lemmas.Settled.{settling_keeps}
 use Rattle.world_slots.specs.Later.{Later, Steps}

@@ -17,7 +17,7 @@ use Rattle.link_history.specs.Setting.{Setting}
 use Rattle.link_history.specs.Grants.{is_open}
 use Rattle.link_history.specs.State.{State}
 use Rattle.link_history.specs.Step.{settle, settled_as, step}
-use Rattle.link_history.specs.Lemmas.History.{after_push}
+use Rattle.link_history.specs.Lemmas.History.{after_push, one_behind}
 use Rattle.link_history.specs.Lemmas.Lists.{from_map, here, later, none_in, only_in}
 use Rattle.link_service.specs.Laws.{hart_of}
 use Rattle.link_service.specs.Lemmas.Unique.{both_found}
@@ -29,7 +29,6 @@ use Rattle.world_turns.specs.Run.{Begins, IsStarted, LacksMemory, settled}
 use Rattle.world_turns.specs.Throughout.{GrantsAreOfHarts, RunsGrantHarts, RunsLeaveNoGrant, RunsAreSound, RunsSettle}
 use Rattle.world_turns.specs.Turn.{Turn}
 use Rattle.world_turns.specs.World.{World, found_harts, found_journal, has_won, settled_by, settling, settling_event}
-use Rattle.world_turns.specs.Lemmas.Events.{one_behind}
 use Rattle.world_turns.specs.Lemmas.Offers.{granted_to, grants}
 use Rattle.world_turns.specs.Lemmas.Running.{constructs, finals, finishes, items_keep}
 use Rattle.world_turns.specs.Lemmas.Starting.{start_grants}

@@ -6,7 +6,7 @@ use Rattle.link_event.specs.declared.event.Event.TheVariants.{Bound, Lost}
 use Rattle.link_history.specs.After.{after}
 use Rattle.link_history.specs.State.{State}
 use Rattle.link_history.specs.Step.{step}
-use Rattle.link_history.specs.Lemmas.History.{after_push}
+use Rattle.link_history.specs.Lemmas.History.{after_push, one_behind}
 use Rattle.link_service.specs.Call.{caller_namespace}
 use Rattle.link_service.specs.Lemmas.Unique.{both_found}
 use Rattle.hart_moves.specs.Due.{by_phase, call_of, due}
@@ -14,7 +14,6 @@ use Rattle.hart_moves.specs.Harts.{HartState, Offered, Resolving}
 use Rattle.hart_moves.specs.Moves.{settles}
 use Rattle.world_turns.specs.Next.{OneDue, SettlingKeepsDue}
 use Rattle.world_turns.specs.World.{World, has_won, settled_by, settling, settling_event}
-use Rattle.world_turns.specs.Lemmas.Events.{one_behind}
 
 due_bound : (s : State) (number : ℕ) (b : HartState) → due (step s (Bound number)) b ≡ due s b
 unfolding due by_phase call_of caller_namespace

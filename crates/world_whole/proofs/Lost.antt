@@ -15,13 +15,12 @@ use Rattle.link_history.specs.After.{after}
 use Rattle.link_history.specs.State.{State}
 use Rattle.link_history.specs.Grants.{is_open}
 use Rattle.link_history.specs.Step.{die, initialise, loaded, lower, settled_as, step, unmap}
-use Rattle.link_history.specs.Lemmas.History.{after_push}
+use Rattle.link_history.specs.Lemmas.History.{after_push, one_behind}
 use Rattle.link_history.specs.Lemmas.Lists.{here, later, only_in}
 use Rattle.link_history.specs.Lemmas.Tidy.{Settled, was_settled}
 use Rattle.link_service.specs.Laws.{hart_of}
 use Rattle.hart_moves.specs.Harts.{HartState, Offered, Resolving}
 use Rattle.world_turns.specs.World.{has_won, settled_by, settling, settling_event}
-use Rattle.world_turns.specs.Lemmas.Events.{one_behind}
 
 -- ---- a hart's event loses no grant
 

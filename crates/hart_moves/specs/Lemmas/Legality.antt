@@ -2,7 +2,7 @@
 use Rattle.std.proofs.Common.{◌≡◌, ◌⊎◌, inl, inr, ⊎_elim, ℕ, ◌+◌, ◌*◌, Bool, true, false, not, cond, ◌&&◌, List, [], ◌∷◌, ◌++◌, map, Option, Some, None, Result, Ok, Err, refl, sym, ap, subst, ◌∙◌}
 use Rattle.std.specs.List.{Contains}
 use Rattle.std.specs.Option.{is_some}
-use Rattle.std.proofs.lemmas.List.{append-nil, append_assoc}
+use Rattle.std.proofs.lemmas.List.{append-nil}
 use Rattle.link_event.specs.declared.event.Event.{Event}
 use Rattle.link_event.specs.declared.event.Event.TheVariants as events
 use Rattle.link_event.specs.declared.handed.Function.{Function}
@@ -22,7 +22,7 @@ use Rattle.link_history.specs.Legal.{Legal}
 use Rattle.link_history.specs.Objects.{has, object_at}
 use Rattle.link_history.specs.Setting.{Setting}
 use Rattle.link_history.specs.State.{State}
-use Rattle.link_history.specs.Lemmas.History.{legal_push}
+use Rattle.link_history.specs.Lemmas.History.{legal_push, one_behind}
 use Rattle.link_history.specs.Lemmas.Lists.{first_or_later, here, later, none_in, only_in}
 use Rattle.link_service.specs.Answer.{Answer, returns, loading, closing, refused, granted, told, again, over}
 use Rattle.link_service.specs.Call.{Call}
@@ -40,17 +40,22 @@ use Rattle.hart_moves.specs.Moves.{Did, events_of, spent, freed, freed_by, did_b
 
 -- ---- events
 
-one_behind : (past : List Event) (e : Event) (more : List Event) → (past ++ e ∷ []) ++ more ≡ past ++ e ∷ more
-one_behind past e more = append_assoc past (e ∷ []) more
-
 legal_with : (w : Setting) (past added : List Event) → Legal w past → AreAllowed w past added → Legal w (past ++ added)
 legal_with w past [] legal may = subst (Legal w) (sym (append-nil past)) legal
 legal_with w past (e ∷ rest) legal may = subst (Legal w) (one_behind past e rest) (legal_with w (past ++ e ∷ []) rest (legal_push w past e legal may.0) may.1)
 
-allowed_with : (w : Setting) (past one other : List Event) → AreAllowed w past one → AreAllowed w (past ++ one) other → AreAllowed w past (one ++ other)
+-- events may come one after another where those in front may, and then those behind
+pub allowed_with : (w : Setting) (past one other : List Event) → AreAllowed w past one → AreAllowed w (past ++ one) other → AreAllowed w past (one ++ other)
 allowed_with w past [] other a b = subst (λ (es : List Event). AreAllowed w es other) (append-nil past) b
 allowed_with w past (e ∷ rest) other a b =
     (a.0, allowed_with w (past ++ e ∷ []) rest other a.1 (subst (λ (es : List Event). AreAllowed w es other) (sym (one_behind past e rest)) b))
+
+-- and those in front may, and then those behind, where all may
+pub allowed_split : (w : Setting) (past one other : List Event) → AreAllowed w past (one ++ other) → AreAllowed w past one × AreAllowed w (past ++ one) other
+allowed_split w past [] other may = (tt, subst (λ (es : List Event). AreAllowed w es other) (sym (append-nil past)) may)
+allowed_split w past (e ∷ rest) other may =
+    let more = allowed_split w (past ++ e ∷ []) rest other may.1 in
+    ((may.0, more.0), subst (λ (es : List Event). AreAllowed w es other) (one_behind past e rest) more.1)
 
 given_allowed : (w : Setting) (past : List Event) (h : ℕ) (call : Call) (given : List Event) (answer : Answer) → Gives w past h call given answer → AreAllowed w past given
 given_allowed w past h call given answer (Gives.by_event _ e _ answers may) = (may, tt)

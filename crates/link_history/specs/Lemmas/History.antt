@@ -1,5 +1,5 @@
 -- Journals event by event: what is pushed, what a prefix keeps, and induction over lawful ones.
-use Rattle.std.proofs.Common.{◌≡◌, ◌⊎◌, inl, inr, ⊎_elim, ℕ, zero, suc, List, [], ◌∷◌, ◌++◌, take, length, Some, None, refl, sym, ap, subst, arith}
+use Rattle.std.proofs.Common.{◌≡◌, ◌⊎◌, inl, inr, ⊎_elim, ℕ, zero, suc, List, [], ◌∷◌, ◌++◌, take, length, append_assoc, Some, None, refl, sym, ap, subst, arith}
 use Rattle.std.specs.List.{slice_get}
 use Rattle.std.proofs.lemmas.List.{take_all}
 use Rattle.link_event.specs.declared.event.Event.{Event}
@@ -9,6 +9,10 @@ use Rattle.link_history.specs.After.{after, after_from}
 use Rattle.link_history.specs.Allowed.{Allowed, AllowedIn}
 use Rattle.link_history.specs.Legal.{Legal, Lawful}
 use Rattle.link_history.specs.Setting.{Machine, Setting}
+
+-- some events behind one
+pub one_behind : (past : List Event) (e : Event) (more : List Event) → (past ++ e ∷ []) ++ more ≡ past ++ e ∷ more
+one_behind past e more = append_assoc past (e ∷ []) more
 
 -- the state after events and one more
 from_push : (s : State) (events : List Event) (e : Event) → after_from s (events ++ e ∷ []) ≡ step (after_from s events) e

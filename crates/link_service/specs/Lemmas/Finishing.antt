@@ -38,7 +38,7 @@ module _ {X : Type 0} where
   one_more p x xs ys e = ap (λ zs. if p x then x ∷ zs else zs) e
 
   -- two filters change places
-  swapped : (p q : X → Bool) (xs : List X) → filter p (filter q xs) ≡ filter q (filter p xs)
+  pub swapped : (p q : X → Bool) (xs : List X) → filter p (filter q xs) ≡ filter q (filter p xs)
   swapped p q [] = refl
   swapped p q (x ∷ xs) = by (q x) refl (p x) refl (swapped p q xs)
     where
@@ -49,7 +49,7 @@ module _ {X : Type 0} where
       by false e true d same = same ∙ sym (one_more q x (filter p xs) _ refl ∙ ap (λ t. if t then x ∷ filter q (filter p xs) else filter q (filter p xs)) e)
       by false e false d same = same
 
-  filter_reverse : (p : X → Bool) (xs : List X) → filter p (reverse xs) ≡ reverse (filter p xs)
+  pub filter_reverse : (p : X → Bool) (xs : List X) → filter p (reverse xs) ≡ reverse (filter p xs)
   filter_reverse p [] = refl
   filter_reverse p (x ∷ xs) =
       ap (filter p) (reverse_onto xs x []) ∙ filter-append p (reverse xs) (x ∷ []) ∙ ap (λ ys. ys ++ filter p (x ∷ [])) (filter_reverse p xs) ∙ by (p x)

@@ -1,5 +1,5 @@
 -- What calls come to for their callers, and startup, are legal.
-use Rattle.std.proofs.Common.{◌≡◌, ℕ, suc, ◌+◌, List, [], ◌∷◌, ◌++◌, length, append_assoc, None, Some, refl, sym, ap, subst, ◌∙◌, arith}
+use Rattle.std.proofs.Common.{◌≡◌, ℕ, suc, ◌+◌, List, [], ◌∷◌, ◌++◌, length, None, Some, refl, sym, ap, subst, ◌∙◌, arith}
 use Rattle.ld_base.specs.declared.fault.DlFault.{DlFault}
 use Rattle.link_event.specs.declared.event.Event.{Event}
 use Rattle.link_event.specs.declared.event.Event.TheVariants.{Open, Sym}
@@ -14,7 +14,7 @@ use Rattle.link_history.specs.After.{after}
 use Rattle.link_history.specs.Legal.{Legal}
 use Rattle.link_history.specs.Setting.{Setting}
 use Rattle.link_history.specs.State.{State}
-use Rattle.link_history.specs.Lemmas.History.{legal_push}
+use Rattle.link_history.specs.Lemmas.History.{legal_push, one_behind}
 use Rattle.link_service.specs.Call.{Call}
 use Rattle.link_service.specs.Served.{IsServed}
 use Rattle.link_service.specs.Startup.{FailsToStart, FindHarts, LacksHart, Starts, entries_from, found_at, hart_ask, harts_of, opening, program_ask, program_entry}
@@ -37,9 +37,6 @@ served_legal w past h call served.Memory given legal is = subst (λ (es : List E
 none_legal : (w : Setting) → Legal w []
 unfolding Legal
 none_legal w k e at = absurd (let d : None ≡ Some e = at in cc)
-
-one_behind : (past : List Event) (e : Event) (more : List Event) → (past ++ e ∷ []) ++ more ≡ past ++ e ∷ more
-one_behind past e more = append_assoc past (e ∷ []) more
 
 harts_legal : (w : Setting) (past : List Event) (h : ℕ) (names : List (List ℕ)) (events : List Event) (addresses : List ℕ) → Legal w past → FindHarts w past h names events addresses → Legal w (past ++ events)
 harts_legal w past h names events addresses legal (FindHarts.no_more _ _) = subst (Legal w) (sym (append_none past)) legal

@@ -7,11 +7,10 @@ use Rattle.link_event.specs.declared.state.Standing.TheVariants as standings
 use Rattle.link_history.specs.After.{after}
 use Rattle.link_history.specs.State.{State}
 use Rattle.link_history.specs.Step.{settle, step}
-use Rattle.link_history.specs.Lemmas.History.{after_push}
+use Rattle.link_history.specs.Lemmas.History.{after_push, one_behind}
 use Rattle.hart_moves.specs.Harts.{HartState, Offered, Resolving}
 use Rattle.hart_moves.specs.Moves.{Did, settles}
 use Rattle.world_turns.specs.World.{World, found_journal, has_won, settled_by, settling, settling_event}
-use Rattle.world_turns.specs.Lemmas.Events.{one_behind}
 
 module _ (X : Type 0) (f : State → X) (keeps : (s : State) (number : ℕ) (standing : Standing) → f (settle number standing s) ≡ f s) where
   by : (s : State) (o : Offered) (found : ℕ) (won : Bool) → f (step s (cond won (Bound o.number) (Lost o.number found))) ≡ f s

@@ -18,11 +18,10 @@ use Rattle.link_history.specs.Setting.{Machine, Setting}
 use Rattle.link_history.specs.State.{Linked, State}
 use Rattle.link_history.specs.Step.{die, initialise, loaded, lower, step, unmap}
 use Rattle.link_history.specs.Lemmas.Brought.{in_range}
-use Rattle.link_history.specs.Lemmas.History.{after_push, lawful_push}
+use Rattle.link_history.specs.Lemmas.History.{after_push, lawful_push, one_behind}
 use Rattle.link_history.specs.Lemmas.Lists.{from_filter, in_map}
 use Rattle.link_history.specs.Lemmas.Map.{made_of}
 use Rattle.hart_moves.specs.Moves.{AreAllowed}
-use Rattle.world_turns.specs.Lemmas.Events.{one_behind}
 
 -- what is needed of serials
 pub record SerialLaws (m : Machine) : Type 0 where

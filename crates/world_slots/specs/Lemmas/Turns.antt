@@ -18,7 +18,7 @@ use Rattle.link_history.specs.Legal.{Lawful, Legal}
 use Rattle.link_history.specs.Memory.{role_at}
 use Rattle.link_history.specs.Setting.{Machine, Setting}
 use Rattle.link_history.specs.State.{Linked, State}
-use Rattle.link_history.specs.Lemmas.History.{after_push, lawful_push, legal_is_lawful}
+use Rattle.link_history.specs.Lemmas.History.{after_push, lawful_push, legal_is_lawful, one_behind}
 use Rattle.memory_holds.specs.Enters.{SlotStays}
 use Rattle.memory_holds.specs.Holds.{lazy_at}
 use Rattle.memory_holds.specs.Memory.{IsDoubleword, Memory, doubleword_of}
@@ -33,7 +33,7 @@ use Rattle.world_turns.specs.Memory.{Does, Remakes, RemakesAll, doubleword, exch
 use Rattle.world_turns.specs.Sound.{Fits, HasOffer, Sound}
 use Rattle.world_turns.specs.Turn.{Turn}
 use Rattle.world_turns.specs.World.{World, found_journal, winners}
-use Rattle.world_turns.specs.Lemmas.Events.{legal_front, one_behind, remade}
+use Rattle.world_turns.specs.Lemmas.Events.{legal_front, remade}
 use Rattle.world_turns.specs.Lemmas.Offers.{Know, Stands, stands}
 use Rattle.world_turns.specs.Lemmas.Resolution.{Resolution, resolution}
 use Rattle.world_turns.specs.Lemmas.Words.{keeps_chain, puts}

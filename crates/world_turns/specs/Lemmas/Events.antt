@@ -1,5 +1,5 @@
 -- Events remake memory, and it holds.
-use Rattle.std.proofs.Common.{◌≡◌, ℕ, List, [], ◌∷◌, ◌++◌, length, Some, None, refl, sym, ap, subst, ◌∙◌, append_assoc, append-nil}
+use Rattle.std.proofs.Common.{◌≡◌, ℕ, List, [], ◌∷◌, ◌++◌, length, Some, None, refl, sym, ap, subst, ◌∙◌, append-nil}
 use Rattle.std.specs.List.{Contains}
 use Rattle.std.proofs.Math.Seq.{take-append_seam}
 use Rattle.rv_hart.specs.declared.doubleword.Doubleword.{Doubleword}
@@ -12,7 +12,7 @@ use Rattle.link_history.specs.Legal.{Lawful, Legal}
 use Rattle.link_history.specs.Setting.{Machine, Setting}
 use Rattle.link_history.specs.State.{State}
 use Rattle.link_history.specs.Step.{step}
-use Rattle.link_history.specs.Lemmas.History.{after_push, lawful_push, legal_take}
+use Rattle.link_history.specs.Lemmas.History.{after_push, lawful_push, legal_take, one_behind}
 use Rattle.link_history.specs.Lemmas.Lists.{here, later}
 use Rattle.link_service.specs.Laws.{hart_of}
 use Rattle.memory_holds.specs.Holds.{Holds}
@@ -83,9 +83,6 @@ of_hart h (e ∷ rest) of = ((h, of e (here e rest)), of_hart h rest (λ x there
 -- a history that is legal with events behind it is legal
 pub legal_front : (w : Setting) (past added : List Event) → Legal w (past ++ added) → Legal w past
 legal_front w past added legal = subst (Legal w) (take-append_seam past added) (legal_take w (past ++ added) (length past) legal)
-
-pub one_behind : (past : List Event) (e : Event) (more : List Event) → (past ++ e ∷ []) ++ more ≡ past ++ e ∷ more
-one_behind past e more = append_assoc past (e ∷ []) more
 
 pub events_hold : EventsKeep → (w : Setting) → AcceptsOnly w.machine → (past : List Event) (won : List ℕ) (added : List Event) (old new : List Doubleword) → Lawful w.machine past → AreAllowed w past added → OfHarts added
     → Holds (after past) won (memory_of old) → RemakesAll (after past) added old new → Holds (after (past ++ added)) won (memory_of new)

@@ -22,7 +22,7 @@ use Rattle.link_history.specs.Allowed.{Allowed}
 use Rattle.link_history.specs.Memory.{image_of}
 use Rattle.link_history.specs.Setting.{Machine, Setting}
 use Rattle.link_history.specs.State.{State}
-use Rattle.link_history.specs.Lemmas.History.{after_push, legal_is_lawful, legal_push}
+use Rattle.link_history.specs.Lemmas.History.{after_push, legal_is_lawful, legal_push, one_behind}
 use Rattle.link_history.specs.Lemmas.Lists.{here, later, none_in}
 use Rattle.link_service.specs.Laws.{hart_of}
 use Rattle.memory_holds.specs.Holds.{Holds}
@@ -36,7 +36,7 @@ use Rattle.world_turns.specs.Memory.{Does, Remakes, RemakesAll, doubleword, exch
 use Rattle.world_turns.specs.Sound.{Fits, HasOffer, Sound}
 use Rattle.world_turns.specs.Turn.{Turn}
 use Rattle.world_turns.specs.World.{World, found_harts, found_journal, settled_by, settling, won_by, winners}
-use Rattle.world_turns.specs.Lemmas.Events.{EventsKeep, one_behind, remade, remakes_length, same_won, settles_rightly}
+use Rattle.world_turns.specs.Lemmas.Events.{EventsKeep, remade, remakes_length, same_won, settles_rightly}
 use Rattle.world_turns.specs.Lemmas.Exchanging.{ExchangesKeep, exchanged_length, exchanged_sound, finished, same_winners}
 use Rattle.world_turns.specs.Lemmas.Offers.{Changes, Know, granted_to, stands}
 use Rattle.world_turns.specs.Lemmas.Places.{Sounds, Spares, elsewhere, fits_stay, holds_alike, placed, won_all}

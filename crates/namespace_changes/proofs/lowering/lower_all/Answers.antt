@@ -1,6 +1,6 @@
 use Rattle.std.proofs.Common.{◌<◌, length, arith}
 use Rattle.link_history.specs.Step.{lowered_open}
-use Rattle.namespace_changes.proofs.Mapped.{changed_more}
+use Rattle.link_history.specs.Lemmas.InPlace.{changed_more}
 use Rattle.namespace_changes.proofs.lowering.lower_all.Goals as goal
 
 pub loop-opening-preserved : goal.loop-opening-preserved

@@ -1,6 +1,6 @@
 use Rattle.std.proofs.Common.{◌<◌, length, arith}
 use Rattle.link_history.specs.Step.{ready_object}
-use Rattle.namespace_changes.proofs.Mapped.{changed_more}
+use Rattle.link_history.specs.Lemmas.InPlace.{changed_more}
 use Rattle.namespace_changes.proofs.ready.make_ready_among.Goals as goal
 
 pub loop-object-preserved : goal.loop-object-preserved

@@ -1,11 +1,12 @@
 use Rattle.std.proofs.Common.{◌≡◌, ◌++◌, ◌<◌, List, take, length, get_or, sym, ap, subst, ◌∙◌, arith}
 use Rattle.link_event.specs.declared.event.Event.{Event}
+use Rattle.link_history.specs.Lemmas.InPlace.{changed_more}
 use Rattle.link_state.specs.Table.{LinkTable}
 use Rattle.hart_seat.specs.Table.{HartTable}
 use Rattle.turn_answers.specs.Following.{MayFollowAll}
 use Rattle.world_turns.specs.World.{settled_by, settling}
-use Rattle.settled_harts.specs.Settling.{harts_in}
-use Rattle.settled_harts.proofs.Settled.{events_grow, harts_change, item_of, next_may}
+use Rattle.settled_harts.specs.Settling.{freed_in, harts_in}
+use Rattle.settled_harts.proofs.Settled.{events_grow, item_of, next_may}
 use Rattle.settled_harts.proofs.settling.settle_all.Goals as goal
 
 pub settle_one-requires : goal.settle_one-requires
@@ -26,7 +27,7 @@ loop-hart-preserved c =
     ap (λ (hs : List HartTable). get_or hs c.loop-hart.hart-index c.hart-item.result) c.loop-hart.invariant.harts
     ∙ item_of c.args.harts.now c.loop-hart.hart-index c.hart-item.result in
     record {
-      harts = harts_change c.args.harts.now c.loop-hart.harts c.loop-hart.hart-index c.settle_one.new.hart c.hart-item.result lt c.loop-hart.invariant.harts
+      harts = changed_more freed_in c.args.harts.now c.loop-hart.harts c.loop-hart.hart-index c.settle_one.new.hart c.hart-item.result lt c.loop-hart.invariant.harts
           c.settle_one.ensures.hart;
       journal =
           c.settle_one.ensures.journal
