@@ -24,7 +24,7 @@ use Rattle.world_turns.specs.Memory.{Does}
 use Rattle.world_turns.specs.Run.{Begins, IsStarted, LacksMemory, have_exited, settled}
 use Rattle.world_turns.specs.Turn.{Turn}
 use Rattle.world_turns.specs.World.{World, settling}
-use Rattle.guest_worlds.specs.Worlds.{IsAt, MayEndNow, TurnsOver}
+use Rattle.guest_worlds.specs.Worlds.{IsAt, MayEndNow, TakesOver}
 
 -- ---- how a turn is put together
 
@@ -102,7 +102,7 @@ StartIsAt = (w : Setting) (setup : Setup) (world : World) (count : ℕ) → w.ma
 -- each turn
 abbrev pub TurnsStayAt : Type 0
 TurnsStayAt = (count : ℕ) (folders : List (List ℕ)) (files : Option (List File)) (begun : Bool) (h : ℕ) (old new : World)
-    → IsAt count folders begun old → TurnsOver count folders files h old new → IsAt count folders begun new
+    → IsAt count folders begun old → TakesOver count folders files h old new → IsAt count folders begun new
 
 -- the begin of the final destructors
 abbrev pub FinalsBeginAt : Type 0
