@@ -171,7 +171,6 @@ reserved_both s xs ys installs x other = record {
   behind = x.behind ++ ys;
   are = ap (λ (es : List Event). es ++ ys) x.are;
   takes_none = x.takes_none;
-  added = x.added;
   installed = x.installed;
   leave = leave_both (step s x.first) x.behind ys x.leave other;
 }

@@ -84,7 +84,6 @@ reserves w past given h call root installs functions is = record {
   behind = [];
   are = is.is;
   takes_none = refl;
-  added = is.added;
   installed = subst (λ (s : State). AreInstalls s is.added is.ranges installs)
       (ap (λ (es : List Event). after (past ++ es)) is.is ∙ after_push past (Open h is.ask (opens.Done is.id root is.added is.ranges))) is.installed;
   leave = tt;
