@@ -17,7 +17,7 @@ use Rattle.link_history.specs.Objects.{has, mapped, object_at, serial_of}
 use Rattle.link_history.specs.State.{State}
 use Rattle.link_history.specs.Step.{finalise}
 use Rattle.link_history.specs.Lemmas.Finalised.{from_reverse}
-use Rattle.link_history.specs.Lemmas.Lists.{from_filter, here, in_has, later}
+use Rattle.link_history.specs.Lemmas.Lists.{any_reverse, from_filter, here, in_has, later}
 use Rattle.link_service.specs.Lemmas.Finishing.{filter_reverse}
 use Rattle.hart_moves.specs.Moves.{all_finis}
 use Rattle.final_turns.specs.Planned.{is_other}
@@ -129,12 +129,6 @@ finalised_left s d =
     fewer = filter_alike (λ o. not (has (s.finis ++ d ∷ []) o)) (λ o. not (has s.finis o) && is_other d o) s.inits more ∙ sym (filter_twice (is_other d) (λ o. not (has s.finis o)) s.inits)
 
 -- ---- whether one is left
-
-any_reverse : {X : Type 0} (p : X → Bool) (xs : List X) → list_any p (reverse xs) ≡ list_any p xs
-any_reverse p [] = refl
-any_reverse p (x ∷ xs) =
-    ap (list_any p) (reverse_onto xs x []) ∙ list_any-append p (reverse xs) (x ∷ []) ∙ ap (λ (b : Bool). b || (p x || false)) (any_reverse p xs)
-    ∙ or_comm (list_any p xs) (p x || false) ∙ ap (λ (b : Bool). b || list_any p xs) (or-false (p x))
 
 pub any_of : {X Y : Type 0} (f : X → Y) (p : Y → Bool) (xs : List X) → list_any (λ x. p (f x)) xs ≡ list_any p (map f xs)
 any_of f p [] = refl

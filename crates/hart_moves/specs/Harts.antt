@@ -1,5 +1,5 @@
 -- A hart between two turns: its registers, how far it is with what it asked the linker for, and the functions that the linker has it run.
-use Rattle.std.specs.Prelude.{ℕ, List, Option}
+use Rattle.std.specs.Prelude.{ℕ, Bool, true, false, List, Option}
 use Rattle.link_event.specs.declared.handed.Function.{Function}
 use Rattle.link_event.specs.declared.hart_end.HartEnd.{HartEnd}
 use Rattle.rv_hart.specs.Registers.{Registers}
@@ -67,6 +67,10 @@ pub data Purpose : Type 0 where
 pub record Frame : Type 0 where
   pub purpose : Purpose
   pub queue : List Function
+
+-- startup's constructors
+abbrev pub is_startup_frame : Frame → Bool
+is_startup_frame frame = elim frame.purpose [ Purpose.of_startup registers ↦ true | _ ↦ false ]
 
 -- ---- a hart
 

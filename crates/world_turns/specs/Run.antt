@@ -16,7 +16,7 @@ use Rattle.link_history.specs.Setting.{Setting}
 use Rattle.link_history.specs.State.{start}
 use Rattle.link_service.specs.Functions.{AreAddresses, destructors}
 use Rattle.link_service.specs.Startup.{Starts, setting_of}
-use Rattle.hart_moves.specs.Harts.{Frame, HartState, Purpose}
+use Rattle.hart_moves.specs.Harts.{HartState, is_startup_frame}
 use Rattle.hart_moves.specs.Moves.{all_finis, ended, freed}
 use Rattle.hart_moves.specs.Starting.{finalising_hart, starting_harts, starting_registers}
 use Rattle.schedules.specs.declared.schedule.TurnItem.{TurnItem}
@@ -38,9 +38,6 @@ pub record IsStarted (w : Setting) (setup : Setup) (world : World) : Type 0 wher
   pub harts : world.harts ≡ starting_harts setup.fuel started.functions started.entries
 
 -- ---- startup's constructors
-
-abbrev pub is_startup_frame : Frame → Bool
-is_startup_frame frame = elim frame.purpose [ Purpose.of_startup registers ↦ true | _ ↦ false ]
 
 abbrev pub has_ended : HartState → Bool
 has_ended b = is_some b.«end»

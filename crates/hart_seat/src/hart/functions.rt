@@ -1,10 +1,11 @@
 //! Functions that the linker has a hart run.
 
 ghost use Rattle.std.specs.Prelude.{◌≡◌, ℕ, ◌<◌, ◌≤◌, [], ◌∷◌, List, drop, length};
+ghost use Rattle.std.specs.List.{list_any};
 ghost use Rattle.link_event.specs.declared.handed.Function.{Function as function_value};
 ghost use Rattle.hart_moves.specs.Harts.Phase.{at_pc};
 ghost use Rattle.hart_moves.specs.Harts.Purpose.{of_end};
-ghost use Rattle.hart_moves.specs.Harts.{Frame, Purpose as purpose_value};
+ghost use Rattle.hart_moves.specs.Harts.{Frame, Purpose as purpose_value, is_startup_frame};
 ghost use Rattle.hart_moves.specs.Moves.{after_all, running, runs};
 ghost use Rattle.hart_moves.specs.Registers.{entered};
 ghost use Rattle.hart_moves.specs.Starting.{starting_registers};
@@ -45,6 +46,13 @@ impl LinkedHart {
         self.phase = Phase::AtPc;
         self.frames.clear();
         self.end = None;
+    }
+
+    /// Whether functions of startup are to run, or one of them runs.
+    pub fn is_starting(&self) -> bool
+        ensures { result ≡ list_any is_startup_frame self.now.hart.frames }
+    {
+        self.frames.iter().any(|queue| is_of_startup(queue))
     }
 
     /// The next function of an object is entered.
@@ -110,4 +118,11 @@ impl LinkedHart {
             Purpose::End(code) => self.end = Some(HartEnd::Exit(*code)),
         }
     }
+}
+
+/// Whether functions are those of startup.
+fn is_of_startup(queue: &FunctionQueue) -> bool
+    ensures { result ≡ is_startup_frame queue.now }
+{
+    matches!(queue.purpose(), Purpose::Startup(_))
 }

@@ -1,7 +1,10 @@
 -- What is an element of a list that was mapped, flattened, filtered or looked through.
-use Rattle.std.proofs.Common.{◌≡◌, ◌⊎◌, inl, inr, ⊎_elim, ℕ, zero, suc, ◌<◌, Bool, true, false, ◌||◌, cond, eqb, List, [], ◌∷◌, map, length, get_or, Some, None, refl, sym, ap, subst, ◌∙◌, arith}
+use Rattle.std.proofs.Common.{◌≡◌, ◌⊎◌, inl, inr, ⊎_elim, ℕ, zero, suc, ◌<◌, Bool, true, false, ◌||◌, cond, eqb, List, [], ◌∷◌, map, reverse, length, get_or, Some, None, refl, sym, ap, subst, ◌∙◌, arith}
 use Rattle.std.specs.List.{Contains, filter, find, flat_map, list_any, slice_get}
 use Rattle.std.proofs.lemmas.Bool.{cases_Bool, eqb-true, eq-eqb, true≢false, or_left, or_right}
+use Rattle.std.proofs.Math.Bool.{or-false, or_comm}
+use Rattle.std.proofs.lemmas.Grind.{reverse_onto}
+use Rattle.std.proofs.lemmas.List.Folds.{list_any-append}
 use Rattle.std.proofs.lemmas.List.Elements.{Contains-append_left, Contains-append_right, Contains-append_cases}
 
 -- ---- elements
@@ -143,3 +146,11 @@ in_has xs d h = in_any (λ y. eqb y d) xs d h (eq-eqb d d refl)
 
 pub has_not : (xs : List ℕ) (d : ℕ) → has xs d ≡ false → Contains xs d → ⊥
 has_not xs d none h = true≢false (sym (in_has xs d h) ∙ none)
+
+-- ---- backwards
+
+pub any_reverse : {X : Type 0} (p : X → Bool) (xs : List X) → list_any p (reverse xs) ≡ list_any p xs
+any_reverse p [] = refl
+any_reverse p (x ∷ xs) =
+    ap (list_any p) (reverse_onto xs x []) ∙ list_any-append p (reverse xs) (x ∷ []) ∙ ap (λ (b : Bool). b || (p x || false)) (any_reverse p xs)
+    ∙ or_comm (list_any p xs) (p x || false) ∙ ap (λ (b : Bool). b || list_any p xs) (or-false (p x))
