@@ -42,8 +42,9 @@ use Rattle.turn_answers.specs.declared.answered.Answered.{Answered}
 use Rattle.turn_answers.specs.declared.answered.Answered.TheVariants as answered
 use Rattle.turn_answers.specs.declared.answered.MemoryChange.{MemoryChange}
 use Rattle.turn_answers.specs.declared.answered.MemoryChange.TheVariants as change
-use Rattle.answer_turns.specs.Answering.{TextFits, ReturnsAs, WasAnswered, change_by, closing_of, hart_after, opening_of, noted_with, return_by, return_of}
-use Rattle.answer_turns.specs.Completing.{MayPass, PassesFirst}
+use Rattle.answer_turns.specs.Answering.{WasAnswered}
+use Rattle.answer_turns.specs.Completing.{MayPass}
+use Rattle.answer_turns.specs.Steps.{PassesFirst, ReturnsAs, TextFits, change_by, closing_of, hart_after, noted_with, opening_of, return_by, return_of}
 use Rattle.answer_turns.specs.declared.returning.CallReturn.{CallReturn}
 use Rattle.answer_turns.specs.declared.returning.CallReturn.TheVariants as by
 use Rattle.answer_turns.proofs.Passing.{NextLaws, closings_pass, lawful_before, openings_pass, passings_allowed}
@@ -171,7 +172,6 @@ reserved_both s xs ys installs x other = record {
   behind = x.behind ++ ys;
   are = ap (λ (es : List Event). es ++ ys) x.are;
   takes_none = x.takes_none;
-  added = x.added;
   installed = x.installed;
   leave = leave_both (step s x.first) x.behind ys x.leave other;
 }

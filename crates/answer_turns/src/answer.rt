@@ -1,8 +1,9 @@
 //! What the linker's answer makes of a hart.
 
 ghost use Rattle.std.specs.Prelude.{◌≡◌, ◌<◌, ◌++◌, IsTrue, List, map};
-ghost use Rattle.answer_turns.specs.Answering.{TextFits, WasAnswered, change_by, hart_after, noted_with, runs_functions};
+ghost use Rattle.answer_turns.specs.Answering.{WasAnswered, runs_functions};
 ghost use Rattle.answer_turns.specs.Noting.{with_passed};
+ghost use Rattle.answer_turns.specs.Steps.{TextFits, change_by, hart_after, noted_with};
 ghost use Rattle.hart_moves.specs.Due.{due};
 ghost use Rattle.hart_moves.specs.Moves.{passing, runs, spent};
 ghost use Rattle.hart_parts.specs.Views.{purpose_of};
