@@ -4,7 +4,7 @@ use Rattle.std.specs.Prelude.{nat_lt, if◌then◌else◌, slice_set}
 use Rattle.std.specs.List.{list_all, range_with_len, slice_get}
 use Rattle.std.specs.Option.{is_some}
 use Rattle.std.proofs.lemmas.Bool.{cases_Bool}
-use Rattle.std.proofs.lemmas.Option.{none-some}
+use Rattle.std.proofs.lemmas.Option.{none-some, slice_get_within}
 use Rattle.link_event.specs.declared.event.Event.{Event}
 use Rattle.link_event.specs.declared.hart_end.HartEnd.{HartEnd}
 use Rattle.link_event.specs.declared.hart_end.HartEnd.TheVariants as ends
@@ -18,6 +18,7 @@ use Rattle.hart_moves.specs.Lemmas.Legality.{ended_stays, turns_count}
 use Rattle.world_turns.specs.Run.{Rounds, all_harts, has_ended, have_ended}
 use Rattle.world_turns.specs.Turn.{TakesTurn, Turn}
 use Rattle.world_turns.specs.World.{World}
+use Rattle.world_ends.specs.Lemmas.Places.{all_pass, ended_by, freed_here}
 
 -- ---- of a hart
 
@@ -147,17 +148,12 @@ set_less (x ∷ rest) (suc h) b c at less =
     let again : harts_left (slice_set rest h c) < harts_left rest = set_less rest h b c at less in
     omega (arith, again)
 
-freed_at : (harts : List HartState) (h : ℕ) (b : HartState) → slice_get harts h ≡ Some b → slice_get (map freed harts) h ≡ Some (freed b)
-freed_at [] h b at = absurd (none-some b at)
-freed_at (x ∷ rest) zero b at = let same : x ≡ b = cc in ap (λ (y : HartState). Some (freed y)) same
-freed_at (x ∷ rest) (suc h) b at = freed_at rest h b at
-
 found_less : (t : Bool) (harts : List HartState) (h : ℕ) (b c : HartState) → slice_get harts h ≡ Some b → hart_left c < hart_left b
     → harts_left (slice_set (if t then map freed harts else harts) h c) < harts_left harts
 found_less true harts h b c at less =
     let as_before : hart_left (freed b) ≡ hart_left b = freed_left b in
     let again : harts_left (slice_set (map freed harts) h c) < harts_left (map freed harts) =
-    set_less (map freed harts) h (freed b) c (freed_at harts h b at) (omega (arith, less, as_before)) in
+    set_less (map freed harts) h (freed b) c (freed_here harts h b at) (omega (arith, less, as_before)) in
     let all : harts_left (map freed harts) ≡ harts_left harts = all_freed harts in
     omega (arith, again, all)
 found_less false harts h b c at less = set_less harts h b c at less
@@ -184,9 +180,6 @@ pub record ArePassedOver (harts : List ℕ) (old new : World) : Type 0 where
   pub same : new ≡ old
   pub over : AreOverAt old harts
 
-ended_is_over : (b : HartState) (reason : HartEnd) → b.«end» ≡ Some reason → IsTrue (has_ended b)
-ended_is_over b reason is = ap (λ (e : Option HartEnd). is_some e) is
-
 rounds_less : (w : Setting) (harts : List ℕ) (old new : World) → Rounds w harts old new → (left new < left old) ⊎ ArePassedOver harts old new
 rounds_less w harts old new (Rounds.no_more _) = inr (record { same = refl; over = tt })
 rounds_less w harts old new (Rounds.one_more h rest _ between _ (TakesTurn.turn t) more) = ⊎_elim
@@ -198,7 +191,7 @@ rounds_less w harts old new (Rounds.one_more h rest _ between _ (TakesTurn.passe
     (λ (less : left new < left between). let same : left between ≡ left old = ap left passed in inl (omega (arith, less, same)))
     (λ (x : ArePassedOver rest between new). inr (record {
       same = x.same ∙ passed;
-      over = ((b, at, ended_is_over b reason over), subst (λ (y : World). AreOverAt y rest) passed x.over);
+      over = ((b, at, ended_by b reason over), subst (λ (y : World). AreOverAt y rest) passed x.over);
     }))
     (rounds_less w rest between new more)
 
@@ -209,17 +202,14 @@ over_in world from (suc count) (suc i) over lt =
     let next : (from + 1) + i ≡ from + suc i = omega arith in
     subst (IsOverAt world) next (over_in world (from + 1) count i over.1 (omega (arith, lt)))
 
-all_over : (harts : List HartState) → ((h : ℕ) → h < length harts → (b : HartState) × (slice_get harts h ≡ Some b) × IsTrue (has_ended b)) → list_all has_ended harts ≡ true
-all_over [] each = refl
-all_over (b ∷ rest) each =
-    let first = each 0 (omega arith) in
-    let same : b ≡ first.0 = let found : Some b ≡ Some first.0 = first.1 in cc in
-    ap (λ (t : Bool). cond t (list_all has_ended rest) false) (ap has_ended same ∙ first.2)
-    ∙ all_over rest (λ h lt. each (suc h) (omega (arith, lt)))
+same_hart : (harts : List HartState) (h : ℕ) (b c : HartState) → slice_get harts h ≡ Some b → slice_get harts h ≡ Some c → b ≡ c
+same_hart harts h b c at there = let same : Some b ≡ Some c = sym at ∙ there in cc
 
 pub round_less : (w : Setting) (old new : World) → have_ended old ≡ false → Rounds w (all_harts old) old new → left new < left old
 round_less w old new runs rounds = ⊎_elim
     (λ (less : left new < left old). less)
     (λ (x : ArePassedOver (all_harts old) old new). absurd (true≢false
-      (sym (all_over old.harts (λ h lt. over_in old 0 (length old.harts) h x.over lt)) ∙ runs)))
+      (sym (all_pass has_ended old.harts (λ h b at.
+        let here = over_in old 0 (length old.harts) h x.over (slice_get_within old.harts h b at) in
+        ap has_ended (same_hart old.harts h b here.0 at here.1) ∙ here.2)) ∙ runs)))
     (rounds_less w (all_harts old) old new rounds)
