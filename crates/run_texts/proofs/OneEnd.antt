@@ -1,5 +1,5 @@
 -- A run of one hart or more has exactly one end.
-use Rattle.std.proofs.Common.{◌≡◌, ◌≢◌, ◌∙◌, ◌⊎◌, ⊎_elim, inl, inr, ℕ, zero, suc, ◌<◌, ◌≤◌, Bool, true, false, List, [], ◌∷◌, length, take, get_or, Some, refl, sym, ap, subst, arith}
+use Rattle.std.proofs.Common.{◌≡◌, ◌≢◌, ◌∙◌, ◌⊎◌, ⊎_elim, inl, inr, ℕ, zero, suc, ◌<◌, Bool, true, false, List, [], ◌∷◌, length, take, get_or, Some, refl, sym, ap, subst, arith}
 use Rattle.std.specs.List.{AllPass, slice_get}
 use Rattle.std.proofs.lemmas.Bool.{false≢true}
 use Rattle.std.proofs.lemmas.List.{get_or-take, length-take, same_lists}
@@ -9,7 +9,7 @@ use Rattle.link_event.specs.declared.hart_end.HartEnd.{HartEnd}
 use Rattle.link_event.specs.declared.hart_end.HartEnd.TheVariants.{Exit}
 use Rattle.link_event.specs.declared.state.Ending.{Ending}
 use Rattle.link_history.specs.Setting.{is_exit}
-use Rattle.run_texts.specs.Ends.{AllExited, AreLastEnds, Decides, IsRunEnd, last_end}
+use Rattle.run_texts.specs.Ends.{AreLastEnds, Decides, IsRunEnd}
 use Rattle.run_texts.specs.declared.run_end.RunEnd.{RunEnd}
 use Rattle.run_texts.specs.declared.run_end.RunEnd.TheVariants.{Exited, Ended}
 
