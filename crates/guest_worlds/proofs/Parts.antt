@@ -2,8 +2,6 @@
 use Rattle.std.proofs.Common.{◌≡◌, Bool, true, false, cond, List, [], ◌++◌, map, slice_set, refl, sym, ap, subst, ◌∙◌, append-nil}
 use Rattle.std.proofs.lemmas.Bool.{true≢false}
 use Rattle.link_event.specs.declared.event.Event.{Event}
-use Rattle.rv_hart.specs.declared.doubleword.Doubleword.{Doubleword}
-use Rattle.link_history.specs.Setting.{Setting}
 use Rattle.hart_moves.specs.Harts.{HartState}
 use Rattle.hart_moves.specs.Moves.{Did, Moves, events_of, freed, settles}
 use Rattle.world_turns.specs.Memory.{Does}

@@ -1,7 +1,6 @@
 -- A run stays at a moment: with its start, each turn, and the begin of its final destructors or want of memory for them.
-use Rattle.std.proofs.Common.{◌≡◌, ℕ, Bool, true, false, List, Option, None, refl, sym, ap, subst, ◌∙◌}
+use Rattle.std.proofs.Common.{◌≡◌, ℕ, refl, sym, ap, subst, ◌∙◌}
 use Rattle.std.proofs.lemmas.Bool.{true≢false}
-use Rattle.ld_base.specs.declared.linking.File.{File}
 use Rattle.link_served.specs.declared.startup.Setup.{Setup}
 use Rattle.link_history.specs.Accepted.{AcceptsOnly}
 use Rattle.link_history.specs.Setting.{Machine, Setting}
