@@ -4,7 +4,7 @@ use Rattle.link_event.specs.declared.handed.Function.{Function}
 use Rattle.link_state.specs.Table.{LinkTable}
 use Rattle.hart_moves.specs.Harts.{Frame, HartState, Purpose}
 use Rattle.hart_moves.specs.Moves.{after_all, freed, runs, with_first}
-use Rattle.answer_turns.specs.Completing.{PassesFirst}
+use Rattle.answer_turns.specs.Steps.{PassesFirst}
 
 abbrev pub HasTurn : HartState → Type 0
 HasTurn b = b.turns < b.fuel

@@ -1,25 +1,15 @@
--- What the linker's answer makes of the hart that made the call, by the table of turns, and which objects pass with it.
-use Rattle.std.specs.Prelude.{◌≡◌, ℕ, ◌+◌, ◌%◌, ◌^◌, ◌≤◌, Bool, true, false, List, [], length, map}
+-- What the linker has answered a hart's call, and whether functions are to run first.
+use Rattle.std.specs.Prelude.{◌≡◌, ℕ, Bool, true, false, List}
 use Rattle.lawful_journal.specs.Following.{machine_of}
 use Rattle.link_event.specs.declared.event.Event.{Event}
 use Rattle.link_history.specs.After.{after}
 use Rattle.link_history.specs.Setting.{Setting}
-use Rattle.link_service.specs.Call.{Call, resolves, opens, looks_up, closes, unmaps, asks_fault, locates, writes, stops}
-use Rattle.link_service.specs.Functions.{left, passed}
 use Rattle.link_state.specs.Table.{LinkTable}
-use Rattle.hart_moves.specs.Copying.{text_words}
-use Rattle.hart_moves.specs.Due.{Return, back, behind, due}
-use Rattle.hart_moves.specs.Harts.{HartState, Purpose, Resolving}
-use Rattle.hart_moves.specs.Moves.{ended, freed, passing, returning, runs, spent, telling}
-use Rattle.hart_moves.specs.Registers.{ra}
-use Rattle.hart_parts.specs.Views.{closing_back, offered_of}
+use Rattle.hart_moves.specs.Due.{due}
+use Rattle.hart_moves.specs.Harts.{HartState}
 use Rattle.turn_answers.specs.Answered.{AnswersTurn}
 use Rattle.turn_answers.specs.declared.answered.Answered.{Answered}
 use Rattle.turn_answers.specs.declared.answered.Answered.TheVariants as answered
-use Rattle.turn_answers.specs.declared.answered.MemoryChange.{MemoryChange}
-use Rattle.turn_answers.specs.declared.answered.MemoryChange.TheVariants as change
-use Rattle.answer_turns.specs.declared.returning.CallReturn.{CallReturn}
-use Rattle.answer_turns.specs.declared.returning.CallReturn.TheVariants as by
 
 -- in some run on this machine the call that is due for the hart was answered so
 pub record WasAnswered (table : LinkTable) (h : ℕ) (b : HartState) (came : Answered) : Type 0 where
@@ -37,74 +27,3 @@ runs_functions (answered.Granted offered) = false
 runs_functions (answered.Told text message) = false
 runs_functions (answered.Again for) = false
 runs_functions (answered.Over reason) = false
-
--- ---- returns
-
--- how a call returns
-abbrev pub return_by : Call → CallReturn
-return_by (resolves owner eights) = by.ToCaller
-return_by (opens ask) = by.ToCaller
-return_by (looks_up ask) = by.ToCaller
-return_by (closes handle) = by.ToCaller
-return_by (unmaps set) = by.FromClosing
-return_by asks_fault = by.ToCaller
-return_by (locates number offset) = by.ToCaller
-return_by (writes bytes) = by.BehindEcall
-return_by (stops reason) = by.ToCaller
-
-abbrev pub return_of : HartState → CallReturn → Return
-return_of b by.ToCaller = back b
-return_of b by.BehindEcall = behind b
-return_of b by.FromClosing = closing_back b b.frames
-
-pub record ReturnsAs (b : HartState) (call : Call) (to : Return) (kind : CallReturn) : Type 0 where
-  pub by_call : kind ≡ return_by call
-  pub is : to ≡ return_of b kind
-
--- ---- the hart
-
-abbrev pub opening_of : HartState → ℕ → Purpose
-opening_of b root = Purpose.of_opening (ra b.registers) root
-
-abbrev pub closing_of : HartState → List ℕ → Purpose
-closing_of b set = Purpose.of_closing (ra b.registers) set
-
--- where an answer leaves the hart whose call returns so
-abbrev pub hart_after : HartState → CallReturn → Answered → HartState
-hart_after b kind (answered.Returns value does) = spent (returning (return_of b kind) value (freed b))
-hart_after b kind (answered.Loading root installs functions) = spent (runs (opening_of b root) (left functions) b.frames (freed b))
-hart_after b kind (answered.Closing dying functions) = spent (runs (closing_of b dying.list) (left functions) b.frames (freed b))
-hart_after b kind (answered.Granted offered) = spent (record b { resolving = Resolving.to_exchange (offered_of offered) })
-hart_after b kind (answered.Told text message) = spent (telling text (text_words message) (freed b))
-hart_after b kind (answered.Again for) = spent (freed b)
-hart_after b kind (answered.Over reason) = ended reason (spent b)
-
--- which events come with it: those of the objects in front that have no functions
-abbrev pub noted_with : HartState → ℕ → Answered → List Event
-noted_with b h (answered.Returns value does) = []
-noted_with b h (answered.Loading root installs functions) = map (passing (opening_of b root) h) (passed functions)
-noted_with b h (answered.Closing dying functions) = map (passing (closing_of b dying.list) h) (passed functions)
-noted_with b h (answered.Granted offered) = []
-noted_with b h (answered.Told text message) = []
-noted_with b h (answered.Again for) = []
-noted_with b h (answered.Over reason) = []
-
--- and what memory gets
-abbrev pub change_by : Answered → MemoryChange
-change_by (answered.Returns value does) = does
-change_by (answered.Loading root installs functions) = change.Installs installs
-change_by (answered.Closing dying functions) = change.Nothing
-change_by (answered.Granted offered) = change.Nothing
-change_by (answered.Told text message) = change.Nothing
-change_by (answered.Again for) = change.Nothing
-change_by (answered.Over reason) = change.Nothing
-
--- a text that is told has room where it is to be stored, in doublewords
-abbrev pub TextFits : Answered → Type 0
-TextFits (answered.Returns value does) = Unit {0}
-TextFits (answered.Loading root installs functions) = Unit {0}
-TextFits (answered.Closing dying functions) = Unit {0}
-TextFits (answered.Granted offered) = Unit {0}
-TextFits (answered.Told text message) = (text % 8 ≡ 0) × (text + length message + 8 ≤ 2 ^ 64)
-TextFits (answered.Again for) = Unit {0}
-TextFits (answered.Over reason) = Unit {0}

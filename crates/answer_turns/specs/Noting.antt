@@ -1,4 +1,4 @@
--- Events of objects whose constructors or destructors have run, or that have none.
+-- Events of objects whose constructors or destructors have run, or that have none: for the code of this crate alone.
 use Rattle.std.specs.Prelude.{ℕ, List, ◌++◌, map}
 use Rattle.link_state.specs.Table.{LinkTable}
 use Rattle.hart_moves.specs.Harts.{Purpose}

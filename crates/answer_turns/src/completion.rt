@@ -1,8 +1,9 @@
 //! The turn in which the functions of an object have run.
 
 ghost use Rattle.std.specs.Prelude.{◌≡◌, ◌∷◌, false, drop, map, IfNone, IfSome, IsTrue};
-ghost use Rattle.answer_turns.specs.Completing.{MayPass, PassesFirst, is_complete};
+ghost use Rattle.answer_turns.specs.Completing.{MayPass, is_complete};
 ghost use Rattle.answer_turns.specs.Noting.{with_passed};
+ghost use Rattle.answer_turns.specs.Steps.{PassesFirst};
 ghost use Rattle.call_laws.specs.Coming.{IsOn};
 ghost use Rattle.hart_moves.specs.Due.{due};
 ghost use Rattle.hart_moves.specs.Moves.{passing};

@@ -1,7 +1,7 @@
 //! How calls return.
 
 ghost use Rattle.std.specs.Prelude.{◌≡◌};
-ghost use Rattle.answer_turns.specs.Answering.{ReturnsAs, return_of};
+ghost use Rattle.answer_turns.specs.Steps.{ReturnsAs, return_of};
 ghost use Rattle.hart_moves.specs.Due.{Due as is_due, Return, due};
 ghost use Rattle.hart_moves.specs.Moves.{returning};
 ghost use Rattle.link_history.specs.State.{State};

@@ -31,14 +31,14 @@ use Rattle.turn_answers.specs.declared.answered.Answered.{Answered}
 use Rattle.turn_answers.specs.declared.answered.Answered.TheVariants as answered
 use Rattle.turn_answers.specs.declared.answered.MemoryChange.{MemoryChange}
 use Rattle.turn_answers.specs.declared.answered.MemoryChange.TheVariants as change
-use Rattle.call_answers.specs.Answers.{AnswersBy, IsMade, MayEndIn}
+use Rattle.call_answers.specs.Answers.{AnswersBy, CallIsAnswered, MayEndIn}
 use Rattle.call_answers.specs.Served.{answer_with, noted}
 use Rattle.call_answers.proofs.Quiet.{leaves}
 
 -- ---- a call that goes on, and one that ends its hart
 
 pub goes_on : (w : Setting) (past given events : List Event) (made : Installs) (h : ℕ) (call : Call) (answer : Answer) (came : Answered) → events ≡ past ++ given → ending h answer ≡ []
-    → ((reason : HartEnd) → answer ≡ over reason → ⊥) → Gives w past h call given answer → IsAnswered past given h made call answer came → IsMade w past events made h call came
+    → ((reason : HartEnd) → answer ≡ over reason → ⊥) → Gives w past h call given answer → IsAnswered past given h made call answer came → CallIsAnswered w past events made h call came
 goes_on w past given events made h call answer came are none goes gives is = record {
   appended = given;
   are = are;
@@ -48,7 +48,7 @@ goes_on w past given events made h call answer came are none goes gives is = rec
 }
 
 pub ends_so : (w : Setting) (past given events : List Event) (made : Installs) (h : ℕ) (call : Call) (reason : HartEnd) → events ≡ past ++ (given ++ Ended h reason ∷ []) → MayEnd w (after past) h
-    → Gives w past h call given (over reason) → IsMade w past events made h call (answered.Over reason)
+    → Gives w past h call given (over reason) → CallIsAnswered w past events made h call (answered.Over reason)
 ends_so w past given events made h call reason are may gives = record {
   appended = given ++ Ended h reason ∷ [];
   are = are;
@@ -64,9 +64,9 @@ end_behind old mid new h given reason are noted =
     ap (λ (t : LinkTable). t.events) noted ∙ ap (λ (es : List Event). es ++ Ended h reason ∷ []) are ∙ append_assoc old.events given (Ended h reason ∷ [])
 
 pub over_in : (old mid new : LinkTable) (h : ℕ) (call : Call) (given : List Event) (reason : HartEnd) (result : Answered) → mid.events ≡ old.events ++ given → result ≡ answered.Over reason
-    → new ≡ appended mid (Ended h reason) → (w : Setting) → MayEnd w (after old.events) h → Gives w old.events h call given (over reason) → IsMade w old.events new.events new.made h call result
+    → new ≡ appended mid (Ended h reason) → (w : Setting) → MayEnd w (after old.events) h → Gives w old.events h call given (over reason) → CallIsAnswered w old.events new.events new.made h call result
 over_in old mid new h call given reason result are is noted w may gives =
-    subst (λ (came : Answered). IsMade w old.events new.events new.made h call came) (sym is)
+    subst (λ (came : Answered). CallIsAnswered w old.events new.events new.made h call came) (sym is)
     (ends_so w old.events given new.events new.made h call reason (end_behind old mid new h given reason are noted) may gives)
 
 -- ---- a state that may be ended in
@@ -84,7 +84,6 @@ reserves w past given h call root installs functions is = record {
   behind = [];
   are = is.is;
   takes_none = refl;
-  added = is.added;
   installed = subst (λ (s : State). AreInstalls s is.added is.ranges installs)
       (ap (λ (es : List Event). after (past ++ es)) is.is ∙ after_push past (Open h is.ask (opens.Done is.id root is.added is.ranges))) is.installed;
   leave = tt;
@@ -93,7 +92,7 @@ reserves w past given h call root installs functions is = record {
 module _ (old mid : LinkTable) (h : ℕ) (call : Call) (does : MemoryChange) (given : List Event) (are : mid.events ≡ old.events ++ given) (takes : IsTrue (takes_memory call)) (w : Setting)
     (may : MayEnd w (after old.events) h) where
   abbrev Made : LinkTable → Answered → Type 0
-  Made new came = IsMade w old.events new.events new.made h call came
+  Made new came = CallIsAnswered w old.events new.events new.made h call came
 
   abbrev Does : Served → Type 0
   Does came = (value : ℕ) → came ≡ served.Done value → Gives w old.events h call given (returns value) → Changes (after old.events) given mid.made does
@@ -125,8 +124,8 @@ pub served_in : (IsOf : Setting → Type 0) (old mid new : LinkTable) (h : ℕ) 
     → ((w : Setting) (value : ℕ) → came ≡ served.Done value → Gives w old.events h call comes.given (returns value) → Changes (after old.events) comes.given mid.made does)
     → result ≡ answer_with does denied came → new ≡ noted mid h came → AnswersBy IsOf old h call result new
 served_in IsOf old mid new h call does denied came result takes value comes may changes is noted_so = λ w of.
-    subst (λ (t : LinkTable). IsMade w old.events t.events t.made h call result) (sym noted_so)
-    (subst (λ (r : Answered). IsMade w old.events (noted mid h came).events (noted mid h came).made h call r) (ap (λ (n : ℕ). answer_with does n came) value ∙ sym is)
+    subst (λ (t : LinkTable). CallIsAnswered w old.events t.events t.made h call result) (sym noted_so)
+    (subst (λ (r : Answered). CallIsAnswered w old.events (noted mid h came).events (noted mid h came).made h call r) (ap (λ (n : ℕ). answer_with does n came) value ∙ sym is)
     (served_so old mid h call does comes.given comes.are takes w (may w of) came (changes w) (comes.served w of)))
 
 -- one of the runs with these folders and files

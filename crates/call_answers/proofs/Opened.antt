@@ -28,7 +28,7 @@ use Rattle.turn_answers.specs.declared.answered.Answered.{Answered}
 use Rattle.turn_answers.specs.declared.answered.MemoryChange.{MemoryChange}
 use Rattle.turn_answers.specs.declared.answered.MemoryChange.TheVariants as change
 use Rattle.call_answers.specs.Answers.{AnswersOver, MayEndIn}
-use Rattle.call_answers.specs.Openings.{OpensWholly, Reaches, ShowsRefusal}
+use Rattle.call_answers.specs.Openings.{OpensWholly, Reaches, RefusalIsCounted}
 use Rattle.call_answers.specs.Served.{answer_with, noted}
 use Rattle.call_answers.proofs.Came.{given_to, served_in, wanting_may_end}
 use Rattle.call_answers.proofs.Quiet.{leaves_value}
@@ -145,7 +145,7 @@ tells_served w past h ask served.Memory given is = ap (λ (es : List Event). fir
 
 pub shows_refusal : (old mid new : LinkTable) (folders : List (List ℕ)) (files : Option (List File)) (h : ℕ) (ask : OpenAsk) (came : Served) (failures failures' misses misses' : ℕ)
     → OpensIn old folders files h (opens ask) came mid → new ≡ noted mid h came → ShowsInCounts (ArePaths folders) (refusal_of came) failures failures' misses misses'
-    → ShowsRefusal folders old.events new.events h failures failures' misses misses'
+    → RefusalIsCounted folders old.events new.events h failures failures' misses misses'
 shows_refusal old mid new folders files h ask came failures failures' misses misses' comes noted_so shows = λ other fault are.
     let w = given_to old.harts folders files in
     let all : new.events ≡ old.events ++ (comes.given ++ behind h came) =

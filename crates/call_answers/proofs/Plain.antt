@@ -27,7 +27,7 @@ use Rattle.turn_answers.specs.Answered.{IsAnswered}
 use Rattle.turn_answers.specs.declared.answered.Answered.{Answered}
 use Rattle.turn_answers.specs.declared.answered.Answered.TheVariants as answered
 use Rattle.turn_answers.specs.declared.answered.MemoryChange.TheVariants as change
-use Rattle.call_answers.specs.Answers.{AnswersIn, IsMade, MayEndIn}
+use Rattle.call_answers.specs.Answers.{AnswersIn, CallIsAnswered, MayEndIn}
 use Rattle.call_answers.specs.Served.{told_at}
 use Rattle.call_answers.proofs.Came.{goes_on, over_in}
 use Rattle.call_answers.proofs.Quiet.{leaves}
@@ -67,7 +67,7 @@ module _ (old new : LinkTable) (h : ℕ) where
   TellsText came text = TellsIn old h text new → AnswersIn old h asks_fault came new
 
   one_told : (w : Setting) (text : List ℕ) (tells : TellsIn old h (Some text) new) (fault : Option DlFault) → Gives w old.events h asks_fault tells.given (told fault)
-      → Some text ≡ option_map answer_text fault → IsMade w old.events new.events new.made h asks_fault (answered.Told (stack_start (after old.events) h) text)
+      → Some text ≡ option_map answer_text fault → CallIsAnswered w old.events new.events new.made h asks_fault (answered.Told (stack_start (after old.events) h) text)
   one_told w text tells (Some fault) gives is =
       let same : text ≡ answer_text fault = cc in
       goes_on w old.events tells.given new.events new.made h asks_fault (told (Some fault)) (answered.Told (stack_start (after old.events) h) text) tells.are refl
@@ -75,7 +75,7 @@ module _ (old new : LinkTable) (h : ℕ) where
   one_told w text tells None gives is = absurd (let d : Some text ≡ None = is in cc)
 
   none_told : (w : Setting) (tells : TellsIn old h None new) (fault : Option DlFault) → Gives w old.events h asks_fault tells.given (told fault) → None ≡ option_map answer_text fault
-      → IsMade w old.events new.events new.made h asks_fault (answered.Returns 0 change.Nothing)
+      → CallIsAnswered w old.events new.events new.made h asks_fault (answered.Returns 0 change.Nothing)
   none_told w tells (Some fault) gives is = absurd (let d : None ≡ Some (answer_text fault) = is in cc)
   none_told w tells None gives is =
       goes_on w old.events tells.given new.events new.made h asks_fault (told None) (answered.Returns 0 change.Nothing) tells.are refl (λ reason d. let no : told None ≡ over reason = d in cc) gives

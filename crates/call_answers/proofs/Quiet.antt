@@ -154,7 +154,6 @@ with_block past h serial block rest made same leave installed = inl (record {
   behind = rest;
   are = refl;
   takes_none = refl;
-  added = [];
   installed = subst (λ (s : State). AreBlockInstalls s h serial block made) same installed;
   leave = leave;
 })

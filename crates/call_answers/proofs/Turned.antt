@@ -1,5 +1,5 @@
 -- The turn of a call that was made.
-use Rattle.std.proofs.Common.{◌≡◌, ℕ, true, false, List, Option, sym, subst, ◌∙◌}
+use Rattle.std.proofs.Common.{◌≡◌, ℕ, true, false, IsTrue, List, Option, refl, sym, subst, ◌∙◌}
 use Rattle.call_laws.specs.Coming.{NeedsNoRead}
 use Rattle.hart_moves.specs.Due.{Due, Return, due}
 use Rattle.hart_moves.specs.Harts.{HartState}
@@ -14,7 +14,7 @@ use Rattle.link_service.specs.Call.{Call, opens}
 use Rattle.link_state.specs.Table.{LinkTable}
 use Rattle.turn_answers.specs.declared.answered.Answered.{Answered}
 use Rattle.call_answers.specs.Answers.{AnswersDue, AnswersIn, AnswersOver, is_service}
-use Rattle.call_answers.specs.Openings.{OpensUnlessReadsFail, OpensWholly, ReadsNothing, RefusalShows}
+use Rattle.call_answers.specs.Openings.{OpensWholly, TurnOpensWholly, TurnReadsNothing, TurnRefusalIsCounted}
 
 -- ---- what came
 
@@ -34,11 +34,11 @@ same_ask : (ask other : OpenAsk) (return back : Return) → Due.serve (opens ask
 same_ask ask other return back is = cc
 
 pub wholly : (old : LinkTable) (folders : List (List ℕ)) (files : Option (List File)) (failures failures' h : ℕ) (d : Due) (ask : OpenAsk) (return : Return) (came : Answered)
-    → Due.serve (opens ask) return ≡ d → OpensWholly old folders files failures failures' h ask came → OpensUnlessReadsFail old folders files failures failures' h d came
+    → Due.serve (opens ask) return ≡ d → OpensWholly old folders files failures failures' h ask came → TurnOpensWholly old folders files failures failures' h d came
 wholly old folders files failures failures' h d ask return came is whole = λ other back due.
     subst (λ (a : OpenAsk). OpensWholly old folders files failures failures' h a came) (same_ask ask other return back (is ∙ due)) whole
 
-pub needs_none : (s : State) (d : Due) (ask : OpenAsk) (return : Return) → Due.serve (opens ask) return ≡ d → ReadsNothing s d → NeedsNoRead s ask
+pub needs_none : (s : State) (d : Due) (ask : OpenAsk) (return : Return) → Due.serve (opens ask) return ≡ d → TurnReadsNothing s d → NeedsNoRead s ask
 needs_none s d ask return is reads = reads ask return (sym is)
 
 -- ---- other calls
@@ -52,21 +52,24 @@ differs : (call : Call) (ask : OpenAsk) (return back : Return) → IsOther call 
 differs call ask return back other is = let same : call ≡ opens ask = cc in subst IsOther same other
 
 pub other_wholly : (old : LinkTable) (folders : List (List ℕ)) (files : Option (List File)) (failures failures' h : ℕ) (d : Due) (call : Call) (return : Return) (came : Answered) → IsOther call
-    → Due.serve call return ≡ d → OpensUnlessReadsFail old folders files failures failures' h d came
+    → Due.serve call return ≡ d → TurnOpensWholly old folders files failures failures' h d came
 other_wholly old folders files failures failures' h d call return came other is = λ ask back due. absurd (differs call ask return back other (is ∙ due))
 
 pub other_shows : (folders : List (List ℕ)) (past events : List Event) (h : ℕ) (d : Due) (call : Call) (return : Return) (failures failures' misses misses' : ℕ) → IsOther call → Due.serve call return ≡ d
-    → RefusalShows folders past events h d failures failures' misses misses'
+    → TurnRefusalIsCounted folders past events h d failures failures' misses misses'
 other_shows folders past events h d call return failures failures' misses misses' other is = λ ask back due. absurd (differs call ask return back other (is ∙ due))
 
 -- ---- no call
 
 pub none_shows : (folders : List (List ℕ)) (past events : List Event) (h : ℕ) (d : Due) (failures failures' misses misses' : ℕ) → is_service d ≡ false
-    → RefusalShows folders past events h d failures failures' misses misses'
+    → TurnRefusalIsCounted folders past events h d failures failures' misses misses'
 none_shows folders past events h d failures failures' misses misses' none = λ ask back due.
     absurd (let no : true ≡ false = subst (λ (x : Due). is_service x ≡ false) due none in cc)
 
 -- ---- what is due
+
+pub serves_call : (d : Due) (call : Call) (return : Return) → Due.serve call return ≡ d → IsTrue (is_service d)
+serves_call d call return is = subst (λ (x : Due). IsTrue (is_service x)) is refl
 
 -- what the hart asks for is its next turn
 pub due_of : (s : State) (b : HartState) (asked call : code_call) → asked ≡ call → due_in s b (code.Serve asked) ≡ due s b → Due.serve (call_in s call) (back_of b call) ≡ due s b

@@ -8,10 +8,11 @@ use Rattle.link_event.specs.declared.event.Event.{Event}
 use Rattle.link_history.specs.After.{after}
 use Rattle.link_history.specs.Allowed.{MayEnd, MayWrite}
 use Rattle.link_history.specs.Setting.{Setting}
+use Rattle.link_history.specs.Slots.{HasNoGrant}
 use Rattle.link_history.specs.State.{State}
 use Rattle.link_served.specs.declared.installs.Installs.{Installs}
 use Rattle.link_service.specs.Answer.{Answer}
-use Rattle.link_service.specs.Call.{Call, unmaps, writes}
+use Rattle.link_service.specs.Call.{Call, resolves, unmaps, writes}
 use Rattle.link_service.specs.Gives.{Serves}
 use Rattle.link_service.specs.Waiting.{HasFinished}
 use Rattle.link_state.specs.Table.{LinkTable}
@@ -23,6 +24,10 @@ use Rattle.turn_answers.specs.declared.answered.Answered.{Answered}
 -- in each run on this machine the hart may end
 abbrev pub MayEndIn : LinkTable → ℕ → Type 0
 MayEndIn table h = (w : Setting) → IsOn (machine_of table.harts) w → MayEnd w (after table.events) h
+
+-- where a slot is to be granted, the hart has no open grant
+abbrev pub IsFreeFirst : State → ℕ → Due → Type 0
+IsFreeFirst s h d = (owner eights : ℕ) (return : Return) → d ≡ Due.serve (resolves owner eights) return → HasNoGrant s h
 
 -- where the objects of a closing are to be unmapped, their destructors have run
 abbrev pub HasFinishedFirst : State → ℕ → Due → Type 0
@@ -49,7 +54,7 @@ is_service (Due.complete purpose object rest below) = false
 is_service (Due.finalise code object) = false
 
 -- the call was made, with the events from `past` on, and this came of it
-pub record IsMade (w : Setting) (past events : List Event) (made : Installs) (h : ℕ) (call : Call) (came : Answered) : Type 0 where
+pub record CallIsAnswered (w : Setting) (past events : List Event) (made : Installs) (h : ℕ) (call : Call) (came : Answered) : Type 0 where
   pub appended : List Event
   pub are : events ≡ past ++ appended
   pub answer : Answer
@@ -58,7 +63,7 @@ pub record IsMade (w : Setting) (past events : List Event) (made : Installs) (h 
 
 -- in each of these runs
 abbrev pub AnswersBy : (Setting → Type 0) → LinkTable → ℕ → Call → Answered → LinkTable → Type 0
-AnswersBy IsOf old h call came new = (w : Setting) → IsOf w → IsMade w old.events new.events new.made h call came
+AnswersBy IsOf old h call came new = (w : Setting) → IsOf w → CallIsAnswered w old.events new.events new.made h call came
 
 -- in each run on this machine
 abbrev pub AnswersIn : LinkTable → ℕ → Call → Answered → LinkTable → Type 0

@@ -36,8 +36,8 @@ dlmopen_ask ns = asked (asked_namespace ns)
 -- ---- reading
 
 -- no other call than an opening reads files, and not each opening does
-abbrev pub ReadsNothing : State → Due → Type 0
-ReadsNothing s d = (ask : OpenAsk) (return : Return) → d ≡ Due.serve (opens ask) return → NeedsNoRead s ask
+abbrev pub TurnReadsNothing : State → Due → Type 0
+TurnReadsNothing s d = (ask : OpenAsk) (return : Return) → d ≡ Due.serve (opens ask) return → NeedsNoRead s ask
 
 -- ---- success
 
@@ -57,18 +57,18 @@ OpensWholly old folders files failures failures' h ask came =
     (told : List File) → files ≡ Some told → ¬ (Rises failures failures') → (w : Setting) (id root : ℕ) (added : List Loaded) (ranges : List Range)
     → IsOver (machine_of old.harts) folders (Some told) w → Opens w (after old.events) h ask id root added ranges → Reaches root came
 
-abbrev pub OpensUnlessReadsFail : LinkTable → List (List ℕ) → Option (List File) → ℕ → ℕ → ℕ → Due → Answered → Type 0
-OpensUnlessReadsFail old folders files failures failures' h d came =
+abbrev pub TurnOpensWholly : LinkTable → List (List ℕ) → Option (List File) → ℕ → ℕ → ℕ → Due → Answered → Type 0
+TurnOpensWholly old folders files failures failures' h d came =
     (ask : OpenAsk) (return : Return) → d ≡ Due.serve (opens ask) return → OpensWholly old folders files failures failures' h ask came
 
 -- ---- refusals
 
 -- an opening that was refused for a read that failed, or for a missing library, shows that in the library's counts
-abbrev pub ShowsRefusal : List (List ℕ) → (past events : List Event) → ℕ → (failures failures' misses misses' : ℕ) → Type 0
-ShowsRefusal folders past events h failures failures' misses misses' =
+abbrev pub RefusalIsCounted : List (List ℕ) → (past events : List Event) → ℕ → (failures failures' misses misses' : ℕ) → Type 0
+RefusalIsCounted folders past events h failures failures' misses misses' =
     (ask : OpenAsk) (fault : DlFault) → events ≡ past ++ Open h ask (Refused fault) ∷ []
     → ShowsInCounts (ArePaths folders) (Some fault) failures failures' misses misses'
 
-abbrev pub RefusalShows : List (List ℕ) → (past events : List Event) → ℕ → Due → (failures failures' misses misses' : ℕ) → Type 0
-RefusalShows folders past events h d failures failures' misses misses' =
-    (ask : OpenAsk) (return : Return) → d ≡ Due.serve (opens ask) return → ShowsRefusal folders past events h failures failures' misses misses'
+abbrev pub TurnRefusalIsCounted : List (List ℕ) → (past events : List Event) → ℕ → Due → (failures failures' misses misses' : ℕ) → Type 0
+TurnRefusalIsCounted folders past events h d failures failures' misses misses' =
+    (ask : OpenAsk) (return : Return) → d ≡ Due.serve (opens ask) return → RefusalIsCounted folders past events h failures failures' misses misses'

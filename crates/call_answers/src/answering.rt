@@ -1,12 +1,11 @@
 //! The call that is due.
 
-ghost use Rattle.std.specs.Prelude.{◌≡◌, ◌<◌, ◌≤◌, false, IfNone, IfSome};
+ghost use Rattle.std.specs.Prelude.{◌≡◌, ◌<◌, ◌≤◌, false, IfNone, IfSome, IsTrue};
 ghost use Rattle.hart_moves.specs.Due.{due};
 ghost use Rattle.link_history.specs.After.{after};
 ghost use Rattle.link_history.specs.Objects.{is_startup};
-ghost use Rattle.link_history.specs.Slots.{HasNoGrant};
-ghost use Rattle.call_answers.specs.Answers.{AnswersDue, HasFinishedFirst, MayEndIn, WritesSome, is_service};
-ghost use Rattle.call_answers.specs.Openings.{OpensUnlessReadsFail, ReadsNothing, RefusalShows};
+ghost use Rattle.call_answers.specs.Answers.{AnswersDue, HasFinishedFirst, IsFreeFirst, MayEndIn, WritesSome, is_service};
+ghost use Rattle.call_answers.specs.Openings.{TurnOpensWholly, TurnReadsNothing, TurnRefusalIsCounted};
 
 use crate::closing::{close, unmap};
 use crate::ending::stop;
@@ -27,8 +26,10 @@ use turn_answers::Answered;
 /// Answers the call that a hart's next turn is, if it is one: its events, and the end of the hart that it
 /// brings, are in the journal then.
 ///
-/// Startup is over, the hart's grant is settled, and the hart may end. The library's counts show that a
-/// read failed, and that paths were missed.
+/// The program is loaded, and what the call asks for holds: a hart that makes one may end, it has no open
+/// grant where it is to get one, destructors have run before their objects are unmapped, and a write is of
+/// as many bytes as may be written at once. The library's counts show that a read failed, and that paths
+/// were missed.
 pub fn answer<L: Library>(
     alloc: Global,
     state: &mut LinkState,
@@ -39,19 +40,19 @@ pub fn answer<L: Library>(
 ) -> Option<Answered>
     requires hart { id < state.old.harts }
     requires started { is_startup (after state.old.events) ≡ false }
-    requires free { HasNoGrant (after state.old.events) id }
-    requires may_end { MayEndIn state.old id }
+    requires may_end { IsTrue (is_service (due (after state.old.events) hart.now.hart)) → MayEndIn state.old id }
+    requires free { IsFreeFirst (after state.old.events) id (due (after state.old.events) hart.now.hart) }
     requires finished { HasFinishedFirst (after state.old.events) id (due (after state.old.events) hart.now.hart) }
     requires writes { WritesSome (due (after state.old.events) hart.now.hart) }
     ensures answered { IfSome result (λ came.
         AnswersDue state.old folders.now (L.files library.old) id (due (after state.old.events) hart.now.hart) came state.new) }
     ensures other { IfNone result (is_service (due (after state.old.events) hart.now.hart) ≡ false) }
     ensures unchanged { IfNone result ((state.new ≡ state.old) × (library.new ≡ library.old)) }
-    ensures whole { IfSome result (λ came. OpensUnlessReadsFail state.old folders.now (L.files library.old)
+    ensures whole { IfSome result (λ came. TurnOpensWholly state.old folders.now (L.files library.old)
         (L.faults library.old) (L.faults library.new) id (due (after state.old.events) hart.now.hart) came) }
-    ensures counts { RefusalShows folders.now state.old.events state.new.events id (due (after state.old.events) hart.now.hart)
+    ensures counts { TurnRefusalIsCounted folders.now state.old.events state.new.events id (due (after state.old.events) hart.now.hart)
         (L.faults library.old) (L.faults library.new) (L.misses library.old) (L.misses library.new) }
-    ensures unread { ReadsNothing (after state.old.events) (due (after state.old.events) hart.now.hart) → library.new ≡ library.old }
+    ensures unread { TurnReadsNothing (after state.old.events) (due (after state.old.events) hart.now.hart) → library.new ≡ library.old }
     ensures files { L.files library.new ≡ L.files library.old }
     ensures faults { L.faults library.old ≤ L.faults library.new }
     ensures misses { L.misses library.old ≤ L.misses library.new }

@@ -7,7 +7,7 @@ ghost use Rattle.link_history.specs.After.{after};
 ghost use Rattle.link_history.specs.Objects.{is_startup};
 ghost use Rattle.link_service.specs.Call.{opens};
 ghost use Rattle.call_answers.specs.Answers.{AnswersOver, MayEndIn};
-ghost use Rattle.call_answers.specs.Openings.{OpensWholly, ShowsRefusal, dlmopen_ask, dlopen_ask};
+ghost use Rattle.call_answers.specs.Openings.{OpensWholly, RefusalIsCounted, dlmopen_ask, dlopen_ask};
 
 use crate::callers::caller_in;
 use crate::served::answer_with;
@@ -35,7 +35,7 @@ pub(crate) fn dlopen<L: Library>(
         (opens (dlopen_ask (after state.old.events) caller (option_copied name.entry) flags)) result state.new }
     ensures whole { OpensWholly state.old folders.now (L.files library.old) (L.faults library.old) (L.faults library.new) id
         (dlopen_ask (after state.old.events) caller (option_copied name.entry) flags) result }
-    ensures counts { ShowsRefusal folders.now state.old.events state.new.events id
+    ensures counts { RefusalIsCounted folders.now state.old.events state.new.events id
         (L.faults library.old) (L.faults library.new) (L.misses library.old) (L.misses library.new) }
     ensures unread { NeedsNoRead (after state.old.events) (dlopen_ask (after state.old.events) caller (option_copied name.entry) flags)
         → library.new ≡ library.old }
@@ -67,7 +67,7 @@ pub(crate) fn dlmopen<L: Library>(
         (opens (dlmopen_ask namespace (option_copied name.entry) flags)) result state.new }
     ensures whole { OpensWholly state.old folders.now (L.files library.old) (L.faults library.old) (L.faults library.new) id
         (dlmopen_ask namespace (option_copied name.entry) flags) result }
-    ensures counts { ShowsRefusal folders.now state.old.events state.new.events id
+    ensures counts { RefusalIsCounted folders.now state.old.events state.new.events id
         (L.faults library.old) (L.faults library.new) (L.misses library.old) (L.misses library.new) }
     ensures unread { NeedsNoRead (after state.old.events) (dlmopen_ask namespace (option_copied name.entry) flags)
         → library.new ≡ library.old }

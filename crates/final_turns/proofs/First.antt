@@ -9,14 +9,14 @@ use Rattle.link_service.specs.Functions.{AreFinalDestructors, object_of}
 use Rattle.hart_moves.specs.Harts.{HartState, Phase, Purpose}
 use Rattle.hart_moves.specs.Moves.{runs}
 use Rattle.hart_moves.specs.Starting.{starting_registers}
-use Rattle.final_turns.specs.Begins.{BeginsFinals}
+use Rattle.final_turns.specs.Begins.{StartsFinals}
 
 -- with its starting registers
 abbrev pub restarted : HartEntry → HartState → HartState
 restarted entry b = record b { registers = starting_registers entry; phase = Phase.at_pc; frames = []; «end» = None }
 
 pub begins : (s : State) (entry : HartEntry) (code : ℕ) (functions first : List Function) (none : Bool) (b c : HartState) → AreFinalDestructors s functions
-    → none ≡ eqb (length functions) 0 → none ≡ false → first ≡ take 1 functions → c ≡ runs (Purpose.of_end code) first [] (restarted entry b) → BeginsFinals s entry code b c
+    → none ≡ eqb (length functions) 0 → none ≡ false → first ≡ take 1 functions → c ≡ runs (Purpose.of_end code) first [] (restarted entry b) → StartsFinals s entry code b c
 begins s entry code [] first none b c are is some alone begun = absurd (true≢false (sym is ∙ some))
 begins s entry code (f ∷ rest) first none b c are is some alone begun = record {
   object = f.object;

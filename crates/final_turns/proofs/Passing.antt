@@ -22,8 +22,9 @@ use Rattle.link_state.specs.Table.{LinkTable}
 use Rattle.link_service.specs.Functions.{AreAddresses, AreOf, destructors, left, object_of, passed}
 use Rattle.hart_moves.specs.Harts.{HartState, Purpose}
 use Rattle.hart_moves.specs.Moves.{AreAllowed, Finalises, Finals, all_finis, did_by, final_functions, freed_by, own_fini, runs, spent}
-use Rattle.final_turns.specs.Planned.{IsPlanned, MayAllFollow, MayFinalise, MayFinaliseIn, is_other}
-use Rattle.final_turns.specs.Table.{FinalPlan, events_of, finis}
+use Rattle.turn_answers.specs.Following.{MayFollowAll}
+use Rattle.final_turns.specs.Planned.{FinalsMayFollow, FinalsMayFollowIn, IsPlanned, is_other}
+use Rattle.final_turns.specs.Table.{FinalPlan, finis, plan_events}
 use Rattle.final_turns.proofs.Left.{AreApart, all_others, finalised_left, first_goes, left_apart, left_stands, rest_apart}
 
 -- ---- one object is finalised
@@ -117,11 +118,11 @@ leaves_others past h object = by (is_some (object_at (after past) object) && not
 pub record Turns (w : Setting) (past : List Event) (h : ℕ) (plan : FinalPlan) : Type 0 where
   pub events : List Event
   pub next : Option Function
-  pub are : events_of h plan ≡ own_fini (after past) h plan.object ++ events
+  pub are : plan_events h plan ≡ own_fini (after past) h plan.object ++ events
   pub finals : Finals w h (past ++ own_fini (after past) h plan.object) events next
   pub first : final_functions next ≡ plan.next
 
-pub turns : (w : Setting) (past : List Event) (h : ℕ) (plan : FinalPlan) → InitialisedOnce (after past) → IsPlanned (after past) plan → MayFinalise w past h plan.object → Turns w past h plan
+pub turns : (w : Setting) (past : List Event) (h : ℕ) (plan : FinalPlan) → InitialisedOnce (after past) → IsPlanned (after past) plan → FinalsMayFollow w past h plan.object → Turns w past h plan
 turns w past h plan once planned may =
     let s : State = after past in
     let own : List ℕ = own_object s plan.object in
@@ -137,15 +138,15 @@ turns w past h plan once planned may =
       first = first_alone (left planned.others) ∙ sym planned.next;
     }
 
-pub finalises : (w : Setting) (past : List Event) (h : ℕ) (plan : FinalPlan) (b c : HartState) → MayFinalise w past h plan.object → Turns w past h plan
-    → c ≡ spent (runs (Purpose.of_end plan.code) plan.next [] (freed_by (events_of h plan) b)) → Finalises w past h b plan.code plan.object (did_by (events_of h plan)) c
+pub finalises : (w : Setting) (past : List Event) (h : ℕ) (plan : FinalPlan) (b c : HartState) → FinalsMayFollow w past h plan.object → Turns w past h plan
+    → c ≡ spent (runs (Purpose.of_end plan.code) plan.next [] (freed_by (plan_events h plan) b)) → Finalises w past h b plan.code plan.object (did_by (plan_events h plan)) c
 finalises w past h plan b c may turn is = record {
   may = may.own;
   events = turn.events;
   next = turn.next;
   finals = turn.finals;
   is = ap did_by turn.are;
-  leaves = is ∙ ap (λ (fs : List Function). spent (runs (Purpose.of_end plan.code) fs [] (freed_by (events_of h plan) b))) (sym turn.first)
+  leaves = is ∙ ap (λ (fs : List Function). spent (runs (Purpose.of_end plan.code) fs [] (freed_by (plan_events h plan) b))) (sym turn.first)
       ∙ ap (λ (es : List Event). spent (runs (Purpose.of_end plan.code) (final_functions turn.next) [] (freed_by es b))) turn.are;
 }
 
@@ -161,7 +162,7 @@ both_allowed w past [] other a b = subst (λ (es : List Event). AreAllowed w es 
 both_allowed w past (e ∷ rest) other a b =
     (a.0, both_allowed w (past ++ e ∷ []) rest other a.1 (subst (λ (es : List Event). AreAllowed w es other) (sym (append_assoc past (e ∷ []) rest)) b))
 
-pub all_may : (w : Setting) (past : List Event) (h : ℕ) (plan : FinalPlan) → MayFinalise w past h plan.object → Turns w past h plan → AreAllowed w past (events_of h plan)
+pub all_may : (w : Setting) (past : List Event) (h : ℕ) (plan : FinalPlan) → FinalsMayFollow w past h plan.object → Turns w past h plan → AreAllowed w past (plan_events h plan)
 all_may w past h plan may turn =
     subst (AreAllowed w past) (sym turn.are)
     (both_allowed w past (own_fini (after past) h plan.object) turn.events may.own (finals_allowed w h (past ++ own_fini (after past) h plan.object) turn.events turn.next turn.finals))
@@ -176,13 +177,13 @@ allowed_at w past h (o ∷ rest) (suc k) d may lt is =
     (allowed_at w (past ++ Fini h o ∷ []) h rest k d may.1 (omega (arith, lt)) is)
 
 -- so may the next of them, when those before it have come
-pub next_follows : (old now : LinkTable) (h : ℕ) (objects : List ℕ) (k d : ℕ) → MayAllFollow old.harts old.events (finis h objects)
+pub next_follows : (old now : LinkTable) (h : ℕ) (objects : List ℕ) (k d : ℕ) → MayFollowAll old.harts old.events (finis h objects)
     → now ≡ record old { events = old.events ++ finis h (take k objects) } → k < length objects → d ≡ get_or objects k d → MayFollow now.harts now.events (Fini h d)
 next_follows old now h objects k d follow is lt at = subst (λ (t : LinkTable). MayFollow t.harts t.events (Fini h d)) (sym is)
     (record { setting = follow.setting; machine = follow.machine; may = allowed_at follow.setting old.events h objects k d follow.may lt at })
 
 pub all_follow : (harts : ℕ) (past : List Event) (h : ℕ) (plan : FinalPlan) (objects : List ℕ) → InitialisedOnce (after past) → IsPlanned (after past) plan
-    → MayFinaliseIn harts past h plan.object → objects ≡ plan.finalised → MayAllFollow harts past (finis h objects)
+    → FinalsMayFollowIn harts past h plan.object → objects ≡ plan.finalised → MayFollowAll harts past (finis h objects)
 all_follow harts past h plan objects once planned may are = record {
   setting = may.setting;
   machine = may.machine;

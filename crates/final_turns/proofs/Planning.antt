@@ -12,7 +12,7 @@ use Rattle.link_service.specs.Functions.{AreFinalDestructors, left, object_of, p
 use Rattle.hart_moves.specs.Harts.{HartState, Purpose}
 use Rattle.hart_moves.specs.Moves.{all_finis, did_by, freed, freed_by, own_fini, runs, settles, spent}
 use Rattle.final_turns.specs.Planned.{IsPlanned, is_other}
-use Rattle.final_turns.specs.Table.{FinalPlan, events_of, finis}
+use Rattle.final_turns.specs.Table.{FinalPlan, finis, plan_events}
 use Rattle.final_turns.proofs.Left.{any_of, counts_as_left}
 use Rattle.final_turns.proofs.Passing.{own_finis, own_object}
 
@@ -56,8 +56,8 @@ settled_first (e ∷ rest) b = refl
 
 -- how the hart is left
 pub carried : (plan : FinalPlan) (code : ℕ) (next : List Function) (h : ℕ) (b found between left : HartState) → code ≡ plan.code → next ≡ plan.next
-    → found ≡ cond (settles (did_by (events_of h plan))) (freed b) b → between ≡ runs (Purpose.of_end code) (drop 0 next) [] found → left ≡ spent between
-    → left ≡ spent (runs (Purpose.of_end plan.code) plan.next [] (freed_by (events_of h plan) b))
+    → found ≡ cond (settles (did_by (plan_events h plan))) (freed b) b → between ≡ runs (Purpose.of_end code) (drop 0 next) [] found → left ≡ spent between
+    → left ≡ spent (runs (Purpose.of_end plan.code) plan.next [] (freed_by (plan_events h plan) b))
 carried plan code next h b found between left is_code is_next is_found ran counted =
     counted ∙ ap spent (ran ∙ ap (λ (n : ℕ). runs (Purpose.of_end n) next [] found) is_code ∙ ap (λ (fs : List Function). runs (Purpose.of_end plan.code) fs [] found) is_next
-    ∙ ap (λ (x : HartState). runs (Purpose.of_end plan.code) plan.next [] x) (is_found ∙ settled_first (events_of h plan) b))
+    ∙ ap (λ (x : HartState). runs (Purpose.of_end plan.code) plan.next [] x) (is_found ∙ settled_first (plan_events h plan) b))

@@ -9,7 +9,7 @@ use Rattle.hart_moves.specs.Moves.{all_finis}
 use Rattle.hart_moves.specs.Starting.{finalising_hart, starting_registers}
 
 -- a hart, which has exited with the code, is to run the destructors of the object that comes first of all that are left
-pub record BeginsFinals (s : State) (entry : HartEntry) (code : ℕ) (b c : HartState) : Type 0 where
+pub record StartsFinals (s : State) (entry : HartEntry) (code : ℕ) (b c : HartState) : Type 0 where
   pub object : ℕ
   pub rest : List ℕ
   pub next : all_finis s ≡ object ∷ rest

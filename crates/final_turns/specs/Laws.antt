@@ -7,7 +7,7 @@ use Rattle.link_history.specs.Allowed.{Allowed}
 use Rattle.link_history.specs.Setting.{Setting, have_exited}
 use Rattle.linker_lists.specs.Events.{settled}
 use Rattle.hart_moves.specs.Moves.{AreAllowed, all_finis, own_fini}
-use Rattle.final_turns.specs.Planned.{IsPlanned, MayFinalise}
+use Rattle.final_turns.specs.Planned.{FinalsMayFollow, IsPlanned}
 use Rattle.final_turns.specs.Table.{FinalPlan}
 
 -- ---- a grant that is settled
@@ -37,4 +37,4 @@ NextMayPass w h = (past : List Event) (d : ℕ) (rest : List ℕ) → IsTrue (ha
 -- so they may come, where the object's own may
 abbrev pub FinalsGoOn : Type 0
 FinalsGoOn = (w : Setting) (past : List Event) (h object : ℕ) → IsTrue (have_exited w (after past)) → AreAllowed w past (own_fini (after past) h object)
-    → NextMayPass w h → MayFinalise w past h object
+    → NextMayPass w h → FinalsMayFollow w past h object

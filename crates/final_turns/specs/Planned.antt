@@ -10,7 +10,7 @@ use Rattle.link_history.specs.State.{State}
 use Rattle.link_service.specs.Functions.{AreOf, destructors, left, object_of, passed}
 use Rattle.lawful_journal.specs.Following.{machine_of}
 use Rattle.hart_moves.specs.Moves.{AreAllowed, all_finis, own_fini}
-use Rattle.final_turns.specs.Table.{FinalPlan, events_of, finis}
+use Rattle.final_turns.specs.Table.{FinalPlan, finis, plan_events}
 
 abbrev pub is_other : ℕ → ℕ → Bool
 is_other object d = not (object == d)
@@ -22,22 +22,16 @@ pub record IsPlanned (s : State) (plan : FinalPlan) : Type 0 where
   pub others : List Function
   pub order : map object_of others ≡ filter (is_other plan.object) (all_finis s)
   pub addresses : AreOf s destructors others
-  pub events : (h : ℕ) → events_of h plan ≡ own_fini s h plan.object ++ finis h (passed others)
+  pub events : (h : ℕ) → plan_events h plan ≡ own_fini s h plan.object ++ finis h (passed others)
   pub next : plan.next ≡ take 1 (left others)
 
 -- the object may be finalised, if it is still to be, and whenever some have been, the one that is next of all
-pub record MayFinalise (w : Setting) (past : List Event) (h object : ℕ) : Type 0 where
+pub record FinalsMayFollow (w : Setting) (past : List Event) (h object : ℕ) : Type 0 where
   pub own : AreAllowed w past (own_fini (after past) h object)
   pub next : (before : List ℕ) (d : ℕ) (rest : List ℕ) → all_finis (after (past ++ finis h before)) ≡ d ∷ rest → Allowed w (past ++ finis h before) (Fini h d)
 
 -- by some folders, names and files that the machine was given
-pub record MayFinaliseIn (harts : ℕ) (past : List Event) (h object : ℕ) : Type 0 where
+pub record FinalsMayFollowIn (harts : ℕ) (past : List Event) (h object : ℕ) : Type 0 where
   pub setting : Setting
   pub machine : setting.machine ≡ machine_of harts
-  pub may : MayFinalise setting past h object
-
--- so may events, one after another
-pub record MayAllFollow (harts : ℕ) (past added : List Event) : Type 0 where
-  pub setting : Setting
-  pub machine : setting.machine ≡ machine_of harts
-  pub may : AreAllowed setting past added
+  pub may : FinalsMayFollow setting past h object

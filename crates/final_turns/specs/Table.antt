@@ -19,5 +19,5 @@ abbrev pub finis : ℕ → List ℕ → List Event
 finis h objects = map (Fini h) objects
 
 -- those of the turn
-abbrev pub events_of : ℕ → FinalPlan → List Event
-events_of h plan = finis h plan.finalised
+abbrev pub plan_events : ℕ → FinalPlan → List Event
+plan_events h plan = finis h plan.finalised

@@ -4,7 +4,7 @@ ghost use Rattle.std.specs.Prelude.{◌≡◌, [], IfOk, OnErr};
 ghost use Rattle.std.specs.Bool.{OnFalse, OnTrue};
 ghost use Rattle.link_history.specs.After.{after};
 ghost use Rattle.hart_moves.specs.Moves.{all_finis};
-ghost use Rattle.final_turns.specs.Begins.{BeginsFinals};
+ghost use Rattle.final_turns.specs.Begins.{StartsFinals};
 
 use crate::turn::only_at;
 use hart_seat::LinkedHart;
@@ -27,7 +27,7 @@ pub fn begin(
     entry: HartEntry,
     code: u64,
 ) -> Result<bool, AllocError>
-    ensures begins { IfOk result (λ some. OnTrue some (BeginsFinals (after state.now.events) entry code hart.old.hart hart.new.hart)) }
+    ensures begins { IfOk result (λ some. OnTrue some (StartsFinals (after state.now.events) entry code hart.old.hart hart.new.hart)) }
     ensures none { IfOk result (λ some. OnFalse some (all_finis (after state.now.events) ≡ [])) }
     ensures stays { IfOk result (λ some. OnFalse some (hart.new.hart ≡ hart.old.hart)) }
     ensures err { OnErr result (hart.new.hart ≡ hart.old.hart) }

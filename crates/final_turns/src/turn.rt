@@ -8,8 +8,9 @@ ghost use Rattle.link_history.specs.Setting.{Setting};
 ghost use Rattle.link_service.specs.Functions.{object_of};
 ghost use Rattle.hart_moves.specs.Harts.{HartState};
 ghost use Rattle.hart_moves.specs.Moves.{Finalises, did_by, freed, settles};
-ghost use Rattle.final_turns.specs.Planned.{IsPlanned, MayAllFollow, MayFinalise, MayFinaliseIn, is_other};
-ghost use Rattle.final_turns.specs.Table.{events_of, finis};
+ghost use Rattle.final_turns.specs.Planned.{FinalsMayFollow, FinalsMayFollowIn, IsPlanned, is_other};
+ghost use Rattle.final_turns.specs.Table.{finis, plan_events};
+ghost use Rattle.turn_answers.specs.Following.{MayFollowAll};
 
 use hart_parts::passed_objects;
 use hart_seat::LinkedHart;
@@ -74,7 +75,7 @@ impl FinalTurn {
 
     /// Whether the turn has events. If it has, all grants that harts are done with are settled first.
     pub fn has_events(&self) -> bool
-        ensures { (h : ℕ) → result ≡ settles (did_by (events_of h self.now)) }
+        ensures { (h : ℕ) → result ≡ settles (did_by (plan_events h self.now)) }
     {
         !self.finalised.is_empty()
     }
@@ -82,13 +83,13 @@ impl FinalTurn {
     /// The turn is carried out. This takes no memory.
     pub fn carry_out(self, state: &mut LinkState, id: HartId, hart: &mut LinkedHart)
         requires planned { IsPlanned (after state.old.events) self }
-        requires may { MayFinaliseIn state.old.harts state.old.events id self.object }
+        requires may { FinalsMayFollowIn state.old.harts state.old.events id self.object }
         requires fuel { hart.old.hart.turns < hart.old.hart.fuel }
         requires room { 0 < hart.old.spare }
-        ensures turn { (w : Setting) (b : HartState) → MayFinalise w state.old.events id self.object
-            → hart.old.hart ≡ (if settles (did_by (events_of id self)) then freed b else b)
-            → Finalises w state.old.events id b self.code self.object (did_by (events_of id self)) hart.new.hart }
-        ensures events { state.new ≡ record state.old { events = state.old.events ++ events_of id self } }
+        ensures turn { (w : Setting) (b : HartState) → FinalsMayFollow w state.old.events id self.object
+            → hart.old.hart ≡ (if settles (did_by (plan_events id self)) then freed b else b)
+            → Finalises w state.old.events id b self.code self.object (did_by (plan_events id self)) hart.new.hart }
+        ensures events { state.new ≡ record state.old { events = state.old.events ++ plan_events id self } }
     {
         initialised_once();
         let _ = state.journal();
@@ -157,7 +158,7 @@ pub(crate) fn only_at(functions: Functions, place: usize) -> Functions
 
 /// Some objects are finalised, one after another.
 fn finalise(state: &mut LinkState, hart: HartId, objects: &[Serial])
-    requires { MayAllFollow state.old.harts state.old.events (finis hart objects.now) }
+    requires { MayFollowAll state.old.harts state.old.events (finis hart objects.now) }
     ensures { state.new ≡ record state.old { events = state.old.events ++ finis hart objects.now } }
 {
     for object in objects {

@@ -18,13 +18,13 @@ use Rattle.hart_moves.specs.Harts.{HartState}
 use Rattle.hart_moves.specs.Moves.{Did, Moves, events_of, freed, settles}
 use Rattle.call_answers.specs.Answers.{HasFinishedFirst, WritesSome}
 use Rattle.answer_turns.specs.Completing.{MayPass}
-use Rattle.final_turns.specs.Planned.{MayFinalise}
+use Rattle.final_turns.specs.Planned.{FinalsMayFollow}
 use Rattle.turn_answers.specs.Following.{MayFollowAll}
 use Rattle.world_turns.specs.Memory.{Does}
 use Rattle.world_turns.specs.Run.{Begins, IsStarted, LacksMemory, have_exited, settled}
 use Rattle.world_turns.specs.Turn.{Turn}
 use Rattle.world_turns.specs.World.{World, settling}
-use Rattle.guest_worlds.specs.Worlds.{IsAt, MayEndNow, TurnsOver}
+use Rattle.guest_worlds.specs.Worlds.{IsAt, MayEndNow, TakesOver}
 
 -- ---- how a turn is put together
 
@@ -84,7 +84,7 @@ PassesNow = (count : ℕ) (folders : List (List ℕ)) (begun : Bool) (world : Wo
 pub record MayGoOn (count : ℕ) (past : List Event) (h object : ℕ) (b : HartState) : Type 0 where
   pub first : h ≡ 0
   pub initialised : IsTrue (has (after past).inits object)
-  pub may : (w : Setting) → IsOn (machine_of count) w → MayFinalise w past h object
+  pub may : (w : Setting) → IsOn (machine_of count) w → FinalsMayFollow w past h object
   pub fuel : b.turns < b.fuel
 
 abbrev pub FinalsNow : Type 0
@@ -102,7 +102,7 @@ StartIsAt = (w : Setting) (setup : Setup) (world : World) (count : ℕ) → w.ma
 -- each turn
 abbrev pub TurnsStayAt : Type 0
 TurnsStayAt = (count : ℕ) (folders : List (List ℕ)) (files : Option (List File)) (begun : Bool) (h : ℕ) (old new : World)
-    → IsAt count folders begun old → TurnsOver count folders files h old new → IsAt count folders begun new
+    → IsAt count folders begun old → TakesOver count folders files h old new → IsAt count folders begun new
 
 -- the begin of the final destructors
 abbrev pub FinalsBeginAt : Type 0

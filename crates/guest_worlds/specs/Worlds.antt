@@ -34,17 +34,25 @@ pub record IsAt (count : ℕ) (folders : List (List ℕ)) (begun : Bool) (world 
   pub before : begun ≡ false → BeforeFinals (setting_without count folders preload) world
   pub writing : WorldWrites world
 
+-- whichever folders it has, and however far it is
+abbrev pub IsSomewhere : ℕ → World → Type 0
+IsSomewhere count world = (folders : List (List ℕ)) × (begun : Bool) × IsAt count folders begun world
+
 -- ---- turns
 
 -- in each run of so many harts this was a turn of the hart
 abbrev pub TurnsOn : ℕ → ℕ → (old new : World) → Type 0
 TurnsOn count h old new = (w : Setting) → IsOn (machine_of count) w → Turn w h old new
 
+-- or the hart had ended
+abbrev pub TakesOn : ℕ → ℕ → (old new : World) → Type 0
+TakesOn count h old new = (w : Setting) → IsOn (machine_of count) w → TakesTurn w h old new
+
 -- in each of those with these folders, and with the files as the library tells them
 abbrev pub TurnsOver : ℕ → List (List ℕ) → Option (List File) → ℕ → (old new : World) → Type 0
 TurnsOver count folders files h old new = (w : Setting) → IsOver (machine_of count) folders files w → Turn w h old new
 
--- this was one, or the hart had ended
+-- or the hart had ended
 abbrev pub TakesOver : ℕ → List (List ℕ) → Option (List File) → ℕ → (old new : World) → Type 0
 TakesOver count folders files h old new = (w : Setting) → IsOver (machine_of count) folders files w → TakesTurn w h old new
 

@@ -22,7 +22,7 @@ use Rattle.link_service.specs.Served.{AreImages, AreInstalls, AreWordsOf, Instal
 use Rattle.memory_holds.specs.Memory.{IsDoubleword}
 use Rattle.rv_hart.specs.declared.doubleword.Doubleword.{Doubleword}
 use Rattle.seg_image.specs.declared.image.Image.{Image}
-use Rattle.turn_answers.specs.Changes.{AreReserved, AreTaken, LeaveMemory}
+use Rattle.turn_answers.specs.Changes.{AreReserved, AreTaken, LeaveMemory, loaded_objects}
 use Rattle.world_turns.specs.Lemmas.Events.{legal_front}
 use Rattle.world_turns.specs.Memory.{Remakes, RemakesAll, doubleword}
 use Rattle.plain_memory.specs.Pages.{AreGuest, IsGuest, RemakesAt, RemakesEach, objects_first, released_word, reserved_word}
@@ -203,7 +203,7 @@ pub pages_come : (w : Setting) (past given : List Event) (installs : Installs) (
 pages_come w past given installs old new legal is installed =
     by_first w past given is.first is.behind legal is.are old new
     (reserving w past given is.first is.behind legal is.are old new is.takes_none
-    (installed (step (after past) is.first) is.added (reserved (after past) is.first) is.installed (guest w past given is.first is.behind legal is.are)))
+    (installed (step (after past) is.first) (loaded_objects is.first) (reserved (after past) is.first) is.installed (guest w past given is.first is.behind legal is.are)))
     is.leave
 
 pub made_comes : (w : Setting) (past given : List Event) (made : Installs) (old new : List Doubleword) → Legal w (past ++ given)

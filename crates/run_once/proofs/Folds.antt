@@ -23,7 +23,6 @@ use Rattle.schedules.specs.declared.schedule.TurnItem.{TurnItem}
 use Rattle.world_turns.specs.Laws.{FinalsBeginSound, TurnsAreSound}
 use Rattle.world_turns.specs.Run.{Begins, Constructs, Ends, Finalises, Finishes, LacksMemory, Repeats, Rounds, TakesItems, all_harts, exit_code}
 use Rattle.world_turns.specs.Sound.{Sound}
-use Rattle.world_turns.specs.Throughout.{LoadsAlwaysFit}
 use Rattle.world_turns.specs.Turn.{TakesTurn, Turn}
 use Rattle.world_turns.specs.World.{World, found_journal, settling}
 use Rattle.turn_once.specs.Laws.{NothingFails, OneTurn}
@@ -143,12 +142,12 @@ pub record TurnLaws : Type 0 where
   pub sound : TurnsAreSound
   pub begins : FinalsBeginSound
 
-module _ (laws : TurnLaws) (w : Setting) (files : List File) (files_are : w.files ≡ Some files) (only : AcceptsOnly w.machine) (fit : LoadsAlwaysFit w) where
+module _ (laws : TurnLaws) (w : Setting) (files : List File) (files_are : w.files ≡ Some files) (only : AcceptsOnly w.machine) where
   sound_turn : (h : ℕ) (old new : World) → Sound w old → Turn w h old new → Sound w new
-  sound_turn h old new x t = laws.sound w h old new only (fit old.journal x.legal) x t
+  sound_turn h old new x t = laws.sound w h old new only x t
 
   turn_once : (h : ℕ) (old new other : World) → Sound w old → Turn w h old new → Turn w h old other → HasNotFailed new → HasNotFailed other → new ≡ other
-  turn_once h old new other x s t none nor = laws.turn w files h old new other s t files_are only (fit old.journal x.legal) x (none_in w h old new s none) (none_in w h old other t nor)
+  turn_once h old new other x s t none nor = laws.turn w files h old new other s t files_are only x (none_in w h old new s none) (none_in w h old other t nor)
 
   sound_takes : (h : ℕ) (old new : World) → Sound w old → TakesTurn w h old new → Sound w new
   sound_takes h old new x (TakesTurn.turn t) = sound_turn h old new x t

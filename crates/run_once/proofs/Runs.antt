@@ -21,7 +21,6 @@ use Rattle.world_turns.specs.Laws.{FinalsBeginSound, StartIsSound, TurnsAreSound
 use Rattle.world_turns.specs.Memory.{RemakesAll}
 use Rattle.world_turns.specs.Run.{Constructs, Finalises, Finishes, IsStarted, Run, TakesItems, settled}
 use Rattle.world_turns.specs.Sound.{Sound}
-use Rattle.world_turns.specs.Throughout.{LoadsAlwaysFit}
 use Rattle.world_turns.specs.World.{World, settling}
 use Rattle.run_once.specs.Laws.{OneRun}
 use Rattle.run_once.proofs.Folds.{Grows, HasNotFailed, TurnLaws, constructs_once, finals_grow, finals_once, finishes_grow, finishes_once, items_grow, items_once, none_yet, sound_constructs, sound_finishes, sound_items}
@@ -63,7 +62,7 @@ module _ (laws : RunLaws) (w : Setting) (setup : Setup) (files : List File) (fil
 settled_grows : (world : World) → Grows world (settled world)
 settled_grows world = record { more = settling world.harts; is = refl }
 
-module _ (laws : RunLaws) (w : Setting) (setup : Setup) (items : List TurnItem) (files : List File) (files_are : w.files ≡ Some files) (only : AcceptsOnly w.machine) (fit : LoadsAlwaysFit w) (world other : World)
+module _ (laws : RunLaws) (w : Setting) (setup : Setup) (items : List TurnItem) (files : List File) (files_are : w.files ≡ Some files) (only : AcceptsOnly w.machine) (world other : World)
     (x : Run w setup items world) (y : Run w setup items other) (none : HasNotFailed world) (nor : HasNotFailed other) where
   turns : TurnLaws
   turns = record { turn = laws.turn; sound = laws.sound; begins = laws.begins }
@@ -87,32 +86,32 @@ module _ (laws : RunLaws) (w : Setting) (setup : Setup) (items : List TurnItem) 
   sound_started = laws.start w setup x.started only x.starts
 
   constructed : x.constructed ≡ y.constructed
-  constructed = constructs_once turns w files files_are only fit x.started x.constructed y.constructed sound_started x.constructs
+  constructed = constructs_once turns w files files_are only x.started x.constructed y.constructed sound_started x.constructs
       (subst (λ (z : World). Constructs w z y.constructed) (sym started) y.constructs) (none_constructed world x none) (none_constructed other y nor)
 
   sound_constructed : Sound w x.constructed
-  sound_constructed = sound_constructs turns w files files_are only fit x.started x.constructed sound_started x.constructs
+  sound_constructed = sound_constructs turns w files files_are only x.started x.constructed sound_started x.constructs
 
   scheduled : x.scheduled ≡ y.scheduled
-  scheduled = items_once turns w files files_are only fit items x.constructed x.scheduled y.scheduled sound_constructed x.follows
+  scheduled = items_once turns w files files_are only items x.constructed x.scheduled y.scheduled sound_constructed x.follows
       (subst (λ (z : World). TakesItems w items z y.scheduled) (sym constructed) y.follows) (none_scheduled world x none) (none_scheduled other y nor)
 
   sound_scheduled : Sound w x.scheduled
-  sound_scheduled = sound_items turns w files files_are only fit items x.constructed x.scheduled sound_constructed x.follows
+  sound_scheduled = sound_items turns w files files_are only items x.constructed x.scheduled sound_constructed x.follows
 
   finished : x.finished ≡ y.finished
-  finished = finishes_once turns w files files_are only fit x.scheduled x.finished y.finished sound_scheduled x.finishes
+  finished = finishes_once turns w files files_are only x.scheduled x.finished y.finished sound_scheduled x.finishes
       (subst (λ (z : World). Finishes w z y.finished) (sym scheduled) y.finishes) (none_finished world x none) (none_finished other y nor)
 
   sound_finished : Sound w x.finished
-  sound_finished = sound_finishes turns w files files_are only fit x.scheduled x.finished sound_scheduled x.finishes
+  sound_finished = sound_finishes turns w files files_are only x.scheduled x.finished sound_scheduled x.finishes
 
   entry : x.entry ≡ y.entry
   entry = both_found (slice_get x.starts.started.entries 0) x.entry y.entry x.first
       (ap (λ (es : List HartEntry). slice_get es 0) (entries_once laws w setup files files_are x.started y.started x.starts y.starts) ∙ y.first)
 
   finalised : x.finalised ≡ y.finalised
-  finalised = finals_once turns w files files_are only fit (starting_registers x.entry) x.finished x.finalised y.finalised sound_finished x.finalises
+  finalised = finals_once turns w files files_are only (starting_registers x.entry) x.finished x.finalised y.finalised sound_finished x.finalises
       (subst (λ (e : HartEntry). Finalises w (starting_registers e) x.finished y.finalised) (sym entry) (subst (λ (z : World). Finalises w (starting_registers y.entry) z y.finalised) (sym finished) y.finalises))
       (none_finalised world x none) (none_finalised other y nor)
 
@@ -120,4 +119,4 @@ module _ (laws : RunLaws) (w : Setting) (setup : Setup) (items : List TurnItem) 
   run_once = x.ends ∙ ap settled finalised ∙ sym y.ends
 
 pub one_run : RunLaws → OneRun
-one_run laws w setup items files world other files_are only fit x y none nor = run_once laws w setup items files files_are only fit world other x y none nor
+one_run laws w setup items files world other files_are only x y none nor = run_once laws w setup items files files_are only world other x y none nor

@@ -7,10 +7,9 @@ use Rattle.link_history.specs.Setting.{Setting}
 use Rattle.schedules.specs.declared.schedule.TurnItem.{TurnItem}
 use Rattle.turn_once.specs.Laws.{NothingFails}
 use Rattle.world_turns.specs.Run.{Run}
-use Rattle.world_turns.specs.Throughout.{LoadsAlwaysFit}
 use Rattle.world_turns.specs.World.{World}
 
 -- where the library tells its files, a run by a schedule comes to one world, failed reads and want of memory apart
 abbrev pub OneRun : Type 0
 OneRun = (w : Setting) (setup : Setup) (items : List TurnItem) (files : List File) (world other : World) → w.files ≡ Some files → AcceptsOnly w.machine
-    → LoadsAlwaysFit w → Run w setup items world → Run w setup items other → NothingFails world.journal → NothingFails other.journal → world ≡ other
+    → Run w setup items world → Run w setup items other → NothingFails world.journal → NothingFails other.journal → world ≡ other

@@ -66,8 +66,8 @@ module _ (laws : Laws) where
       (laws.past (found_journal old turn.did) (events_of turn.did) (laws.past old.journal _ loaded))
 
   pub turns_run : TurnsRun
-  turns_run w h old new only fit running turn =
-      let sound : Sound w new = laws.turns_sound w h old new only fit running.sound turn in record {
+  turns_run w h old new only running turn =
+      let sound : Sound w new = laws.turns_sound w h old new only running.sound turn in record {
         loaded = turn_loaded w h old new turn running.loaded;
         sound = sound;
         moment = turn_moment w h old new sound turn running.moment;
@@ -93,9 +93,9 @@ module _ (laws : Laws) where
       over = let same : ended ends.Memory lack.first ≡ first = cc in ap (λ (b : HartState). b.«end») (sym same)
 
   pub finals_lack_runs : FinalsLackRuns
-  finals_lack_runs w old new only fit over lack before running = record {
+  finals_lack_runs w old new only over lack before running = record {
     loaded = subst (λ (v : World). is_startup (after v.journal) ≡ false) (sym lack.leaves) (laws.past (old.journal ++ settling old.harts) _ (laws.past old.journal (settling old.harts) running.loaded));
-    sound = laws.lack_sound w old new only fit running.sound lack;
+    sound = laws.lack_sound w old new only running.sound lack;
     moment = in_finals (laws.finals_lack w old new over lack before) (lack_belongs w old new lack);
   }
 
@@ -106,8 +106,8 @@ module _ (laws : Laws) where
   settled_moment w world (in_finals ends frames) = in_finals (settled_finals w world ends) (laws.settled_finals w world frames)
 
   pub settled_runs : SettledRuns
-  settled_runs w world only fit running = record {
+  settled_runs w world only running = record {
     loaded = laws.past world.journal (settling world.harts) running.loaded;
-    sound = laws.settling_sound w world only fit running.sound;
+    sound = laws.settling_sound w world only running.sound;
     moment = settled_moment w world running.moment;
   }

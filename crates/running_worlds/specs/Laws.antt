@@ -16,7 +16,6 @@ use Rattle.link_service.specs.Waiting.{HasFinished}
 use Rattle.hart_moves.specs.Due.{Due, Return, due}
 use Rattle.hart_moves.specs.Harts.{Frame, HartState, Purpose, Resolving}
 use Rattle.hart_moves.specs.Moves.{AreAllowed, own_fini, passing}
-use Rattle.world_turns.specs.Laws.{LoadsFit}
 use Rattle.world_turns.specs.Run.{Begins, IsStarted, LacksMemory, have_exited, settled}
 use Rattle.world_turns.specs.Turn.{Turn}
 use Rattle.world_turns.specs.World.{World}
@@ -30,18 +29,18 @@ StartRuns = (w : Setting) (setup : Setup) (world : World) → AcceptsOnly w.mach
     → IsRunning w world
 
 abbrev pub TurnsRun : Type 0
-TurnsRun = (w : Setting) (h : ℕ) (old new : World) → AcceptsOnly w.machine → LoadsFit (after old.journal) → IsRunning w old → Turn w h old new → IsRunning w new
+TurnsRun = (w : Setting) (h : ℕ) (old new : World) → AcceptsOnly w.machine → IsRunning w old → Turn w h old new → IsRunning w new
 
 abbrev pub FinalsRun : Type 0
 FinalsRun = (w : Setting) (registers : Registers) (old new : World) → IsTrue (have_exited old) → Begins registers old new → BeforeFinals w old
     → IsRunning w old → IsRunning w new
 
 abbrev pub FinalsLackRuns : Type 0
-FinalsLackRuns = (w : Setting) (old new : World) → AcceptsOnly w.machine → LoadsFit (after old.journal) → IsTrue (have_exited old) → LacksMemory w old new
+FinalsLackRuns = (w : Setting) (old new : World) → AcceptsOnly w.machine → IsTrue (have_exited old) → LacksMemory w old new
     → BeforeFinals w old → IsRunning w old → IsRunning w new
 
 abbrev pub SettledRuns : Type 0
-SettledRuns = (w : Setting) (world : World) → AcceptsOnly w.machine → LoadsFit (after world.journal) → IsRunning w world → IsRunning w (settled world)
+SettledRuns = (w : Setting) (world : World) → AcceptsOnly w.machine → IsRunning w world → IsRunning w (settled world)
 
 -- ---- what a hart's next turn meets
 

@@ -2,6 +2,9 @@
 use Rattle.std.specs.Prelude.{◌≡◌, ◌⊎◌, List, [], ◌∷◌}
 use Rattle.ld_base.specs.declared.linking.Loaded.{Loaded}
 use Rattle.link_event.specs.declared.event.Event.{Event}
+use Rattle.link_event.specs.declared.event.Event.TheVariants.{Open}
+use Rattle.link_event.specs.declared.event.OpenAnswer.{OpenAnswer}
+use Rattle.link_event.specs.declared.event.OpenAnswer.TheVariants as opens
 use Rattle.link_event.specs.declared.event.Range.{Range}
 use Rattle.link_history.specs.Changes.{reserved, taken}
 use Rattle.link_history.specs.State.{State}
@@ -16,14 +19,24 @@ abbrev pub LeaveMemory : State → List Event → Type 0
 LeaveMemory s [] = Unit {0}
 LeaveMemory s (e ∷ rest) = (reserved s e ≡ []) × (taken s e ≡ []) × LeaveMemory (step s e) rest
 
--- the first event reserves pages, of which these are the words, and those behind it leave memory
+-- the new objects of an opening
+abbrev pub opened_objects : OpenAnswer → List Loaded
+opened_objects (opens.Done id root added ranges) = added
+opened_objects opens.Absent = []
+opened_objects (opens.Refused fault) = []
+
+-- those that an event loads
+abbrev pub loaded_objects : Event → List Loaded
+loaded_objects (Open hart ask answer) = opened_objects answer
+loaded_objects other = []
+
+-- the first event reserves pages, of which these are the words, and loads the objects whose slots these are; those behind it leave memory
 pub record AreReserved (s : State) (events : List Event) (installs : Installs) : Type 0 where
   pub first : Event
   pub behind : List Event
   pub are : events ≡ first ∷ behind
   pub takes_none : taken s first ≡ []
-  pub added : List Loaded
-  pub installed : AreInstalls (step s first) added (reserved s first) installs
+  pub installed : AreInstalls (step s first) (loaded_objects first) (reserved s first) installs
   pub leave : LeaveMemory (step s first) behind
 
 -- the first event takes these pages away, and those behind it leave memory

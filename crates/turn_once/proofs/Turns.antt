@@ -211,5 +211,5 @@ module _ (laws : TurnLaws) (w : Setting) (files : List File) (told : w.files ≡
       ∙ ap (λ (bs : List HartState). record { journal = other.journal; words = other.words; harts = bs }) harts_are
 
 pub one_turn : TurnLaws → OneTurn
-one_turn laws w files h old new other one two told only loads sound none nor =
-    worlds_are laws w files told h old new other sound (laws.sound w h old new only loads sound one).legal one two none nor
+one_turn laws w files h old new other one two told only sound none nor =
+    worlds_are laws w files told h old new other sound (laws.sound w h old new only sound one).legal one two none nor

@@ -6,11 +6,9 @@ use Rattle.link_event.specs.declared.event.Event.{Event}
 use Rattle.link_event.specs.declared.event.Event.TheVariants.{Ended, Open}
 use Rattle.link_event.specs.declared.event.OpenAnswer.TheVariants.{Refused}
 use Rattle.link_history.specs.Accepted.{AcceptsOnly}
-use Rattle.link_history.specs.After.{after}
 use Rattle.link_history.specs.Setting.{Setting}
 use Rattle.link_service.specs.Laws.{is_memory, is_read_fault}
 use Rattle.hart_moves.specs.Moves.{events_of}
-use Rattle.world_turns.specs.Laws.{LoadsFit}
 use Rattle.world_turns.specs.Sound.{Sound}
 use Rattle.world_turns.specs.Turn.{Turn}
 use Rattle.world_turns.specs.World.{World}
@@ -30,4 +28,4 @@ NothingFails events = list_any is_from_outside events ≡ false
 -- where the library tells its files, a hart's turn from a world has one outcome, failed reads and want of memory in it apart
 abbrev pub OneTurn : Type 0
 OneTurn = (w : Setting) (files : List File) (h : ℕ) (old new other : World) (one : Turn w h old new) (two : Turn w h old other) → w.files ≡ Some files
-    → AcceptsOnly w.machine → LoadsFit (after old.journal) → Sound w old → NothingFails (events_of one.did) → NothingFails (events_of two.did) → new ≡ other
+    → AcceptsOnly w.machine → Sound w old → NothingFails (events_of one.did) → NothingFails (events_of two.did) → new ≡ other

@@ -1,5 +1,5 @@
 -- A history that is legal with more events has each of them where it may come.
-use Rattle.std.proofs.Common.{◌≡◌, ◌∙◌, ap, sym, subst, refl, ℕ, zero, suc, List, [], ◌∷◌, ◌++◌, take, length, Some, None, append-nil, append_assoc}
+use Rattle.std.proofs.Common.{◌≡◌, ◌∙◌, ap, sym, subst, refl, ℕ, zero, suc, List, [], ◌∷◌, ◌++◌, take, length, Some, None, append_assoc}
 use Rattle.std.specs.List.{slice_get}
 use Rattle.std.proofs.Math.Seq.{take-append_seam}
 use Rattle.link_event.specs.declared.event.Event.{Event}
@@ -29,7 +29,7 @@ legal_behind w past (e ∷ rest) legal = (
 -- ---- harts
 
 pub settling_may : SettlingIsSound → SettlingMayCome
-settling_may sound w world only fit x = legal_behind w world.journal (settling world.harts) (sound w world only fit x).legal
+settling_may sound w world only x = legal_behind w world.journal (settling world.harts) (sound w world only x).legal
 
 -- what is settled of the harts in front, of one, and of those behind it
 settling_at : (harts : List HartState) (h : ℕ) (b : HartState) → slice_get harts h ≡ Some b
@@ -42,8 +42,8 @@ settling_at (x ∷ rest) (suc h) b at =
     (more.0, ap (λ (es : List Event). settled_by x.resolving ++ es) more.1 ∙ sym (append_assoc (settled_by x.resolving) (settling (take h rest)) (settled_by b.resolving ++ more.0)))
 
 pub next_may : SettlingIsSound → NextMaySettle
-next_may sound w world h b only fit x at =
+next_may sound w world h b only x at =
     let parts = settling_at world.harts h b at in
-    let all = subst (AreAllowed w world.journal) parts.1 (settling_may sound w world only fit x) in
+    let all = subst (AreAllowed w world.journal) parts.1 (settling_may sound w world only x) in
     let behind = (allowed_split w world.journal (settling (take h world.harts)) (settled_by b.resolving ++ parts.0) all).1 in
     (allowed_split w (world.journal ++ settling (take h world.harts)) (settled_by b.resolving) parts.0 behind).0

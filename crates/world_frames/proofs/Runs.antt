@@ -7,7 +7,6 @@ use Rattle.schedules.specs.declared.schedule.TurnItem.{TurnItem}
 use Rattle.world_turns.specs.Laws.{StartIsSound, TurnsAreSound}
 use Rattle.world_turns.specs.Run.{Run}
 use Rattle.world_turns.specs.Sound.{Sound}
-use Rattle.world_turns.specs.Throughout.{LoadsAlwaysFit}
 use Rattle.world_turns.specs.Turn.{Turn}
 use Rattle.world_turns.specs.World.{World}
 use Rattle.world_turns.specs.Lemmas.Running.{constructs, finishes, items_keep}
@@ -30,10 +29,10 @@ record Stands (w : Setting) (world : World) : Type 0 where
   pub before : BeforeFinals w world
   pub belong : FramesBelong world
 
-module _ (laws : RunLaws) (w : Setting) (only : AcceptsOnly w.machine) (fit : LoadsAlwaysFit w) where
+module _ (laws : RunLaws) (w : Setting) (only : AcceptsOnly w.machine) where
   turn_stands : (h : ℕ) (old new : World) → Stands w old → Turn w h old new → Stands w new
   turn_stands h old new x turn =
-      let sound : Sound w new = laws.turns_sound w h old new only (fit old.journal x.sound.legal) x.sound turn in
+      let sound : Sound w new = laws.turns_sound w h old new only x.sound turn in
       record { sound = sound; before = laws.turns_end w h old new turn x.before; belong = laws.turns w h old new sound.legal turn x.before x.belong }
 
   pub belong_so : (setup : Setup) (items : List TurnItem) (world : World) (run : Run w setup items world) → FramesBelongThroughout w setup items world run
@@ -45,4 +44,4 @@ module _ (laws : RunLaws) (w : Setting) (only : AcceptsOnly w.machine) (fit : Lo
       record { started = started.belong; constructed = constructed.belong; scheduled = scheduled.belong; finished = finished.belong }
 
 pub runs_belong : RunLaws → RunsBelong
-runs_belong laws w setup items world run only fit = belong_so laws w only fit setup items world run
+runs_belong laws w setup items world run only = belong_so laws w only setup items world run

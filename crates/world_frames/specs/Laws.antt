@@ -22,7 +22,6 @@ use Rattle.hart_moves.specs.Harts.{Frame, Purpose}
 use Rattle.hart_moves.specs.Moves.{AreAllowed, all_finis, own_fini, passing}
 use Rattle.schedules.specs.declared.schedule.TurnItem.{TurnItem}
 use Rattle.world_turns.specs.Run.{Begins, IsStarted, Run, have_exited, settled}
-use Rattle.world_turns.specs.Throughout.{LoadsAlwaysFit}
 use Rattle.world_turns.specs.Turn.{Turn}
 use Rattle.world_turns.specs.World.{World}
 use Rattle.world_ends.specs.Ends.{BeforeFinals, InFinals}
@@ -110,4 +109,4 @@ pub record FramesBelongThroughout (w : Setting) (setup : Setup) (items : List Tu
 
 abbrev pub RunsBelong : Type 0
 RunsBelong = (w : Setting) (setup : Setup) (items : List TurnItem) (world : World) (run : Run w setup items world) → AcceptsOnly w.machine
-    → LoadsAlwaysFit w → FramesBelongThroughout w setup items world run
+    → FramesBelongThroughout w setup items world run

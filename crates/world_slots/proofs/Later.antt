@@ -25,7 +25,6 @@ use Rattle.world_turns.specs.Laws.{FinalsBeginSound, FinalsLackSound, SettlingIs
 use Rattle.world_turns.specs.Memory.{doubleword, memory_of}
 use Rattle.world_turns.specs.Run.{Begins, Ends, Finalises, LacksMemory, settled}
 use Rattle.world_turns.specs.Sound.{Sound}
-use Rattle.world_turns.specs.Throughout.{LoadsAlwaysFit}
 use Rattle.world_turns.specs.Turn.{Turn}
 use Rattle.world_turns.specs.World.{World, settling}
 use Rattle.world_turns.specs.Lemmas.Running.{constructs, finishes, items_keep}
@@ -42,19 +41,19 @@ pub record SoundLaws : Type 0 where
 
 -- ---- sound worlds
 
-module _ (laws : SoundLaws) (w : Setting) (only : AcceptsOnly w.machine) (fit : LoadsAlwaysFit w) where
+module _ (laws : SoundLaws) (w : Setting) (only : AcceptsOnly w.machine) where
   step_sound : (old new : World) → Sound w old → Steps w old new → Sound w new
-  step_sound old new x (Steps.by_turn h t) = laws.turns w h old new only (fit old.journal x.legal) x t
+  step_sound old new x (Steps.by_turn h t) = laws.turns w h old new only x t
   step_sound old new x (Steps.by_beginning registers exited begins) = laws.begins w registers old new begins x
-  step_sound old new x (Steps.by_lacking exited lacks) = laws.lacks w old new only (fit old.journal x.legal) x lacks
-  step_sound old new x (Steps.by_settling is) = subst (Sound w) (sym is) (laws.settles w old only (fit old.journal x.legal) x)
+  step_sound old new x (Steps.by_lacking exited lacks) = laws.lacks w old new only x lacks
+  step_sound old new x (Steps.by_settling is) = subst (Sound w) (sym is) (laws.settles w old only x)
 
   pub sound_later : (old new : World) → Sound w old → Later w old new → Sound w new
   sound_later old new x (Later.no_more _) = x
   sound_later old new x (Later.one_more _ between _ step more) = sound_later between new (step_sound old between x step) more
 
 pub later_is_sound : SoundLaws → LaterIsSound
-later_is_sound laws w old new only fit x later = sound_later laws w only fit old new x later
+later_is_sound laws w old new only x later = sound_later laws w only old new x later
 
 -- ---- journals grow
 
@@ -119,12 +118,12 @@ module _ (w : Setting) (laws : ImageLaws w.machine) where
       was_there w.machine laws.serials w old.journal grown.added refl (legal_is_lawful w old.journal x.legal) (all_allowed w old.journal grown.added (subst (Legal w) grown.is y.legal)) i low
       (subst (λ (es : List Event). Contains (after es).images i) grown.is there)
 
-  module _ (sound : SoundLaws) (only : AcceptsOnly w.machine) (fit : LoadsAlwaysFit w) where
+  module _ (sound : SoundLaws) (only : AcceptsOnly w.machine) where
     -- what is mapped later, of an object that was loaded, was mapped
     later_was : (old new : World) → Sound w old → Later w old new → (i : Linked) → i.serial < (after old.journal).next → Contains (after new.journal).images i → Contains (after old.journal).images i
     later_was old new x (Later.no_more _) i low there = there
     later_was old new x (Later.one_more _ between _ step more) i low there =
-        let y = step_sound sound w only fit old between x step in
+        let y = step_sound sound w only old between x step in
         step_was old between x y step i low (later_was between new y more i (below_grows i.serial (after old.journal).next (after between.journal).next low (step_next old between step)) there)
 
 -- ---- a slot
@@ -132,7 +131,7 @@ module _ (w : Setting) (laws : ImageLaws w.machine) where
 lazy_settled : (old : World) (a : ℕ) → lazy_at (after (old.journal ++ settling old.harts)) a ≡ lazy_at (after old.journal) a
 lazy_settled old a = settling_keeps ℕ (λ s. lazy_at s a) (λ s number standing. refl) old.journal old.harts
 
-module _ (keeps : TurnsKeepSlots) (w : Setting) (only : AcceptsOnly w.machine) (fit : LoadsAlwaysFit w) (i : Linked) (slot : ℕ) (r : Reloc) (at : slice_get i.object.plt_relocs slot ≡ Some r) where
+module _ (keeps : TurnsKeepSlots) (w : Setting) (only : AcceptsOnly w.machine) (i : Linked) (slot : ℕ) (r : Reloc) (at : slice_get i.object.plt_relocs slot ≡ Some r) where
   abbrev Stays : World → World → Type 0
   Stays old new = SlotStays (after old.journal) (after new.journal) (memory_of old.words) (memory_of new.words) (slot_address i r)
 
@@ -158,7 +157,7 @@ module _ (keeps : TurnsKeepSlots) (w : Setting) (only : AcceptsOnly w.machine) (
   settling_stays old = record { value = refl; lazy = lazy_settled old (slot_address i r) }
 
   step_stays : (old new : World) → Sound w old → Steps w old new → Contains (after old.journal).images i → Contains (after new.journal).images i → IsTaken old → Stays old new
-  step_stays old new x (Steps.by_turn h t) there behind taken = keeps w h old new i slot r only (fit old.journal x.legal) x t there behind at taken
+  step_stays old new x (Steps.by_turn h t) there behind taken = keeps w h old new i slot r only x t there behind at taken
   step_stays old new x (Steps.by_beginning registers exited begins) there behind taken = begun_stays registers old new begins
   step_stays old new x (Steps.by_lacking exited lacks) there behind taken = lacking_stays old new lacks
   step_stays old new x (Steps.by_settling is) there behind taken = subst (Stays old) (sym is) (settling_stays old)
@@ -166,15 +165,15 @@ module _ (keeps : TurnsKeepSlots) (w : Setting) (only : AcceptsOnly w.machine) (
   pub stays_later : (images : ImageLaws w.machine) → (sound : SoundLaws) → (old new : World) → Sound w old → Later w old new → Contains (after old.journal).images i → Contains (after new.journal).images i → IsTaken old → Stays old new
   stays_later images sound old new x (Later.no_more _) there behind taken = record { value = refl; lazy = refl }
   stays_later images sound old new x (Later.one_more _ between _ step more) there behind taken =
-      let y = step_sound sound w only fit old between x step in
+      let y = step_sound sound w only old between x step in
       let low : i.serial < (after between.journal).next = below_grows i.serial (after old.journal).next (after between.journal).next (image_low w images old x i there) (step_next w images old between step) in
-      let yet : Contains (after between.journal).images i = later_was w images sound only fit between new y more i low behind in
+      let yet : Contains (after between.journal).images i = later_was w images sound only between new y more i low behind in
       let one : Stays old between = step_stays old between x step there yet taken in
       both old between new one (stays_later images sound between new y more yet behind (taken_still old between one taken))
 
 pub later_keeps_slots : ((m : Machine) → ImageLaws m) → SoundLaws → TurnsKeepSlots → LaterKeepsSlots
-later_keeps_slots images sound keeps w old new i slot r only fit x later there behind at taken =
-    stays_later keeps w only fit i slot r at (images w.machine) sound old new x later there behind taken
+later_keeps_slots images sound keeps w old new i slot r only x later there behind at taken =
+    stays_later keeps w only i slot r at (images w.machine) sound old new x later there behind taken
 
 -- ---- a run
 

@@ -11,18 +11,16 @@ use Rattle.link_history.specs.State.{Linked}
 use Rattle.memory_holds.specs.Enters.{SlotStays}
 use Rattle.memory_holds.specs.Holds.{lazy_at}
 use Rattle.schedules.specs.declared.schedule.TurnItem.{TurnItem}
-use Rattle.world_turns.specs.Laws.{LoadsFit}
 use Rattle.world_turns.specs.Memory.{doubleword, memory_of}
 use Rattle.world_turns.specs.Run.{Run}
 use Rattle.world_turns.specs.Sound.{Sound}
-use Rattle.world_turns.specs.Throughout.{LoadsAlwaysFit}
 use Rattle.world_turns.specs.Turn.{Turn}
 use Rattle.world_turns.specs.World.{World}
 use Rattle.world_slots.specs.Later.{Later}
 
 -- through each turn, where its object is mapped before and after it
 abbrev pub TurnsKeepSlots : Type 0
-TurnsKeepSlots = (w : Setting) (h : ℕ) (old new : World) (i : Linked) (slot : ℕ) (r : Reloc) → AcceptsOnly w.machine → LoadsFit (after old.journal)
+TurnsKeepSlots = (w : Setting) (h : ℕ) (old new : World) (i : Linked) (slot : ℕ) (r : Reloc) → AcceptsOnly w.machine
     → Sound w old → Turn w h old new → Contains (after old.journal).images i → Contains (after new.journal).images i
     → slice_get i.object.plt_relocs slot ≡ Some r → (doubleword old.words (slot_address i r)).value ≢ lazy_at (after old.journal) (slot_address i r)
     → SlotStays (after old.journal) (after new.journal) (memory_of old.words) (memory_of new.words) (slot_address i r)
@@ -31,11 +29,11 @@ TurnsKeepSlots = (w : Setting) (h : ℕ) (old new : World) (i : Linked) (slot : 
 
 -- they are sound
 abbrev pub LaterIsSound : Type 0
-LaterIsSound = (w : Setting) (old new : World) → AcceptsOnly w.machine → LoadsAlwaysFit w → Sound w old → Later w old new → Sound w new
+LaterIsSound = (w : Setting) (old new : World) → AcceptsOnly w.machine → Sound w old → Later w old new → Sound w new
 
 -- and the slot reads the same in each in which its object is mapped still
 abbrev pub LaterKeepsSlots : Type 0
-LaterKeepsSlots = (w : Setting) (old new : World) (i : Linked) (slot : ℕ) (r : Reloc) → AcceptsOnly w.machine → LoadsAlwaysFit w → Sound w old
+LaterKeepsSlots = (w : Setting) (old new : World) (i : Linked) (slot : ℕ) (r : Reloc) → AcceptsOnly w.machine → Sound w old
     → Later w old new → Contains (after old.journal).images i → Contains (after new.journal).images i → slice_get i.object.plt_relocs slot ≡ Some r
     → (doubleword old.words (slot_address i r)).value ≢ lazy_at (after old.journal) (slot_address i r)
     → SlotStays (after old.journal) (after new.journal) (memory_of old.words) (memory_of new.words) (slot_address i r)

@@ -163,6 +163,6 @@ runs_grant w setup items world run =
     (λ x. lacks_below w run.finished run.finalised finished x) run.finalises finished))
 
 pub runs_settle : RunsAreSound → RunsLeaveNoGrant → RunsSettle
-runs_settle sound none w setup items world run only fit g there open_yet =
-    let less : g.hart < w.machine.harts = subst (λ (n : ℕ). g.hart < n) (sound w setup items world run only fit).ended.harts (runs_grant w setup items world run g there) in
-    none w setup items world run only fit g.hart less g there open_yet refl
+runs_settle sound none w setup items world run only g there open_yet =
+    let less : g.hart < w.machine.harts = subst (λ (n : ℕ). g.hart < n) (sound w setup items world run only).ended.harts (runs_grant w setup items world run g there) in
+    none w setup items world run only g.hart less g there open_yet refl

@@ -4,8 +4,7 @@ use Rattle.link_served.specs.declared.startup.Setup.{Setup}
 use Rattle.link_history.specs.Accepted.{AcceptsOnly}
 use Rattle.link_history.specs.After.{after}
 use Rattle.link_history.specs.Setting.{Setting}
-use Rattle.link_history.specs.State.{State}
-use Rattle.memory_holds.specs.Enters.{LoadFits, SlotTrue}
+use Rattle.memory_holds.specs.Enters.{SlotTrue}
 use Rattle.world_turns.specs.Memory.{memory_of}
 use Rattle.rv_hart.specs.Registers.{Registers}
 use Rattle.world_turns.specs.Run.{Begins, IsStarted, LacksMemory, settled}
@@ -17,13 +16,9 @@ use Rattle.world_turns.specs.World.{World, winners}
 abbrev pub StartIsSound : Type 0
 StartIsSound = (w : Setting) (setup : Setup) (world : World) → AcceptsOnly w.machine → IsStarted w setup world → Sound w world
 
--- what slots got at load are words, as whoever keeps the journal knows by its type
-abbrev pub LoadsFit : State → Type 0
-LoadsFit s = (owner slot : ℕ) → LoadFits s owner slot
-
 -- and stays so with every turn
 abbrev pub TurnsAreSound : Type 0
-TurnsAreSound = (w : Setting) (h : ℕ) (old new : World) → AcceptsOnly w.machine → LoadsFit (after old.journal) → Sound w old → Turn w h old new → Sound w new
+TurnsAreSound = (w : Setting) (h : ℕ) (old new : World) → AcceptsOnly w.machine → Sound w old → Turn w h old new → Sound w new
 
 -- so it does when the final destructors begin
 abbrev pub FinalsBeginSound : Type 0
@@ -31,11 +26,11 @@ FinalsBeginSound = (w : Setting) (registers : Registers) (old new : World) → B
 
 -- when there is no memory for them
 abbrev pub FinalsLackSound : Type 0
-FinalsLackSound = (w : Setting) (old new : World) → AcceptsOnly w.machine → LoadsFit (after old.journal) → Sound w old → LacksMemory w old new → Sound w new
+FinalsLackSound = (w : Setting) (old new : World) → AcceptsOnly w.machine → Sound w old → LacksMemory w old new → Sound w new
 
 -- and when what is left is settled
 abbrev pub SettlingIsSound : Type 0
-SettlingIsSound = (w : Setting) (world : World) → AcceptsOnly w.machine → LoadsFit (after world.journal) → Sound w world → Sound w (settled world)
+SettlingIsSound = (w : Setting) (world : World) → AcceptsOnly w.machine → Sound w world → Sound w (settled world)
 
 -- and a sound run's slots are true: each holds its first word or the value of the one grant that took it, and leads to code or to 0
 abbrev pub SoundIsSlotTrue : Type 0

@@ -1,39 +1,32 @@
 -- What holds of a whole run on one thread, at each of its worlds and at its end.
 use Rattle.std.specs.Prelude.{◌≢◌, ℕ, ◌<◌, List, length, Contains, IsTrue}
-use Rattle.link_event.specs.declared.event.Event.{Event}
 use Rattle.link_event.specs.declared.state.Granting.{Granting}
 use Rattle.link_event.specs.declared.state.Standing.TheVariants.{Open}
 use Rattle.link_served.specs.declared.startup.Setup.{Setup}
 use Rattle.rv_hart.specs.Registers.{Registers}
 use Rattle.link_history.specs.Accepted.{AcceptsOnly}
 use Rattle.link_history.specs.After.{after}
-use Rattle.link_history.specs.Legal.{Legal}
 use Rattle.link_history.specs.Setting.{Setting}
 use Rattle.link_history.specs.Slots.{HasNoGrant}
 use Rattle.schedules.specs.declared.schedule.TurnItem.{TurnItem}
-use Rattle.world_turns.specs.Laws.{LoadsFit}
 use Rattle.world_turns.specs.Run.{Constructs, Finalises, Finishes, Run, TakesItems, have_ended}
 use Rattle.world_turns.specs.Sound.{Sound}
 use Rattle.world_turns.specs.World.{World}
 
--- what slots got at load are words after each history
-abbrev pub LoadsAlwaysFit : Setting → Type 0
-LoadsAlwaysFit w = (journal : List Event) → Legal w journal → LoadsFit (after journal)
-
 -- ---- one part of a run after another
 
 abbrev pub ConstructorsKeep : Type 0
-ConstructorsKeep = (w : Setting) (old new : World) → AcceptsOnly w.machine → LoadsAlwaysFit w → Constructs w old new → Sound w old → Sound w new
+ConstructorsKeep = (w : Setting) (old new : World) → AcceptsOnly w.machine → Constructs w old new → Sound w old → Sound w new
 
 abbrev pub ItemsKeep : Type 0
 ItemsKeep =
-    (w : Setting) (items : List TurnItem) (old new : World) → AcceptsOnly w.machine → LoadsAlwaysFit w → TakesItems w items old new → Sound w old → Sound w new
+    (w : Setting) (items : List TurnItem) (old new : World) → AcceptsOnly w.machine → TakesItems w items old new → Sound w old → Sound w new
 
 abbrev pub RoundsKeep : Type 0
-RoundsKeep = (w : Setting) (old new : World) → AcceptsOnly w.machine → LoadsAlwaysFit w → Finishes w old new → Sound w old → Sound w new
+RoundsKeep = (w : Setting) (old new : World) → AcceptsOnly w.machine → Finishes w old new → Sound w old → Sound w new
 
 abbrev pub FinalsKeep : Type 0
-FinalsKeep = (w : Setting) (registers : Registers) (old new : World) → AcceptsOnly w.machine → LoadsAlwaysFit w → Finalises w registers old new → Sound w old
+FinalsKeep = (w : Setting) (registers : Registers) (old new : World) → AcceptsOnly w.machine → Finalises w registers old new → Sound w old
     → Sound w new
 
 -- ---- a run
@@ -49,7 +42,7 @@ pub record IsSoundThroughout (w : Setting) (setup : Setup) (items : List TurnIte
 
 abbrev pub RunsAreSound : Type 0
 RunsAreSound = (w : Setting) (setup : Setup) (items : List TurnItem) (world : World) (run : Run w setup items world) → AcceptsOnly w.machine
-    → LoadsAlwaysFit w → IsSoundThroughout w setup items world run
+    → IsSoundThroughout w setup items world run
 
 -- at its end each hart has ended
 abbrev pub RunsEnd : Type 0
@@ -57,7 +50,7 @@ RunsEnd = (w : Setting) (setup : Setup) (items : List TurnItem) (world : World) 
 
 -- and none has an open grant
 abbrev pub RunsLeaveNoGrant : Type 0
-RunsLeaveNoGrant = (w : Setting) (setup : Setup) (items : List TurnItem) (world : World) → Run w setup items world → AcceptsOnly w.machine → LoadsAlwaysFit w
+RunsLeaveNoGrant = (w : Setting) (setup : Setup) (items : List TurnItem) (world : World) → Run w setup items world → AcceptsOnly w.machine
     → (h : ℕ) → h < w.machine.harts → HasNoGrant (after world.journal) h
 
 -- each grant of it is of one of its harts
@@ -69,5 +62,5 @@ RunsGrantHarts = (w : Setting) (setup : Setup) (items : List TurnItem) (world : 
 
 -- so that no grant is open, as a whole history has it
 abbrev pub RunsSettle : Type 0
-RunsSettle = (w : Setting) (setup : Setup) (items : List TurnItem) (world : World) → Run w setup items world → AcceptsOnly w.machine → LoadsAlwaysFit w
+RunsSettle = (w : Setting) (setup : Setup) (items : List TurnItem) (world : World) → Run w setup items world → AcceptsOnly w.machine
     → (g : Granting) → Contains (after world.journal).grants g → g.standing ≢ Open

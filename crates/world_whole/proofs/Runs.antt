@@ -18,6 +18,7 @@ use Rattle.link_history.specs.Slots.{value_at_load}
 use Rattle.link_history.specs.State.{Linked, State}
 use Rattle.link_history.specs.Lemmas.History.{legal_is_lawful}
 use Rattle.link_history.specs.Lemmas.Lists.{none_in}
+use Rattle.link_history.specs.Lemmas.LoadWords.{load_word}
 use Rattle.memory_holds.specs.Enters.{LoadFits}
 use Rattle.memory_holds.specs.Holds.{IsSlotAt, SlotHolds, Took, TookAt, lazy_at}
 use Rattle.memory_holds.specs.Holds.SlotHolds.{exchanged, first}
@@ -27,11 +28,11 @@ use Rattle.memory_holds.specs.Lemmas.Settled.{first_bound, first_lazy}
 use Rattle.memory_holds.specs.Lemmas.Slots.{image_in, one_image_at}
 use Rattle.hart_moves.specs.Starting.{starting_registers}
 use Rattle.schedules.specs.declared.schedule.TurnItem.{TurnItem}
-use Rattle.world_turns.specs.Laws.{FinalsBeginSound, FinalsLackSound, LoadsFit, TurnsAreSound}
+use Rattle.world_turns.specs.Laws.{FinalsBeginSound, FinalsLackSound, TurnsAreSound}
 use Rattle.world_turns.specs.Memory.{doubleword}
 use Rattle.world_turns.specs.Run.{Finalises, IsStarted, Run}
 use Rattle.world_turns.specs.Sound.{Sound}
-use Rattle.world_turns.specs.Throughout.{LoadsAlwaysFit, RunsAreSound, RunsSettle}
+use Rattle.world_turns.specs.Throughout.{RunsAreSound, RunsSettle}
 use Rattle.world_turns.specs.Turn.{Turn}
 use Rattle.world_turns.specs.World.{World, winners}
 use Rattle.world_turns.specs.Lemmas.Offers.{Know, Known}
@@ -88,7 +89,7 @@ module _ (s : State) (known : Known s) (won : List ℕ) (none_open : (g : Granti
 
 -- ---- a world that is sound and has nothing open
 
-module _ (w : Setting) (only : AcceptsOnly w.machine) (know : Know w.machine) (world : World) (loads : LoadsFit (after world.journal)) (sound : Sound w world) (sees : SeesSlots world)
+module _ (w : Setting) (only : AcceptsOnly w.machine) (know : Know w.machine) (world : World) (sound : Sound w world) (sees : SeesSlots world)
     (none_open : (g : Granting) → Contains (after world.journal).grants g → g.standing ≢ Open) where
   lawful : Lawful w.machine world.journal
   lawful = legal_is_lawful w world.journal sound.legal
@@ -104,7 +105,7 @@ module _ (w : Setting) (only : AcceptsOnly w.machine) (know : Know w.machine) (w
       let a : ℕ = slot_address image.image x.reloc in
       let place = known.whole image.image g.slot x.reloc image.there x.at in
       let at : IsSlotAt (after world.journal) (slot_address image.image x.reloc) g.owner g.slot = subst (λ (n : ℕ). IsSlotAt (after world.journal) (slot_address image.image x.reloc) n g.slot) serial (known.stand image.image g.slot x.reloc image.there x.at) in
-      is_settled (after world.journal) known (winners world.harts) none_open g saw (slot_address image.image x.reloc) (fits (slot_address image.image x.reloc) place) at (loads g.owner g.slot) x.taken
+      is_settled (after world.journal) known (winners world.harts) none_open g saw (slot_address image.image x.reloc) (fits (slot_address image.image x.reloc) place) at (load_word w.machine world.journal lawful g.owner g.slot) x.taken
       (doubleword world.words (slot_address image.image x.reloc)).value x.holds
       ((sound.holds.words (slot_address image.image x.reloc) place).slot (known.begins.role image.image g.slot x.reloc image.there x.at))
 
@@ -129,21 +130,20 @@ pub record RunLaws : Type 1 where
   pub settle : RunsSettle
   pub finish : RunsFinish
 
-module _ (laws : RunLaws) (w : Setting) (only : AcceptsOnly w.machine) (fit : LoadsAlwaysFit w) where
+module _ (laws : RunLaws) (w : Setting) (only : AcceptsOnly w.machine) where
   turn_seen : (h : ℕ) (old new : World) → Seen w old → Turn w h old new → Seen w new
   turn_seen h old new x turn =
-      let loads = fit old.journal x.sound.legal in
-      record { sound = laws.turns w h old new only loads x.sound turn; sees = laws.seen w h old new only loads x.sound turn x.sees }
+      record { sound = laws.turns w h old new only x.sound turn; sees = laws.seen w h old new only x.sound turn x.sees }
 
   finals_seen : (registers : Registers) (old new : World) → Finalises w registers old new → Seen w old → Seen w new
   finals_seen registers old new final x = finals w (Seen w) turn_seen registers old new
       (λ begun b. record { sound = laws.begins w registers old begun b x.sound; sees = begins_sees registers old begun b x.sees })
-      (λ lack. record { sound = laws.lacks w old new only (fit old.journal x.sound.legal) x.sound lack; sees = lacks_sees w (laws.know w.machine only) old new lack x.sound x.sees })
+      (λ lack. record { sound = laws.lacks w old new only x.sound lack; sees = lacks_sees w (laws.know w.machine only) old new lack x.sound x.sees })
       final x
 
   pub run_sees : (setup : Setup) (items : List TurnItem) (world : World) → Run w setup items world → SeesSlots world
   run_sees setup items world run =
-      let sounds = laws.runs w setup items world run only fit in
+      let sounds = laws.runs w setup items world run only in
       let started : Seen w run.started = record { sound = sounds.started; sees = start_sees w setup run.started run.starts } in
       let constructed : Seen w run.constructed = constructs w (Seen w) turn_seen run.started run.constructed run.constructs started in
       let scheduled : Seen w run.scheduled = items_keep w (Seen w) turn_seen items run.constructed run.scheduled run.follows constructed in
@@ -152,11 +152,11 @@ module _ (laws : RunLaws) (w : Setting) (only : AcceptsOnly w.machine) (fit : Lo
       subst SeesSlots (sym run.ends) (settled_sees w (laws.know w.machine only) run.finalised finalised.sound finalised.sees)
 
 pub runs_whole : RunLaws → RunsAreWhole
-runs_whole laws w setup items world only fit run =
-    let sound : Sound w world = (laws.runs w setup items world run only fit).ended in
-    let none_open = laws.settle w setup items world run only fit in
+runs_whole laws w setup items world only run =
+    let sound : Sound w world = (laws.runs w setup items world run only).ended in
+    let none_open = laws.settle w setup items world run only in
     record {
       settled = none_open;
-      lost = lost_settled w only (laws.know w.machine only) world (fit world.journal sound.legal) sound (run_sees laws w only fit setup items world run) none_open;
+      lost = lost_settled w only (laws.know w.machine only) world sound (run_sees laws w only setup items world run) none_open;
       finished = laws.finish w setup items world run;
     }

@@ -25,7 +25,7 @@ use Rattle.memory_holds.specs.Holds.{lazy_at}
 use Rattle.hart_moves.specs.Harts.{Offered, Resolving}
 use Rattle.hart_moves.specs.Moves.{AreAllowed, IsOffer, events_of, settles}
 use Rattle.hart_moves.specs.Lemmas.Legality.{turns_allowed, turns_own}
-use Rattle.world_turns.specs.Laws.{LoadsFit, TurnsAreSound}
+use Rattle.world_turns.specs.Laws.{TurnsAreSound}
 use Rattle.world_turns.specs.Memory.{doubleword}
 use Rattle.world_turns.specs.Run.{Begins, LacksMemory, settled}
 use Rattle.world_turns.specs.Sound.{Fits, HasExchanged, Sound}
@@ -115,7 +115,7 @@ module _ (w : Setting) (know : Know w.machine) (old : World) (sound : Sound w ol
 
 -- ---- a turn
 
-module _ (w : Setting) (only : AcceptsOnly w.machine) (know : Know w.machine) (load : LoadLaws) (serials : SerialLaws w.machine) (slots : TurnsKeepSlots) (h : ℕ) (old new : World) (loads : LoadsFit (after old.journal)) (sound : Sound w old) (legal : Legal w new.journal)
+module _ (w : Setting) (only : AcceptsOnly w.machine) (know : Know w.machine) (load : LoadLaws) (serials : SerialLaws w.machine) (slots : TurnsKeepSlots) (h : ℕ) (old new : World) (sound : Sound w old) (legal : Legal w new.journal)
     (turn : Turn w h old new) (sees : SeesSlots old) where
   abbrev past : List Event
   past = found_journal old turn.did
@@ -134,7 +134,7 @@ module _ (w : Setting) (only : AcceptsOnly w.machine) (know : Know w.machine) (l
       let i_then : Contains (after past).images i = was_there w.machine serials w past (events_of turn.did) refl past_lawful may i low (subst (λ (es : List Event). Contains (after es).images i) turn.journal inside) in
       let i_old : Contains (after old.journal).images i = subst (λ (is : List Linked). Contains is i) (found_keeps (List Linked) (λ t. t.images) (λ t number standing. refl) old turn.did) i_then in
       let x = found_saw w know old sound sees (settles turn.did) g saw i g_then lost i_old serial in
-      let stays = slots w h old new i g.slot x.reloc only loads sound turn i_old inside x.at (λ e. x.taken (sym x.holds ∙ e)) in
+      let stays = slots w h old new i g.slot x.reloc only sound turn i_old inside x.at (λ e. x.taken (sym x.holds ∙ e)) in
       record {
         reloc = x.reloc;
         at = x.at;
@@ -143,8 +143,8 @@ module _ (w : Setting) (only : AcceptsOnly w.machine) (know : Know w.machine) (l
       }
 
 pub turns_keep_seen : ((m : Machine) → AcceptsOnly m → Know m) → LoadLaws → ((m : Machine) → SerialLaws m) → TurnsAreSound → TurnsKeepSlots → TurnsKeepSeen
-turns_keep_seen know load serials turns slots w h old new only loads sound turn sees =
-    turn_sees w only (know w.machine only) load (serials w.machine) slots h old new loads sound (turns w h old new only loads sound turn).legal turn sees
+turns_keep_seen know load serials turns slots w h old new only sound turn sees =
+    turn_sees w only (know w.machine only) load (serials w.machine) slots h old new sound (turns w h old new only sound turn).legal turn sees
 
 -- ---- the final destructors begin, or lack memory
 

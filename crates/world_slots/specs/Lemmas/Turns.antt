@@ -186,5 +186,5 @@ module _ (w : Setting) (needs : Needs w.machine) (i : Linked) (slot : ℕ) (r : 
     stays_so = by_did turn.did refl turn.does
 
 pub turns_keep : TurnsAreSound → ((m : Machine) → AcceptsOnly m → Needs m) → TurnsKeepSlots
-turns_keep turns needs w h old new i slot r only loads sound turn there behind at bound =
-    stays_so w (needs w.machine only) i slot r at h old new sound (turns w h old new only loads sound turn).legal turn there behind bound
+turns_keep turns needs w h old new i slot r only sound turn there behind at bound =
+    stays_so w (needs w.machine only) i slot r at h old new sound (turns w h old new only sound turn).legal turn there behind bound

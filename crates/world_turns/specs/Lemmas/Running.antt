@@ -18,7 +18,7 @@ use Rattle.schedules.specs.declared.schedule.TurnItem.{TurnItem}
 use Rattle.world_turns.specs.Laws.{FinalsBeginSound, FinalsLackSound, SettlingIsSound, StartIsSound, TurnsAreSound}
 use Rattle.world_turns.specs.Run.{Begins, Constructs, Ends, Finalises, Finishes, LacksMemory, Repeats, Rounds, Run, TakesItems, all_harts, has_ended, settled}
 use Rattle.world_turns.specs.Sound.{Fits, Sound}
-use Rattle.world_turns.specs.Throughout.{ConstructorsKeep, FinalsKeep, IsSoundThroughout, ItemsKeep, LoadsAlwaysFit, RoundsKeep, RunsAreSound, RunsEnd, RunsLeaveNoGrant}
+use Rattle.world_turns.specs.Throughout.{ConstructorsKeep, FinalsKeep, IsSoundThroughout, ItemsKeep, RoundsKeep, RunsAreSound, RunsEnd, RunsLeaveNoGrant}
 use Rattle.world_turns.specs.Turn.{TakesTurn, Turn}
 use Rattle.world_turns.specs.World.{World}
 use Rattle.world_turns.specs.Lemmas.Turning.{freed_at}
@@ -61,37 +61,36 @@ module _ (w : Setting) (Holds : World → Type 0) (turns : (h : ℕ) (old new : 
   finals registers old new begins lacks (Finalises.no_memory exited lack) x = lacks lack
   finals registers old new begins lacks (Finalises.all_run begun exited begin run) x = ends_keep begun new run (begins begun begin)
 
--- every turn, where what slots got at load are words
-turns_by : TurnsAreSound → (w : Setting) → AcceptsOnly w.machine → LoadsAlwaysFit w → (h : ℕ) (old new : World) → Sound w old → Turn w h old new → Sound w new
-turns_by turns w only fit h old new x turn = turns w h old new only (fit old.journal x.legal) x turn
+turns_by : TurnsAreSound → (w : Setting) → AcceptsOnly w.machine → (h : ℕ) (old new : World) → Sound w old → Turn w h old new → Sound w new
+turns_by turns w only h old new x turn = turns w h old new only x turn
 
 pub constructors_keep : TurnsAreSound → ConstructorsKeep
-constructors_keep turns w old new only fit = constructs w (Sound w) (turns_by turns w only fit) old new
+constructors_keep turns w old new only = constructs w (Sound w) (turns_by turns w only) old new
 
 pub schedule_keeps : TurnsAreSound → ItemsKeep
-schedule_keeps turns w items old new only fit = items_keep w (Sound w) (turns_by turns w only fit) items old new
+schedule_keeps turns w items old new only = items_keep w (Sound w) (turns_by turns w only) items old new
 
 pub rounds_keep : TurnsAreSound → RoundsKeep
-rounds_keep turns w old new only fit = finishes w (Sound w) (turns_by turns w only fit) old new
+rounds_keep turns w old new only = finishes w (Sound w) (turns_by turns w only) old new
 
 pub finals_keep : TurnsAreSound → FinalsBeginSound → FinalsLackSound → FinalsKeep
-finals_keep turns begin lack w registers old new only fit final x =
-    finals w (Sound w) (turns_by turns w only fit) registers old new (λ begun b. begin w registers old begun b x) (λ l. lack w old new only (fit old.journal x.legal) x l) final x
+finals_keep turns begin lack w registers old new only final x =
+    finals w (Sound w) (turns_by turns w only) registers old new (λ begun b. begin w registers old begun b x) (λ l. lack w old new only x l) final x
 
 pub runs_sound : StartIsSound → TurnsAreSound → FinalsBeginSound → FinalsLackSound → SettlingIsSound → RunsAreSound
-runs_sound start turns begin lack settle w setup items world run only fit =
+runs_sound start turns begin lack settle w setup items world run only =
     let started : Sound w run.started = start w setup run.started only run.starts in
-    let constructed : Sound w run.constructed = constructors_keep turns w run.started run.constructed only fit run.constructs started in
-    let scheduled : Sound w run.scheduled = schedule_keeps turns w items run.constructed run.scheduled only fit run.follows constructed in
-    let finished : Sound w run.finished = rounds_keep turns w run.scheduled run.finished only fit run.finishes scheduled in
-    let finalised : Sound w run.finalised = finals_keep turns begin lack w (starting_registers run.entry) run.finished run.finalised only fit run.finalises finished in
+    let constructed : Sound w run.constructed = constructors_keep turns w run.started run.constructed only run.constructs started in
+    let scheduled : Sound w run.scheduled = schedule_keeps turns w items run.constructed run.scheduled only run.follows constructed in
+    let finished : Sound w run.finished = rounds_keep turns w run.scheduled run.finished only run.finishes scheduled in
+    let finalised : Sound w run.finalised = finals_keep turns begin lack w (starting_registers run.entry) run.finished run.finalised only run.finalises finished in
     record {
       started = started;
       constructed = constructed;
       scheduled = scheduled;
       finished = finished;
       finalised = finalised;
-      ended = subst (λ (x : World). Sound w x) (sym run.ends) (settle w run.finalised only (fit run.finalised.journal finalised.legal) finalised);
+      ended = subst (λ (x : World). Sound w x) (sym run.ends) (settle w run.finalised only finalised);
     }
 
 -- ---- ends
@@ -154,7 +153,7 @@ none_left w world before x over h less =
     subst (λ (r : Resolving). Fits (after (settled world).journal) (settled world).words h r) idle (x.fits h at.0 at.1)
 
 pub runs_leave_no_grant : RunsAreSound → RunsLeaveNoGrant
-runs_leave_no_grant sound w setup items world run only fit h less =
-    let x : IsSoundThroughout w setup items world run = sound w setup items world run only fit in
+runs_leave_no_grant sound w setup items world run only h less =
+    let x : IsSoundThroughout w setup items world run = sound w setup items world run only in
     subst (λ (y : World). HasNoGrant (after y.journal) h) (sym run.ends)
     (none_left w run.finalised x.finalised (subst (λ (y : World). Sound w y) run.ends x.ended) (finalised_end w setup items world run) h less)

@@ -19,6 +19,7 @@ use Rattle.link_history.specs.State.{State}
 use Rattle.link_history.specs.Step.{settle, settled_as, step}
 use Rattle.link_history.specs.Lemmas.History.{after_push, legal_is_lawful, legal_push}
 use Rattle.link_history.specs.Lemmas.Lists.{from_filter, from_map, here, in_filter, in_map, none_in, only_in}
+use Rattle.link_history.specs.Lemmas.LoadWords.{load_word}
 use Rattle.link_history.specs.Lemmas.Tidy.{one_number}
 use Rattle.memory_holds.specs.Enters.{LoadFits}
 use Rattle.memory_holds.specs.Holds.{Holds, lazy_at}
@@ -27,7 +28,6 @@ use Rattle.memory_holds.specs.Remade.{MayExchange, Remade, SettlesRightly, won_a
 use Rattle.memory_holds.specs.Lemmas.Stayed.{quiet}
 use Rattle.hart_moves.specs.Harts.{Offered, Resolving}
 use Rattle.hart_moves.specs.Moves.{settled_resolving}
-use Rattle.world_turns.specs.Laws.{LoadsFit}
 use Rattle.world_turns.specs.Memory.{memory_of}
 use Rattle.world_turns.specs.Sound.{Fits, HasExchanged, HasOffer}
 use Rattle.world_turns.specs.World.{has_won, settled_by, settling_event, won_by}
@@ -187,13 +187,13 @@ module _ (w : Setting) (only : AcceptsOnly w.machine) (know : Know w.machine) (k
   same_by : (n : ℕ) → not (eqb n o.number) ≡ true → n ≢ o.number
   same_by n e same = true≢false (sym e ∙ ap not (eq-eqb n o.number same))
 
-  bound_sound : MayBeBound w.machine → LoadsFit s → has_won o found ≡ true → Sounds w (past ++ events.Bound o.number ∷ []) new words
-  bound_sound may_bind loads won =
+  bound_sound : MayBeBound w.machine → has_won o found ≡ true → Sounds w (past ++ events.Bound o.number ∷ []) new words
+  bound_sound may_bind won =
       let mine : Contains (won_by (Resolving.to_settle o found)) o.number = subst (λ (t : Bool). Contains (cond t (o.number ∷ []) []) o.number) (sym won) (here o.number []) in
       let there : Contains (won_all old) o.number = is_winner old k (Resolving.to_settle o found) o.number (at_place front (Resolving.to_settle o found) rest) mine in
       settled_sound standings.Bound (λ e. let no : standings.Bound ≡ standings.Open = e in cc) (events.Bound o.number) refl
       (quiet s (events.Bound o.number) (memory_of words) (memory_of words) refl refl same_memory)
-      (subst (λ (n : ℕ). MayBind s n) number (may_bind past (won_all old) g (memory_of words) lawful it.offers.is.there it.offers.is.open_yet (loads g.owner g.slot) x.holds (subst (Contains (won_all old)) (sym number) there)))
+      (subst (λ (n : ℕ). MayBind s n) number (may_bind past (won_all old) g (memory_of words) lawful it.offers.is.there it.offers.is.open_yet (load_word w.machine past lawful g.owner g.slot) x.holds (subst (Contains (won_all old)) (sym number) there)))
       there
       (λ n inside. let both = from_filter (λ m. not (eqb m o.number)) (won_all old) n inside in ⊎_elim
       (λ (own : Contains (won_by (Resolving.to_settle o found)) n). absurd (same_by n both.1 (sym (only_in o.number n (subst (λ (t : Bool). Contains (cond t (o.number ∷ []) []) n) won own)))))
@@ -201,8 +201,8 @@ module _ (w : Setting) (only : AcceptsOnly w.machine) (know : Know w.machine) (k
       (winners_by n both.0))
       (λ n inside. let both = still_by n inside in in_filter (λ m. not (eqb m o.number)) (won_all old) n both.0 (differs_by n both.1))
 
-  lost_sound : MayBeLost w.machine → LoadsFit s → has_won o found ≡ false → Sounds w (past ++ events.Lost o.number found ∷ []) new words
-  lost_sound may_lose loads lost =
+  lost_sound : MayBeLost w.machine → has_won o found ≡ false → Sounds w (past ++ events.Lost o.number found ∷ []) new words
+  lost_sound may_lose lost =
       let st = stands s known g o it.offers.offer in
       let none : (n : ℕ) → Contains (won_by (Resolving.to_settle o found)) n → ⊥ = λ n own. none_in n (subst (λ (t : Bool). Contains (cond t (o.number ∷ []) []) n) lost own) in
       let not_won : ¬ (Contains (won_all old) o.number) = λ inside. ⊎_elim (none o.number) (λ (other : Contains (won_all new) o.number × (o.number ≢ o.number)). other.1 refl) (winners_by o.number inside) in
@@ -211,48 +211,41 @@ module _ (w : Setting) (only : AcceptsOnly w.machine) (know : Know w.machine) (k
       settled_sound (standings.Lost found) (λ e. let no : standings.Lost found ≡ standings.Open = e in cc) (events.Lost o.number found) refl
       (quiet s (events.Lost o.number found) (memory_of words) (memory_of words) refl refl same_memory)
       (subst (λ (n : ℕ). MayLose s n found) number (subst (MayLose s g.number) word
-      (may_lose past (won_all old) o.slot g (memory_of words) lawful (record { place = st.place; there = it.offers.is.there; open_yet = it.offers.is.open_yet; of = st.at }) (loads g.owner g.slot) x.holds
+      (may_lose past (won_all old) o.slot g (memory_of words) lawful (record { place = st.place; there = it.offers.is.there; open_yet = it.offers.is.open_yet; of = st.at }) (load_word w.machine past lawful g.owner g.slot) x.holds
       (λ inside. not_won (subst (Contains (won_all old)) number inside)) lazy)))
       not_won
       (λ n inside. ⊎_elim (λ (own : Contains (won_by (Resolving.to_settle o found)) n). absurd (none n own)) (λ (other : Contains (won_all new) n × (n ≢ o.number)). other.0) (winners_by n inside))
       (λ n inside. (still_by n inside).0)
 
-  one_settled : MayBeBound w.machine → MayBeLost w.machine → LoadsFit s → (t : Bool) → has_won o found ≡ t → Sounds w (past ++ settling_event o found ∷ []) new words
-  one_settled may_bind may_lose loads true e = subst (λ (d : Event). Sounds w (past ++ d ∷ []) new words) (sym (ap (λ (t : Bool). cond t (events.Bound o.number) (events.Lost o.number found)) e)) (bound_sound may_bind loads e)
-  one_settled may_bind may_lose loads false e = subst (λ (d : Event). Sounds w (past ++ d ∷ []) new words) (sym (ap (λ (t : Bool). cond t (events.Bound o.number) (events.Lost o.number found)) e)) (lost_sound may_lose loads e)
+  one_settled : MayBeBound w.machine → MayBeLost w.machine → (t : Bool) → has_won o found ≡ t → Sounds w (past ++ settling_event o found ∷ []) new words
+  one_settled may_bind may_lose true e = subst (λ (d : Event). Sounds w (past ++ d ∷ []) new words) (sym (ap (λ (t : Bool). cond t (events.Bound o.number) (events.Lost o.number found)) e)) (bound_sound may_bind e)
+  one_settled may_bind may_lose false e = subst (λ (d : Event). Sounds w (past ++ d ∷ []) new words) (sym (ap (λ (t : Bool). cond t (events.Bound o.number) (events.Lost o.number found)) e)) (lost_sound may_lose e)
 
 -- ---- all harts
 
-loads_settled : (past : List Event) (o : Offered) (found : ℕ) → LoadsFit (after past) → LoadsFit (after (past ++ settling_event o found ∷ []))
-loads_settled past o found loads = by (has_won o found)
-  where
-    by : (t : Bool) → LoadsFit (after (past ++ cond t (events.Bound o.number) (events.Lost o.number found) ∷ []))
-    by true = subst LoadsFit (sym (after_push past (events.Bound o.number))) loads
-    by false = subst LoadsFit (sym (after_push past (events.Lost o.number found))) loads
-
 -- nothing is to be settled of a hart, and it stays where it is
-along : (w : Setting) (past : List Event) (front rest : List Resolving) (words : List Doubleword) → LoadsFit (after past)
-    → ((f : List Resolving) → LoadsFit (after past) → Sounds w past (f ++ rest) words → Sounds w (past ++ flat_map settled_by rest) (f ++ map settled_resolving rest) words)
+along : (w : Setting) (past : List Event) (front rest : List Resolving) (words : List Doubleword)
+    → ((f : List Resolving) → Sounds w past (f ++ rest) words → Sounds w (past ++ flat_map settled_by rest) (f ++ map settled_resolving rest) words)
     → (q : Resolving) → Sounds w past (front ++ q ∷ rest) words → Sounds w (past ++ flat_map settled_by rest) (front ++ q ∷ map settled_resolving rest) words
-along w past front rest words loads go q y = subst (λ (rs : List Resolving). Sounds w (past ++ flat_map settled_by rest) rs words) (append_assoc front (q ∷ []) (map settled_resolving rest))
-    (go (front ++ q ∷ []) loads (subst (λ (rs : List Resolving). Sounds w past rs words) (sym (append_assoc front (q ∷ []) rest)) y))
+along w past front rest words go q y = subst (λ (rs : List Resolving). Sounds w (past ++ flat_map settled_by rest) rs words) (append_assoc front (q ∷ []) (map settled_resolving rest))
+    (go (front ++ q ∷ []) (subst (λ (rs : List Resolving). Sounds w past rs words) (sym (append_assoc front (q ∷ []) rest)) y))
 
-pub settled_all : (w : Setting) → AcceptsOnly w.machine → Know w.machine → EventsKeep → MayBeBound w.machine → MayBeLost w.machine → (past : List Event) (front rest : List Resolving) (words : List Doubleword) → LoadsFit (after past)
+pub settled_all : (w : Setting) → AcceptsOnly w.machine → Know w.machine → EventsKeep → MayBeBound w.machine → MayBeLost w.machine → (past : List Event) (front rest : List Resolving) (words : List Doubleword)
     → Sounds w past (front ++ rest) words → Sounds w (past ++ flat_map settled_by rest) (front ++ map settled_resolving rest) words
-settled_all w only know keep may_bind may_lose past front [] words loads x = subst (λ (es : List Event). Sounds w es (front ++ []) words) (sym (append-nil past)) x
-settled_all w only know keep may_bind may_lose past front (r ∷ rest) words loads x =
-    by (λ p f l y. settled_all w only know keep may_bind may_lose p f rest words l y) r x
+settled_all w only know keep may_bind may_lose past front [] words x = subst (λ (es : List Event). Sounds w es (front ++ []) words) (sym (append-nil past)) x
+settled_all w only know keep may_bind may_lose past front (r ∷ rest) words x =
+    by (λ p f y. settled_all w only know keep may_bind may_lose p f rest words y) r x
   where
-    by : ((p : List Event) (f : List Resolving) → LoadsFit (after p) → Sounds w p (f ++ rest) words → Sounds w (p ++ flat_map settled_by rest) (f ++ map settled_resolving rest) words) → (q : Resolving) → Sounds w past (front ++ q ∷ rest) words
+    by : ((p : List Event) (f : List Resolving) → Sounds w p (f ++ rest) words → Sounds w (p ++ flat_map settled_by rest) (f ++ map settled_resolving rest) words) → (q : Resolving) → Sounds w past (front ++ q ∷ rest) words
         → Sounds w (past ++ (settled_by q ++ flat_map settled_by rest)) (front ++ settled_resolving q ∷ map settled_resolving rest) words
-    by go Resolving.idle y = along w past front rest words loads (go past) Resolving.idle y
-    by go (Resolving.to_exchange o) y = along w past front rest words loads (go past) (Resolving.to_exchange o) y
-    by go (Resolving.to_finish o found) y = along w past front rest words loads (go past) (Resolving.to_finish o found) y
+    by go Resolving.idle y = along w past front rest words (go past) Resolving.idle y
+    by go (Resolving.to_exchange o) y = along w past front rest words (go past) (Resolving.to_exchange o) y
+    by go (Resolving.to_finish o found) y = along w past front rest words (go past) (Resolving.to_finish o found) y
     by go (Resolving.to_settle o found) y =
         let e : Event = settling_event o found in
-        let one : Sounds w (past ++ e ∷ []) (placed front Resolving.idle rest) words = one_settled w only know keep past front rest o found words y may_bind may_lose loads (has_won o found) refl in
+        let one : Sounds w (past ++ e ∷ []) (placed front Resolving.idle rest) words = one_settled w only know keep past front rest o found words y may_bind may_lose (has_won o found) refl in
         let all : Sounds w ((past ++ e ∷ []) ++ flat_map settled_by rest) ((front ++ Resolving.idle ∷ []) ++ map settled_resolving rest) words =
-        go (past ++ e ∷ []) (front ++ Resolving.idle ∷ []) (loads_settled past o found loads)
+        go (past ++ e ∷ []) (front ++ Resolving.idle ∷ [])
         (subst (λ (rs : List Resolving). Sounds w (past ++ e ∷ []) rs words) (sym (append_assoc front (Resolving.idle ∷ []) rest)) one) in
         subst (λ (es : List Event). Sounds w es (front ++ Resolving.idle ∷ map settled_resolving rest) words) (append_assoc past (e ∷ []) (flat_map settled_by rest))
         (subst (λ (rs : List Resolving). Sounds w ((past ++ e ∷ []) ++ flat_map settled_by rest) rs words) (append_assoc front (Resolving.idle ∷ []) (map settled_resolving rest)) all)

@@ -30,7 +30,7 @@ use Rattle.hart_moves.specs.Harts.{HartState, Offered, Phase, Purpose, Resolving
 use Rattle.hart_moves.specs.Moves.{AreAllowed, Did, IsOffer, ended, events_of, freed, settled_resolving, settles}
 use Rattle.hart_moves.specs.Starting.{finalising_hart}
 use Rattle.hart_moves.specs.Lemmas.Legality.{turns_allowed, turns_own}
-use Rattle.world_turns.specs.Laws.{FinalsBeginSound, FinalsLackSound, LoadsFit, SettlingIsSound, TurnsAreSound}
+use Rattle.world_turns.specs.Laws.{FinalsBeginSound, FinalsLackSound, SettlingIsSound, TurnsAreSound}
 use Rattle.world_turns.specs.Run.{settled}
 use Rattle.world_turns.specs.Memory.{Does, Remakes, RemakesAll, doubleword, exchanged, memory_of, word_count}
 use Rattle.world_turns.specs.Sound.{Fits, HasOffer, Sound}
@@ -235,7 +235,7 @@ found_hart harts h b true at = ap (λ (rs : List Resolving). slice_get rs h) (fr
     mapped rs n r is = slice_get-map settled_resolving rs n ∙ ap (λ (x : Option Resolving). option_map settled_resolving x) is
 found_hart harts h b false at = place_at harts h b at
 
-module _ (w : Setting) (only : AcceptsOnly w.machine) (needs : Needs w.machine) (h : ℕ) (old new : World) (loads : LoadsFit (after old.journal)) (sound : Sound w old) (turn : Turn w h old new) where
+module _ (w : Setting) (only : AcceptsOnly w.machine) (needs : Needs w.machine) (h : ℕ) (old new : World) (sound : Sound w old) (turn : Turn w h old new) where
   abbrev past : List Event
   past = found_journal old turn.did
 
@@ -249,7 +249,7 @@ module _ (w : Setting) (only : AcceptsOnly w.machine) (needs : Needs w.machine) 
   found_by true =
       subst (λ (es : List Event). Sounds w (old.journal ++ es) (resolvings (map freed old.harts)) old.words) (sym (settling_is old.harts))
       (subst (λ (rs : List Resolving). Sounds w (old.journal ++ flat_map settled_by (resolvings old.harts)) rs old.words) (sym (freed_are old.harts))
-      (settled_all w only needs.know needs.keep needs.bound needs.lost old.journal [] (resolvings old.harts) old.words loads (to_sounds w old sound)))
+      (settled_all w only needs.know needs.keep needs.bound needs.lost old.journal [] (resolvings old.harts) old.words (to_sounds w old sound)))
   found_by false = subst (λ (es : List Event). Sounds w es (resolvings old.harts) old.words) (sym (append-nil old.journal)) (to_sounds w old sound)
 
   here_is : Around (resolvings harts) h (p_of (settles turn.did))
@@ -397,7 +397,7 @@ module _ (w : Setting) (only : AcceptsOnly w.machine) (needs : Needs w.machine) 
       }
 
 pub turns_sound : ((m : Machine) → AcceptsOnly m → Needs m) → TurnsAreSound
-turns_sound needs w h old new only loads sound turn = turn_leaves w only (needs w.machine only) h old new loads sound turn
+turns_sound needs w h old new only sound turn = turn_leaves w only (needs w.machine only) h old new sound turn
 
 -- ---- the final destructors begin, and what is left is settled
 
@@ -445,12 +445,12 @@ begins_sound w registers old new x sound =
     others (suc j) b reason at over = sound.rests (suc j) b reason (ap (λ (bs : List HartState). slice_get bs (suc j)) x.harts ∙ at) over
 
 pub settles_sound : ((m : Machine) → AcceptsOnly m → Needs m) → SettlingIsSound
-settles_sound needs w world only loads sound =
+settles_sound needs w world only sound =
     let laws = needs w.machine only in
     from_sounds w (settled world) (freed_length world.harts ∙ sound.harts) sound.words (freed_rest world.harts sound.rests)
     (subst (λ (es : List Event). Sounds w (world.journal ++ es) (resolvings (map freed world.harts)) world.words) (sym (settling_is world.harts))
     (subst (λ (rs : List Resolving). Sounds w (world.journal ++ flat_map settled_by (resolvings world.harts)) rs world.words) (sym (freed_are world.harts))
-    (settled_all w only laws.know laws.keep laws.bound laws.lost world.journal [] (resolvings world.harts) world.words loads (to_sounds w world sound))))
+    (settled_all w only laws.know laws.keep laws.bound laws.lost world.journal [] (resolvings world.harts) world.words (to_sounds w world sound))))
 
 -- what an end makes of memory: nothing
 ends_remake : (s : State) (h : ℕ) (reason : HartEnd) (words : List Doubleword) → Remakes s (events.Ended h reason) words words
@@ -462,10 +462,10 @@ ends_remake s h reason words = record {
 }
 
 pub lacks_sound : ((m : Machine) → AcceptsOnly m → Needs m) → FinalsLackSound
-lacks_sound needs w old new only loads sound x =
+lacks_sound needs w old new only sound x =
     let laws = needs w.machine only in
     let past : List Event = old.journal ++ settling old.harts in
-    let before : Sound w (settled old) = settles_sound needs w old only loads sound in
+    let before : Sound w (settled old) = settles_sound needs w old only sound in
     let after_end : Sounds w (past ++ events.Ended 0 ends.Memory ∷ []) (resolvings (map freed old.harts)) old.words =
     event_sounds w only laws.know laws.changes laws.keep past (resolvings (map freed old.harts)) old.words old.words (events.Ended 0 ends.Memory) 0 refl x.may (ends_remake (after past) 0 ends.Memory old.words)
     (spared w only laws.know laws.changes laws.keep (events.Ended 0 ends.Memory) refl) (to_sounds w (settled old) before) in

@@ -1,6 +1,6 @@
 use Rattle.std.proofs.Common.{drop, sym, subst}
 use Rattle.hart_moves.specs.Moves.{freed}
-use Rattle.answer_turns.specs.Completing.{PassesFirst}
+use Rattle.answer_turns.specs.Steps.{PassesFirst}
 use Rattle.answer_turns.proofs.Rows.{completed_table}
 use Rattle.answer_turns.proofs.Running.{HasTurn, goes_on, runs_has}
 use Rattle.answer_turns.proofs.completion.complete.Goals as goal

@@ -1,0 +1,20 @@
+-- What came of a hart's turn.
+use Rattle.std.specs.Prelude.{◌≡◌, ℕ, Option, Some, None}
+use Rattle.std.specs.List.{slice_get}
+use Rattle.ld_base.specs.declared.fault.Shown.{Shown}
+use Rattle.link_event.specs.declared.hart_end.HartEnd.{HartEnd}
+use Rattle.hart_moves.specs.Harts.{HartState}
+use Rattle.world_turns.specs.World.{World}
+use Rattle.guest_worlds.specs.declared.turn.Turn.{Turn}
+use Rattle.guest_worlds.specs.declared.turn.Turn.TheVariants as turn
+
+-- how the hart has ended, if it has
+abbrev pub HasEnd : World → ℕ → Option HartEnd → Type 0
+HasEnd world h reason = (b : HartState) × (slice_get world.harts h ≡ Some b) × (b.«end» ≡ reason)
+
+-- it runs on; it has ended; or it had ended before, and nothing was done
+abbrev pub Comes : (old new : World) → ℕ → Turn → Type 0
+Comes old new h turn.Stepped = HasEnd new h None
+Comes old new h (turn.Again shown) = HasEnd new h None
+Comes old new h (turn.Ended reason) = HasEnd old h None × HasEnd new h (Some reason)
+Comes old new h turn.Idle = (new ≡ old) × ((reason : HartEnd) × HasEnd old h (Some reason))
