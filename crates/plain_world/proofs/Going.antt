@@ -17,10 +17,10 @@ use Rattle.schedules.specs.declared.schedule.TurnItem.{TurnItem}
 use Rattle.guest_worlds.specs.Coming.{HasEnd}
 use Rattle.world_ends.specs.Ends.{has_exited}
 use Rattle.world_ends.specs.Lemmas.Places.{ended_by, exited_ends, runs_on}
-use Rattle.world_turns.specs.Run.{Begins, Constructs, Ends, Finishes, Repeats, Rounds, TakesItems, all_harts, has_ended, have_ended, have_exited, is_starting}
+use Rattle.world_turns.specs.Run.{Begins, Constructs, Ends, Finalises, Finishes, LacksMemory, Repeats, Rounds, TakesItems, all_harts, has_ended, have_ended, have_exited, is_starting, settled}
 use Rattle.world_turns.specs.Turn.{TakesTurn, Turn}
 use Rattle.world_turns.specs.World.{World}
-use Rattle.plain_world.specs.Playing.{BeginsToFinalise, FirstRuns, InEachRun, OthersHaveEnded}
+use Rattle.plain_world.specs.Playing.{BeginsToFinalise, FinalisesOnce, FirstRuns, InEachRun, OthersHaveEnded}
 use Rattle.plain_world.specs.Table.{WorldTable, moved}
 use Rattle.plain_world.proofs.Left.{left, round_less, turn_less}
 
@@ -143,6 +143,31 @@ others_when_begun begun registers old new x = record {
   harts = ap (λ (v : World). v.harts) x.begins.begun;
   over = exited_over x.begins.others (rest_of has_exited x.begins.first x.begins.others (sym (ap (list_all has_exited) x.begins.harts) ∙ x.exited));
 }
+
+-- ---- all harts have ended
+
+ends_over : (w : Setting) (old new : World) → Ends w old new → have_ended new ≡ true
+ends_over w old new (Ends.no_more _ over) = over
+ends_over w old new (Ends.one_more _ between _ runs t more) = ends_over w between new more
+
+lacks_over : (w : Setting) (old new : World) → LacksMemory w old new → have_ended old ≡ true → have_ended new ≡ true
+lacks_over w old new x over =
+    ap have_ended x.leaves ∙ freed_ended x.others ∙ rest_of has_ended x.first x.others (sym (ap (list_all has_ended) x.harts) ∙ over)
+
+finalised_over : (w : Setting) (begun : Bool) (registers : Registers) (old new : World) → FinalisesOnce w begun registers old new → have_ended old ≡ true → have_ended new ≡ true
+finalised_over w begun registers old new (FinalisesOnce.for_once before (Finalises.none_runs exited same)) over = ap have_ended same ∙ over
+finalised_over w begun registers old new (FinalisesOnce.for_once before (Finalises.none_is_left none same)) over = ap have_ended same ∙ over
+finalised_over w begun registers old new (FinalisesOnce.for_once before (Finalises.no_memory exited lacks)) over = lacks_over w old new lacks over
+finalised_over w begun registers old new (FinalisesOnce.for_once before (Finalises.all_run first exited begins ends)) over = ends_over w first new ends
+finalised_over w begun registers old new (FinalisesOnce.no_more before same) over = ap have_ended same ∙ over
+
+pub each_finalised_over : (run : WorldTable) (files : Option (List File)) (registers : Registers) (old new : World)
+    → InEachRun run files (λ w. FinalisesOnce w run.begun registers old new) → have_ended old ≡ true → have_ended new ≡ true
+each_finalised_over run files registers old new each over =
+    finalised_over (some_run run files) run.begun registers old new (each (some_run run files) (some_over run files)) over
+
+pub settled_over : (world : World) → have_ended world ≡ true → have_ended (settled world) ≡ true
+settled_over world over = freed_ended world.harts ∙ over
 
 -- ---- a hart that has ended
 

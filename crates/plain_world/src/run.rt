@@ -26,6 +26,7 @@ impl World {
         requires { (item : item_value) → Contains turns.now item → item.hart < self.old.count }
         ensures plays { InEachRun self.old (L.files library.old)
             (λ w. Plays w self.old.begun (starting_registers self.old.entry) turns.now self.old.world self.new.world) }
+        ensures over { IsTrue (have_ended self.new.world) }
         ensures rest { self.new ≡ record self.old { begun = true; world = self.new.world } }
         ensures files { L.files library.new ≡ L.files library.old }
         ensures faults { L.faults library.old ≤ L.faults library.new }
@@ -124,8 +125,10 @@ fn go_round<L: Library>(run: &mut World, alloc: Global, library: &mut L)
 
 /// The final destructors, where each hart has ended by exit and they haven't begun before.
 fn finalise<L: Library>(run: &mut World, alloc: Global, library: &mut L)
+    requires { IsTrue (have_ended run.old.world) }
     ensures finalises { InEachRun run.old (L.files library.old)
         (λ w. FinalisesOnce w run.old.begun (starting_registers run.old.entry) run.old.world run.new.world) }
+    ensures over { IsTrue (have_ended run.new.world) }
     ensures rest { run.new ≡ record run.old { begun = true; world = run.new.world } }
     ensures files { L.files library.new ≡ L.files library.old }
     ensures faults { L.faults library.old ≤ L.faults library.new }

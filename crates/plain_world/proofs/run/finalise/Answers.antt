@@ -3,7 +3,7 @@ use Rattle.hart_moves.specs.Starting.{starting_registers}
 use Rattle.world_turns.specs.Run.{Ends, Finalises}
 use Rattle.plain_world.specs.Playing.{FinalisesOnce}
 use Rattle.plain_world.specs.Table.{WorldTable}
-use Rattle.plain_world.proofs.Going.{in_each_of, others_when_begun}
+use Rattle.plain_world.proofs.Going.{each_finalised_over, in_each_of, others_when_begun}
 use Rattle.plain_world.proofs.run.finalise.Goals as goal
 
 pub run_finals-requires : goal.run_finals-requires
@@ -21,3 +21,8 @@ returns-then-begin_finals-clause-finalises g c = λ w over.
 
 pub returns-else-begin_finals-clause-finalises : goal.returns-else-begin_finals-clause-finalises
 returns-else-begin_finals-clause-finalises g c = λ w over. c.if-begin_finals.ensures.other w over.machine
+
+pub returns-else-begin_finals-clause-over : goal.returns-else-begin_finals-clause-over
+returns-else-begin_finals-clause-over g c =
+    each_finalised_over c.args.run.now (g.L.Library.files c.args.library.now) (starting_registers c.args.run.now.entry) c.args.run.now.world
+    c.begin_finals.new.self.world (λ w over. c.if-begin_finals.ensures.other w over.machine) c.requires

@@ -2,11 +2,11 @@ use Rattle.std.proofs.Common.{◌≡◌, ℕ, Bool, ◌<◌, Contains, List, sym
 use Rattle.link_event.specs.declared.handed.HartEntry.{HartEntry}
 use Rattle.hart_moves.specs.Starting.{starting_registers}
 use Rattle.schedules.specs.declared.schedule.TurnItem.{TurnItem}
-use Rattle.world_turns.specs.Run.{Finishes, TakesItems}
+use Rattle.world_turns.specs.Run.{Finishes, TakesItems, have_ended}
 use Rattle.world_turns.specs.World.{World}
 use Rattle.plain_world.specs.Playing.{FinalisesOnce}
 use Rattle.plain_world.specs.Table.{WorldTable, moved}
-use Rattle.plain_world.proofs.Going.{in_each, moved_more}
+use Rattle.plain_world.proofs.Going.{in_each, moved_more, settled_over}
 use Rattle.plain_world.proofs.world.World.run.Goals as goal
 
 pub follow-requires : goal.follow-requires
@@ -44,3 +44,7 @@ returns-clause-plays g c = λ w over.
           c.finalise.ensures.finalises w over));
       ends = ap (λ (t : WorldTable). t.world) c.settle.ensures;
     }
+
+pub returns-clause-over : goal.returns-clause-over
+returns-clause-over g c =
+    ap (λ (t : WorldTable). have_ended t.world) c.settle.ensures ∙ settled_over c.finalise.new.run.world c.finalise.ensures.over
