@@ -26,8 +26,10 @@ use Rattle.call_laws.specs.Coming.{IsOver}
 use Rattle.hart_moves.specs.Due.{Due, Return, due}
 use Rattle.hart_moves.specs.Harts.{HartState}
 use Rattle.turn_answers.specs.Answered.{AnswersTurn, IsAnswered}
+use Rattle.turn_answers.specs.Turn.{TakesService}
 use Rattle.turn_answers.specs.declared.answered.Answered.{Answered}
 use Rattle.turn_answers.specs.declared.answered.Answered.TheVariants as answered
+use Rattle.turn_answers.specs.declared.answered.MemoryChange.{MemoryChange}
 use Rattle.call_answers.specs.Answers.{AnswersDue}
 use Rattle.call_answers.specs.Openings.{TurnRefusalIsCounted}
 use Rattle.answer_turns.specs.Answering.{WasAnswered, runs_functions}
@@ -235,10 +237,35 @@ answered_waits past appended h made call answer came shown (IsAnswered.is_over r
 pub turn_waits : (old new : LinkTable) (folders : List (List ℕ)) (files : Option (List File)) (h : ℕ) (d : Due) (asked : Answered) (waits : Option Shown) (came : Turn)
     → AnswersDue old folders files h d asked new → ((shown : Shown) → came ≡ turn.Again shown → waits ≡ Some shown)
     → ((shown : Shown) → waits ≡ Some shown → asked ≡ answered.Again shown) → TurnWaits old.harts folders files old.events h came d
-turn_waits old new folders files h d asked waits came answers told by_answer = λ shown again_is w on.
+turn_waits old new folders files h d asked waits came answers by_turn by_answer = λ shown again_is w on.
     let t : AnswersTurn w old.events new.events new.made h d asked = answers w on in
     let is : t.answer ≡ again shown =
-    answered_waits old.events t.appended h new.made t.call t.answer asked shown t.answered (by_answer shown (told shown again_is)) in
+    answered_waits old.events t.appended h new.made t.call t.answer asked shown t.answered (by_answer shown (by_turn shown again_is)) in
     let shows : Shows w (after old.events) h t.call shown =
     subst (λ (a : Answer). Waits w old.events h t.call a) is (given_waits w old.events h t.call t.serves.given t.answer t.serves.gives) in
     (t.call, t.return, t.is, shows)
+
+-- ---- what the answer makes of the hart
+
+-- it answers the hart whose next turn it is
+pub was_answered : (old mid : LinkTable) (folders : List (List ℕ)) (files : Option (List File)) (h : ℕ) (b b' : HartState) (came : Answered)
+    → AnswersDue old folders files h (due (after old.events) b) came mid → mid.harts ≡ old.harts → b' ≡ b → WasAnswered mid h b' came
+was_answered old mid folders files h b b' came answers harts same =
+    let w : Setting = setting_with old.harts folders [] files in
+    record {
+      setting = w;
+      machine = ap machine_of (sym harts);
+      past = old.events;
+      answers = subst (λ (y : HartState). AnswersTurn w old.events mid.events mid.made h (due (after old.events) y) came) (sym same)
+          (answers w (is_over old.harts folders [] files));
+    }
+
+abbrev pub TakesAnswer : LinkTable → LinkTable → ℕ → Answered → MemoryChange → HartState → HartState → Type 0
+TakesAnswer mid new h came change b c = (w : Setting) (past : List Event) → AnswersTurn w past mid.events mid.made h (due (after past) b) came
+    → TakesService w past new.events new.made h (due (after past) b) b c change
+
+pub takes_answer : (old mid new : LinkTable) (folders : List (List ℕ)) (files : Option (List File)) (h : ℕ) (b b' c : HartState) (came : Answered) (change : MemoryChange)
+    → AnswersDue old folders files h (due (after old.events) b) came mid → b' ≡ b → TakesAnswer mid new h came change b' c
+    → (w : Setting) → IsOver (machine_of old.harts) folders files w → TakesService w old.events new.events new.made h (due (after old.events) b) b c change
+takes_answer old mid new folders files h b b' c came change answers same takes = λ w on.
+    subst (λ (y : HartState). TakesAnswer mid new h came change y c) same takes w old.events (answers w on)

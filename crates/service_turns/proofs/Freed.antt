@@ -81,6 +81,9 @@ serve_of (Due.finalise code object) is = absurd (true≢false (sym is))
 pub asks_of_service : (d : Due) → is_service d ≡ true → asks_linker d ≡ true
 asks_of_service d is = ap (λ (x : Bool). x || is_complete d) is
 
+pub asks_of_serve : (d : Due) (call : Call) (back : Return) → d ≡ Due.serve call back → asks_linker d ≡ true
+asks_of_serve d call back is = ap asks_linker is
+
 pub asks_of_complete : (d : Due) → is_complete d ≡ true → asks_linker d ≡ true
 asks_of_complete d is = or_right (is_service d) (is_complete d) is
 

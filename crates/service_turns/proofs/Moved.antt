@@ -95,10 +95,10 @@ is_over count folders preload files = record { machine = refl; folders_are = ref
 -- ---- a turn
 
 module _ (old new : LinkTable) (h : ℕ) (b c : HartState) (does : MemoryChange) (asks : asks_linker (due (after old.events) b) ≡ true) where
-  abbrev pub Takes : Setting → Type 0
-  Takes w = TakesService w old.events new.events new.made h (due (after old.events) b) b c does
+  abbrev pub ServiceIn : Setting → Type 0
+  ServiceIn w = TakesService w old.events new.events new.made h (due (after old.events) b) b c does
 
-  turns : (w : Setting) (words left : List Doubleword) (t : Takes w) → RemakesAll (after old.events) (events_of t.did) words left
+  turns : (w : Setting) (words left : List Doubleword) (t : ServiceIn w) → RemakesAll (after old.events) (events_of t.did) words left
       → HartTurns w old.events new.events words left h b c
   turns w words left t remade = record {
     did = t.did;
@@ -109,21 +109,21 @@ module _ (old new : LinkTable) (h : ℕ) (b c : HartState) (does : MemoryChange)
   }
 
   legal_behind : AllowedUntold → (folders : List (List ℕ)) (files : Option (List File)) (legal : IsLegal old.harts folders old.events)
-      → ((w : Setting) → IsOver (machine_of old.harts) folders files w → Takes w) → Legal (setting_without old.harts folders legal.preload) new.events
+      → ((w : Setting) → IsOver (machine_of old.harts) folders files w → ServiceIn w) → Legal (setting_without old.harts folders legal.preload) new.events
   legal_behind law folders files legal takes =
       let w : Setting = setting_with old.harts folders legal.preload files in
-      let t : Takes w = takes w (is_over old.harts folders legal.preload files) in
+      let t : ServiceIn w = takes w (is_over old.harts folders legal.preload files) in
       subst (Legal (untold w)) (sym t.are)
       (legal_with (untold w) old.events (events_of t.did) legal.legal (are_untold law w old.events (events_of t.did) (turns_allowed w old.events h b c t.did t.moves)))
 
   -- where the change is made of memory, whatever the history
   pub turns_over : AllowedUntold → (folders : List (List ℕ)) (files : Option (List File)) (words left : List Doubleword)
-      → IsLegal old.harts folders old.events → ((w : Setting) → IsOver (machine_of old.harts) folders files w → Takes w)
+      → IsLegal old.harts folders old.events → ((w : Setting) → IsOver (machine_of old.harts) folders files w → ServiceIn w)
       → ((w : Setting) (past given : List Event) → Legal w (past ++ given) → Changes (after past) given new.made does
       → RemakesAll (after past) given words left)
       → HartTurnsOver folders files old new words left h b c
   turns_over law folders files words left legal takes made = λ w on.
-      let t : Takes w = takes w on in
+      let t : ServiceIn w = takes w on in
       turns w words left t
       (made (setting_without old.harts folders legal.preload) old.events (events_of t.did)
       (subst (Legal (setting_without old.harts folders legal.preload)) t.are (legal_behind law folders files legal takes)) t.changes)

@@ -81,9 +81,9 @@ module _ (state : LinkTable) (words : List Doubleword) (harts : List HartTable) 
 -- ---- behind the settling
 
 -- the state, the harts, and the hart whose turn it is
-pub record Behind (old mid : LinkTable) (words : List Doubleword) (harts settled_harts : List HartTable) (h : ℕ) (b b' : HartState) : Type 0 where
+pub record Behind (old mid : LinkTable) (words : List Doubleword) (harts after_all : List HartTable) (h : ℕ) (b b' : HartState) : Type 0 where
   pub state : mid ≡ record old { events = (settled (world_of old words harts)).journal }
-  pub harts : harts_in settled_harts ≡ (settled (world_of old words harts)).harts
+  pub all : harts_in after_all ≡ (settled (world_of old words harts)).harts
   pub there : slice_get (harts_in harts) h ≡ Some b
   pub hart : b' ≡ freed b
 
@@ -92,7 +92,7 @@ pub behind : (old mid : LinkTable) (words : List Doubleword) (harts after_all : 
     → slice_get (harts_in harts) h ≡ Some t.hart → h < length after_all → t' ≡ get_or after_all h t' → Behind old mid words harts after_all h t.hart t'.hart
 behind old mid words harts after_all h t t' state all there lt is = record {
   state = state;
-  harts = settled_all;
+  all = settled_all;
   there = there;
   hart = same_hart (slice_get (harts_in after_all) h) t'.hart (freed t.hart) (hart_at after_all h t' lt is)
       (ap (λ (bs : List HartState). slice_get bs h) settled_all ∙ freed_at (harts_in harts) h t.hart there);
@@ -180,7 +180,7 @@ module _ (old mid : LinkTable) (words : List Doubleword) (harts after_all : List
         let made : one_turn w h (world_of old words harts) (record { journal = past ++ events_of t.did; words = left; harts = set (map freed (harts_in harts)) h c }) =
         service w h (world_of old words harts) left b c t.did t.settling x.there (takes w past h b t.did c t.settling t.moves) t.does in
         subst (λ (bs : List HartState). one_turn w h (world_of old words harts) (record { journal = new.events; words = left; harts = bs }))
-        (ap (λ (bs : List HartState). set bs h c) (sym x.harts) ∙ sym as_left)
+        (ap (λ (bs : List HartState). set bs h c) (sym x.all) ∙ sym as_left)
         (subst (λ (es : List Event). one_turn w h (world_of old words harts) (record { journal = es; words = left; harts = set (map freed (harts_in harts)) h c })) (sym t.are) made)
 
     pub came_of : (came : Turn) → b.«end» ≡ None → IsOutcome c came → Comes (world_of old words harts) (world_of new left left_harts) h came
@@ -188,7 +188,7 @@ module _ (old mid : LinkTable) (words : List Doubleword) (harts after_all : List
       where
         there_now : slice_get (harts_in left_harts) h ≡ Some c
         there_now =
-            ap (λ (bs : List HartState). slice_get bs h) (as_left ∙ ap (λ (bs : List HartState). set bs h c) x.harts)
+            ap (λ (bs : List HartState). slice_get bs h) (as_left ∙ ap (λ (bs : List HartState). set bs h c) x.all)
             ∙ left_at (map freed (harts_in harts)) h (freed b) c (freed_at (harts_in harts) h b x.there)
 
         by : (came : Turn) → IsOutcome c came → Comes (world_of old words harts) (world_of new left left_harts) h came
