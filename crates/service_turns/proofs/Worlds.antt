@@ -87,15 +87,15 @@ pub record Behind (old mid : LinkTable) (words : List Doubleword) (harts after_a
   pub there : slice_get (harts_in harts) h ≡ Some b
   pub hart : b' ≡ freed b
 
-pub behind : (old mid : LinkTable) (words : List Doubleword) (harts after_all : List HartTable) (h : ℕ) (t t' : HartTable)
-    → mid ≡ record old { events = old.events ++ settling (harts_in harts) } → after_all ≡ map freed_in harts
-    → slice_get (harts_in harts) h ≡ Some t.hart → h < length after_all → t' ≡ get_or after_all h t' → Behind old mid words harts after_all h t.hart t'.hart
-behind old mid words harts after_all h t t' state all there lt is = record {
+pub behind : (old mid : LinkTable) (words : List Doubleword) (harts after_all : List HartTable) (i h : ℕ) (t t' : HartTable)
+    → mid ≡ record old { events = old.events ++ settling (harts_in harts) } → after_all ≡ map freed_in harts → i ≡ h → h < length harts
+    → t ≡ get_or harts i t → t' ≡ get_or after_all i t' → Behind old mid words harts after_all h t.hart t'.hart
+behind old mid words harts after_all i h t t' state all same lt is is' = record {
   state = state;
   all = settled_all;
-  there = there;
-  hart = same_hart (slice_get (harts_in after_all) h) t'.hart (freed t.hart) (hart_at after_all h t' lt is)
-      (ap (λ (bs : List HartState). slice_get bs h) settled_all ∙ freed_at (harts_in harts) h t.hart there);
+  there = hart_at harts i h t same lt is;
+  hart = same_hart (slice_get (harts_in after_all) h) t'.hart (freed t.hart) (hart_at after_all i h t' same (subst (λ (ts : List HartTable). h < length ts) (sym all) (subst (λ n. h < n) (sym (length-map harts freed_in)) lt)) is')
+      (ap (λ (bs : List HartState). slice_get bs h) settled_all ∙ freed_at (harts_in harts) h t.hart (hart_at harts i h t same lt is));
 }
   where
     settled_all : harts_in after_all ≡ map freed (harts_in harts)

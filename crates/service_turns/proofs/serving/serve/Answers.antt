@@ -1,4 +1,4 @@
-use Rattle.std.proofs.Common.{◌<◌, [], ap, sym, subst}
+use Rattle.std.proofs.Common.{◌<◌, ◌++◌, List, [], ap, sym, subst}
 use Rattle.link_event.specs.declared.event.Event.{Event}
 use Rattle.link_history.specs.After.{after}
 use Rattle.link_history.specs.Legal.{Legal}
