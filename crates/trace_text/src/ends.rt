@@ -6,12 +6,12 @@ ghost use Rattle.trace_text.specs.Ends.{end_text};
 use link_event::HartEnd;
 use std::fmt;
 
-/// The end of a hart.
-#[derive(Clone, Copy)]
-pub(crate) struct End(pub(crate) HartEnd);
+/// The end of a hart, which is written as its words.
+#[derive(Clone, Copy, Debug)]
+pub struct EndText(pub HartEnd);
 
 #[tactic(auto, unfolding(crate::specs::Ends::end_text))]
-impl fmt::Display for End {
+impl fmt::Display for EndText {
     ghost output = { λ e. Some (end_text e.0) };
 
     fn fmt<W: fmt::Write>(&self, f: &mut fmt::Formatter<W>) -> fmt::Result {

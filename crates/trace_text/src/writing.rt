@@ -6,7 +6,7 @@ ghost use Rattle.ld_base.specs.Text.{name_or_none};
 ghost use Rattle.trace_text.specs.Lines.{IsSayable, asked_text, close_answer_text, granted_text, line_text, open_answer_text, open_text};
 ghost use Rattle.trace_text.specs.Lines.{sym_answer_text, sym_text, told_text, unmapped_text, unresolved_text, words_text};
 
-use crate::ends::End;
+use crate::ends::EndText;
 use crate::lists::{write_added, write_bytes, write_serials};
 use ld_base::{Choice, DlFault, HartId, Name, Serial};
 use link_event::{CloseAnswer, Event, OpenAnswer, OpenAsk, SymAnswer, SymAsk};
@@ -92,9 +92,21 @@ pub fn event_text(alloc: Global, event: &Event) -> Result<Vec<u8>, AllocError>
     ensures { IfOk result (λ line. line.items ≡ line_text event.now) }
 {
     let mut text = String::new(alloc);
-    write_words(&mut text, event)?;
-    writeln!(text)?;
+    write_event(&mut text, event)?;
     Ok(text.into_bytes())
+}
+
+/// Writes the line of an event, with its line feed, behind a text.
+///
+/// # Errors
+///
+/// Want of memory. A part of the line may have been written then.
+pub fn write_event(text: &mut String, event: &Event) -> Result<(), AllocError>
+    requires { IsSayable event.now }
+    ensures { OnOk result (string_bytes text.new ≡ string_bytes text.old ++ line_text event.now) }
+{
+    write_words(text, event)?;
+    writeln!(text)
 }
 
 /// Writes an event without its line feed.
@@ -172,7 +184,7 @@ fn write_words(text: &mut String, event: &Event) -> Result<(), AllocError>
         Event::Told { hart, fault } => write_told(text, *hart, fault),
         Event::Ended { hart, end } => {
             let hart = hart.number();
-            let end = End(*end);
+            let end = EndText(*end);
             write!(text, "ended h={hart} {end}")
         }
     }
