@@ -32,11 +32,10 @@ set_in (x ∷ rest) (suc i) t = ap (λ (bs : List HartState). x.hart ∷ bs) (se
 pub harts_set : (hs : List HartTable) (i h : ℕ) (t : HartTable) → i ≡ h → harts_in (set hs i t) ≡ set (harts_in hs) h t.hart
 harts_set hs i h t same = set_in hs i t ∙ ap (λ (n : ℕ). set (harts_in hs) n t.hart) same
 
-pub hart_at : (hs : List HartTable) (i h : ℕ) (t : HartTable) → i ≡ h → h < length hs → t ≡ get_or hs i t → slice_get (harts_in hs) h ≡ Some t.hart
-hart_at hs i h t same lt is =
+pub hart_at : (hs : List HartTable) (i h : ℕ) (d : HartTable) → i ≡ h → h < length hs → slice_get (harts_in hs) h ≡ Some (get_or hs i d).hart
+hart_at hs i h d same lt =
     slice_get-map (λ (x : HartTable). x.hart) hs h
-    ∙ ap (option_map (λ (x : HartTable). x.hart))
-    (slice_get-get_or hs h t lt ∙ ap (λ (x : HartTable). Some x) (ap (λ (n : ℕ). get_or hs n t) (sym same) ∙ sym is))
+    ∙ ap (option_map (λ (x : HartTable). x.hart)) (slice_get-get_or hs h d lt ∙ ap (λ (n : ℕ). Some (get_or hs n d)) (sym same))
 
 pub freed_at : (bs : List HartState) (i : ℕ) (b : HartState) → slice_get bs i ≡ Some b → slice_get (map freed bs) i ≡ Some (freed b)
 freed_at bs i b at = slice_get-map freed bs i ∙ ap (option_map freed) at
