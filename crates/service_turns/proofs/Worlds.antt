@@ -1,43 +1,36 @@
 -- A hart's turn behind the settling is one turn of the run.
-use Rattle.std.proofs.Common.{◌≡◌, ℕ, ◌<◌, Bool, true, false, ◌||◌, List, [], ◌∷◌, ◌++◌, map, length, get_or, Option, Some, None, refl, sym, ap, subst, ◌∙◌, arith}
+use Rattle.std.proofs.Common.{◌≡◌, ℕ, ◌<◌, Bool, true, List, ◌++◌, map, length, get_or, Option, Some, None, sym, ap, subst, ◌∙◌}
 use Rattle.std.proofs.Math.ListN.{set}
 use Rattle.std.proofs.lemmas.Bool.{true≢false}
 use Rattle.std.proofs.lemmas.List.{length-map}
 use Rattle.std.specs.List.{slice_get}
-use Rattle.ld_base.specs.declared.fault.Shown.{Shown}
 use Rattle.ld_base.specs.declared.linking.File.{File}
 use Rattle.link_event.specs.declared.event.Event.{Event}
-use Rattle.link_event.specs.declared.hart_end.HartEnd.{HartEnd}
 use Rattle.link_history.specs.After.{after}
-use Rattle.link_history.specs.Setting.{Setting}
 use Rattle.link_history.specs.State.{State}
 use Rattle.link_service.specs.Call.{Call}
 use Rattle.link_state.specs.Table.{LinkTable}
-use Rattle.lawful_journal.specs.Following.{machine_of}
-use Rattle.call_laws.specs.Coming.{IsOn, IsOver}
 use Rattle.rv_hart.specs.declared.doubleword.Doubleword.{Doubleword}
 use Rattle.hart_moves.specs.Due.{Due, Return, due}
 use Rattle.hart_moves.specs.Harts.{HartState}
 use Rattle.hart_moves.specs.Moves.{events_of, freed}
 use Rattle.hart_seat.specs.Table.{HartTable}
 use Rattle.turn_parts.specs.Freed.{FreedIsDue, FreedTakesTurns}
-use Rattle.turn_answers.specs.Following.{MayFollowAll}
 use Rattle.call_answers.specs.Answers.{is_service}
 use Rattle.call_answers.specs.Openings.{TurnRefusalIsCounted}
 use Rattle.answer_turns.specs.Completing.{MayPass, is_complete}
 use Rattle.settled_harts.specs.Settling.{freed_in, harts_in}
 use Rattle.world_turns.specs.Run.{settled}
 use Rattle.world_turns.specs.Turn.{Turn as one_turn}
-use Rattle.world_turns.specs.World.{World, settling}
+use Rattle.world_turns.specs.World.{settling}
 use Rattle.guest_worlds.specs.Coming.{Comes}
 use Rattle.guest_worlds.specs.Laws.{CallsNow, MaySettle, PassesNow, ServiceTurns, SettlesNow}
 use Rattle.guest_worlds.specs.Worlds.{IsAt, TurnsOver, world_of}
 use Rattle.guest_worlds.specs.declared.turn.Turn.{Turn}
 use Rattle.guest_worlds.specs.declared.turn.Turn.TheVariants as turn
-use Rattle.service_turns.specs.Asking.{AsksNothing, IsAsked, asks_linker}
-use Rattle.service_turns.specs.Next.{NextRefusalIsCounted, OfNext, TurnOpens, TurnWaits}
+use Rattle.service_turns.specs.Next.{OfNext, TurnOpens}
 use Rattle.service_turns.specs.Taking.{HartTurns, HartTurnsOn, HartTurnsOver, IsLegal, IsOutcome, MakesCall}
-use Rattle.service_turns.proofs.Freed.{IsServe, asks_of_complete, asks_of_service, freed_at, freed_twice, hart_at, harts_freed, harts_set, left_at, runs_on, same_hart, serve_of}
+use Rattle.service_turns.proofs.Freed.{IsServe, freed_at, freed_twice, hart_at, harts_freed, left_at, same_hart, serve_of}
 
 -- ---- a turn that asks for something else
 

@@ -1,7 +1,7 @@
-use Rattle.std.proofs.Common.{◌≡◌, ℕ, ◌<◌, true, sym, ap, subst, ◌∙◌}
+use Rattle.std.proofs.Common.{◌≡◌, ◌<◌, true, sym, subst, ◌∙◌}
 use Rattle.link_history.specs.After.{after}
 use Rattle.link_history.specs.State.{State}
-use Rattle.hart_moves.specs.Due.{Due, due}
+use Rattle.hart_moves.specs.Due.{due}
 use Rattle.hart_moves.specs.Harts.{HartState}
 use Rattle.turn_answers.specs.declared.answered.Answered.{Answered}
 use Rattle.call_answers.specs.Answers.{AnswersDue, HasFinishedFirst, WritesSome}
