@@ -1,0 +1,4 @@
+pub mod Carried
+pub mod Ending
+pub mod Places
+pub mod Starting

@@ -1,0 +1,3 @@
+-- Lemmas that proofs of the crates above cite, too. They define nothing that a contract means.
+pub mod Places
+pub mod Turns
