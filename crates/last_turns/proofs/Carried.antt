@@ -148,25 +148,6 @@ comes old new h None before behind = behind
 
 -- ---- what the turn finds, and how it leaves the run
 
-pub settled_first : (did : Did) (old new : LinkTable) (before behind : List HartTable) (t : Bool) → t ≡ settles did → t ≡ true
-    → new ≡ record old { events = old.events ++ settling (harts_in before) } → behind ≡ map freed_in before → SettlesFirst did old new before behind
-settled_first did old new before behind t is told state harts =
-    let first : settles did ≡ true = sym is ∙ told in
-    record {
-      state = state ∙ ap (λ (u : Bool). record old { events = old.events ++ cond u (settling (harts_in before)) [] }) (sym first);
-      harts = harts ∙ ap (λ (u : Bool). cond u (map freed_in before) before) (sym first);
-    }
-
-pub settled_none : (did : Did) (old new : LinkTable) (before behind : List HartTable) (t : Bool) → t ≡ settles did → t ≡ false → new ≡ old → behind ≡ before
-    → SettlesFirst did old new before behind
-settled_none did old new before behind t is told state harts =
-    let none : settles did ≡ false = sym is ∙ told in
-    record {
-      state = state ∙ ap (λ (es : List Event). record old { events = es }) (sym (append-nil old.events))
-          ∙ ap (λ (u : Bool). record old { events = old.events ++ cond u (settling (harts_in before)) [] }) (sym none);
-      harts = harts ∙ ap (λ (u : Bool). cond u (map freed_in before) before) (sym none);
-    }
-
 -- what the code asks of it
 pub record Ready (count : ℕ) (table : LinkTable) (h : ℕ) (plan : FinalPlan) (x : HartTable) (b : HartState) (t : Bool) : Type 0 where
   pub planned : IsPlanned (after table.events) plan

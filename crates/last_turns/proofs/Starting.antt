@@ -1,24 +1,18 @@
 -- How the final destructors begin.
 use Rattle.std.proofs.Common.{◌≡◌, ℕ, suc, ◌<◌, Bool, true, false, ◌&&◌, get_or, Option, IsTrue, List, [], ◌∷◌, ◌++◌, length, map, Some, None, refl, sym, ap, subst, ◌∙◌}
 use Rattle.std.specs.Prelude.{slice_set}
-use Rattle.std.specs.Bool.{OnFalse, OnTrue}
 use Rattle.std.specs.List.{list_all, slice_get}
 use Rattle.std.specs.Option.{is_some}
 use Rattle.std.proofs.lemmas.Bool.{and_parts, false≢true}
 use Rattle.std.proofs.lemmas.Option.{none-some}
 use Rattle.link_event.specs.declared.event.Event.TheVariants.{Ended}
-use Rattle.link_event.specs.declared.handed.HartEntry.{HartEntry}
 use Rattle.link_event.specs.declared.hart_end.HartEnd.TheVariants.{Memory}
-use Rattle.link_history.specs.After.{after}
 use Rattle.rv_hart.specs.declared.doubleword.Doubleword.{Doubleword}
 use Rattle.hart_moves.specs.Harts.{HartState}
-use Rattle.hart_moves.specs.Moves.{all_finis, ended, freed}
-use Rattle.hart_moves.specs.Starting.{finalising_hart, starting_registers}
-use Rattle.final_turns.specs.Begins.{StartsFinals}
+use Rattle.hart_moves.specs.Moves.{ended, freed}
 use Rattle.guest_worlds.specs.Laws.{FirstEndsNow, SettlesNow}
 use Rattle.guest_worlds.specs.Worlds.{IsAt, MayEndNow, world_of}
 use Rattle.hart_seat.specs.Table.{HartTable}
-use Rattle.link_service.specs.Lemmas.Unique.{both_found}
 use Rattle.link_state.specs.Table.{LinkTable}
 use Rattle.rv_hart.specs.Registers.{Registers}
 use Rattle.quiet_turns.specs.Lemmas.Places.{read_at, set_same, some_stands, written_at}
@@ -29,9 +23,9 @@ use Rattle.quiet_turns.specs.Ending.{EndsAmong}
 use Rattle.turn_answers.specs.Following.{MayFollowAll}
 use Rattle.world_ends.specs.Ends.{has_exited}
 use Rattle.world_turns.specs.Lemmas.Turning.{freed_length}
-use Rattle.world_turns.specs.Run.{Begins, exit_code, settled}
+use Rattle.world_turns.specs.Run.{exit_code, settled}
 use Rattle.world_turns.specs.World.{World, settling}
-use Rattle.last_turns.specs.Begins.{BeginsWith, IsBeforeFinals, LacksMemoryOn, begun_if}
+use Rattle.last_turns.specs.Begins.{BeginsWith, IsBeforeFinals, LacksMemoryOn}
 
 -- ---- each hart has ended by exit, also once it is settled
 
@@ -81,34 +75,6 @@ lacks count old harts b code at exited may ends = by old.harts refl
               left;
         }
 
--- the first hart is to run what comes first
-begins : (old : World) (entry : HartEntry) (code : ℕ) (harts : List HartState) (b c : HartState) → slice_get old.harts 0 ≡ Some b → exit_code b ≡ Some code
-    → StartsFinals (after old.journal) entry code b c → harts ≡ slice_set old.harts 0 c
-    → Begins (starting_registers entry) old (record old { harts = harts })
-begins old entry code harts b c at exited starts are = by old.harts refl
-  where
-    by : (hs : List HartState) → old.harts ≡ hs → Begins (starting_registers entry) old (record old { harts = harts })
-    by [] none = absurd (none-some b (subst (λ (hs : List HartState). slice_get hs 0 ≡ Some b) none at))
-    by (x ∷ rest) all =
-        let here : slice_get (x ∷ rest) 0 ≡ Some b = subst (λ (hs : List HartState). slice_get hs 0 ≡ Some b) all at in
-        let is : b ≡ x = cc in
-        let begun : StartsFinals (after old.journal) entry code x c = subst (λ (y : HartState). StartsFinals (after old.journal) entry code y c) is starts in
-        let left : harts ≡ finalising_hart (starting_registers entry) code (record { object = begun.object; addresses = begun.addresses }) x ∷ rest =
-        are ∙ ap (λ (hs : List HartState). slice_set hs 0 c) all ∙ ap (λ (y : HartState). y ∷ rest) begun.begun in
-        record {
-          first = x;
-          others = rest;
-          harts = all;
-          code = code;
-          exited = ap exit_code (sym is) ∙ exited;
-          object = begun.object;
-          rest = begun.rest;
-          next = begun.next;
-          addresses = begun.addresses;
-          are = begun.are;
-          begun = ap (λ (hs : List HartState). record old { harts = hs }) left;
-        }
-
 -- ---- as whoever keeps the parts has it
 
 harts_kept : (harts : List HartTable) (n : ℕ) (d x : HartTable) → n ≡ 0 → 0 < length harts → x.hart ≡ (get_or harts n d).hart → harts_in (slice_set harts n x) ≡ harts_in harts
@@ -131,30 +97,7 @@ first_may settles first state harts lt run over =
     in_length [] = refl
     in_length (x ∷ rest) = ap suc (in_length rest)
 
--- by whether an object is left
-pub begins_by : (state : LinkTable) (words : List Doubleword) (harts : List HartTable) (n : ℕ) (entry : HartEntry) (code : ℕ) (e d x : HartTable) (some : Bool) → n ≡ 0
-    → 0 < length harts → exit_code (get_or harts n e).hart ≡ Some code
-    → OnTrue some (StartsFinals (after state.events) entry code (get_or harts n d).hart x.hart) → OnFalse some (all_finis (after state.events) ≡ [])
-    → OnFalse some (x.hart ≡ (get_or harts n d).hart)
-    → BeginsWith state.harts (starting_registers entry) (world_of state words harts) (world_of state words (slice_set harts n x)) (begun_if some)
-begins_by state words harts n entry code e d x true same lt exited starts none stays =
-    begins (world_of state words harts) entry code (harts_in (slice_set harts n x)) (get_or harts n d).hart x.hart (read_at harts n 0 d same lt)
-    (subst (λ (b : HartState). exit_code b ≡ Some code)
-    (both_found (slice_get (harts_in harts) 0) (get_or harts n e).hart (get_or harts n d).hart (read_at harts n 0 e same lt) (read_at harts n 0 d same lt)) exited) starts
-    (written_at harts n 0 x x.hart same refl)
-begins_by state words harts n entry code e d x false same lt exited starts none stays =
-    (none, ap (λ (hs : List HartState). record { journal = state.events; words = words; harts = hs }) (harts_kept harts n d x same lt stays))
-
--- where there is no memory the run is where it was
-pub still_before : (state : LinkTable) (harts : List HartTable) (n : ℕ) (d x : HartTable) → n ≡ 0 → 0 < length harts → x.hart ≡ (get_or harts n d).hart
-    → IsBeforeFinals state harts → IsBeforeFinals state (slice_set harts n x)
-still_before state harts n d x same lt stays run =
-    (run.0, run.1, subst (λ (hs : List HartState). IsAt state.harts run.1 false (record { journal = state.events; words = run.0; harts = hs })) (sym (harts_kept harts n d x same lt stays)) run.2)
-
-pub still_exited : (harts : List HartTable) (n : ℕ) (d x : HartTable) → n ≡ 0 → 0 < length harts → x.hart ≡ (get_or harts n d).hart
-    → IsTrue (list_all has_exited (harts_in harts)) → IsTrue (list_all has_exited (harts_in (slice_set harts n x)))
-still_exited harts n d x same lt stays over = subst (λ (hs : List HartState). IsTrue (list_all has_exited hs)) (sym (harts_kept harts n d x same lt stays)) over
-
+-- the run is where it was, where there is no memory
 pub lacks_still : (state : LinkTable) (words : List Doubleword) (harts : List HartTable) (n : ℕ) (d x : HartTable) (new : World) (came : Beginning) → n ≡ 0 → 0 < length harts
     → x.hart ≡ (get_or harts n d).hart → came ≡ begins_as.Memory → LacksMemoryOn state.harts (world_of state words (slice_set harts n x)) new → (registers : Registers)
     → BeginsWith state.harts registers (world_of state words harts) new came
