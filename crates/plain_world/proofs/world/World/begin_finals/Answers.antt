@@ -31,7 +31,7 @@ returns-clause-begins c =
     (FinalsBegin c.self.inside.begun c.self.inside.entry c.self.inside.state c.begin.new.state c.as_mut_slice.result.now c.begin.new.harts)
     (BeginsToFinalise c.self.inside.begun (starting_registers c.self.inside.entry) (world_in c.self.inside) new)
     (λ begins. subst (λ (hs : List HartTable). BeginsToFinalise c.self.inside.begun (starting_registers c.self.inside.entry)
-      (world_of c.self.inside.state c.self.inside.memory hs) new) c.as_mut_slice.ensures.value (begins c.self.inside.memory))
+    (world_of c.self.inside.state c.self.inside.memory hs) new) c.as_mut_slice.ensures.value (begins c.self.inside.memory))
     c.begin.ensures.begins))
 
 pub returns-clause-other : goal.returns-clause-other
@@ -43,14 +43,14 @@ returns-clause-other c =
     let long : length c.begin.new.harts ≡ c.self.inside.harts.len = omega (arith, same, were, counted) in
     let kept : (with_items c.self.inside.harts c.begin.new.harts).items ≡ c.begin.new.harts = with_items_is c.self.inside.harts c.begin.new.harts long in
     subst (λ (hs : List HartTable). OnFalse c.begin.result ((w : Setting) → IsOn (machine_of c.args.self.now.count) w
-      → FinalisesOnce w c.args.self.now.begun (starting_registers c.args.self.now.entry) c.args.self.now.world
-      (world_of c.begin.new.state c.self.inside.memory hs))) (sym kept)
+    → FinalisesOnce w c.args.self.now.begun (starting_registers c.args.self.now.entry) c.args.self.now.world
+    (world_of c.begin.new.state c.self.inside.memory hs))) (sym kept)
     (subst (λ (t : WorldTable). OnFalse c.begin.result ((w : Setting) → IsOn (machine_of t.count) w
-      → FinalisesOnce w t.begun (starting_registers t.entry) t.world new)) c.self.view_is
+    → FinalisesOnce w t.begun (starting_registers t.entry) t.world new)) c.self.view_is
     (on_false c.begin.result
     (FinalsDont c.self.inside.begun c.self.inside.entry c.self.inside.state c.begin.new.state c.as_mut_slice.result.now c.begin.new.harts)
     ((w : Setting) → IsOn (machine_of c.self.inside.state.harts) w
-      → FinalisesOnce w c.self.inside.begun (starting_registers c.self.inside.entry) (world_in c.self.inside) new)
+    → FinalisesOnce w c.self.inside.begun (starting_registers c.self.inside.entry) (world_in c.self.inside) new)
     (λ none w on. subst (λ (hs : List HartTable). FinalisesOnce w c.self.inside.begun (starting_registers c.self.inside.entry)
-      (world_of c.self.inside.state c.self.inside.memory hs) new) c.as_mut_slice.ensures.value (none c.self.inside.memory w on))
+    (world_of c.self.inside.state c.self.inside.memory hs) new) c.as_mut_slice.ensures.value (none c.self.inside.memory w on))
     c.begin.ensures.other))

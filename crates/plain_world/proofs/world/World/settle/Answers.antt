@@ -27,13 +27,13 @@ invariant_of-self c =
     let kept : (with_items c.self.inside.harts c.settle_all.new.harts).items ≡ c.settle_all.new.harts =
     with_items_is c.self.inside.harts c.settle_all.new.harts long in
     record {
-  some = subst (λ (n : ℕ). 1 ≤ n) (sym (ap (λ (s : LinkTable). s.harts) c.settle_all.ensures.journal)) c.self.invariant.some;
-  at = subst (λ (hs : List HartTable). IsAt c.settle_all.new.state.harts c.self.inside.folders c.self.inside.begun
-      (world_of c.settle_all.new.state c.self.inside.memory hs)) (sym kept)
-      (settled_at c.self.inside.folders c.self.inside.begun c.self.inside.state c.settle_all.new.state c.self.inside.memory c.as_mut_slice.result.now
-      c.self.inside.harts.items c.settle_all.new.harts c.as_mut_slice.ensures.value c.settle_all.ensures.journal c.settle_all.ensures.harts
-      (c.guests_may_turn.ensures.settles c.self.inside.state.harts c.self.inside.folders c.self.inside.begun (world_in c.self.inside) c.self.invariant.at).at);
-}
+      some = subst (λ (n : ℕ). 1 ≤ n) (sym (ap (λ (s : LinkTable). s.harts) c.settle_all.ensures.journal)) c.self.invariant.some;
+      at = subst (λ (hs : List HartTable). IsAt c.settle_all.new.state.harts c.self.inside.folders c.self.inside.begun
+          (world_of c.settle_all.new.state c.self.inside.memory hs)) (sym kept)
+          (settled_at c.self.inside.folders c.self.inside.begun c.self.inside.state c.settle_all.new.state c.self.inside.memory c.as_mut_slice.result.now
+          c.self.inside.harts.items c.settle_all.new.harts c.as_mut_slice.ensures.value c.settle_all.ensures.journal c.settle_all.ensures.harts
+          (c.guests_may_turn.ensures.settles c.self.inside.state.harts c.self.inside.folders c.self.inside.begun (world_in c.self.inside) c.self.invariant.at).at);
+    }
 
 pub returns : goal.returns
 returns c =
