@@ -1,0 +1,16 @@
+-- What a run comes to.
+use Rattle.std.specs.Prelude.{false, List}
+use Rattle.link_event.specs.declared.handed.HartEntry.{HartEntry}
+use Rattle.link_history.specs.Setting.{Setting}
+use Rattle.link_served.specs.declared.startup.Setup.{Setup}
+use Rattle.hart_moves.specs.Starting.{starting_registers}
+use Rattle.schedules.specs.declared.schedule.TurnItem.{TurnItem}
+use Rattle.world_start.specs.Started.{StartsAt}
+use Rattle.world_turns.specs.Run.{Run}
+use Rattle.world_turns.specs.World.{World}
+use Rattle.plain_world.specs.Playing.{Plays}
+
+-- a run that starts, and is played by a schedule from there on, is a run by that schedule
+abbrev pub PlayedIsRun : Type 0
+PlayedIsRun = (w : Setting) (setup : Setup) (entry : HartEntry) (items : List TurnItem) (started world : World) → StartsAt w setup started entry
+    → Plays w false (starting_registers entry) items started world → Run w setup items world

@@ -1,0 +1,47 @@
+-- What comes of a run that has started, by a written schedule.
+use Rattle.std.specs.Prelude.{◌≡◌, Bool, true, false, List, ◌∷◌, None, IsTrue}
+use Rattle.std.specs.List.{list_all}
+use Rattle.rv_hart.specs.Registers.{Registers}
+use Rattle.link_history.specs.Setting.{Setting}
+use Rattle.schedules.specs.declared.schedule.TurnItem.{TurnItem}
+use Rattle.guest_worlds.specs.Coming.{HasEnd}
+use Rattle.hart_moves.specs.Harts.{HartState}
+use Rattle.world_turns.specs.Run.{Begins, Constructs, Finalises, Finishes, TakesItems, has_ended, have_exited, settled}
+use Rattle.world_turns.specs.World.{World}
+
+-- the final destructors run, where they haven't begun before
+pub data FinalisesOnce (w : Setting) (begun : Bool) (registers : Registers) (old new : World) : Type 0 where
+  for_once : begun ≡ false → Finalises w registers old new → FinalisesOnce w begun registers old new
+  no_more : begun ≡ true → new ≡ old → FinalisesOnce w begun registers old new
+
+-- what is left of startup's constructors, the items of the schedule, the harts in order until all have ended, the final destructors, and what is
+-- left to settle
+pub record Plays (w : Setting) (begun : Bool) (registers : Registers) (items : List TurnItem) (old new : World) : Type 0 where
+  pub constructed : World
+  pub constructs : Constructs w old constructed
+  pub scheduled : World
+  pub follows : TakesItems w items constructed scheduled
+  pub finished : World
+  pub finishes : Finishes w scheduled finished
+  pub finalised : World
+  pub finalises : FinalisesOnce w begun registers finished finalised
+  pub ends : new ≡ settled finalised
+
+-- ---- for the code of this crate alone
+
+-- each hart has ended by exit, and the first one begins with the destructors of what is left
+pub record BeginsToFinalise (begun : Bool) (registers : Registers) (old new : World) : Type 0 where
+  pub before : begun ≡ false
+  pub exited : IsTrue (have_exited old)
+  pub begins : Begins registers old new
+
+-- the first hart runs
+abbrev pub FirstRuns : World → Type 0
+FirstRuns world = HasEnd world 0 None
+
+-- each other hart has ended
+pub record OthersHaveEnded (world : World) : Type 0 where
+  pub first : HartState
+  pub others : List HartState
+  pub harts : world.harts ≡ first ∷ others
+  pub over : IsTrue (list_all has_ended others)

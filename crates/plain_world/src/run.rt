@@ -1,0 +1,158 @@
+//! A whole run by a written schedule.
+
+ghost use Rattle.std.specs.Prelude.{◌≡◌, ℕ, ◌<◌, ◌≤◌, true, false, Contains, IsTrue};
+ghost use Rattle.call_laws.specs.Coming.{IsOver};
+ghost use Rattle.hart_moves.specs.Starting.{starting_registers};
+ghost use Rattle.lawful_journal.specs.Following.{machine_of};
+ghost use Rattle.link_history.specs.Setting.{Setting};
+ghost use Rattle.plain_world.specs.Playing.{FinalisesOnce, FirstRuns, OthersHaveEnded, Plays};
+ghost use Rattle.plain_world.specs.Table.{moved};
+ghost use Rattle.schedules.specs.declared.schedule.TurnItem.{TurnItem as item_value};
+ghost use Rattle.world_turns.specs.Run.{Constructs, Ends, Finishes, Repeats, Rounds, TakesItems, all_harts, have_ended};
+ghost use Rattle.world_turns.specs.Turn.{Turn as one_turn};
+
+use crate::World;
+use guest_worlds::Turn;
+use ld_base::HartId;
+use library_source::Library;
+use schedules::{TurnItem, Turns};
+use std::alloc::Global;
+
+/// The number of the hart that runs startup's constructors and the final destructors.
+const FIRST_HART: u32 = 0;
+
+impl World {
+    /// Takes a run to its end by a schedule: what is left of startup's constructors, the items of the schedule,
+    /// the harts in order until all have ended, the final destructors, where they haven't begun before, and
+    /// what is left to settle.
+    pub fn run<L: Library>(&mut self, alloc: Global, turns: &Turns, library: &mut L)
+        requires { (item : item_value) → Contains turns.now item → item.hart < self.old.count }
+        ensures plays { (w : Setting) → IsOver (machine_of self.old.count) self.old.folders (L.files library.old) w
+            → Plays w self.old.begun (starting_registers self.old.entry) turns.now self.old.world self.new.world }
+        ensures rest { self.new ≡ record self.old { begun = true; world = self.new.world } }
+        ensures files { L.files library.new ≡ L.files library.old }
+        ensures faults { L.faults library.old ≤ L.faults library.new }
+        ensures misses { L.misses library.old ≤ L.misses library.new }
+    {
+        construct(self, alloc, library);
+        follow(self, alloc, turns.as_slice(), library);
+        finish(self, alloc, library);
+        finalise(self, alloc, library);
+        self.settle();
+    }
+}
+
+/// The first hart runs what is left of startup's constructors.
+fn construct<L: Library>(run: &mut World, alloc: Global, library: &mut L)
+    ensures constructs { (w : Setting) → IsOver (machine_of run.old.count) run.old.folders (L.files library.old) w → Constructs w run.old.world run.new.world }
+    ensures rest { run.new ≡ moved run.old run.new.world }
+    ensures files { L.files library.new ≡ L.files library.old }
+    ensures faults { L.faults library.old ≤ L.faults library.new }
+    ensures misses { L.misses library.old ≤ L.misses library.new }
+{
+    while run.is_starting() {
+        go_on(run, alloc, library);
+    }
+}
+
+/// A turn of the first hart, which hasn't ended.
+fn go_on<L: Library>(run: &mut World, alloc: Global, library: &mut L)
+    requires { FirstRuns run.old.world }
+    ensures turn { (w : Setting) → IsOver (machine_of run.old.count) run.old.folders (L.files library.old) w → one_turn w 0 run.old.world run.new.world }
+    ensures rest { run.new ≡ moved run.old run.new.world }
+    ensures files { L.files library.new ≡ L.files library.old }
+    ensures faults { L.faults library.old ≤ L.faults library.new }
+    ensures misses { L.misses library.old ≤ L.misses library.new }
+{
+    let _ = run.count();
+    let _ = run.turn(alloc, HartId::new(FIRST_HART), library);
+}
+
+/// The items of a schedule, one after another.
+fn follow<L: Library>(run: &mut World, alloc: Global, items: &[TurnItem], library: &mut L)
+    requires { (item : item_value) → Contains items.now item → item.hart < run.old.count }
+    ensures follows { (w : Setting) → IsOver (machine_of run.old.count) run.old.folders (L.files library.old) w
+        → TakesItems w items.now run.old.world run.new.world }
+    ensures rest { run.new ≡ moved run.old run.new.world }
+    ensures files { L.files library.new ≡ L.files library.old }
+    ensures faults { L.faults library.old ≤ L.faults library.new }
+    ensures misses { L.misses library.old ≤ L.misses library.new }
+{
+    for item in items {
+        repeat(run, alloc, *item, library);
+    }
+}
+
+/// A hart takes its next so many turns, or all that it has.
+fn repeat<L: Library>(run: &mut World, alloc: Global, item: TurnItem, library: &mut L)
+    requires { item.hart < run.old.count }
+    ensures repeats { (w : Setting) → IsOver (machine_of run.old.count) run.old.folders (L.files library.old) w
+        → Repeats w item.hart item.count run.old.world run.new.world }
+    ensures rest { run.new ≡ moved run.old run.new.world }
+    ensures files { L.files library.new ≡ L.files library.old }
+    ensures faults { L.faults library.old ≤ L.faults library.new }
+    ensures misses { L.misses library.old ≤ L.misses library.new }
+{
+    for _turn in 0..item.count {
+        if let Turn::Idle = run.turn(alloc, item.hart, library) {
+            return;
+        }
+    }
+}
+
+/// The harts in their order, again and again, until all have ended.
+fn finish<L: Library>(run: &mut World, alloc: Global, library: &mut L)
+    ensures finishes { (w : Setting) → IsOver (machine_of run.old.count) run.old.folders (L.files library.old) w → Finishes w run.old.world run.new.world }
+    ensures rest { run.new ≡ moved run.old run.new.world }
+    ensures over { IsTrue (have_ended run.new.world) }
+    ensures files { L.files library.new ≡ L.files library.old }
+    ensures faults { L.faults library.old ≤ L.faults library.new }
+    ensures misses { L.misses library.old ≤ L.misses library.new }
+{
+    while !run.have_ended() {
+        go_round(run, alloc, library);
+    }
+}
+
+/// A turn of each hart, in their order.
+fn go_round<L: Library>(run: &mut World, alloc: Global, library: &mut L)
+    ensures rounds { (w : Setting) → IsOver (machine_of run.old.count) run.old.folders (L.files library.old) w
+        → Rounds w (all_harts run.old.world) run.old.world run.new.world }
+    ensures rest { run.new ≡ moved run.old run.new.world }
+    ensures files { L.files library.new ≡ L.files library.old }
+    ensures faults { L.faults library.old ≤ L.faults library.new }
+    ensures misses { L.misses library.old ≤ L.misses library.new }
+{
+    for number in 0..run.count() {
+        let _ = run.turn(alloc, HartId::new(number), library);
+    }
+}
+
+/// The final destructors, where each hart has ended by exit and they haven't begun before.
+fn finalise<L: Library>(run: &mut World, alloc: Global, library: &mut L)
+    ensures finalises { (w : Setting) → IsOver (machine_of run.old.count) run.old.folders (L.files library.old) w
+        → FinalisesOnce w run.old.begun (starting_registers run.old.entry) run.old.world run.new.world }
+    ensures rest { run.new ≡ record run.old { begun = true; world = run.new.world } }
+    ensures files { L.files library.new ≡ L.files library.old }
+    ensures faults { L.faults library.old ≤ L.faults library.new }
+    ensures misses { L.misses library.old ≤ L.misses library.new }
+{
+    if run.begin_finals(alloc) {
+        run_finals(run, alloc, library);
+    }
+}
+
+/// The first hart runs the final destructors until it ends.
+fn run_finals<L: Library>(run: &mut World, alloc: Global, library: &mut L)
+    requires { OthersHaveEnded run.old.world }
+    ensures ends { (w : Setting) → IsOver (machine_of run.old.count) run.old.folders (L.files library.old) w → Ends w run.old.world run.new.world }
+    ensures rest { run.new ≡ moved run.old run.new.world }
+    ensures over { IsTrue (have_ended run.new.world) }
+    ensures files { L.files library.new ≡ L.files library.old }
+    ensures faults { L.faults library.old ≤ L.faults library.new }
+    ensures misses { L.misses library.old ≤ L.misses library.new }
+{
+    while !run.have_ended() {
+        go_on(run, alloc, library);
+    }
+}

@@ -1,0 +1,35 @@
+-- A run on one thread that starts.
+use Rattle.std.specs.Prelude.{◌≡◌, List, [], Some}
+use Rattle.std.specs.List.{slice_get}
+use Rattle.link_event.specs.declared.event.Event.{Event}
+use Rattle.link_event.specs.declared.handed.HartEntry.{HartEntry}
+use Rattle.link_history.specs.After.{after}
+use Rattle.link_history.specs.Legal.{Legal}
+use Rattle.link_history.specs.Setting.{Setting}
+use Rattle.link_history.specs.State.{start}
+use Rattle.link_served.specs.declared.installs.Installs.{Installs}
+use Rattle.link_served.specs.declared.startup.Setup.{Setup}
+use Rattle.rv_hart.specs.declared.doubleword.Doubleword.{Doubleword}
+use Rattle.turn_answers.specs.Changes.{AreReserved}
+use Rattle.world_turns.specs.Memory.{AreFresh, RemakesAll}
+use Rattle.world_turns.specs.Run.{IsStarted}
+use Rattle.world_turns.specs.World.{World}
+
+-- it starts at this world, and these are the first hart's starting registers
+pub record StartsAt (w : Setting) (setup : Setup) (world : World) (entry : HartEntry) : Type 0 where
+  pub starts : IsStarted w setup world
+  pub first : slice_get starts.started.entries 0 ≡ Some entry
+
+-- ---- for the code of this crate alone
+
+-- the memory that startup's events make
+pub record IsFirstMemory (events : List Event) (words : List Doubleword) : Type 0 where
+  pub fresh : List Doubleword
+  pub are_fresh : AreFresh fresh
+  pub remade : RemakesAll start events fresh words
+
+-- startup's events are legal, and bring this
+pub record BringsFirst (events : List Event) (installs : Installs) : Type 0 where
+  pub setting : Setting
+  pub legal : Legal setting events
+  pub reserved : AreReserved (after []) events installs
