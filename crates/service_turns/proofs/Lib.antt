@@ -1,0 +1,5 @@
+pub mod Answered
+pub mod Freed
+pub mod Moved
+pub mod Openings
+pub mod Worlds
