@@ -1,0 +1,4 @@
+pub mod Ended
+pub mod Own
+pub mod There
+pub mod Turns
