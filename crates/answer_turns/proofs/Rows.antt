@@ -1,5 +1,5 @@
 -- Turns of answered calls, and those in which an object's functions have run, as rows of the table.
-use Rattle.std.proofs.Common.{◌≡◌, ℕ, ◌+◌, ◌^◌, ◌≤◌, List, [], ◌∷◌, ◌++◌, length, drop, map, Some, None, refl, sym, ap, subst, ◌∙◌, append-nil, arith}
+use Rattle.std.proofs.Common.{◌≡◌, ℕ, ◌+◌, ◌^◌, ◌≤◌, true, false, List, [], ◌∷◌, ◌++◌, length, drop, map, Some, None, refl, sym, ap, subst, ◌∙◌, append-nil, arith}
 use Rattle.std.proofs.lemmas.List.{append_assoc, length-take}
 use Rattle.ld_base.specs.FaultText.{fault_text}
 use Rattle.ld_base.specs.declared.fault.DlFault.{DlFault}
@@ -42,7 +42,7 @@ use Rattle.turn_answers.specs.declared.answered.Answered.{Answered}
 use Rattle.turn_answers.specs.declared.answered.Answered.TheVariants as answered
 use Rattle.turn_answers.specs.declared.answered.MemoryChange.{MemoryChange}
 use Rattle.turn_answers.specs.declared.answered.MemoryChange.TheVariants as change
-use Rattle.answer_turns.specs.Answering.{WasAnswered}
+use Rattle.answer_turns.specs.Answering.{WasAnswered, runs_functions}
 use Rattle.answer_turns.specs.Completing.{MayPass}
 use Rattle.answer_turns.specs.Steps.{PassesFirst, ReturnsAs, TextFits, change_by, closing_of, hart_after, noted_with, opening_of, return_by, return_of}
 use Rattle.answer_turns.specs.declared.returning.CallReturn.{CallReturn}
@@ -378,6 +378,17 @@ module _ (table : LinkTable) (h : ℕ) (b : HartState) (came : Answered) (was : 
   was_fits apart =
       told_fits was.past was.answers.appended h table.made was.answers.call was.answers.answer came
       (texts_stand (machine_of table.harts) was.past lawful_past (apart (machine_of table.harts) was.past lawful_past) h) was.answers.answered
+
+-- where no functions are to run nothing is noted
+pub notes_none : (table : LinkTable) (b : HartState) (h : ℕ) (came : Answered) → runs_functions came ≡ false
+    → record table { events = table.events ++ noted_with b h came } ≡ table
+notes_none table b h (answered.Returns value does) kept = ap (λ (es : List Event). record table { events = es }) (append-nil table.events)
+notes_none table b h (answered.Loading root installs functions) kept = absurd (let e : true ≡ false = kept in cc)
+notes_none table b h (answered.Closing dying functions) kept = absurd (let e : true ≡ false = kept in cc)
+notes_none table b h (answered.Granted offered) kept = ap (λ (es : List Event). record table { events = es }) (append-nil table.events)
+notes_none table b h (answered.Told text message) kept = ap (λ (es : List Event). record table { events = es }) (append-nil table.events)
+notes_none table b h (answered.Again for) kept = ap (λ (es : List Event). record table { events = es }) (append-nil table.events)
+notes_none table b h (answered.Over reason) kept = ap (λ (es : List Event). record table { events = es }) (append-nil table.events)
 
 -- ---- an object whose functions have run, of the table
 

@@ -1,6 +1,6 @@
 //! What the linker's answer makes of a hart.
 
-ghost use Rattle.std.specs.Prelude.{◌≡◌, ◌<◌, ◌++◌, IsTrue, List, map};
+ghost use Rattle.std.specs.Prelude.{◌≡◌, ◌<◌, ◌++◌, false, IsTrue, List, map};
 ghost use Rattle.answer_turns.specs.Answering.{WasAnswered, runs_functions};
 ghost use Rattle.answer_turns.specs.Noting.{with_passed};
 ghost use Rattle.answer_turns.specs.Steps.{TextFits, change_by, hart_after, noted_with};
@@ -40,6 +40,8 @@ pub fn take_answer(
     requires answered { WasAnswered state.old id hart.old.hart came }
     ensures turn { (w : Setting) (past : List Event) → AnswersTurn w past state.old.events state.old.made id (due (after past) hart.old.hart) came
         → TakesService w past state.new.events state.new.made id (due (after past) hart.old.hart) hart.old.hart hart.new.hart result }
+    ensures noted { (noted : List Event) × (state.new.events ≡ state.old.events ++ noted) }
+    ensures kept { runs_functions came ≡ false → state.new ≡ state.old }
     ensures harts { state.new.harts ≡ state.old.harts }
     ensures made { state.new.made ≡ state.old.made }
 {

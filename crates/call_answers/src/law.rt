@@ -9,7 +9,7 @@ ghost use Rattle.link_history.specs.Owed.{ends_at_most, times_ended};
 ghost use Rattle.link_history.specs.Setting.{Setting};
 
 /// A hart that may end has ended less often than it may.
-pub(crate) fn ends_are_few()
+pub fn ends_are_few()
     ensures { (w : Setting) (events : List Event) (hart : ℕ) → Lawful w.machine events → MayEnd w (after events) hart
         → times_ended hart (after events).endings < ends_at_most hart }
 {}

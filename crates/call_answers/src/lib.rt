@@ -22,3 +22,4 @@ mod telling;
 mod writing;
 
 pub use answering::answer;
+pub use law::ends_are_few;

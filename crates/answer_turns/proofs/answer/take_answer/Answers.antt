@@ -1,6 +1,9 @@
+use Rattle.std.proofs.Common.{ap, ◌∙◌}
 use Rattle.link_history.specs.After.{after}
 use Rattle.hart_moves.specs.Due.{due}
-use Rattle.answer_turns.proofs.Rows.{answered_table, was_allowed, was_may, was_fits}
+use Rattle.link_state.specs.Table.{LinkTable}
+use Rattle.answer_turns.specs.Steps.{noted_with}
+use Rattle.answer_turns.proofs.Rows.{answered_table, notes_none, was_allowed, was_may, was_fits}
 use Rattle.answer_turns.proofs.answer.take_answer.Goals as goal
 
 pub apply-requires-clause-may : goal.apply-requires-clause-may
@@ -18,3 +21,9 @@ returns-clause-turn c = λ w past turn.
     (was_allowed c.args.state.now c.args.id c.args.hart.now.hart c.args.came c.requires.answered c.journal.ensures.lawful
     (record { begins = c.constructors_follow.ensures.begins; starts = c.constructors_follow.ensures.next; finishes = c.destructors_follow.ensures.next }) w)
     c.apply.ensures.state c.apply.ensures.hart c.apply.ensures.change
+
+pub returns-clause-noted : goal.returns-clause-noted
+returns-clause-noted c = (noted_with c.args.hart.now.hart c.args.id c.args.came, ap (λ (t : LinkTable). t.events) c.apply.ensures.state)
+
+pub returns-clause-kept : goal.returns-clause-kept
+returns-clause-kept c = λ none. c.apply.ensures.state ∙ notes_none c.args.state.now c.args.hart.now.hart c.args.id c.args.came none
