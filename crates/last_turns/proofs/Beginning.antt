@@ -13,7 +13,7 @@ use Rattle.link_history.specs.Setting.{Setting}
 use Rattle.rv_hart.specs.declared.doubleword.Doubleword.{Doubleword}
 use Rattle.hart_moves.specs.Harts.{HartState}
 use Rattle.hart_moves.specs.Moves.{ended, freed}
-use Rattle.hart_moves.specs.Starting.{starting_registers}
+use Rattle.hart_moves.specs.Starting.{finalising_hart, starting_registers}
 use Rattle.final_turns.specs.Begins.{StartsFinals}
 use Rattle.guest_worlds.specs.Laws.{FirstEndsNow, SettlesNow}
 use Rattle.guest_worlds.specs.Worlds.{IsAt, MayEndNow}
@@ -60,6 +60,8 @@ lacks count old harts b code at exited may ends = by old.harts refl
         let there : slice_get (x ∷ rest) 0 ≡ Some ends.before = subst (λ (hs : List HartState). slice_get hs 0 ≡ Some ends.before) are ends.there in
         let is : b ≡ x = cc in
         let was : ends.before ≡ x = cc in
+        let left : harts ≡ ended Memory x ∷ map freed rest =
+        ends.left ∙ ap (λ (hs : List HartState). slice_set (map freed hs) 0 (ended Memory ends.before)) are ∙ ap (λ (y : HartState). ended Memory y ∷ map freed rest) was in
         record {
           first = x;
           others = rest;
@@ -68,8 +70,7 @@ lacks count old harts b code at exited may ends = by old.harts refl
           exited = ap exit_code (sym is) ∙ exited;
           may = may.may w on;
           leaves = ap (λ (hs : List HartState). record { journal = (old.journal ++ settling old.harts) ++ Ended 0 Memory ∷ []; words = old.words; harts = hs })
-              (ends.left ∙ ap (λ (hs : List HartState). slice_set (map freed hs) 0 (ended Memory ends.before)) are
-              ∙ ap (λ (y : HartState). ended Memory y ∷ map freed rest) was);
+              left;
         }
 
 -- the first hart is to run what comes first
@@ -83,7 +84,9 @@ begins old entry code harts b c at exited starts are = by old.harts refl
     by (x ∷ rest) all =
         let here : slice_get (x ∷ rest) 0 ≡ Some b = subst (λ (hs : List HartState). slice_get hs 0 ≡ Some b) all at in
         let is : b ≡ x = cc in
-        let begun = subst (λ (y : HartState). StartsFinals (after old.journal) entry code y c) is starts in
+        let begun : StartsFinals (after old.journal) entry code x c = subst (λ (y : HartState). StartsFinals (after old.journal) entry code y c) is starts in
+        let left : harts ≡ finalising_hart (starting_registers entry) code (record { object = begun.object; addresses = begun.addresses }) x ∷ rest =
+        are ∙ ap (λ (hs : List HartState). slice_set hs 0 c) all ∙ ap (λ (y : HartState). y ∷ rest) begun.begun in
         record {
           first = x;
           others = rest;
@@ -95,6 +98,5 @@ begins old entry code harts b c at exited starts are = by old.harts refl
           next = begun.next;
           addresses = begun.addresses;
           are = begun.are;
-          begun = ap (λ (hs : List HartState). record old { harts = hs })
-              (are ∙ ap (λ (hs : List HartState). slice_set hs 0 c) all ∙ ap (λ (y : HartState). y ∷ rest) begun.begun);
+          begun = ap (λ (hs : List HartState). record old { harts = hs }) left;
         }

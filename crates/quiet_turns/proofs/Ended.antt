@@ -1,5 +1,5 @@
 -- A hart ends: that is its turn.
-use Rattle.std.proofs.Common.{◌≡◌, ℕ, Bool, List, [], ◌∷◌, ◌++◌, map, Some, None, refl, sym, ap, subst, ◌∙◌}
+use Rattle.std.proofs.Common.{◌≡◌, ℕ, ◌<◌, length, Bool, List, [], ◌∷◌, ◌++◌, map, Some, None, refl, sym, ap, subst, ◌∙◌}
 use Rattle.std.specs.Prelude.{slice_set}
 use Rattle.std.specs.List.{slice_get}
 use Rattle.link_event.specs.declared.event.Event.{Event}
@@ -7,13 +7,16 @@ use Rattle.link_event.specs.declared.event.Event.TheVariants.{Ended}
 use Rattle.link_event.specs.declared.hart_end.HartEnd.{HartEnd}
 use Rattle.link_history.specs.After.{after}
 use Rattle.link_history.specs.Allowed.{MayEnd}
+use Rattle.link_history.specs.Owed.{ends_at_most, times_ended}
 use Rattle.link_service.specs.Lemmas.Unique.{both_found}
 use Rattle.rv_hart.specs.declared.doubleword.Doubleword.{Doubleword}
 use Rattle.hart_moves.specs.Harts.{HartState, Resolving}
 use Rattle.hart_moves.specs.Moves.{Did, ended, freed, settled_resolving}
 use Rattle.hart_seat.specs.Table.{HartTable}
 use Rattle.guest_worlds.specs.Laws.{EndsNow, ServiceTurns, SettlesNow}
-use Rattle.guest_worlds.specs.Worlds.{MayEndNow}
+use Rattle.guest_worlds.specs.Worlds.{MayEndNow, setting_without}
+use Rattle.lawful_journal.specs.Following.{MayFollow}
+use Rattle.link_state.specs.Table.{LinkTable}
 use Rattle.settled_harts.specs.Settling.{freed_in, harts_in}
 use Rattle.turn_answers.specs.Following.{MayFollowAll}
 use Rattle.turn_parts.specs.Leaving.{AllStay, OthersLeave}
@@ -23,7 +26,7 @@ use Rattle.world_turns.specs.Turn.{Turn}
 use Rattle.world_turns.specs.World.{World, settling}
 use Rattle.quiet_turns.specs.Ending.{EndsAmong, Stops}
 use Rattle.quiet_turns.specs.Laws.{EndsAreTurns, EndsMayCome}
-use Rattle.quiet_turns.specs.Lemmas.Places.{freed_are, freed_put, settling_stays}
+use Rattle.quiet_turns.specs.Lemmas.Places.{freed_are, freed_put, settling_stays, some_stands}
 
 -- ---- the harts
 
@@ -40,17 +43,29 @@ ended_freed reason b = ap (λ (r : Resolving). record b { resolving = r; «end»
 was_there : (harts : List HartState) (h : ℕ) (x b : HartState) → slice_get (map freed harts) h ≡ Some x → slice_get harts h ≡ Some b → x ≡ freed b
 was_there harts h x b freed_at at = both_found (slice_get (map freed harts) h) x (freed b) freed_at (freed_here harts h b at)
 
-pub ends_among : (old between : List HartTable) (new : List HartState) (h : ℕ) (b : HartState) (reason : HartEnd) → slice_get (harts_in old) h ≡ Some b
-    → between ≡ map freed_in old → Stops (harts_in between) new h reason → EndsAmong (harts_in old) new h reason
-ends_among old between new h b reason at settled_all x =
+pub ends_among : (old between new : List HartTable) (h : ℕ) (reason : HartEnd) → h < length old
+    → between ≡ map freed_in old → Stops (harts_in between) (harts_in new) h reason → EndsAmong (harts_in old) (harts_in new) h reason
+ends_among old between new h reason lt settled_all x =
+    let b = some_stands old h lt in
     let are : harts_in between ≡ map freed (harts_in old) = ap harts_in settled_all ∙ freed_are old in
-    let was : x.before ≡ freed b = was_there (harts_in old) h x.before b (subst (λ (hs : List HartState). slice_get hs h ≡ Some x.before) are x.there) at in
+    let was : x.before ≡ freed b.0 = was_there (harts_in old) h x.before b.0 (subst (λ (hs : List HartState). slice_get hs h ≡ Some x.before) are x.there) b.1 in
     record {
-      before = b;
-      there = at;
+      before = b.0;
+      there = b.1;
       left = x.left ∙ ap (λ (hs : List HartState). slice_set hs h (ended reason x.before)) are
-          ∙ ap (λ (y : HartState). slice_set (map freed (harts_in old)) h y) (ap (ended reason) was ∙ ended_freed reason b);
+          ∙ ap (λ (y : HartState). slice_set (map freed (harts_in old)) h y) (ap (λ (y : HartState). ended reason y) was ∙ ended_freed reason b.0);
     }
+
+-- the linker's state may note it
+pub record MayNote (table : LinkTable) (h : ℕ) (reason : HartEnd) : Type 0 where
+  pub hart : h < table.harts
+  pub times : times_ended h (after table.events).endings < ends_at_most h
+  pub may : MayFollow table.harts table.events (Ended h reason)
+
+pub ends_in : (old between : LinkTable) (harts : List HartTable) (h : ℕ) (reason : HartEnd) → between ≡ record old { events = old.events ++ settling (harts_in harts) }
+    → MayEndNow old.harts (old.events ++ settling (harts_in harts)) h → MayNote between h reason
+ends_in old between harts h reason is may = subst (λ (t : LinkTable). MayNote t h reason) (sym is)
+    (record { hart = may.hart; times = may.times; may = record { setting = setting_without old.harts [] []; machine = refl; may = may.may (setting_without old.harts [] []) refl } })
 
 -- ---- its turn
 

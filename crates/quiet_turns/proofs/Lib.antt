@@ -1,3 +1,4 @@
+pub mod Arms
 pub mod Ended
 pub mod Own
 pub mod There

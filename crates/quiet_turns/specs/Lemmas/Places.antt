@@ -1,5 +1,5 @@
 -- One hart of a list is put in the place of another.
-use Rattle.std.proofs.Common.{◌≡◌, ℕ, zero, suc, ◌<◌, List, [], ◌∷◌, ◌++◌, Some, get_or, length, map, refl, sym, ap, ◌∙◌, arith}
+use Rattle.std.proofs.Common.{◌≡◌, ℕ, zero, suc, ◌<◌, List, [], ◌∷◌, ◌++◌, Some, get_or, length, map, refl, sym, ap, subst, ◌∙◌, arith}
 use Rattle.std.specs.Prelude.{slice_set}
 use Rattle.std.specs.List.{slice_get}
 use Rattle.std.proofs.lemmas.Option.{none-some}
@@ -17,6 +17,11 @@ stands [] i d lt = absurd (omega (arith, lt))
 stands (x ∷ rest) zero d lt = refl
 stands (x ∷ rest) (suc i) d lt = stands rest i d (omega (arith, lt))
 
+pub some_stands : (harts : List HartTable) (i : ℕ) → i < length harts → (b : HartState) × (slice_get (harts_in harts) i ≡ Some b)
+some_stands [] i lt = absurd (omega (arith, lt))
+some_stands (x ∷ rest) zero lt = (x.hart, refl)
+some_stands (x ∷ rest) (suc i) lt = some_stands rest i (omega (arith, lt))
+
 pub put_in : (harts : List HartTable) (i : ℕ) (x : HartTable) → harts_in (slice_set harts i x) ≡ slice_set (harts_in harts) i x.hart
 put_in [] i x = refl
 put_in (y ∷ rest) zero x = refl
@@ -25,6 +30,17 @@ put_in (y ∷ rest) (suc i) x = ap (λ (hs : List HartState). y.hart ∷ hs) (pu
 pub freed_are : (harts : List HartTable) → harts_in (map freed_in harts) ≡ map freed (harts_in harts)
 freed_are [] = refl
 freed_are (x ∷ rest) = ap (λ (hs : List HartState). freed x.hart ∷ hs) (freed_are rest)
+
+-- what is read at a place, and what is written there
+pub read_at : (harts : List HartTable) (n h : ℕ) (x : HartTable) → n ≡ h → h < length harts → x ≡ get_or harts n x → slice_get (harts_in harts) h ≡ Some x.hart
+read_at harts n h x same lt is =
+    subst (λ (k : ℕ). slice_get (harts_in harts) k ≡ Some x.hart) same
+    (stands harts n x (subst (λ (k : ℕ). k < length harts) (sym same) lt) ∙ ap (λ (y : HartTable). Some y.hart) (sym is))
+
+pub written_at : (harts : List HartTable) (n h : ℕ) (x : HartTable) (c : HartState) → n ≡ h → x.hart ≡ c
+    → harts_in (slice_set harts n x) ≡ slice_set (harts_in harts) h c
+written_at harts n h x c same is =
+    put_in harts n x ∙ ap (λ (k : ℕ). slice_set (harts_in harts) k x.hart) same ∙ ap (λ (y : HartState). slice_set (harts_in harts) h y) is
 
 -- ---- one that stands there already
 
