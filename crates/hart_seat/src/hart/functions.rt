@@ -52,7 +52,7 @@ impl LinkedHart {
     pub fn is_starting(&self) -> bool
         ensures { result ≡ list_any is_startup_frame self.now.hart.frames }
     {
-        self.frames.iter().any(|queue| is_of_startup(queue))
+        has_startup(self.frames.as_slice())
     }
 
     /// The next function of an object is entered.
@@ -118,6 +118,13 @@ impl LinkedHart {
             Purpose::End(code) => self.end = Some(HartEnd::Exit(*code)),
         }
     }
+}
+
+/// Whether some functions are those of startup.
+fn has_startup(frames: &[FunctionQueue]) -> bool
+    ensures { result ≡ list_any is_startup_frame frames.now }
+{
+    frames.iter().any(|queue| is_of_startup(queue))
 }
 
 /// Whether functions are those of startup.
