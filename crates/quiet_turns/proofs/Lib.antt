@@ -1,0 +1,5 @@
+pub mod Arms
+pub mod Ended
+pub mod Own
+pub mod There
+pub mod Turns

@@ -1,0 +1,12 @@
+use Rattle.hart_moves.specs.Moves.{ended}
+use Rattle.quiet_turns.specs.Lemmas.Places.{read_at, written_at}
+use Rattle.quiet_turns.proofs.ending.stop.Goals as goal
+
+pub returns : goal.returns
+returns c =
+    let hart = c.index-harts-number.result in
+    record {
+      before = hart.hart;
+      there = read_at c.args.harts.now c.number.result c.args.id hart c.number.ensures c.requires c.index-harts-number.is;
+      left = written_at c.args.harts.now c.number.result c.args.id c.stop.new.self (ended c.args.reason.now hart.hart) c.number.ensures c.stop.ensures;
+    }

@@ -1,0 +1,2 @@
+-- Lemmas on lists of harts that proofs of the crates above cite, too. They define nothing that a contract means.
+pub mod Places

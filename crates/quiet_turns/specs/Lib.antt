@@ -1,0 +1,5 @@
+pub mod Alone
+pub mod Asking
+pub mod Ending
+pub mod Laws
+pub mod Lemmas
