@@ -7,3 +7,4 @@ pub mod End
 pub mod Ends
 pub mod Outside
 pub mod Status
+pub mod Turns

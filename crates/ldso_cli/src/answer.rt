@@ -7,7 +7,7 @@ ghost use Rattle.ldso_cli.specs.End.{bare};
 ghost use Rattle.ldso_cli.specs.Status.{asm_refused_text, asm_word, refused_text, status_of_fault};
 ghost use Rattle.ldso_cli.specs.declared.outcome.Cause.TheVariants.{AsmRefused, Done, Refused};
 
-use crate::outcome::{Cause, End, status_of_fault};
+use crate::outcome::{Cause, End, refused_line};
 use ld_base::{AsmCause, Bytes, DlFault};
 use std::alloc::{AllocError, Global};
 
@@ -46,8 +46,7 @@ pub(crate) fn refused(alloc: Global, fault: DlFault) -> Result<Answer, AllocErro
     ensures end { IfOk result (λ answer. answer.end ≡ bare (Refused fault)) }
     ensures text { IfOk result (λ answer. answer.text ≡ refused_text fault) }
 {
-    let status = status_of_fault(&fault);
-    let text = format!(in alloc; "end {status} {fault}\n")?;
+    let text = refused_line(alloc, &fault)?;
     Ok(Answer {
         end: End::bare(Cause::Refused(fault)),
         text: Bytes::from(text.into_bytes()),

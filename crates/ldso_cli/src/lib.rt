@@ -12,6 +12,7 @@ mod dump;
 mod law;
 mod outcome;
 mod top;
+mod turns;
 
 pub use law::{one_answer, one_end, one_text};
 pub use outcome::{Cause, End, Outcome};

@@ -14,6 +14,7 @@ use crate::asm::asm;
 use crate::bind::bind;
 use crate::dump::dump;
 use crate::outcome::{Cause, End, Outcome};
+use crate::turns::turns;
 use command_line::{Command, words_are_one_command};
 use command_read::{WordsFault, read_command};
 use library_source::{Library, Sink, WriteError, put_all};
@@ -38,8 +39,9 @@ fn answer<L: Library>(
         Ok(Command::Bind(command)) => bind(alloc, command, library),
         Ok(Command::Dump(path)) => dump(alloc, path, library),
         Ok(Command::Assemble(path)) => asm(alloc, path, library),
+        Ok(Command::Turns(command)) => turns(alloc, command, library),
         // These aren't built yet.
-        Ok(Command::Turns(_) | Command::Run(_) | Command::Generate(_)) => usage(alloc),
+        Ok(Command::Run(_) | Command::Generate(_)) => usage(alloc),
         Err(WordsFault::Usage) => usage(alloc),
         Err(WordsFault::Memory) => Err(AllocError),
     }
