@@ -19,13 +19,14 @@ pub fn guests_may_turn()
     ensures passes { PassesNow }
     ensures finals { FinalsNow }
 {
-    running_worlds::turns_meet_premises();
+    accepted_image::accepted_object();
     running_worlds::runs_go_on();
+    running_worlds::turns_meet_premises();
     turn_parts::settling_may_come();
-    turn_parts::freed_harts_move();
     turn_writes::turns_keep_writes();
     turn_writes::worlds_keep_writes();
-    world_ends::ends_fit();
+    world_frames::finals_may_pass();
+    call_answers::ends_are_few();
     final_turns::finals_go_on();
 }
 
@@ -36,6 +37,7 @@ pub fn runs_stay()
     ensures begins { FinalsBeginAt }
     ensures lacks { FinalsLackAt }
 {
+    accepted_image::accepted_object();
     running_worlds::runs_go_on();
     turn_writes::worlds_keep_writes();
     world_ends::ends_fit();

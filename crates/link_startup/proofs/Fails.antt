@@ -28,7 +28,7 @@ use Rattle.opening_plan.specs.declared.planning.Unopened.TheVariants as unopened
 use Rattle.start_parts.specs.Harts.{IsLacking}
 use Rattle.start_parts.specs.declared.harts.Unstarted.{Unstarted}
 use Rattle.start_parts.specs.declared.harts.Unstarted.TheVariants as unstarted
-use Rattle.link_startup.specs.Startup.{FailsAs, IsNotStarted, IsOfNoFile, IsUnstarted, PlansStart, StartsWhole, fault_in, fault_of, refusal_in, refusal_of}
+use Rattle.link_startup.specs.Startup.{FailsAs, IsNotStarted, IsOfNoFile, IsUnstarted, PlansStart, StartsWhole, refusal_of_start, refusal_unstarted, start_refusal, startup_refusal}
 use Rattle.link_startup.proofs.First.{may_open, may_refuse}
 
 -- ---- a hart lacks a place to start
@@ -71,7 +71,7 @@ refused_so setup files ask old new fault none asked refuses is =
 -- ---- what the counts show
 
 pub counts_as_told : (Are : List ℕ → List (List ℕ) → Type 0) {X : Type 0} (failures failures' misses misses' : ℕ) (r : Result X Unstarted) → IfErr r IsOfNoFile
-    → ShowsInCounts Are (refusal_of r) failures failures' misses misses'
+    → ShowsInCounts Are (start_refusal r) failures failures' misses misses'
 counts_as_told Are failures failures' misses misses' (Ok x) free = counts_none Are failures failures' misses misses'
 counts_as_told Are failures failures' misses misses' (Err (unstarted.Refused fault)) free = counts_without Are failures failures' misses misses' (unopened.Refused fault) free
 counts_as_told Are failures failures' misses misses' (Err unstarted.Memory) free = counts_none Are failures failures' misses misses'
@@ -85,15 +85,15 @@ not_started w setup events (unstarted.Refused fault) starts.Memory same is = tt
 not_started w setup events unstarted.Memory (starts.Refused other journal) same is = absurd same
 not_started w setup events unstarted.Memory starts.Memory same is = tt
 
-pub same_fault : (events : List Event) (why : Unstarted) (fault : StartFault) → FailsAs events why fault → fault_in why ≡ fault_of fault
+pub same_fault : (events : List Event) (why : Unstarted) (fault : StartFault) → FailsAs events why fault → refusal_unstarted why ≡ refusal_of_start fault
 same_fault events (unstarted.Refused fault) (starts.Refused other journal) same = ap (λ (f : DlFault). Some f) (sym same.0)
 same_fault events (unstarted.Refused fault) starts.Memory same = absurd same
 same_fault events unstarted.Memory (starts.Refused other journal) same = absurd same
 same_fault events unstarted.Memory starts.Memory same = refl
 
--- only a read that failed stops a run that may start
+-- only a read that failed stops a run that can start
 pub whole_so : {X : Type 0} → StartsUnlessReadsFail → (setup : Setup) (files : Option (List File)) (failures failures' : ℕ) (r : Result X StartFault)
-    → IfErr r (IsNotStarted (run_of setup files) setup) → FaultsShow (refusal_in r) failures failures' → StartsWhole setup files failures failures' r
+    → IfErr r (IsNotStarted (run_of setup files) setup) → FaultsShow (startup_refusal r) failures failures' → StartsWhole setup files failures failures' r
 whole_so law setup files failures failures' (Ok run) not shows = λ told is none may. tt
 whole_so law setup files failures failures' (Err (starts.Refused fault journal)) not shows = λ told is none may.
     none (law (run_of setup files) setup told may.root may.added may.ranges may.found journal.events may.addresses fault failures failures' is may.opens may.finds not shows)

@@ -2,3 +2,4 @@ pub mod Brought
 pub mod Fails
 pub mod First
 pub mod Opened
+pub mod Stacks

@@ -1,5 +1,5 @@
 -- A run whose program is opened: what it has loaded, and how its harts start.
-use Rattle.std.proofs.Common.{◌≡◌, ◌≢◌, ℕ, suc, ◌+◌, ◌<◌, ◌^◌, List, [], ◌∷◌, ◌++◌, map, length, false, Option, Some, get_or, refl, sym, ap, subst, ◌∙◌, arith}
+use Rattle.std.proofs.Common.{◌≡◌, ◌≢◌, ℕ, suc, ◌+◌, ◌<◌, List, [], ◌∷◌, ◌++◌, map, length, false, Option, Some, get_or, refl, sym, ap, subst, ◌∙◌, arith}
 use Rattle.std.specs.List.{slice_get}
 use Rattle.std.proofs.lemmas.Option.{slice_get-get_or}
 use Rattle.call_laws.specs.Laws.{AreNumberedFrom}
@@ -88,12 +88,11 @@ found_are : (w : Setting) (past : List Event) (hart : ℕ) (names : List (List �
 found_are w past hart names found addresses (FindHarts.no_more p h) = refl
 found_are w past hart names found addresses (FindHarts.one_more p h name rest serial index value events more finds further) = ap suc (found_are w _ (h + 1) rest events more further)
 
-pub few_start : (w : Setting) (past events : List Event) (names : List (List ℕ)) (starts : List ℕ) (harts : ℕ) → FoundAll past names starts events → harts ≡ length names + 1 → harts < 2 ^ 32
-    → length starts < 2 ^ 32
-few_start w past events names starts harts all are few =
+pub all_start : (w : Setting) (past events : List Event) (names : List (List ℕ)) (starts : List ℕ) → FoundAll past names starts events → length starts ≡ length names + 1
+all_start w past events names starts all =
     let further = found_are w past 1 names all.further.found all.addresses (all.further.finds w) in
     let count : length starts ≡ suc (length all.addresses) = ap length all.first in
-    omega (arith, further, count, are, few)
+    omega (arith, further, count)
 
 -- ---- the program is brought
 

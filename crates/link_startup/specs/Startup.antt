@@ -26,13 +26,13 @@ IsNotStarted w setup (starts.Refused fault journal) = FailsToStart w setup fault
 IsNotStarted w setup starts.Memory = Unit {0}
 
 -- which refusal it is, if it is one
-abbrev pub fault_of : StartFault → Option DlFault
-fault_of (starts.Refused fault journal) = Some fault
-fault_of starts.Memory = None
+abbrev pub refusal_of_start : StartFault → Option DlFault
+refusal_of_start (starts.Refused fault journal) = Some fault
+refusal_of_start starts.Memory = None
 
-abbrev pub refusal_in : {X : Type 0} → Result X StartFault → Option DlFault
-refusal_in (Ok run) = None
-refusal_in (Err why) = fault_of why
+abbrev pub startup_refusal : {X : Type 0} → Result X StartFault → Option DlFault
+startup_refusal (Ok run) = None
+startup_refusal (Err why) = refusal_of_start why
 
 -- it starts, or memory is wanted
 abbrev pub StartsOr : {X : Type 0} → Result X StartFault → Type 0
@@ -41,7 +41,7 @@ StartsOr (Err (starts.Refused fault journal)) = ⊥
 StartsOr (Err starts.Memory) = Unit {0}
 
 -- the program opens, and the harts' names are found
-pub record MayStart (w : Setting) (setup : Setup) : Type 0 where
+pub record CanStart (w : Setting) (setup : Setup) : Type 0 where
   pub root : ℕ
   pub added : List Loaded
   pub ranges : List Range
@@ -50,10 +50,10 @@ pub record MayStart (w : Setting) (setup : Setup) : Type 0 where
   pub opens : Allowed w [] (opening setup root added ranges)
   pub finds : FindHarts w (opening setup root added ranges ∷ []) 1 setup.harts found addresses
 
--- where the library tells its files and no read failed, a run that may start over them starts
+-- where the library tells its files and no read failed, a run that can start over them starts, or memory is wanted
 abbrev pub StartsWhole : {X : Type 0} → Setup → Option (List File) → ℕ → ℕ → Result X StartFault → Type 0
 StartsWhole setup files failures failures' result =
-    (told : List File) → files ≡ Some told → ¬ (Rises failures failures') → MayStart (run_of setup files) setup → StartsOr result
+    (told : List File) → files ≡ Some told → ¬ (Rises failures failures') → CanStart (run_of setup files) setup → StartsOr result
 
 -- ---- for the code of this crate alone
 
@@ -61,13 +61,13 @@ StartsWhole setup files failures failures' result =
 abbrev pub PlansStart : Setup → Option (List File) → NewObjects → Type 0
 PlansStart setup files news = PlansNew (run_of setup files) (after []) 0 (program_ask setup) setup.program 0 news
 
-abbrev pub fault_in : Unstarted → Option DlFault
-fault_in (unstarted.Refused fault) = Some fault
-fault_in unstarted.Memory = None
+abbrev pub refusal_unstarted : Unstarted → Option DlFault
+refusal_unstarted (unstarted.Refused fault) = Some fault
+refusal_unstarted unstarted.Memory = None
 
-abbrev pub refusal_of : {X : Type 0} → Result X Unstarted → Option DlFault
-refusal_of (Ok started) = None
-refusal_of (Err why) = fault_in why
+abbrev pub start_refusal : {X : Type 0} → Result X Unstarted → Option DlFault
+start_refusal (Ok started) = None
+start_refusal (Err why) = refusal_unstarted why
 
 -- the first refusal is noted, with the events up to it
 abbrev pub IsUnstarted : Setting → Setup → List Event → Unstarted → Type 0

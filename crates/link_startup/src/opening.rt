@@ -4,6 +4,7 @@ ghost use Rattle.std.specs.Prelude.{◌≡◌, [], false, IfErr, IfOk, List, OnO
 ghost use Rattle.ld_base.specs.declared.linking.File.{File};
 ghost use Rattle.link_history.specs.After.{after};
 ghost use Rattle.link_history.specs.Objects.{is_startup};
+ghost use Rattle.link_service.specs.Served.{InstallsNothing};
 ghost use Rattle.link_service.specs.Startup.{Starts, harts_of, program_ask};
 ghost use Rattle.link_startup.specs.Startup.{IsOfNoFile, IsUnstarted, PlansStart};
 ghost use Rattle.opening_plan.specs.Startup.{run_of};
@@ -36,6 +37,7 @@ pub(crate) fn open_program(
 ) -> Result<Started, Unstarted>
     requires first { state.old.events ≡ [] }
     requires harts { state.old.harts ≡ harts_of setup.now }
+    requires made { InstallsNothing state.old.made }
     requires ask { ask ≡ program_ask setup.now }
     requires planned { (files : Option (List File)) × PlansStart setup.now files news }
     ensures starts { (files : Option (List File)) → PlansStart setup.now files news → IfOk result (Starts (run_of setup.now files) setup.now state.new.events) }
@@ -43,6 +45,7 @@ pub(crate) fn open_program(
         → IfErr result (IsUnstarted (run_of setup.now files) setup.now state.new.events) }
     ensures no_file { IfErr result IsOfNoFile }
     ensures harts { state.new.harts ≡ state.old.harts }
+    ensures made { OnOk result (InstallsNothing state.new.made) }
     ensures started { OnOk result (is_startup (after state.new.events) ≡ false) }
 {
     nothing_comes_before_startup();

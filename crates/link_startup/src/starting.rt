@@ -8,11 +8,11 @@ ghost use Rattle.link_event.specs.declared.event.Event.TheVariants.{Open};
 ghost use Rattle.link_event.specs.declared.event.OpenAnswer.TheVariants.{Refused};
 ghost use Rattle.link_history.specs.After.{after};
 ghost use Rattle.link_history.specs.Objects.{is_startup};
+ghost use Rattle.link_service.specs.Served.{InstallsNothing};
 ghost use Rattle.link_service.specs.Startup.{Starts, harts_of, program_ask};
-ghost use Rattle.link_startup.specs.Startup.{FailsAs, IsNotStarted, IsUnstarted, StartsWhole, fault_of, refusal_in, refusal_of};
+ghost use Rattle.link_startup.specs.Startup.{FailsAs, IsNotStarted, IsUnstarted, StartsWhole, start_refusal, startup_refusal};
 ghost use Rattle.link_state.specs.Table.{appended};
-ghost use Rattle.opening_plan.specs.Planned.{IsUnopened, PlansNew};
-ghost use Rattle.opening_plan.specs.Planned.{refusal_in as refusal_planned};
+ghost use Rattle.opening_plan.specs.Planned.{IsUnopened, PlansNew, refusal_in};
 ghost use Rattle.opening_plan.specs.Startup.{run_of};
 ghost use Rattle.opening_plan.specs.declared.planning.Unopened.TheVariants.{Wait};
 
@@ -36,8 +36,12 @@ const NOW_AND_GLOBAL: u64 = 0x102;
 const FIRST_HART: u32 = 0;
 
 /// Starts a run: opens its program with all that it needs, and looks the names of the harts after the first
-/// up, in a new state. What memory gets, the constructors that the first hart is to run before any other turn,
-/// the program's DT_PREINIT_ARRAY before them, and the registers with which each hart starts.
+/// up, in a new state. It gives what memory gets, the constructors that the first hart is to run before any
+/// other turn, the program's DT_PREINIT_ARRAY before them, and the registers with which each hart starts.
+///
+/// Nothing but a failed read or want of memory stops a run that can start: where the library tells its files,
+/// its counts show no failed read, and over these files the program opens and each name is found in executable
+/// words, the run starts, or memory is wanted.
 ///
 /// # Errors
 ///
@@ -52,12 +56,13 @@ pub fn startup<L: Library>(
     ensures starts { IfOk result (λ run. Starts (run_of setup.now (L.files library.old)) setup.now run.0.events run.1) }
     ensures refused { IfErr result (IsNotStarted (run_of setup.now (L.files library.old)) setup.now) }
     ensures whole { StartsWhole setup.now (L.files library.old) (L.faults library.old) (L.faults library.new) result }
-    ensures counts { ShowsInCounts (ArePathsAtStart setup.now.folders setup.now.program) (refusal_in result)
+    ensures counts { ShowsInCounts (ArePathsAtStart setup.now.folders setup.now.program) (startup_refusal result)
         (L.faults library.old) (L.faults library.new) (L.misses library.old) (L.misses library.new) }
     ensures files { L.files library.new ≡ L.files library.old }
     ensures faults { L.faults library.old ≤ L.faults library.new }
     ensures misses { L.misses library.old ≤ L.misses library.new }
     ensures harts { IfOk result (λ run. run.0.harts ≡ harts_of setup.now) }
+    ensures made { IfOk result (λ run. InstallsNothing run.0.made) }
     ensures started { IfOk result (λ run. is_startup (after run.0.events) ≡ false) }
 {
     only_failed_reads_stop();
@@ -94,14 +99,16 @@ fn start<L: Library>(
 ) -> Result<Started, Unstarted>
     requires first { state.old.events ≡ [] }
     requires harts { state.old.harts ≡ harts_of setup.now }
+    requires made { InstallsNothing state.old.made }
     ensures starts { IfOk result (Starts (run_of setup.now (L.files library.old)) setup.now state.new.events) }
     ensures fails { IfErr result (IsUnstarted (run_of setup.now (L.files library.old)) setup.now state.new.events) }
-    ensures counts { ShowsInCounts (ArePathsAtStart setup.now.folders setup.now.program) (refusal_of result)
+    ensures counts { ShowsInCounts (ArePathsAtStart setup.now.folders setup.now.program) (start_refusal result)
         (L.faults library.old) (L.faults library.new) (L.misses library.old) (L.misses library.new) }
     ensures files { L.files library.new ≡ L.files library.old }
     ensures faults { L.faults library.old ≤ L.faults library.new }
     ensures misses { L.misses library.old ≤ L.misses library.new }
     ensures harts { state.new.harts ≡ state.old.harts }
+    ensures made { OnOk result (InstallsNothing state.new.made) }
     ensures started { OnOk result (is_startup (after state.new.events) ≡ false) }
 {
     let ask = program_ask(alloc, setup)?;
@@ -154,7 +161,7 @@ fn plan_startup<L: Library>(
     ensures planned { IfOk result (PlansNew (run_of setup.now (L.files library.old)) (after []) 0 ask.now setup.now.program 0) }
     ensures unopened { IfErr result (IsUnopened (run_of setup.now (L.files library.old)) (after []) 0 ask.now) }
     ensures alone { IfErr result (λ why. (shown : Shown) → why ≢ Wait shown) }
-    ensures counts { ShowsInCounts (ArePathsAtStart setup.now.folders setup.now.program) (refusal_planned result)
+    ensures counts { ShowsInCounts (ArePathsAtStart setup.now.folders setup.now.program) (refusal_in result)
         (L.faults library.old) (L.faults library.new) (L.misses library.old) (L.misses library.new) }
     ensures files { L.files library.new ≡ L.files library.old }
     ensures faults { L.faults library.old ≤ L.faults library.new }

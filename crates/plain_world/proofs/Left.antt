@@ -3,7 +3,7 @@ use Rattle.std.proofs.Common.{◌≡◌, ◌⊎◌, inl, inr, ⊎_elim, ℕ, zer
 use Rattle.std.specs.Prelude.{nat_lt, if◌then◌else◌, slice_set}
 use Rattle.std.specs.List.{list_all, range_with_len, slice_get}
 use Rattle.std.specs.Option.{is_some}
-use Rattle.std.proofs.lemmas.Bool.{cases_Bool}
+use Rattle.std.proofs.lemmas.Bool.{ltb-true}
 use Rattle.std.proofs.lemmas.Option.{none-some, slice_get_within}
 use Rattle.link_event.specs.declared.event.Event.{Event}
 use Rattle.link_event.specs.declared.hart_end.HartEnd.{HartEnd}
@@ -95,7 +95,7 @@ module _ (w : Setting) (past : List Event) (h : ℕ) (b c : HartState) (did : Di
     where
       at : (t : Bool) → nat_lt b.turns b.fuel ≡ t → hart_left c < hart_left b
       at true lt = ⊎_elim
-          (λ (more : c.turns ≡ b.turns + 1). counts_less (omega (arith, lt)) (turns_count w past h b c did moves).0 more)
+          (λ (more : c.turns ≡ b.turns + 1). counts_less (ltb-true b.turns b.fuel lt) (turns_count w past h b c did moves).0 more)
           (λ (out : RunsOut b c). ends_less ends.FuelOut out.ends)
           (turns_count w past h b c did moves).1
       at false out =
@@ -202,6 +202,9 @@ over_in world from (suc count) (suc i) over lt =
     let next : (from + 1) + i ≡ from + suc i = omega arith in
     subst (IsOverAt world) next (over_in world (from + 1) count i over.1 (omega (arith, lt)))
 
+over_at : (world : World) (count h : ℕ) → AreOverAt world (range_with_len 0 count) → h < count → IsOverAt world h
+over_at world count h over lt = let same : 0 + h ≡ h = omega arith in subst (IsOverAt world) same (over_in world 0 count h over lt)
+
 same_hart : (harts : List HartState) (h : ℕ) (b c : HartState) → slice_get harts h ≡ Some b → slice_get harts h ≡ Some c → b ≡ c
 same_hart harts h b c at there = let same : Some b ≡ Some c = sym at ∙ there in cc
 
@@ -210,6 +213,6 @@ round_less w old new runs rounds = ⊎_elim
     (λ (less : left new < left old). less)
     (λ (x : ArePassedOver (all_harts old) old new). absurd (true≢false
       (sym (all_pass has_ended old.harts (λ h b at.
-        let here = over_in old 0 (length old.harts) h x.over (slice_get_within old.harts h b at) in
+        let here = over_at old (length old.harts) h x.over (slice_get_within old.harts h b at) in
         ap has_ended (same_hart old.harts h b here.0 at here.1) ∙ here.2)) ∙ runs)))
     (rounds_less w (all_harts old) old new rounds)

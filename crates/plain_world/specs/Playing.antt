@@ -1,13 +1,21 @@
 -- What comes of a run that has started, by a written schedule.
-use Rattle.std.specs.Prelude.{◌≡◌, Bool, true, false, List, ◌∷◌, None, IsTrue}
+use Rattle.std.specs.Prelude.{◌≡◌, Bool, true, false, List, ◌∷◌, Option, None, IsTrue}
 use Rattle.std.specs.List.{list_all}
+use Rattle.ld_base.specs.declared.linking.File.{File}
 use Rattle.rv_hart.specs.Registers.{Registers}
 use Rattle.link_history.specs.Setting.{Setting}
+use Rattle.lawful_journal.specs.Following.{machine_of}
+use Rattle.call_laws.specs.Coming.{IsOver}
 use Rattle.schedules.specs.declared.schedule.TurnItem.{TurnItem}
 use Rattle.guest_worlds.specs.Coming.{HasEnd}
 use Rattle.hart_moves.specs.Harts.{HartState}
 use Rattle.world_turns.specs.Run.{Begins, Constructs, Finalises, Finishes, TakesItems, has_ended, have_exited, settled}
 use Rattle.world_turns.specs.World.{World}
+use Rattle.plain_world.specs.Table.{WorldTable}
+
+-- in each run that this may be: of so many harts, with these folders, and over the files as the library tells them
+abbrev pub InEachRun : WorldTable → Option (List File) → (Setting → Type 0) → Type 0
+InEachRun run files Holds = (w : Setting) → IsOver (machine_of run.count) run.folders files w → Holds w
 
 -- the final destructors run, where they haven't begun before
 pub data FinalisesOnce (w : Setting) (begun : Bool) (registers : Registers) (old new : World) : Type 0 where

@@ -1,11 +1,8 @@
 //! A whole run by a written schedule.
 
-ghost use Rattle.std.specs.Prelude.{◌≡◌, ℕ, ◌<◌, ◌≤◌, true, false, Contains, IsTrue};
-ghost use Rattle.call_laws.specs.Coming.{IsOver};
+ghost use Rattle.std.specs.Prelude.{◌≡◌, ◌<◌, ◌≤◌, true, Contains, IsTrue};
 ghost use Rattle.hart_moves.specs.Starting.{starting_registers};
-ghost use Rattle.lawful_journal.specs.Following.{machine_of};
-ghost use Rattle.link_history.specs.Setting.{Setting};
-ghost use Rattle.plain_world.specs.Playing.{FinalisesOnce, FirstRuns, OthersHaveEnded, Plays};
+ghost use Rattle.plain_world.specs.Playing.{FinalisesOnce, FirstRuns, InEachRun, OthersHaveEnded, Plays};
 ghost use Rattle.plain_world.specs.Table.{moved};
 ghost use Rattle.schedules.specs.declared.schedule.TurnItem.{TurnItem as item_value};
 ghost use Rattle.world_turns.specs.Run.{Constructs, Ends, Finishes, Repeats, Rounds, TakesItems, all_harts, have_ended};
@@ -27,8 +24,9 @@ impl World {
     /// what is left to settle.
     pub fn run<L: Library>(&mut self, alloc: Global, turns: &Turns, library: &mut L)
         requires { (item : item_value) → Contains turns.now item → item.hart < self.old.count }
-        ensures plays { (w : Setting) → IsOver (machine_of self.old.count) self.old.folders (L.files library.old) w
-            → Plays w self.old.begun (starting_registers self.old.entry) turns.now self.old.world self.new.world }
+        ensures plays { InEachRun self.old (L.files library.old)
+            (λ w. Plays w self.old.begun (starting_registers self.old.entry) turns.now self.old.world self.new.world) }
+        ensures over { IsTrue (have_ended self.new.world) }
         ensures rest { self.new ≡ record self.old { begun = true; world = self.new.world } }
         ensures files { L.files library.new ≡ L.files library.old }
         ensures faults { L.faults library.old ≤ L.faults library.new }
@@ -44,7 +42,7 @@ impl World {
 
 /// The first hart runs what is left of startup's constructors.
 fn construct<L: Library>(run: &mut World, alloc: Global, library: &mut L)
-    ensures constructs { (w : Setting) → IsOver (machine_of run.old.count) run.old.folders (L.files library.old) w → Constructs w run.old.world run.new.world }
+    ensures constructs { InEachRun run.old (L.files library.old) (λ w. Constructs w run.old.world run.new.world) }
     ensures rest { run.new ≡ moved run.old run.new.world }
     ensures files { L.files library.new ≡ L.files library.old }
     ensures faults { L.faults library.old ≤ L.faults library.new }
@@ -58,7 +56,7 @@ fn construct<L: Library>(run: &mut World, alloc: Global, library: &mut L)
 /// A turn of the first hart, which hasn't ended.
 fn go_on<L: Library>(run: &mut World, alloc: Global, library: &mut L)
     requires { FirstRuns run.old.world }
-    ensures turn { (w : Setting) → IsOver (machine_of run.old.count) run.old.folders (L.files library.old) w → one_turn w 0 run.old.world run.new.world }
+    ensures turn { InEachRun run.old (L.files library.old) (λ w. one_turn w 0 run.old.world run.new.world) }
     ensures rest { run.new ≡ moved run.old run.new.world }
     ensures files { L.files library.new ≡ L.files library.old }
     ensures faults { L.faults library.old ≤ L.faults library.new }
@@ -71,8 +69,7 @@ fn go_on<L: Library>(run: &mut World, alloc: Global, library: &mut L)
 /// The items of a schedule, one after another.
 fn follow<L: Library>(run: &mut World, alloc: Global, items: &[TurnItem], library: &mut L)
     requires { (item : item_value) → Contains items.now item → item.hart < run.old.count }
-    ensures follows { (w : Setting) → IsOver (machine_of run.old.count) run.old.folders (L.files library.old) w
-        → TakesItems w items.now run.old.world run.new.world }
+    ensures follows { InEachRun run.old (L.files library.old) (λ w. TakesItems w items.now run.old.world run.new.world) }
     ensures rest { run.new ≡ moved run.old run.new.world }
     ensures files { L.files library.new ≡ L.files library.old }
     ensures faults { L.faults library.old ≤ L.faults library.new }
@@ -86,8 +83,7 @@ fn follow<L: Library>(run: &mut World, alloc: Global, items: &[TurnItem], librar
 /// A hart takes its next so many turns, or all that it has.
 fn repeat<L: Library>(run: &mut World, alloc: Global, item: TurnItem, library: &mut L)
     requires { item.hart < run.old.count }
-    ensures repeats { (w : Setting) → IsOver (machine_of run.old.count) run.old.folders (L.files library.old) w
-        → Repeats w item.hart item.count run.old.world run.new.world }
+    ensures repeats { InEachRun run.old (L.files library.old) (λ w. Repeats w item.hart item.count run.old.world run.new.world) }
     ensures rest { run.new ≡ moved run.old run.new.world }
     ensures files { L.files library.new ≡ L.files library.old }
     ensures faults { L.faults library.old ≤ L.faults library.new }
@@ -102,7 +98,7 @@ fn repeat<L: Library>(run: &mut World, alloc: Global, item: TurnItem, library: &
 
 /// The harts in their order, again and again, until all have ended.
 fn finish<L: Library>(run: &mut World, alloc: Global, library: &mut L)
-    ensures finishes { (w : Setting) → IsOver (machine_of run.old.count) run.old.folders (L.files library.old) w → Finishes w run.old.world run.new.world }
+    ensures finishes { InEachRun run.old (L.files library.old) (λ w. Finishes w run.old.world run.new.world) }
     ensures rest { run.new ≡ moved run.old run.new.world }
     ensures over { IsTrue (have_ended run.new.world) }
     ensures files { L.files library.new ≡ L.files library.old }
@@ -116,8 +112,7 @@ fn finish<L: Library>(run: &mut World, alloc: Global, library: &mut L)
 
 /// A turn of each hart, in their order.
 fn go_round<L: Library>(run: &mut World, alloc: Global, library: &mut L)
-    ensures rounds { (w : Setting) → IsOver (machine_of run.old.count) run.old.folders (L.files library.old) w
-        → Rounds w (all_harts run.old.world) run.old.world run.new.world }
+    ensures rounds { InEachRun run.old (L.files library.old) (λ w. Rounds w (all_harts run.old.world) run.old.world run.new.world) }
     ensures rest { run.new ≡ moved run.old run.new.world }
     ensures files { L.files library.new ≡ L.files library.old }
     ensures faults { L.faults library.old ≤ L.faults library.new }
@@ -130,8 +125,10 @@ fn go_round<L: Library>(run: &mut World, alloc: Global, library: &mut L)
 
 /// The final destructors, where each hart has ended by exit and they haven't begun before.
 fn finalise<L: Library>(run: &mut World, alloc: Global, library: &mut L)
-    ensures finalises { (w : Setting) → IsOver (machine_of run.old.count) run.old.folders (L.files library.old) w
-        → FinalisesOnce w run.old.begun (starting_registers run.old.entry) run.old.world run.new.world }
+    requires { IsTrue (have_ended run.old.world) }
+    ensures finalises { InEachRun run.old (L.files library.old)
+        (λ w. FinalisesOnce w run.old.begun (starting_registers run.old.entry) run.old.world run.new.world) }
+    ensures over { IsTrue (have_ended run.new.world) }
     ensures rest { run.new ≡ record run.old { begun = true; world = run.new.world } }
     ensures files { L.files library.new ≡ L.files library.old }
     ensures faults { L.faults library.old ≤ L.faults library.new }
@@ -145,7 +142,7 @@ fn finalise<L: Library>(run: &mut World, alloc: Global, library: &mut L)
 /// The first hart runs the final destructors until it ends.
 fn run_finals<L: Library>(run: &mut World, alloc: Global, library: &mut L)
     requires { OthersHaveEnded run.old.world }
-    ensures ends { (w : Setting) → IsOver (machine_of run.old.count) run.old.folders (L.files library.old) w → Ends w run.old.world run.new.world }
+    ensures ends { InEachRun run.old (L.files library.old) (λ w. Ends w run.old.world run.new.world) }
     ensures rest { run.new ≡ moved run.old run.new.world }
     ensures over { IsTrue (have_ended run.new.world) }
     ensures files { L.files library.new ≡ L.files library.old }

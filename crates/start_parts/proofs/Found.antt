@@ -4,8 +4,10 @@ use Rattle.std.specs.Prelude.{◌==◌, IsSome}
 use Rattle.std.specs.List.{Contains}
 use Rattle.std.specs.Option.{is_some, option_map_or}
 use Rattle.ld_base.specs.declared.fault.DlFault.{DlFault}
+use Rattle.ld_base.specs.declared.fault.Shown.{Shown}
 use Rattle.link_event.specs.declared.event.Event.{Event}
 use Rattle.link_event.specs.declared.event.Event.TheVariants as events
+use Rattle.link_event.specs.declared.event.SymAnswer.{SymAnswer}
 use Rattle.link_event.specs.declared.event.SymAnswer.TheVariants as symbols
 use Rattle.link_event.specs.declared.event.SymAsk.{SymAsk}
 use Rattle.link_event.specs.declared.state.Module.{Module}
@@ -16,9 +18,12 @@ use Rattle.link_history.specs.Lookup.{MayHaveBlock}
 use Rattle.link_history.specs.Setting.{Setting}
 use Rattle.link_history.specs.State.{State}
 use Rattle.link_history.specs.Storage.{late_block, module_of, tls_block, tp_of}
-use Rattle.link_service.specs.Answer.{Answer, returns, refused, again, over}
-use Rattle.link_service.specs.Call.{Call, looks_up, locates}
+use Rattle.link_served.specs.declared.installs.Installs.{Installs}
+use Rattle.link_service.specs.Answer.{Answer, returns, loading, closing, refused, granted, told, again, over}
+use Rattle.link_service.specs.Call.{Call, opens, looks_up, unmaps, locates}
 use Rattle.link_service.specs.Gives.{Answers, FindsFirst, Gives}
+use Rattle.link_service.specs.Served.{InstallsNothing, Makes}
+use Rattle.link_service.specs.Waiting.{Shows}
 
 abbrev pub AreStatic : State → Type 0
 AreStatic s = (m : Module) → Contains s.modules m → is_some m.offset ≡ true
@@ -83,3 +88,43 @@ refused_so w past h call given answer ask fault (Gives.in_new_block number offse
 refused_so w past h call given answer ask fault (Gives.in_block number offset block has) is gives = absurd (let d : locates number offset ≡ looks_up ask = is in cc)
 refused_so w past h call given answer ask fault (Gives.to_again c for shows) is gives = absurd (let d : again for ≡ refused fault = gives in cc)
 refused_so w past h call given answer ask fault (Gives.to_end c reason ends) is gives = absurd (let d : over reason ≡ refused fault = gives in cc)
+
+-- ---- what no look-up gives
+
+-- it loads and closes nothing, and never waits
+abbrev pub IsOfLookUp : Answer → Type 0
+IsOfLookUp (returns value) = Unit {0}
+IsOfLookUp (loading root added) = ⊥
+IsOfLookUp (closing set) = ⊥
+IsOfLookUp (refused fault) = Unit {0}
+IsOfLookUp (granted grant) = ⊥
+IsOfLookUp (told fault) = ⊥
+IsOfLookUp (again for) = ⊥
+IsOfLookUp (over reason) = Unit {0}
+
+event_of_look_up : (h : ℕ) (call : Call) (e : Event) (answer : Answer) (ask : SymAsk) → Answers h call e answer → call ≡ looks_up ask → IsOfLookUp answer
+event_of_look_up h call e answer ask (Answers.is_found a serial index v) is = tt
+event_of_look_up h call e answer ask (Answers.is_not_found a f) is = tt
+event_of_look_up h call e answer ask _ is = absurd cc
+
+never_waits : (w : Setting) (s : State) (h : ℕ) (call : Call) (for : Shown) (ask : SymAsk) → Shows w s h call for → call ≡ looks_up ask → ⊥
+never_waits w s h call for ask (Shows.by_load a f waits) is = absurd (let d : opens a ≡ looks_up ask = is in cc)
+never_waits w s h call for ask (Shows.by_grant set number done held) is = absurd (let d : unmaps set ≡ looks_up ask = is in cc)
+
+pub gives_look_up : (w : Setting) (past : List Event) (h : ℕ) (call : Call) (given : List Event) (answer : Answer) (ask : SymAsk)
+    → Gives w past h call given answer → call ≡ looks_up ask → IsOfLookUp answer
+gives_look_up w past h call given answer ask (Gives.by_event c e a answers may) is = event_of_look_up h c e a ask answers is
+gives_look_up w past h call given answer ask (Gives.by_first_block a e f v finds) is = tt
+gives_look_up w past h call given answer ask (Gives.in_new_block number offset block e gets) is = tt
+gives_look_up w past h call given answer ask (Gives.in_block number offset block has) is = tt
+gives_look_up w past h call given answer ask (Gives.to_again c for shows) is = never_waits w (after past) h c for ask shows is
+gives_look_up w past h call given answer ask (Gives.to_end c reason ends) is = tt
+
+-- ---- what it makes
+
+-- the event of a name that is found makes no block
+pub found_makes_none : (s : State) (h : ℕ) (ask : SymAsk) (answer : SymAnswer) (given : List Event) (made : Installs)
+    → given ≡ events.Sym h ask answer ∷ [] → Makes s given made → InstallsNothing made
+found_makes_none s h ask answer given made is (Makes.a_block hart serial address rest m installed) = absurd cc
+found_makes_none s h ask answer given made is (Makes.no_block hart a other m nothing) = nothing
+found_makes_none s h ask answer given made is (Makes.no_event m nothing) = nothing

@@ -10,20 +10,21 @@ use Rattle.link_event.specs.declared.event.Event.{Event}
 use Rattle.link_event.specs.declared.event.Event.TheVariants.{Sym}
 use Rattle.link_event.specs.declared.event.SymAnswer.TheVariants as symbols
 use Rattle.link_history.specs.After.{after}
-use Rattle.link_history.specs.Allowed.{Allowed}
 use Rattle.link_history.specs.Lemmas.History.{after_push}
 use Rattle.link_history.specs.Setting.{Setting}
 use Rattle.link_history.specs.State.{State}
+use Rattle.link_served.specs.declared.served.Served.{Served}
 use Rattle.link_served.specs.declared.served.Served.TheVariants as served
-use Rattle.link_service.specs.Answer.{returns, refused}
+use Rattle.link_service.specs.Answer.{returns, loading, closing, refused, again}
 use Rattle.link_service.specs.Call.{dlsym_in, looks_up}
+use Rattle.link_service.specs.Served.{InstallsNothing}
 use Rattle.link_service.specs.Startup.{FindHarts, FindsStart, LacksHart, found_at, hart_ask, is_executable, program_entry}
 use Rattle.link_state.specs.Table.{LinkTable}
-use Rattle.start_parts.specs.Harts.{FoundAll, IsLackingAt, IsLackingFrom, LacksFrom, StartsAt}
+use Rattle.start_parts.specs.Harts.{FoundAll, IsFoundAt, IsLackingAt, IsLackingFrom, LacksFrom, NameComesTo, StartsAt}
 use Rattle.start_parts.specs.Loaded.{HasLoaded}
 use Rattle.start_parts.specs.declared.harts.Unstarted.{Unstarted}
 use Rattle.start_parts.specs.declared.harts.Unstarted.TheVariants as unstarted
-use Rattle.start_parts.proofs.Found.{AreStatic, found_so, refused_so}
+use Rattle.start_parts.proofs.Found.{AreStatic, found_makes_none, found_so, gives_look_up, refused_so}
 
 -- some run on a machine of so many harts: which look-ups may be answered how is the same in each
 some_run : ℕ → Setting
@@ -31,14 +32,7 @@ some_run harts = record { machine = machine_of harts; folders = []; preload = []
 
 -- ---- one name
 
--- the name is found at this address, whether or not a hart can start there
-pub record IsFoundAt (past : List Event) (hart : ℕ) (name : List ℕ) (value : ℕ) (events : List Event) : Type 0 where
-  pub serial : ℕ
-  pub index : ℕ
-  pub are : events ≡ past ++ found_at hart name serial index value ∷ []
-  pub may : (w : Setting) → Allowed w past (found_at hart name serial index value)
-
-pub found_one : (old new : LinkTable) (hart : ℕ) (name bytes : List ℕ) (value : ℕ) → AreStatic (after old.events) → bytes ≡ name
+found_one : (old new : LinkTable) (hart : ℕ) (name bytes : List ℕ) (value : ℕ) → AreStatic (after old.events) → bytes ≡ name
     → LooksUpIn old hart (dlsym_in 0 0 bytes) (served.Done value) new → IsFoundAt old.events hart name value new.events
 unfolding some_run
 found_one old new hart name bytes value static is looked =
@@ -51,8 +45,8 @@ found_one old new hart name bytes value static is looked =
       may = λ w. so.3;
     }
 
-pub refused_one : (old new : LinkTable) (hart : ℕ) (program name bytes : List ℕ) (fault : DlFault) → bytes ≡ name
-    → LooksUpIn old hart (dlsym_in 0 0 bytes) (served.Refused fault) new → IsLackingAt old.events hart program name (unstarted.Refused fault) new.events
+refused_one : (old new : LinkTable) (hart : ℕ) (program name bytes : List ℕ) (fault : DlFault) → bytes ≡ name
+    → LooksUpIn old hart (dlsym_in 0 0 bytes) (served.Refused fault) new → LacksFrom old.events hart program (name ∷ []) fault new.events
 unfolding some_run
 refused_one old new hart program name bytes fault is looked =
     let so = refused_so (some_run old.harts) old.events hart (dlsym_in 0 0 bytes) looked.given (refused fault) (hart_ask name) fault
@@ -62,6 +56,36 @@ refused_one old new hart program name bytes fault is looked =
       are = looked.are ∙ ap (λ (es : List Event). old.events ++ es) so.0;
       lacks = λ w. LacksHart.is_refused old.events hart name [] fault so.1;
     }
+
+-- a look-up comes to nothing else
+pub looked_so : (old new : LinkTable) (hart : ℕ) (name bytes : List ℕ) (came : Served) → AreStatic (after old.events) → bytes ≡ name
+    → LooksUpIn old hart (dlsym_in 0 0 bytes) came new → NameComesTo old.events hart name came new.events
+unfolding some_run
+looked_so old new hart name bytes (served.Done value) static is looked = found_one old new hart name bytes value static is looked
+looked_so old new hart name bytes (served.Opened root installs functions) static is looked =
+    let opened = looked.served (some_run old.harts) refl in
+    gives_look_up (some_run old.harts) old.events hart (dlsym_in 0 0 bytes) looked.given (loading root opened.added) (hart_ask bytes) opened.gives refl
+looked_so old new hart name bytes (served.Closing dying functions) static is looked =
+    let closed = looked.served (some_run old.harts) refl in
+    gives_look_up (some_run old.harts) old.events hart (dlsym_in 0 0 bytes) looked.given (closing dying.list) (hart_ask bytes) closed.gives refl
+looked_so old new hart name bytes (served.Refused fault) static is looked = λ program. refused_one old new hart program name bytes fault is looked
+looked_so old new hart name bytes (served.Again for) static is looked =
+    gives_look_up (some_run old.harts) old.events hart (dlsym_in 0 0 bytes) looked.given (again for) (hart_ask bytes) (looked.served (some_run old.harts) refl) refl
+looked_so old new hart name bytes served.Memory static is looked = tt
+
+-- and makes no block, since each is static
+pub makes_none : (old new : LinkTable) (hart : ℕ) (bytes : List ℕ) (came : Served) → AreStatic (after old.events)
+    → LooksUpIn old hart (dlsym_in 0 0 bytes) came new → InstallsNothing old.made → InstallsNothing new.made
+unfolding some_run
+makes_none old new hart bytes (served.Done value) static looked none =
+    let so = found_so (some_run old.harts) old.events hart (dlsym_in 0 0 bytes) looked.given (returns value) (hart_ask bytes) value static
+    (looked.served (some_run old.harts) refl) refl refl in
+    found_makes_none (after new.events) hart (hart_ask bytes) (symbols.Found so.0 so.1 value) looked.given new.made so.2 looked.made_by
+makes_none old new hart bytes (served.Opened root installs functions) static looked none = subst InstallsNothing (sym looked.made_by) none
+makes_none old new hart bytes (served.Closing dying functions) static looked none = subst InstallsNothing (sym looked.made_by) none
+makes_none old new hart bytes (served.Refused fault) static looked none = subst InstallsNothing (sym looked.made_by) none
+makes_none old new hart bytes (served.Again for) static looked none = subst InstallsNothing (sym looked.made_by) none
+makes_none old new hart bytes served.Memory static looked none = subst InstallsNothing (sym looked.made_by) none
 
 module _ (past : List Event) (hart : ℕ) (name : List ℕ) (value : ℕ) (events : List Event) (found : IsFoundAt past hart name value events) where
   pub same_then : after events ≡ after past

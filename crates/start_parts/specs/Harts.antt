@@ -3,7 +3,10 @@ use Rattle.std.specs.Prelude.{◌≡◌, ℕ, List, [], ◌∷◌, ◌++◌}
 use Rattle.ld_base.specs.declared.fault.DlFault.{DlFault}
 use Rattle.link_event.specs.declared.event.Event.{Event}
 use Rattle.link_history.specs.After.{after}
+use Rattle.link_history.specs.Allowed.{Allowed}
 use Rattle.link_history.specs.Setting.{Setting}
+use Rattle.link_served.specs.declared.served.Served.{Served}
+use Rattle.link_served.specs.declared.served.Served.TheVariants as served
 use Rattle.link_service.specs.Startup.{FindHarts, FindsStart, LacksHart, found_at, program_entry}
 use Rattle.start_parts.specs.declared.harts.Unstarted.{Unstarted}
 use Rattle.start_parts.specs.declared.harts.Unstarted.TheVariants as unstarted
@@ -44,3 +47,21 @@ IsLacking past program names why events = IsLackingFrom past 1 program names why
 
 abbrev pub IsLackingAt : List Event → ℕ → List ℕ → List ℕ → Unstarted → List Event → Type 0
 IsLackingAt past hart program name why events = IsLackingFrom past hart program (name ∷ []) why events
+
+-- ---- for the code of this crate alone
+
+-- the hart's name is found at this address, whether or not a hart can start there
+pub record IsFoundAt (past : List Event) (hart : ℕ) (name : List ℕ) (value : ℕ) (events : List Event) : Type 0 where
+  pub serial : ℕ
+  pub index : ℕ
+  pub are : events ≡ past ++ found_at hart name serial index value ∷ []
+  pub may : (w : Setting) → Allowed w past (found_at hart name serial index value)
+
+-- what the look-up of a hart's name comes to: an address, a refusal whichever the program is, or memory is wanted, and nothing else
+abbrev pub NameComesTo : List Event → ℕ → List ℕ → Served → List Event → Type 0
+NameComesTo past hart name (served.Done value) events = IsFoundAt past hart name value events
+NameComesTo past hart name (served.Opened root installs functions) events = ⊥
+NameComesTo past hart name (served.Closing dying functions) events = ⊥
+NameComesTo past hart name (served.Refused fault) events = (program : List ℕ) → LacksFrom past hart program (name ∷ []) fault events
+NameComesTo past hart name (served.Again for) events = ⊥
+NameComesTo past hart name served.Memory events = Unit {0}

@@ -1,6 +1,6 @@
 //! Where harts start, and with which registers.
 
-ghost use Rattle.std.specs.Prelude.{◌≡◌, ◌<◌, ◌≤◌, ◌^◌, IfOk, find, length};
+ghost use Rattle.std.specs.Prelude.{◌≡◌, ◌≤◌, IfOk, find, length};
 ghost use Rattle.std.specs.Option.{option_copied};
 ghost use Rattle.link_history.specs.After.{after};
 ghost use Rattle.link_history.specs.State.{State as state};
@@ -64,20 +64,21 @@ pub(crate) fn object_with(objects: &[Loaded], serial: Serial) -> Option<&Loaded>
     None
 }
 
-/// The registers with which harts start at these addresses, those of the first hart first.
+/// The registers with which harts start at these addresses, those of the first hart first: at most one address
+/// for each hart of the run.
 ///
 /// # Errors
 ///
 /// Want of memory.
 pub fn entries_of(alloc: Global, state: &LinkState, starts: &[u64]) -> Result<Entries, AllocError>
     requires loaded { HasLoaded state.now.events }
-    requires some { 1 ≤ state.now.harts }
-    requires few { length starts.now < 2 ^ 32 }
+    requires harts { length starts.now ≤ state.now.harts }
     ensures { IfOk result (λ entries. entries ≡ entries_from (after state.now.events) 0 starts.now) }
 {
     ranges_apart();
     static_areas_have_room();
     modules_are_few();
+    let _ = state.harts();
     let _ = state.journal();
     let (_, ranges) = startup_objects(state);
     let tp = state.modules().tp();

@@ -3,9 +3,10 @@
 ghost use Rattle.std.specs.Prelude.{◌≡◌, ◌+◌, ◌≤◌, ◌<◌, IfErr, IfOk, length};
 ghost use Rattle.link_history.specs.Addresses.{is_linkers_page};
 ghost use Rattle.link_history.specs.After.{after};
+ghost use Rattle.link_service.specs.Served.{InstallsNothing};
 ghost use Rattle.link_service.specs.Startup.{is_executable};
 ghost use Rattle.start_parts.specs.Loaded.{HasLoaded};
-ghost use Rattle.start_parts.specs.Harts.{FoundAll, IsLacking, IsLackingAt, StartsAt};
+ghost use Rattle.start_parts.specs.Harts.{FoundAll, IsLacking, IsLackingAt, NameComesTo, StartsAt};
 ghost use Rattle.start_parts.specs.declared.harts.Unstarted.TheVariants.{Memory};
 
 use crate::entries::{object_with, program_entry, startup_objects};
@@ -46,7 +47,7 @@ impl From<AllocError> for Unstarted {
 }
 
 /// The addresses at which the harts start, once the program is opened: the first one at the program's entry
-/// point, and each further one at the name that it is given.
+/// point, and each further one at the name that it is given. The look-ups make no block of thread-local storage.
 ///
 /// # Errors
 ///
@@ -61,6 +62,7 @@ pub fn find_harts(
     requires harts { length setup.now.harts + 1 ≤ state.old.harts }
     ensures found { IfOk result (λ starts. FoundAll state.old.events setup.now.harts starts state.new.events) }
     ensures lacks { IfErr result (λ why. IsLacking state.old.events setup.now.program setup.now.harts why state.new.events) }
+    ensures made { InstallsNothing state.old.made → InstallsNothing state.new.made }
     ensures same { state.new.harts ≡ state.old.harts }
 {
     let _ = state.harts();
@@ -89,18 +91,10 @@ fn find_start(
     requires hart { hart < state.old.harts }
     ensures found { IfOk result (λ value. StartsAt state.old.events hart name.now value state.new.events) }
     ensures lacks { IfErr result (λ why. IsLackingAt state.old.events hart program.now name.now why state.new.events) }
+    ensures made { InstallsNothing state.old.made → InstallsNothing state.new.made }
     ensures same { state.new.harts ≡ state.old.harts }
 {
-    modules_are_tidy();
-    let _ = state.journal();
-    match dlsym(
-        alloc,
-        state,
-        hart,
-        NsId::BASE,
-        DEFAULT_HANDLE,
-        name.as_bytes(),
-    ) {
+    match look_up(alloc, state, hart, name) {
         Served::Done(address) => {
             if is_executable(state, address) {
                 return Ok(address);
@@ -109,8 +103,30 @@ fn find_start(
             Err(Unstarted::Refused(fault))
         }
         Served::Refused(fault) => Err(Unstarted::Refused(fault)),
-        _ => Err(Unstarted::Memory),
+        Served::Memory => Err(Unstarted::Memory),
+        Served::Opened(_, _, _) | Served::Closing(_, _) | Served::Again(_) => unreachable!(),
     }
+}
+
+/// Looks the name at which a hart starts up among all that is global, as dlsym does. Each block of thread-local
+/// storage is static at startup, so none is made.
+fn look_up(alloc: Global, state: &mut LinkState, hart: HartId, name: &Name) -> Served
+    requires loaded { HasLoaded state.old.events }
+    requires hart { hart < state.old.harts }
+    ensures comes { NameComesTo state.old.events hart name.now result state.new.events }
+    ensures made { InstallsNothing state.old.made → InstallsNothing state.new.made }
+    ensures same { state.new.harts ≡ state.old.harts }
+{
+    modules_are_tidy();
+    let _ = state.journal();
+    dlsym(
+        alloc,
+        state,
+        hart,
+        NsId::BASE,
+        DEFAULT_HANDLE,
+        name.as_bytes(),
+    )
 }
 
 /// Whether an address lies in executable words: of the object whose pages hold it, or of the linker's own page.

@@ -1,5 +1,4 @@
-use Rattle.std.proofs.Common.{◌<◌, [], ℕ, List, length, sym, ap, subst, ◌∙◌, arith}
-use Rattle.std.specs.Prelude.{◌^◌}
+use Rattle.std.proofs.Common.{◌≡◌, ◌+◌, [], ℕ, List, length, sym, ap, subst, ◌∙◌, arith}
 use Rattle.lawful_journal.specs.Following.{MayFollow, machine_of}
 use Rattle.link_event.specs.declared.event.Event.{Event}
 use Rattle.link_event.specs.declared.event.Event.TheVariants.{Open}
@@ -7,13 +6,15 @@ use Rattle.link_event.specs.declared.event.OpenAnswer.TheVariants.{Done}
 use Rattle.link_event.specs.declared.event.OpenAsk.{OpenAsk}
 use Rattle.link_history.specs.After.{after}
 use Rattle.link_history.specs.Step.{binds, seen_after}
+use Rattle.link_service.specs.Served.{InstallsNothing}
 use Rattle.link_service.specs.Startup.{entries_from, opening, program_ask}
+use Rattle.link_state.specs.Table.{LinkTable}
 use Rattle.opening_images.specs.Relocated.{AreChoices}
 use Rattle.opening_plan.specs.Startup.{run_of}
 use Rattle.link_startup.specs.Startup.{IsOfNoFile, IsUnstarted}
 use Rattle.link_startup.proofs.Fails.{err_as, lacking_needs_none, lacks_so}
 use Rattle.link_startup.proofs.First.{are_choices, may_follow, may_open}
-use Rattle.link_startup.proofs.Opened.{few_start, is_brought, opened_events, starts_so}
+use Rattle.link_startup.proofs.Opened.{all_start, is_brought, opened_events, starts_so}
 use Rattle.link_startup.proofs.opening.open_program.Goals as goal
 
 pub bring-requires-clause-may : goal.bring-requires-clause-may
@@ -55,13 +56,18 @@ returns-in_err-starts-clause-no_file c =
     err_as c.from_residual-in_err-starts.result c.in_err-starts.field-0.0 IsOfNoFile c.from_residual-in_err-starts.ensures.1
     (lacking_needs_none c.bring.new.state.events c.find_harts.new.state.events c.args.setup.now c.in_err-starts.field-0.0 c.in_err-starts.ensures.lacks)
 
-pub entries_of-requires-clause-few : goal.entries_of-requires-clause-few
-entries_of-requires-clause-few c =
+pub entries_of-requires-clause-harts : goal.entries_of-requires-clause-harts
+entries_of-requires-clause-harts c =
     let plan = c.requires.planned in
-    let few : c.args.state.now.harts < 2 ^ 32 = omega (arith, c.harts.ensures) in
-    subst (λ (starts : List ℕ). length starts < 2 ^ 32) (sym c.as_slice.ensures)
-    (few_start (run_of c.args.setup.now plan.0) c.bring.new.state.events c.find_harts.new.state.events c.args.setup.now.harts c.in_ok-starts.starts c.args.state.now.harts
-    c.in_ok-starts.ensures.found c.requires.harts few)
+    let all : length c.in_ok-starts.starts ≡ length c.args.setup.now.harts + 1 =
+    all_start (run_of c.args.setup.now plan.0) c.bring.new.state.events c.find_harts.new.state.events c.args.setup.now.harts c.in_ok-starts.starts c.in_ok-starts.ensures.found in
+    let count : length c.as_slice.result.now ≡ length c.in_ok-starts.starts = ap length c.as_slice.ensures in
+    let same : c.find_harts.new.state.harts ≡ c.args.state.now.harts = c.find_harts.ensures.same ∙ ap (λ (t : LinkTable). t.harts) c.in_ok-installs.ensures.event in
+    let given : c.args.state.now.harts ≡ length c.args.setup.now.harts + 1 = c.requires.harts in
+    omega (arith, all, count, same, given)
+
+pub returns-clause-made : goal.returns-clause-made
+returns-clause-made c = c.find_harts.ensures.made (subst (λ (t : LinkTable). InstallsNothing t.made) (sym c.in_ok-installs.ensures.event) c.requires.made)
 
 pub returns-clause-starts : goal.returns-clause-starts
 returns-clause-starts c = λ files plan.

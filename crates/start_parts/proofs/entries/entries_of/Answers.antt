@@ -1,4 +1,4 @@
-use Rattle.std.proofs.Common.{◌∷◌, [], ◌++◌, List, take, sym, ap, ◌∙◌}
+use Rattle.std.proofs.Common.{◌≤◌, ◌∷◌, [], ◌++◌, List, take, sym, ap, ◌∙◌, arith}
 use Rattle.lawful_journal.specs.Following.{machine_of}
 use Rattle.link_event.specs.declared.handed.HartEntry.{HartEntry}
 use Rattle.link_history.specs.After.{after}
@@ -16,9 +16,10 @@ entry_at-requires-clause-guests c =
 
 pub entry_at-requires-clause-room : goal.entry_at-requires-clause-room
 entry_at-requires-clause-room c =
+    let some : 1 ≤ c.args.state.now.harts = omega (arith, c.loop-index-test.true, c.requires.harts) in
     have_room (machine_of c.args.state.now.harts) (after c.args.state.now.events) c.startup_objects.result.1.now c.tp-tp.result
     (all_ranges c.args.state.now.events c.requires.loaded ∙ sym (c.startup_objects.ensures.ranges c.requires.loaded))
-    (sym (c.tp-tp.ensures ∙ c.modules.ensures.tp)) c.requires.some
+    (sym (c.tp-tp.ensures ∙ c.modules.ensures.tp)) some
     (c.ranges_apart.ensures (machine_of c.args.state.now.harts) c.args.state.now.events c.journal.ensures.lawful)
     (c.static_areas_have_room.ensures (machine_of c.args.state.now.harts) c.args.state.now.events c.journal.ensures.lawful)
     (c.modules_are_few.ensures (machine_of c.args.state.now.harts) c.args.state.now.events c.journal.ensures.lawful)

@@ -9,6 +9,7 @@ loop-index-init c = (
   none_yet c.args.state.now.events c.push.new.self
       (c.in_ok-push.ensures.ok ∙ ap (λ (vs : List ℕ). vs ++ c.program_entry.result ∷ []) c.new-starts.ensures ∙ ap (λ (v : ℕ). v ∷ []) c.program_entry.ensures),
   refl,
+  λ none. none,
 )
 
 pub loop-index-preserved : goal.loop-index-preserved
@@ -26,6 +27,7 @@ loop-index-preserved c =
           (names_next names items index name c.as_slice-name-items.ensures c.loop-index-test.true c.name-item.is)
           (subst (λ (vs : List ℕ). FoundAll c.args.state.now.events (take index names ++ name ∷ []) vs c.find_start.new.state.events) (sym c.in_ok-push-2.ensures.ok) all),
       c.find_start.ensures.same ∙ c.loop-index.invariant.1,
+      λ none. c.find_start.ensures.made (c.loop-index.invariant.2 none),
     )
 
 pub returns-in_err-find_start-clause-lacks : goal.returns-in_err-find_start-clause-lacks

@@ -1,0 +1,17 @@
+use Rattle.std.proofs.Common.{◌≡◌, ◌≤◌, ◌-◌}
+use Rattle.world_turns.specs.Run.{Repeats}
+use Rattle.world_turns.specs.World.{World}
+use Rattle.plain_world.specs.Playing.{InEachRun}
+use Rattle.plain_world.specs.Table.{moved}
+use Rattle.plain_world.proofs.run.repeat.Given as goal
+
+-- what comes of the turns that are left, comes of all from the start on
+abbrev pub invariant-loop-turn : goal.invariant-loop-turn
+invariant-loop-turn g l = record {
+  rest : l.run ≡ moved l.fn.run l.run.world;
+  goes : InEachRun l.fn.run (g.L.Library.files l.fn.library)
+      (λ w. (new : World) → Repeats w l.fn.item.hart (l.fn.item.count - l._turn) l.run.world new → Repeats w l.fn.item.hart l.fn.item.count l.fn.run.world new);
+  files : g.L.Library.files l.library ≡ g.L.Library.files l.fn.library;
+  faults : g.L.Library.faults l.fn.library ≤ g.L.Library.faults l.library;
+  misses : g.L.Library.misses l.fn.library ≤ g.L.Library.misses l.library;
+}

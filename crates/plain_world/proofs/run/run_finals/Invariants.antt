@@ -1,0 +1,21 @@
+use Rattle.std.proofs.Common.{◌≡◌, ◌≤◌}
+use Rattle.world_turns.specs.Run.{Ends}
+use Rattle.world_turns.specs.World.{World}
+use Rattle.plain_world.specs.Playing.{InEachRun, OthersHaveEnded}
+use Rattle.plain_world.specs.Table.{moved}
+use Rattle.plain_world.proofs.Left.{left}
+use Rattle.plain_world.proofs.run.run_finals.Given as goal
+
+-- what comes of it from here on, comes of it from the start on; no other hart runs
+abbrev pub invariant-loop-alloc : goal.invariant-loop-alloc
+invariant-loop-alloc g l = record {
+  rest : l.run ≡ moved l.fn.run l.run.world;
+  goes : InEachRun l.fn.run (g.L.Library.files l.fn.library) (λ w. (new : World) → Ends w l.run.world new → Ends w l.fn.run.world new);
+  others : OthersHaveEnded l.run.world;
+  files : g.L.Library.files l.library ≡ g.L.Library.files l.fn.library;
+  faults : g.L.Library.faults l.fn.library ≤ g.L.Library.faults l.library;
+  misses : g.L.Library.misses l.fn.library ≤ g.L.Library.misses l.library;
+}
+
+abbrev pub decreases-loop-alloc : goal.decreases-loop-alloc
+decreases-loop-alloc g l = left l.run.world

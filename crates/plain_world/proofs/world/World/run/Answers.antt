@@ -1,0 +1,50 @@
+use Rattle.std.proofs.Common.{◌≡◌, ℕ, Bool, ◌<◌, Contains, List, sym, ap, subst, ◌∙◌}
+use Rattle.link_event.specs.declared.handed.HartEntry.{HartEntry}
+use Rattle.hart_moves.specs.Starting.{starting_registers}
+use Rattle.schedules.specs.declared.schedule.TurnItem.{TurnItem}
+use Rattle.world_turns.specs.Run.{Finishes, TakesItems, have_ended}
+use Rattle.world_turns.specs.World.{World}
+use Rattle.plain_world.specs.Playing.{FinalisesOnce}
+use Rattle.plain_world.specs.Table.{WorldTable, moved}
+use Rattle.plain_world.proofs.Going.{in_each, moved_more, settled_over}
+use Rattle.plain_world.proofs.world.World.run.Goals as goal
+
+pub follow-requires : goal.follow-requires
+follow-requires g c = λ item there.
+    subst (λ (n : ℕ). item.hart < n) (sym (ap (λ (t : WorldTable). t.count) c.construct.ensures.rest))
+    (c.requires item (subst (λ (items : List TurnItem). Contains items item) c.as_slice.ensures there))
+
+pub returns-clause-plays : goal.returns-clause-plays
+returns-clause-plays g c = λ w over.
+    let run : WorldTable = c.args.self.now in
+    let first : c.construct.new.run ≡ moved run c.construct.new.run.world = c.construct.ensures.rest in
+    let second : c.follow.new.run ≡ moved run c.follow.new.run.world = moved_more run c.construct.new.run c.follow.new.run first c.follow.ensures.rest in
+    let third : c.finish.new.run ≡ moved run c.finish.new.run.world = moved_more run c.follow.new.run c.finish.new.run second c.finish.ensures.rest in
+    let files = g.L.Library.files c.args.library.now in
+    let files_1 : g.L.Library.files c.construct.new.library ≡ g.L.Library.files c.args.library.now = c.construct.ensures.files in
+    let files_2 : g.L.Library.files c.follow.new.library ≡ g.L.Library.files c.args.library.now = c.follow.ensures.files ∙ files_1 in
+    let files_3 : g.L.Library.files c.finish.new.library ≡ g.L.Library.files c.args.library.now = c.finish.ensures.files ∙ files_2 in
+    record {
+      constructed = c.construct.new.run.world;
+      constructs = c.construct.ensures.constructs w over;
+      scheduled = c.follow.new.run.world;
+      follows = subst (λ (items : List TurnItem). TakesItems w items c.construct.new.run.world c.follow.new.run.world) c.as_slice.ensures
+          (in_each run c.construct.new.run files (g.L.Library.files c.construct.new.library)
+          (λ v. TakesItems v c.as_slice.result.now c.construct.new.run.world c.follow.new.run.world) first files_1 c.follow.ensures.follows w over);
+      finished = c.finish.new.run.world;
+      finishes = in_each run c.follow.new.run files (g.L.Library.files c.follow.new.library) (λ v. Finishes v c.follow.new.run.world c.finish.new.run.world) second files_2
+          c.finish.ensures.finishes w over;
+      finalised = c.finalise.new.run.world;
+      finalises =
+          subst (λ (b : Bool). FinalisesOnce w b (starting_registers run.entry) c.finish.new.run.world c.finalise.new.run.world) (ap (λ (t : WorldTable). t.begun) third)
+          (subst (λ (e : HartEntry). FinalisesOnce w c.finish.new.run.begun (starting_registers e) c.finish.new.run.world c.finalise.new.run.world)
+          (ap (λ (t : WorldTable). t.entry) third)
+          (in_each run c.finish.new.run files (g.L.Library.files c.finish.new.library)
+          (λ v. FinalisesOnce v c.finish.new.run.begun (starting_registers c.finish.new.run.entry) c.finish.new.run.world c.finalise.new.run.world) third files_3
+          c.finalise.ensures.finalises w over));
+      ends = ap (λ (t : WorldTable). t.world) c.settle.ensures;
+    }
+
+pub returns-clause-over : goal.returns-clause-over
+returns-clause-over g c =
+    ap (λ (t : WorldTable). have_ended t.world) c.settle.ensures ∙ settled_over c.finalise.new.run.world c.finalise.ensures.over
