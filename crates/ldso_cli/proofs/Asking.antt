@@ -1,5 +1,7 @@
 -- What words ask for.
-use Rattle.std.proofs.Common.{◌≡◌, ◌⊎◌, inl, inr, ℕ, List, Option, Some, None, refl, sym, ap, subst}
+use Rattle.std.proofs.Common.{◌≡◌, ◌⊎◌, inl, inr, ⊎_elim, ℕ, List, Option, Some, None, Result, Ok, Err, refl, sym, ap, subst}
+use Rattle.std.specs.Prelude.{IfOk}
+use Rattle.std.specs.declared.alloc.AllocError.{AllocError}
 use Rattle.command_line.specs.Reads.{OneCommand, Reads}
 use Rattle.command_line.specs.declared.command.Command.{Command}
 use Rattle.command_line.specs.declared.command.Command.TheVariants as commands
@@ -7,7 +9,10 @@ use Rattle.command_line.specs.declared.command.Turns.{Turns}
 use Rattle.link_service.specs.Startup.{harts_of}
 use Rattle.ldso_cli.proofs.Schedules.{Schedule, told_schedule}
 use Rattle.ldso_cli.specs.Asked.{Asks, CanBeDone, OfAsked}
-use Rattle.ldso_cli.specs.Turns.{IsScheduled}
+use Rattle.ldso_cli.specs.Command.{Answers, AsScheduled, IsUsage}
+use Rattle.ldso_cli.specs.Outside.{LibraryAt}
+use Rattle.ldso_cli.specs.Turns.{IsScheduled, TurnsComes}
+use Rattle.ldso_cli.specs.declared.answer.Answer.{Answer}
 
 -- words ask for one command at most
 pub one_asked : OneCommand → (words : List (List ℕ)) (command other : Option Command) → Asks words command → Asks words other → command ≡ other
@@ -46,6 +51,16 @@ unanswered one words command reads {P} holds = either (told command)
     either : CanBeDone command ⊎ (CanBeDone command → ⊥) → OfAsked words P
     either (inl can) = record { asked = Some command; asks = (reads, can); holds = holds (Some command) }
     either (inr cannot) = not_done one words command reads cannot (holds None)
+
+-- ---- turns
+
+pub turned : OneCommand → (words : List (List ℕ)) (turns : Turns) → Reads words (commands.Turns turns) → (before after : LibraryAt) (r : Result Answer AllocError) → IfOk r (λ a. AsScheduled turns before after a.end a.text)
+    → OfAsked words (λ command. IfOk r (λ a. Answers command before after a.end a.text))
+turned one words turns reads before after (Err e) come = unanswered one words (commands.Turns turns) reads (λ _. tt)
+turned one words turns reads before after (Ok a) come = ⊎_elim
+    (λ (x : IsScheduled turns × TurnsComes turns before after a.end a.text). record { asked = Some (commands.Turns turns); asks = (reads, x.0); holds = x.1 })
+    (λ (x : (IsScheduled turns → ⊥) × IsUsage a.end a.text). not_done one words (commands.Turns turns) reads x.0 x.1)
+    come
 
 -- ---- words that are none
 

@@ -122,12 +122,12 @@ dump_comes path before after files cause comes =
 turns_own : (turns : Turns) (before after : LibraryAt) (end : End) (text : List ℕ) → TurnsComes turns before after end text → IsOwn (commands.Turns turns) before after end.cause
 turns_own turns before after end text comes = record {
   no_usage = λ e. elim comes.is [
-    | inl refused ↦ (let no : causes.Refused refused.fault ≡ causes.Usage = sym (ap (λ (x : End). x.cause) refused.end_is) ∙ e in cc no)
-    | inr ran ↦ (let no : causes.Ran ran.run_end ≡ causes.Usage = sym (ap (λ (x : End). x.cause) ran.end_is) ∙ e in cc no)
+    | inl refused ↦ (let no : causes.Refused refused.fault ≡ causes.Usage = sym (ap (λ (x : End). x.cause) refused.tells.end_is) ∙ e in cc no)
+    | inr ran ↦ (let no : causes.Ran ran.tells.run_end ≡ causes.Usage = sym (ap (λ (x : End). x.cause) ran.tells.end_is) ∙ e in cc no)
   ];
   no_write = λ e. elim comes.is [
-    | inl refused ↦ (let no : causes.Refused refused.fault ≡ causes.WriteFault = sym (ap (λ (x : End). x.cause) refused.end_is) ∙ e in cc no)
-    | inr ran ↦ (let no : causes.Ran ran.run_end ≡ causes.WriteFault = sym (ap (λ (x : End). x.cause) ran.end_is) ∙ e in cc no)
+    | inl refused ↦ (let no : causes.Refused refused.fault ≡ causes.WriteFault = sym (ap (λ (x : End). x.cause) refused.tells.end_is) ∙ e in cc no)
+    | inr ran ↦ (let no : causes.Ran ran.tells.run_end ≡ causes.WriteFault = sym (ap (λ (x : End). x.cause) ran.tells.end_is) ∙ e in cc no)
   ];
   read_fault = comes.read_fault;
   missing = comes.missing;

@@ -1,5 +1,5 @@
 -- What a text says as a schedule: one list of items at most; whether it says any can be told; and then it is UTF-8.
-use Rattle.std.proofs.Common.{◌≡◌, ◌⊎◌, inl, inr, ⊎_elim, ℕ, zero, suc, ◌^◌, ◌<◌, ◌≤◌, ◌==◌, Bool, true, false, List, [], ◌∷◌, ◌++◌, length, codes, refl, sym, ap, subst, ◌∙◌, arith, append_assoc, true≢false}
+use Rattle.std.proofs.Common.{◌≡◌, ◌⊎◌, inl, inr, ⊎_elim, ℕ, zero, suc, ◌^◌, ◌+◌, ◌<◌, ◌≤◌, ◌==◌, Bool, true, false, List, [], ◌∷◌, ◌++◌, length, codes, refl, sym, ap, subst, ◌∙◌, arith, append_assoc, true≢false}
 use Rattle.std.proofs.lemmas.Bool.{ne_eqb}
 use Rattle.std.proofs.lemmas.Fmt.{decimal_injective, decimal_is_IsNumeral, IsAscii-decimal}
 use Rattle.std.proofs.lemmas.List.Elements.{All-nil, All-cons}
@@ -131,7 +131,7 @@ told_number : (a b : ℕ) → Told (a ≡ b)
 told_number zero zero = inl refl
 told_number zero (suc b) = inr (λ e. omega (arith, e))
 told_number (suc a) zero = inr (λ e. omega (arith, e))
-told_number (suc a) (suc b) = ⊎_elim (λ (e : a ≡ b). inl (ap suc e)) (λ (no : a ≡ b → ⊥). inr (λ e. no (omega (arith, e)))) (told_number a b)
+told_number (suc a) (suc b) = ⊎_elim (λ (e : a ≡ b). inl (ap suc e)) (λ (never : a ≡ b → ⊥). inr (λ e. never (omega (arith, e)))) (told_number a b)
 
 -- some number below a bound has it
 abbrev Below : (ℕ → Type 0) → ℕ → Type 0
@@ -146,33 +146,33 @@ lesser (suc n) (suc m) below differs =
     omega (arith, less)
 
 one_more : (P : ℕ → Type 0) (bound : ℕ) → (Below P bound → ⊥) → (P bound → ⊥) → (n : ℕ) → n < suc bound → P n → Told (n ≡ bound) → ⊥
-one_more P bound none no n below p (inl e) = no (subst P e p)
-one_more P bound none no n below p (inr differs) = none (n, (lesser n bound below differs, p))
+one_more P bound none never n below p (inl e) = never (subst P e p)
+one_more P bound none never n below p (inr differs) = none (n, lesser n bound below differs, p)
 
 wider : (P : ℕ → Type 0) (bound : ℕ) → Below P bound → Below P (suc bound)
-wider P bound x = (let below : x.0 < bound = x.1.0 in (x.0, (omega (arith, below), x.1.1)))
+wider P bound x = (let below : x.0 < bound = x.1 in (x.0, omega (arith, below), x.2))
 
 at_bound : (P : ℕ → Type 0) (bound : ℕ) → (Below P bound → ⊥) → Told (P bound) → Told (Below P (suc bound))
-at_bound P bound none (inl p) = inl (bound, (omega arith, p))
-at_bound P bound none (inr no) = inr (λ x. one_more P bound none no x.0 x.1.0 x.1.1 (told_number x.0 bound))
+at_bound P bound none (inl p) = inl (bound, omega arith, p)
+at_bound P bound none (inr never) = inr (λ x. one_more P bound none never x.0 x.1 x.2 (told_number x.0 bound))
 
 or_at_bound : (P : ℕ → Type 0) (bound : ℕ) → Told (Below P bound) → Told (P bound) → Told (Below P (suc bound))
 or_at_bound P bound (inl x) told = inl (wider P bound x)
 or_at_bound P bound (inr none) told = at_bound P bound none told
 
 told_below : (P : ℕ → Type 0) → ((n : ℕ) → Told (P n)) → (bound : ℕ) → Told (Below P bound)
-told_below P told zero = inr (λ x. (let below : x.0 < 0 = x.1.0 in omega (arith, below)))
+told_below P told zero = inr (λ x. (let below : x.0 < 0 = x.1 in omega (arith, below)))
 told_below P told (suc bound) = or_at_bound P bound (told_below P told bound) (told bound)
 
 both : {P Q : Type 0} → Told P → Told Q → Told (P × Q)
 both (inl p) (inl q) = inl (p, q)
-both (inl p) (inr no) = inr (λ x. no x.1)
-both (inr no) told = inr (λ x. no x.0)
+both (inl p) (inr never) = inr (λ x. never x.1)
+both (inr never) told = inr (λ x. never x.0)
 
 either : {P Q : Type 0} → Told P → Told Q → Told (P ⊎ Q)
 either (inl p) told = inl (inl p)
-either (inr no) (inl q) = inl (inr q)
-either (inr no) (inr no') = inr (λ x. ⊎_elim no no' x)
+either (inr never) (inl q) = inl (inr q)
+either (inr never) (inr never') = inr (λ x. ⊎_elim never never' x)
 
 told_some : (n : ℕ) → Told (1 ≤ n)
 told_some zero = inr (λ e. omega (arith, e))
@@ -201,9 +201,9 @@ told_item harts text = of_numbers (told_numbers harts (2 ^ 32 + 1) text)
   where
     of_numbers : Told (Numbers harts (2 ^ 32 + 1) text) → Told (Item harts text)
     of_numbers (inl x) =
-        let below : x.1.1.0 < 2 ^ 32 + 1 = x.1.1.1.0 in
-        inl (record { hart = x.0; count = x.1.1.0 }, record { hart = x.1.0; some = x.1.1.1.1.0; most = omega (arith, below); written = x.1.1.1.1.1 })
-    of_numbers (inr none) = inr (λ x. none (x.0.hart, (x.1.hart, (x.0.count, (omega (arith, x.1.most), (x.1.some, x.1.written))))))
+        let below : x.2.0 < 2 ^ 32 + 1 = x.2.1 in
+        inl (record { hart = x.0; count = x.2.0 }, record { hart = x.1; some = x.2.2.0; most = omega (arith, below); written = x.2.2.1 })
+    of_numbers (inr none) = inr (λ x. none (x.0.hart, x.1.hart, (x.0.count, omega (arith, x.1.most), (x.1.some, x.1.written))))
 
 abbrev Items : ℕ → List (List ℕ) → Type 0
 Items harts texts = (items : List TurnItem) × AreItems harts texts items
@@ -213,17 +213,17 @@ told_items harts [] = inl ([], tt)
 told_items harts (text ∷ texts) = of_both (told_item harts text) (told_items harts texts)
   where
     no_rest : (Items harts texts → ⊥) → (items : List TurnItem) → AreItems harts (text ∷ texts) items → ⊥
-    no_rest no [] are = are
-    no_rest no (item ∷ items) are = no (items, are.1)
+    no_rest never [] are = are
+    no_rest never (item ∷ items) are = never (items, are.1)
 
     no_first : (Item harts text → ⊥) → (items : List TurnItem) → AreItems harts (text ∷ texts) items → ⊥
-    no_first no [] are = are
-    no_first no (item ∷ items) are = no (item, are.0)
+    no_first never [] are = are
+    no_first never (item ∷ items) are = never (item, are.0)
 
     of_both : Told (Item harts text) → Told (Items harts texts) → Told (Items harts (text ∷ texts))
     of_both (inl x) (inl y) = inl (x.0 ∷ y.0, (x.1, y.1))
-    of_both (inl x) (inr no) = inr (λ all. no_rest no all.0 all.1)
-    of_both (inr no) told = inr (λ all. no_first no all.0 all.1)
+    of_both (inl x) (inr never) = inr (λ all. no_rest never all.0 all.1)
+    of_both (inr never) told = inr (λ all. no_first never all.0 all.1)
 
 abbrev pub Schedule : ℕ → List ℕ → Type 0
 Schedule harts text = (items : List TurnItem) × SaysTurns harts text items
@@ -237,8 +237,8 @@ told_schedule harts text = of_both (told_same text (codes "rr")) (told_items har
 
     of_both : Told (text ≡ codes "rr") → Told (Items harts (parts_of text)) → Told (Schedule harts text)
     of_both (inl is) told = inl ([], SaysTurns.in_order is)
-    of_both (inr no) (inl x) = inl (x.0, SaysTurns.by_items x.0 x.1)
-    of_both (inr no) (inr no') = inr (λ x. none no no' x.0 x.1)
+    of_both (inr never) (inl x) = inl (x.0, SaysTurns.by_items x.0 x.1)
+    of_both (inr never) (inr never') = inr (λ x. none never never' x.0 x.1)
 
 -- ---- its bytes
 

@@ -26,7 +26,7 @@ use Rattle.world_turns.specs.World.{World}
 use Rattle.ldso_cli.proofs.Schedules.{one_schedule}
 use Rattle.ldso_cli.specs.End.{AreOneEnd, KeepOne, ShowOne, events_kept}
 use Rattle.ldso_cli.specs.Status.{refused_text}
-use Rattle.ldso_cli.specs.Turns.{IsNotRun, IsRun}
+use Rattle.ldso_cli.specs.Turns.{IsNotRun, IsRun, TellsRun}
 use Rattle.ldso_cli.specs.declared.outcome.Cause.{Cause}
 use Rattle.ldso_cli.specs.declared.outcome.Cause.TheVariants as causes
 use Rattle.ldso_cli.specs.declared.outcome.End.{End}
@@ -91,16 +91,28 @@ same_ends (x ∷ a) (y ∷ b) e =
 abbrev IsOne : End → End → List ℕ → List ℕ → Type 0
 IsOne end end' text text' = AreOneEnd end end' × (text ≡ text')
 
+-- what is told of one world is one
+same_told : OneRunEnd → (world : World) (end end' : End) (text text' : List ℕ) → TellsRun world end text → TellsRun world end' text' → IsOne end end' text text'
+same_told one world end end' text text' p q =
+    let journal : p.kept.journal.events ≡ q.kept.journal.events = p.journal ∙ sym q.journal in
+    let ends : p.kept.ends ≡ q.kept.ends = same_ends p.kept.ends q.kept.ends (sym p.ends ∙ q.ends) in
+    let decides : IsRunEnd p.kept.ends q.run_end = subst (λ (l : List HartEnd). IsRunEnd l q.run_end) (sym ends) q.decides in
+    let run_end : p.run_end ≡ q.run_end = one p.kept.ends p.run_end q.run_end p.decides decides in
+    (
+      one_end end end' (causes.Ran p.run_end) (causes.Ran q.run_end) p.kept q.kept p.end_is q.end_is (ap causes.Ran run_end) (show_one p.kept q.kept journal ends),
+      p.text_is ∙ ap (λ (e : RunEnd). journal_lines world.journal ++ end_line e) run_end ∙ sym q.text_is,
+    )
+
 module _ (law : RunLaw) (turns : Turns) (files : List File) (few : harts_of turns.setup ≤ 2 ^ 32) (end end' : End) (text text' : List ℕ) (quiet : Quiet end) (quiet' : Quiet end') where
   not_run : IsNotRun turns (Some files) end text → IsNotRun turns (Some files) end' text' → IsOne end end' text text'
   not_run p q =
-      let known = of_cause end p.fault (ap (λ (e : End). e.cause) p.end_is) quiet in
-      let known' = of_cause end' q.fault (ap (λ (e : End). e.cause) q.end_is) quiet' in
-      let same = law.fails (run_of turns.setup (Some files)) turns.setup files p.kept.journal.events q.kept.journal.events p.fault q.fault refl p.fails q.fails known known' in
+      let known = of_cause end p.fault (ap (λ (e : End). e.cause) p.tells.end_is) quiet in
+      let known' = of_cause end' q.fault (ap (λ (e : End). e.cause) q.tells.end_is) quiet' in
+      let same = law.fails (run_of turns.setup (Some files)) turns.setup files p.events q.events p.fault q.fault refl p.fails q.fails known known' in
       (
-        one_end end end' (causes.Refused p.fault) (causes.Refused q.fault) p.kept q.kept p.end_is q.end_is (ap causes.Refused same.0)
-        (show_one p.kept q.kept same.1 (p.no_ends ∙ sym q.no_ends)),
-        p.text_is ∙ (λ i. journal_lines (same.1 i) ++ refused_text (same.0 i)) ∙ sym q.text_is,
+        one_end end end' (causes.Refused p.fault) (causes.Refused q.fault) p.tells.kept q.tells.kept p.tells.end_is q.tells.end_is (ap causes.Refused same.0)
+        (show_one p.tells.kept q.tells.kept (p.tells.journal ∙ same.1 ∙ sym q.tells.journal) (p.tells.no_ends ∙ sym q.tells.no_ends)),
+        p.tells.text_is ∙ (λ i. journal_lines (same.1 i) ++ refused_text (same.0 i)) ∙ sym q.tells.text_is,
       )
 
   both_run : NothingFails (events_kept end) → NothingFails (events_kept end') → IsRun turns (Some files) end text → IsRun turns (Some files) end' text' → IsOne end end' text text'
@@ -108,26 +120,18 @@ module _ (law : RunLaw) (turns : Turns) (files : List File) (few : harts_of turn
       let w = run_of turns.setup (Some files) in
       let items : q.items ≡ p.items = one_schedule (harts_of turns.setup) turns.schedule q.items p.items few q.says p.says in
       let runs : Run w turns.setup p.items q.world = subst (λ (it : List TurnItem). Run w turns.setup it q.world) items q.runs in
-      let kept : events_kept end ≡ p.world.journal = ap events_kept p.end_is ∙ p.journal in
-      let kept' : events_kept end' ≡ q.world.journal = ap events_kept q.end_is ∙ q.journal in
+      let kept : events_kept end ≡ p.world.journal = ap events_kept p.tells.end_is ∙ p.tells.journal in
+      let kept' : events_kept end' ≡ q.world.journal = ap events_kept q.tells.end_is ∙ q.tells.journal in
       let world : p.world ≡ q.world =
       law.one w turns.setup p.items files p.world q.world refl (law.accepts w.machine refl) p.runs runs (subst NothingFails kept well) (subst NothingFails kept' well') in
-      let journal : p.kept.journal.events ≡ q.kept.journal.events = p.journal ∙ ap (λ (v : World). v.journal) world ∙ sym q.journal in
-      let ends : p.kept.ends ≡ q.kept.ends =
-      same_ends p.kept.ends q.kept.ends (sym p.ends ∙ ap (λ (v : World). map (λ (b : HartState). b.«end») v.harts) world ∙ q.ends) in
-      let decides : IsRunEnd p.kept.ends q.run_end = subst (λ (l : List HartEnd). IsRunEnd l q.run_end) (sym ends) q.decides in
-      let run_end : p.run_end ≡ q.run_end = law.run_end p.kept.ends p.run_end q.run_end p.decides decides in
-      (
-        one_end end end' (causes.Ran p.run_end) (causes.Ran q.run_end) p.kept q.kept p.end_is q.end_is (ap causes.Ran run_end) (show_one p.kept q.kept journal ends),
-        p.text_is ∙ (λ i. journal_lines (journal i) ++ end_line (run_end i)) ∙ sym q.text_is,
-      )
+      same_told law.run_end p.world end end' text text' p.tells (subst (λ (v : World). TellsRun v end' text') (sym world) q.tells)
 
 -- one that starts isn't refused
 not_both : RunLaw → (turns : Turns) (files : List File) (one other : End) (text text' : List ℕ) → Quiet other → IsRun turns (Some files) one text → IsNotRun turns (Some files) other text' → ⊥
 not_both law turns files one other text text' quiet p q =
     let starts = p.runs.starts.starts in
-    let known = of_cause other q.fault (ap (λ (e : End). e.cause) q.end_is) quiet in
-    let is = law.starts (run_of turns.setup (Some files)) turns.setup files starts.root starts.added starts.ranges starts.found q.kept.journal.events starts.addresses q.fault refl starts.opens starts.finds q.fails in
+    let known = of_cause other q.fault (ap (λ (e : End). e.cause) q.tells.end_is) quiet in
+    let is = law.starts (run_of turns.setup (Some files)) turns.setup files starts.root starts.added starts.ranges starts.found q.events starts.addresses q.fault refl starts.opens starts.finds q.fails in
     true≢false (sym is ∙ known)
 
 pub one_outcome : RunLaw → (turns : Turns) (files : List File) → harts_of turns.setup ≤ 2 ^ 32 → (end end' : End) (text text' : List ℕ)

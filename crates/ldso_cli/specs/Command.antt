@@ -1,18 +1,19 @@
 -- What the words of the command line come to: a row for each command.
-use Rattle.std.specs.Prelude.{◌≡◌, ◌≢◌, ℕ, List, Option, Some, None}
+use Rattle.std.specs.Prelude.{◌≡◌, ◌≢◌, ◌⊎◌, ℕ, List, Option, Some, None}
 use Rattle.ld_base.specs.declared.fault.DlFault.TheVariants as dl
 use Rattle.ld_base.specs.declared.linking.File.{File}
 use Rattle.library_source.specs.Count.{Rises}
 use Rattle.library_source.specs.Files.{Over}
 use Rattle.command_line.specs.declared.command.Command.{Command}
 use Rattle.command_line.specs.declared.command.Command.TheVariants as commands
+use Rattle.command_line.specs.declared.command.Turns.{Turns}
 use Rattle.ldso_cli.specs.Asm.{AsmComes, AsmPrints}
 use Rattle.ldso_cli.specs.Bind.{BindComes, BindMisses, BindPrints}
 use Rattle.ldso_cli.specs.Dump.{DumpComes, DumpPrints}
 use Rattle.ldso_cli.specs.End.{bare}
 use Rattle.ldso_cli.specs.Outside.{LibraryAt}
 use Rattle.ldso_cli.specs.Status.{usage_text}
-use Rattle.ldso_cli.specs.Turns.{TurnsComes, TurnsMisses}
+use Rattle.ldso_cli.specs.Turns.{IsScheduled, TurnsComes, TurnsMisses}
 use Rattle.ldso_cli.specs.declared.outcome.Cause.{Cause}
 use Rattle.ldso_cli.specs.declared.outcome.Cause.TheVariants as causes
 use Rattle.ldso_cli.specs.declared.outcome.End.{End}
@@ -85,3 +86,9 @@ CommandAnswers (commands.Generate number) before after end text = ⊥
 abbrev pub Answers : Option Command → LibraryAt → LibraryAt → End → List ℕ → Type 0
 Answers None before after end text = IsUsage end text
 Answers (Some command) before after end text = CommandAnswers command before after end text
+
+-- ---- for the code of this crate alone
+
+-- turns is done where its schedule is one, and is a usage where it isn't
+abbrev pub AsScheduled : Turns → LibraryAt → LibraryAt → End → List ℕ → Type 0
+AsScheduled turns before after end text = (IsScheduled turns × TurnsComes turns before after end text) ⊎ ((IsScheduled turns → ⊥) × IsUsage end text)

@@ -1,13 +1,15 @@
 -- What turns comes to.
-use Rattle.std.specs.Prelude.{◌≡◌, ◌⊎◌, ℕ, List, [], ◌++◌, map, Option, Some}
+use Rattle.std.specs.Prelude.{◌≡◌, ◌⊎◌, ℕ, List, [], ◌++◌, Option, Some}
 use Rattle.ld_base.specs.declared.fault.DlFault.{DlFault}
 use Rattle.ld_base.specs.declared.fault.DlFault.TheVariants as dl
 use Rattle.ld_base.specs.declared.linking.File.{File}
 use Rattle.library_source.specs.Count.{Rises}
 use Rattle.call_laws.specs.Counts.{AreMissed, ArePathsAtStart}
 use Rattle.command_line.specs.declared.command.Turns.{Turns}
+use Rattle.link_event.specs.declared.event.Event.{Event}
 use Rattle.link_service.specs.Startup.{FailsToStart, harts_of}
 use Rattle.opening_plan.specs.Startup.{run_of}
+use Rattle.plain_world.specs.Ends.{AreEndsOf}
 use Rattle.run_texts.specs.Ends.{IsRunEnd, end_line}
 use Rattle.run_texts.specs.Printed.{journal_lines}
 use Rattle.run_texts.specs.declared.record.RunRecord.{RunRecord}
@@ -30,29 +32,39 @@ pub record IsScheduled (turns : Turns) : Type 0 where
   pub items : List TurnItem
   pub says : Schedules turns items
 
--- the program doesn't start, over the files as the library tells them: the first refusal. What is kept is startup's journal, and no hart
--- has ended; what is printed is that journal and the refusal.
-pub record IsNotRun (turns : Turns) (files : Option (List File)) (end : End) (text : List ℕ) : Type 0 where
-  pub fault : DlFault
+-- startup is refused, at the end of these events. What is kept is them, and no hart has ended; what is printed is them and the refusal.
+pub record TellsRefusal (fault : DlFault) (events : List Event) (end : End) (text : List ℕ) : Type 0 where
   pub kept : RunRecord
   pub end_is : end ≡ record { cause = causes.Refused fault; kept = Some kept }
-  pub fails : FailsToStart (run_of turns.setup files) turns.setup fault kept.journal.events
+  pub journal : kept.journal.events ≡ events
   pub no_ends : kept.ends ≡ []
-  pub text_is : text ≡ journal_lines kept.journal.events ++ refused_text fault
+  pub text_is : text ≡ journal_lines events ++ refused_text fault
 
--- it runs by the schedule. What is kept is the run's journal, and how each hart ended; what is printed is that journal, and how the run ended.
+-- the program doesn't start, over the files as the library tells them: the first refusal, and that is told
+pub record IsNotRun (turns : Turns) (files : Option (List File)) (end : End) (text : List ℕ) : Type 0 where
+  pub fault : DlFault
+  pub events : List Event
+  pub fails : FailsToStart (run_of turns.setup files) turns.setup fault events
+  pub tells : TellsRefusal fault events end text
+
+-- a run that ended at this world. What is kept is its journal, and how each hart ended; what is printed is that journal, and how the run
+-- ended.
+pub record TellsRun (world : World) (end : End) (text : List ℕ) : Type 0 where
+  pub run_end : RunEnd
+  pub kept : RunRecord
+  pub end_is : end ≡ record { cause = causes.Ran run_end; kept = Some kept }
+  pub journal : kept.journal.events ≡ world.journal
+  pub ends : AreEndsOf world.harts kept.ends
+  pub decides : IsRunEnd kept.ends run_end
+  pub text_is : text ≡ journal_lines world.journal ++ end_line run_end
+
+-- it runs by the schedule, and that is told
 pub record IsRun (turns : Turns) (files : Option (List File)) (end : End) (text : List ℕ) : Type 0 where
   pub items : List TurnItem
   pub says : Schedules turns items
   pub world : World
   pub runs : Run (run_of turns.setup files) turns.setup items world
-  pub run_end : RunEnd
-  pub kept : RunRecord
-  pub end_is : end ≡ record { cause = causes.Ran run_end; kept = Some kept }
-  pub journal : kept.journal.events ≡ world.journal
-  pub ends : map (λ b. b.«end») world.harts ≡ map Some kept.ends
-  pub decides : IsRunEnd kept.ends run_end
-  pub text_is : text ≡ journal_lines kept.journal.events ++ end_line run_end
+  pub tells : TellsRun world end text
 
 -- startup missed each path that the name may have
 abbrev pub TurnsMisses : Turns → LibraryAt → LibraryAt → List ℕ → Type 0

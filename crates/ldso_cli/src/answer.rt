@@ -41,7 +41,6 @@ pub(crate) fn assembled(bytes: Vec<u8>) -> Answer
 }
 
 /// The answer of a refusal, of a command that ran no program.
-#[tactic(auto, unfolding(crate::specs::Status::refused_text))]
 pub(crate) fn refused(alloc: Global, fault: DlFault) -> Result<Answer, AllocError>
     ensures end { IfOk result (λ answer. answer.end ≡ bare (Refused fault)) }
     ensures text { IfOk result (λ answer. answer.text ≡ refused_text fault) }

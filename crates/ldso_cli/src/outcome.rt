@@ -1,8 +1,9 @@
 //! How the command ends.
 
-ghost use Rattle.std.specs.Prelude.{◌≡◌};
+ghost use Rattle.std.specs.Prelude.{◌≡◌, IfOk};
+ghost use Rattle.std.specs.String.{string_bytes};
 ghost use Rattle.ldso_cli.specs.End.{bare, end_of};
-ghost use Rattle.ldso_cli.specs.Status.{status_of, status_of_cause, status_of_fault};
+ghost use Rattle.ldso_cli.specs.Status.{refused_text, status_of, status_of_cause, status_of_fault};
 
 use ld_base::{AsmCause, DlFault};
 use run_texts::{RunEnd, RunRecord};
@@ -60,6 +61,11 @@ pub(crate) fn status_of_fault(fault: &DlFault) -> u8
 }
 
 /// The last line where a refusal ends the command.
+///
+/// # Errors
+///
+/// Want of memory.
+#[tactic(auto, unfolding(crate::specs::Status::refused_text))]
 pub(crate) fn refused_line(alloc: Global, fault: &DlFault) -> Result<String, AllocError>
     ensures { IfOk result (λ line. string_bytes line ≡ refused_text fault.now) }
 {
