@@ -7,6 +7,7 @@ pub mod Dumping
 pub mod Ending
 pub mod Same
 pub mod Schedules
+pub mod Turned
 pub mod Turning
 pub mod Whole
 pub mod Written

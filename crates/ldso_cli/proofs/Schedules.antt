@@ -9,7 +9,7 @@ use Rattle.std.proofs.lemmas.Str.{IsAscii-append, IsUtf8-from_ascii}
 use Rattle.std.proofs.lemmas.Str.Ascii.{IsAscii-cons, IsAscii-nil}
 use Rattle.std.specs.Char.{digit_value}
 use Rattle.std.specs.Fmt.{decimal}
-use Rattle.std.specs.List.{All, slice_split, join_with_byte}
+use Rattle.std.specs.List.{All, Contains, slice_index_or, slice_split, join_with_byte}
 use Rattle.std.specs.Str.{IsAscii, IsUtf8, bytes_eq}
 use Rattle.std.specs.Str.Parse.{AllDigits}
 use Rattle.schedules.specs.Grammar.{AreItems, IsItem, SaysTurns, parts_of}
@@ -268,3 +268,16 @@ schedule_ascii harts text items few (SaysTurns.by_items _ are) = subst IsAscii (
 
 pub schedule_utf8 : (harts : ℕ) (text : List ℕ) (items : List TurnItem) → harts ≤ 2 ^ 32 → SaysTurns harts text items → IsUtf8 text
 schedule_utf8 harts text items few says = IsUtf8-from_ascii text (schedule_ascii harts text items few says)
+
+-- ---- its harts
+
+item_within : (harts : ℕ) (texts : List (List ℕ)) (items : List TurnItem) (k : ℕ) (item d : TurnItem) → AreItems harts texts items → k < length items → slice_index_or items k d ≡ item → item.hart < harts
+item_within harts [] [] k item d are below is = absurd (omega (arith, below))
+item_within harts [] (x ∷ items) k item d are below is = absurd are
+item_within harts (text ∷ texts) [] k item d are below is = absurd are
+item_within harts (text ∷ texts) (x ∷ items) zero item d are below is = subst (λ (i : TurnItem). i.hart < harts) is are.0.hart
+item_within harts (text ∷ texts) (x ∷ items) (suc k) item d are below is = item_within harts texts items k item d are.1 (omega (arith, below)) is
+
+pub within : (harts : ℕ) (text : List ℕ) (items : List TurnItem) (item : TurnItem) → SaysTurns harts text items → Contains items item → item.hart < harts
+within harts text items item (SaysTurns.in_order is) there = (let below : there.0 < 0 = there.1 in absurd (omega (arith, below)))
+within harts text items item (SaysTurns.by_items _ are) there = item_within harts (parts_of text) items there.0 item item are there.1 there.2

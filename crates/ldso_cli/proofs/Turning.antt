@@ -97,8 +97,7 @@ same_told one world end end' text text' p q =
     let journal : p.kept.journal.events ≡ q.kept.journal.events = p.journal ∙ sym q.journal in
     let ends : p.kept.ends ≡ q.kept.ends = same_ends p.kept.ends q.kept.ends (sym p.ends ∙ q.ends) in
     let decides : IsRunEnd p.kept.ends q.run_end = subst (λ (l : List HartEnd). IsRunEnd l q.run_end) (sym ends) q.decides in
-    let run_end : p.run_end ≡ q.run_end = one p.kept.ends p.run_end q.run_end p.decides decides in
-    (
+    let run_end : p.run_end ≡ q.run_end = one p.kept.ends p.run_end q.run_end p.decides decides in (
       one_end end end' (causes.Ran p.run_end) (causes.Ran q.run_end) p.kept q.kept p.end_is q.end_is (ap causes.Ran run_end) (show_one p.kept q.kept journal ends),
       p.text_is ∙ ap (λ (e : RunEnd). journal_lines world.journal ++ end_line e) run_end ∙ sym q.text_is,
     )
@@ -108,10 +107,9 @@ module _ (law : RunLaw) (turns : Turns) (files : List File) (few : harts_of turn
   not_run p q =
       let known = of_cause end p.fault (ap (λ (e : End). e.cause) p.tells.end_is) quiet in
       let known' = of_cause end' q.fault (ap (λ (e : End). e.cause) q.tells.end_is) quiet' in
-      let same = law.fails (run_of turns.setup (Some files)) turns.setup files p.events q.events p.fault q.fault refl p.fails q.fails known known' in
-      (
+      let same = law.fails (run_of turns.setup (Some files)) turns.setup files p.events q.events p.fault q.fault refl p.fails q.fails known known' in (
         one_end end end' (causes.Refused p.fault) (causes.Refused q.fault) p.tells.kept q.tells.kept p.tells.end_is q.tells.end_is (ap causes.Refused same.0)
-        (show_one p.tells.kept q.tells.kept (p.tells.journal ∙ same.1 ∙ sym q.tells.journal) (p.tells.no_ends ∙ sym q.tells.no_ends)),
+            (show_one p.tells.kept q.tells.kept (p.tells.journal ∙ same.1 ∙ sym q.tells.journal) (p.tells.no_ends ∙ sym q.tells.no_ends)),
         p.tells.text_is ∙ (λ i. journal_lines (same.1 i) ++ refused_text (same.0 i)) ∙ sym q.tells.text_is,
       )
 

@@ -70,7 +70,8 @@ pub(crate) fn refused_line(alloc: Global, fault: &DlFault) -> Result<String, All
     ensures { IfOk result (λ line. string_bytes line ≡ refused_text fault.now) }
 {
     let status = status_of_fault(fault);
-    format!(in alloc; "end {status} {fault}\n")
+    let line = format!(in alloc; "end {status} {fault}\n")?;
+    Ok(line)
 }
 
 fn status_of_cause(cause: &Cause) -> u8

@@ -19,6 +19,7 @@ use ld_base::{DlFault, Name};
 use library_source::Library;
 use link_event::{Ends, Journal};
 use link_served::StartFault;
+use link_service::served_calls_are_legal;
 use plain_world::{World, played_worlds_are_runs};
 use run_texts::{RunEnd, RunRecord, events_are_sayable, journal_text};
 use schedule_read::{TurnsFault, read_turns};
@@ -30,11 +31,7 @@ use world_turns::runs_stay_sound;
 /// # Errors
 ///
 /// `NotTurns` where it is none, or want of memory.
-fn items_of(
-    alloc: Global,
-    schedule: &Name,
-    harts: u32,
-) -> Result<schedules::Turns, TurnsFault>
+fn items_of(alloc: Global, schedule: &Name, harts: u32) -> Result<schedules::Turns, TurnsFault>
     ensures says { IfOk result (SaysTurns harts schedule.now) }
     ensures not_turns { IfErr result (λ fault. fault ≡ NotTurns → (items : List TurnItem) → SaysTurns harts schedule.now items → ⊥) }
 {
@@ -96,6 +93,7 @@ fn play<L: Library>(
     played_worlds_are_runs();
     accepted_object();
     runs_stay_sound();
+    served_calls_are_legal();
     events_are_sayable();
     match World::start(alloc, &command.setup, library) {
         Ok(mut run) => {
