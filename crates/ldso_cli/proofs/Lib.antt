@@ -5,6 +5,7 @@ pub mod Causes
 pub mod Decided
 pub mod Dumping
 pub mod Ending
+pub mod Kept
 pub mod Same
 pub mod Schedules
 pub mod Turned

@@ -14,6 +14,6 @@ mod outcome;
 mod top;
 mod turns;
 
-pub use law::{one_answer, one_end, one_text};
+pub use law::{kept_runs_are_legal, one_answer, one_end, one_text, startable_programs_run};
 pub use outcome::{Cause, End, Outcome};
 pub use top::ldso;
