@@ -10,7 +10,7 @@ use Rattle.link_event.specs.declared.event.Event.{Event}
 use Rattle.link_history.specs.Legal.{Legal, Whole}
 use Rattle.link_history.specs.Setting.{Setting}
 use Rattle.link_service.specs.Laws.{FailsLegal, StartsOrFails, is_read_fault}
-use Rattle.link_startup.specs.Startup.{MayStart}
+use Rattle.link_startup.specs.Startup.{CanStart}
 use Rattle.opening_plan.specs.Startup.{run_of}
 use Rattle.world_turns.specs.Throughout.{RunsAreSound}
 use Rattle.world_whole.specs.Laws.{RunsAreWhole}
@@ -59,7 +59,7 @@ read_fault (dl.ReadFault path) e = record { path = path; is = refl }
 read_fault _ e = absurd (true≢false (sym e))
 
 not_refused : StartsOrFails → (turns : Turns) (before after : LibraryAt) (files : List File) (end : End) (text : List ℕ) → before.files ≡ Some files → (Rises before.faults after.faults → ⊥)
-    → MayStart (run_of turns.setup before.files) turns.setup → TurnsComes turns before after end text → IsNotRun turns before.files end text → ⊥
+    → CanStart (run_of turns.setup before.files) turns.setup → TurnsComes turns before after end text → IsNotRun turns before.files end text → ⊥
 not_refused starts turns before after files end text told still may comes p =
     let fault = read_fault p.fault (starts (run_of turns.setup before.files) turns.setup files may.root may.added may.ranges may.found p.events may.addresses p.fault told may.opens may.finds p.fails) in
     still (comes.read_fault fault.path (ap (λ (e : End). e.cause) p.tells.end_is ∙ ap causes.Refused fault.is))

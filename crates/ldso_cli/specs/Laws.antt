@@ -4,7 +4,7 @@ use Rattle.ld_base.specs.declared.linking.File.{File}
 use Rattle.library_source.specs.Count.{Rises}
 use Rattle.command_line.specs.declared.command.Turns.{Turns}
 use Rattle.link_history.specs.Legal.{Legal, Whole}
-use Rattle.link_startup.specs.Startup.{MayStart}
+use Rattle.link_startup.specs.Startup.{CanStart}
 use Rattle.opening_plan.specs.Startup.{run_of}
 use Rattle.ldso_cli.specs.End.{events_kept}
 use Rattle.ldso_cli.specs.Outside.{LibraryAt}
@@ -24,5 +24,5 @@ KeepsWhole = (turns : Turns) (files : Option (List File)) (end : End) (text : Li
 -- a program that may start over files that are told runs, where no read fails
 abbrev pub RunsWhereItMay : Type 0
 RunsWhereItMay = (turns : Turns) (before after : LibraryAt) (files : List File) (end : End) (text : List ℕ) → before.files ≡ Some files
-    → ¬ (Rises before.faults after.faults) → MayStart (run_of turns.setup before.files) turns.setup → TurnsComes turns before after end text
+    → ¬ (Rises before.faults after.faults) → CanStart (run_of turns.setup before.files) turns.setup → TurnsComes turns before after end text
     → IsRun turns before.files end text
