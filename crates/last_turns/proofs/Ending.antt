@@ -1,5 +1,5 @@
 -- Want of memory behind final destructors ends the hart.
-use Rattle.std.proofs.Common.{◌≡◌, ℕ, inr, List, [], ◌∷◌, Option, Some, None, refl, sym, ap, subst, ◌∙◌}
+use Rattle.std.proofs.Common.{◌≡◌, ℕ, inr, List, [], ◌∷◌, Option, Some, None, refl, sym, subst}
 use Rattle.link_event.specs.declared.event.Event.TheVariants.{Ended}
 use Rattle.link_event.specs.declared.hart_end.HartEnd.{HartEnd}
 use Rattle.link_event.specs.declared.hart_end.HartEnd.TheVariants.{Memory}

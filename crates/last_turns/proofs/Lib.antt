@@ -1,3 +1,4 @@
-pub mod Beginning
-pub mod Carrying
+pub mod Carried
 pub mod Ending
+pub mod Places
+pub mod Starting

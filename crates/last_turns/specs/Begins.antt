@@ -1,5 +1,5 @@
 -- How the final destructors of a run begin.
-use Rattle.std.specs.Prelude.{◌≡◌, ℕ, false, List, []}
+use Rattle.std.specs.Prelude.{◌≡◌, ℕ, Bool, true, false, List, []}
 use Rattle.link_history.specs.After.{after}
 use Rattle.link_history.specs.Setting.{Setting}
 use Rattle.link_state.specs.Table.{LinkTable}
@@ -22,6 +22,11 @@ IsBeforeFinals state harts = (words : List Doubleword) × (folders : List (List 
 -- in each run on this machine there was no memory for them
 abbrev pub LacksMemoryOn : ℕ → World → World → Type 0
 LacksMemoryOn count old new = (w : Setting) → IsOn (machine_of count) w → LacksMemory w old new
+
+-- by whether an object is left, where there is memory
+abbrev pub begun_if : Bool → Beginning
+begun_if true = begins.Begun
+begun_if false = begins.NoneLeft
 
 -- no object is left, and nothing has changed; or the first hart begins with the one that comes first; or there is no memory
 abbrev pub BeginsWith : ℕ → Registers → World → World → Beginning → Type 0

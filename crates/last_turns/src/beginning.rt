@@ -4,7 +4,7 @@ ghost use Rattle.std.specs.Prelude.{◌≡◌, ◌<◌, List, length, Some, IsTr
 ghost use Rattle.std.specs.List.{list_all};
 ghost use Rattle.guest_worlds.specs.Worlds.{world_of};
 ghost use Rattle.hart_moves.specs.Starting.{starting_registers};
-ghost use Rattle.last_turns.specs.Begins.{BeginsWith, IsBeforeFinals, LacksMemoryOn};
+ghost use Rattle.last_turns.specs.Begins.{BeginsWith, IsBeforeFinals, LacksMemoryOn, begun_if};
 ghost use Rattle.rv_hart.specs.declared.doubleword.Doubleword.{Doubleword};
 ghost use Rattle.settled_harts.specs.Settling.{harts_in};
 ghost use Rattle.world_ends.specs.Ends.{has_exited};
@@ -48,9 +48,19 @@ pub fn begin_finals(
     guests_may_turn();
     let code = exit_code(&harts[0]);
     match begin(alloc, state, &mut harts[0], entry, code) {
-        Ok(true) => Beginning::Begun,
-        Ok(false) => Beginning::NoneLeft,
+        Ok(some) => begun_if(some),
         Err(_) => lack_memory(state, harts),
+    }
+}
+
+/// How they begin, by whether an object is left.
+fn begun_if(some: bool) -> Beginning
+    ensures { result ≡ begun_if some }
+{
+    if some {
+        Beginning::Begun
+    } else {
+        Beginning::NoneLeft
     }
 }
 
@@ -65,7 +75,8 @@ fn lack_memory(state: &mut LinkState, harts: &mut [LinkedHart]) -> Beginning
     ensures count { state.new.harts ≡ state.old.harts }
 {
     guests_may_turn();
-    end_hart(state, harts, HartId::new(0), HartEnd::Memory);
+    let first = HartId::new(0);
+    end_hart(state, harts, first, HartEnd::Memory);
     Beginning::Memory
 }
 

@@ -2,4 +2,3 @@ pub mod Arms
 pub mod Ended
 pub mod Own
 pub mod There
-pub mod Turns

@@ -1,2 +1,3 @@
--- Lemmas on lists of harts that proofs of the crates above cite, too. They define nothing that a contract means.
+-- Lemmas that proofs of the crates above cite, too. They define nothing that a contract means.
 pub mod Places
+pub mod Turns

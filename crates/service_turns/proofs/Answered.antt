@@ -1,5 +1,5 @@
 -- What an answered call comes to: the room that it takes, what it waits for, and which of its events comes first.
-use Rattle.std.proofs.Common.{◌≡◌, ℕ, ◌<◌, Bool, true, false, List, [], ◌∷◌, ◌++◌, Option, Some, None, Result, Ok, Err, refl, sym, ap, subst, ◌∙◌, append_assoc}
+use Rattle.std.proofs.Common.{◌≡◌, ℕ, ◌<◌, Bool, true, false, List, [], ◌∷◌, ◌++◌, Option, Some, refl, sym, ap, subst, ◌∙◌, append_assoc}
 use Rattle.std.proofs.lemmas.Bool.{true≢false}
 use Rattle.std.proofs.lemmas.List.{append_cancel_left}
 use Rattle.std.specs.Prelude.{IsTrue}
@@ -10,7 +10,6 @@ use Rattle.link_event.specs.declared.event.Event.{Event}
 use Rattle.link_event.specs.declared.event.Event.TheVariants as events
 use Rattle.link_event.specs.declared.event.OpenAnswer.TheVariants as openings
 use Rattle.link_event.specs.declared.event.OpenAsk.{OpenAsk}
-use Rattle.link_event.specs.declared.hart_end.HartEnd.{HartEnd}
 use Rattle.link_event.specs.declared.hart_end.HartEnd.TheVariants as ends
 use Rattle.link_history.specs.After.{after}
 use Rattle.link_history.specs.Setting.{Setting}
@@ -18,12 +17,12 @@ use Rattle.link_served.specs.declared.installs.Installs.{Installs}
 use Rattle.link_service.specs.Answer.{Answer, returns, loading, closing, refused, granted, told, again, over}
 use Rattle.link_service.specs.Call.{Call, resolves, opens, looks_up, closes, unmaps, asks_fault, locates, writes, stops}
 use Rattle.link_service.specs.Ends.{EndsAs, takes_memory}
-use Rattle.link_service.specs.Gives.{Answers, Gives, Serves, ending}
+use Rattle.link_service.specs.Gives.{Answers, Gives, ending}
 use Rattle.link_service.specs.Waiting.{Shows}
 use Rattle.link_state.specs.Table.{LinkTable, appended}
 use Rattle.lawful_journal.specs.Following.{machine_of}
 use Rattle.call_laws.specs.Coming.{IsOver}
-use Rattle.hart_moves.specs.Due.{Due, Return, due}
+use Rattle.hart_moves.specs.Due.{Due, due}
 use Rattle.hart_moves.specs.Harts.{HartState}
 use Rattle.turn_answers.specs.Answered.{AnswersTurn, IsAnswered}
 use Rattle.turn_answers.specs.Turn.{TakesService}
@@ -36,7 +35,7 @@ use Rattle.answer_turns.specs.Answering.{WasAnswered, runs_functions}
 use Rattle.guest_worlds.specs.declared.turn.Turn.{Turn}
 use Rattle.guest_worlds.specs.declared.turn.Turn.TheVariants as turn
 use Rattle.service_turns.specs.Asking.{may_run_by, may_run_functions}
-use Rattle.service_turns.specs.Next.{TurnShows, TurnWaits}
+use Rattle.service_turns.specs.Next.{TurnWaits}
 use Rattle.service_turns.specs.Taking.{MakesCall}
 use Rattle.service_turns.proofs.Moved.{is_over, setting_with}
 

@@ -1,10 +1,11 @@
 -- The harts of a run whose grants are settled, and what is due for one.
-use Rattle.std.proofs.Common.{◌≡◌, ℕ, suc, zero, ◌<◌, Bool, true, false, ◌||◌, List, [], ◌∷◌, map, length, get_or, Option, Some, None, refl, sym, ap, subst, ◌∙◌}
+use Rattle.std.proofs.Common.{◌≡◌, ℕ, suc, zero, ◌<◌, Bool, true, false, ◌||◌, List, [], ◌∷◌, map, length, get_or, Option, Some, None, Result, Ok, Err, OnErr, OnOk, refl, sym, ap, ◌∙◌}
 use Rattle.std.proofs.Math.ListN.{set}
 use Rattle.std.proofs.lemmas.Bool.{or_right, true≢false}
 use Rattle.std.proofs.lemmas.Option.{slice_get-get_or, slice_get-map}
 use Rattle.std.specs.List.{slice_get}
 use Rattle.std.specs.Option.{option_map}
+use Rattle.std.specs.Result.{is_err}
 use Rattle.link_event.specs.declared.hart_end.HartEnd.{HartEnd}
 use Rattle.link_history.specs.State.{State}
 use Rattle.link_service.specs.Call.{Call}
@@ -19,22 +20,22 @@ use Rattle.service_turns.specs.Asking.{asks_linker}
 
 -- ---- as lists
 
-hart_in : HartTable → HartState
-hart_in t = t.hart
-
 pub harts_freed : (hs : List HartTable) → harts_in (map freed_in hs) ≡ map freed (harts_in hs)
 harts_freed [] = refl
 harts_freed (t ∷ rest) = ap (λ (bs : List HartState). freed t.hart ∷ bs) (harts_freed rest)
 
-pub harts_set : (hs : List HartTable) (i : ℕ) (t : HartTable) → harts_in (set hs i t) ≡ set (harts_in hs) i t.hart
-harts_set [] i t = refl
-harts_set (x ∷ rest) zero t = refl
-harts_set (x ∷ rest) (suc i) t = ap (λ (bs : List HartState). x.hart ∷ bs) (harts_set rest i t)
+set_in : (hs : List HartTable) (i : ℕ) (t : HartTable) → harts_in (set hs i t) ≡ set (harts_in hs) i t.hart
+set_in [] i t = refl
+set_in (x ∷ rest) zero t = refl
+set_in (x ∷ rest) (suc i) t = ap (λ (bs : List HartState). x.hart ∷ bs) (set_in rest i t)
 
-pub hart_at : (hs : List HartTable) (i : ℕ) (t : HartTable) → i < length hs → t ≡ get_or hs i t → slice_get (harts_in hs) i ≡ Some t.hart
-hart_at hs i t lt is =
-    slice_get-map (λ (x : HartTable). x.hart) hs i
-    ∙ ap (option_map (λ (x : HartTable). x.hart)) (slice_get-get_or hs i t lt ∙ ap (λ (x : HartTable). Some x) (sym is))
+pub harts_set : (hs : List HartTable) (i h : ℕ) (t : HartTable) → i ≡ h → harts_in (set hs i t) ≡ set (harts_in hs) h t.hart
+harts_set hs i h t same = set_in hs i t ∙ ap (λ (n : ℕ). set (harts_in hs) n t.hart) same
+
+pub hart_at : (hs : List HartTable) (i h : ℕ) (d : HartTable) → i ≡ h → h < length hs → slice_get (harts_in hs) h ≡ Some (get_or hs i d).hart
+hart_at hs i h d same lt =
+    slice_get-map (λ (x : HartTable). x.hart) hs h
+    ∙ ap (option_map (λ (x : HartTable). x.hart)) (slice_get-get_or hs h d lt ∙ ap (λ (n : ℕ). Some (get_or hs n d)) (sym same))
 
 pub freed_at : (bs : List HartState) (i : ℕ) (b : HartState) → slice_get bs i ≡ Some b → slice_get (map freed bs) i ≡ Some (freed b)
 freed_at bs i b at = slice_get-map freed bs i ∙ ap (option_map freed) at
@@ -98,3 +99,13 @@ runs_on s b asks = by b.«end» refl
     by : (e : Option HartEnd) → b.«end» ≡ e → b.«end» ≡ None
     by None is = is
     by (Some reason) is = absurd (true≢false (sym asks ∙ ap asks_linker (ended_due s b reason is)))
+
+-- ---- what a call of a function answered
+
+pub on_ok : {T E : Type 0} (r : Result T E) (P : Type 0) → is_err r ≡ false → OnOk r P → P
+on_ok (Ok x) P none p = p
+on_ok (Err e) P none p = absurd (true≢false none)
+
+pub on_err : {T E : Type 0} (r : Result T E) (P : Type 0) → is_err r ≡ true → OnErr r P → P
+on_err (Ok x) P some p = absurd (true≢false (sym some))
+on_err (Err e) P some p = p

@@ -1,5 +1,5 @@
 -- A turn that asks the linker makes no call of the bus, and its history is legal.
-use Rattle.std.proofs.Common.{◌≡◌, ℕ, Bool, true, false, List, [], ◌∷◌, ◌++◌, Option, Some, None, refl, sym, ap, subst, ◌∙◌, append-nil}
+use Rattle.std.proofs.Common.{◌≡◌, ℕ, true, List, [], ◌∷◌, ◌++◌, Option, Some, None, refl, sym, subst, append-nil}
 use Rattle.std.proofs.lemmas.Bool.{true≢false}
 use Rattle.ld_base.specs.declared.fault.DlFault.{DlFault}
 use Rattle.ld_base.specs.declared.fault.Shown.{Shown}
@@ -9,7 +9,6 @@ use Rattle.link_history.specs.After.{after}
 use Rattle.link_history.specs.Legal.{Legal}
 use Rattle.link_history.specs.Setting.{Setting}
 use Rattle.link_history.specs.Lemmas.History.{legal_push, one_behind}
-use Rattle.link_served.specs.declared.installs.Installs.{Installs}
 use Rattle.link_service.specs.Answer.{Answer, returns, loading, closing, refused, granted, told, again, over}
 use Rattle.link_service.specs.Call.{Call}
 use Rattle.lawful_journal.specs.Following.{machine_of}

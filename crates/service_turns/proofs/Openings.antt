@@ -1,9 +1,8 @@
 -- An opening that finds all that it needs opens, unless a read fails or memory is wanted.
-use Rattle.std.proofs.Common.{◌≡◌, ◌⊎◌, inl, inr, ℕ, Bool, true, false, List, [], ◌∷◌, ◌++◌, Option, Some, None, refl, sym, ap, subst, ◌∙◌, append_assoc, append-nil}
+use Rattle.std.proofs.Common.{◌≡◌, ◌⊎◌, inl, inr, ℕ, Bool, true, false, List, [], ◌∷◌, ◌++◌, Option, Some, None, refl, sym, ap, subst, ◌∙◌, append-nil}
 use Rattle.std.proofs.lemmas.Bool.{true≢false}
 use Rattle.ld_base.specs.declared.fault.DlFault.{DlFault}
 use Rattle.ld_base.specs.declared.fault.DlFault.TheVariants as faults
-use Rattle.ld_base.specs.declared.fault.Shown.{Shown}
 use Rattle.ld_base.specs.declared.linking.File.{File}
 use Rattle.ld_base.specs.declared.linking.Loaded.{Loaded}
 use Rattle.library_source.specs.Count.{Rises}
@@ -22,8 +21,6 @@ use Rattle.link_service.specs.Call.{Call, opens}
 use Rattle.link_service.specs.Gives.{Answers, Gives, Serves, ending}
 use Rattle.link_service.specs.Laws.{PassedOpens, is_chance, is_memory, is_read_fault}
 use Rattle.link_state.specs.Table.{LinkTable}
-use Rattle.lawful_journal.specs.Following.{machine_of}
-use Rattle.call_laws.specs.Coming.{IsOver}
 use Rattle.rv_hart.specs.declared.doubleword.Doubleword.{Doubleword}
 use Rattle.hart_moves.specs.Due.{Due, Return, due}
 use Rattle.hart_moves.specs.Harts.{HartState}

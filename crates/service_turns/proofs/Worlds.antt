@@ -1,42 +1,36 @@
 -- A hart's turn behind the settling is one turn of the run.
-use Rattle.std.proofs.Common.{◌≡◌, ℕ, ◌<◌, Bool, true, false, ◌||◌, List, [], ◌∷◌, ◌++◌, map, length, get_or, Option, Some, None, refl, sym, ap, subst, ◌∙◌, arith}
+use Rattle.std.proofs.Common.{◌≡◌, ℕ, ◌<◌, Bool, true, List, ◌++◌, map, length, get_or, Option, Some, None, sym, ap, subst, ◌∙◌}
 use Rattle.std.proofs.Math.ListN.{set}
 use Rattle.std.proofs.lemmas.Bool.{true≢false}
 use Rattle.std.proofs.lemmas.List.{length-map}
 use Rattle.std.specs.List.{slice_get}
-use Rattle.ld_base.specs.declared.fault.Shown.{Shown}
 use Rattle.ld_base.specs.declared.linking.File.{File}
 use Rattle.link_event.specs.declared.event.Event.{Event}
-use Rattle.link_event.specs.declared.hart_end.HartEnd.{HartEnd}
 use Rattle.link_history.specs.After.{after}
-use Rattle.link_history.specs.Setting.{Setting}
+use Rattle.link_history.specs.State.{State}
 use Rattle.link_service.specs.Call.{Call}
 use Rattle.link_state.specs.Table.{LinkTable}
-use Rattle.lawful_journal.specs.Following.{machine_of}
-use Rattle.call_laws.specs.Coming.{IsOn, IsOver}
 use Rattle.rv_hart.specs.declared.doubleword.Doubleword.{Doubleword}
 use Rattle.hart_moves.specs.Due.{Due, Return, due}
 use Rattle.hart_moves.specs.Harts.{HartState}
 use Rattle.hart_moves.specs.Moves.{events_of, freed}
 use Rattle.hart_seat.specs.Table.{HartTable}
 use Rattle.turn_parts.specs.Freed.{FreedIsDue, FreedTakesTurns}
-use Rattle.turn_answers.specs.Following.{MayFollowAll}
 use Rattle.call_answers.specs.Answers.{is_service}
 use Rattle.call_answers.specs.Openings.{TurnRefusalIsCounted}
 use Rattle.answer_turns.specs.Completing.{MayPass, is_complete}
 use Rattle.settled_harts.specs.Settling.{freed_in, harts_in}
 use Rattle.world_turns.specs.Run.{settled}
 use Rattle.world_turns.specs.Turn.{Turn as one_turn}
-use Rattle.world_turns.specs.World.{World, settling}
+use Rattle.world_turns.specs.World.{settling}
 use Rattle.guest_worlds.specs.Coming.{Comes}
 use Rattle.guest_worlds.specs.Laws.{CallsNow, MaySettle, PassesNow, ServiceTurns, SettlesNow}
 use Rattle.guest_worlds.specs.Worlds.{IsAt, TurnsOver, world_of}
 use Rattle.guest_worlds.specs.declared.turn.Turn.{Turn}
 use Rattle.guest_worlds.specs.declared.turn.Turn.TheVariants as turn
-use Rattle.service_turns.specs.Asking.{AsksNothing, IsAsked, asks_linker}
-use Rattle.service_turns.specs.Next.{NextRefusalIsCounted, OfNext, TurnOpens, TurnWaits}
+use Rattle.service_turns.specs.Next.{OfNext, TurnOpens}
 use Rattle.service_turns.specs.Taking.{HartTurns, HartTurnsOn, HartTurnsOver, IsLegal, IsOutcome, MakesCall}
-use Rattle.service_turns.proofs.Freed.{IsServe, asks_of_complete, asks_of_service, freed_at, freed_twice, hart_at, harts_freed, harts_set, left_at, runs_on, same_hart, serve_of}
+use Rattle.service_turns.proofs.Freed.{IsServe, freed_at, freed_twice, hart_at, harts_freed, left_at, same_hart, serve_of}
 
 -- ---- a turn that asks for something else
 
@@ -46,9 +40,6 @@ serves_not_complete call back is = true≢false (sym is)
 pub not_call : (d : Due) (call : Call) (back : Return) → is_complete d ≡ true → d ≡ Due.serve call back → ⊥
 not_call d call back complete is = serves_not_complete call back (sym (ap is_complete is) ∙ complete)
 
-pub not_asked : (d : Due) (call : Call) (back : Return) → asks_linker d ≡ false → d ≡ Due.serve call back → ⊥
-not_asked d call back none is = true≢false (ap asks_linker (sym is) ∙ none)
-
 pub none_counted : (folders : List (List ℕ)) (past journal : List Event) (h : ℕ) (d : Due) (failures failures' misses misses' : ℕ)
     → ((call : Call) (back : Return) → d ≡ Due.serve call back → ⊥) → TurnRefusalIsCounted folders past journal h d failures failures' misses misses'
 none_counted folders past journal h d failures failures' misses misses' other = λ ask back is. absurd (other _ back is)
@@ -56,27 +47,6 @@ none_counted folders past journal h d failures failures' misses misses' other = 
 pub none_opens : (count : ℕ) (folders : List (List ℕ)) (files : Option (List File)) (failures failures' : ℕ) (past journal : List Event) (h : ℕ) (came : Turn) (d : Due)
     → ((call : Call) (back : Return) → d ≡ Due.serve call back → ⊥) → TurnOpens count folders files failures failures' past journal h came d
 none_opens count folders files failures failures' past journal h came d other = λ ask back told is. absurd (other _ back is)
-
-pub none_waits : (count : ℕ) (folders : List (List ℕ)) (files : Option (List File)) (past : List Event) (h : ℕ) (came : Turn) (d : Due)
-    → ((shown : Shown) → came ≡ turn.Again shown → ⊥) → TurnWaits count folders files past h came d
-none_waits count folders files past h came d goes = λ shown is. absurd (goes shown is)
-
--- ---- nothing is asked for
-
-module _ (state : LinkTable) (words : List Doubleword) (harts : List HartTable) (h : ℕ) (t : HartTable) (there : slice_get (harts_in harts) h ≡ Some t.hart)
-    (none : (s : _) → IsAsked (due s t.hart) None) where
-  pub asks_nothing : AsksNothing (world_of state words harts) h
-  asks_nothing b at =
-      subst (λ (x : HartState). asks_linker (due (after state.events) x) ≡ false) (same_hart (slice_get (harts_in harts) h) t.hart b there at) (none (after state.events))
-
-  pub nothing_counted : (folders : List (List ℕ)) (journal : List Event) (failures failures' misses misses' : ℕ)
-      → NextRefusalIsCounted folders (world_of state words harts) journal h failures failures' misses misses'
-  nothing_counted folders journal failures failures' misses misses' = λ b at.
-      let past : List Event = (settled (world_of state words harts)).journal in
-      none_counted folders past journal h (due (after past) b) failures failures' misses misses'
-      (λ call back is.
-      not_asked (due (after past) b) call back
-      (subst (λ (x : HartState). asks_linker (due (after past) x) ≡ false) (same_hart (slice_get (harts_in harts) h) t.hart b there at) (none (after past))) is)
 
 -- ---- behind the settling
 
@@ -87,41 +57,48 @@ pub record Behind (old mid : LinkTable) (words : List Doubleword) (harts after_a
   pub there : slice_get (harts_in harts) h ≡ Some b
   pub hart : b' ≡ freed b
 
-pub behind : (old mid : LinkTable) (words : List Doubleword) (harts after_all : List HartTable) (h : ℕ) (t t' : HartTable)
-    → mid ≡ record old { events = old.events ++ settling (harts_in harts) } → after_all ≡ map freed_in harts
-    → slice_get (harts_in harts) h ≡ Some t.hart → h < length after_all → t' ≡ get_or after_all h t' → Behind old mid words harts after_all h t.hart t'.hart
-behind old mid words harts after_all h t t' state all there lt is = record {
+pub behind : (old mid : LinkTable) (words : List Doubleword) (harts after_all : List HartTable) (i h : ℕ) (d d' : HartTable)
+    → mid ≡ record old { events = old.events ++ settling (harts_in harts) } → after_all ≡ map freed_in harts → i ≡ h → h < length harts
+    → Behind old mid words harts after_all h (get_or harts i d).hart (get_or after_all i d').hart
+behind old mid words harts after_all i h d d' state all same lt = record {
   state = state;
   all = settled_all;
   there = there;
-  hart = same_hart (slice_get (harts_in after_all) h) t'.hart (freed t.hart) (hart_at after_all h t' lt is)
-      (ap (λ (bs : List HartState). slice_get bs h) settled_all ∙ freed_at (harts_in harts) h t.hart there);
+  hart = same_hart (slice_get (harts_in after_all) h) (get_or after_all i d').hart (freed (get_or harts i d).hart) (hart_at after_all i h d' same lt_all)
+      (ap (λ (bs : List HartState). slice_get bs h) settled_all ∙ freed_at (harts_in harts) h (get_or harts i d).hart there);
 }
   where
     settled_all : harts_in after_all ≡ map freed (harts_in harts)
     settled_all = ap harts_in all ∙ harts_freed harts
 
+    there : slice_get (harts_in harts) h ≡ Some (get_or harts i d).hart
+    there = hart_at harts i h d same lt
+
+    lt_all : h < length after_all
+    lt_all = subst (λ (n : ℕ). h < n) (sym (ap (λ (ts : List HartTable). length ts) all ∙ length-map harts freed_in)) lt
+
 module _ (old mid : LinkTable) (words : List Doubleword) (harts after_all : List HartTable) (h : ℕ) (b b' : HartState)
     (x : Behind old mid words harts after_all h b b') (same_due : FreedIsDue) where
-  world : World
-  world = world_of old words harts
-
   abbrev past : List Event
   past = (settled (world_of old words harts)).journal
+
+  as_due : (s : State) → due s b' ≡ due s b
+  as_due s = ap (due s) x.hart ∙ same_due s b
+
+  pub completes : ((s : State) → is_complete (due s b) ≡ true) → is_complete (due (after mid.events) b') ≡ true
+  completes complete = ap is_complete (as_due (after mid.events)) ∙ complete (after mid.events)
 
   -- what holds there of the state and of the hart holds of the run
   pub of_next : (Holds : ℕ → List Event → Due → Type 0) → Holds mid.harts mid.events (due (after mid.events) b') → OfNext (world_of old words harts) h (Holds old.harts)
   of_next Holds holds = λ c at.
       let in_past : Holds old.harts past (due (after past) b') = subst (λ (t : LinkTable). Holds t.harts t.events (due (after t.events) b')) x.state holds in
-      let of_freed : Holds old.harts past (due (after past) (freed b)) = subst (λ (y : HartState). Holds old.harts past (due (after past) y)) x.hart in_past in
-      let of_hart : Holds old.harts past (due (after past) b) = subst (Holds old.harts past) (same_due (after past) b) of_freed in
+      let of_hart : Holds old.harts past (due (after past) b) = subst (Holds old.harts past) (as_due (after past)) in_past in
       subst (λ (y : HartState). Holds old.harts past (due (after past) y)) (same_hart (slice_get (harts_in harts) h) b c x.there at) of_hart
 
   -- and the other way round
   pub from_next : (Holds : ℕ → List Event → Due → Type 0) → OfNext (world_of old words harts) h (Holds old.harts) → Holds mid.harts mid.events (due (after mid.events) b')
   from_next Holds holds =
-      let of_freed : Holds old.harts past (due (after past) (freed b)) = subst (Holds old.harts past) (sym (same_due (after past) b)) (holds b x.there) in
-      let in_past : Holds old.harts past (due (after past) b') = subst (λ (y : HartState). Holds old.harts past (due (after past) y)) (sym x.hart) of_freed in
+      let in_past : Holds old.harts past (due (after past) b') = subst (Holds old.harts past) (sym (as_due (after past))) (holds b x.there) in
       subst (λ (t : LinkTable). Holds t.harts t.events (due (after t.events) b')) (sym x.state) in_past
 
   -- ---- what the turn meets
@@ -135,23 +112,15 @@ module _ (old mid : LinkTable) (words : List Doubleword) (harts after_all : List
         subst (λ (t : LinkTable). IsLegal t.harts folders t.events) (sym x.state)
         (record { preload = settled_at.at.preload; legal = settled_at.at.running.sound.legal })
 
-    pub hart_there : h < length harts → h < mid.harts
-    hart_there lt =
-        let count : length (harts_in harts) ≡ old.harts = at.running.sound.harts in
-        let long : length (harts_in harts) ≡ length harts = length-map harts (λ (t : HartTable). t.hart) in
-        let same : mid.harts ≡ old.harts = ap (λ (t : LinkTable). t.harts) x.state in
-        omega (arith, lt, count, long, same)
-
     freed_there : slice_get (settled (world_of old words harts)).harts h ≡ Some b'
     freed_there = freed_at (harts_in harts) h b x.there ∙ ap (λ (y : HartState). Some y) (sym x.hart)
 
     freed_stays : freed b' ≡ b'
     freed_stays = ap freed x.hart ∙ freed_twice b ∙ sym x.hart
 
-    pub makes_call : CallsNow → is_service (due (after mid.events) b') ≡ true → MakesCall mid.harts mid.events h b'
+    pub makes_call : CallsNow → ((s : State) → is_service (due s b) ≡ true) → MakesCall mid.harts mid.events h b'
     makes_call calls service =
-        let called : is_service (due (after past) b') ≡ true = subst (λ (t : LinkTable). is_service (due (after t.events) b') ≡ true) x.state service in
-        let serve : IsServe (due (after past) b') = serve_of (due (after past) b') called in
+        let serve : IsServe (due (after past) b') = serve_of (due (after past) b') (ap is_service (as_due (after past)) ∙ service (after past)) in
         subst (λ (t : LinkTable). MakesCall t.harts t.events h b') (sym x.state)
         (record {
           call = serve.call;

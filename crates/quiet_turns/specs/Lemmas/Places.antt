@@ -32,10 +32,9 @@ freed_are [] = refl
 freed_are (x ∷ rest) = ap (λ (hs : List HartState). freed x.hart ∷ hs) (freed_are rest)
 
 -- what is read at a place, and what is written there
-pub read_at : (harts : List HartTable) (n h : ℕ) (x : HartTable) → n ≡ h → h < length harts → x ≡ get_or harts n x → slice_get (harts_in harts) h ≡ Some x.hart
-read_at harts n h x same lt is =
-    subst (λ (k : ℕ). slice_get (harts_in harts) k ≡ Some x.hart) same
-    (stands harts n x (subst (λ (k : ℕ). k < length harts) (sym same) lt) ∙ ap (λ (y : HartTable). Some y.hart) (sym is))
+pub read_at : (harts : List HartTable) (n h : ℕ) (d : HartTable) → n ≡ h → h < length harts → slice_get (harts_in harts) h ≡ Some (get_or harts n d).hart
+read_at harts n h d same lt =
+    subst (λ (k : ℕ). slice_get (harts_in harts) k ≡ Some (get_or harts n d).hart) same (stands harts n d (subst (λ (k : ℕ). k < length harts) (sym same) lt))
 
 pub written_at : (harts : List HartTable) (n h : ℕ) (x : HartTable) (c : HartState) → n ≡ h → x.hart ≡ c
     → harts_in (slice_set harts n x) ≡ slice_set (harts_in harts) h c

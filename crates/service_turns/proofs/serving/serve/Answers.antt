@@ -1,4 +1,4 @@
-use Rattle.std.proofs.Common.{◌<◌, [], ap, sym, subst}
+use Rattle.std.proofs.Common.{◌<◌, ◌++◌, List, [], ap, sym, subst}
 use Rattle.link_event.specs.declared.event.Event.{Event}
 use Rattle.link_history.specs.After.{after}
 use Rattle.link_history.specs.Legal.{Legal}
@@ -9,7 +9,7 @@ use Rattle.hart_moves.specs.Due.{due}
 use Rattle.hart_moves.specs.Harts.{HartState}
 use Rattle.turn_answers.specs.Changes.{Changes}
 use Rattle.world_turns.specs.Memory.{RemakesAll}
-use Rattle.service_turns.proofs.Answered.{has_room, still_counted, takes_answer, turn_waits, was_answered}
+use Rattle.service_turns.proofs.Answered.{still_counted, takes_answer, turn_waits, was_answered}
 use Rattle.service_turns.proofs.Freed.{asks_of_serve}
 use Rattle.service_turns.proofs.Moved.{is_over, setting_with, turns_over}
 use Rattle.service_turns.proofs.Openings.{turn_opens}
