@@ -1,4 +1,5 @@
 pub mod Ends
+pub mod Finals
 pub mod Inside
 pub mod Laws
 pub mod Playing

@@ -1,21 +1,24 @@
-//! What comes behind the turns of a run.
+//! How the final destructors of a run begin, and the settling at its end.
 
-ghost use Rattle.std.specs.Prelude.{◌≡◌, true};
+ghost use Rattle.std.specs.Prelude.{◌≡◌, ◌<◌, Bool, List, length, true};
 ghost use Rattle.std.specs.Bool.{OnFalse, OnTrue};
 ghost use Rattle.call_laws.specs.Coming.{IsOn};
+ghost use Rattle.guest_worlds.specs.Worlds.{IsAt, world_of};
 ghost use Rattle.hart_moves.specs.Starting.{starting_registers};
 ghost use Rattle.lawful_journal.specs.Following.{machine_of};
 ghost use Rattle.link_history.specs.Setting.{Setting};
+ghost use Rattle.plain_world.specs.Finals.{FinalsBegin, FinalsDont, IsAtIn, StaysAt};
 ghost use Rattle.plain_world.specs.Playing.{BeginsToFinalise, FinalisesOnce};
 ghost use Rattle.plain_world.specs.Table.{moved};
-ghost use Rattle.world_ends.specs.Ends.{has_exited};
-ghost use Rattle.world_turns.specs.Run.{have_exited, settled};
+ghost use Rattle.world_turns.specs.Run.{settled};
 
 use crate::World;
+use crate::harts::have_exited;
 use guest_worlds::{guests_may_turn, runs_stay};
 use hart_seat::LinkedHart;
 use last_turns::{Beginning, begin_finals};
-use link_event::HartEnd;
+use link_event::HartEntry;
+use link_state::LinkState;
 use settled_harts::settle_all;
 use std::alloc::Global;
 
@@ -29,16 +32,9 @@ impl World {
             → FinalisesOnce w self.old.begun (starting_registers self.old.entry) self.old.world self.new.world) }
         ensures rest { self.new ≡ record self.old { begun = true; world = self.new.world } }
     {
-        runs_stay();
-        if self.begun {
-            return false;
-        }
+        let begun = self.begun;
         self.begun = true;
-        if !self.have_exited() {
-            return false;
-        }
-        let harts = self.harts.as_mut_slice();
-        begin_finals(alloc, &mut self.state, harts, self.entry) == Beginning::Begun
+        begin(alloc, &mut self.state, self.harts.as_mut_slice(), self.entry, begun)
     }
 
     /// Each grant whose hart is done with it is settled.
@@ -48,18 +44,34 @@ impl World {
         guests_may_turn();
         settle_all(&mut self.state, self.harts.as_mut_slice());
     }
-
-    /// Whether each hart has ended by exit.
-    fn have_exited(&self) -> bool
-        ensures { result ≡ have_exited self.now.world }
-    {
-        self.harts.iter().all(|hart| has_exited(hart))
-    }
 }
 
-/// Whether a hart has ended by exit.
-fn has_exited(hart: &LinkedHart) -> bool
-    ensures { result ≡ has_exited hart.now.hart }
+/// The final destructors begin, where each hart has ended by exit, an object is left, and they haven't begun
+/// before. Answers whether they do.
+fn begin(
+    alloc: Global,
+    state: &mut LinkState,
+    harts: &mut [LinkedHart],
+    entry: HartEntry,
+    begun: bool,
+) -> bool
+    requires some { 0 < length harts.old }
+    requires run { IsAtIn begun state.old harts.old }
+    ensures begins { OnTrue result (FinalsBegin begun entry state.old state.new harts.old harts.new) }
+    ensures other { OnFalse result (FinalsDont begun entry state.old state.new harts.old harts.new) }
+    ensures stays { StaysAt begun state.old state.new harts.old harts.new }
+    ensures count { state.new.harts ≡ state.old.harts }
 {
-    matches!(hart.end(), Some(HartEnd::Exit(_)))
+    runs_stay();
+    if begun {
+        return false;
+    }
+    if !have_exited(harts) {
+        return false;
+    }
+    match begin_finals(alloc, state, harts, entry) {
+        Beginning::Begun => true,
+        Beginning::NoneLeft => false,
+        Beginning::Memory => false,
+    }
 }

@@ -8,9 +8,11 @@
 #![tactic(auto)]
 
 mod finals;
+mod harts;
 mod law;
 mod record;
 mod run;
+mod turn;
 mod world;
 
 pub use law::played_worlds_are_runs;

@@ -20,8 +20,8 @@ impl World {
     /// Want of memory.
     pub fn into_record(self, alloc: Global) -> Result<RunRecord, AllocError>
         requires over { IsTrue (have_ended self.world) }
-        ensures journal { IfOk result (λ record. record.journal.events ≡ self.world.journal) }
-        ensures ends { IfOk result (λ record. AreEndsOf self.world.harts record.ends) }
+        ensures journal { IfOk result (λ left. left.journal.events ≡ self.world.journal) }
+        ensures ends { IfOk result (λ left. AreEndsOf self.world.harts left.ends) }
     {
         let World { state, harts, .. } = self;
         let ends = ends_of(alloc, harts.as_slice())?;

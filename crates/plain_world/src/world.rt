@@ -11,18 +11,17 @@ ghost use Rattle.plain_world.specs.Table.{moved};
 ghost use Rattle.world_start.specs.Started.{StartsAt};
 ghost use Rattle.world_turns.specs.Run.{have_ended, is_starting};
 
+use crate::harts::{have_ended, is_starting};
+use crate::turn::take_turn;
 use guest_worlds::{Turn, runs_stay};
 use hart_seat::LinkedHart;
-use last_turns::take_final;
 use ld_base::{HartId, Names};
 use library_source::Library;
 use link_event::HartEntry;
 use link_served::{Setup, StartFault};
 use link_state::LinkState;
 use plain_memory::PlainMemory;
-use quiet_turns::take_quiet;
 use record_copies::Copied;
-use service_turns::take_service;
 use std::alloc::Global;
 use std::marker::Model;
 use world_start::{StartedWorld, start};
@@ -115,17 +114,15 @@ impl World {
     {
         runs_stay();
         let harts = self.harts.as_mut_slice();
-        if let Some(turn) = take_quiet(&mut self.state, &mut self.memory, harts, id) {
-            return turn;
-        }
-        let (state, memory) = (&mut self.state, &mut self.memory);
-        if let Some(turn) = take_service(alloc, state, memory, harts, id, &self.folders, library) {
-            return turn;
-        }
-        match take_final(alloc, &mut self.state, harts, id) {
-            Some(turn) => turn,
-            None => unreachable!(),
-        }
+        take_turn(
+            alloc,
+            &mut self.state,
+            &mut self.memory,
+            harts,
+            id,
+            &self.folders,
+            library,
+        )
     }
 
     /// How many harts there are.
@@ -141,16 +138,13 @@ impl World {
     pub(crate) fn is_starting(&self) -> bool
         ensures { result ≡ is_starting self.now.world }
     {
-        match self.harts.first() {
-            Some(first) => first.end().is_none() && first.is_starting(),
-            None => false,
-        }
+        is_starting(self.harts.as_slice())
     }
 
     /// Whether each hart has ended.
     pub(crate) fn have_ended(&self) -> bool
         ensures { result ≡ have_ended self.now.world }
     {
-        self.harts.iter().all(|hart| hart.end().is_some())
+        have_ended(self.harts.as_slice())
     }
 }

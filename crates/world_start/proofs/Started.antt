@@ -1,7 +1,11 @@
 -- What startup brings, and the world that it makes.
-use Rattle.std.proofs.Common.{◌≡◌, ℕ, ◌+◌, List, [], ◌∷◌, ◌++◌, refl, sym, ap, subst, ◌∙◌}
+use Rattle.std.proofs.Common.{◌≡◌, ℕ, ◌+◌, false, List, [], ◌∷◌, ◌++◌, Option, Some, refl, sym, ap, subst, ◌∙◌}
+use Rattle.std.specs.List.{slice_get}
+use Rattle.ld_base.specs.declared.linking.File.{File}
 use Rattle.link_event.specs.declared.event.Event.{Event}
+use Rattle.link_event.specs.declared.handed.HartEntry.{HartEntry}
 use Rattle.link_history.specs.After.{after, after_from}
+use Rattle.link_history.specs.Objects.{is_startup}
 use Rattle.link_history.specs.Setting.{Setting}
 use Rattle.link_history.specs.State.{State, start}
 use Rattle.link_history.specs.Step.{step}
@@ -9,12 +13,20 @@ use Rattle.link_served.specs.declared.installs.Installs.{Installs}
 use Rattle.link_served.specs.declared.startup.Setup.{Setup}
 use Rattle.link_served.specs.declared.startup.Started.{Started}
 use Rattle.link_service.specs.Served.{AreInstalls}
-use Rattle.link_service.specs.Startup.{FindHarts, Starts, found_at, opening}
+use Rattle.link_service.specs.Startup.{FindHarts, Starts, found_at, harts_of, opening}
 use Rattle.link_service.specs.Lemmas.Serving.{starts_legal}
+use Rattle.link_state.specs.Table.{LinkTable}
+use Rattle.opening_plan.specs.Startup.{run_of}
+use Rattle.hart_moves.specs.Starting.{starting_harts}
+use Rattle.hart_seat.specs.Table.{HartTable}
+use Rattle.settled_harts.specs.Settling.{harts_in}
+use Rattle.guest_worlds.specs.Laws.{StartIsAt}
+use Rattle.guest_worlds.specs.Worlds.{IsAt, world_of}
 use Rattle.rv_hart.specs.declared.doubleword.Doubleword.{Doubleword}
 use Rattle.turn_answers.specs.Changes.{AreReserved, LeaveMemory}
 use Rattle.world_turns.specs.Memory.{RemakesAll}
-use Rattle.world_start.specs.Started.{BringsFirst}
+use Rattle.world_turns.specs.Run.{IsStarted}
+use Rattle.world_start.specs.Started.{BringsFirst, IsFirstMemory, StartsAt}
 
 -- ---- names that were found change nothing
 
@@ -62,3 +74,30 @@ module _ (w : Setting) (setup : Setup) (events : List Event) (started : Started)
 pub from_start : (events : List Event) (old new : List Doubleword) → RemakesAll (after []) events old new → RemakesAll start events old new
 unfolding after_from
 from_start events old new remakes = remakes
+
+-- ---- the world that starts
+
+pub starts_at : (setup : Setup) (files : Option (List File)) (state now : LinkTable) (started : Started) (words : List Doubleword) (harts : List HartTable)
+    (entry : HartEntry) → Starts (run_of setup files) setup state.events started → now ≡ state → IsFirstMemory state.events words
+    → harts_in harts ≡ starting_harts setup.fuel started.functions started.entries → slice_get started.entries 0 ≡ Some entry
+    → StartsAt (run_of setup files) setup (world_of now words harts) entry
+starts_at setup files state now started words harts entry is same memory set first =
+    subst (λ (s : LinkTable). StartsAt (run_of setup files) setup (world_of s words harts) entry) (sym same) (record {
+      starts = record {
+        setting = refl;
+        started = started;
+        starts = is;
+        fresh = memory.fresh;
+        are_fresh = memory.are_fresh;
+        words = memory.remade;
+        harts = set;
+      };
+      first = first;
+    })
+
+pub at_start : StartIsAt → (setup : Setup) (files : Option (List File)) (state now : LinkTable) (words : List Doubleword) (harts : List HartTable)
+    → IsStarted (run_of setup files) setup (world_of now words harts) → now ≡ state → state.harts ≡ harts_of setup → is_startup (after state.events) ≡ false
+    → IsAt now.harts setup.folders false (world_of now words harts)
+at_start law setup files state now words harts starts same count started =
+    subst (λ (n : ℕ). IsAt n setup.folders false (world_of now words harts)) (sym (ap (λ (s : LinkTable). s.harts) same ∙ count))
+    (law (run_of setup files) setup (world_of now words harts) (harts_of setup) refl starts (ap (λ (s : LinkTable). is_startup (after s.events)) same ∙ started))

@@ -36,11 +36,7 @@ pub(crate) fn starting_harts(
 /// # Errors
 ///
 /// Want of memory.
-fn harts_at(
-    alloc: Global,
-    fuel: u64,
-    entries: &[HartEntry],
-) -> Result<Vec<LinkedHart>, AllocError>
+fn harts_at(alloc: Global, fuel: u64, entries: &[HartEntry]) -> Result<Vec<LinkedHart>, AllocError>
     requires { fuel ≤ 2 ^ 32 }
     ensures { IfOk result (λ harts. harts_in harts.items ≡ map (starting_hart fuel) entries.now) }
 {

@@ -6,6 +6,6 @@
 #![tactic(auto)]
 
 mod harts;
-mod start;
+mod starting;
 
-pub use start::{StartedWorld, start};
+pub use starting::{StartedWorld, start};

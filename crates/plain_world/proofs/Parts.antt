@@ -1,0 +1,107 @@
+-- A run's parts in the code, and its world.
+use Rattle.std.proofs.Common.{◌≡◌, ℕ, zero, suc, ◌+◌, ◌<◌, Bool, true, false, List, [], ◌∷◌, ◌++◌, map, take, length, get_or, Option, Some, refl, sym, ap, subst, ◌∙◌, true≢false, arith}
+use Rattle.std.specs.Prelude.{◌&&◌}
+use Rattle.std.specs.List.{list_all, slice_get}
+use Rattle.std.proofs.lemmas.List.{take_more}
+use Rattle.ld_base.specs.declared.linking.File.{File}
+use Rattle.link_event.specs.declared.hart_end.HartEnd.{HartEnd}
+use Rattle.link_state.specs.Table.{LinkTable}
+use Rattle.lawful_journal.specs.Following.{machine_of}
+use Rattle.call_laws.specs.Coming.{IsOn, IsOver}
+use Rattle.rv_hart.specs.declared.doubleword.Doubleword.{Doubleword}
+use Rattle.hart_moves.specs.Harts.{HartState}
+use Rattle.hart_moves.specs.Moves.{freed}
+use Rattle.hart_seat.specs.Table.{HartTable}
+use Rattle.settled_harts.specs.Settling.{freed_in, harts_in}
+use Rattle.guest_worlds.specs.Worlds.{IsAt, TakesOn, TakesOver, TurnsOn, TurnsOver, world_of}
+use Rattle.world_turns.specs.Run.{has_ended, settled}
+use Rattle.world_turns.specs.Turn.{TakesTurn}
+use Rattle.world_turns.specs.World.{World, settling}
+use Rattle.plain_world.specs.Ends.{AreEndsOf}
+
+-- ---- the same parts
+
+pub same_world : (old new : LinkTable) (words words' : List Doubleword) (before behind : List HartTable) → new ≡ old → words' ≡ words → harts_in behind ≡ harts_in before
+    → world_of new words' behind ≡ world_of old words before
+same_world old new words words' before behind state memory harts =
+    ap (λ (s : LinkTable). world_of s words' behind) state ∙ ap (λ (ws : List Doubleword). world_of old ws behind) memory
+    ∙ ap (λ (bs : List HartState). record { journal = old.events; words = words; harts = bs }) harts
+
+in_length : (harts : List HartTable) → length (harts_in harts) ≡ length harts
+in_length [] = refl
+in_length (h ∷ rest) = let again : length (harts_in rest) ≡ length rest = in_length rest in omega (arith, again)
+
+-- there are as many as the run has
+pub all_there : (count : ℕ) (folders : List (List ℕ)) (begun : Bool) (state : LinkTable) (words : List Doubleword) (harts : List HartTable)
+    → IsAt count folders begun (world_of state words harts) → length harts ≡ count
+all_there count folders begun state words harts at = sym (in_length harts) ∙ at.running.sound.harts
+
+pub all_in : (p : HartState → Bool) (harts : List HartTable) → list_all (λ h. p h.hart) harts ≡ list_all p (harts_in harts)
+all_in p [] = refl
+all_in p (h ∷ rest) = ap (λ (t : Bool). p h.hart && t) (all_in p rest)
+
+-- whether or not they have begun, they may have
+pub begun_at : (count : ℕ) (folders : List (List ℕ)) (begun : Bool) (world : World) → IsAt count folders begun world → IsAt count folders true world
+begun_at count folders begun world at =
+    record { preload = at.preload; running = at.running; before = λ e. absurd (true≢false e); writing = at.writing }
+
+-- ---- turns
+
+pub on_takes : (count : ℕ) (folders : List (List ℕ)) (files : Option (List File)) (h : ℕ) (old new : World) → TakesOn count h old new
+    → TakesOver count folders files h old new
+on_takes count folders files h old new on = λ w over. on w over.machine
+
+pub over_takes : (count : ℕ) (folders : List (List ℕ)) (files : Option (List File)) (h : ℕ) (old new : World) → TurnsOver count folders files h old new
+    → TakesOver count folders files h old new
+over_takes count folders files h old new turns = λ w over. TakesTurn.turn (turns w over)
+
+pub on_turns : (count : ℕ) (folders : List (List ℕ)) (files : Option (List File)) (h : ℕ) (old new : World) → TurnsOn count h old new
+    → TakesOver count folders files h old new
+on_turns count folders files h old new turns = λ w over. TakesTurn.turn (turns w over.machine)
+
+-- ---- settling
+
+freed_harts : (harts : List HartTable) → harts_in (map freed_in harts) ≡ map freed (harts_in harts)
+freed_harts [] = refl
+freed_harts (h ∷ rest) = ap (λ (bs : List HartState). freed h.hart ∷ bs) (freed_harts rest)
+
+pub settles_to : (old new : LinkTable) (words : List Doubleword) (before behind : List HartTable)
+    → new ≡ record old { events = old.events ++ settling (harts_in before) } → behind ≡ map freed_in before
+    → world_of new words behind ≡ settled (world_of old words before)
+settles_to old new words before behind state harts =
+    ap (λ (s : LinkTable). world_of s words behind) state
+    ∙ ap (λ (bs : List HartState). record { journal = old.events ++ settling (harts_in before); words = words; harts = bs })
+    (ap harts_in harts ∙ freed_harts before)
+
+-- ---- ends
+
+one_more : {X Y : Type 0} (f : X → Y) (xs : List X) (x : X) → map f (xs ++ x ∷ []) ≡ map f xs ++ f x ∷ []
+one_more f [] x = refl
+one_more f (y ∷ xs) x = ap (λ ys. f y ∷ ys) (one_more f xs x)
+
+pub ends_more : (harts : List HartTable) (ends : List HartEnd) (i : ℕ) (h : HartTable) (reason : HartEnd) → i < length harts → h ≡ get_or harts i h
+    → AreEndsOf (harts_in (take i harts)) ends → h.hart.«end» ≡ Some reason → AreEndsOf (harts_in (take (i + 1) harts)) (ends ++ reason ∷ [])
+ends_more harts ends i h reason lt at are is =
+    ap (λ (hs : List HartTable). map (λ (b : HartState). b.«end») (harts_in hs))
+    (take_more harts i h lt ∙ ap (λ (x : HartTable). take i harts ++ x ∷ []) (sym at))
+    ∙ ap (map (λ (b : HartState). b.«end»)) (one_more (λ (x : HartTable). x.hart) (take i harts) h)
+    ∙ one_more (λ (b : HartState). b.«end») (harts_in (take i harts)) h.hart
+    ∙ ap (λ (es : List (Option HartEnd)). es ++ h.hart.«end» ∷ []) are
+    ∙ ap (λ (e : Option HartEnd). map Some ends ++ e ∷ []) is ∙ sym (one_more Some ends reason)
+
+pub ended_at : (harts : List HartTable) (i : ℕ) (h : HartTable) → i < length harts → h ≡ get_or harts i h → list_all has_ended (harts_in harts) ≡ true → has_ended h.hart ≡ true
+ended_at [] i h lt at over = absurd (omega (arith, lt))
+ended_at (x ∷ rest) i h lt at over = by i lt at (λ k less is more. ended_at rest k h less is more)
+  where
+    front : (t s : Bool) → (t && s) ≡ true → t ≡ true
+    front true s e = refl
+    front false s e = e
+
+    behind : (t s : Bool) → (t && s) ≡ true → s ≡ true
+    behind true s e = e
+    behind false s e = absurd (true≢false (sym e))
+
+    by : (k : ℕ) → k < length (x ∷ rest) → h ≡ get_or (x ∷ rest) k h
+        → ((j : ℕ) → j < length rest → h ≡ get_or rest j h → list_all has_ended (harts_in rest) ≡ true → has_ended h.hart ≡ true) → has_ended h.hart ≡ true
+    by zero less is again = ap (λ (y : HartTable). has_ended y.hart) is ∙ front (has_ended x.hart) (list_all has_ended (harts_in rest)) over
+    by (suc j) less is again = again j (omega (arith, less)) is (behind (has_ended x.hart) (list_all has_ended (harts_in rest)) over)

@@ -1,0 +1,60 @@
+use Rattle.std.proofs.Common.{◌≡◌, ℕ, Bool, true, refl, sym, subst, ◌∙◌}
+use Rattle.hart_moves.specs.Starting.{starting_registers}
+use Rattle.guest_worlds.specs.Worlds.{IsAt, world_of}
+use Rattle.world_ends.specs.Ends.{has_exited}
+use Rattle.world_turns.specs.Run.{Finalises}
+use Rattle.world_turns.specs.World.{World}
+use Rattle.plain_world.specs.Playing.{FinalisesOnce}
+use Rattle.plain_world.proofs.Parts.{all_in, begun_at}
+use Rattle.plain_world.proofs.finals.begin.Goals as goal
+
+pub returns-then-not-have_exited-clause-other : goal.returns-then-not-have_exited-clause-other
+returns-then-not-have_exited-clause-other c = λ words w on.
+    FinalisesOnce.for_once c.if-begun.false
+    (Finalises.none_runs (sym (all_in has_exited c.args.harts.now) ∙ sym c.have_exited.ensures ∙ c.if-not-have_exited.true) refl)
+
+pub begin_finals-requires-clause-over : goal.begin_finals-requires-clause-over
+begin_finals-requires-clause-over c = sym (all_in has_exited c.args.harts.now) ∙ sym c.have_exited.ensures ∙ c.if-not-have_exited.false
+
+pub returns-in-Begun-clause-begins : goal.returns-in-Begun-clause-begins
+returns-in-Begun-clause-begins c = λ words. record {
+  before = c.if-begun.false;
+  exited = sym (all_in has_exited c.args.harts.now) ∙ sym c.have_exited.ensures ∙ c.if-not-have_exited.false;
+  begins = c.in-Begun.ensures.begins words;
+}
+
+pub returns-in-Begun-clause-stays : goal.returns-in-Begun-clause-stays
+returns-in-Begun-clause-stays c = λ words folders at.
+    let old : World = world_of c.args.state.now words c.args.harts.now in
+    let new : World = world_of c.begin_finals.new.state words c.begin_finals.new.harts in
+    subst (λ (n : ℕ). IsAt n folders true new) (sym c.in-Begun.ensures.count)
+    (c.runs_stay.ensures.begins c.args.state.now.harts folders (starting_registers c.args.entry) old new
+    (subst (λ (b : Bool). IsAt c.args.state.now.harts folders b old) c.if-begun.false at)
+    (sym (all_in has_exited c.args.harts.now) ∙ sym c.have_exited.ensures ∙ c.if-not-have_exited.false) (c.in-Begun.ensures.begins words))
+
+pub returns-in-NoneLeft-clause-other : goal.returns-in-NoneLeft-clause-other
+returns-in-NoneLeft-clause-other c = λ words w on.
+    FinalisesOnce.for_once c.if-begun.false (Finalises.none_is_left (c.in-NoneLeft.ensures.begins words).0 (c.in-NoneLeft.ensures.begins words).1)
+
+pub returns-in-NoneLeft-clause-stays : goal.returns-in-NoneLeft-clause-stays
+returns-in-NoneLeft-clause-stays c = λ words folders at.
+    let old : World = world_of c.args.state.now words c.args.harts.now in
+    let new : World = world_of c.begin_finals.new.state words c.begin_finals.new.harts in
+    subst (λ (n : ℕ). IsAt n folders true new) (sym c.in-NoneLeft.ensures.count)
+    (subst (λ (v : World). IsAt c.args.state.now.harts folders true v) (sym (c.in-NoneLeft.ensures.begins words).1)
+    (begun_at c.args.state.now.harts folders c.args.begun old at))
+
+pub returns-in-Memory-clause-other : goal.returns-in-Memory-clause-other
+returns-in-Memory-clause-other c = λ words w on.
+    FinalisesOnce.for_once c.if-begun.false
+    (Finalises.no_memory (sym (all_in has_exited c.args.harts.now) ∙ sym c.have_exited.ensures ∙ c.if-not-have_exited.false)
+      (c.in-Memory.ensures.begins words w on))
+
+pub returns-in-Memory-clause-stays : goal.returns-in-Memory-clause-stays
+returns-in-Memory-clause-stays c = λ words folders at.
+    let old : World = world_of c.args.state.now words c.args.harts.now in
+    let new : World = world_of c.begin_finals.new.state words c.begin_finals.new.harts in
+    subst (λ (n : ℕ). IsAt n folders true new) (sym c.in-Memory.ensures.count)
+    (c.runs_stay.ensures.lacks c.args.state.now.harts folders old new
+    (subst (λ (b : Bool). IsAt c.args.state.now.harts folders b old) c.if-begun.false at)
+    (sym (all_in has_exited c.args.harts.now) ∙ sym c.have_exited.ensures ∙ c.if-not-have_exited.false) (c.in-Memory.ensures.begins words))

@@ -1,0 +1,50 @@
+//! What the harts of a run say of it.
+
+ghost use Rattle.std.specs.Prelude.{◌≡◌, List};
+ghost use Rattle.std.specs.List.{list_all};
+ghost use Rattle.guest_worlds.specs.Worlds.{world_of};
+ghost use Rattle.link_state.specs.Table.{LinkTable};
+ghost use Rattle.rv_hart.specs.declared.doubleword.Doubleword.{Doubleword};
+ghost use Rattle.world_ends.specs.Ends.{has_exited};
+ghost use Rattle.world_turns.specs.Run.{has_ended, is_starting};
+
+use hart_seat::LinkedHart;
+use link_event::HartEnd;
+
+/// Whether the first hart runs constructors of startup still.
+pub(crate) fn is_starting(harts: &[LinkedHart]) -> bool
+    ensures { (state : LinkTable) (words : List Doubleword) → result ≡ is_starting (world_of state words harts.now) }
+{
+    match harts {
+        [first, ..] => first.end().is_none() && first.is_starting(),
+        [] => false,
+    }
+}
+
+/// Whether each hart has ended.
+pub(crate) fn have_ended(harts: &[LinkedHart]) -> bool
+    ensures { result ≡ list_all (λ h. has_ended h.hart) harts.now }
+{
+    harts.iter().all(|hart| has_ended(hart))
+}
+
+/// Whether each hart has ended by exit.
+pub(crate) fn have_exited(harts: &[LinkedHart]) -> bool
+    ensures { result ≡ list_all (λ h. has_exited h.hart) harts.now }
+{
+    harts.iter().all(|hart| has_exited(hart))
+}
+
+/// Whether a hart has ended.
+fn has_ended(hart: &LinkedHart) -> bool
+    ensures { result ≡ has_ended hart.now.hart }
+{
+    hart.end().is_some()
+}
+
+/// Whether a hart has ended by exit.
+fn has_exited(hart: &LinkedHart) -> bool
+    ensures { result ≡ has_exited hart.now.hart }
+{
+    matches!(hart.end(), Some(HartEnd::Exit(_)))
+}
