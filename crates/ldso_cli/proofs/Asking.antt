@@ -1,33 +1,71 @@
 -- What words ask for.
-use Rattle.std.proofs.Common.{◌≡◌, ℕ, Bool, true, false, List, Option, Some, None, refl, sym, ap, subst, ◌∙◌, true≢false}
+use Rattle.std.proofs.Common.{◌≡◌, ◌⊎◌, inl, inr, ⊎_elim, ℕ, List, Option, Some, None, Result, Ok, Err, refl, sym, ap, subst}
+use Rattle.std.specs.Prelude.{IfOk}
+use Rattle.std.specs.declared.alloc.AllocError.{AllocError}
 use Rattle.command_line.specs.Reads.{OneCommand, Reads}
 use Rattle.command_line.specs.declared.command.Command.{Command}
-use Rattle.ldso_cli.specs.Asked.{Asks, OfAsked, is_built}
+use Rattle.command_line.specs.declared.command.Command.TheVariants as commands
+use Rattle.command_line.specs.declared.command.Turns.{Turns}
+use Rattle.link_service.specs.Startup.{harts_of}
+use Rattle.ldso_cli.proofs.Schedules.{Schedule, told_schedule}
+use Rattle.ldso_cli.specs.Asked.{Asks, CanBeDone, OfAsked}
+use Rattle.ldso_cli.specs.Command.{Answers, AsScheduled, IsUsage}
+use Rattle.ldso_cli.specs.Outside.{LibraryAt}
+use Rattle.ldso_cli.specs.Turns.{IsScheduled, TurnsComes}
+use Rattle.ldso_cli.specs.declared.answer.Answer.{Answer}
 
 -- words ask for one command at most
 pub one_asked : OneCommand → (words : List (List ℕ)) (command other : Option Command) → Asks words command → Asks words other → command ≡ other
 one_asked one words None None a b = refl
-one_asked one words (Some c) None a b = absurd (true≢false (sym a.1 ∙ b c a.0))
-one_asked one words None (Some c) a b = absurd (true≢false (sym b.1 ∙ a c b.0))
+one_asked one words (Some c) None a b = absurd (b c a.0 a.1)
+one_asked one words None (Some c) a b = absurd (a c b.0 b.1)
 one_asked one words (Some c) (Some d) a b = ap (λ (x : Command). Some x) (one words c d a.0 b.0)
 
--- words that are a command ask for it, if it is built, and else for nothing
-asked_of : OneCommand → (words : List (List ℕ)) (command : Command) → Reads words command → (asked : Option Command) × Asks words asked
-asked_of one words command reads = either (is_built command) refl
-  where
-    either : (b : Bool) → is_built command ≡ b → (asked : Option Command) × Asks words asked
-    either true is = (Some command, (reads, is))
-    either false is = (None, λ other reads'. ap is_built (sym (one words command other reads reads')) ∙ is)
+-- ---- whether a command can be done
 
+scheduled : (turns : Turns) → Schedule (harts_of turns.setup) turns.schedule ⊎ (Schedule (harts_of turns.setup) turns.schedule → ⊥) → IsScheduled turns ⊎ (IsScheduled turns → ⊥)
+scheduled turns (inl x) = inl (record { items = x.0; says = x.1 })
+scheduled turns (inr none) = inr (λ is. none (is.items, is.says))
+
+told : (command : Command) → CanBeDone command ⊎ (CanBeDone command → ⊥)
+told (commands.Bind bind) = inl tt
+told (commands.Assemble path) = inl tt
+told (commands.Dump path) = inl tt
+told (commands.Turns turns) = scheduled turns (told_schedule (harts_of turns.setup) turns.schedule)
+told (commands.Run run) = inr (λ no. no)
+told (commands.Generate number) = inr (λ no. no)
+
+-- ---- words that are a command
+
+-- another command that they are is this one
+can_other : OneCommand → (words : List (List ℕ)) (command other : Command) → Reads words command → Reads words other → CanBeDone other → CanBeDone command
+can_other one words command other reads reads' can = subst CanBeDone (one words other command reads' reads) can
+
+pub not_done : OneCommand → (words : List (List ℕ)) (command : Command) → Reads words command → (CanBeDone command → ⊥) → {P : Option Command → Type 0} → P None → OfAsked words P
+not_done one words command reads cannot holds = record { asked = None; asks = λ other reads' can. cannot (can_other one words command other reads reads' can); holds = holds }
+
+-- they ask for it, if it can be done, and else for nothing
 pub unanswered : OneCommand → (words : List (List ℕ)) (command : Command) → Reads words command → {P : Option Command → Type 0} → ((asked : Option Command) → P asked) → OfAsked words P
-unanswered one words command reads holds = (let asked = asked_of one words command reads in record { asked = asked.0; asks = asked.1; holds = holds asked.0 })
+unanswered one words command reads {P} holds = either (told command)
+  where
+    either : CanBeDone command ⊎ (CanBeDone command → ⊥) → OfAsked words P
+    either (inl can) = record { asked = Some command; asks = (reads, can); holds = holds (Some command) }
+    either (inr cannot) = not_done one words command reads cannot (holds None)
 
--- words that are no command ask for nothing, and so do those of one that isn't built
+-- ---- turns
+
+pub turned : OneCommand → (words : List (List ℕ)) (turns : Turns) → Reads words (commands.Turns turns) → (before after : LibraryAt) (r : Result Answer AllocError) → IfOk r (λ a. AsScheduled turns before after a.end a.text)
+    → OfAsked words (λ command. IfOk r (λ a. Answers command before after a.end a.text))
+turned one words turns reads before after (Err e) come = unanswered one words (commands.Turns turns) reads (λ _. tt)
+turned one words turns reads before after (Ok a) come = ⊎_elim
+    (λ (x : IsScheduled turns × TurnsComes turns before after a.end a.text). record { asked = Some (commands.Turns turns); asks = (reads, x.0); holds = x.1 })
+    (λ (x : (IsScheduled turns → ⊥) × IsUsage a.end a.text). not_done one words (commands.Turns turns) reads x.0 x.1)
+    come
+
+-- ---- words that are none
+
 pub no_command : (words : List (List ℕ)) → ((command : Command) → Reads words command → ⊥) → {P : Option Command → Type 0} → P None → OfAsked words P
-no_command words none holds = record { asked = None; asks = λ command reads. absurd (none command reads); holds = holds }
-
-pub not_built : OneCommand → (words : List (List ℕ)) (command : Command) → Reads words command → is_built command ≡ false → {P : Option Command → Type 0} → P None → OfAsked words P
-not_built one words command reads is holds = record { asked = None; asks = λ other reads'. ap is_built (sym (one words command other reads reads')) ∙ is; holds = holds }
+no_command words none holds = record { asked = None; asks = λ command reads can. absurd (none command reads); holds = holds }
 
 pub along : (words words' : List (List ℕ)) → words ≡ words' → {P Q : Option Command → Type 0} → ((command : Option Command) → P command → Q command) → OfAsked words P → OfAsked words' Q
 along words words' same goes of = record { asked = of.asked; asks = subst (λ (ws : List (List ℕ)). Asks ws of.asked) same of.asks; holds = goes of.asked of.holds }

@@ -15,11 +15,13 @@ use Rattle.command_line.specs.declared.command.Command.{Command}
 use Rattle.command_line.specs.declared.command.Command.TheVariants as commands
 use Rattle.ldso_cli.specs.Asm.{SourceRead, SourceComes, ReadsSource, GivesCause, AsmComes}
 use Rattle.ldso_cli.specs.Bind.{BindComes, cause_of, namespace_of}
-use Rattle.ldso_cli.specs.Command.{Answers, IsAnswer, IsUsage, Misses, told_to}
+use Rattle.command_line.specs.declared.command.Turns.{Turns}
+use Rattle.ldso_cli.specs.Command.{Answers, CommandAnswers, IsUsage, Misses}
 use Rattle.ldso_cli.specs.Dump.{DumpComes, ReadsAs, dump_cause}
 use Rattle.ldso_cli.specs.End.{bare}
 use Rattle.ldso_cli.specs.Ends.{Handing, IsCaused, IsUnanswered, Written}
 use Rattle.ldso_cli.specs.Outside.{LibraryAt, SinkAt}
+use Rattle.ldso_cli.specs.Turns.{TurnsComes}
 use Rattle.ldso_cli.specs.declared.answer.Answer.{Answer}
 use Rattle.ldso_cli.specs.declared.outcome.Cause.{Cause}
 use Rattle.ldso_cli.specs.declared.outcome.Cause.TheVariants as causes
@@ -89,6 +91,7 @@ source_own : (path bytes text : List ℕ) (before after : LibraryAt) (cause : Ca
 source_own path bytes text before after causes.Done comes = quiet_own (commands.Assemble path) before after causes.Done tt
 source_own path bytes text before after (causes.AsmRefused line why) comes = quiet_own (commands.Assemble path) before after (causes.AsmRefused line why) tt
 source_own path bytes text before after (causes.Refused fault) comes = absurd comes
+source_own path bytes text before after (causes.Ran run_end) comes = absurd comes
 source_own path bytes text before after causes.Usage comes = absurd comes
 source_own path bytes text before after causes.WriteFault comes = absurd comes
 source_own path bytes text before after causes.Memory comes = absurd comes
@@ -114,7 +117,23 @@ dump_comes path before after files cause comes =
     let P : Cause → Type 0 = λ c. IsOwn (commands.Dump path) before after c in
     subst P (sym comes.cause_is) (dump_own path before after (file_at files path) comes.reading comes.gives)
 
-own_end : (command : Command) (before after : LibraryAt) (end : End) (text : List ℕ) → Over (told_to command before) (IsAnswer command before after end text) → IsOwn command before after end.cause
+-- ---- turns
+
+turns_own : (turns : Turns) (before after : LibraryAt) (end : End) (text : List ℕ) → TurnsComes turns before after end text → IsOwn (commands.Turns turns) before after end.cause
+turns_own turns before after end text comes = record {
+  no_usage = λ e. elim comes.is [
+    | inl refused ↦ (let no : causes.Refused refused.fault ≡ causes.Usage = sym (ap (λ (x : End). x.cause) refused.tells.end_is) ∙ e in cc no)
+    | inr ran ↦ (let no : causes.Ran ran.tells.run_end ≡ causes.Usage = sym (ap (λ (x : End). x.cause) ran.tells.end_is) ∙ e in cc no)
+  ];
+  no_write = λ e. elim comes.is [
+    | inl refused ↦ (let no : causes.Refused refused.fault ≡ causes.WriteFault = sym (ap (λ (x : End). x.cause) refused.tells.end_is) ∙ e in cc no)
+    | inr ran ↦ (let no : causes.Ran ran.tells.run_end ≡ causes.WriteFault = sym (ap (λ (x : End). x.cause) ran.tells.end_is) ∙ e in cc no)
+  ];
+  read_fault = comes.read_fault;
+  missing = comes.missing;
+}
+
+own_end : (command : Command) (before after : LibraryAt) (end : End) (text : List ℕ) → CommandAnswers command before after end text → IsOwn command before after end.cause
 own_end (commands.Bind bind) before after end text over =
     let comes = over.holds.comes in
     at_end (commands.Bind bind) before after comes.cause end comes.end_is (bind_own bind before after over.files comes.cause over.are comes.by)
@@ -124,9 +143,9 @@ own_end (commands.Dump path) before after end text over =
 own_end (commands.Assemble path) before after end text over =
     let comes = over.holds.comes in
     at_end (commands.Assemble path) before after comes.cause end comes.end_is (asm_own path before after (file_at over.files path) comes.by.read comes.cause comes.by.reads comes.by.gives)
-own_end (commands.Turns turns) before after end text over = absurd over.holds.comes
-own_end (commands.Run run) before after end text over = absurd over.holds.comes
-own_end (commands.Generate number) before after end text over = absurd over.holds.comes
+own_end (commands.Turns turns) before after end text comes = turns_own turns before after end text comes
+own_end (commands.Run run) before after end text none = absurd none
+own_end (commands.Generate number) before after end text none = absurd none
 
 -- ---- what is written
 

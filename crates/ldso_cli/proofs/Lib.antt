@@ -1,9 +1,14 @@
 pub mod Asking
 pub mod Assembling
+pub mod Bounds
 pub mod Causes
 pub mod Decided
 pub mod Dumping
 pub mod Ending
+pub mod Kept
 pub mod Same
+pub mod Schedules
+pub mod Turned
+pub mod Turning
 pub mod Whole
 pub mod Written

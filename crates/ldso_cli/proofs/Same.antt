@@ -38,6 +38,7 @@ bind_text : OneWalk → (bind : Bind) (files : List File) (cause : Cause) (a b :
 bind_text law bind files causes.Done a b p q = same_bound law bind files a b p q
 bind_text law bind files (causes.Refused fault) a b p q = p ∙ sym q
 bind_text law bind files (causes.AsmRefused line why) a b p q = absurd p
+bind_text law bind files (causes.Ran run_end) a b p q = absurd p
 bind_text law bind files causes.Usage a b p q = absurd p
 bind_text law bind files causes.WriteFault a b p q = absurd p
 bind_text law bind files causes.Memory a b p q = absurd p
@@ -46,6 +47,7 @@ dumped_text : (path : List ℕ) (files : List File) (cause : Cause) (a b : List 
 dumped_text path files causes.Done a b p q = same_dumped path files a b p q
 dumped_text path files (causes.Refused fault) a b p q = p ∙ sym q
 dumped_text path files (causes.AsmRefused line why) a b p q = absurd p
+dumped_text path files (causes.Ran run_end) a b p q = absurd p
 dumped_text path files causes.Usage a b p q = absurd p
 dumped_text path files causes.WriteFault a b p q = absurd p
 dumped_text path files causes.Memory a b p q = absurd p

@@ -15,6 +15,7 @@ abbrev pub SourceComes : List ℕ → Cause → List ℕ → Type 0
 SourceComes source causes.Done text = Denotes source text
 SourceComes source (causes.AsmRefused line cause) text = AsmBroken source line cause × (text ≡ asm_refused_text line cause)
 SourceComes source (causes.Refused fault) text = ⊥
+SourceComes source (causes.Ran run_end) text = ⊥
 SourceComes source causes.Usage text = ⊥
 SourceComes source causes.WriteFault text = ⊥
 SourceComes source causes.Memory text = ⊥
@@ -55,6 +56,7 @@ abbrev pub AsmPrints : List ℕ → List File → Cause → List ℕ → Type 0
 AsmPrints path files causes.Done text = IsOfFile path files causes.Done text
 AsmPrints path files (causes.AsmRefused line cause) text = IsOfFile path files (causes.AsmRefused line cause) text
 AsmPrints path files (causes.Refused fault) text = text ≡ refused_text fault
+AsmPrints path files (causes.Ran run_end) text = ⊥
 AsmPrints path files causes.Usage text = ⊥
 AsmPrints path files causes.WriteFault text = ⊥
 AsmPrints path files causes.Memory text = ⊥

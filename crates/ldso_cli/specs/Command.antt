@@ -1,17 +1,19 @@
 -- What the words of the command line come to: a row for each command.
-use Rattle.std.specs.Prelude.{◌≡◌, ◌≢◌, ℕ, List, Option, Some, None}
+use Rattle.std.specs.Prelude.{◌≡◌, ◌≢◌, ◌⊎◌, ℕ, List, Option, Some, None}
 use Rattle.ld_base.specs.declared.fault.DlFault.TheVariants as dl
 use Rattle.ld_base.specs.declared.linking.File.{File}
 use Rattle.library_source.specs.Count.{Rises}
 use Rattle.library_source.specs.Files.{Over}
 use Rattle.command_line.specs.declared.command.Command.{Command}
 use Rattle.command_line.specs.declared.command.Command.TheVariants as commands
+use Rattle.command_line.specs.declared.command.Turns.{Turns}
 use Rattle.ldso_cli.specs.Asm.{AsmComes, AsmPrints}
 use Rattle.ldso_cli.specs.Bind.{BindComes, BindMisses, BindPrints}
 use Rattle.ldso_cli.specs.Dump.{DumpComes, DumpPrints}
 use Rattle.ldso_cli.specs.End.{bare}
 use Rattle.ldso_cli.specs.Outside.{LibraryAt}
 use Rattle.ldso_cli.specs.Status.{usage_text}
+use Rattle.ldso_cli.specs.Turns.{IsScheduled, TurnsComes, TurnsMisses}
 use Rattle.ldso_cli.specs.declared.outcome.Cause.{Cause}
 use Rattle.ldso_cli.specs.declared.outcome.Cause.TheVariants as causes
 use Rattle.ldso_cli.specs.declared.outcome.End.{End}
@@ -22,7 +24,7 @@ pub record EndsBare (comes : Cause → Type 0) (end : End) : Type 0 where
   pub end_is : end ≡ bare cause
   pub by : comes cause
 
--- how a command comes to an end over files, while its library goes on from one state to another; one that isn't built comes to none
+-- how a command that runs no program comes to an end over files, while its library goes on from one state to another
 abbrev pub Comes : Command → LibraryAt → LibraryAt → List File → End → Type 0
 Comes (commands.Bind bind) before after files end = EndsBare (BindComes bind before after files) end
 Comes (commands.Dump path) before after files end = EndsBare (DumpComes path before after files) end
@@ -31,7 +33,7 @@ Comes (commands.Turns turns) before after files end = ⊥
 Comes (commands.Run run) before after files end = ⊥
 Comes (commands.Generate number) before after files end = ⊥
 
--- the text that a command prints at an end, over files
+-- the text that a command that runs no program prints at an end, over files
 abbrev pub Prints : Command → List File → End → List ℕ → Type 0
 Prints (commands.Bind bind) files end text = BindPrints bind files end.cause text
 Prints (commands.Dump path) files end text = DumpPrints path files end.cause text
@@ -45,7 +47,7 @@ abbrev pub Misses : Command → LibraryAt → LibraryAt → List ℕ → Type 0
 Misses (commands.Bind bind) before after name = Over before.files (BindMisses bind before after name)
 Misses (commands.Dump path) before after name = (name ≡ path) × Rises before.misses after.misses
 Misses (commands.Assemble path) before after name = (name ≡ path) × Rises before.misses after.misses
-Misses (commands.Turns turns) before after name = ⊥
+Misses (commands.Turns turns) before after name = TurnsMisses turns before after name
 Misses (commands.Run run) before after name = ⊥
 Misses (commands.Generate number) before after name = ⊥
 
@@ -62,13 +64,31 @@ pub record IsAnswer (command : Command) (before after : LibraryAt) (end : End) (
   pub comes : Comes command before after files end
   pub prints : Prints command files end text
 
+abbrev pub OverFiles : Command → LibraryAt → LibraryAt → End → List ℕ → Type 0
+OverFiles command before after end text = Over (told_to command before) (IsAnswer command before after end text)
+
 -- words that are no command end as a usage
 pub record IsUsage (end : End) (text : List ℕ) : Type 0 where
   pub end_is : end ≡ bare causes.Usage
   pub text_is : text ≡ usage_text
 
--- what the words come to, before anything is written: an end, and a text. They are the command's over the files that it reads,
--- where these are told, and over some files where they aren't
+-- what a command comes to, before anything is written: an end, and a text. One that runs no program comes to them over the files that it
+-- reads, where these are told, and over some files where they aren't; a run is one over the files as its library tells them
+abbrev pub CommandAnswers : Command → LibraryAt → LibraryAt → End → List ℕ → Type 0
+CommandAnswers (commands.Bind bind) before after end text = OverFiles (commands.Bind bind) before after end text
+CommandAnswers (commands.Dump path) before after end text = OverFiles (commands.Dump path) before after end text
+CommandAnswers (commands.Assemble path) before after end text = OverFiles (commands.Assemble path) before after end text
+CommandAnswers (commands.Turns turns) before after end text = TurnsComes turns before after end text
+CommandAnswers (commands.Run run) before after end text = ⊥
+CommandAnswers (commands.Generate number) before after end text = ⊥
+
+-- what the words come to
 abbrev pub Answers : Option Command → LibraryAt → LibraryAt → End → List ℕ → Type 0
 Answers None before after end text = IsUsage end text
-Answers (Some command) before after end text = Over (told_to command before) (IsAnswer command before after end text)
+Answers (Some command) before after end text = CommandAnswers command before after end text
+
+-- ---- for the code of this crate alone
+
+-- turns is done where its schedule is one, and is a usage where it isn't
+abbrev pub AsScheduled : Turns → LibraryAt → LibraryAt → End → List ℕ → Type 0
+AsScheduled turns before after end text = (IsScheduled turns × TurnsComes turns before after end text) ⊎ ((IsScheduled turns → ⊥) × IsUsage end text)

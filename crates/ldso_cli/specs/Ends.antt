@@ -10,7 +10,8 @@ use Rattle.library_source.specs.declared.sink.WriteError.TheVariants as writes
 use Rattle.command_line.specs.declared.command.Command.{Command}
 use Rattle.ldso_cli.specs.Asked.{OfAsked}
 use Rattle.ldso_cli.specs.Command.{Answers, Misses, NoReadFails}
-use Rattle.ldso_cli.specs.End.{bare}
+use Rattle.turn_once.specs.Laws.{NothingFails}
+use Rattle.ldso_cli.specs.End.{AreOneEnd, bare, events_kept}
 use Rattle.ldso_cli.specs.Outside.{LibraryAt, SinkAt}
 use Rattle.ldso_cli.specs.Status.{status_of}
 use Rattle.ldso_cli.specs.declared.outcome.Cause.{Cause}
@@ -79,17 +80,19 @@ pub record RunAt : Type 0 where
   pub new : SinkAt
   pub end : End
 
--- a call with these words over these files, which the library tells, in which no read and no write fails and memory suffices
+-- a call with these words over these files, which the library tells, in which no read and no write fails and memory suffices, in a run that
+-- it makes, too
 pub record IsUndisturbed (handed : Handing) (words : List (List ℕ)) (files : List File) (run : RunAt) : Type 0 where
   pub told : run.before.files ≡ Some files
   pub ends : OfAsked words (λ command. Ends handed command run.before run.after run.old run.new run.end)
   pub reads_well : NoReadFails run.end
   pub writes_well : run.end.cause ≢ causes.WriteFault
   pub has_memory : run.end.cause ≢ causes.Memory
+  pub runs_well : NothingFails (events_kept run.end)
 
 -- two calls come to the same: one end, with its status, and one text, which was handed to both sinks, and both took it whole
 pub record ComeToOne (handed handed' : Handing) (first second : RunAt) : Type 0 where
-  pub end : first.end ≡ second.end
+  pub end : AreOneEnd first.end second.end
   pub status : status_of first.end ≡ status_of second.end
   pub text : List ℕ
   pub first_handed : handed text (Ok tt)

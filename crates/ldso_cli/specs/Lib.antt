@@ -5,5 +5,7 @@ pub mod Command
 pub mod Dump
 pub mod End
 pub mod Ends
+pub mod Laws
 pub mod Outside
 pub mod Status
+pub mod Turns

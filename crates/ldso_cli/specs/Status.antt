@@ -6,6 +6,7 @@ use Rattle.ld_base.specs.declared.fault.AsmCause.{AsmCause}
 use Rattle.ld_base.specs.declared.fault.AsmCause.TheVariants as asm
 use Rattle.ld_base.specs.declared.fault.DlFault.{DlFault}
 use Rattle.ld_base.specs.declared.fault.DlFault.TheVariants as dl
+use Rattle.run_texts.specs.Ends.{run_status}
 use Rattle.ldso_cli.specs.declared.outcome.Cause.{Cause}
 use Rattle.ldso_cli.specs.declared.outcome.Cause.TheVariants as causes
 use Rattle.ldso_cli.specs.declared.outcome.End.{End}
@@ -21,6 +22,7 @@ status_of_fault _ = 118
 
 abbrev pub status_of_cause : Cause → ℕ
 status_of_cause causes.Done = 0
+status_of_cause (causes.Ran run_end) = run_status run_end
 status_of_cause (causes.Refused fault) = status_of_fault fault
 status_of_cause (causes.AsmRefused line cause) = 119
 status_of_cause causes.Usage = 120

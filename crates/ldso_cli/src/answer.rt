@@ -7,7 +7,7 @@ ghost use Rattle.ldso_cli.specs.End.{bare};
 ghost use Rattle.ldso_cli.specs.Status.{asm_refused_text, asm_word, refused_text, status_of_fault};
 ghost use Rattle.ldso_cli.specs.declared.outcome.Cause.TheVariants.{AsmRefused, Done, Refused};
 
-use crate::outcome::{Cause, End, status_of_fault};
+use crate::outcome::{Cause, End, refused_line};
 use ld_base::{AsmCause, Bytes, DlFault};
 use std::alloc::{AllocError, Global};
 
@@ -41,13 +41,11 @@ pub(crate) fn assembled(bytes: Vec<u8>) -> Answer
 }
 
 /// The answer of a refusal, of a command that ran no program.
-#[tactic(auto, unfolding(crate::specs::Status::refused_text))]
 pub(crate) fn refused(alloc: Global, fault: DlFault) -> Result<Answer, AllocError>
     ensures end { IfOk result (λ answer. answer.end ≡ bare (Refused fault)) }
     ensures text { IfOk result (λ answer. answer.text ≡ refused_text fault) }
 {
-    let status = status_of_fault(&fault);
-    let text = format!(in alloc; "end {status} {fault}\n")?;
+    let text = refused_line(alloc, &fault)?;
     Ok(Answer {
         end: End::bare(Cause::Refused(fault)),
         text: Bytes::from(text.into_bytes()),

@@ -5,15 +5,23 @@ ghost use Rattle.ld_base.specs.declared.linking.File.{File};
 ghost use Rattle.command_line.specs.declared.command.Command.{Command};
 ghost use Rattle.ldso_cli.specs.Command.{Comes, NoReadFails, Prints};
 ghost use Rattle.ldso_cli.specs.Ends.{ComeToOne, IsUndisturbed, RunAt};
+ghost use Rattle.ldso_cli.specs.Laws.{KeepsLegal, KeepsWhole, RunsWhereItMay};
 ghost use Rattle.ldso_cli.specs.Outside.{LibraryAt, handed_to};
 ghost use Rattle.ldso_cli.specs.declared.outcome.End.{End};
 
+use accepted_image::accepted_object;
 use command_line::words_are_one_command;
 use library_source::Sink;
+use link_service::{one_startup, served_calls_are_legal};
+use run_once::runs_are_one;
+use run_texts::one_run_end;
 use scope_rule::one_outcome;
+use world_turns::runs_stay_sound;
+use world_whole::runs_are_whole;
 
 /// The words and the files decide what a call of the command comes to, where the library tells its
-/// files, no read and no write fails, and memory suffices: one status, and one text.
+/// files, no read and no write fails, and memory suffices, in a run that it makes, too: one status, one
+/// text, and one record of the run.
 pub fn one_answer<K: Sink, J: Sink>()
     ensures { (words : List (List ℕ)) (files : List File) (first second : RunAt) (old new : K) (old' new' : J) →
         IsUndisturbed (handed_to K.writes old new) words files first → IsUndisturbed (handed_to J.writes old' new') words files second →
@@ -22,9 +30,13 @@ pub fn one_answer<K: Sink, J: Sink>()
     words_are_one_command();
     one_outcome();
     asm_denotes::one_answer();
+    runs_are_one();
+    one_startup();
+    accepted_object();
+    one_run_end();
 }
 
-/// Where no read fails, the files decide how a command ends.
+/// Where no read fails, the files decide how a command ends that runs no program.
 pub fn one_end()
     ensures { (command : Command) (files : List File) (before after before' after' : LibraryAt) (first second : End) →
         Comes command before after files first → NoReadFails first → Comes command before' after' files second → NoReadFails second → first ≡ second }
@@ -33,11 +45,31 @@ pub fn one_end()
     asm_denotes::one_answer();
 }
 
-/// Over the same files a command prints one text at an end.
+/// Over the same files such a command prints one text at an end.
 pub fn one_text()
     ensures { (command : Command) (files : List File) (end : End) (first second : List ℕ) →
         Prints command files end first → Prints command files end second → first ≡ second }
 {
     one_outcome();
     asm_denotes::one_answer();
+}
+
+/// The journal that `turns` keeps is one legal history, over the files as the library tells them; and that
+/// of a program that ran is whole: no grant is open, what each lost grant saw is the value of its slot, and
+/// where each hart ended by exit what was initialised was finalised.
+pub fn kept_runs_are_legal()
+    ensures legal { KeepsLegal }
+    ensures whole { KeepsWhole }
+{
+    accepted_object();
+    served_calls_are_legal();
+    runs_stay_sound();
+    runs_are_whole();
+}
+
+/// A program that may start over files that are told runs, where no read fails and memory suffices.
+pub fn startable_programs_run()
+    ensures { RunsWhereItMay }
+{
+    one_startup();
 }

@@ -1,5 +1,5 @@
 //! The command `ldso`: which definition each procedure linkage slot of a program gets, what an object
-//! holds, and the object that an assembler source denotes.
+//! holds, the object that an assembler source denotes, and what a program does when it runs.
 //!
 //! [`ldso`] is the whole of it, over any library of files and any sink of bytes. Which command words are
 //! stands in `command_line`, and what its texts are in `command_text`.
@@ -12,7 +12,8 @@ mod dump;
 mod law;
 mod outcome;
 mod top;
+mod turns;
 
-pub use law::{one_answer, one_end, one_text};
+pub use law::{kept_runs_are_legal, one_answer, one_end, one_text, startable_programs_run};
 pub use outcome::{Cause, End, Outcome};
 pub use top::ldso;

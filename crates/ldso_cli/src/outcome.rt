@@ -1,16 +1,21 @@
 //! How the command ends.
 
-ghost use Rattle.std.specs.Prelude.{◌≡◌};
+ghost use Rattle.std.specs.Prelude.{◌≡◌, IfOk};
+ghost use Rattle.std.specs.String.{string_bytes};
 ghost use Rattle.ldso_cli.specs.End.{bare, end_of};
-ghost use Rattle.ldso_cli.specs.Status.{status_of, status_of_cause, status_of_fault};
+ghost use Rattle.ldso_cli.specs.Status.{refused_text, status_of, status_of_cause, status_of_fault};
 
 use ld_base::{AsmCause, DlFault};
+use run_texts::{RunEnd, RunRecord};
+use std::alloc::{AllocError, Global};
 
 /// Why the command ends.
 #[derive(Debug, Drop)]
 pub enum Cause {
     /// It did what it was asked.
     Done,
+    /// The run is over, and ended so.
+    Ran(RunEnd),
     /// The file, or what it needs, is refused.
     Refused(DlFault),
     /// The source is refused, at this line and for this cause.
@@ -23,12 +28,13 @@ pub enum Cause {
     Memory,
 }
 
-/// How a command ended: why, and what it keeps. A command that runs a program will keep the record
-/// of the run and the trails of its harts: they get their fields here, and in [`Outcome`], with the
-/// first such command.
+/// How a command ended: why, and what it keeps.
 #[derive(Debug, Drop)]
 pub struct End {
     pub cause: Cause,
+    /// The record of the run, of a command that runs a program. Where startup was refused its journal is
+    /// startup's, and it has no ends. Where there wasn't enough memory it may be there or not.
+    pub kept: Option<RunRecord>,
 }
 
 /// How the command ended: its status, and its end.
@@ -36,6 +42,8 @@ pub struct End {
 pub struct Outcome {
     pub status: u8,
     pub cause: Cause,
+    /// As in [`End`].
+    pub kept: Option<RunRecord>,
 }
 
 /// The status with which a refusal ends the command.
@@ -52,11 +60,26 @@ pub(crate) fn status_of_fault(fault: &DlFault) -> u8
     }
 }
 
+/// The last line where a refusal ends the command.
+///
+/// # Errors
+///
+/// Want of memory.
+#[tactic(auto, unfolding(crate::specs::Status::refused_text))]
+pub(crate) fn refused_line(alloc: Global, fault: &DlFault) -> Result<String, AllocError>
+    ensures { IfOk result (λ line. string_bytes line ≡ refused_text fault.now) }
+{
+    let status = status_of_fault(fault);
+    let line = format!(in alloc; "end {status} {fault}\n")?;
+    Ok(line)
+}
+
 fn status_of_cause(cause: &Cause) -> u8
     ensures { result ≡ status_of_cause cause.now }
 {
     match cause {
         Cause::Done => 0,
+        Cause::Ran(run_end) => run_end.status(),
         Cause::Refused(fault) => status_of_fault(fault),
         Cause::AsmRefused(_, _) => 119,
         Cause::Usage => 120,
@@ -72,7 +95,7 @@ impl End {
     pub fn bare(cause: Cause) -> Self
         ensures { result ≡ bare cause }
     {
-        End { cause }
+        End { cause, kept: None }
     }
 
     /// The same end for another cause: what is kept stays.
@@ -95,7 +118,11 @@ impl End {
         ensures status { result.status ≡ status_of self }
     {
         let status = self.status();
-        let End { cause } = self;
-        Outcome { status, cause }
+        let End { cause, kept } = self;
+        Outcome {
+            status,
+            cause,
+            kept,
+        }
     }
 }

@@ -14,6 +14,7 @@ use crate::asm::asm;
 use crate::bind::bind;
 use crate::dump::dump;
 use crate::outcome::{Cause, End, Outcome};
+use crate::turns::turns;
 use command_line::{Command, words_are_one_command};
 use command_read::{WordsFault, read_command};
 use library_source::{Library, Sink, WriteError, put_all};
@@ -38,8 +39,9 @@ fn answer<L: Library>(
         Ok(Command::Bind(command)) => bind(alloc, command, library),
         Ok(Command::Dump(path)) => dump(alloc, path, library),
         Ok(Command::Assemble(path)) => asm(alloc, path, library),
+        Ok(Command::Turns(command)) => turns(alloc, &command, library),
         // These aren't built yet.
-        Ok(Command::Turns(_) | Command::Run(_) | Command::Generate(_)) => usage(alloc),
+        Ok(Command::Run(_) | Command::Generate(_)) => usage(alloc),
         Err(WordsFault::Usage) => usage(alloc),
         Err(WordsFault::Memory) => Err(AllocError),
     }
@@ -70,7 +72,9 @@ fn write_answer<K: Sink>(out: &mut K, answer: Result<Answer, AllocError>) -> End
 /// needs, breadth-first; of a version that isn't there; of a reference without a definition. `dump`
 /// ends with `Done` where the file is accepted as a program, and else with its refusal. `asm` ends with
 /// `Done` where the source denotes an object, whose bytes it writes alone, and else with the line that is
-/// refused and the cause.
+/// refused and the cause. `turns` ends with the first refusal of startup, or with how the run by its
+/// schedule ended; it writes the run's journal, and what the run left is kept beside the end. A schedule
+/// that is none of so many harts is a `Usage`, too.
 pub fn ldso<R: Threads + Wait + Sync, L: Library + Send + Drop, K: Sink>(
     rt: &R,
     alloc: Global,

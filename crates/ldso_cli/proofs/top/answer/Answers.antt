@@ -1,28 +1,52 @@
-use Rattle.std.proofs.Common.{List, Some, ℕ, refl, subst}
+use Rattle.std.proofs.Common.{List, Some, ℕ, ap, subst, ◌<◌, ◌^◌, ◌≤◌, arith}
 use Rattle.command_line.specs.Reads.{Reads}
 use Rattle.command_line.specs.declared.command.Command.{Command}
 use Rattle.command_line.specs.declared.command.Command.TheVariants as commands
+use Rattle.link_service.specs.Startup.{harts_of}
 use Rattle.said_words.specs.Words.{texts}
-use Rattle.ldso_cli.proofs.Asking.{unanswered}
+use Rattle.ldso_cli.specs.Outside.{library_at}
+use Rattle.ldso_cli.proofs.Asking.{turned, unanswered}
+use Rattle.ldso_cli.proofs.Bounds.{few_harts, little_fuel}
 use Rattle.ldso_cli.proofs.top.answer.Goals as goal
 
 pub returns-in-Ok-Bind-clause-answers : goal.returns-in-Ok-Bind-clause-answers
 returns-in-Ok-Bind-clause-answers g c =
     let reads : Reads (texts c.args.words.now) (commands.Bind c.in-Ok-Bind.command) =
     subst (λ (command : Command). Reads (texts c.args.words.now) command) c.in-Ok-Bind.field-0-is c.in-Ok-Bind.ensures.is in
-    record { asked = Some (commands.Bind c.in-Ok-Bind.command); asks = (reads, refl); holds = c.bind.ensures.answers }
+    record { asked = Some (commands.Bind c.in-Ok-Bind.command); asks = (reads, tt); holds = c.bind.ensures.answers }
 
 pub returns-in-Ok-Dump-clause-answers : goal.returns-in-Ok-Dump-clause-answers
 returns-in-Ok-Dump-clause-answers g c =
     let reads : Reads (texts c.args.words.now) (commands.Dump c.in-Ok-Dump.path) =
     subst (λ (command : Command). Reads (texts c.args.words.now) command) c.in-Ok-Dump.field-0-is c.in-Ok-Dump.ensures.is in
-    record { asked = Some (commands.Dump c.in-Ok-Dump.path); asks = (reads, refl); holds = c.dump.ensures.answers }
+    record { asked = Some (commands.Dump c.in-Ok-Dump.path); asks = (reads, tt); holds = c.dump.ensures.answers }
 
 pub returns-in-Ok-Assemble-clause-answers : goal.returns-in-Ok-Assemble-clause-answers
 returns-in-Ok-Assemble-clause-answers g c =
     let reads : Reads (texts c.args.words.now) (commands.Assemble c.in-Ok-Assemble.path) =
     subst (λ (command : Command). Reads (texts c.args.words.now) command) c.in-Ok-Assemble.field-0-is c.in-Ok-Assemble.ensures.is in
-    record { asked = Some (commands.Assemble c.in-Ok-Assemble.path); asks = (reads, refl); holds = c.asm.ensures.answers }
+    record { asked = Some (commands.Assemble c.in-Ok-Assemble.path); asks = (reads, tt); holds = c.asm.ensures.answers }
+
+pub turns-requires-clause-few : goal.turns-requires-clause-few
+turns-requires-clause-few g c =
+    let reads : Reads (texts c.args.words.now) (commands.Turns c.in-Ok-Turns.command) =
+    subst (λ (command : Command). Reads (texts c.args.words.now) command) c.in-Ok-Turns.field-0-is c.in-Ok-Turns.ensures.is in
+    let few : harts_of c.in-Ok-Turns.command.setup ≤ 16 = few_harts (texts c.args.words.now) c.in-Ok-Turns.command reads in
+    omega (arith, few)
+
+pub turns-requires-clause-fuel : goal.turns-requires-clause-fuel
+turns-requires-clause-fuel g c =
+    let reads : Reads (texts c.args.words.now) (commands.Turns c.in-Ok-Turns.command) =
+    subst (λ (command : Command). Reads (texts c.args.words.now) command) c.in-Ok-Turns.field-0-is c.in-Ok-Turns.ensures.is in
+    little_fuel (texts c.args.words.now) c.in-Ok-Turns.command reads
+
+pub returns-in-Ok-Turns-clause-answers : goal.returns-in-Ok-Turns-clause-answers
+returns-in-Ok-Turns-clause-answers g c =
+    let reads : Reads (texts c.args.words.now) (commands.Turns c.in-Ok-Turns.command) =
+    subst (λ (command : Command). Reads (texts c.args.words.now) command) c.in-Ok-Turns.field-0-is c.in-Ok-Turns.ensures.is in
+    let before = library_at g.L.Library.files g.L.Library.faults g.L.Library.misses c.args.library.now in
+    let after = library_at g.L.Library.files g.L.Library.faults g.L.Library.misses c.turns.new.library in
+    turned c.words_are_one_command.ensures (texts c.args.words.now) c.in-Ok-Turns.command reads before after c.turns.result c.turns.ensures.comes
 
 pub returns-clause-answers : goal.returns-clause-answers
 returns-clause-answers g c =
