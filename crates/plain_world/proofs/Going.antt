@@ -32,10 +32,10 @@ moved_more run now new is more = more ∙ ap (λ (t : WorldTable). moved t new.w
 pub in_each_of : (run now : WorldTable) (files files' : Option (List File)) (Holds : Setting → Type 0) → now.count ≡ run.count → now.folders ≡ run.folders
     → files' ≡ files → InEachRun now files' Holds → InEachRun run files Holds
 in_each_of run now files files' Holds count folders same each = λ w over. each w (record {
-      machine = over.machine ∙ sym (ap machine_of count);
-      folders_are = over.folders_are ∙ sym folders;
-      files_are = over.files_are ∙ sym same;
-    })
+  machine = over.machine ∙ sym (ap machine_of count);
+  folders_are = over.folders_are ∙ sym folders;
+  files_are = over.files_are ∙ sym same;
+})
 
 pub in_each : (run now : WorldTable) (files files' : Option (List File)) (Holds : Setting → Type 0) → now ≡ moved run now.world → files' ≡ files
     → InEachRun now files' Holds → InEachRun run files Holds
@@ -92,9 +92,11 @@ last_of first others runs over = at (has_ended first) runs
 
 -- it alone runs on
 pub runs_first : (world : World) → have_ended world ≡ false → OthersHaveEnded world → FirstRuns world
-runs_first world runs x =
-    (x.first, ap (λ (bs : List HartState). slice_get bs 0) x.harts,
-      runs_of x.first (last_of x.first x.others (sym (ap (list_all has_ended) x.harts) ∙ runs) x.over))
+runs_first world runs x = (
+  x.first,
+  ap (λ (bs : List HartState). slice_get bs 0) x.harts,
+  runs_of x.first (last_of x.first x.others (sym (ap (list_all has_ended) x.harts) ∙ runs) x.over),
+)
 
 -- its turn isn't passed over
 pub turn_of_first : (w : Setting) (old new : World) → FirstRuns old → TakesTurn w 0 old new → Turn w 0 old new

@@ -185,7 +185,7 @@ rounds_less w harts old new (Rounds.no_more _) = inr (record { same = refl; over
 rounds_less w harts old new (Rounds.one_more h rest _ between _ (TakesTurn.turn t) more) = ⊎_elim
     (λ (less : left new < left between). inl (omega (arith, less, turn_less w h old between t)))
     (λ (x : ArePassedOver rest between new).
-      let same : left new ≡ left between = ap left x.same in inl (omega (arith, same, turn_less w h old between t)))
+    let same : left new ≡ left between = ap left x.same in inl (omega (arith, same, turn_less w h old between t)))
     (rounds_less w rest between new more)
 rounds_less w harts old new (Rounds.one_more h rest _ between _ (TakesTurn.passed_over b reason at over passed) more) = ⊎_elim
     (λ (less : left new < left between). let same : left between ≡ left old = ap left passed in inl (omega (arith, less, same)))
@@ -212,7 +212,7 @@ pub round_less : (w : Setting) (old new : World) → have_ended old ≡ false �
 round_less w old new runs rounds = ⊎_elim
     (λ (less : left new < left old). less)
     (λ (x : ArePassedOver (all_harts old) old new). absurd (true≢false
-      (sym (all_pass has_ended old.harts (λ h b at.
-        let here = over_at old (length old.harts) h x.over (slice_get_within old.harts h b at) in
-        ap has_ended (same_hart old.harts h b here.0 at here.1) ∙ here.2)) ∙ runs)))
+    (sym (all_pass has_ended old.harts (λ h b at.
+    let here = over_at old (length old.harts) h x.over (slice_get_within old.harts h b at) in
+    ap has_ended (same_hart old.harts h b here.0 at here.1) ∙ here.2)) ∙ runs)))
     (rounds_less w (all_harts old) old new rounds)

@@ -1,3 +1,4 @@
 pub mod Going
 pub mod Left
 pub mod Parts
+pub mod Runs

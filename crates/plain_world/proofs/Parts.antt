@@ -1,10 +1,12 @@
 -- A run's parts in the code, and its world.
 use Rattle.std.proofs.Common.{◌≡◌, ℕ, zero, suc, ◌+◌, ◌<◌, Bool, true, false, List, [], ◌∷◌, ◌++◌, map, take, length, get_or, Option, Some, refl, sym, ap, subst, ◌∙◌, true≢false, arith}
 use Rattle.std.specs.Prelude.{◌&&◌}
-use Rattle.std.specs.List.{list_all, slice_get}
+use Rattle.std.specs.Bool.{OnFalse, OnTrue}
+use Rattle.std.specs.List.{list_all}
 use Rattle.std.proofs.lemmas.List.{take_more}
 use Rattle.ld_base.specs.declared.linking.File.{File}
 use Rattle.link_event.specs.declared.hart_end.HartEnd.{HartEnd}
+use Rattle.link_event.specs.declared.handed.HartEntry.{HartEntry}
 use Rattle.link_state.specs.Table.{LinkTable}
 use Rattle.lawful_journal.specs.Following.{machine_of}
 use Rattle.call_laws.specs.Coming.{IsOn, IsOver}
@@ -18,6 +20,7 @@ use Rattle.world_turns.specs.Run.{has_ended, settled}
 use Rattle.world_turns.specs.Turn.{TakesTurn}
 use Rattle.world_turns.specs.World.{World, settling}
 use Rattle.plain_world.specs.Ends.{AreEndsOf}
+use Rattle.plain_world.specs.Table.{WorldTable, moved}
 
 -- ---- the same parts
 
@@ -72,6 +75,32 @@ settles_to old new words before behind state harts =
     ap (λ (s : LinkTable). world_of s words behind) state
     ∙ ap (λ (bs : List HartState). record { journal = old.events ++ settling (harts_in before); words = words; harts = bs })
     (ap harts_in harts ∙ freed_harts before)
+
+pub settled_at : (folders : List (List ℕ)) (begun : Bool) (old new : LinkTable) (words : List Doubleword) (before items behind : List HartTable)
+    → before ≡ items → new ≡ record old { events = old.events ++ settling (harts_in before) } → behind ≡ map freed_in before
+    → IsAt old.harts folders begun (settled (world_of old words items)) → IsAt new.harts folders begun (world_of new words behind)
+settled_at folders begun old new words before items behind is state harts at =
+    subst (λ (n : ℕ). IsAt n folders begun (world_of new words behind)) (sym (ap (λ (s : LinkTable). s.harts) state))
+    (subst (λ (v : World). IsAt old.harts folders begun v)
+    (sym (settles_to old new words before behind state harts ∙ ap (λ (hs : List HartTable). settled (world_of old words hs)) is)) at)
+
+-- ---- by whether
+
+pub on_true : (b : Bool) (P Q : Type 0) → (P → Q) → OnTrue b P → OnTrue b Q
+on_true true P Q f p = f p
+on_true false P Q f p = p
+
+pub on_false : (b : Bool) (P Q : Type 0) → (P → Q) → OnFalse b P → OnFalse b Q
+on_false true P Q f p = p
+on_false false P Q f p = f p
+
+abbrev pub table : ℕ → List (List ℕ) → HartEntry → Bool → World → WorldTable
+table count folders entry begun world = record { count = count; folders = folders; entry = entry; begun = begun; world = world }
+
+pub same_table : (folders : List (List ℕ)) (entry : HartEntry) (begun : Bool) (n count : ℕ) (world other : World) → n ≡ count → world ≡ other
+    → table n folders entry begun world ≡ moved (table count folders entry begun world) other
+same_table folders entry begun n count world other all is =
+    ap (λ (k : ℕ). table k folders entry begun world) all ∙ ap (λ (v : World). table count folders entry begun v) is
 
 -- ---- ends
 

@@ -34,7 +34,13 @@ impl World {
     {
         let begun = self.begun;
         self.begun = true;
-        begin(alloc, &mut self.state, self.harts.as_mut_slice(), self.entry, begun)
+        begin(
+            alloc,
+            &mut self.state,
+            self.harts.as_mut_slice(),
+            self.entry,
+            begun,
+        )
     }
 
     /// Each grant whose hart is done with it is settled.

@@ -48,7 +48,7 @@ pub returns-in-Memory-clause-other : goal.returns-in-Memory-clause-other
 returns-in-Memory-clause-other c = λ words w on.
     FinalisesOnce.for_once c.if-begun.false
     (Finalises.no_memory (sym (all_in has_exited c.args.harts.now) ∙ sym c.have_exited.ensures ∙ c.if-not-have_exited.false)
-      (c.in-Memory.ensures.begins words w on))
+    (c.in-Memory.ensures.begins words w on))
 
 pub returns-in-Memory-clause-stays : goal.returns-in-Memory-clause-stays
 returns-in-Memory-clause-stays c = λ words folders at.

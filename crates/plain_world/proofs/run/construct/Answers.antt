@@ -13,7 +13,7 @@ loop-alloc-preserved g c = record {
   goes = λ w over new more. c.loop-alloc.invariant.goes w over new
       (Constructs.one_more c.loop-alloc.run.world c.go_on.new.run.world new (sym c.is_starting.ensures ∙ c.loop-alloc-test.true)
       (in_each c.args.run.now c.loop-alloc.run (g.L.Library.files c.args.library.now) (g.L.Library.files c.loop-alloc.library)
-    (λ v. Turn v 0 c.loop-alloc.run.world c.go_on.new.run.world) c.loop-alloc.invariant.rest c.loop-alloc.invariant.files c.go_on.ensures.turn w over) more);
+      (λ v. Turn v 0 c.loop-alloc.run.world c.go_on.new.run.world) c.loop-alloc.invariant.rest c.loop-alloc.invariant.files c.go_on.ensures.turn w over) more);
   files = c.go_on.ensures.files ∙ c.loop-alloc.invariant.files;
   faults = omega arith;
   misses = omega arith;

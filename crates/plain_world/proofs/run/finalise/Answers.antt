@@ -14,10 +14,10 @@ pub returns-then-begin_finals-clause-finalises : goal.returns-then-begin_finals-
 returns-then-begin_finals-clause-finalises g c = λ w over.
     let x = c.if-begin_finals.ensures.begins in
     FinalisesOnce.for_once x.before (Finalises.all_run c.begin_finals.new.self.world x.exited x.begins
-      (in_each_of c.args.run.now c.begin_finals.new.self (g.L.Library.files c.args.library.now) (g.L.Library.files c.args.library.now)
-      (λ v. Ends v c.begin_finals.new.self.world c.run_finals.new.run.world)
-      (ap (λ (t : WorldTable). t.count) c.begin_finals.ensures.rest) (ap (λ (t : WorldTable). t.folders) c.begin_finals.ensures.rest) refl
-      c.run_finals.ensures.ends w over))
+    (in_each_of c.args.run.now c.begin_finals.new.self (g.L.Library.files c.args.library.now) (g.L.Library.files c.args.library.now)
+    (λ v. Ends v c.begin_finals.new.self.world c.run_finals.new.run.world)
+    (ap (λ (t : WorldTable). t.count) c.begin_finals.ensures.rest) (ap (λ (t : WorldTable). t.folders) c.begin_finals.ensures.rest) refl
+    c.run_finals.ensures.ends w over))
 
 pub returns-else-begin_finals-clause-finalises : goal.returns-else-begin_finals-clause-finalises
 returns-else-begin_finals-clause-finalises g c = λ w over. c.if-begin_finals.ensures.other w over.machine
