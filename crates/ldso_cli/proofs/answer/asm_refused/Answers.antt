@@ -1,4 +1,4 @@
-use Rattle.std.proofs.Common.{◌≡◌, ◌++◌, ◌∷◌, ◌∙◌, [], ap, codes, Global, List, Vec, ℕ}
+use Rattle.std.proofs.Common.{◌++◌, ◌∷◌, ◌∙◌, [], ap, codes, Global, List, Vec, ℕ}
 use Rattle.std.specs.Fmt.{decimal}
 use Rattle.ldso_cli.specs.Status.{asm_refused_text}
 use Rattle.ldso_cli.proofs.answer.asm_refused.Goals as goal
