@@ -1,0 +1,4 @@
+pub mod Closings
+pub mod Grants
+pub mod Lazy
+pub mod Loadings
