@@ -1,4 +1,5 @@
 pub mod Answering
 pub mod Completing
 pub mod Noting
+pub mod Settling
 pub mod Steps

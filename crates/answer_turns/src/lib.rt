@@ -3,13 +3,18 @@
 //! [`take_answer`] takes the turn of a hart whose call the linker has answered: the call returns, waits or
 //! is over, a slot is offered, or functions are to run first. [`complete`] takes the turn in which the
 //! constructors or destructors of an object have run. Both note the objects without functions that pass
-//! with it. Each is a row of the table of `hart_moves`. Neither takes memory.
+//! with it. Each is a row of the table of `hart_moves`.
+//!
+//! [`settle_all`] comes before a service of any hart, and once at the end of a run: each grant whose hart is
+//! done with it is settled, in order of the harts' numbers. None of the three takes memory.
 #![tactic(auto)]
 
 mod answer;
 mod completion;
 mod noting;
 mod returning;
+mod settling;
 
 pub use answer::take_answer;
 pub use completion::complete;
+pub use settling::settle_all;

@@ -12,7 +12,7 @@ use Rattle.call_laws.specs.Coming.{IsOn, IsOver}
 use Rattle.hart_seat.specs.Table.{HartTable}
 use Rattle.rv_hart.specs.declared.doubleword.Doubleword.{Doubleword}
 use Rattle.running_worlds.specs.Running.{IsRunning}
-use Rattle.settled_harts.specs.Settling.{harts_in}
+use Rattle.answer_turns.specs.Settling.{harts_in}
 use Rattle.turn_writes.specs.Writing.{WorldWrites}
 use Rattle.world_ends.specs.Ends.{BeforeFinals}
 use Rattle.world_turns.specs.Turn.{TakesTurn, Turn}

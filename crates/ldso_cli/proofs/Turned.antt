@@ -23,7 +23,7 @@ use Rattle.plain_world.specs.Playing.{InEachRun, Plays}
 use Rattle.plain_world.specs.Table.{WorldTable}
 use Rattle.schedules.specs.declared.schedule.TurnItem.{TurnItem}
 use Rattle.trace_text.specs.Lines.{IsSayable}
-use Rattle.world_start.specs.Started.{StartsAt}
+use Rattle.plain_world.specs.Started.{StartsAt}
 use Rattle.world_turns.specs.Run.{Run}
 use Rattle.world_turns.specs.Throughout.{RunsAreSound}
 use Rattle.world_turns.specs.World.{World}

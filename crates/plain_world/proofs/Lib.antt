@@ -2,3 +2,4 @@ pub mod Going
 pub mod Left
 pub mod Parts
 pub mod Runs
+pub mod Started

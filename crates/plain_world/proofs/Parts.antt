@@ -14,7 +14,7 @@ use Rattle.rv_hart.specs.declared.doubleword.Doubleword.{Doubleword}
 use Rattle.hart_moves.specs.Harts.{HartState}
 use Rattle.hart_moves.specs.Moves.{freed}
 use Rattle.hart_seat.specs.Table.{HartTable}
-use Rattle.settled_harts.specs.Settling.{freed_in, harts_in}
+use Rattle.answer_turns.specs.Settling.{freed_in, harts_in}
 use Rattle.guest_worlds.specs.Worlds.{IsAt, TakesOn, TakesOver, TurnsOn, TurnsOver, world_of}
 use Rattle.world_turns.specs.Run.{has_ended, settled}
 use Rattle.world_turns.specs.Turn.{TakesTurn}

@@ -5,7 +5,7 @@ use Rattle.link_history.specs.Setting.{Setting}
 use Rattle.link_served.specs.declared.startup.Setup.{Setup}
 use Rattle.hart_moves.specs.Starting.{starting_registers}
 use Rattle.schedules.specs.declared.schedule.TurnItem.{TurnItem}
-use Rattle.world_start.specs.Started.{StartsAt}
+use Rattle.plain_world.specs.Started.{StartsAt}
 use Rattle.world_turns.specs.Run.{Run}
 use Rattle.world_turns.specs.World.{World}
 use Rattle.plain_world.specs.Playing.{Plays}

@@ -3,4 +3,5 @@ pub mod Finals
 pub mod Inside
 pub mod Laws
 pub mod Playing
+pub mod Started
 pub mod Table

@@ -16,10 +16,10 @@ use crate::World;
 use crate::harts::have_exited;
 use guest_worlds::{guests_may_turn, runs_stay};
 use hart_seat::LinkedHart;
-use last_turns::{Beginning, begin_finals};
+use guest_turns::{Beginning, begin_finals};
 use link_event::HartEntry;
 use link_state::LinkState;
-use settled_harts::settle_all;
+use answer_turns::settle_all;
 use std::alloc::Global;
 
 impl World {

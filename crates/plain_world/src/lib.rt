@@ -12,6 +12,7 @@ mod harts;
 mod law;
 mod record;
 mod run;
+mod starting;
 mod turn;
 mod world;
 

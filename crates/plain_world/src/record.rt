@@ -2,7 +2,7 @@
 
 ghost use Rattle.std.specs.Prelude.{◌≡◌, Some, IfOk, IsTrue};
 ghost use Rattle.plain_world.specs.Ends.{AreEndsOf};
-ghost use Rattle.settled_harts.specs.Settling.{harts_in};
+ghost use Rattle.answer_turns.specs.Settling.{harts_in};
 ghost use Rattle.std.specs.List.{list_all};
 ghost use Rattle.world_turns.specs.Run.{has_ended, have_ended};
 

@@ -6,13 +6,10 @@ ghost use Rattle.guest_worlds.specs.Worlds.{IsAt, TakesOver, world_of};
 
 use guest_worlds::Turn;
 use hart_seat::LinkedHart;
-use last_turns::take_final;
 use ld_base::{HartId, Names};
 use library_source::Library;
 use link_state::LinkState;
 use plain_memory::PlainMemory;
-use quiet_turns::take_quiet;
-use service_turns::take_service;
 use std::alloc::Global;
 
 /// Takes the next turn of a hart. One that has ended is passed over.

@@ -8,7 +8,7 @@ ghost use Rattle.link_service.specs.Startup.{harts_of};
 ghost use Rattle.link_startup.specs.Startup.{IsNotStarted, StartsWhole, startup_refusal};
 ghost use Rattle.opening_plan.specs.Startup.{run_of};
 ghost use Rattle.plain_world.specs.Table.{moved};
-ghost use Rattle.world_start.specs.Started.{StartsAt};
+ghost use Rattle.plain_world.specs.Started.{StartsAt};
 ghost use Rattle.world_turns.specs.Run.{have_ended, is_starting};
 
 use crate::harts::{have_ended, is_starting};
@@ -24,7 +24,7 @@ use plain_memory::PlainMemory;
 use record_copies::Copied;
 use std::alloc::Global;
 use std::marker::Model;
-use world_start::{StartedWorld, start};
+use crate::starting::{StartedWorld, start};
 
 /// A run on one thread at a moment: the linker's state, guest memory, and the harts. Contracts see how many
 /// harts it has, where it looks for libraries, with which registers its first hart starts, whether its final

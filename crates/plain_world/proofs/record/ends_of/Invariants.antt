@@ -1,5 +1,5 @@
 use Rattle.std.proofs.Common.{take}
-use Rattle.settled_harts.specs.Settling.{harts_in}
+use Rattle.answer_turns.specs.Settling.{harts_in}
 use Rattle.plain_world.specs.Ends.{AreEndsOf}
 use Rattle.plain_world.proofs.record.ends_of.Given as goal
 

@@ -1,7 +1,7 @@
 use Rattle.std.proofs.Common.{ap, subst, ◌∙◌}
 use Rattle.guest_worlds.specs.Coming.{Comes}
 use Rattle.guest_worlds.specs.Worlds.{world_of}
-use Rattle.settled_harts.specs.Settling.{harts_in}
+use Rattle.answer_turns.specs.Settling.{harts_in}
 use Rattle.world_turns.specs.World.{World}
 use Rattle.plain_world.proofs.Parts.{on_takes, same_world}
 use Rattle.plain_world.proofs.turn.take_turn.Goals as goal

@@ -4,7 +4,7 @@ use Rattle.std.specs.Vec.{with_items}
 use Rattle.link_state.specs.Table.{LinkTable}
 use Rattle.turn_answers.specs.Following.{MayFollowAll}
 use Rattle.hart_seat.specs.Table.{HartTable}
-use Rattle.settled_harts.specs.Settling.{harts_in}
+use Rattle.answer_turns.specs.Settling.{harts_in}
 use Rattle.guest_worlds.specs.Worlds.{IsAt, world_of}
 use Rattle.world_turns.specs.Run.{settled}
 use Rattle.world_turns.specs.World.{settling}

@@ -1,4 +1,0 @@
-pub mod Carried
-pub mod Ending
-pub mod Places
-pub mod Starting

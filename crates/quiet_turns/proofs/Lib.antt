@@ -1,4 +1,0 @@
-pub mod Arms
-pub mod Ended
-pub mod Own
-pub mod There

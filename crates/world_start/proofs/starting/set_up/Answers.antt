@@ -1,5 +1,0 @@
-use Rattle.world_start.proofs.Started.{brings}
-use Rattle.world_start.proofs.starting.set_up.Goals as goal
-
-pub starting_memory-requires : goal.starting_memory-requires
-starting_memory-requires c = brings c.requires.starts.0 c.requires.starts.1 c.args.state.events c.args.started c.requires.starts.2
