@@ -10,13 +10,13 @@ ghost use Rattle.answer_turns.specs.Settling.{harts_in};
 ghost use Rattle.world_ends.specs.Ends.{has_exited};
 ghost use Rattle.world_turns.specs.Run.{exit_code};
 
+use crate::ending::end_hart;
 use final_turns::begin;
 use guest_worlds::guests_may_turn;
 use hart_seat::LinkedHart;
 use ld_base::HartId;
 use link_event::{HartEnd, HartEntry};
 use link_state::LinkState;
-use crate::ending::end_hart;
 use std::alloc::Global;
 
 /// How the final destructors of a run begin.

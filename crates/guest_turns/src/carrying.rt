@@ -13,12 +13,12 @@ ghost use Rattle.answer_turns.specs.Settling.{harts_in};
 ghost use Rattle.turn_answers.specs.Following.{MayFollowAll};
 ghost use Rattle.world_turns.specs.World.{settling};
 
+use answer_turns::settle_all;
 use final_turns::{FinalTurn, settling_keeps_finals};
 use guest_worlds::{Turn, guests_may_turn};
 use hart_seat::LinkedHart;
 use ld_base::HartId;
 use link_state::LinkState;
-use answer_turns::settle_all;
 use turn_parts::{freed_harts_move, others_leave_memory};
 
 /// Carries out the turn of a hart that is planned so.

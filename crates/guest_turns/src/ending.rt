@@ -8,12 +8,12 @@ ghost use Rattle.answer_turns.specs.Settling.{harts_in};
 ghost use Rattle.turn_answers.specs.Following.{MayFollowAll};
 ghost use Rattle.world_turns.specs.World.{settling};
 
+use answer_turns::settle_all;
 use guest_worlds::Turn;
 use hart_seat::LinkedHart;
 use ld_base::HartId;
 use link_event::HartEnd;
 use link_state::LinkState;
-use answer_turns::settle_all;
 
 /// A hart ends: each grant whose hart is done with it is settled first, and then the end is noted.
 pub fn end_hart(

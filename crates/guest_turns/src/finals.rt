@@ -11,15 +11,15 @@ ghost use Rattle.rv_hart.specs.declared.doubleword.Doubleword.{Doubleword};
 ghost use Rattle.answer_turns.specs.Settling.{harts_in};
 
 use crate::carrying::carry_out;
+use crate::ending::end_hart;
 use crate::last::{LastObject, last_object};
+use crate::law::ends_are_turns;
 use final_turns::FinalTurn;
 use guest_worlds::{Turn, guests_may_turn};
 use hart_seat::LinkedHart;
 use ld_base::HartId;
 use link_event::HartEnd;
 use link_state::LinkState;
-use crate::ending::end_hart;
-use crate::law::ends_are_turns;
 use std::alloc::{AllocError, Global};
 
 /// Takes the next turn of a hart, if it is the one in which the final destructors of an object have run. Where

@@ -9,13 +9,13 @@ ghost use Rattle.guest_turns.specs.Next.{NextOpens, NextReadsNothing, NextRefusa
 use crate::asking::{Asked, asked_by};
 use crate::passing::pass;
 use crate::serving::serve;
+use answer_turns::settle_all;
 use guest_worlds::{Turn, guests_may_turn, guests_take_turns};
 use hart_seat::LinkedHart;
 use ld_base::{HartId, Names};
 use library_source::Library;
 use link_state::LinkState;
 use plain_memory::PlainMemory;
-use answer_turns::settle_all;
 use std::alloc::Global;
 use turn_parts::freed_harts_move;
 

@@ -14,12 +14,12 @@ ghost use Rattle.world_turns.specs.Run.{settled};
 
 use crate::World;
 use crate::harts::have_exited;
+use answer_turns::settle_all;
+use guest_turns::{Beginning, begin_finals};
 use guest_worlds::{guests_may_turn, runs_stay};
 use hart_seat::LinkedHart;
-use guest_turns::{Beginning, begin_finals};
 use link_event::HartEntry;
 use link_state::LinkState;
-use answer_turns::settle_all;
 use std::alloc::Global;
 
 impl World {

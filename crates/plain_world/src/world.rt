@@ -12,6 +12,7 @@ ghost use Rattle.plain_world.specs.Started.{StartsAt};
 ghost use Rattle.world_turns.specs.Run.{have_ended, is_starting};
 
 use crate::harts::{have_ended, is_starting};
+use crate::starting::{StartedWorld, start};
 use crate::turn::take_turn;
 use guest_worlds::{Turn, runs_stay};
 use hart_seat::LinkedHart;
@@ -24,7 +25,6 @@ use plain_memory::PlainMemory;
 use record_copies::Copied;
 use std::alloc::Global;
 use std::marker::Model;
-use crate::starting::{StartedWorld, start};
 
 /// A run on one thread at a moment: the linker's state, guest memory, and the harts. Contracts see how many
 /// harts it has, where it looks for libraries, with which registers its first hart starts, whether its final
