@@ -4,6 +4,7 @@ ghost use Rattle.std.specs.Prelude.{◌≡◌, ◌<◌, ◌≤◌, Bool, length}
 ghost use Rattle.guest_worlds.specs.Coming.{Comes};
 ghost use Rattle.guest_worlds.specs.Worlds.{IsAt, TakesOver, world_of};
 
+use guest_turns::{take_final, take_quiet, take_service};
 use guest_worlds::Turn;
 use hart_seat::LinkedHart;
 use ld_base::{HartId, Names};
