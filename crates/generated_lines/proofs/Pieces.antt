@@ -1,11 +1,11 @@
 -- Texts of whole lines, and what they say; a text in a row with another says what both say.
-use Rattle.std.proofs.Common.{◌≡◌, ◌∙◌, ap, sym, subst, refl, ℕ, zero, suc, ◌+◌, ◌*◌, ◌^◌, ◌<◌, ◌≤◌, Bool, true, false, if◌then◌else◌, List, [], ◌∷◌, ◌++◌, length, flat_map, arith, append-nil, append_assoc, length-append}
+use Rattle.std.proofs.Common.{◌≡◌, ◌∙◌, ap, sym, refl, ℕ, zero, suc, ◌+◌, ◌*◌, ◌^◌, ◌<◌, ◌≤◌, Bool, true, false, if◌then◌else◌, List, [], ◌∷◌, ◌++◌, length, flat_map, arith, append-nil, append_assoc, length-append}
 use Rattle.std.specs.List.{join_with_byte, range_with_len}
 use Rattle.std.specs.Str.{byte}
 use Rattle.std.proofs.lemmas.List.Concat.{flat_map-append}
 use Rattle.asm_statement.specs.declared.line.Line.{Line}
 use Rattle.asm_grammar.specs.Grammar.{SayLines, SaysLine, SaysSource}
-use Rattle.asm_grammar.specs.Texts.{AllLack, AreParts, Lacks}
+use Rattle.asm_grammar.specs.Texts.{AllLack, Lacks}
 use Rattle.generated_lines.specs.Lines.{nothing}
 
 abbrev ended : List ℕ → List ℕ

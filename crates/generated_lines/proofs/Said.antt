@@ -1,5 +1,6 @@
 -- What each line of a generated source says.
-use Rattle.std.proofs.Common.{◌≡◌, ◌≢◌, ◌∙◌, ap, sym, subst, refl, ℕ, zero, suc, ◌+◌, ◌^◌, ◌<◌, ◌≤◌, ◌==◌, Bool, true, false, not, ◌&&◌, if◌then◌else◌, List, [], ◌∷◌, ◌++◌, length, reverse, Option, Some, None, inl, inr, arith, codes, decimal, append-nil, append_assoc, length-append}
+use Rattle.std.proofs.Common.{◌≡◌, ◌≢◌, ap, sym, subst, refl, ℕ, ◌+◌, ◌^◌, ◌<◌, ◌≤◌, ◌==◌, Bool, true, false, not, List, [], ◌∷◌, ◌++◌, length, reverse, Option, Some, None, inl, inr, arith, codes, decimal, append-nil, length-append}
+use Rattle.std.specs.Fmt.{digits}
 use Rattle.std.specs.List.{list_all}
 use Rattle.std.specs.Str.{byte}
 use Rattle.std.proofs.lemmas.Bool.{agree_below_at, and_parts, eq-eqb, eqb-true, not-true}
@@ -13,21 +14,18 @@ use Rattle.asm_words.specs.Text.{is_blank}
 use Rattle.asm_words.specs.declared.directive_words.NameWord.{NameWord}
 use Rattle.asm_words.specs.declared.directive_words.NameWord.TheVariants as names
 use Rattle.asm_words.specs.declared.directive_words.DirectiveWord.TheVariants as words
-use Rattle.asm_words.specs.declared.mnemonics.Form.{Form}
 use Rattle.asm_words.specs.declared.mnemonics.Form.TheVariants as forms
 use Rattle.asm_words.specs.declared.mnemonics.RegisterForm.TheVariants as registers
 use Rattle.asm_words.specs.declared.mnemonics.TargetForm.TheVariants as targets
-use Rattle.asm_statement.specs.declared.directive.Directive.{Directive}
 use Rattle.asm_statement.specs.declared.directive.Directive.TheVariants as directives
 use Rattle.asm_statement.specs.declared.directive.Export.TheVariants as exports
-use Rattle.asm_statement.specs.declared.instruction.Instruction.{Instruction}
 use Rattle.asm_statement.specs.declared.instruction.Instruction.TheVariants as instructions
 use Rattle.asm_statement.specs.declared.line.Line.{Line}
 use Rattle.asm_statement.specs.declared.line.Statement.{Statement}
 use Rattle.asm_statement.specs.declared.line.Statement.TheVariants as statements
 use Rattle.asm_statement.specs.declared.number.Number.{Number}
 use Rattle.asm_grammar.specs.Directives.{directive, named}
-use Rattle.asm_grammar.specs.Grammar.{AreOperands, HasText, IsBeforeComment, SaysLine, SaysOf, SaysStatement, is_quoted}
+use Rattle.asm_grammar.specs.Grammar.{AreOperands, HasText, IsBeforeComment, SaysLine, SaysOf, SaysStatement}
 use Rattle.asm_grammar.specs.Lines.{is_printed}
 use Rattle.asm_grammar.specs.Operands.{instruction, of_registers}
 use Rattle.asm_grammar.specs.Texts.{BeginsBare, IsPadded, Lacks, LacksBlanks}
@@ -262,7 +260,7 @@ is_it None n = false
 is_it (Some value) n = is_number value.is_negative value.magnitude n
 
 numbers_read : (n : ℕ) → n < 65 → is_it (number (decimal n)) n ≡ true
-unfolding is_it is_number number digit_below
+unfolding is_it is_number number digit_below digits
 numbers_read n low = agree_below_at (λ k. is_it (number (decimal k)) k) (λ _. true) 65 n refl low
 
 written : Bool → Option ℕ → Option Number
@@ -288,22 +286,24 @@ number_read n low = value_is (number (decimal n)) n (numbers_read n low)
 answer_operands : (n : ℕ) → n < 65 → AreOperands (codes "a0, " ++ decimal n) (codes "a0" ∷ decimal n ∷ [])
 unfolding is_plain is_name_byte is_printed is_blank
 answer_operands n low =
-    let plain = decimal_plain n (omega (arith, low)) in
-    (
+    let plain = decimal_plain n (omega (arith, low)) in (
       λ none. cc,
       codes "a0" ∷ (codes " " ++ decimal n) ∷ [],
       record { joined = refl; some = omega arith; without = (refl, (no_comma (decimal n) plain, tt)) },
       (
         bare (codes "a0") refl refl,
-        (record {
-          front = codes " ";
-          behind = [];
-          whole = ap (λ (text : List ℕ). codes " " ++ text) (sym (append-nil (decimal n)));
-          front_blank = refl;
-          behind_blank = refl;
-          begins = begins_bare (decimal n) plain;
-          ends = ends_bare (decimal n) plain;
-        }, tt),
+        (
+          record {
+            front = codes " ";
+            behind = [];
+            whole = ap (λ (text : List ℕ). codes " " ++ text) (sym (append-nil (decimal n)));
+            front_blank = refl;
+            behind_blank = refl;
+            begins = begins_bare (decimal n) plain;
+            ends = ends_bare (decimal n) plain;
+          },
+          tt,
+        ),
       ),
     )
 

@@ -1,5 +1,5 @@
 -- The source of a library, and that of the program, part by part.
-use Rattle.std.proofs.Common.{◌≡◌, ◌∙◌, ap, sym, subst, refl, ℕ, zero, suc, ◌+◌, ◌*◌, ◌/◌, ◌%◌, ◌^◌, ◌<◌, ◌≤◌, Bool, true, false, nat_lt, if◌then◌else◌, List, [], ◌∷◌, ◌++◌, length, flat_map, arith, codes, decimal, append_assoc, length-append}
+use Rattle.std.proofs.Common.{◌≡◌, ◌∙◌, ap, subst, refl, ℕ, zero, suc, ◌+◌, ◌*◌, ◌/◌, ◌%◌, ◌^◌, ◌<◌, ◌≤◌, Bool, true, false, nat_lt, if◌then◌else◌, List, [], ◌∷◌, ◌++◌, length, flat_map, arith, codes, decimal, append_assoc, length-append}
 use Rattle.std.specs.List.{range_with_len}
 use Rattle.std.specs.Str.{byte}
 use Rattle.std.proofs.lemmas.Fmt.{length-decimal-le}
@@ -25,11 +25,11 @@ use Rattle.asm_grammar.specs.Operands.{instruction, of_registers}
 use Rattle.asm_grammar.specs.Reading.{line_of, read_line, read_statement, read_text, statement}
 use Rattle.asm_grammar.proofs.Verdicts.{line_says}
 use Rattle.generated_sources.specs.Shape.{call_count, function_count, library_count}
-use Rattle.generated_sources.specs.Sources.{call_lines, calls_from, exit_lines, first_lines, function_lines, last_lines, library_source, name_line, program_source}
+use Rattle.generated_sources.specs.Sources.{call_lines, exit_lines, first_lines, function_lines, last_lines, library_source, name_line, program_source}
 use Rattle.generated_sources.specs.Sources.{needed_line as needed_text}
 use Rattle.generated_lines.specs.Lines.{at_label, call_said, calls_said, does, exit_said, first_said, function_name, function_said, last_said, library_lines, library_name, library_said, needed_said, nothing, program_lines, program_said, says}
 use Rattle.generated_lines.specs.Lines.{number as plain_number}
-use Rattle.generated_lines.proofs.Pieces.{Tells, all, both, none, one, where_there, whole}
+use Rattle.generated_lines.proofs.Pieces.{Tells, all, both, one, where_there, whole}
 use Rattle.generated_lines.proofs.Said.{IsLine, answer_line, call_line, export_line, needed_line, soname_line, tail_line}
 
 -- A line
@@ -88,8 +88,12 @@ library_short i low = omega (arith, length-decimal-le 20 i (omega arith) (omega 
 pub function_short : (i j : ℕ) → i < 2 ^ 64 → j < 2 ^ 64 → length (function_name i j) ≤ 50
 unfolding function_name
 function_short i j low less =
-    omega (arith, length-decimal-le 20 i (omega arith) (omega (arith, low)) low, length-decimal-le 20 j (omega arith) (omega (arith, less)) less,
-    length-append (decimal i) (codes "_" ++ decimal j))
+    omega (
+      arith,
+      length-decimal-le 20 i (omega arith) (omega (arith, low)) low,
+      length-decimal-le 20 j (omega arith) (omega (arith, less)) less,
+      length-append (decimal i) (codes "_" ++ decimal j),
+    )
 
 library_then : (i : ℕ) (rest : List ℕ) → library_name i ++ rest ≡ codes "lib" ++ (decimal i ++ (codes ".so" ++ rest))
 unfolding library_name
@@ -172,8 +176,15 @@ library_count_of libraries functions i =
     let second = needed_said libraries (2 * i + 2) in
     let one = if_few (nat_lt (2 * i + 1) libraries) (says (directives.Needed (library_name (2 * i + 1)))) in
     let other = if_few (nat_lt (2 * i + 2) libraries) (says (directives.Needed (library_name (2 * i + 2)))) in
-    omega (arith, twice (function_said i) (λ j. omega arith) functions 0, one, other, length-append middle (last_said i),
-    length-append second (middle ++ last_said i), length-append first (second ++ (middle ++ last_said i)))
+    omega (
+      arith,
+      twice (function_said i) (λ j. omega arith) functions 0,
+      one,
+      other,
+      length-append middle (last_said i),
+      length-append second (middle ++ last_said i),
+      length-append first (second ++ (middle ++ last_said i)),
+    )
 
 pub program_count_of : (number : ℕ) → length (program_said number) ≤ 6 + 2 * call_count number
 unfolding program_said
