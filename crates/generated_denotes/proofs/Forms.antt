@@ -20,7 +20,9 @@ lt_holds : (a b : ℤ) → a <ℤ b → int_lt a b ≡ true
 lt_holds a b h = grind (arith, ints)
 
 within : (width : ℕ) (number : ℤ) → neg_ℤ (pos (2 ^ (width - 1))) ≤ℤ number → number <ℤ pos (2 ^ (width - 1)) → is_within width number ≡ true
-within width number low high = and_from _ _ (le_holds _ number low) (lt_holds number _ high)
+within width number low high =
+    let most = pos (2 ^ (width - 1)) in
+    and_from (int_le (neg_ℤ most) number) (int_lt number most) (le_holds (neg_ℤ most) number low) (lt_holds number most high)
 
 -- the upper part of a distance has no bits below the twelfth
 

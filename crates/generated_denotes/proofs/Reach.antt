@@ -40,7 +40,7 @@ use Rattle.generated_denotes.proofs.Forms.{IsNear, jump_has_form, li_has_form, l
 use Rattle.generated_denotes.proofs.Plain.{ArePlain, IsPlain, few_before}
 
 -- an address that is there is low
-IsLowAddress : Option ℕ → Type 0
+abbrev IsLowAddress : Option ℕ → Type 0
 IsLowAddress None = ⊤
 IsLowAddress (Some address) = address ≤ 2 ^ 24
 
@@ -58,7 +58,7 @@ module _ (lines : List Line) (plain : ArePlain lines) (count : length lines ≤ 
       omega (arith, start, few, count)
 
   low_slot : (name : List ℕ) → IsLowAddress (slot_address lines name)
-  unfolding slot_address IsLowAddress
+  unfolding slot_address
   low_slot name =
       let start = low_start parts.Plt in
       let few = slots_few lines in
@@ -70,12 +70,11 @@ module _ (lines : List Line) (plain : ArePlain lines) (count : length lines ≤ 
       cases (nat_lt at (length (slots lines))) refl
 
   low_table : (b : Bool) → IsLowAddress (if b then Some (start_of lines parts.GotPlt) else None)
-  unfolding IsLowAddress
   low_table true = let start = low_start parts.GotPlt in omega (arith, start)
   low_table false = tt
 
   low_label : (name : List ℕ) → IsLowAddress (label_address lines name)
-  unfolding label_address label IsLowAddress
+  unfolding label_address label
   low_label name =
       elim (position (defines name) lines) as (λ k. IsLowAddress (label_or lines name (option_map (place_at lines) k))) [
         | None ↦ low_table (is_got_plt name && nat_lt 0 (length (slots lines)))
@@ -99,8 +98,7 @@ module _ (lines : List Line) (plain : ArePlain lines) (count : length lines ≤ 
     where
       by_target : (there : Option ℕ) → IsLowAddress there
           → all_have_form (option_map (λ d. instrs.Auipc rd (upper d) ∷ instrs.Jalr link by (lower d) ∷ []) (distance (address_at lines k) there)) ≡ true
-      unfolding IsLowAddress
-      by_target None low = refl
+          by_target None low = refl
       by_target (Some there) low = jump_has_form (pos there -ℤ pos (address_at lines k)) rd link by (near (address_at lines k) there (low_place k) low)
 
   plain_fits : (k : ℕ) (op : PlainOp) → instruction_fits lines k (instructions.Plain op) ≡ true

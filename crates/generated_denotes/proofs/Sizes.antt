@@ -17,6 +17,7 @@ use Rattle.hash_build.specs.Hashed.{bucket_count, by_bucket, gnu_of, sysv_of}
 use Rattle.asm_statement.specs.declared.directive.Section.{Section}
 use Rattle.asm_statement.specs.declared.directive.Section.TheVariants as sections
 use Rattle.asm_statement.specs.declared.line.Line.{Line}
+use Rattle.asm_layout.specs.declared.uses.Exported.{Exported}
 use Rattle.asm_layout.specs.Contents.{contents_of, export_names, exports_at, files_at, imports_at, needed_at, needed_names, needed_versions_at, soname_offset, string_bytes, string_names, strings_of, versions_at}
 use Rattle.asm_layout.specs.Fixes.{fixes_of}
 use Rattle.asm_layout.specs.Places.{filled}
@@ -39,11 +40,13 @@ unfolding sorted_exports by_bucket
 sorted_few lines few =
     let count = length (exports lines) in
     let buckets = bucket_count count in
-    let in_bucket : ℕ → List _ = λ bucket. filter (λ exported. gnu_hash exported.name % buckets == bucket) (exports lines) in
-    let all = joined_few in_bucket count (λ bucket. filter_fewer (λ exported. gnu_hash exported.name % buckets == bucket) (exports lines)) (range_with_len 0 buckets) in
+    let in_bucket : ℕ → List Exported = λ bucket. filter (λ exported. gnu_hash exported.name % buckets == bucket) (exports lines) in
+    let number = length-range_with_len 0 buckets in
+    let all : length (flat_map in_bucket (range_with_len 0 buckets)) ≤ buckets * count
+    = rw number at (joined_few in_bucket count (λ bucket. filter_fewer (λ exported. gnu_hash exported.name % buckets == bucket) (exports lines)) (range_with_len 0 buckets)) in
     let most = buckets_few count 35 (omega (arith, few)) in
     let times = product buckets count 36 140 (omega (arith, most)) few in
-    omega (arith, rw (length-range_with_len 0 buckets) at all, times)
+    omega (arith, all, times)
 
 -- The strings
 
