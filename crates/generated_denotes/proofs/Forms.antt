@@ -78,10 +78,14 @@ jump_has_form distance rd link by near =
 -- a low number
 
 pub low_li : (n : ℕ) → n < 100 → fits_li (record { is_negative = false; magnitude = Some n }) ≡ true
-low_li n low = and_from _ _ (le_holds _ (pos n) (omega (arith, ints))) (le_holds (pos n) _ (omega (arith, ints)))
+low_li n low =
+    and_from (int_le (neg_ℤ (pos (2 ^ 31))) (pos n)) (int_le (pos n) (pos (2 ^ 31 - 1))) (le_holds (neg_ℤ (pos (2 ^ 31))) (pos n) (omega (arith, ints)))
+    (le_holds (pos n) (pos (2 ^ 31 - 1)) (omega (arith, ints)))
 
 low_addi : (n : ℕ) → n < 100 → fits_addi (record { is_negative = false; magnitude = Some n }) ≡ true
-low_addi n low = and_from _ _ (le_holds _ (pos n) (omega (arith, ints))) (le_holds (pos n) _ (omega (arith, ints)))
+low_addi n low =
+    and_from (int_le (neg_ℤ (pos (2 ^ 11))) (pos n)) (int_le (pos n) (pos (2 ^ 11 - 1))) (le_holds (neg_ℤ (pos (2 ^ 11))) (pos n) (omega (arith, ints)))
+    (le_holds (pos n) (pos (2 ^ 11 - 1)) (omega (arith, ints)))
 
 pub li_has_form : (rd n : ℕ) → n < 100 → list_all has_form (li_instrs (fits_addi (record { is_negative = false; magnitude = Some n })) rd (pos n)) ≡ true
 unfolding has_form

@@ -171,12 +171,12 @@ module _ (libraries functions i : ℕ) (few : functions ≤ 64) where
   pub library_new : New [] (library_lines libraries functions i)
   unfolding library_said
   library_new =
-      new_both [] _ (nothing ∷ [])
+      new_both [] (library_said libraries functions i) (nothing ∷ [])
       (new_both [] soname_one _ (refl, tt)
       (new_both soname_one first_one _ (new_unlabelled soname_one first_one (none_needed (nat_lt (2 * i + 1) libraries) (2 * i + 1)))
       (new_both (soname_one ++ first_one) second_one _ (new_unlabelled (soname_one ++ first_one) second_one (none_needed (nat_lt (2 * i + 2) libraries) (2 * i + 2)))
       (new_both ((soname_one ++ first_one) ++ second_one) middle (last_said i)
-      (new_functions i functions 0 ((soname_one ++ first_one) ++ second_one) (omega (arith, few)) (λ k more less. silent _ (function_name i k) header_silent))
+      (new_functions i functions 0 ((soname_one ++ first_one) ++ second_one) (omega (arith, few)) (λ k more less. silent ((soname_one ++ first_one) ++ second_one) (function_name i k) header_silent))
       new_last))))
       (refl, tt)
 
@@ -184,7 +184,7 @@ module _ (libraries functions i : ℕ) (few : functions ≤ 64) where
   from_middle : (name : List ℕ) → is_label (middle ++ last_said i) name ≡ true → is_label (library_lines libraries functions i) name ≡ true
   unfolding library_said
   from_middle name is =
-      in_first _ (nothing ∷ []) name
+      in_first (library_said libraries functions i) (nothing ∷ []) name
       (in_second soname_one (first_one ++ (second_one ++ (middle ++ last_said i))) name
       (in_second first_one (second_one ++ (middle ++ last_said i)) name (in_second second_one (middle ++ last_said i) name is)))
 
@@ -195,10 +195,10 @@ module _ (libraries functions i : ℕ) (few : functions ≤ 64) where
       let function_is : (j : ℕ) → j < functions → is_label lines (function_name i j) ≡ true
       = λ j less. from_middle (function_name i j) (in_first middle (last_said i) (function_name i j) (function_there i j functions 0 (omega arith) (omega (arith, less)))) in
       let last_is : is_label lines (codes "g") ≡ true = from_middle (codes "g") (in_second middle (last_said i) (codes "g") refl) in
-      both (IsKnown lines) _ (nothing ∷ [])
-      (both (IsKnown lines) soname_one _ (refl, tt)
-      (both (IsKnown lines) first_one _ (known_needed lines (nat_lt (2 * i + 1) libraries) (2 * i + 1))
-      (both (IsKnown lines) second_one _ (known_needed lines (nat_lt (2 * i + 2) libraries) (2 * i + 2))
+      both (IsKnown lines) (library_said libraries functions i) (nothing ∷ [])
+      (both (IsKnown lines) soname_one (first_one ++ (second_one ++ (middle ++ last_said i))) (refl, tt)
+      (both (IsKnown lines) first_one (second_one ++ (middle ++ last_said i)) (known_needed lines (nat_lt (2 * i + 1) libraries) (2 * i + 1))
+      (both (IsKnown lines) second_one (middle ++ last_said i) (known_needed lines (nat_lt (2 * i + 2) libraries) (2 * i + 2))
       (both (IsKnown lines) middle (last_said i) (known_functions lines i functions function_is functions 0 (omega arith)) (known_last lines i last_is)))))
       (refl, tt)
 
@@ -220,7 +220,7 @@ module _ (number : ℕ) where
   program_new =
       let silent_calls = joined (λ line. defined_by line ≡ []) (λ place. call_said (function_count number) ((place + number) % call_count number))
       (λ place. call_silent (function_count number) ((place + number) % call_count number)) (range_with_len 0 (call_count number)) in
-      new_both [] _ (nothing ∷ [])
+      new_both [] (program_said number) (nothing ∷ [])
       (new_both [] first_said _ (refl, (refl, (refl, tt)))
       (new_both first_said calls exit_said (new_unlabelled first_said calls silent_calls) (refl, (refl, (refl, tt)))))
       (refl, tt)
@@ -231,7 +231,7 @@ module _ (number : ℕ) where
       let lines = program_lines number in
       let known_calls = joined (IsKnown lines) (λ place. call_said (function_count number) ((place + number) % call_count number))
       (λ place. call_known lines (function_count number) ((place + number) % call_count number)) (range_with_len 0 (call_count number)) in
-      both (IsKnown lines) _ (nothing ∷ [])
-      (both (IsKnown lines) first_said _ (refl, (refl, (refl, tt)))
+      both (IsKnown lines) (program_said number) (nothing ∷ [])
+      (both (IsKnown lines) first_said (calls ++ exit_said) (refl, (refl, (refl, tt)))
       (both (IsKnown lines) calls exit_said known_calls (refl, (refl, (refl, tt)))))
       (refl, tt)

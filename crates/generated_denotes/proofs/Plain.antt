@@ -205,7 +205,7 @@ grown section before (line ∷ lines) (first, plain) =
 
 pub few_filled : (section : Section) (lines : List Line) → ArePlain lines → filled section lines ≤ 8 * length lines
 unfolding filling
-few_filled section lines plain = grown section (sections.Text, 0) lines plain
+few_filled section lines plain = let all : filled section lines ≤ 0 + 8 * length lines = grown section (sections.Text, 0) lines plain in omega (arith, all)
 
 pub few_before : (section : Section) (lines : List Line) (k : ℕ) → ArePlain lines → filled section (take k lines) ≤ 8 * length lines
 few_before section lines k plain =

@@ -98,7 +98,7 @@ module _ (lines : List Line) (plain : ArePlain lines) (count : length lines ≤ 
     where
       by_target : (there : Option ℕ) → IsLowAddress there
           → all_have_form (option_map (λ d. instrs.Auipc rd (upper d) ∷ instrs.Jalr link by (lower d) ∷ []) (distance (address_at lines k) there)) ≡ true
-          by_target None low = refl
+      by_target None low = refl
       by_target (Some there) low = jump_has_form (pos there -ℤ pos (address_at lines k)) rd link by (near (address_at lines k) there (low_place k) low)
 
   plain_fits : (k : ℕ) (op : PlainOp) → instruction_fits lines k (instructions.Plain op) ≡ true

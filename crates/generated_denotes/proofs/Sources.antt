@@ -93,10 +93,13 @@ plain_nothing = (record { plain = tt; short = tt }, tt)
 library_plain : (libraries functions i : ℕ) → i < 64 → functions ≤ 64 → ArePlain (library_lines libraries functions i)
 unfolding library_said
 library_plain libraries functions i low few =
-    both IsOne _ (nothing ∷ [])
-    (both IsOne (says (directives.Soname (library_name i)) ∷ []) _ (record { plain = tt; short = (library_short i (omega (arith, low)), tt) }, tt)
-    (both IsOne (needed_said libraries (2 * i + 1)) _ (plain_needed (nat_lt (2 * i + 1) libraries) (2 * i + 1) (omega (arith, low)))
-    (both IsOne (needed_said libraries (2 * i + 2)) _ (plain_needed (nat_lt (2 * i + 2) libraries) (2 * i + 2) (omega (arith, low)))
+    let last = flat_map (function_said i) (range_with_len 0 functions) ++ last_said i in
+    let second = needed_said libraries (2 * i + 2) ++ last in
+    let first = needed_said libraries (2 * i + 1) ++ second in
+    both IsOne (library_said libraries functions i) (nothing ∷ [])
+    (both IsOne (says (directives.Soname (library_name i)) ∷ []) first (record { plain = tt; short = (library_short i (omega (arith, low)), tt) }, tt)
+    (both IsOne (needed_said libraries (2 * i + 1)) second (plain_needed (nat_lt (2 * i + 1) libraries) (2 * i + 1) (omega (arith, low)))
+    (both IsOne (needed_said libraries (2 * i + 2)) last (plain_needed (nat_lt (2 * i + 2) libraries) (2 * i + 2) (omega (arith, low)))
     (both IsOne (flat_map (function_said i) (range_with_len 0 functions)) (last_said i)
     (each_number IsOne (function_said i) functions 0 (λ j less. plain_function i j (omega (arith, low)) (omega (arith, less, few)))) (plain_last i low)))))
     plain_nothing
@@ -136,8 +139,8 @@ program_plain number =
     let (some_functions, low) = few_functions number in
     let some = some_calls (library_count number) (function_count number) (omega (arith, some_libraries)) (omega (arith, some_functions)) in
     let calls = call_count number in
-    both IsOne _ (nothing ∷ [])
-    (both IsOne first_said _ plain_first
+    both IsOne (program_said number) (nothing ∷ [])
+    (both IsOne first_said (calls_said (function_count number) number calls ++ exit_said) plain_first
     (both IsOne (calls_said (function_count number) number calls) exit_said
     (each_number IsOne (λ place. call_said (function_count number) ((place + number) % calls)) calls 0
     (λ place less. called (library_count number) (function_count number) ((place + number) % calls) (omega (arith, some_functions)) low few (mod_below (place + number) calls some)))
@@ -155,8 +158,8 @@ hidden_call lines functions x = (refl, (refl, tt))
 all_hidden : (lines : List Line) (number : ℕ) → Each (Hidden lines) (program_lines number)
 unfolding program_said
 all_hidden lines number =
-    both (Hidden lines) _ (nothing ∷ [])
-    (both (Hidden lines) first_said _ (refl, (refl, (refl, tt)))
+    both (Hidden lines) (program_said number) (nothing ∷ [])
+    (both (Hidden lines) first_said (calls_said (function_count number) number (call_count number) ++ exit_said) (refl, (refl, (refl, tt)))
     (both (Hidden lines) (calls_said (function_count number) number (call_count number)) exit_said
     (joined (Hidden lines) (λ place. call_said (function_count number) ((place + number) % call_count number))
     (λ place. hidden_call lines (function_count number) ((place + number) % call_count number)) (range_with_len 0 (call_count number)))
