@@ -1,5 +1,5 @@
 -- Where the parts of a generated source's object end, and so how large it is: the sizes of all parts, and a page for each.
-use Rattle.std.proofs.Common.{◌≡◌, refl, ℕ, zero, suc, ◌+◌, ◌-◌, ◌*◌, ◌%◌, ◌^◌, ◌<◌, ◌≤◌, ◌==◌, Bool, true, false, nat_lt, if◌then◌else◌, List, [], ◌∷◌, length, map, fold, arith, slice_index}
+use Rattle.std.proofs.Common.{◌≡◌, ℕ, zero, suc, ◌+◌, ◌-◌, ◌*◌, ◌%◌, ◌^◌, ◌<◌, ◌≤◌, ◌==◌, true, false, if◌then◌else◌, List, [], ◌∷◌, length, map, arith, slice_index}
 use Rattle.std.proofs.Math.Nat.{le-mul_of_pos_right, mod-le, mul_comm}
 use Rattle.std.proofs.lemmas.Bool.{le-ltb}
 use Rattle.ld_base.specs.declared.object.Kind.{Kind}

@@ -1,14 +1,11 @@
 -- Instructions that have their form: two for a distance that isn't far, and those that take no distance.
-use Rattle.std.proofs.Common.{◌≡◌, ◌∙◌, ap, sym, subst, refl, ℕ, zero, suc, ◌+◌, ◌-◌, ◌*◌, ◌%◌, ◌^◌, ◌<◌, ◌≤◌, ◌==◌, ◌&&◌, Bool, true, false, ℤ, pos, negsuc, neg_ℤ, ◌+ℤ◌, ◌-ℤ◌, ◌≤ℤ◌, ◌<ℤ◌, int_le, int_lt, List, [], ◌∷◌, Option, Some, None, arith}
+use Rattle.std.proofs.Common.{◌≡◌, ◌∙◌, ap, refl, ℕ, ◌+◌, ◌-◌, ◌%◌, ◌^◌, ◌<◌, ◌==◌, true, false, ℤ, pos, negsuc, neg_ℤ, ◌+ℤ◌, ◌-ℤ◌, ◌≤ℤ◌, ◌<ℤ◌, int_le, int_lt, [], ◌∷◌, Some, arith}
 use Rattle.std.specs.List.{list_all}
 use Rattle.std.specs.Int.{w32, cast_unsigned, int_rem_euclid}
 use Rattle.std.proofs.lemmas.Bool.{and_from, eq-eqb}
 use Rattle.std.proofs.lemmas.Int.{ints}
-use Rattle.rv_isa.specs.declared.instr.Instr.{Instr}
 use Rattle.rv_isa.specs.declared.instr.Instr.TheVariants as instrs
-use Rattle.rv_isa.specs.declared.operation.ImmOp.TheVariants as imms
 use Rattle.rv_isa.specs.Word.{bits}
-use Rattle.asm_statement.specs.declared.number.Number.{Number}
 use Rattle.asm_layout.specs.Expansions.{li_instrs, lower, upper}
 use Rattle.asm_layout.specs.Faults.{has_form, is_within}
 use Rattle.asm_layout.specs.Numbers.{fits_addi, fits_li}

@@ -1,5 +1,5 @@
 -- Lines like those of generated sources, and what an object of such lines doesn't hold: no fixed places, no versions.
-use Rattle.std.proofs.Common.{◌≡◌, ◌∙◌, ap, sym, subst, refl, ℕ, zero, suc, ◌+◌, ◌*◌, ◌<◌, ◌≤◌, pos, Bool, true, false, if◌then◌else◌, List, [], ◌∷◌, ◌++◌, length, take, fold, flat_map, filter_map, arith, length-take}
+use Rattle.std.proofs.Common.{◌≡◌, ◌∙◌, ap, refl, ℕ, zero, suc, ◌+◌, ◌*◌, ◌<◌, ◌≤◌, pos, true, false, if◌then◌else◌, List, [], ◌∷◌, ◌++◌, length, take, fold, filter_map, arith, length-take}
 use Rattle.std.specs.Prelude.{⊤, Option, Some, None}
 use Rattle.std.specs.List.{cons_option}
 use Rattle.asm_statement.specs.declared.directive.Array.{Array}
@@ -19,7 +19,7 @@ use Rattle.elf_write.specs.declared.contents.Fix.{Fix}
 use Rattle.asm_layout.specs.declared.place.Place.{Place}
 use Rattle.asm_layout.specs.Contents.{needed_names}
 use Rattle.asm_layout.specs.Expansions.{expansion, li_instrs}
-use Rattle.asm_layout.specs.Fixes.{array_fixes, fixes_of, got_fixes, line_fixes, section_fixes, statement_fixes}
+use Rattle.asm_layout.specs.Fixes.{fixes_of, line_fixes, section_fixes, statement_fixes}
 use Rattle.asm_layout.specs.Numbers.{fits_addi}
 use Rattle.asm_layout.specs.Places.{directive_size, filled, filling, growth, is_section, next_section, place_at, section_after, size_at, words_in}
 use Rattle.asm_layout.specs.Spots.{spot_of}
@@ -123,9 +123,16 @@ none_in lines section k (line ∷ rest) (first, plain) =
 pub no_fixes : (lines : List Line) → ArePlain lines → fixes_of lines ≡ []
 unfolding fixes_of
 no_fixes lines plain =
-    rw (no_uses lines plain, no_entries arrays.Preinit lines plain, no_entries arrays.Init lines plain, no_entries arrays.Fini lines plain,
-    none_in lines sections.Relro 0 lines plain, none_in lines sections.Tdata 0 lines plain, none_in lines sections.Data 0 lines plain,
-    none_in lines sections.Bss 0 lines plain) refl
+    rw (
+      no_uses lines plain,
+      no_entries arrays.Preinit lines plain,
+      no_entries arrays.Init lines plain,
+      no_entries arrays.Fini lines plain,
+      none_in lines sections.Relro 0 lines plain,
+      none_in lines sections.Tdata 0 lines plain,
+      none_in lines sections.Data 0 lines plain,
+      none_in lines sections.Bss 0 lines plain,
+    ) refl
 
 -- Versions
 

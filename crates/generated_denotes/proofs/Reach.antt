@@ -1,39 +1,33 @@
 -- No number and no distance of a generated source is out of range.
-use Rattle.std.proofs.Common.{◌≡◌, ◌∙◌, ap, sym, subst, refl, ℕ, zero, suc, ◌+◌, ◌*◌, ◌^◌, ◌<◌, ◌≤◌, ◌&&◌, Bool, true, false, cond, nat_lt, if◌then◌else◌, ℤ, pos, neg_ℤ, ◌-ℤ◌, ◌≤ℤ◌, List, [], ◌∷◌, length, take, Option, Some, None, option_map, position, arith}
+use Rattle.std.proofs.Common.{◌≡◌, sym, subst, refl, ℕ, ◌+◌, ◌*◌, ◌^◌, ◌<◌, ◌≤◌, ◌&&◌, Bool, true, false, cond, nat_lt, if◌then◌else◌, pos, ◌-ℤ◌, List, [], ◌∷◌, length, take, Option, Some, None, option_map, position, arith}
 use Rattle.std.specs.Prelude.{⊤}
-use Rattle.std.specs.List.{list_all, position_or_len}
+use Rattle.std.specs.List.{position_or_len}
 use Rattle.std.specs.Str.{bytes_eq}
 use Rattle.std.proofs.lemmas.Bool.{and_from, ltb-true}
 use Rattle.std.proofs.lemmas.Int.{ints}
-use Rattle.rv_isa.specs.declared.instr.Instr.{Instr}
 use Rattle.rv_isa.specs.declared.instr.Instr.TheVariants as instrs
 use Rattle.rv_isa.specs.declared.operation.RegOp.{RegOp}
 use Rattle.elf_write.specs.declared.part.Part.{Part}
 use Rattle.elf_write.specs.declared.part.Part.TheVariants as parts
 use Rattle.elf_write.specs.Starts.{starts_of}
-use Rattle.asm_statement.specs.declared.directive.Directive.{Directive}
 use Rattle.asm_statement.specs.declared.directive.Directive.TheVariants as directives
 use Rattle.asm_statement.specs.declared.directive.Export.TheVariants as exports
-use Rattle.asm_statement.specs.declared.directive.Section.{Section}
 use Rattle.asm_statement.specs.declared.instruction.PlainOp.{PlainOp}
 use Rattle.asm_statement.specs.declared.instruction.PlainOp.TheVariants as plains
-use Rattle.asm_statement.specs.declared.instruction.Instruction.{Instruction}
 use Rattle.asm_statement.specs.declared.instruction.Instruction.TheVariants as instructions
 use Rattle.asm_statement.specs.declared.line.Line.{Line}
 use Rattle.asm_statement.specs.declared.line.Statement.{Statement}
 use Rattle.asm_statement.specs.declared.line.Statement.TheVariants as statements
-use Rattle.asm_statement.specs.declared.number.Number.{Number}
-use Rattle.asm_layout.specs.declared.place.Place.{Place}
 use Rattle.asm_layout.specs.Contents.{contents_of}
 use Rattle.asm_layout.specs.Expansions.{Code, expansion, lower, upper}
 use Rattle.asm_layout.specs.Faults.{all_have_form, for_statement, has_form, instruction_fits, statement_fits}
 use Rattle.asm_layout.specs.Labels.{defines, label}
 use Rattle.asm_layout.specs.Names.{is_got_plt, is_preemptible}
-use Rattle.asm_layout.specs.Parts.{section_start, start_of}
-use Rattle.asm_layout.specs.Places.{filled, place_at, section_after}
+use Rattle.asm_layout.specs.Parts.{start_of}
+use Rattle.asm_layout.specs.Places.{place_at, section_after}
 use Rattle.asm_layout.specs.Spots.{part_of}
 use Rattle.asm_layout.specs.Uses.{slots}
-use Rattle.asm_layout.specs.Words.{address, address_at, call_address, distance, got_plt_address, label_address, label_or, operand_value, slot_address, target}
+use Rattle.asm_layout.specs.Words.{address, address_at, call_address, distance, label_address, label_or, operand_value, slot_address, target}
 use Rattle.asm_bounds.specs.Lemmas.Counts.{slots_few}
 use Rattle.generated_denotes.proofs.Ends.{EndsLow}
 use Rattle.generated_denotes.proofs.Forms.{IsNear, jump_has_form, li_has_form, low_li}

@@ -1,6 +1,6 @@
 -- How many bytes each part of a generated source's object has at most.
-use Rattle.std.proofs.Common.{◌≡◌, ◌∙◌, ap, sym, subst, refl, ℕ, zero, suc, ◌+◌, ◌*◌, ◌%◌, ◌/◌, ◌==◌, ◌<◌, ◌≤◌, Bool, true, false, nat_lt, if◌then◌else◌, List, [], ◌∷◌, ◌++◌, length, map, filter, flat_map, arith, length-append}
-use Rattle.std.specs.Prelude.{Option, Some, None, option_to_list, unwrap_or}
+use Rattle.std.proofs.Common.{◌≡◌, ap, ℕ, ◌+◌, ◌*◌, ◌%◌, ◌==◌, ◌≤◌, Bool, true, false, nat_lt, if◌then◌else◌, List, [], ◌∷◌, ◌++◌, length, map, filter, flat_map, arith, length-append}
+use Rattle.std.specs.Prelude.{Some, None, option_to_list, unwrap_or}
 use Rattle.std.specs.List.{All, count_by, range_with_len}
 use Rattle.std.specs.Option.{option_map_or}
 use Rattle.std.proofs.lemmas.List.{length-map}
@@ -31,7 +31,7 @@ use Rattle.asm_laws.specs.Said.{IsSaid, line_names, said_names}
 use Rattle.asm_bounds.specs.Lemmas.Counts.{buckets_few, filter_fewer, imports_few, joined_few, needed_few, product, slots_few}
 use Rattle.asm_bounds.specs.Lemmas.Records.{exports_long, files_long, imports_long, needed_long, offsets_long, records_few}
 use Rattle.asm_bounds.proofs.Tables.{counted_few, entries_few, gnu_few, packed_few, segments_few, sysv_few}
-use Rattle.generated_denotes.proofs.Plain.{ArePlain, IsOne, few_filled, no_files, no_fixes, no_needed, no_versions}
+use Rattle.generated_denotes.proofs.Plain.{ArePlain, few_filled, no_files, no_fixes, no_needed, no_versions}
 
 -- Exported symbols: in each bucket no more than in all
 
@@ -99,9 +99,24 @@ module _ (lines : List Line) (plain : ArePlain lines) (count : length lines ≤ 
       let c = b ++ export_names lines in
       let d = c ++ versions lines in
       let e = d ++ needed_files lines in
-      omega (arith, count, own, libraries, undefined, sorted, same, defined, files, wanted, length-append (option_to_list (soname lines)) (needed lines),
-      length-append a (imports lines), length-append b (export_names lines), length-append c (versions lines), length-append d (needed_files lines),
-      length-append e (needed_names lines))
+      omega (
+        arith,
+        count,
+        own,
+        libraries,
+        undefined,
+        sorted,
+        same,
+        defined,
+        files,
+        wanted,
+        length-append (option_to_list (soname lines)) (needed lines),
+        length-append a (imports lines),
+        length-append b (export_names lines),
+        length-append c (versions lines),
+        length-append d (needed_files lines),
+        length-append e (needed_names lines),
+      )
 
   strings_small : length (strings_of lines) ≤ 1_200_000
   unfolding strings_of

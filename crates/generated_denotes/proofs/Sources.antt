@@ -1,6 +1,6 @@
 -- Each generated source denotes an object: its lines have no fault, and the object isn't too big.
-use Rattle.std.proofs.Common.{◌≡◌, ◌∙◌, ap, sym, subst, refl, ℕ, zero, suc, ◌+◌, ◌*◌, ◌/◌, ◌%◌, ◌^◌, ◌<◌, ◌≤◌, Bool, true, false, nat_lt, if◌then◌else◌, List, [], ◌∷◌, ◌++◌, length, map, flat_map, filter_map, arith, codes, length-append}
-use Rattle.std.specs.Prelude.{Option, Some, None}
+use Rattle.std.proofs.Common.{◌≡◌, ◌∙◌, ap, refl, ℕ, zero, suc, ◌+◌, ◌*◌, ◌/◌, ◌%◌, ◌^◌, ◌<◌, ◌≤◌, Bool, true, false, nat_lt, if◌then◌else◌, List, [], ◌∷◌, ◌++◌, length, map, flat_map, filter_map, arith, length-append}
+use Rattle.std.specs.Prelude.{None}
 use Rattle.std.specs.List.{All, cons_option, range_with_len}
 use Rattle.std.proofs.lemmas.Nat.{div_below, mod_below}
 use Rattle.ld_base.specs.declared.fault.AsmCause.{AsmCause}
@@ -8,7 +8,6 @@ use Rattle.ld_base.specs.declared.linking.File.{File}
 use Rattle.elf_write.specs.Starts.{starts_of}
 use Rattle.elf_written.specs.Standing.{AlignsInPages}
 use Rattle.asm_statement.specs.declared.directive.Directive.TheVariants as directives
-use Rattle.asm_statement.specs.declared.fault.AsmFault.{AsmFault}
 use Rattle.asm_statement.specs.declared.fault.AsmFault.TheVariants.{At, Memory}
 use Rattle.asm_statement.specs.declared.line.Line.{Line}
 use Rattle.asm_grammar.specs.Grammar.{SaysSource}
@@ -16,7 +15,7 @@ use Rattle.asm_layout.specs.Contents.{contents_of, string_names}
 use Rattle.asm_layout.specs.Expansions.{expansion}
 use Rattle.asm_layout.specs.Object.{object_of}
 use Rattle.asm_layout.specs.Uses.{distinct, exported_by, exports, if_labelled, same_export}
-use Rattle.asm_denotes.specs.Denotes.{AsmBroken, Denotes, TellsOf}
+use Rattle.asm_denotes.specs.Denotes.{AsmBroken, Denotes}
 use Rattle.asm_laws.specs.Lemmas.Each.{Each, all, both}
 use Rattle.asm_laws.specs.Lemmas.Fewer.{once_of}
 use Rattle.asm_laws.specs.Lemmas.Lists.{joined}
@@ -50,12 +49,14 @@ denoted : Short → Aligns → Strings → (source : List ℕ) (lines : List Lin
     → New [] lines → Each (IsKnown lines) lines → HasObject source
 denoted short aligns strings source lines says plain count exported new known =
     let (few, aligned, names) = short source lines says in
-    let ends : EndsLow (starts_of (contents_of lines)) = low_ends (contents_of lines) (aligns lines aligned) (part_few lines plain count exported (strings lines)) in
-    (object_of lines, record {
-      lines = lines;
-      says = says;
-      object = record { faultless = clean lines plain count ends new known; fits = not_too_big lines ends; are = refl };
-    })
+    let ends : EndsLow (starts_of (contents_of lines)) = low_ends (contents_of lines) (aligns lines aligned) (part_few lines plain count exported (strings lines)) in (
+      object_of lines,
+      record {
+        lines = lines;
+        says = says;
+        object = record { faultless = clean lines plain count ends new known; fits = not_too_big lines ends; are = refl };
+      },
+    )
 
 -- Lists over numbers in order
 
