@@ -6,5 +6,5 @@ use Rattle.ld_base.specs.declared.linking.Loaded.{Loaded}
 use Rattle.link_history.specs.Relocating.{first_fault}
 
 pub none_of_none : (fault : Loaded → Option DlFault) (added : List Loaded) (empty : Bool) → empty ≡ (length added == 0) → empty ≡ true → first_fault fault added ≡ None
-none_of_none fault [] empty is yes = refl
-none_of_none fault (o ∷ rest) empty is yes = absurd (false≢true (sym is ∙ yes))
+none_of_none fault [] empty is holds = refl
+none_of_none fault (o ∷ rest) empty is holds = absurd (false≢true (sym is ∙ holds))
