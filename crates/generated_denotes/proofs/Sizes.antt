@@ -1,8 +1,7 @@
 -- How many bytes each part of a generated source's object has at most.
-use Rattle.std.proofs.Common.{◌≡◌, ap, ℕ, ◌+◌, ◌*◌, ◌%◌, ◌==◌, ◌≤◌, Bool, true, false, nat_lt, if◌then◌else◌, List, [], ◌∷◌, ◌++◌, length, map, filter, flat_map, arith, length-append}
+use Rattle.std.proofs.Common.{◌≡◌, ap, ℕ, ◌+◌, ◌*◌, ◌%◌, ◌==◌, ◌≤◌, nat_lt, List, [], ◌∷◌, ◌++◌, length, map, filter, flat_map, arith, length-append}
 use Rattle.std.specs.Prelude.{Some, None, option_to_list, unwrap_or}
 use Rattle.std.specs.List.{All, count_by, range_with_len}
-use Rattle.std.specs.Option.{option_map_or}
 use Rattle.std.proofs.lemmas.List.{length-map}
 use Rattle.std.proofs.lemmas.List.Elements.{All-contains}
 use Rattle.std.proofs.lemmas.List.FromFn.{length-range_with_len}
