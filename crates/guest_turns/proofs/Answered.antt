@@ -247,13 +247,13 @@ answered_else past appended h made call answer came (IsAnswered.is_told fault te
 answered_else past appended h made call answer came (IsAnswered.has_to_wait for changes) other = absurd (other for refl)
 answered_else past appended h made call answer came (IsAnswered.is_over reason changes) other = refl
 
-module _ (old mid : LinkTable) (events : List Event) (folders : List (List ℕ)) (files : Option (List File)) (h : ℕ) (d : Due) (asked : Answered)
-    (waits : Option Shown) (answers : AnswersDue old folders files h d asked mid) (noted : (more : List Event) × (events ≡ mid.events ++ more))
-    (kept : runs_functions asked ≡ false → events ≡ mid.events) (w : Setting) (on : IsOver (machine_of old.harts) folders files w) where
+module _ (old mid : LinkTable) (journal : List Event) (folders : List (List ℕ)) (files : Option (List File)) (h : ℕ) (d : Due) (asked : Answered)
+    (waits : Option Shown) (answers : AnswersDue old folders files h d asked mid) (noted : (more : List Event) × (journal ≡ mid.events ++ more))
+    (kept : runs_functions asked ≡ false → journal ≡ mid.events) (w : Setting) (on : IsOver (machine_of old.harts) folders files w) where
   abbrev t : AnswersTurn w old.events mid.events mid.made h d asked
   t = answers w on
 
-  has_answer : ((shown : Shown) → asked ≡ answered.Again shown → ⊥) → HasAnswer w old.events events h t.call
+  has_answer : ((shown : Shown) → asked ≡ answered.Again shown → ⊥) → HasAnswer w old.events journal h t.call
   has_answer other = record {
     appended = t.appended;
     behind = noted.0;
@@ -263,7 +263,7 @@ module _ (old mid : LinkTable) (events : List Event) (folders : List (List ℕ))
     comes = answered_else old.events t.appended h mid.made t.call t.answer asked t.answered other;
   }
 
-  has_to_wait : (shown : Shown) → asked ≡ answered.Again shown → Shows w (after old.events) h t.call shown × (events ≡ old.events)
+  has_to_wait : (shown : Shown) → asked ≡ answered.Again shown → Shows w (after old.events) h t.call shown × (journal ≡ old.events)
   has_to_wait shown is =
       let answer : t.answer ≡ again shown = answered_waits old.events t.appended h mid.made t.call t.answer asked shown t.answered is in
       let none : t.serves.given ≡ [] =
@@ -275,7 +275,7 @@ module _ (old mid : LinkTable) (events : List Event) (folders : List (List ℕ))
 
   pub turn_tells : (came : Turn) → ((shown : Shown) → came ≡ turn.Again shown → waits ≡ Some shown) → (came ≡ turn.Stepped → waits ≡ None)
       → ((shown : Shown) → waits ≡ Some shown → asked ≡ answered.Again shown)
-      → (waits ≡ None → (shown : Shown) → asked ≡ answered.Again shown → ⊥) → TurnTells w old.events events h d came
+      → (waits ≡ None → (shown : Shown) → asked ≡ answered.Again shown → ⊥) → TurnTells w old.events journal h d came
   turn_tells turn.Stepped by_turn by_step some none = λ service. (t.call, t.return, t.is, has_answer (none (by_step refl)))
   turn_tells (turn.Again shown) by_turn by_step some none = (t.call, t.return, t.is, has_to_wait shown (some shown (by_turn shown refl)))
   turn_tells (turn.Ended reason) by_turn by_step some none = tt

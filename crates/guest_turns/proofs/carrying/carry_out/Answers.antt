@@ -1,4 +1,5 @@
-use Rattle.std.proofs.Common.{sym, subst}
+use Rattle.std.proofs.Common.{get_or, sym, subst}
+use Rattle.std.specs.Prelude.{slice_set}
 use Rattle.guest_worlds.specs.Worlds.{world_of}
 use Rattle.guest_turns.specs.Next.{NeverWaits}
 use Rattle.guest_turns.proofs.Carried.{came_out, carried_out, count_is, never_by, ready}
@@ -55,4 +56,6 @@ returns-clause-count c =
     c.carry_out.new.state c.carry_out.ensures.events
 
 pub returns-clause-no_wait : goal.returns-clause-no_wait
-returns-clause-no_wait c = subst NeverWaits (sym c.turn_of.ensures) (never_by _)
+returns-clause-no_wait c =
+    subst NeverWaits (sym c.turn_of.ensures)
+    (never_by (get_or (slice_set c.settle_first.new.harts c.number-index.result c.carry_out.new.hart) c.number-index.result c.index-harts-index-2.result).hart.«end»)
