@@ -1,24 +1,36 @@
 -- Where nothing fails, the words and the files decide the answer.
-use Rattle.std.proofs.Common.{◌≡◌, ◌⊎◌, inl, inr, ℕ, ◌^◌, ◌≤◌, List, Option, Some, None, Ok, refl, sym, ap, subst, ◌∙◌, arith}
+use Rattle.std.proofs.Common.{◌≡◌, ◌⊎◌, inl, inr, ℕ, ◌+◌, ◌^◌, ◌≤◌, Bool, true, false, cond, List, [], ◌∷◌, Option, Some, None, Ok, refl, sym, ap, subst, ◌∙◌, arith}
+use Rattle.std.specs.Prelude.{◌||◌, count_by}
 use Rattle.std.specs.Io.KnownBytes.{append_known}
+use Rattle.std.specs.List.{list_any}
+use Rattle.std.proofs.lemmas.Bool.{or_parts}
+use Rattle.std.proofs.lemmas.List.Sums.{sum_by-cons}
 use Rattle.ld_base.specs.declared.linking.File.{File}
+use Rattle.library_source.specs.Count.{Rises, RisesBy}
 use Rattle.library_source.specs.Files.{Over}
 use Rattle.command_line.specs.declared.command.Command.{Command}
 use Rattle.command_line.specs.declared.command.Command.TheVariants as commands
 use Rattle.command_line.specs.declared.command.Turns.{Turns}
 use Rattle.command_line.specs.Reads.{OneCommand}
+use Rattle.link_event.specs.declared.event.Event.{Event}
+use Rattle.link_event.specs.declared.event.Event.TheVariants as events
+use Rattle.link_event.specs.declared.event.OpenAnswer.TheVariants as openings
+use Rattle.link_service.specs.Laws.{is_read_fault}
 use Rattle.link_service.specs.Startup.{harts_of}
 use Rattle.run_texts.specs.declared.record.RunRecord.{RunRecord}
+use Rattle.turn_once.specs.Laws.{NothingFails, is_from_outside}
+use Rattle.world_turns.specs.Counts.{is_refused_for, read_faults}
 use Rattle.ldso_cli.proofs.Asking.{one_asked}
 use Rattle.ldso_cli.proofs.Assembling.{SourceLaw}
 use Rattle.ldso_cli.proofs.Bounds.{few_harts}
+use Rattle.ldso_cli.proofs.Causes.{own_caused}
 use Rattle.ldso_cli.proofs.Decided.{NotBoth, OneStop, one_end}
 use Rattle.ldso_cli.proofs.Same.{OneWalk, one_text}
 use Rattle.ldso_cli.proofs.Turning.{RunLaw, one_outcome}
 use Rattle.ldso_cli.specs.Asked.{Asks}
-use Rattle.ldso_cli.specs.Command.{Answers, IsAnswer, OverFiles, Prints}
-use Rattle.ldso_cli.specs.End.{AreOneEnd, KeepOne}
-use Rattle.ldso_cli.specs.Ends.{ComeToOne, Ends, Handing, IsUndisturbed, RunAt, Written}
+use Rattle.ldso_cli.specs.Command.{Answers, IsAnswer, NoReadFails, OverFiles, Prints}
+use Rattle.ldso_cli.specs.End.{AreOneEnd, KeepOne, events_kept}
+use Rattle.ldso_cli.specs.Ends.{ComeToOne, Ends, Handing, IsUndisturbed, RunAt, Written, is_want_of_memory}
 use Rattle.ldso_cli.specs.Status.{status_of_cause}
 use Rattle.ldso_cli.specs.Turns.{IsNotRun, IsRun, TurnsComes}
 use Rattle.ldso_cli.specs.declared.outcome.Cause.TheVariants as causes
@@ -65,6 +77,46 @@ itself end = record { cause = refl; kept = keeps end.kept }
 same_end : (a b : End) → a ≡ b → AreOneEnd a b
 same_end a b e = subst (AreOneEnd a) e (itself a)
 
+-- ---- where the library's faults don't rise
+
+no_reads : (handed : Handing) (command : Option Command) (run : RunAt) → IsTold handed command run → (Rises run.before.faults run.after.faults → ⊥) → NoReadFails run.end
+no_reads handed command run told still path is = still ((own_caused command run.before run.after run.old run.new run.end told.text told.answers).read_fault path is)
+
+-- a count that didn't rise is one of nothing
+none_rose : (p : Event → Bool) (e : Event) (rest : List Event) (before after : ℕ) → (Rises before after → ⊥) → RisesBy (count_by p (e ∷ rest)) before after → p e ≡ false
+none_rose p e rest before after still rises = by (p e) refl
+  where
+    counted : count_by p (e ∷ rest) ≡ cond (p e) 1 0 + count_by p rest
+    counted = sum_by-cons (λ (x : Event). cond (p x) 1 0) e rest
+
+    one : (n more : ℕ) → RisesBy n before after → n ≡ 1 + more → Rises before after
+    one n more (inl low) is = inl (omega (arith, low, is))
+    one n more (inr end) is = inr end
+
+    by : (t : Bool) → p e ≡ t → t ≡ false
+    by false is = refl
+    by true is = absurd (still (one (count_by p (e ∷ rest)) (count_by p rest) rises (counted ∙ ap (λ (t : Bool). cond t 1 0 + count_by p rest) is)))
+
+rest_rose : (p : Event → Bool) (e : Event) (rest : List Event) (before after : ℕ) → RisesBy (count_by p (e ∷ rest)) before after → RisesBy (count_by p rest) before after
+rest_rose p e rest before after (inr end) = inr end
+rest_rose p e rest before after (inl low) =
+    let counted : count_by p (e ∷ rest) ≡ cond (p e) 1 0 + count_by p rest = sum_by-cons (λ (x : Event). cond (p x) 1 0) e rest in inl (omega (arith, low, counted))
+
+fails_not : (e : Event) → is_refused_for is_read_fault e ≡ false → is_want_of_memory e ≡ false → is_from_outside e ≡ false
+fails_not (events.Open h ask (openings.Refused fault)) reads well = reads
+fails_not (events.Open h ask _) reads well = refl
+fails_not (events.Ended h reason) reads well = well
+fails_not _ reads well = refl
+
+nothing_fails : (journal : List Event) (before after : ℕ) → (Rises before after → ⊥) → RisesBy (read_faults journal) before after → list_any is_want_of_memory journal ≡ false → NothingFails journal
+nothing_fails [] before after still rises well = refl
+nothing_fails (e ∷ rest) before after still rises well =
+    let parts = or_parts (is_want_of_memory e) (list_any is_want_of_memory rest) well in
+    let first : is_from_outside e ≡ false = fails_not e (none_rose (is_refused_for is_read_fault) e rest before after still rises) parts.0 in
+    let behind : list_any is_from_outside rest ≡ false =
+    nothing_fails rest before after still (rest_rose (is_refused_for is_read_fault) e rest before after rises) parts.1 in
+    λ i. first i || behind i
+
 -- what is known of commands
 pub record Law : Type 0 where
   pub one_walk : OneWalk
@@ -92,7 +144,8 @@ module _ (handed handed' : Handing) (law : Law) (words : List (List ℕ)) (files
       let a = over_these command files first one.text p.told answers in
       let b = over_these command files second two.text q.told answers' in
       let end : first.end ≡ second.end =
-      one_end law.one_walk law.one_stop law.not_both law.sources command files first.before first.after second.before second.after first.end second.end a.comes p.reads_well b.comes q.reads_well in
+      one_end law.one_walk law.one_stop law.not_both law.sources command files first.before first.after second.before second.after first.end second.end a.comes (no_reads handed (Some command) first one p.reads_well) b.comes
+      (no_reads handed' (Some command) second two q.reads_well) in
       let prints : Prints command files first.end two.text = subst (λ (e : End). Prints command files e two.text) (sym end) b.prints in
       come_to_one (Some command) one two (same_end first.end second.end end) (one_text law.one_walk law.sources.one command files first.end one.text two.text a.prints prints)
 
@@ -100,8 +153,11 @@ module _ (handed handed' : Handing) (law : Law) (words : List (List ℕ)) (files
   one_turned turns asks one two =
       let few : harts_of turns.setup ≤ 2 ^ 32 = (let below = few_harts words turns asks.0 in omega (arith, below)) in
       let same =
-      one_outcome law.runs turns files few first.end second.end one.text two.text (run_over turns files first one.text p.told one.answers) p.reads_well p.runs_well
-      (run_over turns files second two.text q.told two.answers) q.reads_well q.runs_well in
+      one_outcome law.runs turns files few first.end second.end one.text two.text (run_over turns files first one.text p.told one.answers)
+      (no_reads handed (Some (commands.Turns turns)) first one p.reads_well)
+      (nothing_fails (events_kept first.end) first.before.faults first.after.faults p.reads_well one.answers.counted.faults p.runs_well)
+      (run_over turns files second two.text q.told two.answers) (no_reads handed' (Some (commands.Turns turns)) second two q.reads_well)
+      (nothing_fails (events_kept second.end) second.before.faults second.after.faults q.reads_well two.answers.counted.faults q.runs_well) in
       come_to_one (Some (commands.Turns turns)) one two same.0 same.1
 
   one_of : (command : Option Command) → Asks words command → IsTold handed command first → IsTold handed' command second → ComeToOne handed handed' first second

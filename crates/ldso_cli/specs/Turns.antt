@@ -16,9 +16,11 @@ use Rattle.run_texts.specs.declared.record.RunRecord.{RunRecord}
 use Rattle.run_texts.specs.declared.run_end.RunEnd.{RunEnd}
 use Rattle.schedules.specs.Grammar.{SaysTurns}
 use Rattle.schedules.specs.declared.schedule.TurnItem.{TurnItem}
+use Rattle.world_turns.specs.Counts.{ShowInCounts}
 use Rattle.world_turns.specs.Run.{Run}
 use Rattle.world_turns.specs.World.{World}
-use Rattle.ldso_cli.specs.Outside.{LibraryAt}
+use Rattle.ldso_cli.specs.End.{events_kept}
+use Rattle.ldso_cli.specs.Outside.{LibraryAt, counts_in}
 use Rattle.ldso_cli.specs.Status.{refused_text}
 use Rattle.ldso_cli.specs.declared.outcome.Cause.TheVariants as causes
 use Rattle.ldso_cli.specs.declared.outcome.End.{End}
@@ -75,3 +77,5 @@ pub record TurnsComes (turns : Turns) (before after : LibraryAt) (end : End) (te
   pub is : IsNotRun turns before.files end text ⊎ IsRun turns before.files end text
   pub read_fault : (path : List ℕ) → end.cause ≡ causes.Refused (dl.ReadFault path) → Rises before.faults after.faults
   pub missing : (name : List ℕ) → end.cause ≡ causes.Refused (dl.MissingLibrary name) → TurnsMisses turns before after name
+  -- over the whole journal, which is printed: an opening of a guest's may be refused so, too
+  pub counted : ShowInCounts turns.setup.folders (events_kept end) (counts_in before) (counts_in after)

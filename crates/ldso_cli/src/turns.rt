@@ -24,7 +24,7 @@ use plain_world::{World, played_worlds_are_runs};
 use run_texts::{RunEnd, RunRecord, events_are_sayable, journal_text};
 use schedule_read::{TurnsFault, read_turns};
 use std::alloc::{AllocError, Global};
-use world_turns::runs_stay_sound;
+use world_turns::{counts_show, runs_stay_sound};
 
 /// The items of a written schedule of so many harts.
 ///
@@ -49,7 +49,7 @@ fn told(alloc: Global, run: World) -> Result<Answer, AllocError>
     ensures { IfOk result (λ answer. TellsRun run.world answer.end answer.text) }
 {
     let _ = run.count();
-    let record = run.into_record(alloc)?;
+    let record = run.into_record();
     let run_end = RunEnd::of(record.ends.as_slice());
     let line = run_end.line(alloc)?;
     let text = journal_text(alloc, record.journal.as_slice(), line.as_str())?;
@@ -95,6 +95,7 @@ fn play<L: Library>(
     runs_stay_sound();
     served_calls_are_legal();
     events_are_sayable();
+    counts_show();
     match World::start(alloc, &command.setup, library) {
         Ok(mut run) => {
             run.run(alloc, items, library);

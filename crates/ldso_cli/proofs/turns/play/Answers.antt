@@ -1,13 +1,15 @@
-use Rattle.std.proofs.Common.{◌≡◌, ◌<◌, ℕ, Some, subst, sym}
+use Rattle.std.proofs.Common.{◌≡◌, ◌<◌, ℕ, List, Some, Err, subst, sym}
 use Rattle.call_laws.specs.Counts.{ArePathsAtStart, ShowsInCounts}
 use Rattle.link_served.specs.declared.startup.StartFault.{StartFault}
 use Rattle.link_service.specs.Startup.{FailsToStart, harts_of}
 use Rattle.link_startup.specs.Startup.{IsNotStarted, refusal_of_start}
 use Rattle.opening_plan.specs.Startup.{run_of}
 use Rattle.world_turns.specs.Run.{Run}
-use Rattle.ldso_cli.specs.Outside.{library_at}
+use Rattle.plain_world.specs.Started.{start_events}
+use Rattle.world_turns.specs.Counts.{Counts, ShowInCounts}
+use Rattle.ldso_cli.specs.Outside.{counts_in, library_at}
 use Rattle.ldso_cli.proofs.Schedules.{within}
-use Rattle.ldso_cli.proofs.Turned.{IsStart, if_ran, if_refused, is_run, run_is_sayable}
+use Rattle.ldso_cli.proofs.Turned.{IsStart, Shows, both_show, if_ran, if_refused, is_run, run_is_sayable}
 use Rattle.ldso_cli.proofs.turns.play.Goals as goal
 
 pub run-requires : goal.run-requires
@@ -20,7 +22,7 @@ told-requires-clause-sayable g c =
     let turns = c.args.command.now in
     let start : IsStart turns files c.in-Ok.run' = record { starts = c.in-Ok.ensures.starts; count = c.in-Ok.ensures.count; folders = c.in-Ok.ensures.folders; begun = c.in-Ok.ensures.begun } in
     let run : Run (run_of turns.setup files) turns.setup c.args.items.now c.run.new.self.world =
-    is_run c.played_worlds_are_runs.ensures turns files c.args.items.now c.in-Ok.run' c.run.new.self.world start (rw c.start.ensures.files at c.run.ensures.plays) in
+    is_run c.played_worlds_are_runs.ensures.played turns files c.args.items.now c.in-Ok.run' c.run.new.self.world start (rw c.start.ensures.files at c.run.ensures.plays) in
     run_is_sayable c.events_are_sayable.ensures.legal c.runs_stay_sound.ensures.run c.accepted_object.ensures.machine turns files c.args.items.now c.run.new.self.world run
 
 pub not_started-requires : goal.not_started-requires
@@ -37,8 +39,15 @@ returns-in-Ok-clause-comes g c =
     let turns = c.args.command.now in
     let start : IsStart turns before.files c.in-Ok.run' = record { starts = c.in-Ok.ensures.starts; count = c.in-Ok.ensures.count; folders = c.in-Ok.ensures.folders; begun = c.in-Ok.ensures.begun } in
     let run : Run (run_of turns.setup before.files) turns.setup c.args.items.now c.run.new.self.world =
-    is_run c.played_worlds_are_runs.ensures turns before.files c.args.items.now c.in-Ok.run' c.run.new.self.world start (rw c.start.ensures.files at c.run.ensures.plays) in
-    if_ran turns before after c.args.items.now c.run.new.self.world c.told.result c.requires.says run c.told.ensures
+    is_run c.played_worlds_are_runs.ensures.played turns before.files c.args.items.now c.in-Ok.run' c.run.new.self.world start (rw c.start.ensures.files at c.run.ensures.plays) in
+    let between : Counts = record { faults = g.L.Library.faults c.start.new.library; misses = g.L.Library.misses c.start.new.library } in
+    let counted = c.run.ensures.counts in
+    let shown : ShowInCounts turns.setup.folders counted.appended between (counts_in after) =
+    subst (λ (folders : List (List ℕ)). ShowInCounts folders counted.appended between (counts_in after)) c.in-Ok.ensures.folders counted.all in
+    let shows : Shows turns c.run.new.self.world.journal before after =
+    both_show c.counts_show.ensures.join turns c.in-Ok.run'.world.journal counted.appended c.run.new.self.world.journal before after between counted.are
+    c.in-Ok.ensures.shows shown in
+    if_ran turns before after c.args.items.now c.run.new.self.world c.told.result c.requires.says run shows c.told.ensures
 
 pub returns-in-Err-Refused-clause-comes : goal.returns-in-Err-Refused-clause-comes
 returns-in-Err-Refused-clause-comes g c =
@@ -47,7 +56,9 @@ returns-in-Err-Refused-clause-comes g c =
     let setup = c.args.command.now.setup in
     let w = run_of setup before.files in
     let fails : FailsToStart w setup c.in-Err-Refused.fault c.in-Err-Refused.journal.events = subst (IsNotStarted w setup) c.in-Err-Refused.field-0-is c.in-Err-Refused.ensures.refused in
-    let Shows : StartFault → Type 0 = λ why. ShowsInCounts (ArePathsAtStart setup.folders setup.program) (refusal_of_start why) before.faults after.faults before.misses after.misses in
+    let Refuses : StartFault → Type 0 = λ why. ShowsInCounts (ArePathsAtStart setup.folders setup.program) (refusal_of_start why) before.faults after.faults before.misses after.misses in
     let counts : ShowsInCounts (ArePathsAtStart setup.folders setup.program) (Some c.in-Err-Refused.fault) before.faults after.faults before.misses after.misses =
-    subst Shows c.in-Err-Refused.field-0-is c.in-Err-Refused.ensures.counts in
-    if_refused c.args.command.now before after c.in-Err-Refused.fault c.in-Err-Refused.journal.events c.not_started.result fails c.not_started.ensures counts
+    subst Refuses c.in-Err-Refused.field-0-is c.in-Err-Refused.ensures.counts in
+    let Shown : StartFault → Type 0 = λ why. ShowInCounts setup.folders (start_events (Err why)) (counts_in before) (counts_in after) in
+    let shows : Shows c.args.command.now c.in-Err-Refused.journal.events before after = subst Shown c.in-Err-Refused.field-0-is c.in-Err-Refused.ensures.shows in
+    if_refused c.args.command.now before after c.in-Err-Refused.fault c.in-Err-Refused.journal.events c.not_started.result fails c.not_started.ensures counts shows
