@@ -11,6 +11,7 @@ ghost use Rattle.link_history.specs.Setting.{Setting};
 ghost use Rattle.plain_world.specs.Finals.{FinalsBegin, FinalsDont, IsAtIn, StaysAt};
 ghost use Rattle.plain_world.specs.Playing.{BeginsToFinalise, FinalisesOnce};
 ghost use Rattle.plain_world.specs.Table.{moved};
+ghost use Rattle.rv_hart.specs.declared.doubleword.Doubleword.{Doubleword};
 ghost use Rattle.world_turns.specs.Run.{settled};
 
 use crate::World;
