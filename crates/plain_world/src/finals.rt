@@ -12,6 +12,7 @@ ghost use Rattle.plain_world.specs.Finals.{FinalsBegin, FinalsDont, IsAtIn, Stay
 ghost use Rattle.rv_hart.specs.declared.doubleword.Doubleword.{Doubleword};
 ghost use Rattle.plain_world.specs.Playing.{BeginsToFinalise, FinalisesOnce};
 ghost use Rattle.plain_world.specs.Table.{moved};
+ghost use Rattle.rv_hart.specs.declared.doubleword.Doubleword.{Doubleword};
 ghost use Rattle.world_turns.specs.Run.{settled};
 
 use crate::World;

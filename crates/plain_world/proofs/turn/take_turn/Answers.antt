@@ -1,8 +1,8 @@
-use Rattle.std.proofs.Common.{ℕ, refl, ap, arith}
+use Rattle.std.proofs.Common.{◌≡◌, ℕ, refl, ap}
 use Rattle.guest_worlds.specs.Coming.{LeavesHart}
 use Rattle.guest_worlds.specs.Worlds.{TakesOver, world_of}
 use Rattle.guest_turns.specs.Counting.{IsCounted, counts_at}
-use Rattle.guest_turns.specs.Next.{NextOpens, NextTells}
+use Rattle.guest_turns.specs.Next.{NextOpens, NextReadsNothing, NextTells}
 use Rattle.answer_turns.specs.Settling.{harts_in}
 use Rattle.world_turns.specs.Counts.{Counts}
 use Rattle.world_turns.specs.Turn.{TakesTurn}
@@ -89,8 +89,10 @@ returns-in-Some-take_service-clause-counts g c =
     (λ w over. TakesTurn.turn (c.in-Some-take_service.ensures.turn w over)) c.take_service.ensures.counts)
 
 pub returns-in-Some-take_service-clause-unread : goal.returns-in-Some-take_service-clause-unread
-returns-in-Some-take_service-clause-unread g c = λ reads.
-    c.take_service.ensures.unread reads
+returns-in-Some-take_service-clause-unread g c =
+    from_same (λ (n : ℕ) (v : World). NextReadsNothing v c.args.id → c.take_service.new.library ≡ c.args.library.now)
+    c.args.state.now c.take_quiet.new.state c.args.memory.now c.take_quiet.new.memory c.args.harts.now c.take_quiet.new.harts
+    c.in_default.ensures.unchanged.0 c.in_default.ensures.unchanged.1 c.in_default.ensures.unchanged.2 c.take_service.ensures.unread
 
 -- ---- one behind final destructors
 
