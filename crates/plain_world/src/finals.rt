@@ -9,7 +9,6 @@ ghost use Rattle.hart_moves.specs.Starting.{starting_registers};
 ghost use Rattle.lawful_journal.specs.Following.{machine_of};
 ghost use Rattle.link_history.specs.Setting.{Setting};
 ghost use Rattle.plain_world.specs.Finals.{FinalsBegin, FinalsDont, IsAtIn, StaysAt};
-ghost use Rattle.rv_hart.specs.declared.doubleword.Doubleword.{Doubleword};
 ghost use Rattle.plain_world.specs.Playing.{BeginsToFinalise, FinalisesOnce};
 ghost use Rattle.plain_world.specs.Table.{moved};
 ghost use Rattle.rv_hart.specs.declared.doubleword.Doubleword.{Doubleword};
