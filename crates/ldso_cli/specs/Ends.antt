@@ -7,9 +7,10 @@ use Rattle.library_source.specs.Count.{Rises}
 use Rattle.library_source.specs.Writing.{TakesFront}
 use Rattle.library_source.specs.declared.sink.WriteError.{WriteError}
 use Rattle.library_source.specs.declared.sink.WriteError.TheVariants as writes
+use Rattle.command_line.specs.Reads.{Reads}
 use Rattle.command_line.specs.declared.command.Command.{Command}
 use Rattle.ldso_cli.specs.Asked.{OfAsked}
-use Rattle.ldso_cli.specs.Command.{Answers, Misses, NoReadFails}
+use Rattle.ldso_cli.specs.Command.{Answers, AreTold, Misses, NoReadFails}
 use Rattle.turn_once.specs.Laws.{NothingFails}
 use Rattle.ldso_cli.specs.End.{AreOneEnd, bare, events_kept}
 use Rattle.ldso_cli.specs.Outside.{LibraryAt, SinkAt}
@@ -80,10 +81,10 @@ pub record RunAt : Type 0 where
   pub new : SinkAt
   pub end : End
 
--- a call with these words over these files, which the library tells, in which no read and no write fails and memory suffices, in a run that
--- it makes, too
+-- a call with these words over these files, which the library tells (gen reads none of it), in which no read and no write fails and memory
+-- suffices, in a run that it makes, too
 pub record IsUndisturbed (handed : Handing) (words : List (List ℕ)) (files : List File) (run : RunAt) : Type 0 where
-  pub told : run.before.files ≡ Some files
+  pub told : (command : Command) → Reads words command → AreTold command run.before files
   pub ends : OfAsked words (λ command. Ends handed command run.before run.after run.old run.new run.end)
   pub reads_well : NoReadFails run.end
   pub writes_well : run.end.cause ≢ causes.WriteFault
