@@ -19,11 +19,11 @@ use Rattle.opening_plan.specs.Startup.{run_of}
 use Rattle.plain_world.specs.Ends.{AreEndsOf}
 use Rattle.plain_world.specs.Laws.{PlayedIsRun}
 use Rattle.plain_world.specs.Playing.{InEachRun, Plays}
+use Rattle.plain_world.specs.Started.{StartsAt}
 use Rattle.plain_world.specs.Table.{WorldTable}
 use Rattle.run_texts.specs.declared.record.RunRecord.{RunRecord}
 use Rattle.run_texts.specs.declared.run_end.RunEnd.{RunEnd}
 use Rattle.schedules.specs.declared.schedule.TurnItem.{TurnItem}
-use Rattle.plain_world.specs.Started.{StartsAt}
 use Rattle.world_turns.specs.Run.{Run}
 use Rattle.world_turns.specs.World.{World}
 use Rattle.ldso_cli.specs.Outside.{LibraryAt}

@@ -1,5 +1,5 @@
 -- Two sets of one number are the same.
-use Rattle.std.proofs.Common.{◌≡◌, ℕ, List, [], ◌∷◌, refl, sym, ◌∙◌, absurd}
+use Rattle.std.proofs.Common.{◌≡◌, ℕ, List, [], ◌∷◌, refl, sym, ◌∙◌}
 use Rattle.std.specs.List.{AllZip}
 use Rattle.ld_base.specs.declared.linking.File.{File}
 use Rattle.asm_denotes.specs.Denotes.{Denotes}
