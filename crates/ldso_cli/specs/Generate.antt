@@ -13,7 +13,7 @@ use Rattle.run_texts.specs.declared.run_end.RunEnd.{RunEnd}
 use Rattle.run_texts.specs.declared.run_end.RunEnd.TheVariants.{Exited, Ended}
 use Rattle.ldso_cli.specs.End.{kept_end}
 use Rattle.ldso_cli.specs.Outside.{LibraryAt}
-use Rattle.ldso_cli.specs.Played.{IsPlayed, StartMisses, last_line}
+use Rattle.ldso_cli.specs.Played.{IsPlayed, StartMisses, last_line, run_cause}
 use Rattle.ldso_cli.specs.declared.outcome.Cause.{Cause}
 use Rattle.ldso_cli.specs.declared.outcome.Cause.TheVariants as causes
 use Rattle.ldso_cli.specs.declared.outcome.End.{End}
@@ -26,21 +26,18 @@ set_setup = record { program = codes "gen"; folders = codes "lib" ∷ []; preloa
 abbrev pub set_at : List File → ℕ → LibraryAt
 set_at files misses = record { files = Some files; faults = 0; misses = misses }
 
--- gen has done what it was asked where the program exited, whatever the code, which the summary has: then its status is 0
+-- the code with which the program exited, if it did
 abbrev pub exit_code : Result RunEnd DlFault → Option ℕ
 exit_code (Ok (Exited code)) = Some code
 exit_code (Ok (Ended hart reason)) = None
 exit_code (Err fault) = None
 
+-- then gen has done what it was asked, whatever the code, and its last line has the status 0
 abbrev pub set_cause : Result RunEnd DlFault → Cause
-set_cause (Ok (Exited code)) = causes.Done
-set_cause (Ok (Ended hart reason)) = causes.Ran (Ended hart reason)
-set_cause (Err fault) = causes.Refused fault
+set_cause ended = elim (exit_code ended) [ Some code ↦ causes.Done | None ↦ run_cause ended ]
 
 abbrev pub set_line : Result RunEnd DlFault → List ℕ
-set_line (Ok (Exited code)) = end_line (Exited 0)
-set_line (Ok (Ended hart reason)) = last_line (Ok (Ended hart reason))
-set_line (Err fault) = last_line (Err fault)
+set_line ended = elim (exit_code ended) [ Some code ↦ end_line (Exited 0) | None ↦ last_line ended ]
 
 -- the summary of the run, and the last line
 abbrev pub set_text : ℕ → Result RunEnd DlFault → List Event → List ℕ

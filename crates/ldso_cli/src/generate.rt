@@ -7,7 +7,7 @@ ghost use Rattle.ldso_cli.specs.Generate.{GenComes, exit_code, set_cause, set_li
 
 use crate::answer::Answer;
 use crate::outcome::{Cause, End};
-use crate::play::{Played, last_line, play};
+use crate::play::{Played, last_line, play, run_cause};
 use ld_base::{Bytes, DlFault, Name, Names};
 use lib_gen::{SetLibrary, library_set, summary_line};
 use link_served::Setup;
@@ -48,9 +48,9 @@ fn exit_code(ended: &Result<RunEnd, DlFault>) -> Option<u64>
 fn set_line(alloc: Global, ended: &Result<RunEnd, DlFault>) -> Result<String, AllocError>
     ensures { IfOk result (λ line. string_bytes line ≡ set_line ended.now) }
 {
-    match ended {
-        Ok(RunEnd::Exited(_)) => RunEnd::Exited(0).line(alloc),
-        Ok(RunEnd::Ended(_, _)) | Err(_) => last_line(alloc, ended),
+    match exit_code(ended) {
+        Some(_) => RunEnd::Exited(0).line(alloc),
+        None => last_line(alloc, ended),
     }
 }
 
@@ -69,10 +69,9 @@ fn set_text(alloc: Global, number: u32, played: &Played) -> Result<Bytes, AllocE
 fn set_cause(ended: Result<RunEnd, DlFault>) -> Cause
     ensures { result ≡ set_cause ended }
 {
-    match ended {
-        Ok(RunEnd::Exited(_)) => Cause::Done,
-        Ok(RunEnd::Ended(hart, reason)) => Cause::Ran(RunEnd::Ended(hart, reason)),
-        Err(fault) => Cause::Refused(fault),
+    match exit_code(&ended) {
+        Some(_) => Cause::Done,
+        None => run_cause(ended),
     }
 }
 

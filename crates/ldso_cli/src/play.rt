@@ -3,12 +3,12 @@
 ghost use Rattle.std.specs.Prelude.{◌≡◌, ◌<◌, ◌≤◌, ◌^◌, Contains, IfOk, IsTrue};
 ghost use Rattle.std.specs.String.{string_bytes};
 ghost use Rattle.ldso_cli.specs.Outside.{library_at};
-ghost use Rattle.ldso_cli.specs.Played.{IsPlayed, LeavesRefusal, LeavesRun, last_line};
+ghost use Rattle.ldso_cli.specs.Played.{IsPlayed, LeavesRefusal, LeavesRun, last_line, run_cause};
 ghost use Rattle.link_service.specs.Startup.{harts_of};
 ghost use Rattle.schedules.specs.declared.schedule.TurnItem.{TurnItem};
 ghost use Rattle.world_turns.specs.Run.{have_ended};
 
-use crate::outcome::refused_line;
+use crate::outcome::{Cause, refused_line};
 use ld_base::DlFault;
 use library_source::Library;
 use link_event::{Ends, Journal};
@@ -24,6 +24,16 @@ pub(crate) struct Played {
     /// How it ended, or why it didn't start.
     pub ended: Result<RunEnd, DlFault>,
     pub left: RunRecord,
+}
+
+/// Why a command ends whose run ended so.
+pub(crate) fn run_cause(ended: Result<RunEnd, DlFault>) -> Cause
+    ensures { result ≡ run_cause ended }
+{
+    match ended {
+        Ok(run_end) => Cause::Ran(run_end),
+        Err(fault) => Cause::Refused(fault),
+    }
 }
 
 /// The last line of what is printed of a run that ended so.

@@ -14,14 +14,14 @@ ghost use Rattle.schedules.specs.declared.schedule.TurnItem.{TurnItem};
 ghost use Rattle.trace_text.specs.Lines.{IsSayable};
 
 use crate::answer::{Answer, usage};
-use crate::outcome::{Cause, End};
-use crate::play::{Played, last_line, play};
+use crate::outcome::End;
+use crate::play::{Played, last_line, play, run_cause};
 use accepted_image::accepted_object;
 use command_line::Turns;
-use ld_base::{DlFault, Name};
+use ld_base::Name;
 use library_source::Library;
 use link_service::served_calls_are_legal;
-use run_texts::{RunEnd, events_are_sayable, journal_text};
+use run_texts::{events_are_sayable, journal_text};
 use schedule_read::{TurnsFault, read_turns};
 use std::alloc::{AllocError, Global};
 use world_turns::runs_stay_sound;
@@ -41,19 +41,9 @@ fn items_of(alloc: Global, schedule: &Name, harts: u32) -> Result<schedules::Tur
     }
 }
 
-/// Why the command ends.
-fn run_cause(ended: Result<RunEnd, DlFault>) -> Cause
-    ensures { result ≡ run_cause ended }
-{
-    match ended {
-        Ok(run_end) => Cause::Ran(run_end),
-        Err(fault) => Cause::Refused(fault),
-    }
-}
-
 /// The answer of a run that is over.
 fn told(alloc: Global, played: Played) -> Result<Answer, AllocError>
-    requires sayable { All IsSayable played.left.journal.events }
+    requires { All IsSayable played.left.journal.events }
     ensures end { IfOk result (λ answer. answer.end ≡ kept_end (run_cause played.ended) played.left) }
     ensures text { IfOk result (λ answer. answer.text ≡ journal_lines played.left.journal.events ++ last_line played.ended) }
 {

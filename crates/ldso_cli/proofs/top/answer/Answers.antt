@@ -52,7 +52,7 @@ pub returns-in-Ok-Generate-clause-answers : goal.returns-in-Ok-Generate-clause-a
 returns-in-Ok-Generate-clause-answers g c =
     let reads : Reads (texts c.args.words.now) (commands.Generate c.in-Ok-Generate.number) =
     subst (λ (command : Command). Reads (texts c.args.words.now) command) c.in-Ok-Generate.field-0-is c.in-Ok-Generate.ensures.is in
-    generated (texts c.args.words.now) c.in-Ok-Generate.number reads (library_at g.L.Library.files g.L.Library.faults g.L.Library.misses c.args.library.now) c.generate.result c.generate.ensures
+    generated (texts c.args.words.now) c.in-Ok-Generate.number reads (library_at g.L.Library.files g.L.Library.faults g.L.Library.misses c.args.library.now) c.generate.result c.generate.ensures.comes
 
 pub returns-clause-answers : goal.returns-clause-answers
 returns-clause-answers g c =
