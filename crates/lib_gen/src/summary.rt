@@ -41,7 +41,10 @@ fn write_set(text: &mut String, number: u32) -> Result<(), AllocError>
 {
     let libraries = library_count(number);
     let symbols = symbol_count(number);
-    write!(text, "gen {number} libs={libraries} symbols={symbols} slots={symbols}")
+    write!(
+        text,
+        "gen {number} libs={libraries} symbols={symbols} slots={symbols}"
+    )
 }
 
 /// Writes what a run came to.
