@@ -1,5 +1,5 @@
 -- Each cause comes only where it is so.
-use Rattle.std.proofs.Common.{◌≡◌, ◌⊎◌, inl, inr, ℕ, List, Option, Some, None, Result, Ok, Err, refl, sym, ap, subst, ◌∙◌}
+use Rattle.std.proofs.Common.{◌≡◌, inl, inr, ℕ, List, Option, Some, None, Result, Ok, Err, refl, sym, ap, subst, ◌∙◌}
 use Rattle.std.specs.Prelude.{IfOk}
 use Rattle.std.specs.Result.{MatchResult}
 use Rattle.std.specs.declared.alloc.AllocError.{AllocError}
@@ -7,7 +7,7 @@ use Rattle.ld_base.specs.declared.fault.DlFault.{DlFault}
 use Rattle.ld_base.specs.declared.fault.DlFault.TheVariants as dl
 use Rattle.ld_base.specs.declared.linking.File.{File}
 use Rattle.library_source.specs.Count.{Rises}
-use Rattle.library_source.specs.Files.{AreFiles, Over, file_at}
+use Rattle.library_source.specs.Files.{AreFiles, file_at}
 use Rattle.run_texts.specs.declared.run_end.RunEnd.{RunEnd}
 use Rattle.run_texts.specs.declared.run_end.RunEnd.TheVariants.{Exited, Ended}
 use Rattle.scope_rule.specs.Finding.{Reading, here, unaccepted, absent, failed}
@@ -16,10 +16,10 @@ use Rattle.command_line.specs.declared.command.Bind.{Bind}
 use Rattle.command_line.specs.declared.command.Command.{Command}
 use Rattle.command_line.specs.declared.command.Command.TheVariants as commands
 use Rattle.ldso_cli.proofs.Told.{never_rises}
-use Rattle.ldso_cli.specs.Asm.{SourceRead, SourceComes, ReadsSource, GivesCause, AsmComes}
+use Rattle.ldso_cli.specs.Asm.{SourceRead, SourceComes, ReadsSource, GivesCause}
 use Rattle.ldso_cli.specs.Bind.{BindComes, cause_of, namespace_of}
 use Rattle.command_line.specs.declared.command.Turns.{Turns}
-use Rattle.ldso_cli.specs.Command.{Answers, CommandAnswers, IsUsage, Misses}
+use Rattle.ldso_cli.specs.Command.{Answers, CommandAnswers, Misses}
 use Rattle.ldso_cli.specs.Dump.{DumpComes, ReadsAs, dump_cause}
 use Rattle.ldso_cli.specs.End.{bare}
 use Rattle.ldso_cli.specs.Ends.{Handing, IsCaused, IsUnanswered, Written}
@@ -132,12 +132,12 @@ same_fault f g e = cc
 
 turns_ended : (turns : Turns) (before after : LibraryAt) (ended : Result RunEnd DlFault) → ((path : List ℕ) → ended ≡ Err (dl.ReadFault path) → Rises before.faults after.faults)
     → ((name : List ℕ) → ended ≡ Err (dl.MissingLibrary name) → StartMisses turns.setup before after name) → IsOwn (commands.Turns turns) before after (run_cause ended)
-turns_ended turns before after (Ok run_end) failed missed =
+turns_ended turns before after (Ok run_end) unread missed =
     record { no_usage = λ e. cc e; no_write = λ e. cc e; read_fault = λ path e. absurd (cc e); missing = λ name e. absurd (cc e) }
-turns_ended turns before after (Err fault) failed missed = record {
+turns_ended turns before after (Err fault) unread missed = record {
   no_usage = λ e. cc e;
   no_write = λ e. cc e;
-  read_fault = λ path e. failed path (ap not_started (same_fault fault (dl.ReadFault path) e));
+  read_fault = λ path e. unread path (ap not_started (same_fault fault (dl.ReadFault path) e));
   missing = λ name e. missed name (ap not_started (same_fault fault (dl.MissingLibrary name) e));
 }
 
@@ -148,14 +148,14 @@ turns_own turns before after end text comes =
 
 gen_ended : (number : ℕ) (before after : LibraryAt) (ended : Result RunEnd DlFault) → ((path : List ℕ) → ended ≡ Err (dl.ReadFault path) → ⊥)
     → ((name : List ℕ) → ended ≡ Err (dl.MissingLibrary name) → GenMisses number name) → IsOwn (commands.Generate number) before after (set_cause ended)
-gen_ended number before after (Ok (Exited code)) failed missed =
+gen_ended number before after (Ok (Exited code)) unread missed =
     record { no_usage = λ e. cc e; no_write = λ e. cc e; read_fault = λ path e. absurd (cc e); missing = λ name e. absurd (cc e) }
-gen_ended number before after (Ok (Ended hart reason)) failed missed =
+gen_ended number before after (Ok (Ended hart reason)) unread missed =
     record { no_usage = λ e. cc e; no_write = λ e. cc e; read_fault = λ path e. absurd (cc e); missing = λ name e. absurd (cc e) }
-gen_ended number before after (Err fault) failed missed = record {
+gen_ended number before after (Err fault) unread missed = record {
   no_usage = λ e. cc e;
   no_write = λ e. cc e;
-  read_fault = λ path e. absurd (failed path (ap not_started (same_fault fault (dl.ReadFault path) e)));
+  read_fault = λ path e. absurd (unread path (ap not_started (same_fault fault (dl.ReadFault path) e)));
   missing = λ name e. missed name (ap not_started (same_fault fault (dl.MissingLibrary name) e));
 }
 

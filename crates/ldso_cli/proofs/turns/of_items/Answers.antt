@@ -1,4 +1,3 @@
-use Rattle.std.proofs.Common.{◌<◌}
 use Rattle.link_service.specs.Startup.{harts_of}
 use Rattle.opening_plan.specs.Startup.{run_of}
 use Rattle.ldso_cli.specs.Outside.{library_at}
