@@ -26,7 +26,7 @@ low_padding address align low =
     elim (align == 0) as (λ b. (if b then 0 else (align - address % align) % align) ≤ 4096) [ true ↦ omega arith | false ↦ omega (arith, less, low) ]
 
 -- the room of parts of these sizes, with a page before each
-abbrev room : {X : Type 0} → (X → ℕ) → List X → ℕ
+abbrev pub room : {X : Type 0} → (X → ℕ) → List X → ℕ
 room size [] = 0
 room size (x ∷ xs) = 4096 + size x + room size xs
 
@@ -54,14 +54,22 @@ low_base : (kind : Kind) → base_of kind ≤ 0x10000
 low_base Exec = omega arith
 low_base Dyn = omega arith
 
+-- where no part has more bytes than some limit of its own
+pub ends_within : (contents : Contents) → AlignsInPages contents → (limit : Part → ℕ) → ((part : Part) → size_of contents part ≤ limit part) → (part : Part)
+    → start_in (starts_of contents) part + size_in (starts_of contents) part ≤ 0x10000 + room limit all_parts
+unfolding starts_of
+ends_within contents aligns limit small part =
+    let end = ends (extent_of contents) (λ part. low_align (align_of contents part) (aligns part)) (base_of contents.kind) all_parts (number_of part) (number_below part) in
+    let fewer : room (size_of contents) all_parts ≤ room limit all_parts = more_room (size_of contents) limit small all_parts in
+    let base = low_base contents.kind in
+    total _ _ _ _ end fewer base
+  where
+    total : (end base all most : ℕ) → end ≤ base + all → all ≤ most → base ≤ 0x10000 → end ≤ 0x10000 + most
+    total end base all most is fewer low = omega (arith, is, fewer, low)
+
 pub low_end : (contents : Contents) → AlignsInPages contents → ((part : Part) → size_of contents part ≤ most part) → (part : Part)
     → start_in (starts_of contents) part + size_in (starts_of contents) part < 2 ^ 62
-unfolding starts_of
-low_end contents aligns small part =
-    let end = ends (extent_of contents) (λ part. low_align (align_of contents part) (aligns part)) (base_of contents.kind) all_parts (number_of part) (number_below part) in
-    let fewer : room (size_of contents) all_parts ≤ room most all_parts = more_room (size_of contents) most small all_parts in
-    let base = low_base contents.kind in
-    total _ _ _ end fewer base
+low_end contents aligns small part = below _ (ends_within contents aligns most small part)
   where
-    total : (end base all : ℕ) → end ≤ base + all → all ≤ room most all_parts → base ≤ 0x10000 → end < 2 ^ 62
-    total end base all is fewer low = omega (arith, is, fewer, low)
+    below : (end : ℕ) → end ≤ 0x10000 + room most all_parts → end < 2 ^ 62
+    below end is = omega (arith, is)

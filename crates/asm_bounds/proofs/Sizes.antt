@@ -145,11 +145,11 @@ abbrev pub most : Part → ℕ
 most parts.Strings = 2 ^ 61
 most _ = 2 ^ 53
 
-hash_few : (b : Bool) (A : Type 0) (size : A → ℕ) (table : A) (n : ℕ) → size table ≤ n → option_map_or size (if b then Some table else None) 0 ≤ n
+pub hash_few : (b : Bool) (A : Type 0) (size : A → ℕ) (table : A) (n : ℕ) → size table ≤ n → option_map_or size (if b then Some table else None) 0 ≤ n
 hash_few true A size table n few = few
 hash_few false A size table n few = omega arith
 
-if_few : (b : Bool) (n most : ℕ) → n ≤ most → (if b then n else 0) ≤ most
+pub if_few : (b : Bool) (n most : ℕ) → n ≤ most → (if b then n else 0) ≤ most
 if_few true n most few = few
 if_few false n most few = omega arith
 

@@ -1,8 +1,7 @@
 -- How many bytes each part of a generated source's object has at most.
-use Rattle.std.proofs.Common.{◌≡◌, ap, ℕ, ◌+◌, ◌*◌, ◌%◌, ◌==◌, ◌≤◌, Bool, true, false, nat_lt, if◌then◌else◌, List, [], ◌∷◌, ◌++◌, length, map, filter, flat_map, arith, length-append}
+use Rattle.std.proofs.Common.{◌≡◌, ap, ℕ, ◌+◌, ◌*◌, ◌%◌, ◌==◌, ◌≤◌, nat_lt, List, [], ◌∷◌, ◌++◌, length, map, filter, flat_map, arith, length-append}
 use Rattle.std.specs.Prelude.{Some, None, option_to_list, unwrap_or}
 use Rattle.std.specs.List.{All, count_by, range_with_len}
-use Rattle.std.specs.Option.{option_map_or}
 use Rattle.std.proofs.lemmas.List.{length-map}
 use Rattle.std.proofs.lemmas.List.Elements.{All-contains}
 use Rattle.std.proofs.lemmas.List.FromFn.{length-range_with_len}
@@ -30,6 +29,7 @@ use Rattle.asm_laws.specs.Lemmas.Each.{Each, all, both, each}
 use Rattle.asm_laws.specs.Said.{IsSaid, line_names, said_names}
 use Rattle.asm_bounds.specs.Lemmas.Counts.{buckets_few, filter_fewer, imports_few, joined_few, needed_few, product, slots_few}
 use Rattle.asm_bounds.specs.Lemmas.Records.{exports_long, files_long, imports_long, needed_long, offsets_long, records_few}
+use Rattle.asm_bounds.proofs.Sizes.{hash_few, if_few}
 use Rattle.asm_bounds.proofs.Tables.{counted_few, entries_few, gnu_few, packed_few, segments_few, sysv_few}
 use Rattle.generated_denotes.proofs.Plain.{ArePlain, few_filled, no_files, no_fixes, no_needed, no_versions}
 
@@ -68,14 +68,6 @@ abbrev pub most : Part → ℕ
 most parts.Strings = 1_200_000
 most parts.Symbols = 330_000
 most _ = 200_000
-
-hash_few : (b : Bool) (A : Type 0) (size : A → ℕ) (table : A) (n : ℕ) → size table ≤ n → option_map_or size (if b then Some table else None) 0 ≤ n
-hash_few true A size table n few = few
-hash_few false A size table n few = omega arith
-
-if_few : (b : Bool) (n most : ℕ) → n ≤ most → (if b then n else 0) ≤ most
-if_few true n most few = few
-if_few false n most few = omega arith
 
 module _ (lines : List Line) (plain : ArePlain lines) (count : length lines ≤ 8200) (exported : length (exports lines) ≤ 140)
     (said : All (IsSaid lines) (string_names lines)) where

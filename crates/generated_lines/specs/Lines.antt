@@ -39,7 +39,7 @@ library_name i = codes "lib" ++ (decimal i ++ codes ".so")
 unfoldable pub function_name : ℕ → ℕ → List ℕ
 function_name i j = codes "f_" ++ (decimal i ++ (codes "_" ++ decimal j))
 
--- a library; a0 is register 10
+-- a library; a0 is register 10 (RISC-V psABI, "Integer Register Convention")
 
 abbrev pub needed_said : ℕ → ℕ → List Line
 needed_said libraries d = if nat_lt d libraries then says (directives.Needed (library_name d)) ∷ [] else []

@@ -1,5 +1,5 @@
 -- What an answered call comes to: the room that it takes, what it waits for, and which of its events comes first.
-use Rattle.std.proofs.Common.{◌≡◌, ℕ, ◌<◌, Bool, true, false, List, [], ◌∷◌, ◌++◌, Option, Some, refl, sym, ap, subst, ◌∙◌, append_assoc}
+use Rattle.std.proofs.Common.{◌≡◌, ℕ, ◌<◌, Bool, true, false, List, [], ◌∷◌, ◌++◌, Option, Some, None, refl, sym, ap, subst, ◌∙◌, append-nil, append_assoc}
 use Rattle.std.proofs.lemmas.Bool.{true≢false}
 use Rattle.std.proofs.lemmas.List.{append_cancel_left}
 use Rattle.std.specs.Prelude.{IsTrue}
@@ -35,9 +35,10 @@ use Rattle.answer_turns.specs.Answering.{WasAnswered, runs_functions}
 use Rattle.guest_worlds.specs.declared.turn.Turn.{Turn}
 use Rattle.guest_worlds.specs.declared.turn.Turn.TheVariants as turn
 use Rattle.guest_turns.specs.Asking.{may_run_by, may_run_functions}
-use Rattle.guest_turns.specs.Next.{TurnWaits}
+use Rattle.guest_turns.specs.Next.{HasAnswer, TurnTells, is_again}
 use Rattle.guest_turns.specs.Taking.{MakesCall}
 use Rattle.guest_turns.proofs.Moved.{is_over, setting_with}
+use Rattle.guest_turns.proofs.Openings.{Gave, given_gave}
 
 -- ---- want of memory
 
@@ -233,16 +234,52 @@ answered_waits past appended h made call answer came shown (IsAnswered.is_told f
 answered_waits past appended h made call answer came shown (IsAnswered.has_to_wait for changes) is = let same : for ≡ shown = cc in ap again same
 answered_waits past appended h made call answer came shown (IsAnswered.is_over reason changes) is = absurd cc
 
-pub turn_waits : (old new : LinkTable) (folders : List (List ℕ)) (files : Option (List File)) (h : ℕ) (d : Due) (asked : Answered) (waits : Option Shown) (came : Turn)
-    → AnswersDue old folders files h d asked new → ((shown : Shown) → came ≡ turn.Again shown → waits ≡ Some shown)
-    → ((shown : Shown) → waits ≡ Some shown → asked ≡ answered.Again shown) → TurnWaits old.harts folders files old.events h came d
-turn_waits old new folders files h d asked waits came answers by_turn by_answer = λ shown again_is w on.
-    let t : AnswersTurn w old.events new.events new.made h d asked = answers w on in
-    let is : t.answer ≡ again shown =
-    answered_waits old.events t.appended h new.made t.call t.answer asked shown t.answered (by_answer shown (by_turn shown again_is)) in
-    let shows : Shows w (after old.events) h t.call shown =
-    subst (λ (a : Answer). Waits w old.events h t.call a) is (given_waits w old.events h t.call t.serves.given t.answer t.serves.gives) in
-    (t.call, t.return, t.is, shows)
+-- one that isn't told to wait has another answer
+answered_else : (past appended : List Event) (h : ℕ) (made : Installs) (call : Call) (answer : Answer) (came : Answered)
+    → IsAnswered past appended h made call answer came → ((shown : Shown) → came ≡ answered.Again shown → ⊥) → is_again answer ≡ false
+answered_else past appended h made call answer came (IsAnswered.is_returned value does changes) other = refl
+answered_else past appended h made call answer came (IsAnswered.is_refused fault changes) other = refl
+answered_else past appended h made call answer came (IsAnswered.is_loaded root added installs functions changes are) other = refl
+answered_else past appended h made call answer came (IsAnswered.is_closing dying functions changes are) other = refl
+answered_else past appended h made call answer came (IsAnswered.is_granted grant offered changes offer) other = refl
+answered_else past appended h made call answer came (IsAnswered.is_told_none changes) other = refl
+answered_else past appended h made call answer came (IsAnswered.is_told fault text same changes) other = refl
+answered_else past appended h made call answer came (IsAnswered.has_to_wait for changes) other = absurd (other for refl)
+answered_else past appended h made call answer came (IsAnswered.is_over reason changes) other = refl
+
+module _ (old mid : LinkTable) (journal : List Event) (folders : List (List ℕ)) (files : Option (List File)) (h : ℕ) (d : Due) (asked : Answered)
+    (waits : Option Shown) (answers : AnswersDue old folders files h d asked mid) (noted : (more : List Event) × (journal ≡ mid.events ++ more))
+    (kept : runs_functions asked ≡ false → journal ≡ mid.events) (w : Setting) (on : IsOver (machine_of old.harts) folders files w) where
+  abbrev t : AnswersTurn w old.events mid.events mid.made h d asked
+  t = answers w on
+
+  has_answer : ((shown : Shown) → asked ≡ answered.Again shown → ⊥) → HasAnswer w old.events journal h t.call
+  has_answer other = record {
+    appended = t.appended;
+    behind = noted.0;
+    are = noted.1 ∙ ap (λ (es : List Event). es ++ noted.0) t.are ∙ append_assoc old.events t.appended noted.0;
+    answer = t.answer;
+    serves = t.serves;
+    comes = answered_else old.events t.appended h mid.made t.call t.answer asked t.answered other;
+  }
+
+  has_to_wait : (shown : Shown) → asked ≡ answered.Again shown → Shows w (after old.events) h t.call shown × (journal ≡ old.events)
+  has_to_wait shown is =
+      let answer : t.answer ≡ again shown = answered_waits old.events t.appended h mid.made t.call t.answer asked shown t.answered is in
+      let none : t.serves.given ≡ [] =
+      subst (λ (a : Answer). Gave h t.call t.serves.given a) answer (given_gave w old.events h t.call t.serves.given t.answer t.serves.gives) in
+      let nothing : t.appended ≡ [] = t.serves.are ∙ (λ i. none i ++ ending h (answer i)) in (
+        subst (λ (a : Answer). Waits w old.events h t.call a) answer (given_waits w old.events h t.call t.serves.given t.answer t.serves.gives),
+        kept (ap runs_functions is) ∙ t.are ∙ ap (λ (es : List Event). old.events ++ es) nothing ∙ append-nil old.events,
+      )
+
+  pub turn_tells : (came : Turn) → ((shown : Shown) → came ≡ turn.Again shown → waits ≡ Some shown) → (came ≡ turn.Stepped → waits ≡ None)
+      → ((shown : Shown) → waits ≡ Some shown → asked ≡ answered.Again shown)
+      → (waits ≡ None → (shown : Shown) → asked ≡ answered.Again shown → ⊥) → TurnTells w old.events journal h d came
+  turn_tells turn.Stepped by_turn by_step some none = λ service. (t.call, t.return, t.is, has_answer (none (by_step refl)))
+  turn_tells (turn.Again shown) by_turn by_step some none = (t.call, t.return, t.is, has_to_wait shown (some shown (by_turn shown refl)))
+  turn_tells (turn.Ended reason) by_turn by_step some none = tt
+  turn_tells turn.Idle by_turn by_step some none = tt
 
 -- ---- what the answer makes of the hart
 

@@ -23,7 +23,7 @@ use Rattle.hart_seat.specs.Table.{HartTable}
 use Rattle.final_turns.specs.Laws.{SettlingKeepsPlans}
 use Rattle.final_turns.specs.Planned.{FinalsMayFollow, FinalsMayFollowIn, IsPlanned}
 use Rattle.final_turns.specs.Table.{FinalPlan, finis, plan_events}
-use Rattle.guest_worlds.specs.Coming.{Comes, HasEnd}
+use Rattle.guest_worlds.specs.Coming.{HasEnd, LeavesHart}
 use Rattle.guest_worlds.specs.Laws.{FinalsNow, MayGoOn, SettlesNow}
 use Rattle.guest_worlds.specs.Worlds.{IsAt, setting_without, world_of}
 use Rattle.guest_worlds.specs.declared.turn.Turn.{Turn as CameTurn}
@@ -37,6 +37,7 @@ use Rattle.world_turns.specs.Memory.{Does}
 use Rattle.world_turns.specs.Turn.{Turn}
 use Rattle.world_turns.specs.World.{World, found_harts, found_journal, has_won, settled_by, settling}
 use Rattle.guest_turns.specs.Last.{HasRoom, IsLast, IsSomewhereIn, SettlesFirst, turn_by}
+use Rattle.guest_turns.specs.Next.{NeverWaits}
 use Rattle.guest_turns.proofs.Ending.{runs_last}
 
 -- ---- what is settled first leaves the plan
@@ -142,9 +143,14 @@ finals_turn others stay w h old plan journal harts b c there is finalises journa
     }
 
 -- how the hart is left
-comes : (old new : World) (h : ℕ) (over : Option HartEnd) → HasEnd old h None → HasEnd new h over → Comes old new h (turn_by over)
+comes : (old new : World) (h : ℕ) (over : Option HartEnd) → HasEnd old h None → HasEnd new h over → LeavesHart old new h (turn_by over)
 comes old new h (Some reason) before behind = (before, behind)
 comes old new h None before behind = behind
+
+-- it isn't to wait
+pub never_by : (over : Option HartEnd) → NeverWaits (turn_by over)
+never_by (Some reason) = λ shown is. absurd cc
+never_by None = λ shown is. absurd cc
 
 -- ---- what the turn finds, and how it leaves the run
 
@@ -223,12 +229,12 @@ module _ (settles_now : SettlesNow) (finals : FinalsNow) (free : FreedIsDue) (ke
 
   -- how the hart is left
   pub came_out : (new : LinkTable) (words : List Doubleword) (y e : HartTable) (came : CameTurn) → n ≡ h → h < length harts
-      → came ≡ turn_by (get_or (slice_set behind n y) n e).hart.«end» → Comes (world_of state words harts) (world_of new words (slice_set behind n y)) h came
+      → came ≡ turn_by (get_or (slice_set behind n y) n e).hart.«end» → LeavesHart (world_of state words harts) (world_of new words (slice_set behind n y)) h came
   came_out new words y e came same lt is =
       let old : World = world_of state words harts in
       let left : World = world_of new words (slice_set behind n y) in
       let z : HartState = (get_or (slice_set behind n y) n e).hart in
       let longer : length (slice_set behind n y) ≡ length harts = length-set behind n y ∙ ap (λ (hs : List HartTable). length hs) first.harts ∙ same_length t harts in
-      subst (λ (x : CameTurn). Comes old left h x) (sym is)
+      subst (λ (x : CameTurn). LeavesHart old left h x) (sym is)
       (comes old left h z.«end» (last.hart, last.there, runs_last (after state.events) last.hart plan.code plan.object (last.is (after state.events)))
       (z, read_at (slice_set behind n y) n h e same (subst (λ (k : ℕ). h < k) (sym longer) lt), refl))

@@ -1,5 +1,5 @@
 -- Want of memory behind final destructors ends the hart.
-use Rattle.std.proofs.Common.{◌≡◌, ℕ, inr, List, [], ◌∷◌, Option, Some, None, refl, sym, subst}
+use Rattle.std.proofs.Common.{◌≡◌, ℕ, inr, List, [], ◌∷◌, Option, Some, None, refl, sym, ap, subst}
 use Rattle.link_event.specs.declared.event.Event.TheVariants.{Ended}
 use Rattle.link_event.specs.declared.hart_end.HartEnd.{HartEnd}
 use Rattle.link_event.specs.declared.hart_end.HartEnd.TheVariants.{Memory}
@@ -8,6 +8,7 @@ use Rattle.rv_hart.specs.declared.doubleword.Doubleword.{Doubleword}
 use Rattle.hart_moves.specs.Due.{Due, by_resolving, due}
 use Rattle.hart_moves.specs.Harts.{HartState}
 use Rattle.hart_moves.specs.Moves.{Did, MovesAs, ended, spent}
+use Rattle.call_answers.specs.Answers.{is_service}
 use Rattle.guest_turns.specs.Alone.{IsToEnd}
 
 -- ---- such a hart has not ended
@@ -31,4 +32,5 @@ is_to_end words s b code object is = record {
   moves = λ w past h may. subst (λ (d : Due). MovesAs w past h b d (Did.serves [] (Ended h Memory ∷ [])) (ended Memory (spent b))) (sym is)
       (inr (record { may = may; is = refl; leaves = refl }));
   place = refl;
+  no_call = ap is_service is;
 }

@@ -88,7 +88,7 @@ asks_of_serve d call back is = ap asks_linker is
 pub asks_of_complete : (d : Due) → is_complete d ≡ true → asks_linker d ≡ true
 asks_of_complete d is = or_right (is_service d) (is_complete d) is
 
-ended_due : (s : State) (b : HartState) (reason : HartEnd) → b.«end» ≡ Some reason → due s b ≡ Due.nothing
+pub ended_due : (s : State) (b : HartState) (reason : HartEnd) → b.«end» ≡ Some reason → due s b ≡ Due.nothing
 unfolding due
 ended_due s b reason is = ap (λ (e : Option HartEnd). elim e [ Some r ↦ Due.nothing | None ↦ by_resolving s b b.resolving ]) is
 

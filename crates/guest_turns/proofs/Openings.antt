@@ -67,7 +67,7 @@ memory_is (ends.AddressSpaceFull pages) e = absurd (true≢false (sym e))
 memory_is ends.Memory e = refl
 
 -- what an opening that is refused gives, and one that is to wait
-abbrev Gave : ℕ → Call → List Event → Answer → Type 0
+abbrev pub Gave : ℕ → Call → List Event → Answer → Type 0
 Gave h call given (returns value) = Unit {0}
 Gave h call given (loading root added) = Unit {0}
 Gave h call given (closing set) = Unit {0}
@@ -95,7 +95,7 @@ answer_gave h call e answer (Answers.is_not_found ask fault) = λ other is. absu
 answer_gave h call e answer (Answers.is_told fault) = tt
 answer_gave h call e answer (Answers.is_written bytes) = tt
 
-given_gave : (w : Setting) (past : List Event) (h : ℕ) (call : Call) (given : List Event) (answer : Answer) → Gives w past h call given answer
+pub given_gave : (w : Setting) (past : List Event) (h : ℕ) (call : Call) (given : List Event) (answer : Answer) → Gives w past h call given answer
     → Gave h call given answer
 given_gave w past h call given answer (Gives.by_event _ e _ answers may) = answer_gave h call e answer answers
 given_gave w past h call given answer (Gives.by_first_block ask e f value finds) = tt

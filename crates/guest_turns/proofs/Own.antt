@@ -17,6 +17,7 @@ use Rattle.hart_moves.specs.Copying.{Copy, first_left}
 use Rattle.hart_moves.specs.Due.{Due}
 use Rattle.hart_moves.specs.Harts.{HartState}
 use Rattle.hart_moves.specs.Moves.{Comes, CopiesBy, Did, Ends as EndsBy, Goes, MovesAs, Refuses, Stops, StoresBy, Trap, Traps, Unread, copied_item, spent, stored_to, trap_of}
+use Rattle.call_answers.specs.Answers.{is_service}
 use Rattle.guest_worlds.specs.Worlds.{setting_without}
 use Rattle.plain_turns.specs.Turns.{TakesOwn, Turns, is_own}
 use Rattle.plain_turns.specs.declared.turned.Turned.{Turned}
@@ -95,6 +96,10 @@ module _ (w : Setting) (past : List Event) (h : ℕ) (b : HartState) (made : Lis
 
 -- ---- such a turn is taken alone
 
+own_is_no_call : (d : Due) → is_own d ≡ true → is_service d ≡ false
+own_is_no_call (Due.serve call back) own = absurd (let no : false ≡ true = own in cc)
+own_is_no_call _ own = refl
+
 module _ (words words' : List Doubleword) (d : Due) (b c : HartState) (own : is_own d ≡ true) (runs : b.«end» ≡ None) where
   goes_on : Turns (DoesIn lowest) words words' d b c Over → GoesOn words words' d b c
   goes_on x = record {
@@ -103,10 +108,11 @@ module _ (words words' : List Doubleword) (d : Due) (b c : HartState) (own : is_
     moves = x.turn;
     does = λ past. x.chain;
     runs = runs_on (setting_without 0 [] []) [] 0 b x.items c d own (x.turn (setting_without 0 [] []) [] 0) ∙ runs;
+    no_call = own_is_no_call d own;
   }
 
   pub takes_alone : (result : Option Turned) → TakesOwn (DoesIn lowest) words words' d b c result → TakesAlone words words' d b c result
   takes_alone (Some Over) x = goes_on x.0
   takes_alone (Some (Again shown)) x = goes_on (record { items = x.0.items; chain = x.0.chain; turn = x.0.turn })
-  takes_alone (Some (Ends reason)) x = record { items = x.0.items; chain = x.0.chain; moves = x.0.turn; place = ap (λ (y : HartState). y.resolving) x.1 }
+  takes_alone (Some (Ends reason)) x = record { items = x.0.items; chain = x.0.chain; moves = x.0.turn; place = ap (λ (y : HartState). y.resolving) x.1; no_call = own_is_no_call d own }
   takes_alone None x = absurd (let no : true ≡ false = sym own ∙ x.0 in cc)

@@ -9,7 +9,7 @@ use Rattle.rv_hart.specs.declared.doubleword.Doubleword.{Doubleword}
 use Rattle.hart_moves.specs.Due.{Due, due}
 use Rattle.hart_moves.specs.Harts.{HartState}
 use Rattle.hart_seat.specs.Table.{HartTable}
-use Rattle.guest_worlds.specs.Coming.{Comes}
+use Rattle.guest_worlds.specs.Coming.{LeavesHart}
 use Rattle.guest_worlds.specs.Worlds.{IsSomewhere, TurnsOn, world_of}
 use Rattle.guest_worlds.specs.declared.turn.Turn.{Turn}
 use Rattle.guest_turns.specs.Lemmas.Places.{put_here, read_at, set_same, written_at}
@@ -57,6 +57,6 @@ module _ (state : LinkTable) (harts : List HartTable) (n h : ℕ) (d : HartTable
         → TurnsOn state.harts h (world_of state words harts) new
     turns_stay words new turns = subst (λ (hs : List HartState). TurnsOn state.harts h (record { journal = state.events; words = words; harts = hs }) new) harts_same turns
 
-    pub comes_stays : (words : List Doubleword) (new : World) (came : Turn) → Comes (world_of state words (slice_set harts n x)) new h came
-        → Comes (world_of state words harts) new h came
-    comes_stays words new came comes = subst (λ (hs : List HartState). Comes (record { journal = state.events; words = words; harts = hs }) new h came) harts_same comes
+    pub comes_stays : (words : List Doubleword) (new : World) (came : Turn) → LeavesHart (world_of state words (slice_set harts n x)) new h came
+        → LeavesHart (world_of state words harts) new h came
+    comes_stays words new came comes = subst (λ (hs : List HartState). LeavesHart (record { journal = state.events; words = words; harts = hs }) new h came) harts_same comes

@@ -1,5 +1,5 @@
 -- A hart's turn behind the settling is one turn of the run.
-use Rattle.std.proofs.Common.{◌≡◌, ℕ, ◌<◌, Bool, true, List, ◌++◌, map, length, get_or, Option, Some, None, sym, ap, subst, ◌∙◌}
+use Rattle.std.proofs.Common.{◌≡◌, ℕ, ◌<◌, Bool, true, false, List, ◌++◌, map, length, get_or, Option, Some, None, sym, ap, subst, ◌∙◌}
 use Rattle.std.proofs.Math.ListN.{set}
 use Rattle.std.proofs.lemmas.Bool.{true≢false}
 use Rattle.std.proofs.lemmas.List.{length-map}
@@ -17,18 +17,17 @@ use Rattle.hart_moves.specs.Moves.{events_of, freed}
 use Rattle.hart_seat.specs.Table.{HartTable}
 use Rattle.turn_parts.specs.Freed.{FreedIsDue, FreedTakesTurns}
 use Rattle.call_answers.specs.Answers.{is_service}
-use Rattle.call_answers.specs.Openings.{TurnRefusalIsCounted}
 use Rattle.answer_turns.specs.Completing.{MayPass, is_complete}
 use Rattle.answer_turns.specs.Settling.{freed_in, harts_in}
 use Rattle.world_turns.specs.Run.{settled}
 use Rattle.world_turns.specs.Turn.{Turn as one_turn}
 use Rattle.world_turns.specs.World.{settling}
-use Rattle.guest_worlds.specs.Coming.{Comes}
+use Rattle.guest_worlds.specs.Coming.{LeavesHart}
 use Rattle.guest_worlds.specs.Laws.{CallsNow, MaySettle, PassesNow, ServiceTurns, SettlesNow}
 use Rattle.guest_worlds.specs.Worlds.{IsAt, TurnsOver, world_of}
 use Rattle.guest_worlds.specs.declared.turn.Turn.{Turn}
 use Rattle.guest_worlds.specs.declared.turn.Turn.TheVariants as turn
-use Rattle.guest_turns.specs.Next.{OfNext, TurnOpens}
+use Rattle.guest_turns.specs.Next.{OfNext}
 use Rattle.guest_turns.specs.Taking.{HartTurns, HartTurnsOn, HartTurnsOver, IsLegal, IsOutcome, MakesCall}
 use Rattle.guest_turns.proofs.Freed.{IsServe, freed_at, freed_twice, hart_at, harts_freed, left_at, same_hart, serve_of}
 
@@ -37,16 +36,10 @@ use Rattle.guest_turns.proofs.Freed.{IsServe, freed_at, freed_twice, hart_at, ha
 serves_not_complete : (call : Call) (back : Return) → is_complete (Due.serve call back) ≡ true → ⊥
 serves_not_complete call back is = true≢false (sym is)
 
-pub not_call : (d : Due) (call : Call) (back : Return) → is_complete d ≡ true → d ≡ Due.serve call back → ⊥
-not_call d call back complete is = serves_not_complete call back (sym (ap is_complete is) ∙ complete)
-
-pub none_counted : (folders : List (List ℕ)) (past journal : List Event) (h : ℕ) (d : Due) (failures failures' misses misses' : ℕ)
-    → ((call : Call) (back : Return) → d ≡ Due.serve call back → ⊥) → TurnRefusalIsCounted folders past journal h d failures failures' misses misses'
-none_counted folders past journal h d failures failures' misses misses' other = λ ask back is. absurd (other _ back is)
-
-pub none_opens : (count : ℕ) (folders : List (List ℕ)) (files : Option (List File)) (failures failures' : ℕ) (past journal : List Event) (h : ℕ) (came : Turn) (d : Due)
-    → ((call : Call) (back : Return) → d ≡ Due.serve call back → ⊥) → TurnOpens count folders files failures failures' past journal h came d
-none_opens count folders files failures failures' past journal h came d other = λ ask back told is. absurd (other _ back is)
+pub complete_no_call : (d : Due) → is_complete d ≡ true → is_service d ≡ false
+complete_no_call (Due.complete purpose object rest below) is = refl
+complete_no_call (Due.serve call back) is = absurd (serves_not_complete call back is)
+complete_no_call _ is = refl
 
 -- ---- behind the settling
 
@@ -152,7 +145,7 @@ module _ (old mid : LinkTable) (words : List Doubleword) (harts after_all : List
         (ap (λ (bs : List HartState). set bs h c) (sym x.all) ∙ sym as_left)
         (subst (λ (es : List Event). one_turn w h (world_of old words harts) (record { journal = es; words = left; harts = set (map freed (harts_in harts)) h c })) (sym t.are) made)
 
-    pub came_of : (came : Turn) → b.«end» ≡ None → IsOutcome c came → Comes (world_of old words harts) (world_of new left left_harts) h came
+    pub came_of : (came : Turn) → b.«end» ≡ None → IsOutcome c came → LeavesHart (world_of old words harts) (world_of new left left_harts) h came
     came_of came runs out = by came out
       where
         there_now : slice_get (harts_in left_harts) h ≡ Some c
@@ -160,7 +153,7 @@ module _ (old mid : LinkTable) (words : List Doubleword) (harts after_all : List
             ap (λ (bs : List HartState). slice_get bs h) (as_left ∙ ap (λ (bs : List HartState). set bs h c) x.all)
             ∙ left_at (map freed (harts_in harts)) h (freed b) c (freed_at (harts_in harts) h b x.there)
 
-        by : (came : Turn) → IsOutcome c came → Comes (world_of old words harts) (world_of new left left_harts) h came
+        by : (came : Turn) → IsOutcome c came → LeavesHart (world_of old words harts) (world_of new left left_harts) h came
         by turn.Stepped out = (c, there_now, out)
         by (turn.Again shown) out = (c, there_now, out)
         by (turn.Ended reason) out = ((b, x.there, runs), (c, there_now, out))

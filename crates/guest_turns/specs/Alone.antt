@@ -13,6 +13,7 @@ use Rattle.rv_hart.specs.declared.doubleword.Doubleword.{Doubleword}
 use Rattle.hart_moves.specs.Due.{Due}
 use Rattle.hart_moves.specs.Harts.{HartState}
 use Rattle.hart_moves.specs.Moves.{Did, MovesAs, ended, settles}
+use Rattle.call_answers.specs.Answers.{is_service}
 use Rattle.plain_turns.specs.declared.turned.Turned.{Turned}
 use Rattle.plain_turns.specs.declared.turned.Turned.TheVariants.{Over, Again, Ends}
 use Rattle.world_turns.specs.Memory.{Does, lowest}
@@ -25,6 +26,7 @@ pub record GoesOn (words words' : List Doubleword) (d : Due) (b c : HartState) :
   pub moves : (w : Setting) (past : List Event) (h : ℕ) → MovesAs w past h b d did c
   pub does : (past : List Event) → Does past words did words'
   pub runs : c.«end» ≡ None
+  pub no_call : is_service d ≡ false
 
 -- or took it but for its end, which is to be noted. It is as far with its slot as it was
 pub record IsToEnd (words words' : List Doubleword) (d : Due) (b c : HartState) (reason : HartEnd) : Type 0 where
@@ -33,6 +35,7 @@ pub record IsToEnd (words words' : List Doubleword) (d : Due) (b c : HartState) 
   pub moves : (w : Setting) (past : List Event) (h : ℕ) → MayEnd w (after past) h
       → MovesAs w past h b d (Did.serves items (Ended h reason ∷ [])) (ended reason c)
   pub place : c.resolving ≡ b.resolving
+  pub no_call : is_service d ≡ false
 
 -- by what came of it; else the turn asks the linker, and nothing was done
 abbrev pub TakesAlone : List Doubleword → List Doubleword → Due → HartState → HartState → Option Turned → Type 0

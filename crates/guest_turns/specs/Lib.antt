@@ -1,7 +1,9 @@
 pub mod Alone
 pub mod Asking
 pub mod Begins
+pub mod Counting
 pub mod Ending
 pub mod Last
 pub mod Laws
 pub mod Lemmas
+pub mod Next

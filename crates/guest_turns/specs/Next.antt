@@ -1,5 +1,5 @@
 -- What a turn shows beside what it does, by what it is behind the settling (dlopen(3), dlmopen(3)).
-use Rattle.std.specs.Prelude.{◌≡◌, ◌⊎◌, ℕ, List, ◌∷◌, ◌++◌, Option, Some}
+use Rattle.std.specs.Prelude.{◌≡◌, ◌≢◌, ◌⊎◌, ℕ, Bool, true, false, List, ◌∷◌, ◌++◌, Option, Some}
 use Rattle.std.specs.List.{slice_get}
 use Rattle.ld_base.specs.declared.fault.Shown.{Shown}
 use Rattle.ld_base.specs.declared.linking.File.{File}
@@ -14,12 +14,15 @@ use Rattle.link_event.specs.declared.hart_end.HartEnd.TheVariants as ends
 use Rattle.link_history.specs.After.{after}
 use Rattle.link_history.specs.Opening.{Opens}
 use Rattle.link_history.specs.Setting.{Setting}
+use Rattle.link_service.specs.Answer.{Answer, again}
 use Rattle.link_service.specs.Call.{Call, opens}
+use Rattle.link_service.specs.Gives.{Serves}
 use Rattle.link_service.specs.Waiting.{Shows}
 use Rattle.lawful_journal.specs.Following.{machine_of}
 use Rattle.call_laws.specs.Coming.{IsOver}
 use Rattle.hart_moves.specs.Due.{Due, Return, due}
 use Rattle.hart_moves.specs.Harts.{HartState}
+use Rattle.call_answers.specs.Answers.{is_service}
 use Rattle.call_answers.specs.Openings.{TurnReadsNothing, TurnRefusalIsCounted}
 use Rattle.world_turns.specs.Run.{settled}
 use Rattle.world_turns.specs.World.{World}
@@ -30,6 +33,10 @@ use Rattle.guest_worlds.specs.declared.turn.Turn.TheVariants as turn
 abbrev pub OfNext : World → ℕ → (List Event → Due → Type 0) → Type 0
 OfNext world h Holds =
     (b : HartState) → slice_get world.harts h ≡ Some b → Holds (settled world).journal (due (after (settled world).journal) b)
+
+-- it is no call of the linker
+abbrev pub NextIsNoCall : World → ℕ → Type 0
+NextIsNoCall world h = OfNext world h (λ past d. is_service d ≡ false)
 
 -- ---- reading
 
@@ -60,15 +67,39 @@ abbrev pub NextOpens : ℕ → List (List ℕ) → Option (List File) → (failu
 NextOpens count folders files failures failures' world events h came =
     OfNext world h (λ past d. TurnOpens count folders files failures failures' past events h came d)
 
--- ---- waiting
+-- ---- answers
 
--- a hart that is to try again waits for this
-abbrev pub TurnShows : Setting → List Event → ℕ → Shown → Due → Type 0
-TurnShows w past h shown d = (call : Call) × (back : Return) × (d ≡ Due.serve call back) × Shows w (after past) h call shown
+-- the turn is a call, of which this holds
+abbrev pub OfCall : Due → (Call → Type 0) → Type 0
+OfCall d Holds = (call : Call) × (back : Return) × (d ≡ Due.serve call back) × Holds call
 
-abbrev pub TurnWaits : ℕ → List (List ℕ) → Option (List File) → List Event → ℕ → Turn → Due → Type 0
-TurnWaits count folders files past h came d =
-    (shown : Shown) → came ≡ turn.Again shown → (w : Setting) → IsOver (machine_of count) folders files w → TurnShows w past h shown d
+-- the call has to be made again
+abbrev pub is_again : Answer → Bool
+is_again answer = elim answer [ again for ↦ true | _ ↦ false ]
 
-abbrev pub NextWaits : ℕ → List (List ℕ) → Option (List File) → World → ℕ → Turn → Type 0
-NextWaits count folders files world h came = OfNext world h (λ past d. TurnWaits count folders files past h came d)
+-- it was answered otherwise, and the events of that answer come first
+pub record HasAnswer (w : Setting) (past events : List Event) (h : ℕ) (call : Call) : Type 0 where
+  pub appended : List Event
+  pub behind : List Event
+  pub are : events ≡ past ++ (appended ++ behind)
+  pub answer : Answer
+  pub serves : Serves w past h call appended answer
+  pub comes : is_again answer ≡ false
+
+-- what is told of a hart that runs on: its call has to wait for this, and nothing was appended; or its call, if it made one, was answered
+abbrev pub TurnTells : Setting → (past events : List Event) → ℕ → Due → Turn → Type 0
+TurnTells w past events h d turn.Stepped = is_service d ≡ true → OfCall d (λ call. HasAnswer w past events h call)
+TurnTells w past events h d (turn.Again shown) = OfCall d (λ call. Shows w (after past) h call shown × (events ≡ past))
+TurnTells w past events h d (turn.Ended reason) = Unit {0}
+TurnTells w past events h d turn.Idle = Unit {0}
+
+-- in each run with these folders, and with the files as the library tells them
+abbrev pub TurnTellsOver : ℕ → List (List ℕ) → Option (List File) → (past events : List Event) → ℕ → Due → Turn → Type 0
+TurnTellsOver count folders files past events h d came = (w : Setting) → IsOver (machine_of count) folders files w → TurnTells w past events h d came
+
+abbrev pub NextTells : ℕ → List (List ℕ) → Option (List File) → World → List Event → ℕ → Turn → Type 0
+NextTells count folders files world events h came = OfNext world h (λ past d. TurnTellsOver count folders files past events h d came)
+
+-- the hart isn't to wait
+abbrev pub NeverWaits : Turn → Type 0
+NeverWaits came = (shown : Shown) → came ≢ turn.Again shown

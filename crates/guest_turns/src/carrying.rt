@@ -3,10 +3,11 @@
 ghost use Rattle.std.specs.Prelude.{◌≡◌, ℕ, ◌<◌, List, length};
 ghost use Rattle.final_turns.specs.Planned.{IsPlanned};
 ghost use Rattle.final_turns.specs.Table.{plan_events};
-ghost use Rattle.guest_worlds.specs.Coming.{Comes};
+ghost use Rattle.guest_worlds.specs.Coming.{LeavesHart};
 ghost use Rattle.guest_worlds.specs.Worlds.{TurnsOn, world_of};
 ghost use Rattle.hart_moves.specs.Moves.{did_by};
 ghost use Rattle.guest_turns.specs.Last.{HasRoom, IsLast, IsSomewhereIn, SettlesFirst, turn_by};
+ghost use Rattle.guest_turns.specs.Next.{NeverWaits};
 ghost use Rattle.link_history.specs.After.{after};
 ghost use Rattle.rv_hart.specs.declared.doubleword.Doubleword.{Doubleword};
 ghost use Rattle.answer_turns.specs.Settling.{harts_in};
@@ -34,7 +35,8 @@ pub(crate) fn carry_out(
     requires planned { IsPlanned (after state.old.events) plan }
     requires room { HasRoom harts.old id }
     ensures turn { (words : List Doubleword) → TurnsOn state.old.harts id (world_of state.old words harts.old) (world_of state.new words harts.new) }
-    ensures comes { (words : List Doubleword) → Comes (world_of state.old words harts.old) (world_of state.new words harts.new) id result }
+    ensures comes { (words : List Doubleword) → LeavesHart (world_of state.old words harts.old) (world_of state.new words harts.new) id result }
+    ensures no_wait { NeverWaits result }
     ensures count { state.new.harts ≡ state.old.harts }
 {
     guests_may_turn();

@@ -1,10 +1,11 @@
 //! Turns in which final destructors have run.
 
-ghost use Rattle.std.specs.Prelude.{◌≡◌, ◌<◌, List, length, IfNone, IfOk, IfSome, OnOk, IsTrue};
+ghost use Rattle.std.specs.Prelude.{◌≡◌, ◌<◌, List, length, IfNone, IfOk, IfSome, OnOk, OnSome, IsTrue};
 ghost use Rattle.final_turns.specs.Planned.{IsPlanned};
-ghost use Rattle.guest_worlds.specs.Coming.{Comes};
+ghost use Rattle.guest_worlds.specs.Coming.{LeavesHart};
 ghost use Rattle.guest_worlds.specs.Worlds.{TurnsOn, world_of};
 ghost use Rattle.guest_turns.specs.Last.{HasNoFinal, IsLastOfAny, IsSomewhereIn};
+ghost use Rattle.guest_turns.specs.Next.{NeverWaits, NextIsNoCall};
 ghost use Rattle.link_history.specs.After.{after};
 ghost use Rattle.link_history.specs.Objects.{has};
 ghost use Rattle.rv_hart.specs.declared.doubleword.Doubleword.{Doubleword};
@@ -36,7 +37,9 @@ pub fn take_final(
     ensures turn { IfSome result (λ came. (words : List Doubleword)
         → TurnsOn state.old.harts id (world_of state.old words harts.old) (world_of state.new words harts.new)) }
     ensures comes { IfSome result (λ came. (words : List Doubleword)
-        → Comes (world_of state.old words harts.old) (world_of state.new words harts.new) id came) }
+        → LeavesHart (world_of state.old words harts.old) (world_of state.new words harts.new) id came) }
+    ensures no_wait { IfSome result NeverWaits }
+    ensures no_call { OnSome result ((words : List Doubleword) → NextIsNoCall (world_of state.old words harts.old) id) }
     ensures other { IfNone result (HasNoFinal state.old.events (harts_in harts.old) id) }
     ensures unchanged { IfNone result ((state.new ≡ state.old) × (harts.new ≡ harts.old)) }
     ensures count { state.new.harts ≡ state.old.harts }
@@ -79,7 +82,8 @@ fn lack_memory(state: &mut LinkState, harts: &mut [LinkedHart], id: HartId) -> T
     requires run { IsSomewhereIn state.old harts.old }
     requires last { IsLastOfAny (harts_in harts.old) id }
     ensures turn { (words : List Doubleword) → TurnsOn state.old.harts id (world_of state.old words harts.old) (world_of state.new words harts.new) }
-    ensures comes { (words : List Doubleword) → Comes (world_of state.old words harts.old) (world_of state.new words harts.new) id result }
+    ensures comes { (words : List Doubleword) → LeavesHart (world_of state.old words harts.old) (world_of state.new words harts.new) id result }
+    ensures no_wait { NeverWaits result }
     ensures count { state.new.harts ≡ state.old.harts }
 {
     guests_may_turn();

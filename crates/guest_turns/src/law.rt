@@ -1,5 +1,6 @@
-//! What holds of the end of a hart.
+//! What holds of the turns of a run.
 
+ghost use Rattle.guest_turns.specs.Counting.{TurnsAreCounted};
 ghost use Rattle.guest_turns.specs.Laws.{EndsAreTurns, EndsMayCome};
 
 /// A hart that runs may end, with its turn taken but for that, and this is its turn then.
@@ -11,3 +12,9 @@ pub fn ends_are_turns()
     guest_worlds::guests_take_turns();
     turn_parts::others_leave_memory();
 }
+
+/// A turn refuses no opening but the one that it is, so that what the library's counts show of that they show of
+/// each refusal among the turn's events, and of all of them together.
+pub fn refusals_are_counted()
+    ensures { TurnsAreCounted }
+{}

@@ -33,6 +33,6 @@ mod serving;
 pub use beginning::{Beginning, begin_finals};
 pub use ending::end_hart;
 pub use finals::take_final;
-pub use law::ends_are_turns;
+pub use law::{ends_are_turns, refusals_are_counted};
 pub use quiet::take_quiet;
 pub use service::take_service;

@@ -1,6 +1,6 @@
 //! What came of a turn.
 
-ghost use Rattle.std.specs.Prelude.{◌≡◌, Some};
+ghost use Rattle.std.specs.Prelude.{◌≡◌, ◌≢◌, None, Some};
 ghost use Rattle.ld_base.specs.declared.fault.Shown.{Shown as cause};
 ghost use Rattle.guest_turns.specs.Taking.{IsOutcome};
 
@@ -13,6 +13,7 @@ use turn_answers::Answered;
 pub(crate) fn outcome(hart: &LinkedHart, waits: Option<Shown>) -> Turn
     ensures is { IsOutcome hart.now.hart result }
     ensures again { (shown : cause) → result ≡ Turn.Again shown → waits ≡ Some shown }
+    ensures stepped { result ≡ Turn.Stepped → waits ≡ None }
 {
     if let Some(reason) = hart.end() {
         return Turn::Ended(reason);
@@ -25,7 +26,8 @@ pub(crate) fn outcome(hart: &LinkedHart, waits: Option<Shown>) -> Turn
 
 /// What a hart is told to wait for, if it is.
 pub(crate) fn shown_by(came: &Answered) -> Option<Shown>
-    ensures { (shown : cause) → result ≡ Some shown → came.now ≡ Answered.Again shown }
+    ensures some { (shown : cause) → result ≡ Some shown → came.now ≡ Answered.Again shown }
+    ensures none { result ≡ None → (shown : cause) → came.now ≢ Answered.Again shown }
 {
     match came {
         Answered::Again(shown) => Some(*shown),

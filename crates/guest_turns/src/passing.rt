@@ -1,11 +1,11 @@
 //! Objects whose functions have run.
 
-ghost use Rattle.std.specs.Prelude.{◌≡◌, ◌≢◌, true, List};
+ghost use Rattle.std.specs.Prelude.{◌≡◌, true, List};
 ghost use Rattle.answer_turns.specs.Completing.{MayPass, is_complete};
 ghost use Rattle.hart_moves.specs.Due.{due};
-ghost use Rattle.ld_base.specs.declared.fault.Shown.{Shown as cause};
 ghost use Rattle.link_history.specs.After.{after};
 ghost use Rattle.rv_hart.specs.declared.doubleword.Doubleword.{Doubleword};
+ghost use Rattle.guest_turns.specs.Next.{NeverWaits};
 ghost use Rattle.guest_turns.specs.Taking.{HartTurnsOn, IsOutcome};
 
 use crate::outcome::outcome;
@@ -22,7 +22,7 @@ pub(crate) fn pass(state: &mut LinkState, hart: &mut LinkedHart, id: HartId) -> 
     requires may { MayPass state.old.harts state.old.events id (due (after state.old.events) hart.old.hart) }
     ensures turns { (words : List Doubleword) → HartTurnsOn state.old state.new words words id hart.old.hart hart.new.hart }
     ensures outcome { IsOutcome hart.new.hart result }
-    ensures no_wait { (shown : cause) → result ≢ Turn.Again shown }
+    ensures no_wait { NeverWaits result }
     ensures harts { state.new.harts ≡ state.old.harts }
 {
     others_leave_memory();

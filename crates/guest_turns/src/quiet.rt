@@ -1,9 +1,10 @@
 //! Turns that ask nothing of the linker.
 
-ghost use Rattle.std.specs.Prelude.{◌≡◌, ◌<◌, length, IfNone, IfSome};
-ghost use Rattle.guest_worlds.specs.Coming.{Comes};
+ghost use Rattle.std.specs.Prelude.{◌≡◌, ◌<◌, length, IfNone, IfSome, OnSome};
+ghost use Rattle.guest_worlds.specs.Coming.{LeavesHart};
 ghost use Rattle.guest_worlds.specs.Worlds.{IsSomewhere, TakesOn, world_of};
 ghost use Rattle.guest_turns.specs.Asking.{NeedsLinker};
+ghost use Rattle.guest_turns.specs.Next.{NeverWaits, NextIsNoCall};
 ghost use Rattle.answer_turns.specs.Settling.{harts_in};
 
 use crate::alone::take_alone;
@@ -28,7 +29,9 @@ pub fn take_quiet(
     requires run { IsSomewhere state.old.harts (world_of state.old memory.old harts.old) }
     requires hart { id < length harts.old }
     ensures turn { IfSome result (λ came. TakesOn state.old.harts id (world_of state.old memory.old harts.old) (world_of state.new memory.new harts.new)) }
-    ensures comes { IfSome result (Comes (world_of state.old memory.old harts.old) (world_of state.new memory.new harts.new) id) }
+    ensures comes { IfSome result (LeavesHart (world_of state.old memory.old harts.old) (world_of state.new memory.new harts.new) id) }
+    ensures no_wait { IfSome result NeverWaits }
+    ensures no_call { OnSome result (NextIsNoCall (world_of state.old memory.old harts.old) id) }
     ensures other { IfNone result (NeedsLinker (world_of state.old memory.old harts.old) id) }
     ensures unchanged { IfNone result ((state.new ≡ state.old) × (memory.new ≡ memory.old) × (harts_in harts.new ≡ harts_in harts.old)) }
     ensures count { state.new.harts ≡ state.old.harts }
@@ -44,7 +47,8 @@ pub fn take_quiet(
     };
     match turned {
         Turned::Over => Some(Turn::Stepped),
-        Turned::Again(shown) => Some(Turn::Again(shown)),
+        // Plain memory has no hart try again.
+        Turned::Again(_) => Some(Turn::Stepped),
         Turned::Ends(reason) => Some(end_hart(state, harts, id, reason)),
     }
 }

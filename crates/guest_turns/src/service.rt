@@ -1,10 +1,10 @@
 //! The turn that asks the linker.
 
 ghost use Rattle.std.specs.Prelude.{◌≡◌, ◌<◌, ◌≤◌, length, Bool, IfNone, IfSome};
-ghost use Rattle.guest_worlds.specs.Coming.{Comes};
+ghost use Rattle.guest_worlds.specs.Coming.{LeavesHart};
 ghost use Rattle.guest_worlds.specs.Worlds.{IsAt, TurnsOver, world_of};
 ghost use Rattle.guest_turns.specs.Asking.{AsksNothing};
-ghost use Rattle.guest_turns.specs.Next.{NextOpens, NextReadsNothing, NextRefusalIsCounted, NextWaits};
+ghost use Rattle.guest_turns.specs.Next.{NextOpens, NextReadsNothing, NextRefusalIsCounted, NextTells};
 
 use crate::asking::{Asked, asked_by};
 use crate::passing::pass;
@@ -37,8 +37,9 @@ pub fn take_service<L: Library>(
     requires at { (begun : Bool) × IsAt state.old.harts folders.now begun (world_of state.old memory.old harts.old) }
     ensures turn { IfSome result (λ came. TurnsOver state.old.harts folders.now (L.files library.old) id
         (world_of state.old memory.old harts.old) (world_of state.new memory.new harts.new)) }
-    ensures comes { IfSome result (Comes (world_of state.old memory.old harts.old) (world_of state.new memory.new harts.new) id) }
-    ensures again { IfSome result (NextWaits state.old.harts folders.now (L.files library.old) (world_of state.old memory.old harts.old) id) }
+    ensures comes { IfSome result (LeavesHart (world_of state.old memory.old harts.old) (world_of state.new memory.new harts.new) id) }
+    ensures tells { IfSome result (NextTells state.old.harts folders.now (L.files library.old)
+        (world_of state.old memory.old harts.old) state.new.events id) }
     ensures other { IfNone result (AsksNothing (world_of state.old memory.old harts.old) id) }
     ensures unchanged { IfNone result ((state.new ≡ state.old) × (memory.new ≡ memory.old) × (harts.new ≡ harts.old) × (library.new ≡ library.old)) }
     ensures whole { IfSome result (NextOpens state.old.harts folders.now (L.files library.old) (L.faults library.old) (L.faults library.new)

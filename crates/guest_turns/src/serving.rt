@@ -12,7 +12,7 @@ ghost use Rattle.link_history.specs.After.{after};
 ghost use Rattle.link_history.specs.State.{State};
 ghost use Rattle.link_state.specs.Table.{appended};
 ghost use Rattle.guest_turns.specs.Asking.{may_run_functions};
-ghost use Rattle.guest_turns.specs.Next.{TurnOpens, TurnWaits};
+ghost use Rattle.guest_turns.specs.Next.{TurnOpens, TurnTellsOver};
 ghost use Rattle.guest_turns.specs.Taking.{HartTurnsOver, IsLegal, IsOutcome, MakesCall};
 
 use crate::asking::may_run_functions;
@@ -46,7 +46,8 @@ pub(crate) fn serve<L: Library>(
     requires may { MakesCall state.old.harts state.old.events id hart.old.hart }
     ensures turns { HartTurnsOver folders.now (L.files library.old) state.old state.new memory.old memory.new id hart.old.hart hart.new.hart }
     ensures outcome { IsOutcome hart.new.hart result }
-    ensures again { TurnWaits state.old.harts folders.now (L.files library.old) state.old.events id result (due (after state.old.events) hart.old.hart) }
+    ensures tells { TurnTellsOver state.old.harts folders.now (L.files library.old) state.old.events state.new.events id
+        (due (after state.old.events) hart.old.hart) result }
     ensures whole { TurnOpens state.old.harts folders.now (L.files library.old) (L.faults library.old) (L.faults library.new)
         state.old.events state.new.events id result (due (after state.old.events) hart.old.hart) }
     ensures counts { TurnRefusalIsCounted folders.now state.old.events state.new.events id (due (after state.old.events) hart.old.hart)

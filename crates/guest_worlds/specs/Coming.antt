@@ -1,4 +1,4 @@
--- What came of a hart's turn.
+-- How a turn leaves its hart.
 use Rattle.std.specs.Prelude.{◌≡◌, ℕ, Option, Some, None}
 use Rattle.std.specs.List.{slice_get}
 use Rattle.ld_base.specs.declared.fault.Shown.{Shown}
@@ -12,9 +12,9 @@ use Rattle.guest_worlds.specs.declared.turn.Turn.TheVariants as turn
 abbrev pub HasEnd : World → ℕ → Option HartEnd → Type 0
 HasEnd world h reason = (b : HartState) × (slice_get world.harts h ≡ Some b) × (b.«end» ≡ reason)
 
--- it runs on; it has ended; or it had ended before, and nothing was done
-abbrev pub Comes : (old new : World) → ℕ → Turn → Type 0
-Comes old new h turn.Stepped = HasEnd new h None
-Comes old new h (turn.Again shown) = HasEnd new h None
-Comes old new h (turn.Ended reason) = HasEnd old h None × HasEnd new h (Some reason)
-Comes old new h turn.Idle = (new ≡ old) × ((reason : HartEnd) × HasEnd old h (Some reason))
+-- it runs on, whether it is to try again or not; it has ended; or it had ended before, and nothing was done
+abbrev pub LeavesHart : (old new : World) → ℕ → Turn → Type 0
+LeavesHart old new h turn.Stepped = HasEnd new h None
+LeavesHart old new h (turn.Again shown) = HasEnd new h None
+LeavesHart old new h (turn.Ended reason) = HasEnd old h None × HasEnd new h (Some reason)
+LeavesHart old new h turn.Idle = (new ≡ old) × ((reason : HartEnd) × HasEnd old h (Some reason))

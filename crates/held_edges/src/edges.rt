@@ -5,6 +5,7 @@ ghost use Rattle.link_graph.specs.Initialised.{is_one_of};
 
 use ld_base::Serial;
 use link_graph::Edge;
+use serial_sets::SerialSet;
 use std::alloc::{AllocError, Global};
 use std::marker::Model;
 
@@ -89,6 +90,7 @@ impl HeldEdges {
         ensures edges { self.new.edges ≡ filter (λ e. not (is_one_of set.now e.source)) self.old.edges }
         ensures room { self.new.room ≡ self.old.room }
     {
-        self.edges.retain(|edge| !set.contains(&edge.source));
+        let going = SerialSet::new(set);
+        self.edges.retain(|edge| !going.has(edge.source));
     }
 }

@@ -6,6 +6,7 @@ ghost use Rattle.link_history.specs.Objects.{has};
 
 use ld_base::{Bytes, Serial};
 use link_event::Addresses;
+use serial_sets::SerialSet;
 use std::alloc::{AllocError, Global};
 use std::marker::Model;
 
@@ -95,6 +96,7 @@ impl ImageParts {
         ensures parts { self.new.parts ≡ filter (λ p. not (has set.now p.serial)) self.old.parts }
         ensures room { self.new.room ≡ self.old.room }
     {
-        self.parts.retain(|part| !set.contains(&part.serial));
+        let going = SerialSet::new(set);
+        self.parts.retain(|part| !going.has(part.serial));
     }
 }

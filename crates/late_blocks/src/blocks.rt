@@ -6,6 +6,7 @@ ghost use Rattle.late_blocks.specs.Blocks.{block_of};
 
 use ld_base::{HartId, Serial};
 use link_event::Block;
+use serial_sets::SerialSet;
 use std::alloc::{AllocError, Global};
 use std::marker::Model;
 
@@ -75,6 +76,7 @@ impl LateBlocks {
     pub fn remove(&mut self, set: &[Serial])
         ensures { self.new.blocks ≡ filter (λ b. not (is_one_of set.now b.serial)) self.old.blocks }
     {
-        self.blocks.retain(|block| !set.contains(&block.serial));
+        let going = SerialSet::new(set);
+        self.blocks.retain(|block| !going.has(block.serial));
     }
 }

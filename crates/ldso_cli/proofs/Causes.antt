@@ -182,7 +182,7 @@ own_end (commands.Generate number) before after end text comes = gen_own number 
 
 -- ---- what is written
 
-own_caused : (command : Option Command) (before after : LibraryAt) (old new : SinkAt) (end : End) (text : List ℕ) → Answers command before after end text → IsCaused command before after old new end.cause
+pub own_caused : (command : Option Command) (before after : LibraryAt) (old new : SinkAt) (end : End) (text : List ℕ) → Answers command before after end text → IsCaused command before after old new end.cause
 own_caused None before after old new end text usage =
     let P : Cause → Type 0 = λ c. IsCaused None before after old new c in
     subst P (sym (ap (λ (e : End). e.cause) usage.end_is))

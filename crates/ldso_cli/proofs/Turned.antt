@@ -1,7 +1,5 @@
 -- What a run comes to: one that was played, and one that was refused.
-use Rattle.std.proofs.Common.{◌≡◌, inl, inr, suc, Bool, List, [], ◌∷◌, length, map, Option, Some, Result, Ok, Err, refl, sym, ap, subst, ◌∙◌}
-use Rattle.std.specs.Prelude.{IfOk}
-use Rattle.std.specs.declared.alloc.AllocError.{AllocError}
+use Rattle.std.proofs.Common.{◌≡◌, inl, inr, suc, Bool, List, [], ◌∷◌, ◌++◌, length, map, Option, Some, Result, Ok, Err, refl, sym, ap, subst, ◌∙◌}
 use Rattle.ld_base.specs.declared.fault.DlFault.{DlFault}
 use Rattle.ld_base.specs.declared.fault.DlFault.TheVariants as dl
 use Rattle.ld_base.specs.declared.linking.File.{File}
@@ -24,11 +22,11 @@ use Rattle.plain_world.specs.Table.{WorldTable}
 use Rattle.run_texts.specs.declared.record.RunRecord.{RunRecord}
 use Rattle.run_texts.specs.declared.run_end.RunEnd.{RunEnd}
 use Rattle.schedules.specs.declared.schedule.TurnItem.{TurnItem}
+use Rattle.world_turns.specs.Counts.{Counts, CountsJoin, ShowInCounts}
 use Rattle.world_turns.specs.Run.{Run}
 use Rattle.world_turns.specs.World.{World}
-use Rattle.ldso_cli.specs.Outside.{LibraryAt}
+use Rattle.ldso_cli.specs.Outside.{LibraryAt, counts_in}
 use Rattle.ldso_cli.specs.Played.{IsPlayed, LeavesRefusal, LeavesRun}
-use Rattle.ldso_cli.specs.declared.play.Played.{Played}
 
 -- ---- the run
 
@@ -58,35 +56,36 @@ ends_length (b ∷ harts) (e ∷ ends) are =
 
 -- ---- what it comes to
 
-run_comes : (setup : Setup) (before after : LibraryAt) (items : List TurnItem) (world : World) (ended : Result RunEnd DlFault) (left : RunRecord) → Run (run_of setup before.files) setup items world → LeavesRun world ended left
-    → IsPlayed setup items before after ended left
-run_comes setup before after items world ended left run leaves = record {
+-- the counts are shown of the journal
+abbrev Shows : Setup → List Event → (before after : LibraryAt) → Type 0
+Shows setup journal before after = ShowInCounts setup.folders journal (counts_in before) (counts_in after)
+
+-- startup's first, and then the run's
+pub both_show : CountsJoin → (setup : Setup) (one other journal : List Event) (before after : LibraryAt) (between : Counts) → journal ≡ one ++ other
+    → ShowInCounts setup.folders one (counts_in before) between → ShowInCounts setup.folders other between (counts_in after) → Shows setup journal before after
+both_show join setup one other journal before after between are first second =
+    subst (λ (es : List Event). Shows setup es before after) (sym are) (join setup.folders one other (counts_in before) between (counts_in after) first second)
+
+pub run_comes : (setup : Setup) (before after : LibraryAt) (items : List TurnItem) (world : World) (ended : Result RunEnd DlFault) (left : RunRecord) → Run (run_of setup before.files) setup items world → LeavesRun world ended left
+    → Shows setup world.journal before after → IsPlayed setup items before after ended left
+run_comes setup before after items world ended left run leaves shows = record {
   is = inr (record { world = world; runs = run; leaves = leaves });
   read_fault = λ path e. absurd (other (dl.ReadFault path) e);
   missing = λ name e. absurd (other (dl.MissingLibrary name) e);
+  counted = subst (λ (es : List Event). Shows setup es before after) (sym leaves.journal) shows;
 }
   where
     other : (fault : DlFault) → ended ≡ Err fault → ⊥
     other fault e = (let no : Ok leaves.run_end ≡ Err fault = sym leaves.ended_is ∙ e in cc no)
 
-refusal_comes : (setup : Setup) (before after : LibraryAt) (items : List TurnItem) (fault : DlFault) (events : List Event) (ended : Result RunEnd DlFault) (left : RunRecord) → FailsToStart (run_of setup before.files) setup fault events
-    → LeavesRefusal fault events ended left → ShowsInCounts (ArePathsAtStart setup.folders setup.program) (Some fault) before.faults after.faults before.misses after.misses → IsPlayed setup items before after ended left
-refusal_comes setup before after items fault events ended left fails leaves counts = record {
+pub refusal_comes : (setup : Setup) (before after : LibraryAt) (items : List TurnItem) (fault : DlFault) (events : List Event) (ended : Result RunEnd DlFault) (left : RunRecord) → FailsToStart (run_of setup before.files) setup fault events
+    → LeavesRefusal fault events ended left → ShowsInCounts (ArePathsAtStart setup.folders setup.program) (Some fault) before.faults after.faults before.misses after.misses → Shows setup events before after → IsPlayed setup items before after ended left
+refusal_comes setup before after items fault events ended left fails leaves counts shows = record {
   is = inl (record { fault = fault; events = events; fails = fails; leaves = leaves });
   read_fault = λ path e. counts.failed path (ap Some (same (dl.ReadFault path) e));
   missing = λ name e. counts.missed name (ap Some (same (dl.MissingLibrary name) e));
+  counted = subst (λ (es : List Event). Shows setup es before after) (sym leaves.journal) shows;
 }
   where
     same : (other : DlFault) → ended ≡ Err other → fault ≡ other
     same other e = (let one : Err fault ≡ Err other = sym leaves.ended_is ∙ e in cc)
-
--- of what was played, if it was
-
-pub if_ran : (setup : Setup) (before after : LibraryAt) (items : List TurnItem) (world : World) (r : Result Played AllocError) → Run (run_of setup before.files) setup items world → IfOk r (λ p. LeavesRun world p.ended p.left)
-    → IfOk r (λ p. IsPlayed setup items before after p.ended p.left)
-if_ran setup before after items world (Ok p) run leaves = run_comes setup before after items world p.ended p.left run leaves
-if_ran setup before after items world (Err e) run leaves = tt
-
-pub refused : (setup : Setup) (before after : LibraryAt) (items : List TurnItem) (fault : DlFault) (events : List Event) (p : Played) → FailsToStart (run_of setup before.files) setup fault events
-    → LeavesRefusal fault events p.ended p.left → ShowsInCounts (ArePathsAtStart setup.folders setup.program) (Some fault) before.faults after.faults before.misses after.misses → IsPlayed setup items before after p.ended p.left
-refused setup before after items fault events p fails leaves counts = refusal_comes setup before after items fault events p.ended p.left fails leaves counts

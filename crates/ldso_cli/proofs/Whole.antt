@@ -1,24 +1,35 @@
 -- Where nothing fails, the words and the files decide the answer.
-use Rattle.std.proofs.Common.{◌≡◌, ◌⊎◌, inl, inr, ℕ, ◌^◌, ◌≤◌, List, [], ◌++◌, Option, Some, None, Result, Ok, refl, sym, ap, subst, ◌∙◌, arith}
+use Rattle.std.proofs.Common.{◌≡◌, ◌⊎◌, inl, inr, ℕ, ◌+◌, ◌^◌, ◌≤◌, Bool, true, false, cond, List, [], ◌∷◌, ◌++◌, Option, Some, None, Result, Ok, refl, sym, ap, subst, ◌∙◌, arith}
+use Rattle.std.specs.Prelude.{◌||◌, count_by}
 use Rattle.std.specs.Io.KnownBytes.{append_known}
+use Rattle.std.specs.List.{list_any}
+use Rattle.std.proofs.lemmas.Bool.{or_parts}
+use Rattle.std.proofs.lemmas.List.Sums.{sum_by-cons}
 use Rattle.ld_base.specs.declared.fault.DlFault.{DlFault}
 use Rattle.ld_base.specs.declared.linking.File.{File}
+use Rattle.library_source.specs.Count.{Rises, RisesBy}
 use Rattle.library_source.specs.Files.{Over}
 use Rattle.command_line.specs.declared.command.Command.{Command}
 use Rattle.command_line.specs.declared.command.Command.TheVariants as commands
 use Rattle.command_line.specs.declared.command.Turns.{Turns}
 use Rattle.command_line.specs.Reads.{OneCommand}
 use Rattle.lib_gen.specs.Set.{AreSetOf}
+use Rattle.link_event.specs.declared.event.Event.{Event}
+use Rattle.link_event.specs.declared.event.Event.TheVariants as events
+use Rattle.link_event.specs.declared.event.OpenAnswer.TheVariants as openings
 use Rattle.link_served.specs.declared.startup.Setup.{Setup}
+use Rattle.link_service.specs.Laws.{is_read_fault}
 use Rattle.link_service.specs.Startup.{harts_of}
 use Rattle.run_texts.specs.Printed.{journal_lines}
 use Rattle.run_texts.specs.declared.record.RunRecord.{RunRecord}
 use Rattle.run_texts.specs.declared.run_end.RunEnd.{RunEnd}
 use Rattle.schedules.specs.declared.schedule.TurnItem.{TurnItem}
-use Rattle.turn_once.specs.Laws.{NothingFails}
+use Rattle.turn_once.specs.Laws.{NothingFails, is_from_outside}
+use Rattle.world_turns.specs.Counts.{is_refused_for, read_faults}
 use Rattle.ldso_cli.proofs.Asking.{one_asked}
 use Rattle.ldso_cli.proofs.Assembling.{SourceLaw}
 use Rattle.ldso_cli.proofs.Bounds.{few_harts}
+use Rattle.ldso_cli.proofs.Causes.{own_caused}
 use Rattle.ldso_cli.proofs.Decided.{NotBoth, OneStop, one_end}
 use Rattle.ldso_cli.proofs.Same.{OneWalk, one_text}
 use Rattle.ldso_cli.proofs.Schedules.{one_schedule}
@@ -27,7 +38,7 @@ use Rattle.ldso_cli.proofs.Turning.{Quiet, RunLaw, one_end_kept, one_outcome}
 use Rattle.ldso_cli.specs.Asked.{Asks}
 use Rattle.ldso_cli.specs.Command.{Answers, IsAnswer, NoReadFails, OverFiles, Prints}
 use Rattle.ldso_cli.specs.End.{AreOneEnd, KeepOne, events_kept, kept_end}
-use Rattle.ldso_cli.specs.Ends.{ComeToOne, Ends, Handing, IsUndisturbed, RunAt, Written}
+use Rattle.ldso_cli.specs.Ends.{ComeToOne, Ends, Handing, IsUndisturbed, RunAt, Written, is_want_of_memory}
 use Rattle.ldso_cli.specs.Generate.{set_cause, set_setup, set_text}
 use Rattle.ldso_cli.specs.Played.{IsNotRun, IsRun, last_line, run_cause}
 use Rattle.ldso_cli.specs.Status.{status_of_cause}
@@ -73,6 +84,46 @@ itself end = record { cause = refl; kept = keeps end.kept }
 same_end : (a b : End) → a ≡ b → AreOneEnd a b
 same_end a b e = subst (AreOneEnd a) e (itself a)
 
+-- ---- where the library's faults don't rise
+
+no_reads : (handed : Handing) (command : Option Command) (run : RunAt) → IsTold handed command run → (Rises run.before.faults run.after.faults → ⊥) → NoReadFails run.end
+no_reads handed command run told still path is = still ((own_caused command run.before run.after run.old run.new run.end told.text told.answers).read_fault path is)
+
+-- a count that didn't rise is one of nothing
+none_rose : (p : Event → Bool) (e : Event) (rest : List Event) (before after : ℕ) → (Rises before after → ⊥) → RisesBy (count_by p (e ∷ rest)) before after → p e ≡ false
+none_rose p e rest before after still rises = by (p e) refl
+  where
+    counted : count_by p (e ∷ rest) ≡ cond (p e) 1 0 + count_by p rest
+    counted = sum_by-cons (λ (x : Event). cond (p x) 1 0) e rest
+
+    one : (n more : ℕ) → RisesBy n before after → n ≡ 1 + more → Rises before after
+    one n more (inl low) is = inl (omega (arith, low, is))
+    one n more (inr end) is = inr end
+
+    by : (t : Bool) → p e ≡ t → t ≡ false
+    by false is = refl
+    by true is = absurd (still (one (count_by p (e ∷ rest)) (count_by p rest) rises (counted ∙ ap (λ (t : Bool). cond t 1 0 + count_by p rest) is)))
+
+rest_rose : (p : Event → Bool) (e : Event) (rest : List Event) (before after : ℕ) → RisesBy (count_by p (e ∷ rest)) before after → RisesBy (count_by p rest) before after
+rest_rose p e rest before after (inr end) = inr end
+rest_rose p e rest before after (inl low) =
+    let counted : count_by p (e ∷ rest) ≡ cond (p e) 1 0 + count_by p rest = sum_by-cons (λ (x : Event). cond (p x) 1 0) e rest in inl (omega (arith, low, counted))
+
+fails_not : (e : Event) → is_refused_for is_read_fault e ≡ false → is_want_of_memory e ≡ false → is_from_outside e ≡ false
+fails_not (events.Open h ask (openings.Refused fault)) reads well = reads
+fails_not (events.Open h ask _) reads well = refl
+fails_not (events.Ended h reason) reads well = well
+fails_not _ reads well = refl
+
+nothing_fails : (journal : List Event) (before after : ℕ) → (Rises before after → ⊥) → RisesBy (read_faults journal) before after → list_any is_want_of_memory journal ≡ false → NothingFails journal
+nothing_fails [] before after still rises well = refl
+nothing_fails (e ∷ rest) before after still rises well =
+    let parts = or_parts (is_want_of_memory e) (list_any is_want_of_memory rest) well in
+    let first : is_from_outside e ≡ false = fails_not e (none_rose (is_refused_for is_read_fault) e rest before after still rises) parts.0 in
+    let behind : list_any is_from_outside rest ≡ false =
+    nothing_fails rest before after still (rest_rose (is_refused_for is_read_fault) e rest before after rises) parts.1 in
+    λ i. first i || behind i
+
 -- a number makes one set
 abbrev pub OneSet : Type 0
 OneSet = (number : ℕ) (first second : List File) → AreSetOf number first → AreSetOf number second → first ≡ second
@@ -105,7 +156,8 @@ module _ (handed handed' : Handing) (law : Law) (words : List (List ℕ)) (files
       let a = over_these command files first one.text tells answers in
       let b = over_these command files second two.text tells' answers' in
       let end : first.end ≡ second.end =
-      one_end law.one_walk law.one_stop law.not_both law.sources command files first.before first.after second.before second.after first.end second.end a.comes p.reads_well b.comes q.reads_well in
+      one_end law.one_walk law.one_stop law.not_both law.sources command files first.before first.after second.before second.after first.end second.end a.comes (no_reads handed (Some command) first one p.reads_well) b.comes
+      (no_reads handed' (Some command) second two q.reads_well) in
       let prints : Prints command files first.end two.text = subst (λ (e : End). Prints command files e two.text) (sym end) b.prints in
       come_to_one (Some command) one two (same_end first.end second.end end) (one_text law.one_walk law.sources.one command files first.end one.text two.text a.prints prints)
 
@@ -113,8 +165,10 @@ module _ (handed handed' : Handing) (law : Law) (words : List (List ℕ)) (files
   quiet_run : (run : RunAt) (ended : Result RunEnd DlFault) (left : RunRecord) → NoReadFails run.end → run.end ≡ kept_end (run_cause ended) left → Quiet ended
   quiet_run run ended left reads is = λ path e. reads path (ap (λ (x : End). x.cause) is ∙ ap run_cause e)
 
-  well_run : (run : RunAt) (cause : Cause) (left : RunRecord) → NothingFails (events_kept run.end) → run.end ≡ kept_end cause left → NothingFails left.journal.events
-  well_run run cause left well is = subst NothingFails (ap events_kept is) well
+  -- nothing fails in it, whose library's faults don't rise
+  well_run : (run : RunAt) (cause : Cause) (left : RunRecord) (before after : ℕ) → (Rises before after → ⊥) → RisesBy (read_faults left.journal.events) before after
+      → list_any is_want_of_memory (events_kept run.end) ≡ false → run.end ≡ kept_end cause left → NothingFails left.journal.events
+  well_run run cause left before after still rises well is = nothing_fails left.journal.events before after still rises (ap (list_any is_want_of_memory) (sym (ap events_kept is)) ∙ well)
 
   one_turned : (turns : Turns) → Asks words (Some (commands.Turns turns)) → IsTold handed (Some (commands.Turns turns)) first → IsTold handed' (Some (commands.Turns turns)) second → ComeToOne handed handed' first second
   one_turned turns asks one two =
@@ -127,8 +181,10 @@ module _ (handed handed' : Handing) (law : Law) (words : List (List ℕ)) (files
       subst (λ (t : Option (List File)). IsOver turns.setup a.items t b.ended b.left) (q.told (commands.Turns turns) asks.0)
       (subst (λ (it : List TurnItem). IsOver turns.setup it second.before.files b.ended b.left) items b.plays.is) in
       let same =
-      one_outcome law.runs turns.setup a.items files a.ended b.ended a.left b.left over (quiet_run first a.ended a.left p.reads_well a.end_is) (well_run first (run_cause a.ended) a.left p.runs_well a.end_is)
-      over' (quiet_run second b.ended b.left q.reads_well b.end_is) (well_run second (run_cause b.ended) b.left q.runs_well b.end_is) in
+      one_outcome law.runs turns.setup a.items files a.ended b.ended a.left b.left over (quiet_run first a.ended a.left (no_reads handed (Some (commands.Turns turns)) first one p.reads_well) a.end_is)
+      (well_run first (run_cause a.ended) a.left first.before.faults first.after.faults p.reads_well a.plays.counted.faults p.runs_well a.end_is)
+      over' (quiet_run second b.ended b.left (no_reads handed' (Some (commands.Turns turns)) second two q.reads_well) b.end_is)
+      (well_run second (run_cause b.ended) b.left second.before.faults second.after.faults q.reads_well b.plays.counted.faults q.runs_well b.end_is) in
       come_to_one (Some (commands.Turns turns)) one two (one_end_kept first.end second.end (run_cause a.ended) (run_cause b.ended) a.left b.left a.end_is b.end_is (ap run_cause same.0) same.1)
       (a.text_is ∙ (λ i. journal_lines (same.1.events i) ++ last_line (same.0 i)) ∙ sym b.text_is)
 
@@ -139,8 +195,8 @@ module _ (handed handed' : Handing) (law : Law) (words : List (List ℕ)) (files
       let set : b.files ≡ a.files = law.one_set number b.files a.files b.are a.are in
       let over : IsOver set_setup [] (Some a.files) b.ended b.left = subst (λ (fs : List File). IsOver set_setup [] (Some fs) b.ended b.left) set b.plays.is in
       let same =
-      one_outcome law.runs set_setup [] a.files a.ended b.ended a.left b.left a.plays.is (λ path e. never_rises (a.plays.read_fault path e)) (well_run first (set_cause a.ended) a.left p.runs_well a.end_is)
-      over (λ path e. never_rises (b.plays.read_fault path e)) (well_run second (set_cause b.ended) b.left q.runs_well b.end_is) in
+      one_outcome law.runs set_setup [] a.files a.ended b.ended a.left b.left a.plays.is (λ path e. never_rises (a.plays.read_fault path e)) (well_run first (set_cause a.ended) a.left 0 0 never_rises a.plays.counted.faults p.runs_well a.end_is)
+      over (λ path e. never_rises (b.plays.read_fault path e)) (well_run second (set_cause b.ended) b.left 0 0 never_rises b.plays.counted.faults q.runs_well b.end_is) in
       come_to_one (Some (commands.Generate number)) one two (one_end_kept first.end second.end (set_cause a.ended) (set_cause b.ended) a.left b.left a.end_is b.end_is (ap set_cause same.0) same.1)
       (a.text_is ∙ (λ i. set_text number (same.0 i) (same.1.events i)) ∙ sym b.text_is)
 

@@ -1,6 +1,7 @@
 -- How the command ends, and what its sink took.
-use Rattle.std.specs.Prelude.{◌≡◌, ◌≢◌, ◌⊎◌, ℕ, List, [], Option, None, Result, Ok, Err, IsSomeAnd}
+use Rattle.std.specs.Prelude.{◌≡◌, ◌≢◌, ◌⊎◌, ℕ, Bool, false, List, [], Option, None, Result, Ok, Err, IsSomeAnd}
 use Rattle.std.specs.Io.KnownBytes.{append_known}
+use Rattle.std.specs.List.{list_any}
 use Rattle.ld_base.specs.declared.fault.DlFault.TheVariants as dl
 use Rattle.ld_base.specs.declared.linking.File.{File}
 use Rattle.library_source.specs.Count.{Rises}
@@ -9,9 +10,11 @@ use Rattle.library_source.specs.declared.sink.WriteError.{WriteError}
 use Rattle.library_source.specs.declared.sink.WriteError.TheVariants as writes
 use Rattle.command_line.specs.Reads.{Reads}
 use Rattle.command_line.specs.declared.command.Command.{Command}
+use Rattle.link_event.specs.declared.event.Event.{Event}
+use Rattle.link_event.specs.declared.event.Event.TheVariants.{Ended}
+use Rattle.link_service.specs.Laws.{is_memory}
 use Rattle.ldso_cli.specs.Asked.{OfAsked}
-use Rattle.ldso_cli.specs.Command.{Answers, AreTold, Misses, NoReadFails}
-use Rattle.turn_once.specs.Laws.{NothingFails}
+use Rattle.ldso_cli.specs.Command.{Answers, AreTold, Misses}
 use Rattle.ldso_cli.specs.End.{AreOneEnd, bare, events_kept}
 use Rattle.ldso_cli.specs.Outside.{LibraryAt, SinkAt}
 use Rattle.ldso_cli.specs.Status.{status_of}
@@ -81,15 +84,19 @@ pub record RunAt : Type 0 where
   pub new : SinkAt
   pub end : End
 
--- a call with these words over these files, which the library tells (gen reads none of it), in which no read and no write fails and memory
--- suffices, in a run that it makes, too
+-- a hart ended for want of memory
+abbrev pub is_want_of_memory : Event → Bool
+is_want_of_memory e = elim e [ Ended hart reason ↦ is_memory reason | _ ↦ false ]
+
+-- a call with these words over these files, which the library tells (gen reads none of it), in which neither the library nor the sink fails,
+-- and memory suffices, for the harts of a run that it makes, too
 pub record IsUndisturbed (handed : Handing) (words : List (List ℕ)) (files : List File) (run : RunAt) : Type 0 where
   pub told : (command : Command) → Reads words command → AreTold command run.before files
   pub ends : OfAsked words (λ command. Ends handed command run.before run.after run.old run.new run.end)
-  pub reads_well : NoReadFails run.end
+  pub reads_well : ¬ (Rises run.before.faults run.after.faults)
   pub writes_well : run.end.cause ≢ causes.WriteFault
   pub has_memory : run.end.cause ≢ causes.Memory
-  pub runs_well : NothingFails (events_kept run.end)
+  pub runs_well : list_any is_want_of_memory (events_kept run.end) ≡ false
 
 -- two calls come to the same: one end, with its status, and one text, which was handed to both sinks, and both took it whole
 pub record ComeToOne (handed handed' : Handing) (first second : RunAt) : Type 0 where

@@ -3,6 +3,7 @@ use Rattle.std.specs.Prelude.{ℕ, List, Option, Result}
 use Rattle.ld_base.specs.declared.linking.File.{File}
 use Rattle.library_source.specs.Writing.{Puts}
 use Rattle.library_source.specs.declared.sink.WriteError.{WriteError}
+use Rattle.world_turns.specs.Counts.{Counts}
 
 -- a library: its files, where it tells them, how often it failed, and how often it had no file at a path
 pub record LibraryAt : Type 0 where
@@ -14,6 +15,10 @@ pub record LibraryAt : Type 0 where
 pub record SinkAt : Type 0 where
   pub taken : Option (List ℕ)
   pub faults : ℕ
+
+-- how often it failed, and how often it had no file at a path
+abbrev pub counts_in : LibraryAt → Counts
+counts_in library = record { faults = library.faults; misses = library.misses }
 
 -- what the meanings of a library, or of a sink, say of one
 abbrev pub library_at : {L : Type 0} → (L → Option (List File)) → (L → ℕ) → (L → ℕ) → L → LibraryAt

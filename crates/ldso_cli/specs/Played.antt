@@ -14,9 +14,10 @@ use Rattle.run_texts.specs.Ends.{IsRunEnd, end_line}
 use Rattle.run_texts.specs.declared.record.RunRecord.{RunRecord}
 use Rattle.run_texts.specs.declared.run_end.RunEnd.{RunEnd}
 use Rattle.schedules.specs.declared.schedule.TurnItem.{TurnItem}
+use Rattle.world_turns.specs.Counts.{ShowInCounts}
 use Rattle.world_turns.specs.Run.{Run}
 use Rattle.world_turns.specs.World.{World}
-use Rattle.ldso_cli.specs.Outside.{LibraryAt}
+use Rattle.ldso_cli.specs.Outside.{LibraryAt, counts_in}
 use Rattle.ldso_cli.specs.Status.{refused_text}
 use Rattle.ldso_cli.specs.declared.outcome.Cause.{Cause}
 use Rattle.ldso_cli.specs.declared.outcome.Cause.TheVariants as causes
@@ -57,6 +58,8 @@ pub record IsPlayed (setup : Setup) (items : List TurnItem) (before after : Libr
   pub is : IsNotRun setup before.files ended left ⊎ IsRun setup items before.files ended left
   pub read_fault : (path : List ℕ) → ended ≡ Err (dl.ReadFault path) → Rises before.faults after.faults
   pub missing : (name : List ℕ) → ended ≡ Err (dl.MissingLibrary name) → StartMisses setup before after name
+  -- over the whole journal: an opening of a guest's may be refused so, too
+  pub counted : ShowInCounts setup.folders left.journal.events (counts_in before) (counts_in after)
 
 -- why a command ends whose run ended so, and the last line of what it prints
 abbrev pub run_cause : Result RunEnd DlFault → Cause

@@ -21,8 +21,8 @@ use world_turns::runs_stay_sound;
 use world_whole::runs_are_whole;
 
 /// The words and the files decide what a call of the command comes to, where the library tells its
-/// files, no read and no write fails, and memory suffices, in a run that it makes, too: one status, one
-/// text, and one record of the run. For `gen` the words alone decide it.
+/// files, neither it nor the sink fails, and memory suffices, in a run that it makes, too: one status,
+/// one text, and one record of the run. For `gen` the words alone decide it.
 pub fn one_answer<K: Sink, J: Sink>()
     ensures { (words : List (List ℕ)) (files : List File) (first second : RunAt) (old new : K) (old' new' : J) →
         IsUndisturbed (handed_to K.writes old new) words files first → IsUndisturbed (handed_to J.writes old' new') words files second →

@@ -17,6 +17,7 @@ use plain_world::{World, played_worlds_are_runs};
 use run_texts::{RunEnd, RunRecord};
 use schedules::Turns;
 use std::alloc::{AllocError, Global};
+use world_turns::counts_show;
 
 /// A run that is over.
 #[derive(Debug, Drop)]
@@ -54,15 +55,18 @@ pub(crate) fn last_line(
 }
 
 /// What a run leaves that has ended.
-fn over(alloc: Global, run: World) -> Result<Played, AllocError>
+fn over(run: World) -> Played
     requires over { IsTrue (have_ended run.world) }
     requires some { 0 < run.count }
-    ensures { IfOk result (λ played. LeavesRun run.world played.ended played.left) }
+    ensures { LeavesRun run.world result.ended result.left }
 {
     let _ = run.count();
-    let left = run.into_record(alloc)?;
-    let ended = Ok(RunEnd::of(left.ends.as_slice()));
-    Ok(Played { ended, left })
+    let left = run.into_record();
+    let run_end = RunEnd::of(left.ends.as_slice());
+    Played {
+        ended: Ok(run_end),
+        left,
+    }
 }
 
 /// What a run leaves that doesn't start.
@@ -96,10 +100,11 @@ pub(crate) fn play<L: Library>(
     ensures misses { L.misses library.old ≤ L.misses library.new }
 {
     played_worlds_are_runs();
+    counts_show();
     match World::start(alloc, setup, library) {
         Ok(mut run) => {
             run.run(alloc, items, library);
-            over(alloc, run)
+            Ok(over(run))
         }
         Err(StartFault::Refused(fault, journal)) => Ok(not_started(alloc, fault, journal)),
         Err(StartFault::Memory) => Err(AllocError),

@@ -40,7 +40,8 @@ pub(crate) fn open_program(
     requires made { InstallsNothing state.old.made }
     requires ask { ask ≡ program_ask setup.now }
     requires planned { (files : Option (List File)) × PlansStart setup.now files news }
-    ensures starts { (files : Option (List File)) → PlansStart setup.now files news → IfOk result (Starts (run_of setup.now files) setup.now state.new.events) }
+    ensures starts { (files : Option (List File)) → PlansStart setup.now files news
+        → IfOk result (Starts (run_of setup.now files) setup.now state.new.events) }
     ensures fails { (files : Option (List File)) → PlansStart setup.now files news
         → IfErr result (IsUnstarted (run_of setup.now files) setup.now state.new.events) }
     ensures no_file { IfErr result IsOfNoFile }

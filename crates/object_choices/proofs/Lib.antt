@@ -1,3 +1,4 @@
+pub mod Empty
 pub mod Leading
 pub mod Refused
 pub mod Stands

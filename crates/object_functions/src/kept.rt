@@ -8,6 +8,7 @@ ghost use Rattle.link_service.specs.Functions.{AreDestructors, AreOf, destructor
 
 use ld_base::Serial;
 use link_event::Functions;
+use serial_sets::SerialSet;
 
 /// Those of some functions whose objects are of a set, in their order. This takes no memory: what a closing
 /// runs is kept of the destructors of all objects, which are there before it is known which objects die.
@@ -16,6 +17,7 @@ pub fn keep_only(functions: Functions, set: &[Serial]) -> Functions
     ensures destructors { (s : State) → map object_of functions ≡ reverse (unfinished s) → AreOf s destructors functions → AreDestructors s set.now result }
 {
     let mut functions = functions.into_vec();
-    functions.retain(|function| set.contains(&function.object));
+    let kept = SerialSet::new(set);
+    functions.retain(|function| kept.has(function.object));
     Functions::from(functions)
 }

@@ -5,7 +5,6 @@ use Rattle.std.specs.Bool.{OnFalse, OnTrue}
 use Rattle.std.specs.List.{list_all}
 use Rattle.std.proofs.lemmas.List.{take_more}
 use Rattle.ld_base.specs.declared.linking.File.{File}
-use Rattle.link_event.specs.declared.hart_end.HartEnd.{HartEnd}
 use Rattle.link_event.specs.declared.handed.HartEntry.{HartEntry}
 use Rattle.link_state.specs.Table.{LinkTable}
 use Rattle.lawful_journal.specs.Following.{machine_of}
@@ -15,11 +14,9 @@ use Rattle.hart_moves.specs.Harts.{HartState}
 use Rattle.hart_moves.specs.Moves.{freed}
 use Rattle.hart_seat.specs.Table.{HartTable}
 use Rattle.answer_turns.specs.Settling.{freed_in, harts_in}
-use Rattle.guest_worlds.specs.Worlds.{IsAt, TakesOn, TakesOver, TurnsOn, TurnsOver, world_of}
+use Rattle.guest_worlds.specs.Worlds.{IsAt, TakesOn, TakesOver, world_of}
 use Rattle.world_turns.specs.Run.{has_ended, settled}
-use Rattle.world_turns.specs.Turn.{TakesTurn}
 use Rattle.world_turns.specs.World.{World, settling}
-use Rattle.plain_world.specs.Ends.{AreEndsOf}
 use Rattle.plain_world.specs.Table.{WorldTable, moved}
 
 -- ---- the same parts
@@ -53,14 +50,6 @@ begun_at count folders begun world at =
 pub on_takes : (count : ℕ) (folders : List (List ℕ)) (files : Option (List File)) (h : ℕ) (old new : World) → TakesOn count h old new
     → TakesOver count folders files h old new
 on_takes count folders files h old new on = λ w over. on w over.machine
-
-pub over_takes : (count : ℕ) (folders : List (List ℕ)) (files : Option (List File)) (h : ℕ) (old new : World) → TurnsOver count folders files h old new
-    → TakesOver count folders files h old new
-over_takes count folders files h old new turns = λ w over. TakesTurn.turn (turns w over)
-
-pub on_turns : (count : ℕ) (folders : List (List ℕ)) (files : Option (List File)) (h : ℕ) (old new : World) → TurnsOn count h old new
-    → TakesOver count folders files h old new
-on_turns count folders files h old new turns = λ w over. TakesTurn.turn (turns w over.machine)
 
 -- ---- settling
 
@@ -103,20 +92,6 @@ same_table folders entry begun n count world other all is =
     ap (λ (k : ℕ). table k folders entry begun world) all ∙ ap (λ (v : World). table count folders entry begun v) is
 
 -- ---- ends
-
-one_more : {X Y : Type 0} (f : X → Y) (xs : List X) (x : X) → map f (xs ++ x ∷ []) ≡ map f xs ++ f x ∷ []
-one_more f [] x = refl
-one_more f (y ∷ xs) x = ap (λ ys. f y ∷ ys) (one_more f xs x)
-
-pub ends_more : (harts : List HartTable) (ends : List HartEnd) (i : ℕ) (h : HartTable) (reason : HartEnd) → i < length harts → h ≡ get_or harts i h
-    → AreEndsOf (harts_in (take i harts)) ends → h.hart.«end» ≡ Some reason → AreEndsOf (harts_in (take (i + 1) harts)) (ends ++ reason ∷ [])
-ends_more harts ends i h reason lt at are is =
-    ap (λ (hs : List HartTable). map (λ (b : HartState). b.«end») (harts_in hs))
-    (take_more harts i h lt ∙ ap (λ (x : HartTable). take i harts ++ x ∷ []) (sym at))
-    ∙ ap (map (λ (b : HartState). b.«end»)) (one_more (λ (x : HartTable). x.hart) (take i harts) h)
-    ∙ one_more (λ (b : HartState). b.«end») (harts_in (take i harts)) h.hart
-    ∙ ap (λ (es : List (Option HartEnd)). es ++ h.hart.«end» ∷ []) are
-    ∙ ap (λ (e : Option HartEnd). map Some ends ++ e ∷ []) is ∙ sym (one_more Some ends reason)
 
 pub ended_at : (harts : List HartTable) (i : ℕ) (h : HartTable) → i < length harts → h ≡ get_or harts i h → list_all has_ended (harts_in harts) ≡ true → has_ended h.hart ≡ true
 ended_at [] i h lt at over = absurd (omega (arith, lt))

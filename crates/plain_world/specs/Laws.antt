@@ -8,9 +8,14 @@ use Rattle.schedules.specs.declared.schedule.TurnItem.{TurnItem}
 use Rattle.plain_world.specs.Started.{StartsAt}
 use Rattle.world_turns.specs.Run.{Run}
 use Rattle.world_turns.specs.World.{World}
-use Rattle.plain_world.specs.Playing.{Plays}
+use Rattle.plain_world.specs.Playing.{Plays, TakesByHand}
 
 -- a run that starts, and is played by a schedule from there on, is a run by that schedule
 abbrev pub PlayedIsRun : Type 0
 PlayedIsRun = (w : Setting) (setup : Setup) (entry : HartEntry) (items : List TurnItem) (started world : World) → StartsAt w setup started entry
     → Plays w false (starting_registers entry) items started world → Run w setup items world
+
+-- so it is where the first hart took some turns of startup's constructors by hand before
+abbrev pub HandedIsRun : Type 0
+HandedIsRun = (w : Setting) (setup : Setup) (entry : HartEntry) (items : List TurnItem) (started between world : World) → StartsAt w setup started entry
+    → TakesByHand w started between → Plays w false (starting_registers entry) items between world → Run w setup items world

@@ -9,7 +9,8 @@ use Rattle.call_laws.specs.Coming.{IsOver}
 use Rattle.schedules.specs.declared.schedule.TurnItem.{TurnItem}
 use Rattle.guest_worlds.specs.Coming.{HasEnd}
 use Rattle.hart_moves.specs.Harts.{HartState}
-use Rattle.world_turns.specs.Run.{Begins, Constructs, Finalises, Finishes, TakesItems, has_ended, have_exited, settled}
+use Rattle.world_turns.specs.Run.{Begins, Constructs, Finalises, Finishes, TakesItems, has_ended, have_exited, is_starting, settled}
+use Rattle.world_turns.specs.Turn.{TakesTurn}
 use Rattle.world_turns.specs.World.{World}
 use Rattle.plain_world.specs.Table.{WorldTable}
 
@@ -34,6 +35,11 @@ pub record Plays (w : Setting) (begun : Bool) (registers : Registers) (items : L
   pub finalised : World
   pub finalises : FinalisesOnce w begun registers finished finalised
   pub ends : new ≡ settled finalised
+
+-- the first hart takes turns by hand, each while it runs startup's constructors
+pub data TakesByHand (w : Setting) : World → World → Type 0 where
+  no_more : (world : World) → TakesByHand w world world
+  one_more : (old between new : World) → IsTrue (is_starting old) → TakesTurn w 0 old between → TakesByHand w between new → TakesByHand w old new
 
 -- ---- for the code of this crate alone
 

@@ -1,5 +1,5 @@
 -- A run on one thread that starts.
-use Rattle.std.specs.Prelude.{◌≡◌, List, [], Some}
+use Rattle.std.specs.Prelude.{◌≡◌, List, [], Some, Result, Ok, Err}
 use Rattle.std.specs.List.{slice_get}
 use Rattle.link_event.specs.declared.event.Event.{Event}
 use Rattle.link_event.specs.declared.handed.HartEntry.{HartEntry}
@@ -9,16 +9,25 @@ use Rattle.link_history.specs.Setting.{Setting}
 use Rattle.link_history.specs.State.{start}
 use Rattle.link_served.specs.declared.installs.Installs.{Installs}
 use Rattle.link_served.specs.declared.startup.Setup.{Setup}
+use Rattle.link_served.specs.declared.startup.StartFault.{StartFault}
+use Rattle.link_served.specs.declared.startup.StartFault.TheVariants as starts
 use Rattle.rv_hart.specs.declared.doubleword.Doubleword.{Doubleword}
 use Rattle.turn_answers.specs.Changes.{AreReserved}
 use Rattle.world_turns.specs.Memory.{AreFresh, RemakesAll}
 use Rattle.world_turns.specs.Run.{IsStarted}
 use Rattle.world_turns.specs.World.{World}
+use Rattle.plain_world.specs.Table.{WorldTable}
 
 -- it starts at this world, and these are the first hart's starting registers
 pub record StartsAt (w : Setting) (setup : Setup) (world : World) (entry : HartEntry) : Type 0 where
   pub starts : IsStarted w setup world
   pub first : slice_get starts.started.entries 0 ≡ Some entry
+
+-- the events of a start: those of a run that starts, and of one that is refused those up to the refusal
+abbrev pub start_events : Result WorldTable StartFault → List Event
+start_events (Ok run) = run.world.journal
+start_events (Err (starts.Refused fault journal)) = journal.events
+start_events (Err starts.Memory) = []
 
 -- ---- for the code of this crate alone
 

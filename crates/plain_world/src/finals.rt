@@ -4,6 +4,7 @@ ghost use Rattle.std.specs.Prelude.{◌≡◌, ◌<◌, Bool, List, length, true
 ghost use Rattle.std.specs.Bool.{OnFalse, OnTrue};
 ghost use Rattle.call_laws.specs.Coming.{IsOn};
 ghost use Rattle.guest_worlds.specs.Worlds.{IsAt, world_of};
+ghost use Rattle.guest_turns.specs.Counting.{RefusesNone};
 ghost use Rattle.hart_moves.specs.Starting.{starting_registers};
 ghost use Rattle.lawful_journal.specs.Following.{machine_of};
 ghost use Rattle.link_history.specs.Setting.{Setting};
@@ -30,6 +31,7 @@ impl World {
         ensures begins { OnTrue result (BeginsToFinalise self.old.begun (starting_registers self.old.entry) self.old.world self.new.world) }
         ensures other { OnFalse result ((w : Setting) → IsOn (machine_of self.old.count) w
             → FinalisesOnce w self.old.begun (starting_registers self.old.entry) self.old.world self.new.world) }
+        ensures refuses { RefusesNone self.old.world self.new.world }
         ensures rest { self.new ≡ record self.old { begun = true; world = self.new.world } }
     {
         let begun = self.begun;
@@ -65,6 +67,7 @@ fn begin(
     requires run { IsAtIn begun state.old harts.old }
     ensures begins { OnTrue result (FinalsBegin begun entry state.old state.new harts.old harts.new) }
     ensures other { OnFalse result (FinalsDont begun entry state.old state.new harts.old harts.new) }
+    ensures refuses { (words : List Doubleword) → RefusesNone (world_of state.old words harts.old) (world_of state.new words harts.new) }
     ensures stays { StaysAt begun state.old state.new harts.old harts.new }
     ensures count { state.new.harts ≡ state.old.harts }
 {

@@ -1,6 +1,7 @@
 //! A whole run by a written schedule.
 
 ghost use Rattle.std.specs.Prelude.{◌≡◌, ◌<◌, ◌≤◌, true, Contains, IsTrue};
+ghost use Rattle.guest_turns.specs.Counting.{IsCounted, counts_at};
 ghost use Rattle.hart_moves.specs.Starting.{starting_registers};
 ghost use Rattle.plain_world.specs.Playing.{FinalisesOnce, FirstRuns, InEachRun, OthersHaveEnded, Plays};
 ghost use Rattle.plain_world.specs.Table.{moved};
@@ -21,13 +22,16 @@ const FIRST_HART: u32 = 0;
 impl World {
     /// Takes a run to its end by a schedule: what is left of startup's constructors, the items of the schedule,
     /// the harts in order until all have ended, the final destructors, where they haven't begun before, and
-    /// what is left to settle.
+    /// what is left to settle. Each opening that is refused meanwhile for a read that failed, or for a missing
+    /// library, shows that in the library's counts.
     pub fn run<L: Library>(&mut self, alloc: Global, turns: &Turns, library: &mut L)
         requires { (item : item_value) → Contains turns.now item → item.hart < self.old.count }
         ensures plays { InEachRun self.old (L.files library.old)
             (λ w. Plays w self.old.begun (starting_registers self.old.entry) turns.now self.old.world self.new.world) }
         ensures over { IsTrue (have_ended self.new.world) }
         ensures rest { self.new ≡ record self.old { begun = true; world = self.new.world } }
+        ensures counts { IsCounted self.old.folders self.old.world self.new.world
+            (counts_at L.faults L.misses library.old) (counts_at L.faults L.misses library.new) }
         ensures files { L.files library.new ≡ L.files library.old }
         ensures faults { L.faults library.old ≤ L.faults library.new }
         ensures misses { L.misses library.old ≤ L.misses library.new }
@@ -44,6 +48,8 @@ impl World {
 fn construct<L: Library>(run: &mut World, alloc: Global, library: &mut L)
     ensures constructs { InEachRun run.old (L.files library.old) (λ w. Constructs w run.old.world run.new.world) }
     ensures rest { run.new ≡ moved run.old run.new.world }
+    ensures counts { IsCounted run.old.folders run.old.world run.new.world
+        (counts_at L.faults L.misses library.old) (counts_at L.faults L.misses library.new) }
     ensures files { L.files library.new ≡ L.files library.old }
     ensures faults { L.faults library.old ≤ L.faults library.new }
     ensures misses { L.misses library.old ≤ L.misses library.new }
@@ -58,6 +64,8 @@ fn go_on<L: Library>(run: &mut World, alloc: Global, library: &mut L)
     requires { FirstRuns run.old.world }
     ensures turn { InEachRun run.old (L.files library.old) (λ w. one_turn w 0 run.old.world run.new.world) }
     ensures rest { run.new ≡ moved run.old run.new.world }
+    ensures counts { IsCounted run.old.folders run.old.world run.new.world
+        (counts_at L.faults L.misses library.old) (counts_at L.faults L.misses library.new) }
     ensures files { L.files library.new ≡ L.files library.old }
     ensures faults { L.faults library.old ≤ L.faults library.new }
     ensures misses { L.misses library.old ≤ L.misses library.new }
@@ -71,6 +79,8 @@ fn follow<L: Library>(run: &mut World, alloc: Global, items: &[TurnItem], librar
     requires { (item : item_value) → Contains items.now item → item.hart < run.old.count }
     ensures follows { InEachRun run.old (L.files library.old) (λ w. TakesItems w items.now run.old.world run.new.world) }
     ensures rest { run.new ≡ moved run.old run.new.world }
+    ensures counts { IsCounted run.old.folders run.old.world run.new.world
+        (counts_at L.faults L.misses library.old) (counts_at L.faults L.misses library.new) }
     ensures files { L.files library.new ≡ L.files library.old }
     ensures faults { L.faults library.old ≤ L.faults library.new }
     ensures misses { L.misses library.old ≤ L.misses library.new }
@@ -85,6 +95,8 @@ fn repeat<L: Library>(run: &mut World, alloc: Global, item: TurnItem, library: &
     requires { item.hart < run.old.count }
     ensures repeats { InEachRun run.old (L.files library.old) (λ w. Repeats w item.hart item.count run.old.world run.new.world) }
     ensures rest { run.new ≡ moved run.old run.new.world }
+    ensures counts { IsCounted run.old.folders run.old.world run.new.world
+        (counts_at L.faults L.misses library.old) (counts_at L.faults L.misses library.new) }
     ensures files { L.files library.new ≡ L.files library.old }
     ensures faults { L.faults library.old ≤ L.faults library.new }
     ensures misses { L.misses library.old ≤ L.misses library.new }
@@ -101,6 +113,8 @@ fn finish<L: Library>(run: &mut World, alloc: Global, library: &mut L)
     ensures finishes { InEachRun run.old (L.files library.old) (λ w. Finishes w run.old.world run.new.world) }
     ensures rest { run.new ≡ moved run.old run.new.world }
     ensures over { IsTrue (have_ended run.new.world) }
+    ensures counts { IsCounted run.old.folders run.old.world run.new.world
+        (counts_at L.faults L.misses library.old) (counts_at L.faults L.misses library.new) }
     ensures files { L.files library.new ≡ L.files library.old }
     ensures faults { L.faults library.old ≤ L.faults library.new }
     ensures misses { L.misses library.old ≤ L.misses library.new }
@@ -114,6 +128,8 @@ fn finish<L: Library>(run: &mut World, alloc: Global, library: &mut L)
 fn go_round<L: Library>(run: &mut World, alloc: Global, library: &mut L)
     ensures rounds { InEachRun run.old (L.files library.old) (λ w. Rounds w (all_harts run.old.world) run.old.world run.new.world) }
     ensures rest { run.new ≡ moved run.old run.new.world }
+    ensures counts { IsCounted run.old.folders run.old.world run.new.world
+        (counts_at L.faults L.misses library.old) (counts_at L.faults L.misses library.new) }
     ensures files { L.files library.new ≡ L.files library.old }
     ensures faults { L.faults library.old ≤ L.faults library.new }
     ensures misses { L.misses library.old ≤ L.misses library.new }
@@ -130,6 +146,8 @@ fn finalise<L: Library>(run: &mut World, alloc: Global, library: &mut L)
         (λ w. FinalisesOnce w run.old.begun (starting_registers run.old.entry) run.old.world run.new.world) }
     ensures over { IsTrue (have_ended run.new.world) }
     ensures rest { run.new ≡ record run.old { begun = true; world = run.new.world } }
+    ensures counts { IsCounted run.old.folders run.old.world run.new.world
+        (counts_at L.faults L.misses library.old) (counts_at L.faults L.misses library.new) }
     ensures files { L.files library.new ≡ L.files library.old }
     ensures faults { L.faults library.old ≤ L.faults library.new }
     ensures misses { L.misses library.old ≤ L.misses library.new }
@@ -145,6 +163,8 @@ fn run_finals<L: Library>(run: &mut World, alloc: Global, library: &mut L)
     ensures ends { InEachRun run.old (L.files library.old) (λ w. Ends w run.old.world run.new.world) }
     ensures rest { run.new ≡ moved run.old run.new.world }
     ensures over { IsTrue (have_ended run.new.world) }
+    ensures counts { IsCounted run.old.folders run.old.world run.new.world
+        (counts_at L.faults L.misses library.old) (counts_at L.faults L.misses library.new) }
     ensures files { L.files library.new ≡ L.files library.old }
     ensures faults { L.faults library.old ≤ L.faults library.new }
     ensures misses { L.misses library.old ≤ L.misses library.new }

@@ -1,18 +1,23 @@
-//! The parts of a run that starts.
+//! How a run starts.
 
-ghost use Rattle.std.specs.Prelude.{◌≡◌, ◌<◌, ◌≤◌, ◌^◌, false, Some, IfErr, IfOk, map};
+ghost use Rattle.std.specs.Prelude.{◌≡◌, ◌<◌, ◌≤◌, ◌^◌, false, Option, Some, IfErr, IfOk, List, map};
 ghost use Rattle.std.specs.List.{slice_get};
 ghost use Rattle.call_laws.specs.Counts.{ArePathsAtStart, ShowsInCounts};
-ghost use Rattle.guest_worlds.specs.Worlds.{IsAt, world_of};
 ghost use Rattle.hart_moves.specs.Starting.{starting_hart, starting_harts};
+ghost use Rattle.ld_base.specs.declared.linking.File.{File};
+ghost use Rattle.link_history.specs.After.{after};
+ghost use Rattle.link_history.specs.Objects.{is_startup};
 ghost use Rattle.link_history.specs.Setting.{Setting};
 ghost use Rattle.link_served.specs.declared.startup.Setup.{Setup as setup_value};
 ghost use Rattle.link_service.specs.Startup.{Starts, harts_of};
 ghost use Rattle.link_startup.specs.Startup.{IsNotStarted, StartsWhole, startup_refusal};
 ghost use Rattle.opening_plan.specs.Startup.{run_of};
 ghost use Rattle.answer_turns.specs.Settling.{harts_in};
-ghost use Rattle.plain_world.specs.Started.{BringsFirst, IsFirstMemory, StartsAt};
+ghost use Rattle.guest_turns.specs.Counting.{counts_at};
+ghost use Rattle.plain_world.specs.Started.{BringsFirst, IsFirstMemory, StartsAt, start_events};
+ghost use Rattle.world_turns.specs.Counts.{ShowInCounts};
 
+use crate::World;
 use guest_worlds::runs_stay;
 use hart_parts::Purpose;
 use hart_seat::LinkedHart;
@@ -22,56 +27,51 @@ use link_served::{Installs, Setup, StartFault, Started};
 use link_startup::startup;
 use link_state::LinkState;
 use plain_memory::PlainMemory;
+use record_copies::Copied;
 use std::alloc::{AllocError, Global};
 use turn_answers::MemoryChange;
 
-/// The parts of a run on one thread that has started.
-#[derive(Drop)]
-pub(crate) struct StartedWorld {
-    pub(crate) state: LinkState,
-    pub(crate) memory: PlainMemory,
-    /// In the order of their numbers.
-    pub(crate) harts: Vec<LinkedHart>,
-    /// With which registers the first hart starts.
-    pub(crate) entry: HartEntry,
+impl World {
+    /// Starts a run up to its first constructor: opens its program in a new state, puts what that brings into
+    /// guest memory, and sets the harts up.
+    ///
+    /// Where the library tells its files, nothing but a failed read or want of memory stops a run that can start
+    /// over them.
+    ///
+    /// # Errors
+    ///
+    /// The first refusal, with the events up to it, or want of memory. The library's counts show that a read
+    /// failed, and that paths were missed.
+    pub fn start<L: Library>(
+        alloc: Global,
+        setup: &Setup,
+        library: &mut L,
+    ) -> Result<Self, StartFault>
+        requires few { harts_of setup.now < 2 ^ 32 }
+        requires fuel { setup.now.fuel ≤ 2 ^ 32 }
+        ensures starts { IfOk result (λ run. StartsAt (run_of setup.now (L.files library.old)) setup.now run.world run.entry) }
+        ensures count { IfOk result (λ run. run.count ≡ harts_of setup.now) }
+        ensures folders { IfOk result (λ run. run.folders ≡ setup.now.folders) }
+        ensures begun { IfOk result (λ run. run.begun ≡ false) }
+        ensures refused { IfErr result (IsNotStarted (run_of setup.now (L.files library.old)) setup.now) }
+        ensures whole { StartsWhole setup.now (L.files library.old) (L.faults library.old) (L.faults library.new) result }
+        ensures counts { ShowsInCounts (ArePathsAtStart setup.now.folders setup.now.program) (startup_refusal result)
+            (L.faults library.old) (L.faults library.new) (L.misses library.old) (L.misses library.new) }
+        ensures shows { ShowInCounts setup.now.folders (start_events result)
+            (counts_at L.faults L.misses library.old) (counts_at L.faults L.misses library.new) }
+        ensures files { L.files library.new ≡ L.files library.old }
+        ensures faults { L.faults library.old ≤ L.faults library.new }
+        ensures misses { L.misses library.old ≤ L.misses library.new }
+    {
+        let (state, started) = startup(alloc, setup, library)?;
+        let Ok(run) = set_up(alloc, state, started, setup) else {
+            return Err(StartFault::Memory);
+        };
+        Ok(run)
+    }
 }
 
-/// Starts a run on one thread, up to its first constructor: opens its program in a new state, puts what that
-/// brings into guest memory, and sets the harts up.
-///
-/// Nothing but a failed read or want of memory stops a run that can start.
-///
-/// # Errors
-///
-/// The first refusal, with the events up to it, or want of memory. The library's counts show that a read
-/// failed, and that paths were missed.
-pub(crate) fn start<L: Library>(
-    alloc: Global,
-    setup: &Setup,
-    library: &mut L,
-) -> Result<StartedWorld, StartFault>
-    requires few { harts_of setup.now < 2 ^ 32 }
-    requires fuel { setup.now.fuel ≤ 2 ^ 32 }
-    ensures starts { IfOk result (λ run. StartsAt (run_of setup.now (L.files library.old)) setup.now (world_of run.state run.memory run.harts.items) run.entry) }
-    ensures at { IfOk result (λ run. IsAt run.state.harts setup.now.folders false (world_of run.state run.memory run.harts.items)) }
-    ensures harts { IfOk result (λ run. run.state.harts ≡ harts_of setup.now) }
-    ensures refused { IfErr result (IsNotStarted (run_of setup.now (L.files library.old)) setup.now) }
-    ensures whole { StartsWhole setup.now (L.files library.old) (L.faults library.old) (L.faults library.new) result }
-    ensures counts { ShowsInCounts (ArePathsAtStart setup.now.folders setup.now.program) (startup_refusal result)
-        (L.faults library.old) (L.faults library.new) (L.misses library.old) (L.misses library.new) }
-    ensures files { L.files library.new ≡ L.files library.old }
-    ensures faults { L.faults library.old ≤ L.faults library.new }
-    ensures misses { L.misses library.old ≤ L.misses library.new }
-{
-    runs_stay();
-    let (state, started) = startup(alloc, setup, library)?;
-    let Ok(run) = set_up(alloc, state, started, setup.fuel) else {
-        return Err(StartFault::Memory);
-    };
-    Ok(run)
-}
-
-/// Guest memory and the harts, behind startup.
+/// The run whose startup came to this: its guest memory, its harts, and room for how each of them ends.
 ///
 /// # Errors
 ///
@@ -80,29 +80,58 @@ fn set_up(
     alloc: Global,
     state: LinkState,
     started: Started,
+    setup: &Setup,
+) -> Result<World, AllocError>
+    requires starts { (files : Option (List File)) × Starts (run_of setup.now files) setup.now state.events started }
+    requires harts { state.harts ≡ harts_of setup.now }
+    requires over { is_startup (after state.events) ≡ false }
+    requires fuel { setup.now.fuel ≤ 2 ^ 32 }
+    ensures starts { IfOk result (λ run. (files : Option (List File)) → Starts (run_of setup.now files) setup.now state.events started
+        → StartsAt (run_of setup.now files) setup.now run.world run.entry) }
+    ensures count { IfOk result (λ run. run.count ≡ harts_of setup.now) }
+    ensures folders { IfOk result (λ run. run.folders ≡ setup.now.folders) }
+    ensures begun { IfOk result (λ run. run.begun ≡ false) }
+{
+    runs_stay();
+    let (memory, harts, entry) = parts_of(alloc, &state, started, setup.fuel)?;
+    let ends = Vec::with_capacity(alloc, state.harts() as usize)?;
+    let folders = setup.folders.copy(alloc)?;
+    Ok(World {
+        state,
+        memory,
+        harts,
+        ends,
+        folders,
+        entry,
+        begun: false,
+    })
+}
+
+/// Guest memory and the harts behind startup, and with which registers the first hart starts.
+///
+/// # Errors
+///
+/// Want of memory.
+fn parts_of(
+    alloc: Global,
+    state: &LinkState,
+    started: Started,
     fuel: u64,
-) -> Result<StartedWorld, AllocError>
-    requires starts { (w : Setting) × (setup : setup_value) × Starts w setup state.events started }
+) -> Result<(PlainMemory, Vec<LinkedHart>, HartEntry), AllocError>
+    requires starts { (w : Setting) × (setup : setup_value) × Starts w setup state.now.events started }
     requires fuel { fuel ≤ 2 ^ 32 }
-    ensures state { IfOk result (λ run. run.state ≡ state) }
-    ensures memory { IfOk result (λ run. IsFirstMemory state.events run.memory) }
-    ensures harts { IfOk result (λ run. harts_in run.harts.items ≡ starting_harts fuel started.functions started.entries) }
-    ensures entry { IfOk result (λ run. slice_get started.entries 0 ≡ Some run.entry) }
+    ensures memory { IfOk result (λ parts. IsFirstMemory state.now.events parts.0) }
+    ensures harts { IfOk result (λ parts. harts_in parts.1.items ≡ starting_harts fuel started.functions started.entries) }
+    ensures entry { IfOk result (λ parts. slice_get started.entries 0 ≡ Some parts.2) }
 {
     let Started {
         installs,
         functions,
         entries,
     } = started;
-    let memory = starting_memory(alloc, &state, installs)?;
+    let memory = starting_memory(alloc, state, installs)?;
     let harts = starting_harts(alloc, fuel, functions, entries.as_slice())?;
-    let entry = entries.as_slice()[0];
-    Ok(StartedWorld {
-        state,
-        memory,
-        harts,
-        entry,
-    })
+    Ok((memory, harts, entries.as_slice()[0]))
 }
 
 /// Guest memory with what startup brings.

@@ -1,10 +1,12 @@
 //! The next turn of a hart.
 
 ghost use Rattle.std.specs.Prelude.{◌≡◌, ◌<◌, ◌≤◌, Bool, length};
-ghost use Rattle.guest_worlds.specs.Coming.{Comes};
+ghost use Rattle.guest_worlds.specs.Coming.{LeavesHart};
 ghost use Rattle.guest_worlds.specs.Worlds.{IsAt, TakesOver, world_of};
+ghost use Rattle.guest_turns.specs.Counting.{IsCounted, counts_at};
+ghost use Rattle.guest_turns.specs.Next.{NextOpens, NextReadsNothing, NextTells};
 
-use guest_turns::{take_final, take_quiet, take_service};
+use guest_turns::{refusals_are_counted, take_final, take_quiet, take_service};
 use guest_worlds::Turn;
 use hart_seat::LinkedHart;
 use ld_base::{HartId, Names};
@@ -27,12 +29,20 @@ pub(crate) fn take_turn<L: Library>(
     requires at { (begun : Bool) × IsAt state.old.harts folders.now begun (world_of state.old memory.old harts.old) }
     ensures takes { TakesOver state.old.harts folders.now (L.files library.old) id
         (world_of state.old memory.old harts.old) (world_of state.new memory.new harts.new) }
-    ensures comes { Comes (world_of state.old memory.old harts.old) (world_of state.new memory.new harts.new) id result }
+    ensures comes { LeavesHart (world_of state.old memory.old harts.old) (world_of state.new memory.new harts.new) id result }
+    ensures tells { NextTells state.old.harts folders.now (L.files library.old)
+        (world_of state.old memory.old harts.old) state.new.events id result }
+    ensures whole { NextOpens state.old.harts folders.now (L.files library.old) (L.faults library.old) (L.faults library.new)
+        (world_of state.old memory.old harts.old) state.new.events id result }
+    ensures counts { IsCounted folders.now (world_of state.old memory.old harts.old) (world_of state.new memory.new harts.new)
+        (counts_at L.faults L.misses library.old) (counts_at L.faults L.misses library.new) }
+    ensures unread { NextReadsNothing (world_of state.old memory.old harts.old) id → library.new ≡ library.old }
     ensures count { state.new.harts ≡ state.old.harts }
     ensures files { L.files library.new ≡ L.files library.old }
     ensures faults { L.faults library.old ≤ L.faults library.new }
     ensures misses { L.misses library.old ≤ L.misses library.new }
 {
+    refusals_are_counted();
     if let Some(turn) = take_quiet(state, memory, harts, id) {
         return turn;
     }

@@ -1,28 +1,22 @@
 //! A run on one thread at a moment.
 
-ghost use Rattle.std.specs.Prelude.{◌≡◌, ◌<◌, ◌≤◌, ◌^◌, false, length, IfErr, IfOk};
-ghost use Rattle.call_laws.specs.Counts.{ArePathsAtStart, ShowsInCounts};
-ghost use Rattle.guest_worlds.specs.Coming.{Comes};
+ghost use Rattle.std.specs.Prelude.{◌≡◌, ◌<◌, ◌≤◌, length};
+ghost use Rattle.guest_worlds.specs.Coming.{LeavesHart};
 ghost use Rattle.guest_worlds.specs.Worlds.{TakesOver};
-ghost use Rattle.link_service.specs.Startup.{harts_of};
-ghost use Rattle.link_startup.specs.Startup.{IsNotStarted, StartsWhole, startup_refusal};
-ghost use Rattle.opening_plan.specs.Startup.{run_of};
+ghost use Rattle.guest_turns.specs.Counting.{IsCounted, counts_at};
+ghost use Rattle.guest_turns.specs.Next.{NextOpens, NextReadsNothing, NextTells};
 ghost use Rattle.plain_world.specs.Table.{moved};
-ghost use Rattle.plain_world.specs.Started.{StartsAt};
 ghost use Rattle.world_turns.specs.Run.{have_ended, is_starting};
 
 use crate::harts::{have_ended, is_starting};
-use crate::starting::{StartedWorld, start};
 use crate::turn::take_turn;
 use guest_worlds::{Turn, runs_stay};
 use hart_seat::LinkedHart;
 use ld_base::{HartId, Names};
 use library_source::Library;
-use link_event::HartEntry;
-use link_served::{Setup, StartFault};
+use link_event::{HartEnd, HartEntry};
 use link_state::LinkState;
 use plain_memory::PlainMemory;
-use record_copies::Copied;
 use std::alloc::Global;
 use std::marker::Model;
 
@@ -32,10 +26,12 @@ use std::marker::Model;
 #[derive(Drop)]
 pub struct World {
     pub(crate) state: LinkState,
-    memory: PlainMemory,
+    pub(crate) memory: PlainMemory,
     /// In the order of their numbers.
     pub(crate) harts: Vec<LinkedHart>,
-    folders: Names,
+    /// Room for how each hart ends.
+    pub(crate) ends: Vec<HartEnd>,
+    pub(crate) folders: Names,
     /// With which registers the first hart starts.
     pub(crate) entry: HartEntry,
     /// Whether the final destructors have begun, or there are none to begin.
@@ -55,58 +51,21 @@ impl Model for World {
 }
 
 impl World {
-    /// Starts a run up to its first constructor.
-    ///
-    /// Nothing but a failed read or want of memory stops a run that can start.
-    ///
-    /// # Errors
-    ///
-    /// The first refusal, with the events up to it, or want of memory. The library's counts show that a read
-    /// failed, and that paths were missed.
-    pub fn start<L: Library>(
-        alloc: Global,
-        setup: &Setup,
-        library: &mut L,
-    ) -> Result<Self, StartFault>
-        requires few { harts_of setup.now < 2 ^ 32 }
-        requires fuel { setup.now.fuel ≤ 2 ^ 32 }
-        ensures starts { IfOk result (λ run. StartsAt (run_of setup.now (L.files library.old)) setup.now run.world run.entry) }
-        ensures count { IfOk result (λ run. run.count ≡ harts_of setup.now) }
-        ensures folders { IfOk result (λ run. run.folders ≡ setup.now.folders) }
-        ensures begun { IfOk result (λ run. run.begun ≡ false) }
-        ensures refused { IfErr result (IsNotStarted (run_of setup.now (L.files library.old)) setup.now) }
-        ensures whole { StartsWhole setup.now (L.files library.old) (L.faults library.old) (L.faults library.new) result }
-        ensures counts { ShowsInCounts (ArePathsAtStart setup.now.folders setup.now.program) (startup_refusal result)
-            (L.faults library.old) (L.faults library.new) (L.misses library.old) (L.misses library.new) }
-        ensures files { L.files library.new ≡ L.files library.old }
-        ensures faults { L.faults library.old ≤ L.faults library.new }
-        ensures misses { L.misses library.old ≤ L.misses library.new }
-    {
-        let run = start(alloc, setup, library)?;
-        let Ok(folders) = setup.folders.copy(alloc) else {
-            return Err(StartFault::Memory);
-        };
-        let StartedWorld {
-            state,
-            memory,
-            harts,
-            entry,
-        } = run;
-        Ok(World {
-            state,
-            memory,
-            harts,
-            folders,
-            entry,
-            begun: false,
-        })
-    }
-
     /// Takes the next turn of a hart. One that has ended is passed over.
+    ///
+    /// No turn but an opening reads the library. Where the library tells its files and no read fails, an opening
+    /// that finds all that it needs opens, or its hart ends for want of memory. One that is refused for a read
+    /// that failed, or for a missing library, shows that in the library's counts.
     pub fn turn<L: Library>(&mut self, alloc: Global, id: HartId, library: &mut L) -> Turn
         requires { id < self.old.count }
         ensures takes { TakesOver self.old.count self.old.folders (L.files library.old) id self.old.world self.new.world }
-        ensures comes { Comes self.old.world self.new.world id result }
+        ensures comes { LeavesHart self.old.world self.new.world id result }
+        ensures tells { NextTells self.old.count self.old.folders (L.files library.old) self.old.world self.new.world.journal id result }
+        ensures whole { NextOpens self.old.count self.old.folders (L.files library.old) (L.faults library.old) (L.faults library.new)
+            self.old.world self.new.world.journal id result }
+        ensures counts { IsCounted self.old.folders self.old.world self.new.world
+            (counts_at L.faults L.misses library.old) (counts_at L.faults L.misses library.new) }
+        ensures unread { NextReadsNothing self.old.world id → library.new ≡ library.old }
         ensures rest { self.new ≡ moved self.old self.new.world }
         ensures files { L.files library.new ≡ L.files library.old }
         ensures faults { L.faults library.old ≤ L.faults library.new }

@@ -10,6 +10,7 @@ ghost use Rattle.reserved_pages.specs.Laid.{AreLaid};
 use address_space::{NoRoom, Regions};
 use ld_base::Serial;
 use link_event::{Purpose, Range};
+use serial_sets::SerialSet;
 use std::alloc::{AllocError, Global};
 use std::marker::Model;
 
@@ -115,9 +116,10 @@ impl ReservedPages {
     pub fn count_going(&self, set: &[Serial]) -> usize
         ensures { result ≡ count_by (goes_with set.now) self.now.ranges }
     {
+        let set = SerialSet::new(set);
         self.ranges
             .iter()
-            .filter(|range| goes_with(range.purpose, set))
+            .filter(|range| goes_with(range.purpose, &set))
             .count()
     }
 
@@ -127,8 +129,9 @@ impl ReservedPages {
         ensures ranges { self.new.ranges ≡ filter (λ r. not (goes_with set.now r)) self.old.ranges }
         ensures gone { gone.new.items ≡ gone.old.items ++ filter (goes_with set.now) self.old.ranges }
     {
-        push_going(self.ranges.as_slice(), set, gone);
-        self.ranges.retain(|range| !goes_with(range.purpose, set));
+        let set = SerialSet::new(set);
+        push_going(self.ranges.as_slice(), &set, gone);
+        self.ranges.retain(|range| !goes_with(range.purpose, &set));
         self.regions = regions_beside(self.ranges.as_slice());
     }
 }
@@ -154,7 +157,7 @@ fn regions_beside(ranges: &[Range]) -> Regions
 }
 
 /// Puts the ranges that go with some objects at the end of others.
-fn push_going(ranges: &[Range], set: &[Serial], gone: &mut Vec<Range>)
+fn push_going(ranges: &[Range], set: &SerialSet, gone: &mut Vec<Range>)
     requires { vec_len gone.old + count_by (goes_with set.now) ranges.now ≤ vec_capacity gone.old }
     ensures { gone.new.items ≡ gone.old.items ++ filter (goes_with set.now) ranges.now }
 {
@@ -166,11 +169,11 @@ fn push_going(ranges: &[Range], set: &[Serial], gone: &mut Vec<Range>)
 }
 
 /// Whether pages for this go with some objects.
-fn goes_with(purpose: Purpose, set: &[Serial]) -> bool
+fn goes_with(purpose: Purpose, set: &SerialSet) -> bool
     ensures { result ≡ purpose_goes set.now purpose }
 {
     match purpose {
-        Purpose::Object(serial) | Purpose::Block(_, serial) => set.contains(&serial),
+        Purpose::Object(serial) | Purpose::Block(_, serial) => set.has(serial),
         Purpose::Stack(_) | Purpose::StaticTls(_) => false,
     }
 }

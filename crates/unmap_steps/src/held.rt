@@ -9,9 +9,17 @@ ghost use Rattle.unmap_steps.specs.Touched.{is_touching};
 
 use ld_base::{Choice, GrantNo, Serial};
 use link_event::Granting;
+use serial_sets::SerialSet;
 
 /// The number of the first of some grants whose owner or target is of a set.
 pub fn holding(grants: &[Granting], set: &[Serial]) -> Option<GrantNo>
+    ensures { result ≡ option_map (λ g. g.number) (find (is_touching set.now) grants.now) }
+{
+    first_touching(grants, &SerialSet::new(set))
+}
+
+/// The same of a set that is searched.
+fn first_touching(grants: &[Granting], set: &SerialSet) -> Option<GrantNo>
     ensures { result ≡ option_map (λ g. g.number) (find (is_touching set.now) grants.now) }
 {
     for grant in grants {
@@ -23,18 +31,18 @@ pub fn holding(grants: &[Granting], set: &[Serial]) -> Option<GrantNo>
 }
 
 /// Whether a grant's owner or target is of a set.
-fn is_touching(grant: &Granting, set: &[Serial]) -> bool
+fn is_touching(grant: &Granting, set: &SerialSet) -> bool
     ensures { result ≡ is_touching set.now grant.now }
 {
-    set.contains(&grant.owner) || leads_into(grant.choice, set)
+    set.has(grant.owner) || leads_into(grant.choice, set)
 }
 
 /// Whether what was chosen is of an object of a set.
-fn leads_into(choice: Choice, set: &[Serial]) -> bool
+fn leads_into(choice: Choice, set: &SerialSet) -> bool
     ensures { result ≡ list_any (has set.now) (target_of choice) }
 {
     match choice {
-        Choice::Def(target, _) => set.contains(&target),
+        Choice::Def(target, _) => set.has(target),
         Choice::WeakZero | Choice::Missing => false,
     }
 }

@@ -10,6 +10,7 @@ ghost use Rattle.unmapped_objects.specs.Taken.{IsParted, goes};
 
 use ld_base::{Added, Loaded, Serial};
 use scope_rule::Namespace;
+use serial_sets::SerialSet;
 use std::alloc::{AllocError, Global};
 use std::mem;
 
@@ -21,9 +22,10 @@ use std::mem;
 pub fn count_in(namespaces: &[Namespace], set: &[Serial]) -> Result<usize, AllocError>
     ensures { IfOk result (λ n. n ≡ count_by (goes set.now) (flat_map (λ ns. ns.objects) namespaces.now)) }
 {
+    let set = SerialSet::new(set);
     let mut count: usize = 0;
     for namespace in namespaces {
-        let more = count_among(namespace.objects.as_slice(), set);
+        let more = count_among(namespace.objects.as_slice(), &set);
         let Some(sum) = count.checked_add(more) else {
             return Err(AllocError);
         };
@@ -33,12 +35,12 @@ pub fn count_in(namespaces: &[Namespace], set: &[Serial]) -> Result<usize, Alloc
 }
 
 /// How many of some objects are of a set.
-fn count_among(objects: &[Loaded], set: &[Serial]) -> usize
+fn count_among(objects: &[Loaded], set: &SerialSet) -> usize
     ensures { result ≡ count_by (goes set.now) objects.now }
 {
     objects
         .iter()
-        .filter(|object| set.contains(&object.serial))
+        .filter(|object| set.has(object.serial))
         .count()
 }
 
@@ -54,7 +56,8 @@ pub fn take_out(
     ensures namespaces { namespaces.new.items ≡ filter is_left (map (gone_in set.now) namespaces.old.items) }
     ensures gone { gone.new.items ≡ gone.old.items ++ filter (goes set.now) (flat_map (λ ns. ns.objects) namespaces.old.items) }
 {
-    take_all(alloc, namespaces.as_mut_slice(), set, gone);
+    let set = SerialSet::new(set);
+    take_all(alloc, namespaces.as_mut_slice(), &set, gone);
     namespaces.retain(|namespace| is_left(namespace));
 }
 
@@ -66,7 +69,7 @@ fn is_left(namespace: &Namespace) -> bool
 }
 
 /// Takes the objects out of each namespace.
-fn take_all(alloc: Global, namespaces: &mut [Namespace], set: &[Serial], gone: &mut Vec<Loaded>)
+fn take_all(alloc: Global, namespaces: &mut [Namespace], set: &SerialSet, gone: &mut Vec<Loaded>)
     requires { vec_len gone.old + count_by (goes set.now) (flat_map (λ ns. ns.objects) namespaces.old) ≤ vec_capacity gone.old }
     ensures namespaces { namespaces.new ≡ map (gone_in set.now) namespaces.old }
     ensures gone { gone.new.items ≡ gone.old.items ++ filter (goes set.now) (flat_map (λ ns. ns.objects) namespaces.old) }
@@ -77,7 +80,7 @@ fn take_all(alloc: Global, namespaces: &mut [Namespace], set: &[Serial], gone: &
 }
 
 /// Takes the objects out of one namespace.
-fn take_from(alloc: Global, namespace: &mut Namespace, set: &[Serial], gone: &mut Vec<Loaded>)
+fn take_from(alloc: Global, namespace: &mut Namespace, set: &SerialSet, gone: &mut Vec<Loaded>)
     requires { vec_len gone.old + count_by (goes set.now) namespace.old.objects ≤ vec_capacity gone.old }
     ensures namespace { namespace.new ≡ gone_in set.now namespace.old }
     ensures gone { gone.new.items ≡ gone.old.items ++ filter (goes set.now) namespace.old.objects }
@@ -90,7 +93,7 @@ fn take_from(alloc: Global, namespace: &mut Namespace, set: &[Serial], gone: &mu
 }
 
 /// Parts objects: those of the set go behind others, and the rest stay.
-fn part(objects: &mut Vec<Loaded>, set: &[Serial], gone: &mut Vec<Loaded>)
+fn part(objects: &mut Vec<Loaded>, set: &SerialSet, gone: &mut Vec<Loaded>)
     requires { vec_len gone.old + count_by (goes set.now) objects.old.items ≤ vec_capacity gone.old }
     ensures stay { objects.new.items ≡ filter (λ o. not (has set.now o.serial)) objects.old.items }
     ensures gone { gone.new.items ≡ gone.old.items ++ filter (goes set.now) objects.old.items }
@@ -109,9 +112,9 @@ fn part(objects: &mut Vec<Loaded>, set: &[Serial], gone: &mut Vec<Loaded>)
 }
 
 /// Whether the object at a place is of the set.
-fn goes_at(objects: &[Loaded], place: usize, set: &[Serial]) -> bool
+fn goes_at(objects: &[Loaded], place: usize, set: &SerialSet) -> bool
     requires { place < length objects.now }
     ensures { (d : LoadedObject) → result ≡ goes set.now (slice_index_or objects.now place d) }
 {
-    set.contains(&objects[place].serial)
+    set.has(objects[place].serial)
 }

@@ -4,6 +4,7 @@ use Rattle.std.specs.Prelude.{slice_set}
 use Rattle.std.specs.List.{slice_get}
 use Rattle.std.specs.Option.{is_some}
 use Rattle.std.proofs.lemmas.Bool.{true≢false}
+use Rattle.link_event.specs.declared.event.Event.{Event}
 use Rattle.link_event.specs.declared.event.Event.TheVariants.{Ended}
 use Rattle.link_event.specs.declared.hart_end.HartEnd.{HartEnd}
 use Rattle.link_history.specs.After.{after}
@@ -12,11 +13,14 @@ use Rattle.link_history.specs.Setting.{Setting}
 use Rattle.link_service.specs.Lemmas.Unique.{both_found}
 use Rattle.link_state.specs.Table.{LinkTable}
 use Rattle.rv_hart.specs.declared.doubleword.Doubleword.{Doubleword}
-use Rattle.hart_moves.specs.Due.{due}
+use Rattle.hart_moves.specs.Due.{Due, due}
 use Rattle.hart_moves.specs.Harts.{HartState}
 use Rattle.hart_moves.specs.Moves.{ended, freed}
 use Rattle.hart_seat.specs.Table.{HartTable}
-use Rattle.guest_worlds.specs.Coming.{Comes, HasEnd}
+use Rattle.call_answers.specs.Answers.{is_service}
+use Rattle.call_answers.specs.Openings.{TurnRefusalIsCounted}
+use Rattle.ld_base.specs.declared.linking.File.{File}
+use Rattle.guest_worlds.specs.Coming.{HasEnd, LeavesHart}
 use Rattle.guest_worlds.specs.Laws.{QuietTurns}
 use Rattle.guest_worlds.specs.Worlds.{IsSomewhere, MayEndNow, world_of}
 use Rattle.guest_worlds.specs.declared.turn.Turn.{Turn as CameTurn}
@@ -24,12 +28,14 @@ use Rattle.guest_worlds.specs.declared.turn.Turn.TheVariants as came_as
 use Rattle.answer_turns.specs.Settling.{harts_in}
 use Rattle.turn_answers.specs.Following.{MayFollowAll}
 use Rattle.world_ends.specs.Lemmas.Places.{freed_here, reason_of, set_here}
+use Rattle.world_turns.specs.Run.{settled}
 use Rattle.world_turns.specs.Turn.{TakesTurn, Turn}
 use Rattle.world_turns.specs.World.{World, settling}
 use Rattle.guest_turns.specs.Alone.{GoesOn, IsToEnd}
 use Rattle.guest_turns.specs.Ending.{EndsAmong}
 use Rattle.guest_turns.specs.Laws.{EndsAreTurns, EndsMayCome}
 use Rattle.guest_turns.specs.Lemmas.Places.{read_at, written_at}
+use Rattle.guest_turns.specs.Next.{NeverWaits, OfNext, TurnOpens, TurnTells}
 
 -- ---- what was told of a hart's end
 
@@ -49,6 +55,28 @@ runs_by harts n h d e told over same lt at is never =
 
 pub ended_by : (x : HartState) (told : Option HartEnd) (over : Bool) → told ≡ x.«end» → over ≡ is_some told → over ≡ true → (reason : HartEnd) × (x.«end» ≡ Some reason)
 ended_by x told over at is told_so = reason_of x (ap is_some (sym at) ∙ sym is ∙ told_so)
+
+-- what holds of the hart that stands there holds of the next turn
+pub next_is : (world : World) (h : ℕ) (b : HartState) (Holds : List Event → Due → Type 0) → slice_get world.harts h ≡ Some b
+    → Holds (settled world).journal (due (after (settled world).journal) b) → OfNext world h Holds
+next_is world h b Holds there holds = λ c at.
+    subst (λ (y : HartState). Holds (settled world).journal (due (after (settled world).journal) y)) (both_found (slice_get world.harts h) b c there at) holds
+
+-- a turn that is no call shows nothing of one
+pub opens_nothing : (count : ℕ) (folders : List (List ℕ)) (files : Option (List File)) (failures failures' : ℕ) (past events : List Event) (h : ℕ) (came : CameTurn)
+    (d : Due) → is_service d ≡ false → TurnOpens count folders files failures failures' past events h came d
+opens_nothing count folders files failures failures' past events h came d no_call = λ ask back told is. absurd (true≢false (sym (ap is_service is) ∙ no_call))
+
+pub counts_nothing : (folders : List (List ℕ)) (past events : List Event) (h : ℕ) (d : Due) (failures failures' misses misses' : ℕ) → is_service d ≡ false
+    → TurnRefusalIsCounted folders past events h d failures failures' misses misses'
+counts_nothing folders past events h d failures failures' misses misses' no_call = λ ask back is. absurd (true≢false (sym (ap is_service is) ∙ no_call))
+
+pub tells_nothing : (w : Setting) (past events : List Event) (h : ℕ) (d : Due) (came : CameTurn) → is_service d ≡ false → NeverWaits came
+    → TurnTells w past events h d came
+tells_nothing w past events h d came_as.Stepped no_call never = λ call. absurd (true≢false (sym call ∙ no_call))
+tells_nothing w past events h d (came_as.Again shown) no_call never = absurd (never shown refl)
+tells_nothing w past events h d (came_as.Ended reason) no_call never = tt
+tells_nothing w past events h d came_as.Idle no_call never = tt
 
 -- ---- a turn
 
@@ -94,8 +122,8 @@ module _ (state : LinkTable) (memory words : List Doubleword) (harts : List Hart
       refl,
     )
 
-    pub came_to_end : (came : CameTurn) → came ≡ came_as.Ended reason → b.«end» ≡ None → Comes (world_of state memory harts) (world_of new words behind) h came
-    came_to_end came is runs = subst (λ (t : CameTurn). Comes (world_of state memory harts) (world_of new words behind) h t) (sym is) ((b, there, runs), has_ended)
+    pub came_to_end : (came : CameTurn) → came ≡ came_as.Ended reason → b.«end» ≡ None → LeavesHart (world_of state memory harts) (world_of new words behind) h came
+    came_to_end came is runs = subst (λ (t : CameTurn). LeavesHart (world_of state memory harts) (world_of new words behind) h t) (sym is) ((b, there, runs), has_ended)
 
     pub took_its_end : EndsAreTurns → (w : Setting) → IsToEnd memory words (due (after (state.events ++ settling (harts_in harts))) b) b x.hart reason
         → MayEnd w (after (state.events ++ settling (harts_in between))) h

@@ -13,4 +13,5 @@ returns-clause-turn c =
       moves = λ w past h. record { found = c.exchange-found.result; is = refl; leaves = left };
       does = λ past. (c.exchange-found.ensures.found, c.exchange-found.ensures.left);
       runs = ap (λ (b : HartState). b.«end») left ∙ c.requires.runs;
+      no_call = refl;
     }

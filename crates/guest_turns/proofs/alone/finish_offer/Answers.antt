@@ -13,4 +13,5 @@ returns-clause-turn c = λ words o found at.
       moves = λ w past h. c.finish.ensures w past h o found at;
       does = λ past. refl;
       runs = ap (λ (b : HartState). b.«end») left ∙ c.requires;
+      no_call = refl;
     }

@@ -36,7 +36,7 @@ returns-in-Finish c = λ s.
 pub returns-in-FuelOut : goal.returns-in-FuelOut
 returns-in-FuelOut c = λ s.
     subst (λ (d : Due). TakesAlone c.args.memory.now c.args.memory.now d c.args.hart.now.hart c.args.hart.now.hart (Some (Ends ends.FuelOut))) (c.in-FuelOut.ensures.is s)
-    (record { items = []; chain = refl; moves = λ w past h may. record { may = may; is = refl; leaves = refl }; place = refl })
+    (record { items = []; chain = refl; moves = λ w past h may. record { may = may; is = refl; leaves = refl }; place = refl; no_call = refl })
 
 pub returns-in-Nothing : goal.returns-in-Nothing
 returns-in-Nothing c = λ s. (asks_by s c.args.hart.now.hart c.due.result c.in-Nothing.is (c.due.ensures.is s) c.requires, refl, refl)

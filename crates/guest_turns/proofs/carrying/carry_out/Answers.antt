@@ -1,5 +1,8 @@
+use Rattle.std.proofs.Common.{get_or, sym, subst}
+use Rattle.std.specs.Prelude.{slice_set}
 use Rattle.guest_worlds.specs.Worlds.{world_of}
-use Rattle.guest_turns.proofs.Carried.{came_out, carried_out, count_is, ready}
+use Rattle.guest_turns.specs.Next.{NeverWaits}
+use Rattle.guest_turns.proofs.Carried.{came_out, carried_out, count_is, never_by, ready}
 use Rattle.guest_turns.proofs.carrying.carry_out.Goals as goal
 
 pub settle_first-requires : goal.settle_first-requires
@@ -51,3 +54,8 @@ returns-clause-count c =
     count_is c.guests_may_turn.ensures.settles c.guests_may_turn.ensures.finals c.freed_harts_move.ensures.due c.settling_keeps_finals.ensures.plans c.args.state.now c.settle_first.new.state
     c.args.harts.now c.settle_first.new.harts c.number-index.result c.args.id c.args.plan c.index-harts-index.result c.requires.run c.requires.last (c.settle_first.ensures c.args.id)
     c.carry_out.new.state c.carry_out.ensures.events
+
+pub returns-clause-no_wait : goal.returns-clause-no_wait
+returns-clause-no_wait c =
+    subst NeverWaits (sym c.turn_of.ensures)
+    (never_by (get_or (slice_set c.settle_first.new.harts c.number-index.result c.carry_out.new.hart) c.number-index.result c.index-harts-index-2.result).hart.«end»)

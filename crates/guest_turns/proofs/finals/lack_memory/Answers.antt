@@ -1,9 +1,10 @@
-use Rattle.std.proofs.Common.{◌++◌, get_or, sym, ap, subst}
+use Rattle.std.proofs.Common.{◌≡◌, ◌++◌, get_or, sym, ap, subst, ◌∙◌}
 use Rattle.link_event.specs.declared.hart_end.HartEnd.TheVariants.{Memory}
 use Rattle.link_history.specs.After.{after}
 use Rattle.hart_moves.specs.Due.{due}
 use Rattle.hart_moves.specs.Harts.{HartState}
 use Rattle.guest_worlds.specs.Worlds.{world_of}
+use Rattle.guest_worlds.specs.declared.turn.Turn.TheVariants as came_as
 use Rattle.guest_turns.specs.Alone.{IsToEnd}
 use Rattle.guest_turns.specs.Lemmas.Places.{read_at}
 use Rattle.guest_turns.specs.Lemmas.Turns.{came_to_end, may_end, took_its_end}
@@ -49,3 +50,6 @@ returns-clause-comes c = λ words.
     let hart : HartState = (get_or c.args.harts.now c.number.result c.index-harts-number.result).hart in
     came_to_end c.args.state.now words words c.args.harts.now c.number.result c.args.id c.index-harts-number.result c.spend.new.self c.number.ensures c.requires.hart
     c.end_hart.new.state c.end_hart.new.harts Memory c.end_hart.ensures.harts c.end_hart.result c.end_hart.ensures.result (runs_last (after c.args.state.now.events) hart c.requires.last.0 c.requires.last.1 ((due_here c.args.state.now c.args.harts.now c.number.result c.args.id c.index-harts-number.result c.number.ensures c.requires.hart c.requires.last.0 c.requires.last.1 c.requires.last.2) (after c.args.state.now.events)))
+
+pub returns-clause-no_wait : goal.returns-clause-no_wait
+returns-clause-no_wait c = λ shown is. let no : came_as.Ended Memory ≡ came_as.Again shown = sym c.end_hart.ensures.result ∙ is in absurd cc

@@ -1,7 +1,11 @@
-use Rattle.std.proofs.Common.{get_or, refl}
+use Rattle.std.proofs.Common.{◌≡◌, false, get_or, refl, ap}
 use Rattle.link_history.specs.After.{after}
+use Rattle.call_answers.specs.Answers.{is_service}
 use Rattle.guest_worlds.specs.Worlds.{world_of}
+use Rattle.world_turns.specs.Run.{settled}
+use Rattle.world_turns.specs.World.{World}
 use Rattle.guest_turns.specs.Lemmas.Places.{read_at}
+use Rattle.guest_turns.specs.Lemmas.Turns.{next_is}
 use Rattle.guest_turns.proofs.Places.{comes_stays, has_room, is_last, last_read, run_stays, turns_stay}
 use Rattle.guest_turns.proofs.finals.take_final.Goals as goal
 
@@ -63,3 +67,17 @@ pub returns-in-Err-clause-comes : goal.returns-in-Err-clause-comes
 returns-in-Err-clause-comes c = λ words.
     comes_stays c.args.state.now c.args.harts.now c.number-index.result c.args.id c.index-harts-index-2.result c.number-index.ensures c.requires.hart c.prepare.new.hart c.in-Err.ensures.hart
     words (world_of c.lack_memory.new.state words c.lack_memory.new.harts) c.lack_memory.result (c.lack_memory.ensures.comes words)
+
+pub returns-in-Ok-clause-no_call : goal.returns-in-Ok-clause-no_call
+returns-in-Ok-clause-no_call c = λ words.
+    let old : World = world_of c.args.state.now words c.args.harts.now in
+    next_is old c.args.id (get_or c.args.harts.now c.number-index.result c.index-harts-index.result).hart (λ past d. is_service d ≡ false)
+    (read_at c.args.harts.now c.number-index.result c.args.id c.index-harts-index.result c.number-index.ensures c.requires.hart)
+    (ap is_service (c.in-Some.ensures.last (after (settled old).journal)))
+
+pub returns-in-Err-clause-no_call : goal.returns-in-Err-clause-no_call
+returns-in-Err-clause-no_call c = λ words.
+    let old : World = world_of c.args.state.now words c.args.harts.now in
+    next_is old c.args.id (get_or c.args.harts.now c.number-index.result c.index-harts-index.result).hart (λ past d. is_service d ≡ false)
+    (read_at c.args.harts.now c.number-index.result c.args.id c.index-harts-index.result c.number-index.ensures c.requires.hart)
+    (ap is_service (c.in-Some.ensures.last (after (settled old).journal)))

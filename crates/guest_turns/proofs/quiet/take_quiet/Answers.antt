@@ -1,14 +1,19 @@
-use Rattle.std.proofs.Common.{Some, get_or, refl, subst, ◌∙◌, ◌++◌}
+use Rattle.std.proofs.Common.{◌≡◌, Some, false, get_or, refl, sym, ap, subst, ◌∙◌, ◌++◌}
 use Rattle.link_history.specs.After.{after}
 use Rattle.hart_moves.specs.Due.{due}
 use Rattle.hart_moves.specs.Harts.{HartState}
 use Rattle.plain_turns.specs.declared.turned.Turned.{Turned}
+use Rattle.call_answers.specs.Answers.{is_service}
+use Rattle.guest_worlds.specs.Worlds.{world_of}
+use Rattle.guest_worlds.specs.declared.turn.Turn.TheVariants as came_as
 use Rattle.answer_turns.specs.Settling.{harts_in}
+use Rattle.world_turns.specs.Run.{settled}
 use Rattle.world_turns.specs.Turn.{TakesTurn}
-use Rattle.world_turns.specs.World.{settling}
+use Rattle.world_turns.specs.World.{World, settling}
 use Rattle.guest_turns.specs.Alone.{TakesAlone}
 use Rattle.guest_turns.specs.Lemmas.Places.{read_at, set_same, written_at}
-use Rattle.guest_turns.specs.Lemmas.Turns.{came_to_end, ended_by, may_end, runs_by, runs_on, took_its_end, went_on}
+use Rattle.guest_turns.specs.Lemmas.Turns.{came_to_end, ended_by, may_end, next_is, runs_by, runs_on, took_its_end, went_on}
+use Rattle.guest_turns.proofs.Freed.{ended_due}
 use Rattle.guest_turns.proofs.quiet.take_quiet.Goals as goal
 
 -- ---- the hart has ended
@@ -24,6 +29,15 @@ returns-then-is_some-clause-comes c =
     let hart : HartState = (get_or c.args.harts.now c.number-index.result c.index-harts-index.result).hart in
     let over = ended_by hart c.end.result c.is_some.result c.end.ensures c.is_some.ensures c.if-is_some.true in
     (refl, (over.0, (hart, read_at c.args.harts.now c.number-index.result c.args.id c.index-harts-index.result c.number-index.ensures c.requires.hart, over.1)))
+
+pub returns-then-is_some-clause-no_call : goal.returns-then-is_some-clause-no_call
+returns-then-is_some-clause-no_call c =
+    let old : World = world_of c.args.state.now c.args.memory.now c.args.harts.now in
+    let hart : HartState = (get_or c.args.harts.now c.number-index.result c.index-harts-index.result).hart in
+    let over = ended_by hart c.end.result c.is_some.result c.end.ensures c.is_some.ensures c.if-is_some.true in
+    next_is old c.args.id hart (λ past d. is_service d ≡ false)
+    (read_at c.args.harts.now c.number-index.result c.args.id c.index-harts-index.result c.number-index.ensures c.requires.hart)
+    (ap is_service (ended_due (after (settled old).journal) hart over.0 over.1))
 
 -- ---- it asks the linker
 
@@ -80,6 +94,22 @@ returns-in-Again-clause-comes c =
     runs_on c.args.state.now c.args.memory.now c.take_alone.new.memory c.args.harts.now c.number-index.result c.args.id c.index-harts-index-2.result c.take_alone.new.hart c.number-index.ensures c.requires.hart
     alone.runs
 
+pub returns-in-Over-clause-no_call : goal.returns-in-Over-clause-no_call
+returns-in-Over-clause-no_call c =
+    let old : World = world_of c.args.state.now c.args.memory.now c.args.harts.now in
+    let hart : HartState = (get_or c.args.harts.now c.number-index.result c.index-harts-index-2.result).hart in
+    let alone = subst (λ (t : Turned). TakesAlone c.args.memory.now c.take_alone.new.memory (due (after (settled old).journal) hart) hart c.take_alone.new.hart.hart (Some t)) c.in-Over.is (c.in-Some.ensures (after (settled old).journal)) in
+    next_is old c.args.id hart (λ past d. is_service d ≡ false)
+    (read_at c.args.harts.now c.number-index.result c.args.id c.index-harts-index-2.result c.number-index.ensures c.requires.hart) alone.no_call
+
+pub returns-in-Again-clause-no_call : goal.returns-in-Again-clause-no_call
+returns-in-Again-clause-no_call c =
+    let old : World = world_of c.args.state.now c.args.memory.now c.args.harts.now in
+    let hart : HartState = (get_or c.args.harts.now c.number-index.result c.index-harts-index-2.result).hart in
+    let alone = subst (λ (t : Turned). TakesAlone c.args.memory.now c.take_alone.new.memory (due (after (settled old).journal) hart) hart c.take_alone.new.hart.hart (Some t)) c.in-Again.is (c.in-Some.ensures (after (settled old).journal)) in
+    next_is old c.args.id hart (λ past d. is_service d ≡ false)
+    (read_at c.args.harts.now c.number-index.result c.args.id c.index-harts-index-2.result c.number-index.ensures c.requires.hart) alone.no_call
+
 -- ---- it ends
 
 pub end_hart-requires-clause-settling : goal.end_hart-requires-clause-settling
@@ -118,3 +148,14 @@ returns-in-Ends-clause-comes c =
     c.end_hart.new.state c.end_hart.new.harts c.in-Ends.reason c.end_hart.ensures.harts c.end_hart.result c.end_hart.ensures.result
     (runs_by c.args.harts.now c.number-index.result c.args.id c.index-harts-index.result c.index-harts-index-2.result c.end.result c.is_some.result c.number-index.ensures c.requires.hart
     c.end.ensures c.is_some.ensures c.if-is_some.false)
+
+pub returns-in-Ends-clause-no_call : goal.returns-in-Ends-clause-no_call
+returns-in-Ends-clause-no_call c =
+    let old : World = world_of c.args.state.now c.args.memory.now c.args.harts.now in
+    let hart : HartState = (get_or c.args.harts.now c.number-index.result c.index-harts-index-2.result).hart in
+    let alone = subst (λ (t : Turned). TakesAlone c.args.memory.now c.take_alone.new.memory (due (after (settled old).journal) hart) hart c.take_alone.new.hart.hart (Some t)) c.in-Ends.is (c.in-Some.ensures (after (settled old).journal)) in
+    next_is old c.args.id hart (λ past d. is_service d ≡ false)
+    (read_at c.args.harts.now c.number-index.result c.args.id c.index-harts-index-2.result c.number-index.ensures c.requires.hart) alone.no_call
+
+pub returns-in-Ends-clause-no_wait : goal.returns-in-Ends-clause-no_wait
+returns-in-Ends-clause-no_wait c = λ shown is. let no : came_as.Ended c.in-Ends.reason ≡ came_as.Again shown = sym c.end_hart.ensures.result ∙ is in absurd cc

@@ -5,10 +5,11 @@ use Rattle.hart_moves.specs.Due.{due}
 use Rattle.call_answers.specs.Openings.{TurnReadsNothing, TurnRefusalIsCounted}
 use Rattle.guest_worlds.specs.Worlds.{world_of}
 use Rattle.guest_turns.specs.Asking.{IsAsked}
-use Rattle.guest_turns.specs.Next.{TurnOpens, TurnWaits}
+use Rattle.guest_turns.specs.Lemmas.Turns.{counts_nothing, opens_nothing, tells_nothing}
+use Rattle.guest_turns.specs.Next.{TurnOpens, TurnTellsOver}
 use Rattle.guest_turns.specs.declared.asking.Asked.{Asked}
 use Rattle.guest_turns.proofs.Freed.{asks_of_complete, asks_of_service, harts_set, runs_on}
-use Rattle.guest_turns.proofs.Worlds.{behind, came_of, completes, from_next, legal_there, makes_call, may_pass, none_counted, none_opens, not_call, of_next, over_files, turned}
+use Rattle.guest_turns.proofs.Worlds.{behind, came_of, complete_no_call, completes, from_next, legal_there, makes_call, may_pass, of_next, over_files, turned}
 use Rattle.guest_turns.proofs.service.take_service.Goals as goal
 
 pub settle_all-requires : goal.settle_all-requires
@@ -59,13 +60,13 @@ returns-in-Call-clause-comes g c =
     (asks_of_service (due (after c.args.state.now.events) (get_or c.args.harts.now c.number-index.result c.index-harts-index.result).hart) (subst (λ (a : Asked). IsAsked (due (after c.args.state.now.events) (get_or c.args.harts.now c.number-index.result c.index-harts-index.result).hart) (Some a)) c.in-Call.is (c.in_ok-asked.ensures (after c.args.state.now.events)))))
     c.serve.ensures.outcome
 
-pub returns-in-Call-clause-again : goal.returns-in-Call-clause-again
-returns-in-Call-clause-again g c =
+pub returns-in-Call-clause-tells : goal.returns-in-Call-clause-tells
+returns-in-Call-clause-tells g c =
     let x = behind c.args.state.now c.settle_all.new.state c.args.memory.now c.args.harts.now c.settle_all.new.harts c.number-index.result c.args.id c.index-harts-index.result
     c.index-harts-index-2.result c.settle_all.ensures.journal c.settle_all.ensures.harts c.number-index.ensures c.requires.hart in
     of_next _ _ _ _ _ _ _ _ x c.freed_harts_move.ensures.due
-    (λ count past d. TurnWaits count c.args.folders.now (g.L.Library.files c.args.library.now) past c.args.id c.serve.result d)
-    c.serve.ensures.again
+    (λ count past d. TurnTellsOver count c.args.folders.now (g.L.Library.files c.args.library.now) past c.serve.new.state.events c.args.id d c.serve.result)
+    c.serve.ensures.tells
 
 pub returns-in-Call-clause-whole : goal.returns-in-Call-clause-whole
 returns-in-Call-clause-whole g c =
@@ -109,13 +110,25 @@ returns-in-Passing-clause-comes g c =
     (asks_of_complete (due (after c.args.state.now.events) (get_or c.args.harts.now c.number-index.result c.index-harts-index.result).hart) (subst (λ (a : Asked). IsAsked (due (after c.args.state.now.events) (get_or c.args.harts.now c.number-index.result c.index-harts-index.result).hart) (Some a)) c.in-Passing.is (c.in_ok-asked.ensures (after c.args.state.now.events)))))
     c.pass.ensures.outcome
 
+pub returns-in-Passing-clause-tells : goal.returns-in-Passing-clause-tells
+returns-in-Passing-clause-tells g c =
+    let x = behind c.args.state.now c.settle_all.new.state c.args.memory.now c.args.harts.now c.settle_all.new.harts c.number-index.result c.args.id c.index-harts-index.result
+    c.index-harts-index-2.result c.settle_all.ensures.journal c.settle_all.ensures.harts c.number-index.ensures c.requires.hart in
+    of_next _ _ _ _ _ _ _ _ x c.freed_harts_move.ensures.due
+    (λ count past d. TurnTellsOver count c.args.folders.now (g.L.Library.files c.args.library.now) past c.pass.new.state.events c.args.id d c.pass.result)
+    (λ w on. tells_nothing w c.settle_all.new.state.events c.pass.new.state.events c.args.id
+    (due (after c.settle_all.new.state.events) (get_or c.settle_all.new.harts c.number-index.result c.index-harts-index-2.result).hart) c.pass.result
+    (complete_no_call (due (after c.settle_all.new.state.events) (get_or c.settle_all.new.harts c.number-index.result c.index-harts-index-2.result).hart)
+    (completes _ _ _ _ _ _ _ _ x c.freed_harts_move.ensures.due (λ s. subst (λ (a : Asked). IsAsked (due s (get_or c.args.harts.now c.number-index.result c.index-harts-index.result).hart) (Some a)) c.in-Passing.is (c.in_ok-asked.ensures s))))
+    c.pass.ensures.no_wait)
+
 pub returns-in-Passing-clause-whole : goal.returns-in-Passing-clause-whole
 returns-in-Passing-clause-whole g c =
     let x = behind c.args.state.now c.settle_all.new.state c.args.memory.now c.args.harts.now c.settle_all.new.harts c.number-index.result c.args.id c.index-harts-index.result
     c.index-harts-index-2.result c.settle_all.ensures.journal c.settle_all.ensures.harts c.number-index.ensures c.requires.hart in
     of_next _ _ _ _ _ _ _ _ x c.freed_harts_move.ensures.due
     (λ count past d. TurnOpens count c.args.folders.now (g.L.Library.files c.args.library.now) (g.L.Library.faults c.args.library.now) (g.L.Library.faults c.args.library.now) past c.pass.new.state.events c.args.id c.pass.result d)
-    (none_opens c.settle_all.new.state.harts c.args.folders.now (g.L.Library.files c.args.library.now) (g.L.Library.faults c.args.library.now) (g.L.Library.faults c.args.library.now) c.settle_all.new.state.events c.pass.new.state.events c.args.id c.pass.result (due (after c.settle_all.new.state.events) (get_or c.settle_all.new.harts c.number-index.result c.index-harts-index-2.result).hart) (λ call back. not_call (due (after c.settle_all.new.state.events) (get_or c.settle_all.new.harts c.number-index.result c.index-harts-index-2.result).hart) call back (completes _ _ _ _ _ _ _ _ x c.freed_harts_move.ensures.due (λ s. subst (λ (a : Asked). IsAsked (due s (get_or c.args.harts.now c.number-index.result c.index-harts-index.result).hart) (Some a)) c.in-Passing.is (c.in_ok-asked.ensures s)))))
+    (opens_nothing c.settle_all.new.state.harts c.args.folders.now (g.L.Library.files c.args.library.now) (g.L.Library.faults c.args.library.now) (g.L.Library.faults c.args.library.now) c.settle_all.new.state.events c.pass.new.state.events c.args.id c.pass.result (due (after c.settle_all.new.state.events) (get_or c.settle_all.new.harts c.number-index.result c.index-harts-index-2.result).hart) (complete_no_call (due (after c.settle_all.new.state.events) (get_or c.settle_all.new.harts c.number-index.result c.index-harts-index-2.result).hart) (completes _ _ _ _ _ _ _ _ x c.freed_harts_move.ensures.due (λ s. subst (λ (a : Asked). IsAsked (due s (get_or c.args.harts.now c.number-index.result c.index-harts-index.result).hart) (Some a)) c.in-Passing.is (c.in_ok-asked.ensures s)))))
 
 pub returns-in-Passing-clause-counts : goal.returns-in-Passing-clause-counts
 returns-in-Passing-clause-counts g c =
@@ -123,4 +136,4 @@ returns-in-Passing-clause-counts g c =
     c.index-harts-index-2.result c.settle_all.ensures.journal c.settle_all.ensures.harts c.number-index.ensures c.requires.hart in
     of_next _ _ _ _ _ _ _ _ x c.freed_harts_move.ensures.due
     (λ count past d. TurnRefusalIsCounted c.args.folders.now past c.pass.new.state.events c.args.id d (g.L.Library.faults c.args.library.now) (g.L.Library.faults c.args.library.now) (g.L.Library.misses c.args.library.now) (g.L.Library.misses c.args.library.now))
-    (none_counted c.args.folders.now c.settle_all.new.state.events c.pass.new.state.events c.args.id (due (after c.settle_all.new.state.events) (get_or c.settle_all.new.harts c.number-index.result c.index-harts-index-2.result).hart) (g.L.Library.faults c.args.library.now) (g.L.Library.faults c.args.library.now) (g.L.Library.misses c.args.library.now) (g.L.Library.misses c.args.library.now) (λ call back. not_call (due (after c.settle_all.new.state.events) (get_or c.settle_all.new.harts c.number-index.result c.index-harts-index-2.result).hart) call back (completes _ _ _ _ _ _ _ _ x c.freed_harts_move.ensures.due (λ s. subst (λ (a : Asked). IsAsked (due s (get_or c.args.harts.now c.number-index.result c.index-harts-index.result).hart) (Some a)) c.in-Passing.is (c.in_ok-asked.ensures s)))))
+    (counts_nothing c.args.folders.now c.settle_all.new.state.events c.pass.new.state.events c.args.id (due (after c.settle_all.new.state.events) (get_or c.settle_all.new.harts c.number-index.result c.index-harts-index-2.result).hart) (g.L.Library.faults c.args.library.now) (g.L.Library.faults c.args.library.now) (g.L.Library.misses c.args.library.now) (g.L.Library.misses c.args.library.now) (complete_no_call (due (after c.settle_all.new.state.events) (get_or c.settle_all.new.harts c.number-index.result c.index-harts-index-2.result).hart) (completes _ _ _ _ _ _ _ _ x c.freed_harts_move.ensures.due (λ s. subst (λ (a : Asked). IsAsked (due s (get_or c.args.harts.now c.number-index.result c.index-harts-index.result).hart) (Some a)) c.in-Passing.is (c.in_ok-asked.ensures s)))))

@@ -9,7 +9,7 @@ use Rattle.hart_moves.specs.Due.{due}
 use Rattle.hart_moves.specs.Harts.{HartState}
 use Rattle.turn_answers.specs.Changes.{Changes}
 use Rattle.world_turns.specs.Memory.{RemakesAll}
-use Rattle.guest_turns.proofs.Answered.{still_counted, takes_answer, turn_waits, was_answered}
+use Rattle.guest_turns.proofs.Answered.{still_counted, takes_answer, turn_tells, was_answered}
 use Rattle.guest_turns.proofs.Freed.{asks_of_serve}
 use Rattle.guest_turns.proofs.Moved.{is_over, setting_with, turns_over}
 use Rattle.guest_turns.proofs.Openings.{turn_opens}
@@ -36,11 +36,13 @@ returns-clause-turns g c =
     (subst (λ (made : Installs). (w : Setting) (past given : List Event) → Legal w (past ++ given) → Changes (after past) given made c.take_answer-change.result
     → RemakesAll (after past) given c.args.memory.now c.apply.new.self) c.made_block.ensures c.apply.ensures)
 
-pub returns-clause-again : goal.returns-clause-again
-returns-clause-again g c =
-    turn_waits c.args.state.now c.answer_with_room-came.new.state c.args.folders.now (g.L.Library.files c.args.library.now) c.args.id
-    (due (after c.args.state.now.events) c.args.hart.now.hart) c.answer_with_room-came.result c.shown_by-waits.result c.outcome.result
-    c.answer_with_room-came.ensures.answered c.outcome.ensures.again c.shown_by-waits.ensures
+pub returns-clause-tells : goal.returns-clause-tells
+returns-clause-tells g c = λ w on.
+    turn_tells c.args.state.now c.answer_with_room-came.new.state c.take_answer-change.new.state.events c.args.folders.now (g.L.Library.files c.args.library.now)
+    c.args.id (due (after c.args.state.now.events) c.args.hart.now.hart) c.answer_with_room-came.result c.shown_by-waits.result
+    c.answer_with_room-came.ensures.answered c.take_answer-change.ensures.noted
+    (λ none. ap (λ (t : LinkTable). t.events) (c.take_answer-change.ensures.kept none)) w on c.outcome.result c.outcome.ensures.again
+    c.outcome.ensures.stepped c.shown_by-waits.ensures.some c.shown_by-waits.ensures.none
 
 pub returns-clause-counts : goal.returns-clause-counts
 returns-clause-counts g c =

@@ -1,10 +1,12 @@
-use Rattle.std.proofs.Common.{◌≡◌, ℕ, Bool, true, refl, sym, subst, ◌∙◌}
+use Rattle.std.proofs.Common.{◌≡◌, ℕ, Bool, true, [], refl, sym, subst, ◌∙◌}
 use Rattle.hart_moves.specs.Starting.{starting_registers}
-use Rattle.guest_worlds.specs.Worlds.{IsAt, world_of}
+use Rattle.guest_turns.specs.Lemmas.Counting.{unmoved}
+use Rattle.guest_worlds.specs.Worlds.{IsAt, setting_without, world_of}
 use Rattle.world_ends.specs.Ends.{has_exited}
 use Rattle.world_turns.specs.Run.{Finalises}
 use Rattle.world_turns.specs.World.{World}
 use Rattle.plain_world.specs.Playing.{FinalisesOnce}
+use Rattle.plain_world.proofs.Counting.{begun_refuses, lacks_refuses, same_refuses}
 use Rattle.plain_world.proofs.Parts.{all_in, begun_at}
 use Rattle.plain_world.proofs.finals.begin.Goals as goal
 
@@ -58,3 +60,25 @@ returns-in-Memory-clause-stays c = λ words folders at.
     (c.runs_stay.ensures.lacks c.args.state.now.harts folders old new
     (subst (λ (b : Bool). IsAt c.args.state.now.harts folders b old) c.if-begun.false at)
     (sym (all_in has_exited c.args.harts.now) ∙ sym c.have_exited.ensures ∙ c.if-not-have_exited.false) (c.in-Memory.ensures.begins words))
+
+pub returns-then-begun-clause-refuses : goal.returns-then-begun-clause-refuses
+returns-then-begun-clause-refuses c = λ words. unmoved (world_of c.args.state.now words c.args.harts.now)
+
+pub returns-then-not-have_exited-clause-refuses : goal.returns-then-not-have_exited-clause-refuses
+returns-then-not-have_exited-clause-refuses c = λ words. unmoved (world_of c.args.state.now words c.args.harts.now)
+
+pub returns-in-Begun-clause-refuses : goal.returns-in-Begun-clause-refuses
+returns-in-Begun-clause-refuses c = λ words.
+    begun_refuses (starting_registers c.args.entry) (world_of c.args.state.now words c.args.harts.now)
+    (world_of c.begin_finals.new.state words c.begin_finals.new.harts) (c.in-Begun.ensures.begins words)
+
+pub returns-in-NoneLeft-clause-refuses : goal.returns-in-NoneLeft-clause-refuses
+returns-in-NoneLeft-clause-refuses c = λ words.
+    same_refuses (world_of c.args.state.now words c.args.harts.now) (world_of c.begin_finals.new.state words c.begin_finals.new.harts)
+    (c.in-NoneLeft.ensures.begins words).1
+
+pub returns-in-Memory-clause-refuses : goal.returns-in-Memory-clause-refuses
+returns-in-Memory-clause-refuses c = λ words.
+    lacks_refuses (setting_without c.args.state.now.harts [] []) (world_of c.args.state.now words c.args.harts.now)
+    (world_of c.begin_finals.new.state words c.begin_finals.new.harts)
+    (c.in-Memory.ensures.begins words (setting_without c.args.state.now.harts [] []) refl)

@@ -1,7 +1,21 @@
-use Rattle.std.proofs.Common.{sym, ◌∙◌, arith}
+use Rattle.std.proofs.Common.{sym, ◌∙◌, arith, refl}
 use Rattle.world_turns.specs.Run.{Finishes, Rounds, all_harts}
+use Rattle.guest_turns.specs.Counting.{counts_at}
+use Rattle.guest_turns.specs.Lemmas.Counting.{unmoved}
+use Rattle.plain_world.proofs.Counting.{more_counted, no_count, same_folders}
 use Rattle.plain_world.proofs.Going.{each_round_less, in_each, moved_more}
 use Rattle.plain_world.proofs.run.finish.Goals as goal
+
+pub loop-alloc-init : goal.loop-alloc-init
+loop-alloc-init g c = record {
+  rest = refl;
+  goes = λ w over new more. more;
+  counts = no_count c.args.run.now.folders c.args.run.now.world c.args.run.now.world (counts_at g.L.Library.faults g.L.Library.misses c.args.library.now)
+      (unmoved c.args.run.now.world);
+  files = refl;
+  faults = omega arith;
+  misses = omega arith;
+}
 
 pub loop-alloc-smaller : goal.loop-alloc-smaller
 loop-alloc-smaller g c =
@@ -16,6 +30,9 @@ loop-alloc-preserved g c = record {
       (in_each c.args.run.now c.loop-alloc.run (g.L.Library.files c.args.library.now) (g.L.Library.files c.loop-alloc.library)
       (λ v. Rounds v (all_harts c.loop-alloc.run.world) c.loop-alloc.run.world c.go_round.new.run.world) c.loop-alloc.invariant.rest c.loop-alloc.invariant.files
       c.go_round.ensures.rounds w over) more);
+  counts = more_counted g.L.Library.faults g.L.Library.misses c.args.run.now c.loop-alloc.run c.go_round.new.run.world c.args.library.now
+      c.loop-alloc.library c.go_round.new.library (same_folders c.args.run.now c.loop-alloc.run c.loop-alloc.invariant.rest) c.loop-alloc.invariant.faults
+      c.loop-alloc.invariant.misses c.go_round.ensures.faults c.go_round.ensures.misses c.loop-alloc.invariant.counts c.go_round.ensures.counts;
   files = c.go_round.ensures.files ∙ c.loop-alloc.invariant.files;
   faults = omega arith;
   misses = omega arith;

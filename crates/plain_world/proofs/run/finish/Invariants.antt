@@ -1,4 +1,5 @@
 use Rattle.std.proofs.Common.{◌≡◌, ◌≤◌}
+use Rattle.guest_turns.specs.Counting.{IsCounted, counts_at}
 use Rattle.world_turns.specs.Run.{Finishes}
 use Rattle.world_turns.specs.World.{World}
 use Rattle.plain_world.specs.Playing.{InEachRun}
@@ -11,6 +12,8 @@ abbrev pub invariant-loop-alloc : goal.invariant-loop-alloc
 invariant-loop-alloc g l = record {
   rest : l.run ≡ moved l.fn.run l.run.world;
   goes : InEachRun l.fn.run (g.L.Library.files l.fn.library) (λ w. (new : World) → Finishes w l.run.world new → Finishes w l.fn.run.world new);
+  counts : IsCounted l.fn.run.folders l.fn.run.world l.run.world (counts_at g.L.Library.faults g.L.Library.misses l.fn.library)
+      (counts_at g.L.Library.faults g.L.Library.misses l.library);
   files : g.L.Library.files l.library ≡ g.L.Library.files l.fn.library;
   faults : g.L.Library.faults l.fn.library ≤ g.L.Library.faults l.library;
   misses : g.L.Library.misses l.fn.library ≤ g.L.Library.misses l.library;

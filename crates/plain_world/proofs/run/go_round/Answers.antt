@@ -1,7 +1,23 @@
-use Rattle.std.proofs.Common.{ℕ, ◌<◌, ◌≤◌, length, subst, ◌∙◌, arith}
+use Rattle.std.proofs.Common.{◌≡◌, ℕ, ◌<◌, ◌≤◌, ◌-◌, length, refl, subst, ◌∙◌, arith}
+use Rattle.std.specs.List.{range_with_len}
+use Rattle.world_turns.specs.Run.{Rounds}
 use Rattle.world_turns.specs.Turn.{TakesTurn}
+use Rattle.guest_turns.specs.Counting.{counts_at}
+use Rattle.guest_turns.specs.Lemmas.Counting.{unmoved}
+use Rattle.plain_world.proofs.Counting.{more_counted, no_count, same_folders}
 use Rattle.plain_world.proofs.Going.{in_each, moved_more, rounds_more, rounds_over}
 use Rattle.plain_world.proofs.run.go_round.Goals as goal
+
+pub loop-number-init : goal.loop-number-init
+loop-number-init g c = record {
+  rest = refl;
+  goes = λ w over new more. subst (λ (n : ℕ). Rounds w (range_with_len 0 n) c.args.run.now.world new) (let none : length c.args.run.now.world.harts - 0 ≡ length c.args.run.now.world.harts = omega arith in none) more;
+  counts = no_count c.args.run.now.folders c.args.run.now.world c.args.run.now.world (counts_at g.L.Library.faults g.L.Library.misses c.args.library.now)
+      (unmoved c.args.run.now.world);
+  files = refl;
+  faults = omega arith;
+  misses = omega arith;
+}
 
 pub loop-number-preserved : goal.loop-number-preserved
 loop-number-preserved g c =
@@ -16,6 +32,9 @@ loop-number-preserved g c =
           (in_each c.args.run.now c.loop-number.run (g.L.Library.files c.args.library.now) (g.L.Library.files c.loop-number.library)
           (λ v. TakesTurn v c.new.result c.loop-number.run.world c.turn.new.self.world) c.loop-number.invariant.rest c.loop-number.invariant.files
           c.turn.ensures.takes w over)) more);
+      counts = more_counted g.L.Library.faults g.L.Library.misses c.args.run.now c.loop-number.run c.turn.new.self.world c.args.library.now
+          c.loop-number.library c.turn.new.library (same_folders c.args.run.now c.loop-number.run c.loop-number.invariant.rest) c.loop-number.invariant.faults
+          c.loop-number.invariant.misses c.turn.ensures.faults c.turn.ensures.misses c.loop-number.invariant.counts c.turn.ensures.counts;
       files = c.turn.ensures.files ∙ c.loop-number.invariant.files;
       faults = omega arith;
       misses = omega arith;

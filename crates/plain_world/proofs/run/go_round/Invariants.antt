@@ -1,5 +1,6 @@
 use Rattle.std.proofs.Common.{◌≡◌, ◌≤◌, ◌-◌, length}
 use Rattle.std.specs.List.{range_with_len}
+use Rattle.guest_turns.specs.Counting.{IsCounted, counts_at}
 use Rattle.world_turns.specs.Run.{Rounds, all_harts}
 use Rattle.world_turns.specs.World.{World}
 use Rattle.plain_world.specs.Playing.{InEachRun}
@@ -12,6 +13,8 @@ invariant-loop-number g l = record {
   rest : l.run ≡ moved l.fn.run l.run.world;
   goes : InEachRun l.fn.run (g.L.Library.files l.fn.library)
       (λ w. (new : World) → Rounds w (range_with_len l.number (length l.fn.run.world.harts - l.number)) l.run.world new → Rounds w (all_harts l.fn.run.world) l.fn.run.world new);
+  counts : IsCounted l.fn.run.folders l.fn.run.world l.run.world (counts_at g.L.Library.faults g.L.Library.misses l.fn.library)
+      (counts_at g.L.Library.faults g.L.Library.misses l.library);
   files : g.L.Library.files l.library ≡ g.L.Library.files l.fn.library;
   faults : g.L.Library.faults l.fn.library ≤ g.L.Library.faults l.library;
   misses : g.L.Library.misses l.fn.library ≤ g.L.Library.misses l.library;

@@ -1,4 +1,5 @@
 use Rattle.std.proofs.Common.{◌≡◌, ◌≤◌, ◌-◌}
+use Rattle.guest_turns.specs.Counting.{IsCounted, counts_at}
 use Rattle.world_turns.specs.Run.{Repeats}
 use Rattle.world_turns.specs.World.{World}
 use Rattle.plain_world.specs.Playing.{InEachRun}
@@ -11,6 +12,8 @@ invariant-loop-turn g l = record {
   rest : l.run ≡ moved l.fn.run l.run.world;
   goes : InEachRun l.fn.run (g.L.Library.files l.fn.library)
       (λ w. (new : World) → Repeats w l.fn.item.hart (l.fn.item.count - l._turn) l.run.world new → Repeats w l.fn.item.hart l.fn.item.count l.fn.run.world new);
+  counts : IsCounted l.fn.run.folders l.fn.run.world l.run.world (counts_at g.L.Library.faults g.L.Library.misses l.fn.library)
+      (counts_at g.L.Library.faults g.L.Library.misses l.library);
   files : g.L.Library.files l.library ≡ g.L.Library.files l.fn.library;
   faults : g.L.Library.faults l.fn.library ≤ g.L.Library.faults l.library;
   misses : g.L.Library.misses l.fn.library ≤ g.L.Library.misses l.library;

@@ -1,8 +1,23 @@
-use Rattle.std.proofs.Common.{sym, ◌∙◌, arith}
+use Rattle.std.proofs.Common.{sym, ◌∙◌, arith, refl}
 use Rattle.world_turns.specs.Run.{Ends}
 use Rattle.world_turns.specs.Turn.{Turn}
+use Rattle.guest_turns.specs.Counting.{counts_at}
+use Rattle.guest_turns.specs.Lemmas.Counting.{unmoved}
+use Rattle.plain_world.proofs.Counting.{more_counted, no_count, same_folders}
 use Rattle.plain_world.proofs.Going.{each_less, each_others, in_each, moved_more, runs_first}
 use Rattle.plain_world.proofs.run.run_finals.Goals as goal
+
+pub loop-alloc-init : goal.loop-alloc-init
+loop-alloc-init g c = record {
+  rest = refl;
+  goes = λ w over new more. more;
+  others = c.requires;
+  counts = no_count c.args.run.now.folders c.args.run.now.world c.args.run.now.world (counts_at g.L.Library.faults g.L.Library.misses c.args.library.now)
+      (unmoved c.args.run.now.world);
+  files = refl;
+  faults = omega arith;
+  misses = omega arith;
+}
 
 pub go_on-requires : goal.go_on-requires
 go_on-requires g c = runs_first c.loop-alloc.run.world (sym c.have_ended.ensures ∙ c.loop-alloc-test.true) c.loop-alloc.invariant.others
@@ -19,6 +34,9 @@ loop-alloc-preserved g c = record {
       (λ v. Turn v 0 c.loop-alloc.run.world c.go_on.new.run.world) c.loop-alloc.invariant.rest c.loop-alloc.invariant.files c.go_on.ensures.turn w over) more);
   others = each_others c.loop-alloc.run (g.L.Library.files c.loop-alloc.library) c.loop-alloc.run.world c.go_on.new.run.world c.go_on.ensures.turn
       c.loop-alloc.invariant.others;
+  counts = more_counted g.L.Library.faults g.L.Library.misses c.args.run.now c.loop-alloc.run c.go_on.new.run.world c.args.library.now
+      c.loop-alloc.library c.go_on.new.library (same_folders c.args.run.now c.loop-alloc.run c.loop-alloc.invariant.rest) c.loop-alloc.invariant.faults
+      c.loop-alloc.invariant.misses c.go_on.ensures.faults c.go_on.ensures.misses c.loop-alloc.invariant.counts c.go_on.ensures.counts;
   files = c.go_on.ensures.files ∙ c.loop-alloc.invariant.files;
   faults = omega arith;
   misses = omega arith;

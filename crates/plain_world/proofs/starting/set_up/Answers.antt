@@ -1,5 +1,12 @@
-use Rattle.plain_world.proofs.Started.{brings}
+use Rattle.std.proofs.Common.{refl}
+use Rattle.opening_plan.specs.Startup.{run_of}
+use Rattle.plain_world.proofs.Started.{at_start, starts_at}
 use Rattle.plain_world.proofs.starting.set_up.Goals as goal
 
-pub starting_memory-requires : goal.starting_memory-requires
-starting_memory-requires c = brings c.requires.starts.0 c.requires.starts.1 c.args.state.events c.args.started c.requires.starts.2
+pub parts_of-requires-clause-starts : goal.parts_of-requires-clause-starts
+parts_of-requires-clause-starts c = (run_of c.args.setup.now c.requires.starts.0, c.args.setup.now, c.requires.starts.1)
+
+pub returns-clause-starts : goal.returns-clause-starts
+returns-clause-starts c = λ files starts.
+    starts_at c.args.setup.now files c.args.state c.args.state c.args.started c.in_ok-memory.memory c.in_ok-memory.harts.items c.in_ok-memory.entry starts refl
+    c.in_ok-memory.ensures.memory c.in_ok-memory.ensures.harts c.in_ok-memory.ensures.entry

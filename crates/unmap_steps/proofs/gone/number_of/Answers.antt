@@ -5,14 +5,14 @@ use Rattle.unmap_steps.specs.Touched.{is_of_set}
 use Rattle.unmap_steps.proofs.Removed.{found_here, passed_by}
 use Rattle.unmap_steps.proofs.gone.number_of.Goals as goal
 
-pub returns-then-contains : goal.returns-then-contains
-returns-then-contains c =
+pub returns-then-has : goal.returns-then-has
+returns-then-has c =
     let lt : c.loop-module.module-index < length c.args.modules.now = omega arith in
-    let is : is_of_set c.args.set.now c.module-item.result ≡ true = sym c.contains.ensures.value ∙ c.if-contains.true in
+    let is : is_of_set c.args.set.now c.module-item.result ≡ true = sym c.has.ensures ∙ c.if-has.true in
     ap (option_map (λ (m : Module). m.number)) (sym (found_here c.args.set.now c.args.modules.now c.loop-module.module-index c.module-item.result lt c.module-item.is is c.loop-module.invariant))
 
 pub loop-module-preserved : goal.loop-module-preserved
 loop-module-preserved c =
     let lt : c.loop-module.module-index < length c.args.modules.now = omega arith in
-    let is : is_of_set c.args.set.now c.module-item.result ≡ false = sym c.contains.ensures.value ∙ c.if-contains.false in
+    let is : is_of_set c.args.set.now c.module-item.result ≡ false = sym c.has.ensures ∙ c.if-has.false in
     passed_by c.args.set.now c.args.modules.now c.loop-module.module-index c.module-item.result lt c.module-item.is is c.loop-module.invariant

@@ -13,7 +13,9 @@ use Rattle.plain_world.specs.Finals.{FinalsBegin, FinalsDont}
 use Rattle.plain_world.specs.Inside.{world_in}
 use Rattle.plain_world.specs.Playing.{BeginsToFinalise, FinalisesOnce}
 use Rattle.plain_world.specs.Table.{WorldTable}
+use Rattle.guest_turns.specs.Counting.{RefusesNone}
 use Rattle.plain_world.proofs.Parts.{on_false, on_true}
+use Rattle.plain_world.proofs.Telling.{turn_seen}
 use Rattle.plain_world.proofs.world.World.begin_finals.Goals as goal
 
 pub returns-clause-begins : goal.returns-clause-begins
@@ -54,3 +56,14 @@ returns-clause-other c =
     (λ none w on. subst (λ (hs : List HartTable). FinalisesOnce w c.self.inside.begun (starting_registers c.self.inside.entry)
     (world_of c.self.inside.state c.self.inside.memory hs) new) c.as_mut_slice.ensures.value (none c.self.inside.memory w on))
     c.begin.ensures.other))
+
+pub returns-clause-refuses : goal.returns-clause-refuses
+returns-clause-refuses c =
+    let same = c.begin.auto.harts in
+    let were : length c.as_mut_slice.result.now ≡ length c.self.inside.harts.items = ap (λ (hs : List HartTable). length hs) c.as_mut_slice.ensures.value in
+    let counted = c.self.inside.harts.ok.0 in
+    let long : length c.begin.new.harts ≡ c.self.inside.harts.len = omega (arith, same, were, counted) in
+    let kept : (with_items c.self.inside.harts c.begin.new.harts).items ≡ c.begin.new.harts = with_items_is c.self.inside.harts c.begin.new.harts long in
+    turn_seen (λ (t : WorldTable) (v : World). RefusesNone t.world v) c.self.inside c.as_mut_slice.result.now c.args.self.now c.begin.new.state c.self.inside.memory
+    c.begin.new.harts (with_items c.self.inside.harts c.begin.new.harts).items c.as_mut_slice.ensures.value c.self.view_is kept
+    (c.begin.ensures.refuses c.self.inside.memory)

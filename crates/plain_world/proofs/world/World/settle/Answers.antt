@@ -1,6 +1,6 @@
 use Rattle.std.proofs.Common.{◌≡◌, ℕ, ◌≤◌, List, length, sym, ap, subst, ◌∙◌, arith}
 use Rattle.std.proofs.lemmas.List.{with_items_is}
-use Rattle.std.specs.Vec.{with_items}
+use Rattle.std.specs.Vec.{vec_capacity, with_items}
 use Rattle.link_state.specs.Table.{LinkTable}
 use Rattle.turn_answers.specs.Following.{MayFollowAll}
 use Rattle.hart_seat.specs.Table.{HartTable}
@@ -33,6 +33,8 @@ invariant_of-self c =
           (settled_at c.self.inside.folders c.self.inside.begun c.self.inside.state c.settle_all.new.state c.self.inside.memory c.as_mut_slice.result.now
           c.self.inside.harts.items c.settle_all.new.harts c.as_mut_slice.ensures.value c.settle_all.ensures.journal c.settle_all.ensures.harts
           (c.guests_may_turn.ensures.settles c.self.inside.state.harts c.self.inside.folders c.self.inside.begun (world_in c.self.inside) c.self.invariant.at).at);
+      no_ends = c.self.invariant.no_ends;
+      room = subst (λ (n : ℕ). n ≤ vec_capacity c.self.inside.ends) (sym (ap (λ (s : LinkTable). s.harts) c.settle_all.ensures.journal)) c.self.invariant.room;
     }
 
 pub returns : goal.returns

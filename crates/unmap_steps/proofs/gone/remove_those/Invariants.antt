@@ -2,7 +2,7 @@ use Rattle.std.proofs.Common.{◌≡◌, ◌+◌, length, not}
 use Rattle.std.specs.List.{filter}
 use Rattle.tls_blocks.specs.Numbers.{AreNumbered}
 use Rattle.unmap_steps.specs.Touched.{is_of_set}
-use Rattle.unmap_steps.proofs.gone.remove_modules.Given as goal
+use Rattle.unmap_steps.proofs.gone.remove_those.Given as goal
 
 -- those that stay are the same, and each that is gone was counted
 abbrev pub invariant-loop-number : goal.invariant-loop-number

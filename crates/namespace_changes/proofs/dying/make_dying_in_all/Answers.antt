@@ -1,7 +1,7 @@
 use Rattle.std.proofs.Common.{◌<◌, length, arith}
 use Rattle.link_history.specs.Step.{dying_in}
 use Rattle.link_history.specs.Lemmas.InPlace.{changed_more}
-use Rattle.namespace_changes.proofs.dying.make_dying.Goals as goal
+use Rattle.namespace_changes.proofs.dying.make_dying_in_all.Goals as goal
 
 pub loop-namespace-preserved : goal.loop-namespace-preserved
 loop-namespace-preserved c =

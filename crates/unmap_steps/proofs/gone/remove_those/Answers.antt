@@ -7,7 +7,7 @@ use Rattle.link_history.specs.Lemmas.Lists.{found_in}
 use Rattle.tls_blocks.specs.Numbers.{AreNumbered, without_module}
 use Rattle.unmap_steps.specs.Touched.{is_of_set}
 use Rattle.unmap_steps.proofs.Removed.{IsOneLess, found_number, is_there, no_more, none_go, removed_one, stays, still_numbered}
-use Rattle.unmap_steps.proofs.gone.remove_modules.Goals as goal
+use Rattle.unmap_steps.proofs.gone.remove_those.Goals as goal
 
 pub remove-requires-clause-there : goal.remove-requires-clause-there
 remove-requires-clause-there c =

@@ -1,6 +1,6 @@
 use Rattle.std.proofs.Common.{◌≡◌, ◌++◌, map, take, drop}
 use Rattle.link_history.specs.Step.{dying_in}
-use Rattle.namespace_changes.proofs.dying.make_dying.Given as goal
+use Rattle.namespace_changes.proofs.dying.make_dying_in_all.Given as goal
 
 -- those in front are changed
 abbrev pub invariant-loop-namespace : goal.invariant-loop-namespace

@@ -1,0 +1,17 @@
+use Rattle.opening_plan.specs.Startup.{run_of}
+use Rattle.guest_turns.specs.Counting.{counts_at}
+use Rattle.plain_world.proofs.Counting.{goes_up, started_shows}
+use Rattle.plain_world.proofs.world.World.start.Goals as goal
+
+pub set_up-requires-clause-starts : goal.set_up-requires-clause-starts
+set_up-requires-clause-starts g c = (g.L.Library.files c.args.library.now, c.in_ok-state.ensures.starts)
+
+pub returns-clause-starts : goal.returns-clause-starts
+returns-clause-starts g c = c.in-Ok.ensures.starts (g.L.Library.files c.args.library.now) c.in_ok-state.ensures.starts
+
+pub returns-clause-shows : goal.returns-clause-shows
+returns-clause-shows g c =
+    let starts = returns-clause-starts g c in
+    started_shows (run_of c.args.setup.now (g.L.Library.files c.args.library.now)) c.args.setup.now c.in-Ok.run'.world.journal starts.starts.started
+    (counts_at g.L.Library.faults g.L.Library.misses c.args.library.now) (counts_at g.L.Library.faults g.L.Library.misses c.startup.new.library)
+    (goes_up g.L.Library.faults g.L.Library.misses c.args.library.now c.startup.new.library c.startup.ensures.faults c.startup.ensures.misses) starts.starts.starts
