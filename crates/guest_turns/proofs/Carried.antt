@@ -38,7 +38,7 @@ use Rattle.world_turns.specs.Turn.{Turn}
 use Rattle.world_turns.specs.World.{World, found_harts, found_journal, has_won, settled_by, settling}
 use Rattle.guest_turns.specs.Last.{HasRoom, IsLast, IsSomewhereIn, SettlesFirst, turn_by}
 use Rattle.guest_turns.specs.Next.{NeverWaits}
-use Rattle.guest_turns.proofs.Ending.{runs_last}
+use Rattle.guest_turns.proofs.Lasting.{runs_last}
 
 -- ---- what is settled first leaves the plan
 

@@ -7,3 +7,4 @@ pub mod Last
 pub mod Laws
 pub mod Lemmas
 pub mod Next
+pub mod Taking

@@ -1,5 +1,7 @@
+pub mod Counting
 pub mod Going
 pub mod Left
 pub mod Parts
 pub mod Runs
 pub mod Started
+pub mod Telling

@@ -10,7 +10,7 @@ use Rattle.guest_turns.specs.Lemmas.Places.{read_at}
 use Rattle.guest_turns.specs.Lemmas.Turns.{came_to_end, may_end, took_its_end}
 use Rattle.answer_turns.specs.Settling.{harts_in}
 use Rattle.world_turns.specs.World.{settling}
-use Rattle.guest_turns.proofs.Ending.{is_to_end, runs_last}
+use Rattle.guest_turns.proofs.Lasting.{is_to_end, runs_last}
 use Rattle.guest_turns.proofs.Places.{due_here}
 use Rattle.guest_turns.proofs.finals.lack_memory.Goals as goal
 
