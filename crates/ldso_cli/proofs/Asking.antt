@@ -1,5 +1,5 @@
 -- What words ask for.
-use Rattle.std.proofs.Common.{◌≡◌, ◌⊎◌, inl, inr, ⊎_elim, ℕ, List, Option, Some, None, Result, Ok, Err, refl, sym, ap, subst}
+use Rattle.std.proofs.Common.{◌≡◌, ◌⊎◌, inl, inr, ⊎_elim, ℕ, List, Option, Some, None, Result, Ok, Err, refl, ap, subst}
 use Rattle.std.specs.Prelude.{IfOk}
 use Rattle.std.specs.declared.alloc.AllocError.{AllocError}
 use Rattle.command_line.specs.Reads.{OneCommand, Reads}
@@ -10,6 +10,7 @@ use Rattle.link_service.specs.Startup.{harts_of}
 use Rattle.ldso_cli.proofs.Schedules.{Schedule, told_schedule}
 use Rattle.ldso_cli.specs.Asked.{Asks, CanBeDone, OfAsked}
 use Rattle.ldso_cli.specs.Command.{Answers, AsScheduled, IsUsage}
+use Rattle.ldso_cli.specs.Generate.{GenComes}
 use Rattle.ldso_cli.specs.Outside.{LibraryAt}
 use Rattle.ldso_cli.specs.Turns.{IsScheduled, TurnsComes}
 use Rattle.ldso_cli.specs.declared.answer.Answer.{Answer}
@@ -33,7 +34,7 @@ told (commands.Assemble path) = inl tt
 told (commands.Dump path) = inl tt
 told (commands.Turns turns) = scheduled turns (told_schedule (harts_of turns.setup) turns.schedule)
 told (commands.Run run) = inr (λ no. no)
-told (commands.Generate number) = inr (λ no. no)
+told (commands.Generate number) = inl tt
 
 -- ---- words that are a command
 
@@ -61,6 +62,14 @@ turned one words turns reads before after (Ok a) come = ⊎_elim
     (λ (x : IsScheduled turns × TurnsComes turns before after a.end a.text). record { asked = Some (commands.Turns turns); asks = (reads, x.0); holds = x.1 })
     (λ (x : (IsScheduled turns → ⊥) × IsUsage a.end a.text). not_done one words (commands.Turns turns) reads x.0 x.1)
     come
+
+-- ---- gen
+
+-- the library is as it was
+pub generated : (words : List (List ℕ)) (number : ℕ) → Reads words (commands.Generate number) → (library : LibraryAt) (r : Result Answer AllocError) → IfOk r (λ a. GenComes number a.end a.text)
+    → OfAsked words (λ command. IfOk r (λ a. Answers command library library a.end a.text))
+generated words number reads library (Err e) come = record { asked = Some (commands.Generate number); asks = (reads, tt); holds = tt }
+generated words number reads library (Ok a) come = record { asked = Some (commands.Generate number); asks = (reads, tt); holds = (come, refl) }
 
 -- ---- words that are none
 

@@ -1,20 +1,19 @@
 -- How asm ends.
-use Rattle.std.proofs.Common.{◌≡◌, ◌⊎◌, inl, inr, ℕ, List, Option, Some, None, Result, Ok, Err, refl, sym, ap, subst, ◌∙◌}
+use Rattle.std.proofs.Common.{◌≡◌, ℕ, List, Option, Some, None, Result, Ok, Err, refl, sym, ap, subst, ◌∙◌}
 use Rattle.std.specs.Prelude.{IfOk, IfSome}
 use Rattle.std.specs.declared.alloc.AllocError.{AllocError}
 use Rattle.ld_base.specs.declared.fault.AsmCause.{AsmCause}
-use Rattle.ld_base.specs.declared.fault.DlFault.{DlFault}
 use Rattle.ld_base.specs.declared.fault.DlFault.TheVariants as dl
 use Rattle.ld_base.specs.declared.linking.File.{File}
 use Rattle.library_source.specs.Count.{Rises}
-use Rattle.library_source.specs.Files.{Over, file_at}
+use Rattle.library_source.specs.Files.{file_at}
 use Rattle.asm_denotes.specs.Denotes.{Denotes, AsmBroken}
 use Rattle.command_line.specs.declared.command.Command.TheVariants as commands
 use Rattle.ldso_cli.specs.Asm.{SourceRead, source, missing, failed, SourceComes, ReadsSource, GivesCause, AsmComes, AsmPrints, IsOfFile}
 use Rattle.ldso_cli.specs.Command.{Answers, EndsBare}
 use Rattle.ldso_cli.specs.End.{bare}
 use Rattle.ldso_cli.specs.Outside.{LibraryAt}
-use Rattle.ldso_cli.specs.Status.{refused_text, asm_refused_text}
+use Rattle.ldso_cli.specs.Status.{refused_text}
 use Rattle.ldso_cli.specs.declared.answer.Answer.{Answer}
 use Rattle.ldso_cli.specs.declared.outcome.Cause.{Cause}
 use Rattle.ldso_cli.specs.declared.outcome.Cause.TheVariants as causes

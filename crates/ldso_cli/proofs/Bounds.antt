@@ -1,5 +1,5 @@
 -- How many harts and turns words may ask for.
-use Rattle.std.proofs.Common.{◌≡◌, ℕ, ◌^◌, ◌≤◌, List, [], ◌∷◌, length, Option, Some, None, sym, subst, arith}
+use Rattle.std.proofs.Common.{ℕ, ◌^◌, ◌≤◌, List, length, Option, Some, None, sym, subst, arith}
 use Rattle.command_line.specs.Reads.{Reads}
 use Rattle.command_line.specs.Values.{AreHarts, IsFuel}
 use Rattle.command_line.specs.declared.command.Command.TheVariants as commands

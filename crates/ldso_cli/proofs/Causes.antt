@@ -1,5 +1,5 @@
 -- Each cause comes only where it is so.
-use Rattle.std.proofs.Common.{◌≡◌, ◌⊎◌, inl, inr, ℕ, List, Option, Some, None, Result, Ok, Err, refl, sym, ap, subst, ◌∙◌}
+use Rattle.std.proofs.Common.{◌≡◌, inl, inr, ℕ, List, Option, Some, None, Result, Ok, Err, refl, sym, ap, subst, ◌∙◌}
 use Rattle.std.specs.Prelude.{IfOk}
 use Rattle.std.specs.Result.{MatchResult}
 use Rattle.std.specs.declared.alloc.AllocError.{AllocError}
@@ -7,20 +7,25 @@ use Rattle.ld_base.specs.declared.fault.DlFault.{DlFault}
 use Rattle.ld_base.specs.declared.fault.DlFault.TheVariants as dl
 use Rattle.ld_base.specs.declared.linking.File.{File}
 use Rattle.library_source.specs.Count.{Rises}
-use Rattle.library_source.specs.Files.{AreFiles, Over, file_at}
+use Rattle.library_source.specs.Files.{AreFiles, file_at}
+use Rattle.run_texts.specs.declared.run_end.RunEnd.{RunEnd}
+use Rattle.run_texts.specs.declared.run_end.RunEnd.TheVariants.{Exited, Ended}
 use Rattle.scope_rule.specs.Finding.{Reading, here, unaccepted, absent, failed}
 use Rattle.command_text.specs.Refusal.{first_refusal}
 use Rattle.command_line.specs.declared.command.Bind.{Bind}
 use Rattle.command_line.specs.declared.command.Command.{Command}
 use Rattle.command_line.specs.declared.command.Command.TheVariants as commands
-use Rattle.ldso_cli.specs.Asm.{SourceRead, SourceComes, ReadsSource, GivesCause, AsmComes}
+use Rattle.ldso_cli.proofs.Told.{never_rises}
+use Rattle.ldso_cli.specs.Asm.{SourceRead, SourceComes, ReadsSource, GivesCause}
 use Rattle.ldso_cli.specs.Bind.{BindComes, cause_of, namespace_of}
 use Rattle.command_line.specs.declared.command.Turns.{Turns}
-use Rattle.ldso_cli.specs.Command.{Answers, CommandAnswers, IsUsage, Misses}
+use Rattle.ldso_cli.specs.Command.{Answers, CommandAnswers, Misses}
 use Rattle.ldso_cli.specs.Dump.{DumpComes, ReadsAs, dump_cause}
 use Rattle.ldso_cli.specs.End.{bare}
 use Rattle.ldso_cli.specs.Ends.{Handing, IsCaused, IsUnanswered, Written}
+use Rattle.ldso_cli.specs.Generate.{GenComes, GenMisses, set_cause}
 use Rattle.ldso_cli.specs.Outside.{LibraryAt, SinkAt}
+use Rattle.ldso_cli.specs.Played.{StartMisses, run_cause}
 use Rattle.ldso_cli.specs.Turns.{TurnsComes}
 use Rattle.ldso_cli.specs.declared.answer.Answer.{Answer}
 use Rattle.ldso_cli.specs.declared.outcome.Cause.{Cause}
@@ -117,21 +122,49 @@ dump_comes path before after files cause comes =
     let P : Cause → Type 0 = λ c. IsOwn (commands.Dump path) before after c in
     subst P (sym comes.cause_is) (dump_own path before after (file_at files path) comes.reading comes.gives)
 
--- ---- turns
+-- ---- turns and gen, by how their runs ended
+
+abbrev not_started : DlFault → Result RunEnd DlFault
+not_started fault = Err fault
+
+same_fault : (f g : DlFault) → causes.Refused f ≡ causes.Refused g → f ≡ g
+same_fault f g e = cc
+
+turns_ended : (turns : Turns) (before after : LibraryAt) (ended : Result RunEnd DlFault) → ((path : List ℕ) → ended ≡ Err (dl.ReadFault path) → Rises before.faults after.faults)
+    → ((name : List ℕ) → ended ≡ Err (dl.MissingLibrary name) → StartMisses turns.setup before after name) → IsOwn (commands.Turns turns) before after (run_cause ended)
+turns_ended turns before after (Ok run_end) unread missed =
+    record { no_usage = λ e. cc e; no_write = λ e. cc e; read_fault = λ path e. absurd (cc e); missing = λ name e. absurd (cc e) }
+turns_ended turns before after (Err fault) unread missed = record {
+  no_usage = λ e. cc e;
+  no_write = λ e. cc e;
+  read_fault = λ path e. unread path (ap not_started (same_fault fault (dl.ReadFault path) e));
+  missing = λ name e. missed name (ap not_started (same_fault fault (dl.MissingLibrary name) e));
+}
 
 turns_own : (turns : Turns) (before after : LibraryAt) (end : End) (text : List ℕ) → TurnsComes turns before after end text → IsOwn (commands.Turns turns) before after end.cause
-turns_own turns before after end text comes = record {
-  no_usage = λ e. elim comes.is [
-    | inl refused ↦ (let no : causes.Refused refused.fault ≡ causes.Usage = sym (ap (λ (x : End). x.cause) refused.tells.end_is) ∙ e in cc no)
-    | inr ran ↦ (let no : causes.Ran ran.tells.run_end ≡ causes.Usage = sym (ap (λ (x : End). x.cause) ran.tells.end_is) ∙ e in cc no)
-  ];
-  no_write = λ e. elim comes.is [
-    | inl refused ↦ (let no : causes.Refused refused.fault ≡ causes.WriteFault = sym (ap (λ (x : End). x.cause) refused.tells.end_is) ∙ e in cc no)
-    | inr ran ↦ (let no : causes.Ran ran.tells.run_end ≡ causes.WriteFault = sym (ap (λ (x : End). x.cause) ran.tells.end_is) ∙ e in cc no)
-  ];
-  read_fault = comes.read_fault;
-  missing = comes.missing;
+turns_own turns before after end text comes =
+    let P : Cause → Type 0 = λ c. IsOwn (commands.Turns turns) before after c in
+    subst P (sym (ap (λ (e : End). e.cause) comes.end_is)) (turns_ended turns before after comes.ended comes.plays.read_fault comes.plays.missing)
+
+gen_ended : (number : ℕ) (before after : LibraryAt) (ended : Result RunEnd DlFault) → ((path : List ℕ) → ended ≡ Err (dl.ReadFault path) → ⊥)
+    → ((name : List ℕ) → ended ≡ Err (dl.MissingLibrary name) → GenMisses number name) → IsOwn (commands.Generate number) before after (set_cause ended)
+gen_ended number before after (Ok (Exited code)) unread missed =
+    record { no_usage = λ e. cc e; no_write = λ e. cc e; read_fault = λ path e. absurd (cc e); missing = λ name e. absurd (cc e) }
+gen_ended number before after (Ok (Ended hart reason)) unread missed =
+    record { no_usage = λ e. cc e; no_write = λ e. cc e; read_fault = λ path e. absurd (cc e); missing = λ name e. absurd (cc e) }
+gen_ended number before after (Err fault) unread missed = record {
+  no_usage = λ e. cc e;
+  no_write = λ e. cc e;
+  read_fault = λ path e. absurd (unread path (ap not_started (same_fault fault (dl.ReadFault path) e)));
+  missing = λ name e. missed name (ap not_started (same_fault fault (dl.MissingLibrary name) e));
 }
+
+gen_own : (number : ℕ) (before after : LibraryAt) (end : End) (text : List ℕ) → GenComes number end text → IsOwn (commands.Generate number) before after end.cause
+gen_own number before after end text comes =
+    let P : Cause → Type 0 = λ c. IsOwn (commands.Generate number) before after c in
+    subst P (sym (ap (λ (e : End). e.cause) comes.end_is))
+    (gen_ended number before after comes.ended (λ path e. never_rises (comes.plays.read_fault path e))
+    (λ name e. record { files = comes.files; are = comes.are; misses = comes.misses; missed = comes.plays.missing name e }))
 
 own_end : (command : Command) (before after : LibraryAt) (end : End) (text : List ℕ) → CommandAnswers command before after end text → IsOwn command before after end.cause
 own_end (commands.Bind bind) before after end text over =
@@ -145,7 +178,7 @@ own_end (commands.Assemble path) before after end text over =
     at_end (commands.Assemble path) before after comes.cause end comes.end_is (asm_own path before after (file_at over.files path) comes.by.read comes.cause comes.by.reads comes.by.gives)
 own_end (commands.Turns turns) before after end text comes = turns_own turns before after end text comes
 own_end (commands.Run run) before after end text none = absurd none
-own_end (commands.Generate number) before after end text none = absurd none
+own_end (commands.Generate number) before after end text comes = gen_own number before after end text comes.0
 
 -- ---- what is written
 

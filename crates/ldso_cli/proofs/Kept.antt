@@ -1,52 +1,48 @@
--- What is kept of a run, and when there is one.
-use Rattle.std.proofs.Common.{◌≡◌, inl, inr, ⊎_elim, ℕ, List, Option, Some, refl, sym, ap, subst, ◌∙◌, true≢false}
+-- What a run leaves, and when there is one.
+use Rattle.std.proofs.Common.{◌≡◌, ⊎_elim, ℕ, List, Option, Some, Result, Err, refl, sym, ap, subst, ◌∙◌, true≢false}
 use Rattle.std.specs.Prelude.{IsTrue}
 use Rattle.ld_base.specs.declared.fault.DlFault.{DlFault}
 use Rattle.ld_base.specs.declared.fault.DlFault.TheVariants as dl
 use Rattle.ld_base.specs.declared.linking.File.{File}
 use Rattle.library_source.specs.Count.{Rises}
-use Rattle.command_line.specs.declared.command.Turns.{Turns}
-use Rattle.link_event.specs.declared.event.Event.{Event}
 use Rattle.link_history.specs.Legal.{Legal, Whole}
 use Rattle.link_history.specs.Setting.{Setting}
+use Rattle.link_served.specs.declared.startup.Setup.{Setup}
 use Rattle.link_service.specs.Laws.{FailsLegal, StartsOrFails, is_read_fault}
 use Rattle.link_startup.specs.Startup.{CanStart}
 use Rattle.opening_plan.specs.Startup.{run_of}
+use Rattle.run_texts.specs.declared.record.RunRecord.{RunRecord}
+use Rattle.run_texts.specs.declared.run_end.RunEnd.{RunEnd}
+use Rattle.schedules.specs.declared.schedule.TurnItem.{TurnItem}
 use Rattle.world_turns.specs.Throughout.{RunsAreSound}
 use Rattle.world_whole.specs.Laws.{RunsAreWhole}
 use Rattle.ldso_cli.proofs.Turning.{Accepts}
-use Rattle.ldso_cli.specs.End.{events_kept}
-use Rattle.ldso_cli.specs.Laws.{KeepsLegal, KeepsWhole, RunsWhereItMay}
+use Rattle.ldso_cli.specs.Laws.{LeavesLegal, LeavesWhole, RunsWhereItMay}
 use Rattle.ldso_cli.specs.Outside.{LibraryAt}
-use Rattle.ldso_cli.specs.Turns.{IsNotRun, IsRun, TurnsComes}
-use Rattle.ldso_cli.specs.declared.outcome.Cause.TheVariants as causes
-use Rattle.ldso_cli.specs.declared.outcome.End.{End}
+use Rattle.ldso_cli.specs.Played.{IsNotRun, IsPlayed, IsRun}
 
--- ---- what is kept
+-- ---- what is left
 
-of_refusal : FailsLegal → (turns : Turns) (files : Option (List File)) (end : End) (text : List ℕ) → IsNotRun turns files end text → Legal (run_of turns.setup files) (events_kept end)
-of_refusal fails turns files end text p =
-    let w : Setting = run_of turns.setup files in
-    let kept : events_kept end ≡ p.events = ap events_kept p.tells.end_is ∙ p.tells.journal in
-    subst (Legal w) (sym kept) (fails w turns.setup p.fault p.events p.fails)
+of_refusal : FailsLegal → (setup : Setup) (files : Option (List File)) (ended : Result RunEnd DlFault) (left : RunRecord) → IsNotRun setup files ended left → Legal (run_of setup files) left.journal.events
+of_refusal fails setup files ended left p =
+    let w : Setting = run_of setup files in
+    subst (Legal w) (sym p.leaves.journal) (fails w setup p.fault p.events p.fails)
 
-of_run : RunsAreSound → Accepts → (turns : Turns) (files : Option (List File)) (end : End) (text : List ℕ) → IsRun turns files end text → Legal (run_of turns.setup files) (events_kept end)
-of_run sound accepts turns files end text p =
-    let w : Setting = run_of turns.setup files in
-    let kept : events_kept end ≡ p.world.journal = ap events_kept p.tells.end_is ∙ p.tells.journal in
-    subst (Legal w) (sym kept) (sound w turns.setup p.items p.world p.runs (accepts w.machine refl)).ended.legal
+of_run : RunsAreSound → Accepts → (setup : Setup) (items : List TurnItem) (files : Option (List File)) (ended : Result RunEnd DlFault) (left : RunRecord) → IsRun setup items files ended left → Legal (run_of setup files) left.journal.events
+of_run sound accepts setup items files ended left p =
+    let w : Setting = run_of setup files in
+    subst (Legal w) (sym p.leaves.journal) (sound w setup items p.world p.runs (accepts w.machine refl)).ended.legal
 
-pub keeps_legal : FailsLegal → RunsAreSound → Accepts → KeepsLegal
-keeps_legal fails sound accepts turns before after end text comes = ⊎_elim
-    (λ (p : IsNotRun turns before.files end text). of_refusal fails turns before.files end text p)
-    (λ (p : IsRun turns before.files end text). of_run sound accepts turns before.files end text p)
-    comes.is
+pub leaves_legal : FailsLegal → RunsAreSound → Accepts → LeavesLegal
+leaves_legal fails sound accepts setup items before after ended left plays = ⊎_elim
+    (λ (p : IsNotRun setup before.files ended left). of_refusal fails setup before.files ended left p)
+    (λ (p : IsRun setup items before.files ended left). of_run sound accepts setup items before.files ended left p)
+    plays.is
 
-pub keeps_whole : RunsAreWhole → Accepts → KeepsWhole
-keeps_whole whole accepts turns files end text p =
-    let w : Setting = run_of turns.setup files in
-    let kept : events_kept end ≡ p.world.journal = ap events_kept p.tells.end_is ∙ p.tells.journal in
-    subst (Whole w) (sym kept) (whole w turns.setup p.items p.world (accepts w.machine refl) p.runs)
+pub leaves_whole : RunsAreWhole → Accepts → LeavesWhole
+leaves_whole whole accepts setup items files ended left p =
+    let w : Setting = run_of setup files in
+    subst (Whole w) (sym p.leaves.journal) (whole w setup items p.world (accepts w.machine refl) p.runs)
 
 -- ---- when it runs
 
@@ -58,14 +54,17 @@ read_fault : (fault : DlFault) → IsTrue (is_read_fault fault) → IsReadFault 
 read_fault (dl.ReadFault path) e = record { path = path; is = refl }
 read_fault _ e = absurd (true≢false (sym e))
 
-not_refused : StartsOrFails → (turns : Turns) (before after : LibraryAt) (files : List File) (end : End) (text : List ℕ) → before.files ≡ Some files → (Rises before.faults after.faults → ⊥)
-    → CanStart (run_of turns.setup before.files) turns.setup → TurnsComes turns before after end text → IsNotRun turns before.files end text → ⊥
-not_refused starts turns before after files end text told still may comes p =
-    let fault = read_fault p.fault (starts (run_of turns.setup before.files) turns.setup files may.root may.added may.ranges may.found p.events may.addresses p.fault told may.opens may.finds p.fails) in
-    still (comes.read_fault fault.path (ap (λ (e : End). e.cause) p.tells.end_is ∙ ap causes.Refused fault.is))
+abbrev failed : DlFault → Result RunEnd DlFault
+failed fault = Err fault
+
+not_refused : StartsOrFails → (setup : Setup) (items : List TurnItem) (before after : LibraryAt) (files : List File) (ended : Result RunEnd DlFault) (left : RunRecord) → before.files ≡ Some files
+    → (Rises before.faults after.faults → ⊥) → CanStart (run_of setup before.files) setup → IsPlayed setup items before after ended left → IsNotRun setup before.files ended left → ⊥
+not_refused starts setup items before after files ended left told still may plays p =
+    let fault = read_fault p.fault (starts (run_of setup before.files) setup files may.root may.added may.ranges may.found p.events may.addresses p.fault told may.opens may.finds p.fails) in
+    still (plays.read_fault fault.path (p.leaves.ended_is ∙ ap failed fault.is))
 
 pub runs : StartsOrFails → RunsWhereItMay
-runs starts turns before after files end text told still may comes = ⊎_elim
-    (λ (p : IsNotRun turns before.files end text). absurd (not_refused starts turns before after files end text told still may comes p))
-    (λ (p : IsRun turns before.files end text). p)
-    comes.is
+runs starts setup items before after files ended left told still may plays = ⊎_elim
+    (λ (p : IsNotRun setup before.files ended left). absurd (not_refused starts setup items before after files ended left told still may plays p))
+    (λ (p : IsRun setup items before.files ended left). p)
+    plays.is

@@ -8,6 +8,7 @@ pub mod Ending
 pub mod Kept
 pub mod Same
 pub mod Schedules
+pub mod Told
 pub mod Turned
 pub mod Turning
 pub mod Whole

@@ -1,68 +1,48 @@
--- What turns comes to: of a run that was played, and of one that was refused.
-use Rattle.std.proofs.Common.{◌≡◌, inl, inr, ℕ, zero, suc, ◌<◌, Bool, false, List, [], ◌∷◌, ◌++◌, length, map, Option, Some, None, Result, Ok, Err, refl, sym, ap, subst, ◌∙◌, arith}
-use Rattle.std.specs.Prelude.{All, Contains, IfOk}
-use Rattle.std.specs.declared.alloc.AllocError.{AllocError}
+-- What a run comes to: one that was played, and one that was refused.
+use Rattle.std.proofs.Common.{◌≡◌, inl, inr, suc, Bool, List, [], ◌∷◌, ◌++◌, length, map, Option, Some, Result, Ok, Err, refl, sym, ap, subst, ◌∙◌}
 use Rattle.ld_base.specs.declared.fault.DlFault.{DlFault}
 use Rattle.ld_base.specs.declared.fault.DlFault.TheVariants as dl
 use Rattle.ld_base.specs.declared.linking.File.{File}
 use Rattle.call_laws.specs.Coming.{IsOver}
 use Rattle.call_laws.specs.Counts.{ArePathsAtStart, ShowsInCounts}
-use Rattle.command_line.specs.declared.command.Turns.{Turns}
 use Rattle.hart_moves.specs.Harts.{HartState}
 use Rattle.hart_moves.specs.Starting.{starting_registers}
 use Rattle.lawful_journal.specs.Following.{machine_of}
 use Rattle.link_event.specs.declared.event.Event.{Event}
 use Rattle.link_event.specs.declared.hart_end.HartEnd.{HartEnd}
-use Rattle.link_history.specs.Legal.{Legal}
-use Rattle.link_history.specs.Setting.{Machine, Setting}
+use Rattle.link_history.specs.Setting.{Setting}
+use Rattle.link_served.specs.declared.startup.Setup.{Setup}
 use Rattle.link_service.specs.Startup.{FailsToStart, harts_of}
 use Rattle.opening_plan.specs.Startup.{run_of}
 use Rattle.plain_world.specs.Ends.{AreEndsOf}
 use Rattle.plain_world.specs.Laws.{PlayedIsRun}
 use Rattle.plain_world.specs.Playing.{InEachRun, Plays}
+use Rattle.plain_world.specs.Started.{StartsAt}
 use Rattle.plain_world.specs.Table.{WorldTable}
 use Rattle.run_texts.specs.declared.record.RunRecord.{RunRecord}
+use Rattle.run_texts.specs.declared.run_end.RunEnd.{RunEnd}
 use Rattle.schedules.specs.declared.schedule.TurnItem.{TurnItem}
-use Rattle.trace_text.specs.Lines.{IsSayable}
-use Rattle.plain_world.specs.Started.{StartsAt}
 use Rattle.world_turns.specs.Counts.{Counts, CountsJoin, ShowInCounts}
 use Rattle.world_turns.specs.Run.{Run}
-use Rattle.world_turns.specs.Throughout.{RunsAreSound}
 use Rattle.world_turns.specs.World.{World}
-use Rattle.ldso_cli.proofs.Turning.{Accepts}
-use Rattle.ldso_cli.specs.End.{events_kept}
 use Rattle.ldso_cli.specs.Outside.{LibraryAt, counts_in}
-use Rattle.ldso_cli.specs.Turns.{Schedules, TellsRefusal, TellsRun, TurnsComes}
-use Rattle.ldso_cli.specs.declared.answer.Answer.{Answer}
-use Rattle.ldso_cli.specs.declared.outcome.Cause.{Cause}
-use Rattle.ldso_cli.specs.declared.outcome.Cause.TheVariants as causes
-use Rattle.ldso_cli.specs.declared.outcome.End.{End}
+use Rattle.ldso_cli.specs.Played.{IsPlayed, LeavesRefusal, LeavesRun}
 
 -- ---- the run
 
 -- a run that has just started is that of its setup
-pub record IsStart (turns : Turns) (files : Option (List File)) (run : WorldTable) : Type 0 where
-  pub starts : StartsAt (run_of turns.setup files) turns.setup run.world run.entry
-  pub count : run.count ≡ harts_of turns.setup
-  pub folders : run.folders ≡ turns.setup.folders
-  pub begun : run.begun ≡ false
+pub record IsStart (setup : Setup) (files : Option (List File)) (run : WorldTable) : Type 0 where
+  pub starts : StartsAt (run_of setup files) setup run.world run.entry
+  pub count : run.count ≡ harts_of setup
+  pub folders : run.folders ≡ setup.folders
+  pub begun : run.begun ≡ Bool.false
 
-pub is_run : PlayedIsRun → (turns : Turns) (files : Option (List File)) (items : List TurnItem) (run : WorldTable) (world : World) → IsStart turns files run
-    → InEachRun run files (λ w. Plays w run.begun (starting_registers run.entry) items run.world world) → Run (run_of turns.setup files) turns.setup items world
-is_run played turns files items run world start plays =
-    let w : Setting = run_of turns.setup files in
+pub is_run : PlayedIsRun → (setup : Setup) (files : Option (List File)) (items : List TurnItem) (run : WorldTable) (world : World) → IsStart setup files run
+    → InEachRun run files (λ w. Plays w run.begun (starting_registers run.entry) items run.world world) → Run (run_of setup files) setup items world
+is_run played setup files items run world start plays =
+    let w : Setting = run_of setup files in
     let over : IsOver (machine_of run.count) run.folders files w = record { machine = ap machine_of (sym start.count); folders_are = sym start.folders; files_are = refl } in
-    played w turns.setup run.entry items run.world world start.starts (subst (λ (b : Bool). Plays w b (starting_registers run.entry) items run.world world) start.begun (plays w over))
-
--- each of its events has a line
-
-abbrev pub LegalIsSayable : Type 0
-LegalIsSayable = (w : Setting) (journal : List Event) → Legal w journal → All IsSayable journal
-
-pub run_is_sayable : LegalIsSayable → RunsAreSound → Accepts → (turns : Turns) (files : Option (List File)) (items : List TurnItem) (world : World) → Run (run_of turns.setup files) turns.setup items world → All IsSayable world.journal
-run_is_sayable sayable sound accepts turns files items world run =
-    let w : Setting = run_of turns.setup files in
-    sayable w world.journal (sound w turns.setup items world run (accepts w.machine refl)).ended.legal
+    played w setup run.entry items run.world world start.starts (subst (λ (b : Bool). Plays w b (starting_registers run.entry) items run.world world) start.begun (plays w over))
 
 -- ---- ends
 
@@ -77,55 +57,35 @@ ends_length (b ∷ harts) (e ∷ ends) are =
 -- ---- what it comes to
 
 -- the counts are shown of the journal
-abbrev pub Shows : Turns → List Event → (before after : LibraryAt) → Type 0
-Shows turns journal before after = ShowInCounts turns.setup.folders journal (counts_in before) (counts_in after)
-
-kept_shows : (turns : Turns) (journal : List Event) (before after : LibraryAt) (end : End) (cause : Cause) (kept : RunRecord) → end ≡ record { cause = cause; kept = Some kept }
-    → kept.journal.events ≡ journal → Shows turns journal before after → Shows turns (events_kept end) before after
-kept_shows turns journal before after end cause kept is events shows =
-    subst (λ (es : List Event). Shows turns es before after) (sym (ap events_kept is ∙ events)) shows
+abbrev Shows : Setup → List Event → (before after : LibraryAt) → Type 0
+Shows setup journal before after = ShowInCounts setup.folders journal (counts_in before) (counts_in after)
 
 -- startup's first, and then the run's
-pub both_show : CountsJoin → (turns : Turns) (one other journal : List Event) (before after : LibraryAt) (between : Counts) → journal ≡ one ++ other
-    → ShowInCounts turns.setup.folders one (counts_in before) between → ShowInCounts turns.setup.folders other between (counts_in after)
-    → Shows turns journal before after
-both_show join turns one other journal before after between are first second =
-    subst (λ (es : List Event). Shows turns es before after) (sym are) (join turns.setup.folders one other (counts_in before) between (counts_in after) first second)
+pub both_show : CountsJoin → (setup : Setup) (one other journal : List Event) (before after : LibraryAt) (between : Counts) → journal ≡ one ++ other
+    → ShowInCounts setup.folders one (counts_in before) between → ShowInCounts setup.folders other between (counts_in after) → Shows setup journal before after
+both_show join setup one other journal before after between are first second =
+    subst (λ (es : List Event). Shows setup es before after) (sym are) (join setup.folders one other (counts_in before) between (counts_in after) first second)
 
-pub run_comes : (turns : Turns) (before after : LibraryAt) (items : List TurnItem) (world : World) (end : End) (text : List ℕ) → Schedules turns items → Run (run_of turns.setup before.files) turns.setup items world → TellsRun world end text
-    → Shows turns world.journal before after → TurnsComes turns before after end text
-run_comes turns before after items world end text says run tells shows = record {
-  is = inr (record { items = items; says = says; world = world; runs = run; tells = tells });
+pub run_comes : (setup : Setup) (before after : LibraryAt) (items : List TurnItem) (world : World) (ended : Result RunEnd DlFault) (left : RunRecord) → Run (run_of setup before.files) setup items world → LeavesRun world ended left
+    → Shows setup world.journal before after → IsPlayed setup items before after ended left
+run_comes setup before after items world ended left run leaves shows = record {
+  is = inr (record { world = world; runs = run; leaves = leaves });
   read_fault = λ path e. absurd (other (dl.ReadFault path) e);
   missing = λ name e. absurd (other (dl.MissingLibrary name) e);
-  counted = kept_shows turns world.journal before after end (causes.Ran tells.run_end) tells.kept tells.end_is tells.journal shows;
+  counted = subst (λ (es : List Event). Shows setup es before after) (sym leaves.journal) shows;
 }
   where
-    other : (fault : DlFault) → end.cause ≡ causes.Refused fault → ⊥
-    other fault e = (let no : causes.Ran tells.run_end ≡ causes.Refused fault = sym (ap (λ (x : End). x.cause) tells.end_is) ∙ e in cc no)
+    other : (fault : DlFault) → ended ≡ Err fault → ⊥
+    other fault e = (let no : Ok leaves.run_end ≡ Err fault = sym leaves.ended_is ∙ e in cc no)
 
-pub refusal_comes : (turns : Turns) (before after : LibraryAt) (fault : DlFault) (events : List Event) (end : End) (text : List ℕ) → FailsToStart (run_of turns.setup before.files) turns.setup fault events → TellsRefusal fault events end text
-    → ShowsInCounts (ArePathsAtStart turns.setup.folders turns.setup.program) (Some fault) before.faults after.faults before.misses after.misses → Shows turns events before after
-    → TurnsComes turns before after end text
-refusal_comes turns before after fault events end text fails tells counts shows = record {
-  is = inl (record { fault = fault; events = events; fails = fails; tells = tells });
+pub refusal_comes : (setup : Setup) (before after : LibraryAt) (items : List TurnItem) (fault : DlFault) (events : List Event) (ended : Result RunEnd DlFault) (left : RunRecord) → FailsToStart (run_of setup before.files) setup fault events
+    → LeavesRefusal fault events ended left → ShowsInCounts (ArePathsAtStart setup.folders setup.program) (Some fault) before.faults after.faults before.misses after.misses → Shows setup events before after → IsPlayed setup items before after ended left
+refusal_comes setup before after items fault events ended left fails leaves counts shows = record {
+  is = inl (record { fault = fault; events = events; fails = fails; leaves = leaves });
   read_fault = λ path e. counts.failed path (ap Some (same (dl.ReadFault path) e));
   missing = λ name e. counts.missed name (ap Some (same (dl.MissingLibrary name) e));
-  counted = kept_shows turns events before after end (causes.Refused fault) tells.kept tells.end_is tells.journal shows;
+  counted = subst (λ (es : List Event). Shows setup es before after) (sym leaves.journal) shows;
 }
   where
-    same : (other : DlFault) → end.cause ≡ causes.Refused other → fault ≡ other
-    same other e = (let one : causes.Refused fault ≡ causes.Refused other = sym (ap (λ (x : End). x.cause) tells.end_is) ∙ e in cc)
-
--- of an answer, if there is one
-
-pub if_ran : (turns : Turns) (before after : LibraryAt) (items : List TurnItem) (world : World) (r : Result Answer AllocError) → Schedules turns items → Run (run_of turns.setup before.files) turns.setup items world
-    → Shows turns world.journal before after → IfOk r (λ a. TellsRun world a.end a.text) → IfOk r (λ a. TurnsComes turns before after a.end a.text)
-if_ran turns before after items world (Ok a) says run shows tells = run_comes turns before after items world a.end a.text says run tells shows
-if_ran turns before after items world (Err e) says run shows tells = tt
-
-pub if_refused : (turns : Turns) (before after : LibraryAt) (fault : DlFault) (events : List Event) (r : Result Answer AllocError) → FailsToStart (run_of turns.setup before.files) turns.setup fault events
-    → IfOk r (λ a. TellsRefusal fault events a.end a.text) → ShowsInCounts (ArePathsAtStart turns.setup.folders turns.setup.program) (Some fault) before.faults after.faults before.misses after.misses
-    → Shows turns events before after → IfOk r (λ a. TurnsComes turns before after a.end a.text)
-if_refused turns before after fault events (Ok a) fails tells counts shows = refusal_comes turns before after fault events a.end a.text fails tells counts shows
-if_refused turns before after fault events (Err e) fails tells counts shows = tt
+    same : (other : DlFault) → ended ≡ Err other → fault ≡ other
+    same other e = (let one : Err fault ≡ Err other = sym leaves.ended_is ∙ e in cc)

@@ -1,10 +1,11 @@
 -- Where nothing fails, the words and the files decide the answer.
-use Rattle.std.proofs.Common.{◌≡◌, ◌⊎◌, inl, inr, ℕ, ◌+◌, ◌^◌, ◌≤◌, Bool, true, false, cond, List, [], ◌∷◌, Option, Some, None, Ok, refl, sym, ap, subst, ◌∙◌, arith}
+use Rattle.std.proofs.Common.{◌≡◌, ◌⊎◌, inl, inr, ℕ, ◌+◌, ◌^◌, ◌≤◌, Bool, true, false, cond, List, [], ◌∷◌, ◌++◌, Option, Some, None, Result, Ok, refl, sym, ap, subst, ◌∙◌, arith}
 use Rattle.std.specs.Prelude.{◌||◌, count_by}
 use Rattle.std.specs.Io.KnownBytes.{append_known}
 use Rattle.std.specs.List.{list_any}
 use Rattle.std.proofs.lemmas.Bool.{or_parts}
 use Rattle.std.proofs.lemmas.List.Sums.{sum_by-cons}
+use Rattle.ld_base.specs.declared.fault.DlFault.{DlFault}
 use Rattle.ld_base.specs.declared.linking.File.{File}
 use Rattle.library_source.specs.Count.{Rises, RisesBy}
 use Rattle.library_source.specs.Files.{Over}
@@ -12,12 +13,17 @@ use Rattle.command_line.specs.declared.command.Command.{Command}
 use Rattle.command_line.specs.declared.command.Command.TheVariants as commands
 use Rattle.command_line.specs.declared.command.Turns.{Turns}
 use Rattle.command_line.specs.Reads.{OneCommand}
+use Rattle.lib_gen.specs.Set.{AreSetOf}
 use Rattle.link_event.specs.declared.event.Event.{Event}
 use Rattle.link_event.specs.declared.event.Event.TheVariants as events
 use Rattle.link_event.specs.declared.event.OpenAnswer.TheVariants as openings
+use Rattle.link_served.specs.declared.startup.Setup.{Setup}
 use Rattle.link_service.specs.Laws.{is_read_fault}
 use Rattle.link_service.specs.Startup.{harts_of}
+use Rattle.run_texts.specs.Printed.{journal_lines}
 use Rattle.run_texts.specs.declared.record.RunRecord.{RunRecord}
+use Rattle.run_texts.specs.declared.run_end.RunEnd.{RunEnd}
+use Rattle.schedules.specs.declared.schedule.TurnItem.{TurnItem}
 use Rattle.turn_once.specs.Laws.{NothingFails, is_from_outside}
 use Rattle.world_turns.specs.Counts.{is_refused_for, read_faults}
 use Rattle.ldso_cli.proofs.Asking.{one_asked}
@@ -26,13 +32,17 @@ use Rattle.ldso_cli.proofs.Bounds.{few_harts}
 use Rattle.ldso_cli.proofs.Causes.{own_caused}
 use Rattle.ldso_cli.proofs.Decided.{NotBoth, OneStop, one_end}
 use Rattle.ldso_cli.proofs.Same.{OneWalk, one_text}
-use Rattle.ldso_cli.proofs.Turning.{RunLaw, one_outcome}
+use Rattle.ldso_cli.proofs.Schedules.{one_schedule}
+use Rattle.ldso_cli.proofs.Told.{never_rises}
+use Rattle.ldso_cli.proofs.Turning.{Quiet, RunLaw, one_end_kept, one_outcome}
 use Rattle.ldso_cli.specs.Asked.{Asks}
 use Rattle.ldso_cli.specs.Command.{Answers, IsAnswer, NoReadFails, OverFiles, Prints}
-use Rattle.ldso_cli.specs.End.{AreOneEnd, KeepOne, events_kept}
+use Rattle.ldso_cli.specs.End.{AreOneEnd, KeepOne, events_kept, kept_end}
 use Rattle.ldso_cli.specs.Ends.{ComeToOne, Ends, Handing, IsUndisturbed, RunAt, Written, is_want_of_memory}
+use Rattle.ldso_cli.specs.Generate.{set_cause, set_setup, set_text}
+use Rattle.ldso_cli.specs.Played.{IsNotRun, IsRun, last_line, run_cause}
 use Rattle.ldso_cli.specs.Status.{status_of_cause}
-use Rattle.ldso_cli.specs.Turns.{IsNotRun, IsRun, TurnsComes}
+use Rattle.ldso_cli.specs.declared.outcome.Cause.{Cause}
 use Rattle.ldso_cli.specs.declared.outcome.Cause.TheVariants as causes
 use Rattle.ldso_cli.specs.declared.outcome.End.{End}
 
@@ -60,11 +70,8 @@ over_these command files run text tells answers =
     let over : Over (Some files) P = subst (λ (t : Option (List File)). Over t P) tells answers in
     subst P over.are over.holds
 
-abbrev IsTurned : Turns → Option (List File) → End → List ℕ → Type 0
-IsTurned turns files end text = IsNotRun turns files end text ⊎ IsRun turns files end text
-
-run_over : (turns : Turns) (files : List File) (run : RunAt) (text : List ℕ) → run.before.files ≡ Some files → TurnsComes turns run.before run.after run.end text → IsTurned turns (Some files) run.end text
-run_over turns files run text tells comes = subst (λ (t : Option (List File)). IsTurned turns t run.end text) tells comes.is
+abbrev IsOver : Setup → List TurnItem → Option (List File) → Result RunEnd DlFault → RunRecord → Type 0
+IsOver setup items files ended left = IsNotRun setup files ended left ⊎ IsRun setup items files ended left
 
 -- one end is one in all that it keeps
 itself : (end : End) → AreOneEnd end end
@@ -117,6 +124,10 @@ nothing_fails (e ∷ rest) before after still rises well =
     nothing_fails rest before after still (rest_rose (is_refused_for is_read_fault) e rest before after rises) parts.1 in
     λ i. first i || behind i
 
+-- a number makes one set
+abbrev pub OneSet : Type 0
+OneSet = (number : ℕ) (first second : List File) → AreSetOf number first → AreSetOf number second → first ≡ second
+
 -- what is known of commands
 pub record Law : Type 0 where
   pub one_walk : OneWalk
@@ -124,6 +135,7 @@ pub record Law : Type 0 where
   pub not_both : NotBoth
   pub sources : SourceLaw
   pub runs : RunLaw
+  pub one_set : OneSet
 
 module _ (handed handed' : Handing) (law : Law) (words : List (List ℕ)) (files : List File) (first second : RunAt) (p : IsUndisturbed handed words files first) (q : IsUndisturbed handed' words files second) where
   come_to_one : (command : Option Command) (one : IsTold handed command first) (two : IsTold handed' command second) → AreOneEnd first.end second.end → one.text ≡ two.text → ComeToOne handed handed' first second
@@ -138,37 +150,65 @@ module _ (handed handed' : Handing) (law : Law) (words : List (List ℕ)) (files
   }
 
   -- of a command that runs no program
-  over_files : (command : Command) → (one : IsTold handed (Some command) first) → (two : IsTold handed' (Some command) second) → OverFiles command first.before first.after first.end one.text
-      → OverFiles command second.before second.after second.end two.text → ComeToOne handed handed' first second
-  over_files command one two answers answers' =
-      let a = over_these command files first one.text p.told answers in
-      let b = over_these command files second two.text q.told answers' in
+  over_files : (command : Command) → first.before.files ≡ Some files → second.before.files ≡ Some files → (one : IsTold handed (Some command) first) → (two : IsTold handed' (Some command) second)
+      → OverFiles command first.before first.after first.end one.text → OverFiles command second.before second.after second.end two.text → ComeToOne handed handed' first second
+  over_files command tells tells' one two answers answers' =
+      let a = over_these command files first one.text tells answers in
+      let b = over_these command files second two.text tells' answers' in
       let end : first.end ≡ second.end =
       one_end law.one_walk law.one_stop law.not_both law.sources command files first.before first.after second.before second.after first.end second.end a.comes (no_reads handed (Some command) first one p.reads_well) b.comes
       (no_reads handed' (Some command) second two q.reads_well) in
       let prints : Prints command files first.end two.text = subst (λ (e : End). Prints command files e two.text) (sym end) b.prints in
       come_to_one (Some command) one two (same_end first.end second.end end) (one_text law.one_walk law.sources.one command files first.end one.text two.text a.prints prints)
 
+  -- no read fails in a run that ended so
+  quiet_run : (run : RunAt) (ended : Result RunEnd DlFault) (left : RunRecord) → NoReadFails run.end → run.end ≡ kept_end (run_cause ended) left → Quiet ended
+  quiet_run run ended left reads is = λ path e. reads path (ap (λ (x : End). x.cause) is ∙ ap run_cause e)
+
+  -- nothing fails in it, whose library's faults don't rise
+  well_run : (run : RunAt) (cause : Cause) (left : RunRecord) (before after : ℕ) → (Rises before after → ⊥) → RisesBy (read_faults left.journal.events) before after
+      → list_any is_want_of_memory (events_kept run.end) ≡ false → run.end ≡ kept_end cause left → NothingFails left.journal.events
+  well_run run cause left before after still rises well is = nothing_fails left.journal.events before after still rises (ap (list_any is_want_of_memory) (sym (ap events_kept is)) ∙ well)
+
   one_turned : (turns : Turns) → Asks words (Some (commands.Turns turns)) → IsTold handed (Some (commands.Turns turns)) first → IsTold handed' (Some (commands.Turns turns)) second → ComeToOne handed handed' first second
   one_turned turns asks one two =
+      let a = one.answers in
+      let b = two.answers in
       let few : harts_of turns.setup ≤ 2 ^ 32 = (let below = few_harts words turns asks.0 in omega (arith, below)) in
+      let items : b.items ≡ a.items = one_schedule (harts_of turns.setup) turns.schedule b.items a.items few b.says a.says in
+      let over : IsOver turns.setup a.items (Some files) a.ended a.left = subst (λ (t : Option (List File)). IsOver turns.setup a.items t a.ended a.left) (p.told (commands.Turns turns) asks.0) a.plays.is in
+      let over' : IsOver turns.setup a.items (Some files) b.ended b.left =
+      subst (λ (t : Option (List File)). IsOver turns.setup a.items t b.ended b.left) (q.told (commands.Turns turns) asks.0)
+      (subst (λ (it : List TurnItem). IsOver turns.setup it second.before.files b.ended b.left) items b.plays.is) in
       let same =
-      one_outcome law.runs turns files few first.end second.end one.text two.text (run_over turns files first one.text p.told one.answers)
-      (no_reads handed (Some (commands.Turns turns)) first one p.reads_well)
-      (nothing_fails (events_kept first.end) first.before.faults first.after.faults p.reads_well one.answers.counted.faults p.runs_well)
-      (run_over turns files second two.text q.told two.answers) (no_reads handed' (Some (commands.Turns turns)) second two q.reads_well)
-      (nothing_fails (events_kept second.end) second.before.faults second.after.faults q.reads_well two.answers.counted.faults q.runs_well) in
-      come_to_one (Some (commands.Turns turns)) one two same.0 same.1
+      one_outcome law.runs turns.setup a.items files a.ended b.ended a.left b.left over (quiet_run first a.ended a.left (no_reads handed (Some (commands.Turns turns)) first one p.reads_well) a.end_is)
+      (well_run first (run_cause a.ended) a.left first.before.faults first.after.faults p.reads_well a.plays.counted.faults p.runs_well a.end_is)
+      over' (quiet_run second b.ended b.left (no_reads handed' (Some (commands.Turns turns)) second two q.reads_well) b.end_is)
+      (well_run second (run_cause b.ended) b.left second.before.faults second.after.faults q.reads_well b.plays.counted.faults q.runs_well b.end_is) in
+      come_to_one (Some (commands.Turns turns)) one two (one_end_kept first.end second.end (run_cause a.ended) (run_cause b.ended) a.left b.left a.end_is b.end_is (ap run_cause same.0) same.1)
+      (a.text_is ∙ (λ i. journal_lines (same.1.events i) ++ last_line (same.0 i)) ∙ sym b.text_is)
+
+  one_generated : (number : ℕ) → IsTold handed (Some (commands.Generate number)) first → IsTold handed' (Some (commands.Generate number)) second → ComeToOne handed handed' first second
+  one_generated number one two =
+      let a = one.answers.0 in
+      let b = two.answers.0 in
+      let set : b.files ≡ a.files = law.one_set number b.files a.files b.are a.are in
+      let over : IsOver set_setup [] (Some a.files) b.ended b.left = subst (λ (fs : List File). IsOver set_setup [] (Some fs) b.ended b.left) set b.plays.is in
+      let same =
+      one_outcome law.runs set_setup [] a.files a.ended b.ended a.left b.left a.plays.is (λ path e. never_rises (a.plays.read_fault path e)) (well_run first (set_cause a.ended) a.left 0 0 never_rises a.plays.counted.faults p.runs_well a.end_is)
+      over (λ path e. never_rises (b.plays.read_fault path e)) (well_run second (set_cause b.ended) b.left 0 0 never_rises b.plays.counted.faults q.runs_well b.end_is) in
+      come_to_one (Some (commands.Generate number)) one two (one_end_kept first.end second.end (set_cause a.ended) (set_cause b.ended) a.left b.left a.end_is b.end_is (ap set_cause same.0) same.1)
+      (a.text_is ∙ (λ i. set_text number (same.0 i) (same.1.events i)) ∙ sym b.text_is)
 
   one_of : (command : Option Command) → Asks words command → IsTold handed command first → IsTold handed' command second → ComeToOne handed handed' first second
   one_of None asks one two =
       come_to_one None one two (same_end first.end second.end (one.answers.end_is ∙ sym two.answers.end_is)) (one.answers.text_is ∙ sym two.answers.text_is)
-  one_of (Some (commands.Bind bind)) asks one two = over_files (commands.Bind bind) one two one.answers two.answers
-  one_of (Some (commands.Dump path)) asks one two = over_files (commands.Dump path) one two one.answers two.answers
-  one_of (Some (commands.Assemble path)) asks one two = over_files (commands.Assemble path) one two one.answers two.answers
+  one_of (Some (commands.Bind bind)) asks one two = over_files (commands.Bind bind) (p.told (commands.Bind bind) asks.0) (q.told (commands.Bind bind) asks.0) one two one.answers two.answers
+  one_of (Some (commands.Dump path)) asks one two = over_files (commands.Dump path) (p.told (commands.Dump path) asks.0) (q.told (commands.Dump path) asks.0) one two one.answers two.answers
+  one_of (Some (commands.Assemble path)) asks one two = over_files (commands.Assemble path) (p.told (commands.Assemble path) asks.0) (q.told (commands.Assemble path) asks.0) one two one.answers two.answers
   one_of (Some (commands.Turns turns)) asks one two = one_turned turns asks one two
   one_of (Some (commands.Run run)) asks one two = absurd one.answers
-  one_of (Some (commands.Generate number)) asks one two = absurd one.answers
+  one_of (Some (commands.Generate number)) asks one two = one_generated number one two
 
 pub one_answer : OneCommand → Law → (handed handed' : Handing) (words : List (List ℕ)) (files : List File) (first second : RunAt) → IsUndisturbed handed words files first → IsUndisturbed handed' words files second
     → ComeToOne handed handed' first second

@@ -11,9 +11,11 @@ use Rattle.ldso_cli.specs.Asm.{AsmComes, AsmPrints}
 use Rattle.ldso_cli.specs.Bind.{BindComes, BindMisses, BindPrints}
 use Rattle.ldso_cli.specs.Dump.{DumpComes, DumpPrints}
 use Rattle.ldso_cli.specs.End.{bare}
+use Rattle.ldso_cli.specs.Generate.{GenComes, GenMisses}
 use Rattle.ldso_cli.specs.Outside.{LibraryAt}
+use Rattle.ldso_cli.specs.Played.{StartMisses}
 use Rattle.ldso_cli.specs.Status.{usage_text}
-use Rattle.ldso_cli.specs.Turns.{IsScheduled, TurnsComes, TurnsMisses}
+use Rattle.ldso_cli.specs.Turns.{IsScheduled, TurnsComes}
 use Rattle.ldso_cli.specs.declared.outcome.Cause.{Cause}
 use Rattle.ldso_cli.specs.declared.outcome.Cause.TheVariants as causes
 use Rattle.ldso_cli.specs.declared.outcome.End.{End}
@@ -42,22 +44,27 @@ Prints (commands.Turns turns) files end text = ⊥
 Prints (commands.Run run) files end text = ⊥
 Prints (commands.Generate number) files end text = ⊥
 
--- the library missed each file that a command's name could be
+-- the library missed each file that a command's name could be; of gen it is the library of its set
 abbrev pub Misses : Command → LibraryAt → LibraryAt → List ℕ → Type 0
 Misses (commands.Bind bind) before after name = Over before.files (BindMisses bind before after name)
 Misses (commands.Dump path) before after name = (name ≡ path) × Rises before.misses after.misses
 Misses (commands.Assemble path) before after name = (name ≡ path) × Rises before.misses after.misses
-Misses (commands.Turns turns) before after name = TurnsMisses turns before after name
+Misses (commands.Turns turns) before after name = StartMisses turns.setup before after name
 Misses (commands.Run run) before after name = ⊥
-Misses (commands.Generate number) before after name = ⊥
+Misses (commands.Generate number) before after name = GenMisses number name
 
 -- the end isn't that of a failed read
 abbrev pub NoReadFails : End → Type 0
 NoReadFails end = (path : List ℕ) → end.cause ≢ causes.Refused (dl.ReadFault path)
 
--- the files that a command reads, where they are told: the library's
-abbrev pub told_to : Command → LibraryAt → Option (List File)
-told_to command library = library.files
+-- the library tells these files, or the command reads none of its: gen makes those that it reads
+abbrev pub AreTold : Command → LibraryAt → List File → Type 0
+AreTold (commands.Bind bind) library files = library.files ≡ Some files
+AreTold (commands.Dump path) library files = library.files ≡ Some files
+AreTold (commands.Assemble path) library files = library.files ≡ Some files
+AreTold (commands.Turns turns) library files = library.files ≡ Some files
+AreTold (commands.Run run) library files = library.files ≡ Some files
+AreTold (commands.Generate number) library files = Unit {0}
 
 -- over these files a command comes to this end, and prints this text at it
 pub record IsAnswer (command : Command) (before after : LibraryAt) (end : End) (text : List ℕ) (files : List File) : Type 0 where
@@ -65,7 +72,7 @@ pub record IsAnswer (command : Command) (before after : LibraryAt) (end : End) (
   pub prints : Prints command files end text
 
 abbrev pub OverFiles : Command → LibraryAt → LibraryAt → End → List ℕ → Type 0
-OverFiles command before after end text = Over (told_to command before) (IsAnswer command before after end text)
+OverFiles command before after end text = Over before.files (IsAnswer command before after end text)
 
 -- words that are no command end as a usage
 pub record IsUsage (end : End) (text : List ℕ) : Type 0 where
@@ -73,14 +80,15 @@ pub record IsUsage (end : End) (text : List ℕ) : Type 0 where
   pub text_is : text ≡ usage_text
 
 -- what a command comes to, before anything is written: an end, and a text. One that runs no program comes to them over the files that it
--- reads, where these are told, and over some files where they aren't; a run is one over the files as its library tells them
+-- reads, where these are told, and over some files where they aren't; a run is one over the files as its library tells them. gen leaves the
+-- library as it is
 abbrev pub CommandAnswers : Command → LibraryAt → LibraryAt → End → List ℕ → Type 0
 CommandAnswers (commands.Bind bind) before after end text = OverFiles (commands.Bind bind) before after end text
 CommandAnswers (commands.Dump path) before after end text = OverFiles (commands.Dump path) before after end text
 CommandAnswers (commands.Assemble path) before after end text = OverFiles (commands.Assemble path) before after end text
 CommandAnswers (commands.Turns turns) before after end text = TurnsComes turns before after end text
 CommandAnswers (commands.Run run) before after end text = ⊥
-CommandAnswers (commands.Generate number) before after end text = ⊥
+CommandAnswers (commands.Generate number) before after end text = GenComes number end text × (after ≡ before)
 
 -- what the words come to
 abbrev pub Answers : Option Command → LibraryAt → LibraryAt → End → List ℕ → Type 0

@@ -14,6 +14,10 @@ end_of outcome = record { cause = outcome.cause; kept = outcome.kept }
 abbrev pub bare : Cause → End
 bare cause = record { cause = cause; kept = None }
 
+-- the end of a command whose run left this, which is kept
+abbrev pub kept_end : Cause → RunRecord → End
+kept_end cause left = record { cause = cause; kept = Some left }
+
 -- the events that are kept
 abbrev pub events_kept : End → List Event
 events_kept end = elim end.kept [ Some kept ↦ kept.journal.events | None ↦ [] ]

@@ -1,5 +1,5 @@
 -- How the command ends, and what its sink took.
-use Rattle.std.specs.Prelude.{◌≡◌, ◌≢◌, ◌⊎◌, ℕ, Bool, false, List, [], Option, Some, None, Result, Ok, Err, IsSomeAnd}
+use Rattle.std.specs.Prelude.{◌≡◌, ◌≢◌, ◌⊎◌, ℕ, Bool, false, List, [], Option, None, Result, Ok, Err, IsSomeAnd}
 use Rattle.std.specs.Io.KnownBytes.{append_known}
 use Rattle.std.specs.List.{list_any}
 use Rattle.ld_base.specs.declared.fault.DlFault.TheVariants as dl
@@ -8,12 +8,13 @@ use Rattle.library_source.specs.Count.{Rises}
 use Rattle.library_source.specs.Writing.{TakesFront}
 use Rattle.library_source.specs.declared.sink.WriteError.{WriteError}
 use Rattle.library_source.specs.declared.sink.WriteError.TheVariants as writes
+use Rattle.command_line.specs.Reads.{Reads}
 use Rattle.command_line.specs.declared.command.Command.{Command}
 use Rattle.link_event.specs.declared.event.Event.{Event}
 use Rattle.link_event.specs.declared.event.Event.TheVariants.{Ended}
 use Rattle.link_service.specs.Laws.{is_memory}
 use Rattle.ldso_cli.specs.Asked.{OfAsked}
-use Rattle.ldso_cli.specs.Command.{Answers, Misses}
+use Rattle.ldso_cli.specs.Command.{Answers, AreTold, Misses}
 use Rattle.ldso_cli.specs.End.{AreOneEnd, bare, events_kept}
 use Rattle.ldso_cli.specs.Outside.{LibraryAt, SinkAt}
 use Rattle.ldso_cli.specs.Status.{status_of}
@@ -87,10 +88,10 @@ pub record RunAt : Type 0 where
 abbrev pub is_want_of_memory : Event → Bool
 is_want_of_memory e = elim e [ Ended hart reason ↦ is_memory reason | _ ↦ false ]
 
--- a call with these words over these files, which the library tells, in which neither the library nor the sink fails, and memory suffices, for
--- the harts of a run that it makes, too
+-- a call with these words over these files, which the library tells (gen reads none of it), in which neither the library nor the sink fails,
+-- and memory suffices, for the harts of a run that it makes, too
 pub record IsUndisturbed (handed : Handing) (words : List (List ℕ)) (files : List File) (run : RunAt) : Type 0 where
-  pub told : run.before.files ≡ Some files
+  pub told : (command : Command) → Reads words command → AreTold command run.before files
   pub ends : OfAsked words (λ command. Ends handed command run.before run.after run.old run.new run.end)
   pub reads_well : ¬ (Rises run.before.faults run.after.faults)
   pub writes_well : run.end.cause ≢ causes.WriteFault

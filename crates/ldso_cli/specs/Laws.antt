@@ -1,28 +1,30 @@
 -- What holds of every run of the command.
-use Rattle.std.specs.Prelude.{◌≡◌, ℕ, List, Option, Some}
+use Rattle.std.specs.Prelude.{◌≡◌, List, Option, Result, Some}
+use Rattle.ld_base.specs.declared.fault.DlFault.{DlFault}
 use Rattle.ld_base.specs.declared.linking.File.{File}
 use Rattle.library_source.specs.Count.{Rises}
-use Rattle.command_line.specs.declared.command.Turns.{Turns}
 use Rattle.link_history.specs.Legal.{Legal, Whole}
+use Rattle.link_served.specs.declared.startup.Setup.{Setup}
 use Rattle.link_startup.specs.Startup.{CanStart}
 use Rattle.opening_plan.specs.Startup.{run_of}
-use Rattle.ldso_cli.specs.End.{events_kept}
+use Rattle.run_texts.specs.declared.record.RunRecord.{RunRecord}
+use Rattle.run_texts.specs.declared.run_end.RunEnd.{RunEnd}
+use Rattle.schedules.specs.declared.schedule.TurnItem.{TurnItem}
 use Rattle.ldso_cli.specs.Outside.{LibraryAt}
-use Rattle.ldso_cli.specs.Turns.{IsRun, TurnsComes}
-use Rattle.ldso_cli.specs.declared.outcome.End.{End}
+use Rattle.ldso_cli.specs.Played.{IsPlayed, IsRun}
 
--- the journal that is kept is one legal history, over the files as the library tells them, whether the program starts or not
-abbrev pub KeepsLegal : Type 0
-KeepsLegal = (turns : Turns) (before after : LibraryAt) (end : End) (text : List ℕ) → TurnsComes turns before after end text
-    → Legal (run_of turns.setup before.files) (events_kept end)
+-- the journal that is left is one legal history, over the files as the library tells them, whether the program starts or not
+abbrev pub LeavesLegal : Type 0
+LeavesLegal = (setup : Setup) (items : List TurnItem) (before after : LibraryAt) (ended : Result RunEnd DlFault) (left : RunRecord)
+    → IsPlayed setup items before after ended left → Legal (run_of setup before.files) left.journal.events
 
 -- and that of a program that runs is whole
-abbrev pub KeepsWhole : Type 0
-KeepsWhole = (turns : Turns) (files : Option (List File)) (end : End) (text : List ℕ) → IsRun turns files end text
-    → Whole (run_of turns.setup files) (events_kept end)
+abbrev pub LeavesWhole : Type 0
+LeavesWhole = (setup : Setup) (items : List TurnItem) (files : Option (List File)) (ended : Result RunEnd DlFault) (left : RunRecord)
+    → IsRun setup items files ended left → Whole (run_of setup files) left.journal.events
 
 -- a program that may start over files that are told runs, where no read fails
 abbrev pub RunsWhereItMay : Type 0
-RunsWhereItMay = (turns : Turns) (before after : LibraryAt) (files : List File) (end : End) (text : List ℕ) → before.files ≡ Some files
-    → ¬ (Rises before.faults after.faults) → CanStart (run_of turns.setup before.files) turns.setup → TurnsComes turns before after end text
-    → IsRun turns before.files end text
+RunsWhereItMay = (setup : Setup) (items : List TurnItem) (before after : LibraryAt) (files : List File) (ended : Result RunEnd DlFault) (left : RunRecord)
+    → before.files ≡ Some files → ¬ (Rises before.faults after.faults) → CanStart (run_of setup before.files) setup
+    → IsPlayed setup items before after ended left → IsRun setup items before.files ended left

@@ -5,7 +5,9 @@ pub mod Command
 pub mod Dump
 pub mod End
 pub mod Ends
+pub mod Generate
 pub mod Laws
 pub mod Outside
+pub mod Played
 pub mod Status
 pub mod Turns

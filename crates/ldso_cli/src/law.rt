@@ -5,12 +5,13 @@ ghost use Rattle.ld_base.specs.declared.linking.File.{File};
 ghost use Rattle.command_line.specs.declared.command.Command.{Command};
 ghost use Rattle.ldso_cli.specs.Command.{Comes, NoReadFails, Prints};
 ghost use Rattle.ldso_cli.specs.Ends.{ComeToOne, IsUndisturbed, RunAt};
-ghost use Rattle.ldso_cli.specs.Laws.{KeepsLegal, KeepsWhole, RunsWhereItMay};
+ghost use Rattle.ldso_cli.specs.Laws.{LeavesLegal, LeavesWhole, RunsWhereItMay};
 ghost use Rattle.ldso_cli.specs.Outside.{LibraryAt, handed_to};
 ghost use Rattle.ldso_cli.specs.declared.outcome.End.{End};
 
 use accepted_image::accepted_object;
 use command_line::words_are_one_command;
+use lib_gen::one_set;
 use library_source::Sink;
 use link_service::{one_startup, served_calls_are_legal};
 use run_once::runs_are_one;
@@ -21,7 +22,7 @@ use world_whole::runs_are_whole;
 
 /// The words and the files decide what a call of the command comes to, where the library tells its
 /// files, neither it nor the sink fails, and memory suffices, in a run that it makes, too: one status,
-/// one text, and one record of the run.
+/// one text, and one record of the run. For `gen` the words alone decide it.
 pub fn one_answer<K: Sink, J: Sink>()
     ensures { (words : List (List ℕ)) (files : List File) (first second : RunAt) (old new : K) (old' new' : J) →
         IsUndisturbed (handed_to K.writes old new) words files first → IsUndisturbed (handed_to J.writes old' new') words files second →
@@ -30,6 +31,7 @@ pub fn one_answer<K: Sink, J: Sink>()
     words_are_one_command();
     one_outcome();
     asm_denotes::one_answer();
+    one_set();
     runs_are_one();
     one_startup();
     accepted_object();
@@ -54,12 +56,12 @@ pub fn one_text()
     asm_denotes::one_answer();
 }
 
-/// The journal that `turns` keeps is one legal history, over the files as the library tells them; and that
+/// The journal that a run leaves is one legal history, over the files as its library tells them; and that
 /// of a program that ran is whole: no grant is open, what each lost grant saw is the value of its slot, and
 /// where each hart ended by exit what was initialised was finalised.
 pub fn kept_runs_are_legal()
-    ensures legal { KeepsLegal }
-    ensures whole { KeepsWhole }
+    ensures legal { LeavesLegal }
+    ensures whole { LeavesWhole }
 {
     accepted_object();
     served_calls_are_legal();

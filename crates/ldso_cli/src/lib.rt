@@ -1,5 +1,6 @@
 //! The command `ldso`: which definition each procedure linkage slot of a program gets, what an object
-//! holds, the object that an assembler source denotes, and what a program does when it runs.
+//! holds, the object that an assembler source denotes, what a program does when it runs, and a run of
+//! libraries that a number makes.
 //!
 //! [`ldso`] is the whole of it, over any library of files and any sink of bytes. Which command words are
 //! stands in `command_line`, and what its texts are in `command_text`.
@@ -9,8 +10,10 @@ mod answer;
 mod asm;
 mod bind;
 mod dump;
+mod generate;
 mod law;
 mod outcome;
+mod play;
 mod top;
 mod turns;
 

@@ -13,6 +13,7 @@ use crate::answer::{Answer, usage};
 use crate::asm::asm;
 use crate::bind::bind;
 use crate::dump::dump;
+use crate::generate::generate;
 use crate::outcome::{Cause, End, Outcome};
 use crate::turns::turns;
 use command_line::{Command, words_are_one_command};
@@ -40,8 +41,9 @@ fn answer<L: Library>(
         Ok(Command::Dump(path)) => dump(alloc, path, library),
         Ok(Command::Assemble(path)) => asm(alloc, path, library),
         Ok(Command::Turns(command)) => turns(alloc, &command, library),
-        // These aren't built yet.
-        Ok(Command::Run(_) | Command::Generate(_)) => usage(alloc),
+        Ok(Command::Generate(number)) => generate(alloc, number),
+        // This one isn't built yet.
+        Ok(Command::Run(_)) => usage(alloc),
         Err(WordsFault::Usage) => usage(alloc),
         Err(WordsFault::Memory) => Err(AllocError),
     }
@@ -74,7 +76,9 @@ fn write_answer<K: Sink>(out: &mut K, answer: Result<Answer, AllocError>) -> End
 /// `Done` where the source denotes an object, whose bytes it writes alone, and else with the line that is
 /// refused and the cause. `turns` ends with the first refusal of startup, or with how the run by its
 /// schedule ended; it writes the run's journal, and what the run left is kept beside the end. A schedule
-/// that is none of so many harts is a `Usage`, too.
+/// that is none of so many harts is a `Usage`, too. `gen` makes its files itself and reads none of the
+/// library; it runs their program as `turns` would, writes a summary of the run, and ends with `Done` where
+/// the program exited.
 pub fn ldso<R: Threads + Wait + Sync, L: Library + Send + Drop, K: Sink>(
     rt: &R,
     alloc: Global,

@@ -1,30 +1,30 @@
 //! `turns`: a run on one thread, by a written schedule.
 
-ghost use Rattle.std.specs.Prelude.{◌≡◌, ◌<◌, ◌≤◌, ◌^◌, All, IfErr, IfOk, IsTrue, List};
-ghost use Rattle.ldso_cli.specs.Outside.{library_at};
+ghost use Rattle.std.specs.Prelude.{◌≡◌, ◌<◌, ◌≤◌, ◌^◌, ◌++◌, All, IfErr, IfOk, List};
 ghost use Rattle.ldso_cli.specs.Command.{AsScheduled};
-ghost use Rattle.ldso_cli.specs.Turns.{Schedules, TellsRefusal, TellsRun, TurnsComes};
+ghost use Rattle.ldso_cli.specs.End.{kept_end};
+ghost use Rattle.ldso_cli.specs.Outside.{library_at};
+ghost use Rattle.ldso_cli.specs.Played.{last_line, run_cause};
+ghost use Rattle.ldso_cli.specs.Turns.{Schedules, TurnsComes};
 ghost use Rattle.link_service.specs.Startup.{harts_of};
+ghost use Rattle.run_texts.specs.Printed.{journal_lines};
 ghost use Rattle.schedule_read.specs.declared.fault.TurnsFault.TheVariants.{NotTurns};
 ghost use Rattle.schedules.specs.Grammar.{SaysTurns};
 ghost use Rattle.schedules.specs.declared.schedule.TurnItem.{TurnItem};
 ghost use Rattle.trace_text.specs.Lines.{IsSayable};
-ghost use Rattle.world_turns.specs.Run.{have_ended};
 
 use crate::answer::{Answer, usage};
-use crate::outcome::{Cause, End, refused_line};
+use crate::outcome::End;
+use crate::play::{Played, last_line, play, run_cause};
 use accepted_image::accepted_object;
 use command_line::Turns;
-use ld_base::{DlFault, Name};
+use ld_base::Name;
 use library_source::Library;
-use link_event::{Ends, Journal};
-use link_served::StartFault;
 use link_service::served_calls_are_legal;
-use plain_world::{World, played_worlds_are_runs};
-use run_texts::{RunEnd, RunRecord, events_are_sayable, journal_text};
+use run_texts::{events_are_sayable, journal_text};
 use schedule_read::{TurnsFault, read_turns};
 use std::alloc::{AllocError, Global};
-use world_turns::{counts_show, runs_stay_sound};
+use world_turns::runs_stay_sound;
 
 /// The items of a written schedule of so many harts.
 ///
@@ -41,41 +41,24 @@ fn items_of(alloc: Global, schedule: &Name, harts: u32) -> Result<schedules::Tur
     }
 }
 
-/// The answer of a run that has ended.
-fn told(alloc: Global, run: World) -> Result<Answer, AllocError>
-    requires over { IsTrue (have_ended run.world) }
-    requires some { 0 < run.count }
-    requires sayable { All IsSayable run.world.journal }
-    ensures { IfOk result (λ answer. TellsRun run.world answer.end answer.text) }
+/// The answer of a run that is over.
+fn told(alloc: Global, played: Played) -> Result<Answer, AllocError>
+    requires { All IsSayable played.left.journal.events }
+    ensures end { IfOk result (λ answer. answer.end ≡ kept_end (run_cause played.ended) played.left) }
+    ensures text { IfOk result (λ answer. answer.text ≡ journal_lines played.left.journal.events ++ last_line played.ended) }
 {
-    let _ = run.count();
-    let record = run.into_record();
-    let run_end = RunEnd::of(record.ends.as_slice());
-    let line = run_end.line(alloc)?;
-    let text = journal_text(alloc, record.journal.as_slice(), line.as_str())?;
+    let Played { ended, left } = played;
+    let line = last_line(alloc, &ended)?;
+    let text = journal_text(alloc, left.journal.as_slice(), line.as_str())?;
     let end = End {
-        cause: Cause::Ran(run_end),
-        kept: Some(record),
-    };
-    Ok(Answer { end, text })
-}
-
-/// The answer of a run that doesn't start.
-fn not_started(alloc: Global, fault: DlFault, journal: Journal) -> Result<Answer, AllocError>
-    requires { All IsSayable journal.events }
-    ensures { IfOk result (λ answer. TellsRefusal fault journal.events answer.end answer.text) }
-{
-    let line = refused_line(alloc, &fault)?;
-    let text = journal_text(alloc, journal.as_slice(), line.as_str())?;
-    let end = End {
-        cause: Cause::Refused(fault),
-        kept: Some(RunRecord::new(journal, Ends::new(alloc))),
+        cause: run_cause(ended),
+        kept: Some(left),
     };
     Ok(Answer { end, text })
 }
 
 /// The answer of a run by these items, which the schedule says.
-fn play<L: Library>(
+fn of_items<L: Library>(
     alloc: Global,
     command: &Turns,
     items: &schedules::Turns,
@@ -90,20 +73,12 @@ fn play<L: Library>(
     ensures faults { L.faults library.old ≤ L.faults library.new }
     ensures misses { L.misses library.old ≤ L.misses library.new }
 {
-    played_worlds_are_runs();
     accepted_object();
     runs_stay_sound();
     served_calls_are_legal();
     events_are_sayable();
-    counts_show();
-    match World::start(alloc, &command.setup, library) {
-        Ok(mut run) => {
-            run.run(alloc, items, library);
-            told(alloc, run)
-        }
-        Err(StartFault::Refused(fault, journal)) => not_started(alloc, fault, journal),
-        Err(StartFault::Memory) => Err(AllocError),
-    }
+    let played = play(alloc, &command.setup, items, library)?;
+    told(alloc, played)
 }
 
 /// Runs a program on one thread by a schedule, and gives its journal. A schedule that is none of so many
@@ -125,7 +100,7 @@ pub(crate) fn turns<L: Library>(
 {
     let harts = command.setup.harts.len() as u32 + 1;
     match items_of(alloc, &command.schedule, harts) {
-        Ok(items) => play(alloc, command, &items, library),
+        Ok(items) => of_items(alloc, command, &items, library),
         Err(TurnsFault::NotTurns) => usage(alloc),
         Err(TurnsFault::Memory) => Err(AllocError),
     }

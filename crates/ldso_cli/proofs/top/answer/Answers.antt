@@ -1,11 +1,11 @@
-use Rattle.std.proofs.Common.{List, Some, ℕ, ap, subst, ◌<◌, ◌^◌, ◌≤◌, arith}
+use Rattle.std.proofs.Common.{Some, subst, ◌≤◌, arith}
 use Rattle.command_line.specs.Reads.{Reads}
 use Rattle.command_line.specs.declared.command.Command.{Command}
 use Rattle.command_line.specs.declared.command.Command.TheVariants as commands
 use Rattle.link_service.specs.Startup.{harts_of}
 use Rattle.said_words.specs.Words.{texts}
 use Rattle.ldso_cli.specs.Outside.{library_at}
-use Rattle.ldso_cli.proofs.Asking.{turned, unanswered}
+use Rattle.ldso_cli.proofs.Asking.{generated, turned, unanswered}
 use Rattle.ldso_cli.proofs.Bounds.{few_harts, little_fuel}
 use Rattle.ldso_cli.proofs.top.answer.Goals as goal
 
@@ -47,6 +47,12 @@ returns-in-Ok-Turns-clause-answers g c =
     let before = library_at g.L.Library.files g.L.Library.faults g.L.Library.misses c.args.library.now in
     let after = library_at g.L.Library.files g.L.Library.faults g.L.Library.misses c.turns.new.library in
     turned c.words_are_one_command.ensures (texts c.args.words.now) c.in-Ok-Turns.command reads before after c.turns.result c.turns.ensures.comes
+
+pub returns-in-Ok-Generate-clause-answers : goal.returns-in-Ok-Generate-clause-answers
+returns-in-Ok-Generate-clause-answers g c =
+    let reads : Reads (texts c.args.words.now) (commands.Generate c.in-Ok-Generate.number) =
+    subst (λ (command : Command). Reads (texts c.args.words.now) command) c.in-Ok-Generate.field-0-is c.in-Ok-Generate.ensures.is in
+    generated (texts c.args.words.now) c.in-Ok-Generate.number reads (library_at g.L.Library.files g.L.Library.faults g.L.Library.misses c.args.library.now) c.generate.result c.generate.ensures.comes
 
 pub returns-clause-answers : goal.returns-clause-answers
 returns-clause-answers g c =

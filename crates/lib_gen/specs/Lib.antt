@@ -1,0 +1,4 @@
+pub mod Library
+pub mod Set
+pub mod Summary
+pub mod Worked
