@@ -1,6 +1,6 @@
 -- What a library counts while a run goes on.
-use Rattle.std.proofs.Common.{◌≡◌, ◌⊎◌, inl, inr, ℕ, ◌+◌, ◌<◌, ◌≤◌, Bool, true, false, List, [], ◌∷◌, ◌++◌, length, Option, Some, refl, sym, ap, subst, ◌∙◌, append-nil, append_assoc, arith, true≢false}
-use Rattle.std.specs.Prelude.{nat_lt}
+use Rattle.std.proofs.Common.{◌≡◌, ◌⊎◌, inl, inr, ℕ, ◌+◌, ◌<◌, ◌≤◌, Bool, true, false, List, [], ◌∷◌, ◌++◌, length, Option, Some, Result, Ok, Err, refl, sym, ap, subst, ◌∙◌, append-nil, append_assoc, arith, true≢false}
+use Rattle.std.specs.Prelude.{IsErrAnd, nat_lt}
 use Rattle.std.specs.List.{list_any}
 use Rattle.std.proofs.lemmas.Bool.{ltb-true}
 use Rattle.ld_base.specs.declared.fault.DlFault.{DlFault}
@@ -10,8 +10,11 @@ use Rattle.link_event.specs.declared.event.Event.TheVariants.{Ended}
 use Rattle.link_event.specs.declared.hart_end.HartEnd.TheVariants.{Memory}
 use Rattle.link_history.specs.Setting.{Setting}
 use Rattle.link_served.specs.declared.startup.Setup.{Setup}
+use Rattle.link_served.specs.declared.startup.StartFault.{StartFault}
+use Rattle.link_served.specs.declared.startup.StartFault.TheVariants as starts
 use Rattle.link_served.specs.declared.startup.Started.{Started}
 use Rattle.link_service.specs.Startup.{FailsToStart, FindHarts, LacksHart, Starts, found_at, opening, program_ask}
+use Rattle.link_startup.specs.Startup.{IsNotStarted, refusal_of_start}
 use Rattle.call_laws.specs.Counts.{ArePathsAtStart, ShowsInCounts}
 use Rattle.lawful_journal.specs.Following.{machine_of}
 use Rattle.call_laws.specs.Coming.{IsOver}
@@ -25,6 +28,7 @@ use Rattle.world_turns.specs.Counts.{Counts, ShowInCounts, has_candidate}
 use Rattle.world_turns.specs.Run.{Begins, LacksMemory, settled}
 use Rattle.world_turns.specs.Turn.{TakesTurn}
 use Rattle.world_turns.specs.World.{World, settling}
+use Rattle.plain_world.specs.Started.{start_events}
 use Rattle.plain_world.specs.Table.{WorldTable, moved}
 
 -- ---- a turn
@@ -92,10 +96,10 @@ some_at_start folders program name paths (inr own) some = some_path _ program na
 
 pub started_shows : (w : Setting) (setup : Setup) (journal : List Event) (started : Started) (first last : Counts) → Rise first last → Starts w setup journal started
     → ShowInCounts setup.folders journal first last
-started_shows w setup journal started first last rise starts =
-    let loaded : Event = opening setup starts.root starts.added starts.ranges in
+started_shows w setup journal started first last rise is =
+    let loaded : Event = opening setup is.root is.added is.ranges in
     spare_counts setup.folders first last journal rise
-    (ap (list_any is_refusal) starts.are ∙ found_spares w (loaded ∷ []) 1 setup.harts starts.found starts.addresses starts.finds)
+    (ap (list_any is_refusal) is.are ∙ found_spares w (loaded ∷ []) 1 setup.harts is.found is.addresses is.finds)
 
 pub failed_shows : (w : Setting) (setup : Setup) (fault : DlFault) (events : List Event) (first last : Counts) → Rise first last → FailsToStart w setup fault events
     → ShowsInCounts (ArePathsAtStart setup.folders setup.program) (Some fault) first.faults last.faults first.misses last.misses
@@ -105,6 +109,24 @@ failed_shows w setup fault events first last rise (FailsToStart.is_not_opened _ 
 failed_shows w setup fault events first last rise (FailsToStart.lacks_hart root added ranges more _ may lacks) shows =
     spare_counts setup.folders first last (opening setup root added ranges ∷ more) rise
     (lacks_spares w setup.program (opening setup root added ranges ∷ []) 1 setup.harts more fault lacks)
+
+fault_shows : (w : Setting) (setup : Setup) (why : StartFault) (first last : Counts) → Rise first last → IsNotStarted w setup why
+    → ShowsInCounts (ArePathsAtStart setup.folders setup.program) (refusal_of_start why) first.faults last.faults first.misses last.misses
+    → ShowInCounts setup.folders (start_events (Err why)) first last
+fault_shows w setup (starts.Refused fault journal) first last rise fails shows = failed_shows w setup fault journal.events first last rise fails shows
+fault_shows w setup starts.Memory first last rise fails shows = spare_counts setup.folders first last [] rise refl
+
+pub unstarted_shows : (w : Setting) (setup : Setup) (result : Result WorldTable StartFault) (why : StartFault) (first last : Counts) → Rise first last
+    → IsErrAnd result (λ e. e ≡ why) → IsNotStarted w setup why
+    → ShowsInCounts (ArePathsAtStart setup.folders setup.program) (refusal_of_start why) first.faults last.faults first.misses last.misses
+    → ShowInCounts setup.folders (start_events result) first last
+unstarted_shows w setup (Ok run) why first last rise is fails shows = absurd is
+unstarted_shows w setup (Err e) why first last rise is fails shows =
+    subst (λ (x : StartFault). ShowInCounts setup.folders (start_events (Err x)) first last) (sym is) (fault_shows w setup why first last rise fails shows)
+
+-- and so does want of memory
+pub memory_shows : (folders : List (List ℕ)) (first last : Counts) → Rise first last → ShowInCounts folders [] first last
+memory_shows folders first last rise = spare_counts folders first last [] rise refl
 
 -- ---- a run
 

@@ -1,6 +1,6 @@
 use Rattle.opening_plan.specs.Startup.{run_of}
 use Rattle.guest_turns.specs.Counting.{counts_at}
-use Rattle.plain_world.proofs.Counting.{goes_up, started_shows}
+use Rattle.plain_world.proofs.Counting.{goes_up, started_shows, unstarted_shows}
 use Rattle.plain_world.proofs.world.World.start.Goals as goal
 
 pub set_up-requires-clause-starts : goal.set_up-requires-clause-starts
@@ -15,3 +15,11 @@ returns-clause-shows g c =
     started_shows (run_of c.args.setup.now (g.L.Library.files c.args.library.now)) c.args.setup.now c.in-Ok.run'.world.journal starts.starts.started
     (counts_at g.L.Library.faults g.L.Library.misses c.args.library.now) (counts_at g.L.Library.faults g.L.Library.misses c.startup.new.library)
     (goes_up g.L.Library.faults g.L.Library.misses c.args.library.now c.startup.new.library c.startup.ensures.faults c.startup.ensures.misses) starts.starts.starts
+
+pub returns-in_err-state-clause-shows : goal.returns-in_err-state-clause-shows
+returns-in_err-state-clause-shows g c =
+    unstarted_shows (run_of c.args.setup.now (g.L.Library.files c.args.library.now)) c.args.setup.now
+    c.from_residual-in_err-state.result c.in_err-state.field-0.0
+    (counts_at g.L.Library.faults g.L.Library.misses c.args.library.now) (counts_at g.L.Library.faults g.L.Library.misses c.startup.new.library)
+    (goes_up g.L.Library.faults g.L.Library.misses c.args.library.now c.startup.new.library c.startup.ensures.faults c.startup.ensures.misses)
+    c.from_residual-in_err-state.ensures.1 c.in_err-state.ensures.refused c.in_err-state.ensures.counts
