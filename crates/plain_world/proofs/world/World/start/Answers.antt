@@ -19,7 +19,7 @@ returns-clause-shows g c =
 pub returns-in_err-state-clause-shows : goal.returns-in_err-state-clause-shows
 returns-in_err-state-clause-shows g c =
     unstarted_shows (run_of c.args.setup.now (g.L.Library.files c.args.library.now)) c.args.setup.now
-    c.from_residual-in_err-state.result c.in_err-state.field-0.0
+    c.from_residual.result c.in_err-state.field-0.0
     (counts_at g.L.Library.faults g.L.Library.misses c.args.library.now) (counts_at g.L.Library.faults g.L.Library.misses c.startup.new.library)
     (goes_up g.L.Library.faults g.L.Library.misses c.args.library.now c.startup.new.library c.startup.ensures.faults c.startup.ensures.misses)
-    c.from_residual-in_err-state.ensures.1 c.in_err-state.ensures.refused c.in_err-state.ensures.counts
+    c.from_residual.ensures.1 c.in_err-state.ensures.refused c.in_err-state.ensures.counts
