@@ -1,5 +1,5 @@
 -- What it says that the next turn of a hart is one of several.
-use Rattle.std.proofs.Common.{◌≡◌, ◌⊎◌, ⊎_elim, ℕ, true, List, None, Bor, refl, sym, ap, ◌∙◌}
+use Rattle.std.proofs.Common.{◌≡◌, ◌⊎◌, ⊎_elim, ℕ, true, List, None, Bor, sym, ap, ◌∙◌}
 use Rattle.link_event.specs.declared.handed.Function.{Function}
 use Rattle.link_history.specs.State.{State}
 use Rattle.hart_moves.specs.Due.{due}

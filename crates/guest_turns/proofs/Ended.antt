@@ -1,5 +1,5 @@
 -- A hart ends: that is its turn.
-use Rattle.std.proofs.Common.{◌≡◌, ℕ, ◌<◌, length, Bool, List, [], ◌∷◌, ◌++◌, map, Some, None, refl, sym, ap, subst, ◌∙◌}
+use Rattle.std.proofs.Common.{◌≡◌, ℕ, ◌<◌, length, List, [], ◌∷◌, ◌++◌, map, Some, refl, sym, ap, subst, ◌∙◌}
 use Rattle.std.specs.Prelude.{slice_set}
 use Rattle.std.specs.List.{slice_get}
 use Rattle.link_event.specs.declared.event.Event.{Event}
@@ -9,7 +9,6 @@ use Rattle.link_history.specs.After.{after}
 use Rattle.link_history.specs.Allowed.{MayEnd}
 use Rattle.link_history.specs.Owed.{ends_at_most, times_ended}
 use Rattle.link_service.specs.Lemmas.Unique.{both_found}
-use Rattle.rv_hart.specs.declared.doubleword.Doubleword.{Doubleword}
 use Rattle.hart_moves.specs.Harts.{HartState, Resolving}
 use Rattle.hart_moves.specs.Moves.{Did, ended, freed, settled_resolving}
 use Rattle.hart_seat.specs.Table.{HartTable}
@@ -23,7 +22,7 @@ use Rattle.turn_parts.specs.Leaving.{AllStay, OthersLeave}
 use Rattle.world_ends.specs.Lemmas.Places.{freed_here, set_here}
 use Rattle.world_turns.specs.Run.{settled}
 use Rattle.world_turns.specs.Turn.{Turn}
-use Rattle.world_turns.specs.World.{World, settling}
+use Rattle.world_turns.specs.World.{settling}
 use Rattle.guest_turns.specs.Ending.{EndsAmong, Stops}
 use Rattle.guest_turns.specs.Laws.{EndsAreTurns, EndsMayCome}
 use Rattle.guest_turns.specs.Lemmas.Places.{freed_are, freed_put, settling_stays, some_stands}

@@ -16,14 +16,14 @@ use Rattle.link_history.specs.Setting.{Setting}
 use Rattle.hart_moves.specs.Copying.{Copy, first_left}
 use Rattle.hart_moves.specs.Due.{Due}
 use Rattle.hart_moves.specs.Harts.{HartState}
-use Rattle.hart_moves.specs.Moves.{Comes, CopiesBy, Did, Ends as EndsBy, Goes, MovesAs, Refuses, Stops, StoresBy, Trap, Traps, Unread, copied_item, spent, stored_to, trap_of}
+use Rattle.hart_moves.specs.Moves.{Comes, CopiesBy, Did, Ends as EndsBy, Goes, MovesAs, Refuses, Stops, StoresBy, Trap, Traps, Unread, copied_item, stored_to, trap_of}
 use Rattle.call_answers.specs.Answers.{is_service}
 use Rattle.guest_worlds.specs.Worlds.{setting_without}
 use Rattle.plain_turns.specs.Turns.{TakesOwn, Turns, is_own}
 use Rattle.plain_turns.specs.declared.turned.Turned.{Turned}
 use Rattle.plain_turns.specs.declared.turned.Turned.TheVariants.{Over, Again, Ends}
 use Rattle.world_turns.specs.Memory.{lowest}
-use Rattle.guest_turns.specs.Alone.{GoesOn, IsToEnd, TakesAlone}
+use Rattle.guest_turns.specs.Alone.{GoesOn, TakesAlone}
 
 -- ---- a turn that only made calls of the bus leaves its hart running
 

@@ -1,5 +1,5 @@
 -- Which turns refuse an opening: those of openings alone, which append nothing else then.
-use Rattle.std.proofs.Common.{◌≡◌, inl, inr, ℕ, ◌+◌, ◌*◌, Bool, true, false, cond, List, [], ◌∷◌, ◌++◌, map, Option, Some, None, Result, Ok, Err, refl, sym, ap, subst, ◌∙◌, append-nil, append_assoc}
+use Rattle.std.proofs.Common.{◌≡◌, inl, inr, ℕ, ◌+◌, ◌*◌, Bool, true, false, cond, List, [], ◌∷◌, ◌++◌, map, Option, Some, None, Result, Ok, Err, refl, ap, subst, ◌∙◌, append-nil}
 use Rattle.std.specs.Prelude.{not, ◌&&◌, ◌||◌}
 use Rattle.std.specs.List.{list_any}
 use Rattle.std.specs.Option.{is_some}
@@ -24,7 +24,7 @@ use Rattle.link_history.specs.State.{State}
 use Rattle.link_service.specs.Answer.{Answer, returns, loading, closing, refused, granted, told, again, over}
 use Rattle.link_service.specs.Call.{Call, opens}
 use Rattle.link_service.specs.Functions.{passed}
-use Rattle.link_service.specs.Gives.{Answers, Gives, Serves, ending}
+use Rattle.link_service.specs.Gives.{Answers, Gives, ending}
 use Rattle.hart_moves.specs.Copying.{Copy}
 use Rattle.hart_moves.specs.Due.{Due, Return, due}
 use Rattle.hart_moves.specs.Harts.{HartState, Purpose}

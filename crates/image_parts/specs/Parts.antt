@@ -20,3 +20,6 @@ storage_of m = elim m.object.tls [
 
 abbrev pub part_of : Linked → Part
 part_of m = record { serial = m.serial; destructors = destructors m; storage = storage_of m }
+
+abbrev pub serial_of : Part → ℕ
+serial_of p = p.serial

@@ -1,8 +1,11 @@
 //! The parts.
 
-ghost use Rattle.std.specs.Prelude.{not, ◌≡◌, ◌+◌, ◌<◌, ◌==◌, [], ◌∷◌, ◌++◌, filter, find, OnOk, OnErr};
+ghost use Rattle.std.specs.Prelude.{not, ◌≡◌, ◌+◌, ◌-◌, ◌<◌, ◌≤◌, ◌==◌, [], ◌∷◌, ◌++◌, true, filter, find, length, slice_index_or, OnOk, OnErr};
+ghost use Rattle.std.specs.List.Sorted.{IsNonDecreasingBy};
 ghost use Rattle.std.specs.Option.{option_copied};
 ghost use Rattle.link_history.specs.Objects.{has};
+ghost use Rattle.image_parts.specs.Parts.{serial_of};
+ghost use Rattle.image_parts.specs.declared.parts.Part.{Part as OnePart};
 
 use ld_base::{Bytes, Serial};
 use link_event::Addresses;
@@ -20,23 +23,28 @@ pub struct Part {
     pub storage: Bytes,
 }
 
-/// Parts of images, in the order of the images. Contracts see them with the room for more.
+/// Parts of images, in the order of the images: one is searched by halves while that is the order of their
+/// serials. Contracts see them with the room for more.
 #[derive(Debug, Drop)]
 pub struct ImageParts {
     parts: Vec<Part>,
     room: usize,
+    ascends: bool,
 }
 
 impl Model for ImageParts {
-    ghost use Rattle.std.specs.Prelude.{◌+◌, ◌≤◌};
+    ghost use Rattle.std.specs.Prelude.{◌≡◌, ◌+◌, ◌≤◌, true};
+    ghost use Rattle.std.specs.List.Sorted.{IsNonDecreasingBy};
     ghost use Rattle.std.specs.Vec.{vec_capacity, vec_len};
-    ghost use Rattle.image_parts.specs.Parts.{PartsWithRoom};
+    ghost use Rattle.image_parts.specs.Parts.{PartsWithRoom, serial_of};
 
     ghost Value = { PartsWithRoom };
 
     ghost view = { λ p. record { parts = p.parts.items; room = p.room } };
 
-    ghost invariant = { λ p. vec_len p.parts + p.room ≤ vec_capacity p.parts };
+    ghost invariant = { λ p.
+        (vec_len p.parts + p.room ≤ vec_capacity p.parts)
+        × (p.ascends ≡ true → IsNonDecreasingBy serial_of p.parts.items) };
 }
 
 impl ImageParts {
@@ -48,6 +56,7 @@ impl ImageParts {
         ImageParts {
             parts: Vec::new(alloc),
             room: 0,
+            ascends: true,
         }
     }
 
@@ -55,12 +64,12 @@ impl ImageParts {
     pub fn find(&self, serial: Serial) -> Option<&Part>
         ensures { option_copied result ≡ find (λ p. p.serial == serial) self.now.parts }
     {
-        for part in self.parts.as_slice() {
-            if part.serial == serial {
-                return Some(part);
-            }
+        let parts = self.parts.as_slice();
+        if self.ascends {
+            found_by_halves(parts, serial)
+        } else {
+            found_in(parts, serial)
         }
-        None
     }
 
     /// Makes room for those of so many images more.
@@ -87,6 +96,7 @@ impl ImageParts {
         ensures parts { self.new.parts ≡ self.old.parts ++ part ∷ [] }
         ensures room { self.new.room + 1 ≡ self.old.room }
     {
+        self.ascends = ascends_behind(self.ascends, self.parts.as_slice(), part.serial);
         self.parts.push_reserved(part);
         self.room -= 1;
     }
@@ -99,4 +109,48 @@ impl ImageParts {
         let going = SerialSet::new(set);
         self.parts.retain(|part| !going.has(part.serial));
     }
+}
+
+/// Whether serials ascend with one more behind others, of which it is known whether they do.
+fn ascends_behind(ascends: bool, parts: &[Part], serial: Serial) -> bool
+    ensures others { result ≡ true → ascends ≡ true }
+    ensures last { result ≡ true → (d : OnePart) → 0 < length parts.now → serial_of (slice_index_or parts.now (length parts.now - 1) d) ≤ serial }
+{
+    if !ascends {
+        return false;
+    }
+    match parts.last() {
+        Some(last) => last.serial.number() <= serial.number(),
+        None => true,
+    }
+}
+
+/// The part of an object, where serials ascend.
+fn found_by_halves(parts: &[Part], serial: Serial) -> Option<&Part>
+    requires { IsNonDecreasingBy serial_of parts.now }
+    ensures { option_copied result ≡ find (λ p. p.serial == serial) parts.now }
+{
+    let number = serial.number();
+    let place = parts.partition_point(|part| part.serial.number() < number);
+    let (_, rest) = parts.split_at(place);
+    let Some(part) = rest.first() else {
+        return None;
+    };
+    if part.serial == serial {
+        Some(part)
+    } else {
+        None
+    }
+}
+
+/// The part of an object, in any order.
+fn found_in(parts: &[Part], serial: Serial) -> Option<&Part>
+    ensures { option_copied result ≡ find (λ p. p.serial == serial) parts.now }
+{
+    for part in parts {
+        if part.serial == serial {
+            return Some(part);
+        }
+    }
+    None
 }

@@ -3,3 +3,4 @@ pub mod Fails
 pub mod First
 pub mod Opened
 pub mod Stacks
+mod Worked

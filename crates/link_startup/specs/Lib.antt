@@ -1,3 +1,4 @@
 pub mod Bringing
 pub mod Stacks
 pub mod Startup
+pub mod Worked

@@ -1,8 +1,25 @@
 //! What holds of each run that has started.
 
 ghost use Rattle.link_startup.specs.Stacks.{StacksAreOwn};
+ghost use Rattle.link_startup.specs.Worked.{HasNoProgram, LacksName, LooksOn, SharesAStack, StartsInData, StartsTwo, StopsAtData};
+
+use link_service::one_startup;
 
 /// The sp with which a hart starts is in the stack that is its own, 48 bytes below its end, and a multiple of 16.
 pub fn stacks_are_own()
     ensures { StacksAreOwn }
 {}
+
+/// Worked starts. Two harts start, each in a stack of its own. A run doesn't start whose program isn't there; nor one
+/// of whose names isn't found, and no later name is looked up then; nor one at whose name data stands.
+pub fn starts_are_worked()
+    ensures two { StartsTwo }
+    ensures own_stacks { SharesAStack → ⊥ }
+    ensures no_program { HasNoProgram }
+    ensures no_name { LacksName }
+    ensures no_later { LooksOn → ⊥ }
+    ensures no_code { StopsAtData }
+    ensures not_in_data { StartsInData → ⊥ }
+{
+    one_startup();
+}

@@ -3,7 +3,8 @@
 //! [`startup`] opens a run's program with all that it needs in a new linker's state, and looks the names of its
 //! harts up (gABI, "Program Loading"; psABI). It gives the state, what memory gets, the constructors that the
 //! first hart is to run before any other turn, and the registers with which each hart starts; or the first
-//! refusal, with the events up to it. Each hart starts in a stack of its own ([`stacks_are_own`]).
+//! refusal, with the events up to it. Each hart starts in a stack of its own
+//! ([`stacks_are_own`]); [`starts_are_worked`] has starts that are worked by hand.
 #![tactic(auto)]
 
 mod bringing;
@@ -12,5 +13,5 @@ mod opening;
 mod preinits;
 mod starting;
 
-pub use law::stacks_are_own;
+pub use law::{stacks_are_own, starts_are_worked};
 pub use starting::startup;

@@ -27,15 +27,15 @@ use Rattle.link_history.specs.Lookup.{HasNoBlock, MayHaveBlock}
 use Rattle.link_history.specs.Memory.{image_of}
 use Rattle.link_history.specs.Objects.{has, mapped, object_at}
 use Rattle.link_history.specs.State.{Linked, State}
-use Rattle.link_history.specs.Step.{block_range, block_ranges}
+use Rattle.link_history.specs.Step.{add_block, block_range, block_ranges}
 use Rattle.link_history.specs.Storage.{block_pages, module_of, residue, tls_block}
 use Rattle.link_history.specs.Lemmas.Lists.{found_in, from_flat, not_found}
 use Rattle.lawful_journal.specs.Following.{machine_of}
 use Rattle.link_served.specs.declared.installs.Installs.{Installs}
 use Rattle.link_service.specs.Ends.{bad_module, no_room}
-use Rattle.link_service.specs.Gives.{in_block, in_new_block, to_end}
+use Rattle.link_service.specs.Gives.{HasBlock, in_block, in_new_block, to_end}
 use Rattle.link_service.specs.Served.{AreBlockInstalls, InstallsNothing, Makes, a_block, no_event}
-use Rattle.new_blocks.specs.Laws.{NewBlocksAreInstalled}
+use Rattle.new_blocks.specs.Laws.{HartsHaveNewBlocks, NewBlocksAreInstalled}
 use Rattle.new_blocks.specs.Placing.{IsBlockFault, IsNewBlock, LacksPages}
 use Rattle.new_blocks.specs.declared.placing.BlockFault.{BlockFault}
 use Rattle.new_blocks.specs.declared.placing.BlockFault.TheVariants as blocks
@@ -114,8 +114,8 @@ block_made law harts only past hart serial b lawful few plan some none =
 
 pub is_got : (table new : LinkTable) (hart number serial block : ℕ) (installs : Installs) → IsModuleOf (after table.events) number serial → MayHaveBlock (after table.events) hart serial block
     → new.events ≡ table.events ++ Tls hart serial block ∷ [] → new.harts ≡ table.harts → AreBlockInstalls (after (table.events ++ Tls hart serial block ∷ [])) hart serial block installs → new.made ≡ installs
-    → IsLocated table hart number block new
-is_got table new hart number serial block installs its may events harts made is = record {
+    → after new.events ≡ add_block hart serial block (after table.events) → HartsHaveNewBlocks → IsLocated table hart number block new
+is_got table new hart number serial block installs its may events harts made is state law = record {
   given = Tls hart serial block ∷ [];
   gives = λ offset w same. in_new_block number offset block (Tls hart serial block)
       (record { of = its.of; there = its.there; is = ap (λ d. Tls hart d block) (sym its.is); may = may });
@@ -123,6 +123,11 @@ is_got table new hart number serial block installs its may events harts made is 
   harts = harts;
   made = subst (λ (es : List Event). Makes (after es) (Tls hart serial block ∷ []) new.made) (sym events)
       (a_block hart serial block [] new.made (subst (AreBlockInstalls (after (table.events ++ Tls hart serial block ∷ [])) hart serial block) (sym is) made));
+  own = record {
+    of = its.of;
+    there = ap (λ (s : State). module_at s.modules number) state ∙ its.there;
+    is = ap (tls_block (after new.events) hart) its.is ∙ ap (λ (es : List Event). tls_block (after es) hart serial) events ∙ law table.events hart serial block may;
+  };
 }
 
 pub is_kept : (table new : LinkTable) (hart number serial block : ℕ) → IsModuleOf (after table.events) number serial → Some block ≡ tls_block (after table.events) hart serial → new.events ≡ table.events
@@ -134,6 +139,8 @@ is_kept table new hart number serial block its is events harts nothing = record 
   events = events ∙ sym (append-nil table.events);
   harts = harts;
   made = no_event new.made nothing;
+  own = subst (λ (es : List Event). HasBlock (after es) hart number block) (sym events)
+      (record { of = its.of; there = its.there; is = ap (tls_block (after table.events) hart) its.is ∙ sym is });
 }
 
 pub is_bad : (table new : LinkTable) (hart number : ℕ) → module_at (after table.events).modules number ≡ None → new ≡ table → EndsUnlocated table hart number (ends.BadModule number) new

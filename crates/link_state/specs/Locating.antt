@@ -14,7 +14,7 @@ use Rattle.link_history.specs.Objects.{object_at}
 use Rattle.link_history.specs.State.{Linked, State}
 use Rattle.link_service.specs.Answer.{over, returns}
 use Rattle.link_service.specs.Call.{locates}
-use Rattle.link_service.specs.Gives.{variable_at}
+use Rattle.link_service.specs.Gives.{HasBlock, variable_at}
 use Rattle.link_service.specs.Served.{Makes}
 use Rattle.tls_blocks.specs.Numbers.{module_at}
 use Rattle.new_blocks.specs.Placing.{IsNewBlock, LacksPages}
@@ -39,6 +39,7 @@ pub record IsLocated (table : LinkTable) (hart number block : ℕ) (new : LinkTa
   pub events : new.events ≡ table.events ++ given
   pub harts : new.harts ≡ table.harts
   pub made : Makes (after new.events) given new.made
+  pub own : HasBlock (after new.events) hart number block
 
 -- nothing has changed, and the hart ends
 pub record EndsUnlocated (table : LinkTable) (hart number : ℕ) (reason : HartEnd) (new : LinkTable) : Type 0 where

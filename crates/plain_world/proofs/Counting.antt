@@ -1,5 +1,5 @@
 -- What a library counts while a run goes on.
-use Rattle.std.proofs.Common.{◌≡◌, ◌⊎◌, inl, inr, ℕ, ◌+◌, ◌<◌, ◌≤◌, Bool, true, false, List, [], ◌∷◌, ◌++◌, length, Option, Some, Result, Ok, Err, refl, sym, ap, subst, ◌∙◌, append-nil, append_assoc, arith, true≢false}
+use Rattle.std.proofs.Common.{◌≡◌, ◌⊎◌, inl, inr, ℕ, ◌+◌, ◌<◌, ◌≤◌, true, false, List, [], ◌∷◌, ◌++◌, length, Option, Some, Result, Ok, Err, refl, sym, ap, subst, ◌∙◌, append-nil, append_assoc, arith}
 use Rattle.std.specs.Prelude.{IsErrAnd, nat_lt}
 use Rattle.std.specs.List.{list_any}
 use Rattle.std.proofs.lemmas.Bool.{ltb-true}
@@ -20,7 +20,6 @@ use Rattle.lawful_journal.specs.Following.{machine_of}
 use Rattle.call_laws.specs.Coming.{IsOver}
 use Rattle.rv_hart.specs.Registers.{Registers}
 use Rattle.guest_worlds.specs.Worlds.{TakesOver}
-use Rattle.guest_worlds.specs.declared.turn.Turn.{Turn as CameTurn}
 use Rattle.guest_turns.specs.Counting.{IsCounted, RefusesNone, Rise, TurnsAreCounted, counts_at, is_refusal}
 use Rattle.guest_turns.specs.Lemmas.Counting.{both_spare, counted_more, none_counted, refusal_shows, same_counts, settling_spares, spare_counts, unmoved}
 use Rattle.guest_turns.specs.Next.{NextRefusalIsCounted}

@@ -1,6 +1,6 @@
 -- A run goes on, one turn after another.
 use Rattle.std.proofs.Common.{◌≡◌, ℕ, zero, suc, ◌+◌, ◌-◌, ◌<◌, ◌≤◌, Bool, true, false, not, cond, List, [], ◌∷◌, map, drop, get_or, length, Option, Some, None, refl, sym, ap, subst, ◌∙◌, IsTrue, true≢false, arith}
-use Rattle.std.specs.Prelude.{◌&&◌, slice_set, if◌then◌else◌}
+use Rattle.std.specs.Prelude.{◌&&◌, slice_set}
 use Rattle.std.specs.List.{list_all, list_any, range_with_len, slice_get}
 use Rattle.std.specs.Option.{is_some, option_map_or}
 use Rattle.std.proofs.lemmas.List.{drop_all}
@@ -16,8 +16,8 @@ use Rattle.hart_moves.specs.Moves.{freed, settles}
 use Rattle.schedules.specs.declared.schedule.TurnItem.{TurnItem}
 use Rattle.guest_worlds.specs.Coming.{HasEnd}
 use Rattle.world_ends.specs.Ends.{has_exited}
-use Rattle.world_ends.specs.Lemmas.Places.{ended_by, exited_ends, runs_on}
-use Rattle.world_turns.specs.Run.{Begins, Constructs, Ends, Finalises, Finishes, LacksMemory, Repeats, Rounds, TakesItems, all_harts, has_ended, have_ended, have_exited, is_starting, settled}
+use Rattle.world_ends.specs.Lemmas.Places.{exited_ends}
+use Rattle.world_turns.specs.Run.{Ends, Finalises, LacksMemory, Repeats, Rounds, TakesItems, all_harts, has_ended, have_ended, is_starting, settled}
 use Rattle.world_turns.specs.Turn.{TakesTurn, Turn}
 use Rattle.world_turns.specs.World.{World}
 use Rattle.plain_world.specs.Playing.{BeginsToFinalise, FinalisesOnce, FirstRuns, InEachRun, OthersHaveEnded}

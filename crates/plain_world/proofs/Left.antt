@@ -1,7 +1,7 @@
 -- How many turns are left at most: each turn lowers it.
 use Rattle.std.proofs.Common.{◌≡◌, ◌⊎◌, inl, inr, ⊎_elim, ℕ, zero, suc, ◌+◌, ◌-◌, ◌*◌, ◌<◌, ◌≤◌, Bool, true, false, cond, List, [], ◌∷◌, map, length, Option, Some, None, refl, sym, ap, subst, ◌∙◌, IsTrue, true≢false, arith}
 use Rattle.std.specs.Prelude.{nat_lt, if◌then◌else◌, slice_set}
-use Rattle.std.specs.List.{list_all, range_with_len, slice_get}
+use Rattle.std.specs.List.{range_with_len, slice_get}
 use Rattle.std.specs.Option.{is_some}
 use Rattle.std.proofs.lemmas.Bool.{ltb-true}
 use Rattle.std.proofs.lemmas.Option.{none-some, slice_get_within}

@@ -9,7 +9,6 @@ use Rattle.link_history.specs.Objects.{is_startup}
 use Rattle.link_history.specs.Setting.{Setting}
 use Rattle.link_history.specs.State.{State, start}
 use Rattle.link_history.specs.Step.{step}
-use Rattle.link_served.specs.declared.installs.Installs.{Installs}
 use Rattle.link_served.specs.declared.startup.Setup.{Setup}
 use Rattle.link_served.specs.declared.startup.Started.{Started}
 use Rattle.link_service.specs.Served.{AreInstalls}
@@ -23,7 +22,7 @@ use Rattle.answer_turns.specs.Settling.{harts_in}
 use Rattle.guest_worlds.specs.Laws.{StartIsAt}
 use Rattle.guest_worlds.specs.Worlds.{IsAt, world_of}
 use Rattle.rv_hart.specs.declared.doubleword.Doubleword.{Doubleword}
-use Rattle.turn_answers.specs.Changes.{AreReserved, LeaveMemory}
+use Rattle.turn_answers.specs.Changes.{LeaveMemory}
 use Rattle.world_turns.specs.Memory.{RemakesAll}
 use Rattle.world_turns.specs.Run.{IsStarted}
 use Rattle.plain_world.specs.Started.{BringsFirst, IsFirstMemory, StartsAt}

@@ -89,7 +89,7 @@ pub fn entries_of(alloc: Global, state: &LinkState, starts: &[u64]) -> Result<En
     Ok(entries)
 }
 
-/// Those of a hart.
+/// The registers with which a hart starts at an address.
 fn entry_at(ranges: &[Range], tp: u64, hart: u32, pc: u64) -> HartEntry
     requires guests { AreGuests ranges.now }
     requires room { HaveRoom tp ranges.now }

@@ -22,7 +22,7 @@ use mapped_objects::is_code_in;
 use record_copies::Copied;
 use std::alloc::{AllocError, Global};
 
-/// Stands for all that is global (RTLD_DEFAULT).
+/// The handle that stands for all that is global (RTLD_DEFAULT).
 const DEFAULT_HANDLE: u64 = 0;
 /// The linker's own page.
 const LINKER_PAGE: u64 = 0x80f000;
@@ -79,7 +79,7 @@ pub fn find_harts(
 ///
 /// # Errors
 ///
-/// The name isn't found, or not in executable words, with the event of its look-up; or want of memory.
+/// That the name isn't found, or not in executable words, with the event of its look-up; or want of memory.
 fn find_start(
     alloc: Global,
     state: &mut LinkState,

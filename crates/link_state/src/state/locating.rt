@@ -13,7 +13,9 @@ use link_event::Event;
 use link_history::{images_are_found, objects_are_read};
 use linker_lists::{nothing, put_block, room_for_block};
 use mapped_objects::object_in;
-use new_blocks::{BlockFault, NewBlock, new_block, new_blocks_are_installed};
+use new_blocks::{
+    BlockFault, NewBlock, harts_have_new_blocks, new_block, new_blocks_are_installed,
+};
 use std::alloc::AllocError;
 use symbol_search::block_in;
 
@@ -90,6 +92,7 @@ impl LinkState {
         ensures err { IfErr result (λ e. IsNotLocated self.old hart «module» e self.new) }
     {
         new_blocks_are_installed();
+        harts_have_new_blocks();
         accepted_object();
         let _ = self.journal.journal();
         let block = self.plan_block(serial)?;

@@ -1,4 +1,4 @@
-use Rattle.std.proofs.Common.{Some, [], refl, sym, ap, subst, ◌∙◌}
+use Rattle.std.proofs.Common.{Some, [], refl, sym, subst}
 use Rattle.link_event.specs.declared.hart_end.HartEnd.TheVariants as ends
 use Rattle.hart_moves.specs.Due.{Due, due}
 use Rattle.hart_parts.specs.Views.{offered_of}

@@ -1,4 +1,4 @@
-use Rattle.std.proofs.Common.{◌≡◌, ℕ, Bool, true, [], refl, sym, subst, ◌∙◌}
+use Rattle.std.proofs.Common.{ℕ, Bool, true, [], refl, sym, subst, ◌∙◌}
 use Rattle.hart_moves.specs.Starting.{starting_registers}
 use Rattle.guest_turns.specs.Lemmas.Counting.{unmoved}
 use Rattle.guest_worlds.specs.Worlds.{IsAt, setting_without, world_of}

@@ -1,4 +1,4 @@
-use Rattle.std.proofs.Common.{◌≤◌, refl, ap, ◌∙◌, arith}
+use Rattle.std.proofs.Common.{refl, ap, arith}
 use Rattle.hart_moves.specs.Starting.{starting_registers}
 use Rattle.world_turns.specs.Run.{Ends, Finalises}
 use Rattle.plain_world.specs.Playing.{FinalisesOnce}

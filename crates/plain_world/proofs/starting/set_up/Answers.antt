@@ -1,4 +1,4 @@
-use Rattle.std.proofs.Common.{◌≡◌, ◌≤◌, ℕ, false, List, refl, sym, subst, arith}
+use Rattle.std.proofs.Common.{ℕ, false, List, refl, sym, subst, arith}
 use Rattle.opening_plan.specs.Startup.{run_of}
 use Rattle.guest_worlds.specs.Worlds.{IsAt, world_of}
 use Rattle.plain_world.specs.Started.{StartsAt}

@@ -1,8 +1,10 @@
-use Rattle.std.proofs.Common.{◌≡◌, Bool, not, rules, ap, ◌∙◌}
+use Rattle.std.proofs.Common.{◌≡◌, Bool, not, rules, sym, ap, subst, ◌∙◌}
 use Rattle.std.specs.List.{filter}
+use Rattle.std.specs.List.Sorted.{IsNonDecreasingBy}
 use Rattle.std.proofs.lemmas.Fn.{filter_same}
+use Rattle.std.proofs.lemmas.List.Kept.{IsNonDecreasingBy-filter}
 use Rattle.link_history.specs.Objects.{has}
-use Rattle.image_parts.specs.Parts.{PartsWithRoom}
+use Rattle.image_parts.specs.Parts.{PartsWithRoom, serial_of}
 use Rattle.image_parts.specs.declared.parts.Part.{Part}
 use Rattle.image_parts.proofs.parts.ImageParts.remove.Goals as goal
 
@@ -12,3 +14,10 @@ returns-clause-parts c =
     let kept : c.retain.new.self.items ≡ filter other c.self.inside.parts.items =
     filter_same _ other _ (λ x b f' k. search rules) _ _ c.retain.ensures.filtered in
     kept ∙ ap (λ (v : PartsWithRoom). filter other v.parts) c.self.view_is
+
+pub invariant_of-self : goal.invariant_of-self
+invariant_of-self c =
+    let other : Part → Bool = λ p. not (has c.args.set.now p.serial) in
+    let kept : c.retain.new.self.items ≡ filter other c.self.inside.parts.items =
+    filter_same _ other _ (λ x b f' k. search rules) _ _ c.retain.ensures.filtered in
+    (search rules, λ ascends. subst (IsNonDecreasingBy serial_of) (sym kept) (IsNonDecreasingBy-filter serial_of other c.self.inside.parts.items (c.self.invariant.1 ascends)))

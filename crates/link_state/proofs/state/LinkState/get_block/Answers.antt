@@ -73,3 +73,5 @@ returns-clause-ok c =
     (block_made c.new_blocks_are_installed.ensures c.args.self.now.harts (c.accepted_object.ensures.machine (machine_of c.args.self.now.harts) refl) c.args.self.now.events c.args.hart c.args.serial
     c.in_ok-block.block lawful c.requires.hart c.in_ok-block.ensures.ok some c.requires.none)
     refl
+    (c.push.ensures.state ∙ ap (λ (es : List Event). add_block c.args.hart c.args.serial c.in_ok-block.block.address (after es)) (c.room_for_block.ensures.events ∙ ap (λ (v : LinkTable). v.events) c.self.view_is))
+    c.harts_have_new_blocks.ensures

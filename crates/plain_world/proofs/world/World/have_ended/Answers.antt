@@ -1,4 +1,4 @@
-use Rattle.std.proofs.Common.{List, ap, ◌∙◌}
+use Rattle.std.proofs.Common.{ap, ◌∙◌}
 use Rattle.std.specs.List.{list_all}
 use Rattle.hart_seat.specs.Table.{HartTable}
 use Rattle.world_turns.specs.Run.{has_ended, have_ended}

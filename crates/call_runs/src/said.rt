@@ -1,0 +1,62 @@
+//! Answers, as they are written.
+
+use ld_base::{Serial, Shown};
+use link_event::{Function, Functions};
+use std::alloc::{AllocError, Global};
+
+/// Serials, with a comma between two of them; `-` for none.
+pub fn write_serials(text: &mut String, serials: &[Serial]) -> Result<(), AllocError> {
+    if serials.is_empty() {
+        return text.push_str("-");
+    }
+    for (index, serial) in serials.iter().enumerate() {
+        if index > 0 {
+            text.push_str(",")?;
+        }
+        let number = serial.number();
+        write!(text, "{number}")?;
+    }
+    Ok(())
+}
+
+/// The objects whose functions are to run, in order, each with the addresses of these.
+pub fn functions_text(alloc: Global, functions: &Functions) -> Result<String, AllocError> {
+    let mut text = String::from_str(alloc, "runs")?;
+    for function in functions.as_slice() {
+        write_function(&mut text, function)?;
+    }
+    Ok(text)
+}
+
+fn write_function(text: &mut String, function: &Function) -> Result<(), AllocError> {
+    let number = function.object.number();
+    write!(text, " {number}")?;
+    for address in function.addresses.as_slice() {
+        write!(text, ":{address:#x}")?;
+    }
+    Ok(())
+}
+
+/// A value that a call returns with.
+pub fn value_text(alloc: Global, value: u64) -> Result<String, AllocError> {
+    format!(in alloc; "{value:#x}")
+}
+
+/// What a call has to wait for.
+pub fn shown_text(alloc: Global, shown: Shown) -> Result<String, AllocError> {
+    match shown {
+        Shown::Initialising(serial) => {
+            let number = serial.number();
+            format!(in alloc; "again, {number} is initialised")
+        }
+        Shown::Closing(serial) => {
+            let number = serial.number();
+            format!(in alloc; "again, {number} is closed")
+        }
+        Shown::OpenGrant(grant) => {
+            let number = grant.number();
+            format!(in alloc; "again, grant {number} is open")
+        }
+        Shown::Locked(found, other) => format!(in alloc; "again, {found:#x} {other:#x}"),
+    }
+}

@@ -1,0 +1,138 @@
+//! What harts and a memory tell the linker's state.
+
+use crate::calls::{hart, serial};
+use crate::checks::{may_ask, may_bind, may_finalise, may_initialise, may_lose, may_unmap};
+use crate::run::{Run, Stage};
+use crate::said::value_text;
+use ld_base::GrantNo;
+use link_state::{GrantFault, LinkState, TlsFault};
+use std::alloc::Global;
+use test_file::{Fault, Words};
+
+/// A hart calls through a slot: the slot's object and its number. Gives the value that the slot is to get.
+pub fn grant(alloc: Global, run: &mut Run, words: &mut Words) -> Result<String, Fault> {
+    let (hart, owner) = (hart(words)?, words.number()?);
+    let eights = words.number()?.saturating_mul(8);
+    let state = state_of(run)?;
+    if !may_ask(alloc, state, hart)? {
+        return Err(Fault::Unclear);
+    }
+    match state.grant(hart, owner, eights) {
+        Ok(granted) => Ok(value_text(alloc, granted.value)?),
+        Err(fault) => grant_fault_text(alloc, fault),
+    }
+}
+
+/// How the hart ends.
+fn grant_fault_text(alloc: Global, fault: GrantFault) -> Result<String, Fault> {
+    match fault {
+        GrantFault::Unloaded(owner) => Ok(format!(in alloc; "unloaded {owner:#x}")?),
+        GrantFault::NoSlot(owner, eights) => {
+            let owner = owner.number();
+            Ok(format!(in alloc; "no-slot {owner} {eights:#x}")?)
+        }
+        GrantFault::Missing(owner, slot) => {
+            let owner = owner.number();
+            Ok(format!(in alloc; "unresolved {owner} {slot}")?)
+        }
+        GrantFault::NotCode(owner, slot) => {
+            let owner = owner.number();
+            Ok(format!(in alloc; "not-code {owner} {slot}")?)
+        }
+        GrantFault::Memory => Err(Fault::Memory),
+    }
+}
+
+/// A grant's slot got its value.
+pub fn bound(alloc: Global, run: &mut Run, words: &mut Words) -> Result<String, Fault> {
+    let grant = GrantNo::new(words.number()?);
+    let state = state_of(run)?;
+    if !may_bind(alloc, state, grant)? {
+        return Err(Fault::Unclear);
+    }
+    state.settle(grant, true, 0);
+    done(alloc)
+}
+
+/// A grant's slot had this word.
+pub fn lost(alloc: Global, run: &mut Run, words: &mut Words) -> Result<String, Fault> {
+    let grant = GrantNo::new(words.number()?);
+    let saw = words.number()?;
+    let state = state_of(run)?;
+    if !may_lose(alloc, state, grant, saw)? {
+        return Err(Fault::Unclear);
+    }
+    state.settle(grant, false, saw);
+    done(alloc)
+}
+
+/// The constructors of an object have run.
+pub fn initialised(alloc: Global, run: &mut Run, words: &mut Words) -> Result<String, Fault> {
+    let (hart, serial) = (hart(words)?, serial(words)?);
+    let state = state_of(run)?;
+    if !may_initialise(alloc, state, hart, serial)? {
+        return Err(Fault::Unclear);
+    }
+    state.initialised(hart, serial);
+    done(alloc)
+}
+
+/// The destructors of an object have run.
+pub fn finalised(alloc: Global, run: &mut Run, words: &mut Words) -> Result<String, Fault> {
+    let (hart, serial) = (hart(words)?, serial(words)?);
+    let state = state_of(run)?;
+    if !may_finalise(alloc, state, hart, serial)? {
+        return Err(Fault::Unclear);
+    }
+    state.finalised(hart, serial);
+    done(alloc)
+}
+
+/// A hart unmaps the objects of its first closing that is left.
+pub fn unmap(alloc: Global, run: &mut Run, words: &mut Words) -> Result<String, Fault> {
+    let hart = hart(words)?;
+    let closings = run.closings.as_slice();
+    let place = closings.iter().position(|closing| closing.hart == hart);
+    let place = place.ok_or(Fault::Unclear)?;
+    let closing = run.closings.remove(place);
+    let Stage::Running(state) = &mut run.stage else {
+        return Err(Fault::Unclear);
+    };
+    if !may_unmap(alloc, state, hart, &closing.dying)? {
+        return Err(Fault::Unclear);
+    }
+    match state.apply_unmap(hart, &closing.dying) {
+        Ok(_removed) => done(alloc),
+        Err(grant) => {
+            run.closings.push(closing)?;
+            let number = grant.number();
+            Ok(format!(in alloc; "again, grant {number} is open")?)
+        }
+    }
+}
+
+/// A hart asks where its block of a module is.
+pub fn locate(alloc: Global, run: &mut Run, words: &mut Words) -> Result<String, Fault> {
+    let (hart, number) = (hart(words)?, words.number()?);
+    let state = state_of(run)?;
+    if hart.number() >= state.harts() {
+        return Err(Fault::Unclear);
+    }
+    match state.tls_block(hart, number) {
+        Ok(block) => Ok(value_text(alloc, block)?),
+        Err(TlsFault::BadModule(number)) => Ok(format!(in alloc; "bad-module {number}")?),
+        Err(TlsFault::NoRoom(pages)) => Ok(format!(in alloc; "address-space-full {pages}")?),
+        Err(TlsFault::Memory) => Err(Fault::Memory),
+    }
+}
+
+fn done(alloc: Global) -> Result<String, Fault> {
+    Ok(String::from_str(alloc, "done")?)
+}
+
+fn state_of(run: &mut Run) -> Result<&mut LinkState, Fault> {
+    match &mut run.stage {
+        Stage::Running(state) => Ok(state),
+        Stage::Refused(_) => Err(Fault::Unclear),
+    }
+}
