@@ -31,6 +31,7 @@ use Rattle.link_history.specs.Lemmas.Brought.{LoadLaws}
 use Rattle.link_history.specs.Lemmas.Entering.{slots_enter}
 use Rattle.link_history.specs.Lemmas.Imaged.{images_mapped}
 use Rattle.link_history.specs.Lemmas.Lazy.{PageLaws, lazy_lies}
+use Rattle.link_history.specs.Lemmas.LoadWords.{grant_word, load_word}
 use Rattle.link_history.specs.Lemmas.Map.{Mapped, in_pages, mapped_after, own_at, placed, role_in_image, start_at}
 use Rattle.link_history.specs.Lemmas.Tidy.{in_at}
 
@@ -124,10 +125,11 @@ slots_rx pages loads read m only journal lawful =
     let mapped = mapped_after loads read m only journal lawful in
     let images = images_mapped m journal lawful in
     record {
-      granted = λ g there kept home word. enters_rx pages (after journal) mapped images g.choice g.value word (slots_enter loads m journal lawful g there kept home);
-      at_load = λ ns o slot value inside got word.
+      granted = λ g there kept home.
+          enters_rx pages (after journal) mapped images g.choice g.value (grant_word loads m journal lawful g there) (slots_enter loads m journal lawful g there kept home);
+      at_load = λ ns o slot value inside got.
           let enters = loads_enter loads m journal lawful ns o slot value inside got in
-          enters_rx pages (after journal) mapped images enters.choice value word enters.enters;
+          enters_rx pages (after journal) mapped images enters.choice value (load_word m journal lawful o.serial slot value got) enters.enters;
       lazy = λ ns o slot r inside at.
           let i = images.mapped ns o inside in
           ap (λ (object : Object). role_at (after journal) (moved_word object o.base r.place)) (sym i.object)

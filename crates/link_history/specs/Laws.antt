@@ -365,9 +365,9 @@ ImagesAreInstalled s = (i : Linked) → Contains s.images i → (image : Image)
 -- where slots lead is code that memory holds: a value of a mapped object's slot is 0 or lies in an RX word, and so does the word that a slot
 -- holds until it is bound
 pub record SlotsLeadToRx (s : State) : Type 0 where
-  pub granted : (g : Granting) → Contains s.grants g → ((saw : ℕ) → g.standing ≢ Lost saw) → IsMapped s g.owner → g.value < 2 ^ 64
+  pub granted : (g : Granting) → Contains s.grants g → ((saw : ℕ) → g.standing ≢ Lost saw) → IsMapped s g.owner
       → (g.value ≡ 0) ⊎ (role_at s g.value ≡ Rx)
-  pub at_load : (ns : Namespace) (o : Loaded) (slot value : ℕ) → IsIn s ns o → value_at_load s o.serial slot ≡ Some value → value < 2 ^ 64
+  pub at_load : (ns : Namespace) (o : Loaded) (slot value : ℕ) → IsIn s ns o → value_at_load s o.serial slot ≡ Some value
       → (value ≡ 0) ⊎ (role_at s value ≡ Rx)
   pub lazy : (ns : Namespace) (o : Loaded) (slot : ℕ) (r : Reloc) → IsIn s ns o → slice_get o.object.plt_relocs slot ≡ Some r → role_at s (lazy_word o r) ≡ Rx
 

@@ -1,10 +1,10 @@
--- What slots got at load are words: each is an address of 64 bits.
+-- What slots got at load, and what grants give them, are words: each is an address of 64 bits.
 use Rattle.std.proofs.Common.{◌≡◌, ◌∙◌, ap, sym, subst, refl, ⊎_elim, ℕ, ◌+◌, ◌%◌, ◌<◌, Bool, true, false, eqb, List, [], ◌∷◌, ◌++◌, map, Option, Some, None, arith}
 use Rattle.std.specs.Prelude.{if◌then◌else◌, ◌^◌, nat_le, nat_lt}
 use Rattle.std.specs.List.{slice_get, Contains, find}
 use Rattle.std.specs.Option.{option_and_then, option_map, option_map_or}
 use Rattle.std.proofs.lemmas.Bool.{and_parts, ltb-true}
-use Rattle.std.proofs.lemmas.List.Elements.{Contains-append_cases}
+use Rattle.std.proofs.lemmas.List.Elements.{Contains-append_cases, Contains-push_cases}
 use Rattle.ld_base.specs.Symbol.{is_absolute}
 use Rattle.ld_base.specs.declared.linking.Choice.{Choice}
 use Rattle.ld_base.specs.declared.linking.Choice.TheVariants.{Def, WeakZero, Missing}
@@ -17,6 +17,8 @@ use Rattle.link_event.specs.declared.event.Event.TheVariants as events
 use Rattle.link_event.specs.declared.event.OpenAnswer.TheVariants as opens
 use Rattle.link_event.specs.declared.event.SymAnswer.TheVariants as syms
 use Rattle.link_event.specs.declared.state.Chosen.{Chosen}
+use Rattle.link_event.specs.declared.state.Granting.{Granting}
+use Rattle.link_event.specs.declared.state.Standing.TheVariants.{Open}
 use Rattle.scope_rule.specs.Relocation.{choice_at}
 use Rattle.scope_rule.specs.Seen.{Seen}
 use Rattle.seg_image.specs.Pages.{guest_address}
@@ -32,9 +34,13 @@ use Rattle.link_history.specs.Slots.{value_at_load}
 use Rattle.link_history.specs.State.{State}
 use Rattle.link_history.specs.Step.{binds, die, initialise, loaded, lower, seen_after, step, unmap}
 use Rattle.link_history.specs.Lemmas.AtLoad.{get_map, opens_none, slots_lead}
+use Rattle.link_history.specs.Lemmas.Brought.{LoadLaws}
 use Rattle.link_history.specs.Lemmas.Closed.{fewer_chosen}
+use Rattle.link_history.specs.Lemmas.Good.{Core}
+use Rattle.link_history.specs.Lemmas.Granted.{was_there}
 use Rattle.link_history.specs.Lemmas.History.{by_lawful}
 use Rattle.link_history.specs.Lemmas.Lists.{at_in, found_in, from_map, none_in}
+use Rattle.link_history.specs.Lemmas.Steps.{Law, by_law}
 
 -- ---- the value of a choice
 
@@ -146,3 +152,29 @@ value_word chosen words owner slot value is = by (find (λ c. eqb c.owner owner)
 -- so after each lawful history
 pub load_word : (m : Machine) (journal : List Event) → Lawful m journal → (owner slot value : ℕ) → value_at_load (after journal) owner slot ≡ Some value → value < 2 ^ 64
 load_word m journal lawful owner slot value is = value_word (after journal).chosen (words_after m journal lawful) owner slot value is
+
+-- ---- what grants give
+
+abbrev GrantsAreWords : Core → Type 0
+GrantsAreWords c = (g : Granting) → Contains c.grants g → g.value < 2 ^ 64
+
+grants_law : Law GrantsAreWords
+unfolding loaded die lower unmap initialise
+grants_law = record {
+  starts = λ g there. absurd (none_in g there);
+  opens = λ w s hart ask id root added ranges good words opens came. words;
+  closes = λ s hart handle set good words closes. words;
+  unmaps = λ s hart set good words may. words;
+  grants = λ s number hart owner slot choice value good words may g there. ⊎_elim
+      (λ (old : Contains s.grants g). words g old)
+      (λ (e : record { number = number; hart = hart; owner = owner; slot = slot; choice = choice; value = value; standing = Open } ≡ g).
+      subst (λ (q : Granting). q.value < 2 ^ 64) e (subst (λ (v : ℕ). v < 2 ^ 64) (sym may.is) (choice_word s _ choice may.may.code)))
+      (Contains-push_cases s.grants (record { number = number; hart = hart; owner = owner; slot = slot; choice = choice; value = value; standing = Open }) g there);
+  settles = λ s number standing good words shut g there.
+      let old = was_there number standing s.grants g there in subst (λ (v : ℕ). v < 2 ^ 64) old.2.value (words old.0 old.1);
+  initialises = λ s object good words. words;
+}
+
+-- so after each lawful history
+pub grant_word : LoadLaws → (m : Machine) (journal : List Event) → Lawful m journal → (g : Granting) → Contains (after journal).grants g → g.value < 2 ^ 64
+grant_word laws m journal lawful = (by_law laws GrantsAreWords grants_law m journal lawful).1
