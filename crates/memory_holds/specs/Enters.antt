@@ -1,17 +1,12 @@
 -- Where slots lead.
-use Rattle.std.specs.Prelude.{◌≡◌, ℕ, ◌^◌, ◌<◌, ◌⊎◌, List, Some, Contains}
+use Rattle.std.specs.Prelude.{◌≡◌, ℕ, ◌⊎◌, List, Some, Contains}
 use Rattle.std.specs.List.{slice_get}
 use Rattle.ld_base.specs.declared.linking.Role.TheVariants.{Rx}
 use Rattle.ld_base.specs.declared.object.Reloc.{Reloc}
 use Rattle.link_history.specs.State.{Linked, State}
 use Rattle.link_history.specs.Laws.{slot_address}
-use Rattle.link_history.specs.Slots.{value_at_load}
 use Rattle.memory_holds.specs.Holds.{SlotHolds, lazy_at}
 use Rattle.memory_holds.specs.Memory.{IsDoubleword, Memory, doubleword_of}
-
--- the value that a slot got when its object was loaded is a word, if it got one
-abbrev pub LoadFits : State → ℕ → ℕ → Type 0
-LoadFits s owner slot = (value : ℕ) → value_at_load s owner slot ≡ Some value → value < 2 ^ 64
 
 -- it is 0, or an address in a word that the memory may execute
 abbrev pub Enters : Memory → ℕ → Type 0
@@ -26,5 +21,5 @@ pub record SlotStays (s t : State) (old new : Memory) (a : ℕ) : Type 0 where
 pub record SlotTrue (s : State) (won : List ℕ) (memory : Memory) : Type 0 where
   pub holds : (i : Linked) (slot : ℕ) (r : Reloc) → Contains s.images i → slice_get i.object.plt_relocs slot ≡ Some r
       → SlotHolds s won (slot_address i r) (memory.value (slot_address i r))
-  pub enters : (i : Linked) (slot : ℕ) (r : Reloc) → Contains s.images i → slice_get i.object.plt_relocs slot ≡ Some r → LoadFits s i.serial slot
-      → memory.value (slot_address i r) < 2 ^ 64 → Enters memory (memory.value (slot_address i r))
+  pub enters : (i : Linked) (slot : ℕ) (r : Reloc) → Contains s.images i → slice_get i.object.plt_relocs slot ≡ Some r
+      → Enters memory (memory.value (slot_address i r))

@@ -1,6 +1,6 @@
 //! What keeps memory as the journal says.
 
-ghost use Rattle.std.specs.Prelude.{◌≡◌, ◌≢◌, ℕ, ◌^◌, ◌<◌, List, [], ◌∷◌, ◌++◌, Some, Contains};
+ghost use Rattle.std.specs.Prelude.{◌≡◌, ◌≢◌, ℕ, List, [], ◌∷◌, ◌++◌, Some, Contains};
 ghost use Rattle.std.specs.List.{slice_get};
 ghost use Rattle.ld_base.specs.declared.linking.Role.TheVariants.{Slot};
 ghost use Rattle.ld_base.specs.declared.object.Reloc.{Reloc};
@@ -17,7 +17,7 @@ ghost use Rattle.link_history.specs.Memory.{role_at};
 ghost use Rattle.link_history.specs.Setting.{Machine, Setting};
 ghost use Rattle.link_history.specs.Slots.{MayBind, MayLose};
 ghost use Rattle.link_history.specs.State.{Linked, State};
-ghost use Rattle.memory_holds.specs.Enters.{Enters, LoadFits, SlotStays, SlotTrue};
+ghost use Rattle.memory_holds.specs.Enters.{Enters, SlotStays, SlotTrue};
 ghost use Rattle.memory_holds.specs.Holds.{Holds, IsSlotAt, lazy_at};
 ghost use Rattle.memory_holds.specs.Memory.{IsDoubleword, IsSame, Memory};
 ghost use Rattle.memory_holds.specs.Remade.{Begins, HasSlot, MayExchange, Remade, SettlesRightly, Stores, Wins, won_after};
@@ -89,10 +89,10 @@ pub fn slots_stand()
 /// where it didn't and the slot isn't lazy, with the word that the slot holds.
 pub fn grants_settle()
     ensures bound { (m : Machine) (events : List Event) (won : List ℕ) (g : Granting) (memory : Memory) → AcceptsOnly m → Lawful m events →
-        Contains (after events).grants g → g.standing ≡ GrantOpen → LoadFits (after events) g.owner g.slot →
+        Contains (after events).grants g → g.standing ≡ GrantOpen →
         Holds (after events) won memory → Contains won g.number → MayBind (after events) g.number }
     ensures lost { (m : Machine) (events : List Event) (won : List ℕ) (a : ℕ) (g : Granting) (memory : Memory) → AcceptsOnly m → Lawful m events →
-        MayExchange (after events) a g → LoadFits (after events) g.owner g.slot →
+        MayExchange (after events) a g →
         Holds (after events) won memory → ¬ (Contains won g.number) → memory.value a ≢ lazy_at (after events) a →
         MayLose (after events) g.number (memory.value a) }
 {
@@ -106,12 +106,11 @@ pub fn grants_settle()
     link_history::grants_are_held();
 }
 
-/// Each slot of a mapped object holds 0 or an address in an RX word, where what it holds, and what it got
-/// when its object was loaded, are words.
+/// Each slot of a mapped object holds 0 or an address in an RX word.
 pub fn slots_enter()
     ensures { (m : Machine) (events : List Event) (won : List ℕ) (memory : Memory) (a owner slot : ℕ) → AcceptsOnly m → Lawful m events →
-        Holds (after events) won memory → IsDoubleword a → IsSlotAt (after events) a owner slot → LoadFits (after events) owner slot →
-        memory.value a < 2 ^ 64 → Enters memory (memory.value a) }
+        Holds (after events) won memory → IsDoubleword a → IsSlotAt (after events) a owner slot →
+        Enters memory (memory.value a) }
 {
     scope_rule::serials_follow();
     scope_rule::found_stands();

@@ -19,12 +19,11 @@ use Rattle.link_history.specs.State.{Linked, State}
 use Rattle.link_history.specs.Lemmas.History.{legal_is_lawful}
 use Rattle.link_history.specs.Lemmas.Lists.{none_in}
 use Rattle.link_history.specs.Lemmas.LoadWords.{load_word}
-use Rattle.memory_holds.specs.Enters.{LoadFits}
 use Rattle.memory_holds.specs.Holds.{IsSlotAt, SlotHolds, Took, TookAt, lazy_at}
 use Rattle.memory_holds.specs.Holds.SlotHolds.{exchanged, first}
 use Rattle.memory_holds.specs.Lemmas.Distinct.{one_slot}
 use Rattle.memory_holds.specs.Lemmas.Exchanged.{fits}
-use Rattle.memory_holds.specs.Lemmas.Settled.{first_bound, first_lazy}
+use Rattle.memory_holds.specs.Lemmas.Settled.{LoadFits, first_bound, first_lazy}
 use Rattle.memory_holds.specs.Lemmas.Slots.{image_in, one_image_at}
 use Rattle.hart_moves.specs.Starting.{starting_registers}
 use Rattle.schedules.specs.declared.schedule.TurnItem.{TurnItem}

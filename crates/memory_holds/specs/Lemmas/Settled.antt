@@ -11,7 +11,6 @@ use Rattle.link_history.specs.Memory.{word_at}
 use Rattle.link_history.specs.Slots.{HasBound, IsOthers, MayBind, MayLose, value_at_load}
 use Rattle.link_history.specs.Lemmas.Map.{Mapped}
 use Rattle.link_history.specs.Lemmas.Tidy.{Tidy, one_number}
-use Rattle.memory_holds.specs.Enters.{LoadFits}
 use Rattle.memory_holds.specs.Holds.{Holds, IsSlotAt, SlotHolds, Took, TookAt, lazy_at}
 use Rattle.memory_holds.specs.Holds.SlotHolds.{exchanged, first}
 use Rattle.memory_holds.specs.Memory.{Memory}
@@ -21,6 +20,10 @@ use Rattle.memory_holds.specs.Lemmas.Exchanged.{fits}
 use Rattle.memory_holds.specs.Lemmas.Slots.{image_in, lazy_is, loaded_at, one_image_at, role_is, stands}
 
 -- ---- the first word of a slot
+
+-- the value that a slot got when its object was loaded is a word, if it got one
+abbrev pub LoadFits : State → ℕ → ℕ → Type 0
+LoadFits s owner slot = (value : ℕ) → value_at_load s owner slot ≡ Some value → value < 2 ^ 64
 
 -- the first word of a slot that got no value at load is its lazy one
 pub first_lazy : (s : State) (m : Mapped s) (begins : SlotsBegin s) (a : ℕ) (word : a < 2 ^ 64) (owner slot : ℕ) (is : IsSlotAt s a owner slot) → value_at_load s owner slot ≡ None → word_at s a ≡ lazy_at s a

@@ -19,9 +19,7 @@ use Rattle.link_history.specs.State.{State}
 use Rattle.link_history.specs.Step.{settle, settled_as, step}
 use Rattle.link_history.specs.Lemmas.History.{after_push, legal_is_lawful, legal_push}
 use Rattle.link_history.specs.Lemmas.Lists.{from_filter, from_map, here, in_filter, in_map, none_in, only_in}
-use Rattle.link_history.specs.Lemmas.LoadWords.{load_word}
 use Rattle.link_history.specs.Lemmas.Tidy.{one_number}
-use Rattle.memory_holds.specs.Enters.{LoadFits}
 use Rattle.memory_holds.specs.Holds.{Holds, lazy_at}
 use Rattle.memory_holds.specs.Memory.{IsSame, Memory}
 use Rattle.memory_holds.specs.Remade.{MayExchange, Remade, SettlesRightly, won_after}
@@ -38,11 +36,11 @@ use Rattle.world_turns.specs.Lemmas.Places.{Sounds, WonOffer, at_place, elsewher
 -- ---- laws of memory
 
 abbrev pub MayBeBound : Machine → Type 0
-MayBeBound m = (journal : List Event) (won : List ℕ) (g : Granting) (memory : Memory) → Lawful m journal → Contains (after journal).grants g → g.standing ≡ standings.Open → LoadFits (after journal) g.owner g.slot
+MayBeBound m = (journal : List Event) (won : List ℕ) (g : Granting) (memory : Memory) → Lawful m journal → Contains (after journal).grants g → g.standing ≡ standings.Open
     → Holds (after journal) won memory → Contains won g.number → MayBind (after journal) g.number
 
 abbrev pub MayBeLost : Machine → Type 0
-MayBeLost m = (journal : List Event) (won : List ℕ) (a : ℕ) (g : Granting) (memory : Memory) → Lawful m journal → MayExchange (after journal) a g → LoadFits (after journal) g.owner g.slot
+MayBeLost m = (journal : List Event) (won : List ℕ) (a : ℕ) (g : Granting) (memory : Memory) → Lawful m journal → MayExchange (after journal) a g
     → Holds (after journal) won memory → ¬ (Contains won g.number) → memory.value a ≢ lazy_at (after journal) a → MayLose (after journal) g.number (memory.value a)
 
 -- ---- the grants of a state with one settled
@@ -193,7 +191,7 @@ module _ (w : Setting) (only : AcceptsOnly w.machine) (know : Know w.machine) (k
       let there : Contains (won_all old) o.number = is_winner old k (Resolving.to_settle o found) o.number (at_place front (Resolving.to_settle o found) rest) mine in
       settled_sound standings.Bound (λ e. let no : standings.Bound ≡ standings.Open = e in cc) (events.Bound o.number) refl
       (quiet s (events.Bound o.number) (memory_of words) (memory_of words) refl refl same_memory)
-      (subst (λ (n : ℕ). MayBind s n) number (may_bind past (won_all old) g (memory_of words) lawful it.offers.is.there it.offers.is.open_yet (load_word w.machine past lawful g.owner g.slot) x.holds (subst (Contains (won_all old)) (sym number) there)))
+      (subst (λ (n : ℕ). MayBind s n) number (may_bind past (won_all old) g (memory_of words) lawful it.offers.is.there it.offers.is.open_yet x.holds (subst (Contains (won_all old)) (sym number) there)))
       there
       (λ n inside. let both = from_filter (λ m. not (eqb m o.number)) (won_all old) n inside in ⊎_elim
       (λ (own : Contains (won_by (Resolving.to_settle o found)) n). absurd (same_by n both.1 (sym (only_in o.number n (subst (λ (t : Bool). Contains (cond t (o.number ∷ []) []) n) won own)))))
@@ -211,7 +209,7 @@ module _ (w : Setting) (only : AcceptsOnly w.machine) (know : Know w.machine) (k
       settled_sound (standings.Lost found) (λ e. let no : standings.Lost found ≡ standings.Open = e in cc) (events.Lost o.number found) refl
       (quiet s (events.Lost o.number found) (memory_of words) (memory_of words) refl refl same_memory)
       (subst (λ (n : ℕ). MayLose s n found) number (subst (MayLose s g.number) word
-      (may_lose past (won_all old) o.slot g (memory_of words) lawful (record { place = st.place; there = it.offers.is.there; open_yet = it.offers.is.open_yet; of = st.at }) (load_word w.machine past lawful g.owner g.slot) x.holds
+      (may_lose past (won_all old) o.slot g (memory_of words) lawful (record { place = st.place; there = it.offers.is.there; open_yet = it.offers.is.open_yet; of = st.at }) x.holds
       (λ inside. not_won (subst (Contains (won_all old)) number inside)) lazy)))
       not_won
       (λ n inside. ⊎_elim (λ (own : Contains (won_by (Resolving.to_settle o found)) n). absurd (none n own)) (λ (other : Contains (won_all new) n × (n ≢ o.number)). other.0) (winners_by n inside))

@@ -1,6 +1,7 @@
 use Rattle.link_history.specs.After.{after}
 use Rattle.link_history.specs.Lemmas.Brought.{LoadLaws}
 use Rattle.link_history.specs.Lemmas.Lazy.{PageLaws}
+use Rattle.link_history.specs.Lemmas.LoadWords.{grant_word, load_word}
 use Rattle.link_history.specs.Lemmas.Map.{Mapped, mapped_after}
 use Rattle.memory_holds.proofs.Entered.{slots_true}
 use Rattle.memory_holds.proofs.law.slots_are_true.Goals as goal
@@ -11,4 +12,4 @@ returns c m events won memory only lawful holds =
     let loads : LoadLaws = record { serials = c.serials_follow.ensures; leads = c.found_stands.ensures.names; founds = c.found_stands.ensures.founds } in
     let now : Mapped (after events) = mapped_after loads c.reads_candidates.ensures.candidates m only events lawful in
     slots_true pages (after events) now (c.slots_begin.ensures m events only lawful) (c.images_are_mapped.ensures m events lawful) (c.slots_lead_to_rx.ensures m events only lawful)
-    won memory holds
+    (load_word m events lawful) (grant_word loads m events lawful) won memory holds
