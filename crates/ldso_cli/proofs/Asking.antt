@@ -9,7 +9,7 @@ use Rattle.command_line.specs.declared.command.Turns.{Turns}
 use Rattle.link_service.specs.Startup.{harts_of}
 use Rattle.ldso_cli.proofs.Schedules.{Schedule, told_schedule}
 use Rattle.ldso_cli.specs.Asked.{Asks, CanBeDone, OfAsked}
-use Rattle.ldso_cli.specs.Command.{Answers, AsScheduled, IsUsage}
+use Rattle.ldso_cli.specs.Command.{Answers, AsScheduled, IsUsage, LeavesLibrary}
 use Rattle.ldso_cli.specs.Generate.{GenComes}
 use Rattle.ldso_cli.specs.Outside.{LibraryAt}
 use Rattle.ldso_cli.specs.Turns.{IsScheduled, TurnsComes}
@@ -65,11 +65,30 @@ turned one words turns reads before after (Ok a) come = ⊎_elim
 
 -- ---- gen
 
--- the library is as it was
-pub generated : (words : List (List ℕ)) (number : ℕ) → Reads words (commands.Generate number) → (library : LibraryAt) (r : Result Answer AllocError) → IfOk r (λ a. GenComes number a.end a.text)
-    → OfAsked words (λ command. IfOk r (λ a. Answers command library library a.end a.text))
-generated words number reads library (Err e) come = record { asked = Some (commands.Generate number); asks = (reads, tt); holds = tt }
-generated words number reads library (Ok a) come = record { asked = Some (commands.Generate number); asks = (reads, tt); holds = (come, refl) }
+pub generated : (words : List (List ℕ)) (number : ℕ) → Reads words (commands.Generate number) → (before after : LibraryAt) (r : Result Answer AllocError) → IfOk r (λ a. GenComes number a.end a.text)
+    → OfAsked words (λ command. IfOk r (λ a. Answers command before after a.end a.text))
+generated words number reads before after (Err e) come = record { asked = Some (commands.Generate number); asks = (reads, tt); holds = tt }
+generated words number reads before after (Ok a) come = record { asked = Some (commands.Generate number); asks = (reads, tt); holds = come }
+
+-- ---- what is left of the library
+
+-- nothing was read
+pub left_as_is : (command : Option Command) (library : LibraryAt) → LeavesLibrary command library library
+left_as_is None library = tt
+left_as_is (Some (commands.Bind bind)) library = tt
+left_as_is (Some (commands.Dump path)) library = tt
+left_as_is (Some (commands.Assemble path)) library = tt
+left_as_is (Some (commands.Turns turns)) library = tt
+left_as_is (Some (commands.Run run)) library = tt
+left_as_is (Some (commands.Generate number)) library = refl
+
+-- turns may have read
+pub turns_read : OneCommand → (words : List (List ℕ)) (turns : Turns) → Reads words (commands.Turns turns) → (before after : LibraryAt) → OfAsked words (λ command. LeavesLibrary command before after)
+turns_read one words turns reads before after = by (told (commands.Turns turns))
+  where
+    by : CanBeDone (commands.Turns turns) ⊎ (CanBeDone (commands.Turns turns) → ⊥) → OfAsked words (λ command. LeavesLibrary command before after)
+    by (inl can) = record { asked = Some (commands.Turns turns); asks = (reads, can); holds = tt }
+    by (inr cannot) = not_done one words (commands.Turns turns) reads cannot tt
 
 -- ---- words that are none
 

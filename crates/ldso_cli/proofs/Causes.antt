@@ -23,7 +23,7 @@ use Rattle.ldso_cli.specs.Command.{Answers, CommandAnswers, Misses}
 use Rattle.ldso_cli.specs.Dump.{DumpComes, ReadsAs, dump_cause}
 use Rattle.ldso_cli.specs.End.{bare}
 use Rattle.ldso_cli.specs.Ends.{Handing, IsCaused, IsUnanswered, Written}
-use Rattle.ldso_cli.specs.Generate.{GenComes, GenMisses, set_cause}
+use Rattle.ldso_cli.specs.Generate.{GenComes, set_cause}
 use Rattle.ldso_cli.specs.Outside.{LibraryAt, SinkAt}
 use Rattle.ldso_cli.specs.Played.{StartMisses, run_cause}
 use Rattle.ldso_cli.specs.Turns.{TurnsComes}
@@ -147,24 +147,23 @@ turns_own turns before after end text comes =
     subst P (sym (ap (λ (e : End). e.cause) comes.end_is)) (turns_ended turns before after comes.ended comes.plays.read_fault comes.plays.missing)
 
 gen_ended : (number : ℕ) (before after : LibraryAt) (ended : Result RunEnd DlFault) → ((path : List ℕ) → ended ≡ Err (dl.ReadFault path) → ⊥)
-    → ((name : List ℕ) → ended ≡ Err (dl.MissingLibrary name) → GenMisses number name) → IsOwn (commands.Generate number) before after (set_cause ended)
-gen_ended number before after (Ok (Exited code)) unread missed =
+    → IsOwn (commands.Generate number) before after (set_cause ended)
+gen_ended number before after (Ok (Exited code)) unread =
     record { no_usage = λ e. cc e; no_write = λ e. cc e; read_fault = λ path e. absurd (cc e); missing = λ name e. absurd (cc e) }
-gen_ended number before after (Ok (Ended hart reason)) unread missed =
+gen_ended number before after (Ok (Ended hart reason)) unread =
     record { no_usage = λ e. cc e; no_write = λ e. cc e; read_fault = λ path e. absurd (cc e); missing = λ name e. absurd (cc e) }
-gen_ended number before after (Err fault) unread missed = record {
+gen_ended number before after (Err fault) unread = record {
   no_usage = λ e. cc e;
   no_write = λ e. cc e;
   read_fault = λ path e. absurd (unread path (ap not_started (same_fault fault (dl.ReadFault path) e)));
-  missing = λ name e. missed name (ap not_started (same_fault fault (dl.MissingLibrary name) e));
+  missing = λ name e. tt;
 }
 
 gen_own : (number : ℕ) (before after : LibraryAt) (end : End) (text : List ℕ) → GenComes number end text → IsOwn (commands.Generate number) before after end.cause
 gen_own number before after end text comes =
     let P : Cause → Type 0 = λ c. IsOwn (commands.Generate number) before after c in
     subst P (sym (ap (λ (e : End). e.cause) comes.end_is))
-    (gen_ended number before after comes.ended (λ path e. never_rises (comes.plays.read_fault path e))
-    (λ name e. record { files = comes.files; are = comes.are; misses = comes.misses; missed = comes.plays.missing name e }))
+    (gen_ended number before after comes.ended (λ path e. never_rises (comes.plays.read_fault path e)))
 
 own_end : (command : Command) (before after : LibraryAt) (end : End) (text : List ℕ) → CommandAnswers command before after end text → IsOwn command before after end.cause
 own_end (commands.Bind bind) before after end text over =
@@ -178,7 +177,7 @@ own_end (commands.Assemble path) before after end text over =
     at_end (commands.Assemble path) before after comes.cause end comes.end_is (asm_own path before after (file_at over.files path) comes.by.read comes.cause comes.by.reads comes.by.gives)
 own_end (commands.Turns turns) before after end text comes = turns_own turns before after end text comes
 own_end (commands.Run run) before after end text none = absurd none
-own_end (commands.Generate number) before after end text comes = gen_own number before after end text comes.0
+own_end (commands.Generate number) before after end text comes = gen_own number before after end text comes
 
 -- ---- what is written
 

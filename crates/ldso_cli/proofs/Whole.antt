@@ -190,8 +190,8 @@ module _ (handed handed' : Handing) (law : Law) (words : List (List ℕ)) (files
 
   one_generated : (number : ℕ) → IsTold handed (Some (commands.Generate number)) first → IsTold handed' (Some (commands.Generate number)) second → ComeToOne handed handed' first second
   one_generated number one two =
-      let a = one.answers.0 in
-      let b = two.answers.0 in
+      let a = one.answers in
+      let b = two.answers in
       let set : b.files ≡ a.files = law.one_set number b.files a.files b.are a.are in
       let over : IsOver set_setup [] (Some a.files) b.ended b.left = subst (λ (fs : List File). IsOver set_setup [] (Some fs) b.ended b.left) set b.plays.is in
       let same =

@@ -11,7 +11,7 @@ use Rattle.ldso_cli.specs.Asm.{AsmComes, AsmPrints}
 use Rattle.ldso_cli.specs.Bind.{BindComes, BindMisses, BindPrints}
 use Rattle.ldso_cli.specs.Dump.{DumpComes, DumpPrints}
 use Rattle.ldso_cli.specs.End.{bare}
-use Rattle.ldso_cli.specs.Generate.{GenComes, GenMisses}
+use Rattle.ldso_cli.specs.Generate.{GenComes}
 use Rattle.ldso_cli.specs.Outside.{LibraryAt}
 use Rattle.ldso_cli.specs.Played.{StartMisses}
 use Rattle.ldso_cli.specs.Status.{usage_text}
@@ -44,14 +44,14 @@ Prints (commands.Turns turns) files end text = ⊥
 Prints (commands.Run run) files end text = ⊥
 Prints (commands.Generate number) files end text = ⊥
 
--- the library missed each file that a command's name could be; of gen it is the library of its set
+-- the library missed each file that a command's name could be. gen looks for its libraries in a library of its own, of which its row below tells
 abbrev pub Misses : Command → LibraryAt → LibraryAt → List ℕ → Type 0
 Misses (commands.Bind bind) before after name = Over before.files (BindMisses bind before after name)
 Misses (commands.Dump path) before after name = (name ≡ path) × Rises before.misses after.misses
 Misses (commands.Assemble path) before after name = (name ≡ path) × Rises before.misses after.misses
 Misses (commands.Turns turns) before after name = StartMisses turns.setup before after name
 Misses (commands.Run run) before after name = ⊥
-Misses (commands.Generate number) before after name = GenMisses number name
+Misses (commands.Generate number) before after name = Unit {0}
 
 -- the end isn't that of a failed read
 abbrev pub NoReadFails : End → Type 0
@@ -80,20 +80,29 @@ pub record IsUsage (end : End) (text : List ℕ) : Type 0 where
   pub text_is : text ≡ usage_text
 
 -- what a command comes to, before anything is written: an end, and a text. One that runs no program comes to them over the files that it
--- reads, where these are told, and over some files where they aren't; a run is one over the files as its library tells them. gen leaves the
--- library as it is
+-- reads, where these are told, and over some files where they aren't; a run is one over the files as its library tells them
 abbrev pub CommandAnswers : Command → LibraryAt → LibraryAt → End → List ℕ → Type 0
 CommandAnswers (commands.Bind bind) before after end text = OverFiles (commands.Bind bind) before after end text
 CommandAnswers (commands.Dump path) before after end text = OverFiles (commands.Dump path) before after end text
 CommandAnswers (commands.Assemble path) before after end text = OverFiles (commands.Assemble path) before after end text
 CommandAnswers (commands.Turns turns) before after end text = TurnsComes turns before after end text
 CommandAnswers (commands.Run run) before after end text = ⊥
-CommandAnswers (commands.Generate number) before after end text = GenComes number end text × (after ≡ before)
+CommandAnswers (commands.Generate number) before after end text = GenComes number end text
 
 -- what the words come to
 abbrev pub Answers : Option Command → LibraryAt → LibraryAt → End → List ℕ → Type 0
 Answers None before after end text = IsUsage end text
 Answers (Some command) before after end text = CommandAnswers command before after end text
+
+-- gen leaves the library as it is, whether it comes to an answer or not
+abbrev pub LeavesLibrary : Option Command → LibraryAt → LibraryAt → Type 0
+LeavesLibrary None before after = Unit {0}
+LeavesLibrary (Some (commands.Bind bind)) before after = Unit {0}
+LeavesLibrary (Some (commands.Dump path)) before after = Unit {0}
+LeavesLibrary (Some (commands.Assemble path)) before after = Unit {0}
+LeavesLibrary (Some (commands.Turns turns)) before after = Unit {0}
+LeavesLibrary (Some (commands.Run run)) before after = Unit {0}
+LeavesLibrary (Some (commands.Generate number)) before after = after ≡ before
 
 -- ---- for the code of this crate alone
 

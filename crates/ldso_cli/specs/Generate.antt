@@ -13,7 +13,7 @@ use Rattle.run_texts.specs.declared.run_end.RunEnd.{RunEnd}
 use Rattle.run_texts.specs.declared.run_end.RunEnd.TheVariants.{Exited, Ended}
 use Rattle.ldso_cli.specs.End.{kept_end}
 use Rattle.ldso_cli.specs.Outside.{LibraryAt}
-use Rattle.ldso_cli.specs.Played.{IsPlayed, StartMisses, last_line, run_cause}
+use Rattle.ldso_cli.specs.Played.{IsPlayed, last_line, run_cause}
 use Rattle.ldso_cli.specs.declared.outcome.Cause.{Cause}
 use Rattle.ldso_cli.specs.declared.outcome.Cause.TheVariants as causes
 use Rattle.ldso_cli.specs.declared.outcome.End.{End}
@@ -43,7 +43,8 @@ set_line ended = elim (exit_code ended) [ Some code ↦ end_line (Exited 0) | No
 abbrev pub set_text : ℕ → Result RunEnd DlFault → List Event → List ℕ
 set_text number ended journal = summary_line number (counts_of journal) (exit_code ended) ++ set_line ended
 
--- how gen comes to its end and its text: by a run of its set by a schedule without items. What that left is kept
+-- how gen comes to its end and its text: by a run of its set by a schedule without items, over the set's own library, which has missed some
+-- paths then. What that left is kept
 pub record GenComes (number : ℕ) (end : End) (text : List ℕ) : Type 0 where
   pub files : List File
   pub are : AreSetOf number files
@@ -53,10 +54,3 @@ pub record GenComes (number : ℕ) (end : End) (text : List ℕ) : Type 0 where
   pub plays : IsPlayed set_setup [] (set_at files 0) (set_at files misses) ended left
   pub end_is : end ≡ kept_end (set_cause ended) left
   pub text_is : text ≡ set_text number ended left.journal.events
-
--- the set's own library missed each path that the name may have
-pub record GenMisses (number : ℕ) (name : List ℕ) : Type 0 where
-  pub files : List File
-  pub are : AreSetOf number files
-  pub misses : ℕ
-  pub missed : StartMisses set_setup (set_at files 0) (set_at files misses) name

@@ -3,7 +3,7 @@
 ghost use Rattle.std.specs.Prelude.{◌≡◌, ◌≤◌, IfOk, MatchResult};
 ghost use Rattle.said_words.specs.Words.{texts};
 ghost use Rattle.ldso_cli.specs.Asked.{OfAsked};
-ghost use Rattle.ldso_cli.specs.Command.{Answers};
+ghost use Rattle.ldso_cli.specs.Command.{Answers, LeavesLibrary};
 ghost use Rattle.ldso_cli.specs.End.{end_of};
 ghost use Rattle.ldso_cli.specs.Ends.{Ends, IsCaused, IsUnanswered, Written};
 ghost use Rattle.ldso_cli.specs.Outside.{handed_to, library_at, sink_at};
@@ -31,6 +31,8 @@ fn answer<L: Library>(
 ) -> Result<Answer, AllocError>
     ensures answers { OfAsked (texts words.now) (λ command. IfOk result (λ answer. Answers command (library_at L.files L.faults L.misses library.old)
         (library_at L.files L.faults L.misses library.new) answer.end answer.text)) }
+    ensures untouched { OfAsked (texts words.now) (λ command. LeavesLibrary command (library_at L.files L.faults L.misses library.old)
+        (library_at L.files L.faults L.misses library.new)) }
     ensures files { L.files library.new ≡ L.files library.old }
     ensures faults { L.faults library.old ≤ L.faults library.new }
     ensures misses { L.misses library.old ≤ L.misses library.new }
@@ -96,6 +98,8 @@ pub fn ldso<R: Threads + Wait + Sync, L: Library + Send + Drop, K: Sink>(
     ensures status { result.0.status ≡ status_of (end_of result.0) }
 
     // What the library and the sink are left as.
+    ensures untouched { OfAsked (texts words.items) (λ command. LeavesLibrary command (library_at L.files L.faults L.misses library)
+        (library_at L.files L.faults L.misses result.1)) }
     ensures files { L.files result.1 ≡ L.files library }
     ensures library_faults { L.faults library ≤ L.faults result.1 }
     ensures misses { L.misses library ≤ L.misses result.1 }

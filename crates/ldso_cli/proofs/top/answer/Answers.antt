@@ -5,7 +5,7 @@ use Rattle.command_line.specs.declared.command.Command.TheVariants as commands
 use Rattle.link_service.specs.Startup.{harts_of}
 use Rattle.said_words.specs.Words.{texts}
 use Rattle.ldso_cli.specs.Outside.{library_at}
-use Rattle.ldso_cli.proofs.Asking.{generated, turned, unanswered}
+use Rattle.ldso_cli.proofs.Asking.{generated, left_as_is, turned, turns_read, unanswered}
 use Rattle.ldso_cli.proofs.Bounds.{few_harts, little_fuel}
 use Rattle.ldso_cli.proofs.top.answer.Goals as goal
 
@@ -52,9 +52,48 @@ pub returns-in-Ok-Generate-clause-answers : goal.returns-in-Ok-Generate-clause-a
 returns-in-Ok-Generate-clause-answers g c =
     let reads : Reads (texts c.args.words.now) (commands.Generate c.in-Ok-Generate.number) =
     subst (λ (command : Command). Reads (texts c.args.words.now) command) c.in-Ok-Generate.field-0-is c.in-Ok-Generate.ensures.is in
-    generated (texts c.args.words.now) c.in-Ok-Generate.number reads (library_at g.L.Library.files g.L.Library.faults g.L.Library.misses c.args.library.now) c.generate.result c.generate.ensures.comes
+    let library = library_at g.L.Library.files g.L.Library.faults g.L.Library.misses c.args.library.now in
+    generated (texts c.args.words.now) c.in-Ok-Generate.number reads library library c.generate.result c.generate.ensures.comes
 
 pub returns-clause-answers : goal.returns-clause-answers
 returns-clause-answers g c =
     let memory = c.in-Err-Memory.ensures.memory c.in-Err-Memory.field-0-is in
     unanswered c.words_are_one_command.ensures (texts c.args.words.now) memory.0 memory.1 (λ _. tt)
+
+pub returns-in-Ok-Bind-clause-untouched : goal.returns-in-Ok-Bind-clause-untouched
+returns-in-Ok-Bind-clause-untouched g c =
+    let reads : Reads (texts c.args.words.now) (commands.Bind c.in-Ok-Bind.command) =
+    subst (λ (command : Command). Reads (texts c.args.words.now) command) c.in-Ok-Bind.field-0-is c.in-Ok-Bind.ensures.is in
+    record { asked = Some (commands.Bind c.in-Ok-Bind.command); asks = (reads, tt); holds = tt }
+
+pub returns-in-Ok-Dump-clause-untouched : goal.returns-in-Ok-Dump-clause-untouched
+returns-in-Ok-Dump-clause-untouched g c =
+    let reads : Reads (texts c.args.words.now) (commands.Dump c.in-Ok-Dump.path) =
+    subst (λ (command : Command). Reads (texts c.args.words.now) command) c.in-Ok-Dump.field-0-is c.in-Ok-Dump.ensures.is in
+    record { asked = Some (commands.Dump c.in-Ok-Dump.path); asks = (reads, tt); holds = tt }
+
+pub returns-in-Ok-Assemble-clause-untouched : goal.returns-in-Ok-Assemble-clause-untouched
+returns-in-Ok-Assemble-clause-untouched g c =
+    let reads : Reads (texts c.args.words.now) (commands.Assemble c.in-Ok-Assemble.path) =
+    subst (λ (command : Command). Reads (texts c.args.words.now) command) c.in-Ok-Assemble.field-0-is c.in-Ok-Assemble.ensures.is in
+    record { asked = Some (commands.Assemble c.in-Ok-Assemble.path); asks = (reads, tt); holds = tt }
+
+pub returns-in-Ok-Turns-clause-untouched : goal.returns-in-Ok-Turns-clause-untouched
+returns-in-Ok-Turns-clause-untouched g c =
+    let reads : Reads (texts c.args.words.now) (commands.Turns c.in-Ok-Turns.command) =
+    subst (λ (command : Command). Reads (texts c.args.words.now) command) c.in-Ok-Turns.field-0-is c.in-Ok-Turns.ensures.is in
+    let before = library_at g.L.Library.files g.L.Library.faults g.L.Library.misses c.args.library.now in
+    let after = library_at g.L.Library.files g.L.Library.faults g.L.Library.misses c.turns.new.library in
+    turns_read c.words_are_one_command.ensures (texts c.args.words.now) c.in-Ok-Turns.command reads before after
+
+pub returns-in-Ok-Generate-clause-untouched : goal.returns-in-Ok-Generate-clause-untouched
+returns-in-Ok-Generate-clause-untouched g c =
+    let reads : Reads (texts c.args.words.now) (commands.Generate c.in-Ok-Generate.number) =
+    subst (λ (command : Command). Reads (texts c.args.words.now) command) c.in-Ok-Generate.field-0-is c.in-Ok-Generate.ensures.is in
+    record { asked = Some (commands.Generate c.in-Ok-Generate.number); asks = (reads, tt); holds = refl }
+
+pub returns-clause-untouched : goal.returns-clause-untouched
+returns-clause-untouched g c =
+    let memory = c.in-Err-Memory.ensures.memory c.in-Err-Memory.field-0-is in
+    let library = library_at g.L.Library.files g.L.Library.faults g.L.Library.misses c.args.library.now in
+    unanswered c.words_are_one_command.ensures (texts c.args.words.now) memory.0 memory.1 (λ command. left_as_is command library)

@@ -34,3 +34,7 @@ returns-clause-causes g c =
     along (texts c.as_slice.result.now) (texts c.args.words.items) (ap (λ (ws : List (String Global)). texts ws) c.as_slice.ensures.value)
     (λ command answers. subst (P command) (sym same) (end_caused handed command before after old new c.answer-answer.result c.write_answer-end.result answers c.write_answer-end.ensures.written))
     c.answer-answer.ensures.answers
+
+pub returns-clause-untouched : goal.returns-clause-untouched
+returns-clause-untouched g c =
+    along (texts c.as_slice.result.now) (texts c.args.words.items) (ap (λ (ws : List (String Global)). texts ws) c.as_slice.ensures.value) (λ command leaves. leaves) c.answer-answer.ensures.untouched
