@@ -1,5 +1,5 @@
 -- Each slot holds 0 or an address in an RX word.
-use Rattle.std.proofs.Common.{◌≡◌, ◌⊎◌, ⊎_elim, ◌≢◌, inl, inr, ℕ, ◌^◌, ◌<◌, List, Option, Some, None, refl, sym, subst, ◌∙◌, arith}
+use Rattle.std.proofs.Common.{◌≡◌, ◌⊎◌, Contains, ⊎_elim, ◌≢◌, inl, inr, ℕ, ◌^◌, ◌<◌, List, Option, Some, None, refl, sym, subst, ◌∙◌, arith}
 use Rattle.ld_base.specs.declared.linking.Role.TheVariants.{Rx}
 use Rattle.ld_base.specs.declared.object.Object.{Object}
 use Rattle.link_event.specs.declared.state.Granting.{Granting}
