@@ -1,3 +1,4 @@
+pub mod Begun
 pub mod Counting
 pub mod Going
 pub mod Left

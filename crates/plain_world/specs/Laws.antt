@@ -1,5 +1,5 @@
 -- What a run comes to.
-use Rattle.std.specs.Prelude.{false, List}
+use Rattle.std.specs.Prelude.{false, List, ◌++◌}
 use Rattle.link_event.specs.declared.handed.HartEntry.{HartEntry}
 use Rattle.link_history.specs.Setting.{Setting}
 use Rattle.link_served.specs.declared.startup.Setup.{Setup}
@@ -15,7 +15,7 @@ abbrev pub PlayedIsRun : Type 0
 PlayedIsRun = (w : Setting) (setup : Setup) (entry : HartEntry) (items : List TurnItem) (started world : World) → StartsAt w setup started entry
     → Plays w false (starting_registers entry) items started world → Run w setup items world
 
--- so it is where the first hart took some turns of startup's constructors by hand before
+-- so it is where turns were taken by hand before: those behind startup's constructors come first in its schedule
 abbrev pub HandedIsRun : Type 0
-HandedIsRun = (w : Setting) (setup : Setup) (entry : HartEntry) (items : List TurnItem) (started between world : World) → StartsAt w setup started entry
-    → TakesByHand w started between → Plays w false (starting_registers entry) items between world → Run w setup items world
+HandedIsRun = (w : Setting) (setup : Setup) (entry : HartEntry) (taken items : List TurnItem) (started between world : World) → StartsAt w setup started entry
+    → TakesByHand w taken started between → Plays w false (starting_registers entry) items between world → Run w setup (taken ++ items) world

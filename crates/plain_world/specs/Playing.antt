@@ -1,5 +1,5 @@
 -- What comes of a run that has started, by a written schedule.
-use Rattle.std.specs.Prelude.{◌≡◌, Bool, true, false, List, ◌∷◌, Option, None, IsTrue}
+use Rattle.std.specs.Prelude.{◌≡◌, ℕ, Bool, true, false, List, [], ◌∷◌, Option, None, IsTrue}
 use Rattle.std.specs.List.{list_all}
 use Rattle.ld_base.specs.declared.linking.File.{File}
 use Rattle.rv_hart.specs.Registers.{Registers}
@@ -36,10 +36,13 @@ pub record Plays (w : Setting) (begun : Bool) (registers : Registers) (items : L
   pub finalises : FinalisesOnce w begun registers finished finalised
   pub ends : new ≡ settled finalised
 
--- the first hart takes turns by hand, each while it runs startup's constructors
-pub data TakesByHand (w : Setting) : World → World → Type 0 where
-  no_more : (world : World) → TakesByHand w world world
-  one_more : (old between new : World) → IsTrue (is_starting old) → TakesTurn w 0 old between → TakesByHand w between new → TakesByHand w old new
+-- turns by hand: the first hart's, while it runs startup's constructors, and behind them those of any hart. Behind them each counts as an item
+-- of a schedule
+pub data TakesByHand (w : Setting) : List TurnItem → World → World → Type 0 where
+  no_more : (world : World) → TakesByHand w [] world world
+  constructs : (taken : List TurnItem) (old between new : World) → IsTrue (is_starting old) → TakesTurn w 0 old between → TakesByHand w taken between new → TakesByHand w taken old new
+  takes : (h : ℕ) (taken : List TurnItem) (old between new : World) → is_starting old ≡ false → TakesTurn w h old between → TakesByHand w taken between new
+      → TakesByHand w (record { hart = h; count = 1 } ∷ taken) old new
 
 -- ---- for the code of this crate alone
 

@@ -2,4 +2,5 @@
 pub mod Dues
 pub mod Frames
 pub mod Kinds
+pub mod Starting
 pub mod Turning

@@ -1,0 +1,103 @@
+-- The frames of startup's constructors: where there are none, none comes.
+use Rattle.std.proofs.Common.{◌≡◌, ℕ, Bool, true, false, List, [], ◌∷◌, ◌++◌, Option, Some, None, refl, sym, ap, ◌∙◌}
+use Rattle.std.specs.Prelude.{◌||◌}
+use Rattle.std.specs.List.{list_any}
+use Rattle.std.proofs.lemmas.Bool.{true≢false}
+use Rattle.ld_base.specs.declared.fault.DlFault.{DlFault}
+use Rattle.link_event.specs.declared.event.Event.{Event}
+use Rattle.link_event.specs.declared.handed.Function.{Function}
+use Rattle.link_event.specs.declared.hart_end.HartEnd.{HartEnd}
+use Rattle.link_history.specs.After.{after}
+use Rattle.link_history.specs.Setting.{Setting}
+use Rattle.link_service.specs.Answer.{Answer, returns, loading, closing, refused, granted, told, again, over}
+use Rattle.link_service.specs.Call.{Call, resolves, opens, looks_up, closes, unmaps, asks_fault, locates, writes, stops}
+use Rattle.link_service.specs.Functions.{left}
+use Rattle.link_service.specs.Served.{answer_text}
+use Rattle.hart_moves.specs.Copying.{text_words}
+use Rattle.hart_moves.specs.Due.{Due, Return, by_resolving, due}
+use Rattle.hart_moves.specs.Harts.{Frame, HartState, Purpose, Resolving, is_startup_frame}
+use Rattle.hart_moves.specs.Moves.{Did, Moves, MovesAs, Takes, TellsOf, after_all, final_functions, freed, freed_by, own_fini, runs, with_first}
+use Rattle.turn_events.specs.Lemmas.Dues.{AskedFrom}
+use Rattle.turn_events.specs.Lemmas.Frames.{telling_frames}
+use Rattle.turn_events.specs.Lemmas.Kinds.{Kind, kind_of}
+
+abbrev pub has_startup : List Frame → Bool
+has_startup frames = list_any is_startup_frame frames
+
+right_of : (p q : Bool) → (p || q) ≡ false → q ≡ false
+right_of true q none = absurd (true≢false none)
+right_of false q none = none
+
+-- what a call returns to has them where the hart has
+asked_startup : (b : HartState) (asked : Call) (to : Return) → AskedFrom b asked to → has_startup to.frames ≡ has_startup b.frames
+asked_startup b (resolves owner eights) to from = ap has_startup from
+asked_startup b (opens ask) to from = ap has_startup from
+asked_startup b (looks_up ask) to from = ap has_startup from
+asked_startup b (closes handle) to from = ap has_startup from
+asked_startup b (unmaps set) to from = sym (ap has_startup from.1)
+asked_startup b asks_fault to from = ap has_startup from
+asked_startup b (locates number offset) to from = ap has_startup from
+asked_startup b (writes bytes) to from = ap has_startup from
+asked_startup b (stops reason) to from = ap has_startup from
+
+-- ---- functions that are run
+
+behind_startup : (purpose : Purpose) (below : List Frame) (b : HartState) → has_startup (after_all purpose below b).frames ≡ has_startup below
+behind_startup (Purpose.of_startup registers) below b = refl
+behind_startup (Purpose.of_opening to root) below b = refl
+behind_startup (Purpose.of_closing to set) below b = refl
+behind_startup (Purpose.of_end code) below b = refl
+
+first_startup : (purpose : Purpose) (object : ℕ) (addresses : List ℕ) (rest : List Function) (below : List Frame) (b : HartState)
+    → has_startup (with_first purpose object addresses rest below b).frames ≡ has_startup (record { purpose = purpose; queue = [] } ∷ below)
+first_startup purpose object [] rest below b = refl
+first_startup purpose object (function ∷ more) rest below b = refl
+
+runs_startup : (purpose : Purpose) (functions : List Function) (below : List Frame) (b : HartState) → has_startup (record { purpose = purpose; queue = [] } ∷ below) ≡ false
+    → has_startup (runs purpose functions below b).frames ≡ false
+runs_startup purpose [] below b none = behind_startup purpose below b ∙ right_of (is_startup_frame (record { purpose = purpose; queue = [] })) (has_startup below) none
+runs_startup purpose (f ∷ rest) below b none = first_startup purpose f.object f.addresses rest below b ∙ none
+
+-- ---- a turn
+
+module _ (w : Setting) (past : List Event) (h : ℕ) (b : HartState) (none : has_startup b.frames ≡ false) where
+  by_telling : (text : ℕ) (to : Return) (fault : Option DlFault) (appended : List Event) (did : Did) (c : HartState) → has_startup to.frames ≡ false → TellsOf text b to fault appended did c → has_startup c.frames ≡ false
+  by_telling text to (Some fault) appended did c behind x =
+      ap (λ (z : HartState). has_startup z.frames) x.leaves ∙ ap has_startup (telling_frames text (text_words (answer_text fault)) (freed b)) ∙ none
+  by_telling text to None appended did c behind x = ap (λ (z : HartState). has_startup z.frames) x.leaves ∙ behind
+
+  by_answer : (asked : Call) (to : Return) (answer : Answer) (appended : List Event) (did : Did) (c : HartState) → has_startup to.frames ≡ false → Takes w past h b asked to answer appended did c
+      → has_startup c.frames ≡ false
+  by_answer asked to (returns value) appended did c behind x = ap (λ (z : HartState). has_startup z.frames) x.leaves ∙ behind
+  by_answer asked to (loading root added) appended did c behind x =
+      ap (λ (z : HartState). has_startup z.frames) x.passes.leaves ∙ runs_startup (Purpose.of_opening to.to root) (left x.functions) to.frames (freed b) behind
+  by_answer asked to (closing set) appended did c behind x =
+      ap (λ (z : HartState). has_startup z.frames) x.passes.leaves ∙ runs_startup (Purpose.of_closing to.to set) (left x.functions) to.frames (freed b) behind
+  by_answer asked to (refused fault) appended did c behind x = ap (λ (z : HartState). has_startup z.frames) x.leaves ∙ behind
+  by_answer asked to (granted g) appended did c behind x = ap (λ (z : HartState). has_startup z.frames) x.leaves ∙ none
+  by_answer asked to (told fault) appended did c behind x = by_telling _ to fault appended did c behind x
+  by_answer asked to (again for) appended did c behind x = ap (λ (z : HartState). has_startup z.frames) x.leaves ∙ none
+  by_answer asked to (over reason) appended did c behind x = ap (λ (z : HartState). has_startup z.frames) x.leaves ∙ none
+
+  by_kind : (did : Did) (c : HartState) → Kind w past h b did c → has_startup c.frames ≡ false
+  by_kind did c (Kind.goes no_events frames runs_on) = ap has_startup frames ∙ none
+  by_kind did c (Kind.ends reason is frames ended) = ap has_startup frames ∙ none
+  by_kind did c (Kind.calls asked to from x) = by_answer asked to x.answer x.appended did c (asked_startup b asked to from ∙ none) x.takes
+  by_kind did c (Kind.enters function frames from x) = ap (λ (z : HartState). has_startup z.frames) x.leaves ∙ ap has_startup from.after ∙ sym (ap has_startup from.before) ∙ none
+  by_kind did c (Kind.completes purpose object rest below not_end from x) =
+      ap (λ (z : HartState). has_startup z.frames) x.passes.leaves ∙ runs_startup purpose (left rest) below (freed b) (sym (ap has_startup from.before) ∙ none)
+  by_kind did c (Kind.finalises code object rest below from x) =
+      ap (λ (z : HartState). has_startup z.frames) x.leaves ∙ runs_startup (Purpose.of_end code) (final_functions x.next) [] (freed_by (own_fini (after past) h object ++ x.events) b) refl
+
+-- a hart that doesn't run them any more never does
+pub startup_away : (w : Setting) (past : List Event) (h : ℕ) (b c : HartState) (did : Did) → Moves w past h b did c → has_startup b.frames ≡ false → has_startup c.frames ≡ false
+startup_away w past h b c did moves none = by_kind w past h b none did c (kind_of w past h b did c moves)
+
+-- a hart that moves hasn't ended
+pub moves_runs : (w : Setting) (past : List Event) (h : ℕ) (b c : HartState) (did : Did) → Moves w past h b did c → b.«end» ≡ None
+unfolding due
+moves_runs w past h b c did moves = by b.«end» moves
+  where
+    by : (e : Option HartEnd) → MovesAs w past h b (elim e [ Some reason ↦ Due.nothing | None ↦ by_resolving (after past) b b.resolving ]) did c → e ≡ None
+    by (Some reason) x = absurd x
+    by None x = refl
