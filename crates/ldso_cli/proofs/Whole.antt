@@ -150,14 +150,15 @@ module _ (handed handed' : Handing) (law : Law) (words : List (List ℕ)) (files
   }
 
   -- of a command that runs no program
-  over_files : (command : Command) → first.before.files ≡ Some files → second.before.files ≡ Some files → (one : IsTold handed (Some command) first) → (two : IsTold handed' (Some command) second)
+  over_files : (command : Command) → first.before.files ≡ Some files → second.before.files ≡ Some files → (Rises first.before.faults first.after.faults → ⊥)
+      → (Rises second.before.faults second.after.faults → ⊥) → (one : IsTold handed (Some command) first) → (two : IsTold handed' (Some command) second)
       → OverFiles command first.before first.after first.end one.text → OverFiles command second.before second.after second.end two.text → ComeToOne handed handed' first second
-  over_files command tells tells' one two answers answers' =
+  over_files command tells tells' still still' one two answers answers' =
       let a = over_these command files first one.text tells answers in
       let b = over_these command files second two.text tells' answers' in
       let end : first.end ≡ second.end =
-      one_end law.one_walk law.one_stop law.not_both law.sources command files first.before first.after second.before second.after first.end second.end a.comes (no_reads handed (Some command) first one p.reads_well) b.comes
-      (no_reads handed' (Some command) second two q.reads_well) in
+      one_end law.one_walk law.one_stop law.not_both law.sources command files first.before first.after second.before second.after first.end second.end a.comes (no_reads handed (Some command) first one still) b.comes
+      (no_reads handed' (Some command) second two still') in
       let prints : Prints command files first.end two.text = subst (λ (e : End). Prints command files e two.text) (sym end) b.prints in
       come_to_one (Some command) one two (same_end first.end second.end end) (one_text law.one_walk law.sources.one command files first.end one.text two.text a.prints prints)
 
@@ -174,6 +175,8 @@ module _ (handed handed' : Handing) (law : Law) (words : List (List ℕ)) (files
   one_turned turns asks one two =
       let a = one.answers in
       let b = two.answers in
+      let still = p.reads_well (commands.Turns turns) asks.0 in
+      let still' = q.reads_well (commands.Turns turns) asks.0 in
       let few : harts_of turns.setup ≤ 2 ^ 32 = (let below = few_harts words turns asks.0 in omega (arith, below)) in
       let items : b.items ≡ a.items = one_schedule (harts_of turns.setup) turns.schedule b.items a.items few b.says a.says in
       let over : IsOver turns.setup a.items (Some files) a.ended a.left = subst (λ (t : Option (List File)). IsOver turns.setup a.items t a.ended a.left) (p.told (commands.Turns turns) asks.0) a.plays.is in
@@ -181,10 +184,10 @@ module _ (handed handed' : Handing) (law : Law) (words : List (List ℕ)) (files
       subst (λ (t : Option (List File)). IsOver turns.setup a.items t b.ended b.left) (q.told (commands.Turns turns) asks.0)
       (subst (λ (it : List TurnItem). IsOver turns.setup it second.before.files b.ended b.left) items b.plays.is) in
       let same =
-      one_outcome law.runs turns.setup a.items files a.ended b.ended a.left b.left over (quiet_run first a.ended a.left (no_reads handed (Some (commands.Turns turns)) first one p.reads_well) a.end_is)
-      (well_run first (run_cause a.ended) a.left first.before.faults first.after.faults p.reads_well a.plays.counted.faults p.runs_well a.end_is)
-      over' (quiet_run second b.ended b.left (no_reads handed' (Some (commands.Turns turns)) second two q.reads_well) b.end_is)
-      (well_run second (run_cause b.ended) b.left second.before.faults second.after.faults q.reads_well b.plays.counted.faults q.runs_well b.end_is) in
+      one_outcome law.runs turns.setup a.items files a.ended b.ended a.left b.left over (quiet_run first a.ended a.left (no_reads handed (Some (commands.Turns turns)) first one still) a.end_is)
+      (well_run first (run_cause a.ended) a.left first.before.faults first.after.faults still a.plays.counted.faults p.runs_well a.end_is)
+      over' (quiet_run second b.ended b.left (no_reads handed' (Some (commands.Turns turns)) second two still') b.end_is)
+      (well_run second (run_cause b.ended) b.left second.before.faults second.after.faults still' b.plays.counted.faults q.runs_well b.end_is) in
       come_to_one (Some (commands.Turns turns)) one two (one_end_kept first.end second.end (run_cause a.ended) (run_cause b.ended) a.left b.left a.end_is b.end_is (ap run_cause same.0) same.1)
       (a.text_is ∙ (λ i. journal_lines (same.1.events i) ++ last_line (same.0 i)) ∙ sym b.text_is)
 
@@ -203,9 +206,12 @@ module _ (handed handed' : Handing) (law : Law) (words : List (List ℕ)) (files
   one_of : (command : Option Command) → Asks words command → IsTold handed command first → IsTold handed' command second → ComeToOne handed handed' first second
   one_of None asks one two =
       come_to_one None one two (same_end first.end second.end (one.answers.end_is ∙ sym two.answers.end_is)) (one.answers.text_is ∙ sym two.answers.text_is)
-  one_of (Some (commands.Bind bind)) asks one two = over_files (commands.Bind bind) (p.told (commands.Bind bind) asks.0) (q.told (commands.Bind bind) asks.0) one two one.answers two.answers
-  one_of (Some (commands.Dump path)) asks one two = over_files (commands.Dump path) (p.told (commands.Dump path) asks.0) (q.told (commands.Dump path) asks.0) one two one.answers two.answers
-  one_of (Some (commands.Assemble path)) asks one two = over_files (commands.Assemble path) (p.told (commands.Assemble path) asks.0) (q.told (commands.Assemble path) asks.0) one two one.answers two.answers
+  one_of (Some (commands.Bind bind)) asks one two = over_files (commands.Bind bind) (p.told (commands.Bind bind) asks.0) (q.told (commands.Bind bind) asks.0)
+      (p.reads_well (commands.Bind bind) asks.0) (q.reads_well (commands.Bind bind) asks.0) one two one.answers two.answers
+  one_of (Some (commands.Dump path)) asks one two = over_files (commands.Dump path) (p.told (commands.Dump path) asks.0) (q.told (commands.Dump path) asks.0)
+      (p.reads_well (commands.Dump path) asks.0) (q.reads_well (commands.Dump path) asks.0) one two one.answers two.answers
+  one_of (Some (commands.Assemble path)) asks one two = over_files (commands.Assemble path) (p.told (commands.Assemble path) asks.0) (q.told (commands.Assemble path) asks.0)
+      (p.reads_well (commands.Assemble path) asks.0) (q.reads_well (commands.Assemble path) asks.0) one two one.answers two.answers
   one_of (Some (commands.Turns turns)) asks one two = one_turned turns asks one two
   one_of (Some (commands.Run run)) asks one two = absurd one.answers
   one_of (Some (commands.Generate number)) asks one two = one_generated number one two

@@ -66,6 +66,15 @@ AreTold (commands.Turns turns) library files = library.files ≡ Some files
 AreTold (commands.Run run) library files = library.files ≡ Some files
 AreTold (commands.Generate number) library files = Unit {0}
 
+-- no read of its library failed, or the command made none
+abbrev pub ReadsWell : Command → LibraryAt → LibraryAt → Type 0
+ReadsWell (commands.Bind bind) before after = ¬ (Rises before.faults after.faults)
+ReadsWell (commands.Dump path) before after = ¬ (Rises before.faults after.faults)
+ReadsWell (commands.Assemble path) before after = ¬ (Rises before.faults after.faults)
+ReadsWell (commands.Turns turns) before after = ¬ (Rises before.faults after.faults)
+ReadsWell (commands.Run run) before after = ¬ (Rises before.faults after.faults)
+ReadsWell (commands.Generate number) before after = Unit {0}
+
 -- over these files a command comes to this end, and prints this text at it
 pub record IsAnswer (command : Command) (before after : LibraryAt) (end : End) (text : List ℕ) (files : List File) : Type 0 where
   pub comes : Comes command before after files end

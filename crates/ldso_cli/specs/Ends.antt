@@ -14,7 +14,7 @@ use Rattle.link_event.specs.declared.event.Event.{Event}
 use Rattle.link_event.specs.declared.event.Event.TheVariants.{Ended}
 use Rattle.link_service.specs.Laws.{is_memory}
 use Rattle.ldso_cli.specs.Asked.{OfAsked}
-use Rattle.ldso_cli.specs.Command.{Answers, AreTold, Misses}
+use Rattle.ldso_cli.specs.Command.{Answers, AreTold, Misses, ReadsWell}
 use Rattle.ldso_cli.specs.End.{AreOneEnd, bare, events_kept}
 use Rattle.ldso_cli.specs.Outside.{LibraryAt, SinkAt}
 use Rattle.ldso_cli.specs.Status.{status_of}
@@ -93,7 +93,7 @@ is_want_of_memory e = elim e [ Ended hart reason ↦ is_memory reason | _ ↦ fa
 pub record IsUndisturbed (handed : Handing) (words : List (List ℕ)) (files : List File) (run : RunAt) : Type 0 where
   pub told : (command : Command) → Reads words command → AreTold command run.before files
   pub ends : OfAsked words (λ command. Ends handed command run.before run.after run.old run.new run.end)
-  pub reads_well : ¬ (Rises run.before.faults run.after.faults)
+  pub reads_well : (command : Command) → Reads words command → ReadsWell command run.before run.after
   pub writes_well : run.end.cause ≢ causes.WriteFault
   pub has_memory : run.end.cause ≢ causes.Memory
   pub runs_well : list_any is_want_of_memory (events_kept run.end) ≡ false
