@@ -15,6 +15,7 @@ use Rattle.link_history.specs.Setting.{Setting}
 use Rattle.link_service.specs.Functions.{AreConstructors, AreDestructors, left, passed}
 use Rattle.hart_moves.specs.Harts.{Frame, HartState, Purpose}
 use Rattle.hart_moves.specs.Moves.{Did, Finals, Moves, events_of, final_functions, own_fini, passing}
+use Rattle.hart_moves.specs.Registers.{returned}
 use Rattle.turn_events.specs.Appends.{is_of_end}
 
 -- ---- events
@@ -66,9 +67,9 @@ pub data LeavesFrames (w : Setting) (past : List Event) (h : ℕ) (b : HartState
   completes : (purpose : Purpose) (f : Function) (rest : List Function) (below : List Frame) → is_of_end purpose ≡ false
       → b.frames ≡ record { purpose = purpose; queue = f ∷ rest } ∷ below → events_of did ≡ map (passing purpose h) (f.object ∷ passed rest)
       → AreFrames purpose (left rest) below c.frames → LeavesFrames w past h b did c
-  -- a closing's objects are unmapped
+  -- a closing's objects are unmapped, and its call returns with 0
   unmaps : (to : ℕ) (set : List ℕ) (below : List Frame) → b.frames ≡ record { purpose = Purpose.of_closing to set; queue = [] } ∷ below
-      → events_of did ≡ Unmapped h set ∷ [] → c.frames ≡ below → LeavesFrames w past h b did c
+      → events_of did ≡ Unmapped h set ∷ [] → c.frames ≡ below → c.registers ≡ returned to 0 b.registers → LeavesFrames w past h b did c
   -- of the final destructors those of one object have run: it is finalised, if it may still be, with the next ones that have none
   finalises : (code : ℕ) (f : Function) (rest : List Function) (below : List Frame) (events : List Event) (next : Option Function)
       → b.frames ≡ record { purpose = Purpose.of_end code; queue = f ∷ rest } ∷ below

@@ -1,2 +1,3 @@
 -- Lemmas on this crate's definitions that proofs of the crates above cite, too. They define nothing that a contract means.
+pub mod Closing
 pub mod Turning

@@ -1,6 +1,9 @@
 //! What every turn makes of its hart's frames.
 
+ghost use Rattle.turn_frames.specs.Closings.{ClosesAtOnce, ReturnsBehind, UnmapsAll, UnmapsNext};
 ghost use Rattle.turn_frames.specs.Leaves.{TurnsLeaveFrames};
+
+use link_history::memory_changes;
 
 /// Each turn leaves the frames, or begins one by an opening or a closing, goes on with the first, or ends
 /// it; and it initialises, finalises and unmaps objects of that frame alone. The frame of the final
@@ -8,3 +11,16 @@ ghost use Rattle.turn_frames.specs.Leaves.{TurnsLeaveFrames};
 pub fn turns_leave_frames()
     ensures { TurnsLeaveFrames }
 {}
+
+/// A dlclose that gives its value at once gives 0, and nothing dies by it. Else the hart comes, once the
+/// destructors of its closing have run, to the linker's function that unmaps; the closing goes with the
+/// unmapping of all that died alone, by which the dlclose returns 0 to where it was called; and no word of
+/// what was unmapped has a role then.
+pub fn closings_unmap_first()
+    ensures at_once { ClosesAtOnce }
+    ensures next { UnmapsNext }
+    ensures behind { ReturnsBehind }
+    ensures gone { UnmapsAll }
+{
+    memory_changes();
+}

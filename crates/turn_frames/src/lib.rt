@@ -9,4 +9,4 @@
 
 mod law;
 
-pub use law::turns_leave_frames;
+pub use law::{closings_unmap_first, turns_leave_frames};

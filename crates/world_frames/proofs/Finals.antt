@@ -249,7 +249,7 @@ module _ (w : Setting) (laws : FrameLaws w.machine) (past : List Event) (lawful 
     by_frames may is (LeavesFrames.completes purpose f rest below not_end was events_are frames) =
         subst (λ (es : List Event). FinalsFit w (past ++ es) c.frames) (sym (is ∙ events_are))
         (completes_by purpose f rest below not_end (subst (AreAllowed w past) events_are may) frames (top (record { purpose = purpose; queue = f ∷ rest }) below was))
-    by_frames may is (LeavesFrames.unmaps to set below was events_are frames) =
+    by_frames may is (LeavesFrames.unmaps to set below was events_are frames registers) =
         subst (λ (es : List Event). FinalsFit w (past ++ es) c.frames) (sym (is ∙ events_are))
         (unmaps_by to set below (subst (AreAllowed w past) events_are may) frames (top (record { purpose = Purpose.of_closing to set; queue = [] }) below was))
     by_frames may is (LeavesFrames.finalises code f rest below behind next was finals events_are frames) =

@@ -407,7 +407,7 @@ module _ (w : Setting) (laws : FrameLaws w.machine) (h : ℕ) (old new : World) 
       (λ allowed. dies_left w laws past past_lawful h turn.before.frames turn.left.frames x to handle first rest functions are allowed frames)
   by_frames (LeavesFrames.completes purpose f rest below not_end was is frames) =
       by_events (map (passing purpose h) (f.object ∷ passed rest)) is (λ allowed. completes_left w laws past past_lawful h turn.before.frames turn.left.frames x purpose f rest below was allowed frames)
-  by_frames (LeavesFrames.unmaps to set below was is frames) =
+  by_frames (LeavesFrames.unmaps to set below was is frames registers) =
       by_events (events.Unmapped h set ∷ []) is (λ allowed. unmaps_left w laws past past_lawful h turn.before.frames turn.left.frames x to set below was allowed frames)
   by_frames (LeavesFrames.finalises code f rest below events next was finals is frames) = absurd (false≢true (sym (before.none h turn.before turn.there) ∙ ap has_finals was))
 

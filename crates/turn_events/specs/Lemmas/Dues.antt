@@ -19,7 +19,7 @@ AskedFrom b (resolves owner eights) to = to.frames ≡ b.frames
 AskedFrom b (opens ask) to = to.frames ≡ b.frames
 AskedFrom b (looks_up ask) to = to.frames ≡ b.frames
 AskedFrom b (closes handle) to = to.frames ≡ b.frames
-AskedFrom b (unmaps set) to = (ra : ℕ) × (b.frames ≡ record { purpose = Purpose.of_closing ra set; queue = [] } ∷ to.frames)
+AskedFrom b (unmaps set) to = b.frames ≡ record { purpose = Purpose.of_closing to.to set; queue = [] } ∷ to.frames
 AskedFrom b asks_fault to = to.frames ≡ b.frames
 AskedFrom b (locates number offset) to = to.frames ≡ b.frames
 AskedFrom b (writes bytes) to = to.frames ≡ b.frames
@@ -76,7 +76,7 @@ done_from b (Purpose.of_end code) f rest below e = (rest, below, record { functi
 all_from : (b : HartState) (purpose : Purpose) (below : List Frame) → b.frames ≡ record { purpose = purpose; queue = [] } ∷ below → IsFrom b (all_done b purpose below)
 all_from b (Purpose.of_startup registers) below e = refl
 all_from b (Purpose.of_opening to root) below e = refl
-all_from b (Purpose.of_closing to set) below e = (to, e)
+all_from b (Purpose.of_closing to set) below e = e
 all_from b (Purpose.of_end code) below e = refl
 
 addresses_from : (b : HartState) (purpose : Purpose) (f : Function) (rest : List Function) (below : List Frame) (addresses : List ℕ) → f.addresses ≡ addresses → b.frames ≡ record { purpose = purpose; queue = f ∷ rest } ∷ below

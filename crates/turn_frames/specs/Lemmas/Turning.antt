@@ -22,6 +22,7 @@ use Rattle.hart_moves.specs.Copying.{text_words}
 use Rattle.hart_moves.specs.Due.{Return}
 use Rattle.hart_moves.specs.Harts.{Frame, HartState, Purpose}
 use Rattle.hart_moves.specs.Moves.{Did, Finalises, Finals, Takes, TellsOf, after_all, events_of, final_functions, freed, freed_by, own_fini, passing, runs, spent, telling, with_first}
+use Rattle.hart_moves.specs.Registers.{returned}
 use Rattle.turn_events.specs.Lemmas.Dues.{AskedFrom, HasRun}
 use Rattle.turn_events.specs.Lemmas.Frames.{did_events, telling_frames}
 use Rattle.turn_events.specs.Lemmas.Kinds.{Kind, kind_of}
@@ -70,7 +71,7 @@ record IsOther (call : Call) (given : List Event) : Type 0 where
   pub not_unmaps : (set : List ℕ) → call ≡ unmaps set → ⊥
 
 abbrev ComesTo : ℕ → Call → List Event → Answer → Type 0
-ComesTo h call given (returns value) = IsOther call given ⊎ ((set : List ℕ) × (call ≡ unmaps set) × (given ≡ events.Unmapped h set ∷ []))
+ComesTo h call given (returns value) = IsOther call given ⊎ ((set : List ℕ) × (call ≡ unmaps set) × (value ≡ 0) × (given ≡ events.Unmapped h set ∷ []))
 ComesTo h call given (loading root added) = IsLoading h call given root added
 ComesTo h call given (closing set) = IsClosing h call given set
 ComesTo h call given (refused fault) = IsOther call given
@@ -105,7 +106,7 @@ answer_comes h call e answer (Answers.is_not_opened ask fault) = record { touche
 answer_comes h call e answer (Answers.dies handle first rest) = record { handle = handle; first = first; rest = rest; asked = refl; are = refl; is = refl }
 answer_comes h call e answer (Answers.stays handle) = inl (record { touches_none = (refl, tt); not_unmaps = no_close handle })
 answer_comes h call e answer (Answers.is_not_closed handle fault) = record { touches_none = (refl, tt); not_unmaps = no_close handle }
-answer_comes h call e answer (Answers.is_unmapped set) = inr (set, refl, refl)
+answer_comes h call e answer (Answers.is_unmapped set) = inr (set, refl, refl, refl)
 answer_comes h call e answer (Answers.is_granted owner eights slot number choice value is) = (refl, tt)
 answer_comes h call e answer (Answers.is_unresolved owner eights slot is) = (refl, (refl, tt))
 answer_comes h call e answer (Answers.is_not_code owner eights slot serial index is) = (refl, (refl, tt))
@@ -156,9 +157,10 @@ module _ (w : Setting) (past : List Event) (h : ℕ) (b : HartState) where
   by_answer : (asked : Call) (to : Return) (answer : Answer) (appended : List Event) (did : Did) (c : HartState) → AskedFrom b asked to → ComesTo h asked appended answer → Takes w past h b asked to answer appended did c
       → LeavesFrames w past h b did c
   by_answer asked to (returns value) appended did c from (inl other) x = by_touching_none _ appended did c (to_same b asked to other.not_unmaps from) other.touches_none (ap events_of x.is) x.leaves
-  by_answer asked to (returns value) appended did c from (inr (set, is, are)) x =
+  by_answer asked to (returns value) appended did c from (inr (set, is, none, are)) x =
       let at = subst (λ (call : Call). AskedFrom b call to) is from in
-      LeavesFrames.unmaps at.0 set to.frames at.1 (ap events_of x.is ∙ are) (ap (λ (z : HartState). z.frames) x.leaves)
+      LeavesFrames.unmaps to.to set to.frames at (ap events_of x.is ∙ are) (ap (λ (z : HartState). z.frames) x.leaves)
+      (ap (λ (z : HartState). z.registers) x.leaves ∙ ap (λ (v : ℕ). returned to.to v b.registers) none)
   by_answer asked to (loading root added) appended did c from it x =
       let same : to.frames ≡ b.frames = to_same b asked to (λ set e. no_open it.ask set (sym it.asked ∙ e)) from in
       LeavesFrames.loads to.to root it.id it.ask it.first it.rest it.ranges x.functions

@@ -1,0 +1,48 @@
+-- How a dlclose returns: with 0 at once where nothing goes, and else behind the unmapping of all that goes.
+use Rattle.std.specs.Prelude.{◌≡◌, ℕ, List, [], ◌∷◌, ◌++◌, Contains, IsTrue}
+use Rattle.ld_base.specs.declared.linking.Role.TheVariants.{None as NoRole}
+use Rattle.link_event.specs.declared.event.CloseAnswer.TheVariants as closings
+use Rattle.link_event.specs.declared.event.Event.{Event}
+use Rattle.link_event.specs.declared.event.Event.TheVariants.{Close, Unmapped}
+use Rattle.link_event.specs.declared.event.Range.{Range}
+use Rattle.link_event.specs.declared.handed.Function.{Function}
+use Rattle.link_history.specs.Accepted.{AcceptsOnly}
+use Rattle.link_history.specs.After.{after}
+use Rattle.link_history.specs.Changes.{taken}
+use Rattle.link_history.specs.Legal.{Lawful}
+use Rattle.link_history.specs.Memory.{covers, role_at}
+use Rattle.link_history.specs.Setting.{Machine, Setting}
+use Rattle.link_service.specs.Answer.{returns}
+use Rattle.link_service.specs.Call.{closes, unmaps}
+use Rattle.link_service.specs.Functions.{left}
+use Rattle.link_service.specs.Gives.{Gives}
+use Rattle.hart_moves.specs.Harts.{Frame, HartState, Purpose}
+use Rattle.hart_moves.specs.Moves.{Did, Moves, Passes, events_of}
+use Rattle.hart_moves.specs.Registers.{next_function, returned}
+
+-- a closing whose destructors have all run
+abbrev pub emptied : (to : ℕ) → List ℕ → Frame
+emptied to set = record { purpose = Purpose.of_closing to set; queue = [] }
+
+-- a dlclose that gives its value at once gives 0, and nothing dies by it
+abbrev pub ClosesAtOnce : Type 0
+ClosesAtOnce = (w : Setting) (past given : List Event) (h handle value : ℕ) → Gives w past h (closes handle) given (returns value)
+    → (value ≡ 0) × (given ≡ Close h handle (closings.Done []) ∷ [])
+
+-- where its destructors have run the hart comes to the linker's function that unmaps, and nothing is returned yet
+abbrev pub UnmapsNext : Type 0
+UnmapsNext = (w : Setting) (past before : List Event) (h to : ℕ) (b c : HartState) (did : Did) (set : List ℕ) (functions : List Function) (below : List Frame)
+    → Passes w past h b (Purpose.of_closing to set) before functions below did c → left functions ≡ []
+    → (c.frames ≡ emptied to set ∷ below) × (c.registers.pc ≡ next_function)
+
+-- it goes with the unmapping alone, and by that the dlclose returns 0 to where it was called
+abbrev pub ReturnsBehind : Type 0
+ReturnsBehind = (w : Setting) (past : List Event) (h to : ℕ) (b c : HartState) (did : Did) (set : List ℕ) (below : List Frame) → Moves w past h b did c
+    → b.frames ≡ emptied to set ∷ below → c.frames ≡ below → (events_of did ≡ Unmapped h set ∷ []) × (c.registers ≡ returned to 0 b.registers)
+
+-- and no word of what was unmapped has a role then
+abbrev pub UnmapsAll : Type 0
+UnmapsAll = (m : Machine) (w : Setting) (past given : List Event) (h value : ℕ) (set : List ℕ) → w.machine ≡ m → AcceptsOnly m → Lawful m past
+    → Gives w past h (unmaps set) given (returns value)
+    → (value ≡ 0) × (given ≡ Unmapped h set ∷ [])
+    × ((r : Range) (a : ℕ) → Contains (taken (after past) (Unmapped h set)) r → IsTrue (covers a r) → role_at (after (past ++ given)) a ≡ NoRole)

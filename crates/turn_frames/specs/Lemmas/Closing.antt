@@ -1,0 +1,98 @@
+-- How a closing returns.
+use Rattle.std.proofs.Common.{◌≡◌, ℕ, suc, List, [], ◌∷◌, ◌++◌, length, Contains, IsTrue, refl, sym, ap, subst, ◌∙◌, arith}
+use Rattle.ld_base.specs.declared.linking.Role.TheVariants.{None as NoRole}
+use Rattle.link_event.specs.declared.event.Event.{Event}
+use Rattle.link_event.specs.declared.event.Event.TheVariants.{Unmapped}
+use Rattle.link_event.specs.declared.event.Range.{Range}
+use Rattle.link_event.specs.declared.handed.Function.{Function}
+use Rattle.link_history.specs.Accepted.{AcceptsOnly}
+use Rattle.link_history.specs.After.{after}
+use Rattle.link_history.specs.Allowed.{Allowed}
+use Rattle.link_history.specs.Changes.{ChangesMemory, taken}
+use Rattle.link_history.specs.Legal.{Lawful}
+use Rattle.link_history.specs.Memory.{covers, role_at}
+use Rattle.link_history.specs.Setting.{Machine, Setting}
+use Rattle.link_history.specs.State.{State}
+use Rattle.link_history.specs.Lemmas.History.{after_push}
+use Rattle.link_service.specs.Answer.{Answer, returns}
+use Rattle.link_service.specs.Call.{Call, closes, unmaps}
+use Rattle.link_service.specs.Functions.{left}
+use Rattle.link_service.specs.Gives.{Answers, Gives}
+use Rattle.hart_moves.specs.Harts.{Frame, HartState, Purpose}
+use Rattle.hart_moves.specs.Moves.{Did, events_of, freed, runs, spent}
+use Rattle.hart_moves.specs.Registers.{next_function, returned}
+use Rattle.turn_frames.specs.Closings.{ClosesAtOnce, UnmapsNext, ReturnsBehind, UnmapsAll, emptied}
+use Rattle.turn_frames.specs.Leaves.{AreFrames, LeavesFrames, behind_first}
+use Rattle.turn_frames.specs.Lemmas.Turning.{turns_leave_frames}
+
+pub closes_at_once : ClosesAtOnce
+closes_at_once w past given h handle value (Gives.by_event call e answer (Answers.stays at) may) = (refl, refl)
+
+pub unmaps_next : UnmapsNext
+unmaps_next w past before h to b c did set functions below x none =
+    let is : c ≡ spent (runs (Purpose.of_closing to set) [] below (freed b)) = x.leaves ∙ ap (λ (fs : List Function). spent (runs (Purpose.of_closing to set) fs below (freed b))) none in
+    (ap (λ (z : HartState). z.frames) is, ap (λ (z : HartState). z.registers.pc) is)
+
+-- ---- the frame goes
+
+grows : (x : Frame) (xs : List Frame) → x ∷ xs ≡ xs → ⊥
+grows x xs e = let n : suc (length xs) ≡ length xs = ap (λ (fs : List Frame). length fs) e in omega (arith, n)
+
+grows_twice : (x y : Frame) (xs : List Frame) → x ∷ y ∷ xs ≡ xs → ⊥
+grows_twice x y xs e = let n : suc (suc (length xs)) ≡ length xs = ap (λ (fs : List Frame). length fs) e in omega (arith, n)
+
+module _ (w : Setting) (past : List Event) (h to : ℕ) (b c : HartState) (did : Did) (set : List ℕ) (below : List Frame) (was : b.frames ≡ emptied to set ∷ below) (goes : c.frames ≡ below) where
+  abbrev Returns : Type 0
+  Returns = (events_of did ≡ Unmapped h set ∷ []) × (c.registers ≡ returned to 0 b.registers)
+
+  -- another function of it would be left
+  not_left : (purpose : Purpose) (f : Function) (rest : List Function) (others : List Frame) → b.frames ≡ record { purpose = purpose; queue = f ∷ rest } ∷ others → Returns
+  not_left purpose f rest others had = absurd (
+      let are : emptied to set ∷ below ≡ record { purpose = purpose; queue = f ∷ rest } ∷ others = sym was ∙ had in
+      let one : emptied to set ≡ record { purpose = purpose; queue = f ∷ rest } = cc in
+      let no : [] ≡ f ∷ rest = ap (λ (x : Frame). x.queue) one in cc)
+
+  -- a frame comes, and this one stays
+  not_begun : (purpose : Purpose) (functions : List Function) → (AreFrames purpose [] b.frames c.frames → Returns) → AreFrames purpose functions b.frames c.frames → Returns
+  not_begun purpose [] none are = none are
+  not_begun purpose (f ∷ rest) none are =
+      let next : Frame = record { purpose = purpose; queue = behind_first f ∷ rest } in
+      absurd (grows_twice next (emptied to set) below (ap (λ (fs : List Frame). next ∷ fs) (sym was) ∙ sym are ∙ goes))
+
+  not_stayed : c.frames ≡ b.frames → Returns
+  not_stayed same = absurd (grows (emptied to set) below (sym was ∙ sym same ∙ goes))
+
+  behind : LeavesFrames w past h b did c → Returns
+  behind (LeavesFrames.stays none same) = not_stayed same
+  behind (LeavesFrames.enters purpose f address more rest others had has none pc frames) = not_left purpose f rest others had
+  behind (LeavesFrames.loads ra root id ask first rest ranges functions are is frames) = not_begun (Purpose.of_opening ra root) (left functions) not_stayed frames
+  behind (LeavesFrames.dies ra handle first rest functions are is frames) = not_begun (Purpose.of_closing ra (first ∷ rest)) (left functions)
+      (λ (came : AreFrames (Purpose.of_closing ra (first ∷ rest)) [] b.frames c.frames). absurd (grows_twice (emptied ra (first ∷ rest)) (emptied to set) below (ap (λ (fs : List Frame). emptied ra (first ∷ rest) ∷ fs) (sym was) ∙ sym came ∙ goes)))
+      frames
+  behind (LeavesFrames.completes purpose f rest others not_end had is frames) = not_left purpose f rest others had
+  behind (LeavesFrames.unmaps ra gone others had is frames registers) =
+      let one : emptied to set ∷ below ≡ emptied ra gone ∷ others = sym was ∙ had in
+      let frame : emptied to set ≡ emptied ra gone = cc in
+      let purpose : Purpose.of_closing to set ≡ Purpose.of_closing ra gone = ap (λ (x : Frame). x.purpose) frame in
+      let sets : gone ≡ set = cc in
+      let back : ra ≡ to = cc in
+      (is ∙ ap (λ (os : List ℕ). Unmapped h os ∷ []) sets, registers ∙ ap (λ (n : ℕ). returned n 0 b.registers) back)
+  behind (LeavesFrames.finalises code f rest others events next had finals is frames) = not_left (Purpose.of_end code) f rest others had
+
+pub returns_behind : ReturnsBehind
+returns_behind w past h to b c did set below moves was goes = behind w past h to b c did set below was goes (turns_leave_frames w past h b c did moves)
+
+-- ---- what is unmapped
+
+unmapped : (w : Setting) (past given : List Event) (h value : ℕ) (set : List ℕ) → Gives w past h (unmaps set) given (returns value) → (value ≡ 0) × (given ≡ Unmapped h set ∷ []) × Allowed w past (Unmapped h set)
+unmapped w past given h value set (Gives.by_event call e answer (Answers.is_unmapped gone) may) = (refl, refl, may)
+
+pub unmaps_all : ((m : Machine) (w : Setting) (past : List Event) (e : Event) → w.machine ≡ m → AcceptsOnly m → Lawful m past → Allowed w past e → ChangesMemory (after past) e) → UnmapsAll
+unmaps_all changes m w past given h value set same only lawful gives =
+    let x = unmapped w past given h value set gives in (
+      x.0,
+      x.1,
+      λ r a there covered.
+          subst (λ (es : List Event). role_at (after (past ++ es)) a ≡ NoRole) (sym x.1)
+          (subst (λ (s : State). role_at s a ≡ NoRole) (sym (after_push past (Unmapped h set))) ((changes m w past (Unmapped h set) same only lawful x.2).taken_after r a there covered)),
+    )
