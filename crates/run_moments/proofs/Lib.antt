@@ -1,0 +1,4 @@
+pub mod Chains
+pub mod Entered
+pub mod Own
+pub mod Throughout

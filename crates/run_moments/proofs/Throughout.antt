@@ -1,0 +1,104 @@
+-- What holds at each moment of a run, and from each to each later one.
+use Rattle.std.proofs.Common.{ℕ, ◌≤◌, List, [], ◌∷◌, ◌++◌, refl, sym, ap, ◌∙◌, append-nil, append_assoc, arith}
+use Rattle.link_event.specs.declared.event.Event.{Event}
+use Rattle.link_event.specs.declared.event.Event.TheVariants as events
+use Rattle.link_event.specs.declared.hart_end.HartEnd.TheVariants as ends
+use Rattle.link_served.specs.declared.startup.Setup.{Setup}
+use Rattle.link_history.specs.Accepted.{AcceptsOnly}
+use Rattle.link_history.specs.After.{after}
+use Rattle.link_history.specs.Laws.{BlocksAreApart, ImagesAreMapped, slot_address}
+use Rattle.link_history.specs.Legal.{Lawful}
+use Rattle.link_history.specs.Setting.{Machine, Setting}
+use Rattle.link_history.specs.Lemmas.History.{legal_is_lawful}
+use Rattle.new_blocks.specs.Laws.{HartsHaveNewBlocks}
+use Rattle.schedules.specs.declared.schedule.TurnItem.{TurnItem}
+use Rattle.hart_moves.specs.Moves.{events_of}
+use Rattle.world_turns.specs.Laws.{SoundIsSlotTrue, StartIsSound}
+use Rattle.world_turns.specs.Memory.{doubleword, memory_of}
+use Rattle.world_turns.specs.Run.{Run}
+use Rattle.world_turns.specs.Sound.{Sound}
+use Rattle.world_turns.specs.Turn.{Turn}
+use Rattle.world_turns.specs.World.{World, settling, winners}
+use Rattle.world_slots.specs.Later.{Later, Steps}
+use Rattle.world_slots.specs.Laws.{LaterIsSound, LaterKeepsSlots}
+use Rattle.run_moments.specs.Laws.{IsTrueThroughout, RunsAreTrue}
+use Rattle.run_moments.specs.Moments.{IsMoment}
+use Rattle.run_moments.specs.True.{HasMore, IsTrueAt, StaysTrue}
+use Rattle.run_moments.proofs.Chains.{behind_start, later_in, run_leads}
+use Rattle.run_moments.proofs.Entered.{enters_code}
+use Rattle.run_moments.proofs.Own.{finds_own, locates_own}
+
+pub record MomentLaws : Type 0 where
+  pub mapped : (m : Machine) (journal : List Event) → Lawful m journal → ImagesAreMapped (after journal)
+  pub apart : (m : Machine) (journal : List Event) → Lawful m journal → BlocksAreApart m (after journal)
+  pub new_blocks : HartsHaveNewBlocks
+  pub start : StartIsSound
+  pub slot_true : SoundIsSlotTrue
+  pub sound : LaterIsSound
+  pub slots : LaterKeepsSlots
+
+-- ---- journals grow
+
+step_has_more : (w : Setting) (old new : World) → Steps w old new → HasMore old.journal new.journal
+step_has_more w old new (Steps.by_turn h turn) = by_turn turn
+  where
+    by_turn : Turn w h old new → HasMore old.journal new.journal
+    by_turn turn = record { added = _; is = turn.journal ∙ append_assoc old.journal _ (events_of turn.did) }
+step_has_more w old new (Steps.by_beginning registers exited begins) = record { added = []; is = ap (λ (y : World). y.journal) begins.begun ∙ sym (append-nil old.journal) }
+step_has_more w old new (Steps.by_lacking exited lacks) = record {
+  added = settling old.harts ++ events.Ended 0 ends.Memory ∷ [];
+  is = ap (λ (y : World). y.journal) lacks.leaves ∙ append_assoc old.journal (settling old.harts) (events.Ended 0 ends.Memory ∷ []);
+}
+step_has_more w old new (Steps.by_settling is) = record { added = settling old.harts; is = ap (λ (y : World). y.journal) is }
+
+both_more : (one other last : List Event) → HasMore one other → HasMore other last → HasMore one last
+both_more one other last x y = record {
+  added = x.added ++ y.added;
+  is = y.is ∙ ap (λ (es : List Event). es ++ y.added) x.is ∙ append_assoc one x.added y.added;
+}
+
+later_has_more : (w : Setting) (old new : World) → Later w old new → HasMore old.journal new.journal
+later_has_more w old new (Later.no_more _) = record { added = []; is = sym (append-nil old.journal) }
+later_has_more w old new (Later.one_more _ between _ step more) =
+    both_more old.journal between.journal new.journal (step_has_more w old between step) (later_has_more w between new more)
+
+-- ---- moments
+
+module _ (laws : MomentLaws) (w : Setting) (only : AcceptsOnly w.machine) where
+  true_at : (world : World) → Sound w world → IsTrueAt w world
+  true_at world sound =
+      let slots = laws.slot_true w world only sound in
+      let lawful = legal_is_lawful w world.journal sound.legal in
+      record {
+        legal = sound.legal;
+        memory = sound.holds;
+        slots = slots;
+        enters = λ i slot r there at. enters_code (after world.journal) (laws.mapped w.machine world.journal lawful) (winners world.harts) (memory_of world.words) sound.holds
+            (doubleword world.words (slot_address i r)).value (slots.enters i slot r there at);
+        blocks = laws.apart w.machine world.journal lawful;
+        locates = λ h new turn. locates_own laws.new_blocks w h world new turn;
+        finds = finds_own w world.journal sound.legal;
+      }
+
+  stays_true : (old new : World) → Sound w old → Later w old new → StaysTrue w old new
+  stays_true old new sound later = record {
+    later = later;
+    journal = later_has_more w old new later;
+    slots = λ i slot r there behind at taken. laws.slots w old new i slot r only sound later there behind at taken;
+  }
+
+  module _ (setup : Setup) (items : List TurnItem) (world : World) (run : Run w setup items world) where
+    between : (j k : ℕ) (old new : World) → j ≤ k → IsMoment run j old → IsMoment run k new → Later w old new
+    between j k old new below at behind = later_in w (behind_start run) run.started world (run_leads w setup items world run) j k old new below at behind
+
+    sound_at : (k : ℕ) (moment : World) → IsMoment run k moment → Sound w moment
+    sound_at k moment at = laws.sound w run.started moment only (laws.start w setup run.started only run.starts) (between 0 k run.started moment (omega arith) refl at)
+
+    throughout : IsTrueThroughout run
+    throughout = record {
+      each = λ k moment at. true_at moment (sound_at k moment at);
+      later = λ j k old new below at behind. stays_true old new (sound_at j old at) (between j k old new below at behind);
+    }
+
+pub runs_true : MomentLaws → RunsAreTrue
+runs_true laws w setup items world run only = throughout laws w only setup items world run

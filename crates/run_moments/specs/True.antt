@@ -1,0 +1,100 @@
+-- What is true at one moment of a run, and what stays so until a later one.
+use Rattle.std.specs.Prelude.{◌≡◌, ◌≢◌, ◌⊎◌, ℕ, ◌^◌, ◌+◌, ◌%◌, List, ◌++◌, take, Some, Contains, IsTrue}
+use Rattle.std.specs.List.{slice_get}
+use Rattle.ld_base.specs.declared.linking.Role.TheVariants.{Rx}
+use Rattle.ld_base.specs.declared.object.Reloc.{Reloc}
+use Rattle.link_event.specs.declared.event.Event.{Event}
+use Rattle.link_event.specs.declared.event.Event.TheVariants.{Sym}
+use Rattle.link_event.specs.declared.event.SymAnswer.TheVariants.{Found}
+use Rattle.link_event.specs.declared.event.SymAsk.{SymAsk}
+use Rattle.seg_image.specs.Pages.{own_address}
+use Rattle.seg_image.specs.Roles.{role_of}
+use Rattle.link_history.specs.Addresses.{is_linkers_page}
+use Rattle.link_history.specs.After.{after}
+use Rattle.link_history.specs.Laws.{BlocksAreApart, slot_address}
+use Rattle.link_history.specs.Legal.{Legal}
+use Rattle.link_history.specs.Lookup.{is_storage_symbol, symbol_value}
+use Rattle.link_history.specs.Memory.{image_at}
+use Rattle.link_history.specs.Objects.{IsMapped}
+use Rattle.link_history.specs.Setting.{Setting}
+use Rattle.link_history.specs.State.{Linked, State}
+use Rattle.link_history.specs.Storage.{tls_block}
+use Rattle.link_service.specs.Answer.{returns}
+use Rattle.link_service.specs.Call.{locates}
+use Rattle.link_service.specs.Gives.{HasBlock, variable_at}
+use Rattle.memory_holds.specs.Enters.{SlotStays, SlotTrue}
+use Rattle.memory_holds.specs.Holds.{Holds, lazy_at}
+use Rattle.memory_holds.specs.Memory.{doubleword_of}
+use Rattle.hart_moves.specs.Due.{Return}
+use Rattle.hart_moves.specs.Moves.{Calls}
+use Rattle.world_turns.specs.Memory.{doubleword, memory_of}
+use Rattle.world_turns.specs.Turn.{Turn}
+use Rattle.world_turns.specs.World.{World, found_journal, winners}
+use Rattle.world_slots.specs.Later.{Later}
+
+-- ---- slots
+
+-- the doubleword may be executed: it is one of the linker's own page, or of an object that is mapped
+pub data IsCode (s : State) (a : ℕ) : Type 0 where
+  of_linker : IsTrue (is_linkers_page a) → IsCode s a
+  of_object : (i : Linked) → image_at s a ≡ Some i → IsMapped s i.serial → role_of i.object (own_address i.base a) ≡ Rx → IsCode s a
+
+-- it is 0, or an address of code
+abbrev pub EntersCode : State → ℕ → Type 0
+EntersCode s value = (value ≡ 0) ⊎ IsCode s (doubleword_of value)
+
+-- ---- thread-local storage
+
+-- the address of a variable, which stands at this offset in the hart's own block of the module with this number
+pub record IsInOwnBlock (s : State) (hart number offset value : ℕ) : Type 0 where
+  pub block : ℕ
+  pub has : HasBlock s hart number block
+  pub is : value ≡ variable_at block offset
+
+-- what a turn answers where its hart calls __tls_get_addr
+abbrev pub LocatesOwn : (w : Setting) (h : ℕ) (old new : World) → Turn w h old new → Type 0
+LocatesOwn w h old new turn = (number offset value : ℕ) (back : Return)
+    (calls : Calls w (found_journal old turn.did) h turn.before (locates number offset) back turn.did turn.left) → calls.answer ≡ returns value
+    → IsInOwnBlock (after new.journal) h number offset value
+
+-- the address of a variable that a look-up found, in the hart's own block of its object's module
+pub record IsFoundInOwn (s : State) (hart serial index value : ℕ) : Type 0 where
+  pub block : ℕ
+  pub has : tls_block s hart serial ≡ Some block
+  pub is : value ≡ (block + symbol_value s serial index) % 2 ^ 64
+
+-- what look-ups answered, each in the state in which it was made
+abbrev pub FindsOwn : List Event → Type 0
+FindsOwn journal = (k hart serial index value : ℕ) (ask : SymAsk) → slice_get journal k ≡ Some (Sym hart ask (Found serial index value))
+    → IsTrue (is_storage_symbol (after (take k journal)) serial index) → IsFoundInOwn (after (take k journal)) hart serial index value
+
+-- ---- one moment
+
+pub record IsTrueAt (w : Setting) (world : World) : Type 0 where
+  -- the journal is one legal history, and memory is as it says
+  pub legal : Legal w world.journal
+  pub memory : Holds (after world.journal) (winners world.harts) (memory_of world.words)
+  -- each slot holds its first word or the value of the one grant that took it, and leads to no object but one that is mapped
+  pub slots : SlotTrue (after world.journal) (winners world.harts) (memory_of world.words)
+  pub enters : (i : Linked) (slot : ℕ) (r : Reloc) → Contains (after world.journal).images i → slice_get i.object.plt_relocs slot ≡ Some r
+      → EntersCode (after world.journal) (doubleword world.words (slot_address i r)).value
+  -- no address is in two blocks of thread-local storage, and each answer on it is in its hart's own: of whichever turn comes, and of each look-up that was made
+  pub blocks : BlocksAreApart w.machine (after world.journal)
+  pub locates : (h : ℕ) (new : World) (turn : Turn w h world new) → LocatesOwn w h world new turn
+  pub finds : FindsOwn world.journal
+
+-- ---- from one moment to a later one
+
+-- the journal has the earlier one in front
+pub record HasMore (old new : List Event) : Type 0 where
+  pub added : List Event
+  pub is : new ≡ old ++ added
+
+pub record StaysTrue (w : Setting) (old new : World) : Type 0 where
+  pub later : Later w old new
+  pub journal : HasMore old.journal new.journal
+  -- a slot that isn't lazy reads the same, where its object is mapped still
+  pub slots : (i : Linked) (slot : ℕ) (r : Reloc) → Contains (after old.journal).images i → Contains (after new.journal).images i
+      → slice_get i.object.plt_relocs slot ≡ Some r
+      → (doubleword old.words (slot_address i r)).value ≢ lazy_at (after old.journal) (slot_address i r)
+      → SlotStays (after old.journal) (after new.journal) (memory_of old.words) (memory_of new.words) (slot_address i r)

@@ -1,0 +1,24 @@
+//! What holds at each moment of a run.
+
+ghost use Rattle.run_moments.specs.Laws.{RunsAreTrue, RunsHaveMoments};
+
+/// The moments of a run go from its start to the world in which all is settled, each one step behind the
+/// one before, and the worlds in which its parts end are among them.
+pub fn runs_have_moments()
+    ensures { RunsHaveMoments }
+{}
+
+/// At each moment of a run the journal is legal, memory is as it says, each slot of a mapped object holds
+/// what it should and leads to no object but one that is mapped, blocks of thread-local storage are apart,
+/// and answers on it are in the hart's own block. From each moment to each later one the journal grows,
+/// and a slot that isn't lazy reads the same while its object is mapped.
+pub fn moments_are_true()
+    ensures { RunsAreTrue }
+{
+    link_history::images_are_mapped();
+    link_history::blocks_are_apart();
+    new_blocks::harts_have_new_blocks();
+    world_turns::runs_start_sound();
+    world_turns::slots_are_true();
+    world_slots::later_worlds_keep_slots();
+}
