@@ -1,4 +1,5 @@
 pub mod Chains
+pub mod Chosen
 pub mod Entered
 pub mod Own
 pub mod Throughout

@@ -25,6 +25,7 @@ use Rattle.run_moments.specs.Laws.{IsTrueThroughout, RunsAreTrue}
 use Rattle.run_moments.specs.Moments.{IsMoment}
 use Rattle.run_moments.specs.True.{HasMore, IsTrueAt, StaysTrue}
 use Rattle.run_moments.proofs.Chains.{behind_start, later_in, run_leads}
+use Rattle.run_moments.proofs.Chosen.{was_chosen, was_granted}
 use Rattle.run_moments.proofs.Entered.{enters_code}
 use Rattle.run_moments.proofs.Own.{finds_own, locates_own}
 
@@ -75,6 +76,8 @@ module _ (laws : MomentLaws) (w : Setting) (only : AcceptsOnly w.machine) where
         slots = slots;
         enters = λ i slot r there at. enters_code (after world.journal) (laws.mapped w.machine world.journal lawful) (winners world.harts) (memory_of world.words) sound.holds
             (doubleword world.words (slot_address i r)).value (slots.enters i slot r there at);
+        granted = was_granted w world.journal sound.legal;
+        chosen = was_chosen w world.journal sound.legal;
         blocks = laws.apart w.machine world.journal lawful;
         locates = λ h new turn. locates_own laws.new_blocks w h world new turn;
         finds = finds_own w world.journal sound.legal;

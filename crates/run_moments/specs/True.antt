@@ -1,16 +1,24 @@
 -- What is true at one moment of a run, and what stays so until a later one.
 use Rattle.std.specs.Prelude.{◌≡◌, ◌≢◌, ◌⊎◌, ℕ, ◌^◌, ◌+◌, ◌%◌, List, ◌++◌, take, Some, Contains, IsTrue}
 use Rattle.std.specs.List.{slice_get}
+use Rattle.ld_base.specs.declared.linking.Loaded.{Loaded}
 use Rattle.ld_base.specs.declared.linking.Role.TheVariants.{Rx}
 use Rattle.ld_base.specs.declared.object.Reloc.{Reloc}
 use Rattle.link_event.specs.declared.event.Event.{Event}
-use Rattle.link_event.specs.declared.event.Event.TheVariants.{Sym}
+use Rattle.link_event.specs.declared.event.Event.TheVariants.{Grant, Open, Sym}
+use Rattle.link_event.specs.declared.event.OpenAnswer.TheVariants.{Done}
+use Rattle.link_event.specs.declared.event.OpenAsk.{OpenAsk}
+use Rattle.link_event.specs.declared.event.Range.{Range}
 use Rattle.link_event.specs.declared.event.SymAnswer.TheVariants.{Found}
 use Rattle.link_event.specs.declared.event.SymAsk.{SymAsk}
+use Rattle.link_event.specs.declared.state.Chosen.{Chosen}
+use Rattle.link_event.specs.declared.state.Granting.{Granting}
 use Rattle.seg_image.specs.Pages.{own_address}
 use Rattle.seg_image.specs.Roles.{role_of}
 use Rattle.link_history.specs.Addresses.{is_linkers_page}
 use Rattle.link_history.specs.After.{after}
+use Rattle.link_history.specs.Allowed.{MayGrant}
+use Rattle.link_history.specs.Bound.{chosen_of}
 use Rattle.link_history.specs.Laws.{BlocksAreApart, slot_address}
 use Rattle.link_history.specs.Legal.{Legal}
 use Rattle.link_history.specs.Lookup.{is_storage_symbol, symbol_value}
@@ -18,6 +26,7 @@ use Rattle.link_history.specs.Memory.{image_at}
 use Rattle.link_history.specs.Objects.{IsMapped}
 use Rattle.link_history.specs.Setting.{Setting}
 use Rattle.link_history.specs.State.{Linked, State}
+use Rattle.link_history.specs.Step.{binds, loaded, seen_after}
 use Rattle.link_history.specs.Storage.{tls_block}
 use Rattle.link_service.specs.Answer.{returns}
 use Rattle.link_service.specs.Call.{locates}
@@ -31,6 +40,33 @@ use Rattle.world_turns.specs.Memory.{doubleword, memory_of}
 use Rattle.world_turns.specs.Turn.{Turn}
 use Rattle.world_turns.specs.World.{World, found_journal, winners}
 use Rattle.world_slots.specs.Later.{Later}
+
+-- ---- choices
+
+-- an event of the journal made the grant: what it chose is what the rules of scope and version chose in the state of that moment
+pub record WasGranted (journal : List Event) (g : Granting) : Type 0 where
+  pub place : ℕ
+  pub at : slice_get journal place ≡ Some (Grant g.number g.hart g.owner g.slot g.choice g.value)
+  pub chosen : MayGrant (after (take place journal)) g.number g.hart g.owner g.slot g.choice g.value
+
+-- what the relocations and the slots of an opening's new object choose, in the state with the new objects in it
+abbrev pub opening_choice : State → ℕ → OpenAsk → ℕ → ℕ → List Loaded → List Range → Loaded → Chosen
+opening_choice s hart ask id root added ranges object =
+    chosen_of (loaded s hart ask id root added ranges) (seen_after s ask id root added) (binds s ask) object
+
+-- an opening of the journal loaded the object that chose so
+pub record WasChosen (journal : List Event) (c : Chosen) : Type 0 where
+  pub place : ℕ
+  pub hart : ℕ
+  pub ask : OpenAsk
+  pub id : ℕ
+  pub root : ℕ
+  pub added : List Loaded
+  pub ranges : List Range
+  pub at : slice_get journal place ≡ Some (Open hart ask (Done id root added ranges))
+  pub object : Loaded
+  pub inside : Contains added object
+  pub is : c ≡ opening_choice (after (take place journal)) hart ask id root added ranges object
 
 -- ---- slots
 
@@ -78,7 +114,11 @@ pub record IsTrueAt (w : Setting) (world : World) : Type 0 where
   pub slots : SlotTrue (after world.journal) (winners world.harts) (memory_of world.words)
   pub enters : (i : Linked) (slot : ℕ) (r : Reloc) → Contains (after world.journal).images i → slice_get i.object.plt_relocs slot ≡ Some r
       → EntersCode (after world.journal) (doubleword world.words (slot_address i r)).value
-  -- no address is in two blocks of thread-local storage, and each answer on it is in its hart's own: of whichever turn comes, and of each look-up that was made
+  -- what a grant chose the rules chose at one moment, that of its event; and what a slot got at load, at the opening of its object
+  pub granted : (g : Granting) → Contains (after world.journal).grants g → WasGranted world.journal g
+  pub chosen : (c : Chosen) → Contains (after world.journal).chosen c → WasChosen world.journal c
+  -- no address is in two blocks of thread-local storage, and each answer on it is in the hart's own: of whichever turn comes next, and of each
+  -- look-up that was made
   pub blocks : BlocksAreApart w.machine (after world.journal)
   pub locates : (h : ℕ) (new : World) (turn : Turn w h world new) → LocatesOwn w h world new turn
   pub finds : FindsOwn world.journal
