@@ -11,13 +11,14 @@ use Rattle.link_served.specs.declared.startup.Setup.{Setup}
 use Rattle.link_service.specs.Laws.{FailsLegal, StartsOrFails, is_read_fault}
 use Rattle.link_startup.specs.Startup.{CanStart}
 use Rattle.opening_plan.specs.Startup.{run_of}
+use Rattle.run_moments.specs.Laws.{RunsAreTrue}
 use Rattle.run_texts.specs.declared.record.RunRecord.{RunRecord}
 use Rattle.run_texts.specs.declared.run_end.RunEnd.{RunEnd}
 use Rattle.schedules.specs.declared.schedule.TurnItem.{TurnItem}
 use Rattle.world_turns.specs.Throughout.{RunsAreSound}
 use Rattle.world_whole.specs.Laws.{RunsAreWhole}
 use Rattle.ldso_cli.proofs.Turning.{Accepts}
-use Rattle.ldso_cli.specs.Laws.{LeavesLegal, LeavesWhole, RunsWhereItMay}
+use Rattle.ldso_cli.specs.Laws.{LeavesLegal, LeavesTrue, LeavesWhole, RunsWhereItMay}
 use Rattle.ldso_cli.specs.Outside.{LibraryAt}
 use Rattle.ldso_cli.specs.Played.{IsNotRun, IsPlayed, IsRun}
 
@@ -43,6 +44,11 @@ pub leaves_whole : RunsAreWhole → Accepts → LeavesWhole
 leaves_whole whole accepts setup items files ended left p =
     let w : Setting = run_of setup files in
     subst (Whole w) (sym p.leaves.journal) (whole w setup items p.world (accepts w.machine refl) p.runs)
+
+pub leaves_true : RunsAreTrue → Accepts → LeavesTrue
+leaves_true are_true accepts setup items files ended left p =
+    let w : Setting = run_of setup files in
+    are_true w setup items p.world p.runs (accepts w.machine refl)
 
 -- ---- when it runs
 

@@ -7,6 +7,7 @@ use Rattle.link_history.specs.Legal.{Legal, Whole}
 use Rattle.link_served.specs.declared.startup.Setup.{Setup}
 use Rattle.link_startup.specs.Startup.{CanStart}
 use Rattle.opening_plan.specs.Startup.{run_of}
+use Rattle.run_moments.specs.Laws.{IsTrueThroughout}
 use Rattle.run_texts.specs.declared.record.RunRecord.{RunRecord}
 use Rattle.run_texts.specs.declared.run_end.RunEnd.{RunEnd}
 use Rattle.schedules.specs.declared.schedule.TurnItem.{TurnItem}
@@ -22,6 +23,11 @@ LeavesLegal = (setup : Setup) (items : List TurnItem) (before after : LibraryAt)
 abbrev pub LeavesWhole : Type 0
 LeavesWhole = (setup : Setup) (items : List TurnItem) (files : Option (List File)) (ended : Result RunEnd DlFault) (left : RunRecord)
     → IsRun setup items files ended left → Whole (run_of setup files) left.journal.events
+
+-- and at each moment of its run slots and thread-local storage are what they should be, and slots stay from each moment to each later one
+abbrev pub LeavesTrue : Type 0
+LeavesTrue = (setup : Setup) (items : List TurnItem) (files : Option (List File)) (ended : Result RunEnd DlFault) (left : RunRecord)
+    (played : IsRun setup items files ended left) → IsTrueThroughout played.runs
 
 -- a program that may start over files that are told runs, where no read fails
 abbrev pub RunsWhereItMay : Type 0

@@ -5,7 +5,7 @@ ghost use Rattle.ld_base.specs.declared.linking.File.{File};
 ghost use Rattle.command_line.specs.declared.command.Command.{Command};
 ghost use Rattle.ldso_cli.specs.Command.{Comes, NoReadFails, Prints};
 ghost use Rattle.ldso_cli.specs.Ends.{ComeToOne, IsUndisturbed, RunAt};
-ghost use Rattle.ldso_cli.specs.Laws.{LeavesLegal, LeavesWhole, RunsWhereItMay};
+ghost use Rattle.ldso_cli.specs.Laws.{LeavesLegal, LeavesTrue, LeavesWhole, RunsWhereItMay};
 ghost use Rattle.ldso_cli.specs.Outside.{LibraryAt, handed_to};
 ghost use Rattle.ldso_cli.specs.declared.outcome.End.{End};
 
@@ -14,6 +14,7 @@ use command_line::words_are_one_command;
 use lib_gen::one_set;
 use library_source::Sink;
 use link_service::{one_startup, served_calls_are_legal};
+use run_moments::moments_are_true;
 use run_once::runs_are_one;
 use run_texts::one_run_end;
 use scope_rule::one_outcome;
@@ -67,6 +68,18 @@ pub fn kept_runs_are_legal()
     served_calls_are_legal();
     runs_stay_sound();
     runs_are_whole();
+}
+
+/// At each moment of a run, behind each of its turns too, the journal is legal, each slot of a mapped
+/// object holds its first word or the value of the one grant that took it, which the rules chose at one
+/// moment, and leads to no object but one that is mapped; blocks of thread-local storage are apart, and
+/// each answer on it is in the hart's own. From each moment to each later one a slot that is bound reads
+/// the same, while its object is mapped.
+pub fn kept_runs_are_true()
+    ensures { LeavesTrue }
+{
+    accepted_object();
+    moments_are_true();
 }
 
 /// A program that may start over files that are told runs, where no read fails and memory suffices.

@@ -17,6 +17,8 @@ mod play;
 mod top;
 mod turns;
 
-pub use law::{kept_runs_are_legal, one_answer, one_end, one_text, startable_programs_run};
+pub use law::{
+    kept_runs_are_legal, kept_runs_are_true, one_answer, one_end, one_text, startable_programs_run,
+};
 pub use outcome::{Cause, End, Outcome};
 pub use top::ldso;
