@@ -104,14 +104,14 @@ first_frame w world h b frame below (in_finals ends frames) at on are = by (top_
 
 pub unmaps_finished : FramesFinish → UnmapsFinished
 unmaps_finished finish w world h b set to running at is =
-    by (first_frame w world h b (record { purpose = Purpose.of_closing from.0 set; queue = [] }) to.frames running.moment at
-    (runs (after world.journal) b (Due.serve (unmaps set) to) is refl) from.1)
+    by (first_frame w world h b (record { purpose = Purpose.of_closing to.to set; queue = [] }) to.frames running.moment at
+    (runs (after world.journal) b (Due.serve (unmaps set) to) is refl) from)
   where
-    from : (ra : ℕ) × (b.frames ≡ record { purpose = Purpose.of_closing ra set; queue = [] } ∷ to.frames)
+    from : b.frames ≡ record { purpose = Purpose.of_closing to.to set; queue = [] } ∷ to.frames
     from = subst (IsFrom b) is (due_from (after world.journal) b)
 
-    by : First w world h (record { purpose = Purpose.of_closing from.0 set; queue = [] }) to.frames → HasFinished (after world.journal) h set
-    by (First.is_fit rest fit) = finish w world.journal h from.0 set rest running.sound.legal fit
+    by : First w world h (record { purpose = Purpose.of_closing to.to set; queue = [] }) to.frames → HasFinished (after world.journal) h set
+    by (First.is_fit rest fit) = finish w world.journal h to.to set rest running.sound.legal fit
     by (First.is_final zeroth over fit final) = absurd (false≢true final)
 
 pub completes_pass : FramesPass → CompletesPass
