@@ -1,4 +1,4 @@
-use Rattle.std.proofs.Common.{Some, subst, ◌≤◌, arith}
+use Rattle.std.proofs.Common.{Some, refl, subst, ◌≤◌, arith}
 use Rattle.command_line.specs.Reads.{Reads}
 use Rattle.command_line.specs.declared.command.Command.{Command}
 use Rattle.command_line.specs.declared.command.Command.TheVariants as commands
