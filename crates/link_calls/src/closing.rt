@@ -2,16 +2,18 @@
 
 ghost use Rattle.std.specs.Prelude.{◌≡◌, IfOk, OnErr};
 ghost use Rattle.link_calls.specs.Coming.{ComesIn};
+ghost use Rattle.link_history.specs.After.{after};
 ghost use Rattle.link_service.specs.Call.{closes};
+ghost use Rattle.link_state.specs.Closing.{IsPlanOf};
 
-use crate::destructors::all_destructors;
+use crate::destructors::closing_destructors;
 use crate::refusing::refuse;
 use call_laws::closings_keep;
+use closing_plans::ClosingPlan;
 use ld_base::{DlFault, HartId};
 use link_event::Ask;
 use link_served::Served;
 use link_state::{CloseFault, LinkState};
-use object_functions::keep_only;
 use std::alloc::{AllocError, Global};
 
 /// Closes a handle once (dlclose(3)). Where nothing needs some objects any more, the hart is to run their
@@ -24,8 +26,7 @@ pub fn dlclose(alloc: Global, state: &mut LinkState, hart: HartId, handle: u64) 
     close(alloc, state, hart, handle).unwrap_or(Served::Memory)
 }
 
-/// The same. The destructors of all objects are had first: once it is known whose are to run, nothing takes
-/// memory.
+/// The same.
 ///
 /// # Errors
 ///
@@ -41,20 +42,40 @@ fn close(
     ensures made { state.new.made ≡ state.old.made }
     ensures err { OnErr result (state.new ≡ state.old) }
 {
-    closings_keep();
-    let functions = all_destructors(alloc, state)?;
-    match state.apply_close(hart, handle) {
-        Ok(dying) => {
-            if dying.list.is_empty() {
-                return Ok(Served::Done(0));
-            }
-            let functions = keep_only(functions, dying.list.as_slice());
-            Ok(Served::Closing(dying, functions))
-        }
+    match state.plan_close(hart, handle) {
+        Ok(plan) => close_as_planned(alloc, state, hart, handle, plan),
         Err(CloseFault::BadHandle(_)) => {
             let fault = DlFault::BadHandle(handle);
             refuse(alloc, state, hart, Ask::Close(handle), fault)
         }
         Err(CloseFault::Memory) => Err(AllocError),
     }
+}
+
+/// Closes a handle that may be closed, as planned. The destructors of what dies are had first: from then on
+/// nothing takes memory but the state's own lists, and these before anything changes.
+///
+/// # Errors
+///
+/// Want of memory. Nothing has changed then.
+fn close_as_planned(
+    alloc: Global,
+    state: &mut LinkState,
+    hart: HartId,
+    handle: u64,
+    plan: ClosingPlan,
+) -> Result<Served, AllocError>
+    requires { IsPlanOf (after state.old.events) hart handle plan }
+    ensures served { IfOk result (λ came. ComesIn state.old hart (closes handle) came state.new) }
+    ensures harts { state.new.harts ≡ state.old.harts }
+    ensures made { state.new.made ≡ state.old.made }
+    ensures err { OnErr result (state.new ≡ state.old) }
+{
+    closings_keep();
+    let functions = closing_destructors(alloc, state, plan.list.as_slice())?;
+    let dying = state.apply_close(hart, handle, plan)?;
+    if dying.list.is_empty() {
+        return Ok(Served::Done(0));
+    }
+    Ok(Served::Closing(dying, functions))
 }

@@ -4,13 +4,14 @@ ghost use Rattle.std.specs.Prelude.{◌≡◌, ℕ, Contains, map, reverse, IfOk
 ghost use Rattle.link_history.specs.After.{after};
 ghost use Rattle.link_history.specs.Links.{unfinished};
 ghost use Rattle.link_history.specs.Memory.{image_of};
-ghost use Rattle.link_service.specs.Functions.{AreAddresses, AreFinalDestructors, AreOf, destructors, object_of};
+ghost use Rattle.link_service.specs.Functions.{AreAddresses, AreDestructors, AreFinalDestructors, AreOf, destructors, object_of};
 
 use crate::law::unfinished_are_mapped;
 use ld_base::Serial;
 use link_event::{Addresses, Function, Functions};
 use link_history::images_are_found;
 use link_state::LinkState;
+use object_functions::destructor_order;
 use std::alloc::{AllocError, Global};
 
 /// The destructors that are left at the end of a run, once every hart has ended: those of all mapped objects
@@ -28,12 +29,31 @@ pub fn final_functions(alloc: Global, state: &LinkState) -> Result<Functions, Al
     all_destructors(alloc, state)
 }
 
+/// The destructors of the objects of a set that were initialised and not finalised, the latest first.
+///
+/// # Errors
+///
+/// Want of memory.
+pub(crate) fn closing_destructors(
+    alloc: Global,
+    state: &LinkState,
+    set: &[Serial],
+) -> Result<Functions, AllocError>
+    ensures { IfOk result (AreDestructors (after state.now.events) set.now) }
+{
+    unfinished_are_mapped();
+    images_are_found();
+    let _ = state.journal();
+    let order = destructor_order(alloc, state.unfinished(), set)?;
+    destructors_in(alloc, state, order.as_slice())
+}
+
 /// The destructors of all objects that were initialised and not finalised, the latest first.
 ///
 /// # Errors
 ///
 /// Want of memory.
-pub(crate) fn all_destructors(alloc: Global, state: &LinkState) -> Result<Functions, AllocError>
+fn all_destructors(alloc: Global, state: &LinkState) -> Result<Functions, AllocError>
     ensures order { IfOk result (λ all. map object_of all ≡ reverse (unfinished (after state.now.events))) }
     ensures addresses { IfOk result (AreOf (after state.now.events) destructors) }
 {

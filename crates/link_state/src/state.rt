@@ -40,7 +40,7 @@ use link_event::{Addresses, Ask, Event, Granted, HartEnd, Journal, Range};
 use link_harts::{HartEnds, KeptFaults};
 use link_history::{
     edges_follow, events_are_owed, finalised_once, grants_are_tidy, images_are_found,
-    legal_step_by_step, objects_are_read,
+    legal_step_by_step, objects_are_apart, objects_are_read,
 };
 use link_pending::{OpenGrants, Unfinished};
 use link_served::Installs;
@@ -326,6 +326,7 @@ impl LinkState {
         ensures err { IfErr result (IsFaultOf (after self.old.events) owner eights) }
         ensures same { self.new ≡ self.old }
     {
+        objects_are_apart();
         objects_are_read();
         one_object();
         one_image();

@@ -1,7 +1,6 @@
 -- Lists that are kept of namespaces.
 use Rattle.std.proofs.Common.{◌≡◌, ◌⊎◌, ℕ, ◌<◌, ◌∙◌, Bool, true, false, cond, inl, inr, List, [], ◌∷◌, ap, refl, subst, sym, append-nil, eq-eqb, get_or, drop, length, map, take, ◌++◌, arith}
 use Rattle.std.specs.Prelude.{◌==◌, find, position, option_map, slice_get, nat_eq, IsSome, Option, Some, None}
-use Rattle.std.specs.Option.{is_some}
 use Rattle.std.proofs.lemmas.Bool.{cases_Bool, eqb-true}
 use Rattle.std.proofs.lemmas.Grind.{common_steps}
 use Rattle.std.proofs.lemmas.List.{drop_all, length-map, take_all}
@@ -14,7 +13,6 @@ use Rattle.ld_base.specs.declared.linking.State.TheVariants as states
 use Rattle.link_history.specs.Step.{ready_in, ready_object, ready_state}
 use Rattle.listed_namespaces.specs.Kept.{AreKept, kept_at}
 use Rattle.listed_namespaces.specs.declared.kept.KeptLists.{KeptLists}
-use Rattle.scope_rule.specs.Loading.{is_dying}
 use Rattle.scope_rule.specs.Seen.{Seen, seen_in}
 use Rattle.scope_rule.specs.declared.namespace.Namespace.{Namespace}
 use Rattle.search_lists.specs.Lists.{ChangesStateAlone, lists_of}
@@ -52,14 +50,10 @@ one_kept nss old new place ns lists are there right updates q other other_lists 
         sym is ∙ right ∙ ap (λ (x : Namespace). lists_of (seen_in x)) home
     by (inr apart) = are q other other_lists here (sym (updates q ∙ ap (λ b. cond b (Some lists) (kept_at old q)) apart) ∙ has)
 
--- what is kept of the first namespace that passes are its lists
-pub first_kept : (p : Namespace → Bool) (nss : List Namespace) (kept : KeptLists) (place : ℕ) (ns : Namespace) (found : Option (List SearchList)) → AreKept nss kept → position p nss ≡ Some place → IsSome (kept_at kept place) → found ≡ kept_at kept place
-    → find p nss ≡ Some ns → found ≡ Some (lists_of (seen_in ns))
-first_kept p nss kept place ns found are at has is first = by (kept_at kept place) refl has
-  where
-    by : (o : Option (List SearchList)) → kept_at kept place ≡ o → IsSome o → found ≡ Some (lists_of (seen_in ns))
-    by (Some l) e has = is ∙ e ∙ ap (λ (x : List SearchList). Some x) (are place ns l (found_by p nss place at ∙ first) e)
-    by None e has = absurd (cc has)
+-- what is kept of a namespace at a place are its lists
+pub kept_lists : (nss : List Namespace) (kept : KeptLists) (place : ℕ) (ns : Namespace) (lists : List SearchList) (found : Option (List SearchList)) → AreKept nss kept → slice_get nss place ≡ Some ns
+    → found ≡ kept_at kept place → found ≡ Some lists → lists ≡ lists_of (seen_in ns)
+kept_lists nss kept place ns lists found are at is some = are place ns lists at (sym is ∙ some)
 
 -- ---- an object that becomes ready
 

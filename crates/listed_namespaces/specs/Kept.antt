@@ -1,7 +1,8 @@
 -- Search lists that are kept of namespaces: for the code of this crate alone.
-use Rattle.std.specs.Prelude.{◌≡◌, ℕ, nat_eq, List, Option, Some}
+use Rattle.std.specs.Prelude.{◌≡◌, ℕ, nat_eq, List, Option, Some, IsTrue}
 use Rattle.std.specs.HashMap.{get}
 use Rattle.std.specs.List.{slice_get}
+use Rattle.link_history.specs.Objects.{has_object}
 use Rattle.listed_namespaces.specs.declared.kept.KeptLists.{KeptLists}
 use Rattle.scope_rule.specs.Seen.{seen_in}
 use Rattle.scope_rule.specs.declared.namespace.Namespace.{Namespace}
@@ -16,3 +17,9 @@ kept_at kept place = get nat_eq kept.by_place place
 abbrev pub AreKept : List Namespace → KeptLists → Type 0
 AreKept namespaces kept = (place : ℕ) (ns : Namespace) (lists : List SearchList) → slice_get namespaces place ≡ Some ns → kept_at kept place ≡ Some lists
     → lists ≡ lists_of (seen_in ns)
+
+-- the namespace at a place has an object
+pub record IsHome (namespaces : List Namespace) (owner place : ℕ) : Type 0 where
+  pub namespace : Namespace
+  pub at : slice_get namespaces place ≡ Some namespace
+  pub has : IsTrue (has_object owner namespace)

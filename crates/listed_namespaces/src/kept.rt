@@ -1,9 +1,11 @@
 //! Search lists that are kept.
 
-ghost use Rattle.std.specs.Prelude.{◌≡◌, ◌<◌, ℕ, None, length, position, IsSome, OnOk};
+ghost use Rattle.std.specs.Prelude.{◌≡◌, ◌<◌, ℕ, None, true, find, length, position, IfNone, IfSome, IsSome, IsTrue, OnOk};
 ghost use Rattle.std.specs.Option.{option_copied};
 ghost use Rattle.link_history.specs.Objects.{has_object};
-ghost use Rattle.listed_namespaces.specs.Kept.{AreKept, kept_at};
+ghost use Rattle.listed_namespaces.specs.Kept.{AreKept, IsHome, kept_at};
+ghost use Rattle.scope_rule.specs.Seen.{seen_in};
+ghost use Rattle.search_lists.specs.Lists.{lists_of};
 
 use ld_base::Serial;
 use mapped_objects::has_object;
@@ -18,8 +20,34 @@ pub(crate) struct KeptLists {
     by_place: HashMap<usize, SearchLists>,
 }
 
-/// The place of the first namespace with an object, if one has it.
-pub(crate) fn home(namespaces: &[Namespace], owner: Serial) -> Option<usize>
+/// The place of a namespace with an object, if one has it: of one whose lists are made, by a look-up in each, or
+/// else of the first.
+pub(crate) fn home(namespaces: &[Namespace], lists: &KeptLists, owner: Serial) -> Option<usize>
+    requires { AreKept namespaces.now lists.now }
+    ensures there { IfSome result (IsHome namespaces.now owner) }
+    ensures none { IfNone result (find (has_object owner) namespaces.now ≡ None) }
+{
+    match listed_home(namespaces, lists, owner) {
+        Some(place) => Some(place),
+        None => first_home(namespaces, owner),
+    }
+}
+
+/// The place of a namespace whose lists are made and have an object.
+fn listed_home(namespaces: &[Namespace], lists: &KeptLists, owner: Serial) -> Option<usize>
+    requires { AreKept namespaces.now lists.now }
+    ensures { IfSome result (IsHome namespaces.now owner) }
+{
+    for (place, namespace) in namespaces.iter().enumerate() {
+        if lists.have(namespace, place, owner) {
+            return Some(place);
+        }
+    }
+    None
+}
+
+/// The place of the first namespace with an object.
+fn first_home(namespaces: &[Namespace], owner: Serial) -> Option<usize>
     ensures { result ≡ position (has_object owner) namespaces.now }
 {
     namespaces
@@ -28,9 +56,12 @@ pub(crate) fn home(namespaces: &[Namespace], owner: Serial) -> Option<usize>
 }
 
 impl KeptLists {
-    ghost use Rattle.std.specs.Prelude.{◌≡◌, ◌<◌, ℕ, None, length, IsSome, OnOk};
+    ghost use Rattle.std.specs.Prelude.{◌≡◌, ◌<◌, ℕ, None, true, length, IfSome, IsSome, IsTrue, OnOk};
     ghost use Rattle.std.specs.Option.{option_copied};
+    ghost use Rattle.link_history.specs.Objects.{has_object};
     ghost use Rattle.listed_namespaces.specs.Kept.{AreKept, kept_at};
+    ghost use Rattle.scope_rule.specs.Seen.{seen_in};
+    ghost use Rattle.search_lists.specs.Lists.{lists_of};
 
     /// None yet.
     pub(crate) fn new(alloc: Global) -> Self
@@ -46,6 +77,17 @@ impl KeptLists {
         ensures { option_copied result ≡ kept_at self.now place }
     {
         self.by_place.get(&place)
+    }
+
+    /// Whether the lists of the namespace at a place are made, and the namespace has an object.
+    fn have(&self, namespace: &Namespace, place: usize, owner: Serial) -> bool
+        requires { IfSome (kept_at self.now place) (λ lists. lists ≡ lists_of (seen_in namespace.now)) }
+        ensures { result ≡ true → IsTrue (has_object owner namespace.now) }
+    {
+        match self.get(place) {
+            Some(lists) => lists.object(&namespace.view(), owner).is_some(),
+            None => false,
+        }
     }
 
     /// Makes the lists of the namespace at a place, if they aren't made.

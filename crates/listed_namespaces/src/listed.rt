@@ -1,6 +1,7 @@
 //! Namespaces with their lists.
 
 ghost use Rattle.std.specs.Prelude.{◌≡◌, IfErr, IfOk};
+ghost use Rattle.link_history.specs.Laws.{AreApart};
 ghost use Rattle.link_history.specs.State.{State};
 ghost use Rattle.listed_namespaces.specs.Kept.{AreKept};
 ghost use Rattle.slot_choice.specs.Choosing.{AllSound, ChoosesSlot, IsFaultOf};
@@ -46,15 +47,15 @@ fn chosen(
 ) -> Result<SlotChoice, SlotFault>
     requires sound { AllSound namespaces.now }
     requires kept { AreKept namespaces.now lists.old }
-    ensures ok { IfOk result (λ x. (s : State) → s.namespaces ≡ namespaces.now → ChoosesSlot s owner eights x) }
+    ensures ok { IfOk result (λ x. (s : State) → s.namespaces ≡ namespaces.now → AreApart s → ChoosesSlot s owner eights x) }
     ensures err { IfErr result (λ e. (s : State) → s.namespaces ≡ namespaces.now → IsFaultOf s owner eights e) }
     ensures kept { AreKept namespaces.now lists.new }
 {
-    let Some(place) = home(namespaces, owner) else {
+    let Some(place) = home(namespaces, lists, owner) else {
         return Err(SlotFault::Unloaded);
     };
     lists.make(alloc, namespaces, place)?;
-    slot_choice(namespaces, lists.get(place).unwrap(), owner, eights)
+    slot_choice(&namespaces[place], lists.get(place).unwrap(), owner, eights)
 }
 
 impl ListedNamespaces {
@@ -62,6 +63,7 @@ impl ListedNamespaces {
     ghost use Rattle.std.specs.List.{flat_map};
     ghost use Rattle.std.specs.Vec.{vec_capacity, vec_len};
     ghost use Rattle.closing_plans.specs.Plans.{closed_by};
+    ghost use Rattle.link_history.specs.Laws.{AreApart};
     ghost use Rattle.link_history.specs.State.{State};
     ghost use Rattle.link_history.specs.Step.{gone_in, is_left, ready_in, with_namespace};
     ghost use Rattle.namespace_changes.specs.Numbered.{AreNumberedApart};
@@ -101,7 +103,7 @@ impl ListedNamespaces {
         eights: u64,
     ) -> Result<SlotChoice, SlotFault>
         requires { AllSound self.old }
-        ensures ok { IfOk result (λ x. (s : State) → s.namespaces ≡ self.old → ChoosesSlot s owner eights x) }
+        ensures ok { IfOk result (λ x. (s : State) → s.namespaces ≡ self.old → AreApart s → ChoosesSlot s owner eights x) }
         ensures err { IfErr result (λ e. (s : State) → s.namespaces ≡ self.old → IsFaultOf s owner eights e) }
         ensures same { self.new ≡ self.old }
     {

@@ -1,4 +1,2 @@
 pub mod Empty
-pub mod Leading
 pub mod Refused
-pub mod Stands

@@ -1,36 +1,29 @@
 -- What choosing looks at, and the states that have it.
-use Rattle.std.specs.Prelude.{◌≡◌, ℕ, ◌<◌, ◌^◌, ◌⊎◌, ◌++◌, Bool, List, map, length, Option, Some, None, Contains, IsTrue, if◌then◌else◌}
+use Rattle.std.specs.Prelude.{◌≡◌, ℕ, ◌<◌, ◌^◌, Bool, List, map, Option, Some, None, Contains, IsTrue, if◌then◌else◌}
 use Rattle.std.specs.List.{AllByRecursion, slice_get}
 use Rattle.ld_base.specs.declared.fault.DlFault.{DlFault}
 use Rattle.ld_base.specs.declared.linking.Choice.{Choice}
-use Rattle.ld_base.specs.declared.linking.Choice.TheVariants.{Def, WeakZero, Missing}
+use Rattle.ld_base.specs.declared.linking.Choice.TheVariants.{WeakZero}
 use Rattle.ld_base.specs.declared.linking.Loaded.{Loaded}
 use Rattle.ld_base.specs.declared.object.Reloc.{Reloc}
 use Rattle.link_history.specs.Bound.{place_of}
-use Rattle.link_history.specs.Objects.{object_at}
 use Rattle.link_history.specs.Relocating.{slot_fault_by}
 use Rattle.link_history.specs.State.{State}
 use Rattle.relocator.specs.declared.binding.ModulePlace.{ModulePlace}
-use Rattle.scope_rule.specs.Loading.{object_of}
 use Rattle.scope_rule.specs.Relocation.{choice_at, names_symbols}
 use Rattle.scope_rule.specs.Seen.{Seen, seen}
 use Rattle.search_lists.specs.Lists.{lists_of}
+use Rattle.seen_choices.specs.Seeing.{ShowsObjects}
 use Rattle.seg_image.specs.Accepted.{Accepted}
 use Rattle.sym_lookup.specs.Looking.{HaveTables}
 use Rattle.object_choices.specs.declared.sight.Sight.{Sight}
 
 -- the state has each object that is seen, and its modules are at these places
 pub record Shows (s : State) (ns : Seen) (places : List ModulePlace) : Type 0 where
-  pub objects : (d : ℕ) (o : Loaded) → object_of ns d ≡ Some o → object_at s d ≡ Some o
+  pub objects : ShowsObjects s ns
   pub modules : map place_of s.modules ≡ places
 
 -- ---- for the code of this crate alone
-
--- the object of a choice is seen, or is the linker's own
-abbrev pub StandsIn : Seen → Choice → Type 0
-StandsIn ns (Def serial index) = (serial ≡ 0) ⊎ ((o : Loaded) × (object_of ns serial ≡ Some o))
-StandsIn ns WeakZero = Unit {0}
-StandsIn ns Missing = Unit {0}
 
 -- the lists are those of what is seen, each object has its table and may have an image, and the new ones name symbols of their own
 pub record CanSee (x : Sight) : Type 0 where

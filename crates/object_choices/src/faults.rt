@@ -11,13 +11,14 @@ ghost use Rattle.relocator.specs.Storage.{lacks_offset, offset_of};
 ghost use Rattle.relocator.specs.declared.binding.Binding.{Binding};
 ghost use Rattle.scope_rule.specs.Seen.{seen};
 ghost use Rattle.seg_image.specs.Accepted.{Accepted};
-ghost use Rattle.object_choices.specs.Sight.{CanSee, Shows, StandsIn};
+ghost use Rattle.seen_choices.specs.Seeing.{StandsIn};
+ghost use Rattle.object_choices.specs.Sight.{CanSee, Shows};
 
-use crate::code::leads_to_code;
 use crate::sight::Sight;
 use ld_base::{Choice, DlFault, Loaded, Name, Reloc, Serial, Want};
 use relocator::TlsPlaces;
 use scope_rule::want_of;
+use seen_choices::leads_to_code;
 use slot_words::moved_word;
 use std::alloc::{AllocError, Global};
 
@@ -147,7 +148,7 @@ pub(crate) fn slot_fault(
         return Ok(Some(missing_symbol(alloc, owner, slot)?));
     }
     let lazy = moved_word(&owner.object, owner.base, slot.place);
-    if !leads_to_code(sight, lazy, choice) {
+    if !leads_to_code(&sight.view, sight.lists, lazy, choice) {
         return Ok(Some(not_code(alloc, owner, slot)?));
     }
     Ok(None)

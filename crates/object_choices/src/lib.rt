@@ -8,7 +8,6 @@
 #![tactic(auto)]
 
 mod choosing;
-mod code;
 mod faults;
 mod sight;
 

@@ -1,14 +1,15 @@
-//! The order of constructors.
+//! The orders of constructors and destructors.
 
 ghost use Rattle.std.specs.Prelude.{◌≡◌, ◌++◌, Some, IfOk, OnOk, map};
 ghost use Rattle.std.specs.List.{flat_map};
-ghost use Rattle.link_graph.specs.Initialised.{InitOrder, program_last};
+ghost use Rattle.link_graph.specs.Initialised.{InitOrder, fini_list, program_last};
 ghost use Rattle.link_history.specs.Links.{found_edges};
 ghost use Rattle.link_history.specs.Objects.{serial_of};
 
 use init_order::init_order;
 use ld_base::{Loaded, Serial, Serials};
 use link_graph::{Edge, Edges, Graph};
+use serial_sets::SerialSet;
 use std::alloc::{AllocError, Global};
 
 /// The serial of a run's program.
@@ -34,6 +35,27 @@ pub fn constructor_order(alloc: Global, added: &[Loaded]) -> Result<Vec<Serial>,
         serials.as_slice(),
         Some(Serial::new(PROGRAM)),
     )
+}
+
+/// The order in which the destructors of the objects of a set run, of those that are left to be finalised: the
+/// latest first.
+///
+/// # Errors
+///
+/// Want of memory.
+pub fn destructor_order(
+    alloc: Global,
+    left: &[Serial],
+    set: &[Serial],
+) -> Result<Vec<Serial>, AllocError>
+    ensures { IfOk result (λ order. order.items ≡ fini_list left.now set.now) }
+{
+    let set = SerialSet::new(set);
+    left.iter()
+        .rev()
+        .copied()
+        .filter(|serial| set.has(*serial))
+        .collect(alloc)
 }
 
 /// Their serials.

@@ -1,8 +1,9 @@
 -- What is known of a slot that is found.
-use Rattle.std.proofs.Common.{◌≡◌, ℕ, ◌*◌, ◌<◌, ◌^◌, Bool, true, eqb, List, [], ◌∷◌, ◌++◌, length, Some, None, sym, subst, ◌∙◌, arith, ◌⊎◌, inl, inr}
+use Rattle.std.proofs.Common.{Bor, Option, ap, refl, ◌≡◌, ℕ, ◌*◌, ◌<◌, ◌^◌, Bool, true, eqb, List, [], ◌∷◌, ◌++◌, length, Some, None, sym, subst, ◌∙◌, arith, ◌⊎◌, inl, inr}
 use Rattle.std.specs.Prelude.{nat_lt}
-use Rattle.std.specs.List.{Contains, find, list_all, slice_get}
-use Rattle.std.proofs.lemmas.Bool.{and_parts, eq-eqb, eqb-true, ltb-true, true≢false}
+use Rattle.std.specs.Option.{IsSome, option_copied}
+use Rattle.std.specs.List.{Contains, list_all, slice_get}
+use Rattle.std.proofs.lemmas.Bool.{and_parts, eqb-true, ltb-true, true≢false}
 use Rattle.std.proofs.lemmas.List.Elements.{All-contains, Contains-append_right}
 use Rattle.elf_object.specs.Object.{names_own_symbols}
 use Rattle.ld_base.specs.declared.linking.Loaded.{Loaded}
@@ -10,38 +11,51 @@ use Rattle.ld_base.specs.declared.object.Object.{Object}
 use Rattle.ld_base.specs.declared.object.Reloc.{Reloc}
 use Rattle.link_history.specs.Objects.{has_object}
 use Rattle.link_history.specs.State.{State}
-use Rattle.link_history.specs.Lemmas.Lists.{any_in, at_in, first_or_later, found_in, in_any, not_found}
-use Rattle.link_service.specs.Ends.{IsUnloaded, LacksSlot}
-use Rattle.scope_rule.specs.Loading.{with_serial}
+use Rattle.link_history.specs.Lemmas.Lists.{any_in, at_in, first_or_later, found_in, not_found}
+use Rattle.link_service.specs.Ends.{LacksSlot}
+use Rattle.scope_rule.specs.Loading.{object_of, with_serial}
+use Rattle.scope_rule.specs.Seen.{Seen, seen_in}
+use Rattle.slot_choice.specs.Choosing.{IsSound}
+use Rattle.sym_lookup.specs.Looking.{HaveTables}
 use Rattle.scope_rule.specs.declared.namespace.Namespace.{Namespace}
 use Rattle.seg_image.specs.Accepted.{Accepted, IsPlace, IsSegment}
 
 -- a namespace that has the object has it
-pub not_lacking : (nss : List Namespace) (owner : ℕ) (ns : Namespace) → find (has_object owner) nss ≡ Some ns → with_serial ns.objects owner ≡ None → ⊥
-not_lacking nss owner ns found none =
-    let one = any_in (λ (o : Loaded). eqb o.serial owner) ns.objects (found_in (has_object owner) nss ns found).1 in
+not_lacking : (ns : Namespace) (owner : ℕ) → has_object owner ns ≡ true → with_serial ns.objects owner ≡ None → ⊥
+not_lacking ns owner has none =
+    let one = any_in (λ (o : Loaded). eqb o.serial owner) ns.objects has in
     true≢false (sym one.2 ∙ not_found (λ (o : Loaded). eqb o.serial owner) ns.objects one.0 none one.1)
 
-pub its_namespace : (nss : List Namespace) (owner : ℕ) (ns : Namespace) → find (has_object owner) nss ≡ Some ns → Contains nss ns
-its_namespace nss owner ns found = (found_in (has_object owner) nss ns found).0
+has_one : (ns : Namespace) (owner : ℕ) (o : Option Loaded) → has_object owner ns ≡ true → o ≡ with_serial ns.objects owner → IsSome o
+has_one ns owner (Some o) has is = refl
+has_one ns owner None has is = absurd (not_lacking ns owner has (sym is))
 
-pub its_object : (os : List Loaded) (owner : ℕ) (o : Loaded) → with_serial os owner ≡ Some o → Contains os o × (o.serial ≡ owner)
-its_object os owner o found =
-    let at = found_in (λ (x : Loaded). eqb x.serial owner) os o found in
-    (at.0, eqb-true o.serial owner at.1)
+lent : (o : Option (Bor Loaded)) → IsSome (option_copied o) → IsSome o
+lent (Some o) is = refl
+lent None is = is
 
-pub lacks : (s : State) (nss : List Namespace) (owner eights : ℕ) (ns : Namespace) (o : Loaded) → s.namespaces ≡ nss → find (has_object owner) nss ≡ Some ns → with_serial ns.objects owner ≡ Some o
-    → ((slot : ℕ) → eights ≡ 8 * slot → slice_get o.object.plt_relocs slot ≡ None) → LacksSlot s owner eights
-lacks s nss owner eights ns o are found one none = record {
-  mapped = record {
-    namespace = ns;
-    object = o;
-    there = subst (λ (all : List Namespace). Contains all ns) (sym are) (its_namespace nss owner ns found);
-    inside = (its_object ns.objects owner o one).0;
-    is = (its_object ns.objects owner o one).1;
-  };
-  none = none;
-}
+pub is_lent : (ns : Namespace) (view : Seen) (owner : ℕ) (o : Option (Bor Loaded)) → has_object owner ns ≡ true → view ≡ seen_in ns → option_copied o ≡ object_of view owner → IsSome o
+is_lent ns view owner o has same is = lent o (has_one ns owner (option_copied o) has (is ∙ ap (λ (v : Seen). object_of v owner) same))
+
+-- an object that is found has the serial
+pub record IsFound (ns : Namespace) (owner : ℕ) (o : Loaded) : Type 0 where
+  pub one : with_serial ns.objects owner ≡ Some o
+  pub inside : Contains ns.objects o
+  pub is : o.serial ≡ owner
+
+pub found : (ns : Namespace) (view : Seen) (owner : ℕ) (x : Option (Bor Loaded)) (o : Bor Loaded) → view ≡ seen_in ns → option_copied x ≡ object_of view owner → x ≡ Some o → IsFound ns owner o.now
+found ns view owner x o same is some =
+    let one : with_serial ns.objects owner ≡ Some o.now = ap (λ (v : Seen). object_of v owner) (sym same) ∙ sym is ∙ ap (λ (y : Option (Bor Loaded)). option_copied y) some in
+    let at = found_in (λ (y : Loaded). eqb y.serial owner) ns.objects o.now one in
+    record { one = one; inside = at.0; is = eqb-true o.now.serial owner at.1 }
+
+pub its_table : (ns : Namespace) (view : Seen) → ((o : Loaded) → Contains ns.objects o → IsSound o) → view ≡ seen_in ns → HaveTables view
+its_table ns view sound same serial o is =
+    (sound o (found_in (λ (y : Loaded). eqb y.serial serial) ns.objects o (ap (λ (v : Seen). object_of v serial) (sym same) ∙ is)).0).table
+
+pub lacks : (s : State) (owner eights : ℕ) (ns : Namespace) (o : Loaded) → Contains s.namespaces ns → IsFound ns owner o → ((slot : ℕ) → eights ≡ 8 * slot → slice_get o.object.plt_relocs slot ≡ None)
+    → LacksSlot s owner eights
+lacks s owner eights ns o there its none = record { mapped = record { namespace = ns; object = o; there = there; inside = its.inside; is = its.is }; none = none }
 
 passes : (p : Reloc → Bool) (xs : List Reloc) (x : Reloc) → list_all p xs ≡ true → Contains xs x → p x ≡ true
 passes p [] x all (i, lt, at) = absurd (omega (arith, lt))

@@ -1,19 +1,17 @@
 -- What a slot chooses in a state.
-use Rattle.std.specs.Prelude.{◌≡◌, ℕ, ◌*◌, List, find, Contains, IsTrue, Some}
+use Rattle.std.specs.Prelude.{◌≡◌, ℕ, ◌*◌, List, Contains, IsTrue}
 use Rattle.elf_object.specs.Object.{names_own_symbols}
 use Rattle.ld_base.specs.declared.linking.Loaded.{Loaded}
 use Rattle.link_history.specs.Addresses.{address, leads_to_code}
 use Rattle.link_history.specs.Bound.{lazy_word}
-use Rattle.link_history.specs.Objects.{has_object}
 use Rattle.link_history.specs.Slots.{IsSlot}
 use Rattle.link_history.specs.State.{State}
 use Rattle.link_service.specs.Ends.{IsUnloaded, LacksSlot}
 use Rattle.scope_rule.specs.Seen.{seen_in}
 use Rattle.scope_rule.specs.declared.namespace.Namespace.{Namespace}
-use Rattle.search_lists.specs.Lists.{lists_of}
-use Rattle.search_lists.specs.declared.lists.SearchList.{SearchList}
 use Rattle.seg_image.specs.Accepted.{Accepted}
 use Rattle.seg_image.specs.Pages.{guest_address}
+use Rattle.seen_choices.specs.Seeing.{ShowsObjects}
 use Rattle.slot_choice.specs.declared.choosing.SlotChoice.{SlotChoice}
 use Rattle.slot_choice.specs.declared.choosing.SlotFault.{SlotFault}
 use Rattle.slot_choice.specs.declared.choosing.SlotFault.TheVariants.{Unloaded, NoSlot, Memory}
@@ -28,9 +26,10 @@ pub record IsSound (o : Loaded) : Type 0 where
 abbrev pub AllSound : List Namespace → Type 0
 AllSound namespaces = (ns : Namespace) (o : Loaded) → Contains namespaces ns → Contains ns.objects o → IsSound o
 
--- these are the search lists of the namespace that has an object, if one has it
-abbrev pub AreListsOf : List Namespace → ℕ → List SearchList → Type 0
-AreListsOf namespaces owner lists = (ns : Namespace) → find (has_object owner) namespaces ≡ Some ns → lists ≡ lists_of (seen_in ns)
+-- the state has the namespace, and each serial in it leads to its object
+pub record Shows (s : State) (ns : Namespace) : Type 0 where
+  pub there : Contains s.namespaces ns
+  pub objects : ShowsObjects s (seen_in ns)
 
 -- a slot of a mapped object: where it stands, what it holds until it is bound, what it chooses now, and whether it may be bound to that
 pub record ChoosesSlot (s : State) (owner eights : ℕ) (x : SlotChoice) : Type 0 where

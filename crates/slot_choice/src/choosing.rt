@@ -1,16 +1,18 @@
 //! Choosing for a slot.
 
-ghost use Rattle.std.specs.Prelude.{◌≡◌, ℕ, ◌*◌, ◌/◌, None, Some, slice_get, IfErr, IfNone, IfOk, IfSome};
-ghost use Rattle.link_history.specs.Addresses.{address, leads_to_code};
+ghost use Rattle.std.specs.Prelude.{◌≡◌, ℕ, ◌*◌, ◌/◌, None, Some, slice_get, Contains, IfErr, IfNone, IfOk, IfSome, IsTrue};
+ghost use Rattle.ld_base.specs.declared.linking.Loaded.{Loaded as LoadedObject};
+ghost use Rattle.link_history.specs.Objects.{has_object};
 ghost use Rattle.link_history.specs.State.{State};
-ghost use Rattle.object_holders.specs.Holders.{AllAccepted};
-ghost use Rattle.slot_choice.specs.Choosing.{AllSound, AreListsOf, ChoosesSlot, IsFaultOf};
+ghost use Rattle.scope_rule.specs.Seen.{seen_in};
+ghost use Rattle.search_lists.specs.Lists.{lists_of};
+ghost use Rattle.slot_choice.specs.Choosing.{ChoosesSlot, IsFaultOf, IsSound, Shows};
 ghost use Rattle.slot_choice.specs.declared.choosing.SlotFault.TheVariants.{Memory};
 
 use ld_base::{Choice, Object, Reloc, Serial};
-use mapped_objects::{address_of, home_in, leads_to_code};
 use scope_rule::Namespace;
 use search_lists::SearchLists;
+use seen_choices::{address_of, leads_to_code};
 use slot_words::moved_word;
 use std::alloc::AllocError;
 use sym_lookup::lookup_reloc;
@@ -51,32 +53,27 @@ impl From<AllocError> for SlotFault {
     }
 }
 
-/// What the slot of an object chooses now, `eights` being eight times its number. The lists are those of
-/// the namespace that has the object, if one has it. It takes no memory.
+/// What the slot of an object of a namespace chooses now, `eights` being eight times its number. The lists are
+/// those of the namespace: by these each object is found in one step. It takes no memory.
 ///
 /// # Errors
 ///
-/// - Unloaded: no such object is mapped.
-/// - NoSlot: it has no such slot.
+/// - NoSlot: the object has no such slot.
 /// - Memory: the slot's number is past 32 bits; no object that is read has as many slots.
 pub fn slot_choice(
-    namespaces: &[Namespace],
+    namespace: &Namespace,
     lists: &SearchLists,
     owner: Serial,
     eights: u64,
 ) -> Result<SlotChoice, SlotFault>
-    requires sound { AllSound namespaces.now }
-    requires lists { AreListsOf namespaces.now owner lists.now }
-    ensures ok { IfOk result (λ x. (s : State) → s.namespaces ≡ namespaces.now → ChoosesSlot s owner eights x) }
-    ensures err { IfErr result (λ e. (s : State) → s.namespaces ≡ namespaces.now → IsFaultOf s owner eights e) }
+    requires sound { (o : LoadedObject) → Contains namespace.now.objects o → IsSound o }
+    requires lists { lists.now ≡ lists_of (seen_in namespace.now) }
+    requires there { IsTrue (has_object owner namespace.now) }
+    ensures ok { IfOk result (λ x. (s : State) → Shows s namespace.now → ChoosesSlot s owner eights x) }
+    ensures err { IfErr result (λ e. (s : State) → Contains s.namespaces namespace.now → IsFaultOf s owner eights e) }
 {
-    let Some(namespace) = home_in(namespaces, owner) else {
-        return Err(SlotFault::Unloaded);
-    };
     let view = namespace.view();
-    let Some(object) = view.object(owner) else {
-        return Err(SlotFault::Unloaded);
-    };
+    let object = lists.object(&view, owner).unwrap();
     let Some(reloc) = slot_at(&object.object, eights) else {
         return Err(SlotFault::NoSlot);
     };
@@ -85,8 +82,8 @@ pub fn slot_choice(
     };
     let choice = lookup_reloc(&view, lists, object, reloc);
     let lazy = moved_word(&object.object, object.base, reloc.place);
-    let value = value_of(namespaces, &choice);
-    let code = may_be(namespaces, lazy, &choice);
+    let value = address_of(&view, lists, &choice);
+    let code = leads_to_code(&view, lists, lazy, &choice);
     Ok(SlotChoice {
         slot,
         address: object.base.wrapping_add(reloc.place),
@@ -95,21 +92,6 @@ pub fn slot_choice(
         value,
         code,
     })
-}
-
-/// The address of a choice.
-fn value_of(namespaces: &[Namespace], choice: &Choice) -> u64
-    ensures { (s : State) → s.namespaces ≡ namespaces.now → result ≡ address s choice.now }
-{
-    address_of(namespaces, *choice)
-}
-
-/// Whether a slot that holds this word until it is bound may be bound to a choice.
-fn may_be(namespaces: &[Namespace], lazy: u64, choice: &Choice) -> bool
-    requires { AllAccepted namespaces.now }
-    ensures { (s : State) → s.namespaces ≡ namespaces.now → result ≡ leads_to_code s lazy choice.now }
-{
-    leads_to_code(namespaces, lazy, *choice)
 }
 
 /// The slot of an object, by eight times its number.

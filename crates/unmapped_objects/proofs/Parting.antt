@@ -1,6 +1,6 @@
 -- How objects are parted, one after another.
 use Rattle.std.proofs.Common.{◌≡◌, ℕ, zero, suc, ◌+◌, ◌<◌, ◌≤◌, Bool, true, false, not, cond, List, [], ◌∷◌, ◌++◌, append_assoc, take, drop, get_or, length, map, refl, sym, ap, ◌∙◌, arith}
-use Rattle.std.specs.List.{count_by, filter, flat_map, remove}
+use Rattle.std.specs.List.{count_by, filter, flat_map}
 use Rattle.std.proofs.Math.Seq.{drop-cons, take-suc}
 use Rattle.std.proofs.lemmas.Grind.{flat_map-append}
 use Rattle.std.proofs.lemmas.List.{append-nil, drop_all, take_all, take_more}
@@ -11,57 +11,54 @@ use Rattle.link_history.specs.Objects.{has}
 use Rattle.scope_rule.specs.declared.namespace.Namespace.{Namespace}
 use Rattle.unmapped_objects.specs.Taken.{IsParted, goes, stays}
 
-drop_remove : (xs : List Loaded) (i : ℕ) → i < length xs → drop i (remove xs i) ≡ drop (suc i) xs
-drop_remove [] i lt = absurd (omega (arith, lt))
-drop_remove (x ∷ xs) zero lt = refl
-drop_remove (x ∷ xs) (suc i) lt = drop_remove xs i (omega (arith, lt))
-
-take_remove : (xs : List Loaded) (i : ℕ) → i < length xs → take i (remove xs i) ≡ take i xs
-take_remove [] i lt = absurd (omega (arith, lt))
-take_remove (x ∷ xs) zero lt = refl
-take_remove (x ∷ xs) (suc i) lt = ap (λ (ys : List Loaded). x ∷ ys) (take_remove xs i (omega (arith, lt)))
-
 one_more : (p : Loaded → Bool) (xs : List Loaded) (x : Loaded) (b : Bool) → p x ≡ b → filter p (xs ++ x ∷ []) ≡ filter p xs ++ cond b (x ∷ []) []
 one_more p xs x b is = filter-append p xs (x ∷ []) ∙ ap (λ (t : Bool). filter p xs ++ cond t (x ∷ []) []) is
 
-passed_on : (all passed os : List Loaded) (place : ℕ) (o : Loaded) → place < length os → o ≡ get_or os place o → all ≡ passed ++ drop place os → all ≡ (passed ++ o ∷ []) ++ drop (suc place) os
-passed_on all passed os place o lt at are =
-    are ∙ ap (λ (ys : List Loaded). passed ++ ys) (drop-cons os place o lt ∙ ap (λ (x : Loaded). x ∷ drop (suc place) os) (sym at)) ∙ sym (append_assoc passed (o ∷ []) (drop (suc place) os))
+-- the queue begins with the object of the place
+pub record IsFront (set : List ℕ) (all rest : List Loaded) (place : ℕ) (o : Loaded) : Type 0 where
+  pub at : o ≡ get_or all place o
+  pub rest_is : rest ≡ drop (suc place) all ++ filter (stays set) (take place all)
 
-pub parted_goes : (set : List ℕ) (all os new before gone more : List Loaded) (place : ℕ) (o : Loaded) → IsParted set all os before gone place → place < length os → o ≡ get_or os place o
-    → has set o.serial ≡ true → new ≡ remove os place → more ≡ gone ++ o ∷ [] → IsParted set all new before more place
-parted_goes set all os new before gone more place o parted lt at is removed pushed = record {
-  passed = parted.passed ++ o ∷ [];
-  are = passed_on all parted.passed os place o lt at parted.are ∙ ap (λ (ys : List Loaded). (parted.passed ++ o ∷ []) ++ ys) (sym (ap (drop place) removed ∙ drop_remove os place lt));
-  kept = ap (take place) removed ∙ take_remove os place lt ∙ parted.kept ∙ sym (append-nil (filter (stays set) parted.passed)) ∙ sym (one_more (stays set) parted.passed o false (ap not is));
-  went = pushed ∙ ap (λ (ys : List Loaded). ys ++ o ∷ []) parted.went ∙ append_assoc before (filter (goes set) parted.passed) (o ∷ [])
-      ∙ ap (λ (ys : List Loaded). before ++ ys) (sym (one_more (goes set) parted.passed o true is));
+pub front : (set : List ℕ) (all queue rest before gone : List Loaded) (place : ℕ) (o : Loaded) → IsParted set all queue before gone place → place < length all → o ≡ get_or queue 0 o → rest ≡ drop 1 queue
+    → IsFront set all rest place o
+front set all queue rest before gone place o parted lt is after =
+    let begins : queue ≡ get_or all place o ∷ (drop (suc place) all ++ filter (stays set) (take place all)) =
+    parted.queue_is ∙ ap (λ (ys : List Loaded). ys ++ filter (stays set) (take place all)) (drop-cons all place o lt) in
+    record { at = is ∙ ap (λ (ys : List Loaded). get_or ys 0 o) begins; rest_is = after ∙ ap (drop 1) begins }
+
+taken : (all : List Loaded) (place : ℕ) (o : Loaded) → place < length all → o ≡ get_or all place o → take (suc place) all ≡ take place all ++ o ∷ []
+taken all place o lt at = take-suc all place o lt ∙ ap (λ (x : Loaded). take place all ++ x ∷ []) (sym at)
+
+passed : (p : Loaded → Bool) (all : List Loaded) (place : ℕ) (o : Loaded) (b : Bool) → place < length all → o ≡ get_or all place o → p o ≡ b
+    → filter p (take (suc place) all) ≡ filter p (take place all) ++ cond b (o ∷ []) []
+passed p all place o b lt at is = ap (filter p) (taken all place o lt at) ∙ one_more p (take place all) o b is
+
+pub parted_goes : (set : List ℕ) (all queue rest before gone more : List Loaded) (place : ℕ) (o : Loaded) → IsParted set all queue before gone place → IsFront set all rest place o → place < length all
+    → has set o.serial ≡ true → more ≡ gone ++ o ∷ [] → IsParted set all rest before more (suc place)
+parted_goes set all queue rest before gone more place o parted begins lt is pushed = record {
+  queue_is = begins.rest_is
+      ∙ ap (λ (ys : List Loaded). drop (suc place) all ++ ys) (sym (passed (stays set) all place o false lt begins.at (ap not is) ∙ append-nil (filter (stays set) (take place all))));
+  went = pushed ∙ ap (λ (ys : List Loaded). ys ++ o ∷ []) parted.went ∙ append_assoc before (filter (goes set) (take place all)) (o ∷ [])
+      ∙ ap (λ (ys : List Loaded). before ++ ys) (sym (passed (goes set) all place o true lt begins.at is));
 }
 
-pub parted_stays : (set : List ℕ) (all os before gone : List Loaded) (place : ℕ) (o : Loaded) → IsParted set all os before gone place → place < length os → o ≡ get_or os place o
-    → has set o.serial ≡ false → IsParted set all os before gone (suc place)
-parted_stays set all os before gone place o parted lt at is = record {
-  passed = parted.passed ++ o ∷ [];
-  are = passed_on all parted.passed os place o lt at parted.are;
-  kept = take-suc os place o lt ∙ ap (λ (ys : List Loaded). ys ++ get_or os place o ∷ []) parted.kept ∙ ap (λ (x : Loaded). filter (stays set) parted.passed ++ x ∷ []) (sym at)
-      ∙ sym (one_more (stays set) parted.passed o true (ap not is));
-  went = parted.went ∙ sym (ap (λ (ys : List Loaded). before ++ ys) (one_more (goes set) parted.passed o false is ∙ append-nil (filter (goes set) parted.passed)));
+pub parted_stays : (set : List ℕ) (all queue rest new before gone : List Loaded) (place : ℕ) (o : Loaded) → IsParted set all queue before gone place → IsFront set all rest place o → place < length all
+    → has set o.serial ≡ false → new ≡ rest ++ o ∷ [] → IsParted set all new before gone (suc place)
+parted_stays set all queue rest new before gone place o parted begins lt is pushed = record {
+  queue_is = pushed ∙ ap (λ (ys : List Loaded). ys ++ o ∷ []) begins.rest_is ∙ append_assoc (drop (suc place) all) (filter (stays set) (take place all)) (o ∷ [])
+      ∙ ap (λ (ys : List Loaded). drop (suc place) all ++ ys) (sym (passed (stays set) all place o true lt begins.at (ap not is)));
+  went = parted.went ∙ ap (λ (ys : List Loaded). before ++ ys) (sym (passed (goes set) all place o false lt begins.at is ∙ append-nil (filter (goes set) (take place all))));
 }
 
-none_passed : (set : List ℕ) (all before gone : List Loaded) → gone ≡ before → IsParted set all all before gone 0
-none_passed set all before gone same = record { passed = []; are = refl; kept = refl; went = same ∙ sym (append-nil before) }
+pub none_parted : (set : List ℕ) (all queue before : List Loaded) → queue ≡ all → IsParted set all queue before before 0
+none_parted set all queue before same = record { queue_is = same ∙ sym (append-nil all); went = sym (append-nil before) }
 
-pub first_parted : (set : List ℕ) (all before : List Loaded) → IsParted set all all before before 0
-first_parted set all before = none_passed set all before before refl
+pub all_stay : (set : List ℕ) (all queue before gone : List Loaded) (place : ℕ) → IsParted set all queue before gone place → length all ≤ place → queue ≡ filter (stays set) all
+all_stay set all queue before gone place parted le =
+    parted.queue_is ∙ ap (λ (ys : List Loaded). ys ++ filter (stays set) (take place all)) (drop_all place all le) ∙ ap (filter (stays set)) (take_all place all le)
 
-whole : (set : List ℕ) (all os before gone : List Loaded) (place : ℕ) (parted : IsParted set all os before gone place) → length os ≤ place → parted.passed ≡ all
-whole set all os before gone place parted le = sym (parted.are ∙ ap (λ (ys : List Loaded). parted.passed ++ ys) (drop_all place os le) ∙ append-nil parted.passed)
-
-pub all_stay : (set : List ℕ) (all os before gone : List Loaded) (place : ℕ) → IsParted set all os before gone place → length os ≤ place → os ≡ filter (stays set) all
-all_stay set all os before gone place parted le = sym (take_all place os le) ∙ parted.kept ∙ ap (filter (stays set)) (whole set all os before gone place parted le)
-
-pub all_gone : (set : List ℕ) (all os before gone : List Loaded) (place : ℕ) → IsParted set all os before gone place → length os ≤ place → gone ≡ before ++ filter (goes set) all
-all_gone set all os before gone place parted le = parted.went ∙ ap (λ (ys : List Loaded). before ++ filter (goes set) ys) (whole set all os before gone place parted le)
+pub all_gone : (set : List ℕ) (all queue before gone : List Loaded) (place : ℕ) → IsParted set all queue before gone place → length all ≤ place → gone ≡ before ++ filter (goes set) all
+all_gone set all queue before gone place parted le = parted.went ∙ ap (λ (ys : List Loaded). before ++ filter (goes set) ys) (take_all place all le)
 
 -- how many are still to go
 pub counted : (set : List ℕ) (os : List Loaded) (place : ℕ) (o : Loaded) (b : Bool) → place < length os → o ≡ get_or os place o → has set o.serial ≡ b
@@ -71,15 +68,6 @@ counted set os place o b lt at is =
     ∙ sum_by-cons (λ (x : Loaded). cond (goes set x) 1 0) (get_or os place o) (drop (suc place) os)
     ∙ ap (λ (x : Loaded). cond (goes set x) 1 0 + count_by (goes set) (drop (suc place) os)) (sym at)
     ∙ ap (λ (t : Bool). cond t 1 0 + count_by (goes set) (drop (suc place) os)) is
-
-pub drop_removed : (xs ys : List Loaded) (i : ℕ) → i < length xs → ys ≡ remove xs i → drop i ys ≡ drop (suc i) xs
-drop_removed xs ys i lt is = ap (drop i) is ∙ drop_remove xs i lt
-
--- the element at a place
-pub some_at : (xs : List Loaded) (i : ℕ) → i < length xs → (o : Loaded) × ((d : Loaded) → get_or xs i d ≡ o)
-some_at [] i lt = absurd (omega (arith, lt))
-some_at (x ∷ xs) zero lt = (x, λ d. refl)
-some_at (x ∷ xs) (suc i) lt = some_at xs i (omega (arith, lt))
 
 -- ---- namespaces
 

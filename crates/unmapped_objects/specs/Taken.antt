@@ -9,9 +9,7 @@ goes set o = has set o.serial
 abbrev pub stays : List ℕ → Loaded → Bool
 stays set o = not (has set o.serial)
 
--- of the objects so many were passed: those of the set stand behind the others that went before, the rest in front of those to come
-pub record IsParted (set : List ℕ) (all objects before gone : List Loaded) (place : ℕ) : Type 0 where
-  pub passed : List Loaded
-  pub are : all ≡ passed ++ drop place objects
-  pub kept : take place objects ≡ filter (stays set) passed
-  pub went : gone ≡ before ++ filter (goes set) passed
+-- of all objects so many were taken from the front of the queue: those of the set stand behind the objects that went before, the rest behind those to come
+pub record IsParted (set : List ℕ) (all queue before gone : List Loaded) (place : ℕ) : Type 0 where
+  pub queue_is : queue ≡ drop place all ++ filter (stays set) (take place all)
+  pub went : gone ≡ before ++ filter (goes set) (take place all)

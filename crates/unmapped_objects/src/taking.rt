@@ -1,17 +1,17 @@
 //! Taking objects out.
 
-ghost use Rattle.std.specs.Prelude.{◌≡◌, ◌+◌, ◌-◌, ◌<◌, ◌≤◌, ◌++◌, count_by, filter, length, map, not, IfOk};
-ghost use Rattle.std.specs.List.{flat_map, slice_index_or};
-ghost use Rattle.ld_base.specs.declared.linking.Loaded.{Loaded as LoadedObject};
+ghost use Rattle.std.specs.Prelude.{◌≡◌, ◌+◌, ◌≤◌, ◌++◌, count_by, filter, map, not, IfOk};
+ghost use Rattle.std.specs.List.{flat_map};
 ghost use Rattle.std.specs.Vec.{vec_capacity, vec_len};
 ghost use Rattle.link_history.specs.Objects.{has, serial_of};
 ghost use Rattle.link_history.specs.Step.{gone_in, is_left};
-ghost use Rattle.unmapped_objects.specs.Taken.{IsParted, goes};
+ghost use Rattle.unmapped_objects.specs.Taken.{goes};
 
 use ld_base::{Added, Loaded, Serial};
 use scope_rule::Namespace;
 use serial_sets::SerialSet;
 use std::alloc::{AllocError, Global};
+use std::collections::VecDeque;
 use std::mem;
 
 /// How many mapped objects are of a set.
@@ -87,34 +87,28 @@ fn take_from(alloc: Global, namespace: &mut Namespace, set: &SerialSet, gone: &m
     ensures len { vec_len gone.new ≡ vec_len gone.old + count_by (goes set.now) namespace.old.objects }
     ensures capacity { vec_capacity gone.new ≡ vec_capacity gone.old }
 {
-    let mut objects = mem::replace(&mut namespace.objects, Added::new(alloc)).into_vec();
-    part(&mut objects, set, gone);
-    namespace.objects = Added::from(objects);
+    let objects = mem::replace(&mut namespace.objects, Added::new(alloc)).into_vec();
+    namespace.objects = Added::from(part(objects, set, gone));
 }
 
-/// Parts objects: those of the set go behind others, and the rest stay.
-fn part(objects: &mut Vec<Loaded>, set: &SerialSet, gone: &mut Vec<Loaded>)
-    requires { vec_len gone.old + count_by (goes set.now) objects.old.items ≤ vec_capacity gone.old }
-    ensures stay { objects.new.items ≡ filter (λ o. not (has set.now o.serial)) objects.old.items }
-    ensures gone { gone.new.items ≡ gone.old.items ++ filter (goes set.now) objects.old.items }
-    ensures len { vec_len gone.new ≡ vec_len gone.old + count_by (goes set.now) objects.old.items }
+/// Parts objects: those of the set go behind others, and the rest stay. Each is taken from the front of a queue
+/// once, and one that stays goes to its back.
+fn part(objects: Vec<Loaded>, set: &SerialSet, gone: &mut Vec<Loaded>) -> Vec<Loaded>
+    requires { vec_len gone.old + count_by (goes set.now) objects.items ≤ vec_capacity gone.old }
+    ensures stay { result.items ≡ filter (λ o. not (has set.now o.serial)) objects.items }
+    ensures gone { gone.new.items ≡ gone.old.items ++ filter (goes set.now) objects.items }
+    ensures len { vec_len gone.new ≡ vec_len gone.old + count_by (goes set.now) objects.items }
     ensures capacity { vec_capacity gone.new ≡ vec_capacity gone.old }
 {
-    let mut place = 0;
-    while place < objects.len() {
-        if goes_at(objects.as_slice(), place, set) {
-            let object = objects.remove(place);
+    let count = objects.len();
+    let mut queue = VecDeque::from_vec(objects);
+    for _ in 0..count {
+        let object = queue.pop_front().unwrap();
+        if set.has(object.serial) {
             gone.push_reserved(object);
         } else {
-            place += 1;
+            queue.push_back_reserved(object);
         }
     }
-}
-
-/// Whether the object at a place is of the set.
-fn goes_at(objects: &[Loaded], place: usize, set: &SerialSet) -> bool
-    requires { place < length objects.now }
-    ensures { (d : LoadedObject) → result ≡ goes set.now (slice_index_or objects.now place d) }
-{
-    set.has(objects[place].serial)
+    queue.into_vec()
 }

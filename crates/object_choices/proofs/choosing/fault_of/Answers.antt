@@ -2,8 +2,9 @@ use Rattle.std.proofs.Common.{◌≡◌, Bool, sym, ap, subst, ◌∙◌}
 use Rattle.ld_base.specs.declared.linking.Choice.{Choice}
 use Rattle.scope_rule.specs.Relocation.{choice_at}
 use Rattle.scope_rule.specs.Seen.{Seen, seen}
-use Rattle.object_choices.specs.Sight.{StandsIn, chosen_at}
-use Rattle.object_choices.proofs.Stands.{stands}
+use Rattle.seen_choices.specs.Lemmas.Stands.{stands}
+use Rattle.seen_choices.specs.Seeing.{StandsIn}
+use Rattle.object_choices.specs.Sight.{chosen_at}
 use Rattle.object_choices.proofs.choosing.fault_of.Goals as goal
 
 pub slot_fault-requires-clause-stands : goal.slot_fault-requires-clause-stands

@@ -1,82 +1,83 @@
-use Rattle.std.proofs.Common.{rules, ◌≡◌, ◌*◌, ◌/◌, List, Some, None, refl, sym, ap, subst, ◌∙◌}
-use Rattle.std.specs.List.{Contains, find, slice_get}
-use Rattle.link_history.specs.Objects.{has_object}
+use Rattle.std.proofs.Common.{rules, ◌≡◌, ◌*◌, ◌/◌, refl, sym, ap, subst, ◌∙◌}
+use Rattle.std.specs.List.{Contains, slice_get}
+use Rattle.ld_base.specs.declared.linking.Choice.{Choice}
 use Rattle.scope_rule.specs.Loading.{object_of, with_serial}
 use Rattle.scope_rule.specs.Relocation.{choice_at}
-use Rattle.scope_rule.specs.Seen.{Seen, seen_in}
+use Rattle.scope_rule.specs.Seen.{Seen, seen}
 use Rattle.scope_rule.specs.declared.namespace.Namespace.{Namespace}
 use Rattle.seg_image.specs.Pages.{guest_address}
 use Rattle.search_lists.specs.Lists.{lists_of}
-use Rattle.slot_choice.specs.Lemmas.Unloaded.{unloaded}
-use Rattle.slot_choice.proofs.Slots.{its_namespace, its_object, lacks, low, named, not_lacking}
+use Rattle.seen_choices.specs.Seeing.{ShowsObjects, StandsIn}
+use Rattle.seen_choices.specs.Lemmas.Stands.{stands}
+use Rattle.slot_choice.proofs.Slots.{IsFound, found, is_lent, its_table, lacks, low, named}
 use Rattle.slot_choice.proofs.choosing.slot_choice.Goals as goal
 
+pub unwrap-object-requires : goal.unwrap-object-requires
+unwrap-object-requires c = is_lent c.args.namespace.now (seen c.view-view.result) c.args.owner c.object.result c.requires.there c.view-view.ensures c.object.ensures
+
 pub returns-in_default-clause-err : goal.returns-in_default-clause-err
-returns-in_default-clause-err c = λ s are. unloaded s c.args.namespaces.now c.args.owner are (sym c.in_default.ensures)
-
-pub returns-in_default-object-clause-err : goal.returns-in_default-object-clause-err
-returns-in_default-object-clause-err c = λ s are m.
-    let none : with_serial c.in-Some.namespace.now.objects c.args.owner ≡ None = ap (λ (v : Seen). object_of v c.args.owner) (sym c.view-view.ensures) ∙ sym c.in_default-object.ensures in
-    not_lacking c.args.namespaces.now c.args.owner c.in-Some.namespace.now (sym c.in-Some.ensures) none
-
-pub returns-in_default-slot_at-clause-err : goal.returns-in_default-slot_at-clause-err
-returns-in_default-slot_at-clause-err c = λ s are.
-    let one : with_serial c.in-Some.namespace.now.objects c.args.owner ≡ Some c.in-Some-object.object.now = ap (λ (v : Seen). object_of v c.args.owner) (sym c.view-view.ensures) ∙ sym c.in-Some-object.ensures in
-    lacks s c.args.namespaces.now c.args.owner c.args.eights c.in-Some.namespace.now c.in-Some-object.object.now are (sym c.in-Some.ensures) one c.in_default-slot_at.ensures.none
+returns-in_default-clause-err c = λ s there.
+    lacks s c.args.owner c.args.eights c.args.namespace.now c.unwrap-object.result.now there
+    (found c.args.namespace.now (seen c.view-view.result) c.args.owner c.object.result c.unwrap-object.result c.view-view.ensures c.object.ensures c.unwrap-object.ensures) c.in_default.ensures.none
 
 pub lookup_reloc-choice-requires : goal.lookup_reloc-choice-requires
 lookup_reloc-choice-requires c =
-    let ns : Namespace = c.in-Some.namespace.now in
-    let there : Contains c.args.namespaces.now ns = its_namespace c.args.namespaces.now c.args.owner ns (sym c.in-Some.ensures) in
-    let one : with_serial ns.objects c.args.owner ≡ Some c.in-Some-object.object.now = ap (λ (v : Seen). object_of v c.args.owner) (sym c.view-view.ensures) ∙ sym c.in-Some-object.ensures in
-    let sound = c.requires.sound ns c.in-Some-object.object.now there (its_object ns.objects c.args.owner c.in-Some-object.object.now one).0 in
+    let ns : Namespace = c.args.namespace.now in
+    let its : IsFound ns c.args.owner c.unwrap-object.result.now = found ns (seen c.view-view.result) c.args.owner c.object.result c.unwrap-object.result c.view-view.ensures c.object.ensures c.unwrap-object.ensures in
     record {
-      lists = c.requires.lists ns (sym c.in-Some.ensures) ∙ ap lists_of (sym c.view-view.ensures);
-      tables = λ serial o is.
-          (c.requires.sound ns o there (its_object ns.objects serial o (ap (λ (v : Seen). object_of v serial) (sym c.view-view.ensures) ∙ is)).0).table;
-      owner_is_there =
-          ap (λ (v : Seen). object_of v c.in-Some-object.object.now.serial) c.view-view.ensures
-          ∙ ap (with_serial ns.objects) (its_object ns.objects c.args.owner c.in-Some-object.object.now one).1
-          ∙ one;
-      symbol_is_there = named c.in-Some-object.object.now.object (c.args.eights / 8) c.in-Some-slot_at.reloc.now sound.names c.in-Some-slot_at.ensures.found;
+      lists = c.requires.lists ∙ ap lists_of (sym c.view-view.ensures);
+      tables = its_table ns (seen c.view-view.result) c.requires.sound c.view-view.ensures;
+      owner_is_there = ap (λ (v : Seen). object_of v c.unwrap-object.result.now.serial) c.view-view.ensures ∙ ap (with_serial ns.objects) its.is ∙ its.one;
+      symbol_is_there = named c.unwrap-object.result.now.object (c.args.eights / 8) c.in-Some.reloc.now (c.requires.sound c.unwrap-object.result.now its.inside).names c.in-Some.ensures.found;
     }
 
-pub moved_word-lazy-requires-clause-accepted : goal.moved_word-lazy-requires-clause-accepted
-moved_word-lazy-requires-clause-accepted c =
-    let one : with_serial c.in-Some.namespace.now.objects c.args.owner ≡ Some c.in-Some-object.object.now = ap (λ (v : Seen). object_of v c.args.owner) (sym c.view-view.ensures) ∙ sym c.in-Some-object.ensures in
-    (c.requires.sound c.in-Some.namespace.now c.in-Some-object.object.now (its_namespace c.args.namespaces.now c.args.owner c.in-Some.namespace.now (sym c.in-Some.ensures))
-    (its_object c.in-Some.namespace.now.objects c.args.owner c.in-Some-object.object.now one).0).image
+pub moved_word-lazy-requires : goal.moved_word-lazy-requires
+moved_word-lazy-requires c =
+    let its : IsFound c.args.namespace.now c.args.owner c.unwrap-object.result.now =
+    found c.args.namespace.now (seen c.view-view.result) c.args.owner c.object.result c.unwrap-object.result c.view-view.ensures c.object.ensures c.unwrap-object.ensures in
+    let sound = c.requires.sound c.unwrap-object.result.now its.inside in
+    record { accepted = sound.image; low = low c.unwrap-object.result.now.object (c.args.eights / 8) c.in-Some.reloc.now sound.image c.in-Some.ensures.found }
 
-pub moved_word-lazy-requires-clause-low : goal.moved_word-lazy-requires-clause-low
-moved_word-lazy-requires-clause-low c =
-    let one : with_serial c.in-Some.namespace.now.objects c.args.owner ≡ Some c.in-Some-object.object.now = ap (λ (v : Seen). object_of v c.args.owner) (sym c.view-view.ensures) ∙ sym c.in-Some-object.ensures in
-    let sound = c.requires.sound c.in-Some.namespace.now c.in-Some-object.object.now (its_namespace c.args.namespaces.now c.args.owner c.in-Some.namespace.now (sym c.in-Some.ensures))
-    (its_object c.in-Some.namespace.now.objects c.args.owner c.in-Some-object.object.now one).0 in
-    low c.in-Some-object.object.now.object (c.args.eights / 8) c.in-Some-slot_at.reloc.now sound.image c.in-Some-slot_at.ensures.found
+pub address_of-value-requires-clause-stands : goal.address_of-value-requires-clause-stands
+address_of-value-requires-clause-stands c =
+    let ns : Seen = seen c.view-view.result in
+    let its : IsFound c.args.namespace.now c.args.owner c.unwrap-object.result.now =
+    found c.args.namespace.now ns c.args.owner c.object.result c.unwrap-object.result c.view-view.ensures c.object.ensures c.unwrap-object.ensures in
+    let inside : Contains ns.objects c.unwrap-object.result.now = subst (λ (v : Seen). Contains v.objects c.unwrap-object.result.now) (sym c.view-view.ensures) its.inside in
+    subst (λ (choice : Choice). StandsIn ns choice) (sym c.lookup_reloc-choice.ensures) (stands ns c.unwrap-object.result.now c.in-Some.reloc.now inside)
 
-pub may_be-code-requires : goal.may_be-code-requires
-may_be-code-requires c = λ ns o there inside. (c.requires.sound ns o there inside).image
+pub leads_to_code-code-requires-clause-accepted : goal.leads_to_code-code-requires-clause-accepted
+leads_to_code-code-requires-clause-accepted c = λ o inside. (c.requires.sound o (subst (λ (v : Seen). Contains v.objects o) c.view-view.ensures inside)).image
+
+pub leads_to_code-code-requires-clause-stands : goal.leads_to_code-code-requires-clause-stands
+leads_to_code-code-requires-clause-stands c =
+    let ns : Seen = seen c.view-view.result in
+    let its : IsFound c.args.namespace.now c.args.owner c.unwrap-object.result.now =
+    found c.args.namespace.now ns c.args.owner c.object.result c.unwrap-object.result c.view-view.ensures c.object.ensures c.unwrap-object.ensures in
+    let inside : Contains ns.objects c.unwrap-object.result.now = subst (λ (v : Seen). Contains v.objects c.unwrap-object.result.now) (sym c.view-view.ensures) its.inside in
+    subst (λ (choice : Choice). StandsIn ns choice) (sym c.lookup_reloc-choice.ensures) (stands ns c.unwrap-object.result.now c.in-Some.reloc.now inside)
 
 pub returns-clause-ok : goal.returns-clause-ok
 unfolding guest_address
-returns-clause-ok c = λ s are.
-    let found : find (has_object c.args.owner) c.args.namespaces.now ≡ Some c.in-Some.namespace.now = sym c.in-Some.ensures in
-    let one : with_serial c.in-Some.namespace.now.objects c.args.owner ≡ Some c.in-Some-object.object.now = ap (λ (v : Seen). object_of v c.args.owner) (sym c.view-view.ensures) ∙ sym c.in-Some-object.ensures in
+returns-clause-ok c = λ s shows.
+    let its : IsFound c.args.namespace.now c.args.owner c.unwrap-object.result.now =
+    found c.args.namespace.now (seen c.view-view.result) c.args.owner c.object.result c.unwrap-object.result c.view-view.ensures c.object.ensures c.unwrap-object.ensures in
+    let seen_objects : ShowsObjects s (seen c.view-view.result) = subst (λ (v : Seen). ShowsObjects s v) (sym c.view-view.ensures) shows.objects in
     let slot : c.in-Ok.slot ≡ c.args.eights / 8 = search rules in
     record {
-      numbered = c.in-Some-slot_at.ensures.eights ∙ ap (λ n. 8 * n) (sym slot);
+      numbered = c.in-Some.ensures.eights ∙ ap (λ n. 8 * n) (sym slot);
       is_slot = record {
-        namespace = c.in-Some.namespace.now;
-        object = c.in-Some-object.object.now;
-        there = subst (λ (all : List Namespace). Contains all c.in-Some.namespace.now) (sym are) (its_namespace c.args.namespaces.now c.args.owner c.in-Some.namespace.now found);
-        inside = (its_object c.in-Some.namespace.now.objects c.args.owner c.in-Some-object.object.now one).0;
-        is = (its_object c.in-Some.namespace.now.objects c.args.owner c.in-Some-object.object.now one).1;
-        reloc = c.in-Some-slot_at.reloc.now;
-        at = ap (slice_get c.in-Some-object.object.now.object.plt_relocs) slot ∙ c.in-Some-slot_at.ensures.found;
-        chooses = c.lookup_reloc-choice.ensures ∙ ap (λ (v : Seen). choice_at v c.in-Some-object.object.now c.in-Some-slot_at.reloc.now) c.view-view.ensures;
+        namespace = c.args.namespace.now;
+        object = c.unwrap-object.result.now;
+        there = shows.there;
+        inside = its.inside;
+        is = its.is;
+        reloc = c.in-Some.reloc.now;
+        at = ap (slice_get c.unwrap-object.result.now.object.plt_relocs) slot ∙ c.in-Some.ensures.found;
+        chooses = c.lookup_reloc-choice.ensures ∙ ap (λ (v : Seen). choice_at v c.unwrap-object.result.now c.in-Some.reloc.now) c.view-view.ensures;
       };
       place = refl;
       lazy = c.moved_word-lazy.ensures;
-      value = c.value_of-value.ensures s are;
-      code = c.may_be-code.ensures s are;
+      value = c.address_of-value.ensures s seen_objects;
+      code = c.leads_to_code-code.ensures s seen_objects;
     }

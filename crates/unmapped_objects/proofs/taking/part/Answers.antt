@@ -1,74 +1,70 @@
-use Rattle.std.proofs.Common.{◌≡◌, ◌+◌, ◌<◌, ◌≤◌, true, false, List, drop, get_or, length, suc, add-one, refl, sym, ap, subst, ◌∙◌, arith}
+use Rattle.std.proofs.Common.{◌≡◌, ◌+◌, ◌<◌, ◌≤◌, true, false, Option, Vec, Global, deque_len, deque_capacity, drop, length, suc, add-one, sym, ap, subst, ◌∙◌, arith, get_or}
+use Rattle.std.specs.Prelude.{IfSome, MatchOption}
 use Rattle.std.specs.List.{count_by}
-use Rattle.std.proofs.lemmas.List.{drop_all}
+use Rattle.std.specs.Vec.{vec_capacity, vec_len}
+use Rattle.std.specs.declared.collections.VecDeque.{VecDeque}
 use Rattle.ld_base.specs.declared.linking.Loaded.{Loaded}
 use Rattle.link_history.specs.Objects.{has}
 use Rattle.unmapped_objects.specs.Taken.{IsParted, goes}
-use Rattle.unmapped_objects.proofs.Parting.{all_gone, all_stay, counted, drop_removed, first_parted, parted_goes, parted_stays, some_at}
+use Rattle.unmapped_objects.proofs.Parting.{IsFront, all_gone, counted, front, parted_goes, parted_stays}
 use Rattle.unmapped_objects.proofs.taking.part.Goals as goal
-
-pub loop-place-init : goal.loop-place-init
-loop-place-init c = record { parted = first_parted c.args.set.now c.args.objects.now.items c.args.gone.now.items; total = refl; capacity = refl; within = omega arith }
+use Rattle.unmapped_objects.proofs.taking.part.Goals.{then-has, else-has}
 
 pub push_reserved-requires : goal.push_reserved-requires
 push_reserved-requires c =
-    let lt : c.loop-place.place < length c.loop-place.objects.items = omega arith in
-    let is : has c.args.set.now c.remove-object.result.serial ≡ true =
-    ap (λ (o : Loaded). has c.args.set.now o.serial) c.remove-object.ensures.value ∙ ap (λ (os : List Loaded). goes c.args.set.now (get_or os c.loop-place.place c.remove-object.result)) (sym c.as_slice.ensures.value)
-    ∙ sym (c.goes_at.ensures c.remove-object.result) ∙ c.if-goes_at.true in
-    let one : count_by (goes c.args.set.now) (drop c.loop-place.place c.loop-place.objects.items) ≡ 1 + count_by (goes c.args.set.now) (drop (suc c.loop-place.place) c.loop-place.objects.items) =
-    counted c.args.set.now c.loop-place.objects.items c.loop-place.place c.remove-object.result true lt c.remove-object.ensures.value is in
-    omega (arith, one, c.loop-place.invariant.total, c.loop-place.invariant.capacity, c.requires)
+    let lt : c.loop.counter < length c.args.objects.items = omega arith in
+    let begins : IsFront c.args.set.now c.args.objects.items c.pop_front.new.self.items c.loop.counter c.unwrap-object.result =
+    front c.args.set.now c.args.objects.items c.loop.queue.items c.pop_front.new.self.items c.args.gone.now.items c.loop.gone.items c.loop.counter c.unwrap-object.result c.loop.invariant.parted lt
+    (subst (λ (x : Option Loaded). IfSome x (λ y. y ≡ get_or c.loop.queue.items 0 y)) c.unwrap-object.ensures c.pop_front.ensures.lookup) c.pop_front.ensures.rest in
+    let is : has c.args.set.now c.unwrap-object.result.serial ≡ true = sym c.has.ensures ∙ c.if-has.true in
+    let one = counted c.args.set.now c.args.objects.items c.loop.counter c.unwrap-object.result true lt begins.at is in
+    omega (arith, one, c.loop.invariant.total, c.loop.invariant.capacity, c.requires)
 
-pub loop-place-preserved-then-goes_at : goal.loop-place-preserved-then-goes_at
-loop-place-preserved-then-goes_at c =
-    let lt : c.loop-place.place < length c.loop-place.objects.items = omega arith in
-    let is : has c.args.set.now c.remove-object.result.serial ≡ true =
-    ap (λ (o : Loaded). has c.args.set.now o.serial) c.remove-object.ensures.value ∙ ap (λ (os : List Loaded). goes c.args.set.now (get_or os c.loop-place.place c.remove-object.result)) (sym c.as_slice.ensures.value)
-    ∙ sym (c.goes_at.ensures c.remove-object.result) ∙ c.if-goes_at.true in
-    let one : count_by (goes c.args.set.now) (drop c.loop-place.place c.loop-place.objects.items) ≡ 1 + count_by (goes c.args.set.now) (drop (suc c.loop-place.place) c.loop-place.objects.items) =
-    counted c.args.set.now c.loop-place.objects.items c.loop-place.place c.remove-object.result true lt c.remove-object.ensures.value is in
-    let rest : count_by (goes c.args.set.now) (drop c.loop-place.place c.remove-object.new.self.items) ≡ count_by (goes c.args.set.now) (drop (suc c.loop-place.place) c.loop-place.objects.items) =
-    ap (count_by (goes c.args.set.now)) (drop_removed c.loop-place.objects.items c.remove-object.new.self.items c.loop-place.place lt c.remove-object.ensures.items) in
-    record {
-      parted = parted_goes c.args.set.now c.args.objects.now.items c.loop-place.objects.items c.remove-object.new.self.items c.args.gone.now.items c.loop-place.gone.items c.push_reserved.new.self.items c.loop-place.place
-          c.remove-object.result c.loop-place.invariant.parted lt c.remove-object.ensures.value is c.remove-object.ensures.items c.push_reserved.ensures.items;
-      total = omega (arith, one, rest, c.loop-place.invariant.total, c.push_reserved.ensures.len);
-      capacity = c.push_reserved.ensures.capacity ∙ c.loop-place.invariant.capacity;
-      within = omega (arith, lt, c.remove-object.ensures.len);
-    }
-
-pub loop-place-preserved : goal.loop-place-preserved
-loop-place-preserved c =
-    let lt : c.loop-place.place < length c.loop-place.objects.items = omega arith in
-    let it = some_at c.loop-place.objects.items c.loop-place.place lt in
-    let is : has c.args.set.now it.0.serial ≡ false =
-    ap (goes c.args.set.now) (sym (it.1 it.0)) ∙ ap (λ (os : List Loaded). goes c.args.set.now (get_or os c.loop-place.place it.0)) (sym c.as_slice.ensures.value)
-    ∙ sym (c.goes_at.ensures it.0) ∙ c.if-goes_at.false in
-    let one : count_by (goes c.args.set.now) (drop c.loop-place.place c.loop-place.objects.items) ≡ 0 + count_by (goes c.args.set.now) (drop (suc c.loop-place.place) c.loop-place.objects.items) =
-    counted c.args.set.now c.loop-place.objects.items c.loop-place.place it.0 false lt (sym (it.1 it.0)) is in
-    let next : count_by (goes c.args.set.now) (drop (c.loop-place.place + 1) c.loop-place.objects.items) ≡ count_by (goes c.args.set.now) (drop (suc c.loop-place.place) c.loop-place.objects.items) =
-    ap (λ n. count_by (goes c.args.set.now) (drop n c.loop-place.objects.items)) (add-one c.loop-place.place) in
-    record {
-      parted = subst (IsParted c.args.set.now c.args.objects.now.items c.loop-place.objects.items c.args.gone.now.items c.loop-place.gone.items) (sym (add-one c.loop-place.place))
-          (parted_stays c.args.set.now c.args.objects.now.items c.loop-place.objects.items c.args.gone.now.items c.loop-place.gone.items c.loop-place.place it.0 c.loop-place.invariant.parted lt (sym (it.1 it.0)) is);
-      total = omega (arith, one, next, c.loop-place.invariant.total);
-      capacity = c.loop-place.invariant.capacity;
-      within = omega (arith, lt);
-    }
-
-pub returns-clause-stay : goal.returns-clause-stay
-returns-clause-stay c =
-    let le : length c.loop-place.objects.items ≤ c.loop-place.place = omega arith in
-    all_stay c.args.set.now c.args.objects.now.items c.loop-place.objects.items c.args.gone.now.items c.loop-place.gone.items c.loop-place.place c.loop-place.invariant.parted le
+pub loop-preserved : goal.loop-preserved
+loop-preserved c =
+    let lt : c.loop.counter < length c.args.objects.items = omega arith in
+    let begins : IsFront c.args.set.now c.args.objects.items c.pop_front.new.self.items c.loop.counter c.unwrap-object.result =
+    front c.args.set.now c.args.objects.items c.loop.queue.items c.pop_front.new.self.items c.args.gone.now.items c.loop.gone.items c.loop.counter c.unwrap-object.result c.loop.invariant.parted lt
+    (subst (λ (x : Option Loaded). IfSome x (λ y. y ≡ get_or c.loop.queue.items 0 y)) c.unwrap-object.ensures c.pop_front.ensures.lookup) c.pop_front.ensures.rest in
+    let next : count_by (goes c.args.set.now) (drop (c.loop.counter + 1) c.args.objects.items) ≡ count_by (goes c.args.set.now) (drop (suc c.loop.counter) c.args.objects.items) =
+    ap (λ n. count_by (goes c.args.set.now) (drop n c.args.objects.items)) (add-one c.loop.counter) in
+    let room : deque_len c.pop_front.new.self + 1 ≡ deque_len c.loop.queue =
+    (subst (λ (x : Option Loaded). MatchOption x ((deque_len c.loop.queue ≡ 0) × (deque_len c.pop_front.new.self ≡ 0)) (λ y. deque_len c.pop_front.new.self + 1 ≡ deque_len c.loop.queue))
+    c.unwrap-object.ensures c.pop_front.ensures.cases) in
+    elim c.if-has.branch [
+      | then-has w ↦ (
+          let is : has c.args.set.now c.unwrap-object.result.serial ≡ true = sym c.has.ensures ∙ w.if-has.true in
+          let one = counted c.args.set.now c.args.objects.items c.loop.counter c.unwrap-object.result true lt begins.at is in
+          let len : vec_len c.if-has.gone ≡ vec_len w.push_reserved.new.self = ap (λ (v : Vec Loaded Global). vec_len v) w.gone-is in
+          let parted : IsParted c.args.set.now c.args.objects.items c.pop_front.new.self.items c.args.gone.now.items c.if-has.gone.items (suc c.loop.counter) =
+          parted_goes c.args.set.now c.args.objects.items c.loop.queue.items c.pop_front.new.self.items c.args.gone.now.items c.loop.gone.items c.if-has.gone.items c.loop.counter c.unwrap-object.result
+          c.loop.invariant.parted begins lt is (ap (λ (v : Vec Loaded Global). v.items) w.gone-is ∙ w.push_reserved.ensures.items) in
+          record {
+            parted = subst (IsParted c.args.set.now c.args.objects.items c.if-has.queue.items c.args.gone.now.items c.if-has.gone.items) (sym (add-one c.loop.counter))
+                (subst (λ (q : VecDeque Loaded Global). IsParted c.args.set.now c.args.objects.items q.items c.args.gone.now.items c.if-has.gone.items (suc c.loop.counter)) (sym w.queue-is) parted);
+            total = omega (arith, one, next, len, c.loop.invariant.total, w.push_reserved.ensures.len);
+            capacity = ap (λ (v : Vec Loaded Global). vec_capacity v) w.gone-is ∙ w.push_reserved.ensures.capacity ∙ c.loop.invariant.capacity;
+            within = subst (λ (q : VecDeque Loaded Global). deque_len q ≤ deque_capacity q) (sym w.queue-is) (omega (arith, room, c.pop_front.ensures.capacity, c.loop.invariant.within));
+          })
+      | else-has w ↦ (
+          let is : has c.args.set.now c.unwrap-object.result.serial ≡ false = sym c.has.ensures ∙ w.if-has.false in
+          let one = counted c.args.set.now c.args.objects.items c.loop.counter c.unwrap-object.result false lt begins.at is in
+          let len : vec_len c.if-has.gone ≡ vec_len c.loop.gone = ap (λ (v : Vec Loaded Global). vec_len v) w.gone-is in
+          let parted : IsParted c.args.set.now c.args.objects.items c.if-has.queue.items c.args.gone.now.items c.loop.gone.items (suc c.loop.counter) =
+          parted_stays c.args.set.now c.args.objects.items c.loop.queue.items c.pop_front.new.self.items c.if-has.queue.items c.args.gone.now.items c.loop.gone.items c.loop.counter c.unwrap-object.result
+          c.loop.invariant.parted begins lt is (ap (λ (q : VecDeque Loaded Global). q.items) w.queue-is ∙ w.push_back_reserved.ensures.items) in
+          let enough : deque_len w.push_back_reserved.new.self ≤ deque_capacity w.push_back_reserved.new.self =
+          omega (arith, c.pop_front.ensures.capacity, c.loop.invariant.within, w.push_back_reserved.ensures.len, w.push_back_reserved.ensures.capacity, room) in
+          record {
+            parted = subst (IsParted c.args.set.now c.args.objects.items c.if-has.queue.items c.args.gone.now.items c.if-has.gone.items) (sym (add-one c.loop.counter))
+                (subst (λ (v : Vec Loaded Global). IsParted c.args.set.now c.args.objects.items c.if-has.queue.items c.args.gone.now.items v.items (suc c.loop.counter)) (sym w.gone-is) parted);
+            total = omega (arith, one, next, len, c.loop.invariant.total);
+            capacity = ap (λ (v : Vec Loaded Global). vec_capacity v) w.gone-is ∙ c.loop.invariant.capacity;
+            within = subst (λ (q : VecDeque Loaded Global). deque_len q ≤ deque_capacity q) (sym w.queue-is) enough;
+          })
+    ]
 
 pub returns-clause-gone : goal.returns-clause-gone
 returns-clause-gone c =
-    let le : length c.loop-place.objects.items ≤ c.loop-place.place = omega arith in
-    all_gone c.args.set.now c.args.objects.now.items c.loop-place.objects.items c.args.gone.now.items c.loop-place.gone.items c.loop-place.place c.loop-place.invariant.parted le
-
-pub returns-clause-len : goal.returns-clause-len
-returns-clause-len c =
-    let le : length c.loop-place.objects.items ≤ c.loop-place.place = omega arith in
-    let none : count_by (goes c.args.set.now) (drop c.loop-place.place c.loop-place.objects.items) ≡ 0 = ap (count_by (goes c.args.set.now)) (drop_all c.loop-place.place c.loop-place.objects.items le) in
-    omega (arith, none, c.loop-place.invariant.total)
+    let le : length c.args.objects.items ≤ c.loop.counter = omega arith in
+    all_gone c.args.set.now c.args.objects.items c.loop.queue.items c.args.gone.now.items c.loop.gone.items c.loop.counter c.loop.invariant.parted le

@@ -1,18 +1,16 @@
-use Rattle.std.proofs.Common.{◌≡◌, ◌+◌, ◌-◌, ◌≤◌, drop, length}
+use Rattle.std.proofs.Common.{◌≡◌, ◌+◌, ◌≤◌, drop}
 use Rattle.std.specs.List.{count_by}
 use Rattle.std.specs.Vec.{vec_capacity, vec_len}
+use Rattle.std.specs.VecDeque.{deque_capacity, deque_len}
 use Rattle.unmapped_objects.specs.Taken.{IsParted, goes}
 use Rattle.unmapped_objects.proofs.taking.part.Given as goal
 
--- so many objects were parted, and there is room for the others
-abbrev pub invariant-loop-place : goal.invariant-loop-place
-invariant-loop-place l =
+-- so many objects were taken from the front, and there is room for the others
+abbrev pub invariant-loop : goal.invariant-loop
+invariant-loop l =
     record {
-      parted : IsParted l.set l.initial.objects.items l.objects.items l.initial.gone.items l.gone.items l.place;
-      total : vec_len l.gone + count_by (goes l.set) (drop l.place l.objects.items) ≡ vec_len l.initial.gone + count_by (goes l.set) l.initial.objects.items;
+      parted : IsParted l.set l.fn.objects.items l.queue.items l.initial.gone.items l.gone.items l.counter;
+      total : vec_len l.gone + count_by (goes l.set) (drop l.counter l.fn.objects.items) ≡ vec_len l.initial.gone + count_by (goes l.set) l.fn.objects.items;
       capacity : vec_capacity l.gone ≡ vec_capacity l.initial.gone;
-      within : l.place ≤ length l.objects.items;
+      within : deque_len l.queue ≤ deque_capacity l.queue;
     }
-
-abbrev pub decreases-loop-place : goal.decreases-loop-place
-decreases-loop-place l = length l.objects.items - l.place

@@ -1,7 +1,10 @@
-use Rattle.std.proofs.Common.{◌≡◌, List, subst, sym}
+use Rattle.std.proofs.Common.{◌≡◌, List, Result, Ok, Err, IfOk, subst, sym}
 use Rattle.std.specs.List.{Contains}
 use Rattle.link_history.specs.After.{after}
-use Rattle.link_history.specs.Laws.{IsIn}
+use Rattle.link_history.specs.Laws.{AreApart, IsIn}
+use Rattle.link_history.specs.State.{State}
+use Rattle.slot_choice.specs.Choosing.{ChoosesSlot}
+use Rattle.link_state.specs.Table.{LinkTable}
 use Rattle.link_history.specs.Read.{WasRead}
 use Rattle.lawful_journal.specs.Following.{machine_of}
 use Rattle.scope_rule.specs.declared.namespace.Namespace.{Namespace}
@@ -21,3 +24,16 @@ slot_choice-requires c =
 pub invariant_of-self : goal.invariant_of-self
 invariant_of-self c =
     subst (λ (nss : List Namespace). HoldsAll (after c.self.inside.journal.events) c.self.inside.journal.harts (record (lists_of c.self.inside) { namespaces = nss })) (sym c.slot_choice.ensures.same) c.self.invariant
+
+if_ok : {A E : Type 0} (r : Result A E) (P Q : A → Type 0) → ((x : A) → P x → Q x) → IfOk r P → IfOk r Q
+if_ok (Ok x) P Q f h = f x h
+if_ok (Err e) P Q f h = h
+
+pub returns-clause-ok : goal.returns-clause-ok
+returns-clause-ok c =
+    let past : State = after c.self.inside.journal.events in
+    let are : past.namespaces ≡ c.self.inside.namespaces = sym c.self.invariant.running.spaces in
+    let apart : AreApart past = c.objects_are_apart.ensures (machine_of c.self.inside.journal.harts) c.self.inside.journal.events c.journal.ensures.lawful in
+    subst (λ (v : LinkTable). IfOk c.slot_choice.result (ChoosesSlot (after v.events) c.args.owner c.args.eights)) c.self.view_is
+    (if_ok c.slot_choice.result (λ x. (s : State) → s.namespaces ≡ c.self.inside.namespaces → AreApart s → ChoosesSlot s c.args.owner c.args.eights x) (ChoosesSlot past c.args.owner c.args.eights)
+    (λ x chooses. chooses past are apart) c.slot_choice.ensures.ok)

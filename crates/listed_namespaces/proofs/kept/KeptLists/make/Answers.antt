@@ -1,5 +1,3 @@
-use Rattle.std.proofs.Common.{sym, ◌∙◌}
-use Rattle.listed_namespaces.specs.Kept.{kept_at}
 use Rattle.listed_namespaces.proofs.Standing.{at_index, is_there, one_kept}
 use Rattle.listed_namespaces.proofs.kept.KeptLists.make.Goals as goal
 

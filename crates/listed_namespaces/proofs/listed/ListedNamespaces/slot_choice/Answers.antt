@@ -1,5 +1,6 @@
 use Rattle.std.proofs.Common.{◌≡◌, List, subst, sym, ◌∙◌}
 use Rattle.std.specs.Prelude.{IfOk}
+use Rattle.link_history.specs.Laws.{AreApart}
 use Rattle.link_history.specs.State.{State}
 use Rattle.scope_rule.specs.declared.namespace.Namespace.{Namespace}
 use Rattle.slot_choice.specs.Choosing.{AllSound, ChoosesSlot}
@@ -10,5 +11,5 @@ chosen-requires-clause-sound c = subst AllSound (sym (c.as_slice-namespaces.ensu
 
 pub returns-clause-ok : goal.returns-clause-ok
 returns-clause-ok c =
-    subst (λ (nss : List Namespace). IfOk c.chosen.result (λ x. (s : State) → s.namespaces ≡ nss → ChoosesSlot s c.args.owner c.args.eights x))
+    subst (λ (nss : List Namespace). IfOk c.chosen.result (λ x. (s : State) → s.namespaces ≡ nss → AreApart s → ChoosesSlot s c.args.owner c.args.eights x))
     (c.as_slice-namespaces.ensures.value ∙ c.self.view_is) c.chosen.ensures.ok

@@ -12,7 +12,7 @@ pub of_linker : (s t : State) (lazy serial index : ℕ) → eqb serial 0 ≡ tru
 unfolding leads_to_code address is_code_of
 of_linker s t lazy serial index is = rw is refl
 
-address_by : (s : State) (serial index a : ℕ) (o : Loaded) → eqb serial 0 ≡ false → object_at s serial ≡ Some o → a ≡ definition_address (Some o) index → a ≡ address s (Def serial index)
+pub address_by : (s : State) (serial index a : ℕ) (o : Loaded) → eqb serial 0 ≡ false → object_at s serial ≡ Some o → a ≡ definition_address (Some o) index → a ≡ address s (Def serial index)
 unfolding address
 address_by s serial index a o isnt found at = rw isnt (at ∙ sym (ap (λ (x : Option Loaded). definition_address x index) found))
 
@@ -37,3 +37,17 @@ leads_weak s lazy = refl
 pub leads_missing : (s : State) (lazy : ℕ) → false ≡ leads_to_code s lazy Missing
 unfolding leads_to_code
 leads_missing s lazy = refl
+
+-- ---- addresses
+
+pub linkers_address : (s t : State) (serial index : ℕ) → eqb serial 0 ≡ true → address t (Def serial index) ≡ address s (Def serial index)
+unfolding address
+linkers_address s t serial index is = rw is refl
+
+pub weak_address : (s : State) → 0 ≡ address s WeakZero
+unfolding address
+weak_address s = refl
+
+pub missing_address : (s : State) → 0 ≡ address s Missing
+unfolding address
+missing_address s = refl

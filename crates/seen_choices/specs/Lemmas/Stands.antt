@@ -1,11 +1,10 @@
 -- The object of each choice is seen, or is the linker's own.
-use Rattle.std.proofs.Common.{◌≡◌, ℕ, Bool, true, false, ◌&&◌, not, cond, eqb, List, [], ◌∷◌, Option, Some, None, refl, sym, subst, ◌∙◌, ◌⊎◌, inl, inr}
+use Rattle.std.proofs.Common.{◌≡◌, ℕ, Bool, true, false, ◌&&◌, not, eqb, List, [], ◌∷◌, Option, Some, None, refl, sym, subst, ◌∙◌, ◌⊎◌, inl, inr}
 use Rattle.std.specs.Prelude.{if◌then◌else◌}
-use Rattle.std.specs.List.{Contains, find, slice_get}
+use Rattle.std.specs.List.{Contains, slice_get}
 use Rattle.std.proofs.lemmas.Bool.{eq-eqb, eqb-true, true≢false}
 use Rattle.ld_base.specs.Pick.{pick_of}
 use Rattle.ld_base.specs.Symbol.{is_weak}
-use Rattle.ld_base.specs.declared.linking.Choice.{Choice}
 use Rattle.ld_base.specs.declared.linking.Choice.TheVariants.{Def, WeakZero, Missing}
 use Rattle.ld_base.specs.declared.linking.Loaded.{Loaded}
 use Rattle.ld_base.specs.declared.linking.Want.{Want}
@@ -17,7 +16,7 @@ use Rattle.scope_rule.specs.Linker.{linker_symbol}
 use Rattle.scope_rule.specs.Loading.{object_of}
 use Rattle.scope_rule.specs.Relocation.{choice_at, has_no_symbol, is_copy}
 use Rattle.scope_rule.specs.Seen.{Seen}
-use Rattle.object_choices.specs.Sight.{StandsIn}
+use Rattle.seen_choices.specs.Seeing.{StandsIn}
 
 -- it is seen, or is the linker's own
 abbrev IsThere : Seen → ℕ → Type 0

@@ -1,7 +1,7 @@
 use Rattle.std.proofs.Common.{sym, ap, ◌∙◌}
 use Rattle.link_history.specs.Addresses.{leads_to_code}
-use Rattle.object_choices.proofs.Leading.{leads_missing, leads_weak}
-use Rattle.object_choices.proofs.code.leads_to_code.Goals as goal
+use Rattle.seen_choices.proofs.Leading.{leads_missing, leads_weak}
+use Rattle.seen_choices.proofs.coming.leads_to_code.Goals as goal
 
 pub returns-in-WeakZero : goal.returns-in-WeakZero
 returns-in-WeakZero c = λ s shows. leads_weak s c.args.lazy ∙ sym (ap (leads_to_code s c.args.lazy) c.in-WeakZero.is)
