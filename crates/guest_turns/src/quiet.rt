@@ -20,6 +20,7 @@ use plain_turns::Turned;
 /// Takes the next turn of a hart, if it asks nothing of the linker: an instruction, a doubleword that is
 /// copied or stored, the entry of a function, the exchange on a granted slot, the end of its offer, or the
 /// end of the hart. A hart that has ended takes none. Where the turn asks the linker nothing has changed.
+#[inline(always)]
 pub fn take_quiet(
     state: &mut LinkState,
     memory: &mut PlainMemory,

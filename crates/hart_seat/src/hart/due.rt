@@ -17,6 +17,7 @@ const PAIR: usize = 16;
 
 impl LinkedHart {
     /// What the hart's next turn is, whatever the linker's state.
+    #[inline(always)]
     #[tactic(auto, unfolding(hart_moves::specs::Due::due))]
     pub fn due(&self) -> Due<'_>
         ensures is { (s : State) → due_in s self.now.hart result ≡ due s self.now.hart }
