@@ -73,7 +73,7 @@ fn close_as_planned(
 {
     closings_keep();
     let functions = closing_destructors(alloc, state, plan.list.as_slice())?;
-    let dying = state.apply_close(hart, handle, plan)?;
+    let dying = state.close_planned(hart, handle, plan)?;
     if dying.list.is_empty() {
         return Ok(Served::Done(0));
     }

@@ -11,13 +11,13 @@ use Rattle.link_calls.proofs.closing.close_as_planned.Goals as goal
 
 pub returns-then-is_empty-clause-served : goal.returns-then-is_empty-clause-served
 returns-then-is_empty-clause-served c =
-    closed_stays c.args.state.now c.apply_close.new.self c.args.hart c.args.handle c.args.plan.list c.in_ok-dying.ensures.ok c.requires.closes
+    closed_stays c.args.state.now c.close_planned.new.self c.args.hart c.args.handle c.args.plan.list c.in_ok-dying.ensures.ok c.requires.closes
     (sym c.in_ok-dying.ensures.dying ∙ none_of c.in_ok-dying.dying.list c.is_empty.result c.is_empty.ensures c.if-is_empty.true)
 
 pub returns-clause-served : goal.returns-clause-served
 returns-clause-served c =
     let same : c.args.plan.list ≡ c.in_ok-dying.dying.list = sym c.in_ok-dying.ensures.dying in
-    closed_dies c.closings_keep.ensures.images c.closings_keep.ensures.order c.args.state.now c.apply_close.new.self c.args.hart c.args.handle c.in_ok-dying.dying c.in_ok-functions.functions
+    closed_dies c.closings_keep.ensures.images c.closings_keep.ensures.order c.args.state.now c.close_planned.new.self c.args.hart c.args.handle c.in_ok-dying.dying c.in_ok-functions.functions
     (c.in_ok-dying.ensures.ok ∙ ap (λ (ds : List ℕ). appended c.args.state.now (Close c.args.hart c.args.handle (closings.Done ds))) same)
     (subst (Closes (after c.args.state.now.events) c.args.handle) same c.requires.closes)
     (some_of c.in_ok-dying.dying.list c.is_empty.result c.is_empty.ensures c.if-is_empty.false)

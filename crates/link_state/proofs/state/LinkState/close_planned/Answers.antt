@@ -14,7 +14,7 @@ use Rattle.link_state.specs.Inside.{lists_of}
 use Rattle.link_state.specs.Table.{LinkTable}
 use Rattle.linker_lists.specs.Lemmas.Closed.{all_closed, all_with_room}
 use Rattle.linker_lists.specs.Lemmas.Held.{follows, holds_after}
-use Rattle.link_state.proofs.state.LinkState.apply_close.Goals as goal
+use Rattle.link_state.proofs.state.LinkState.close_planned.Goals as goal
 
 pub push-requires-clause-may : goal.push-requires-clause-may
 push-requires-clause-may c =
