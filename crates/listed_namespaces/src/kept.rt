@@ -56,11 +56,12 @@ fn first_home(namespaces: &[Namespace], owner: Serial) -> Option<usize>
 }
 
 impl KeptLists {
-    ghost use Rattle.std.specs.Prelude.{◌≡◌, ◌<◌, ℕ, None, true, length, IfSome, IsSome, IsTrue, OnOk};
+    ghost use Rattle.std.specs.Prelude.{◌≡◌, ◌<◌, ℕ, List, None, true, length, IfSome, IsSome, IsTrue, OnOk};
     ghost use Rattle.std.specs.Option.{option_copied};
     ghost use Rattle.link_history.specs.Objects.{has_object};
     ghost use Rattle.listed_namespaces.specs.Kept.{AreKept, kept_at};
     ghost use Rattle.scope_rule.specs.Seen.{seen_in};
+    ghost use Rattle.scope_rule.specs.declared.namespace.Namespace.{Namespace as Space};
     ghost use Rattle.search_lists.specs.Lists.{lists_of};
 
     /// None yet.
@@ -69,6 +70,15 @@ impl KeptLists {
     {
         KeptLists {
             by_place: HashMap::new(alloc),
+        }
+    }
+
+    /// Lets go of all lists, unless they stay.
+    pub(crate) fn keep_if(&mut self, alloc: Global, stay: bool)
+        ensures { (namespaces : List Space) → (stay ≡ true → AreKept namespaces self.old) → AreKept namespaces self.new }
+    {
+        if !stay {
+            *self = KeptLists::new(alloc);
         }
     }
 

@@ -7,6 +7,7 @@ ghost use Rattle.listed_namespaces.specs.Kept.{AreKept};
 ghost use Rattle.slot_choice.specs.Choosing.{AllSound, ChoosesSlot, IsFaultOf};
 
 use crate::kept::{KeptLists, home};
+use crate::staying::{closing_leaves_lists, opening_leaves_lists};
 use closing_plans::close_in;
 use ld_base::{Added, HartId, Loaded, NsId, Serial};
 use namespace_changes::{make_ready, open_in};
@@ -17,8 +18,7 @@ use std::alloc::{AllocError, Global};
 use std::marker::Model;
 use unmapped_objects::take_out;
 
-/// Namespaces, with the search lists that were made of them since they changed last. Contracts see the
-/// namespaces.
+/// Namespaces, with the search lists that are kept of them. Contracts see the namespaces.
 #[derive(Drop)]
 pub struct ListedNamespaces {
     namespaces: Vec<Namespace>,
@@ -119,16 +119,19 @@ impl ListedNamespaces {
         make_ready(alloc, self.namespaces.as_mut_slice(), serial);
     }
 
-    /// One opening less of a handle counts, and these objects die by a hart.
+    /// One opening less of a handle counts, and these objects die by a hart. The lists stay where none dies and
+    /// no opening goes.
     pub fn close(&mut self, alloc: Global, hart: HartId, handle: Serial, set: &[Serial])
         ensures { self.new ≡ closed_by hart handle set.now self.old }
     {
-        self.lists = KeptLists::new(alloc);
+        let stay = closing_leaves_lists(self.namespaces.as_slice(), handle, set);
+        self.lists.keep_if(alloc, stay);
         close_in(alloc, &mut self.namespaces, hart, handle, set);
     }
 
     /// Opens a root in the namespace with a number: its new objects stand there at the end. Where there is no
-    /// such namespace, a new one follows the others.
+    /// such namespace, a new one follows the others. The lists stay where a root that is open is opened again,
+    /// without new objects, and becomes no global one.
     ///
     /// # Errors
     ///
@@ -145,7 +148,9 @@ impl ListedNamespaces {
         ensures ok { OnOk result (self.new ≡ with_namespace id (λ ns. opened ns added root is_global) self.old) }
         ensures err { OnErr result (self.new ≡ self.old) }
     {
-        self.lists = KeptLists::new(alloc);
+        let namespaces = self.namespaces.as_slice();
+        let stay = opening_leaves_lists(namespaces, id, added.as_slice(), root, is_global);
+        self.lists.keep_if(alloc, stay);
         open_in(alloc, &mut self.namespaces, id, added, root, is_global)
     }
 
