@@ -56,6 +56,7 @@ impl World {
     /// No turn but an opening reads the library. Where the library tells its files and no read fails, an opening
     /// that finds all that it needs opens, or its hart ends for want of memory. One that is refused for a read
     /// that failed, or for a missing library, shows that in the library's counts.
+    #[inline(always)]
     pub fn turn<L: Library>(&mut self, alloc: Global, id: HartId, library: &mut L) -> Turn
         requires { id < self.old.count }
         ensures takes { TakesOver self.old.count self.old.folders (L.files library.old) id self.old.world self.new.world }
