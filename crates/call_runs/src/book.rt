@@ -1,6 +1,7 @@
 //! A file of runs, read line by line.
 
 use crate::changes::write_over;
+use crate::said::spelled;
 use crate::scene::Scene;
 use asm_object::{AsmFault, assemble};
 use ld_base::{Bytes, File, Files, Name};
@@ -195,15 +196,20 @@ impl<'a> Book<'a> {
     }
 
     fn compare(&mut self, number: usize, given: &str, wanted: &str) -> Result<(), AllocError> {
-        let holds = match wanted.strip_prefix("... ") {
-            Some(end) => given.ends_with(end),
-            None => given == wanted,
-        };
-        if holds {
+        let wanted = spelled(self.alloc, wanted)?;
+        if agrees(given, wanted.as_str()) {
             self.report.holds();
             Ok(())
         } else {
             self.report.differs(self.path, number, given)
         }
+    }
+}
+
+/// Whether a line is the one that is wanted, or ends as it is wanted to.
+fn agrees(given: &str, wanted: &str) -> bool {
+    match wanted.strip_prefix("... ") {
+        Some(end) => given.ends_with(end),
+        None => given == wanted,
     }
 }

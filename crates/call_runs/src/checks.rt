@@ -2,14 +2,18 @@
 
 ghost use Rattle.std.specs.Prelude.{◌≡◌, ◌<◌, true, false, IfOk, IsTrue};
 ghost use Rattle.lawful_journal.specs.Following.{MayFollow};
-ghost use Rattle.link_event.specs.declared.event.Event.TheVariants.{Bound, Fini, Init, Lost};
+ghost use Rattle.std.specs.List.{list_all};
+ghost use Rattle.call_runs.specs.Ends.{is_no_end_of};
+ghost use Rattle.link_event.specs.declared.event.Event.TheVariants.{Bound, Ended, Fini, Init, Lost};
+ghost use Rattle.link_event.specs.declared.hart_end.HartEnd.{HartEnd};
 ghost use Rattle.link_history.specs.After.{after};
 ghost use Rattle.link_history.specs.Objects.{has_namespace, is_startup};
+ghost use Rattle.link_history.specs.Owed.{ends_at_most, times_ended};
 ghost use Rattle.link_history.specs.Slots.{HasNoGrant};
 ghost use Rattle.link_service.specs.Waiting.{HasFinished};
 
 use ld_base::{GrantNo, HartId, NsId, Serial};
-use link_event::Dying;
+use link_event::{Dying, Event};
 use link_state::LinkState;
 use std::alloc::{AllocError, Global};
 
@@ -96,4 +100,29 @@ pub fn may_unmap(
         hart,
         dying.list.as_slice(),
     )
+}
+
+/// Whether a hart may end: it is there, and hasn't ended.
+pub fn may_end(state: &LinkState, hart: HartId) -> bool
+    ensures hart { IsTrue result → hart < state.now.harts }
+    ensures times { IsTrue result → times_ended hart (after state.now.events).endings < ends_at_most hart }
+    ensures may { IsTrue result → (reason : HartEnd) → MayFollow state.now.harts state.now.events (Ended hart reason) }
+{
+    hart.number() < state.harts() && has_not_ended(state.journal().as_slice(), hart)
+}
+
+/// Whether none of these events is an end of the hart.
+fn has_not_ended(events: &[Event], hart: HartId) -> bool
+    ensures { result ≡ list_all (is_no_end_of hart) events.now }
+{
+    events.iter().all(|event| is_no_end_of(event, hart))
+}
+
+fn is_no_end_of(event: &Event, hart: HartId) -> bool
+    ensures { result ≡ is_no_end_of hart event.now }
+{
+    match event {
+        Event::Ended { hart: by, .. } => *by != hart,
+        _ => true,
+    }
 }
