@@ -189,8 +189,9 @@ impl<'a> Book<'a> {
 
     /// The latest call appended no other events than those that were compared.
     fn end_call(&mut self, number: usize) -> Result<(), AllocError> {
-        while let Some(line) = self.scene.next_line()? {
-            self.report.differs(self.path, number, line.as_str())?;
+        let untold = self.scene.untold()?;
+        for line in untold.as_str().lines() {
+            self.report.differs(self.path, number, line)?;
         }
         Ok(())
     }

@@ -76,6 +76,14 @@ impl Scene {
         Ok(text)
     }
 
+    /// The lines of all events that weren't told yet.
+    pub fn untold(&mut self) -> Result<String, AllocError> {
+        match &mut self.run {
+            Some(run) => run.untold(),
+            None => Ok(String::new(self.alloc)),
+        }
+    }
+
     /// The line of the next event that wasn't told yet.
     pub fn next_line(&mut self) -> Result<Option<String>, AllocError> {
         match &mut self.run {
