@@ -14,7 +14,6 @@ use Rattle.link_event.specs.declared.event.OpenAnswer.TheVariants as opens
 use Rattle.link_event.specs.declared.event.SymAnswer.TheVariants as syms
 use Rattle.link_event.specs.declared.hart_end.HartEnd.{HartEnd}
 use Rattle.link_event.specs.declared.state.Ending.{Ending}
-use Rattle.link_graph.specs.Initialised.{is_one_of}
 use Rattle.link_history.specs.After.{after, after_from}
 use Rattle.link_history.specs.Allowed.{IsFirst}
 use Rattle.link_history.specs.Lemmas.Finalised.{from_reverse}
@@ -156,7 +155,7 @@ pub may_finish : (harts object : ℕ) (es : List Event) (objects : List ℕ) →
 may_finish harts object es objects all enough are first =
     let s = after es in
     let next : IsFirst (finis_of s (map serial_of (mapped s))) object = subst (λ (xs : List ℕ). IsFirst xs object) are first in
-    let listed = from_filter (is_one_of (map serial_of (mapped s))) (reverse (unfinished s)) object (at_in (finis_of s (map serial_of (mapped s))) 0 object next) in
+    let listed = from_filter (has (map serial_of (mapped s))) (reverse (unfinished s)) object (at_in (finis_of s (map serial_of (mapped s))) 0 object next) in
     let was = from_filter (λ (d : ℕ). not (has s.finis d)) s.inits object (from_reverse (unfinished s) object listed.0) in
     record {
       setting = setting_of harts;

@@ -37,6 +37,11 @@ impl Scene {
         }
     }
 
+    /// Another example begins.
+    pub fn clear(&mut self) {
+        *self = Scene::new(self.alloc);
+    }
+
     pub fn add_file(&mut self, file: File) -> Result<(), Fault> {
         Ok(self.files.push(file)?)
     }
