@@ -16,7 +16,7 @@ pub struct Scene {
     files: Files,
     failing: Calls,
     setup: Setup,
-    run: Option<Run>,
+    run: Option<Box<Run>>,
 }
 
 impl Scene {
@@ -77,7 +77,7 @@ impl Scene {
         let failing = mem::replace(&mut self.failing, Calls::new(self.alloc));
         let library = MemLibrary::new(self.alloc, files, failing);
         let (run, text) = Run::start(self.alloc, &self.setup, library)?;
-        self.run = Some(run);
+        self.run = Some(Box::new(self.alloc, run)?);
         Ok(text)
     }
 
