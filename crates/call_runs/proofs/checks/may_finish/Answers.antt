@@ -1,5 +1,5 @@
-use Rattle.std.proofs.Common.{◌≡◌, ℕ, true, ◌≤◌, List, map, refl, subst, sym, ap, ◌∙◌}
-use Rattle.std.specs.Prelude.{count_by, IfOk, IsTrue}
+use Rattle.std.proofs.Common.{◌≡◌, ℕ, true, ◌≤◌, List, map, refl, subst, sym, ◌∙◌}
+use Rattle.std.specs.Prelude.{count_by}
 use Rattle.std.specs.List.{list_all}
 use Rattle.link_event.specs.declared.event.Event.{Event}
 use Rattle.link_event.specs.declared.event.Event.TheVariants.{Fini}
