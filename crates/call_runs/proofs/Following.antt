@@ -1,5 +1,5 @@
 -- What may come of the linker's state, by what was worked out of its journal.
-use Rattle.std.proofs.Common.{◌≡◌, ◌||◌, ℕ, Bool, true, false, List, [], ◌∷◌, Option, Some, None, cond, refl, sym, subst, Bor}
+use Rattle.std.proofs.Common.{◌≡◌, ◌||◌, ℕ, Bool, true, false, List, [], ◌∷◌, Option, Some, None, cond, refl, subst, Bor}
 use Rattle.std.specs.Prelude.{IfOk, IsTrue, Result, Ok, Err, find, is_some}
 use Rattle.std.specs.List.{list_any}
 use Rattle.std.specs.Option.{option_copied}

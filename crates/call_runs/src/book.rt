@@ -1,6 +1,7 @@
 //! A file of runs, read line by line.
 
 use crate::changes::write_over;
+use crate::said::spelled;
 use crate::scene::Scene;
 use asm_object::{AsmFault, assemble};
 use ld_base::{Bytes, File, Files, Name};
@@ -49,16 +50,24 @@ impl<'a> Book<'a> {
         }
     }
 
-    /// Follows all lines, and says what doesn't hold.
+    /// Follows all lines, and says what doesn't hold. It is dear to prove that a book is dropped: that stands here
+    /// once.
     pub fn read(mut self, text: &str) -> Result<String, AllocError> {
+        let read = self.read_lines(text);
+        let Book { report, path, .. } = self;
+        match read {
+            Ok(()) => report.close(path),
+            Err(error) => Err(error),
+        }
+    }
+
+    fn read_lines(&mut self, text: &str) -> Result<(), AllocError> {
         let mut last = 0;
         for (index, line) in text.lines().enumerate() {
             last = index.saturating_add(1);
             self.read_line(last, line.trim())?;
         }
-        self.end_call(last)?;
-        let Book { report, path, .. } = self;
-        report.close(path)
+        self.end_call(last)
     }
 
     fn read_line(&mut self, number: usize, line: &str) -> Result<(), AllocError> {
@@ -72,19 +81,24 @@ impl<'a> Book<'a> {
     /// Does what a line says.
     fn follow(&mut self, number: usize, line: &str) -> Result<(), Fault> {
         match line.split_once(' ') {
-            Some((">", rest)) => {
-                self.source.push_str(rest)?;
-                Ok(self.source.push_str("\n")?)
-            }
+            Some((">", rest)) => self.take_source(rest),
             Some(("|", rest)) => Ok(self.hear(number, rest)?),
-            Some(("example", _title)) => {
-                self.end_source()?;
-                self.end_call(number)?;
-                self.scene = Scene::new(self.alloc);
-                Ok(())
-            }
+            Some(("example", _title)) => self.begin_example(number),
             _ => self.follow_plain(number, without_remark(line)),
         }
+    }
+
+    fn take_source(&mut self, line: &str) -> Result<(), Fault> {
+        self.source.push_str(line)?;
+        Ok(self.source.push_str("\n")?)
+    }
+
+    /// The example before is over.
+    fn begin_example(&mut self, number: usize) -> Result<(), Fault> {
+        self.end_source()?;
+        self.end_call(number)?;
+        self.scene.clear();
+        Ok(())
     }
 
     /// Does what a line says that is neither source nor text.
@@ -188,22 +202,28 @@ impl<'a> Book<'a> {
 
     /// The latest call appended no other events than those that were compared.
     fn end_call(&mut self, number: usize) -> Result<(), AllocError> {
-        while let Some(line) = self.scene.next_line()? {
-            self.report.differs(self.path, number, line.as_str())?;
+        let untold = self.scene.untold()?;
+        for line in untold.as_str().lines() {
+            self.report.differs(self.path, number, line)?;
         }
         Ok(())
     }
 
     fn compare(&mut self, number: usize, given: &str, wanted: &str) -> Result<(), AllocError> {
-        let holds = match wanted.strip_prefix("... ") {
-            Some(end) => given.ends_with(end),
-            None => given == wanted,
-        };
-        if holds {
+        let wanted = spelled(self.alloc, wanted)?;
+        if agrees(given, wanted.as_str()) {
             self.report.holds();
             Ok(())
         } else {
             self.report.differs(self.path, number, given)
         }
+    }
+}
+
+/// Whether a line is the one that is wanted, or ends as it is wanted to.
+fn agrees(given: &str, wanted: &str) -> bool {
+    match wanted.strip_prefix("... ") {
+        Some(end) => given.ends_with(end),
+        None => given == wanted,
     }
 }

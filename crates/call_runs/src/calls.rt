@@ -4,11 +4,12 @@
 //! those of its topic, and name it here.
 
 use crate::run::{Run, Stage};
+use crate::said::repetition;
 use crate::{dl_functions, reads, settling};
 use ld_base::{HartId, Name, NsId, Serial};
 use link_state::LinkState;
 use std::alloc::Global;
-use test_file::{Fault, Words, whole};
+use test_file::{Fault, Words};
 
 /// What a call of a run gives.
 pub fn answer(alloc: Global, run: &mut Run, call: &str) -> Result<String, Fault> {
@@ -36,6 +37,8 @@ fn step(alloc: Global, run: &mut Run, name: &str, words: &mut Words) -> Result<S
         "finalised" => settling::finalised(alloc, run, words),
         "unmap" => settling::unmap(alloc, run, words),
         "locate" => settling::locate(alloc, run, words),
+        "wrote" => settling::wrote(alloc, run, words),
+        "ended" => settling::ended(alloc, run, words),
         _ => read(alloc, run, name, words),
     }
 }
@@ -86,12 +89,14 @@ pub fn name(alloc: Global, words: &mut Words) -> Result<Option<Name>, Fault> {
         return Ok(None);
     }
     let mut bytes = Vec::new(alloc);
-    let (count, text) = match word.split_once('*') {
-        Some((count, text)) => (whole(count).ok_or(Fault::Unclear)?, text),
-        None => (1, word),
-    };
+    let (count, text) = repetition(word);
     for _ in 0..count {
         bytes.extend_from_slice(text.as_bytes())?;
     }
     Ok(Some(Name::from(bytes)))
+}
+
+/// The next word, a name that isn't none.
+pub fn some_name(alloc: Global, words: &mut Words) -> Result<Name, Fault> {
+    name(alloc, words)?.ok_or(Fault::Unclear)
 }

@@ -1,6 +1,6 @@
 //! The calls of dl functions.
 
-use crate::calls::{hart, name, namespace, running};
+use crate::calls::{hart, name, namespace, running, some_name};
 use crate::checks::{may_look, may_open};
 use crate::run::{Pending, Run, Stage};
 use crate::said::{functions_text, shown_text, value_text};
@@ -132,11 +132,6 @@ pub fn dlerror(alloc: Global, run: &mut Run, words: &mut Words) -> Result<String
 pub fn final_functions(alloc: Global, run: &Run) -> Result<String, Fault> {
     let functions = functions_left(alloc, running(run)?)?;
     Ok(functions_text(alloc, &functions)?)
-}
-
-/// A name that has to be one.
-fn some_name(alloc: Global, words: &mut Words) -> Result<Name, Fault> {
-    name(alloc, words)?.ok_or(Fault::Unclear)
 }
 
 fn bytes_of(name: &Option<Name>) -> Option<&[u8]> {

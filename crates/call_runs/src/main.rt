@@ -13,6 +13,7 @@ mod changes;
 mod checks;
 mod dl_functions;
 mod reads;
+mod reasons;
 mod run;
 mod said;
 mod scene;

@@ -1,9 +1,12 @@
 //! A run: the linker's state, with what its calls handed out.
 
+ghost use Rattle.std.specs.Prelude.{IsTrue};
+ghost use Rattle.trace_text.specs.Lines.{IsSayable};
+
 use crate::said::functions_text;
-use ld_base::{HartId, Names};
+use ld_base::{Choice, HartId, Names};
 use library_source::MemLibrary;
-use link_event::{Dying, Entries, Event, Functions, Journal};
+use link_event::{Dying, Entries, Event, Journal};
 use link_served::{Installs, Setup, StartFault, Started};
 use link_startup::startup;
 use link_state::LinkState;
@@ -27,6 +30,16 @@ pub enum Stage {
     Refused(Journal),
 }
 
+impl Stage {
+    /// The events so far.
+    fn events(&self) -> &[Event] {
+        match self {
+            Stage::Running(state) => state.journal().as_slice(),
+            Stage::Refused(journal) => journal.as_slice(),
+        }
+    }
+}
+
 /// A run, as far as its calls were made.
 #[derive(Drop)]
 pub struct Run {
@@ -35,8 +48,6 @@ pub struct Run {
     pub library: MemLibrary,
     pub folders: Names,
     pub entries: Entries,
-    /// The latest functions that a hart was to run.
-    pub functions: Functions,
     /// What the latest opening put into memory.
     pub installs: Option<Installs>,
     pub closings: Vec<Pending>,
@@ -78,7 +89,6 @@ impl Run {
             library,
             folders,
             entries: Entries::new(alloc),
-            functions: Functions::new(alloc),
             installs: None,
             closings: Vec::new(alloc),
             told: 0,
@@ -88,28 +98,31 @@ impl Run {
     fn keep_started(&mut self, started: Started) {
         let Started {
             installs,
-            functions,
             entries,
+            ..
         } = started;
         self.installs = Some(installs);
-        self.functions = functions;
         self.entries = entries;
     }
 
     /// The line of the next event that wasn't told yet, without its line feed.
     pub fn next_line(&mut self) -> Result<Option<String>, AllocError> {
-        let journal = match &self.stage {
-            Stage::Running(state) => state.journal(),
-            Stage::Refused(journal) => journal,
-        };
-        match journal.as_slice().get(self.told) {
+        match self.stage.events().get(self.told) {
             Some(event) => {
                 let line = line_of(self.alloc, event)?;
-                self.told += 1;
+                self.told = self.told.saturating_add(1);
                 Ok(Some(line))
             }
             None => Ok(None),
         }
+    }
+
+    /// The lines of all events that weren't told yet.
+    pub fn untold(&mut self) -> Result<String, AllocError> {
+        let events = self.stage.events();
+        let text = lines_from(self.alloc, events, self.told)?;
+        self.told = events.len();
+        Ok(text)
     }
 }
 
@@ -124,8 +137,37 @@ fn refused(alloc: Global, fault: StartFault) -> Result<(Journal, String), Fault>
     }
 }
 
+/// The lines of the events from a place on.
+fn lines_from(alloc: Global, events: &[Event], place: usize) -> Result<String, AllocError> {
+    let mut text = String::new(alloc);
+    for event in events.iter().skip(place) {
+        let line = line_of(alloc, event)?;
+        text.push_str(line.as_str())?;
+        text.push_str("\n")?;
+    }
+    Ok(text)
+}
+
 fn line_of(alloc: Global, event: &Event) -> Result<String, AllocError> {
+    if !is_sayable(event) {
+        return String::from_str(alloc, "an event without a line");
+    }
     let line = event_text(alloc, event)?;
     let text = String::from_utf8_lossy(alloc, line.as_slice())?;
     String::from_str(alloc, text.as_str().trim_end())
+}
+
+/// Whether an event has a line, as each one that may come has.
+fn is_sayable(event: &Event) -> bool
+    ensures { IsTrue result → IsSayable event.now }
+{
+    match event {
+        Event::Grant { choice, value, .. } => match choice {
+            Choice::Def(_, _) => true,
+            Choice::WeakZero => *value == 0,
+            Choice::Missing => false,
+        },
+        Event::Unresolved { choice, .. } => *choice != Choice::WeakZero,
+        _ => true,
+    }
 }

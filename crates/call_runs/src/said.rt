@@ -3,6 +3,46 @@
 use ld_base::{Serial, Shown};
 use link_event::{Function, Functions};
 use std::alloc::{AllocError, Global};
+use test_file::whole;
+
+/// A text, with each repetition written out: as a word of its own, or behind an equals sign.
+pub fn spelled(alloc: Global, text: &str) -> Result<String, AllocError> {
+    let mut all = String::new(alloc);
+    for word in text.split(' ') {
+        push_word(&mut all, word)?;
+        all.push_str(" ")?;
+    }
+    String::from_str(alloc, all.as_str().trim_end())
+}
+
+fn push_word(all: &mut String, word: &str) -> Result<(), AllocError> {
+    match word.split_once('=') {
+        Some((key, value)) => {
+            all.push_str(key)?;
+            all.push_str("=")?;
+            push_repeated(all, value)
+        }
+        None => push_repeated(all, word),
+    }
+}
+
+fn push_repeated(all: &mut String, word: &str) -> Result<(), AllocError> {
+    let (count, text) = repetition(word);
+    for _ in 0..count {
+        all.push_str(text)?;
+    }
+    Ok(())
+}
+
+/// How often a word says which text: `N*TEXT` says it N times.
+pub fn repetition(word: &str) -> (u64, &str) {
+    if let Some((count, text)) = word.split_once('*')
+        && let Some(count) = whole(count)
+    {
+        return (count, text);
+    }
+    (1, word)
+}
 
 /// Serials, with a comma between two of them; `-` for none.
 pub fn write_serials(text: &mut String, serials: &[Serial]) -> Result<(), AllocError> {

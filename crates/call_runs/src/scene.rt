@@ -16,7 +16,7 @@ pub struct Scene {
     files: Files,
     failing: Calls,
     setup: Setup,
-    run: Option<Run>,
+    run: Option<Box<Run>>,
 }
 
 impl Scene {
@@ -35,6 +35,11 @@ impl Scene {
             },
             run: None,
         }
+    }
+
+    /// Another example begins.
+    pub fn clear(&mut self) {
+        *self = Scene::new(self.alloc);
     }
 
     pub fn add_file(&mut self, file: File) -> Result<(), Fault> {
@@ -72,8 +77,16 @@ impl Scene {
         let failing = mem::replace(&mut self.failing, Calls::new(self.alloc));
         let library = MemLibrary::new(self.alloc, files, failing);
         let (run, text) = Run::start(self.alloc, &self.setup, library)?;
-        self.run = Some(run);
+        self.run = Some(Box::new(self.alloc, run)?);
         Ok(text)
+    }
+
+    /// The lines of all events that weren't told yet.
+    pub fn untold(&mut self) -> Result<String, AllocError> {
+        match &mut self.run {
+            Some(run) => run.untold(),
+            None => Ok(String::new(self.alloc)),
+        }
     }
 
     /// The line of the next event that wasn't told yet.

@@ -1,13 +1,22 @@
 //! What harts and a memory tell the linker's state.
 
-use crate::calls::{hart, serial};
-use crate::checks::{may_ask, may_bind, may_finalise, may_initialise, may_lose, may_unmap};
-use crate::run::{Run, Stage};
+ghost use Rattle.std.specs.Prelude.{◌<◌, length, IfSome};
+
+use crate::calls::{hart, serial, some_name};
+use crate::checks::{
+    may_ask, may_bind, may_end, may_finalise, may_initialise, may_lose, may_unmap,
+};
+use crate::reasons::reason;
+use crate::run::{Pending, Run, Stage};
 use crate::said::value_text;
-use ld_base::GrantNo;
+use ld_base::{GrantNo, HartId};
+use link_event::Dying;
 use link_state::{GrantFault, LinkState, TlsFault};
 use std::alloc::Global;
 use test_file::{Fault, Words};
+
+/// The most bytes that a hart writes at once.
+const MOST_WRITTEN: usize = 256;
 
 /// A hart calls through a slot: the slot's object and its number. Gives the value that the slot is to get.
 pub fn grant(alloc: Global, run: &mut Run, words: &mut Words) -> Result<String, Fault> {
@@ -88,27 +97,44 @@ pub fn finalised(alloc: Global, run: &mut Run, words: &mut Words) -> Result<Stri
     done(alloc)
 }
 
-/// A hart unmaps the objects of its first closing that is left.
+/// A hart unmaps the objects of its latest closing that is left.
 pub fn unmap(alloc: Global, run: &mut Run, words: &mut Words) -> Result<String, Fault> {
     let hart = hart(words)?;
-    let closings = run.closings.as_slice();
-    let place = closings.iter().position(|closing| closing.hart == hart);
-    let place = place.ok_or(Fault::Unclear)?;
-    let closing = run.closings.remove(place);
-    let Stage::Running(state) = &mut run.stage else {
-        return Err(Fault::Unclear);
-    };
-    if !may_unmap(alloc, state, hart, &closing.dying)? {
-        return Err(Fault::Unclear);
-    }
-    match state.apply_unmap(hart, &closing.dying) {
-        Ok(_removed) => done(alloc),
-        Err(grant) => {
-            run.closings.push(closing)?;
+    let place = latest_of(run.closings.as_slice(), hart).ok_or(Fault::Unclear)?;
+    let dying = &run.closings.as_slice()[place].dying;
+    match held_by(alloc, &mut run.stage, hart, dying)? {
+        None => {
+            let _closing = run.closings.remove(place);
+            done(alloc)
+        }
+        Some(grant) => {
             let number = grant.number();
             Ok(format!(in alloc; "again, grant {number} is open")?)
         }
     }
+}
+
+/// Where the latest closing of a hart stands.
+fn latest_of(closings: &[Pending], hart: HartId) -> Option<usize>
+    ensures { IfSome result (λ place. place < length closings.now) }
+{
+    closings.iter().rposition(|closing| closing.hart == hart)
+}
+
+/// Unmaps the objects of a closing, or gives the open grant that holds them.
+fn held_by(
+    alloc: Global,
+    stage: &mut Stage,
+    hart: HartId,
+    dying: &Dying,
+) -> Result<Option<GrantNo>, Fault> {
+    let Stage::Running(state) = stage else {
+        return Err(Fault::Unclear);
+    };
+    if !may_unmap(alloc, state, hart, dying)? {
+        return Err(Fault::Unclear);
+    }
+    Ok(state.apply_unmap(hart, dying).err())
 }
 
 /// A hart asks where its block of a module is.
@@ -124,6 +150,28 @@ pub fn locate(alloc: Global, run: &mut Run, words: &mut Words) -> Result<String,
         Err(TlsFault::NoRoom(pages)) => Ok(format!(in alloc; "address-space-full {pages}")?),
         Err(TlsFault::Memory) => Err(Fault::Memory),
     }
+}
+
+/// A hart writes a text.
+pub fn wrote(alloc: Global, run: &mut Run, words: &mut Words) -> Result<String, Fault> {
+    let (hart, text) = (hart(words)?, some_name(alloc, words)?);
+    let bytes = text.as_bytes();
+    if bytes.is_empty() || bytes.len() > MOST_WRITTEN {
+        return Err(Fault::Unclear);
+    }
+    state_of(run)?.wrote(hart, bytes)?;
+    done(alloc)
+}
+
+/// A hart ends.
+pub fn ended(alloc: Global, run: &mut Run, words: &mut Words) -> Result<String, Fault> {
+    let (hart, reason) = (hart(words)?, reason(words)?);
+    let state = state_of(run)?;
+    if !may_end(state, hart) {
+        return Err(Fault::Unclear);
+    }
+    state.ended(hart, reason);
+    done(alloc)
 }
 
 fn done(alloc: Global) -> Result<String, Fault> {
