@@ -17,6 +17,7 @@ use plain_turns::{Turned, finish, instruct, take_turn};
 
 /// Takes the turn that is due, but for the end of its hart, if it asks nothing of the linker. Else nothing
 /// has changed.
+#[inline(always)]
 pub(crate) fn take_alone(hart: &mut LinkedHart, memory: &mut PlainMemory) -> Option<Turned>
     requires { hart.old.hart.«end» ≡ None }
     ensures { (s : State) → TakesAlone memory.old memory.new (due s hart.old.hart) hart.old.hart hart.new.hart result }

@@ -16,6 +16,7 @@ use plain_memory::PlainMemory;
 use std::alloc::Global;
 
 /// Takes the next turn of a hart. One that has ended is passed over.
+#[inline(always)]
 pub(crate) fn take_turn<L: Library>(
     alloc: Global,
     state: &mut LinkState,
