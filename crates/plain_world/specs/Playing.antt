@@ -40,7 +40,8 @@ pub record Plays (w : Setting) (begun : Bool) (registers : Registers) (items : L
 -- of a schedule
 pub data TakesByHand (w : Setting) : List TurnItem → World → World → Type 0 where
   no_more : (world : World) → TakesByHand w [] world world
-  constructs : (taken : List TurnItem) (old between new : World) → IsTrue (is_starting old) → TakesTurn w 0 old between → TakesByHand w taken between new → TakesByHand w taken old new
+  constructs : (taken : List TurnItem) (old between new : World) → IsTrue (is_starting old) → TakesTurn w 0 old between → TakesByHand w taken between new
+      → TakesByHand w taken old new
   takes : (h : ℕ) (taken : List TurnItem) (old between new : World) → is_starting old ≡ false → TakesTurn w h old between → TakesByHand w taken between new
       → TakesByHand w (record { hart = h; count = 1 } ∷ taken) old new
 
