@@ -73,7 +73,7 @@ generated words number reads before after (Ok a) come = record { asked = Some (c
 -- ---- what is left of the library
 
 -- nothing was read
-pub left_as_is : (command : Option Command) (library : LibraryAt) → LeavesLibrary command library library
+pub left_as_is : {L : Type 0} (command : Option Command) (library : L) → LeavesLibrary command library library
 left_as_is None library = tt
 left_as_is (Some (commands.Bind bind)) library = tt
 left_as_is (Some (commands.Dump path)) library = tt
@@ -83,7 +83,7 @@ left_as_is (Some (commands.Run run)) library = tt
 left_as_is (Some (commands.Generate number)) library = refl
 
 -- turns may have read
-pub turns_read : OneCommand → (words : List (List ℕ)) (turns : Turns) → Reads words (commands.Turns turns) → (before after : LibraryAt) → OfAsked words (λ command. LeavesLibrary command before after)
+pub turns_read : {L : Type 0} → OneCommand → (words : List (List ℕ)) (turns : Turns) → Reads words (commands.Turns turns) → (before after : L) → OfAsked words (λ command. LeavesLibrary command before after)
 turns_read one words turns reads before after = by (told (commands.Turns turns))
   where
     by : CanBeDone (commands.Turns turns) ⊎ (CanBeDone (commands.Turns turns) → ⊥) → OfAsked words (λ command. LeavesLibrary command before after)

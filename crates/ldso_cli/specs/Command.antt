@@ -103,8 +103,8 @@ abbrev pub Answers : Option Command → LibraryAt → LibraryAt → End → List
 Answers None before after end text = IsUsage end text
 Answers (Some command) before after end text = CommandAnswers command before after end text
 
--- gen leaves the library as it is, whether it comes to an answer or not
-abbrev pub LeavesLibrary : Option Command → LibraryAt → LibraryAt → Type 0
+-- gen doesn't touch the library, whether it comes to an answer or not
+abbrev pub LeavesLibrary : {L : Type 0} → Option Command → L → L → Type 0
 LeavesLibrary None before after = Unit {0}
 LeavesLibrary (Some (commands.Bind bind)) before after = Unit {0}
 LeavesLibrary (Some (commands.Dump path)) before after = Unit {0}

@@ -72,9 +72,9 @@ pub fn kept_runs_are_legal()
 
 /// At each moment of a run, behind each of its turns too, the journal is legal, each slot of a mapped
 /// object holds its first word or the value of the one grant that took it, which the rules chose at one
-/// moment, and leads to no object but one that is mapped; blocks of thread-local storage are apart, and
-/// each answer on it is in the hart's own. From each moment to each later one a slot that is bound reads
-/// the same, while its object is mapped.
+/// moment, and leads to no object but one that is mapped; each grant is made in its hart's own call;
+/// blocks of thread-local storage are apart, and each answer on it counts from the hart's own. From each
+/// moment to each later one a slot that is bound reads the same, while its object is mapped.
 pub fn kept_runs_are_true()
     ensures { LeavesTrue }
 {

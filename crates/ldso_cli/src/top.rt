@@ -31,8 +31,7 @@ fn answer<L: Library>(
 ) -> Result<Answer, AllocError>
     ensures answers { OfAsked (texts words.now) (λ command. IfOk result (λ answer. Answers command (library_at L.files L.faults L.misses library.old)
         (library_at L.files L.faults L.misses library.new) answer.end answer.text)) }
-    ensures untouched { OfAsked (texts words.now) (λ command. LeavesLibrary command (library_at L.files L.faults L.misses library.old)
-        (library_at L.files L.faults L.misses library.new)) }
+    ensures untouched { OfAsked (texts words.now) (λ command. LeavesLibrary command library.old library.new) }
     ensures files { L.files library.new ≡ L.files library.old }
     ensures faults { L.faults library.old ≤ L.faults library.new }
     ensures misses { L.misses library.old ≤ L.misses library.new }
@@ -98,8 +97,7 @@ pub fn ldso<R: Threads + Wait + Sync, L: Library + Send + Drop, K: Sink>(
     ensures status { result.0.status ≡ status_of (end_of result.0) }
 
     // What the library and the sink are left as.
-    ensures untouched { OfAsked (texts words.items) (λ command. LeavesLibrary command (library_at L.files L.faults L.misses library)
-        (library_at L.files L.faults L.misses result.1)) }
+    ensures untouched { OfAsked (texts words.items) (λ command. LeavesLibrary command library result.1) }
     ensures files { L.files result.1 ≡ L.files library }
     ensures library_faults { L.faults library ≤ L.faults result.1 }
     ensures misses { L.misses library ≤ L.misses result.1 }

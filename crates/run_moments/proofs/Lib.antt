@@ -1,5 +1,6 @@
 pub mod Chains
 pub mod Chosen
 pub mod Entered
+pub mod Inside
 pub mod Own
 pub mod Throughout

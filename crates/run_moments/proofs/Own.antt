@@ -23,7 +23,7 @@ use Rattle.hart_moves.specs.Harts.{HartState}
 use Rattle.hart_moves.specs.Moves.{Did, Returns, Takes, events_of}
 use Rattle.world_turns.specs.Turn.{Turn}
 use Rattle.world_turns.specs.World.{World, found_journal}
-use Rattle.run_moments.specs.True.{FindsOwn, IsFoundInOwn, IsInOwnBlock, LocatesOwn}
+use Rattle.run_moments.specs.True.{FindsFromOwnBlock, IsFoundFromOwnBlock, IsFromOwnBlock, LocatesFromOwnBlock}
 
 -- ---- __tls_get_addr
 
@@ -32,7 +32,7 @@ module _ (new_blocks : HartsHaveNewBlocks) (w : Setting) (past : List Event) (h 
   variable_is block same = let one : variable_at block offset ≡ value = cc in sym one
 
   -- the hart gets the block first
-  in_its_new : (block : ℕ) (e : Event) → GetsBlock w past h number block e → value ≡ variable_at block offset → IsInOwnBlock (after (past ++ e ∷ [])) h number offset value
+  in_its_new : (block : ℕ) (e : Event) → GetsBlock w past h number block e → value ≡ variable_at block offset → IsFromOwnBlock (after (past ++ e ∷ [])) h number offset value
   in_its_new block e gets is = record {
     block = block;
     has = record {
@@ -43,39 +43,39 @@ module _ (new_blocks : HartsHaveNewBlocks) (w : Setting) (past : List Event) (h 
     is = is;
   }
 
-  in_its_own : (given : List Event) (answer : Answer) → Located w past h number offset given answer → answer ≡ returns value → IsInOwnBlock (after (past ++ given)) h number offset value
+  in_its_own : (given : List Event) (answer : Answer) → Located w past h number offset given answer → answer ≡ returns value → IsFromOwnBlock (after (past ++ given)) h number offset value
   in_its_own given answer (Located.in_new block e gets) same = in_its_new block e gets (variable_is block same)
   in_its_own given answer (Located.in_old block has) same =
-      subst (λ (es : List Event). IsInOwnBlock (after es) h number offset value) (sym (append-nil past)) (record { block = block; has = has; is = variable_is block same })
+      subst (λ (es : List Event). IsFromOwnBlock (after es) h number offset value) (sym (append-nil past)) (record { block = block; has = has; is = variable_is block same })
   in_its_own given answer (Located.is_bad none) same = absurd (let no : over _ ≡ returns value = same in cc)
   in_its_own given answer (Located.is_full pages none) same = absurd (let no : over _ ≡ returns value = same in cc)
 
-  serves_own : (appended : List Event) → Serves w past h (locates number offset) appended (returns value) → IsInOwnBlock (after (past ++ appended)) h number offset value
+  serves_own : (appended : List Event) → Serves w past h (locates number offset) appended (returns value) → IsFromOwnBlock (after (past ++ appended)) h number offset value
   serves_own appended serves =
-      subst (λ (es : List Event). IsInOwnBlock (after (past ++ es)) h number offset value) (sym (serves.are ∙ append-nil serves.given))
+      subst (λ (es : List Event). IsFromOwnBlock (after (past ++ es)) h number offset value) (sym (serves.are ∙ append-nil serves.given))
       (in_its_own serves.given (returns value) (located serves.gives refl) refl)
 
 returned_events : (b c : HartState) (back : Return) (value : ℕ) (appended : List Event) (did : Did) → Returns b back value appended did c → events_of did ≡ appended
 returned_events b c back value appended did x = ap events_of x.is
 
-pub locates_own : HartsHaveNewBlocks → (w : Setting) (h : ℕ) (old new : World) (turn : Turn w h old new) → LocatesOwn w h old new turn
+pub locates_own : HartsHaveNewBlocks → (w : Setting) (h : ℕ) (old new : World) (turn : Turn w h old new) → LocatesFromOwnBlock w h old new turn
 locates_own new_blocks w h old new turn number offset value back calls same =
     let past : List Event = found_journal old turn.did in
     let takes = subst (λ (answer : Answer). Takes w (found_journal old turn.did) h turn.before (locates number offset) back answer calls.appended turn.did turn.left) same calls.takes in
     let serves = subst (λ (answer : Answer). Serves w (found_journal old turn.did) h (locates number offset) calls.appended answer) same calls.serves in
-    subst (λ (es : List Event). IsInOwnBlock (after es) h number offset value)
+    subst (λ (es : List Event). IsFromOwnBlock (after es) h number offset value)
     (sym (turn.journal ∙ ap (λ (es : List Event). found_journal old turn.did ++ es) (returned_events turn.before turn.left back value calls.appended turn.did takes)))
     (serves_own new_blocks w (found_journal old turn.did) h number offset value calls.appended serves)
 
 -- ---- look-ups
 
-found_by : (s : State) (hart serial index value : ℕ) (b : Bool) → IsAddressBy b s hart serial index value → b ≡ true → IsFoundInOwn s hart serial index value
+found_by : (s : State) (hart serial index value : ℕ) (b : Bool) → IsAddressBy b s hart serial index value → b ≡ true → IsFoundFromOwnBlock s hart serial index value
 found_by s hart serial index value true x storage = record { block = x.0; has = x.1; is = x.2 }
 found_by s hart serial index value false x storage = absurd (let no : false ≡ true = storage in cc)
 
-found_own : (s : State) (hart serial index value : ℕ) (ask : SymAsk) → FindsSymbol s hart ask serial index value → is_storage_symbol s serial index ≡ true → IsFoundInOwn s hart serial index value
+found_own : (s : State) (hart serial index value : ℕ) (ask : SymAsk) → FindsSymbol s hart ask serial index value → is_storage_symbol s serial index ≡ true → IsFoundFromOwnBlock s hart serial index value
 found_own s hart serial index value ask x storage = found_by s hart serial index value (is_storage_symbol s serial index) x.is storage
 
-pub finds_own : (w : Setting) (journal : List Event) → Legal w journal → FindsOwn journal
+pub finds_own : (w : Setting) (journal : List Event) → Legal w journal → FindsFromOwnBlock journal
 unfolding Legal
 finds_own w journal legal k hart serial index value ask at storage = found_own _ hart serial index value ask (legal k (events.Sym hart ask (Found serial index value)) at).1 storage

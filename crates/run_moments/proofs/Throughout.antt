@@ -6,10 +6,11 @@ use Rattle.link_event.specs.declared.hart_end.HartEnd.TheVariants as ends
 use Rattle.link_served.specs.declared.startup.Setup.{Setup}
 use Rattle.link_history.specs.Accepted.{AcceptsOnly}
 use Rattle.link_history.specs.After.{after}
-use Rattle.link_history.specs.Laws.{BlocksAreApart, ImagesAreMapped, slot_address}
+use Rattle.link_history.specs.Laws.{BlocksAreApart, ImagesAreMapped, SlotsBegin, slot_address}
 use Rattle.link_history.specs.Legal.{Lawful}
 use Rattle.link_history.specs.Setting.{Machine, Setting}
 use Rattle.link_history.specs.Lemmas.History.{legal_is_lawful}
+use Rattle.link_history.specs.Lemmas.LoadWords.{load_word}
 use Rattle.new_blocks.specs.Laws.{HartsHaveNewBlocks}
 use Rattle.schedules.specs.declared.schedule.TurnItem.{TurnItem}
 use Rattle.hart_moves.specs.Moves.{events_of}
@@ -27,10 +28,12 @@ use Rattle.run_moments.specs.True.{HasMore, IsTrueAt, StaysTrue}
 use Rattle.run_moments.proofs.Chains.{behind_start, later_in, run_leads}
 use Rattle.run_moments.proofs.Chosen.{was_chosen, was_granted}
 use Rattle.run_moments.proofs.Entered.{enters_code}
+use Rattle.run_moments.proofs.Inside.{grants_in_calls}
 use Rattle.run_moments.proofs.Own.{finds_own, locates_own}
 
 pub record MomentLaws : Type 0 where
   pub mapped : (m : Machine) (journal : List Event) → Lawful m journal → ImagesAreMapped (after journal)
+  pub begins : (m : Machine) (journal : List Event) → AcceptsOnly m → Lawful m journal → SlotsBegin (after journal)
   pub apart : (m : Machine) (journal : List Event) → Lawful m journal → BlocksAreApart m (after journal)
   pub new_blocks : HartsHaveNewBlocks
   pub start : StartIsSound
@@ -73,11 +76,18 @@ module _ (laws : MomentLaws) (w : Setting) (only : AcceptsOnly w.machine) where
       record {
         legal = sound.legal;
         memory = sound.holds;
+        mapped = laws.mapped w.machine world.journal lawful;
+        first_words = record {
+          at_load = λ i slot value r there at got. (laws.begins w.machine world.journal only lawful).at_load i slot value r there at got (load_word w.machine world.journal lawful i.serial slot value got);
+          lazy = (laws.begins w.machine world.journal only lawful).lazy;
+        };
         slots = slots;
         enters = λ i slot r there at. enters_code (after world.journal) (laws.mapped w.machine world.journal lawful) (winners world.harts) (memory_of world.words) sound.holds
             (doubleword world.words (slot_address i r)).value (slots.enters i slot r there at);
         granted = was_granted w world.journal sound.legal;
         chosen = was_chosen w world.journal sound.legal;
+        grants = λ h new turn. grants_in_calls w h world new turn;
+        fits = sound.fits;
         blocks = laws.apart w.machine world.journal lawful;
         locates = λ h new turn. locates_own laws.new_blocks w h world new turn;
         finds = finds_own w world.journal sound.legal;

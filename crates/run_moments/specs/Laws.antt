@@ -16,7 +16,7 @@ use Rattle.run_moments.specs.True.{IsTrueAt, StaysTrue}
 abbrev pub IsNext : Setting → World → World → Type 0
 IsNext w old new = Steps w old new ⊎ (new ≡ old)
 
--- those in which a part of the run ends are among them
+-- each comes next behind the one before, and those in which a part of the run ends are among them
 pub record HasMoments {w : Setting} {setup : Setup} {items : List TurnItem} {world : World} (run : Run w setup items world) : Type 0 where
   pub next : (k : ℕ) (old new : World) → IsMoment run k old → IsMoment run (k + 1) new → IsNext w old new
   pub started : IsMoment run 0 run.started

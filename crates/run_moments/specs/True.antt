@@ -1,6 +1,7 @@
 -- What is true at one moment of a run, and what stays so until a later one.
-use Rattle.std.specs.Prelude.{◌≡◌, ◌≢◌, ◌⊎◌, ℕ, ◌^◌, ◌+◌, ◌%◌, List, ◌++◌, take, Some, Contains, IsTrue}
+use Rattle.std.specs.Prelude.{◌≡◌, ◌≢◌, ◌⊎◌, ℕ, ◌^◌, ◌+◌, ◌*◌, ◌%◌, List, ◌++◌, take, Some, None, Contains, IsTrue}
 use Rattle.std.specs.List.{slice_get}
+use Rattle.ld_base.specs.declared.linking.Choice.{Choice}
 use Rattle.ld_base.specs.declared.linking.Loaded.{Loaded}
 use Rattle.ld_base.specs.declared.linking.Role.TheVariants.{Rx}
 use Rattle.ld_base.specs.declared.object.Reloc.{Reloc}
@@ -14,29 +15,33 @@ use Rattle.link_event.specs.declared.event.SymAsk.{SymAsk}
 use Rattle.link_event.specs.declared.state.Chosen.{Chosen}
 use Rattle.link_event.specs.declared.state.Granting.{Granting}
 use Rattle.seg_image.specs.Pages.{own_address}
+use Rattle.relocator.specs.Relocated.{moved_word}
 use Rattle.seg_image.specs.Roles.{role_of}
 use Rattle.link_history.specs.Addresses.{is_linkers_page}
 use Rattle.link_history.specs.After.{after}
 use Rattle.link_history.specs.Allowed.{MayGrant}
 use Rattle.link_history.specs.Bound.{chosen_of}
-use Rattle.link_history.specs.Laws.{BlocksAreApart, slot_address}
+use Rattle.link_history.specs.Laws.{BlocksAreApart, ImagesAreMapped, slot_address}
 use Rattle.link_history.specs.Legal.{Legal}
 use Rattle.link_history.specs.Lookup.{is_storage_symbol, symbol_value}
-use Rattle.link_history.specs.Memory.{image_at}
+use Rattle.link_history.specs.Memory.{image_at, word_at}
 use Rattle.link_history.specs.Objects.{IsMapped}
 use Rattle.link_history.specs.Setting.{Setting}
+use Rattle.link_history.specs.Slots.{value_at_load}
 use Rattle.link_history.specs.State.{Linked, State}
 use Rattle.link_history.specs.Step.{binds, loaded, seen_after}
 use Rattle.link_history.specs.Storage.{tls_block}
 use Rattle.link_service.specs.Answer.{returns}
-use Rattle.link_service.specs.Call.{locates}
+use Rattle.link_service.specs.Call.{locates, resolves}
 use Rattle.link_service.specs.Gives.{HasBlock, variable_at}
 use Rattle.memory_holds.specs.Enters.{SlotStays, SlotTrue}
 use Rattle.memory_holds.specs.Holds.{Holds, lazy_at}
 use Rattle.memory_holds.specs.Memory.{doubleword_of}
 use Rattle.hart_moves.specs.Due.{Return}
-use Rattle.hart_moves.specs.Moves.{Calls}
+use Rattle.hart_moves.specs.Harts.{HartState, Offered, Resolving}
+use Rattle.hart_moves.specs.Moves.{Calls, Did, events_of}
 use Rattle.world_turns.specs.Memory.{doubleword, memory_of}
+use Rattle.world_turns.specs.Sound.{Fits}
 use Rattle.world_turns.specs.Turn.{Turn}
 use Rattle.world_turns.specs.World.{World, found_journal, winners}
 use Rattle.world_slots.specs.Later.{Later}
@@ -79,30 +84,54 @@ pub data IsCode (s : State) (a : ℕ) : Type 0 where
 abbrev pub EntersCode : State → ℕ → Type 0
 EntersCode s value = (value ≡ 0) ⊎ IsCode s (doubleword_of value)
 
+-- ---- inside the call
+
+-- the hart's own call of its slot's resolver made the grant, and what it put there is offered to its exchange, which comes next
+pub record IsGrantedInCall (w : Setting) (h : ℕ) (past : List Event) (b c : HartState) (did : Did) (number hart owner slot value : ℕ) : Type 0 where
+  pub own : hart ≡ h
+  pub back : Return
+  pub calls : Calls w past h b (resolves owner (8 * slot)) back did c
+  pub offered : Offered
+  pub exchanges : c.resolving ≡ Resolving.to_exchange offered
+  pub number_is : offered.number ≡ number
+  pub value_is : offered.value ≡ value
+
+-- so is each grant that a turn appends
+abbrev pub GrantsInCalls : (w : Setting) (h : ℕ) (old new : World) → Turn w h old new → Type 0
+GrantsInCalls w h old new turn = (number hart owner slot value : ℕ) (choice : Choice) → Contains (events_of turn.did) (Grant number hart owner slot choice value)
+    → IsGrantedInCall w h (found_journal old turn.did) turn.before turn.left turn.did number hart owner slot value
+
+-- the first word of a slot: the value that it got when its object was loaded, if it got one, and else the lazy one
+pub record HaveFirstWords (s : State) : Type 0 where
+  pub at_load : (i : Linked) (slot value : ℕ) (r : Reloc) → Contains s.images i → slice_get i.object.plt_relocs slot ≡ Some r
+      → value_at_load s i.serial slot ≡ Some value → word_at s (slot_address i r) ≡ value
+  pub lazy : (i : Linked) (slot : ℕ) (r : Reloc) → Contains s.images i → slice_get i.object.plt_relocs slot ≡ Some r → value_at_load s i.serial slot ≡ None
+      → word_at s (slot_address i r) ≡ moved_word i.object i.base r.place
+
 -- ---- thread-local storage
 
--- the address of a variable, which stands at this offset in the hart's own block of the module with this number
-pub record IsInOwnBlock (s : State) (hart number offset value : ℕ) : Type 0 where
+-- the address of a variable: so far from the start of the hart's own block of the module with this number
+pub record IsFromOwnBlock (s : State) (hart number offset value : ℕ) : Type 0 where
   pub block : ℕ
   pub has : HasBlock s hart number block
   pub is : value ≡ variable_at block offset
 
 -- what a turn answers where its hart calls __tls_get_addr
-abbrev pub LocatesOwn : (w : Setting) (h : ℕ) (old new : World) → Turn w h old new → Type 0
-LocatesOwn w h old new turn = (number offset value : ℕ) (back : Return)
+abbrev pub LocatesFromOwnBlock : (w : Setting) (h : ℕ) (old new : World) → Turn w h old new → Type 0
+LocatesFromOwnBlock w h old new turn = (number offset value : ℕ) (back : Return)
     (calls : Calls w (found_journal old turn.did) h turn.before (locates number offset) back turn.did turn.left) → calls.answer ≡ returns value
-    → IsInOwnBlock (after new.journal) h number offset value
+    → IsFromOwnBlock (after new.journal) h number offset value
 
--- the address of a variable that a look-up found, in the hart's own block of its object's module
-pub record IsFoundInOwn (s : State) (hart serial index value : ℕ) : Type 0 where
+-- the address of a variable that a look-up found, counted from the hart's own block of its object's module
+pub record IsFoundFromOwnBlock (s : State) (hart serial index value : ℕ) : Type 0 where
   pub block : ℕ
   pub has : tls_block s hart serial ≡ Some block
   pub is : value ≡ (block + symbol_value s serial index) % 2 ^ 64
 
 -- what look-ups answered, each in the state in which it was made
-abbrev pub FindsOwn : List Event → Type 0
-FindsOwn journal = (k hart serial index value : ℕ) (ask : SymAsk) → slice_get journal k ≡ Some (Sym hart ask (Found serial index value))
-    → IsTrue (is_storage_symbol (after (take k journal)) serial index) → IsFoundInOwn (after (take k journal)) hart serial index value
+abbrev pub FindsFromOwnBlock : List Event → Type 0
+FindsFromOwnBlock journal = (k hart serial index value : ℕ) (ask : SymAsk) → slice_get journal k ≡ Some (Sym hart ask (Found serial index value))
+    → IsTrue (is_storage_symbol (after (take k journal)) serial index) → IsFoundFromOwnBlock (after (take k journal)) hart serial index value
 
 -- ---- one moment
 
@@ -110,6 +139,9 @@ pub record IsTrueAt (w : Setting) (world : World) : Type 0 where
   -- the journal is one legal history, and memory is as it says
   pub legal : Legal w world.journal
   pub memory : Holds (after world.journal) (winners world.harts) (memory_of world.words)
+  -- each mapped object has its image, and each slot its first word
+  pub mapped : ImagesAreMapped (after world.journal)
+  pub first_words : HaveFirstWords (after world.journal)
   -- each slot holds its first word or the value of the one grant that took it, and leads to no object but one that is mapped
   pub slots : SlotTrue (after world.journal) (winners world.harts) (memory_of world.words)
   pub enters : (i : Linked) (slot : ℕ) (r : Reloc) → Contains (after world.journal).images i → slice_get i.object.plt_relocs slot ≡ Some r
@@ -117,11 +149,14 @@ pub record IsTrueAt (w : Setting) (world : World) : Type 0 where
   -- what a grant chose the rules chose at one moment, that of its event; and what a slot got at load, at the opening of its object
   pub granted : (g : Granting) → Contains (after world.journal).grants g → WasGranted world.journal g
   pub chosen : (c : Chosen) → Contains (after world.journal).chosen c → WasChosen world.journal c
-  -- no address is in two blocks of thread-local storage, and each answer on it is in the hart's own: of whichever turn comes next, and of each
+  -- a grant is made in its hart's own call, of whichever turn comes next; and a hart that is at a slot has the open grant of it
+  pub grants : (h : ℕ) (new : World) (turn : Turn w h world new) → GrantsInCalls w h world new turn
+  pub fits : (h : ℕ) (b : HartState) → slice_get world.harts h ≡ Some b → Fits (after world.journal) world.words h b.resolving
+  -- no address is in two blocks of thread-local storage, and each answer on it counts from the hart's own: of whichever turn comes next, and of each
   -- look-up that was made
   pub blocks : BlocksAreApart w.machine (after world.journal)
-  pub locates : (h : ℕ) (new : World) (turn : Turn w h world new) → LocatesOwn w h world new turn
-  pub finds : FindsOwn world.journal
+  pub locates : (h : ℕ) (new : World) (turn : Turn w h world new) → LocatesFromOwnBlock w h world new turn
+  pub finds : FindsFromOwnBlock world.journal
 
 -- ---- from one moment to a later one
 

@@ -9,13 +9,15 @@ pub fn runs_have_moments()
 {}
 
 /// At each moment of a run the journal is legal, memory is as it says, each slot of a mapped object holds
-/// what it should and leads to no object but one that is mapped, blocks of thread-local storage are apart,
-/// and answers on it are in the hart's own block. From each moment to each later one the journal grows,
-/// and a slot that isn't lazy reads the same while its object is mapped.
+/// what it should and leads to no object but one that is mapped, what it chose was chosen at one moment,
+/// each grant is made in its hart's own call, blocks of thread-local storage are apart, and answers on it
+/// count from the hart's own block. From each moment to each later one the journal grows, and a slot that
+/// isn't lazy reads the same while its object is mapped.
 pub fn moments_are_true()
     ensures { RunsAreTrue }
 {
     link_history::images_are_mapped();
+    link_history::slots_begin();
     link_history::blocks_are_apart();
     new_blocks::harts_have_new_blocks();
     world_turns::runs_start_sound();

@@ -82,9 +82,7 @@ pub returns-in-Ok-Turns-clause-untouched : goal.returns-in-Ok-Turns-clause-untou
 returns-in-Ok-Turns-clause-untouched g c =
     let reads : Reads (texts c.args.words.now) (commands.Turns c.in-Ok-Turns.command) =
     subst (λ (command : Command). Reads (texts c.args.words.now) command) c.in-Ok-Turns.field-0-is c.in-Ok-Turns.ensures.is in
-    let before = library_at g.L.Library.files g.L.Library.faults g.L.Library.misses c.args.library.now in
-    let after = library_at g.L.Library.files g.L.Library.faults g.L.Library.misses c.turns.new.library in
-    turns_read c.words_are_one_command.ensures (texts c.args.words.now) c.in-Ok-Turns.command reads before after
+    turns_read c.words_are_one_command.ensures (texts c.args.words.now) c.in-Ok-Turns.command reads c.args.library.now c.turns.new.library
 
 pub returns-in-Ok-Generate-clause-untouched : goal.returns-in-Ok-Generate-clause-untouched
 returns-in-Ok-Generate-clause-untouched g c =
@@ -95,5 +93,4 @@ returns-in-Ok-Generate-clause-untouched g c =
 pub returns-clause-untouched : goal.returns-clause-untouched
 returns-clause-untouched g c =
     let memory = c.in-Err-Memory.ensures.memory c.in-Err-Memory.field-0-is in
-    let library = library_at g.L.Library.files g.L.Library.faults g.L.Library.misses c.args.library.now in
-    unanswered c.words_are_one_command.ensures (texts c.args.words.now) memory.0 memory.1 (λ command. left_as_is command library)
+    unanswered c.words_are_one_command.ensures (texts c.args.words.now) memory.0 memory.1 (λ command. left_as_is command c.args.library.now)

@@ -4,6 +4,7 @@ use Rattle.run_moments.proofs.law.moments_are_true.Goals as goal
 pub returns : goal.returns
 returns c = runs_true (record {
   mapped = c.images_are_mapped.ensures;
+  begins = c.slots_begin.ensures;
   apart = c.blocks_are_apart.ensures;
   new_blocks = c.harts_have_new_blocks.ensures;
   start = c.runs_start_sound.ensures;
