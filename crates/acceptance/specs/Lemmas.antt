@@ -2,7 +2,9 @@
 pub mod Answers
 pub mod Finds
 pub mod Firsts
+pub mod Judged
 pub mod Leasts
 pub mod Read
 pub mod Reading
 pub mod Tables
+pub mod Tests

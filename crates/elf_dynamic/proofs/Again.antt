@@ -1,7 +1,6 @@
--- The first of a list that is bad: a step more, and what it means.
-use Rattle.std.proofs.Common.{◌≡◌, ◌∙◌, ap, sym, ℕ, zero, suc, ◌+◌, Bool, true, false, ◌||◌, List, [], ◌∷◌, ◌++◌, length, map, append_assoc, arith, refl}
+-- The first of a list that is bad: one element more, and what is found.
+use Rattle.std.proofs.Common.{◌≡◌, ℕ, suc, Bool, true, false, ◌||◌, List, [], ◌∷◌, ◌++◌, length, map, append_assoc, refl}
 use Rattle.std.specs.Prelude.{Option, Some, None, option_map, if◌then◌else◌}
-use Rattle.std.specs.Option.{option_or}
 use Rattle.std.specs.List.{list_any}
 use Rattle.std.proofs.lemmas.List.{append-nil}
 use Rattle.ld_base.specs.declared.object.Span.{Span}
@@ -9,39 +8,30 @@ use Rattle.elf_dynamic.specs.Again.{first_again}
 use Rattle.elf_dynamic.specs.Memory.{overlaps}
 
 module _ {X : Type 0} (bad : X → Bool) (range : X → Span) where
-  -- elements, and more of them
-  pub again_append : (ranges : List Span) (xs ys : List X)
-      → first_again bad range ranges (xs ++ ys) ≡ option_or (first_again bad range ranges xs) (option_map (λ k. length xs + k) (first_again bad range (ranges ++ map range xs) ys))
-  again_append ranges [] ys = rw append-nil (same (first_again bad range ranges ys))
+  -- one element more, where none before it is bad
+  pub again_more : (ranges : List Span) (xs : List X) (x : X) → first_again bad range ranges xs ≡ None
+      → first_again bad range ranges (xs ++ x ∷ []) ≡ (if bad x || list_any (overlaps (range x)) (ranges ++ map range xs) then Some (length xs) else None)
+  again_more ranges [] x none = rw append-nil refl
+  again_more ranges (y ∷ xs) x none =
+      let (passed, rest) = kept (bad y || list_any (overlaps (range y)) ranges) (first_again bad range (ranges ++ range y ∷ []) xs) none in
+      rw (passed, again_more (ranges ++ range y ∷ []) xs x rest, append_assoc) (pushed _)
     where
-      same : (o : Option ℕ) → o ≡ option_map (λ k. 0 + k) o
-      same None = refl
-      same (Some k) = ap Some (omega arith)
-  again_append ranges (x ∷ xs) ys =
-      step (bad x || list_any (overlaps (range x)) ranges) (first_again bad range (ranges ++ range x ∷ []) (xs ++ ys)) (first_again bad range (ranges ++ range x ∷ []) xs)
-      (first_again bad range (ranges ++ range x ∷ map range xs) ys)
-      (again_append (ranges ++ range x ∷ []) xs ys ∙ ap (λ rs. option_or (first_again bad range (ranges ++ range x ∷ []) xs) (option_map (λ k. length xs + k) (first_again bad range rs ys))) (append_assoc ranges (range x ∷ []) (map range xs)))
-    where
-      mapped : (o : Option ℕ) → option_map suc (option_map (λ k. length xs + k) o) ≡ option_map (λ k. suc (length xs) + k) o
-      mapped None = refl
-      mapped (Some k) = ap Some (omega arith)
+      kept : (fails : Bool) (rest : Option ℕ) → (if fails then Some 0 else option_map suc rest) ≡ None → (fails ≡ false) × (rest ≡ None)
+      kept true rest e = absurd cc
+      kept false None e = (refl, refl)
+      kept false (Some k) e = absurd cc
 
-      step : (here : Bool) (all front rest : Option ℕ) → all ≡ option_or front (option_map (λ k. length xs + k) rest)
-          → (if here then Some 0 else option_map suc all) ≡ option_or (if here then Some 0 else option_map suc front) (option_map (λ k. suc (length xs) + k) rest)
-      step true all front rest is = refl
-      step false all None rest is = ap (option_map suc) is ∙ mapped rest
-      step false all (Some k) rest is = ap (option_map suc) is
-
-  -- one element more that is kept
-  pub again_more : (ranges : List Span) (xs : List X) (x : X) → first_again bad range ranges xs ≡ None → bad x ≡ false → list_any (overlaps (range x)) (ranges ++ map range xs) ≡ false
-      → first_again bad range ranges (xs ++ x ∷ []) ≡ None
-  again_more ranges xs x none good apart = rw (again_append ranges xs (x ∷ []), none, good, apart) refl
-
-  -- one element more that isn't
-  pub again_here : (ranges : List Span) (xs : List X) (x : X) → first_again bad range ranges xs ≡ None → (bad x || list_any (overlaps (range x)) (ranges ++ map range xs)) ≡ true
-      → first_again bad range ranges (xs ++ x ∷ []) ≡ Some (length xs)
-  again_here ranges xs x none fails = rw (again_append ranges xs (x ∷ []), none, fails) (ap Some (omega arith))
+      pushed : (fails : Bool) → option_map suc (if fails then Some (length xs) else None) ≡ (if fails then Some (suc (length xs)) else None)
+      pushed true = refl
+      pushed false = refl
 
   -- what is found stays found
   pub again_found : (ranges : List Span) (xs ys : List X) (k : ℕ) → first_again bad range ranges xs ≡ Some k → first_again bad range ranges (xs ++ ys) ≡ Some k
-  again_found ranges xs ys k found = rw (again_append ranges xs ys, found) refl
+  again_found ranges [] ys k found = absurd cc
+  again_found ranges (x ∷ xs) ys k found = step (bad x || list_any (overlaps (range x)) ranges) _ (λ i. again_found (ranges ++ range x ∷ []) xs ys i) k found
+    where
+      step : (fails : Bool) (rest : Option ℕ) {more : Option ℕ} → ((i : ℕ) → rest ≡ Some i → more ≡ Some i) → (k : ℕ)
+          → (if fails then Some 0 else option_map suc rest) ≡ Some k → (if fails then Some 0 else option_map suc more) ≡ Some k
+      step true rest same k e = e
+      step false None same k e = absurd cc
+      step false (Some i) same k e = rw (same i refl) e

@@ -1,9 +1,8 @@
 -- Tables that break no rule keep what is told of them.
-use Rattle.std.proofs.Common.{◌≡◌, ◌∙◌, ap, sym, subst, refl, ℕ, ◌+◌, ◌%◌, ◌<◌, ◌==◌, Bool, List, ◌++◌, length, Some, arith, inl, inr}
-use Rattle.std.specs.Prelude.{Decides}
+use Rattle.std.proofs.Common.{◌≡◌, ◌∙◌, ap, sym, subst, refl, ℕ, ◌+◌, ◌%◌, ◌<◌, Bool, List, ◌++◌, length, Some, arith, inl, inr}
 use Rattle.std.specs.List.{slice_get}
-use Rattle.std.proofs.lemmas.Bool.{cases_Bool, cases_lt}
-use Rattle.std.proofs.lemmas.Bool.Decides.{not_from_Decides}
+use Rattle.std.proofs.lemmas.Bool.{cases_lt}
+use Rattle.std.proofs.lemmas.Bool.Decides.{Decides-eqb}
 use Rattle.std.proofs.lemmas.Option.{slice_get_within}
 use Rattle.ld_base.specs.declared.object.Reloc.{Reloc}
 use Rattle.ld_base.specs.declared.object.Span.{Span}
@@ -21,12 +20,10 @@ use Rattle.elf_dynamic.specs.Breaks.IsBadSlot.{other_type, of_null, no_symbol as
 use Rattle.elf_dynamic.specs.Breaks.IsBadSlotAt.{bad_slot as bad_at, bad_table as bad_head}
 use Rattle.elf_dynamic.specs.Breaks.IsBadTable.{bad_slots}
 use Rattle.elf_dynamic.specs.Keeps.{all_named, IsReloc, IsSlot, Keeps}
-use Rattle.elf_dynamic.specs.Memory.{in_writable}
 use Rattle.elf_dynamic.specs.Named.{doubleword, named_by, slot_ranges}
 use Rattle.elf_dynamic.specs.Parts.{AreBytes}
 use Rattle.elf_dynamic.specs.Parts.AreBytes.{held, missing}
 use Rattle.elf_dynamic.specs.Ranges.{IsPlace, Share}
-use Rattle.elf_dynamic.specs.Rules.{leads_to_code}
 use Rattle.elf_dynamic.specs.Verdict.{SpellsDynamic}
 use Rattle.elf_dynamic.specs.Verdict.Breaks.{by_tables}
 use Rattle.elf_dynamic.specs.Verdict.TablesBreak.{bad_table, bad_reloc, has_feature, bad_slot}
@@ -34,16 +31,13 @@ use Rattle.elf_dynamic.proofs.BadTables.{slots_decides}
 use Rattle.acceptance.specs.Lemmas.Finds.{never}
 use Rattle.elf_dynamic.proofs.Relocs.{get_both, get_map}
 use Rattle.elf_dynamic.proofs.SlotReasons.{code_decides}
-use Rattle.elf_dynamic.proofs.Tests.{eq_decides, writable_decides}
-
--- what a test decides holds, where its contrary doesn't
-decided : {P : Type 0} (b : Bool) → Decides b P → ((P → ⊥) → ⊥) → P
-decided b d never_not = elim (cases_Bool b) [ inl holds ↦ d.0 holds | inr fails ↦ absurd (never_not (not_from_Decides b d fails)) ]
+use Rattle.acceptance.specs.Lemmas.Tests.{decided}
+use Rattle.elf_dynamic.proofs.Tests.{writable_decides}
 
 its_place : (headers : List Header) (place : ℕ) → ((IsPlace headers place → ⊥) → ⊥) → IsPlace headers place
 its_place headers place never_not = record {
-  aligned = decided (place % 8 == 0) (eq_decides (place % 8) 0) (λ odd. never_not (λ is. odd is.aligned));
-  writable = decided (in_writable headers (doubleword place)) (writable_decides headers (doubleword place)) (λ out. never_not (λ is. out is.writable));
+  aligned = decided (Decides-eqb (place % 8) 0) (λ odd. never_not (λ is. odd is.aligned));
+  writable = decided (writable_decides headers (doubleword place)) (λ out. never_not (λ is. out is.writable));
 }
 
 slot_range : (symbols : List Symbol) (r : Reloc) → r.kind ≡ 5 → named_by symbols r ≡ doubleword r.place
@@ -75,18 +69,18 @@ module _ (bytes : List ℕ) (head : Head) (program : Bool) (parts : DynParts) (s
         symbol = elim (cases_lt r.symbol (length parts.symbols)) [ inl there ↦ there | inr past ↦ absurd (good (no_symbol past)) ];
         other = λ five. good (is_slot five);
         place = λ some other. its_place head.headers r.place (λ bad. good (no_place some other bad));
-        copy = λ four. (λ null. good (copies_null four null), decided (in_writable head.headers (named_by parts.symbols r)) (writable_decides head.headers (named_by parts.symbols r)) (λ out. good (copies_outside four out)));
+        copy = λ four. (λ null. good (copies_null four null), decided (writable_decides head.headers (named_by parts.symbols r)) (λ out. good (copies_outside four out)));
       }
 
   its_slot : (i : ℕ) (r : Reloc) → slice_get parts.plt_relocs i ≡ Some r → IsSlot bytes head.headers parts.symbols r
   its_slot i r is =
       let good : IsBadSlot bytes head.headers parts.symbols others (slot_ranges parts.symbols parts.plt_relocs) i r → ⊥ = λ bad. no_bad_slot i (bad_at r is bad) in
       record {
-        type = decided (r.kind == 5) (eq_decides r.kind 5) (λ other. good (other_type other));
+        type = decided (Decides-eqb r.kind 5) (λ other. good (other_type other));
         some = λ null. good (of_null null);
         symbol = elim (cases_lt r.symbol (length parts.symbols)) [ inl there ↦ there | inr past ↦ absurd (good (slot_no_symbol past)) ];
         place = its_place head.headers r.place (λ bad. good (slot_no_place bad));
-        code = decided (leads_to_code bytes head.headers r.place) (code_decides bytes head.headers parts.symbols others parts.plt_relocs r.place) (λ bad. good (no_code bad));
+        code = decided (code_decides bytes head.headers r.place) (λ bad. good (no_code bad));
       }
 
   -- the range of a slot is its place's doubleword
@@ -117,15 +111,15 @@ module _ (bytes : List ℕ) (head : Head) (program : Bool) (parts : DynParts) (s
   its_table some =
       let count = s.say.plt_relocs.count in
       let (range, is) = some_bytes s.say.slots s.say.are_slots (omega arith) in
-      let slots = decided _ (slots_decides head.headers parts.tags range) (λ bad. no_table dt_jmprel (bad_slots range is bad)) in
+      let slots = decided (slots_decides head.headers parts.tags range) (λ bad. no_table dt_jmprel (bad_slots range is bad)) in
       let (start, there) = slots.words in
       let at : parts.pltgot ≡ Some start = s.say.pltgot ∙ there in
       let free : (IsSlotTable head.headers (all_named parts) start → ⊥) → ⊥ = λ bad. no_bad_slot (length parts.plt_relocs) (bad_head refl some start at bad) in (
         start,
         at,
         record {
-          aligned = decided (start % 8 == 0) (eq_decides (start % 8) 0) (λ odd. free (λ t. odd t.aligned));
-          writable = decided _ (writable_decides head.headers (record { start = start; size = 16 })) (λ out. free (λ t. out t.writable));
+          aligned = decided (Decides-eqb (start % 8) 0) (λ odd. free (λ t. odd t.aligned));
+          writable = decided (writable_decides head.headers (record { start = start; size = 16 })) (λ out. free (λ t. out t.writable));
           free = λ j a is share. free (λ t. t.free j a is share);
         },
       )

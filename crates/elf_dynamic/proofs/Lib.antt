@@ -3,17 +3,14 @@ pub mod Ascending
 pub mod BadNames
 pub mod BadTables
 pub mod Bits
-pub mod Bitwise
 pub mod Both
 pub mod Counting
 pub mod Ends
 pub mod Features
 pub mod Judging
 pub mod Keeping
-pub mod Kept
 pub mod Limits
 pub mod Low
-pub mod Overlaps
 pub mod Packed
 pub mod ReadParts
 pub mod Readable
@@ -22,7 +19,6 @@ pub mod Relocs
 pub mod SlotReasons
 pub mod Slots
 pub mod Spans
-pub mod Strings
 pub mod Tests
 pub mod Unnamed
 pub mod Verdicts

@@ -1,5 +1,5 @@
 -- How long the parts of a file may be.
-use Rattle.std.proofs.Common.{◌≡◌, ℕ, ◌+◌, ◌*◌, ◌/◌, ◌≤◌, ◌-◌, List, [], length, drop, arith, length-drop}
+use Rattle.std.proofs.Common.{ℕ, ◌+◌, ◌/◌, ◌≤◌, ◌-◌, List, [], length, drop, arith, length-drop}
 use Rattle.std.specs.Prelude.{Option, Some, None, option_map, slice_range, unwrap_or}
 use Rattle.std.proofs.lemmas.List.{length-take}
 use Rattle.ld_base.specs.declared.object.Span.{Span}

@@ -1,120 +1,113 @@
--- The places that packed relocations name, and the front of them that is read.
-use Rattle.std.proofs.Common.{◌≡◌, ◌∙◌, ap, sym, refl, ℕ, zero, suc, ◌+◌, ◌-◌, ◌*◌, ◌/◌, ◌%◌, ◌^◌, ◌==◌, ◌≤◌, ◌<◌, Bool, true, false, List, [], ◌∷◌, ◌++◌, length, map, filter, append_assoc, add-one, add-zero, zero-add, arith, inl, inr, subst}
-use Rattle.std.proofs.Math.Nat.{eq-or-lt_of_le}
+-- Packed relocations, one after the other.
+use Rattle.std.proofs.Common.{◌≡◌, ◌∙◌, ap, sym, subst, refl, ℕ, suc, ◌+◌, ◌-◌, ◌*◌, ◌/◌, ◌%◌, ◌<◌, ◌≤◌, ◌==◌, Bool, true, false, ◌||◌, List, [], ◌∷◌, ◌++◌, length, map, filter}
+use Rattle.std.proofs.Common.{add-one, append_assoc, drop, drop-cons, length-append, arith, inl, inr}
+use Rattle.std.specs.Prelude.{Some, if◌then◌else◌, nat_lt}
+use Rattle.std.specs.List.{list_any, range_with_len}
 use Rattle.std.proofs.lemmas.Bool.{cases_Bool}
-use Rattle.std.proofs.lemmas.List.{append-nil, length_push, map-append}
-use Rattle.std.proofs.lemmas.List.Elements.{filter-append}
-use Rattle.std.proofs.lemmas.List.Sums.{fold_push}
-use Rattle.std.specs.Prelude.{if◌then◌else◌}
-use Rattle.std.specs.List.{range_with_len}
+use Rattle.std.proofs.lemmas.Bool.Decides.{nat_tests}
+use Rattle.std.proofs.lemmas.List.{append-nil, map-append}
+use Rattle.std.proofs.lemmas.Option.{get_or_from_slice_get}
 use Rattle.ld_base.specs.Field.{field}
-use Rattle.acceptance.specs.Table.{table}
-use Rattle.elf_dynamic.specs.Relr.{begins_odd, bits_of, has_bit, name_more, named_by_words, Named}
+use Rattle.ld_base.specs.declared.object.Span.{Span}
+use Rattle.ld_base.specs.declared.parts.Header.{Header}
+use Rattle.acceptance.specs.Lemmas.Tables.{get-table, length-table}
+use Rattle.elf_dynamic.specs.declared.relr.Judged.{Judged}
+use Rattle.elf_dynamic.specs.Again.{first_again}
+use Rattle.elf_dynamic.specs.Judged.{most_places, AdmitsMore, ArePlaces, IsJudged}
+use Rattle.elf_dynamic.specs.Marks.{is_marked, AreMarks}
+use Rattle.elf_dynamic.specs.Memory.{overlaps}
+use Rattle.elf_dynamic.specs.Named.{doubleword}
+use Rattle.elf_dynamic.specs.Relr.{after_word, bits_of, has_bit, places_from, relr_words, word_places}
+use Rattle.elf_dynamic.specs.Rules.{is_bad_place}
+use Rattle.elf_dynamic.proofs.Again.{again_found, again_more}
+use Rattle.elf_dynamic.proofs.Ends.{put_marks}
+use Rattle.elf_dynamic.proofs.Slots.{marked_place}
 
--- the words of so many, and what they name
-abbrev pub first_words : List ℕ → ℕ → List ℕ
-first_words bytes n = table (field 8 bytes) 0 8 n
+-- ---- one more
 
--- ---- words
-
--- one word more
-named_next : (bytes : List ℕ) (n : ℕ) → named_by_words (first_words bytes (suc n)) ≡ name_more (named_by_words (first_words bytes n)) (field 8 bytes (8 * n))
-unfolding named_by_words
-named_next bytes n = rw zero-add (fold_push name_more _ (first_words bytes n) (field 8 bytes (8 * n)))
-
-pub named_more : (bytes : List ℕ) (n : ℕ) → named_by_words (first_words bytes (n + 1)) ≡ name_more (named_by_words (first_words bytes n)) (field 8 bytes (8 * n))
-named_more bytes n = ap (λ k. named_by_words (first_words bytes k)) (add-one n) ∙ named_next bytes n
-
--- the place from which the bits count after one word more
-pub next_more : (bytes : List ℕ) (n word next after : ℕ) → word ≡ field 8 bytes (8 * n) → next ≡ (named_by_words (first_words bytes n)).next → after ≡ (if word % 2 == 0 then word + 8 else next + 504)
-    → after ≡ (named_by_words (first_words bytes (n + 1))).next
-next_more bytes n word next after is here step =
-    step ∙ ap (λ w. if w % 2 == 0 then w + 8 else next + 504) is ∙ ap (λ k. if field 8 bytes (8 * n) % 2 == 0 then field 8 bytes (8 * n) + 8 else k + 504) here
-    ∙ sym (next_of (named_by_words (first_words bytes n)) (field 8 bytes (8 * n))) ∙ sym (ap (λ (named : Named). named.next) (named_more bytes n))
-  where
-    next_of : (named : Named) (word : ℕ) → (name_more named word).next ≡ (if word % 2 == 0 then word + 8 else named.next + 504)
-    next_of named word = elim (cases_Bool (word % 2 == 0)) [ inl even ↦ rw even refl | inr odd ↦ rw odd refl ]
-
--- the places of a word stand after those before it
-step_extends : (named : Named) (word : ℕ) → (rest : List ℕ) × ((name_more named word).places ≡ named.places ++ rest)
-step_extends named word =
-    elim (cases_Bool (word % 2 == 0)) [
-      | inl even ↦ (word ∷ [], rw even refl)
-      | inr odd ↦ (map (λ i. named.next + 8 * (i - 1)) (bits_of word), rw odd refl)
+-- the doubleword of a place that isn't bad is named where one before it has a byte of it
+pub refused : (headers : List Header) (words : List ℕ) (ranges : List Span) (place : ℕ) → AreMarks words ranges
+    → (is_bad_place headers place || is_marked words (place / 8)) ≡ (is_bad_place headers place || list_any (overlaps (doubleword place)) ranges)
+refused headers words ranges place marks =
+    elim (cases_Bool (is_bad_place headers place)) [
+      | inl bad ↦ rw bad refl
+      | inr good ↦ let aligned : place % 8 ≡ 0 = grind arith in rw (good, marked_place words ranges place marks aligned) refl
     ]
 
--- the places of words stand before those of more words
-pub places_extend : (bytes : List ℕ) (i n : ℕ) → i ≤ n → (rest : List ℕ) × ((named_by_words (first_words bytes n)).places ≡ (named_by_words (first_words bytes i)).places ++ rest)
-places_extend bytes i zero within = let same : i ≡ 0 = omega arith in ([], rw (same, append-nil) refl)
-places_extend bytes i (suc n) within =
-    elim (eq-or-lt_of_le within) [
-      | inl same ↦ ([], rw (same, append-nil) refl)
-      | inr below ↦
-          let before = places_extend bytes i n (omega arith) in
-          let step = step_extends (named_by_words (first_words bytes n)) (field 8 bytes (8 * n)) in
-          let one = named_next bytes n in
-          (before.0 ++ step.0, ap (λ (named : Named). named.places) one ∙ step.1 ∙ ap (λ xs. xs ++ step.0) before.1 ∙ append_assoc _ before.0 step.0)
-    ]
+module _ (headers : List Header) (ranges : List Span) (places : List ℕ) (place : ℕ) (old : Judged) (judged : IsJudged headers ranges places old) where
+  abbrev fails : Bool
+  fails = is_bad_place headers place || list_any (overlaps (doubleword place)) (ranges ++ map doubleword places)
 
--- the first of so many words
-pub first_odd : (bytes : List ℕ) (n : ℕ) → begins_odd (first_words bytes (suc n)) ≡ (field 8 bytes 0 % 2 == 1)
-first_odd bytes zero = refl
-first_odd bytes (suc n) = front_odd (first_words bytes (suc n)) _ (omega (arith, length_push (first_words bytes n) (field 8 bytes (0 + 8 * n)))) ∙ first_odd bytes n
-  where
-    front_odd : (words : List ℕ) (more : List ℕ) → 0 < length words → begins_odd (words ++ more) ≡ begins_odd words
-    front_odd [] more some = absurd (omega arith)
-    front_odd (word ∷ words) more some = refl
+  pub admit_bad : fails ≡ true → first_again (is_bad_place headers) doubleword ranges (places ++ place ∷ []) ≡ Some old.count
+  admit_bad bad = again_more (is_bad_place headers) doubleword ranges places place judged.none ∙ rw bad (ap Some (sym judged.are.count))
 
--- ---- bits
+  one_more : (new : List ℕ) → is_bad_place headers place ≡ false → ((e : ℕ) → is_marked new e ≡ (place / 8 == e || is_marked old.named.words.items e)) → AreMarks new (ranges ++ map doubleword (places ++ place ∷ []))
+  one_more new good step =
+      let aligned : place % 8 ≡ 0 = grind arith in
+      let same : (ranges ++ map doubleword places) ++ doubleword place ∷ [] ≡ ranges ++ map doubleword (places ++ place ∷ []) = rw (append_assoc, map-append) refl in
+      rw same at (put_marks old.named.words.items new (ranges ++ map doubleword places) (doubleword place) judged.marks
+      (λ e. step e ∙ ap (λ b. b || is_marked old.named.words.items e) (same_doubleword place e aligned)))
+    where
+      same_doubleword : (place e : ℕ) → place % 8 ≡ 0 → (place / 8 == e) ≡ overlaps (doubleword (8 * e)) (doubleword place)
+      same_doubleword place e aligned = grind (arith, nat_tests)
 
--- one number more
-range_more : (a n : ℕ) → range_with_len a (suc n) ≡ range_with_len a n ++ (a + n) ∷ []
-range_more a zero = rw add-zero refl
-range_more a (suc n) =
-    let same : a + 1 + n ≡ a + suc n = omega arith in
-    ap (λ xs. a ∷ xs) (range_more (a + 1) n ∙ ap (λ k. range_with_len (a + 1) n ++ k ∷ []) same)
+  pub admit_kept : (new : Judged) → fails ≡ false → ((e : ℕ) → is_marked new.named.words.items e ≡ (place / 8 == e || is_marked old.named.words.items e))
+      → new.places ≡ (if nat_lt (length old.places) most_places then old.places ++ place ∷ [] else old.places) → new.count ≡ old.count + 1
+      → IsJudged headers ranges (places ++ place ∷ []) new
+  admit_kept new good marks listed count =
+      let longer = length-append places (place ∷ []) in
+      record {
+        none = again_more (is_bad_place headers) doubleword ranges places place judged.none ∙ rw good refl;
+        marks = one_more new.named.words.items (grind arith) marks;
+        are = record {
+          listed = λ few. (let kept = judged.are.listed (omega arith) in let room : nat_lt (length old.places) most_places ≡ true = rw kept (grind (arith, nat_tests)) in listed ∙ rw (room, kept) refl);
+          count = omega (arith, count, judged.are.count, longer);
+        };
+      }
 
--- the places of the first bits of a word, from a place on
-unfoldable pub bit_places : ℕ → ℕ → ℕ → List ℕ
-bit_places word next n = map (λ i. next + 8 * (i - 1)) (filter (has_bit word) (range_with_len 1 n))
+-- where no more places are kept than there are, all are
+pub all_places : (j : Judged) (places : List ℕ) → ArePlaces j places → j.count ≤ 1_048_576 → j.places ≡ places
+unfolding most_places
+all_places j places are few = are.listed (omega (arith, are.count))
 
--- those of no bit, and of all
-pub no_bits : (word next : ℕ) → bit_places word next 0 ≡ []
-unfolding bit_places
-no_bits word next = refl
+-- ---- the front of them
 
-pub all_bits : (word next : ℕ) → bit_places word next 63 ≡ map (λ i. next + 8 * (i - 1)) (bits_of word)
-unfolding bit_places bits_of
+-- the places before these are judged
+abbrev pub JudgedFront : List Header → List Span → List ℕ → List ℕ → Judged → Type 0
+JudgedFront headers ranges rest all j = (front : List ℕ) × IsJudged headers ranges front j × (front ++ rest ≡ all)
+
+module _ {headers : List Header} {ranges : List Span} {rest all : List ℕ} {old : Judged} (front : JudgedFront headers ranges rest all old) (more after : List ℕ) (split : rest ≡ more ++ after) where
+  pub front_more : (kept : Bool) (new : Judged) → AdmitsMore headers more old kept new → kept ≡ true → JudgedFront headers ranges after all new
+  front_more kept new admits is = (front.0 ++ more, rw is at (admits ranges front.0 front.1), append_assoc front.0 more after ∙ ap (λ xs. front.0 ++ xs) (sym split) ∙ front.2)
+
+  pub front_stop : (kept : Bool) (new : Judged) → AdmitsMore headers more old kept new → kept ≡ false → first_again (is_bad_place headers) doubleword ranges all ≡ Some new.count
+  front_stop kept new admits is =
+      let whole = append_assoc front.0 more after ∙ ap (λ xs. front.0 ++ xs) (sym split) ∙ front.2 in
+      rw whole at (again_found (is_bad_place headers) doubleword ranges (front.0 ++ more) after new.count (rw is at (admits ranges front.0 front.1)))
+
+pub front_end : {headers : List Header} {ranges : List Span} {rest all : List ℕ} {j : Judged} → JudgedFront headers ranges rest all j → rest ≡ [] → IsJudged headers ranges all j
+front_end {headers} {ranges} {j = j} front none = subst (λ ps. IsJudged headers ranges ps j) (rw (none, append-nil) at front.2) front.1
+
+-- ---- bit by bit, and word by word
+
+-- the places of the bits from one on
+abbrev pub bits_from : ℕ → ℕ → ℕ → List ℕ
+bits_from word next bit = map (λ i. next + 8 * (i - 1)) (filter (has_bit word) (range_with_len bit (64 - bit)))
+
+pub one_bit : (word next bit : ℕ) → bit < 64 → bits_from word next bit ≡ (if has_bit word bit then (next + 8 * (bit - 1)) ∷ [] else []) ++ bits_from word next (bit + 1)
+one_bit word next bit few =
+    let same : 64 - bit ≡ suc (64 - (bit + 1)) = omega arith in
+    rw same (elim (cases_Bool (has_bit word bit)) [ inl has ↦ rw has refl | inr lacks ↦ rw lacks refl ])
+
+pub all_bits : (word next : ℕ) → bits_from word next 1 ≡ map (λ i. next + 8 * (i - 1)) (bits_of word)
+unfolding bits_of
 all_bits word next = refl
 
-next_bit : (word next n : ℕ) → bit_places word next (suc n) ≡ bit_places word next n ++ map (λ i. next + 8 * (i - 1)) (filter (has_bit word) ((1 + n) ∷ []))
-unfolding bit_places
-next_bit word next n =
-    ap (λ xs. map (λ i. next + 8 * (i - 1)) (filter (has_bit word) xs)) (range_more 1 n)
-    ∙ ap (λ xs. map (λ i. next + 8 * (i - 1)) xs) (filter-append (has_bit word) (range_with_len 1 n) ((1 + n) ∷ []))
-    ∙ map-append (λ i. next + 8 * (i - 1)) (filter (has_bit word) (range_with_len 1 n)) (filter (has_bit word) ((1 + n) ∷ []))
-
--- one bit more
-pub bit_more : (word next bit : ℕ) → 1 ≤ bit → bit_places word next (bit + 1 - 1) ≡ bit_places word next (bit - 1) ++ (if has_bit word bit then (next + 8 * (bit - 1)) ∷ [] else [])
-bit_more word next bit some =
-    let last : bit + 1 - 1 ≡ suc (bit - 1) = omega arith in
-    let same : 1 + (bit - 1) ≡ bit = omega arith in
-    ap (bit_places word next) last ∙ next_bit word next (bit - 1)
-    ∙ ap (λ k. bit_places word next (bit - 1) ++ map (λ i. next + 8 * (i - 1)) (filter (has_bit word) (k ∷ []))) same
-    ∙ ap (λ xs. bit_places word next (bit - 1) ++ xs) (of_bit (has_bit word bit))
-  where
-    of_bit : (has : Bool) → map (λ i. next + 8 * (i - 1)) (if has then bit ∷ [] else []) ≡ (if has then (next + 8 * (bit - 1)) ∷ [] else [])
-    of_bit true = refl
-    of_bit false = refl
-
--- the places of bits stand before those of more bits
-pub bits_extend : (word next i n : ℕ) → i ≤ n → (rest : List ℕ) × (bit_places word next n ≡ bit_places word next i ++ rest)
-bits_extend word next i zero within = let same : i ≡ 0 = omega arith in ([], rw (same, append-nil) refl)
-bits_extend word next i (suc n) within =
-    elim (eq-or-lt_of_le within) [
-      | inl same ↦ ([], rw (same, append-nil) refl)
-      | inr below ↦
-          let before = bits_extend word next i n (omega arith) in
-          let step = map (λ k. next + 8 * (k - 1)) (filter (has_bit word) ((1 + n) ∷ [])) in
-          (before.0 ++ step, next_bit word next n ∙ ap (λ xs. xs ++ step) before.1 ∙ append_assoc (bit_places word next i) before.0 step)
-    ]
+pub one_word : (packed : List ℕ) (next i word : ℕ) → i < length packed / 8 → word ≡ field 8 packed (8 * i)
+    → places_from next (drop i (relr_words packed)) ≡ word_places next word ++ places_from (after_word next word) (drop (i + 1) (relr_words packed))
+one_word packed next i word within is =
+    let longer : i < length (relr_words packed) = omega (arith, length-table (field 8 packed) 0 8 (length packed / 8)) in
+    let place : 0 + 8 * i ≡ 8 * i = omega arith in
+    let here : drop i (relr_words packed) ≡ word ∷ drop (i + 1) (relr_words packed) =
+    rw (add-one, drop-cons (relr_words packed) i 0 longer, get_or_from_slice_get (relr_words packed) i _ 0 (get-table (field 8 packed) 0 8 (length packed / 8) i within), place, is) refl in
+    rw here refl

@@ -1,9 +1,10 @@
 -- What follows for symbols that a file has.
-use Rattle.std.proofs.Common.{◌≡◌, ℕ, ◌+◌, ◌*◌, ◌<◌, ◌≤◌, ◌^◌, Bool, true, false, List, [], ◌∷◌, ◌++◌, None, Ok, refl, arith, inl, inr}
+use Rattle.std.proofs.Common.{◌≡◌, ℕ, ◌+◌, ◌*◌, ◌<◌, ◌≤◌, ◌^◌, Bool, true, false, List, None, refl, arith, inl, inr}
 use Rattle.ld_base.specs.declared.parts.HashTable.{HashTable}
 use Rattle.ld_base.specs.declared.parts.Header.{Header}
 use Rattle.ld_base.specs.declared.parts.Tag.{Tag}
-use Rattle.std.specs.Prelude.{IsTrue}
+use Rattle.std.specs.Prelude.{IsTrue, Option, Some, if◌then◌else◌}
+use Rattle.std.specs.Option.{option_or}
 use Rattle.std.specs.List.{list_any}
 use Rattle.std.proofs.lemmas.List.Folds.{Any-from_list_any}
 use Rattle.elf_head.specs.Accepted.{AllFit, Fits}
@@ -14,16 +15,15 @@ use Rattle.elf_dynamic.specs.Rules.{bad_table, first_bad, lacks_symbols, table_c
 use Rattle.dyn_table.specs.Tag.{value_of}
 use Rattle.dyn_table.specs.TagNumbers.{dt_symtab}
 
--- where no table is bad, the last of them isn't
-last_good : (tables : List (ℕ × Bool)) (tag : ℕ) (bad : Bool) → first_bad (tables ++ (tag, bad) ∷ []) ≡ None → bad ≡ false
-last_good [] tag true none = absurd cc
-last_good [] tag false none = refl
-last_good ((t, true) ∷ tables) tag bad none = absurd cc
-last_good ((t, false) ∷ tables) tag bad none = last_good tables tag bad none
+-- where no table is bad, no symbol lacks
+last_good : (tables : Option ℕ) (lacks : Bool) → option_or tables (if lacks then Some dt_symtab else None) ≡ None → lacks ≡ false
+last_good None true e = absurd cc
+last_good None false e = refl
+last_good (Some tag) lacks e = absurd cc
 
 good_last : (headers : List Header) (tags : List Tag) (words : HashTable) (count : ℕ) → bad_table headers tags words count ≡ None → lacks_symbols headers tags count ≡ false
 unfolding bad_table
-good_last headers tags words count none = last_good (table_checks headers tags words) dt_symtab (lacks_symbols headers tags count) none
+good_last headers tags words count none = last_good (first_bad (table_checks headers tags words)) (lacks_symbols headers tags count) none
 
 -- then all symbols are in the file
 pub all_symbols : (headers : List Header) (tags : List Tag) (words : HashTable) (count : ℕ) → bad_table headers tags words count ≡ None → readable headers (value_of tags dt_symtab) (24 * count) ≡ true

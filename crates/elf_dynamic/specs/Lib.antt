@@ -14,5 +14,4 @@ pub mod Ranges
 pub mod Relr
 pub mod Rules
 pub mod Tables
-pub mod Tells
 pub mod Verdict

@@ -1,5 +1,5 @@
 -- Ranges of addresses as tests, for the code of this crate alone: `Share` and `LiesIn` say what they decide.
-use Rattle.std.specs.Prelude.{ℕ, ◌+◌, ◌^◌, ◌<◌, ◌≤◌, IsTrue, ◌==◌, ◌&&◌, ◌||◌, Bool, nat_lt, nat_le, List}
+use Rattle.std.specs.Prelude.{ℕ, ◌+◌, ◌^◌, ◌≤◌, IsTrue, ◌==◌, ◌&&◌, ◌||◌, Bool, nat_lt, nat_le, List}
 use Rattle.std.specs.List.{list_any, All}
 use Rattle.ld_base.specs.declared.object.Span.{Span}
 use Rattle.ld_base.specs.declared.parts.Header.{Header}
@@ -25,7 +25,3 @@ overlaps a b = nat_lt 0 a.size && nat_lt 0 b.size && nat_lt a.start (b.start + b
 -- the memory of each mapped segment ends in the first 4 GiB of addresses
 abbrev pub AreLow : List Header → Type 0
 AreLow headers = All (λ h. IsTrue (is_loaded h) → h.vaddr + h.memsz ≤ 2 ^ 32) headers
-
--- the range ends before the last address
-abbrev pub IsBounded : Span → Type 0
-IsBounded s = s.start + s.size < 2 ^ 64

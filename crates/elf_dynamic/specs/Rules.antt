@@ -18,9 +18,9 @@ use Rattle.ld_base.specs.declared.parts.HashTable.{HashTable}
 use Rattle.ld_base.specs.declared.parts.Header.{Header}
 use Rattle.ld_base.specs.declared.parts.Tag.{Tag}
 use Rattle.acceptance.specs.Broken.{first_broken}
+use Rattle.acceptance.specs.Least.{least_below}
 use Rattle.elf_head.specs.Header.{is_loaded}
 use Rattle.elf_head.specs.Readable.{file_bytes, readable}
-use Rattle.acceptance.specs.Table.{table}
 use Rattle.dyn_table.specs.HashWords.{hash_words}
 use Rattle.elf_dynamic.specs.Memory.{in_writable, in_executable, is_writable, is_executable, overlaps}
 use Rattle.dyn_table.specs.Name.{string_at}
@@ -58,11 +58,11 @@ are_addresses headers s = s.size % 8 == 0 && s.start % 8 == 0 && is_readable hea
 -- neither hash table is there, or the System V table has no words in the file or no buckets
 abbrev pub has_bad_hash : HashTable → List Tag → Bool
 has_bad_hash words tags =
-    if has tags dt_hash then option_map_or (λ s. length s.buckets == 0) words.sysv true else not (has tags dt_gnu_hash)
+    (not (has tags dt_hash) && not (has tags dt_gnu_hash)) || (has tags dt_hash && option_map_or (λ s. not (nat_lt 0 (length s.buckets))) words.sysv true)
 
 -- the GNU table has no words in the file, no buckets or no bloom words
 abbrev pub has_bad_gnu_hash : HashTable → List Tag → Bool
-has_bad_gnu_hash words tags = has tags dt_gnu_hash && option_map_or (λ g. length g.buckets == 0 || length g.bloom == 0) words.gnu true
+has_bad_gnu_hash words tags = has tags dt_gnu_hash && option_map_or (λ g. not (nat_lt 0 (length g.buckets) && nat_lt 0 (length g.bloom))) words.gnu true
 
 -- no string table with bytes in the file
 abbrev pub has_bad_strings : List Header → List Tag → Bool
@@ -70,7 +70,7 @@ has_bad_strings headers tags = option_map_or (λ s. not (is_readable headers s))
 
 -- no symbol table with entries of ELF64
 abbrev pub has_bad_symbols : List Tag → Bool
-has_bad_symbols tags = not (has tags dt_symtab && value_of tags dt_syment == 24)
+has_bad_symbols tags = not (has tags dt_symtab) || not (value_of tags dt_syment == 24)
 
 -- relocations with addends, less those of slots; where none is left the table counts as not there
 abbrev pub has_bad_rela : List Header → List Tag → Bool
@@ -123,7 +123,8 @@ table_checks headers tags words =
 
 -- the first tag whose table is bad; the symbols themselves, of which there are so many, come last
 unfoldable pub bad_table : List Header → List Tag → HashTable → ℕ → Option ℕ
-bad_table headers tags words count = first_bad (table_checks headers tags words ++ (dt_symtab, lacks_symbols headers tags count) ∷ [])
+bad_table headers tags words count =
+    option_or (first_bad (table_checks headers tags words)) (if lacks_symbols headers tags count then Some dt_symtab else None)
 
 -- ---- rule 12: the strings
 
@@ -137,9 +138,14 @@ name_offsets (t ∷ tags) =
 abbrev pub lacks_string : List ℕ → ℕ → Bool
 lacks_string strings offset = not (is_some (string_at strings offset))
 
+-- the first of so many symbols that has an offset for its name at which there is no string
+abbrev pub unnamed_symbol : List ℕ → List ℕ → ℕ → Option ℕ
+unnamed_symbol strings part count = least_below (λ i. lacks_string strings (symbol_name part (24 * i))) count
+
 -- the first offset without a string: of the names of the dynamic table, then of the symbols' names
 unfoldable pub bad_string : List ℕ → List Tag → List ℕ → ℕ → Option ℕ
-bad_string strings tags part count = find (lacks_string strings) (name_offsets tags ++ table (symbol_name part) 0 24 count)
+bad_string strings tags part count =
+    option_or (find (lacks_string strings) (name_offsets tags)) (option_map (λ i. symbol_name part (24 * i)) (unnamed_symbol strings part count))
 
 -- ---- rule 13: the symbols
 
@@ -159,12 +165,12 @@ bad_symbol headers symbols = position (is_bad_symbol (has_storage headers)) symb
 
 -- the place of a doubleword: a multiple of 8 in writable memory
 abbrev pub is_bad_place : List Header → ℕ → Bool
-is_bad_place headers place = not (place % 8 == 0) || not (in_writable headers (doubleword place))
+is_bad_place headers place = not (place % 8 == 0 && in_writable headers (doubleword place))
 
 -- R_RISCV_NONE is 0 and R_RISCV_COPY 4: of the first no place is asked, of the second any place where its symbol's bytes are writable
 abbrev pub is_misplaced : List Header → List Symbol → Reloc → Bool
 is_misplaced headers symbols r =
-    if r.kind == 0 then false else if r.kind == 4 then not (in_writable headers (named_by symbols r)) else is_bad_place headers r.place
+    (r.kind == 4 && not (in_writable headers (named_by symbols r))) || (not (r.kind == 0) && not (r.kind == 4) && is_bad_place headers r.place)
 
 -- a symbol that isn't there, R_RISCV_JUMP_SLOT (5), a copy of the null symbol, or a bad place
 abbrev pub is_bad_reloc : List Header → List Symbol → Reloc → Bool
@@ -205,11 +211,11 @@ abbrev pub is_exec : Kind → Bool
 is_exec Exec = true
 is_exec Dyn = false
 
--- the least of the features that an object has and that isn't linked: STT_GNU_IFUNC (10), R_RISCV_IRELATIVE (58), STB_GNU_UNIQUE (10),
+-- the features that an object may have and that aren't linked, of which the least counts: STT_GNU_IFUNC (10), R_RISCV_IRELATIVE (58), STB_GNU_UNIQUE (10),
 -- R_RISCV_TLSDESC (12), R_RISCV_32 (1), DT_REL, DT_TEXTREL or DF_TEXTREL, R_RISCV_COPY (4) in a library, another type, a segment that may be
 -- written and run, ET_EXEC of a library
-unfoldable pub refused_feature : Head → Bool → List Tag → List Symbol → List Reloc → Option ℕ
-refused_feature head program tags symbols relocs = first_bad (
+abbrev pub features : Head → Bool → List Tag → List Symbol → List Reloc → List (ℕ × Bool)
+features head program tags symbols relocs =
     (1, list_any (λ s. is_defined s && type_of s == 10) symbols)
     ∷ (2, has_type 58 relocs)
     ∷ (3, list_any (λ s. binding s == 10) symbols)
@@ -221,7 +227,10 @@ refused_feature head program tags symbols relocs = first_bad (
     ∷ (9, list_any is_other_type relocs)
     ∷ (11, has_open_segment head.headers)
     ∷ (12, not program && is_exec head.kind)
-    ∷ [])
+    ∷ []
+
+unfoldable pub refused_feature : Head → Bool → List Tag → List Symbol → List Reloc → Option ℕ
+refused_feature head program tags symbols relocs = first_bad (features head program tags symbols relocs)
 
 -- ---- rule 16: the slots
 
@@ -246,21 +255,16 @@ is_shared others slots place = list_any (overlaps (doubleword place)) others || 
 abbrev pub is_bad_slot : List ℕ → List Header → List Symbol → List Span → List Span → Reloc → Bool
 is_bad_slot bytes headers symbols others slots r = is_no_slot bytes headers symbols r || is_shared others slots r.place
 
--- two doublewords that some relocation names
-abbrev pub is_named_head : List Span → List Span → ℕ → Bool
-is_named_head others slots start =
-    list_any (overlaps (record { start = start; size = 16 })) others || not (times_named slots (record { start = start; size = 16 }) == 0)
-
--- not two doublewords in writable memory that no relocation names
-abbrev pub is_bad_table_of_slots : List Header → List Span → List Span → ℕ → Bool
-is_bad_table_of_slots headers others slots start =
-    not (start % 8 == 0) || not (in_writable headers (record { start = start; size = 16 })) || is_named_head others slots start
+-- not two doublewords in writable memory that have no byte in common with these ranges
+abbrev pub is_bad_table_of_slots : List Header → List Span → ℕ → Bool
+is_bad_table_of_slots headers ranges start =
+    not (start % 8 == 0 && in_writable headers (record { start = start; size = 16 }) && not (list_any (overlaps (record { start = start; size = 16 })) ranges))
 
 -- the first bad slot; or the number of slots, where there are some and their table is bad
 unfoldable pub bad_slot : List ℕ → List Header → List Symbol → List Span → List Reloc → Option ℕ → Option ℕ
 bad_slot bytes headers symbols others slots pltgot =
     option_or (position (is_bad_slot bytes headers symbols others (slot_ranges symbols slots)) slots)
-    (if not (length slots == 0) && option_map_or (is_bad_table_of_slots headers others (slot_ranges symbols slots)) pltgot false then Some (length slots)
+    (if not (length slots == 0) && option_map_or (is_bad_table_of_slots headers (others ++ slot_ranges symbols slots)) pltgot false then Some (length slots)
     else None)
 
 -- ---- the verdict

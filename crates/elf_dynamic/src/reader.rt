@@ -1,15 +1,14 @@
 //! Reading the dynamic table and the tables that it names.
 
 ghost use Rattle.std.specs.Prelude.{◌≡◌, ◌∷◌, [], ◌*◌, ◌<◌, ◌≤◌, ◌^◌, Ok, Err, IfOk, IsTrue, MatchResult, None, ℕ, List, length, map, option_map};
-ghost use Rattle.std.specs.Option.{option_map_or};
 ghost use Rattle.acceptance.specs.Broken.{first_broken};
-ghost use Rattle.acceptance.specs.Gives.{Answers, Faults, Gives};
+ghost use Rattle.acceptance.specs.Gives.{Answers, Gives};
 ghost use Rattle.elf_head.specs.Readable.{readable};
 ghost use Rattle.elf_head.specs.Rules.{head_verdict};
 ghost use Rattle.ld_base.specs.declared.fault.ReadFault.TheVariants as faults;
 ghost use Rattle.elf_dynamic.specs.Memory.{AreLow};
 ghost use Rattle.elf_dynamic.specs.Counted.{counted_in, rules_from_names};
-ghost use Rattle.elf_dynamic.specs.Judged.{ArePlaces};
+ghost use Rattle.elf_dynamic.specs.Judged.{broken_at, ArePlaces, FaultIs};
 ghost use Rattle.elf_dynamic.specs.Relr.{relr_places};
 ghost use Rattle.elf_dynamic.specs.Rules.{bad_table, dynamic_verdict, rules_on, tables_verdict};
 ghost use Rattle.elf_dynamic.specs.Verdict.{BreaksFirst, SpellsDynamic};
@@ -69,9 +68,11 @@ fn read_counted(
     tags: &[Tag],
 ) -> Result<Counted, ReadFault>
     requires { head_verdict bytes.now ≡ Ok head.now }
-    ensures read { Gives result (option_map_or (λ tag. Err (record { rule = 11; number = tag }))
-        (bad_table head.now.headers tags.now (hash_words bytes.now head.now.headers tags.now) (count_in bytes.now head.now.headers tags.now))
-        (Ok (counted_in bytes.now head.now.headers tags.now))) }
+    ensures read { MatchResult result
+        (λ counted. (bad_table head.now.headers tags.now (hash_words bytes.now head.now.headers tags.now) (count_in bytes.now head.now.headers tags.now) ≡ None)
+        × (counted ≡ counted_in bytes.now head.now.headers tags.now))
+        (λ fault. FaultIs (option_map (broken_at 11) (bad_table head.now.headers tags.now (hash_words bytes.now head.now.headers tags.now)
+        (count_in bytes.now head.now.headers tags.now))) fault) }
     ensures readable { IfOk result (λ c. IsTrue (readable head.now.headers (value_of tags.now dt_symtab) (24 * c.count))) }
 {
     accepted_head();
@@ -152,8 +153,8 @@ fn judge(alloc: Global, tables: Tables, program: bool) -> Result<Judged, ReadFau
         (λ judged. (first_broken 13 (rules_on tables.entry.bytes.now tables.entry.head.now program tables.entry.tags.now
         tables.entry.symbols.now tables.entry.relocs.now tables.entry.slots.now tables.entry.packed.now) ≡ None)
         × ArePlaces judged (relr_places tables.entry.packed.now))
-        (λ fault. Faults fault (option_map_or Err (first_broken 13 (rules_on tables.entry.bytes.now tables.entry.head.now program
-        tables.entry.tags.now tables.entry.symbols.now tables.entry.relocs.now tables.entry.slots.now tables.entry.packed.now)) (Ok (tt {0})))) }
+        (λ fault. FaultIs (first_broken 13 (rules_on tables.entry.bytes.now tables.entry.head.now program tables.entry.tags.now
+        tables.entry.symbols.now tables.entry.relocs.now tables.entry.slots.now tables.entry.packed.now)) fault) }
 {
     let headers = tables.head.headers.as_slice();
     if let Some(symbol) = bad_symbol(headers, tables.symbols) {
@@ -296,7 +297,7 @@ fn judge_tables(
     ensures { MatchResult result
         (λ judged. (first_broken 12 (rules_from_names bytes.now head.now program tags.now) ≡ None)
         × ArePlaces judged (relr_places (relr_bytes bytes.now head.now.headers tags.now)))
-        (λ fault. Faults fault (option_map_or Err (first_broken 12 (rules_from_names bytes.now head.now program tags.now)) (Ok (tt {0})))) }
+        (λ fault. FaultIs (first_broken 12 (rules_from_names bytes.now head.now program tags.now)) fault) }
 {
     accepted_head();
     let strings = bytes_in(bytes, head, span_of(tags, DT_STRTAB, DT_STRSZ));

@@ -1,8 +1,7 @@
 //! What is asked of the relocations that aren't slots (psABI, "Relocations").
 
 ghost use Rattle.std.specs.Prelude.{◌≡◌, ◌<◌, ◌≤◌, ◌+◌, ◌^◌, [], None, false, length, map, MatchResult};
-ghost use Rattle.acceptance.specs.Gives.{Faults};
-ghost use Rattle.elf_dynamic.specs.Judged.{rela_verdict, reloc_verdict, IsJudged};
+ghost use Rattle.elf_dynamic.specs.Judged.{rela_broken, reloc_broken, FaultIs, IsJudged};
 ghost use Rattle.elf_dynamic.specs.Memory.{AreLow};
 ghost use Rattle.elf_dynamic.specs.Named.{doubleword, named_by, size_of};
 ghost use Rattle.elf_dynamic.specs.Relr.{begins_odd, relr_places, relr_words};
@@ -34,7 +33,7 @@ pub(crate) fn judge_relocs(
     ensures { MatchResult result
         (λ judged. (bad_reloc headers.now symbols.now relocs.now (begins_odd (relr_words packed.now)) (relr_places packed.now) ≡ None)
         × IsJudged headers.now (map (named_by symbols.now) relocs.now) (relr_places packed.now) judged)
-        (λ fault. Faults fault (reloc_verdict headers.now symbols.now relocs.now packed.now)) }
+        (λ fault. FaultIs (reloc_broken headers.now symbols.now relocs.now packed.now) fault) }
 {
     let judged = judge_rela(alloc, headers, symbols, relocs)?;
     judge_packed(headers, packed, judged, relocs.len() as u64)
@@ -51,7 +50,7 @@ fn judge_rela(
     requires { AreLow headers.now }
     ensures { MatchResult result
         (λ judged. (bad_rela headers.now symbols.now relocs.now ≡ None) × IsJudged headers.now (map (named_by symbols.now) relocs.now) [] judged)
-        (λ fault. Faults fault (rela_verdict headers.now symbols.now relocs.now)) }
+        (λ fault. FaultIs (rela_broken headers.now symbols.now relocs.now) fault) }
 {
     let mut apart = Apart::new(alloc);
     for (index, reloc) in relocs.iter().enumerate() {

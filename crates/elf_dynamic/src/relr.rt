@@ -3,12 +3,13 @@
 ghost use Rattle.std.specs.Prelude.{◌≡◌, ◌==◌, ◌+◌, ◌-◌, ◌*◌, ◌%◌, ◌<◌, ◌≤◌, ◌^◌, ◌++◌, [], ◌∷◌};
 ghost use Rattle.std.specs.Prelude.{◌||◌, ◌/◌, true, false, List, ℕ, length, map, nat_lt, IfOk, OnOk, IsTrue, MatchResult};
 ghost use Rattle.std.specs.Prelude.{if◌then◌else◌};
-ghost use Rattle.acceptance.specs.Gives.{Faults};
+ghost use Rattle.std.specs.List.{list_any};
 ghost use Rattle.ld_base.specs.declared.object.Span.{Span};
-ghost use Rattle.elf_dynamic.specs.Judged.{most_places, packed_verdict, Admits, AdmitsMore, IsJudged};
-ghost use Rattle.elf_dynamic.specs.Marks.{is_marked};
-ghost use Rattle.elf_dynamic.specs.Memory.{AreLow};
-ghost use Rattle.elf_dynamic.specs.Relr.{begins_odd, bits_of, has_bit, name_more, relr_places, relr_words, Named};
+ghost use Rattle.elf_dynamic.specs.Judged.{most_places, packed_broken, AdmitsMore, FaultIs, IsJudged};
+ghost use Rattle.elf_dynamic.specs.Marks.{AreMarks};
+ghost use Rattle.elf_dynamic.specs.Memory.{overlaps, AreLow};
+ghost use Rattle.elf_dynamic.specs.Named.{doubleword};
+ghost use Rattle.elf_dynamic.specs.Relr.{after_word, begins_odd, bits_of, has_bit, relr_places, relr_words, word_places};
 ghost use Rattle.elf_dynamic.specs.Rules.{is_bad_place};
 
 use crate::marks::Marks;
@@ -60,7 +61,9 @@ impl Judged {
     /// Whether the place is bad by itself, or its doubleword is named.
     fn refuses(&self, headers: &[Header], place: u64, sure: bool) -> bool
         requires { sure ≡ true → is_bad_place headers.now place ≡ false }
-        ensures { result ≡ (is_bad_place headers.now place || is_marked self.now.named.words.items (place / 8)) }
+        ensures good { result ≡ false → is_bad_place headers.now place ≡ false }
+        ensures tells { (ranges : List Span) → AreMarks self.now.named.words.items ranges
+            → result ≡ (is_bad_place headers.now place || list_any (overlaps (doubleword place)) ranges) }
     {
         (!sure && is_bad_place(headers, place)) || self.named.has(place / DOUBLEWORD)
     }
@@ -113,8 +116,7 @@ impl Judged {
         requires next { next < 2 ^ 62 }
         requires few { self.old.count < 2 ^ 62 }
         requires low { AreLow headers.now }
-        ensures kept { IfOk result (λ kept. (ranges : List Span) (named : Named) → named.next ≡ next → IsJudged headers.now ranges named.places self.old
-            → Admits headers.now ranges (name_more named word).places kept self.new) }
+        ensures kept { IfOk result (λ kept. AdmitsMore headers.now (word_places next word) self.old kept self.new) }
         ensures few { IfOk result (λ kept. self.new.count ≤ self.old.count + 64) }
         ensures low { IfOk result (λ kept. IsTrue kept → word % 2 ≡ 0 → word + 8 ≤ 2 ^ 32) }
     {
@@ -163,7 +165,7 @@ pub(crate) fn judge_packed(
     requires low { AreLow headers.now }
     ensures { (ranges : List Span) → IsJudged headers.now ranges [] judged → MatchResult result
         (λ all. (begins_odd (relr_words packed.now) ≡ false) × IsJudged headers.now ranges (relr_places packed.now) all)
-        (λ fault. Faults fault (packed_verdict headers.now ranges packed.now others)) }
+        (λ fault. FaultIs (packed_broken headers.now ranges packed.now others) fault) }
 {
     if begins_odd(packed) {
         return Err(broken(14, others));
@@ -184,7 +186,7 @@ pub(crate) fn judge_packed(
 fn next_after(word: u64, next: u64) -> u64
     requires word { word % 2 ≡ 0 → word < 2 ^ 63 }
     requires next { next < 2 ^ 63 }
-    ensures { result ≡ (if word % 2 == 0 then word + 8 else next + 504) }
+    ensures { result ≡ after_word next word }
 {
     if word % 2 == 0 {
         word + 8

@@ -1,16 +1,14 @@
 //! What is asked of slots, the relocations of the procedure linkage table (psABI, "Procedure Linkage
 //! Table").
 
-ghost use Rattle.std.specs.Prelude.{◌≡◌, ◌<◌, ◌≤◌, ◌^◌, ◌+◌, ◌/◌, ◌%◌, ◌||◌, false, List, Ok, IfOk, position};
-ghost use Rattle.std.specs.List.{All};
+ghost use Rattle.std.specs.Prelude.{◌≡◌, ◌<◌, ◌≤◌, ◌^◌, ◌+◌, ◌/◌, ◌%◌, ◌||◌, ◌++◌, false, List, Ok, IfOk, position};
 ghost use Rattle.std.specs.Option.{option_map_or};
 ghost use Rattle.ld_base.specs.declared.object.Span.{Span};
 ghost use Rattle.elf_head.specs.Rules.{head_verdict};
 ghost use Rattle.elf_dynamic.specs.Marks.{is_marked, AreMarks};
-ghost use Rattle.elf_dynamic.specs.Memory.{AreLow, IsBounded};
+ghost use Rattle.elf_dynamic.specs.Memory.{AreLow};
 ghost use Rattle.elf_dynamic.specs.Named.{slot_ranges};
 ghost use Rattle.elf_dynamic.specs.Rules.{bad_slot, is_bad_slot, is_bad_table_of_slots, is_no_slot, is_shared, leads_to_code};
-ghost use Rattle.elf_dynamic.specs.Tells.{cut, TellsOf};
 
 use crate::marks::Marks;
 use crate::memory::{in_executable, in_writable};
@@ -61,36 +59,21 @@ pub(crate) fn bad_slot(
 }
 
 /// The bytes that slots name.
-///
-/// A range is cut where it would reach the last address. No memory is there, so no slot that isn't
-/// bad has a byte there.
 fn slot_ranges(alloc: Global, symbols: &[Symbol], slots: &[Reloc]) -> Result<Vec<Span>, AllocError>
-    ensures told { IfOk result (λ ranges. TellsOf ranges.items (slot_ranges symbols.now slots.now)) }
-    ensures bounded { IfOk result (λ ranges. All IsBounded ranges.items) }
+    ensures { IfOk result (λ ranges. ranges.items ≡ slot_ranges symbols.now slots.now) }
 {
     let mut ranges = Vec::new(alloc);
     for slot in slots {
-        ranges.push(cut(named_by(symbols, *slot)))?;
+        ranges.push(named_by(symbols, *slot))?;
     }
     Ok(ranges)
-}
-
-/// The range, cut where it would reach the last address.
-fn cut(span: Span) -> Span
-    ensures value { result ≡ cut span }
-    ensures bounded { IsBounded result }
-{
-    Span {
-        start: span.start,
-        size: span.size.min(u64::MAX - span.start),
-    }
 }
 
 /// The first slot that is bad.
 fn first_bad_slot(slots: Slots, named: &Marks, naming: &Naming) -> Option<usize>
     requires accepted { head_verdict slots.bytes.now ≡ Ok slots.head.now }
     requires low { AreLow slots.head.now.headers }
-    requires told { TellsOf naming.now (slot_ranges slots.symbols.now slots.relocs.now) }
+    requires naming { naming.now ≡ slot_ranges slots.symbols.now slots.relocs.now }
     ensures { (others : List Span) → AreMarks named.now.words.items others
         → result ≡ position (is_bad_slot slots.entry.bytes.now slots.entry.head.now.headers slots.entry.symbols.now others
         (slot_ranges slots.entry.symbols.now slots.entry.relocs.now)) slots.entry.relocs.now }
@@ -107,7 +90,7 @@ fn first_bad_slot(slots: Slots, named: &Marks, naming: &Naming) -> Option<usize>
 fn is_bad_slot(slots: Slots, named: &Marks, naming: &Naming, slot: Reloc) -> bool
     requires accepted { head_verdict slots.bytes.now ≡ Ok slots.head.now }
     requires low { AreLow slots.head.now.headers }
-    requires told { TellsOf naming.now (slot_ranges slots.symbols.now slots.relocs.now) }
+    requires naming { naming.now ≡ slot_ranges slots.symbols.now slots.relocs.now }
     ensures { (others : List Span) → AreMarks named.now.words.items others
         → result ≡ is_bad_slot slots.entry.bytes.now slots.entry.head.now.headers slots.entry.symbols.now others
         (slot_ranges slots.entry.symbols.now slots.entry.relocs.now) slot }
@@ -135,7 +118,7 @@ fn is_no_slot(slots: Slots, slot: Reloc) -> bool
 fn is_shared(slots: Slots, named: &Marks, naming: &Naming, place: u64) -> bool
     requires aligned { place % 8 ≡ 0 }
     requires near { place + 8 ≤ 2 ^ 32 }
-    requires told { TellsOf naming.now (slot_ranges slots.symbols.now slots.relocs.now) }
+    requires naming { naming.now ≡ slot_ranges slots.symbols.now slots.relocs.now }
     ensures { (others : List Span) → AreMarks named.now.words.items others
         → result ≡ is_shared others (slot_ranges slots.entry.symbols.now slots.entry.relocs.now) place }
 {
@@ -162,10 +145,10 @@ fn leads_to_code(bytes: &[u8], head: &Head, place: u64) -> bool
 /// Whether there is a table of slots that is bad.
 fn has_bad_table(slots: Slots, named: &Marks, naming: &Naming) -> bool
     requires low { AreLow slots.head.now.headers }
-    requires told { TellsOf naming.now (slot_ranges slots.symbols.now slots.relocs.now) }
+    requires naming { naming.now ≡ slot_ranges slots.symbols.now slots.relocs.now }
     ensures { (others : List Span) → AreMarks named.now.words.items others
         → result ≡ option_map_or
-        (is_bad_table_of_slots slots.entry.head.now.headers others (slot_ranges slots.entry.symbols.now slots.entry.relocs.now)) slots.entry.table false }
+        (is_bad_table_of_slots slots.entry.head.now.headers (others ++ slot_ranges slots.entry.symbols.now slots.entry.relocs.now)) slots.entry.table false }
 {
     match slots.table {
         Some(start) => is_bad_table_of_slots(slots, named, naming, start),
@@ -177,9 +160,9 @@ fn has_bad_table(slots: Slots, named: &Marks, naming: &Naming) -> bool
 /// of writable memory that no relocation names.
 fn is_bad_table_of_slots(slots: Slots, named: &Marks, naming: &Naming, start: u64) -> bool
     requires low { AreLow slots.head.now.headers }
-    requires told { TellsOf naming.now (slot_ranges slots.symbols.now slots.relocs.now) }
+    requires naming { naming.now ≡ slot_ranges slots.symbols.now slots.relocs.now }
     ensures { (others : List Span) → AreMarks named.now.words.items others
-        → result ≡ is_bad_table_of_slots slots.entry.head.now.headers others (slot_ranges slots.entry.symbols.now slots.entry.relocs.now) start }
+        → result ≡ is_bad_table_of_slots slots.entry.head.now.headers (others ++ slot_ranges slots.entry.symbols.now slots.entry.relocs.now) start }
 {
     let span = Span {
         start,

@@ -1,10 +1,9 @@
 //! Which names have to be strings (rule 12).
 
-ghost use Rattle.std.specs.Prelude.{◌≡◌, ◌==◌, ◌||◌, ◌&&◌, ◌*◌, ◌≤◌, ℕ, not, nat_lt, drop, find, length};
+ghost use Rattle.std.specs.Prelude.{◌≡◌, ◌==◌, ◌||◌, ◌&&◌, ◌*◌, ◌≤◌, ℕ, not, nat_lt, drop, find, length, option_map};
 ghost use Rattle.std.specs.List.{list_any};
-ghost use Rattle.acceptance.specs.Table.{table};
 ghost use Rattle.dyn_table.specs.Symbol.{symbol_name};
-ghost use Rattle.elf_dynamic.specs.Rules.{bad_string, lacks_string, name_offsets};
+ghost use Rattle.elf_dynamic.specs.Rules.{bad_string, lacks_string, name_offsets, unnamed_symbol};
 ghost use Rattle.dyn_table.specs.Tag.{has_tag};
 ghost use Rattle.dyn_table.specs.TagNumbers.{dt_needed, dt_soname};
 
@@ -56,10 +55,10 @@ fn bad_name(strings: &[u8], tags: &[Tag]) -> Option<u64>
 }
 
 /// The first offset without a string, of the names of so many symbols.
-#[tactic(auto, using(crate::proofs::Strings::find_more, crate::proofs::Strings::find_here))]
+#[tactic(auto, using(crate::proofs::BadNames::least_steps))]
 fn bad_symbol_name(strings: &[u8], part: &[u8], count: u32) -> Option<u64>
     requires { 24 * count ≤ length part.now }
-    ensures { result ≡ find (lacks_string strings.now) (table (symbol_name part.now) 0 24 count) }
+    ensures { result ≡ option_map (λ i. symbol_name part.now (24 * i)) (unnamed_symbol strings.now part.now count) }
 {
     for index in 0..count {
         let offset = u64::from(field32(part, SYMBOL_SIZE as usize * index as usize));
@@ -71,7 +70,7 @@ fn bad_symbol_name(strings: &[u8], part: &[u8], count: u32) -> Option<u64>
 }
 
 /// The first offset without a string, of all names.
-#[tactic(auto, using(crate::proofs::Strings::named_first, crate::proofs::Strings::named_rest))]
+#[tactic(auto, unfolding(crate::specs::Rules::bad_string))]
 pub(crate) fn bad_string(strings: &[u8], tags: &[Tag], part: &[u8], count: u32) -> Option<u64>
     requires { 24 * count ≤ length part.now }
     ensures { result ≡ bad_string strings.now tags.now part.now count }

@@ -5,13 +5,9 @@ use Rattle.std.specs.Option.{option_or}
 use Rattle.ld_base.specs.declared.fault.NotAccepted.{NotAccepted}
 use Rattle.ld_base.specs.declared.parts.Head.{Head}
 use Rattle.acceptance.specs.Broken.{first_broken}
-use Rattle.acceptance.specs.Lemmas.Firsts.{first_of_both, test_kept, verdict_err_is, verdict_ok_is}
+use Rattle.acceptance.specs.Lemmas.Firsts.{first_of_both, test_kept, verdict_ok_is}
 use Rattle.elf_head.specs.Header.{table_start, header_count}
 use Rattle.elf_head.specs.Rules.{is_too_short, has_bad_program_headers, header_rules, file_rules, head_broken, head_of, head_verdict}
-
-pub verdict_err : (bytes : List ℕ) (fault : NotAccepted) → head_verdict bytes ≡ Err fault → head_broken bytes ≡ Some fault
-unfolding head_verdict
-verdict_err bytes fault err = verdict_err_is (head_broken bytes) (head_of bytes) fault err
 
 -- one verdict or the other
 pub verdict_ok : (bytes : List ℕ) (head : Head) → head_verdict bytes ≡ Ok head → (head_broken bytes ≡ None) × (head ≡ head_of bytes)

@@ -1,7 +1,7 @@
 -- The verdict on a file, and the relations that say what it means.
-use Rattle.std.proofs.Common.{◌≡◌, ◌↔◌, ◌⊎◌, ℕ, Bool, true, List, ◌++◌, length, Some, Result, Ok, Err, refl, sym, ◌∙◌, ap, subst, inl, inr}
-use Rattle.std.specs.Prelude.{nat_lt, IfOk}
-use Rattle.std.specs.List.{list_all, slice_get}
+use Rattle.std.proofs.Common.{◌≡◌, ◌⊎◌, ℕ, Bool, true, List, length, Some, Result, Ok, Err, refl, sym, ◌∙◌, ap, subst, inl, inr}
+use Rattle.std.specs.Prelude.{IfOk}
+use Rattle.std.specs.List.{slice_get}
 use Rattle.ld_base.specs.declared.fault.NotAccepted.{NotAccepted}
 use Rattle.ld_base.specs.declared.fault.ReadFault.{ReadFault}
 use Rattle.ld_base.specs.declared.object.Object.{Object}
@@ -14,8 +14,7 @@ use Rattle.acceptance.specs.Gives.{Gives}
 use Rattle.elf_head.specs.Rules.{head_verdict}
 use Rattle.elf_head.specs.Verdict.{SpellsHead}
 use Rattle.elf_head.specs.Verdict.{BreaksFirst as HeadBreaks}
-use Rattle.acceptance.specs.Lemmas.Reading.{bind_err, bind_ok}
-use Rattle.acceptance.specs.Entries.{◌>>=◌}
+use Rattle.acceptance.specs.Lemmas.Judged.{judged_like, judged_next, made, Judges}
 use Rattle.elf_dynamic.specs.Rules.{dynamic_verdict}
 use Rattle.elf_dynamic.specs.Verdict.{SpellsDynamic}
 use Rattle.elf_dynamic.specs.Verdict.{BreaksFirst as DynamicBreaks}
@@ -46,63 +45,12 @@ given_table meant (Err fault) own given = tt
 
 -- what the readers below promise
 pub record Readings : Type 0 where
-  pub head : (bytes : List ℕ) (head : Head) → (head_verdict bytes ≡ Ok head) ↔ SpellsHead bytes head
-  pub bad_head : (bytes : List ℕ) (fault : NotAccepted) → (head_verdict bytes ≡ Err fault) ↔ HeadBreaks bytes fault
-  pub parts : (bytes : List ℕ) (head : Head) (program : Bool) (parts : DynParts) → (dynamic_verdict bytes head program ≡ Ok parts) ↔ SpellsDynamic bytes head program parts
-  pub bad_parts : (bytes : List ℕ) (head : Head) (program : Bool) (fault : NotAccepted) → (dynamic_verdict bytes head program ≡ Err fault) ↔ DynamicBreaks bytes head program fault
+  pub head : (bytes : List ℕ) → Judges (head_verdict bytes) (SpellsHead bytes) (HeadBreaks bytes)
+  pub parts : (bytes : List ℕ) (head : Head) (program : Bool) → Judges (dynamic_verdict bytes head program) (SpellsDynamic bytes head program) (DynamicBreaks bytes head program)
   pub kept_parts : (bytes : List ℕ) (head : Head) (program : Bool) (parts : DynParts) → SpellsDynamic bytes head program parts → Keeps bytes head.headers parts
-  pub versions : (bytes : List ℕ) (head : Head) (parts : DynParts) (versions : Versions) → (versions_verdict bytes head parts ≡ Ok versions) ↔ SpellsVersions bytes head parts versions
-  pub bad_versions : (bytes : List ℕ) (head : Head) (parts : DynParts) (fault : NotAccepted) → (versions_verdict bytes head parts ≡ Err fault) ↔ VersionsBreak bytes head parts fault
-  pub table : (bytes : List ℕ) (head : Head) (parts : DynParts) (t : HashTable) → (hash_verdict bytes head parts ≡ Ok t) ↔ IsHashTable bytes head parts t
-  pub bad_table : (bytes : List ℕ) (head : Head) (parts : DynParts) (fault : NotAccepted) → (hash_verdict bytes head parts ≡ Err fault) ↔ BreaksHash bytes head parts fault
+  pub versions : (bytes : List ℕ) (head : Head) (parts : DynParts) → Judges (versions_verdict bytes head parts) (SpellsVersions bytes head parts) (VersionsBreak bytes head parts)
+  pub table : (bytes : List ℕ) (head : Head) (parts : DynParts) → Judges (hash_verdict bytes head parts) (IsHashTable bytes head parts) (BreaksHash bytes head parts)
   pub same_table : SameTable
-
--- ---- steps
-
-abbrev read : Object × HashTable → Result (Object × HashTable) NotAccepted
-read x = Ok x
-
-read_is : (x y : Object × HashTable) → read x ≡ read y → x ≡ y
-read_is x y e = cc
-
-no_err : (x : Object × HashTable) (fault : NotAccepted) → read x ≡ Err fault → ⊥
-no_err x fault e = cc
-
--- ---- an object that is read
-
--- what the readers read of an object
-record Reads (bytes : List ℕ) (program : Bool) (o : Object) (t : HashTable) : Type 0 where
-  head : Head
-  parts : DynParts
-  versions : Versions
-  is_head : head_verdict bytes ≡ Ok head
-  are_parts : dynamic_verdict bytes head program ≡ Ok parts
-  are_versions : versions_verdict bytes head parts ≡ Ok versions
-  is_table : hash_verdict bytes head parts ≡ Ok t
-  is : object_of bytes head parts versions ≡ o
-
-reads : (bytes : List ℕ) (program : Bool) (o : Object) (t : HashTable) → object_verdict bytes program ≡ Ok (o, t) → Reads bytes program o t
-unfolding object_verdict
-reads bytes program o t e =
-    let h = bind_ok (head_verdict bytes) _ (o, t) e in
-    let p = bind_ok (dynamic_verdict bytes h.0 program) _ (o, t) h.2 in
-    let v = bind_ok (versions_verdict bytes h.0 p.0) _ (o, t) p.2 in
-    let w = bind_ok (hash_verdict bytes h.0 p.0) _ (o, t) v.2 in
-    let both : ◌≡◌ {A = Object × HashTable} (object_of bytes h.0 p.0 v.0, w.0) (o, t) = read_is (object_of bytes h.0 p.0 v.0, w.0) (o, t) w.2 in
-    record {
-      head = h.0;
-      parts = p.0;
-      versions = v.0;
-      is_head = h.1;
-      are_parts = p.1;
-      are_versions = v.1;
-      is_table = w.1 ∙ ap (λ (x : Object × HashTable). Ok x.1) both;
-      is = ap (λ (x : Object × HashTable). x.0) both;
-    }
-
-read_back : (bytes : List ℕ) (program : Bool) (o : Object) (t : HashTable) → Reads bytes program o t → object_verdict bytes program ≡ Ok (o, t)
-unfolding object_verdict
-read_back bytes program o t r = rw (r.is_head, r.are_parts, r.are_versions, r.is_table) (ap (λ (x : Object). read (x, t)) r.is)
 
 -- ---- its fields
 
@@ -152,107 +100,86 @@ own_table same bytes head program parts versions t o spelled table is =
 
 -- ---- what the verdict means
 
-module _ (r : Readings) (bytes : List ℕ) (program : Bool) where
-  pub verdict_spells : (o : Object) (t : HashTable) → object_verdict bytes program ≡ Ok (o, t) → Spells bytes program o
-  verdict_spells o t e =
-      let got = reads bytes program o t e in
-      let table = (r.table bytes got.head got.parts t).0 got.is_table in
-      record {
-        head = got.head;
-        parts = got.parts;
-        versions = got.versions;
-        table = t;
-        is_head = (r.head bytes got.head).0 got.is_head;
-        are_parts = (r.parts bytes got.head program got.parts).0 got.are_parts;
-        are_versions = (r.versions bytes got.head got.parts got.versions).0 got.are_versions;
-        is_table = table;
-        say = subst (Say bytes got.head got.parts got.versions) got.is (says bytes got.head got.parts got.versions);
-      }
+same_pair : {o p : Object} {t u : HashTable} → o ≡ p → t ≡ u → ◌≡◌ {A = Object × HashTable} (o, t) (p, u)
+same_pair e f = λ i. (e i, f i)
 
-  pub spells_verdict : (o : Object) → Spells bytes program o → (t : HashTable) × (object_verdict bytes program ≡ Ok (o, t))
-  spells_verdict o s = (
-    s.table,
-    read_back bytes program o s.table (record {
-      head = s.head;
-      parts = s.parts;
-      versions = s.versions;
-      is_head = (r.head bytes s.head).1 s.is_head;
-      are_parts = (r.parts bytes s.head program s.parts).1 s.are_parts;
-      are_versions = (r.versions bytes s.head s.parts s.versions).1 s.are_versions;
-      is_table = (r.table bytes s.head s.parts s.table).1 s.is_table;
-      is = said bytes s.head s.parts s.versions o s.say;
-    }),
-  )
+module _ (r : Readings) (bytes : List ℕ) (program : Bool) where
+  -- the first fault of the readers
+  abbrev Fault : NotAccepted → Type 0
+  Fault e =
+      HeadBreaks bytes e
+      ⊎ ((h : Head) × SpellsHead bytes h × (DynamicBreaks bytes h program e
+      ⊎ ((p : DynParts) × SpellsDynamic bytes h program p × (VersionsBreak bytes h p e
+      ⊎ ((v : Versions) × SpellsVersions bytes h p v × (BreaksHash bytes h p e ⊎ ((t : HashTable) × IsHashTable bytes h p t × ⊥)))))))
+
+  breaks : (e : NotAccepted) → Fault e → Broken bytes program e
+  breaks e (inl bad) = by_head e bad
+  breaks e (inr (h, is_head, inl bad)) = by_dynamic h is_head e bad
+  breaks e (inr (h, is_head, inr (p, are_parts, inl bad))) = by_versions h is_head p are_parts e bad
+  breaks e (inr (h, is_head, inr (p, are_parts, inr (v, are_versions, inl bad)))) = by_hash h is_head p are_parts v are_versions e bad
+  breaks e (inr (h, is_head, inr (p, are_parts, inr (v, are_versions, inr (t, is_table, none))))) = absurd none
+
+  broken : (e : NotAccepted) → Broken bytes program e → Fault e
+  broken e (by_head _ bad) = inl bad
+  broken e (by_dynamic h is_head _ bad) = inr (h, is_head, inl bad)
+  broken e (by_versions h is_head p are_parts _ bad) = inr (h, is_head, inr (p, are_parts, inl bad))
+  broken e (by_hash h is_head p are_parts v are_versions _ bad) = inr (h, is_head, inr (p, are_parts, inr (v, are_versions, inl bad)))
+
+  pub verdict : Judges (object_verdict bytes program) (λ x. (s : Spells bytes program x.0) × (s.table ≡ x.1)) (Broken bytes program)
+  unfolding object_verdict
+  verdict =
+      judged_like
+      (judged_next (r.head bytes) (λ h. judged_next (r.parts bytes h program) (λ p. judged_next (r.versions bytes h p) (λ v. judged_next (r.table bytes h p) (λ t. made (object_of bytes h p v, t))))))
+      (λ x (h, is_head, (p, are_parts, (v, are_versions, (t, is_table, is)))). rw (← is) (
+        record {
+          head = h;
+          parts = p;
+          versions = v;
+          table = t;
+          is_head = is_head;
+          are_parts = are_parts;
+          are_versions = are_versions;
+          is_table = is_table;
+          say = says bytes h p v;
+        },
+        refl,
+      ))
+      (λ x (s, is). (s.head, s.is_head, (s.parts, s.are_parts, (s.versions, s.are_versions, (s.table, s.is_table, same_pair (said bytes s.head s.parts s.versions x.0 s.say) is))))) breaks broken
+
+  pub read_of : (o : Object) (s : Spells bytes program o) → object_verdict bytes program ≡ Ok (o, s.table)
+  read_of o s = (verdict.accepted (o, s.table)).1 (s, refl)
 
   pub one_spelled : (first second : Object) → Spells bytes program first → Spells bytes program second → first ≡ second
-  one_spelled first second s t =
-      let one = spells_verdict first s in
-      let other = spells_verdict second t in
-      ap (λ (x : Object × HashTable). x.0) (read_is (first, one.0) (second, other.0) (sym one.1 ∙ other.1))
-
-  -- ---- a file that is refused
-
-  pub refused_from : (fault : NotAccepted) → object_verdict bytes program ≡ Err fault → Broken bytes program fault
-  unfolding object_verdict
-  refused_from fault e = elim (bind_err (head_verdict bytes) _ fault e) [
-    | inl bad ↦ by_head fault ((r.bad_head bytes fault).0 bad)
-    | inr h ↦
-        let is_head = (r.head bytes h.0).0 h.1 in
-        elim (bind_err (dynamic_verdict bytes h.0 program) _ fault h.2) [
-          | inl bad ↦ by_dynamic h.0 is_head fault ((r.bad_parts bytes h.0 program fault).0 bad)
-          | inr p ↦
-              let are_parts = (r.parts bytes h.0 program p.0).0 p.1 in
-              elim (bind_err (versions_verdict bytes h.0 p.0) _ fault p.2) [
-                | inl bad ↦ by_versions h.0 is_head p.0 are_parts fault ((r.bad_versions bytes h.0 p.0 fault).0 bad)
-                | inr v ↦ elim (bind_err (hash_verdict bytes h.0 p.0) _ fault v.2) [
-                  | inl bad ↦ by_hash h.0 is_head p.0 are_parts v.0 ((r.versions bytes h.0 p.0 v.0).0 v.1) fault ((r.bad_table bytes h.0 p.0 fault).0 bad)
-                  | inr w ↦ absurd (no_err _ fault w.2)
-                ]
-              ]
-        ]
-  ]
-
-  pub refused_is : (fault : NotAccepted) → Broken bytes program fault → object_verdict bytes program ≡ Err fault
-  unfolding object_verdict
-  refused_is fault (by_head _ bad) = rw ((r.bad_head bytes fault).1 bad) refl
-  refused_is fault (by_dynamic head is_head _ bad) = rw ((r.head bytes head).1 is_head, (r.bad_parts bytes head program fault).1 bad) refl
-  refused_is fault (by_versions head is_head parts are_parts _ bad) =
-      rw ((r.head bytes head).1 is_head, (r.parts bytes head program parts).1 are_parts, (r.bad_versions bytes head parts fault).1 bad) refl
-  refused_is fault (by_hash head is_head parts are_parts versions are_versions _ bad) =
-      rw ((r.head bytes head).1 is_head, (r.parts bytes head program parts).1 are_parts, (r.versions bytes head parts versions).1 are_versions, (r.bad_table bytes head parts fault).1 bad) refl
+  one_spelled first second s t = ap (λ (x : Object × HashTable). x.0) (same_read (sym (read_of first s) ∙ read_of second t))
+    where
+      same_read : {x y : Object × HashTable} → ◌≡◌ {A = Result (Object × HashTable) NotAccepted} (Ok x) (Ok y) → x ≡ y
+      same_read e = cc
 
   -- ---- an accepted object
 
   pub table_of_read : (o : Object) (t : HashTable) → object_verdict bytes program ≡ Ok (o, t) → IsTableFor t o.symbols o.first_exported
   table_of_read o t e =
-      let got = reads bytes program o t e in
-      let spelled = (r.parts bytes got.head program got.parts).0 got.are_parts in
-      let table = (r.table bytes got.head got.parts t).0 got.is_table in
-      own_table r.same_table bytes got.head program got.parts got.versions t o spelled table.1 (sym got.is)
+      let (s, is) = (verdict.accepted (o, t)).0 e in
+      rw (← is) (own_table r.same_table bytes s.head program s.parts s.versions s.table o s.are_parts s.is_table.1 (sym (said bytes s.head s.parts s.versions o s.say)))
+
+  own_names : {o : Object} → Spells bytes program o → names_own_symbols o ≡ true
+  own_names s =
+      rw (s.say.symbols, s.say.relocs, s.say.plt_relocs, length-versions s.parts.symbols s.versions.versym) (parts_name bytes s.head.headers s.parts (r.kept_parts bytes s.head program s.parts s.are_parts))
 
   pub names_of_read : (o : Object) (t : HashTable) → object_verdict bytes program ≡ Ok (o, t) → names_own_symbols o ≡ true
-  unfolding object_of
-  names_of_read o t e =
-      let got = reads bytes program o t e in
-      let spelled = (r.parts bytes got.head program got.parts).0 got.are_parts in
-      let named : list_all (λ x. nat_lt x.symbol (length (with_versions got.parts.symbols got.versions.versym))) (got.parts.relocs ++ got.parts.plt_relocs) ≡ true =
-      subst (λ n. list_all (λ x. nat_lt x.symbol n) (got.parts.relocs ++ got.parts.plt_relocs) ≡ true) (sym (length-versions got.parts.symbols got.versions.versym)) (parts_name bytes got.head.headers got.parts (r.kept_parts bytes got.head program got.parts spelled)) in
-      subst (λ (x : Object). names_own_symbols x ≡ true) got.is named
+  names_of_read o t e = own_names ((verdict.accepted (o, t)).0 e).0
 
   -- ---- one of the two
 
   pub spelled_or_broken : ((o : Object) × Spells bytes program o) ⊎ ((fault : NotAccepted) × Broken bytes program fault)
   spelled_or_broken = by (object_verdict bytes program) refl
     where
-      by : (verdict : Result (Object × HashTable) NotAccepted) → object_verdict bytes program ≡ verdict → ((o : Object) × Spells bytes program o) ⊎ ((fault : NotAccepted) × Broken bytes program fault)
-      by (Ok (o, t)) e = inl (o, verdict_spells o t e)
-      by (Err fault) e = inr (fault, refused_from fault e)
+      by : (said : Result (Object × HashTable) NotAccepted) → object_verdict bytes program ≡ said → ((o : Object) × Spells bytes program o) ⊎ ((fault : NotAccepted) × Broken bytes program fault)
+      by (Ok x) e = inl (x.0, ((verdict.accepted x).0 e).0)
+      by (Err fault) e = inr (fault, (verdict.refused fault).0 e)
 
   pub never_both : (o : Object) (fault : NotAccepted) → Spells bytes program o → Broken bytes program fault → ⊥
-  never_both o fault spells broken = no_err (o, (spells_verdict o spells).0) fault (sym (spells_verdict o spells).1 ∙ refused_is fault broken)
+  never_both o fault spells broken = let e = sym (read_of o spells) ∙ (verdict.refused fault).1 broken in cc
 
   pub one_broken : (first second : NotAccepted) → Broken bytes program first → Broken bytes program second → first ≡ second
-  one_broken first second b c = same_err (sym (refused_is first b) ∙ refused_is second c)
-    where
-      same_err : {x y : NotAccepted} → ◌≡◌ {A = Result (Object × HashTable) NotAccepted} (Err x) (Err y) → x ≡ y
-      same_err e = cc
+  one_broken first second b c = let e = sym ((verdict.refused first).1 b) ∙ (verdict.refused second).1 c in cc

@@ -1,15 +1,11 @@
 -- Symbols with their versions.
-use Rattle.std.proofs.Common.{◌≡◌, ℕ, zero, suc, ◌+◌, ◌*◌, ◌<◌, List, [], ◌∷◌, length, map, Some, refl, ◌∙◌, ap, sym, subst, arith, add-zero}
+use Rattle.std.proofs.Common.{◌≡◌, ℕ, zero, suc, ◌+◌, List, [], ◌∷◌, length, map, Some, refl, ◌∙◌, ap, arith, add-zero}
 use Rattle.std.specs.List.{enumerate_from, slice_get}
 use Rattle.std.proofs.lemmas.List.{length-map}
 use Rattle.std.proofs.lemmas.List.FromFn.{length-enumerate_from}
-use Rattle.std.proofs.lemmas.Option.{slice_get_within}
 use Rattle.ld_base.specs.declared.object.Symbol.{Symbol}
 use Rattle.ld_base.specs.declared.parts.DynParts.{DynParts}
 use Rattle.ld_base.specs.declared.parts.Header.{Header}
-use Rattle.acceptance.specs.Lemmas.Tables.{get-table, length-table}
-use Rattle.dyn_table.specs.Name.{string_in}
-use Rattle.dyn_table.specs.Symbol.{symbol_name, symbol_named, symbols_in}
 use Rattle.elf_dynamic.specs.Parts.{AreParts}
 use Rattle.elf_object.specs.Object.{with_version, with_versions}
 

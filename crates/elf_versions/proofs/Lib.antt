@@ -1,4 +1,3 @@
-pub mod Faults
 pub mod Laws
 pub mod Marks
 pub mod Named

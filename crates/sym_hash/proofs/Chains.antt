@@ -1,229 +1,145 @@
 -- The chains of a GNU table, as tests and as relations.
-use Rattle.std.proofs.Common.{◌≡◌, ◌≢◌, ◌∙◌, sym, ap, ℕ, zero, suc, ◌+◌, ◌-◌, ◌/◌, ◌%◌, ◌^◌, ◌<◌, ◌≤◌, Bool, true, false, List, [], ◌∷◌, length, take, drop, get_or, min, refl, arith, inl, inr, length-drop, length-take, get_or-drop, get_or-take}
-use Rattle.std.specs.Prelude.{Option, Some, None, ◌==◌, ◌&&◌, not, nat_lt, nat_le, slice_index}
-use Rattle.std.specs.List.{list_any, slice_get}
-use Rattle.std.specs.Option.{option_map_or}
-use Rattle.std.proofs.lemmas.Bool.{and_from, and_parts, cases_Bool, cases_eq, cases_lt, eq-eqb, eqb-true, le-leb, leb-true, lt-ltb, ltb-true, ne_eqb, not-true, or_cases}
-use Rattle.std.proofs.Math.Nat.{div-eq_of_lt}
-use Rattle.std.proofs.Math.Pow.{pow_pos}
-use Rattle.std.proofs.lemmas.List.{get_or_past}
-use Rattle.std.proofs.lemmas.List.Folds.{list_any_at}
-use Rattle.std.proofs.lemmas.Option.{get_or_from_slice_get, slice_get-get_or, slice_get_within}
+use Rattle.std.proofs.Common.{◌≡◌, ◌≢◌, ◌∙◌, sym, ℕ, zero, suc, ◌+◌, ◌-◌, ◌/◌, ◌%◌, ◌^◌, ◌<◌, ◌≤◌, ◌||◌, ◌&&◌, Bool, true, false, List, [], ◌∷◌, length, take, drop, get_or, refl, arith, length-drop, length-take}
+use Rattle.std.specs.Prelude.{Decides, Option, Some, None, not}
+use Rattle.std.specs.List.{slice_get}
+use Rattle.std.proofs.lemmas.Bool.{and_from, and_parts}
+use Rattle.std.proofs.lemmas.Bool.Decides.{Decides-eqb, Decides-ltb}
+use Rattle.std.proofs.lemmas.Option.{slice_get-get_or, slice_get_within}
 use Rattle.ld_base.specs.declared.parts.GnuPart.{GnuPart}
-use Rattle.sym_hash.specs.Gnu.{bloom_word, ends_between, gnu_bucket, gnu_leads, gnu_reaches, has_bit, has_word, in_bloom, is_end, walk_ends, walk_reaches}
+use Rattle.acceptance.specs.First.{IsFirst}
+use Rattle.acceptance.specs.Lemmas.Finds.{finds_position, same_some, At, Finds}
+use Rattle.acceptance.specs.Lemmas.Tests.{among, both, contrary, itself, le_decides, means, refuted, there_decides, Among}
+use Rattle.sym_hash.specs.Gnu.{ends_between, gnu_leads, has_bit, in_bloom, is_end, walk_ends, walk_reaches}
 use Rattle.sym_hash.specs.Hash.{gnu_hash}
 use Rattle.sym_hash.specs.Reached.{EndsBefore, GoesOn, IsChainWord, ReachedByGnu}
 
+-- the second is decided where the first holds
+pub both_then : {a b : Bool} {P : Type 0} {Q : P → Type 0} → Decides a P → ((p : P) → Decides b (Q p)) → Decides (a && b) ((p : P) × Q p)
+both_then {a} {b} d k = (λ e. let parts = and_parts a b e in (d.0 parts.0, (k (d.0 parts.0)).0 parts.1), λ (p, q). and_from a b (d.1 p) ((k p).1 q))
+
+unless : {a b : Bool} {P Q : Type 0} → Decides a P → Decides b Q → Decides (a || b) ((P → ⊥) → Q)
+unless {a = true} d f = (λ e not_p. absurd (not_p (d.0 refl)), λ q. refl)
+unless {a = false} d f = (λ e not_p. f.0 e, λ q. f.1 (q (λ p. let e = d.1 p in cc)))
+
 -- ---- a part of a list
 
-part_length : (a c : ℕ) (xs : List ℕ) → length (drop a (take c xs)) ≡ min c (length xs) - a
-part_length a c xs = omega (arith, length-drop a (take c xs), length-take c xs)
+get_drop : (a j : ℕ) (xs : List ℕ) → slice_get (drop a xs) j ≡ slice_get xs (a + j)
+get_drop zero j xs = let same : 0 + j ≡ j = omega arith in rw same refl
+get_drop (suc a) j [] = refl
+get_drop (suc a) j (x ∷ xs) = let more : suc a + j ≡ suc (a + j) = omega arith in rw more (get_drop a j xs)
 
-part_at : (a c : ℕ) (xs : List ℕ) (j : ℕ) → a + j < c → get_or (drop a (take c xs)) j 0 ≡ get_or xs (a + j) 0
-part_at a c xs j below = rw (get_or-drop, get_or-take) refl
+get_take : (c j : ℕ) (xs : List ℕ) → j < c → slice_get (take c xs) j ≡ slice_get xs j
+get_take zero j xs below = absurd (omega arith)
+get_take (suc c) j [] below = refl
+get_take (suc c) zero (x ∷ xs) below = refl
+get_take (suc c) (suc j) (x ∷ xs) below = get_take c j xs (omega arith)
 
-part_is : (a c : ℕ) (xs : List ℕ) (j k : ℕ) → a + j < c → a + j ≡ k → get_or (drop a (take c xs)) j 0 ≡ get_or xs k 0
-part_is a c xs j k below is = part_at a c xs j below ∙ ap (λ n. get_or xs n 0) is
+in_part : (a c : ℕ) (xs : List ℕ) (j w : ℕ) → slice_get (drop a (take c xs)) j ≡ Some w → (a + j < c) × (slice_get xs (a + j) ≡ Some w)
+in_part a c xs j w at =
+    let below : a + j < c = omega (arith, slice_get_within (drop a (take c xs)) j w at, length-drop a (take c xs), length-take c xs) in
+    (below, sym (get_drop a j (take c xs) ∙ get_take c (a + j) xs below) ∙ at)
 
-none_in_part : (p : ℕ → Bool) (a c k : ℕ) (xs : List ℕ) → list_any p (drop a (take c xs)) ≡ false → a ≤ k → k < c → k < length xs → p (get_or xs k 0) ≡ false
-none_in_part p a c k xs none from below within =
-    elim (cases_Bool (p (get_or xs k 0))) [
-      | inr off ↦ off
-      | inl on ↦
-          let place : a + (k - a) ≡ k = omega arith in
-          let is : get_or (drop a (take c xs)) (k - a) 0 ≡ get_or xs k 0 = part_is a c xs (k - a) k (omega arith) place in
-          let any : list_any p (drop a (take c xs)) ≡ true = list_any_at p (drop a (take c xs)) (k - a) 0 (omega (arith, part_length a c xs)) (ap p is ∙ on) in
-          cc
-    ]
+-- ---- the chain that a bucket begins
 
--- the first element that passes
-record FirstOf (p : ℕ → Bool) (xs : List ℕ) : Type 0 where
-  place : ℕ
-  within : place < length xs
-  passes : p (get_or xs place 0) ≡ true
-  before : (k : ℕ) → k < place → p (get_or xs k 0) ≡ false
+module _ (g : GnuPart) (bucket : ℕ) (low : g.symoffset ≤ bucket) where
+  abbrev part : ℕ → List ℕ
+  part i = drop (bucket - g.symoffset) (take (i - g.symoffset) g.chain)
 
-first_before : (p : ℕ → Bool) (x : ℕ) (xs : List ℕ) (n k : ℕ) → p x ≡ false → ((k : ℕ) → k < n → p (get_or xs k 0) ≡ false) → k < suc n → p (get_or (x ∷ xs) k 0) ≡ false
-first_before p x xs n zero off rest below = off
-first_before p x xs n (suc k) off rest below = rest k (omega arith)
+  -- the words of the part are those of the symbols from the bucket on
+  word_in : (i j w : ℕ) → slice_get (part i) j ≡ Some w → (bucket + j < i) × IsChainWord g (bucket + j) w
+  word_in i j w at =
+      let place : bucket + j - g.symoffset ≡ bucket - g.symoffset + j = omega (arith, low) in
+      let (below, stands) = in_part (bucket - g.symoffset) (i - g.symoffset) g.chain j w at in
+      (omega (arith, low), record { from = omega (arith, low); stands = rw place stands })
 
-first_of : (p : ℕ → Bool) (xs : List ℕ) → list_any p xs ≡ true → FirstOf p xs
-first_of p [] any = cc
-first_of p (x ∷ xs) any =
-    elim (cases_Bool (p x)) [
-      | inl on ↦ record { place = 0; within = omega arith; passes = on; before = λ k below. absurd (omega arith) }
-      | inr off ↦
-          let rest = first_of p xs (rw off at any) in
-          let inside = rest.within in
-          record { place = suc rest.place; within = omega arith; passes = rest.passes; before = λ k below. first_before p x xs rest.place k off rest.before below }
-    ]
+  word_of : (i k w : ℕ) → bucket ≤ k → k < i → IsChainWord g k w → slice_get (part i) (k - bucket) ≡ Some w
+  word_of i k w least below is =
+      let place : bucket - g.symoffset + (k - bucket) ≡ k - g.symoffset = omega (arith, low) in
+      get_drop (bucket - g.symoffset) (k - bucket) (take (i - g.symoffset) g.chain)
+      ∙ rw place (get_take (i - g.symoffset) (k - g.symoffset) g.chain (omega (arith, low)) ∙ is.stands)
 
--- ---- chain words
+  marks : (i : ℕ) → Decides (ends_between g bucket i) (Among (part i) (λ w. is_end w ≡ true))
+  marks i = among (λ w. itself (is_end w)) (part i)
 
-word_at : (g : GnuPart) (k : ℕ) → g.symoffset ≤ k → k - g.symoffset < length g.chain → IsChainWord g k (get_or g.chain (k - g.symoffset) 0)
-word_at g k from within = record { from = from; stands = slice_get-get_or g.chain (k - g.symoffset) 0 within }
-
-end_along : (x y : ℕ) (b : Bool) → x ≡ y → is_end x ≡ b → is_end y ≡ b
-end_along x y b is end = rw (← is) end
-
--- no end between a bucket and a symbol that has a chain word
-goes_on : (g : GnuPart) (bucket i : ℕ) → g.symoffset ≤ bucket → bucket ≤ i → i - g.symoffset < length g.chain → ends_between g bucket i ≡ false → GoesOn g bucket i
-goes_on g bucket i from order within none = record {
-  order = order;
-  on = λ k least below. (
-    get_or g.chain (k - g.symoffset) 0,
-    word_at g k (omega arith) (omega arith),
-    none_in_part is_end (bucket - g.symoffset) (i - g.symoffset) (k - g.symoffset) g.chain none (omega arith) (omega arith) (omega arith),
-  );
-}
-
-no_end : (g : GnuPart) (bucket i : ℕ) → g.symoffset ≤ bucket → GoesOn g bucket i → ends_between g bucket i ≡ false
-no_end g bucket i from goes =
-    elim (cases_Bool (ends_between g bucket i)) [
-      | inr none ↦ none
-      | inl some ↦
-          let part = drop (bucket - g.symoffset) (take (i - g.symoffset) g.chain) in
-          let first = first_of is_end part some in
-          let inside = first.within in
-          let len = part_length (bucket - g.symoffset) (i - g.symoffset) g.chain in
-          let order = goes.order in
-          let k : ℕ = bucket + first.place in
-          let here = goes.on k (omega arith) (omega (arith, len, inside)) in
-          let place : k - g.symoffset ≡ bucket - g.symoffset + first.place = omega arith in
-          let is : get_or part first.place 0 ≡ get_or g.chain (k - g.symoffset) 0 = part_is (bucket - g.symoffset) (i - g.symoffset) g.chain first.place (k - g.symoffset) (omega (arith, len, inside)) (sym place) in
-          let word : get_or g.chain (k - g.symoffset) 0 ≡ here.0 = get_or_from_slice_get g.chain (k - g.symoffset) here.0 0 here.1.stands in
-          let off : is_end here.0 ≡ false = here.2 in
-          let on : is_end here.0 ≡ true = end_along (get_or g.chain (k - g.symoffset) 0) here.0 true word (end_along (get_or part first.place 0) (get_or g.chain (k - g.symoffset) 0) true is first.passes) in
-          cc
-    ]
-
-pub ends_before : (g : GnuPart) (bucket count : ℕ) → g.symoffset ≤ bucket → ends_between g bucket count ≡ true → EndsBefore g bucket count
-ends_before g bucket count from some =
-    let so = g.symoffset in
-    let part = drop (bucket - so) (take (count - so) g.chain) in
-    let first = first_of is_end part some in
-    let inside = first.within in
-    let len = part_length (bucket - so) (count - so) g.chain in
-    let last : ℕ = bucket + first.place in
-    let place : last - so ≡ bucket - so + first.place = omega arith in
-    let is : get_or part first.place 0 ≡ get_or g.chain (last - so) 0 = part_is (bucket - so) (count - so) g.chain first.place (last - so) (omega (arith, len, inside)) (sym place) in
-    record {
-      last = last;
-      within = omega (arith, len, inside);
-      goes_on = record {
-        order = omega arith;
+  goes_decides : (i : ℕ) → bucket ≤ i → i - g.symoffset ≤ length g.chain → Decides (not (ends_between g bucket i)) (GoesOn g bucket i)
+  goes_decides i order within =
+      means (contrary (marks i))
+      (λ none. record {
+        order = order;
         on = λ k least below.
-            let at : k - so ≡ bucket - so + (k - bucket) = omega arith in (
-              get_or g.chain (k - so) 0,
-              word_at g k (omega arith) (omega (arith, len, inside)),
-              end_along (get_or part (k - bucket) 0) (get_or g.chain (k - so) 0) false (part_is (bucket - so) (count - so) g.chain (k - bucket) (k - so) (omega (arith, len, inside)) (sym at)) (first.before (k - bucket) (omega arith)),
-            );
-      };
-      word = get_or g.chain (last - so) 0;
-      stands = word_at g last (omega arith) (omega (arith, len, inside));
-      ended = end_along (get_or part first.place 0) (get_or g.chain (last - so) 0) true is first.passes;
-    }
+            let w : ℕ = get_or g.chain (k - g.symoffset) 0 in
+            let stands : IsChainWord g k w = record { from = omega (arith, low); stands = slice_get-get_or g.chain (k - g.symoffset) 0 (omega (arith, low)) } in
+            (w, stands, refuted (itself (is_end w)) (λ end. none (k - bucket, w, word_of i k w least below stands, end)));
+      })
+      (λ goes (j, w, at, end).
+      let (below, stands) = word_in i j w at in
+      let (other, is, off) = goes.on (bucket + j) (omega arith) below in
+      let same : w ≡ other = same_some (sym stands.stands ∙ is.stands) in
+      cc)
 
-pub ends_are : (g : GnuPart) (bucket count : ℕ) → g.symoffset ≤ bucket → EndsBefore g bucket count → ends_between g bucket count ≡ true
-ends_are g bucket count from e =
-    let so = g.symoffset in
-    let order = e.goes_on.order in
-    let below = e.within in
-    let here = slice_get_within g.chain (e.last - so) e.word e.stands.stands in
-    let place : bucket - so + (e.last - bucket) ≡ e.last - so = omega arith in
-    let is : get_or (drop (bucket - so) (take (count - so) g.chain)) (e.last - bucket) 0 ≡ get_or g.chain (e.last - so) 0 = part_is (bucket - so) (count - so) g.chain (e.last - bucket) (e.last - so) (omega arith) place in
-    let word : get_or g.chain (e.last - so) 0 ≡ e.word = get_or_from_slice_get g.chain (e.last - so) e.word 0 e.stands.stands in
-    list_any_at is_end (drop (bucket - so) (take (count - so) g.chain)) (e.last - bucket) 0 (omega (arith, part_length (bucket - so) (count - so) g.chain))
-    (end_along (get_or g.chain (e.last - so) 0) (get_or (drop (bucket - so) (take (count - so) g.chain)) (e.last - bucket) 0) true (sym is) (end_along e.word (get_or g.chain (e.last - so) 0) true (sym word) e.ended))
+  -- the first mark of a part
+  abbrev Marked : ℕ → ℕ → Type 0
+  Marked count = At is_end (λ w. is_end w ≡ true) (λ w. itself (is_end w)) (part count)
 
--- ---- a symbol that is reached
+  before : (count i j v : ℕ) → IsFirst (Marked count) j → bucket + j < count → i < j → IsChainWord g (bucket + i) v → is_end v ≡ true → ⊥
+  before count i j v f below less is end =
+      let place : bucket + i - bucket ≡ i = omega arith in
+      f.before i less (v, rw place at (word_of count (bucket + i) v (omega arith) (omega arith) is), end)
 
--- a word that isn't 0 is there
-some_index : (xs : List ℕ) (k : ℕ) → slice_index xs k ≢ 0 → slice_get xs k ≡ Some (slice_index xs k)
-some_index xs k some =
-    elim (cases_lt k (length xs)) [
-      | inl within ↦ slice_get-get_or xs k 0 within
-      | inr past ↦ absurd (some (get_or_past xs k 0 past))
-    ]
+  ends_first : (count j : ℕ) → IsFirst (Marked count) j → EndsBefore g bucket count
+  ends_first count j f =
+      let (w, at, end) = f.bad in
+      let (below, stands) = word_in count j w at in
+      let within = slice_get_within g.chain (bucket + j - g.symoffset) w stands.stands in
+      record {
+        last = bucket + j;
+        within = below;
+        goes_on = (goes_decides (bucket + j) (omega arith) (omega arith)).0 ((contrary (marks (bucket + j))).1
+            (λ (i, v, there, ends). let (less, is) = word_in (bucket + j) i v there in before count i j v f below (omega arith) is ends));
+        word = w;
+        stands = stands;
+        ended = end;
+      }
 
--- 0 has no bit
-bit_some : (word bit : ℕ) → has_bit word bit ≡ true → word ≢ 0
-bit_some word bit has none =
-    let gone : 0 / 2 ^ bit ≡ 0 = div-eq_of_lt (pow_pos bit) in
-    let is : word / 2 ^ bit ≡ 0 = rw none gone in
-    let one : word / 2 ^ bit % 2 ≡ 1 = eqb-true (word / 2 ^ bit % 2) 1 has in
-    omega (arith, is, one)
+  some_first : (count k : ℕ) → Marked count k → (o : Option ℕ) → Finds (Marked count) o → EndsBefore g bucket count
+  some_first count k bad None none = absurd (none k bad)
+  some_first count k bad (Some j) f = ends_first count j f
 
-word_from : (hash : ℕ) (found : Option ℕ) → option_map_or (λ word. word / 2 == hash / 2) found false ≡ true → (word : ℕ) × (found ≡ Some word) × (word / 2 ≡ hash / 2)
-word_from hash None e = cc
-word_from hash (Some word) e = (word, refl, eqb-true (word / 2) (hash / 2) e)
+  ends_decides : (count : ℕ) → Decides (ends_between g bucket count) (EndsBefore g bucket count)
+  ends_decides count = means (marks count) (λ (k, w, at, end). some_first count k (w, at, end) _ (finds_position is_end (λ w. is_end w ≡ true) (λ w. itself (is_end w)) (part count))) (λ e. (e.last - bucket, e.word, word_of count e.last e.word e.goes_on.order e.within e.stands, e.ended))
 
-pub gnu_from : (g : GnuPart) (name : List ℕ) (i : ℕ) → gnu_reaches g name i ≡ true → ReachedByGnu g name i
-unfolding gnu_leads in_bloom
-gnu_from g name i e =
-    let h = gnu_hash name in
-    let bucket = gnu_bucket g h in
-    let bloom = bloom_word g h in
-    let whole = and_parts (in_bloom g h && walk_reaches g bucket i) (has_word g h i) e in
-    let parts = and_parts (in_bloom g h) (walk_reaches g bucket i) whole.0 in
-    let bits = and_parts (has_bit bloom (h % 64)) (has_bit bloom (h / 2 ^ g.shift % 64)) parts.0 in
-    let walk = and_parts (nat_lt 0 bucket && nat_le g.symoffset bucket && nat_le bucket i) (not (ends_between g bucket i)) parts.1 in
-    let order = and_parts (nat_lt 0 bucket && nat_le g.symoffset bucket) (nat_le bucket i) walk.0 in
-    let from = and_parts (nat_lt 0 bucket) (nat_le g.symoffset bucket) order.0 in
-    let word = word_from h (slice_get g.chain (i - g.symoffset)) whole.1 in
-    let some = ltb-true 0 bucket from.0 in
-    let low = leb-true g.symoffset bucket from.1 in
-    let le = leb-true bucket i order.1 in
-    record {
-      bloom = bloom;
-      filter = some_index g.bloom (h / 64 % length g.bloom) (bit_some bloom (h % 64) bits.0);
-      first_bit = bits.0;
-      second_bit = bits.1;
-      bucket = bucket;
-      begins = some_index g.buckets (h % length g.buckets) (λ none. omega (arith, some, none));
-      some = λ none. omega (arith, some, none);
-      within = low;
-      goes_on = goes_on g bucket i low le (slice_get_within g.chain (i - g.symoffset) word.0 word.1) (not-true (ends_between g bucket i) walk.1);
-      word = word.0;
-      stands = record { from = omega (arith, low, le); stands = word.1 };
-      hash = word.2;
-    }
+-- ---- a walk that ends, and a symbol that is reached
 
-pub gnu_is : (g : GnuPart) (name : List ℕ) (i : ℕ) → ReachedByGnu g name i → gnu_reaches g name i ≡ true
-unfolding gnu_leads in_bloom
-gnu_is g name i r =
-    let h = gnu_hash name in
-    let bloom : bloom_word g h ≡ r.bloom = get_or_from_slice_get g.bloom (h / 64 % length g.bloom) r.bloom 0 r.filter in
-    let bucket : gnu_bucket g h ≡ r.bucket = get_or_from_slice_get g.buckets (h % length g.buckets) r.bucket 0 r.begins in
-    let some = r.some in
-    let positive : 0 < r.bucket = omega arith in
-    let first : has_bit (bloom_word g h) (h % 64) ≡ true = ap (λ w. has_bit w (h % 64)) bloom ∙ r.first_bit in
-    let second : has_bit (bloom_word g h) (h / 2 ^ g.shift % 64) ≡ true = ap (λ w. has_bit w (h / 2 ^ g.shift % 64)) bloom ∙ r.second_bit in
-    let walk : walk_reaches g r.bucket i ≡ true =
-    and_from (nat_lt 0 r.bucket && nat_le g.symoffset r.bucket && nat_le r.bucket i) (not (ends_between g r.bucket i))
-    (and_from (nat_lt 0 r.bucket && nat_le g.symoffset r.bucket) (nat_le r.bucket i) (and_from (nat_lt 0 r.bucket) (nat_le g.symoffset r.bucket) (lt-ltb 0 r.bucket positive) (le-leb g.symoffset r.bucket r.within)) (le-leb r.bucket i r.goes_on.order))
-    (ap not (no_end g r.bucket i r.within r.goes_on)) in
-    let word : has_word g h i ≡ true = rw r.stands.stands (eq-eqb (r.word / 2) (h / 2) r.hash) in
-    and_from (in_bloom g h && walk_reaches g (gnu_bucket g h) i) (has_word g h i)
-    (and_from (in_bloom g h) (walk_reaches g (gnu_bucket g h) i) (and_from (has_bit (bloom_word g h) (h % 64)) (has_bit (bloom_word g h) (h / 2 ^ g.shift % 64)) first second) (ap (λ b. walk_reaches g b i) bucket ∙ walk)) word
+pub walk_decides : (g : GnuPart) (count bucket : ℕ) → Decides (walk_ends g count bucket) (bucket ≢ 0 → (g.symoffset ≤ bucket) × EndsBefore g bucket count)
+walk_decides g count bucket = unless (Decides-eqb bucket 0) (both_then (le_decides g.symoffset bucket) (λ low. ends_decides g bucket low count))
 
--- ---- a walk that ends
+module _ (g : GnuPart) (name : List ℕ) (i : ℕ) where
+  walked : i - g.symoffset < length g.chain → (bucket : ℕ) → Decides (walk_reaches g bucket i) ((((0 < bucket) × (g.symoffset ≤ bucket)) × (bucket ≤ i)) × GoesOn g bucket i)
+  walked within bucket =
+      both_then (both (both (Decides-ltb 0 bucket) (le_decides g.symoffset bucket)) (le_decides bucket i)) (λ ((some, low), order). goes_decides g bucket low i order (omega arith))
 
-pub walk_from : (g : GnuPart) (count bucket : ℕ) → walk_ends g count bucket ≡ true → bucket ≢ 0 → (g.symoffset ≤ bucket) × EndsBefore g bucket count
-walk_from g count bucket e some =
-    elim (or_cases (bucket == 0) (nat_le g.symoffset bucket && ends_between g bucket count) e) [
-      | inl none ↦ absurd (some (eqb-true bucket 0 none))
-      | inr ends ↦
-          let parts = and_parts (nat_le g.symoffset bucket) (ends_between g bucket count) ends in
-          let low = leb-true g.symoffset bucket parts.0 in
-          (low, ends_before g bucket count low parts.1)
-    ]
-
-pub walk_is : (g : GnuPart) (count bucket : ℕ) → (bucket ≢ 0 → (g.symoffset ≤ bucket) × EndsBefore g bucket count) → walk_ends g count bucket ≡ true
-walk_is g count bucket ends =
-    elim (cases_eq bucket 0) [
-      | inl none ↦ rw (eq-eqb bucket 0 none) refl
-      | inr some ↦
-          let e = ends some in
-          rw (ne_eqb bucket 0 some, le-leb g.symoffset bucket e.0) (ends_are g bucket count e.0 e.1)
-    ]
+  pub gnu_decides : Decides (gnu_leads g (gnu_hash name) i) (ReachedByGnu g name i)
+  unfolding gnu_leads in_bloom
+  gnu_decides =
+      let h : ℕ = gnu_hash name in
+      means
+      (both_then
+      (both
+      (there_decides _ _ (λ word. both (itself (has_bit word (h % 64))) (itself (has_bit word (h / 2 ^ g.shift % 64)))) (slice_get g.bloom (h / 64 % length g.bloom)))
+      (there_decides _ _ (λ word. Decides-eqb (word / 2) (h / 2)) (slice_get g.chain (i - g.symoffset))))
+      (λ (bloom, (word, at, hash)). there_decides _ _ (walked (slice_get_within g.chain (i - g.symoffset) word at)) (slice_get g.buckets (h % length g.buckets))))
+      (λ (((bloom, filter, (first, second)), (word, at, hash)), (bucket, begins, (((some, low), order), goes))). record {
+        bloom = bloom;
+        filter = filter;
+        first_bit = first;
+        second_bit = second;
+        bucket = bucket;
+        begins = begins;
+        some = omega arith;
+        within = low;
+        goes_on = goes;
+        word = word;
+        stands = record { from = omega arith; stands = at };
+        hash = hash;
+      })
+      (λ r. (((r.bloom, r.filter, (r.first_bit, r.second_bit)), (r.word, r.stands.stands, r.hash)), (r.bucket, r.begins, (((let some = r.some in omega arith, r.within), r.goes_on.order), r.goes_on))))

@@ -1,11 +1,11 @@
 -- The verdict on hash tables and the relations that say what it means.
-use Rattle.std.proofs.Common.{◌≡◌, ◌↔◌, ◌⊎◌, ◌∙◌, sym, ap, subst, ℕ, zero, suc, ◌<◌, ◌≤◌, Bool, true, false, List, [], ◌∷◌, length, get_or, refl, arith, inl, inr}
-use Rattle.std.specs.Prelude.{Option, Some, None, Ok, Err, Contains, IsTrue, ◌&&◌, not, nat_le, if◌then◌else◌}
-use Rattle.std.specs.Option.{option_map_or, option_or}
+use Rattle.std.proofs.Common.{◌≡◌, ◌↔◌, ◌∙◌, sym, ap, ℕ, zero, suc, Bool, false, List, [], ◌∷◌, length, map, refl, arith, inl, inr}
+use Rattle.std.specs.Prelude.{Decides, Option, Some, None, Ok, Err, Contains, IsTrue, slice_index, unwrap_or}
+use Rattle.std.specs.Option.{option_map}
 use Rattle.std.specs.List.{list_all, slice_get}
-use Rattle.std.proofs.lemmas.Bool.{and_from, and_parts, cases_Bool, le-leb, leb-true, not-true}
-use Rattle.std.proofs.lemmas.List.Folds.{list_all_at}
-use Rattle.std.proofs.lemmas.Option.{slice_get_within}
+use Rattle.std.proofs.lemmas.Bool.Decides.{Decides-eqb}
+use Rattle.std.proofs.lemmas.List.{length-map}
+use Rattle.std.proofs.lemmas.Option.{get_or_from_slice_get, slice_get-map, slice_get_within}
 use Rattle.ld_base.specs.Symbol.{is_visible_definition}
 use Rattle.ld_base.specs.declared.fault.NotAccepted.{NotAccepted}
 use Rattle.ld_base.specs.declared.object.Symbol.{Symbol}
@@ -14,188 +14,113 @@ use Rattle.ld_base.specs.declared.parts.GnuPart.{GnuPart}
 use Rattle.ld_base.specs.declared.parts.HashTable.{HashTable}
 use Rattle.ld_base.specs.declared.parts.Head.{Head}
 use Rattle.ld_base.specs.declared.parts.SysvPart.{SysvPart}
-use Rattle.acceptance.specs.Lemmas.Finds.{finds_is, finds_none, Finds}
+use Rattle.acceptance.specs.Lemmas.Finds.{finds_is, never, same_some, Finds}
 use Rattle.acceptance.specs.Lemmas.Leasts.{finds_least}
-use Rattle.acceptance.specs.Lemmas.Firsts.{accepts, none_at, refuses, Breaking, Listed}
-use Rattle.acceptance.specs.First.{IsFirst, NoneBroken}
+use Rattle.acceptance.specs.Lemmas.Firsts.{accepts, refuses, Breaking, Listed}
+use Rattle.acceptance.specs.Lemmas.Tests.{both, contrary, decided, itself, le_decides, means, refuted, settle}
+use Rattle.acceptance.specs.First.{NoneBroken}
 use Rattle.dyn_table.specs.HashWords.{hash_words}
-use Rattle.sym_hash.proofs.Chains.{gnu_from, gnu_is, walk_from, walk_is}
-use Rattle.sym_hash.proofs.Links.{ends_leads, leads_end, sysv_from, sysv_is}
+use Rattle.sym_hash.proofs.Chains.{both_then, gnu_decides, walk_decides}
+use Rattle.sym_hash.proofs.Links.{end_decides, sysv_decides}
 use Rattle.sym_hash.specs.Breaks.{Breaks, BreaksHash, IsMissedAt}
 use Rattle.sym_hash.specs.Breaks.Breaks.{no_end, not_reached}
-use Rattle.sym_hash.specs.Gnu.{gnu_walks_end, walk_ends}
+use Rattle.sym_hash.specs.Gnu.{gnu_walks_end}
+use Rattle.sym_hash.specs.Hashed.{first_lost, hash_by, is_lost, leads, unmet_by, walks_end}
 use Rattle.sym_hash.specs.Reached.{IsTableFor, Reached, WalksEnd}
-use Rattle.sym_hash.specs.Sysv.{ends_within, sysv_walks_end}
-use Rattle.sym_hash.specs.Verdict.{first_missed, hash_verdict, is_missed, reaches, table_verdict, unmet, walks_end}
+use Rattle.sym_hash.specs.Sysv.{sysv_walks_end}
+use Rattle.sym_hash.specs.Verdict.{hash_verdict, table_verdict, unmet}
 
--- ---- all of a list
+each_decides : {p : ℕ → Bool} {P : ℕ → Type 0} → ((x : ℕ) → Decides (p x) (P x)) → (xs : List ℕ) → Decides (list_all p xs) ((x : ℕ) → Contains xs x → P x)
+each_decides d [] = (λ e x has. absurd (let below = has.1 in omega arith), λ each. refl)
+each_decides {p} {P} d (x ∷ xs) = means (both (d x) (each_decides d xs)) to (λ each. (each x (0, omega arith, refl), λ y (k, below, is). each y (suc k, omega arith, is)))
+  where
+    to : P x × ((y : ℕ) → Contains xs y → P y) → (y : ℕ) → Contains (x ∷ xs) y → P y
+    to (here, rest) y (zero, below, is) = rw (← is) here
+    to (here, rest) y (suc k, below, is) = rest y (k, omega arith, is)
 
-all_each : (p : ℕ → Bool) (xs : List ℕ) (x : ℕ) → list_all p xs ≡ true → Contains xs x → p x ≡ true
-all_each p xs x all has =
-    elim (cases_Bool (p (get_or xs has.0 x))) [
-      | inl on ↦ ap p (sym has.2) ∙ on
-      | inr off ↦ (let none = list_all_at p xs has.0 x has.1 off in cc)
-    ]
+-- ---- a table by its parts
 
-all_of : (p : ℕ → Bool) (xs : List ℕ) → ((x : ℕ) → Contains xs x → p x ≡ true) → list_all p xs ≡ true
-all_of p [] each = refl
-all_of p (x ∷ xs) each = and_from (p x) (list_all p xs) (each x (0, omega arith, refl)) (all_of p xs (λ y has. let below = has.1 in each y (suc has.0, omega arith, has.2)))
-
--- ---- a table
-
--- the parts of a table
 abbrev table_of : Option GnuPart → Option SysvPart → HashTable
 table_of gnu sysv = record { gnu = gnu; sysv = sysv }
 
-reached_from : (gnu : Option GnuPart) (sysv : Option SysvPart) (name : List ℕ) (i : ℕ) → reaches (table_of gnu sysv) name i ≡ true → Reached (table_of gnu sysv) name i
-reached_from (Some g) sysv name i e = gnu_from g name i e
-reached_from None (Some s) name i e = sysv_from s name i e
-reached_from None None name i e = cc
+walks_decides : (gnu : Option GnuPart) (sysv : Option SysvPart) (count : ℕ) → Decides (walks_end (table_of gnu sysv) count) (WalksEnd (table_of gnu sysv) count)
+unfolding gnu_walks_end sysv_walks_end
+walks_decides (Some g) sysv count = each_decides (walk_decides g count) g.buckets
+walks_decides None (Some s) count = each_decides (end_decides s.chain (length s.chain)) s.buckets
+walks_decides None None count = (λ e. tt, λ all. refl)
 
-reached_is : (gnu : Option GnuPart) (sysv : Option SysvPart) (name : List ℕ) (i : ℕ) → Reached (table_of gnu sysv) name i → reaches (table_of gnu sysv) name i ≡ true
-reached_is (Some g) sysv name i r = gnu_is g name i r
-reached_is None (Some s) name i r = sysv_is s name i r
-reached_is None None name i r = absurd r
+reach_decides : (gnu : Option GnuPart) (sysv : Option SysvPart) (count : ℕ) → WalksEnd (table_of gnu sysv) count → (name : List ℕ) (i : ℕ)
+    → Decides (leads (table_of gnu sysv) (hash_by (table_of gnu sysv) name) i) (Reached (table_of gnu sysv) name i)
+reach_decides (Some g) sysv count ends name i = gnu_decides g name i
+reach_decides None (Some s) count ends name i = sysv_decides s (λ bucket has. (Decides-eqb _ 0).0 ((end_decides s.chain (length s.chain) bucket).1 (ends bucket has))) name i
+reach_decides None None count ends name i = (λ e. absurd cc, λ r. absurd r)
 
-gnu_walks : (g : GnuPart) (count : ℕ) → gnu_walks_end g count ≡ true → (bucket : ℕ) → Contains g.buckets bucket → walk_ends g count bucket ≡ true
-unfolding gnu_walks_end
-gnu_walks g count all bucket has = all_each (walk_ends g count) g.buckets bucket all has
+visible_decides : (o : Option Symbol) → Decides (unwrap_or (option_map is_visible_definition o) false) ((s : Symbol) × (o ≡ Some s) × IsTrue (is_visible_definition s))
+visible_decides None = (λ e. absurd cc, λ (s, e, visible). absurd cc)
+visible_decides (Some s) = means (itself (is_visible_definition s)) (λ visible. (s, refl, visible)) (λ (other, e, visible). rw (same_some e) visible)
 
-gnu_all : (g : GnuPart) (count : ℕ) → ((bucket : ℕ) → Contains g.buckets bucket → walk_ends g count bucket ≡ true) → gnu_walks_end g count ≡ true
-unfolding gnu_walks_end
-gnu_all g count each = all_of (walk_ends g count) g.buckets each
+module _ (t : HashTable) (symbols : List Symbol) (first : ℕ) where
+  abbrev visible : List Bool
+  visible = map is_visible_definition symbols
 
-sysv_walks : (s : SysvPart) → sysv_walks_end s ≡ true → (bucket : ℕ) → Contains s.buckets bucket → ends_within s.chain (length s.chain) bucket ≡ true
-unfolding sysv_walks_end
-sysv_walks s all bucket has = all_each (ends_within s.chain (length s.chain)) s.buckets bucket all has
+  abbrev hashes : List ℕ
+  hashes = map (λ s. hash_by t s.name) symbols
 
-sysv_all : (s : SysvPart) → ((bucket : ℕ) → Contains s.buckets bucket → ends_within s.chain (length s.chain) bucket ≡ true) → sysv_walks_end s ≡ true
-unfolding sysv_walks_end
-sysv_all s each = all_of (ends_within s.chain (length s.chain)) s.buckets each
+  walks : Decides (walks_end t (length visible)) (WalksEnd t (length symbols))
+  walks = rw (length-map symbols is_visible_definition) (walks_decides t.gnu t.sysv (length symbols))
 
-walks_from : (gnu : Option GnuPart) (sysv : Option SysvPart) (count : ℕ) → walks_end (table_of gnu sysv) count ≡ true → WalksEnd (table_of gnu sysv) count
-walks_from (Some g) sysv count e = λ bucket has some. walk_from g count bucket (gnu_walks g count e bucket has) some
-walks_from None (Some s) count e = λ bucket has. ends_leads s.chain (length s.chain) bucket (sysv_walks s e bucket has)
-walks_from None None count e = tt
+  missed_decides : WalksEnd t (length symbols) → (i : ℕ) → Decides (is_lost (λ k. leads t (slice_index hashes k) k) visible first i) (IsMissedAt t symbols first i)
+  missed_decides ends i =
+      means
+      (both_then (both (le_decides first i) (rw (slice_get-map is_visible_definition symbols i) (visible_decides (slice_get symbols i))))
+      (λ (from, (s, at, visible)). contrary (reached s at)))
+      (λ ((from, (s, at, visible)), missed). record { symbol = s; exported = from; stands = at; visible = visible; missed = missed }) (λ m. ((m.exported, (m.symbol, m.stands, m.visible)), m.missed))
+    where
+      reached : (s : Symbol) → slice_get symbols i ≡ Some s → Decides (leads t (slice_index hashes i) i) (Reached t s.name i)
+      reached s at =
+          rw (get_or_from_slice_get hashes i (hash_by t s.name) 0 (slice_get-map (λ (s : Symbol). hash_by t s.name) symbols i ∙ ap (option_map (λ (s : Symbol). hash_by t s.name)) at))
+          (reach_decides t.gnu t.sysv (length symbols) ends s.name i)
 
-walks_are : (gnu : Option GnuPart) (sysv : Option SysvPart) (count : ℕ) → WalksEnd (table_of gnu sysv) count → walks_end (table_of gnu sysv) count ≡ true
-walks_are (Some g) sysv count ends = gnu_all g count (λ bucket has. walk_is g count bucket (ends bucket has))
-walks_are None (Some s) count ends = sysv_all s (λ bucket has. let e = ends bucket has in leads_end s.chain (length s.chain) bucket e.0 0 e.2 refl e.1)
-walks_are None None count ends = refl
+  abbrev lost : Option ℕ
+  lost = first_lost (λ k. leads t (slice_index hashes k) k) visible first
 
--- ---- a symbol that is missed
+  found : WalksEnd t (length symbols) → Finds (IsMissedAt t symbols first) lost
+  unfolding first_lost
+  found ends = finds_least _ (IsMissedAt t symbols first) (length visible) (missed_decides ends) (λ i m. rw (length-map symbols is_visible_definition) (slice_get_within symbols i m.symbol m.stands))
 
-missed_from : (t : HashTable) (symbols : List Symbol) (first i : ℕ) → is_missed (reaches t) symbols first i ≡ true → IsMissedAt t symbols first i
-missed_from t symbols first i e =
-    let parts = and_parts (nat_le first i) _ e in
-    let s = by_symbol t i (slice_get symbols i) parts.1 in
-    record { symbol = s.0; exported = leb-true first i parts.0; stands = s.1; visible = s.2; missed = λ r. (let is = reached_is t.gnu t.sysv s.0.name i r in let not_is = s.3 in cc) }
-  where
-    by_symbol : (t : HashTable) (i : ℕ) (found : Option Symbol) → option_map_or (λ (s : Symbol). is_visible_definition s && not (reaches t s.name i)) found false ≡ true
-        → (s : Symbol) × (found ≡ Some s) × IsTrue (is_visible_definition s) × (reaches t s.name i ≡ false)
-    by_symbol t i None e = cc
-    by_symbol t i (Some s) e = let parts = and_parts (is_visible_definition s) (not (reaches t s.name i)) e in (s, refl, parts.0, not-true (reaches t s.name i) parts.1)
+  by_lost : WalksEnd t (length symbols) → unmet t symbols first ≡ lost
+  unfolding unmet_by
+  by_lost ends = rw (walks.1 ends) refl
 
-missed_is : (t : HashTable) (symbols : List Symbol) (first i : ℕ) → IsMissedAt t symbols first i → is_missed (reaches t) symbols first i ≡ true
-missed_is t symbols first i m =
-    elim (cases_Bool (reaches t m.symbol.name i)) [
-      | inl found ↦ absurd (m.missed (reached_from t.gnu t.sysv m.symbol.name i found))
-      | inr lost ↦ rw (le-leb first i m.exported, m.stands, m.visible, lost) refl
-    ]
+  by_walk : (WalksEnd t (length symbols) → ⊥) → unmet t symbols first ≡ Some 0
+  unfolding unmet_by
+  by_walk none = rw (refuted walks none) refl
 
-pub missed_within : (t : HashTable) (symbols : List Symbol) (first i : ℕ) → IsMissedAt t symbols first i → i < length symbols
-missed_within t symbols first i m = slice_get_within symbols i m.symbol m.stands
+  -- the rule is broken with the number by which it is unmet
+  listed : Listed 19 (unmet t symbols first ∷ []) (Breaks t symbols first)
+  listed rule number (no_end none) = (0, refl, ap Some (by_walk none))
+  listed rule number (not_reached ends i missed) = (0, refl, ap Some (by_lost ends ∙ (finds_is _ lost i (found ends)).1 missed))
 
--- ---- the verdict
+  breaking : Breaking 19 (unmet t symbols first ∷ []) (Breaks t symbols first)
+  breaking zero number is =
+      elim (settle walks) [
+        | inl ends ↦ not_reached ends number ((finds_is _ lost number (found ends)).0 (sym (by_lost ends) ∙ same_some is))
+        | inr none ↦ (let zero : 0 ≡ number = same_some (sym (by_walk none) ∙ same_some is) in rw (← zero) (no_end none))
+      ]
+  breaking (suc i) number is = absurd cc
 
--- the first symbol that is missed
-missed_found : (t : HashTable) (symbols : List Symbol) (first : ℕ) → Finds (IsMissedAt t symbols first) (first_missed (reaches t) symbols first)
-unfolding first_missed
-missed_found t symbols first =
-    finds_least (is_missed (reaches t) symbols first) (IsMissedAt t symbols first) (length symbols)
-    (λ i. (missed_from t symbols first i, missed_is t symbols first i)) (missed_within t symbols first)
+  kept_table : NoneBroken (Breaks t symbols first) → IsTableFor t symbols first
+  kept_table kept =
+      let ends : WalksEnd t (length symbols) = decided walks (λ none. kept 19 0 (no_end none)) in
+      record {
+        ends = ends;
+        reached = λ i s from at visible. decided (reach_decides t.gnu t.sysv (length symbols) ends s.name i)
+            (λ missed. never (IsMissedAt t symbols first) (λ k f. kept 19 k (not_reached ends k f)) i (record { symbol = s; exported = from; stands = at; visible = visible; missed = missed }));
+      }
 
-first_is : (t : HashTable) (symbols : List Symbol) (first i : ℕ) → (first_missed (reaches t) symbols first ≡ Some i) ↔ IsFirst (IsMissedAt t symbols first) i
-first_is t symbols first i = finds_is (IsMissedAt t symbols first) (first_missed (reaches t) symbols first) i (missed_found t symbols first)
-
-none_from : (t : HashTable) (symbols : List Symbol) (first : ℕ) → first_missed (reaches t) symbols first ≡ None → (i : ℕ) → IsMissedAt t symbols first i → ⊥
-none_from t symbols first none = subst (Finds (IsMissedAt t symbols first)) none (missed_found t symbols first)
-
--- each exported definition is reached, where none is missed
-reached_all : (t : HashTable) (symbols : List Symbol) (first : ℕ) → ((i : ℕ) → IsMissedAt t symbols first i → ⊥) → (i : ℕ) (s : Symbol) → first ≤ i → slice_get symbols i ≡ Some s → IsTrue (is_visible_definition s) → Reached t s.name i
-reached_all t symbols first never i s from at visible =
-    elim (cases_Bool (reaches t s.name i)) [
-      | inl found ↦ reached_from t.gnu t.sysv s.name i found
-      | inr lost ↦ absurd (never i (record { symbol = s; exported = from; stands = at; visible = visible; missed = λ r. lost_reached t s.name i lost r }))
-    ]
-  where
-    lost_reached : (t : HashTable) (name : List ℕ) (i : ℕ) → reaches t name i ≡ false → Reached t name i → ⊥
-    lost_reached t name i lost r = let on = reached_is t.gnu t.sysv name i r in cc
-
-never_missed : (t : HashTable) (symbols : List Symbol) (first : ℕ) → IsTableFor t symbols first → (i : ℕ) → IsMissedAt t symbols first i → ⊥
-never_missed t symbols first is i m = m.missed (is.reached i m.symbol m.exported m.stands m.visible)
-
--- what is unmet
-unmet_parts : (ends : Bool) (missed : Option ℕ) → option_or (if ends then None else Some 0) missed ≡ None → (ends ≡ true) × (missed ≡ None)
-unmet_parts true missed e = (refl, e)
-unmet_parts false missed e = cc
-
-unmet_number : (ends : Bool) (missed : Option ℕ) (number : ℕ) → option_or (if ends then None else Some 0) missed ≡ Some number → ((ends ≡ false) × (number ≡ 0)) ⊎ ((ends ≡ true) × (missed ≡ Some number))
-unmet_number true missed number e = inr (refl, e)
-unmet_number false missed number e = inl (refl, cc)
-
-table_from : (t : HashTable) (symbols : List Symbol) (first : ℕ) → unmet t symbols first ≡ None → IsTableFor t symbols first
-unfolding unmet
-table_from t symbols first e =
-    let u = unmet_parts (walks_end t (length symbols)) (first_missed (reaches t) symbols first) e in
-    record { ends = walks_from t.gnu t.sysv (length symbols) u.0; reached = reached_all t symbols first (none_from t symbols first u.1) }
-
-table_is : (t : HashTable) (symbols : List Symbol) (first : ℕ) → IsTableFor t symbols first → unmet t symbols first ≡ None
-unfolding unmet
-table_is t symbols first is =
-    let ends = walks_are t.gnu t.sysv (length symbols) is.ends in
-    let none = finds_none (IsMissedAt t symbols first) (first_missed (reaches t) symbols first) (missed_found t symbols first) (never_missed t symbols first is) in
-    rw (ends, none) refl
-
-unmet_from : (t : HashTable) (symbols : List Symbol) (first number : ℕ) → unmet t symbols first ≡ Some number → Breaks t symbols first 19 number
-unfolding unmet
-unmet_from t symbols first number e =
-    elim (unmet_number (walks_end t (length symbols)) (first_missed (reaches t) symbols first) number e) [
-      | inl walk ↦ rw walk.1 (no_end (λ ends. (let is = walks_are t.gnu t.sysv (length symbols) ends in let off = walk.0 in cc)))
-      | inr symbol ↦
-          not_reached (walks_from t.gnu t.sysv (length symbols) symbol.0) number ((first_is t symbols first number).0 symbol.1)
-    ]
-
-unmet_walk : (t : HashTable) (symbols : List Symbol) (first : ℕ) → (WalksEnd t (length symbols) → ⊥) → unmet t symbols first ≡ Some 0
-unfolding unmet
-unmet_walk t symbols first never =
-    elim (cases_Bool (walks_end t (length symbols))) [
-      | inl ends ↦ absurd (never (walks_from t.gnu t.sysv (length symbols) ends))
-      | inr off ↦ rw off refl
-    ]
-
-unmet_symbol : (t : HashTable) (symbols : List Symbol) (first i : ℕ) → WalksEnd t (length symbols) → IsFirst (IsMissedAt t symbols first) i → unmet t symbols first ≡ Some i
-unfolding unmet
-unmet_symbol t symbols first i ends f = rw (walks_are t.gnu t.sysv (length symbols) ends, (first_is t symbols first i).1 f) refl
-
--- the rule is broken with the number by which it is unmet
-listed : (t : HashTable) (symbols : List Symbol) (first : ℕ) → Listed 19 (unmet t symbols first ∷ []) (Breaks t symbols first)
-listed t symbols first rule number (no_end never) = (0, refl, ap Some (unmet_walk t symbols first never))
-listed t symbols first rule number (not_reached ends i missed) = (0, refl, ap Some (unmet_symbol t symbols first i ends missed))
-
-breaking : (t : HashTable) (symbols : List Symbol) (first : ℕ) → Breaking 19 (unmet t symbols first ∷ []) (Breaks t symbols first)
-breaking t symbols first zero number found = unmet_from t symbols first number (cc)
-breaking t symbols first (suc i) number found = cc
-
-kept_table : (t : HashTable) (symbols : List Symbol) (first : ℕ) → NoneBroken (Breaks t symbols first) → IsTableFor t symbols first
-kept_table t symbols first kept = by_number (unmet t symbols first) refl
-  where
-    by_number : (found : Option ℕ) → unmet t symbols first ≡ found → IsTableFor t symbols first
-    by_number None e = table_from t symbols first e
-    by_number (Some number) e = absurd (kept 19 number (unmet_from t symbols first number e))
-
-table_kept : (t : HashTable) (symbols : List Symbol) (first : ℕ) → IsTableFor t symbols first → NoneBroken (Breaks t symbols first)
-table_kept t symbols first is rule number broken = let at = listed t symbols first rule number broken in none_at 19 (unmet t symbols first ∷ []) at.0 number (rw (table_is t symbols first is) refl) at.2
+  table_kept : IsTableFor t symbols first → NoneBroken (Breaks t symbols first)
+  table_kept is rule number (no_end none) = none is.ends
+  table_kept is rule number (not_reached ends i f) = let m = f.bad in m.missed (is.reached i m.symbol m.exported m.stands m.visible)
 
 module _ (bytes : List ℕ) (head : Head) (parts : DynParts) where
   abbrev words : HashTable
@@ -204,14 +129,14 @@ module _ (bytes : List ℕ) (head : Head) (parts : DynParts) where
   pub accepted : (t : HashTable) → (hash_verdict bytes head parts ≡ Ok t) ↔ ((t ≡ words) × IsTableFor t parts.symbols parts.first_exported)
   unfolding table_verdict
   accepted t =
-      let one = accepts 19 (unmet words parts.symbols parts.first_exported ∷ []) (Breaks words parts.symbols parts.first_exported) (listed words parts.symbols parts.first_exported) (breaking words parts.symbols parts.first_exported) words t in (
+      let one = accepts 19 (unmet words parts.symbols parts.first_exported ∷ []) _ (listed words parts.symbols parts.first_exported) (breaking words parts.symbols parts.first_exported) words t in (
         λ e. (let got = one.0 e in (got.1, rw got.1 (kept_table words parts.symbols parts.first_exported got.0))),
         λ (is, table). one.1 (table_kept words parts.symbols parts.first_exported (rw is at table), is),
       )
 
   pub refused : (fault : NotAccepted) → (hash_verdict bytes head parts ≡ Err fault) ↔ BreaksHash bytes head parts fault
   unfolding table_verdict
-  refused = refuses 19 (unmet words parts.symbols parts.first_exported ∷ []) (Breaks words parts.symbols parts.first_exported) (listed words parts.symbols parts.first_exported) (breaking words parts.symbols parts.first_exported) words
+  refused = refuses 19 (unmet words parts.symbols parts.first_exported ∷ []) _ (listed words parts.symbols parts.first_exported) (breaking words parts.symbols parts.first_exported) words
 
 -- ---- the versions of symbols
 

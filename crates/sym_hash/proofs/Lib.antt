@@ -1,4 +1,3 @@
-pub mod Among
 pub mod Chains
 pub mod Judging
 pub mod Links

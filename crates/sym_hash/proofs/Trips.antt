@@ -5,6 +5,7 @@ use Rattle.std.specs.List.{slice_get}
 use Rattle.std.proofs.Math.Nat.{two-pow-succ}
 use Rattle.std.proofs.Math.Pow.{pow_mono, pow_pos}
 use Rattle.std.proofs.lemmas.Bool.{cases_eq, cases_lt, eq-eqb, le-ltb, ne_eqb}
+use Rattle.std.proofs.lemmas.List.{length-map}
 use Rattle.std.proofs.lemmas.Option.{slice_get-map, slice_get_past}
 use lib.Arith.{mod-mul}
 use Rattle.sym_hash.specs.declared.follow.Start.{Start}
@@ -60,17 +61,13 @@ then_is chain trips m k at are few =
           rw (none, follow-add chain m k at, followed-add chain m k at, follow_stays chain k (follow chain m at) off, followed_none chain k (follow chain m at) off, same) refl
     ]
 
-length-map_trips : (f : Trip → Trip) (trips : List Trip) → length (map f trips) ≡ length trips
-length-map_trips f [] = refl
-length-map_trips f (t ∷ ts) = ap suc (length-map_trips f ts)
-
 -- twice as many links
 pub double : (chain : List ℕ) (trips all : List Trip) (bit : ℕ) → AreTrips chain (2 ^ bit) trips → bit < 62 → all ≡ map (then_trip trips) trips → AreTrips chain (2 ^ (bit + 1)) all
 double chain trips all bit are few is =
     let twice : 2 ^ (bit + 1) ≡ 2 ^ bit + 2 ^ bit = rw add-one (two-pow-succ bit) in
     let low : 2 ^ (bit + 1) ≤ 2 ^ 63 = pow_mono {i = bit + 1} {j = 63} (omega arith) in
     rw (is, twice) (record {
-      len = length-map_trips (then_trip trips) trips ∙ are.len;
+      len = length-map trips (then_trip trips) ∙ are.len;
       each = λ at below. slice_get-map (then_trip trips) trips at ∙ rw (are.each at below) (ap Some (then_is chain trips (2 ^ bit) (2 ^ bit) at are (omega (arith, low, twice))));
     })
 

@@ -1,5 +1,5 @@
 -- Following many links of a System V chain at once, and counting them: for the code of this crate alone.
-use Rattle.std.specs.Prelude.{◌≡◌, ◌<◌, Some, unwrap_or, ℕ, zero, suc, ◌+◌, ◌-◌, ◌/◌, ◌%◌, ◌^◌, ◌==◌, ◌&&◌, Bool, not, nat_lt, nat_le, min, if◌then◌else◌}
+use Rattle.std.specs.Prelude.{◌≡◌, ◌<◌, Some, unwrap_or, ℕ, zero, suc, ◌+◌, ◌-◌, ◌/◌, ◌%◌, ◌^◌, ◌==◌, ◌&&◌, Bool, not, nat_lt, min, if◌then◌else◌}
 use Rattle.std.specs.Prelude.{List, length, slice_index}
 use Rattle.std.specs.List.{slice_get}
 use Rattle.std.specs.Option.{option_map_or}
@@ -55,10 +55,7 @@ trip_from trips at = unwrap_or (slice_get trips at) (record { end = at; links = 
 
 -- the walk from a bucket that comes to a symbol, if any does: the symbol's own way to the end is as much shorter
 abbrev pub start_to : List Trip → ℕ → ℕ → Start
-start_to trips bucket i =
-    if nat_le (trip_from trips i).links (trip_from trips bucket).links
-    then record { from = bucket; steps = (trip_from trips bucket).links - (trip_from trips i).links }
-    else record { from = 0; steps = 0 }
+start_to trips bucket i = record { from = bucket; steps = (trip_from trips bucket).links - (trip_from trips i).links }
 
 -- the walk to the symbol has come to it
 abbrev pub arrives : List Trip → ℕ → Bool

@@ -1,11 +1,10 @@
 -- GNU hash tables: buckets, chains and the bloom filter, as tests for the code of this crate alone.
-use Rattle.std.specs.Prelude.{◌≡◌, ℕ, ◌-◌, ◌/◌, ◌%◌, ◌^◌, ◌==◌, ◌&&◌, ◌||◌, Bool, false, not, nat_lt, nat_le, List, length, take, drop, slice_index}
+use Rattle.std.specs.Prelude.{ℕ, ◌-◌, ◌/◌, ◌%◌, ◌^◌, ◌==◌, ◌&&◌, ◌||◌, Bool, false, not, nat_lt, nat_le, length, take, drop}
 use Rattle.std.specs.List.{list_any, list_all, slice_get}
 use Rattle.std.specs.Option.{option_map_or}
 use Rattle.ld_base.specs.declared.parts.GnuPart.{GnuPart}
 pub use Rattle.dyn_table.specs.Bits.{has_bit}
 pub use Rattle.dyn_table.specs.HashWords.{is_end}
-use Rattle.sym_hash.specs.Hash.{gnu_hash}
 
 -- some chain word marks an end, from that of one symbol on and before that of another
 abbrev pub ends_between : GnuPart → ℕ → ℕ → Bool
@@ -19,21 +18,18 @@ walk_ends g count bucket = bucket == 0 || (nat_le g.symoffset bucket && ends_bet
 unfoldable pub gnu_walks_end : GnuPart → ℕ → Bool
 gnu_walks_end g count = list_all (walk_ends g count) g.buckets
 
--- the word of the bloom filter for a hash
-abbrev pub bloom_word : GnuPart → ℕ → ℕ
-bloom_word g hash = slice_index g.bloom (hash / 64 % length g.bloom)
-
 -- the bloom filter has both bits of the hash
 unfoldable pub in_bloom : GnuPart → ℕ → Bool
-in_bloom g hash = has_bit (bloom_word g hash) (hash % 64) && has_bit (bloom_word g hash) (hash / 2 ^ g.shift % 64)
-
--- the bucket of a hash, 0 where there is none
-abbrev pub gnu_bucket : GnuPart → ℕ → ℕ
-gnu_bucket g hash = slice_index g.buckets (hash % length g.buckets)
+in_bloom g hash =
+    option_map_or (λ word. has_bit word (hash % 64) && has_bit word (hash / 2 ^ g.shift % 64)) (slice_get g.bloom (hash / 64 % length g.bloom)) false
 
 -- the walk from a bucket comes to the symbol
 abbrev pub walk_reaches : GnuPart → ℕ → ℕ → Bool
 walk_reaches g bucket i = nat_lt 0 bucket && nat_le g.symoffset bucket && nat_le bucket i && not (ends_between g bucket i)
+
+-- the symbol is in the chain that the bucket of the hash begins
+abbrev pub in_chain : GnuPart → ℕ → ℕ → Bool
+in_chain g hash i = option_map_or (λ bucket. walk_reaches g bucket i) (slice_get g.buckets (hash % length g.buckets)) false
 
 -- the chain word of the symbol is the hash, but for the bit that marks the end
 abbrev pub has_word : GnuPart → ℕ → ℕ → Bool
@@ -41,8 +37,4 @@ has_word g hash i = option_map_or (λ word. word / 2 == hash / 2) (slice_get g.c
 
 -- the symbol is found by a hash
 unfoldable pub gnu_leads : GnuPart → ℕ → ℕ → Bool
-gnu_leads g hash i = in_bloom g hash && walk_reaches g (gnu_bucket g hash) i && has_word g hash i
-
--- the symbol is found under a name
-abbrev pub gnu_reaches : GnuPart → List ℕ → ℕ → Bool
-gnu_reaches g name i = gnu_leads g (gnu_hash name) i
+gnu_leads g hash i = in_bloom g hash && has_word g hash i && in_chain g hash i

@@ -1,31 +1,21 @@
 -- System V hash tables, buckets and chains (gABI, "Hash Table"), as tests for the code of this crate alone.
-use Rattle.std.specs.Prelude.{ℕ, zero, suc, ◌%◌, ◌==◌, ◌&&◌, ◌||◌, Bool, false, not, nat_lt, List, length, slice_index}
-use Rattle.std.specs.List.{list_all}
+use Rattle.std.specs.Prelude.{ℕ, ◌-◌, ◌%◌, ◌==◌, ◌&&◌, Bool, not, List, length, unwrap_or}
+use Rattle.std.specs.List.{list_all, slice_get}
 use Rattle.ld_base.specs.declared.parts.SysvPart.{SysvPart}
-use Rattle.sym_hash.specs.Hash.{sysv_hash}
+use Rattle.sym_hash.specs.Follow.{follow, followed}
 
--- the walk from a symbol ends at 0 within so many steps, all links on the way being those of chain words
-abbrev pub ends_within : List ℕ → ℕ → ℕ → Bool
-ends_within chain zero at = at == 0
-ends_within chain (suc steps) at = at == 0 || (nat_lt at (length chain) && ends_within chain steps (slice_index chain at))
-
--- every walk ends within as many steps as there are chain words
+-- every walk comes to 0 within as many steps as there are chain words
 unfoldable pub sysv_walks_end : SysvPart → Bool
-sysv_walks_end s = list_all (ends_within s.chain (length s.chain)) s.buckets
-
--- the symbol is among the first so many links of the walk from one
-abbrev pub is_among : List ℕ → ℕ → ℕ → ℕ → Bool
-is_among chain zero at i = false
-is_among chain (suc links) at i = not (at == 0) && (at == i || (nat_lt at (length chain) && is_among chain links (slice_index chain at) i))
+sysv_walks_end s = list_all (λ bucket. follow s.chain (length s.chain) bucket == 0) s.buckets
 
 -- the bucket of a hash, 0 where there is none
 abbrev pub sysv_bucket : SysvPart → ℕ → ℕ
-sysv_bucket s hash = slice_index s.buckets (hash % length s.buckets)
+sysv_bucket s hash = unwrap_or (slice_get s.buckets (hash % length s.buckets)) 0
 
--- the symbol is found by a hash
+-- a walk of so many steps, which ends, comes to the symbol: after as many links as the symbol's own way to the end is shorter
+abbrev pub comes_to : List ℕ → ℕ → ℕ → ℕ → Bool
+comes_to chain n from i = not (i == 0) && follow chain (followed chain n from - followed chain n i) from == i
+
+-- the symbol is found by a hash, where all walks end
 unfoldable pub sysv_leads : SysvPart → ℕ → ℕ → Bool
-sysv_leads s hash i = is_among s.chain (length s.chain) (sysv_bucket s hash) i
-
--- the symbol is found under a name
-abbrev pub sysv_reaches : SysvPart → List ℕ → ℕ → Bool
-sysv_reaches s name i = sysv_leads s (sysv_hash name) i
+sysv_leads s hash i = comes_to s.chain (length s.chain) (sysv_bucket s hash) i

@@ -1,11 +1,11 @@
 //! GNU hash tables.
 
 ghost use Rattle.std.specs.Prelude.{◌≡◌, ℕ, ◌+◌, ◌-◌, ◌*◌, ◌/◌, ◌%◌, ◌^◌, ◌<◌, ◌≤◌, ◌==◌, ◌&&◌};
-ghost use Rattle.std.specs.Prelude.{◌||◌, None, Some, if◌then◌else◌, not, nat_le, nat_lt, length, take, drop, slice_index};
-ghost use Rattle.std.specs.List.{list_all, list_any};
+ghost use Rattle.std.specs.Prelude.{◌||◌, None, Some, if◌then◌else◌, not, nat_le, nat_lt, length, take, drop, map, slice_index};
+ghost use Rattle.std.specs.List.{list_all, list_any, slice_get};
 ghost use Rattle.std.specs.Option.{option_or};
 ghost use Rattle.ld_base.specs.Symbol.{is_visible_definition};
-ghost use Rattle.sym_hash.specs.Gnu.{gnu_leads, gnu_walks_end, has_bit, has_word, in_bloom, is_end, walk_reaches};
+ghost use Rattle.sym_hash.specs.Gnu.{gnu_leads, gnu_walks_end, has_bit, has_word, in_bloom, in_chain, is_end, walk_reaches};
 ghost use Rattle.sym_hash.specs.Hashed.{first_lost, EndsBelow};
 
 use ld_base::{GnuPart, Symbol};
@@ -75,14 +75,14 @@ fn shifted(hash: u32, shift: u32) -> u32
     if shift < u32::BITS { hash >> shift } else { 0 }
 }
 
-/// The word at a place modulo the number of words, 0 where there is none.
-fn bloom_word(bloom: &[u64], place: u32) -> u64
-    ensures { result ≡ slice_index bloom.now (place % length bloom.now) }
+/// The word at a place modulo the number of words, if there is any.
+fn bloom_word(bloom: &[u64], place: u32) -> Option<u64>
+    ensures { result ≡ slice_get bloom.now (place % length bloom.now) }
 {
     if bloom.is_empty() {
-        0
+        None
     } else {
-        bloom[place as usize % bloom.len()]
+        Some(bloom[place as usize % bloom.len()])
     }
 }
 
@@ -91,18 +91,20 @@ fn bloom_word(bloom: &[u64], place: u32) -> u64
 fn in_bloom(gnu: &GnuPart, hash: u32) -> bool
     ensures { result ≡ in_bloom gnu.now hash }
 {
-    let word = bloom_word(gnu.bloom.as_slice(), hash / 64);
-    has_bit(word, hash % 64) && has_bit(word, shifted(hash, gnu.shift) % 64)
+    match bloom_word(gnu.bloom.as_slice(), hash / 64) {
+        Some(word) => has_bit(word, hash % 64) && has_bit(word, shifted(hash, gnu.shift) % 64),
+        None => false,
+    }
 }
 
-/// The bucket of a hash, 0 where there is none.
-pub(crate) fn bucket_of(buckets: &[u32], hash: u32) -> u32
-    ensures { result ≡ slice_index buckets.now (hash % length buckets.now) }
+/// The bucket of a hash, if there is any.
+pub(crate) fn bucket_of(buckets: &[u32], hash: u32) -> Option<u32>
+    ensures { result ≡ slice_get buckets.now (hash % length buckets.now) }
 {
     if buckets.is_empty() {
-        0
+        None
     } else {
-        buckets[hash as usize % buckets.len()]
+        Some(buckets[hash as usize % buckets.len()])
     }
 }
 
@@ -114,6 +116,16 @@ fn walk_reaches(gnu: &GnuPart, bucket: u32, index: usize, ended: usize) -> bool
         && bucket >= gnu.symoffset
         && bucket as usize <= index
         && (bucket - gnu.symoffset) as usize >= ended
+}
+
+/// Whether the symbol is in the chain that the bucket of the hash begins.
+fn in_chain(gnu: &GnuPart, hash: u32, index: usize, ended: usize) -> bool
+    ensures { EndsBelow gnu.now index ended → result ≡ in_chain gnu.now hash index }
+{
+    match bucket_of(gnu.buckets.as_slice(), hash) {
+        Some(bucket) => walk_reaches(gnu, bucket, index, ended),
+        None => false,
+    }
 }
 
 /// Whether the chain word of the symbol is the hash, but for its lowest bit.
@@ -130,8 +142,7 @@ fn has_word(gnu: &GnuPart, hash: u32, index: usize) -> bool
 fn leads(gnu: &GnuPart, hash: u32, index: usize, ended: usize) -> bool
     ensures { EndsBelow gnu.now index ended → result ≡ gnu_leads gnu.now hash index }
 {
-    let bucket = bucket_of(gnu.buckets.as_slice(), hash);
-    in_bloom(gnu, hash) && walk_reaches(gnu, bucket, index, ended) && has_word(gnu, hash, index)
+    in_bloom(gnu, hash) && has_word(gnu, hash, index) && in_chain(gnu, hash, index, ended)
 }
 
 /// Whether the symbol is an exported definition that isn't found by its hash.
@@ -144,7 +155,7 @@ fn is_lost(
     ended: usize,
 ) -> bool
     ensures { EndsBelow gnu.now index ended
-        → result ≡ (nat_le first index && (is_visible_definition symbol.now && not (gnu_leads gnu.now hash index))) }
+        → result ≡ (nat_le first index && is_visible_definition symbol.now && not (gnu_leads gnu.now hash index)) }
 {
     index >= first as usize && symbol.is_visible_definition() && !leads(gnu, hash, index, ended)
 }
@@ -164,10 +175,10 @@ fn ended_after(gnu: &GnuPart, index: usize, ended: usize) -> usize
 }
 
 /// The first exported definition that isn't found by its hash.
-#[tactic(auto, unfolding(crate::specs::Hashed::first_lost))]
+#[tactic(auto, unfolding(crate::specs::Hashed::first_lost), using(crate::proofs::Missed::lost_here, crate::proofs::Missed::not_lost))]
 fn first_lost(gnu: &GnuPart, symbols: &[Symbol], hashes: &[u32], first: u32) -> Option<usize>
     requires { length hashes.now ≡ length symbols.now }
-    ensures { result ≡ first_lost (λ i. gnu_leads gnu.now (slice_index hashes.now i) i) symbols.now first }
+    ensures { result ≡ first_lost (λ i. gnu_leads gnu.now (slice_index hashes.now i) i) (map is_visible_definition symbols.now) first }
 {
     let mut ended = 0;
     for (index, symbol) in symbols.iter().enumerate() {
@@ -183,7 +194,7 @@ fn first_lost(gnu: &GnuPart, symbols: &[Symbol], hashes: &[u32], first: u32) -> 
 pub(crate) fn unmet(gnu: &GnuPart, symbols: &[Symbol], hashes: &[u32], first: u32) -> Option<usize>
     requires { length hashes.now ≡ length symbols.now }
     ensures { result ≡ option_or (if gnu_walks_end gnu.now (length symbols.now) then None
-        else Some 0) (first_lost (λ i. gnu_leads gnu.now (slice_index hashes.now i) i) symbols.now first) }
+        else Some 0) (first_lost (λ i. gnu_leads gnu.now (slice_index hashes.now i) i) (map is_visible_definition symbols.now) first) }
 {
     if walks_end(gnu, symbols.len()) {
         first_lost(gnu, symbols, hashes, first)

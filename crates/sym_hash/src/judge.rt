@@ -1,6 +1,6 @@
 //! Judging the hash tables of an object.
 
-ghost use Rattle.std.specs.Prelude.{◌≡◌, ◌<◌, ◌^◌, ◌∷◌, [], ◌&&◌, false, not, nat_le, ℕ, List, Ok, Err, Some, IfOk, IfSome, length, map};
+ghost use Rattle.std.specs.Prelude.{◌≡◌, ◌<◌, ◌^◌, ◌∷◌, [], ◌&&◌, false, not, nat_le, ℕ, Ok, Err, Some, IfOk, IfSome, length, map};
 ghost use Rattle.std.specs.List.{slice_get};
 ghost use Rattle.std.specs.Option.{option_map_or};
 ghost use Rattle.ld_base.specs.Symbol.{is_visible_definition};
@@ -8,9 +8,9 @@ ghost use Rattle.ld_base.specs.declared.object.Symbol.{Symbol};
 ghost use Rattle.acceptance.specs.Broken.{first_broken};
 ghost use Rattle.acceptance.specs.Gives.{Gives};
 ghost use Rattle.elf_head.specs.Rules.{head_verdict};
-ghost use Rattle.sym_hash.specs.Hashed.{first_lost, hash_by, unmet_by, AreHashed};
+ghost use Rattle.sym_hash.specs.Hashed.{first_lost, hash_by, unmet_by};
 ghost use Rattle.elf_dynamic.specs.Verdict.{ArePartsOf};
-ghost use Rattle.sym_hash.specs.Verdict.{hash_verdict, unmet};
+ghost use Rattle.sym_hash.specs.Verdict.{hash_verdict};
 
 use crate::hash::{gnu_hash, sysv_hash};
 use crate::{gnu, sysv};
@@ -62,15 +62,15 @@ fn table_hashes(
 
 /// Whether the symbol is an exported definition.
 fn is_exported(symbol: &Symbol, first: u32, index: usize) -> bool
-    ensures { result ≡ (nat_le first index && (is_visible_definition symbol.now && not false)) }
+    ensures { result ≡ (nat_le first index && is_visible_definition symbol.now && not false) }
 {
     index >= first as usize && symbol.is_visible_definition()
 }
 
 /// The first exported definition.
-#[tactic(auto, unfolding(crate::specs::Hashed::first_lost))]
+#[tactic(auto, unfolding(crate::specs::Hashed::first_lost), using(crate::proofs::Missed::lost_here, crate::proofs::Missed::not_lost))]
 fn first_exported(symbols: &[Symbol], first: u32) -> Option<usize>
-    ensures { result ≡ first_lost (λ i. false) symbols.now first }
+    ensures { result ≡ first_lost (λ i. false) (map is_visible_definition symbols.now) first }
 {
     for (index, symbol) in symbols.iter().enumerate() {
         if is_exported(symbol, first, index) {
@@ -92,7 +92,7 @@ fn unmet(
     requires chain { IfSome table.now.sysv (λ s. length s.chain < 2 ^ 32) }
     requires few { length symbols.now < 2 ^ 32 }
     requires same { length hashes.now ≡ length symbols.now }
-    ensures { IfOk result (λ number. number ≡ unmet_by table.now symbols.now hashes.now first) }
+    ensures { IfOk result (λ number. number ≡ unmet_by table.now (map is_visible_definition symbols.now) hashes.now first) }
 {
     match (&table.gnu, &table.sysv) {
         (Some(gnu), _) => Ok(gnu::unmet(gnu, symbols, hashes, first)),
@@ -112,8 +112,7 @@ pub(crate) fn judge(
     requires chain { IfSome table.sysv (λ s. length s.chain < 2 ^ 32) }
     requires few { length symbols.now < 2 ^ 32 }
     requires same { length hashes.now ≡ length symbols.now }
-    ensures { (named : List Symbol) → AreHashed (hash_by table) named symbols.now hashes.now
-        → Gives result (option_map_or Err (first_broken 19 (unmet table named first ∷ [])) (Ok table)) }
+    ensures { Gives result (option_map_or Err (first_broken 19 (unmet_by table (map is_visible_definition symbols.now) hashes.now first ∷ [])) (Ok table)) }
 {
     match unmet(alloc, &table, symbols, hashes, first)? {
         Some(number) => Err(ReadFault::NotAccepted(NotAccepted {

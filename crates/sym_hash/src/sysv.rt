@@ -1,10 +1,9 @@
 //! System V hash tables (gABI, "Hash Table").
 
-ghost use Rattle.std.specs.Prelude.{◌≡◌, ℕ, ◌^◌, ◌<◌, ◌==◌, ◌&&◌, not, nat_le, IfOk, None, Some, if◌then◌else◌, length, slice_index};
+ghost use Rattle.std.specs.Prelude.{◌≡◌, ℕ, ◌^◌, ◌<◌, ◌==◌, ◌&&◌, not, nat_le, IfOk, None, Some, if◌then◌else◌, length, map, slice_index};
 ghost use Rattle.ld_base.specs.Symbol.{is_visible_definition};
 ghost use Rattle.std.specs.List.{list_all, slice_get};
 ghost use Rattle.std.specs.Option.{option_or};
-ghost use Rattle.ld_base.specs.declared.object.Symbol.{Symbol};
 ghost use Rattle.sym_hash.specs.Follow.{AreTrips, arrives, start_to, trip_from};
 ghost use Rattle.sym_hash.specs.Hashed.{first_lost};
 ghost use Rattle.sym_hash.specs.Sysv.{sysv_bucket, sysv_leads, sysv_walks_end};
@@ -54,13 +53,9 @@ fn start_to(trips: &[Trip], bucket: u32, symbol: u32) -> Start
 {
     let whole = trip_from(trips, bucket).links;
     let rest = trip_from(trips, symbol).links;
-    if rest <= whole {
-        Start {
-            from: bucket,
-            steps: (whole - rest) as u32,
-        }
-    } else {
-        Start { from: 0, steps: 0 }
+    Start {
+        from: bucket,
+        steps: whole.saturating_sub(rest) as u32,
     }
 }
 
@@ -79,7 +74,7 @@ fn starts_of(
 {
     let mut starts = Vec::with_capacity(alloc, hashes.len())?;
     for (index, hash) in hashes.iter().enumerate() {
-        let bucket = bucket_of(sysv.buckets.as_slice(), *hash);
+        let bucket = bucket_of(sysv.buckets.as_slice(), *hash).unwrap_or(0);
         starts.push(start_to(trips, bucket, index as u32))?;
     }
     Ok(starts)
@@ -94,16 +89,16 @@ fn arrives(arrived: &[Trip], symbol: u32) -> bool
 
 /// Whether the symbol is an exported definition to which its walk hasn't come.
 fn is_lost(arrived: &[Trip], symbol: &Symbol, first: u32, index: u32) -> bool
-    ensures { result ≡ (nat_le first index && (is_visible_definition symbol.now && not (arrives arrived.now index))) }
+    ensures { result ≡ (nat_le first index && is_visible_definition symbol.now && not (arrives arrived.now index)) }
 {
     index >= first && symbol.is_visible_definition() && !arrives(arrived, index)
 }
 
 /// The first exported definition to which its walk hasn't come.
-#[tactic(auto, unfolding(crate::specs::Hashed::first_lost))]
+#[tactic(auto, unfolding(crate::specs::Hashed::first_lost), using(crate::proofs::Missed::lost_here, crate::proofs::Missed::not_lost))]
 fn first_lost(symbols: &[Symbol], arrived: &[Trip], first: u32) -> Option<usize>
     requires { length symbols.now < 2 ^ 32 }
-    ensures { result ≡ first_lost (arrives arrived.now) symbols.now first }
+    ensures { result ≡ first_lost (arrives arrived.now) (map is_visible_definition symbols.now) first }
 {
     for (index, symbol) in symbols.iter().enumerate() {
         if is_lost(arrived, symbol, first, index as u32) {
@@ -125,7 +120,7 @@ pub(crate) fn unmet(
     requires few { length symbols.now < 2 ^ 32 }
     requires same { length hashes.now ≡ length symbols.now }
     ensures { IfOk result (λ number. number ≡ option_or (if sysv_walks_end sysv.now then None
-        else Some 0) (first_lost (λ i. sysv_leads sysv.now (slice_index hashes.now i) i) symbols.now first)) }
+        else Some 0) (first_lost (λ i. sysv_leads sysv.now (slice_index hashes.now i) i) (map is_visible_definition symbols.now) first)) }
 {
     let chain = sysv.chain.as_slice();
     let trips = full_trips(alloc, chain)?;

@@ -15,7 +15,7 @@ use Rattle.link_service.specs.Functions.{left}
 use Rattle.link_service.specs.Served.{answer_text}
 use Rattle.hart_moves.specs.Copying.{text_words}
 use Rattle.hart_moves.specs.Due.{Due, Return, by_resolving, due}
-use Rattle.hart_moves.specs.Harts.{Frame, HartState, Purpose, Resolving, is_startup_frame}
+use Rattle.hart_moves.specs.Harts.{Frame, HartState, Purpose, is_startup_frame}
 use Rattle.hart_moves.specs.Moves.{Did, Moves, MovesAs, Takes, TellsOf, after_all, final_functions, freed, freed_by, own_fini, runs, with_first}
 use Rattle.turn_events.specs.Lemmas.Dues.{AskedFrom}
 use Rattle.turn_events.specs.Lemmas.Frames.{telling_frames}

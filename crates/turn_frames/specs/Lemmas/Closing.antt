@@ -1,26 +1,25 @@
 -- How a closing returns.
-use Rattle.std.proofs.Common.{◌≡◌, ℕ, suc, List, [], ◌∷◌, ◌++◌, length, Contains, IsTrue, refl, sym, ap, subst, ◌∙◌, arith}
+use Rattle.std.proofs.Common.{◌≡◌, ℕ, suc, List, [], ◌∷◌, ◌++◌, length, refl, sym, ap, subst, ◌∙◌, arith}
 use Rattle.ld_base.specs.declared.linking.Role.TheVariants.{None as NoRole}
 use Rattle.link_event.specs.declared.event.Event.{Event}
 use Rattle.link_event.specs.declared.event.Event.TheVariants.{Unmapped}
-use Rattle.link_event.specs.declared.event.Range.{Range}
 use Rattle.link_event.specs.declared.handed.Function.{Function}
 use Rattle.link_history.specs.Accepted.{AcceptsOnly}
 use Rattle.link_history.specs.After.{after}
 use Rattle.link_history.specs.Allowed.{Allowed}
-use Rattle.link_history.specs.Changes.{ChangesMemory, taken}
+use Rattle.link_history.specs.Changes.{ChangesMemory}
 use Rattle.link_history.specs.Legal.{Lawful}
-use Rattle.link_history.specs.Memory.{covers, role_at}
+use Rattle.link_history.specs.Memory.{role_at}
 use Rattle.link_history.specs.Setting.{Machine, Setting}
 use Rattle.link_history.specs.State.{State}
 use Rattle.link_history.specs.Lemmas.History.{after_push}
-use Rattle.link_service.specs.Answer.{Answer, returns}
-use Rattle.link_service.specs.Call.{Call, closes, unmaps}
+use Rattle.link_service.specs.Answer.{returns}
+use Rattle.link_service.specs.Call.{unmaps}
 use Rattle.link_service.specs.Functions.{left}
 use Rattle.link_service.specs.Gives.{Answers, Gives}
 use Rattle.hart_moves.specs.Harts.{Frame, HartState, Purpose}
 use Rattle.hart_moves.specs.Moves.{Did, events_of, freed, runs, spent}
-use Rattle.hart_moves.specs.Registers.{next_function, returned}
+use Rattle.hart_moves.specs.Registers.{returned}
 use Rattle.turn_frames.specs.Closings.{ClosesAtOnce, UnmapsNext, ReturnsBehind, UnmapsAll, emptied}
 use Rattle.turn_frames.specs.Leaves.{AreFrames, LeavesFrames, behind_first}
 use Rattle.turn_frames.specs.Lemmas.Turning.{turns_leave_frames}

@@ -1,4 +1,4 @@
-use Rattle.std.proofs.Common.{◌≤◌, length, ap, arith}
+use Rattle.std.proofs.Common.{arith}
 use Rattle.elf_dynamic.proofs.Limits.{bytes_in-short, few_relocs}
 use Rattle.elf_dynamic.specs.Tables.{bytes_in, rela_span}
 use Rattle.elf_dynamic.proofs.reader.judge_tables.Goals as goal

@@ -1,10 +1,9 @@
-use Rattle.std.proofs.Common.{◌≡◌, ◌∙◌, ◌-◌, ◌/◌, ◌%◌, ◌==◌, suc, length, ap, sym, arith}
-use Rattle.elf_dynamic.proofs.Packed.{first_odd, first_words}
-use Rattle.elf_dynamic.specs.Relr.{begins_odd}
+use Rattle.std.proofs.Common.{◌/◌, ◌<◌, length, refl, arith}
+use Rattle.ld_base.specs.Field.{field}
+use Rattle.acceptance.specs.Lemmas.Tables.{get-table}
 use Rattle.elf_dynamic.proofs.relr.begins_odd.Goals as goal
 
 pub returns-then-bytes-ge-WORD_SIZE : goal.returns-then-bytes-ge-WORD_SIZE
 returns-then-bytes-ge-WORD_SIZE c =
-    let bytes = c.args.bytes.now in
-    let count : length bytes / 8 ≡ suc (length bytes / 8 - 1) = omega arith in
-    ap (λ word. word % 2 == 1) c.field64.ensures ∙ sym (first_odd bytes (length bytes / 8 - 1)) ∙ ap (λ n. begins_odd (first_words bytes n)) (sym count)
+    let some : 0 < length c.args.bytes.now / 8 = omega arith in
+    rw (get-table (field 8 c.args.bytes.now) 0 8 (length c.args.bytes.now / 8) 0 some, c.field64.ensures) refl

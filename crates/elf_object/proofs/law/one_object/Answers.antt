@@ -1,29 +1,25 @@
-use Rattle.elf_object.proofs.Laws.{Readings, verdict_spells, spells_verdict, one_spelled, refused_from, refused_is, spelled_or_broken, never_both, one_broken, table_of_read, names_of_read}
+use Rattle.elf_object.proofs.Laws.{Readings, names_of_read, never_both, one_broken, one_spelled, read_of, spelled_or_broken, table_of_read, verdict}
 use Rattle.elf_object.proofs.law.one_object.Goals as goal
 
 readings : goal.After-one_verdict-4 → Readings
 readings c = record {
-  head = c.one_verdict.ensures.accepted;
-  bad_head = c.one_verdict.ensures.refused;
-  parts = c.one_verdict-2.ensures.accepted;
-  bad_parts = c.one_verdict-2.ensures.refused;
+  head = λ bytes. record { accepted = c.one_verdict.ensures.accepted bytes; refused = c.one_verdict.ensures.refused bytes };
+  parts = λ bytes head program. record { accepted = c.one_verdict-2.ensures.accepted bytes head program; refused = c.one_verdict-2.ensures.refused bytes head program };
   kept_parts = c.accepted_tables.ensures;
-  versions = c.one_verdict-3.ensures.accepted;
-  bad_versions = c.one_verdict-3.ensures.refused;
-  table = c.one_verdict-4.ensures.accepted;
-  bad_table = c.one_verdict-4.ensures.refused;
+  versions = λ bytes head parts. record { accepted = c.one_verdict-3.ensures.accepted bytes head parts; refused = c.one_verdict-3.ensures.refused bytes head parts };
+  table = λ bytes head parts. record { accepted = c.one_verdict-4.ensures.accepted bytes head parts; refused = c.one_verdict-4.ensures.refused bytes head parts };
   same_table = c.one_verdict-4.ensures.versions;
 }
 
 pub returns-clause-verdict : goal.returns-clause-verdict
 returns-clause-verdict c bytes program object =
-    (λ (table, e). verdict_spells (readings c) bytes program object table e, spells_verdict (readings c) bytes program object)
+    (λ (table, e). (((verdict (readings c) bytes program).accepted (object, table)).0 e).0, λ s. (s.table, read_of (readings c) bytes program object s))
 
 pub returns-clause-one : goal.returns-clause-one
 returns-clause-one c = one_spelled (readings c)
 
 pub returns-clause-refused : goal.returns-clause-refused
-returns-clause-refused c bytes program fault = (refused_from (readings c) bytes program fault, refused_is (readings c) bytes program fault)
+returns-clause-refused c bytes program = (verdict (readings c) bytes program).refused
 
 pub returns-clause-table : goal.returns-clause-table
 returns-clause-table c = table_of_read (readings c)

@@ -1,4 +1,4 @@
-use Rattle.std.proofs.Common.{◌<◌, ◌/◌, length, arith, get_or, ◌≡◌, rules}
+use Rattle.std.proofs.Common.{arith}
 use Rattle.elf_dynamic.proofs.Bits.{set_step}
 use Rattle.elf_dynamic.proofs.marks.Marks.set.Goals as goal
 

@@ -1,6 +1,6 @@
-use Rattle.std.proofs.Common.{◌∙◌, ◌≡◌, sym, ap, arith}
+use Rattle.std.proofs.Common.{arith}
 use Rattle.elf_dynamic.specs.Tables.{parts_in, strings_in}
-use Rattle.elf_dynamic.proofs.Kept.{all_places}
+use Rattle.elf_dynamic.proofs.Packed.{all_places}
 use Rattle.elf_dynamic.proofs.reader.JudgedParts.into_parts.Goals as goal
 
 pub returns : goal.returns
