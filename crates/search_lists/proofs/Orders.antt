@@ -1,20 +1,17 @@
 -- A list that is extended by what it lacks, a level at a time: by what scope_rule says of extended lists.
 use Rattle.std.proofs.Common.{◌≡◌, ℕ, zero, suc, ◌+◌, ◌-◌, ◌<◌, ◌≤◌, Bool, true, false, cond, inl, inr}
-use Rattle.std.proofs.Common.{List, [], ◌∷◌, ◌++◌, length, take, drop, get_or, refl, sym, ap, subst, ◌∙◌, add-one, drop-cons, arith}
-use Rattle.std.proofs.Math.ListN.{get_or-append}
-use Rattle.std.proofs.Math.Seq.{get_or-append_seam, take-length}
-use Rattle.std.proofs.lemmas.Bool.{cases_Bool, cases_lt, eqb-true}
+use Rattle.std.proofs.Common.{List, [], ◌∷◌, ◌++◌, length, take, drop, get_or, refl, sym, ap, ◌∙◌, add-one, drop-cons, arith}
+use Rattle.std.proofs.Math.Seq.{take-length}
+use Rattle.std.proofs.lemmas.Bool.{cases_Bool, eqb-true}
 use Rattle.std.proofs.lemmas.Grind.{flat_map-append, common_steps}
 use Rattle.std.proofs.lemmas.List.{length-append, take-append-le, take-append-drop}
 use Rattle.std.specs.List.{flat_map}
-use Rattle.std.specs.Prelude.{◌==◌, ◌||◌, IfOk, Result, Ok, Err}
-use Rattle.std.specs.declared.alloc.AllocError.{AllocError}
+use Rattle.std.specs.Prelude.{◌==◌, ◌||◌}
 use Rattle.ld_base.specs.declared.linking.Loaded.{Loaded}
 use Rattle.scope_rule.specs.Breadth.{breadth, extend, has, order_to}
 use Rattle.scope_rule.specs.Loading.{found_of}
 use Rattle.scope_rule.specs.Loads.{Begins}
 use Rattle.scope_rule.specs.Seen.{Seen}
-use Rattle.search_lists.specs.Brought.{Distinct}
 
 -- lists are extended one by one, and stand at the front
 abbrev pub OneByOne : Type 0
@@ -123,46 +120,9 @@ all_levels f first order n most start few end kept grown =
     let many : (most - n) + n ≡ most = omega arith in
     stays f first n (most - n) order kept whole ∙ ap (order_to f first) many
 
-pub is_breadth : (s : Seen) (root : ℕ) (there added : List Loaded) (n : ℕ) (order : List ℕ) (r : Result (List ℕ) AllocError)
+pub is_breadth : (s : Seen) (root : ℕ) (there added : List Loaded) (n : ℕ) (order : List ℕ)
     → ((t : Seen) (x : ℕ) → breadth t x ≡ order_to (found_of t) (extend [] (x ∷ [])) (length t.objects)) → s.objects ≡ there ++ added → n ≡ length there + length added → order ≡ order_to (found_of s) (extend [] (root ∷ [])) n
-    → IfOk r (λ o. o ≡ order) → IfOk r (λ o. o ≡ breadth s root)
-is_breadth s root there added n order (Err e) law parts many kept is = tt
-is_breadth s root there added n order (Ok o) law parts many kept is =
+    → order ≡ breadth s root
+is_breadth s root there added n order law parts many kept =
     let long : n ≡ length s.objects = many ∙ sym (length-append there added) ∙ ap length (sym parts) in
-    is ∙ kept ∙ ap (order_to (found_of s) (extend [] (root ∷ []))) long ∙ sym (law s root)
-
--- ---- each element once
-
-distinct_pushed : (a : List ℕ) (x : ℕ) → Distinct a → has a x ≡ false → Distinct (a ++ x ∷ [])
-distinct_pushed a x once none k lt =
-    elim (cases_lt k (length a)) [
-      | inl before ↦ rw (take-append-le k a (x ∷ []) (omega arith), get_or-append a (x ∷ []) 0 k before) (once k before)
-      | inr behind ↦
-          let last : k ≡ length a = omega (arith, length-append a (x ∷ [])) in
-          let P : ℕ → Type 0 = λ n. has (take n (a ++ x ∷ [])) (get_or (a ++ x ∷ []) n 0) ≡ false in
-          subst P (sym last) (rw (take-append-le (length a) a (x ∷ []) (omega arith), take-length a, get_or-append_seam a x [] 0) none)
-    ]
-
-extend_distinct : (a xs : List ℕ) → Distinct a → Distinct (extend a xs)
-extend_distinct a [] once = once
-extend_distinct a (x ∷ xs) once =
-    elim (cases_Bool (x == 0 || has a x)) [
-      | inl there ↦ rw there (extend_distinct a xs once)
-      | inr new ↦ rw new (extend_distinct (a ++ x ∷ []) xs (distinct_pushed a x once (second (x == 0) (has a x) new)))
-    ]
-  where
-    second : (one other : Bool) → (one || other) ≡ false → other ≡ false
-    second true other none = absurd (cc)
-    second false other none = none
-
-order_distinct : (f : ℕ → List ℕ) (first : List ℕ) (n : ℕ) → Distinct first → Distinct (order_to f first n)
-order_distinct f first zero once = once
-order_distinct f first (suc n) once = extend_distinct first (flat_map f (order_to f first n)) once
-
-none_distinct : Distinct []
-none_distinct k lt = absurd (omega arith)
-
--- what a root leads to has each object once
-pub breadth_distinct : (s : Seen) (root : ℕ) → ((t : Seen) (x : ℕ) → breadth t x ≡ order_to (found_of t) (extend [] (x ∷ [])) (length t.objects)) → Distinct (breadth s root)
-breadth_distinct s root law =
-    rw (law s root) (order_distinct (found_of s) (extend [] (root ∷ [])) (length s.objects) (extend_distinct [] (root ∷ []) none_distinct))
+    kept ∙ ap (order_to (found_of s) (extend [] (root ∷ []))) long ∙ sym (law s root)

@@ -1,14 +1,15 @@
 -- What stands where.
-use Rattle.std.proofs.Common.{◌≡◌, ℕ, zero, suc, ◌+◌, ◌<◌, ◌≤◌, ◌==◌, Bool, true, false, cond, inl, inr, List, [], ◌∷◌, ◌++◌, length, get_or, map, take, refl, sym, ap, ◌∙◌, append_assoc, append-nil, length-take-le, arith}
-use Rattle.std.specs.Prelude.{nat_eq, not, ◌||◌, filter, flat_map, option_map, position, unwrap_or, Option, Some, None}
+use Rattle.std.proofs.Common.{◌≡◌, ℕ, zero, suc, ◌+◌, ◌<◌, ◌≤◌, ◌==◌, Bool, true, false, cond, inl, inr, List, [], ◌∷◌, ◌++◌, length, map, take, refl, subst, sym, ap, eq-eqb, get_or, ◌∙◌, append_assoc, length-take-le, arith}
+use Rattle.std.specs.Prelude.{nat_eq, not, ◌||◌, filter, flat_map, option_map, position, unwrap_or, IfOk, IsSome, OnOk, Option, Some, None, Result, Ok, Err}
+use Rattle.std.specs.declared.alloc.AllocError.{AllocError}
 use Rattle.std.specs.List.{find, list_any, position_or_len, slice_get}
 use Rattle.std.specs.Option.{option_or, is_some}
 use Rattle.std.proofs.lemmas.Bool.{cases_Bool, eqb-true}
-use Rattle.std.proofs.lemmas.Grind.{common_steps, flat_map-append}
+use Rattle.std.proofs.lemmas.Grind.{common_steps}
 use Rattle.std.proofs.lemmas.List.{length-append, take_more}
 use Rattle.std.proofs.lemmas.List.Folds.{find_at, position_or_len_push}
 use Rattle.std.proofs.lemmas.List.Quantifiers.{position-Some}
-use Rattle.std.proofs.lemmas.Option.{slice_get-get_or}
+use Rattle.std.proofs.lemmas.Option.{slice_get_within}
 use Rattle.std.proofs.lemmas.List.Sums.{prefix_len-le-length}
 use Rattle.ld_base.specs.declared.linking.Loaded.{Loaded}
 use Rattle.scope_rule.specs.Loading.{found_of, is_dying, is_dying_at, object_of, with_serial}
@@ -16,12 +17,15 @@ use Rattle.scope_rule.specs.Breadth.{breadth, extend}
 use Rattle.scope_rule.specs.Scope.{scope}
 use Rattle.scope_rule.specs.Seen.{Seen}
 use Rattle.scope_rule.specs.declared.namespace.OpenRec.{OpenRec}
-use Rattle.search_lists.specs.Brought.{brought_to}
+use Rattle.search_lists.specs.Brought.{brought_in, brought_to}
+use Rattle.search_lists.specs.Kept.{AreScopes, KeepsAll, kept_at}
 use Rattle.search_lists.specs.Links.{found_once}
-use Rattle.search_lists.specs.Lists.{at_place, list_of, lists_of, scope_in, scope_on}
-use Rattle.search_lists.specs.Places.{place_in, serials, serials_of}
-use Rattle.search_lists.specs.declared.lists.SearchList.{SearchList}
+use Rattle.search_lists.specs.Lists.{AreListed, AreListsOf, IsListed, IsListedAt, at_place}
+use Rattle.search_lists.specs.Places.{place_in, place_of, serials, serials_of}
+use Rattle.search_lists.specs.declared.kept.KeptScopes.{KeptScopes}
+use Rattle.search_lists.specs.declared.lists.SearchLists.{SearchLists}
 use Rattle.version_places.specs.Places.{places_of}
+use Rattle.version_places.specs.declared.names.VersionPlace.{VersionPlace}
 
 -- ---- the first place of a serial
 
@@ -92,44 +96,36 @@ pub placed : (s : Seen) (q : ℕ) (place : Option ℕ) → place ≡ place_in (s
 placed s q None at = none_found s q (sym at)
 placed s q (Some k) at = object_found s q k (slice_get s.objects k) (sym at) refl
 
-abbrev pub owners : List SearchList → List ℕ
-owners lists = map (λ (l : SearchList). l.owner) lists
+-- so has the first place of the serial of an object that is there
+pub found_place : (s : Seen) (q k : ℕ) (place : Option ℕ) (o : Loaded) → at_place s place ≡ object_of s q → place ≡ Some k → object_of s q ≡ Some o → slice_get s.objects k ≡ Some o
+found_place s q k place o at is there = ap (at_place s) (sym is) ∙ at ∙ there
 
-length_owners : (lists : List SearchList) → length (owners lists) ≡ length lists
-length_owners [] = refl
-length_owners (l ∷ rest) = ap suc (length_owners rest)
+pub no_place : {X : Type 0} (s : Seen) (q : ℕ) (place : Option ℕ) (o : Loaded) → at_place s place ≡ object_of s q → place ≡ None → object_of s q ≡ Some o → X
+no_place s q place o at is there = absurd (let no : None ≡ Some o = ap (at_place s) (sym is) ∙ at ∙ there in cc no)
 
-pub list_found : (lists : List SearchList) (q k : ℕ) (l : SearchList) → place_in (owners lists) q ≡ Some k → l ≡ get_or lists k l → l.scope ≡ scope_in lists q
-list_found lists q k l at is =
-    let within : k < length lists = omega (arith, (position-Some (λ s. s == q) (owners lists) k 0 at).0, length_owners lists) in
-    let here : slice_get lists k ≡ Some l = slice_get-get_or lists k l within ∙ ap (λ (x : SearchList). Some x) (sym is) in
-    ap scope_on (sym here ∙ found_by (λ (x : SearchList). x.owner == q) lists k (sym (place_mapped (λ (x : SearchList). x.owner) lists q) ∙ at))
+-- there is an object at such a place
+one_at : (objects : List Loaded) (k : ℕ) → k < length objects → (o : Loaded) × (slice_get objects k ≡ Some o)
+one_at [] k lt = absurd (omega arith)
+one_at (o ∷ rest) zero lt = (o, refl)
+one_at (o ∷ rest) (suc k) lt = one_at rest k (omega arith)
 
--- the list at a place is that of the object there
-pub list_at : (s : Seen) (objects : List Loaded) (k : ℕ) (o : Loaded) (l : Option SearchList) → l ≡ slice_get (map (list_of s) objects) k → slice_get objects k ≡ Some o → scope_on l ≡ scope s o
-list_at s [] k o l is here = absurd cc
-list_at s (x ∷ rest) zero o l is here = (let same : x ≡ o = cc here in ap scope_on is ∙ ap (scope s) same)
-list_at s (x ∷ rest) (suc k) o l is here = list_at s rest k o l is here
-
-pub no_list : (lists : List SearchList) (q : ℕ) → place_in (owners lists) q ≡ None → [] ≡ scope_in lists q
-no_list lists q at = ap scope_on (none_by (λ (x : SearchList). x.owner == q) lists (sym (place_mapped (λ (x : SearchList). x.owner) lists q) ∙ at))
-
-pub owners_of : (s : Seen) → owners (lists_of s) ≡ serials_of s
-owners_of s = of s.objects
-  where
-    of : (objects : List Loaded) → owners (map (list_of s) objects) ≡ map (λ (o : Loaded). o.serial) objects
-    of [] = refl
-    of (o ∷ rest) = ap (λ (xs : List ℕ). o.serial ∷ xs) (of rest)
+object_there : (s : Seen) (q k : ℕ) → place_in (serials_of s) q ≡ Some k → (o : Loaded) × (slice_get s.objects k ≡ Some o)
+object_there s q k at = one_at s.objects k (omega (arith, (position-Some (λ n. n == q) (serials_of s) k 0 at).0, length_serials s.objects))
 
 -- ---- what the openings bring
 
--- one opening more
-pub opening_more : (s : Seen) (opens : List OpenRec) (k q : ℕ) (r : OpenRec) (so_far new : List ℕ) → k < length opens → r ≡ get_or opens k r → so_far ≡ flat_map (λ (x : OpenRec). brought_to (breadth s x.root) q) (take k opens)
-    → new ≡ so_far ++ brought_to (breadth s r.root) q → new ≡ flat_map (λ (x : OpenRec). brought_to (breadth s x.root) q) (take (k + 1) opens)
-opening_more s opens k q r so_far new lt is were are =
-    let f = λ (x : OpenRec). brought_to (breadth s x.root) q in
-    let more : take (k + 1) opens ≡ take k opens ++ r ∷ [] = take_more opens k r lt ∙ ap (λ (y : OpenRec). take k opens ++ y ∷ []) (sym is) in
-    are ∙ ap (λ (l : List ℕ). l ++ f r) were ∙ ap (λ (l : List ℕ). flat_map f (take k opens) ++ l) (sym (append-nil (f r))) ∙ sym (flat_map-append f (take k opens) (r ∷ [])) ∙ ap (flat_map f) (sym more)
+flat_mapped : {X Y : Type 0} (f : Y → List ℕ) (g : X → Y) (xs : List X) → flat_map f (map g xs) ≡ flat_map (λ x. f (g x)) xs
+flat_mapped f g [] = refl
+flat_mapped f g (x ∷ xs) = ap (λ (l : List ℕ). f (g x) ++ l) (flat_mapped f g xs)
+
+pub brings : (s : Seen) (orders : List (List ℕ)) (q : ℕ) → orders ≡ map (λ (r : OpenRec). breadth s r.root) s.opens → flat_map (λ order. brought_to order q) orders ≡ brought_in s q
+brings s orders q are =
+    ap (flat_map (λ order. brought_to order q)) are ∙ flat_mapped (λ order. brought_to order q) (λ (r : OpenRec). breadth s r.root) s.opens
+
+pub brought_found : (s : Seen) (orders : List (List ℕ)) (q : ℕ) (r : Result (List ℕ) AllocError) → orders ≡ map (λ (x : OpenRec). breadth s x.root) s.opens → IfOk r (λ found. found ≡ flat_map (λ order. brought_to order q) orders)
+    → IfOk r (λ found. found ≡ brought_in s q)
+brought_found s orders q (Ok found) are is = is ∙ brings s orders q are
+brought_found s orders q (Err e) are is = tt
 
 -- ---- where nothing is closing
 
@@ -179,5 +175,71 @@ linked_nowhere s q some at = ap once_on (none_found s q at) ∙ found_is s q som
 
 -- ---- the names of an object's versions
 
-pub names_at : (s : Seen) (objects : List Loaded) (k : ℕ) (o : Loaded) (l : Option SearchList) → l ≡ slice_get (map (list_of s) objects) k → slice_get objects k ≡ Some o → option_map (λ (x : SearchList). x.names) l ≡ Some (places_of o.object)
-names_at s objects k o l is here = ap (option_map (λ (x : SearchList). x.names)) (is ∙ mapped_at (list_of s) objects k ∙ ap (option_map (list_of s)) here)
+abbrev names_in : Loaded → List (Option VersionPlace)
+names_in o = places_of o.object
+
+pub names_there : (objects : List Loaded) (names : List (List (Option VersionPlace))) (k : ℕ) (o : Loaded) → names ≡ map (λ (x : Loaded). places_of x.object) objects → slice_get objects k ≡ Some o → slice_get names k ≡ Some (places_of o.object)
+names_there objects names k o are here = ap (λ (ns : List (List (Option VersionPlace))). slice_get ns k) are ∙ mapped_at names_in objects k ∙ ap (option_map names_in) here
+
+-- ---- scopes that are kept
+
+-- one more is kept
+pub one_kept : (s : Seen) (old new : KeptScopes) (k : ℕ) (o : Loaded) (list : List ℕ) → AreScopes s old → slice_get s.objects k ≡ Some o → list ≡ scope s o
+    → ((q : ℕ) → kept_at new q ≡ cond (nat_eq k q) (Some list) (kept_at old q)) → AreScopes s new
+one_kept s old new k o list are there right updates q other found here has =
+    elim (cases_Bool (nat_eq k q)) [
+      | inl same ↦
+          let e : k ≡ q = eqb-true k q same in
+          let one : Some list ≡ Some found = ap (λ b. cond b (Some list) (kept_at old q)) (sym same) ∙ sym (updates q) ∙ has in
+          let is : list ≡ found = cc one in
+          let two : Some o ≡ Some other = sym there ∙ ap (slice_get s.objects) e ∙ here in
+          let home : o ≡ other = cc two in
+          sym is ∙ right ∙ ap (scope s) home
+      | inr apart ↦ are q other found here (sym (updates q ∙ ap (λ b. cond b (Some list) (kept_at old q)) apart) ∙ has)
+    ]
+
+pub keeps_all : (old new : KeptScopes) (k : ℕ) (list : List ℕ) → ((q : ℕ) → kept_at new q ≡ cond (nat_eq k q) (Some list) (kept_at old q)) → KeepsAll old new
+keeps_all old new k list updates q has =
+    elim (cases_Bool (nat_eq k q)) [
+      | inl same ↦ subst IsSome (sym (updates q ∙ ap (λ b. cond b (Some list) (kept_at old q)) same)) refl
+      | inr apart ↦ subst IsSome (sym (updates q ∙ ap (λ b. cond b (Some list) (kept_at old q)) apart)) has
+    ]
+
+pub is_there : (old new : KeptScopes) (k : ℕ) (list : List ℕ) → ((q : ℕ) → kept_at new q ≡ cond (nat_eq k q) (Some list) (kept_at old q)) → IsSome (kept_at new k)
+is_there old new k list updates = subst IsSome (sym (updates k ∙ ap (λ b. cond b (Some list) (kept_at old k)) (eq-eqb k k refl))) refl
+
+-- what is kept of an object is its scope
+pub kept_scope : (s : Seen) (kept : KeptScopes) (k : ℕ) (o : Loaded) → AreScopes s kept → IsSome (kept_at kept k) → slice_get s.objects k ≡ Some o → unwrap_or (kept_at kept k) [] ≡ scope s o
+kept_scope s kept k o are has here = by (kept_at kept k) refl has
+  where
+    by : (x : Option (List ℕ)) → kept_at kept k ≡ x → IsSome x → unwrap_or x [] ≡ scope s o
+    by (Some found) is some = are k o found here is
+    by None is some = absurd (cc some)
+
+-- none is kept at first
+pub none_kept : (s : Seen) (kept : KeptScopes) → ((place : ℕ) → kept_at kept place ≡ None) → AreScopes s kept
+none_kept s kept none place o found here has = absurd (let no : None ≡ Some found = sym (none place) ∙ has in cc no)
+
+-- where the objects stand of any namespace is the same
+listed : (s : Seen) (before after : SearchLists) (q k : ℕ) → AreListsOf s before → AreListsOf s after → place_of before.links.places q ≡ Some k → ((o : Loaded) → slice_get s.objects k ≡ Some o → IsListedAt after k) → IsListed after q
+listed s before after q k was are here there place at =
+    let both : Some k ≡ Some place = sym here ∙ was.links.places q ∙ sym (are.links.places q) ∙ at in
+    let same : k ≡ place = cc both in
+    let one = object_there s q k (sym (was.links.places q) ∙ here) in
+    subst (IsListedAt after) same (there one.0 one.1)
+
+-- each object that is there is listed, where all are
+pub each_listed : (s : Seen) (lists : SearchLists) (q : ℕ) → AreListsOf s lists → AreListed s 0 lists → IsListed lists q
+each_listed s lists q are all place at =
+    let one = object_there s q place (sym (are.links.places q) ∙ at) in
+    all place one.0 (omega arith) one.1
+
+pub one_listed : (s : Seen) (before after : SearchLists) (q k : ℕ) (r : Result Unit AllocError) → AreListsOf s before → AreListsOf s after → place_of before.links.places q ≡ Some k
+    → OnOk r ((o : Loaded) → slice_get s.objects k ≡ Some o → IsListedAt after k) → OnOk r (IsListed after q)
+one_listed s before after q k (Ok x) was are here there = listed s before after q k was are here there
+one_listed s before after q k (Err e) was are here there = tt
+
+pub listed_from : (s : Seen) (first end : ℕ) (lists : SearchLists) (r : Result Unit AllocError) → end ≡ length s.objects
+    → OnOk r ((place : ℕ) (o : Loaded) → first ≤ place → place < end → slice_get s.objects place ≡ Some o → IsListedAt lists place) → OnOk r (AreListed s first lists)
+listed_from s first end lists (Ok x) all there = λ place o le at. there place o le (omega (arith, all, slice_get_within s.objects place o at)) at
+listed_from s first end lists (Err e) all there = tt

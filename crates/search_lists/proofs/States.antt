@@ -1,6 +1,7 @@
 -- Lists don't tell of the states of objects.
 use Rattle.std.proofs.Common.{◌≡◌, ℕ, zero, suc, Bool, true, false, cond, List, [], ◌∷◌, ◌++◌, length, map, refl, sym, ap, ◌∙◌}
-use Rattle.std.specs.Prelude.{◌==◌, ◌||◌, not, filter, flat_map, Option, Some, None}
+use Rattle.std.specs.Prelude.{◌==◌, ◌||◌, not, filter, flat_map, option_map, slice_get, Option, Some, None}
+use Rattle.std.proofs.lemmas.Option.{slice_get-map}
 use Rattle.ld_base.specs.declared.linking.Loaded.{Loaded}
 use Rattle.ld_base.specs.declared.linking.State.{State}
 use Rattle.scope_rule.specs.Breadth.{breadth, extend, has, order_to}
@@ -8,8 +9,12 @@ use Rattle.scope_rule.specs.Loading.{found_of, is_dying, is_dying_at, object_of,
 use Rattle.scope_rule.specs.Scope.{opened_with, scope, whole_scope}
 use Rattle.scope_rule.specs.Seen.{Seen}
 use Rattle.scope_rule.specs.declared.namespace.OpenRec.{OpenRec}
-use Rattle.search_lists.specs.Lists.{ChangesStateAlone, list_of, lists_of}
-use Rattle.search_lists.specs.declared.lists.SearchList.{SearchList}
+use Rattle.search_lists.specs.Kept.{AreScopes}
+use Rattle.search_lists.specs.Links.{found_once}
+use Rattle.search_lists.specs.Lists.{AreListsOf, ChangesStateAlone}
+use Rattle.search_lists.specs.Places.{place_in, serials}
+use Rattle.search_lists.specs.declared.kept.KeptScopes.{KeptScopes}
+use Rattle.search_lists.specs.declared.lists.SearchLists.{SearchLists}
 use Rattle.version_places.specs.Places.{places_of}
 use Rattle.version_places.specs.declared.names.VersionPlace.{VersionPlace}
 
@@ -110,19 +115,40 @@ module _ (change : Loaded → Loaded) (alone : (o : Loaded) → ChangesStateAlon
         (λ x. ap (λ b. b || not (is_dying_at Then x)) (alone o).closing ∙ ap (λ b. is_dying o || not b) (same_dying x)) (whole_scope Then (change o))
         ∙ ap (filter (λ x. is_dying o || not (is_dying_at s x))) (whole_same (change o) ∙ whole_changed o)
 
-    abbrev list_with : ℕ → List ℕ → List (Option VersionPlace) → SearchList
-    list_with owner scope names = record { owner = owner; scope = scope; names = names }
+    same_serials : (objects : List Loaded) → serials (map change objects) ≡ serials objects
+    same_serials [] = refl
+    same_serials (o ∷ rest) = ap (λ n. n ∷ serials (map change rest)) (same_serial o) ∙ ap (λ (l : List ℕ). o.serial ∷ l) (same_serials rest)
 
-    same_names : (o : Loaded) → places_of (change o).object ≡ places_of o.object
-    same_names o = ap (λ (x : Loaded). places_of x.object) (alone o).rest
+    same_links : (objects : List Loaded) → map found_once (map change objects) ≡ map found_once objects
+    same_links [] = refl
+    same_links (o ∷ rest) =
+        ap (λ (x : Loaded). found_once x ∷ map found_once (map change rest)) (alone o).rest ∙ ap (λ (ls : List (List ℕ)). found_once o ∷ ls) (same_links rest)
 
-    same_lists : (objects : List Loaded) → map (list_of Then) (map change objects) ≡ map (list_of s) objects
-    same_lists [] = refl
-    same_lists (o ∷ rest) =
-        ap (λ (l : SearchList). l ∷ map (list_of Then) (map change rest)) (ap (λ n. list_with n (scope Then (change o)) (places_of (change o).object)) (same_serial o)
-        ∙ ap (λ (l : List ℕ). list_with o.serial l (places_of (change o).object)) (same_scope o)
-        ∙ ap (list_with o.serial (scope s o)) (same_names o))
-        ∙ ap (λ (ls : List SearchList). list_of s o ∷ ls) (same_lists rest)
+    abbrev names_in : Loaded → List (Option VersionPlace)
+    names_in o = places_of o.object
 
-    pub stay : lists_of Then ≡ lists_of s
-    stay = same_lists s.objects
+    same_names : (objects : List Loaded) → map names_in (map change objects) ≡ map names_in objects
+    same_names [] = refl
+    same_names (o ∷ rest) =
+        ap (λ (x : Loaded). names_in x ∷ map names_in (map change rest)) (alone o).rest ∙ ap (λ (ls : List (List (Option VersionPlace))). names_in o ∷ ls) (same_names rest)
+
+    same_kept : (kept : KeptScopes) → AreScopes s kept → AreScopes Then kept
+    same_kept kept are place o found at has = by (slice_get s.objects place) refl
+      where
+        by : (x : Option Loaded) → slice_get s.objects place ≡ x → found ≡ scope Then o
+        by None is = absurd (let no : None ≡ Some o = ap (option_map change) (sym is) ∙ sym (slice_get-map change s.objects place) ∙ at in cc no)
+        by (Some before) is =
+            let both : Some (change before) ≡ Some o = ap (option_map change) (sym is) ∙ sym (slice_get-map change s.objects place) ∙ at in
+            let same : change before ≡ o = cc both in
+            are place before found is has ∙ sym (same_scope before) ∙ ap (scope Then) same
+
+    pub stay : (lists : SearchLists) → AreListsOf s lists → AreListsOf Then lists
+    stay lists are = record {
+      links = record {
+        places = λ q. are.links.places q ∙ ap (λ (l : List ℕ). place_in l q) (sym (same_serials s.objects));
+        found = are.links.found ∙ sym (same_links s.objects);
+        all = λ q x there some. are.links.all q x (ap (λ (l : List ℕ). has l x) (sym (same_found q)) ∙ there) some;
+      };
+      names = are.names ∙ sym (same_names s.objects);
+      scopes = same_kept lists.scopes are.scopes;
+    }

@@ -13,6 +13,6 @@ found_once o = extend [] o.found
 
 -- where the objects stand is known, what each leads to, and what any does
 pub record AreLinks (s : Seen) (links : Links) : Type 0 where
-  pub places : ArePlaces (serials_of s) links.places.now
+  pub places : ArePlaces (serials_of s) links.places
   pub found : links.found.items ≡ map found_once s.objects
   pub all : (serial x : ℕ) → has (found_of s serial) x ≡ true → (x == 0) ≡ false → has links.all x ≡ true

@@ -1,28 +1,31 @@
--- Search lists: where the references of each object are searched, and where the names of its versions stand.
-use Rattle.std.specs.Prelude.{◌≡◌, ℕ, ◌==◌, List, [], map, find, Option, Some, None}
-use Rattle.std.specs.List.{slice_get}
+-- Search lists: where the references of objects are searched, and where the names of their versions stand.
+use Rattle.std.specs.Prelude.{◌≡◌, ℕ, ◌≤◌, map, slice_get, IsSome, Option, Some, None}
 use Rattle.ld_base.specs.declared.linking.Loaded.{Loaded}
 use Rattle.scope_rule.specs.Loading.{is_dying}
-use Rattle.scope_rule.specs.Scope.{scope}
 use Rattle.scope_rule.specs.Seen.{Seen}
-use Rattle.search_lists.specs.declared.lists.SearchList.{SearchList}
+use Rattle.search_lists.specs.Kept.{AreScopes, kept_at}
+use Rattle.search_lists.specs.Links.{AreLinks}
+use Rattle.search_lists.specs.Places.{place_of}
+use Rattle.search_lists.specs.declared.lists.SearchLists.{SearchLists}
 use Rattle.version_places.specs.Places.{places_of}
 
--- the list of an object
-abbrev pub list_of : Seen → Loaded → SearchList
-list_of s o = record { owner = o.serial; scope = scope s o; names = places_of o.object }
+-- the lists are of what is seen of a namespace: they know what its objects lead to, where the names of their versions stand, and of some the Scope
+pub record AreListsOf (s : Seen) (lists : SearchLists) : Type 0 where
+  pub links : AreLinks s lists.links
+  pub names : lists.names.items ≡ map (λ o. places_of o.object) s.objects
+  pub scopes : AreScopes s lists.scopes
 
--- the lists of what is seen of a namespace: the Scope and the names of each of its objects, in load order
-abbrev pub lists_of : Seen → List SearchList
-lists_of s = map (list_of s) s.objects
+-- they know the Scope of the object at a place in load order
+abbrev pub IsListedAt : SearchLists → ℕ → Type 0
+IsListedAt lists place = IsSome (kept_at lists.scopes place)
 
--- the scope in the first list of a serial
-abbrev pub scope_on : Option SearchList → List ℕ
-scope_on (Some l) = l.scope
-scope_on None = []
+-- they know that of the object with a serial
+abbrev pub IsListed : SearchLists → ℕ → Type 0
+IsListed lists owner = (place : ℕ) → place_of lists.links.places owner ≡ Some place → IsListedAt lists place
 
-abbrev pub scope_in : List SearchList → ℕ → List ℕ
-scope_in lists owner = scope_on (find (λ l. l.owner == owner) lists)
+-- they know those of the objects from a place on
+abbrev pub AreListed : Seen → ℕ → SearchLists → Type 0
+AreListed s first lists = (place : ℕ) (o : Loaded) → first ≤ place → slice_get s.objects place ≡ Some o → IsListedAt lists place
 
 -- the object at a place in load order, if any
 abbrev pub at_place : Seen → Option ℕ → Option Loaded

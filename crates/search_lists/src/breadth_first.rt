@@ -10,7 +10,7 @@ ghost use Rattle.search_lists.specs.Links.{AreLinks};
 
 use crate::links::Links;
 use indexmap::IndexSet;
-use ld_base::{Serial, Serials};
+use ld_base::Serial;
 use scope_rule::{View, breadth_grows, extends_at_the_end};
 use std::alloc::{AllocError, Global};
 
@@ -102,14 +102,14 @@ pub(crate) fn breadth(
     view: &View,
     links: &Links,
     root: Serial,
-) -> Result<Serials, AllocError>
+) -> Result<IndexSet<Serial>, AllocError>
     requires { AreLinks (seen view.now) links.now }
-    ensures { IfOk result (λ order. order ≡ breadth (seen view.now) root) }
+    ensures { IfOk result (λ order. order.keys ≡ breadth (seen view.now) root) }
 {
     breadth_grows();
     let mut order = IndexSet::new(alloc);
     extend_by_one(&mut order, root)?;
     let most = view.objects.len() + view.added.len();
     extend_by_levels(view, links, &mut order, most)?;
-    Serials::from_slice(alloc, order.as_slice())
+    Ok(order)
 }

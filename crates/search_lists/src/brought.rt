@@ -1,92 +1,61 @@
 //! What the openings of a namespace bring to the scopes of its objects.
 
-ghost use Rattle.std.specs.Prelude.{◌≡◌, ◌++◌, ◌==◌, [], ℕ, if◌then◌else◌, IfOk, OnOk};
-ghost use Rattle.scope_rule.specs.Seen.{seen};
-ghost use Rattle.search_lists.specs.Brought.{AreBrought, BringsMore, Distinct, brought_of, brought_to};
-ghost use Rattle.search_lists.specs.Links.{AreLinks};
+ghost use Rattle.std.specs.Prelude.{◌≡◌, ◌++◌, OnOk};
+ghost use Rattle.search_lists.specs.Brought.{brought_to};
 
 use crate::breadth_first::breadth;
 use crate::links::Links;
+use indexmap::IndexSet;
 use ld_base::{Serial, Serials};
-use scope_rule::{View, breadth_grows};
+use scope_rule::View;
 use std::alloc::{AllocError, Global};
-use std::collections::HashMap;
 
-/// What the openings bring to the scope of each object: what an opening's root leads to goes to each
-/// object of that.
+/// What the root of each opening leads to, found once: it goes to the scope of each object of that.
 #[derive(Drop)]
 pub(crate) struct Brought {
-    by_serial: HashMap<Serial, Serials>,
+    orders: Vec<IndexSet<Serial>>,
+}
+
+/// Puts what an opening brings to an object at the end.
+fn append_order(
+    order: &IndexSet<Serial>,
+    serial: Serial,
+    found: &mut Serials,
+) -> Result<(), AllocError>
+    ensures { OnOk result (found.new ≡ found.old ++ brought_to order.now.keys serial) }
+{
+    if order.contains(&serial) {
+        found.extend_from_slice(order.as_slice())?;
+    }
+    Ok(())
 }
 
 impl Brought {
-    ghost use Rattle.std.specs.Prelude.{◌≡◌, ◌++◌, ◌==◌, [], ℕ, if◌then◌else◌, IfOk, OnOk};
+    ghost use Rattle.std.specs.Prelude.{◌≡◌, flat_map, IfOk};
     ghost use Rattle.scope_rule.specs.Seen.{seen};
-    ghost use Rattle.search_lists.specs.Brought.{AreBrought, BringsMore, Distinct, brought_of, brought_to};
+    ghost use Rattle.search_lists.specs.Brought.{AreBrought, brought_to, orders_of};
     ghost use Rattle.search_lists.specs.Links.{AreLinks};
-
-    /// Nothing yet.
-    fn new(alloc: Global) -> Self
-        ensures { (serial : ℕ) → brought_of result serial ≡ [] }
-    {
-        Brought {
-            by_serial: HashMap::new(alloc),
-        }
-    }
 
     /// What the openings of what is seen of a namespace bring.
     pub(crate) fn of(alloc: Global, view: &View, links: &Links) -> Result<Self, AllocError>
         requires { AreLinks (seen view.now) links.now }
         ensures { IfOk result (AreBrought (seen view.now)) }
     {
-        breadth_grows();
-        let mut brought = Brought::new(alloc);
-        for open in view.opens {
-            let libraries = breadth(alloc, view, links, open.root)?;
-            brought.add_opening(alloc, libraries.as_slice())?;
+        let mut orders = Vec::new(alloc);
+        for opening in view.opens {
+            orders.push(breadth(alloc, view, links, opening.root)?)?;
         }
-        Ok(brought)
+        Ok(Brought { orders })
     }
 
-    /// What is brought to an object.
-    pub(crate) fn get(&self, serial: Serial) -> &[Serial]
-        ensures { result.now ≡ brought_of self.now serial }
+    /// What they bring to an object.
+    pub(crate) fn to(&self, alloc: Global, serial: Serial) -> Result<Serials, AllocError>
+        ensures { IfOk result (λ found. found ≡ flat_map (λ order. brought_to order serial) (orders_of self.now)) }
     {
-        match self.by_serial.get(&serial) {
-            Some(libraries) => libraries.as_slice(),
-            None => &[],
+        let mut found = Serials::new(alloc);
+        for order in self.orders.as_slice() {
+            append_order(order, serial, &mut found)?;
         }
-    }
-
-    /// Brings these to each of them.
-    fn add_opening(&mut self, alloc: Global, libraries: &[Serial]) -> Result<(), AllocError>
-        requires { Distinct libraries.now }
-        ensures { OnOk result ((serial : ℕ) → brought_of self.new serial ≡ brought_of self.old serial ++ brought_to libraries.now serial) }
-    {
-        for serial in libraries {
-            self.add(alloc, *serial, libraries)?;
-        }
-        Ok(())
-    }
-
-    /// Brings these to one object.
-    fn add(&mut self, alloc: Global, serial: Serial, libraries: &[Serial]) -> Result<(), AllocError>
-        ensures { OnOk result (BringsMore serial libraries.now self.old self.new) }
-    {
-        let mut brought = self.take(alloc, serial);
-        brought.extend_from_slice(libraries)?;
-        self.by_serial.insert(serial, brought)?;
-        Ok(())
-    }
-
-    /// Takes out what is brought to an object.
-    fn take(&mut self, alloc: Global, serial: Serial) -> Serials
-        ensures taken { result ≡ brought_of self.old serial }
-        ensures others { (other : ℕ) → brought_of self.new other ≡ (if serial == other then [] else brought_of self.old other) }
-    {
-        match self.by_serial.remove(&serial) {
-            Some(brought) => brought,
-            None => Serials::new(alloc),
-        }
+        Ok(found)
     }
 }

@@ -1,17 +1,18 @@
 //! What holds of all lists.
 
-ghost use Rattle.std.specs.Prelude.{◌≡◌, map};
+ghost use Rattle.std.specs.Prelude.{map};
 ghost use Rattle.ld_base.specs.declared.linking.Loaded.{Loaded};
 ghost use Rattle.scope_rule.specs.Seen.{Seen};
-ghost use Rattle.search_lists.specs.Lists.{ChangesStateAlone, lists_of};
+ghost use Rattle.search_lists.specs.Lists.{AreListsOf, ChangesStateAlone};
+ghost use Rattle.search_lists.specs.declared.lists.SearchLists.{SearchLists};
 
 use scope_rule::breadth_grows;
 
 /// Lists don't tell of the states of objects, but for which are closing: an object that becomes ready
 /// leaves them as they are.
 pub fn lists_stay()
-    ensures { (s : Seen) (change : Loaded → Loaded) → ((o : Loaded) → ChangesStateAlone o (change o)) →
-        lists_of (record s { objects = map change s.objects }) ≡ lists_of s }
+    ensures { (s : Seen) (lists : SearchLists) (change : Loaded → Loaded) → ((o : Loaded) → ChangesStateAlone o (change o))
+        → AreListsOf s lists → AreListsOf (record s { objects = map change s.objects }) lists }
 {
     breadth_grows();
 }

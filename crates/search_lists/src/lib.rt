@@ -1,14 +1,15 @@
-//! Where the references of each object of a namespace are searched.
+//! Where the references of objects of a namespace are searched.
 //!
 //! [`SearchLists`] are made of a namespace as it stands, at the first question behind a change, or as an
-//! opening will leave it. What an object's names found is gathered once, each object once, what the openings
-//! bring once for all objects, and an object is known by its serial in one step. Making them takes a step a
-//! name, then for each object and opening at most one a name of what it leads to.
+//! opening will leave it. What an object's names found is gathered once, each object once, and an object is
+//! known by its serial in one step: that takes a step a name. Scopes are made for those objects alone that
+//! ask for them, and are kept: each takes a step an entry, and a look-up an opening.
 //! By [`lists_stay`] an object that becomes ready leaves the lists as they are.
 #![tactic(auto)]
 
 mod breadth_first;
 mod brought;
+mod kept;
 mod law;
 mod links;
 mod lists;
@@ -16,5 +17,5 @@ mod places;
 mod scoping;
 
 pub use law::lists_stay;
-pub use lists::{SearchList, SearchLists};
+pub use lists::SearchLists;
 pub use places::object_at;

@@ -15,8 +15,8 @@ use std::alloc::{AllocError, Global};
 /// Where the objects of a namespace stand, and what the names of each found, each once: a name that
 /// comes again is followed once only, however many objects lead to its own.
 #[derive(Drop)]
-pub(crate) struct Links<'a> {
-    pub(crate) places: &'a Places,
+pub(crate) struct Links {
+    pub(crate) places: Places,
     /// By the place of an object.
     found: Vec<Serials>,
     /// What the names of any of them found.
@@ -78,19 +78,18 @@ fn found_at(found: &[Serials], place: usize) -> &[Serial]
     }
 }
 
-impl<'a> Links<'a> {
+impl Links {
     ghost use Rattle.std.specs.Prelude.{◌≡◌, [], IfOk};
     ghost use Rattle.scope_rule.specs.Breadth.{extend};
     ghost use Rattle.scope_rule.specs.Loading.{found_of};
     ghost use Rattle.scope_rule.specs.Seen.{Seen, seen};
     ghost use Rattle.search_lists.specs.Links.{AreLinks};
-    ghost use Rattle.search_lists.specs.Places.{ArePlaces, serials_of};
 
     /// Those of what is seen of a namespace.
-    pub(crate) fn of(alloc: Global, view: &View, places: &'a Places) -> Result<Self, AllocError>
-        requires { ArePlaces (serials_of (seen view.now)) places.now }
+    pub(crate) fn of(alloc: Global, view: &View) -> Result<Self, AllocError>
         ensures { IfOk result (AreLinks (seen view.now)) }
     {
+        let places = Places::of(alloc, view)?;
         let found = found_by_each(alloc, view)?;
         let all = found_by_any(alloc, found.as_slice())?;
         Ok(Links { places, found, all })

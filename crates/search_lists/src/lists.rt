@@ -1,109 +1,96 @@
 //! Search lists.
 
-ghost use Rattle.std.specs.Prelude.{◌≡◌, ◌++◌, map, IfOk, OnOk};
-ghost use Rattle.std.specs.List.{slice_get};
+ghost use Rattle.std.specs.Prelude.{◌≡◌, ◌++◌, map, slice_get, IfOk, OnOk};
 ghost use Rattle.std.specs.Option.{option_copied};
 ghost use Rattle.scope_rule.specs.Seen.{seen};
-ghost use Rattle.search_lists.specs.Lists.{list_of, lists_of};
-ghost use Rattle.search_lists.specs.Places.{ArePlaces, serials_of};
+ghost use Rattle.version_places.specs.Places.{places_of};
 
-use crate::places::Places;
+use crate::kept::KeptScopes;
+use crate::links::Links;
 use crate::scoping::Scopes;
-use ld_base::{Loaded, Sequence, Serial, Serials};
+use ld_base::{Loaded, Serial};
 use scope_rule::{Namespace, View};
 use std::alloc::{AllocError, Global};
-use std::marker::Model;
 use version_places::VersionNames;
 
-/// Where the references of an object are searched, in order, and where the names of its own versions
-/// stand.
-#[derive(Drop)]
-pub struct SearchList {
-    /// The object whose references these are.
-    pub owner: Serial,
-    /// The objects that are searched, in order.
-    pub scope: Serials,
-    /// Where the names of the owner's versions stand.
-    pub names: VersionNames,
-}
-
-/// Where the references of each object of a namespace are searched, as the namespace stood when they were
-/// made. Contracts see it as the lists in load order.
+/// What is searched for the references of objects of a namespace, as the namespace stood when it was first
+/// asked for. Where an object stands is known of each, where its references are searched of those for which
+/// that was asked.
 #[derive(Drop)]
 pub struct SearchLists {
-    lists: Sequence<SearchList>,
-    /// Where the list of each object stands, and so the object.
-    places: Places,
+    links: Links,
+    /// Where the names of the versions of each object stand, in load order.
+    names: Vec<VersionNames>,
+    scopes: KeptScopes,
 }
 
-impl Model for SearchLists {
-    ghost use Rattle.std.specs.Prelude.{List, map};
-    ghost use Rattle.search_lists.specs.Places.{ArePlaces};
-    ghost use Rattle.search_lists.specs.declared.lists.SearchList.{SearchList};
-
-    ghost Value = { List SearchList };
-
-    ghost view = { λ s. s.lists };
-
-    ghost invariant = { λ s. ArePlaces (map (λ l. l.owner) s.lists) s.places };
-}
-
-/// Puts the lists of these objects at the end.
-fn append_lists(
+/// Puts the names of the versions of these objects at the end.
+fn append_names(
     alloc: Global,
-    scopes: &Scopes,
     objects: &[Loaded],
-    lists: &mut Sequence<SearchList>,
+    names: &mut Vec<VersionNames>,
 ) -> Result<(), AllocError>
-    ensures { OnOk result (lists.new ≡ lists.old ++ map (list_of scopes.now) objects.now) }
+    ensures { OnOk result (names.new.items ≡ names.old.items ++ map (λ o. places_of o.object) objects.now) }
 {
     for object in objects {
-        lists.push(SearchList {
-            owner: object.serial,
-            scope: scopes.scope(alloc, object)?,
-            names: VersionNames::of(alloc, &object.object)?,
-        })?;
+        names.push(VersionNames::of(alloc, &object.object)?)?;
     }
     Ok(())
 }
 
-/// The lists of what is seen of a namespace.
-fn lists_of(alloc: Global, view: &View, places: &Places) -> Result<Sequence<SearchList>, AllocError>
-    requires { ArePlaces (serials_of (seen view.now)) places.now }
-    ensures { IfOk result (λ lists. lists ≡ lists_of (seen view.now)) }
+/// The names of the versions of each object of what is seen of a namespace.
+fn names_of_each(alloc: Global, view: &View) -> Result<Vec<VersionNames>, AllocError>
+    ensures { IfOk result (λ names. names.items ≡ map (λ o. places_of o.object) (seen view.now).objects) }
 {
-    let scopes = Scopes::of(alloc, view, places)?;
-    let mut lists = Sequence::new(alloc);
-    append_lists(alloc, &scopes, view.objects, &mut lists)?;
-    append_lists(alloc, &scopes, view.added, &mut lists)?;
-    Ok(lists)
+    let mut names = Vec::new(alloc);
+    append_names(alloc, view.objects, &mut names)?;
+    append_names(alloc, view.added, &mut names)?;
+    Ok(names)
 }
 
-/// The list at a place, if there is one.
-fn list_at(lists: &[SearchList], place: usize) -> Option<&SearchList>
-    ensures { option_copied result ≡ slice_get lists.now place }
+/// The names at a place, if there are any.
+fn names_at(names: &[VersionNames], place: usize) -> Option<&VersionNames>
+    ensures { option_copied result ≡ slice_get names.now place }
 {
-    lists.get(place)
+    names.get(place)
 }
 
 impl SearchLists {
-    ghost use Rattle.std.specs.Prelude.{◌≡◌, Some, IfOk};
+    ghost use Rattle.std.specs.Prelude.{◌≡◌, ℕ, Some, length, IfOk, OnOk};
     ghost use Rattle.std.specs.Option.{option_copied};
     ghost use Rattle.std.specs.List.{slice_get};
     ghost use Rattle.ld_base.specs.declared.linking.Loaded.{Loaded as loaded};
     ghost use Rattle.scope_rule.specs.Loading.{object_of};
     ghost use Rattle.scope_rule.specs.Scope.{scope};
     ghost use Rattle.scope_rule.specs.Seen.{Seen, seen, seen_in};
-    ghost use Rattle.search_lists.specs.Lists.{at_place, lists_of, scope_in};
+    ghost use Rattle.search_lists.specs.Lists.{AreListed, AreListsOf, IsListed, IsListedAt, at_place};
     ghost use Rattle.version_places.specs.Places.{places_of};
 
-    /// The lists of a namespace as it stands.
+    /// Those of what is seen of a namespace, without any scope.
+    ///
+    /// # Errors
+    ///
+    /// Want of memory.
+    pub fn new(alloc: Global, view: &View) -> Result<Self, AllocError>
+        ensures { IfOk result (AreListsOf (seen view.now)) }
+    {
+        let links = Links::of(alloc, view)?;
+        let names = names_of_each(alloc, view)?;
+        Ok(SearchLists {
+            links,
+            names,
+            scopes: KeptScopes::new(alloc),
+        })
+    }
+
+    /// Those of a namespace as it stands, with the scope of each object.
     ///
     /// # Errors
     ///
     /// Want of memory.
     pub fn build(alloc: Global, ns: &Namespace) -> Result<Self, AllocError>
-        ensures { IfOk result (λ lists. lists ≡ lists_of (seen_in ns.now)) }
+        ensures lists { IfOk result (AreListsOf (seen_in ns.now)) }
+        ensures scopes { IfOk result (AreListed (seen_in ns.now) 0) }
     {
         Self::build_in(alloc, &ns.view())
     }
@@ -114,20 +101,75 @@ impl SearchLists {
     ///
     /// Want of memory.
     pub fn build_in(alloc: Global, view: &View) -> Result<Self, AllocError>
-        ensures { IfOk result (λ lists. lists ≡ lists_of (seen view.now)) }
+        ensures lists { IfOk result (AreListsOf (seen view.now)) }
+        ensures scopes { IfOk result (AreListed (seen view.now) 0) }
+        ensures each { IfOk result (λ lists. (owner : ℕ) → IsListed lists owner) }
     {
-        let places = Places::of(alloc, view)?;
-        let lists = lists_of(alloc, view, &places)?;
-        Ok(SearchLists { lists, places })
+        let mut lists = Self::new(alloc, view)?;
+        lists.add_scopes(alloc, view, 0)?;
+        Ok(lists)
     }
 
-    /// Where the references of an object are searched: the first list of its serial. Where there is
-    /// none, nothing is searched.
-    pub fn scope(&self, owner: Serial) -> &[Serial]
-        ensures { result.now ≡ scope_in self.now owner }
+    /// Those of what is seen of a namespace, with the scopes of the new objects alone.
+    ///
+    /// # Errors
+    ///
+    /// Want of memory.
+    pub fn build_added(alloc: Global, view: &View) -> Result<Self, AllocError>
+        ensures lists { IfOk result (AreListsOf (seen view.now)) }
+        ensures scopes { IfOk result (AreListed (seen view.now) (length view.now.objects.now)) }
     {
-        match self.places.get(owner) {
-            Some(place) => self.lists.as_slice()[place].scope.as_slice(),
+        let mut lists = Self::new(alloc, view)?;
+        lists.add_scopes(alloc, view, view.objects.len())?;
+        Ok(lists)
+    }
+
+    /// Makes the scopes of the objects from a place on.
+    fn add_scopes(&mut self, alloc: Global, view: &View, first: usize) -> Result<(), AllocError>
+        requires { AreListsOf (seen view.now) self.old }
+        ensures lists { AreListsOf (seen view.now) self.new }
+        ensures scopes { OnOk result (AreListed (seen view.now) first self.new) }
+    {
+        let end = view.objects.len() + view.added.len();
+        let scopes = Scopes::of(alloc, view, &self.links)?;
+        self.scopes.add_all(alloc, &scopes, first, end)
+    }
+
+    /// Makes the scope of the object with a serial, unless it is there.
+    ///
+    /// # Errors
+    ///
+    /// Want of memory. They are those of the namespace still.
+    pub fn add_scope(&mut self, alloc: Global, view: &View, owner: Serial) -> Result<(), AllocError>
+        requires { AreListsOf (seen view.now) self.old }
+        ensures lists { AreListsOf (seen view.now) self.new }
+        ensures scope { OnOk result (IsListed self.new owner) }
+    {
+        match self.links.places.get(owner) {
+            Some(place) => self.add_scope_at(alloc, view, place),
+            None => Ok(()),
+        }
+    }
+
+    /// The same of the object at a place in load order.
+    fn add_scope_at(&mut self, alloc: Global, view: &View, place: usize) -> Result<(), AllocError>
+        requires { AreListsOf (seen view.now) self.old }
+        ensures lists { AreListsOf (seen view.now) self.new }
+        ensures scope { OnOk result ((o : loaded) → slice_get (seen view.now).objects place ≡ Some o → IsListedAt self.new place) }
+    {
+        if self.scopes.has(place) {
+            return Ok(());
+        }
+        let scopes = Scopes::of(alloc, view, &self.links)?;
+        self.scopes.add(alloc, &scopes, place)
+    }
+
+    /// Where the references of an object are searched, of any namespace whose lists these are.
+    pub fn scope(&self, owner: Serial) -> &[Serial]
+        ensures { (s : Seen) (o : loaded) → AreListsOf s self.now → IsListed self.now owner → object_of s owner ≡ Some o → result.now ≡ scope s o }
+    {
+        match self.links.places.get(owner) {
+            Some(place) => self.scope_at(place),
             None => &[],
         }
     }
@@ -135,35 +177,31 @@ impl SearchLists {
     /// Where the references of the object at a place in load order are searched, of any namespace whose
     /// lists these are.
     pub fn scope_at(&self, place: usize) -> &[Serial]
-        ensures { (s : Seen) (o : loaded) → self.now ≡ lists_of s → slice_get s.objects place ≡ Some o → result.now ≡ scope s o }
+        ensures { (s : Seen) (o : loaded) → AreListsOf s self.now → IsListedAt self.now place → slice_get s.objects place ≡ Some o → result.now ≡ scope s o }
     {
-        match list_at(self.lists.as_slice(), place) {
-            Some(list) => list.scope.as_slice(),
-            None => &[],
-        }
+        self.scopes.get(place)
     }
 
     /// The names of the versions of the object at a place in load order, of any namespace whose lists
     /// these are.
     pub fn names_at(&self, place: usize) -> Option<&VersionNames>
-        ensures { (s : Seen) (o : loaded) → self.now ≡ lists_of s → slice_get s.objects place ≡ Some o → option_copied result ≡ Some (places_of o.object) }
+        ensures { (s : Seen) (o : loaded) → AreListsOf s self.now → slice_get s.objects place ≡ Some o → option_copied result ≡ Some (places_of o.object) }
     {
-        let list = list_at(self.lists.as_slice(), place)?;
-        Some(&list.names)
+        names_at(self.names.as_slice(), place)
     }
 
     /// The place in load order of the object with a serial, of any namespace whose lists these are.
     pub fn place(&self, serial: Serial) -> Option<usize>
-        ensures { (s : Seen) → self.now ≡ lists_of s → at_place s result ≡ object_of s serial }
+        ensures { (s : Seen) → AreListsOf s self.now → at_place s result ≡ object_of s serial }
     {
-        self.places.get(serial)
+        self.links.places.get(serial)
     }
 
     /// The object with a serial, of what is seen of the namespace whose lists these are.
     pub fn object<'a>(&self, view: &View<'a>, serial: Serial) -> Option<&'a Loaded>
-        requires { self.now ≡ lists_of (seen view.now) }
+        requires { AreListsOf (seen view.now) self.now }
         ensures { option_copied result ≡ object_of (seen view.now) serial }
     {
-        self.places.object(view, serial)
+        self.links.places.object(view, serial)
     }
 }

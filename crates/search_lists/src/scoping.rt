@@ -12,24 +12,24 @@ ghost use Rattle.search_lists.specs.Places.{ArePlaces, serials_of};
 use crate::breadth_first::breadth;
 use crate::brought::Brought;
 use crate::links::Links;
-use crate::places::Places;
+use crate::places::{Places, object_at};
 use ld_base::{Loaded, Serial, Serials};
 use scope_rule::{View, is_dying};
 use std::alloc::{AllocError, Global};
 use std::marker::Model;
 
-/// What the scopes of all objects of a namespace are made of, found once. Contracts see what is seen of
-/// the namespace.
+/// What scopes of objects of a namespace are made of, found once. Contracts see what is seen of the
+/// namespace.
 #[derive(Drop)]
-pub(crate) struct Scopes<'a> {
+pub(crate) struct Scopes<'a, 'b> {
     view: View<'a>,
-    links: Links<'a>,
+    links: &'b Links,
     brought: Brought,
     /// Whether the destructors of one of the objects run.
     closing: bool,
 }
 
-impl<'a> Model for Scopes<'a> {
+impl<'a, 'b> Model for Scopes<'a, 'b> {
     ghost use Rattle.std.specs.Prelude.{◌≡◌};
     ghost use Rattle.std.specs.List.{list_any};
     ghost use Rattle.scope_rule.specs.Loading.{is_dying};
@@ -42,7 +42,7 @@ impl<'a> Model for Scopes<'a> {
     ghost view = { λ s. seen s.view };
 
     ghost invariant = { λ s.
-        AreLinks (seen s.view) s.links
+        AreLinks (seen s.view) s.links.now
         × AreBrought (seen s.view) s.brought
         × (s.closing ≡ list_any is_dying (seen s.view).objects) };
 }
@@ -116,21 +116,22 @@ fn standing(
     Ok(Serials::from(found))
 }
 
-impl<'a> Scopes<'a> {
-    ghost use Rattle.std.specs.Prelude.{◌≡◌, ◌||◌, not, filter, IfOk};
+impl<'a, 'b> Scopes<'a, 'b> {
+    ghost use Rattle.std.specs.Prelude.{◌≡◌, ◌||◌, not, filter, slice_get, IfOk};
     ghost use Rattle.std.specs.List.{list_any};
+    ghost use Rattle.std.specs.Option.{option_copied};
     ghost use Rattle.scope_rule.specs.Loading.{is_dying, is_dying_at};
     ghost use Rattle.scope_rule.specs.Scope.{scope, whole_scope};
     ghost use Rattle.scope_rule.specs.Seen.{seen};
-    ghost use Rattle.search_lists.specs.Places.{ArePlaces, serials_of};
+    ghost use Rattle.search_lists.specs.Brought.{brought_in};
+    ghost use Rattle.search_lists.specs.Links.{AreLinks};
 
     /// Those of what is seen of a namespace.
-    pub(crate) fn of(alloc: Global, view: &View<'a>, places: &'a Places) -> Result<Self, AllocError>
-        requires { ArePlaces (serials_of (seen view.now)) places.now }
+    pub(crate) fn of(alloc: Global, view: &View<'a>, links: &'b Links) -> Result<Self, AllocError>
+        requires { AreLinks (seen view.now) links.now }
         ensures { IfOk result (λ scopes. scopes ≡ seen view.now) }
     {
-        let links = Links::of(alloc, view, places)?;
-        let brought = Brought::of(alloc, view, &links)?;
+        let brought = Brought::of(alloc, view, links)?;
         Ok(Scopes {
             view: *view,
             links,
@@ -139,15 +140,31 @@ impl<'a> Scopes<'a> {
         })
     }
 
+    /// The object at a place in load order.
+    pub(crate) fn owner(&self, place: usize) -> Option<&'a Loaded>
+        ensures { option_copied result ≡ slice_get self.now.objects place }
+    {
+        object_at(&self.view, place)
+    }
+
     /// Every object that a reference of the owner may be to, those closing too.
     fn whole_scope(&self, alloc: Global, owner: &Loaded) -> Result<Serials, AllocError>
         ensures { IfOk result (λ whole. whole ≡ whole_scope self.now owner.now) }
     {
-        let libraries = breadth(alloc, &self.view, &self.links, owner.serial)?;
-        let brought = self.brought.get(owner.serial);
+        let brought = self.brought_to(alloc, owner.serial)?;
+        let brought = brought.as_slice();
+        let libraries = breadth(alloc, &self.view, self.links, owner.serial)?;
+        let libraries = libraries.as_slice();
         let mut whole = Serials::new(alloc);
-        fill_scope(&self.view, brought, libraries.as_slice(), owner, &mut whole)?;
+        fill_scope(&self.view, brought, libraries, owner, &mut whole)?;
         Ok(whole)
+    }
+
+    /// What the openings bring to an object.
+    fn brought_to(&self, alloc: Global, serial: Serial) -> Result<Serials, AllocError>
+        ensures { IfOk result (λ found. found ≡ brought_in self.now serial) }
+    {
+        self.brought.to(alloc, serial)
     }
 
     /// Whether the owner sees each object: it is closing itself, or none is.
@@ -164,7 +181,7 @@ impl<'a> Scopes<'a> {
         if self.sees_all(owner) {
             return Ok(whole);
         }
-        standing(alloc, &self.view, self.links.places, whole.as_slice())
+        standing(alloc, &self.view, &self.links.places, whole.as_slice())
     }
 
     /// Where the references of an object are searched, in order (gABI, "Shared Object Dependencies").

@@ -22,10 +22,8 @@ use Rattle.scope_rule.specs.Choose.{choice_of, choose_for, first_with, is_own, p
 use Rattle.scope_rule.specs.Loading.{object_of, with_serial}
 use Rattle.scope_rule.specs.Scope.{scope}
 use Rattle.scope_rule.specs.Seen.{Seen}
-use Rattle.search_lists.specs.Lists.{list_of, lists_of, scope_in, scope_on}
 use Rattle.sym_lookup.specs.Looking.{HaveTables, choice_of_symbol, outside}
 use Rattle.sym_lookup.specs.References.{AreKept, IsAlike}
-use Rattle.search_lists.specs.declared.lists.SearchList.{SearchList}
 use Rattle.version_places.specs.Places.{places_of}
 use Rattle.version_places.specs.declared.names.VersionPlace.{VersionPlace}
 
@@ -66,16 +64,6 @@ pub searched_is : (s : Seen) (o : Loaded) (pick : ℕ → Option ℕ) (copy : Bo
 searched_is s o pick true list is = ap (first_with (outside true o.serial pick)) is ∙ outside_is o.serial pick (scope s o)
 searched_is s o pick false list is = ap (first_with pick) is
 
--- the list of an object that is there is its scope
-one_list : (s : Seen) (x : Loaded) (rest : List Loaded) (owner : ℕ) (o : Loaded) (own : Bool) → cond own (Some x) (with_serial rest owner) ≡ Some o → (with_serial rest owner ≡ Some o → scope_in (map (list_of s) rest) owner ≡ scope s o)
-    → scope_on (cond own (Some (list_of s x)) (find (λ l. l.owner == owner) (map (list_of s) rest))) ≡ scope s o
-one_list s x rest owner o true found later = (let same : x ≡ o = cc found in ap (scope s) same)
-one_list s x rest owner o false found later = later found
-
-list_found : (s : Seen) (objects : List Loaded) (owner : ℕ) (o : Loaded) → with_serial objects owner ≡ Some o → scope_in (map (list_of s) objects) owner ≡ scope s o
-list_found s [] owner o found = absurd (cc found)
-list_found s (x ∷ rest) owner o found = one_list s x rest owner o (x.serial == owner) found (list_found s rest owner o)
-
 -- the choice for a symbol that no other object may define, and for another
 pub own_choice : (s : Seen) (o : Loaded) (index : ℕ) (symbol : Symbol) (copy : Bool) → (not copy && is_own symbol) ≡ true → Def o.serial index ≡ choose_for s o index symbol copy
 unfolding choose_for
@@ -97,10 +85,6 @@ pub found_there : (s : Seen) (name : List ℕ) (w : Want) (serial : ℕ) (o : Lo
     → found ≡ pick_at s name w serial
 unfolding pick_at
 found_there s name w serial o found tables other there picks = rw (other, there) (picks (tables serial o there))
-
--- the list of an object that is there, of those that are made
-pub listed : (s : Seen) (lists : List SearchList) (owner : ℕ) (o : Loaded) (list : List ℕ) → lists ≡ lists_of s → list ≡ scope_in lists owner → object_of s owner ≡ Some o → list ≡ scope s o
-listed s lists owner o list are is there = is ∙ ap (λ (all : List SearchList). scope_in all owner) are ∙ list_found s s.objects owner o there
 
 -- ---- tables
 

@@ -2,8 +2,8 @@
 //!
 //! [`lookup`] gives what `scope_rule::choose` gives, and [`lookup_reloc`] what `scope_rule::choose_reloc`
 //! gives. [`References`] gives that for all relocations of one object: each symbol is looked up once.
-//! Where the references of each object are searched is known from search lists (`search_lists`), which
-//! know where the names of its versions stand, too, and each object is searched by its hash table
+//! Where the references of an object are searched is known from search lists (`search_lists`), which know
+//! where the names of each object's versions stand, too, and each object is searched by its hash table
 //! (`sym_find`). The hashes of a reference's name are computed once. None of them takes memory, but for
 //! making [`References`].
 #![tactic(auto)]

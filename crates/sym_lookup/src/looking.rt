@@ -7,7 +7,7 @@ ghost use Rattle.scope_rule.specs.Loading.{object_of};
 ghost use Rattle.scope_rule.specs.Relocation.{choice_at};
 ghost use Rattle.scope_rule.specs.Scope.{scope};
 ghost use Rattle.scope_rule.specs.Seen.{Seen, seen, seen_in};
-ghost use Rattle.search_lists.specs.Lists.{lists_of};
+ghost use Rattle.search_lists.specs.Lists.{AreListsOf, IsListed};
 ghost use Rattle.sym_find.specs.Reference.{want_as};
 ghost use Rattle.sym_lookup.specs.Looking.{HaveTables, outside, want_for};
 ghost use Rattle.version_places.specs.Places.{places_of};
@@ -75,7 +75,7 @@ fn first_found(
     owner: Serial,
     copy: bool,
 ) -> Option<(Serial, u32)>
-    requires lists { lists.now ≡ lists_of (seen view.now) }
+    requires lists { AreListsOf (seen view.now) lists.now }
     requires tables { HaveTables (seen view.now) }
     ensures { result ≡ first_with (outside copy owner (pick_at (seen view.now) sought.now.name sought.now.want)) list.now }
 {
@@ -93,7 +93,7 @@ fn first_found(
 
 /// The names of the versions of an object that is there.
 pub(crate) fn owner_names<'a>(lists: &'a SearchLists, owner: &Loaded) -> Option<&'a VersionNames>
-    ensures { (s : Seen) → lists.now ≡ lists_of s → object_of s owner.now.serial ≡ Some owner.now → IfSome result (λ n. n.now ≡ places_of owner.now.object) }
+    ensures { (s : Seen) → AreListsOf s lists.now → object_of s owner.now.serial ≡ Some owner.now → IfSome result (λ n. n.now ≡ places_of owner.now.object) }
 {
     names_of(lists, lists.place(owner.serial))
 }
@@ -108,7 +108,7 @@ fn lookup_for(
     symbol: &Symbol,
     copy: bool,
 ) -> Choice
-    requires lists { lists.now ≡ lists_of (seen view.now) }
+    requires lists { AreListsOf (seen view.now) lists.now }
     requires tables { HaveTables (seen view.now) }
     requires there { object_of (seen view.now) owner.now.serial ≡ Some owner.now }
     requires scope { list.now ≡ scope (seen view.now) owner.now }
@@ -131,7 +131,8 @@ pub(crate) fn searched<'a>(
     owner: Serial,
     loaded: &Loaded,
 ) -> &'a [Serial]
-    requires lists { lists.now ≡ lists_of (seen view.now) }
+    requires lists { AreListsOf (seen view.now) lists.now }
+    requires listed { IsListed lists.now owner }
     requires there { object_of (seen view.now) owner ≡ Some loaded.now }
     ensures { result.now ≡ scope (seen view.now) loaded.now }
 {
@@ -139,10 +140,11 @@ pub(crate) fn searched<'a>(
 }
 
 /// The definition that a relocation of `owner` against its symbol of this index is bound to, as
-/// `scope_rule::choose` gives it. The lists are those of the namespace, and the table of each of its
-/// objects is that object's. It takes no memory.
+/// `scope_rule::choose` gives it. The lists are those of the namespace and have the owner's scope, and the
+/// table of each of its objects is that object's. It takes no memory.
 pub fn lookup(ns: &Namespace, lists: &SearchLists, owner: Serial, symbol: u32, copy: bool) -> Choice
-    requires lists { lists.now ≡ lists_of (seen_in ns.now) }
+    requires lists { AreListsOf (seen_in ns.now) lists.now }
+    requires listed { IsListed lists.now owner }
     requires tables { HaveTables (seen_in ns.now) }
     requires owner_is_there { IsSome (object_of (seen_in ns.now) owner) }
     requires symbol_is_there { IfSome (object_of (seen_in ns.now) owner) (λ o. symbol < length o.object.symbols) }
@@ -153,7 +155,8 @@ pub fn lookup(ns: &Namespace, lists: &SearchLists, owner: Serial, symbol: u32, c
 
 /// The same as [`lookup`], of what is seen of a namespace.
 pub fn lookup_in(view: &View, lists: &SearchLists, owner: Serial, symbol: u32, copy: bool) -> Choice
-    requires lists { lists.now ≡ lists_of (seen view.now) }
+    requires lists { AreListsOf (seen view.now) lists.now }
+    requires listed { IsListed lists.now owner }
     requires tables { HaveTables (seen view.now) }
     requires owner_is_there { IsSome (object_of (seen view.now) owner) }
     requires symbol_is_there { IfSome (object_of (seen view.now) owner) (λ o. symbol < length o.object.symbols) }
@@ -166,11 +169,12 @@ pub fn lookup_in(view: &View, lists: &SearchLists, owner: Serial, symbol: u32, c
 }
 
 /// The choice of a relocation of an object when it is loaded, as `scope_rule::choose_reloc` gives it
-/// (psABI, "Relocations"). The lists are those of the namespace, and the table of each of its objects
-/// is that object's. It takes no memory.
+/// (psABI, "Relocations"). The lists are those of the namespace and have the owner's scope, and the table
+/// of each of its objects is that object's. It takes no memory.
 #[tactic(auto, unfolding(scope_rule::specs::Relocation::choice_at))]
 pub fn lookup_reloc(view: &View, lists: &SearchLists, owner: &Loaded, reloc: &Reloc) -> Choice
-    requires lists { lists.now ≡ lists_of (seen view.now) }
+    requires lists { AreListsOf (seen view.now) lists.now }
+    requires listed { IsListed lists.now owner.now.serial }
     requires tables { HaveTables (seen view.now) }
     requires owner_is_there { object_of (seen view.now) owner.now.serial ≡ Some owner.now }
     requires symbol_is_there { reloc.now.symbol < length owner.now.object.symbols }

@@ -187,12 +187,12 @@ impl<'a> References<'a> {
     ghost use Rattle.scope_rule.specs.Relocation.{choice_at};
     ghost use Rattle.scope_rule.specs.Scope.{scope};
     ghost use Rattle.scope_rule.specs.Seen.{seen};
-    ghost use Rattle.search_lists.specs.Lists.{lists_of};
+    ghost use Rattle.search_lists.specs.Lists.{AreListsOf, IsListed, IsListedAt};
     ghost use Rattle.sym_lookup.specs.Looking.{HaveTables, choice_of_symbol, want_for};
     ghost use Rattle.version_places.specs.Places.{places_of};
 
-    /// Those of an object of what is seen of a namespace. The lists are those of the namespace, and
-    /// the table of each of its objects is that object's.
+    /// Those of an object of what is seen of a namespace. The lists are those of the namespace and have the
+    /// object's scope, and the table of each of its objects is that object's.
     ///
     /// # Errors
     ///
@@ -203,7 +203,8 @@ impl<'a> References<'a> {
         lists: &'a SearchLists,
         owner: &'a Loaded,
     ) -> Result<Self, AllocError>
-        requires lists { lists.now ≡ lists_of (seen view.now) }
+        requires lists { AreListsOf (seen view.now) lists.now }
+        requires listed { IsListed lists.now owner.now.serial }
         requires tables { HaveTables (seen view.now) }
         requires owner_is_there { object_of (seen view.now) owner.now.serial ≡ Some owner.now }
         ensures { IfOk result (λ references. references ≡ record { seen = seen view.now; owner = owner.now }) }
@@ -224,7 +225,8 @@ impl<'a> References<'a> {
         place: usize,
         owner: &'a Loaded,
     ) -> Result<Self, AllocError>
-        requires lists { lists.now ≡ lists_of (seen view.now) }
+        requires lists { AreListsOf (seen view.now) lists.now }
+        requires listed { IsListedAt lists.now place }
         requires tables { HaveTables (seen view.now) }
         requires owner_is_there { slice_get (seen view.now).objects place ≡ Some owner.now }
         ensures { IfOk result (λ references. references ≡ record { seen = seen view.now; owner = owner.now }) }
@@ -242,7 +244,7 @@ impl<'a> References<'a> {
         list: &[Serial],
         owner: &'a Loaded,
     ) -> Result<Self, AllocError>
-        requires lists { lists.now ≡ lists_of (seen view.now) }
+        requires lists { AreListsOf (seen view.now) lists.now }
         requires names { IfSome names (λ n. n.now ≡ places_of owner.now.object) }
         requires tables { HaveTables (seen view.now) }
         requires scope { list.now ≡ scope (seen view.now) owner.now }

@@ -5,7 +5,7 @@ ghost use Rattle.std.specs.List.{AllByRecursion};
 ghost use Rattle.std.specs.Option.{option_copied};
 ghost use Rattle.scope_rule.specs.Choose.{first_with, pick_at};
 ghost use Rattle.scope_rule.specs.Seen.{Seen, seen};
-ghost use Rattle.search_lists.specs.Lists.{at_place, lists_of};
+ghost use Rattle.search_lists.specs.Lists.{AreListsOf, at_place};
 ghost use Rattle.sym_lookup.specs.Looking.{HaveTables, IsSearched, outside};
 ghost use Rattle.version_places.specs.Places.{places_of};
 
@@ -31,7 +31,7 @@ fn object_of<'a>(view: &View<'a>, place: Option<usize>) -> Option<&'a Loaded>
 
 /// The names of the versions of the object at a place, if there is one.
 pub(crate) fn names_of(lists: &SearchLists, place: Option<usize>) -> Option<&VersionNames>
-    ensures { (s : Seen) → lists.now ≡ lists_of s → IfSome (at_place s place) (λ o. IfSome result (λ n. n.now ≡ places_of o.object)) }
+    ensures { (s : Seen) → AreListsOf s lists.now → IfSome (at_place s place) (λ o. IfSome result (λ n. n.now ≡ places_of o.object)) }
 {
     match place {
         Some(place) => lists.names_at(place),
@@ -42,7 +42,7 @@ pub(crate) fn names_of(lists: &SearchLists, place: Option<usize>) -> Option<&Ver
 /// What an object of the namespace, or the linker's own, has for a reference.
 #[tactic(auto, unfolding(scope_rule::specs::Choose::pick_at))]
 fn found_at(view: &View, lists: &SearchLists, sought: &Sought, searched: Searched) -> Option<u32>
-    requires lists { lists.now ≡ lists_of (seen view.now) }
+    requires lists { AreListsOf (seen view.now) lists.now }
     requires tables { HaveTables (seen view.now) }
     requires searched { IsSearched (seen view.now) searched }
     ensures { result ≡ pick_at (seen view.now) sought.now.name sought.now.want searched.serial }
@@ -68,7 +68,7 @@ pub(crate) fn found_outside(
     owner: Serial,
     copy: bool,
 ) -> Option<u32>
-    requires lists { lists.now ≡ lists_of (seen view.now) }
+    requires lists { AreListsOf (seen view.now) lists.now }
     requires tables { HaveTables (seen view.now) }
     requires searched { IsSearched (seen view.now) searched }
     ensures { result ≡ outside copy owner (pick_at (seen view.now) sought.now.name sought.now.want) searched.serial }
@@ -89,7 +89,7 @@ pub(crate) fn first_searched(
     owner: Serial,
     copy: bool,
 ) -> Option<(Serial, u32)>
-    requires lists { lists.now ≡ lists_of (seen view.now) }
+    requires lists { AreListsOf (seen view.now) lists.now }
     requires tables { HaveTables (seen view.now) }
     requires searched { AllByRecursion (IsSearched (seen view.now)) searched.now }
     ensures { result ≡ first_with (outside copy owner (pick_at (seen view.now) sought.now.name sought.now.want)) (map (λ x. x.serial) searched.now) }

@@ -3,7 +3,7 @@
 ghost use Rattle.std.specs.Prelude.{◌≡◌, map, IfOk};
 ghost use Rattle.std.specs.List.{AllByRecursion};
 ghost use Rattle.scope_rule.specs.Seen.{Seen};
-ghost use Rattle.search_lists.specs.Lists.{lists_of};
+ghost use Rattle.search_lists.specs.Lists.{AreListsOf};
 ghost use Rattle.sym_lookup.specs.Looking.{IsSearched};
 
 use crate::looking::{sought_of, stays_own, version_asked};
@@ -32,7 +32,7 @@ impl<'a> Model for Searching<'a> {
     ghost use Rattle.std.specs.List.{AllByRecursion};
     ghost use Rattle.scope_rule.specs.Scope.{scope};
     ghost use Rattle.scope_rule.specs.Seen.{seen};
-    ghost use Rattle.search_lists.specs.Lists.{lists_of};
+    ghost use Rattle.search_lists.specs.Lists.{AreListsOf};
     ghost use Rattle.sym_lookup.specs.Looking.{HaveTables, IsSearched};
     ghost use Rattle.sym_lookup.specs.References.{Referring};
     ghost use Rattle.version_places.specs.Places.{places_of};
@@ -42,7 +42,7 @@ impl<'a> Model for Searching<'a> {
     ghost view = { λ s. record { seen = seen s.view; owner = s.owner.now } };
 
     ghost invariant = { λ s.
-        (s.lists.now ≡ lists_of (seen s.view))
+        AreListsOf (seen s.view) s.lists.now
         × IfSome s.names (λ n. n.now ≡ places_of s.owner.now.object)
         × HaveTables (seen s.view)
         × (map (λ x. x.serial) s.searched.items ≡ scope (seen s.view) s.owner.now)
@@ -56,7 +56,7 @@ fn found_once(
     serials: &[Serial],
 ) -> Result<Vec<Searched>, AllocError>
     ensures serials { IfOk result (λ found. map (λ x. x.serial) found.items ≡ serials.now) }
-    ensures places { IfOk result (λ found. (s : Seen) → lists.now ≡ lists_of s → AllByRecursion (IsSearched s) found.items) }
+    ensures places { IfOk result (λ found. (s : Seen) → AreListsOf s lists.now → AllByRecursion (IsSearched s) found.items) }
 {
     let mut found = Vec::new(alloc);
     for serial in serials {
@@ -74,7 +74,7 @@ impl<'a> Searching<'a> {
     ghost use Rattle.scope_rule.specs.Choose.{choose_for, want_of};
     ghost use Rattle.scope_rule.specs.Scope.{scope};
     ghost use Rattle.scope_rule.specs.Seen.{seen};
-    ghost use Rattle.search_lists.specs.Lists.{lists_of};
+    ghost use Rattle.search_lists.specs.Lists.{AreListsOf};
     ghost use Rattle.sym_lookup.specs.Looking.{HaveTables, choice_of_symbol, want_for};
     ghost use Rattle.version_places.specs.Places.{places_of};
 
@@ -87,7 +87,7 @@ impl<'a> Searching<'a> {
         list: &[Serial],
         owner: &'a Loaded,
     ) -> Result<Self, AllocError>
-        requires lists { lists.now ≡ lists_of (seen view.now) }
+        requires lists { AreListsOf (seen view.now) lists.now }
         requires names { IfSome names (λ n. n.now ≡ places_of owner.now.object) }
         requires tables { HaveTables (seen view.now) }
         requires scope { list.now ≡ scope (seen view.now) owner.now }

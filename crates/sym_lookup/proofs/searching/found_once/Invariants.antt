@@ -1,7 +1,7 @@
 use Rattle.std.proofs.Common.{◌≡◌, map, take}
 use Rattle.std.specs.List.{AllByRecursion}
 use Rattle.scope_rule.specs.Seen.{Seen}
-use Rattle.search_lists.specs.Lists.{lists_of}
+use Rattle.search_lists.specs.Lists.{AreListsOf}
 use Rattle.sym_lookup.specs.Looking.{IsSearched}
 use Rattle.sym_lookup.specs.declared.searched.Searched.{Searched}
 use Rattle.sym_lookup.proofs.searching.found_once.Given as goal
@@ -10,5 +10,5 @@ use Rattle.sym_lookup.proofs.searching.found_once.Given as goal
 abbrev pub invariant-loop-serial : goal.invariant-loop-serial
 invariant-loop-serial l = record {
   serials : map (λ (x : Searched). x.serial) l.found.items ≡ take l.serial-index l.serials;
-  places : (s : Seen) → l.lists ≡ lists_of s → AllByRecursion (IsSearched s) l.found.items;
+  places : (s : Seen) → AreListsOf s l.lists → AllByRecursion (IsSearched s) l.found.items;
 }
