@@ -1,3 +1,4 @@
+pub mod Apart
 pub mod Ended
 pub mod Orders
 pub mod Stands

@@ -1,11 +1,11 @@
 -- What stands where.
-use Rattle.std.proofs.Common.{◌≡◌, ℕ, zero, suc, ◌+◌, ◌<◌, ◌≤◌, ◌==◌, Bool, true, false, cond, inl, inr, List, [], ◌∷◌, ◌++◌, length, map, take, refl, subst, sym, ap, eq-eqb, get_or, ◌∙◌, append_assoc, length-take-le, arith}
+use Rattle.std.proofs.Common.{◌≡◌, ℕ, zero, suc, ◌+◌, ◌<◌, ◌≤◌, ◌==◌, Bool, true, false, cond, inl, inr, List, [], ◌∷◌, ◌++◌, length, map, take, refl, subst, sym, ap, append-nil, eq-eqb, get_or, ◌∙◌, append_assoc, length-take-le, arith}
 use Rattle.std.specs.Prelude.{nat_eq, not, ◌||◌, filter, flat_map, option_map, position, unwrap_or, IfOk, IsSome, OnOk, Option, Some, None, Result, Ok, Err}
 use Rattle.std.specs.declared.alloc.AllocError.{AllocError}
 use Rattle.std.specs.List.{find, list_any, position_or_len, slice_get}
 use Rattle.std.specs.Option.{option_or, is_some}
 use Rattle.std.proofs.lemmas.Bool.{cases_Bool, eqb-true}
-use Rattle.std.proofs.lemmas.Grind.{common_steps}
+use Rattle.std.proofs.lemmas.Grind.{common_steps, flat_map-append}
 use Rattle.std.proofs.lemmas.List.{length-append, take_more}
 use Rattle.std.proofs.lemmas.List.Folds.{find_at, position_or_len_push}
 use Rattle.std.proofs.lemmas.List.Quantifiers.{position-Some}
@@ -17,7 +17,7 @@ use Rattle.scope_rule.specs.Breadth.{breadth, extend}
 use Rattle.scope_rule.specs.Scope.{scope}
 use Rattle.scope_rule.specs.Seen.{Seen}
 use Rattle.scope_rule.specs.declared.namespace.OpenRec.{OpenRec}
-use Rattle.search_lists.specs.Brought.{brought_in, brought_to}
+use Rattle.search_lists.specs.Brought.{brought_to}
 use Rattle.search_lists.specs.Kept.{AreScopes, KeepsAll, kept_at}
 use Rattle.search_lists.specs.Links.{found_once}
 use Rattle.search_lists.specs.Lists.{AreListed, AreListsOf, IsListed, IsListedAt, at_place}
@@ -114,18 +114,17 @@ object_there s q k at = one_at s.objects k (omega (arith, (position-Some (λ n. 
 
 -- ---- what the openings bring
 
-flat_mapped : {X Y : Type 0} (f : Y → List ℕ) (g : X → Y) (xs : List X) → flat_map f (map g xs) ≡ flat_map (λ x. f (g x)) xs
-flat_mapped f g [] = refl
-flat_mapped f g (x ∷ xs) = ap (λ (l : List ℕ). f (g x) ++ l) (flat_mapped f g xs)
+-- one opening more
+pub opening_more : (s : Seen) (opens : List OpenRec) (k q : ℕ) (r : OpenRec) (so_far new : List ℕ) → k < length opens → r ≡ get_or opens k r → so_far ≡ flat_map (λ (x : OpenRec). brought_to (breadth s x.root) q) (take k opens)
+    → new ≡ so_far ++ brought_to (breadth s r.root) q → new ≡ flat_map (λ (x : OpenRec). brought_to (breadth s x.root) q) (take (k + 1) opens)
+opening_more s opens k q r so_far new lt is were are =
+    let f = λ (x : OpenRec). brought_to (breadth s x.root) q in
+    let more : take (k + 1) opens ≡ take k opens ++ r ∷ [] = take_more opens k r lt ∙ ap (λ (y : OpenRec). take k opens ++ y ∷ []) (sym is) in
+    are ∙ ap (λ (l : List ℕ). l ++ f r) were ∙ ap (λ (l : List ℕ). flat_map f (take k opens) ++ l) (sym (append-nil (f r))) ∙ sym (flat_map-append f (take k opens) (r ∷ [])) ∙ ap (flat_map f) (sym more)
 
-pub brings : (s : Seen) (orders : List (List ℕ)) (q : ℕ) → orders ≡ map (λ (r : OpenRec). breadth s r.root) s.opens → flat_map (λ order. brought_to order q) orders ≡ brought_in s q
-brings s orders q are =
-    ap (flat_map (λ order. brought_to order q)) are ∙ flat_mapped (λ order. brought_to order q) (λ (r : OpenRec). breadth s r.root) s.opens
-
-pub brought_found : (s : Seen) (orders : List (List ℕ)) (q : ℕ) (r : Result (List ℕ) AllocError) → orders ≡ map (λ (x : OpenRec). breadth s x.root) s.opens → IfOk r (λ found. found ≡ flat_map (λ order. brought_to order q) orders)
-    → IfOk r (λ found. found ≡ brought_in s q)
-brought_found s orders q (Ok found) are is = is ∙ brings s orders q are
-brought_found s orders q (Err e) are is = tt
+pub brought_found : (r : Result (List ℕ) AllocError) (kept brought : List ℕ) → kept ≡ brought → IfOk r (λ found. found ≡ kept) → IfOk r (λ found. found ≡ brought)
+brought_found (Ok found) kept brought are is = is ∙ are
+brought_found (Err e) kept brought are is = tt
 
 -- ---- where nothing is closing
 

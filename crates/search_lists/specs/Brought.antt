@@ -1,5 +1,5 @@
 -- What openings bring to the scopes of objects: for the code of this crate alone.
-use Rattle.std.specs.Prelude.{◌≡◌, ℕ, if◌then◌else◌, List, [], flat_map, map}
+use Rattle.std.specs.Prelude.{◌≡◌, ℕ, true, ◌++◌, if◌then◌else◌, List, [], flat_map}
 use Rattle.scope_rule.specs.Breadth.{breadth, has}
 use Rattle.scope_rule.specs.Seen.{Seen}
 use Rattle.search_lists.specs.declared.brought.Brought.{Brought}
@@ -12,9 +12,14 @@ brought_to libraries serial = if has libraries serial then libraries else []
 abbrev pub brought_in : Seen → ℕ → List ℕ
 brought_in s serial = flat_map (λ r. brought_to (breadth s r.root) serial) s.opens
 
--- what is kept of them
-abbrev pub orders_of : Brought → List (List ℕ)
-orders_of b = map (λ order. order.keys) b.orders.items
+-- what is kept of that
+abbrev pub brought_of : Brought → ℕ → List ℕ
+brought_of b serial = flat_map (λ order. brought_to order.keys serial) b.orders.items
 
-abbrev pub AreBrought : Seen → Brought → Type 0
-AreBrought s b = orders_of b ≡ map (λ r. breadth s r.root) s.opens
+-- it is what the openings bring to the owners
+abbrev pub AreBrought : Seen → List ℕ → Brought → Type 0
+AreBrought s owners b = (serial : ℕ) → has owners serial ≡ true → brought_of b serial ≡ brought_in s serial
+
+-- an opening more brings to them what its root leads to
+abbrev pub BringsMore : Seen → List ℕ → ℕ → Brought → Brought → Type 0
+BringsMore s owners root old new = (serial : ℕ) → has owners serial ≡ true → brought_of new serial ≡ brought_of old serial ++ brought_to (breadth s root) serial

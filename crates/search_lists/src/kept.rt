@@ -13,9 +13,10 @@ pub(crate) struct KeptScopes {
 }
 
 impl KeptScopes {
-    ghost use Rattle.std.specs.Prelude.{◌≡◌, ◌<◌, ◌≤◌, ℕ, [], None, Some, slice_get, IsSome, OnOk};
+    ghost use Rattle.std.specs.Prelude.{◌≡◌, ◌<◌, ◌≤◌, ℕ, [], true, None, Some, slice_get, IsSome, OnOk};
     ghost use Rattle.std.specs.Option.{is_some, unwrap_or};
     ghost use Rattle.ld_base.specs.declared.linking.Loaded.{Loaded as LoadedObject};
+    ghost use Rattle.scope_rule.specs.Breadth.{has};
     ghost use Rattle.search_lists.specs.Kept.{AreScopes, KeepsAll, kept_at};
 
     /// None yet.
@@ -51,10 +52,11 @@ impl KeptScopes {
         scopes: &Scopes,
         place: usize,
     ) -> Result<(), AllocError>
-        requires { AreScopes scopes.now self.old }
-        ensures scopes { AreScopes scopes.now self.new }
+        requires scopes { AreScopes scopes.now.seen self.old }
+        requires asks { (o : LoadedObject) → slice_get scopes.now.seen.objects place ≡ Some o → has scopes.now.owners o.serial ≡ true }
+        ensures scopes { AreScopes scopes.now.seen self.new }
         ensures all { KeepsAll self.old self.new }
-        ensures there { OnOk result ((o : LoadedObject) → slice_get scopes.now.objects place ≡ Some o → IsSome (kept_at self.new place)) }
+        ensures there { OnOk result ((o : LoadedObject) → slice_get scopes.now.seen.objects place ≡ Some o → IsSome (kept_at self.new place)) }
     {
         match scopes.owner(place) {
             Some(owner) => self.add_of(alloc, scopes, place, owner),
@@ -70,9 +72,10 @@ impl KeptScopes {
         place: usize,
         owner: &Loaded,
     ) -> Result<(), AllocError>
-        requires there { slice_get scopes.now.objects place ≡ Some owner.now }
-        requires scopes { AreScopes scopes.now self.old }
-        ensures scopes { AreScopes scopes.now self.new }
+        requires there { slice_get scopes.now.seen.objects place ≡ Some owner.now }
+        requires asks { has scopes.now.owners owner.now.serial ≡ true }
+        requires scopes { AreScopes scopes.now.seen self.old }
+        ensures scopes { AreScopes scopes.now.seen self.new }
         ensures all { KeepsAll self.old self.new }
         ensures there { OnOk result (IsSome (kept_at self.new place)) }
     {
@@ -89,10 +92,12 @@ impl KeptScopes {
         first: usize,
         end: usize,
     ) -> Result<(), AllocError>
-        requires { AreScopes scopes.now self.old }
-        ensures scopes { AreScopes scopes.now self.new }
+        requires scopes { AreScopes scopes.now.seen self.old }
+        requires ask { (place : ℕ) (o : LoadedObject) → first ≤ place → place < end
+            → slice_get scopes.now.seen.objects place ≡ Some o → has scopes.now.owners o.serial ≡ true }
+        ensures scopes { AreScopes scopes.now.seen self.new }
         ensures there { OnOk result ((place : ℕ) (o : LoadedObject) → first ≤ place → place < end
-            → slice_get scopes.now.objects place ≡ Some o → IsSome (kept_at self.new place)) }
+            → slice_get scopes.now.seen.objects place ≡ Some o → IsSome (kept_at self.new place)) }
     {
         for place in first..end {
             self.add(alloc, scopes, place)?;

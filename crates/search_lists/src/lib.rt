@@ -13,6 +13,7 @@ mod kept;
 mod law;
 mod links;
 mod lists;
+mod owners;
 mod places;
 mod scoping;
 

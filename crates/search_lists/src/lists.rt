@@ -7,6 +7,7 @@ ghost use Rattle.version_places.specs.Places.{places_of};
 
 use crate::kept::KeptScopes;
 use crate::links::Links;
+use crate::owners::Owners;
 use crate::scoping::Scopes;
 use ld_base::{Loaded, Serial};
 use scope_rule::{Namespace, View};
@@ -131,7 +132,8 @@ impl SearchLists {
         ensures scopes { OnOk result (AreListed (seen view.now) first self.new) }
     {
         let end = view.objects.len() + view.added.len();
-        let scopes = Scopes::of(alloc, view, &self.links)?;
+        let owners = Owners::between(alloc, view, first, end)?;
+        let scopes = Scopes::of(alloc, view, &self.links, owners)?;
         self.scopes.add_all(alloc, &scopes, first, end)
     }
 
@@ -160,7 +162,8 @@ impl SearchLists {
         if self.scopes.has(place) {
             return Ok(());
         }
-        let scopes = Scopes::of(alloc, view, &self.links)?;
+        let owners = Owners::at(alloc, view, place)?;
+        let scopes = Scopes::of(alloc, view, &self.links, owners)?;
         self.scopes.add(alloc, &scopes, place)
     }
 

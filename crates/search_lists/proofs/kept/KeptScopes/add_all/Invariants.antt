@@ -7,6 +7,6 @@ use Rattle.search_lists.proofs.kept.KeptScopes.add_all.Given as goal
 -- those of the objects so far are there
 abbrev pub invariant-loop-place : goal.invariant-loop-place
 invariant-loop-place l = record {
-  scopes : AreScopes l.scopes l.self;
-  there : (q : ℕ) (o : Loaded) → l.first ≤ q → q < l.place → slice_get l.scopes.objects q ≡ Some o → IsSome (kept_at l.self q);
+  scopes : AreScopes l.scopes.seen l.self;
+  there : (q : ℕ) (o : Loaded) → l.first ≤ q → q < l.place → slice_get l.scopes.seen.objects q ≡ Some o → IsSome (kept_at l.self q);
 }

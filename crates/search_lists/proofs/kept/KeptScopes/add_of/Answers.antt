@@ -3,7 +3,7 @@ use Rattle.search_lists.proofs.kept.KeptScopes.add_of.Goals as goal
 
 pub returns-clause-scopes : goal.returns-clause-scopes
 returns-clause-scopes c =
-    one_kept c.args.scopes.now c.args.self.now (record { by_place = c.insert.new.self }) c.args.place c.args.owner.now c.in_ok-scope.scope c.requires.scopes c.requires.there c.in_ok-scope.ensures
+    one_kept c.args.scopes.now.seen c.args.self.now (record { by_place = c.insert.new.self }) c.args.place c.args.owner.now c.in_ok-scope.scope c.requires.scopes c.requires.there c.in_ok-scope.ensures
     (λ q. c.in_ok-insert.ensures.updates.0 q)
 
 pub returns-clause-all : goal.returns-clause-all

@@ -1,6 +1,8 @@
-use Rattle.std.proofs.Common.{sym}
+use Rattle.std.proofs.Common.{subst, sym}
 use Rattle.std.proofs.lemmas.List.{length-append}
 use Rattle.scope_rule.specs.Seen.{seen}
+use Rattle.search_lists.specs.Asking.{Asking}
+use Rattle.search_lists.specs.Kept.{AreScopes}
 use Rattle.search_lists.proofs.Stands.{listed_from}
 use Rattle.search_lists.proofs.lists.SearchLists.add_scopes.Goals as goal
 
@@ -8,3 +10,10 @@ pub returns-clause-scopes : goal.returns-clause-scopes
 returns-clause-scopes c =
     listed_from (seen c.args.view.now) c.args.first _ (record { links = c.args.self.now.links; names = c.args.self.now.names; scopes = c.add_all.new.self }) c.add_all.result
     (sym (length-append c.args.view.now.objects.now c.args.view.now.added.now)) (rw c.in_ok-scopes.ensures at c.add_all.ensures.there)
+
+pub returns-clause-lists : goal.returns-clause-lists
+returns-clause-lists c = record {
+  links = c.requires.links;
+  names = c.requires.names;
+  scopes = subst (λ (x : Asking). AreScopes x.seen c.add_all.new.self) c.in_ok-scopes.ensures c.add_all.ensures.scopes;
+}
