@@ -1,9 +1,9 @@
 //! The two choices of a reference.
 
-ghost use Rattle.std.specs.Prelude.{◌≡◌, ◌<◌, length, Some};
+ghost use Rattle.std.specs.Prelude.{◌≡◌, ◌<◌, ℕ, length, Some};
 ghost use Rattle.scope_rule.specs.Loading.{object_of};
 ghost use Rattle.scope_rule.specs.Seen.{seen};
-ghost use Rattle.search_lists.specs.Lists.{lists_of};
+ghost use Rattle.search_lists.specs.Lists.{AreListsOf, IsListed};
 ghost use Rattle.sym_lookup.specs.Looking.{HaveTables};
 
 use ld_base::{Choice, Loaded, Serial};
@@ -21,7 +21,8 @@ fn agrees(
     symbol: u32,
     copy: bool,
 ) -> Result<bool, AllocError>
-    requires lists { lists.now ≡ lists_of (seen view.now) }
+    requires lists { AreListsOf (seen view.now) lists.now }
+    requires listed { IsListed lists.now owner }
     requires tables { HaveTables (seen view.now) }
     requires there { object_of (seen view.now) owner ≡ Some loaded.now }
     requires symbol { symbol < length loaded.now.object.symbols }
@@ -39,7 +40,8 @@ fn agreed(
     loaded: &Loaded,
     copy: bool,
 ) -> Result<u32, AllocError>
-    requires lists { lists.now ≡ lists_of (seen view.now) }
+    requires lists { AreListsOf (seen view.now) lists.now }
+    requires listed { IsListed lists.now owner }
     requires tables { HaveTables (seen view.now) }
     requires there { object_of (seen view.now) owner ≡ Some loaded.now }
 {
@@ -73,7 +75,8 @@ fn write_object(
     owner: Serial,
     loaded: &Loaded,
 ) -> Result<(), AllocError>
-    requires lists { lists.now ≡ lists_of (seen view.now) }
+    requires lists { AreListsOf (seen view.now) lists.now }
+    requires listed { IsListed lists.now owner }
     requires tables { HaveTables (seen view.now) }
     requires there { object_of (seen view.now) owner ≡ Some loaded.now }
 {
@@ -101,7 +104,8 @@ fn write_objects(
     lists: &SearchLists,
     objects: &[Loaded],
 ) -> Result<(), AllocError>
-    requires lists { lists.now ≡ lists_of (seen view.now) }
+    requires lists { AreListsOf (seen view.now) lists.now }
+    requires listed { (owner : ℕ) → IsListed lists.now owner }
     requires tables { HaveTables (seen view.now) }
 {
     for object in objects {

@@ -5,7 +5,7 @@ ghost use Rattle.std.specs.List.{slice_get, AllByRecursion};
 ghost use Rattle.std.specs.String.{string_bytes};
 ghost use Rattle.scope_rule.specs.Relocation.{names_symbols};
 ghost use Rattle.scope_rule.specs.Seen.{seen_in};
-ghost use Rattle.search_lists.specs.Lists.{lists_of};
+ghost use Rattle.search_lists.specs.Lists.{AreListed, AreListsOf, IsListedAt};
 ghost use Rattle.sym_lookup.specs.Looking.{HaveTables};
 ghost use Rattle.command_text.specs.Binding.{IsBinding};
 ghost use Rattle.command_text.specs.Lines.{bound_text, object_line, slot_lines, slots_text};
@@ -60,7 +60,8 @@ fn refuse_or_write_at(
     owner: &Loaded,
 ) -> Result<Option<DlFault>, AllocError>
     requires names { names_symbols owner.now.object ≡ true }
-    requires lists { lists.now ≡ lists_of (seen_in ns.now) }
+    requires lists { AreListsOf (seen_in ns.now) lists.now }
+    requires listed { IsListedAt lists.now place }
     requires tables { HaveTables (seen_in ns.now) }
     requires there { slice_get ns.now.objects place ≡ Some owner.now }
     ensures fault { IfOk result (λ fault. fault ≡ refusal_of (seen_in ns.now) now owner.now) }
@@ -79,7 +80,8 @@ fn refuse_or_write_all(
     now: bool,
 ) -> Result<Option<DlFault>, AllocError>
     requires names { AllByRecursion (λ o. names_symbols o.object ≡ true) ns.now.objects }
-    requires lists { lists.now ≡ lists_of (seen_in ns.now) }
+    requires lists { AreListsOf (seen_in ns.now) lists.now }
+    requires listed { AreListed (seen_in ns.now) 0 lists.now }
     requires tables { HaveTables (seen_in ns.now) }
     ensures fault { IfOk result (λ fault. fault ≡ first_refusal ns.now now ns.now.objects) }
     ensures text { IfOk result (λ fault. fault ≡ None → string_bytes text.new ≡ string_bytes text.old ++ slots_text ns.now) }
@@ -94,7 +96,7 @@ fn refuse_or_write_all(
 
 /// What the references of a namespace come to: those of each object that aren't slots, and its slots,
 /// which all have to have a definition where every slot is wanted `now`. The search lists are the
-/// namespace's, and its objects have their own tables.
+/// namespace's and have each object's scope, and its objects have their own tables.
 ///
 /// # Errors
 ///
@@ -107,7 +109,8 @@ pub fn bind_objects(
     now: bool,
 ) -> Result<Binding, AllocError>
     requires names { AllByRecursion (λ o. names_symbols o.object ≡ true) ns.now.objects }
-    requires lists { lists.now ≡ lists_of (seen_in ns.now) }
+    requires lists { AreListsOf (seen_in ns.now) lists.now }
+    requires listed { AreListed (seen_in ns.now) 0 lists.now }
     requires tables { HaveTables (seen_in ns.now) }
     ensures { IfOk result (IsBinding ns.now now) }
 {

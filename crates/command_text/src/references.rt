@@ -3,7 +3,7 @@
 ghost use Rattle.std.specs.Prelude.{◌≡◌, Some, IfOk};
 ghost use Rattle.std.specs.List.{slice_get};
 ghost use Rattle.scope_rule.specs.Seen.{seen_in};
-ghost use Rattle.search_lists.specs.Lists.{lists_of};
+ghost use Rattle.search_lists.specs.Lists.{AreListsOf, IsListedAt};
 ghost use Rattle.sym_lookup.specs.Looking.{HaveTables};
 
 use ld_base::Loaded;
@@ -19,7 +19,8 @@ pub(crate) fn references_at<'a>(
     place: usize,
     owner: &'a Loaded,
 ) -> Result<References<'a>, AllocError>
-    requires lists { lists.now ≡ lists_of (seen_in ns.now) }
+    requires lists { AreListsOf (seen_in ns.now) lists.now }
+    requires listed { IsListedAt lists.now place }
     requires tables { HaveTables (seen_in ns.now) }
     requires there { slice_get ns.now.objects place ≡ Some owner.now }
     ensures { IfOk result (λ references. references ≡ record { seen = seen_in ns.now; owner = owner.now }) }

@@ -4,7 +4,7 @@ ghost use Rattle.std.specs.Prelude.{◌≡◌, ◌≤◌, IfOk, Some, true};
 ghost use Rattle.std.specs.List.{AllByRecursion};
 ghost use Rattle.scope_rule.specs.Relocation.{names_symbols};
 ghost use Rattle.scope_rule.specs.Seen.{seen_in};
-ghost use Rattle.search_lists.specs.Lists.{lists_of};
+ghost use Rattle.search_lists.specs.Lists.{AreListed, AreListsOf};
 ghost use Rattle.sym_lookup.specs.Looking.{HaveTables};
 ghost use Rattle.command_text.specs.Refusal.{first_refusal};
 ghost use Rattle.ldso_cli.specs.Bind.{ask_of, cause_of, nothing_loaded, objects_text};
@@ -64,7 +64,8 @@ fn of_lists(
     now: bool,
 ) -> Result<Answer, AllocError>
     requires names { AllByRecursion (λ o. names_symbols o.object ≡ true) ns.now.objects }
-    requires lists { lists.now ≡ lists_of (seen_in ns.now) }
+    requires lists { AreListsOf (seen_in ns.now) lists.now }
+    requires listed { AreListed (seen_in ns.now) 0 lists.now }
     requires tables { HaveTables (seen_in ns.now) }
     ensures end { IfOk result (λ answer. answer.end ≡ bare (cause_of (first_refusal ns.now now ns.now.objects))) }
     ensures text { IfOk result (λ answer. answer.text ≡ objects_text ns.now (first_refusal ns.now now ns.now.objects)) }

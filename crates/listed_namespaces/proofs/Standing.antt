@@ -15,8 +15,8 @@ use Rattle.listed_namespaces.specs.Kept.{AreKept, kept_at}
 use Rattle.listed_namespaces.specs.declared.kept.KeptLists.{KeptLists}
 use Rattle.scope_rule.specs.Seen.{Seen, seen_in}
 use Rattle.scope_rule.specs.declared.namespace.Namespace.{Namespace}
-use Rattle.search_lists.specs.Lists.{ChangesStateAlone, lists_of}
-use Rattle.search_lists.specs.declared.lists.SearchList.{SearchList}
+use Rattle.search_lists.specs.Lists.{AreListsOf, ChangesStateAlone, IsListed}
+use Rattle.search_lists.specs.declared.lists.SearchLists.{SearchLists}
 
 -- the element at the first place is the first
 found_by : {X : Type 0} (p : X → Bool) (xs : List X) (k : ℕ) → position p xs ≡ Some k → slice_get xs k ≡ find p xs
@@ -36,23 +36,23 @@ pub none_kept : (nss : List Namespace) (kept : KeptLists) → ((place : ℕ) →
 none_kept nss kept none place ns lists there has = absurd (let no : None ≡ Some lists = sym (none place) ∙ has in cc no)
 
 -- one more is kept
-pub one_kept : (nss : List Namespace) (old new : KeptLists) (place : ℕ) (ns : Namespace) (lists : List SearchList) → AreKept nss old → slice_get nss place ≡ Some ns → lists ≡ lists_of (seen_in ns)
+pub one_kept : (nss : List Namespace) (old new : KeptLists) (place : ℕ) (ns : Namespace) (lists : SearchLists) → AreKept nss old → slice_get nss place ≡ Some ns → AreListsOf (seen_in ns) lists
     → ((q : ℕ) → kept_at new q ≡ cond (nat_eq place q) (Some lists) (kept_at old q)) → AreKept nss new
 one_kept nss old new place ns lists are there right updates q other other_lists here has = by (cases_Bool (nat_eq place q))
   where
-    by : (nat_eq place q ≡ true) ⊎ (nat_eq place q ≡ false) → other_lists ≡ lists_of (seen_in other)
+    by : (nat_eq place q ≡ true) ⊎ (nat_eq place q ≡ false) → AreListsOf (seen_in other) other_lists
     by (inl same) =
         let e : place ≡ q = eqb-true place q same in
         let one : Some lists ≡ Some other_lists = ap (λ b. cond b (Some lists) (kept_at old q)) (sym same) ∙ sym (updates q) ∙ has in
         let is : lists ≡ other_lists = cc one in
         let two : Some ns ≡ Some other = sym there ∙ ap (slice_get nss) e ∙ here in
         let home : ns ≡ other = cc two in
-        sym is ∙ right ∙ ap (λ (x : Namespace). lists_of (seen_in x)) home
+        subst (λ (x : Namespace). AreListsOf (seen_in x) other_lists) home (subst (AreListsOf (seen_in ns)) is right)
     by (inr apart) = are q other other_lists here (sym (updates q ∙ ap (λ b. cond b (Some lists) (kept_at old q)) apart) ∙ has)
 
 -- what is kept of a namespace at a place are its lists
-pub kept_lists : (nss : List Namespace) (kept : KeptLists) (place : ℕ) (ns : Namespace) (lists : List SearchList) (found : Option (List SearchList)) → AreKept nss kept → slice_get nss place ≡ Some ns
-    → found ≡ kept_at kept place → found ≡ Some lists → lists ≡ lists_of (seen_in ns)
+pub kept_lists : (nss : List Namespace) (kept : KeptLists) (place : ℕ) (ns : Namespace) (lists : SearchLists) (found : Option SearchLists) → AreKept nss kept → slice_get nss place ≡ Some ns
+    → found ≡ kept_at kept place → found ≡ Some lists → AreListsOf (seen_in ns) lists
 kept_lists nss kept place ns lists found are at is some = are place ns lists at (sym is ∙ some)
 
 -- ---- an object that becomes ready
@@ -70,19 +70,19 @@ becomes_ready serial o = by (o.serial == serial)
     by false = record { rest = refl; closing = refl }
 
 -- lists that stay
-pub ready_kept : (serial : ℕ) (nss : List Namespace) (kept : KeptLists) → ((s : Seen) (change : Loaded → Loaded) → ((o : Loaded) → ChangesStateAlone o (change o)) → lists_of (record s { objects = map change s.objects }) ≡ lists_of s)
+pub ready_kept : (serial : ℕ) (nss : List Namespace) (kept : KeptLists) → ((s : Seen) (lists : SearchLists) (change : Loaded → Loaded) → ((o : Loaded) → ChangesStateAlone o (change o)) → AreListsOf s lists → AreListsOf (record s { objects = map change s.objects }) lists)
     → AreKept nss kept → AreKept (map (ready_in serial) nss) kept
 ready_kept serial nss kept stay are place ns lists there has = by (slice_get nss place) refl
   where
     at : slice_get (map (ready_in serial) nss) place ≡ option_map (ready_in serial) (slice_get nss place)
     at = slice_get-map (ready_in serial) nss place
 
-    by : (o : Option Namespace) → slice_get nss place ≡ o → lists ≡ lists_of (seen_in ns)
+    by : (o : Option Namespace) → slice_get nss place ≡ o → AreListsOf (seen_in ns) lists
     by None is = absurd (let no : None ≡ Some ns = ap (option_map (ready_in serial)) (sym is) ∙ sym at ∙ there in cc no)
     by (Some before) is =
         let both : Some (ready_in serial before) ≡ Some ns = ap (option_map (ready_in serial)) (sym is) ∙ sym at ∙ there in
         let same : ready_in serial before ≡ ns = cc both in
-        are place before lists is has ∙ sym (stay (seen_in before) (ready_object serial) (becomes_ready serial)) ∙ ap (λ (x : Namespace). lists_of (seen_in x)) same
+        subst (λ (x : Namespace). AreListsOf (seen_in x) lists) same (stay (seen_in before) lists (ready_object serial) (becomes_ready serial) (are place before lists is has))
 
 -- ---- a vector that was written through its slice
 
@@ -99,5 +99,5 @@ pub at_index : (nss : List Namespace) (place : ℕ) (ns : Namespace) → place <
 at_index nss place ns within is = slice_get-get_or nss place ns within ∙ ap (λ (x : Namespace). Some x) (sym is)
 
 -- what was put at a place is there
-pub is_there : (place : ℕ) (lists : List SearchList) (old new : Option (List SearchList)) → new ≡ cond (nat_eq place place) (Some lists) old → IsSome new
+pub is_there : (place : ℕ) (lists : SearchLists) (old new : Option SearchLists) → new ≡ cond (nat_eq place place) (Some lists) old → IsSome new
 is_there place lists old new is = subst IsSome (sym (is ∙ ap (λ b. cond b (Some lists) old) (eq-eqb place place refl))) refl

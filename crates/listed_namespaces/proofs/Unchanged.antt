@@ -20,8 +20,8 @@ use Rattle.scope_rule.specs.Scope.{opened_with, scope, whole_scope}
 use Rattle.scope_rule.specs.Seen.{Seen, seen_in}
 use Rattle.scope_rule.specs.declared.namespace.Namespace.{Namespace}
 use Rattle.scope_rule.specs.declared.namespace.OpenRec.{OpenRec}
-use Rattle.search_lists.specs.Lists.{list_of, lists_of}
-use Rattle.search_lists.specs.declared.lists.SearchList.{SearchList}
+use Rattle.search_lists.specs.Lists.{AreListsOf}
+use Rattle.search_lists.specs.declared.lists.SearchLists.{SearchLists}
 
 -- ---- lists tell of the roots of openings alone
 
@@ -74,31 +74,28 @@ module _ (s : Seen) (opens : List OpenRec) (same : map root_of opens ≡ map roo
   unfolding scope
   same_scope o = ap (filter (λ x. is_dying o || not (is_dying_at s x))) (same_whole o)
 
-  abbrev list_with : Loaded → List ℕ → SearchList
-  list_with o found = record (list_of s o) { scope = found }
-
-  same_lists : (objects : List Loaded) → map (list_of Then) objects ≡ map (list_of s) objects
-  same_lists [] = refl
-  same_lists (o ∷ rest) = ap (λ (l : List ℕ). list_with o l ∷ map (list_of Then) rest) (same_scope o) ∙ ap (λ (ls : List SearchList). list_of s o ∷ ls) (same_lists rest)
-
-  pub roots_stay : lists_of Then ≡ lists_of s
-  roots_stay = same_lists s.objects
+  pub roots_stay : (lists : SearchLists) → AreListsOf s lists → AreListsOf Then lists
+  roots_stay lists are = record {
+    links = record { places = are.links.places; found = are.links.found; all = are.links.all };
+    names = are.names;
+    scopes = λ place o found at has. are.scopes place o found at has ∙ sym (same_scope o);
+  }
 
 -- ---- a change that leaves the lists of each namespace
 
-pub changed_kept : (change : Namespace → Namespace) (nss : List Namespace) (kept : KeptLists) → ((ns : Namespace) → Contains nss ns → lists_of (seen_in (change ns)) ≡ lists_of (seen_in ns))
+pub changed_kept : (change : Namespace → Namespace) (nss : List Namespace) (kept : KeptLists) → ((ns : Namespace) (lists : SearchLists) → Contains nss ns → AreListsOf (seen_in ns) lists → AreListsOf (seen_in (change ns)) lists)
     → AreKept nss kept → AreKept (map change nss) kept
 changed_kept change nss kept stay are place ns lists there has = by (slice_get nss place) refl
   where
     at : slice_get (map change nss) place ≡ option_map change (slice_get nss place)
     at = slice_get-map change nss place
 
-    by : (o : Option Namespace) → slice_get nss place ≡ o → lists ≡ lists_of (seen_in ns)
+    by : (o : Option Namespace) → slice_get nss place ≡ o → AreListsOf (seen_in ns) lists
     by None is = absurd (let no : None ≡ Some ns = ap (option_map change) (sym is) ∙ sym at ∙ there in cc no)
     by (Some before) is =
         let both : Some (change before) ≡ Some ns = ap (option_map change) (sym is) ∙ sym at ∙ there in
         let same : change before ≡ ns = cc both in
-        are place before lists is has ∙ sym (stay before (at_in nss place before is)) ∙ ap (λ (x : Namespace). lists_of (seen_in x)) same
+        subst (λ (x : Namespace). AreListsOf (seen_in x) lists) same (stay before lists (at_in nss place before is) (are place before lists is has))
 
 -- ---- an opening of a root that is open, without new objects
 
@@ -114,11 +111,11 @@ raised_roots root [] = refl
 raised_roots root (r ∷ rest) =
     ap (λ n. n ∷ map root_of (map (raised root) rest)) (raised_root root r) ∙ ap (λ (l : List ℕ). r.root ∷ l) (raised_roots root rest)
 
-opened_again : (root : ℕ) (ns : Namespace) → list_any (λ r. r.root == root) ns.opens ≡ true → lists_of (seen_in (opened ns [] root false)) ≡ lists_of (seen_in ns)
-opened_again root ns held =
-    ap (λ (os : List Loaded). lists_of (record { objects = os; global = ns.global; opens = cond (list_any (λ r. r.root == root) ns.opens) (map (raised root) ns.opens) (ns.opens ++ record { root = root; count = 1 } ∷ []) })) (append-nil ns.objects)
-    ∙ ap (λ (b : Bool). lists_of (record { objects = ns.objects; global = ns.global; opens = cond b (map (raised root) ns.opens) (ns.opens ++ record { root = root; count = 1 } ∷ []) })) held
-    ∙ roots_stay (seen_in ns) (map (raised root) ns.opens) (raised_roots root ns.opens)
+opened_again : (root : ℕ) (ns : Namespace) (lists : SearchLists) → list_any (λ r. r.root == root) ns.opens ≡ true → AreListsOf (seen_in ns) lists → AreListsOf (seen_in (opened ns [] root false)) lists
+opened_again root ns lists held are =
+    subst (λ (os : List Loaded). AreListsOf (record { objects = os; global = ns.global; opens = cond (list_any (λ r. r.root == root) ns.opens) (map (raised root) ns.opens) (ns.opens ++ record { root = root; count = 1 } ∷ []) }) lists) (sym (append-nil ns.objects))
+    (subst (λ (b : Bool). AreListsOf (record { objects = ns.objects; global = ns.global; opens = cond b (map (raised root) ns.opens) (ns.opens ++ record { root = root; count = 1 } ∷ []) }) lists) (sym held)
+    (roots_stay (seen_in ns) (map (raised root) ns.opens) (raised_roots root ns.opens) lists are))
 
 one_numbered : (nss : List Namespace) (id : ℕ) (ns ms : Namespace) → AreNumberedApart nss → find (has_id id) nss ≡ Some ns → Contains nss ms → has_id id ms ≡ true → ns ≡ ms
 one_numbered [] id ns ms apart found inside is = absurd (let no : None ≡ Some ns = found in cc no)
@@ -147,13 +144,13 @@ opened_here nss kept id root ns apart found held are =
     subst (λ (b : Bool). AreKept (cond b (map (changed_at id (λ n. opened n [] root false)) nss) (nss ++ opened (record { id = id; objects = []; global = []; opens = [] }) [] root false ∷ [])) kept) (sym there)
     (changed_kept (changed_at id (λ n. opened n [] root false)) nss kept stay are)
   where
-    stay : (ms : Namespace) → Contains nss ms → lists_of (seen_in (changed_at id (λ n. opened n [] root false) ms)) ≡ lists_of (seen_in ms)
-    stay ms inside = by (has_id id ms) refl
+    stay : (ms : Namespace) (lists : SearchLists) → Contains nss ms → AreListsOf (seen_in ms) lists → AreListsOf (seen_in (changed_at id (λ n. opened n [] root false) ms)) lists
+    stay ms lists inside own = by (has_id id ms) refl
       where
-        by : (b : Bool) → has_id id ms ≡ b → lists_of (seen_in (cond b (opened ms [] root false) ms)) ≡ lists_of (seen_in ms)
-        by false is = refl
+        by : (b : Bool) → has_id id ms ≡ b → AreListsOf (seen_in (cond b (opened ms [] root false) ms)) lists
+        by false is = own
         by true is =
-            opened_again root ms (ap (λ (m : Namespace). list_any (λ r. r.root == root) m.opens) (sym (one_numbered nss id ns ms apart found inside is)) ∙ held)
+            opened_again root ms lists (ap (λ (m : Namespace). list_any (λ r. r.root == root) m.opens) (sym (one_numbered nss id ns ms apart found inside is)) ∙ held) own
 
 pub opened_kept : (nss : List Namespace) (kept : KeptLists) (id root : ℕ) (added : List Loaded) (is_global : Bool) → AreNumberedApart nss → OpensAgain nss id added root is_global
     → AreKept nss kept → AreKept (with_namespace id (λ n. opened n added root is_global) nss) kept
@@ -183,8 +180,8 @@ lowered_roots handle (r ∷ rest) all =
     ∙ ap (λ n. n ∷ map root_of (filter (λ x. not (x.count == 0)) (map (lowered_open handle) rest))) (lowered_root handle r)
     ∙ ap (λ (l : List ℕ). r.root ∷ l) (lowered_roots handle rest parts.1)
 
-lowered_stays : (handle : ℕ) (ns : Namespace) → list_all (counts_still handle) ns.opens ≡ true → lists_of (seen_in (lowered_in handle ns)) ≡ lists_of (seen_in ns)
-lowered_stays handle ns all = roots_stay (seen_in ns) (filter (λ r. not (r.count == 0)) (map (lowered_open handle) ns.opens)) (lowered_roots handle ns.opens all)
+lowered_stays : (handle : ℕ) (ns : Namespace) (lists : SearchLists) → list_all (counts_still handle) ns.opens ≡ true → AreListsOf (seen_in ns) lists → AreListsOf (seen_in (lowered_in handle ns)) lists
+lowered_stays handle ns lists all are = roots_stay (seen_in ns) (filter (λ r. not (r.count == 0)) (map (lowered_open handle) ns.opens)) (lowered_roots handle ns.opens all) lists are
 
 none_die : (hart : ℕ) (objects : List Loaded) → map (dying_object hart []) objects ≡ objects
 none_die hart [] = refl
@@ -194,10 +191,10 @@ none_go : (xs : List ℕ) → filter (λ d. true) xs ≡ xs
 none_go [] = refl
 none_go (x ∷ xs) = ap (λ (l : List ℕ). x ∷ l) (none_go xs)
 
-undying : (hart : ℕ) (ns : Namespace) → lists_of (seen_in (dying_in hart [] ns)) ≡ lists_of (seen_in ns)
-undying hart ns =
-    ap (λ (os : List Loaded). lists_of (record { objects = os; global = filter (λ d. true) ns.global; opens = ns.opens })) (none_die hart ns.objects)
-    ∙ ap (λ (g : List ℕ). lists_of (record { objects = ns.objects; global = g; opens = ns.opens })) (none_go ns.global)
+undying : (hart : ℕ) (ns : Namespace) (lists : SearchLists) → AreListsOf (seen_in ns) lists → AreListsOf (seen_in (dying_in hart [] ns)) lists
+undying hart ns lists are =
+    subst (λ (os : List Loaded). AreListsOf (record { objects = os; global = filter (λ d. true) ns.global; opens = ns.opens }) lists) (sym (none_die hart ns.objects))
+    (subst (λ (g : List ℕ). AreListsOf (record { objects = ns.objects; global = g; opens = ns.opens }) lists) (sym (none_go ns.global)) are)
 
 each_of : (p : Namespace → Bool) (nss : List Namespace) (ns : Namespace) → list_all p nss ≡ true → Contains nss ns → p ns ≡ true
 each_of p [] ns all (i, lt, at) = absurd (omega (arith, lt))
@@ -208,5 +205,5 @@ each_of p (n ∷ rest) ns all inside =
 pub closed_kept : (nss : List Namespace) (kept : KeptLists) (hart handle : ℕ) (set : List ℕ) → LowersAlone nss handle set → AreKept nss kept → AreKept (closed_by hart handle set nss) kept
 closed_kept nss kept hart handle set alone are =
     subst (λ (ds : List ℕ). AreKept (closed_by hart handle ds nss) kept) (sym alone.none)
-    (changed_kept (dying_in hart []) (map (lowered_in handle) nss) kept (λ ns inside. undying hart ns)
-    (changed_kept (lowered_in handle) nss kept (λ ns inside. lowered_stays handle ns (each_of (λ (n : Namespace). list_all (counts_still handle) n.opens) nss ns alone.stay inside)) are))
+    (changed_kept (dying_in hart []) (map (lowered_in handle) nss) kept (λ ns lists inside. undying hart ns lists)
+    (changed_kept (lowered_in handle) nss kept (λ ns lists inside. lowered_stays handle ns lists (each_of (λ (n : Namespace). list_all (counts_still handle) n.opens) nss ns alone.stay inside)) are))

@@ -6,17 +6,23 @@ use Rattle.link_history.specs.Objects.{has_object}
 use Rattle.listed_namespaces.specs.declared.kept.KeptLists.{KeptLists}
 use Rattle.scope_rule.specs.Seen.{seen_in}
 use Rattle.scope_rule.specs.declared.namespace.Namespace.{Namespace}
-use Rattle.search_lists.specs.Lists.{lists_of}
-use Rattle.search_lists.specs.declared.lists.SearchList.{SearchList}
+use Rattle.search_lists.specs.Lists.{AreListsOf, IsListed}
+use Rattle.search_lists.specs.declared.lists.SearchLists.{SearchLists}
 
 -- the lists that are kept of the namespace at a place
-abbrev pub kept_at : KeptLists → ℕ → Option (List SearchList)
+abbrev pub kept_at : KeptLists → ℕ → Option SearchLists
 kept_at kept place = get nat_eq kept.by_place place
 
 -- what is kept of a namespace are its lists
 abbrev pub AreKept : List Namespace → KeptLists → Type 0
-AreKept namespaces kept = (place : ℕ) (ns : Namespace) (lists : List SearchList) → slice_get namespaces place ≡ Some ns → kept_at kept place ≡ Some lists
-    → lists ≡ lists_of (seen_in ns)
+AreKept namespaces kept = (place : ℕ) (ns : Namespace) (lists : SearchLists) → slice_get namespaces place ≡ Some ns → kept_at kept place ≡ Some lists
+    → AreListsOf (seen_in ns) lists
+
+-- lists are kept of the namespace at a place, and know the Scope of an object
+pub record IsMade (kept : KeptLists) (owner place : ℕ) : Type 0 where
+  pub lists : SearchLists
+  pub at : kept_at kept place ≡ Some lists
+  pub listed : IsListed lists owner
 
 -- the namespace at a place has an object
 pub record IsHome (namespaces : List Namespace) (owner place : ℕ) : Type 0 where

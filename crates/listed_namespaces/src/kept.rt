@@ -5,7 +5,7 @@ ghost use Rattle.std.specs.Option.{option_copied};
 ghost use Rattle.link_history.specs.Objects.{has_object};
 ghost use Rattle.listed_namespaces.specs.Kept.{AreKept, IsHome, kept_at};
 ghost use Rattle.scope_rule.specs.Seen.{seen_in};
-ghost use Rattle.search_lists.specs.Lists.{lists_of};
+ghost use Rattle.search_lists.specs.Lists.{AreListsOf};
 
 use ld_base::Serial;
 use mapped_objects::has_object;
@@ -59,10 +59,10 @@ impl KeptLists {
     ghost use Rattle.std.specs.Prelude.{◌≡◌, ◌<◌, ℕ, List, None, true, length, IfSome, IsSome, IsTrue, OnOk};
     ghost use Rattle.std.specs.Option.{option_copied};
     ghost use Rattle.link_history.specs.Objects.{has_object};
-    ghost use Rattle.listed_namespaces.specs.Kept.{AreKept, kept_at};
+    ghost use Rattle.listed_namespaces.specs.Kept.{AreKept, IsMade, kept_at};
     ghost use Rattle.scope_rule.specs.Seen.{seen_in};
     ghost use Rattle.scope_rule.specs.declared.namespace.Namespace.{Namespace as Space};
-    ghost use Rattle.search_lists.specs.Lists.{lists_of};
+    ghost use Rattle.search_lists.specs.Lists.{AreListsOf};
 
     /// None yet.
     pub(crate) fn new(alloc: Global) -> Self
@@ -91,7 +91,7 @@ impl KeptLists {
 
     /// Whether the lists of the namespace at a place are made, and the namespace has an object.
     fn have(&self, namespace: &Namespace, place: usize, owner: Serial) -> bool
-        requires { IfSome (kept_at self.now place) (λ lists. lists ≡ lists_of (seen_in namespace.now)) }
+        requires { IfSome (kept_at self.now place) (AreListsOf (seen_in namespace.now)) }
         ensures { result ≡ true → IsTrue (has_object owner namespace.now) }
     {
         match self.get(place) {
@@ -100,12 +100,30 @@ impl KeptLists {
         }
     }
 
-    /// Makes the lists of the namespace at a place, if they aren't made.
+    /// Makes the lists of the namespace at a place, if they aren't made, and the scope of one of its objects, if
+    /// that isn't.
     ///
     /// # Errors
     ///
     /// Want of memory.
     pub(crate) fn make(
+        &mut self,
+        alloc: Global,
+        namespaces: &[Namespace],
+        place: usize,
+        owner: Serial,
+    ) -> Result<(), AllocError>
+        requires place { place < length namespaces.now }
+        requires kept { AreKept namespaces.now self.old }
+        ensures kept { AreKept namespaces.now self.new }
+        ensures made { OnOk result (IsMade self.new owner place) }
+    {
+        self.make_lists(alloc, namespaces, place)?;
+        self.make_scope(alloc, namespaces, place, owner)
+    }
+
+    /// Makes the lists of the namespace at a place, if they aren't made.
+    fn make_lists(
         &mut self,
         alloc: Global,
         namespaces: &[Namespace],
@@ -117,9 +135,30 @@ impl KeptLists {
         ensures there { OnOk result (IsSome (kept_at self.new place)) }
     {
         if !self.by_place.contains_key(&place) {
-            let lists = SearchLists::build(alloc, &namespaces[place])?;
+            let lists = SearchLists::new(alloc, &namespaces[place].view())?;
             self.by_place.insert(place, lists)?;
         }
         Ok(())
+    }
+
+    /// Makes the scope of an object of the namespace at a place, whose lists are made, if it isn't there.
+    fn make_scope(
+        &mut self,
+        alloc: Global,
+        namespaces: &[Namespace],
+        place: usize,
+        owner: Serial,
+    ) -> Result<(), AllocError>
+        requires place { place < length namespaces.now }
+        requires kept { AreKept namespaces.now self.old }
+        requires there { IsSome (kept_at self.old place) }
+        ensures kept { AreKept namespaces.now self.new }
+        ensures made { OnOk result (IsMade self.new owner place) }
+    {
+        let view = namespaces[place].view();
+        match self.by_place.get_mut(&place) {
+            Some(lists) => lists.add_scope(alloc, &view, owner),
+            None => Ok(()),
+        }
     }
 }

@@ -37,7 +37,7 @@ impl Model for ListedNamespaces {
     ghost invariant = { λ n. AreKept n.namespaces.items n.lists };
 }
 
-/// What the slot of an object chooses, by lists that are kept or made now.
+/// What the slot of an object chooses, by lists and a scope that are kept or made now.
 fn chosen(
     alloc: Global,
     namespaces: &[Namespace],
@@ -54,7 +54,7 @@ fn chosen(
     let Some(place) = home(namespaces, lists, owner) else {
         return Err(SlotFault::Unloaded);
     };
-    lists.make(alloc, namespaces, place)?;
+    lists.make(alloc, namespaces, place, owner)?;
     slot_choice(&namespaces[place], lists.get(place).unwrap(), owner, eights)
 }
 
@@ -89,7 +89,7 @@ impl ListedNamespaces {
     }
 
     /// What the slot of an object chooses now, `eights` being eight times its number: by the lists of its
-    /// namespace, which are made now if they aren't there.
+    /// namespace and its own scope, which are made now if they aren't there.
     ///
     /// # Errors
     ///

@@ -1,5 +1,5 @@
 -- What choosing looks at, and the states that have it.
-use Rattle.std.specs.Prelude.{◌≡◌, ℕ, ◌<◌, ◌^◌, Bool, List, map, Option, Some, None, Contains, IsTrue, if◌then◌else◌}
+use Rattle.std.specs.Prelude.{◌≡◌, ℕ, ◌<◌, ◌^◌, Bool, List, length, map, Option, Some, None, Contains, IsTrue, if◌then◌else◌}
 use Rattle.std.specs.List.{AllByRecursion, slice_get}
 use Rattle.ld_base.specs.declared.fault.DlFault.{DlFault}
 use Rattle.ld_base.specs.declared.linking.Choice.{Choice}
@@ -12,7 +12,7 @@ use Rattle.link_history.specs.State.{State}
 use Rattle.relocator.specs.declared.binding.ModulePlace.{ModulePlace}
 use Rattle.scope_rule.specs.Relocation.{choice_at, names_symbols}
 use Rattle.scope_rule.specs.Seen.{Seen, seen}
-use Rattle.search_lists.specs.Lists.{lists_of}
+use Rattle.search_lists.specs.Lists.{AreListed, AreListsOf, IsListedAt}
 use Rattle.seen_choices.specs.Seeing.{ShowsObjects}
 use Rattle.seg_image.specs.Accepted.{Accepted}
 use Rattle.sym_lookup.specs.Looking.{HaveTables}
@@ -25,17 +25,19 @@ pub record Shows (s : State) (ns : Seen) (places : List ModulePlace) : Type 0 wh
 
 -- ---- for the code of this crate alone
 
--- the lists are those of what is seen, each object has its table and may have an image, and the new ones name symbols of their own
+-- the lists are those of what is seen and have the scopes of the new objects, each object has its table and may have an image, and the new ones name symbols of their own
 pub record CanSee (x : Sight) : Type 0 where
-  pub lists : x.lists.now ≡ lists_of (seen x.view)
+  pub lists : AreListsOf (seen x.view) x.lists.now
+  pub listed : AreListed (seen x.view) (length x.view.objects.now) x.lists.now
   pub tables : HaveTables (seen x.view)
   pub accepted : (o : Loaded) → Contains (seen x.view).objects o → Accepted o.object
   pub named : (o : Loaded) → Contains x.view.added.now o → IsTrue (names_symbols o.object)
 
--- a new object, at its place in load order
+-- a new object, at its place in load order, whose scope is there
 pub record IsNew (x : Sight) (place : ℕ) (o : Loaded) : Type 0 where
   pub there : slice_get (seen x.view).objects place ≡ Some o
   pub added : Contains x.view.added.now o
+  pub listed : IsListedAt x.lists.now place
 
 -- each relocation names one of so many symbols, and each slot stands low
 abbrev pub AreNamed : ℕ → List Reloc → Type 0

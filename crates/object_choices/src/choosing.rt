@@ -45,7 +45,8 @@ impl From<AllocError> for ChoiceFault {
 /// What the relocations of the new objects of a namespace choose, a list for each of them: one choice a
 /// relocation, those of DT_RELA and then those of the slots. The view is that of the namespace as the opening
 /// leaves it, and the places those of all modules, the new ones too. `now` says that slots are bound at load;
-/// a slot that stays lazy chooses nothing, and has WeakZero. Without new objects no lists are made.
+/// a slot that stays lazy chooses nothing, and has WeakZero. Without new objects no lists are made, and else
+/// the scopes of the new objects alone.
 ///
 /// # Errors
 ///
@@ -68,7 +69,7 @@ pub fn choose(
     if view.added.is_empty() {
         return Ok(ChoiceLists::new(alloc));
     }
-    let lists = SearchLists::build_in(alloc, view)?;
+    let lists = SearchLists::build_added(alloc, view)?;
     let sight = Sight {
         view: *view,
         lists: &lists,

@@ -6,7 +6,7 @@ ghost use Rattle.ld_base.specs.declared.linking.Loaded.{Loaded as LoadedObject};
 ghost use Rattle.link_history.specs.Addresses.{address, leads_to_code};
 ghost use Rattle.link_history.specs.State.{State};
 ghost use Rattle.scope_rule.specs.Seen.{seen};
-ghost use Rattle.search_lists.specs.Lists.{lists_of};
+ghost use Rattle.search_lists.specs.Lists.{AreListsOf};
 ghost use Rattle.seg_image.specs.Accepted.{Accepted};
 ghost use Rattle.seen_choices.specs.Seeing.{ShowsObjects, StandsIn};
 
@@ -17,7 +17,7 @@ use search_lists::SearchLists;
 
 /// The address of a choice: that of its definition, and 0 where it has none.
 pub fn address_of(view: &View, lists: &SearchLists, choice: &Choice) -> u64
-    requires lists { lists.now ≡ lists_of (seen view.now) }
+    requires lists { AreListsOf (seen view.now) lists.now }
     requires stands { StandsIn (seen view.now) choice.now }
     ensures { (s : State) → ShowsObjects s (seen view.now) → result ≡ address s choice.now }
 {
@@ -29,7 +29,7 @@ pub fn address_of(view: &View, lists: &SearchLists, choice: &Choice) -> u64
 
 /// The address of a definition. The linker's own object is of no namespace.
 fn address_at(view: &View, lists: &SearchLists, serial: Serial, index: u32) -> u64
-    requires lists { lists.now ≡ lists_of (seen view.now) }
+    requires lists { AreListsOf (seen view.now) lists.now }
     requires stands { StandsIn (seen view.now) (Def serial index) }
     ensures { (s : State) → ShowsObjects s (seen view.now) → result ≡ address s (Def serial index) }
 {
@@ -44,7 +44,7 @@ fn address_at(view: &View, lists: &SearchLists, serial: Serial, index: u32) -> u
 
 /// Whether a slot that holds this word until it is bound may be bound to a choice.
 pub fn leads_to_code(view: &View, lists: &SearchLists, lazy: u64, choice: &Choice) -> bool
-    requires lists { lists.now ≡ lists_of (seen view.now) }
+    requires lists { AreListsOf (seen view.now) lists.now }
     requires accepted { (o : LoadedObject) → Contains (seen view.now).objects o → Accepted o.object }
     requires stands { StandsIn (seen view.now) choice.now }
     ensures { (s : State) → ShowsObjects s (seen view.now) → result ≡ leads_to_code s lazy choice.now }
@@ -58,7 +58,7 @@ pub fn leads_to_code(view: &View, lists: &SearchLists, lazy: u64, choice: &Choic
 
 /// The same of a definition.
 fn enters_code(view: &View, lists: &SearchLists, lazy: u64, serial: Serial, index: u32) -> bool
-    requires lists { lists.now ≡ lists_of (seen view.now) }
+    requires lists { AreListsOf (seen view.now) lists.now }
     requires accepted { (o : LoadedObject) → Contains (seen view.now).objects o → Accepted o.object }
     requires stands { StandsIn (seen view.now) (Def serial index) }
     ensures { (s : State) → ShowsObjects s (seen view.now) → result ≡ leads_to_code s lazy (Def serial index) }

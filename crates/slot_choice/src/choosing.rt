@@ -5,7 +5,7 @@ ghost use Rattle.ld_base.specs.declared.linking.Loaded.{Loaded as LoadedObject};
 ghost use Rattle.link_history.specs.Objects.{has_object};
 ghost use Rattle.link_history.specs.State.{State};
 ghost use Rattle.scope_rule.specs.Seen.{seen_in};
-ghost use Rattle.search_lists.specs.Lists.{lists_of};
+ghost use Rattle.search_lists.specs.Lists.{AreListsOf, IsListed};
 ghost use Rattle.slot_choice.specs.Choosing.{ChoosesSlot, IsFaultOf, IsSound, Shows};
 ghost use Rattle.slot_choice.specs.declared.choosing.SlotFault.TheVariants.{Memory};
 
@@ -54,7 +54,8 @@ impl From<AllocError> for SlotFault {
 }
 
 /// What the slot of an object of a namespace chooses now, `eights` being eight times its number. The lists are
-/// those of the namespace: by these each object is found in one step. It takes no memory.
+/// those of the namespace and have the object's scope: by these each object is found in one step. It takes no
+/// memory.
 ///
 /// # Errors
 ///
@@ -67,7 +68,8 @@ pub fn slot_choice(
     eights: u64,
 ) -> Result<SlotChoice, SlotFault>
     requires sound { (o : LoadedObject) → Contains namespace.now.objects o → IsSound o }
-    requires lists { lists.now ≡ lists_of (seen_in namespace.now) }
+    requires lists { AreListsOf (seen_in namespace.now) lists.now }
+    requires listed { IsListed lists.now owner }
     requires there { IsTrue (has_object owner namespace.now) }
     ensures ok { IfOk result (λ x. (s : State) → Shows s namespace.now → ChoosesSlot s owner eights x) }
     ensures err { IfErr result (λ e. (s : State) → Contains s.namespaces namespace.now → IsFaultOf s owner eights e) }

@@ -6,7 +6,7 @@ use Rattle.scope_rule.specs.Relocation.{choice_at}
 use Rattle.scope_rule.specs.Seen.{Seen, seen}
 use Rattle.scope_rule.specs.declared.namespace.Namespace.{Namespace}
 use Rattle.seg_image.specs.Pages.{guest_address}
-use Rattle.search_lists.specs.Lists.{lists_of}
+use Rattle.search_lists.specs.Lists.{AreListsOf, IsListed}
 use Rattle.seen_choices.specs.Seeing.{ShowsObjects, StandsIn}
 use Rattle.seen_choices.specs.Lemmas.Stands.{stands}
 use Rattle.slot_choice.proofs.Slots.{IsFound, found, is_lent, its_table, lacks, low, named}
@@ -25,7 +25,8 @@ lookup_reloc-choice-requires c =
     let ns : Namespace = c.args.namespace.now in
     let its : IsFound ns c.args.owner c.unwrap-object.result.now = found ns (seen c.view-view.result) c.args.owner c.object.result c.unwrap-object.result c.view-view.ensures c.object.ensures c.unwrap-object.ensures in
     record {
-      lists = c.requires.lists ∙ ap lists_of (sym c.view-view.ensures);
+      lists = subst (λ (v : Seen). AreListsOf v c.args.lists.now) (sym c.view-view.ensures) c.requires.lists;
+      listed = subst (IsListed c.args.lists.now) (sym its.is) c.requires.listed;
       tables = its_table ns (seen c.view-view.result) c.requires.sound c.view-view.ensures;
       owner_is_there = ap (λ (v : Seen). object_of v c.unwrap-object.result.now.serial) c.view-view.ensures ∙ ap (with_serial ns.objects) its.is ∙ its.one;
       symbol_is_there = named c.unwrap-object.result.now.object (c.args.eights / 8) c.in-Some.reloc.now (c.requires.sound c.unwrap-object.result.now its.inside).names c.in-Some.ensures.found;

@@ -1,5 +1,5 @@
 use Rattle.listed_namespaces.proofs.Standing.{at_index, is_there, one_kept}
-use Rattle.listed_namespaces.proofs.kept.KeptLists.make.Goals as goal
+use Rattle.listed_namespaces.proofs.kept.KeptLists.make_lists.Goals as goal
 
 pub returns-in_ok-insert-clause-kept : goal.returns-in_ok-insert-clause-kept
 returns-in_ok-insert-clause-kept c =
