@@ -24,12 +24,15 @@ use Rattle.world_slots.specs.Later.{Later, Steps}
 use Rattle.world_slots.specs.Laws.{LaterIsSound, LaterKeepsSlots}
 use Rattle.run_moments.specs.Laws.{IsTrueThroughout, RunsAreTrue}
 use Rattle.run_moments.specs.Moments.{IsMoment}
-use Rattle.run_moments.specs.True.{HasMore, IsTrueAt, StaysTrue}
+use Rattle.run_moments.specs.True.{ClosesItsOwn, HasMore, IsTrueAt, StaysTrue}
 use Rattle.run_moments.proofs.Chains.{behind_start, later_in, run_leads}
 use Rattle.run_moments.proofs.Chosen.{was_chosen, was_granted}
+use Rattle.run_moments.proofs.Closed.{was_closed}
 use Rattle.run_moments.proofs.Entered.{enters_code}
+use Rattle.run_moments.proofs.Framed.{FrameLaws, closes_own}
 use Rattle.run_moments.proofs.Inside.{grants_in_calls}
 use Rattle.run_moments.proofs.Own.{finds_own, locates_own}
+use Rattle.run_moments.proofs.Unmapped.{UnmapLaws, returns_at_once, returns_behind}
 
 pub record MomentLaws : Type 0 where
   pub mapped : (m : Machine) (journal : List Event) → Lawful m journal → ImagesAreMapped (after journal)
@@ -40,6 +43,8 @@ pub record MomentLaws : Type 0 where
   pub slot_true : SoundIsSlotTrue
   pub sound : LaterIsSound
   pub slots : LaterKeepsSlots
+  pub frames : FrameLaws
+  pub unmaps : UnmapLaws
 
 -- ---- journals grow
 
@@ -69,8 +74,11 @@ later_has_more w old new (Later.one_more _ between _ step more) =
 -- ---- moments
 
 module _ (laws : MomentLaws) (w : Setting) (only : AcceptsOnly w.machine) where
-  true_at : (world : World) → Sound w world → IsTrueAt w world
-  true_at world sound =
+  turn_sound : (h : ℕ) (old new : World) → Sound w old → Turn w h old new → Sound w new
+  turn_sound h old new sound turn = laws.sound w old new only sound (Later.one_more old new new (Steps.by_turn h turn) (Later.no_more new))
+
+  true_at : (world : World) → Sound w world → ClosesItsOwn world → IsTrueAt w world
+  true_at world sound own =
       let slots = laws.slot_true w world only sound in
       let lawful = legal_is_lawful w world.journal sound.legal in
       record {
@@ -88,6 +96,10 @@ module _ (laws : MomentLaws) (w : Setting) (only : AcceptsOnly w.machine) where
         chosen = was_chosen w world.journal sound.legal;
         grants = λ h new turn. grants_in_calls w h world new turn;
         fits = sound.fits;
+        closed = was_closed w world.journal sound.legal;
+        closes_own = own;
+        returns_behind = λ h new turn. returns_behind laws.unmaps w h world new turn only (turn_sound h world new sound turn).legal;
+        returns_at_once = λ h new turn. returns_at_once laws.unmaps w h world new turn;
         blocks = laws.apart w.machine world.journal lawful;
         locates = λ h new turn. locates_own laws.new_blocks w h world new turn;
         finds = finds_own w world.journal sound.legal;
@@ -109,7 +121,7 @@ module _ (laws : MomentLaws) (w : Setting) (only : AcceptsOnly w.machine) where
 
     throughout : IsTrueThroughout run
     throughout = record {
-      each = λ k moment at. true_at moment (sound_at k moment at);
+      each = λ k moment at. true_at moment (sound_at k moment at) (closes_own laws.frames w only setup items world run k moment at);
       later = λ j k old new below at behind. stays_true old new (sound_at j old at) (between j k old new below at behind);
     }
 

@@ -10,8 +10,9 @@ pub fn runs_have_moments()
 
 /// At each moment of a run the journal is legal, memory is as it says, each slot of a mapped object holds
 /// what it should and leads to no object but one that is mapped, what it chose was chosen at one moment,
-/// each grant is made in its hart's own call, blocks of thread-local storage are apart, and answers on it
-/// count from the hart's own block. From each moment to each later one the journal grows, and a slot that
+/// each grant is made in its hart's own call, what is unmapped died by one closing when nothing needed it,
+/// the dlclose that it died by returns with that unmapping, blocks of thread-local storage are apart, and
+/// answers on it count from the hart's own block. From each moment to each later one the journal grows, and a slot that
 /// isn't lazy reads the same while its object is mapped.
 pub fn moments_are_true()
     ensures { RunsAreTrue }
@@ -19,7 +20,13 @@ pub fn moments_are_true()
     link_history::images_are_mapped();
     link_history::slots_begin();
     link_history::blocks_are_apart();
+    link_history::memory_changes();
     new_blocks::harts_have_new_blocks();
+    turn_frames::closings_unmap_first();
+    world_ends::ends_fit();
+    world_frames::frames_belong();
+    world_frames::finals_belong();
+    world_frames::settling_keeps_frames();
     world_turns::runs_start_sound();
     world_turns::slots_are_true();
     world_slots::later_worlds_keep_slots();
