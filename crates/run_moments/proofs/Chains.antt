@@ -1,7 +1,6 @@
 -- The moments of a run lead from its start to its end, each one step behind the one before.
-use Rattle.std.proofs.Common.{◌≡◌, inl, inr, ⊎_elim, ℕ, zero, suc, ◌+◌, ◌≤◌, List, [], ◌∷◌, ◌++◌, Some, None, refl, sym, subst, arith}
+use Rattle.std.proofs.Common.{◌≡◌, inl, inr, ⊎_elim, ℕ, zero, suc, ◌+◌, ◌≤◌, List, [], ◌∷◌, ◌++◌, length, Some, None, refl, sym, subst, length-append, arith}
 use Rattle.std.specs.List.{Contains, slice_get}
-use Rattle.std.proofs.lemmas.List.Elements.{Contains-append_left, Contains-append_right}
 use Rattle.link_served.specs.declared.startup.Setup.{Setup}
 use Rattle.rv_hart.specs.Registers.{Registers}
 use Rattle.link_history.specs.Setting.{Setting}
@@ -11,8 +10,8 @@ use Rattle.world_turns.specs.Run.{Constructs, Ends, Finalises, Finishes, Repeats
 use Rattle.world_turns.specs.Turn.{TakesTurn, Turn}
 use Rattle.world_turns.specs.World.{World}
 use Rattle.world_slots.specs.Later.{Later, Steps}
-use Rattle.run_moments.specs.Laws.{HasMoments, IsNext, RunsHaveMoments}
-use Rattle.run_moments.specs.Moments.{IsMoment, moments_of, of_constructors, of_destructors, of_finals, of_item, of_items, of_round, of_rounds}
+use Rattle.run_moments.specs.Laws.{IsNext, PartsEnd, RunsHaveMoments}
+use Rattle.run_moments.specs.Moments.{IsMoment, of_constructors, of_destructors, of_finals, of_item, of_items, of_round, of_rounds}
 
 -- ---- a chain
 
@@ -132,12 +131,10 @@ later_in w (next ∷ rest) old new leads (suc j) (suc k) one other below at behi
 
 -- ---- where parts end
 
--- a part's worlds stand in a list, and so does the world before them
-part_in : (all xs : List World) (old new : World) → ((x : World) → Contains xs x → Contains all x) → Contains all old → Contains (old ∷ xs) new → Contains all new
-part_in all xs old new within first there = ⊎_elim
-    (λ (same : old ≡ new). subst (Contains all) same first)
-    (λ (behind : Contains xs new). within new behind)
-    (first_or_later old xs new there)
+-- behind the worlds of one part stand those of the next
+behind : (Goes : World → World → Type 0) (xs ys : List World) (old between : World) (k : ℕ) (moment : World) → Leads Goes old xs between → At between ys k moment → At old (xs ++ ys) (length xs + k) moment
+behind Goes [] ys old between k moment same at = subst (λ (x : World). At x ys k moment) same at
+behind Goes (x ∷ xs) ys old between k moment leads at = behind Goes xs ys x between k moment leads.1 at
 
 module _ (w : Setting) (setup : Setup) (items : List TurnItem) (world : World) (run : Run w setup items world) where
   abbrev finals_on : List World
@@ -149,56 +146,49 @@ module _ (w : Setting) (setup : Setup) (items : List TurnItem) (world : World) (
   abbrev items_on : List World
   items_on = of_items run.follows ++ rounds_on
 
-  later_one : (x : World) → Contains items_on x → Contains (moments_of run) x
-  later_one x there = Contains-append_right (run.started ∷ of_constructors run.constructs) items_on x there
+  past_constructors : (k : ℕ) (moment : World) → At run.constructed items_on k moment → IsMoment run (length (of_constructors run.constructs) + k) moment
+  past_constructors k moment = behind (IsNext w) (of_constructors run.constructs) items_on run.started run.constructed k moment (constructors_lead w (IsNext w) (by_turn w) (by_staying w) run.constructs)
 
-  later_items : (x : World) → Contains rounds_on x → Contains (moments_of run) x
-  later_items x there = later_one x (Contains-append_right (of_items run.follows) rounds_on x there)
+  past_items : (k : ℕ) (moment : World) → At run.scheduled rounds_on k moment → At run.constructed items_on (length (of_items run.follows) + k) moment
+  past_items k moment = behind (IsNext w) (of_items run.follows) rounds_on run.constructed run.scheduled k moment (items_lead w (IsNext w) (by_turn w) (by_staying w) run.follows)
 
-  later_rounds : (x : World) → Contains finals_on x → Contains (moments_of run) x
-  later_rounds x there = later_items x (Contains-append_right (of_rounds run.finishes) finals_on x there)
+  past_rounds : (k : ℕ) (moment : World) → At run.finished finals_on k moment → At run.scheduled rounds_on (length (of_rounds run.finishes) + k) moment
+  past_rounds k moment = behind (IsNext w) (of_rounds run.finishes) finals_on run.scheduled run.finished k moment (rounds_lead w (IsNext w) (by_turn w) (by_staying w) run.finishes)
 
-  constructed : Contains (moments_of run) run.constructed
-  constructed =
-      Contains-append_left (run.started ∷ of_constructors run.constructs) items_on run.constructed
-      (last_in (IsNext w) (of_constructors run.constructs) run.started run.constructed (constructors_lead w (IsNext w) (by_turn w) (by_staying w) run.constructs))
+  past_finals : (k : ℕ) (moment : World) → At run.finalised (world ∷ []) k moment → At run.finished finals_on (length (of_finals run.finalises) + k) moment
+  past_finals k moment = behind (IsNext w) (of_finals run.finalises) (world ∷ []) run.finished run.finalised k moment (finals_lead run.finalises)
 
-  scheduled : Contains (moments_of run) run.scheduled
-  scheduled =
-      part_in (moments_of run) (of_items run.follows) run.constructed run.scheduled
-      (λ x there. later_one x (Contains-append_left (of_items run.follows) rounds_on x there)) constructed
-      (last_in (IsNext w) (of_items run.follows) run.constructed run.scheduled (items_lead w (IsNext w) (by_turn w) (by_staying w) run.follows))
-
-  finished : Contains (moments_of run) run.finished
-  finished =
-      part_in (moments_of run) (of_rounds run.finishes) run.scheduled run.finished
-      (λ x there. later_items x (Contains-append_left (of_rounds run.finishes) finals_on x there)) scheduled
-      (last_in (IsNext w) (of_rounds run.finishes) run.scheduled run.finished (rounds_lead w (IsNext w) (by_turn w) (by_staying w) run.finishes))
-
-  finalised : Contains (moments_of run) run.finalised
-  finalised =
-      part_in (moments_of run) (of_finals run.finalises) run.finished run.finalised
-      (λ x there. later_rounds x (Contains-append_left (of_finals run.finalises) (world ∷ []) x there)) finished
-      (last_in (IsNext w) (of_finals run.finalises) run.finished run.finalised (finals_lead run.finalises))
-
-  ended : Contains (moments_of run) world
-  ended = later_rounds world (Contains-append_right (of_finals run.finalises) (world ∷ []) world (here world []))
+  parts_end : PartsEnd run
+  parts_end =
+      let a : ℕ = length (of_constructors run.constructs) in
+      let b : ℕ = length (of_items run.follows) in
+      let c : ℕ = length (of_rounds run.finishes) in
+      let d : ℕ = length (of_finals run.finalises) in
+      let finalised_at = past_constructors (b + (c + (d + 0))) run.finalised (past_items (c + (d + 0)) run.finalised (past_rounds (d + 0) run.finalised (past_finals 0 run.finalised refl))) in
+      let ended_at = past_constructors (b + (c + (d + 1))) world (past_items (c + (d + 1)) world (past_rounds (d + 1) world (past_finals 1 world refl))) in
+      let one : a + (b + (c + (d + 1))) ≡ a + (b + (c + (d + 0))) + 1 = omega arith in
+      let finals : length finals_on ≡ d + 1 = length-append (of_finals run.finalises) (world ∷ []) in
+      let rounds : length rounds_on ≡ c + length finals_on = length-append (of_rounds run.finishes) finals_on in
+      let schedule : length items_on ≡ b + length rounds_on = length-append (of_items run.follows) rounds_on in
+      let all : length (of_constructors run.constructs ++ items_on) ≡ a + length items_on = length-append (of_constructors run.constructs) items_on in
+      record {
+        constructed = a + 0;
+        scheduled = a + (b + 0);
+        finished = a + (b + (c + 0));
+        finalised = a + (b + (c + (d + 0)));
+        constructed_at = past_constructors 0 run.constructed refl;
+        scheduled_at = past_constructors (b + 0) run.scheduled (past_items 0 run.scheduled refl);
+        finished_at = past_constructors (b + (c + 0)) run.finished (past_items (c + 0) run.finished (past_rounds 0 run.finished refl));
+        finalised_at = finalised_at;
+        ended_at = subst (λ (k : ℕ). IsMoment run k world) one ended_at;
+        in_order = (omega arith, omega arith, omega arith);
+        last = omega (arith, finals, rounds, schedule, all);
+      }
 
   next : (k : ℕ) (old new : World) → IsMoment run k old → IsMoment run (k + 1) new → IsNext w old new
-  next k old new at behind =
+  next k old new at further =
       let one : k + 1 ≡ suc k = omega arith in
-      next_in w (behind_start run) run.started world (run_leads w setup items world run) k old new at (subst (λ (n : ℕ). IsMoment run n new) one behind)
-
-  moments : HasMoments run
-  moments = record {
-    next = next;
-    started = refl;
-    constructed = constructed;
-    scheduled = scheduled;
-    finished = finished;
-    finalised = finalised;
-    ended = ended;
-  }
+      next_in w (behind_start run) run.started world (run_leads w setup items world run) k old new at (subst (λ (n : ℕ). IsMoment run n new) one further)
 
 pub have_moments : RunsHaveMoments
-have_moments w setup items world run = moments w setup items world run
+have_moments w setup items world run = record { started = refl; next = next w setup items world run; parts = parts_end w setup items world run }

@@ -3,7 +3,7 @@
 ghost use Rattle.run_moments.specs.Laws.{RunsAreTrue, RunsHaveMoments};
 
 /// The moments of a run go from its start to the world in which all is settled, each one step behind the
-/// one before, and the worlds in which its parts end are among them.
+/// one before, and its parts end one after the other, each at one of them.
 pub fn runs_have_moments()
     ensures { RunsHaveMoments }
 {}
