@@ -50,9 +50,9 @@ module _ (sort : Purpose → Bool) where
   -- what a call returns to has such frames where the hart has
   pub asked_some : (b : HartState) (asked : Call) (to : Return) → AskedFrom b asked to → some_are sort to.frames ≡ some_are sort b.frames
   asked_some b (resolves owner eights) to from = ap (some_are sort) from
-  asked_some b (opens ask) to from = ap (some_are sort) from
+  asked_some b (opens ask) to from = ap (some_are sort) from.1
   asked_some b (looks_up ask) to from = ap (some_are sort) from
-  asked_some b (closes handle) to from = ap (some_are sort) from
+  asked_some b (closes handle) to from = ap (some_are sort) from.1
   asked_some b (unmaps set) to from = sym (ap (some_are sort) from)
   asked_some b asks_fault to from = ap (some_are sort) from
   asked_some b (locates number offset) to from = ap (some_are sort) from

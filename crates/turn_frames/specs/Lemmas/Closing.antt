@@ -76,9 +76,9 @@ module _ (w : Setting) (past : List Event) (h to : ℕ) (b c : HartState) (did :
   behind (LeavesFrames.stays none same) = not_stayed same
   behind (LeavesFrames.enters purpose f address more rest others had has none pc frames) =
       on_others (record { purpose = purpose; queue = record f { addresses = more } ∷ rest }) (record { purpose = purpose; queue = f ∷ rest }) others had frames
-  behind (LeavesFrames.loads ra root id ask first rest ranges functions are is frames) = not_begun (Purpose.of_opening ra root) (left functions) not_stayed frames
-  behind (LeavesFrames.dies ra handle first rest functions are is frames) = not_begun (Purpose.of_closing ra (first ∷ rest)) (left functions) (on_all (emptied ra (first ∷ rest))) frames
-  behind (LeavesFrames.completes purpose f rest others not_end had is frames) = not_completed purpose f rest (left rest) others had frames
+  behind (LeavesFrames.loads to_caller root id ask first rest ranges functions are is frames returns entered) = not_begun (Purpose.of_opening to_caller root) (left functions) not_stayed frames
+  behind (LeavesFrames.dies to_caller handle first rest functions are is frames returns entered) = not_begun (Purpose.of_closing to_caller (first ∷ rest)) (left functions) (on_all (emptied to_caller (first ∷ rest))) frames
+  behind (LeavesFrames.completes purpose f rest others not_end had is frames entered) = not_completed purpose f rest (left rest) others had frames
   behind (LeavesFrames.unmaps ra gone others had is frames registers) =
       let one : closing_frame to set queue ∷ below ≡ emptied ra gone ∷ others = sym was ∙ had in
       let frame : closing_frame to set queue ≡ emptied ra gone = cc in
@@ -86,7 +86,7 @@ module _ (w : Setting) (past : List Event) (h to : ℕ) (b c : HartState) (did :
       let sets : gone ≡ set = cc in
       let back : ra ≡ to = cc in
       (is ∙ ap (λ (os : List ℕ). Unmapped h os ∷ []) sets, registers ∙ ap (λ (n : ℕ). returned n 0 b.registers) back)
-  behind (LeavesFrames.finalises code f rest others events next had finals is frames) = absurd (
+  behind (LeavesFrames.finalises code f rest others events next had finals is frames entered) = absurd (
       let are : closing_frame to set queue ∷ below ≡ record { purpose = Purpose.of_end code; queue = f ∷ rest } ∷ others = sym was ∙ had in
       let one : closing_frame to set queue ≡ record { purpose = Purpose.of_end code; queue = f ∷ rest } = cc in
       let no : Purpose.of_closing to set ≡ Purpose.of_end code = ap (λ (x : Frame). x.purpose) one in cc)
