@@ -93,7 +93,7 @@ run_leads w setup items world run =
     let finals = joined goes (of_finals run.finalises) (world ∷ []) run.finished run.finalised world (finals_lead run.finalises) settles in
     let rounds = joined goes (of_rounds run.finishes) (of_finals run.finalises ++ world ∷ []) run.scheduled run.finished world (rounds_lead w goes (by_turn w) (by_staying w) run.finishes) finals in
     let schedule = joined goes (of_items run.follows) (of_rounds run.finishes ++ (of_finals run.finalises ++ world ∷ [])) run.constructed run.scheduled world
-        (items_lead w goes (by_turn w) (by_staying w) run.follows) rounds in
+    (items_lead w goes (by_turn w) (by_staying w) run.follows) rounds in
     joined goes (of_constructors run.constructs) (of_items run.follows ++ (of_rounds run.finishes ++ (of_finals run.finalises ++ world ∷ []))) run.started run.constructed world
     (constructors_lead w goes (by_turn w) (by_staying w) run.constructs) schedule
 

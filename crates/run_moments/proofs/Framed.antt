@@ -181,7 +181,7 @@ module _ (laws : FrameLaws) (w : Setting) (only : AcceptsOnly w.machine) where
         λ h b to set queue at runs inside. let y = freed_at new.harts h b at in absurd (own_lacking old new exited lacks x h y.0 y.1 (ap (λ (c : HartState). c.«end») y.2 ∙ runs))
     own_settled (Finalises.all_run begun exited begins ends) =
         let last : Within w new = destructors_keep begun exited begins ends new
-            (last_in (λ one other. Within w one → Within w other) (of_destructors ends) begun new (destructors_lead w (λ one other. Within w one → Within w other) turn_within same_within ends)) in
+        (last_in (λ one other. Within w one → Within w other) (of_destructors ends) begun new (destructors_lead w (λ one other. Within w one → Within w other) turn_within same_within ends)) in
         finals_own w (settled new) (settled_over new (others_over w new last.finals)) (laws.settling_finals w new last.belong)
 
   module _ (setup : Setup) (items : List TurnItem) (world : World) (run : Run w setup items world) where

@@ -10,7 +10,7 @@ use Rattle.link_history.specs.Lemmas.History.{after_take, take_next}
 
 module _ {X : Type 0} (list : State → List X) (Was : X → Type 0) (journal : List Event) (none : (x : X) → Contains (list (after [])) x → ⊥)
     (next : (k : ℕ) (e : Event) (x : X) → slice_get journal k ≡ Some e → ((y : X) → Contains (list (after (take k journal))) y → Was y)
-        → Contains (list (step (after (take k journal)) e)) x → Was x) where
+    → Contains (list (step (after (take k journal)) e)) x → Was x) where
   front_were : (k : ℕ) (x : X) → Contains (list (after (take k journal))) x → Was x
   front_were zero x there = absurd (none x there)
   front_were (suc k) x there = ⊎_elim
