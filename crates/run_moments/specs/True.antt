@@ -97,12 +97,13 @@ ClosesItsOwn world = (h : ℕ) (b : HartState) (to : ℕ) (set : List ℕ) (queu
 pub record ReturnsUnmapped (h to : ℕ) (set : List ℕ) (old new : World) (b c : HartState) (did : Did) : Type 0 where
   pub events : events_of did ≡ Unmapped h set ∷ []
   pub returns : c.registers ≡ returned to 0 b.registers
-  pub roles : (r : Range) (a : ℕ) → Contains (taken (after (found_journal old did)) (Unmapped h set)) r → IsTrue (covers a r) → role_at (after new.journal) a ≡ NoRole
+  pub roles : (r : Range) (a : ℕ) → Contains (taken (after (found_journal old did)) (Unmapped h set)) r → IsTrue (covers a r)
+      → role_at (after new.journal) a ≡ NoRole
 
 -- so ends a turn by which a closing goes from what the linker has the hart run
 abbrev pub ReturnsBehindUnmapping : (w : Setting) (h : ℕ) (old new : World) → Turn w h old new → Type 0
-ReturnsBehindUnmapping w h old new turn = (to : ℕ) (set : List ℕ) (queue : List Function) (below : List Frame) → turn.before.frames ≡ closing_frame to set queue ∷ below
-    → turn.left.frames ≡ below → ReturnsUnmapped h to set old new turn.before turn.left turn.did
+ReturnsBehindUnmapping w h old new turn = (to : ℕ) (set : List ℕ) (queue : List Function) (below : List Frame)
+    → turn.before.frames ≡ closing_frame to set queue ∷ below → turn.left.frames ≡ below → ReturnsUnmapped h to set old new turn.before turn.left turn.did
 
 -- a dlclose that returns at once returns 0, and nothing dies by it
 abbrev pub ClosesNothingAtOnce : (w : Setting) (h : ℕ) (old new : World) → Turn w h old new → Type 0
@@ -135,7 +136,8 @@ pub record IsGrantedInCall (w : Setting) (h : ℕ) (past : List Event) (b c : Ha
 
 -- so is each grant that a turn appends
 abbrev pub GrantsInCalls : (w : Setting) (h : ℕ) (old new : World) → Turn w h old new → Type 0
-GrantsInCalls w h old new turn = (number hart owner slot value : ℕ) (choice : Choice) → Contains (events_of turn.did) (Grant number hart owner slot choice value)
+GrantsInCalls w h old new turn = (number hart owner slot value : ℕ) (choice : Choice)
+    → Contains (events_of turn.did) (Grant number hart owner slot choice value)
     → IsGrantedInCall w h (found_journal old turn.did) turn.before turn.left turn.did number hart owner slot value
 
 -- the first word of a slot: the value that it got when its object was loaded, if it got one, and else the lazy one
