@@ -47,17 +47,18 @@ abbrev pub some_are : (Purpose → Bool) → List Frame → Bool
 some_are sort frames = list_any (λ f. sort f.purpose) frames
 
 module _ (sort : Purpose → Bool) where
-  -- what a call returns to has such frames where the hart has
-  pub asked_some : (b : HartState) (asked : Call) (to : Return) → AskedFrom b asked to → some_are sort to.frames ≡ some_are sort b.frames
-  asked_some b (resolves owner eights) to from = ap (some_are sort) from
-  asked_some b (opens ask) to from = ap (some_are sort) from.1
-  asked_some b (looks_up ask) to from = ap (some_are sort) from
-  asked_some b (closes handle) to from = ap (some_are sort) from.1
-  asked_some b (unmaps set) to from = sym (ap (some_are sort) from)
-  asked_some b asks_fault to from = ap (some_are sort) from
-  asked_some b (locates number offset) to from = ap (some_are sort) from
-  asked_some b (writes bytes) to from = ap (some_are sort) from
-  asked_some b (stops reason) to from = ap (some_are sort) from
+  -- what a call returns to has such frames where the hart has: a closing that goes is none
+  pub asked_some : ((to : ℕ) (set : List ℕ) → sort (Purpose.of_closing to set) ≡ false) → (b : HartState) (asked : Call) (to : Return) → AskedFrom b asked to
+      → some_are sort to.frames ≡ some_are sort b.frames
+  asked_some spares b (resolves owner eights) to from = ap (some_are sort) from
+  asked_some spares b (opens ask) to from = ap (some_are sort) from.1
+  asked_some spares b (looks_up ask) to from = ap (some_are sort) from
+  asked_some spares b (closes handle) to from = ap (some_are sort) from.1
+  asked_some spares b (unmaps set) to from = sym (ap (some_are sort) from ∙ ap (λ (t : Bool). t || some_are sort to.frames) (spares to.to set))
+  asked_some spares b asks_fault to from = ap (some_are sort) from
+  asked_some spares b (locates number offset) to from = ap (some_are sort) from
+  asked_some spares b (writes bytes) to from = ap (some_are sort) from
+  asked_some spares b (stops reason) to from = ap (some_are sort) from
 
   behind_some : (purpose : Purpose) (below : List Frame) (b : HartState) → sort purpose ≡ false → some_are sort (after_all purpose below b).frames ≡ some_are sort below
   behind_some (Purpose.of_startup registers) below b other = refl

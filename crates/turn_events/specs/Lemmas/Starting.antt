@@ -1,5 +1,5 @@
 -- The frames of startup's constructors: where there are none, none comes.
-use Rattle.std.proofs.Common.{◌≡◌, ℕ, Bool, true, false, List, [], ◌∷◌, ◌++◌, Option, Some, None, refl, sym, ap, ◌∙◌}
+use Rattle.std.proofs.Common.{◌≡◌, ℕ, Bool, true, false, List, [], ◌++◌, Option, Some, None, refl, sym, ap, ◌∙◌}
 use Rattle.std.specs.Prelude.{◌||◌}
 use Rattle.std.specs.List.{list_any}
 use Rattle.std.proofs.lemmas.Bool.{true≢false}
@@ -10,14 +10,13 @@ use Rattle.link_event.specs.declared.hart_end.HartEnd.{HartEnd}
 use Rattle.link_history.specs.After.{after}
 use Rattle.link_history.specs.Setting.{Setting}
 use Rattle.link_service.specs.Answer.{Answer, returns, loading, closing, refused, granted, told, again, over}
-use Rattle.link_service.specs.Call.{Call, resolves, opens, looks_up, closes, unmaps, asks_fault, locates, writes, stops}
+use Rattle.link_service.specs.Call.{Call}
 use Rattle.link_service.specs.Functions.{left}
 use Rattle.link_service.specs.Served.{answer_text}
 use Rattle.hart_moves.specs.Copying.{text_words}
 use Rattle.hart_moves.specs.Due.{Due, Return, by_resolving, due}
 use Rattle.hart_moves.specs.Harts.{Frame, HartState, Purpose, is_startup_frame}
-use Rattle.hart_moves.specs.Moves.{Did, Moves, MovesAs, Takes, TellsOf, after_all, final_functions, freed, freed_by, own_fini, runs, with_first}
-use Rattle.turn_events.specs.Lemmas.Dues.{AskedFrom}
+use Rattle.hart_moves.specs.Moves.{Did, Moves, MovesAs, Takes, TellsOf, final_functions, freed, freed_by, own_fini, runs}
 use Rattle.turn_events.specs.Lemmas.Frames.{asked_some, runs_some, telling_frames}
 use Rattle.turn_events.specs.Lemmas.Kinds.{Kind, kind_of}
 
@@ -60,7 +59,7 @@ module _ (w : Setting) (past : List Event) (h : ℕ) (b : HartState) (none : has
   by_kind : (did : Did) (c : HartState) → Kind w past h b did c → has_startup c.frames ≡ false
   by_kind did c (Kind.goes no_events frames runs_on) = ap has_startup frames ∙ none
   by_kind did c (Kind.ends reason is frames ended) = ap has_startup frames ∙ none
-  by_kind did c (Kind.calls asked to from x) = by_answer asked to x.answer x.appended did c (asked_some is_of_startup b asked to from ∙ none) x.takes
+  by_kind did c (Kind.calls asked to from x) = by_answer asked to x.answer x.appended did c (asked_some is_of_startup (λ ra set. refl) b asked to from ∙ none) x.takes
   by_kind did c (Kind.enters function frames from x) = ap (λ (z : HartState). has_startup z.frames) x.leaves ∙ ap has_startup from.after ∙ sym (ap has_startup from.before) ∙ none
   by_kind did c (Kind.completes purpose object rest below not_end from x) =
       ap (λ (z : HartState). has_startup z.frames) x.passes.leaves ∙ runs_startup purpose (left rest) below (freed b) (sym (ap has_startup from.before) ∙ none)

@@ -208,7 +208,7 @@ module _ (w : Setting) (past : List Event) (h : ℕ) (b : HartState) where
   by_kind : (did : Did) (c : HartState) → Kind w past h b did c → Leaves past h b did c
   by_kind did c (Kind.goes none frames runs_on) = record { appends = Appends.no_end (subst NoneEndsOrUnmaps (sym none) tt) runs_on; finals = inl (ap has_finals frames) }
   by_kind did c (Kind.ends reason is frames ended) = record { appends = Appends.an_end [] reason tt is ended; finals = inl (ap has_finals frames) }
-  by_kind did c (Kind.calls asked to from x) = by_answer asked to x.answer x.appended did c (asked_some is_of_end b asked to from) (serves_comes w past h asked x.appended x.answer x.serves) x.takes
+  by_kind did c (Kind.calls asked to from x) = by_answer asked to x.answer x.appended did c (asked_some is_of_end (λ ra set. refl) b asked to from) (serves_comes w past h asked x.appended x.answer x.serves) x.takes
   by_kind did c (Kind.enters function frames from x) = by_sparing _ [] did c refl (entered_finals b.frames frames function from) tt (ap events_of x.is) x.leaves
   by_kind did c (Kind.completes purpose object rest below not_end from x) =
       by_passing purpose (passing purpose h object ∷ []) rest below did c not_end (below_finals purpose object rest below not_end from) (passings_spare purpose h (object ∷ [])) x.passes
