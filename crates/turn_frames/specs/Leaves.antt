@@ -62,7 +62,8 @@ pub data LeavesFrames (w : Setting) (past : List Event) (h : ℕ) (b : HartState
   loads : (to root id : ℕ) (ask : OpenAsk) (first : Loaded) (rest : List Loaded) (ranges : List Range) (functions : List Function)
       → AreConstructors (after (past ++ Open h ask (openings.Done id root (first ∷ rest) ranges) ∷ [])) (map serial_of (first ∷ rest)) functions
       → events_of did ≡ Open h ask (openings.Done id root (first ∷ rest) ranges) ∷ map (passing (Purpose.of_opening to root) h) (passed functions)
-      → AreFrames (Purpose.of_opening to root) (left functions) b.frames c.frames → to ≡ ra b.registers → FirstIsEntered (left functions) c → LeavesFrames w past h b did c
+      → AreFrames (Purpose.of_opening to root) (left functions) b.frames c.frames → to ≡ ra b.registers → FirstIsEntered (left functions) c
+      → LeavesFrames w past h b did c
   -- a closing, with its objects in front that have none; it is to return so, too
   dies : (to handle first : ℕ) (rest : List ℕ) (functions : List Function)
       → AreDestructors (after (past ++ Close h handle (closings.Done (first ∷ rest)) ∷ [])) (first ∷ rest) functions

@@ -76,8 +76,8 @@ module _ (w : Setting) (past : List Event) (h to : ℕ) (b c : HartState) (did :
   behind (LeavesFrames.stays none same) = not_stayed same
   behind (LeavesFrames.enters purpose f address more rest others had has none pc frames) =
       on_others (record { purpose = purpose; queue = record f { addresses = more } ∷ rest }) (record { purpose = purpose; queue = f ∷ rest }) others had frames
-  behind (LeavesFrames.loads to_caller root id ask first rest ranges functions are is frames returns entered) = not_begun (Purpose.of_opening to_caller root) (left functions) not_stayed frames
-  behind (LeavesFrames.dies to_caller handle first rest functions are is frames returns entered) = not_begun (Purpose.of_closing to_caller (first ∷ rest)) (left functions) (on_all (emptied to_caller (first ∷ rest))) frames
+  behind (LeavesFrames.loads to_caller root id ask first rest ranges functions are is frames back entered) = not_begun (Purpose.of_opening to_caller root) (left functions) not_stayed frames
+  behind (LeavesFrames.dies to_caller handle first rest functions are is frames back entered) = not_begun (Purpose.of_closing to_caller (first ∷ rest)) (left functions) (on_all (emptied to_caller (first ∷ rest))) frames
   behind (LeavesFrames.completes purpose f rest others not_end had is frames entered) = not_completed purpose f rest (left rest) others had frames
   behind (LeavesFrames.unmaps ra gone others had is frames registers) =
       let one : closing_frame to set queue ∷ below ≡ emptied ra gone ∷ others = sym was ∙ had in

@@ -52,11 +52,11 @@ HasFirst (f ∷ rest) = (address : ℕ) × (more : List ℕ) × (f.addresses ≡
 
 left_first : (functions : List Function) → HasFirst (left functions)
 left_first [] = tt
-left_first (f ∷ rest) = by f.addresses refl
+left_first (f ∷ rest) = by (left_first rest) f.addresses refl
   where
-    by : (addresses : List ℕ) → f.addresses ≡ addresses → HasFirst (elim addresses [ [] ↦ left rest | a ∷ more ↦ f ∷ rest ])
-    by [] are = left_first rest
-    by (address ∷ more) are = (address, more, are)
+    by : HasFirst (left rest) → (addresses : List ℕ) → f.addresses ≡ addresses → HasFirst (elim addresses [ [] ↦ left rest | a ∷ more ↦ f ∷ rest ])
+    by behind [] are = behind
+    by behind (address ∷ more) are = (address, more, are)
 
 final_first : (w : Setting) (h : ℕ) (past behind : List Event) (next : Option Function) → Finals w h past behind next → HasFirst (final_functions next)
 final_first w h past _ _ (Finals.no_more _ none) = tt
