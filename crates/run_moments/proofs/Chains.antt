@@ -132,9 +132,12 @@ later_in w (next ∷ rest) old new leads (suc j) (suc k) one other below at behi
 -- ---- where parts end
 
 -- behind the worlds of one part stand those of the next
-behind : (Goes : World → World → Type 0) (xs ys : List World) (old between : World) (k : ℕ) (moment : World) → Leads Goes old xs between → At between ys k moment → At old (xs ++ ys) (length xs + k) moment
-behind Goes [] ys old between k moment same at = subst (λ (x : World). At x ys k moment) same at
-behind Goes (x ∷ xs) ys old between k moment leads at = behind Goes xs ys x between k moment leads.1 at
+behind : (Goes : World → World → Type 0) (xs ys : List World) (old between : World) (k n : ℕ) (moment : World) → n ≡ length xs + k → Leads Goes old xs between → At between ys k moment → At old (xs ++ ys) n moment
+behind Goes [] ys old between k n moment place same at =
+    let as_far : n ≡ k = omega (arith, place) in
+    subst (λ (j : ℕ). At old ys j moment) (sym as_far) (subst (λ (x : World). At x ys k moment) same at)
+behind Goes (x ∷ xs) ys old between k zero moment place leads at = absurd (omega (arith, place))
+behind Goes (x ∷ xs) ys old between k (suc n) moment place leads at = behind Goes xs ys x between k n moment (omega (arith, place)) leads.1 at
 
 module _ (w : Setting) (setup : Setup) (items : List TurnItem) (world : World) (run : Run w setup items world) where
   abbrev finals_on : List World
@@ -147,16 +150,16 @@ module _ (w : Setting) (setup : Setup) (items : List TurnItem) (world : World) (
   items_on = of_items run.follows ++ rounds_on
 
   past_constructors : (k : ℕ) (moment : World) → At run.constructed items_on k moment → IsMoment run (length (of_constructors run.constructs) + k) moment
-  past_constructors k moment = behind (IsNext w) (of_constructors run.constructs) items_on run.started run.constructed k moment (constructors_lead w (IsNext w) (by_turn w) (by_staying w) run.constructs)
+  past_constructors k moment = behind (IsNext w) (of_constructors run.constructs) items_on run.started run.constructed k _ moment refl (constructors_lead w (IsNext w) (by_turn w) (by_staying w) run.constructs)
 
   past_items : (k : ℕ) (moment : World) → At run.scheduled rounds_on k moment → At run.constructed items_on (length (of_items run.follows) + k) moment
-  past_items k moment = behind (IsNext w) (of_items run.follows) rounds_on run.constructed run.scheduled k moment (items_lead w (IsNext w) (by_turn w) (by_staying w) run.follows)
+  past_items k moment = behind (IsNext w) (of_items run.follows) rounds_on run.constructed run.scheduled k _ moment refl (items_lead w (IsNext w) (by_turn w) (by_staying w) run.follows)
 
   past_rounds : (k : ℕ) (moment : World) → At run.finished finals_on k moment → At run.scheduled rounds_on (length (of_rounds run.finishes) + k) moment
-  past_rounds k moment = behind (IsNext w) (of_rounds run.finishes) finals_on run.scheduled run.finished k moment (rounds_lead w (IsNext w) (by_turn w) (by_staying w) run.finishes)
+  past_rounds k moment = behind (IsNext w) (of_rounds run.finishes) finals_on run.scheduled run.finished k _ moment refl (rounds_lead w (IsNext w) (by_turn w) (by_staying w) run.finishes)
 
   past_finals : (k : ℕ) (moment : World) → At run.finalised (world ∷ []) k moment → At run.finished finals_on (length (of_finals run.finalises) + k) moment
-  past_finals k moment = behind (IsNext w) (of_finals run.finalises) (world ∷ []) run.finished run.finalised k moment (finals_lead run.finalises)
+  past_finals k moment = behind (IsNext w) (of_finals run.finalises) (world ∷ []) run.finished run.finalised k _ moment refl (finals_lead run.finalises)
 
   parts_end : PartsEnd run
   parts_end =

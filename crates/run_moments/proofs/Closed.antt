@@ -1,5 +1,5 @@
 -- What is still to be unmapped died by a closing of the journal.
-use Rattle.std.proofs.Common.{◌≡◌, ◌⊎◌, inl, inr, ⊎_elim, ℕ, not, List, [], ◌∷◌, take, Some, refl, sym, ap, subst, ◌∙◌}
+use Rattle.std.proofs.Common.{◌≡◌, ◌⊎◌, inl, inr, ⊎_elim, ℕ, not, List, [], ◌∷◌, take, Some, refl, ap, subst, ◌∙◌}
 use Rattle.std.specs.List.{Contains, slice_get}
 use Rattle.std.proofs.lemmas.List.Elements.{Contains-append_cases}
 use Rattle.link_event.specs.declared.event.CloseAnswer.TheVariants as closes
@@ -13,7 +13,7 @@ use Rattle.link_history.specs.Allowed.{Allowed}
 use Rattle.link_history.specs.Legal.{Legal}
 use Rattle.link_history.specs.Setting.{Setting}
 use Rattle.link_history.specs.State.{State}
-use Rattle.link_history.specs.Step.{closing_of, die, initialise, is_closing, loaded, lower, settle, step, unmap}
+use Rattle.link_history.specs.Step.{closing_of, die, initialise, is_closing, loaded, lower, step, unmap}
 use Rattle.link_history.specs.Lemmas.Lists.{from_filter, none_in, only_in}
 use Rattle.run_moments.specs.True.{WasClosed}
 use Rattle.run_moments.proofs.Listed.{all_were}
@@ -28,7 +28,7 @@ closing_is hart handle (d ∷ rest) c there =
     subst (ClosedBy (events.Close hart handle (closes.Done (d ∷ rest)))) (only_in (record { hart = hart; set = d ∷ rest }) c there) (record { handle = handle; event = refl })
 
 closed_by : (s : State) (e : Event) (c : Closing) → Contains (step s e).closings c → Contains s.closings c ⊎ ClosedBy e c
-unfolding loaded die lower unmap initialise settle
+unfolding loaded die lower unmap initialise
 closed_by s (events.Open hart ask (opens.Done id root added ranges)) c there = inl there
 closed_by s (events.Open hart ask opens.Absent) c there = inl there
 closed_by s (events.Open hart ask (opens.Refused fault)) c there = inl there

@@ -1,8 +1,7 @@
 -- A dlclose returns behind the unmapping of all that died by it.
 use Rattle.std.proofs.Common.{◌≡◌, ℕ, List, [], ◌∷◌, ◌++◌, length, Some, refl, sym, ap, subst, ◌∙◌, append-nil}
-use Rattle.std.proofs.lemmas.Slice.Eq.{take-append_seam}
+use Rattle.std.proofs.Math.Seq.{take-append_seam}
 use Rattle.std.specs.List.{slice_get}
-use Rattle.link_event.specs.declared.event.CloseAnswer.TheVariants as closings
 use Rattle.link_event.specs.declared.event.Event.{Event}
 use Rattle.link_event.specs.declared.event.Event.TheVariants as events
 use Rattle.ld_base.specs.declared.linking.Role.TheVariants.{None as NoRole}
@@ -15,10 +14,10 @@ use Rattle.link_history.specs.Memory.{role_at}
 use Rattle.link_history.specs.Setting.{Machine, Setting}
 use Rattle.link_history.specs.State.{State}
 use Rattle.link_history.specs.Lemmas.History.{after_push, legal_is_lawful}
-use Rattle.link_service.specs.Answer.{Answer, returns}
+use Rattle.link_service.specs.Answer.{Answer}
 use Rattle.link_service.specs.Call.{closes}
 use Rattle.link_service.specs.Gives.{Serves}
-use Rattle.hart_moves.specs.Moves.{Takes, events_of}
+use Rattle.hart_moves.specs.Moves.{Takes}
 use Rattle.turn_frames.specs.Closings.{ClosesAtOnce, ReturnsBehind}
 use Rattle.world_turns.specs.Turn.{Turn}
 use Rattle.world_turns.specs.World.{World, found_journal}
