@@ -1,12 +1,14 @@
 -- What holds at each moment of a run, and from each to each later one.
-use Rattle.std.proofs.Common.{ℕ, ◌≤◌, List, [], ◌∷◌, ◌++◌, refl, sym, ap, ◌∙◌, append-nil, append_assoc, arith}
+use Rattle.std.proofs.Common.{◌≡◌, ℕ, ◌≤◌, List, [], ◌∷◌, ◌++◌, refl, sym, ap, ◌∙◌, append-nil, append_assoc, arith}
 use Rattle.link_event.specs.declared.event.Event.{Event}
 use Rattle.link_event.specs.declared.event.Event.TheVariants as events
 use Rattle.link_event.specs.declared.hart_end.HartEnd.TheVariants as ends
+use Rattle.link_event.specs.declared.state.Granting.{Granting}
+use Rattle.link_event.specs.declared.state.Standing.TheVariants as standings
 use Rattle.link_served.specs.declared.startup.Setup.{Setup}
 use Rattle.link_history.specs.Accepted.{AcceptsOnly}
 use Rattle.link_history.specs.After.{after}
-use Rattle.link_history.specs.Laws.{BlocksAreApart, ImagesAreMapped, SlotsBegin, slot_address}
+use Rattle.link_history.specs.Laws.{BlocksAreApart, GrantsAreHeld, ImagesAreMapped, SlotsBegin, SlotsLeadToRx, slot_address}
 use Rattle.link_history.specs.Legal.{Lawful}
 use Rattle.link_history.specs.Setting.{Machine, Setting}
 use Rattle.link_history.specs.Lemmas.History.{legal_is_lawful}
@@ -37,6 +39,8 @@ use Rattle.run_moments.proofs.Unmapped.{UnmapLaws, returns_at_once, returns_behi
 pub record MomentLaws : Type 0 where
   pub mapped : (m : Machine) (journal : List Event) → Lawful m journal → ImagesAreMapped (after journal)
   pub begins : (m : Machine) (journal : List Event) → AcceptsOnly m → Lawful m journal → SlotsBegin (after journal)
+  pub held : (m : Machine) (journal : List Event) → Lawful m journal → GrantsAreHeld (after journal)
+  pub leads : (m : Machine) (journal : List Event) → AcceptsOnly m → Lawful m journal → SlotsLeadToRx (after journal)
   pub apart : (m : Machine) (journal : List Event) → Lawful m journal → BlocksAreApart m (after journal)
   pub new_blocks : HartsHaveNewBlocks
   pub start : StartIsSound
@@ -73,6 +77,9 @@ later_has_more w old new (Later.one_more _ between _ step more) =
 
 -- ---- moments
 
+not_lost : (g : Granting) → g.standing ≡ standings.Open → (saw : ℕ) → g.standing ≡ standings.Lost saw → ⊥
+not_lost g is saw lost = let no : standings.Open ≡ standings.Lost saw = sym is ∙ lost in cc
+
 module _ (laws : MomentLaws) (w : Setting) (only : AcceptsOnly w.machine) where
   turn_sound : (h : ℕ) (old new : World) → Sound w old → Turn w h old new → Sound w new
   turn_sound h old new sound turn = laws.sound w old new only sound (Later.one_more old new new (Steps.by_turn h turn) (Later.no_more new))
@@ -96,6 +103,8 @@ module _ (laws : MomentLaws) (w : Setting) (only : AcceptsOnly w.machine) where
         chosen = was_chosen w world.journal sound.legal;
         grants = λ h new turn. grants_in_calls w h world new turn;
         fits = sound.fits;
+        held = laws.held w.machine world.journal lawful;
+        offers = λ g there is. (laws.leads w.machine world.journal only lawful).granted g there (not_lost g is) (laws.held w.machine world.journal lawful g there is).owner;
         closed = was_closed w world.journal sound.legal;
         closes_own = own;
         returns_behind = λ h new turn. returns_behind laws.unmaps w h world new turn only (turn_sound h world new sound turn).legal;

@@ -17,6 +17,7 @@ use Rattle.link_event.specs.declared.handed.Function.{Function}
 use Rattle.link_event.specs.declared.state.Chosen.{Chosen}
 use Rattle.link_event.specs.declared.state.Closing.{Closing}
 use Rattle.link_event.specs.declared.state.Granting.{Granting}
+use Rattle.link_event.specs.declared.state.Standing.TheVariants.{Open as GrantOpen}
 use Rattle.seg_image.specs.Pages.{own_address}
 use Rattle.relocator.specs.Relocated.{moved_word}
 use Rattle.seg_image.specs.Roles.{role_of}
@@ -25,7 +26,7 @@ use Rattle.link_history.specs.After.{after}
 use Rattle.link_history.specs.Allowed.{Closes, MayGrant}
 use Rattle.link_history.specs.Bound.{chosen_of}
 use Rattle.link_history.specs.Changes.{taken}
-use Rattle.link_history.specs.Laws.{BlocksAreApart, ImagesAreMapped, slot_address}
+use Rattle.link_history.specs.Laws.{BlocksAreApart, GrantsAreHeld, ImagesAreMapped, slot_address}
 use Rattle.link_history.specs.Legal.{Legal}
 use Rattle.link_history.specs.Lookup.{is_storage_symbol, symbol_value}
 use Rattle.link_history.specs.Memory.{covers, image_at, role_at, word_at}
@@ -188,6 +189,10 @@ pub record IsTrueAt (w : Setting) (world : World) : Type 0 where
   -- what a grant chose the rules chose at one moment, that of its event; and what a slot got at load, at the opening of its object
   pub granted : (g : Granting) → Contains (after world.journal).grants g → WasGranted world.journal g
   pub chosen : (c : Chosen) → Contains (after world.journal).chosen c → WasChosen world.journal c
+  -- owner and target of a grant are mapped while it is open, and what its exchange may put into the slot is 0 or may be executed
+  pub held : GrantsAreHeld (after world.journal)
+  pub offers : (g : Granting) → Contains (after world.journal).grants g → g.standing ≡ GrantOpen
+      → (g.value ≡ 0) ⊎ (role_at (after world.journal) g.value ≡ Rx)
   -- a grant is made in its hart's own call, of whichever turn comes next; and a hart that is at a slot has the open grant of it
   pub grants : (h : ℕ) (new : World) (turn : Turn w h world new) → GrantsInCalls w h world new turn
   pub fits : (h : ℕ) (b : HartState) → slice_get world.harts h ≡ Some b → Fits (after world.journal) world.words h b.resolving

@@ -10,7 +10,7 @@ pub fn runs_have_moments()
 
 /// At each moment of a run the journal is legal, memory is as it says, each slot of a mapped object holds
 /// what it should and leads to no object but one that is mapped, what it chose was chosen at one moment,
-/// each grant is made in its hart's own call, what is unmapped died by one closing when nothing needed it,
+/// each grant is made in its hart's own call and holds what it is of while it is open, what is unmapped died by one closing when nothing needed it,
 /// the dlclose that it died by returns with that unmapping, blocks of thread-local storage are apart, and
 /// answers on it count from the hart's own block. From each moment to each later one the journal grows, and a slot that
 /// isn't lazy reads the same while its object is mapped.
@@ -20,6 +20,8 @@ pub fn moments_are_true()
     link_history::images_are_mapped();
     link_history::slots_begin();
     link_history::blocks_are_apart();
+    link_history::grants_are_held();
+    link_history::slots_lead_to_rx();
     link_history::memory_changes();
     new_blocks::harts_have_new_blocks();
     turn_frames::closings_unmap_first();

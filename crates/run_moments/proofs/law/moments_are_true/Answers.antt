@@ -5,6 +5,8 @@ pub returns : goal.returns
 returns c = runs_true (record {
   mapped = c.images_are_mapped.ensures;
   begins = c.slots_begin.ensures;
+  held = c.grants_are_held.ensures;
+  leads = c.slots_lead_to_rx.ensures;
   apart = c.blocks_are_apart.ensures;
   new_blocks = c.harts_have_new_blocks.ensures;
   start = c.runs_start_sound.ensures;
