@@ -149,9 +149,9 @@ mapped_one s object is =
     let inside = from_flat (λ (ns : Namespace). ns.objects) s.namespaces at.0 at.1 in
     record { namespace = inside.0; object = at.0; there = inside.1; inside = inside.2; is = at.2 }
 
-pub may_finish : (harts object : ℕ) (es : List Event) (objects : List ℕ) → list_all is_no_other_end es ≡ true → harts ≤ count_by is_end es
+pub may_finalise_at_end : (harts object : ℕ) (es : List Event) (objects : List ℕ) → list_all is_no_other_end es ≡ true → harts ≤ count_by is_end es
     → objects ≡ finis_of (after es) (map serial_of (mapped (after es))) → IsFirst objects object → MayFollow harts es (events.Fini 0 object)
-may_finish harts object es objects all enough are first =
+may_finalise_at_end harts object es objects all enough are first =
     let s = after es in
     let next : IsFirst (finis_of s (map serial_of (mapped s))) object = subst (λ (xs : List ℕ). IsFirst xs object) are first in
     let listed = from_filter (has (map serial_of (mapped s))) (reverse (unfinished s)) object (at_in (finis_of s (map serial_of (mapped s))) 0 object next) in

@@ -88,9 +88,15 @@ impl<'a> Book<'a> {
         }
     }
 
+    /// Takes in a line of source: behind a stock or a file.
     fn take_source(&mut self, line: &str) -> Result<(), Fault> {
-        self.source.push_str(line)?;
-        Ok(self.source.push_str("\n")?)
+        match self.part {
+            Part::Nothing => Err(Fault::Unclear),
+            Part::Stock | Part::File => {
+                self.source.push_str(line)?;
+                Ok(self.source.push_str("\n")?)
+            }
+        }
     }
 
     /// The example before is over.

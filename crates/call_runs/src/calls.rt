@@ -3,11 +3,10 @@
 //! To add a call, write a function that takes its arguments from [`Words`] and gives the answer as text, beside
 //! those of its topic, and name it here.
 
-use crate::run::{Run, Stage};
+use crate::run::Run;
 use crate::said::repetition;
 use crate::{dl_functions, reads, settling};
 use ld_base::{HartId, Name, NsId, Serial};
-use link_state::LinkState;
 use std::alloc::Global;
 use test_file::{Fault, Words};
 
@@ -35,6 +34,7 @@ fn step(alloc: Global, run: &mut Run, name: &str, words: &mut Words) -> Result<S
         "lost" => settling::lost(alloc, run, words),
         "initialised" => settling::initialised(alloc, run, words),
         "finalised" => settling::finalised(alloc, run, words),
+        "close" => settling::close(alloc, run, words),
         "unmap" => settling::unmap(alloc, run, words),
         "locate" => settling::locate(alloc, run, words),
         "wrote" => settling::wrote(alloc, run, words),
@@ -56,14 +56,6 @@ fn read(alloc: Global, run: &Run, name: &str, words: &mut Words) -> Result<Strin
         "room" => reads::room(alloc, run, words),
         "holder" => reads::holder(alloc, run, words),
         _ => Err(Fault::Unclear),
-    }
-}
-
-/// The state of a run that has started.
-pub fn running(run: &Run) -> Result<&LinkState, Fault> {
-    match &run.stage {
-        Stage::Running(state) => Ok(state),
-        Stage::Refused(_) => Err(Fault::Unclear),
     }
 }
 

@@ -83,14 +83,14 @@ pub fn may_finalise(
 ) -> Result<bool, AllocError>
     ensures { IfOk result (λ may. IsTrue may → MayFollow state.now.harts state.now.events (Fini hart object)) }
 {
-    if may_finish(alloc, state, hart, object)? {
+    if may_finalise_at_end(alloc, state, hart, object)? {
         return Ok(true);
     }
-    may_finalise_now(alloc, state, hart, object)
+    may_finalise_in_closing(alloc, state, hart, object)
 }
 
 /// Whether an object's destructors may have run by a closing of the hart.
-fn may_finalise_now(
+fn may_finalise_in_closing(
     alloc: Global,
     state: &LinkState,
     hart: HartId,
@@ -104,7 +104,7 @@ fn may_finalise_now(
 
 /// Whether an object's destructors may have run at the end of the run: every hart has ended by exit, and those of
 /// the object are the next.
-fn may_finish(
+fn may_finalise_at_end(
     alloc: Global,
     state: &LinkState,
     hart: HartId,

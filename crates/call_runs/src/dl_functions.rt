@@ -1,8 +1,8 @@
 //! The calls of dl functions.
 
-use crate::calls::{hart, name, namespace, running, some_name};
+use crate::calls::{hart, name, namespace, some_name};
 use crate::checks::{may_look, may_open};
-use crate::run::{Pending, Run, Stage};
+use crate::run::{Pending, Run};
 use crate::said::{functions_text, shown_text, value_text};
 use ld_base::{HartId, Name};
 use link_calls::{
@@ -18,9 +18,7 @@ use test_file::{Fault, Words};
 pub fn dlopen(alloc: Global, run: &mut Run, words: &mut Words) -> Result<String, Fault> {
     let (hart, caller) = (hart(words)?, namespace(words)?);
     let (name, flags) = (name(alloc, words)?, words.number()?);
-    let Stage::Running(state) = &mut run.stage else {
-        return Err(Fault::Unclear);
-    };
+    let state = run.stage.state_mut()?;
     if !may_open(state) {
         return Err(Fault::Unclear);
     }
@@ -46,9 +44,7 @@ pub fn dlmopen(alloc: Global, run: &mut Run, words: &mut Words) -> Result<String
         number => test_file::whole(number).ok_or(Fault::Unclear)?,
     };
     let (name, flags) = (name(alloc, words)?, words.number()?);
-    let Stage::Running(state) = &mut run.stage else {
-        return Err(Fault::Unclear);
-    };
+    let state = run.stage.state_mut()?;
     if !may_open(state) {
         return Err(Fault::Unclear);
     }
@@ -70,9 +66,7 @@ pub fn dlmopen(alloc: Global, run: &mut Run, words: &mut Words) -> Result<String
 pub fn dlsym(alloc: Global, run: &mut Run, words: &mut Words) -> Result<String, Fault> {
     let (hart, caller) = (hart(words)?, namespace(words)?);
     let (handle, name) = (words.number()?, some_name(alloc, words)?);
-    let Stage::Running(state) = &mut run.stage else {
-        return Err(Fault::Unclear);
-    };
+    let state = run.stage.state_mut()?;
     if !may_look(state, hart, caller) {
         return Err(Fault::Unclear);
     }
@@ -85,9 +79,7 @@ pub fn dlvsym(alloc: Global, run: &mut Run, words: &mut Words) -> Result<String,
     let (hart, caller) = (hart(words)?, namespace(words)?);
     let (handle, name) = (words.number()?, some_name(alloc, words)?);
     let version = some_name(alloc, words)?;
-    let Stage::Running(state) = &mut run.stage else {
-        return Err(Fault::Unclear);
-    };
+    let state = run.stage.state_mut()?;
     if !may_look(state, hart, caller) {
         return Err(Fault::Unclear);
     }
@@ -106,9 +98,7 @@ pub fn dlvsym(alloc: Global, run: &mut Run, words: &mut Words) -> Result<String,
 /// Closes for a hart: a handle.
 pub fn dlclose(alloc: Global, run: &mut Run, words: &mut Words) -> Result<String, Fault> {
     let (hart, handle) = (hart(words)?, words.number()?);
-    let Stage::Running(state) = &mut run.stage else {
-        return Err(Fault::Unclear);
-    };
+    let state = run.stage.state_mut()?;
     let served = close(alloc, state, hart, handle);
     take(alloc, run, hart, served)
 }
@@ -116,9 +106,7 @@ pub fn dlclose(alloc: Global, run: &mut Run, words: &mut Words) -> Result<String
 /// Tells a hart its refusal.
 pub fn dlerror(alloc: Global, run: &mut Run, words: &mut Words) -> Result<String, Fault> {
     let hart = hart(words)?;
-    let Stage::Running(state) = &mut run.stage else {
-        return Err(Fault::Unclear);
-    };
+    let state = run.stage.state_mut()?;
     match tell(alloc, state, hart)? {
         Some(text) => {
             let text = String::from_utf8_lossy(alloc, text.as_bytes())?;
@@ -130,7 +118,7 @@ pub fn dlerror(alloc: Global, run: &mut Run, words: &mut Words) -> Result<String
 
 /// The destructors that are left at the end of the run.
 pub fn final_functions(alloc: Global, run: &Run) -> Result<String, Fault> {
-    let functions = functions_left(alloc, running(run)?)?;
+    let functions = functions_left(alloc, run.stage.state()?)?;
     Ok(functions_text(alloc, &functions)?)
 }
 

@@ -1,6 +1,6 @@
 //! What there is: harts' registers, words of memory, and what the linker's state lends.
 
-use crate::calls::{namespace, running};
+use crate::calls::namespace;
 use crate::run::Run;
 use crate::said::write_serials;
 use ld_base::{Loaded, Role, State};
@@ -41,7 +41,7 @@ pub fn word(alloc: Global, run: &Run, words: &mut Words) -> Result<String, Fault
 /// A word of the block that the latest look-up made.
 pub fn block_word(alloc: Global, run: &Run, words: &mut Words) -> Result<String, Fault> {
     let address = words.number()?;
-    let made = running(run)?.made_block();
+    let made = run.stage.state()?.made_block();
     word_of_areas(alloc, made.areas.as_slice(), address)
 }
 
@@ -74,14 +74,14 @@ fn word_in(image: &Image, address: u64) -> Option<(u64, Role)> {
 
 fn namespace_of<'a>(run: &'a Run, words: &mut Words) -> Result<&'a Namespace, Fault> {
     let id = namespace(words)?;
-    running(run)?.namespace(id).ok_or(Fault::Unclear)
+    run.stage.state()?.namespace(id).ok_or(Fault::Unclear)
 }
 
 /// The objects of a namespace in load order, each with its state where it isn't ready.
 pub fn objects(alloc: Global, run: &Run, words: &mut Words) -> Result<String, Fault> {
     let mut text = String::new(alloc);
     let id = namespace(words)?;
-    match running(run)?.namespace(id) {
+    match run.stage.state()?.namespace(id) {
         Some(namespace) => {
             for object in namespace.objects.as_slice() {
                 write_object(&mut text, object)?;
@@ -128,7 +128,7 @@ pub fn opens(alloc: Global, run: &Run, words: &mut Words) -> Result<String, Faul
 /// static.
 pub fn modules(alloc: Global, run: &Run) -> Result<String, Fault> {
     let mut text = String::new(alloc);
-    for module in running(run)?.modules().as_slice() {
+    for module in run.stage.state()?.modules().as_slice() {
         let (number, serial) = (module.number, module.serial.number());
         write!(text, "{number}:{serial}")?;
         if let Some(offset) = module.offset {
@@ -148,7 +148,7 @@ pub fn room(alloc: Global, run: &Run, words: &mut Words) -> Result<String, Fault
     if pages == 0 {
         return Err(Fault::Unclear);
     }
-    let mut regions = running(run)?.regions().copy();
+    let mut regions = run.stage.state()?.regions().copy();
     match regions.reserve(pages, PAGE_SIZE) {
         Ok(address) => Ok(format!(in alloc; "{address:#x}")?),
         Err(_) => Ok(String::from_str(alloc, "full")?),
@@ -158,7 +158,7 @@ pub fn room(alloc: Global, run: &Run, words: &mut Words) -> Result<String, Fault
 /// The mapped object whose pages hold an address, with its namespace.
 pub fn holder(alloc: Global, run: &Run, words: &mut Words) -> Result<String, Fault> {
     let address = words.number()?;
-    match running(run)?.holder(address) {
+    match run.stage.state()?.holder(address) {
         Some((ns, serial)) => {
             let (ns, serial) = (ns.number(), serial.number());
             Ok(format!(in alloc; "{ns} {serial}")?)

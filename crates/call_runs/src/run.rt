@@ -31,6 +31,22 @@ pub enum Stage {
 }
 
 impl Stage {
+    /// The state of a run that has started.
+    pub fn state(&self) -> Result<&LinkState, Fault> {
+        match self {
+            Stage::Running(state) => Ok(state),
+            Stage::Refused(_) => Err(Fault::Unclear),
+        }
+    }
+
+    /// The same, to change it.
+    pub fn state_mut(&mut self) -> Result<&mut LinkState, Fault> {
+        match self {
+            Stage::Running(state) => Ok(state),
+            Stage::Refused(_) => Err(Fault::Unclear),
+        }
+    }
+
     /// The events so far.
     fn events(&self) -> &[Event] {
         match self {

@@ -8,11 +8,11 @@ use crate::checks::{
 };
 use crate::reasons::reason;
 use crate::run::{Pending, Run, Stage};
-use crate::said::value_text;
-use ld_base::{GrantNo, HartId};
+use crate::said::{value_text, write_serials};
+use ld_base::{GrantNo, HartId, Serial};
 use link_event::Dying;
-use link_state::{GrantFault, LinkState, TlsFault};
-use std::alloc::Global;
+use link_state::{CloseFault, GrantFault, TlsFault};
+use std::alloc::{AllocError, Global};
 use test_file::{Fault, Words};
 
 /// The most bytes that a hart writes at once.
@@ -22,7 +22,7 @@ const MOST_WRITTEN: usize = 256;
 pub fn grant(alloc: Global, run: &mut Run, words: &mut Words) -> Result<String, Fault> {
     let (hart, owner) = (hart(words)?, words.number()?);
     let eights = words.number()?.saturating_mul(8);
-    let state = state_of(run)?;
+    let state = run.stage.state_mut()?;
     if !may_ask(alloc, state, hart)? {
         return Err(Fault::Unclear);
     }
@@ -55,7 +55,7 @@ fn grant_fault_text(alloc: Global, fault: GrantFault) -> Result<String, Fault> {
 /// A grant's slot got its value.
 pub fn bound(alloc: Global, run: &mut Run, words: &mut Words) -> Result<String, Fault> {
     let grant = GrantNo::new(words.number()?);
-    let state = state_of(run)?;
+    let state = run.stage.state_mut()?;
     if !may_bind(alloc, state, grant)? {
         return Err(Fault::Unclear);
     }
@@ -67,7 +67,7 @@ pub fn bound(alloc: Global, run: &mut Run, words: &mut Words) -> Result<String, 
 pub fn lost(alloc: Global, run: &mut Run, words: &mut Words) -> Result<String, Fault> {
     let grant = GrantNo::new(words.number()?);
     let saw = words.number()?;
-    let state = state_of(run)?;
+    let state = run.stage.state_mut()?;
     if !may_lose(alloc, state, grant, saw)? {
         return Err(Fault::Unclear);
     }
@@ -78,7 +78,7 @@ pub fn lost(alloc: Global, run: &mut Run, words: &mut Words) -> Result<String, F
 /// The constructors of an object have run.
 pub fn initialised(alloc: Global, run: &mut Run, words: &mut Words) -> Result<String, Fault> {
     let (hart, serial) = (hart(words)?, serial(words)?);
-    let state = state_of(run)?;
+    let state = run.stage.state_mut()?;
     if !may_initialise(alloc, state, hart, serial)? {
         return Err(Fault::Unclear);
     }
@@ -89,12 +89,32 @@ pub fn initialised(alloc: Global, run: &mut Run, words: &mut Words) -> Result<St
 /// The destructors of an object have run.
 pub fn finalised(alloc: Global, run: &mut Run, words: &mut Words) -> Result<String, Fault> {
     let (hart, serial) = (hart(words)?, serial(words)?);
-    let state = state_of(run)?;
+    let state = run.stage.state_mut()?;
     if !may_finalise(alloc, state, hart, serial)? {
         return Err(Fault::Unclear);
     }
     state.finalised(hart, serial);
     done(alloc)
+}
+
+/// A hart closes a handle, by the state's own call: no functions are handed out. Gives what dies.
+pub fn close(alloc: Global, run: &mut Run, words: &mut Words) -> Result<String, Fault> {
+    let (hart, handle) = (hart(words)?, words.number()?);
+    match run.stage.state_mut()?.apply_close(hart, handle) {
+        Ok(dying) => {
+            let text = dying_text(alloc, dying.list.as_slice())?;
+            run.closings.push(Pending { hart, dying })?;
+            Ok(text)
+        }
+        Err(CloseFault::BadHandle(handle)) => Ok(format!(in alloc; "no bad-handle {handle:#x}")?),
+        Err(CloseFault::Memory) => Err(Fault::Memory),
+    }
+}
+
+fn dying_text(alloc: Global, dying: &[Serial]) -> Result<String, AllocError> {
+    let mut text = String::from_str(alloc, "dying ")?;
+    write_serials(&mut text, dying)?;
+    Ok(text)
 }
 
 /// A hart unmaps the objects of its latest closing that is left.
@@ -128,9 +148,7 @@ fn held_by(
     hart: HartId,
     dying: &Dying,
 ) -> Result<Option<GrantNo>, Fault> {
-    let Stage::Running(state) = stage else {
-        return Err(Fault::Unclear);
-    };
+    let state = stage.state_mut()?;
     if !may_unmap(alloc, state, hart, dying)? {
         return Err(Fault::Unclear);
     }
@@ -140,7 +158,7 @@ fn held_by(
 /// A hart asks where its block of a module is.
 pub fn locate(alloc: Global, run: &mut Run, words: &mut Words) -> Result<String, Fault> {
     let (hart, number) = (hart(words)?, words.number()?);
-    let state = state_of(run)?;
+    let state = run.stage.state_mut()?;
     if hart.number() >= state.harts() {
         return Err(Fault::Unclear);
     }
@@ -159,14 +177,14 @@ pub fn wrote(alloc: Global, run: &mut Run, words: &mut Words) -> Result<String, 
     if bytes.is_empty() || bytes.len() > MOST_WRITTEN {
         return Err(Fault::Unclear);
     }
-    state_of(run)?.wrote(hart, bytes)?;
+    run.stage.state_mut()?.wrote(hart, bytes)?;
     done(alloc)
 }
 
 /// A hart ends.
 pub fn ended(alloc: Global, run: &mut Run, words: &mut Words) -> Result<String, Fault> {
     let (hart, reason) = (hart(words)?, reason(words)?);
-    let state = state_of(run)?;
+    let state = run.stage.state_mut()?;
     if !may_end(state, hart) {
         return Err(Fault::Unclear);
     }
@@ -176,11 +194,4 @@ pub fn ended(alloc: Global, run: &mut Run, words: &mut Words) -> Result<String, 
 
 fn done(alloc: Global) -> Result<String, Fault> {
     Ok(String::from_str(alloc, "done")?)
-}
-
-fn state_of(run: &mut Run) -> Result<&mut LinkState, Fault> {
-    match &mut run.stage {
-        Stage::Running(state) => Ok(state),
-        Stage::Refused(_) => Err(Fault::Unclear),
-    }
 }

@@ -25,7 +25,7 @@ use Rattle.final_turns.specs.Planned.{FinalsMayFollow, FinalsMayFollowIn, IsPlan
 use Rattle.final_turns.specs.Table.{FinalPlan, finis, plan_events}
 use Rattle.guest_worlds.specs.Coming.{HasEnd, LeavesHart}
 use Rattle.guest_worlds.specs.Laws.{FinalsNow, MayGoOn, SettlesNow}
-use Rattle.guest_worlds.specs.Worlds.{IsAt, setting_without, world_of}
+use Rattle.guest_worlds.specs.Worlds.{MayBeAt, setting_without, world_of}
 use Rattle.guest_worlds.specs.declared.turn.Turn.{Turn as CameTurn}
 use Rattle.guest_turns.specs.Lemmas.Places.{freed_are, read_at, written_at}
 use Rattle.answer_turns.specs.Settling.{freed_in, harts_in}
@@ -91,14 +91,14 @@ due_found free false b d is s = is s
 
 -- ---- the run that it finds
 
-at_found : SettlesNow → (t : Bool) (count : ℕ) (folders : List (List ℕ)) (begun : Bool) (world : World) → IsAt count folders begun world
-    → IsAt count folders begun (record { journal = world.journal ++ cond t (settling world.harts) []; words = world.words; harts = cond t (map freed world.harts) world.harts })
+at_found : SettlesNow → (t : Bool) (count : ℕ) (folders : List (List ℕ)) (begun : Bool) (world : World) → MayBeAt count folders begun world
+    → MayBeAt count folders begun (record { journal = world.journal ++ cond t (settling world.harts) []; words = world.words; harts = cond t (map freed world.harts) world.harts })
 at_found settles true count folders begun world at = (settles count folders begun world at).at
 at_found settles false count folders begun world at =
-    subst (λ (es : List Event). IsAt count folders begun (record { journal = es; words = world.words; harts = world.harts })) (sym (append-nil world.journal)) at
+    subst (λ (es : List Event). MayBeAt count folders begun (record { journal = es; words = world.words; harts = world.harts })) (sym (append-nil world.journal)) at
 
 goes_on : SettlesNow → FinalsNow → FreedIsDue → (t : Bool) (count : ℕ) (folders : List (List ℕ)) (begun : Bool) (world : World) (h : ℕ) (b : HartState) (code object : ℕ)
-    → IsAt count folders begun world → slice_get world.harts h ≡ Some b → ((s : State) → due s b ≡ Due.finalise code object)
+    → MayBeAt count folders begun world → slice_get world.harts h ≡ Some b → ((s : State) → due s b ≡ Due.finalise code object)
     → MayGoOn count (world.journal ++ cond t (settling world.harts) []) h object (cond t (freed b) b)
 goes_on settles finals free t count folders begun world h b code object at there is =
     let found : World = record { journal = world.journal ++ cond t (settling world.harts) []; words = world.words; harts = cond t (map freed world.harts) world.harts } in

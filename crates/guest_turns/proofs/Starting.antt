@@ -11,7 +11,7 @@ use Rattle.rv_hart.specs.declared.doubleword.Doubleword.{Doubleword}
 use Rattle.hart_moves.specs.Harts.{HartState}
 use Rattle.hart_moves.specs.Moves.{ended, freed}
 use Rattle.guest_worlds.specs.Laws.{FirstEndsNow, SettlesNow}
-use Rattle.guest_worlds.specs.Worlds.{IsAt, MayEndNow, world_of}
+use Rattle.guest_worlds.specs.Worlds.{MayBeAt, MayEndNow, world_of}
 use Rattle.hart_seat.specs.Table.{HartTable}
 use Rattle.link_state.specs.Table.{LinkTable}
 use Rattle.rv_hart.specs.Registers.{Registers}
@@ -38,7 +38,7 @@ first_exited [] b at over = absurd (none-some b at)
 first_exited (x ∷ rest) b at over = let same : x ≡ b = cc in subst (λ (y : HartState). IsTrue (has_exited y)) same (and_parts (has_exited x) (list_all has_exited rest) over).0
 
 -- so the first may end once more
-may_end : SettlesNow → FirstEndsNow → (count : ℕ) (folders : List (List ℕ)) (world : World) → IsAt count folders false world
+may_end : SettlesNow → FirstEndsNow → (count : ℕ) (folders : List (List ℕ)) (world : World) → MayBeAt count folders false world
     → IsTrue (list_all has_exited world.harts) → 0 < length world.harts
     → MayFollowAll count world.journal (settling world.harts) × MayEndNow count (world.journal ++ settling world.harts) 0
 may_end settles first count folders world at over some =

@@ -24,7 +24,7 @@ use Rattle.world_turns.specs.Turn.{Turn as one_turn}
 use Rattle.world_turns.specs.World.{settling}
 use Rattle.guest_worlds.specs.Coming.{LeavesHart}
 use Rattle.guest_worlds.specs.Laws.{CallsNow, MaySettle, PassesNow, ServiceTurns, SettlesNow}
-use Rattle.guest_worlds.specs.Worlds.{IsAt, TurnsOver, world_of}
+use Rattle.guest_worlds.specs.Worlds.{MayBeAt, TurnsOver, world_of}
 use Rattle.guest_worlds.specs.declared.turn.Turn.{Turn}
 use Rattle.guest_worlds.specs.declared.turn.Turn.TheVariants as turn
 use Rattle.guest_turns.specs.Next.{OfNext}
@@ -96,7 +96,7 @@ module _ (old mid : LinkTable) (words : List Doubleword) (harts after_all : List
 
   -- ---- what the turn meets
 
-  module _ (folders : List (List ℕ)) (begun : Bool) (at : IsAt old.harts folders begun (world_of old words harts)) (settles : SettlesNow) where
+  module _ (folders : List (List ℕ)) (begun : Bool) (at : MayBeAt old.harts folders begun (world_of old words harts)) (settles : SettlesNow) where
     settled_at : MaySettle old.harts folders begun (world_of old words harts)
     settled_at = settles old.harts folders begun (world_of old words harts) at
 

@@ -21,17 +21,7 @@ AsksNothing world h = (b : HartState) → slice_get world.harts h ≡ Some b →
 
 -- the final destructors of an object have run
 abbrev pub is_final : Due → Bool
-is_final Due.nothing = false
-is_final (Due.exchange o) = false
-is_final (Due.finish o found) = false
-is_final Due.fuel_out = false
-is_final Due.instruction = false
-is_final (Due.copy copy start bytes) = false
-is_final (Due.serve call back) = false
-is_final (Due.store text stored word more) = false
-is_final (Due.enter function frames) = false
-is_final (Due.complete purpose object rest below) = false
-is_final (Due.finalise code object) = true
+is_final d = elim d [ Due.finalise code object ↦ true | _ ↦ false ]
 
 -- a turn that asks the linker, or the one behind the final destructors of an object
 abbrev pub needs_linker : Due → Bool
@@ -50,25 +40,7 @@ IsAsked d None = asks_linker d ≡ false
 
 -- the linker may have the hart run constructors by an opening, and destructors by a closing (dlopen(3), dlclose(3))
 abbrev pub may_run_by : Call → Bool
-may_run_by (resolves owner eights) = false
-may_run_by (opens ask) = true
-may_run_by (looks_up ask) = false
-may_run_by (closes handle) = true
-may_run_by (unmaps set) = false
-may_run_by asks_fault = false
-may_run_by (locates number offset) = false
-may_run_by (writes bytes) = false
-may_run_by (stops reason) = false
+may_run_by call = elim call [ opens ask ↦ true | closes handle ↦ true | _ ↦ false ]
 
 abbrev pub may_run_functions : Due → Bool
-may_run_functions Due.nothing = false
-may_run_functions (Due.exchange o) = false
-may_run_functions (Due.finish o found) = false
-may_run_functions Due.fuel_out = false
-may_run_functions Due.instruction = false
-may_run_functions (Due.copy copy start bytes) = false
-may_run_functions (Due.serve call back) = may_run_by call
-may_run_functions (Due.store text stored word more) = false
-may_run_functions (Due.enter function frames) = false
-may_run_functions (Due.complete purpose object rest below) = false
-may_run_functions (Due.finalise code object) = false
+may_run_functions d = elim d [ Due.serve call back ↦ may_run_by call | _ ↦ false ]

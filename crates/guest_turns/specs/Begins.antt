@@ -9,7 +9,7 @@ use Rattle.rv_hart.specs.Registers.{Registers}
 use Rattle.rv_hart.specs.declared.doubleword.Doubleword.{Doubleword}
 use Rattle.hart_moves.specs.Moves.{all_finis}
 use Rattle.hart_seat.specs.Table.{HartTable}
-use Rattle.guest_worlds.specs.Worlds.{IsAt, world_of}
+use Rattle.guest_worlds.specs.Worlds.{MayBeAt, world_of}
 use Rattle.world_turns.specs.Run.{Begins, LacksMemory}
 use Rattle.world_turns.specs.World.{World}
 use Rattle.guest_turns.specs.declared.beginning.Beginning.{Beginning}
@@ -17,7 +17,7 @@ use Rattle.guest_turns.specs.declared.beginning.Beginning.TheVariants as begins
 
 -- the linker's state and the harts are those of a run before its final destructors
 abbrev pub IsBeforeFinals : LinkTable → List HartTable → Type 0
-IsBeforeFinals state harts = (words : List Doubleword) × (folders : List (List ℕ)) × IsAt state.harts folders false (world_of state words harts)
+IsBeforeFinals state harts = (words : List Doubleword) × (folders : List (List ℕ)) × MayBeAt state.harts folders false (world_of state words harts)
 
 -- in each run on this machine there was no memory for them
 abbrev pub LacksMemoryOn : ℕ → World → World → Type 0

@@ -9,7 +9,7 @@ use Rattle.link_history.specs.Setting.{Setting}
 use Rattle.rv_hart.specs.declared.doubleword.Doubleword.{Doubleword}
 use Rattle.hart_moves.specs.Due.{due}
 use Rattle.hart_moves.specs.Harts.{HartState}
-use Rattle.guest_worlds.specs.Worlds.{IsAt, MayEndNow}
+use Rattle.guest_worlds.specs.Worlds.{MayBeAt, MayEndNow}
 use Rattle.turn_answers.specs.Following.{MayFollowAll}
 use Rattle.world_turns.specs.Turn.{Turn}
 use Rattle.world_turns.specs.World.{World, settling}
@@ -18,7 +18,7 @@ use Rattle.guest_turns.specs.Ending.{EndsAmong}
 
 -- in the place of a hart that runs stands one that is as far with its slot: then what is to settle may be settled, and the hart may end
 abbrev pub EndsMayCome : Type 0
-EndsMayCome = (count : ℕ) (folders : List (List ℕ)) (begun : Bool) (world : World) (h : ℕ) (b c : HartState) → IsAt count folders begun world
+EndsMayCome = (count : ℕ) (folders : List (List ℕ)) (begun : Bool) (world : World) (h : ℕ) (b c : HartState) → MayBeAt count folders begun world
     → slice_get world.harts h ≡ Some b → b.«end» ≡ None → c.resolving ≡ b.resolving
     → MayFollowAll count world.journal (settling (slice_set world.harts h c)) × MayEndNow count (world.journal ++ settling (slice_set world.harts h c)) h
 

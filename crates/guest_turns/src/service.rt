@@ -2,7 +2,7 @@
 
 ghost use Rattle.std.specs.Prelude.{◌≡◌, ◌<◌, ◌≤◌, length, Bool, IfNone, IfSome};
 ghost use Rattle.guest_worlds.specs.Coming.{LeavesHart};
-ghost use Rattle.guest_worlds.specs.Worlds.{IsAt, TurnsOver, world_of};
+ghost use Rattle.guest_worlds.specs.Worlds.{MayBeAt, TurnsOver, world_of};
 ghost use Rattle.guest_turns.specs.Asking.{AsksNothing};
 ghost use Rattle.guest_turns.specs.Next.{NextOpens, NextReadsNothing, NextRefusalIsCounted, NextTells};
 
@@ -34,7 +34,7 @@ pub fn take_service<L: Library>(
     library: &mut L,
 ) -> Option<Turn>
     requires hart { id < length harts.old }
-    requires at { (begun : Bool) × IsAt state.old.harts folders.now begun (world_of state.old memory.old harts.old) }
+    requires at { (begun : Bool) × MayBeAt state.old.harts folders.now begun (world_of state.old memory.old harts.old) }
     ensures turn { IfSome result (λ came. TurnsOver state.old.harts folders.now (L.files library.old) id
         (world_of state.old memory.old harts.old) (world_of state.new memory.new harts.new)) }
     ensures comes { IfSome result (LeavesHart (world_of state.old memory.old harts.old) (world_of state.new memory.new harts.new) id) }

@@ -15,7 +15,7 @@ use Rattle.world_ends.specs.Laws.{StartFits, TurnsKeepBefore}
 use Rattle.running_worlds.specs.Laws.{FinalsLackRuns, FinalsRun, StartRuns, TurnsRun}
 use Rattle.running_worlds.specs.Running.{IsRunning}
 use Rattle.guest_worlds.specs.Laws.{FinalsBeginAt, FinalsLackAt, StartIsAt, TurnsStayAt}
-use Rattle.guest_worlds.specs.Worlds.{IsAt, setting_without}
+use Rattle.guest_worlds.specs.Worlds.{MayBeAt, setting_without}
 use Rattle.guest_worlds.proofs.Moving.{untold_turn}
 
 pub record Laws : Type 0 where
@@ -76,7 +76,7 @@ module _ (laws : Laws) where
       given : Setting
       given = record { machine = machine_of count; folders = folders; preload = at.preload; files = files }
 
-      after_turn : Turn (setting_without count folders at.preload) h old new → IsAt count folders begun new
+      after_turn : Turn (setting_without count folders at.preload) h old new → MayBeAt count folders begun new
       after_turn turn =
           let w : Setting = setting_without count folders at.preload in
           record {
@@ -86,9 +86,9 @@ module _ (laws : Laws) where
             writing = laws.turns_write w h old new turn at.writing;
           }
 
-      by : TakesTurn given h old new → IsAt count folders begun new
+      by : TakesTurn given h old new → MayBeAt count folders begun new
       by (TakesTurn.turn turn) = after_turn (untold_turn laws.untold_events laws.untold_calls given h old new turn)
-      by (TakesTurn.passed_over b reason there over same) = subst (IsAt count folders begun) (sym same) at
+      by (TakesTurn.passed_over b reason there over same) = subst (MayBeAt count folders begun) (sym same) at
 
   -- ---- the final destructors
 

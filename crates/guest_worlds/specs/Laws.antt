@@ -24,7 +24,7 @@ use Rattle.world_turns.specs.Memory.{Does}
 use Rattle.world_turns.specs.Run.{Begins, IsStarted, LacksMemory, have_exited, settled}
 use Rattle.world_turns.specs.Turn.{Turn}
 use Rattle.world_turns.specs.World.{World, settling}
-use Rattle.guest_worlds.specs.Worlds.{IsAt, MayEndNow, TakesOver}
+use Rattle.guest_worlds.specs.Worlds.{MayBeAt, MayEndNow, TakesOver}
 
 -- ---- how a turn is put together
 
@@ -46,19 +46,19 @@ ServiceTurns = (w : Setting) (h : ℕ) (old : World) (words : List Doubleword) (
 -- what is to settle may be settled, and then the run is at a moment as before
 pub record MaySettle (count : ℕ) (folders : List (List ℕ)) (begun : Bool) (world : World) : Type 0 where
   pub may : MayFollowAll count world.journal (settling world.harts)
-  pub at : IsAt count folders begun (settled world)
+  pub at : MayBeAt count folders begun (settled world)
 
 abbrev pub SettlesNow : Type 0
-SettlesNow = (count : ℕ) (folders : List (List ℕ)) (begun : Bool) (world : World) → IsAt count folders begun world → MaySettle count folders begun world
+SettlesNow = (count : ℕ) (folders : List (List ℕ)) (begun : Bool) (world : World) → MayBeAt count folders begun world → MaySettle count folders begun world
 
 -- a hart that runs may end
 abbrev pub EndsNow : Type 0
-EndsNow = (count : ℕ) (folders : List (List ℕ)) (begun : Bool) (world : World) (h : ℕ) (b : HartState) → IsAt count folders begun world
+EndsNow = (count : ℕ) (folders : List (List ℕ)) (begun : Bool) (world : World) (h : ℕ) (b : HartState) → MayBeAt count folders begun world
     → slice_get world.harts h ≡ Some b → b.«end» ≡ None → MayEndNow count world.journal h
 
 -- and once each hart has ended by exit, before the final destructors, the first one may once more
 abbrev pub FirstEndsNow : Type 0
-FirstEndsNow = (count : ℕ) (folders : List (List ℕ)) (world : World) → IsAt count folders false world → IsTrue (have_exited world) → 0 < length world.harts
+FirstEndsNow = (count : ℕ) (folders : List (List ℕ)) (world : World) → MayBeAt count folders false world → IsTrue (have_exited world) → 0 < length world.harts
     → MayEndNow count world.journal 0
 
 -- a hart whose next turn is a call of the linker, and whose grant is settled, may make it, and has fuel for it
@@ -72,12 +72,12 @@ pub record MayCall (count : ℕ) (past : List Event) (h : ℕ) (b : HartState) :
 
 abbrev pub CallsNow : Type 0
 CallsNow = (count : ℕ) (folders : List (List ℕ)) (begun : Bool) (world : World) (h : ℕ) (b : HartState) (call : Call) (to : Return)
-    → IsAt count folders begun world → slice_get world.harts h ≡ Some b → freed b ≡ b → due (after world.journal) b ≡ Due.serve call to
+    → MayBeAt count folders begun world → slice_get world.harts h ≡ Some b → freed b ≡ b → due (after world.journal) b ≡ Due.serve call to
     → MayCall count world.journal h b
 
 -- objects whose functions have run may pass
 abbrev pub PassesNow : Type 0
-PassesNow = (count : ℕ) (folders : List (List ℕ)) (begun : Bool) (world : World) (h : ℕ) (b : HartState) → IsAt count folders begun world
+PassesNow = (count : ℕ) (folders : List (List ℕ)) (begun : Bool) (world : World) (h : ℕ) (b : HartState) → MayBeAt count folders begun world
     → slice_get world.harts h ≡ Some b → MayPass count world.journal h (due (after world.journal) b)
 
 -- and so in the final destructors, which the first hart alone runs
@@ -89,7 +89,7 @@ pub record MayGoOn (count : ℕ) (past : List Event) (h object : ℕ) (b : HartS
 
 abbrev pub FinalsNow : Type 0
 FinalsNow = (count : ℕ) (folders : List (List ℕ)) (begun : Bool) (world : World) (h : ℕ) (b : HartState) (code object : ℕ)
-    → IsAt count folders begun world → slice_get world.harts h ≡ Some b → due (after world.journal) b ≡ Due.finalise code object
+    → MayBeAt count folders begun world → slice_get world.harts h ≡ Some b → due (after world.journal) b ≡ Due.finalise code object
     → MayGoOn count world.journal h object b
 
 -- ---- a run goes on
@@ -97,19 +97,19 @@ FinalsNow = (count : ℕ) (folders : List (List ℕ)) (begun : Bool) (world : Wo
 -- its start, over whatever files
 abbrev pub StartIsAt : Type 0
 StartIsAt = (w : Setting) (setup : Setup) (world : World) (count : ℕ) → w.machine ≡ machine_of count → IsStarted w setup world
-    → is_startup (after world.journal) ≡ false → IsAt count setup.folders false world
+    → is_startup (after world.journal) ≡ false → MayBeAt count setup.folders false world
 
 -- each turn
 abbrev pub TurnsStayAt : Type 0
 TurnsStayAt = (count : ℕ) (folders : List (List ℕ)) (files : Option (List File)) (begun : Bool) (h : ℕ) (old new : World)
-    → IsAt count folders begun old → TakesOver count folders files h old new → IsAt count folders begun new
+    → MayBeAt count folders begun old → TakesOver count folders files h old new → MayBeAt count folders begun new
 
 -- the begin of the final destructors
 abbrev pub FinalsBeginAt : Type 0
-FinalsBeginAt = (count : ℕ) (folders : List (List ℕ)) (registers : Registers) (old new : World) → IsAt count folders false old
-    → IsTrue (have_exited old) → Begins registers old new → IsAt count folders true new
+FinalsBeginAt = (count : ℕ) (folders : List (List ℕ)) (registers : Registers) (old new : World) → MayBeAt count folders false old
+    → IsTrue (have_exited old) → Begins registers old new → MayBeAt count folders true new
 
 -- or want of memory for them
 abbrev pub FinalsLackAt : Type 0
-FinalsLackAt = (count : ℕ) (folders : List (List ℕ)) (old new : World) → IsAt count folders false old → IsTrue (have_exited old)
-    → ((w : Setting) → IsOn (machine_of count) w → LacksMemory w old new) → IsAt count folders true new
+FinalsLackAt = (count : ℕ) (folders : List (List ℕ)) (old new : World) → MayBeAt count folders false old → IsTrue (have_exited old)
+    → ((w : Setting) → IsOn (machine_of count) w → LacksMemory w old new) → MayBeAt count folders true new

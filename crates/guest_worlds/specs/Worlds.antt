@@ -27,8 +27,8 @@ world_of state words harts = record { journal = state.events; words = words; har
 abbrev pub setting_without : ℕ → (folders preload : List (List ℕ)) → Setting
 setting_without count folders preload = record { machine = machine_of count; folders = folders; preload = preload; files = None }
 
--- a run of so many harts with these folders, and with some preload names, is at this world; its final destructors have begun, or they haven't
-pub record IsAt (count : ℕ) (folders : List (List ℕ)) (begun : Bool) (world : World) : Type 0 where
+-- what holds of the world of a run of so many harts with these folders, and with some preload names, whose final destructors have begun, or haven't
+pub record MayBeAt (count : ℕ) (folders : List (List ℕ)) (begun : Bool) (world : World) : Type 0 where
   pub preload : List (List ℕ)
   pub running : IsRunning (setting_without count folders preload) world
   pub before : begun ≡ false → BeforeFinals (setting_without count folders preload) world
@@ -36,7 +36,7 @@ pub record IsAt (count : ℕ) (folders : List (List ℕ)) (begun : Bool) (world 
 
 -- whichever folders it has, and however far it is
 abbrev pub IsSomewhere : ℕ → World → Type 0
-IsSomewhere count world = (folders : List (List ℕ)) × (begun : Bool) × IsAt count folders begun world
+IsSomewhere count world = (folders : List (List ℕ)) × (begun : Bool) × MayBeAt count folders begun world
 
 -- ---- turns
 

@@ -1,6 +1,7 @@
 -- What words ask for.
 use Rattle.std.proofs.Common.{◌≡◌, ◌⊎◌, inl, inr, ⊎_elim, ℕ, List, Option, Some, None, Result, Ok, Err, refl, ap, subst}
 use Rattle.std.specs.Prelude.{IfOk}
+use Rattle.std.proofs.lemmas.Bool.{true≢false}
 use Rattle.std.specs.declared.alloc.AllocError.{AllocError}
 use Rattle.command_line.specs.Reads.{OneCommand, Reads}
 use Rattle.command_line.specs.declared.command.Command.{Command}
@@ -74,21 +75,17 @@ generated words number reads before after (Ok a) come = record { asked = Some (c
 
 -- nothing was read
 pub left_as_is : {L : Type 0} (command : Option Command) (library : L) → LeavesLibrary command library library
-left_as_is None library = tt
-left_as_is (Some (commands.Bind bind)) library = tt
-left_as_is (Some (commands.Dump path)) library = tt
-left_as_is (Some (commands.Assemble path)) library = tt
-left_as_is (Some (commands.Turns turns)) library = tt
-left_as_is (Some (commands.Run run)) library = tt
-left_as_is (Some (commands.Generate number)) library = refl
+left_as_is None library = refl
+left_as_is (Some command) library = λ unread. refl
 
--- turns may have read
-pub turns_read : {L : Type 0} → OneCommand → (words : List (List ℕ)) (turns : Turns) → Reads words (commands.Turns turns) → (before after : L) → OfAsked words (λ command. LeavesLibrary command before after)
-turns_read one words turns reads before after = by (told (commands.Turns turns))
+-- turns may have read where its schedule is one
+pub turns_read : {L : Type 0} → OneCommand → (words : List (List ℕ)) (turns : Turns) → Reads words (commands.Turns turns) → (before after : L) → ((IsScheduled turns → ⊥) → after ≡ before)
+    → OfAsked words (λ command. LeavesLibrary command before after)
+turns_read one words turns reads before after unread = by (told (commands.Turns turns))
   where
     by : CanBeDone (commands.Turns turns) ⊎ (CanBeDone (commands.Turns turns) → ⊥) → OfAsked words (λ command. LeavesLibrary command before after)
-    by (inl can) = record { asked = Some (commands.Turns turns); asks = (reads, can); holds = tt }
-    by (inr cannot) = not_done one words (commands.Turns turns) reads cannot tt
+    by (inl can) = record { asked = Some (commands.Turns turns); asks = (reads, can); holds = λ no. absurd (true≢false no) }
+    by (inr cannot) = not_done one words (commands.Turns turns) reads cannot (unread cannot)
 
 -- ---- words that are none
 

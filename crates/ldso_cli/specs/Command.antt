@@ -1,5 +1,5 @@
 -- What the words of the command line come to: a row for each command.
-use Rattle.std.specs.Prelude.{◌≡◌, ◌≢◌, ◌⊎◌, ℕ, List, Option, Some, None}
+use Rattle.std.specs.Prelude.{◌≡◌, ◌≢◌, ◌⊎◌, ℕ, Bool, true, false, List, Option, Some, None, IsFalse, IsTrue}
 use Rattle.ld_base.specs.declared.fault.DlFault.TheVariants as dl
 use Rattle.ld_base.specs.declared.linking.File.{File}
 use Rattle.library_source.specs.Count.{Rises}
@@ -57,23 +57,22 @@ Misses (commands.Generate number) before after name = Unit {0}
 abbrev pub NoReadFails : End → Type 0
 NoReadFails end = (path : List ℕ) → end.cause ≢ causes.Refused (dl.ReadFault path)
 
--- the library tells these files, or the command reads none of its: gen makes those that it reads
-abbrev pub AreTold : Command → LibraryAt → List File → Type 0
-AreTold (commands.Bind bind) library files = library.files ≡ Some files
-AreTold (commands.Dump path) library files = library.files ≡ Some files
-AreTold (commands.Assemble path) library files = library.files ≡ Some files
-AreTold (commands.Turns turns) library files = library.files ≡ Some files
-AreTold (commands.Run run) library files = library.files ≡ Some files
-AreTold (commands.Generate number) library files = Unit {0}
+-- whether a command reads files of its library: gen makes those that it reads
+abbrev pub reads_library : Command → Bool
+reads_library (commands.Bind bind) = true
+reads_library (commands.Dump path) = true
+reads_library (commands.Assemble path) = true
+reads_library (commands.Turns turns) = true
+reads_library (commands.Run run) = true
+reads_library (commands.Generate number) = false
 
--- no read of its library failed, or the command made none
+-- the library of a command that reads some tells these files
+abbrev pub AreTold : Command → LibraryAt → List File → Type 0
+AreTold command library files = IsTrue (reads_library command) → library.files ≡ Some files
+
+-- no read of it failed
 abbrev pub ReadsWell : Command → LibraryAt → LibraryAt → Type 0
-ReadsWell (commands.Bind bind) before after = ¬ (Rises before.faults after.faults)
-ReadsWell (commands.Dump path) before after = ¬ (Rises before.faults after.faults)
-ReadsWell (commands.Assemble path) before after = ¬ (Rises before.faults after.faults)
-ReadsWell (commands.Turns turns) before after = ¬ (Rises before.faults after.faults)
-ReadsWell (commands.Run run) before after = ¬ (Rises before.faults after.faults)
-ReadsWell (commands.Generate number) before after = Unit {0}
+ReadsWell command before after = IsTrue (reads_library command) → ¬ (Rises before.faults after.faults)
 
 -- over these files a command comes to this end, and prints this text at it
 pub record IsAnswer (command : Command) (before after : LibraryAt) (end : End) (text : List ℕ) (files : List File) : Type 0 where
@@ -103,15 +102,10 @@ abbrev pub Answers : Option Command → LibraryAt → LibraryAt → End → List
 Answers None before after end text = IsUsage end text
 Answers (Some command) before after end text = CommandAnswers command before after end text
 
--- gen doesn't touch the library, whether it comes to an answer or not
+-- where the words ask for no command, and by one that doesn't read it, the library isn't touched, whether an answer comes of it or not
 abbrev pub LeavesLibrary : {L : Type 0} → Option Command → L → L → Type 0
-LeavesLibrary None before after = Unit {0}
-LeavesLibrary (Some (commands.Bind bind)) before after = Unit {0}
-LeavesLibrary (Some (commands.Dump path)) before after = Unit {0}
-LeavesLibrary (Some (commands.Assemble path)) before after = Unit {0}
-LeavesLibrary (Some (commands.Turns turns)) before after = Unit {0}
-LeavesLibrary (Some (commands.Run run)) before after = Unit {0}
-LeavesLibrary (Some (commands.Generate number)) before after = after ≡ before
+LeavesLibrary None before after = after ≡ before
+LeavesLibrary (Some command) before after = IsFalse (reads_library command) → after ≡ before
 
 -- ---- for the code of this crate alone
 

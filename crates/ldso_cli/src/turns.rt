@@ -5,7 +5,7 @@ ghost use Rattle.ldso_cli.specs.Command.{AsScheduled};
 ghost use Rattle.ldso_cli.specs.End.{kept_end};
 ghost use Rattle.ldso_cli.specs.Outside.{library_at};
 ghost use Rattle.ldso_cli.specs.Played.{last_line, run_cause};
-ghost use Rattle.ldso_cli.specs.Turns.{Schedules, TurnsComes};
+ghost use Rattle.ldso_cli.specs.Turns.{IsScheduled, Schedules, TurnsComes};
 ghost use Rattle.link_service.specs.Startup.{harts_of};
 ghost use Rattle.run_texts.specs.Printed.{journal_lines};
 ghost use Rattle.schedule_read.specs.declared.fault.TurnsFault.TheVariants.{NotTurns};
@@ -94,6 +94,7 @@ pub(crate) fn turns<L: Library>(
         (library_at L.files L.faults L.misses library.new) answer.end answer.text) }
 
     // What the library is left as.
+    ensures unread { (IsScheduled command.now → ⊥) → library.new ≡ library.old }
     ensures files { L.files library.new ≡ L.files library.old }
     ensures faults { L.faults library.old ≤ L.faults library.new }
     ensures misses { L.misses library.old ≤ L.misses library.new }

@@ -59,8 +59,9 @@ abbrev pub loading_of : ℕ → List Loaded → List Loading
 loading_of hart [] = []
 loading_of hart (o ∷ rest) = record { hart = hart; serials = map serial_of (o ∷ rest) } ∷ []
 
-abbrev pub pinned_by : ℕ → ℕ → List ℕ
-pinned_by flags root = if is_nodelete flags then root ∷ [] else []
+-- what stays mapped from this opening on, where it doesn't already
+abbrev pub pinned_by : List ℕ → ℕ → ℕ → List ℕ
+pinned_by pinned flags root = if is_nodelete flags && not (has pinned root) then root ∷ [] else []
 
 -- slots are bound at load in the whole run, where startup's opening asks for it
 abbrev pub now_after : State → OpenAsk → Bool
@@ -80,7 +81,7 @@ loaded s hart ask id root added ranges = record s {
   statics = if is_startup s then statics_with added s.statics else s.statics;
   generation = s.generation + length (filter has_module added);
   loadings = s.loadings ++ loading_of hart added;
-  pinned = s.pinned ++ pinned_by ask.flags root;
+  pinned = s.pinned ++ pinned_by s.pinned ask.flags root;
 }
 
 -- slots are bound when this opening's objects are loaded

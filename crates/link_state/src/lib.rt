@@ -3,7 +3,8 @@
 //! [`LinkState`] has the journal of a run so far and the lists that are the state after it
 //! (`link_history`). Contracts see the number of harts, the events, and what the latest look-up put into
 //! memory; that the lists are those of the state is the type's own business. A call appends its event,
-//! one that may come next (a look-up's new block first, where it makes one), or leaves all as before.
+//! one that may come next (a look-up's new block first, where it makes one), or leaves the events as
+//! they are.
 #![tactic(auto)]
 
 mod faults;

@@ -26,4 +26,4 @@ pub record Notes (old : LoadTable) (flags root : ℕ) (added : List Loaded) (new
   pub binds : new.binds ≡ (if is_first old then is_now flags else old.binds)
   pub next : new.next ≡ old.next + length added
   pub startup : new.startup ≡ (if is_first old then map serial_of added else old.startup)
-  pub pinned : new.pinned ≡ old.pinned ++ pinned_by flags root
+  pub pinned : new.pinned ≡ old.pinned ++ pinned_by old.pinned flags root

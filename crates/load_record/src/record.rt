@@ -113,7 +113,7 @@ impl LoadRecord {
         ensures { Notes self.old flags root added.now self.new }
     {
         self.next += added.len() as u64;
-        if is_nodelete(flags) {
+        if is_nodelete(flags) && !self.pinned.contains(&root) {
             self.pinned.push_reserved(root);
         }
         self.note_startup(flags, added);

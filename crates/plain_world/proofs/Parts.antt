@@ -11,7 +11,7 @@ use Rattle.hart_moves.specs.Harts.{HartState}
 use Rattle.hart_moves.specs.Moves.{freed}
 use Rattle.hart_seat.specs.Table.{HartTable}
 use Rattle.answer_turns.specs.Settling.{freed_in, harts_in}
-use Rattle.guest_worlds.specs.Worlds.{IsAt, TakesOn, TakesOver, world_of}
+use Rattle.guest_worlds.specs.Worlds.{MayBeAt, TakesOn, TakesOver, world_of}
 use Rattle.world_turns.specs.Run.{has_ended, settled}
 use Rattle.world_turns.specs.World.{World, settling}
 use Rattle.plain_world.specs.Table.{WorldTable, moved}
@@ -30,7 +30,7 @@ in_length (h ∷ rest) = let again : length (harts_in rest) ≡ length rest = in
 
 -- there are as many as the run has
 pub all_there : (count : ℕ) (folders : List (List ℕ)) (begun : Bool) (state : LinkTable) (words : List Doubleword) (harts : List HartTable)
-    → IsAt count folders begun (world_of state words harts) → length harts ≡ count
+    → MayBeAt count folders begun (world_of state words harts) → length harts ≡ count
 all_there count folders begun state words harts at = sym (in_length harts) ∙ at.running.sound.harts
 
 pub all_in : (p : HartState → Bool) (harts : List HartTable) → list_all (λ h. p h.hart) harts ≡ list_all p (harts_in harts)
@@ -38,7 +38,7 @@ all_in p [] = refl
 all_in p (h ∷ rest) = ap (λ (t : Bool). p h.hart && t) (all_in p rest)
 
 -- whether or not they have begun, they may have
-pub begun_at : (count : ℕ) (folders : List (List ℕ)) (begun : Bool) (world : World) → IsAt count folders begun world → IsAt count folders true world
+pub begun_at : (count : ℕ) (folders : List (List ℕ)) (begun : Bool) (world : World) → MayBeAt count folders begun world → MayBeAt count folders true world
 begun_at count folders begun world at =
     record { preload = at.preload; running = at.running; before = λ e. absurd (true≢false e); writing = at.writing }
 
@@ -64,10 +64,10 @@ settles_to old new words before behind state harts =
 
 pub settled_at : (folders : List (List ℕ)) (begun : Bool) (old new : LinkTable) (words : List Doubleword) (before items behind : List HartTable)
     → before ≡ items → new ≡ record old { events = old.events ++ settling (harts_in before) } → behind ≡ map freed_in before
-    → IsAt old.harts folders begun (settled (world_of old words items)) → IsAt new.harts folders begun (world_of new words behind)
+    → MayBeAt old.harts folders begun (settled (world_of old words items)) → MayBeAt new.harts folders begun (world_of new words behind)
 settled_at folders begun old new words before items behind is state harts at =
-    subst (λ (n : ℕ). IsAt n folders begun (world_of new words behind)) (sym (ap (λ (s : LinkTable). s.harts) state))
-    (subst (λ (v : World). IsAt old.harts folders begun v)
+    subst (λ (n : ℕ). MayBeAt n folders begun (world_of new words behind)) (sym (ap (λ (s : LinkTable). s.harts) state))
+    (subst (λ (v : World). MayBeAt old.harts folders begun v)
     (sym (settles_to old new words before behind state harts ∙ ap (λ (hs : List HartTable). settled (world_of old words hs)) is)) at)
 
 -- ---- by whether

@@ -20,7 +20,7 @@ use Rattle.hart_moves.specs.Starting.{starting_harts}
 use Rattle.hart_seat.specs.Table.{HartTable}
 use Rattle.answer_turns.specs.Settling.{harts_in}
 use Rattle.guest_worlds.specs.Laws.{StartIsAt}
-use Rattle.guest_worlds.specs.Worlds.{IsAt, world_of}
+use Rattle.guest_worlds.specs.Worlds.{MayBeAt, world_of}
 use Rattle.rv_hart.specs.declared.doubleword.Doubleword.{Doubleword}
 use Rattle.turn_answers.specs.Changes.{LeaveMemory}
 use Rattle.world_turns.specs.Memory.{RemakesAll}
@@ -96,7 +96,7 @@ starts_at setup files state now started words harts entry is same memory set fir
 
 pub at_start : StartIsAt → (setup : Setup) (files : Option (List File)) (state now : LinkTable) (words : List Doubleword) (harts : List HartTable)
     → IsStarted (run_of setup files) setup (world_of now words harts) → now ≡ state → state.harts ≡ harts_of setup → is_startup (after state.events) ≡ false
-    → IsAt now.harts setup.folders false (world_of now words harts)
+    → MayBeAt now.harts setup.folders false (world_of now words harts)
 at_start law setup files state now words harts starts same count started =
-    subst (λ (n : ℕ). IsAt n setup.folders false (world_of now words harts)) (sym (ap (λ (s : LinkTable). s.harts) same ∙ count))
+    subst (λ (n : ℕ). MayBeAt n setup.folders false (world_of now words harts)) (sym (ap (λ (s : LinkTable). s.harts) same ∙ count))
     (law (run_of setup files) setup (world_of now words harts) (harts_of setup) refl starts (ap (λ (s : LinkTable). is_startup (after s.events)) same ∙ started))

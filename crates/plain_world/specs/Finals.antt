@@ -8,12 +8,12 @@ use Rattle.call_laws.specs.Coming.{IsOn}
 use Rattle.rv_hart.specs.declared.doubleword.Doubleword.{Doubleword}
 use Rattle.hart_moves.specs.Starting.{starting_registers}
 use Rattle.hart_seat.specs.Table.{HartTable}
-use Rattle.guest_worlds.specs.Worlds.{IsAt, world_of}
+use Rattle.guest_worlds.specs.Worlds.{MayBeAt, world_of}
 use Rattle.plain_world.specs.Playing.{BeginsToFinalise, FinalisesOnce}
 
 -- a run has these parts
 abbrev pub IsAtIn : Bool → LinkTable → List HartTable → Type 0
-IsAtIn begun state harts = (words : List Doubleword) × (folders : List (List ℕ)) × IsAt state.harts folders begun (world_of state words harts)
+IsAtIn begun state harts = (words : List Doubleword) × (folders : List (List ℕ)) × MayBeAt state.harts folders begun (world_of state words harts)
 
 -- they begin
 abbrev pub FinalsBegin : Bool → HartEntry → (old new : LinkTable) → (before behind : List HartTable) → Type 0
@@ -27,5 +27,5 @@ FinalsDont begun entry old new before behind = (words : List Doubleword) (w : Se
 
 -- and the run goes on, its final destructors begun or none to begin
 abbrev pub StaysAt : Bool → (old new : LinkTable) → (before behind : List HartTable) → Type 0
-StaysAt begun old new before behind = (words : List Doubleword) (folders : List (List ℕ)) → IsAt old.harts folders begun (world_of old words before)
-    → IsAt new.harts folders true (world_of new words behind)
+StaysAt begun old new before behind = (words : List Doubleword) (folders : List (List ℕ)) → MayBeAt old.harts folders begun (world_of old words before)
+    → MayBeAt new.harts folders true (world_of new words behind)

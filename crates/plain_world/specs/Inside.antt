@@ -1,7 +1,7 @@
 -- A run's parts in the code, as the definition has them.
 use Rattle.std.specs.Prelude.{◌≡◌, ◌≤◌, []}
 use Rattle.std.specs.Vec.{vec_capacity}
-use Rattle.guest_worlds.specs.Worlds.{IsAt, world_of}
+use Rattle.guest_worlds.specs.Worlds.{MayBeAt, world_of}
 use Rattle.world_turns.specs.World.{World}
 use Rattle.plain_world.specs.Table.{WorldTable}
 use Rattle.plain_world.specs.declared.world.World.TheInside.{Inside}
@@ -15,6 +15,6 @@ table_of run = record { count = run.state.harts; folders = run.folders; entry = 
 -- there is a hart, each run of so many with these folders may be at this world, and there is room for how each of them ends
 pub record IsKept (run : Inside) : Type 0 where
   pub some : 1 ≤ run.state.harts
-  pub at : IsAt run.state.harts run.folders run.begun (world_in run)
+  pub at : MayBeAt run.state.harts run.folders run.begun (world_in run)
   pub no_ends : run.ends.items ≡ []
   pub room : run.state.harts ≤ vec_capacity run.ends

@@ -3,7 +3,7 @@
 ghost use Rattle.std.specs.Prelude.{◌≡◌, ◌<◌, Bool, List, length, true};
 ghost use Rattle.std.specs.Bool.{OnFalse, OnTrue};
 ghost use Rattle.call_laws.specs.Coming.{IsOn};
-ghost use Rattle.guest_worlds.specs.Worlds.{IsAt, world_of};
+ghost use Rattle.guest_worlds.specs.Worlds.{MayBeAt, world_of};
 ghost use Rattle.guest_turns.specs.Counting.{RefusesNone};
 ghost use Rattle.hart_moves.specs.Starting.{starting_registers};
 ghost use Rattle.lawful_journal.specs.Following.{machine_of};

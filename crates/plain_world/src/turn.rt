@@ -2,7 +2,7 @@
 
 ghost use Rattle.std.specs.Prelude.{◌≡◌, ◌<◌, ◌≤◌, Bool, length};
 ghost use Rattle.guest_worlds.specs.Coming.{LeavesHart};
-ghost use Rattle.guest_worlds.specs.Worlds.{IsAt, TakesOver, world_of};
+ghost use Rattle.guest_worlds.specs.Worlds.{MayBeAt, TakesOver, world_of};
 ghost use Rattle.guest_turns.specs.Counting.{IsCounted, counts_at};
 ghost use Rattle.guest_turns.specs.Next.{NextOpens, NextReadsNothing, NextTells};
 
@@ -27,7 +27,7 @@ pub(crate) fn take_turn<L: Library>(
     library: &mut L,
 ) -> Turn
     requires hart { id < length harts.old }
-    requires at { (begun : Bool) × IsAt state.old.harts folders.now begun (world_of state.old memory.old harts.old) }
+    requires at { (begun : Bool) × MayBeAt state.old.harts folders.now begun (world_of state.old memory.old harts.old) }
     ensures takes { TakesOver state.old.harts folders.now (L.files library.old) id
         (world_of state.old memory.old harts.old) (world_of state.new memory.new harts.new) }
     ensures comes { LeavesHart (world_of state.old memory.old harts.old) (world_of state.new memory.new harts.new) id result }

@@ -1,8 +1,7 @@
 -- What a state holds of choices was chosen by an event of its journal.
-use Rattle.std.proofs.Common.{◌≡◌, ◌⊎◌, inl, inr, ⊎_elim, ℕ, zero, suc, Bool, true, false, not, cond, List, [], ◌∷◌, length, map, take, Some, refl, sym, ap, subst, ◌∙◌, arith}
+use Rattle.std.proofs.Common.{◌≡◌, ◌⊎◌, inl, inr, ⊎_elim, ℕ, Bool, true, false, not, cond, List, [], ◌∷◌, map, take, Some, refl, sym, ap, ◌∙◌}
 use Rattle.std.specs.Prelude.{◌==◌, ◌&&◌}
 use Rattle.std.specs.List.{Contains, slice_get}
-use Rattle.std.proofs.lemmas.List.{take_all}
 use Rattle.std.proofs.lemmas.List.Elements.{Contains-append_cases}
 use Rattle.ld_base.specs.declared.linking.Loaded.{Loaded}
 use Rattle.link_event.specs.declared.event.CloseAnswer.TheVariants as closes
@@ -24,9 +23,9 @@ use Rattle.link_history.specs.Objects.{has}
 use Rattle.link_history.specs.Setting.{Setting}
 use Rattle.link_history.specs.State.{State}
 use Rattle.link_history.specs.Step.{die, initialise, loaded, lower, settle, settled_as, step, unmap}
-use Rattle.link_history.specs.Lemmas.History.{after_take, take_next}
 use Rattle.link_history.specs.Lemmas.Lists.{from_filter, from_map, none_in, only_in}
 use Rattle.run_moments.specs.True.{WasChosen, WasGranted, opening_choice}
+use Rattle.run_moments.proofs.Listed.{all_were}
 
 -- ---- one event
 
@@ -142,15 +141,11 @@ module _ (w : Setting) (journal : List Event) (legal : Legal w journal) where
   granted_alike : (q g : Granting) → granting q ≡ granting g → WasGranted journal q → WasGranted journal g
   granted_alike q g same x = granted_at x.place g (x.at ∙ ap (λ (e : Event). Some e) same)
 
-  granted_in : (k : ℕ) (g : Granting) → Contains (after (take k journal)).grants g → WasGranted journal g
-  granted_in zero g there = absurd (none_granted g there)
-  granted_in (suc k) g there = ⊎_elim
-      (λ (next : (e : Event) × (slice_get journal k ≡ Some e)). ⊎_elim
-      (λ (was : Was (after (take k journal)) g). granted_alike was.before g was.same (granted_in k was.before was.there))
-      (λ (is : next.0 ≡ granting g). granted_at k g (next.1 ∙ ap (λ (e : Event). Some e) is))
-      (granted_by (after (take k journal)) next.0 g (subst (λ (s : State). Contains s.grants g) (after_take journal k next.0 next.1) there)))
-      (λ (same : take (suc k) journal ≡ take k journal). granted_in k g (subst (λ (es : List Event). Contains (after es).grants g) same there))
-      (take_next journal k)
+  pub was_granted : (g : Granting) → Contains (after journal).grants g → WasGranted journal g
+  was_granted = all_were (λ (s : State). s.grants) (WasGranted journal) journal none_granted (λ k e g at were there. ⊎_elim
+      (λ (was : Was (after (take k journal)) g). granted_alike was.before g was.same (were was.before was.there))
+      (λ (is : e ≡ granting g). granted_at k g (at ∙ ap (λ (d : Event). Some d) is))
+      (granted_by (after (take k journal)) e g there))
 
   chosen_at : (k : ℕ) (e : Event) (c : Chosen) → slice_get journal k ≡ Some e → ChosenBy (after (take k journal)) e c → WasChosen journal c
   chosen_at k e c at x = record {
@@ -167,18 +162,8 @@ module _ (w : Setting) (journal : List Event) (legal : Legal w journal) where
     is = x.is;
   }
 
-  chosen_in : (k : ℕ) (c : Chosen) → Contains (after (take k journal)).chosen c → WasChosen journal c
-  chosen_in zero c there = absurd (none_chosen c there)
-  chosen_in (suc k) c there = ⊎_elim
-      (λ (next : (e : Event) × (slice_get journal k ≡ Some e)). ⊎_elim
-      (λ (was : Contains (after (take k journal)).chosen c). chosen_in k c was)
-      (λ (by : ChosenBy (after (take k journal)) next.0 c). chosen_at k next.0 c next.1 by)
-      (chosen_by (after (take k journal)) next.0 c (subst (λ (s : State). Contains s.chosen c) (after_take journal k next.0 next.1) there)))
-      (λ (same : take (suc k) journal ≡ take k journal). chosen_in k c (subst (λ (es : List Event). Contains (after es).chosen c) same there))
-      (take_next journal k)
-
-  pub was_granted : (g : Granting) → Contains (after journal).grants g → WasGranted journal g
-  was_granted g there = granted_in (length journal) g (subst (λ (es : List Event). Contains (after es).grants g) (sym (take_all (length journal) journal (omega arith))) there)
-
   pub was_chosen : (c : Chosen) → Contains (after journal).chosen c → WasChosen journal c
-  was_chosen c there = chosen_in (length journal) c (subst (λ (es : List Event). Contains (after es).chosen c) (sym (take_all (length journal) journal (omega arith))) there)
+  was_chosen = all_were (λ (s : State). s.chosen) (WasChosen journal) journal none_chosen (λ k e c at were there. ⊎_elim
+      (λ (was : Contains (after (take k journal)).chosen c). were c was)
+      (λ (by : ChosenBy (after (take k journal)) e c). chosen_at k e c at by)
+      (chosen_by (after (take k journal)) e c there))

@@ -1,6 +1,10 @@
 pub mod Chains
 pub mod Chosen
+pub mod Closed
 pub mod Entered
+pub mod Framed
 pub mod Inside
+pub mod Listed
 pub mod Own
 pub mod Throughout
+pub mod Unmapped

@@ -55,7 +55,7 @@ module _ (new_blocks : HartsHaveNewBlocks) (w : Setting) (past : List Event) (h 
       subst (λ (es : List Event). IsFromOwnBlock (after (past ++ es)) h number offset value) (sym (serves.are ∙ append-nil serves.given))
       (in_its_own serves.given (returns value) (located serves.gives refl) refl)
 
-returned_events : (b c : HartState) (back : Return) (value : ℕ) (appended : List Event) (did : Did) → Returns b back value appended did c → events_of did ≡ appended
+pub returned_events : (b c : HartState) (back : Return) (value : ℕ) (appended : List Event) (did : Did) → Returns b back value appended did c → events_of did ≡ appended
 returned_events b c back value appended did x = ap events_of x.is
 
 pub locates_own : HartsHaveNewBlocks → (w : Setting) (h : ℕ) (old new : World) (turn : Turn w h old new) → LocatesFromOwnBlock w h old new turn

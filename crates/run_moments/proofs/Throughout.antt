@@ -1,12 +1,14 @@
 -- What holds at each moment of a run, and from each to each later one.
-use Rattle.std.proofs.Common.{ℕ, ◌≤◌, List, [], ◌∷◌, ◌++◌, refl, sym, ap, ◌∙◌, append-nil, append_assoc, arith}
+use Rattle.std.proofs.Common.{◌≡◌, ℕ, ◌≤◌, List, [], ◌∷◌, ◌++◌, refl, sym, ap, ◌∙◌, append-nil, append_assoc, arith}
 use Rattle.link_event.specs.declared.event.Event.{Event}
 use Rattle.link_event.specs.declared.event.Event.TheVariants as events
 use Rattle.link_event.specs.declared.hart_end.HartEnd.TheVariants as ends
+use Rattle.link_event.specs.declared.state.Granting.{Granting}
+use Rattle.link_event.specs.declared.state.Standing.TheVariants as standings
 use Rattle.link_served.specs.declared.startup.Setup.{Setup}
 use Rattle.link_history.specs.Accepted.{AcceptsOnly}
 use Rattle.link_history.specs.After.{after}
-use Rattle.link_history.specs.Laws.{BlocksAreApart, ImagesAreMapped, SlotsBegin, slot_address}
+use Rattle.link_history.specs.Laws.{BlocksAreApart, GrantsAreHeld, ImagesAreMapped, SlotsBegin, SlotsLeadToRx, slot_address}
 use Rattle.link_history.specs.Legal.{Lawful}
 use Rattle.link_history.specs.Setting.{Machine, Setting}
 use Rattle.link_history.specs.Lemmas.History.{legal_is_lawful}
@@ -24,22 +26,29 @@ use Rattle.world_slots.specs.Later.{Later, Steps}
 use Rattle.world_slots.specs.Laws.{LaterIsSound, LaterKeepsSlots}
 use Rattle.run_moments.specs.Laws.{IsTrueThroughout, RunsAreTrue}
 use Rattle.run_moments.specs.Moments.{IsMoment}
-use Rattle.run_moments.specs.True.{HasMore, IsTrueAt, StaysTrue}
+use Rattle.run_moments.specs.True.{ClosesItsOwn, HasMore, IsTrueAt, StaysTrue}
 use Rattle.run_moments.proofs.Chains.{behind_start, later_in, run_leads}
 use Rattle.run_moments.proofs.Chosen.{was_chosen, was_granted}
+use Rattle.run_moments.proofs.Closed.{was_closed}
 use Rattle.run_moments.proofs.Entered.{enters_code}
+use Rattle.run_moments.proofs.Framed.{FrameLaws, closes_own}
 use Rattle.run_moments.proofs.Inside.{grants_in_calls}
 use Rattle.run_moments.proofs.Own.{finds_own, locates_own}
+use Rattle.run_moments.proofs.Unmapped.{UnmapLaws, returns_at_once, returns_behind}
 
 pub record MomentLaws : Type 0 where
   pub mapped : (m : Machine) (journal : List Event) → Lawful m journal → ImagesAreMapped (after journal)
   pub begins : (m : Machine) (journal : List Event) → AcceptsOnly m → Lawful m journal → SlotsBegin (after journal)
+  pub held : (m : Machine) (journal : List Event) → Lawful m journal → GrantsAreHeld (after journal)
+  pub leads : (m : Machine) (journal : List Event) → AcceptsOnly m → Lawful m journal → SlotsLeadToRx (after journal)
   pub apart : (m : Machine) (journal : List Event) → Lawful m journal → BlocksAreApart m (after journal)
   pub new_blocks : HartsHaveNewBlocks
   pub start : StartIsSound
   pub slot_true : SoundIsSlotTrue
   pub sound : LaterIsSound
   pub slots : LaterKeepsSlots
+  pub frames : FrameLaws
+  pub unmaps : UnmapLaws
 
 -- ---- journals grow
 
@@ -68,9 +77,15 @@ later_has_more w old new (Later.one_more _ between _ step more) =
 
 -- ---- moments
 
+not_lost : (g : Granting) → g.standing ≡ standings.Open → (saw : ℕ) → g.standing ≡ standings.Lost saw → ⊥
+not_lost g is saw lost = let no : standings.Open ≡ standings.Lost saw = sym is ∙ lost in cc
+
 module _ (laws : MomentLaws) (w : Setting) (only : AcceptsOnly w.machine) where
-  true_at : (world : World) → Sound w world → IsTrueAt w world
-  true_at world sound =
+  turn_sound : (h : ℕ) (old new : World) → Sound w old → Turn w h old new → Sound w new
+  turn_sound h old new sound turn = laws.sound w old new only sound (Later.one_more old new new (Steps.by_turn h turn) (Later.no_more new))
+
+  true_at : (world : World) → Sound w world → ClosesItsOwn world → IsTrueAt w world
+  true_at world sound own =
       let slots = laws.slot_true w world only sound in
       let lawful = legal_is_lawful w world.journal sound.legal in
       record {
@@ -88,6 +103,12 @@ module _ (laws : MomentLaws) (w : Setting) (only : AcceptsOnly w.machine) where
         chosen = was_chosen w world.journal sound.legal;
         grants = λ h new turn. grants_in_calls w h world new turn;
         fits = sound.fits;
+        held = laws.held w.machine world.journal lawful;
+        offers = λ g there is. (laws.leads w.machine world.journal only lawful).granted g there (not_lost g is) (laws.held w.machine world.journal lawful g there is).owner;
+        closed = was_closed w world.journal sound.legal;
+        closes_own = own;
+        returns_behind = λ h new turn. returns_behind laws.unmaps w h world new turn only (turn_sound h world new sound turn).legal;
+        returns_at_once = λ h new turn. returns_at_once laws.unmaps w h world new turn;
         blocks = laws.apart w.machine world.journal lawful;
         locates = λ h new turn. locates_own laws.new_blocks w h world new turn;
         finds = finds_own w world.journal sound.legal;
@@ -109,7 +130,7 @@ module _ (laws : MomentLaws) (w : Setting) (only : AcceptsOnly w.machine) where
 
     throughout : IsTrueThroughout run
     throughout = record {
-      each = λ k moment at. true_at moment (sound_at k moment at);
+      each = λ k moment at. true_at moment (sound_at k moment at) (closes_own laws.frames w only setup items world run k moment at);
       later = λ j k old new below at behind. stays_true old new (sound_at j old at) (between j k old new below at behind);
     }
 

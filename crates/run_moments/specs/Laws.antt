@@ -1,5 +1,5 @@
 -- What holds at each moment of a run, and from each to each later one.
-use Rattle.std.specs.Prelude.{◌≡◌, ◌⊎◌, ℕ, ◌+◌, ◌≤◌, List, Contains}
+use Rattle.std.specs.Prelude.{◌≡◌, ◌⊎◌, ℕ, ◌+◌, ◌≤◌, List, length}
 use Rattle.link_served.specs.declared.startup.Setup.{Setup}
 use Rattle.link_history.specs.Accepted.{AcceptsOnly}
 use Rattle.link_history.specs.Setting.{Setting}
@@ -16,15 +16,25 @@ use Rattle.run_moments.specs.True.{IsTrueAt, StaysTrue}
 abbrev pub IsNext : Setting → World → World → Type 0
 IsNext w old new = Steps w old new ⊎ (new ≡ old)
 
--- each comes next behind the one before, and those in which a part of the run ends are among them
+-- the parts of a run end one after the other, at moments with these numbers, and all is settled at the last moment
+pub record PartsEnd {w : Setting} {setup : Setup} {items : List TurnItem} {world : World} (run : Run w setup items world) : Type 0 where
+  pub constructed : ℕ
+  pub scheduled : ℕ
+  pub finished : ℕ
+  pub finalised : ℕ
+  pub constructed_at : IsMoment run constructed run.constructed
+  pub scheduled_at : IsMoment run scheduled run.scheduled
+  pub finished_at : IsMoment run finished run.finished
+  pub finalised_at : IsMoment run finalised run.finalised
+  pub ended_at : IsMoment run (finalised + 1) world
+  pub in_order : (constructed ≤ scheduled) × (scheduled ≤ finished) × (finished ≤ finalised)
+  pub last : length (moments_of run) ≡ finalised + 2
+
+-- each moment comes next behind the one before, from the run's start
 pub record HasMoments {w : Setting} {setup : Setup} {items : List TurnItem} {world : World} (run : Run w setup items world) : Type 0 where
-  pub next : (k : ℕ) (old new : World) → IsMoment run k old → IsMoment run (k + 1) new → IsNext w old new
   pub started : IsMoment run 0 run.started
-  pub constructed : Contains (moments_of run) run.constructed
-  pub scheduled : Contains (moments_of run) run.scheduled
-  pub finished : Contains (moments_of run) run.finished
-  pub finalised : Contains (moments_of run) run.finalised
-  pub ended : Contains (moments_of run) world
+  pub next : (k : ℕ) (old new : World) → IsMoment run k old → IsMoment run (k + 1) new → IsNext w old new
+  pub parts : PartsEnd run
 
 abbrev pub RunsHaveMoments : Type 0
 RunsHaveMoments = (w : Setting) (setup : Setup) (items : List TurnItem) (world : World) (run : Run w setup items world) → HasMoments run

@@ -1,30 +1,35 @@
 -- What is true at one moment of a run, and what stays so until a later one.
-use Rattle.std.specs.Prelude.{◌≡◌, ◌≢◌, ◌⊎◌, ℕ, ◌^◌, ◌+◌, ◌*◌, ◌%◌, List, ◌++◌, take, Some, None, Contains, IsTrue}
+use Rattle.std.specs.Prelude.{◌≡◌, ◌≢◌, ◌⊎◌, ℕ, ◌^◌, ◌+◌, ◌*◌, ◌%◌, List, [], ◌∷◌, ◌++◌, take, Some, None, Contains, IsTrue}
 use Rattle.std.specs.List.{slice_get}
 use Rattle.ld_base.specs.declared.linking.Choice.{Choice}
 use Rattle.ld_base.specs.declared.linking.Loaded.{Loaded}
-use Rattle.ld_base.specs.declared.linking.Role.TheVariants.{Rx}
+use Rattle.ld_base.specs.declared.linking.Role.TheVariants.{None as NoRole, Rx}
 use Rattle.ld_base.specs.declared.object.Reloc.{Reloc}
+use Rattle.link_event.specs.declared.event.CloseAnswer.TheVariants as closings
 use Rattle.link_event.specs.declared.event.Event.{Event}
-use Rattle.link_event.specs.declared.event.Event.TheVariants.{Grant, Open, Sym}
+use Rattle.link_event.specs.declared.event.Event.TheVariants.{Close, Grant, Open, Sym, Unmapped}
 use Rattle.link_event.specs.declared.event.OpenAnswer.TheVariants.{Done}
 use Rattle.link_event.specs.declared.event.OpenAsk.{OpenAsk}
 use Rattle.link_event.specs.declared.event.Range.{Range}
 use Rattle.link_event.specs.declared.event.SymAnswer.TheVariants.{Found}
 use Rattle.link_event.specs.declared.event.SymAsk.{SymAsk}
+use Rattle.link_event.specs.declared.handed.Function.{Function}
 use Rattle.link_event.specs.declared.state.Chosen.{Chosen}
+use Rattle.link_event.specs.declared.state.Closing.{Closing}
 use Rattle.link_event.specs.declared.state.Granting.{Granting}
+use Rattle.link_event.specs.declared.state.Standing.TheVariants.{Open as GrantOpen}
 use Rattle.seg_image.specs.Pages.{own_address}
 use Rattle.relocator.specs.Relocated.{moved_word}
 use Rattle.seg_image.specs.Roles.{role_of}
 use Rattle.link_history.specs.Addresses.{is_linkers_page}
 use Rattle.link_history.specs.After.{after}
-use Rattle.link_history.specs.Allowed.{MayGrant}
+use Rattle.link_history.specs.Allowed.{Closes, MayGrant}
 use Rattle.link_history.specs.Bound.{chosen_of}
-use Rattle.link_history.specs.Laws.{BlocksAreApart, ImagesAreMapped, slot_address}
+use Rattle.link_history.specs.Changes.{taken}
+use Rattle.link_history.specs.Laws.{BlocksAreApart, GrantsAreHeld, ImagesAreMapped, slot_address}
 use Rattle.link_history.specs.Legal.{Legal}
 use Rattle.link_history.specs.Lookup.{is_storage_symbol, symbol_value}
-use Rattle.link_history.specs.Memory.{image_at, word_at}
+use Rattle.link_history.specs.Memory.{covers, image_at, role_at, word_at}
 use Rattle.link_history.specs.Objects.{IsMapped}
 use Rattle.link_history.specs.Setting.{Setting}
 use Rattle.link_history.specs.Slots.{value_at_load}
@@ -32,14 +37,16 @@ use Rattle.link_history.specs.State.{Linked, State}
 use Rattle.link_history.specs.Step.{binds, loaded, seen_after}
 use Rattle.link_history.specs.Storage.{tls_block}
 use Rattle.link_service.specs.Answer.{returns}
-use Rattle.link_service.specs.Call.{locates, resolves}
+use Rattle.link_service.specs.Call.{closes, locates, resolves}
 use Rattle.link_service.specs.Gives.{HasBlock, variable_at}
 use Rattle.memory_holds.specs.Enters.{SlotStays, SlotTrue}
 use Rattle.memory_holds.specs.Holds.{Holds, lazy_at}
 use Rattle.memory_holds.specs.Memory.{doubleword_of}
 use Rattle.hart_moves.specs.Due.{Return}
-use Rattle.hart_moves.specs.Harts.{HartState, Offered, Resolving}
+use Rattle.hart_moves.specs.Harts.{Frame, HartState, Offered, Resolving}
 use Rattle.hart_moves.specs.Moves.{Calls, Did, events_of}
+use Rattle.hart_moves.specs.Registers.{returned}
+use Rattle.turn_frames.specs.Closings.{closing_frame}
 use Rattle.world_turns.specs.Memory.{doubleword, memory_of}
 use Rattle.world_turns.specs.Sound.{Fits}
 use Rattle.world_turns.specs.Turn.{Turn}
@@ -73,6 +80,38 @@ pub record WasChosen (journal : List Event) (c : Chosen) : Type 0 where
   pub inside : Contains added object
   pub is : c ≡ opening_choice (after (take place journal)) hart ask id root added ranges object
 
+-- ---- closings
+
+-- an event of the journal closed: what dies by it is what nothing needed in the state of that moment
+pub record WasClosed (journal : List Event) (c : Closing) : Type 0 where
+  pub place : ℕ
+  pub handle : ℕ
+  pub at : slice_get journal place ≡ Some (Close c.hart handle (closings.Done c.set))
+  pub unneeded : Closes (after (take place journal)) handle c.set
+
+-- the destructors that a hart has still to run for a dlclose, and the unmapping behind them, are of a closing of its own that isn't unmapped yet
+abbrev pub ClosesItsOwn : World → Type 0
+ClosesItsOwn world = (h : ℕ) (b : HartState) (to : ℕ) (set : List ℕ) (queue : List Function) → slice_get world.harts h ≡ Some b → b.«end» ≡ None
+    → Contains b.frames (closing_frame to set queue) → Contains (after world.journal).closings (record { hart = h; set = set })
+
+-- all that died is unmapped, no word of it has a role, and the dlclose returns 0 to where it was called
+pub record ReturnsUnmapped (h to : ℕ) (set : List ℕ) (old new : World) (b c : HartState) (did : Did) : Type 0 where
+  pub events : events_of did ≡ Unmapped h set ∷ []
+  pub returns : c.registers ≡ returned to 0 b.registers
+  pub roles : (r : Range) (a : ℕ) → Contains (taken (after (found_journal old did)) (Unmapped h set)) r → IsTrue (covers a r)
+      → role_at (after new.journal) a ≡ NoRole
+
+-- so ends a turn by which a closing goes from what the linker has the hart run
+abbrev pub ReturnsBehindUnmapping : (w : Setting) (h : ℕ) (old new : World) → Turn w h old new → Type 0
+ReturnsBehindUnmapping w h old new turn = (to : ℕ) (set : List ℕ) (queue : List Function) (below : List Frame)
+    → turn.before.frames ≡ closing_frame to set queue ∷ below → turn.left.frames ≡ below → ReturnsUnmapped h to set old new turn.before turn.left turn.did
+
+-- a dlclose that returns at once returns 0, and nothing dies by it
+abbrev pub ClosesNothingAtOnce : (w : Setting) (h : ℕ) (old new : World) → Turn w h old new → Type 0
+ClosesNothingAtOnce w h old new turn = (handle value : ℕ) (back : Return)
+    (calls : Calls w (found_journal old turn.did) h turn.before (closes handle) back turn.did turn.left) → calls.answer ≡ returns value
+    → (value ≡ 0) × (events_of turn.did ≡ Close h handle (closings.Done []) ∷ [])
+
 -- ---- slots
 
 -- the doubleword may be executed: it is one of the linker's own page, or of an object that is mapped
@@ -98,7 +137,8 @@ pub record IsGrantedInCall (w : Setting) (h : ℕ) (past : List Event) (b c : Ha
 
 -- so is each grant that a turn appends
 abbrev pub GrantsInCalls : (w : Setting) (h : ℕ) (old new : World) → Turn w h old new → Type 0
-GrantsInCalls w h old new turn = (number hart owner slot value : ℕ) (choice : Choice) → Contains (events_of turn.did) (Grant number hart owner slot choice value)
+GrantsInCalls w h old new turn = (number hart owner slot value : ℕ) (choice : Choice)
+    → Contains (events_of turn.did) (Grant number hart owner slot choice value)
     → IsGrantedInCall w h (found_journal old turn.did) turn.before turn.left turn.did number hart owner slot value
 
 -- the first word of a slot: the value that it got when its object was loaded, if it got one, and else the lazy one
@@ -149,9 +189,19 @@ pub record IsTrueAt (w : Setting) (world : World) : Type 0 where
   -- what a grant chose the rules chose at one moment, that of its event; and what a slot got at load, at the opening of its object
   pub granted : (g : Granting) → Contains (after world.journal).grants g → WasGranted world.journal g
   pub chosen : (c : Chosen) → Contains (after world.journal).chosen c → WasChosen world.journal c
+  -- owner and target of a grant are mapped while it is open, and what its exchange may put into the slot is 0 or may be executed
+  pub held : GrantsAreHeld (after world.journal)
+  pub offers : (g : Granting) → Contains (after world.journal).grants g → g.standing ≡ GrantOpen
+      → (g.value ≡ 0) ⊎ (role_at (after world.journal) g.value ≡ Rx)
   -- a grant is made in its hart's own call, of whichever turn comes next; and a hart that is at a slot has the open grant of it
   pub grants : (h : ℕ) (new : World) (turn : Turn w h world new) → GrantsInCalls w h world new turn
   pub fits : (h : ℕ) (b : HartState) → slice_get world.harts h ≡ Some b → Fits (after world.journal) world.words h b.resolving
+  -- what is still to be unmapped died by one closing, when nothing needed it; what a hart that runs has still to finalise and to unmap for a dlclose
+  -- is of one of its own; and a dlclose returns with the unmapping of all that died by it, or at once where nothing did, in whichever turn comes next
+  pub closed : (c : Closing) → Contains (after world.journal).closings c → WasClosed world.journal c
+  pub closes_own : ClosesItsOwn world
+  pub returns_behind : (h : ℕ) (new : World) (turn : Turn w h world new) → ReturnsBehindUnmapping w h world new turn
+  pub returns_at_once : (h : ℕ) (new : World) (turn : Turn w h world new) → ClosesNothingAtOnce w h world new turn
   -- no address is in two blocks of thread-local storage, and each answer on it counts from the hart's own: of whichever turn comes next, and of each
   -- look-up that was made
   pub blocks : BlocksAreApart w.machine (after world.journal)

@@ -20,9 +20,13 @@ use Rattle.hart_moves.specs.Harts.{Frame, HartState, Purpose}
 use Rattle.hart_moves.specs.Moves.{Did, Moves, Passes, events_of}
 use Rattle.hart_moves.specs.Registers.{next_function, returned}
 
--- a closing whose destructors have all run
+-- the destructors of a closing that are left to run
+abbrev pub closing_frame : (to : ℕ) → List ℕ → List Function → Frame
+closing_frame to set queue = record { purpose = Purpose.of_closing to set; queue = queue }
+
+-- all have run
 abbrev pub emptied : (to : ℕ) → List ℕ → Frame
-emptied to set = record { purpose = Purpose.of_closing to set; queue = [] }
+emptied to set = closing_frame to set []
 
 -- a dlclose that gives its value at once gives 0, and nothing dies by it
 abbrev pub ClosesAtOnce : Type 0
@@ -35,10 +39,11 @@ UnmapsNext = (w : Setting) (past before : List Event) (h to : ℕ) (b c : HartSt
     → Passes w past h b (Purpose.of_closing to set) before functions below did c → left functions ≡ []
     → (c.frames ≡ emptied to set ∷ below) × (c.registers.pc ≡ next_function)
 
--- it goes with the unmapping alone, and by that the dlclose returns 0 to where it was called
+-- a closing goes from the frames with its unmapping alone, and by that the dlclose returns 0 to where it was called
 abbrev pub ReturnsBehind : Type 0
-ReturnsBehind = (w : Setting) (past : List Event) (h to : ℕ) (b c : HartState) (did : Did) (set : List ℕ) (below : List Frame) → Moves w past h b did c
-    → b.frames ≡ emptied to set ∷ below → c.frames ≡ below → (events_of did ≡ Unmapped h set ∷ []) × (c.registers ≡ returned to 0 b.registers)
+ReturnsBehind = (w : Setting) (past : List Event) (h to : ℕ) (b c : HartState) (did : Did) (set : List ℕ) (queue : List Function) (below : List Frame)
+    → Moves w past h b did c → b.frames ≡ closing_frame to set queue ∷ below → c.frames ≡ below
+    → (events_of did ≡ Unmapped h set ∷ []) × (c.registers ≡ returned to 0 b.registers)
 
 -- and no word of what was unmapped has a role then
 abbrev pub UnmapsAll : Type 0

@@ -15,7 +15,7 @@ use Rattle.link_history.specs.Setting.{Setting}
 use Rattle.link_service.specs.Functions.{AreConstructors, AreDestructors, left, passed}
 use Rattle.hart_moves.specs.Harts.{Frame, HartState, Purpose}
 use Rattle.hart_moves.specs.Moves.{Did, Finals, Moves, events_of, final_functions, own_fini, passing}
-use Rattle.hart_moves.specs.Registers.{returned}
+use Rattle.hart_moves.specs.Registers.{ra, returned}
 use Rattle.turn_events.specs.Appends.{is_of_end}
 
 -- ---- events
@@ -40,10 +40,15 @@ behind_all (Purpose.of_end code) below = below
 abbrev pub behind_first : Function → Function
 behind_first f = record f { addresses = drop 1 f.addresses }
 
--- the functions of these objects are left, but the first one of all, which is entered
+-- the functions of these objects are left, but the first one of all
 abbrev pub AreFrames : Purpose → List Function → List Frame → List Frame → Type 0
 AreFrames purpose [] below frames = frames ≡ behind_all purpose below
 AreFrames purpose (f ∷ rest) below frames = frames ≡ record { purpose = purpose; queue = behind_first f ∷ rest } ∷ below
+
+-- the first function of the first of these is entered, where there is one
+abbrev pub FirstIsEntered : List Function → HartState → Type 0
+FirstIsEntered [] c = Unit {0}
+FirstIsEntered (f ∷ rest) c = (address : ℕ) × (more : List ℕ) × (f.addresses ≡ address ∷ more) × (c.registers.pc ≡ address)
 
 -- ---- a turn
 
@@ -53,20 +58,22 @@ pub data LeavesFrames (w : Setting) (past : List Event) (h : ℕ) (b : HartState
   enters : (purpose : Purpose) (f : Function) (address : ℕ) (more : List ℕ) (rest : List Function) (below : List Frame)
       → b.frames ≡ record { purpose = purpose; queue = f ∷ rest } ∷ below → f.addresses ≡ address ∷ more → events_of did ≡ [] → c.registers.pc ≡ address
       → c.frames ≡ record { purpose = purpose; queue = record f { addresses = more } ∷ rest } ∷ below → LeavesFrames w past h b did c
-  -- an opening, with the new objects in front that have no functions
+  -- an opening, with the new objects in front that have no functions; it is to return to where it was called
   loads : (to root id : ℕ) (ask : OpenAsk) (first : Loaded) (rest : List Loaded) (ranges : List Range) (functions : List Function)
       → AreConstructors (after (past ++ Open h ask (openings.Done id root (first ∷ rest) ranges) ∷ [])) (map serial_of (first ∷ rest)) functions
       → events_of did ≡ Open h ask (openings.Done id root (first ∷ rest) ranges) ∷ map (passing (Purpose.of_opening to root) h) (passed functions)
-      → AreFrames (Purpose.of_opening to root) (left functions) b.frames c.frames → LeavesFrames w past h b did c
-  -- a closing, with its objects in front that have none
+      → AreFrames (Purpose.of_opening to root) (left functions) b.frames c.frames → to ≡ ra b.registers → FirstIsEntered (left functions) c
+      → LeavesFrames w past h b did c
+  -- a closing, with its objects in front that have none; it is to return so, too
   dies : (to handle first : ℕ) (rest : List ℕ) (functions : List Function)
       → AreDestructors (after (past ++ Close h handle (closings.Done (first ∷ rest)) ∷ [])) (first ∷ rest) functions
       → events_of did ≡ Close h handle (closings.Done (first ∷ rest)) ∷ map (passing (Purpose.of_closing to (first ∷ rest)) h) (passed functions)
-      → AreFrames (Purpose.of_closing to (first ∷ rest)) (left functions) b.frames c.frames → LeavesFrames w past h b did c
+      → AreFrames (Purpose.of_closing to (first ∷ rest)) (left functions) b.frames c.frames → to ≡ ra b.registers → FirstIsEntered (left functions) c
+      → LeavesFrames w past h b did c
   -- an object is passed, with those behind it that have none
   completes : (purpose : Purpose) (f : Function) (rest : List Function) (below : List Frame) → is_of_end purpose ≡ false
       → b.frames ≡ record { purpose = purpose; queue = f ∷ rest } ∷ below → events_of did ≡ map (passing purpose h) (f.object ∷ passed rest)
-      → AreFrames purpose (left rest) below c.frames → LeavesFrames w past h b did c
+      → AreFrames purpose (left rest) below c.frames → FirstIsEntered (left rest) c → LeavesFrames w past h b did c
   -- a closing's objects are unmapped, and its call returns with 0
   unmaps : (to : ℕ) (set : List ℕ) (below : List Frame) → b.frames ≡ record { purpose = Purpose.of_closing to set; queue = [] } ∷ below
       → events_of did ≡ Unmapped h set ∷ [] → c.frames ≡ below → c.registers ≡ returned to 0 b.registers → LeavesFrames w past h b did c
@@ -74,7 +81,7 @@ pub data LeavesFrames (w : Setting) (past : List Event) (h : ℕ) (b : HartState
   finalises : (code : ℕ) (f : Function) (rest : List Function) (below : List Frame) (events : List Event) (next : Option Function)
       → b.frames ≡ record { purpose = Purpose.of_end code; queue = f ∷ rest } ∷ below
       → Finals w h (past ++ own_fini (after past) h f.object) events next → events_of did ≡ own_fini (after past) h f.object ++ events
-      → AreFrames (Purpose.of_end code) (final_functions next) [] c.frames → LeavesFrames w past h b did c
+      → AreFrames (Purpose.of_end code) (final_functions next) [] c.frames → FirstIsEntered (final_functions next) c → LeavesFrames w past h b did c
 
 -- each turn is one of these
 abbrev pub TurnsLeaveFrames : Type 0

@@ -19,8 +19,8 @@ use Rattle.link_service.specs.Lemmas.Serving.{harts_have_entries}
 use Rattle.hart_moves.specs.Harts.{HartState, Purpose}
 use Rattle.hart_moves.specs.Moves.{all_finis, runs}
 use Rattle.hart_moves.specs.Starting.{starting_hart, starting_harts, starting_registers}
-use Rattle.turn_events.specs.Appends.{has_finals}
-use Rattle.turn_events.specs.Lemmas.Frames.{runs_end, runs_finals}
+use Rattle.turn_events.specs.Appends.{has_finals, is_of_end}
+use Rattle.turn_events.specs.Lemmas.Frames.{runs_end, runs_some}
 use Rattle.world_turns.specs.Run.{Ends, Finalises, IsStarted, has_ended, have_ended}
 use Rattle.world_turns.specs.Turn.{Turn}
 use Rattle.world_turns.specs.World.{World}
@@ -51,7 +51,7 @@ all_begun fuel functions (entry ∷ rest) zero b at =
     let same : runs (Purpose.of_startup (starting_registers entry)) functions [] (starting_hart fuel entry) ≡ b = cc in
     subst IsBegun same (record {
       runs = runs_end (Purpose.of_startup (starting_registers entry)) functions [] (starting_hart fuel entry) refl;
-      none = runs_finals (Purpose.of_startup (starting_registers entry)) functions [] (starting_hart fuel entry) refl;
+      none = runs_some is_of_end (Purpose.of_startup (starting_registers entry)) functions [] (starting_hart fuel entry) refl;
     })
 all_begun fuel functions (entry ∷ rest) (suc h) b at = others_begun fuel rest h b at
 

@@ -22,8 +22,8 @@ use Rattle.hart_moves.specs.Harts.{HartState, Phase, Purpose}
 use Rattle.hart_moves.specs.Moves.{all_finis, ended, events_of, freed, settles}
 use Rattle.hart_moves.specs.Starting.{finalising_hart}
 use Rattle.hart_moves.specs.Lemmas.Legality.{ended_stays}
-use Rattle.turn_events.specs.Appends.{Appends, NoneEndsOrUnmaps, has_finals}
-use Rattle.turn_events.specs.Lemmas.Frames.{first_end, first_finals}
+use Rattle.turn_events.specs.Appends.{Appends, NoneEndsOrUnmaps, has_finals, is_of_end}
+use Rattle.turn_events.specs.Lemmas.Frames.{first_end, first_some}
 use Rattle.turn_events.specs.Lemmas.Turning.{finals_away, finals_stay, turns_append}
 use Rattle.world_turns.specs.Run.{LacksMemory, exit_code, has_ended, have_exited, settled}
 use Rattle.world_turns.specs.Turn.{Turn}
@@ -304,7 +304,7 @@ finals_begin w registers old new over x before = subst (InFinals w) (sym x.begun
   others = x.others;
   harts = refl;
   over = split_over w old over before x.first x.others x.harts;
-  frames = λ none. first_finals (Purpose.of_end x.code) x.object x.addresses [] [] (record x.first { registers = registers; phase = Phase.at_pc; frames = []; «end» = None });
+  frames = λ none. first_some is_of_end (Purpose.of_end x.code) x.object x.addresses [] [] (record x.first { registers = registers; phase = Phase.at_pc; frames = []; «end» = None });
   runs = λ none. finals_are w old over before;
   done = λ ended_so are. absurd (false≢true (sym (runs_on begun begun_runs) ∙ ended_so));
 })

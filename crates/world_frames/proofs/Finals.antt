@@ -236,23 +236,23 @@ module _ (w : Setting) (laws : FrameLaws w.machine) (past : List Event) (lawful 
         (kept (events_of did) x.function x.above refl (same ∙ x.are) (stays_left w laws past lawful 0 x.above x.above x.fit (events_of did) may untouched refl).own)
     by_frames may is (LeavesFrames.enters purpose f address more rest below was has_more none pc frames) =
         subst (λ (es : List Event). FinalsFit w (past ++ es) c.frames) (sym (is ∙ none)) (enters_by purpose f more rest below frames (top (record { purpose = purpose; queue = f ∷ rest }) below was))
-    by_frames may is (LeavesFrames.loads to root id ask first rest ranges functions are events_are frames) =
+    by_frames may is (LeavesFrames.loads to root id ask first rest ranges functions are events_are frames back entered) =
         let y = begun_above (Purpose.of_opening to root) (left functions) x.above last c.frames (subst (λ (fs : List Frame). AreFrames (Purpose.of_opening to root) (left functions) fs c.frames) x.are frames) in
         subst (λ (es : List Event). FinalsFit w (past ++ es) c.frames) (sym (is ∙ events_are))
         (kept (events.Open 0 ask (openings.Done id root (first ∷ rest) ranges) ∷ inits 0 (passed functions)) x.function y.new refl y.are
         (loads_left w laws past lawful 0 x.above y.new x.fit to root id ask first rest ranges functions are (subst (AreAllowed w past) events_are may) y.begun).own)
-    by_frames may is (LeavesFrames.dies to handle first rest functions are events_are frames) =
+    by_frames may is (LeavesFrames.dies to handle first rest functions are events_are frames back entered) =
         let y = begun_above (Purpose.of_closing to (first ∷ rest)) (left functions) x.above last c.frames (subst (λ (fs : List Frame). AreFrames (Purpose.of_closing to (first ∷ rest)) (left functions) fs c.frames) x.are frames) in
         subst (λ (es : List Event). FinalsFit w (past ++ es) c.frames) (sym (is ∙ events_are))
         (kept (events.Close 0 handle (closings.Done (first ∷ rest)) ∷ finis 0 (passed functions)) x.function y.new refl y.are
         (dies_left w laws past lawful 0 x.above y.new x.fit to handle first rest functions are (subst (AreAllowed w past) events_are may) y.begun).own)
-    by_frames may is (LeavesFrames.completes purpose f rest below not_end was events_are frames) =
+    by_frames may is (LeavesFrames.completes purpose f rest below not_end was events_are frames entered) =
         subst (λ (es : List Event). FinalsFit w (past ++ es) c.frames) (sym (is ∙ events_are))
         (completes_by purpose f rest below not_end (subst (AreAllowed w past) events_are may) frames (top (record { purpose = purpose; queue = f ∷ rest }) below was))
     by_frames may is (LeavesFrames.unmaps to set below was events_are frames registers) =
         subst (λ (es : List Event). FinalsFit w (past ++ es) c.frames) (sym (is ∙ events_are))
         (unmaps_by to set below (subst (AreAllowed w past) events_are may) frames (top (record { purpose = Purpose.of_closing to set; queue = [] }) below was))
-    by_frames may is (LeavesFrames.finalises code f rest below behind next was finals events_are frames) =
+    by_frames may is (LeavesFrames.finalises code f rest below behind next was finals events_are frames entered) =
         next_fits code (own_fini (after past) 0 f.object) behind next (is ∙ events_are) finals frames
 
 -- ---- a turn

@@ -399,17 +399,17 @@ module _ (w : Setting) (laws : FrameLaws w.machine) (h : ℕ) (old new : World) 
   by_frames (LeavesFrames.stays untouched same) = stays_left w laws past past_lawful h turn.before.frames turn.left.frames x (events_of turn.did) may untouched same
   by_frames (LeavesFrames.enters purpose f address more rest below was has none enters is) =
       by_events [] none (λ allowed. enters_left w laws past past_lawful h turn.before.frames turn.left.frames x purpose f (record f { addresses = more }) rest below was refl is)
-  by_frames (LeavesFrames.loads to root id ask first rest ranges functions are is frames) =
+  by_frames (LeavesFrames.loads to root id ask first rest ranges functions are is frames back entered) =
       by_events (events.Open h ask (openings.Done id root (first ∷ rest) ranges) ∷ inits h (passed functions)) is
       (λ allowed. loads_left w laws past past_lawful h turn.before.frames turn.left.frames x to root id ask first rest ranges functions are allowed frames)
-  by_frames (LeavesFrames.dies to handle first rest functions are is frames) =
+  by_frames (LeavesFrames.dies to handle first rest functions are is frames back entered) =
       by_events (events.Close h handle (closings.Done (first ∷ rest)) ∷ finis h (passed functions)) is
       (λ allowed. dies_left w laws past past_lawful h turn.before.frames turn.left.frames x to handle first rest functions are allowed frames)
-  by_frames (LeavesFrames.completes purpose f rest below not_end was is frames) =
+  by_frames (LeavesFrames.completes purpose f rest below not_end was is frames entered) =
       by_events (map (passing purpose h) (f.object ∷ passed rest)) is (λ allowed. completes_left w laws past past_lawful h turn.before.frames turn.left.frames x purpose f rest below was allowed frames)
   by_frames (LeavesFrames.unmaps to set below was is frames registers) =
       by_events (events.Unmapped h set ∷ []) is (λ allowed. unmaps_left w laws past past_lawful h turn.before.frames turn.left.frames x to set below was allowed frames)
-  by_frames (LeavesFrames.finalises code f rest below events next was finals is frames) = absurd (false≢true (sym (before.none h turn.before turn.there) ∙ ap has_finals was))
+  by_frames (LeavesFrames.finalises code f rest below events next was finals is frames entered) = absurd (false≢true (sym (before.none h turn.before turn.there) ∙ ap has_finals was))
 
   it : Leaves (events_of turn.did)
   it = by_frames (turns_leave_frames w past h turn.before turn.left turn.did turn.moves)

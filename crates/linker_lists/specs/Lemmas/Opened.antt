@@ -117,7 +117,7 @@ all_opened s harts hart id root ask added ranges l unfinished namespaces reserve
         next = notes.next ∙ ap (λ (n : ℕ). n + length added) holds.opening.next;
         few = few;
         startup = startup_after s.loadings hart added l.loads loads holds.opening.first holds.opening.startup notes.startup;
-        pinned = notes.pinned ∙ ap (λ (ds : List ℕ). ds ++ pinned_by ask.flags root) holds.opening.pinned;
+        pinned = notes.pinned ∙ ap (λ (ds : List ℕ). ds ++ pinned_by ds ask.flags root) holds.opening.pinned;
         first = first_after s.loadings hart added l.loads loads holds.opening.first notes.startup;
       };
     }
@@ -175,5 +175,5 @@ notes_over old more new flags root some added binds next startup pinned same not
   next = notes.next ∙ ap (λ (n : ℕ). n + length some) next ∙ ap (λ (os : List Loaded). old.next + length os) same;
   startup = notes.startup ∙ ap (λ (ds : List ℕ). if eqb (length ds) 0 then map serial_of some else more.startup) startup
       ∙ ap (λ (ds : List ℕ). if is_first old then map serial_of some else ds) startup ∙ ap (λ (os : List Loaded). if is_first old then map serial_of os else old.startup) same;
-  pinned = notes.pinned ∙ ap (λ (ds : List ℕ). ds ++ pinned_by flags root) pinned;
+  pinned = notes.pinned ∙ ap (λ (ds : List ℕ). ds ++ pinned_by ds flags root) pinned;
 }

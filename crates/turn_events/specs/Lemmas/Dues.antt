@@ -13,12 +13,12 @@ use Rattle.hart_moves.specs.Registers.{a0, a1, a2, ra}
 use Rattle.hart_moves.specs.Services.{Service, service_at}
 use Rattle.turn_events.specs.Appends.{is_of_end}
 
--- a call returns to the hart's frames, an unmapping to those behind its closing
+-- a call returns to the hart's frames, an unmapping to those behind its closing; an opening and a closing to where they were called
 abbrev pub AskedFrom : HartState → Call → Return → Type 0
 AskedFrom b (resolves owner eights) to = to.frames ≡ b.frames
-AskedFrom b (opens ask) to = to.frames ≡ b.frames
+AskedFrom b (opens ask) to = (to.to ≡ ra b.registers) × (to.frames ≡ b.frames)
 AskedFrom b (looks_up ask) to = to.frames ≡ b.frames
-AskedFrom b (closes handle) to = to.frames ≡ b.frames
+AskedFrom b (closes handle) to = (to.to ≡ ra b.registers) × (to.frames ≡ b.frames)
 AskedFrom b (unmaps set) to = b.frames ≡ record { purpose = Purpose.of_closing to.to set; queue = [] } ∷ to.frames
 AskedFrom b asks_fault to = to.frames ≡ b.frames
 AskedFrom b (locates number offset) to = to.frames ≡ b.frames
@@ -61,9 +61,9 @@ either_from b false x y one other = other
 
 name_from : (s : State) (b : HartState) (n : Naming) → IsFrom b (by_name s b n)
 name_from s b Naming.dlopen =
-    either_from b (a0 b.registers == 0) (Due.serve (call.dlopen s (ra b.registers) None (a1 b.registers)) (back b)) (Due.copy (Copy.of_name Naming.dlopen) (a0 b.registers) []) refl tt
+    either_from b (a0 b.registers == 0) (Due.serve (call.dlopen s (ra b.registers) None (a1 b.registers)) (back b)) (Due.copy (Copy.of_name Naming.dlopen) (a0 b.registers) []) (refl, refl) tt
 name_from s b Naming.dlmopen =
-    either_from b (a1 b.registers == 0) (Due.serve (call.dlmopen (a0 b.registers) None (a2 b.registers)) (back b)) (Due.copy (Copy.of_name Naming.dlmopen) (a1 b.registers) []) refl tt
+    either_from b (a1 b.registers == 0) (Due.serve (call.dlmopen (a0 b.registers) None (a2 b.registers)) (back b)) (Due.copy (Copy.of_name Naming.dlmopen) (a1 b.registers) []) (refl, refl) tt
 name_from s b Naming.dlsym = tt
 name_from s b Naming.dlvsym = tt
 
@@ -95,7 +95,7 @@ frames_from b (frame ∷ below) are = queue_from b frame.purpose frame.queue bel
 service_from : (s : State) (b : HartState) (service : Service) → IsFrom b (at_service s b service)
 service_from s b Service.resolve = refl
 service_from s b (Service.of_name n) = name_from s b n
-service_from s b Service.dlclose = refl
+service_from s b Service.dlclose = (refl, refl)
 service_from s b Service.dlerror = refl
 service_from s b Service.tls_get_addr =
     either_from b (a0 b.registers % 8 == 0) (Due.copy Copy.of_pair (a0 b.registers) []) (Due.serve (call.stops (ends.Misaligned b.registers.pc (a0 b.registers))) (back b)) tt refl
@@ -108,8 +108,8 @@ pc_from s b None = tt
 
 named_from : (s : State) (b : HartState) (n : Naming) (name version : List ℕ) → IsFrom b (Due.serve (call_of s b.registers n name version) (back b))
 unfolding call_of
-named_from s b Naming.dlopen name version = refl
-named_from s b Naming.dlmopen name version = refl
+named_from s b Naming.dlopen name version = (refl, refl)
+named_from s b Naming.dlmopen name version = (refl, refl)
 named_from s b Naming.dlsym name version = refl
 named_from s b Naming.dlvsym name version = refl
 

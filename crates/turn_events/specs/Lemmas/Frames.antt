@@ -1,26 +1,15 @@
 -- What a turn appends, the frames that it leaves, and whether its hart runs on, by what was done.
 use Rattle.std.proofs.Common.{◌≡◌, ℕ, Bool, true, false, List, [], ◌∷◌, refl, sym, ap, ◌∙◌}
 use Rattle.std.specs.Prelude.{◌||◌}
+use Rattle.std.specs.List.{list_any}
 use Rattle.link_event.specs.declared.event.Event.{Event}
 use Rattle.link_event.specs.declared.handed.Function.{Function}
 use Rattle.link_service.specs.Call.{Call, resolves, opens, looks_up, closes, unmaps, asks_fault, locates, writes, stops}
 use Rattle.hart_moves.specs.Due.{Return}
 use Rattle.hart_moves.specs.Harts.{Frame, HartState, Purpose}
 use Rattle.hart_moves.specs.Moves.{after_all, did_by, events_of, runs, telling, with_first}
-use Rattle.turn_events.specs.Appends.{has_finals, is_of_end}
+use Rattle.turn_events.specs.Appends.{is_of_end}
 use Rattle.turn_events.specs.Lemmas.Dues.{AskedFrom}
-
--- what a call returns to has final frames where the hart has
-pub asked_finals : (b : HartState) (asked : Call) (to : Return) → AskedFrom b asked to → has_finals to.frames ≡ has_finals b.frames
-asked_finals b (resolves owner eights) to from = ap has_finals from
-asked_finals b (opens ask) to from = ap has_finals from
-asked_finals b (looks_up ask) to from = ap has_finals from
-asked_finals b (closes handle) to from = ap has_finals from
-asked_finals b (unmaps set) to from = sym (ap has_finals from)
-asked_finals b asks_fault to from = ap has_finals from
-asked_finals b (locates number offset) to from = ap has_finals from
-asked_finals b (writes bytes) to from = ap has_finals from
-asked_finals b (stops reason) to from = ap has_finals from
 
 pub did_events : (added : List Event) → events_of (did_by added) ≡ added
 did_events [] = refl
@@ -52,17 +41,36 @@ pub runs_end : (purpose : Purpose) (functions : List Function) (below : List Fra
 runs_end purpose [] below b not_end = no_end purpose below b not_end
 runs_end purpose (f ∷ rest) below b not_end = first_end purpose f.object f.addresses rest below b
 
-behind_finals : (purpose : Purpose) (below : List Frame) (b : HartState) → is_of_end purpose ≡ false → has_finals (after_all purpose below b).frames ≡ has_finals below
-behind_finals (Purpose.of_startup registers) below b not_end = refl
-behind_finals (Purpose.of_opening to root) below b not_end = refl
-behind_finals (Purpose.of_closing to set) below b not_end = refl
-behind_finals (Purpose.of_end code) below b not_end = refl
+-- ---- frames of some purposes
 
-pub first_finals : (purpose : Purpose) (object : ℕ) (addresses : List ℕ) (rest : List Function) (below : List Frame) (b : HartState)
-    → has_finals (with_first purpose object addresses rest below b).frames ≡ (is_of_end purpose || has_finals below)
-first_finals purpose object [] rest below b = refl
-first_finals purpose object (function ∷ more) rest below b = refl
+abbrev pub some_are : (Purpose → Bool) → List Frame → Bool
+some_are sort frames = list_any (λ f. sort f.purpose) frames
 
-pub runs_finals : (purpose : Purpose) (functions : List Function) (below : List Frame) (b : HartState) → is_of_end purpose ≡ false → has_finals (runs purpose functions below b).frames ≡ has_finals below
-runs_finals purpose [] below b not_end = behind_finals purpose below b not_end
-runs_finals purpose (f ∷ rest) below b not_end = first_finals purpose f.object f.addresses rest below b ∙ ap (λ (t : Bool). t || has_finals below) not_end
+module _ (sort : Purpose → Bool) where
+  -- what a call returns to has such frames where the hart has: a closing that goes is none
+  pub asked_some : ((to : ℕ) (set : List ℕ) → sort (Purpose.of_closing to set) ≡ false) → (b : HartState) (asked : Call) (to : Return) → AskedFrom b asked to
+      → some_are sort to.frames ≡ some_are sort b.frames
+  asked_some spares b (resolves owner eights) to from = ap (some_are sort) from
+  asked_some spares b (opens ask) to from = ap (some_are sort) from.1
+  asked_some spares b (looks_up ask) to from = ap (some_are sort) from
+  asked_some spares b (closes handle) to from = ap (some_are sort) from.1
+  asked_some spares b (unmaps set) to from = sym (ap (some_are sort) from ∙ ap (λ (t : Bool). t || some_are sort to.frames) (spares to.to set))
+  asked_some spares b asks_fault to from = ap (some_are sort) from
+  asked_some spares b (locates number offset) to from = ap (some_are sort) from
+  asked_some spares b (writes bytes) to from = ap (some_are sort) from
+  asked_some spares b (stops reason) to from = ap (some_are sort) from
+
+  behind_some : (purpose : Purpose) (below : List Frame) (b : HartState) → sort purpose ≡ false → some_are sort (after_all purpose below b).frames ≡ some_are sort below
+  behind_some (Purpose.of_startup registers) below b other = refl
+  behind_some (Purpose.of_opening to root) below b other = refl
+  behind_some (Purpose.of_closing to set) below b other = ap (λ (t : Bool). t || some_are sort below) other
+  behind_some (Purpose.of_end code) below b other = refl
+
+  pub first_some : (purpose : Purpose) (object : ℕ) (addresses : List ℕ) (rest : List Function) (below : List Frame) (b : HartState)
+      → some_are sort (with_first purpose object addresses rest below b).frames ≡ (sort purpose || some_are sort below)
+  first_some purpose object [] rest below b = refl
+  first_some purpose object (function ∷ more) rest below b = refl
+
+  pub runs_some : (purpose : Purpose) (functions : List Function) (below : List Frame) (b : HartState) → sort purpose ≡ false → some_are sort (runs purpose functions below b).frames ≡ some_are sort below
+  runs_some purpose [] below b other = behind_some purpose below b other
+  runs_some purpose (f ∷ rest) below b other = first_some purpose f.object f.addresses rest below b ∙ ap (λ (t : Bool). t || some_are sort below) other

@@ -1,5 +1,5 @@
 -- The frames of startup's constructors: where there are none, none comes.
-use Rattle.std.proofs.Common.{◌≡◌, ℕ, Bool, true, false, List, [], ◌∷◌, ◌++◌, Option, Some, None, refl, sym, ap, ◌∙◌}
+use Rattle.std.proofs.Common.{◌≡◌, ℕ, Bool, true, false, List, [], ◌++◌, Option, Some, None, refl, sym, ap, ◌∙◌}
 use Rattle.std.specs.Prelude.{◌||◌}
 use Rattle.std.specs.List.{list_any}
 use Rattle.std.proofs.lemmas.Bool.{true≢false}
@@ -10,53 +10,30 @@ use Rattle.link_event.specs.declared.hart_end.HartEnd.{HartEnd}
 use Rattle.link_history.specs.After.{after}
 use Rattle.link_history.specs.Setting.{Setting}
 use Rattle.link_service.specs.Answer.{Answer, returns, loading, closing, refused, granted, told, again, over}
-use Rattle.link_service.specs.Call.{Call, resolves, opens, looks_up, closes, unmaps, asks_fault, locates, writes, stops}
+use Rattle.link_service.specs.Call.{Call}
 use Rattle.link_service.specs.Functions.{left}
 use Rattle.link_service.specs.Served.{answer_text}
 use Rattle.hart_moves.specs.Copying.{text_words}
 use Rattle.hart_moves.specs.Due.{Due, Return, by_resolving, due}
 use Rattle.hart_moves.specs.Harts.{Frame, HartState, Purpose, is_startup_frame}
-use Rattle.hart_moves.specs.Moves.{Did, Moves, MovesAs, Takes, TellsOf, after_all, final_functions, freed, freed_by, own_fini, runs, with_first}
-use Rattle.turn_events.specs.Lemmas.Dues.{AskedFrom}
-use Rattle.turn_events.specs.Lemmas.Frames.{telling_frames}
+use Rattle.hart_moves.specs.Moves.{Did, Moves, MovesAs, Takes, TellsOf, final_functions, freed, freed_by, own_fini, runs}
+use Rattle.turn_events.specs.Lemmas.Frames.{asked_some, runs_some, telling_frames}
 use Rattle.turn_events.specs.Lemmas.Kinds.{Kind, kind_of}
 
 abbrev pub has_startup : List Frame → Bool
 has_startup frames = list_any is_startup_frame frames
 
-right_of : (p q : Bool) → (p || q) ≡ false → q ≡ false
-right_of true q none = absurd (true≢false none)
-right_of false q none = none
-
--- what a call returns to has them where the hart has
-asked_startup : (b : HartState) (asked : Call) (to : Return) → AskedFrom b asked to → has_startup to.frames ≡ has_startup b.frames
-asked_startup b (resolves owner eights) to from = ap has_startup from
-asked_startup b (opens ask) to from = ap has_startup from
-asked_startup b (looks_up ask) to from = ap has_startup from
-asked_startup b (closes handle) to from = ap has_startup from
-asked_startup b (unmaps set) to from = sym (ap has_startup from)
-asked_startup b asks_fault to from = ap has_startup from
-asked_startup b (locates number offset) to from = ap has_startup from
-asked_startup b (writes bytes) to from = ap has_startup from
-asked_startup b (stops reason) to from = ap has_startup from
+abbrev is_of_startup : Purpose → Bool
+is_of_startup purpose = elim purpose [ Purpose.of_startup registers ↦ true | _ ↦ false ]
 
 -- ---- functions that are run
 
-behind_startup : (purpose : Purpose) (below : List Frame) (b : HartState) → has_startup (after_all purpose below b).frames ≡ has_startup below
-behind_startup (Purpose.of_startup registers) below b = refl
-behind_startup (Purpose.of_opening to root) below b = refl
-behind_startup (Purpose.of_closing to set) below b = refl
-behind_startup (Purpose.of_end code) below b = refl
+none_of : (p q : Bool) → (p || q) ≡ false → (p ≡ false) × (q ≡ false)
+none_of true q none = absurd (true≢false none)
+none_of false q none = (refl, none)
 
-first_startup : (purpose : Purpose) (object : ℕ) (addresses : List ℕ) (rest : List Function) (below : List Frame) (b : HartState)
-    → has_startup (with_first purpose object addresses rest below b).frames ≡ has_startup (record { purpose = purpose; queue = [] } ∷ below)
-first_startup purpose object [] rest below b = refl
-first_startup purpose object (function ∷ more) rest below b = refl
-
-runs_startup : (purpose : Purpose) (functions : List Function) (below : List Frame) (b : HartState) → has_startup (record { purpose = purpose; queue = [] } ∷ below) ≡ false
-    → has_startup (runs purpose functions below b).frames ≡ false
-runs_startup purpose [] below b none = behind_startup purpose below b ∙ right_of (is_startup_frame (record { purpose = purpose; queue = [] })) (has_startup below) none
-runs_startup purpose (f ∷ rest) below b none = first_startup purpose f.object f.addresses rest below b ∙ none
+runs_startup : (purpose : Purpose) (functions : List Function) (below : List Frame) (b : HartState) → (is_of_startup purpose || has_startup below) ≡ false → has_startup (runs purpose functions below b).frames ≡ false
+runs_startup purpose functions below b none = let apart = none_of (is_of_startup purpose) (has_startup below) none in runs_some is_of_startup purpose functions below b apart.0 ∙ apart.1
 
 -- ---- a turn
 
@@ -82,7 +59,7 @@ module _ (w : Setting) (past : List Event) (h : ℕ) (b : HartState) (none : has
   by_kind : (did : Did) (c : HartState) → Kind w past h b did c → has_startup c.frames ≡ false
   by_kind did c (Kind.goes no_events frames runs_on) = ap has_startup frames ∙ none
   by_kind did c (Kind.ends reason is frames ended) = ap has_startup frames ∙ none
-  by_kind did c (Kind.calls asked to from x) = by_answer asked to x.answer x.appended did c (asked_startup b asked to from ∙ none) x.takes
+  by_kind did c (Kind.calls asked to from x) = by_answer asked to x.answer x.appended did c (asked_some is_of_startup (λ ra set. refl) b asked to from ∙ none) x.takes
   by_kind did c (Kind.enters function frames from x) = ap (λ (z : HartState). has_startup z.frames) x.leaves ∙ ap has_startup from.after ∙ sym (ap has_startup from.before) ∙ none
   by_kind did c (Kind.completes purpose object rest below not_end from x) =
       ap (λ (z : HartState). has_startup z.frames) x.passes.leaves ∙ runs_startup purpose (left rest) below (freed b) (sym (ap has_startup from.before) ∙ none)

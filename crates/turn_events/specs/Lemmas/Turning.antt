@@ -26,7 +26,7 @@ use Rattle.hart_moves.specs.Moves.{Did, Finalises, Finals, Moves, Passes, Takes,
 use Rattle.turn_events.specs.Appends.{Appends, NoneEndsOrUnmaps, has_finals, is_of_end}
 use Rattle.turn_events.specs.Laws.{FinalsStay, FinalsStayAway, TurnsAppend}
 use Rattle.turn_events.specs.Lemmas.Dues.{EntersFirst, HasRun}
-use Rattle.turn_events.specs.Lemmas.Frames.{asked_finals, did_events, first_end, first_finals, runs_end, runs_finals, telling_end, telling_frames}
+use Rattle.turn_events.specs.Lemmas.Frames.{asked_some, did_events, first_end, first_some, runs_end, runs_some, telling_end, telling_frames}
 use Rattle.turn_events.specs.Lemmas.Kinds.{Kind, kind_of}
 
 -- ---- events that neither unmap nor end
@@ -136,7 +136,7 @@ module _ (w : Setting) (past : List Event) (h : ℕ) (b : HartState) where
   by_passing purpose before functions below did c not_end same spares x =
       by_sparing (spent (runs purpose (left functions) below (freed b))) (before ++ map (passing purpose h) (passed functions)) did c
       (runs_end purpose (left functions) below (freed b) not_end)
-      (runs_finals purpose (left functions) below (freed b) not_end ∙ same)
+      (runs_some is_of_end purpose (left functions) below (freed b) not_end ∙ same)
       (both_spare before (map (passing purpose h) (passed functions)) spares (passings_spare purpose h (passed functions)))
       (ap events_of x.is) x.leaves
 
@@ -195,7 +195,7 @@ module _ (w : Setting) (past : List Event) (h : ℕ) (b : HartState) where
       by (Some f) last so = record {
         appends = Appends.no_end (subst NoneEndsOrUnmaps (sym are) spares)
             (ap (λ (y : HartState). y.«end») so ∙ first_end (Purpose.of_end code) f.object f.addresses [] [] (freed_by added b) ∙ freed_end added);
-        finals = inl (ap (λ (y : HartState). has_finals y.frames) so ∙ first_finals (Purpose.of_end code) f.object f.addresses [] [] (freed_by added b) ∙ sym finals);
+        finals = inl (ap (λ (y : HartState). has_finals y.frames) so ∙ first_some is_of_end (Purpose.of_end code) f.object f.addresses [] [] (freed_by added b) ∙ sym finals);
       }
 
   by_finalising : (code object : ℕ) (did : Did) (c : HartState) → has_finals b.frames ≡ true → Finalises w past h b code object did c → Leaves past h b did c
@@ -208,7 +208,7 @@ module _ (w : Setting) (past : List Event) (h : ℕ) (b : HartState) where
   by_kind : (did : Did) (c : HartState) → Kind w past h b did c → Leaves past h b did c
   by_kind did c (Kind.goes none frames runs_on) = record { appends = Appends.no_end (subst NoneEndsOrUnmaps (sym none) tt) runs_on; finals = inl (ap has_finals frames) }
   by_kind did c (Kind.ends reason is frames ended) = record { appends = Appends.an_end [] reason tt is ended; finals = inl (ap has_finals frames) }
-  by_kind did c (Kind.calls asked to from x) = by_answer asked to x.answer x.appended did c (asked_finals b asked to from) (serves_comes w past h asked x.appended x.answer x.serves) x.takes
+  by_kind did c (Kind.calls asked to from x) = by_answer asked to x.answer x.appended did c (asked_some is_of_end (λ ra set. refl) b asked to from) (serves_comes w past h asked x.appended x.answer x.serves) x.takes
   by_kind did c (Kind.enters function frames from x) = by_sparing _ [] did c refl (entered_finals b.frames frames function from) tt (ap events_of x.is) x.leaves
   by_kind did c (Kind.completes purpose object rest below not_end from x) =
       by_passing purpose (passing purpose h object ∷ []) rest below did c not_end (below_finals purpose object rest below not_end from) (passings_spare purpose h (object ∷ [])) x.passes

@@ -20,8 +20,8 @@ use Rattle.link_service.specs.Gives.{Answers, Gives}
 use Rattle.hart_moves.specs.Harts.{Frame, HartState, Purpose}
 use Rattle.hart_moves.specs.Moves.{Did, events_of, freed, runs, spent}
 use Rattle.hart_moves.specs.Registers.{returned}
-use Rattle.turn_frames.specs.Closings.{ClosesAtOnce, UnmapsNext, ReturnsBehind, UnmapsAll, emptied}
-use Rattle.turn_frames.specs.Leaves.{AreFrames, LeavesFrames, behind_first}
+use Rattle.turn_frames.specs.Closings.{ClosesAtOnce, UnmapsNext, ReturnsBehind, UnmapsAll, closing_frame, emptied}
+use Rattle.turn_frames.specs.Leaves.{AreFrames, LeavesFrames, behind_all, behind_first}
 use Rattle.turn_frames.specs.Lemmas.Turning.{turns_leave_frames}
 
 pub closes_at_once : ClosesAtOnce
@@ -40,46 +40,59 @@ grows x xs e = let n : suc (length xs) ≡ length xs = ap (λ (fs : List Frame).
 grows_twice : (x y : Frame) (xs : List Frame) → x ∷ y ∷ xs ≡ xs → ⊥
 grows_twice x y xs e = let n : suc (suc (length xs)) ≡ length xs = ap (λ (fs : List Frame). length fs) e in omega (arith, n)
 
-module _ (w : Setting) (past : List Event) (h to : ℕ) (b c : HartState) (did : Did) (set : List ℕ) (below : List Frame) (was : b.frames ≡ emptied to set ∷ below) (goes : c.frames ≡ below) where
+module _ (w : Setting) (past : List Event) (h to : ℕ) (b c : HartState) (did : Did) (set : List ℕ) (queue : List Function) (below : List Frame)
+    (was : b.frames ≡ closing_frame to set queue ∷ below) (goes : c.frames ≡ below) where
   abbrev Returns : Type 0
   Returns = (events_of did ≡ Unmapped h set ∷ []) × (c.registers ≡ returned to 0 b.registers)
 
-  -- another function of it would be left
-  not_left : (purpose : Purpose) (f : Function) (rest : List Function) (others : List Frame) → b.frames ≡ record { purpose = purpose; queue = f ∷ rest } ∷ others → Returns
-  not_left purpose f rest others had = absurd (
-      let are : emptied to set ∷ below ≡ record { purpose = purpose; queue = f ∷ rest } ∷ others = sym was ∙ had in
-      let one : emptied to set ≡ record { purpose = purpose; queue = f ∷ rest } = cc in
-      let no : [] ≡ f ∷ rest = ap (λ (x : Frame). x.queue) one in cc)
+  -- a frame stands on all of them
+  on_all : (x : Frame) → c.frames ≡ x ∷ b.frames → Returns
+  on_all x came = absurd (grows_twice x (closing_frame to set queue) below (ap (λ (fs : List Frame). x ∷ fs) (sym was) ∙ sym came ∙ goes))
 
-  -- a frame comes, and this one stays
-  not_begun : (purpose : Purpose) (functions : List Function) → (AreFrames purpose [] b.frames c.frames → Returns) → AreFrames purpose functions b.frames c.frames → Returns
-  not_begun purpose [] none are = none are
-  not_begun purpose (f ∷ rest) none are =
-      let next : Frame = record { purpose = purpose; queue = behind_first f ∷ rest } in
-      absurd (grows_twice next (emptied to set) below (ap (λ (fs : List Frame). next ∷ fs) (sym was) ∙ sym are ∙ goes))
+  -- or on those below
+  on_others : (x one : Frame) (others : List Frame) → b.frames ≡ one ∷ others → c.frames ≡ x ∷ others → Returns
+  on_others x one others had came =
+      let are : closing_frame to set queue ∷ below ≡ one ∷ others = sym was ∙ had in
+      let tails : below ≡ others = cc in
+      absurd (grows x below (ap (λ (fs : List Frame). x ∷ fs) tails ∙ sym came ∙ goes))
 
   not_stayed : c.frames ≡ b.frames → Returns
-  not_stayed same = absurd (grows (emptied to set) below (sym was ∙ sym same ∙ goes))
+  not_stayed same = absurd (grows (closing_frame to set queue) below (sym was ∙ sym same ∙ goes))
+
+  not_begun : (purpose : Purpose) (functions : List Function) → (AreFrames purpose [] b.frames c.frames → Returns) → AreFrames purpose functions b.frames c.frames → Returns
+  not_begun purpose [] none are = none are
+  not_begun purpose (f ∷ rest) none are = on_all (record { purpose = purpose; queue = behind_first f ∷ rest }) are
+
+  not_completed : (purpose : Purpose) (f : Function) (rest functions : List Function) (others : List Frame) → b.frames ≡ record { purpose = purpose; queue = f ∷ rest } ∷ others
+      → AreFrames purpose functions others c.frames → Returns
+  not_completed purpose f rest [] others had came =
+      let are : closing_frame to set queue ∷ below ≡ record { purpose = purpose; queue = f ∷ rest } ∷ others = sym was ∙ had in
+      let one : closing_frame to set queue ≡ record { purpose = purpose; queue = f ∷ rest } = cc in
+      on_others (emptied to set) (record { purpose = purpose; queue = f ∷ rest }) others had
+      (subst (λ (q : Purpose). c.frames ≡ behind_all q others) (sym (ap (λ (x : Frame). x.purpose) one)) came)
+  not_completed purpose f rest (g ∷ gs) others had came = on_others (record { purpose = purpose; queue = behind_first g ∷ gs }) (record { purpose = purpose; queue = f ∷ rest }) others had came
 
   behind : LeavesFrames w past h b did c → Returns
   behind (LeavesFrames.stays none same) = not_stayed same
-  behind (LeavesFrames.enters purpose f address more rest others had has none pc frames) = not_left purpose f rest others had
-  behind (LeavesFrames.loads ra root id ask first rest ranges functions are is frames) = not_begun (Purpose.of_opening ra root) (left functions) not_stayed frames
-  behind (LeavesFrames.dies ra handle first rest functions are is frames) = not_begun (Purpose.of_closing ra (first ∷ rest)) (left functions)
-      (λ (came : AreFrames (Purpose.of_closing ra (first ∷ rest)) [] b.frames c.frames). absurd (grows_twice (emptied ra (first ∷ rest)) (emptied to set) below (ap (λ (fs : List Frame). emptied ra (first ∷ rest) ∷ fs) (sym was) ∙ sym came ∙ goes)))
-      frames
-  behind (LeavesFrames.completes purpose f rest others not_end had is frames) = not_left purpose f rest others had
+  behind (LeavesFrames.enters purpose f address more rest others had has none pc frames) =
+      on_others (record { purpose = purpose; queue = record f { addresses = more } ∷ rest }) (record { purpose = purpose; queue = f ∷ rest }) others had frames
+  behind (LeavesFrames.loads to_caller root id ask first rest ranges functions are is frames back entered) = not_begun (Purpose.of_opening to_caller root) (left functions) not_stayed frames
+  behind (LeavesFrames.dies to_caller handle first rest functions are is frames back entered) = not_begun (Purpose.of_closing to_caller (first ∷ rest)) (left functions) (on_all (emptied to_caller (first ∷ rest))) frames
+  behind (LeavesFrames.completes purpose f rest others not_end had is frames entered) = not_completed purpose f rest (left rest) others had frames
   behind (LeavesFrames.unmaps ra gone others had is frames registers) =
-      let one : emptied to set ∷ below ≡ emptied ra gone ∷ others = sym was ∙ had in
-      let frame : emptied to set ≡ emptied ra gone = cc in
+      let one : closing_frame to set queue ∷ below ≡ emptied ra gone ∷ others = sym was ∙ had in
+      let frame : closing_frame to set queue ≡ emptied ra gone = cc in
       let purpose : Purpose.of_closing to set ≡ Purpose.of_closing ra gone = ap (λ (x : Frame). x.purpose) frame in
       let sets : gone ≡ set = cc in
       let back : ra ≡ to = cc in
       (is ∙ ap (λ (os : List ℕ). Unmapped h os ∷ []) sets, registers ∙ ap (λ (n : ℕ). returned n 0 b.registers) back)
-  behind (LeavesFrames.finalises code f rest others events next had finals is frames) = not_left (Purpose.of_end code) f rest others had
+  behind (LeavesFrames.finalises code f rest others events next had finals is frames entered) = absurd (
+      let are : closing_frame to set queue ∷ below ≡ record { purpose = Purpose.of_end code; queue = f ∷ rest } ∷ others = sym was ∙ had in
+      let one : closing_frame to set queue ≡ record { purpose = Purpose.of_end code; queue = f ∷ rest } = cc in
+      let no : Purpose.of_closing to set ≡ Purpose.of_end code = ap (λ (x : Frame). x.purpose) one in cc)
 
 pub returns_behind : ReturnsBehind
-returns_behind w past h to b c did set below moves was goes = behind w past h to b c did set below was goes (turns_leave_frames w past h b c did moves)
+returns_behind w past h to b c did set queue below moves was goes = behind w past h to b c did set queue below was goes (turns_leave_frames w past h b c did moves)
 
 -- ---- what is unmapped
 

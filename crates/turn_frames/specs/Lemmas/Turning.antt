@@ -26,7 +26,7 @@ use Rattle.hart_moves.specs.Registers.{returned}
 use Rattle.turn_events.specs.Lemmas.Dues.{AskedFrom, HasRun}
 use Rattle.turn_events.specs.Lemmas.Frames.{did_events, telling_frames}
 use Rattle.turn_events.specs.Lemmas.Kinds.{Kind, kind_of}
-use Rattle.turn_frames.specs.Leaves.{AreFrames, LeavesFrames, NoneTouchesFrames, TurnsLeaveFrames}
+use Rattle.turn_frames.specs.Leaves.{AreFrames, FirstIsEntered, LeavesFrames, NoneTouchesFrames, TurnsLeaveFrames}
 
 -- ---- functions that are run
 
@@ -44,6 +44,33 @@ all_frames (Purpose.of_end code) below b = refl
 pub runs_frames : (purpose : Purpose) (functions : List Function) (below : List Frame) (b : HartState) → AreFrames purpose functions below (runs purpose functions below b).frames
 runs_frames purpose [] below b = all_frames purpose below b
 runs_frames purpose (f ∷ rest) below b = first_frames purpose f.object f.addresses rest below b
+
+-- the first of them has a function
+abbrev HasFirst : List Function → Type 0
+HasFirst [] = Unit {0}
+HasFirst (f ∷ rest) = (address : ℕ) × (more : List ℕ) × (f.addresses ≡ address ∷ more)
+
+left_first : (functions : List Function) → HasFirst (left functions)
+left_first [] = tt
+left_first (f ∷ rest) = by (left_first rest) f.addresses refl
+  where
+    by : HasFirst (left rest) → (addresses : List ℕ) → f.addresses ≡ addresses → HasFirst (elim addresses [ [] ↦ left rest | a ∷ more ↦ f ∷ rest ])
+    by behind [] are = behind
+    by behind (address ∷ more) are = (address, more, are)
+
+final_first : (w : Setting) (h : ℕ) (past behind : List Event) (next : Option Function) → Finals w h past behind next → HasFirst (final_functions next)
+final_first w h past _ _ (Finals.no_more _ none) = tt
+final_first w h past _ _ (Finals.one_runs _ object function rest more next are) = (function, more, refl)
+final_first w h past _ next (Finals.one_passes _ object rest behind _ first are may more) = final_first w h (past ++ events.Fini h object ∷ []) behind next more
+
+runs_entered : (purpose : Purpose) (functions : List Function) (below : List Frame) (b c : HartState) → HasFirst functions → c ≡ spent (runs purpose functions below b) → FirstIsEntered functions c
+runs_entered purpose [] below b c has leaves = tt
+runs_entered purpose (f ∷ rest) below b c (address, more, are) leaves = (
+  address,
+  more,
+  are,
+  ap (λ (z : HartState). z.registers.pc) leaves ∙ ap (λ (addresses : List ℕ). (with_first purpose f.object addresses rest below b).registers.pc) are,
+)
 
 -- ---- what a call appends
 
@@ -134,9 +161,9 @@ serves_comes w past h call appended answer serves =
 -- a call that isn't an unmapping returns to the hart's frames
 to_same : (b : HartState) (call : Call) (to : Return) → ((set : List ℕ) → call ≡ unmaps set → ⊥) → AskedFrom b call to → to.frames ≡ b.frames
 to_same b (resolves owner eights) to not_so from = from
-to_same b (opens ask) to not_so from = from
+to_same b (opens ask) to not_so from = from.1
 to_same b (looks_up ask) to not_so from = from
-to_same b (closes handle) to not_so from = from
+to_same b (closes handle) to not_so from = from.1
 to_same b (unmaps set) to not_so from = absurd (not_so set refl)
 to_same b asks_fault to not_so from = from
 to_same b (locates number offset) to not_so from = from
@@ -169,6 +196,8 @@ module _ (w : Setting) (past : List Event) (h : ℕ) (b : HartState) where
       (subst (λ (fs : List Frame). AreFrames (Purpose.of_opening to.to root) (left x.functions) fs c.frames) same
       (subst (λ (fs : List Frame). AreFrames (Purpose.of_opening to.to root) (left x.functions) to.frames fs) (sym (ap (λ (z : HartState). z.frames) x.passes.leaves))
       (runs_frames (Purpose.of_opening to.to root) (left x.functions) to.frames (freed b))))
+      (subst (λ (call : Call). AskedFrom b call to) it.asked from).0
+      (runs_entered (Purpose.of_opening to.to root) (left x.functions) to.frames (freed b) c (left_first x.functions) x.passes.leaves)
   by_answer asked to (closing set) appended did c from it x =
       let same : to.frames ≡ b.frames = to_same b asked to (λ other e. no_close it.handle other (sym it.asked ∙ e)) from in
       LeavesFrames.dies to.to it.handle it.first it.rest x.functions
@@ -179,6 +208,8 @@ module _ (w : Setting) (past : List Event) (h : ℕ) (b : HartState) where
       (subst (λ (fs : List Frame). AreFrames (Purpose.of_closing to.to set) (left x.functions) fs c.frames) same
       (subst (λ (fs : List Frame). AreFrames (Purpose.of_closing to.to set) (left x.functions) to.frames fs) (sym (ap (λ (z : HartState). z.frames) x.passes.leaves))
       (runs_frames (Purpose.of_closing to.to set) (left x.functions) to.frames (freed b)))))
+      (subst (λ (call : Call). AskedFrom b call to) it.asked from).0
+      (runs_entered (Purpose.of_closing to.to set) (left x.functions) to.frames (freed b) c (left_first x.functions) x.passes.leaves)
   by_answer asked to (refused fault) appended did c from other x = by_touching_none _ appended did c (to_same b asked to other.not_unmaps from) other.touches_none (ap events_of x.is) x.leaves
   by_answer asked to (granted g) appended did c from none x = by_touching_none _ appended did c refl none (ap events_of x.is) x.leaves
   by_answer asked to (told fault) appended did c from other x = by_telling _ to fault appended did c (to_same b asked to other.not_unmaps from) other.touches_none x
@@ -192,6 +223,8 @@ module _ (w : Setting) (past : List Event) (h : ℕ) (b : HartState) where
       (ap events_of x.is ∙ did_events (own_fini (after past) h object ++ x.events) ∙ ap (λ (o : ℕ). own_fini (after past) h o ++ x.events) (sym from.is))
       (subst (λ (fs : List Frame). AreFrames (Purpose.of_end code) (final_functions x.next) [] fs) (sym (ap (λ (z : HartState). z.frames) x.leaves))
       (runs_frames (Purpose.of_end code) (final_functions x.next) [] (freed_by (own_fini (after past) h object ++ x.events) b)))
+      (runs_entered (Purpose.of_end code) (final_functions x.next) [] (freed_by (own_fini (after past) h object ++ x.events) b) c
+      (final_first w h (past ++ own_fini (after past) h object) x.events x.next x.finals) x.leaves)
 
   by_kind : (did : Did) (c : HartState) → Kind w past h b did c → LeavesFrames w past h b did c
   by_kind did c (Kind.goes none frames runs_on) = LeavesFrames.stays (subst NoneTouchesFrames (sym none) tt) frames
@@ -204,6 +237,7 @@ module _ (w : Setting) (past : List Event) (h : ℕ) (b : HartState) where
       LeavesFrames.completes purpose from.function rest below not_end from.before
       (ap events_of x.passes.is ∙ ap (λ (o : ℕ). passing purpose h o ∷ map (passing purpose h) (passed rest)) (sym from.is))
       (subst (λ (fs : List Frame). AreFrames purpose (left rest) below fs) (sym (ap (λ (z : HartState). z.frames) x.passes.leaves)) (runs_frames purpose (left rest) below (freed b)))
+      (runs_entered purpose (left rest) below (freed b) c (left_first rest) x.passes.leaves)
   by_kind did c (Kind.finalises code object rest below from x) = by_finalising code object rest below did c from x
 
 pub turns_leave_frames : TurnsLeaveFrames

@@ -1,4 +1,5 @@
 use Rattle.std.proofs.Common.{Some, refl, subst, ◌≤◌, arith}
+use Rattle.std.proofs.lemmas.Bool.{true≢false}
 use Rattle.command_line.specs.Reads.{Reads}
 use Rattle.command_line.specs.declared.command.Command.{Command}
 use Rattle.command_line.specs.declared.command.Command.TheVariants as commands
@@ -64,31 +65,31 @@ pub returns-in-Ok-Bind-clause-untouched : goal.returns-in-Ok-Bind-clause-untouch
 returns-in-Ok-Bind-clause-untouched g c =
     let reads : Reads (texts c.args.words.now) (commands.Bind c.in-Ok-Bind.command) =
     subst (λ (command : Command). Reads (texts c.args.words.now) command) c.in-Ok-Bind.field-0-is c.in-Ok-Bind.ensures.is in
-    record { asked = Some (commands.Bind c.in-Ok-Bind.command); asks = (reads, tt); holds = tt }
+    record { asked = Some (commands.Bind c.in-Ok-Bind.command); asks = (reads, tt); holds = λ no. absurd (true≢false no) }
 
 pub returns-in-Ok-Dump-clause-untouched : goal.returns-in-Ok-Dump-clause-untouched
 returns-in-Ok-Dump-clause-untouched g c =
     let reads : Reads (texts c.args.words.now) (commands.Dump c.in-Ok-Dump.path) =
     subst (λ (command : Command). Reads (texts c.args.words.now) command) c.in-Ok-Dump.field-0-is c.in-Ok-Dump.ensures.is in
-    record { asked = Some (commands.Dump c.in-Ok-Dump.path); asks = (reads, tt); holds = tt }
+    record { asked = Some (commands.Dump c.in-Ok-Dump.path); asks = (reads, tt); holds = λ no. absurd (true≢false no) }
 
 pub returns-in-Ok-Assemble-clause-untouched : goal.returns-in-Ok-Assemble-clause-untouched
 returns-in-Ok-Assemble-clause-untouched g c =
     let reads : Reads (texts c.args.words.now) (commands.Assemble c.in-Ok-Assemble.path) =
     subst (λ (command : Command). Reads (texts c.args.words.now) command) c.in-Ok-Assemble.field-0-is c.in-Ok-Assemble.ensures.is in
-    record { asked = Some (commands.Assemble c.in-Ok-Assemble.path); asks = (reads, tt); holds = tt }
+    record { asked = Some (commands.Assemble c.in-Ok-Assemble.path); asks = (reads, tt); holds = λ no. absurd (true≢false no) }
 
 pub returns-in-Ok-Turns-clause-untouched : goal.returns-in-Ok-Turns-clause-untouched
 returns-in-Ok-Turns-clause-untouched g c =
     let reads : Reads (texts c.args.words.now) (commands.Turns c.in-Ok-Turns.command) =
     subst (λ (command : Command). Reads (texts c.args.words.now) command) c.in-Ok-Turns.field-0-is c.in-Ok-Turns.ensures.is in
-    turns_read c.words_are_one_command.ensures (texts c.args.words.now) c.in-Ok-Turns.command reads c.args.library.now c.turns.new.library
+    turns_read c.words_are_one_command.ensures (texts c.args.words.now) c.in-Ok-Turns.command reads c.args.library.now c.turns.new.library c.turns.ensures.unread
 
 pub returns-in-Ok-Generate-clause-untouched : goal.returns-in-Ok-Generate-clause-untouched
 returns-in-Ok-Generate-clause-untouched g c =
     let reads : Reads (texts c.args.words.now) (commands.Generate c.in-Ok-Generate.number) =
     subst (λ (command : Command). Reads (texts c.args.words.now) command) c.in-Ok-Generate.field-0-is c.in-Ok-Generate.ensures.is in
-    record { asked = Some (commands.Generate c.in-Ok-Generate.number); asks = (reads, tt); holds = refl }
+    record { asked = Some (commands.Generate c.in-Ok-Generate.number); asks = (reads, tt); holds = λ unread. refl }
 
 pub returns-clause-untouched : goal.returns-clause-untouched
 returns-clause-untouched g c =

@@ -1,7 +1,7 @@
 use Rattle.std.proofs.Common.{ℕ, Bool, true, [], refl, sym, subst, ◌∙◌}
 use Rattle.hart_moves.specs.Starting.{starting_registers}
 use Rattle.guest_turns.specs.Lemmas.Counting.{unmoved}
-use Rattle.guest_worlds.specs.Worlds.{IsAt, setting_without, world_of}
+use Rattle.guest_worlds.specs.Worlds.{MayBeAt, setting_without, world_of}
 use Rattle.world_ends.specs.Ends.{has_exited}
 use Rattle.world_turns.specs.Run.{Finalises}
 use Rattle.world_turns.specs.World.{World}
@@ -29,9 +29,9 @@ pub returns-in-Begun-clause-stays : goal.returns-in-Begun-clause-stays
 returns-in-Begun-clause-stays c = λ words folders at.
     let old : World = world_of c.args.state.now words c.args.harts.now in
     let new : World = world_of c.begin_finals.new.state words c.begin_finals.new.harts in
-    subst (λ (n : ℕ). IsAt n folders true new) (sym c.in-Begun.ensures.count)
+    subst (λ (n : ℕ). MayBeAt n folders true new) (sym c.in-Begun.ensures.count)
     (c.runs_stay.ensures.begins c.args.state.now.harts folders (starting_registers c.args.entry) old new
-    (subst (λ (b : Bool). IsAt c.args.state.now.harts folders b old) c.if-begun.false at)
+    (subst (λ (b : Bool). MayBeAt c.args.state.now.harts folders b old) c.if-begun.false at)
     (sym (all_in has_exited c.args.harts.now) ∙ sym c.have_exited.ensures ∙ c.if-not-have_exited.false) (c.in-Begun.ensures.begins words))
 
 pub returns-in-NoneLeft-clause-other : goal.returns-in-NoneLeft-clause-other
@@ -42,8 +42,8 @@ pub returns-in-NoneLeft-clause-stays : goal.returns-in-NoneLeft-clause-stays
 returns-in-NoneLeft-clause-stays c = λ words folders at.
     let old : World = world_of c.args.state.now words c.args.harts.now in
     let new : World = world_of c.begin_finals.new.state words c.begin_finals.new.harts in
-    subst (λ (n : ℕ). IsAt n folders true new) (sym c.in-NoneLeft.ensures.count)
-    (subst (λ (v : World). IsAt c.args.state.now.harts folders true v) (sym (c.in-NoneLeft.ensures.begins words).1)
+    subst (λ (n : ℕ). MayBeAt n folders true new) (sym c.in-NoneLeft.ensures.count)
+    (subst (λ (v : World). MayBeAt c.args.state.now.harts folders true v) (sym (c.in-NoneLeft.ensures.begins words).1)
     (begun_at c.args.state.now.harts folders c.args.begun old at))
 
 pub returns-in-Memory-clause-other : goal.returns-in-Memory-clause-other
@@ -56,9 +56,9 @@ pub returns-in-Memory-clause-stays : goal.returns-in-Memory-clause-stays
 returns-in-Memory-clause-stays c = λ words folders at.
     let old : World = world_of c.args.state.now words c.args.harts.now in
     let new : World = world_of c.begin_finals.new.state words c.begin_finals.new.harts in
-    subst (λ (n : ℕ). IsAt n folders true new) (sym c.in-Memory.ensures.count)
+    subst (λ (n : ℕ). MayBeAt n folders true new) (sym c.in-Memory.ensures.count)
     (c.runs_stay.ensures.lacks c.args.state.now.harts folders old new
-    (subst (λ (b : Bool). IsAt c.args.state.now.harts folders b old) c.if-begun.false at)
+    (subst (λ (b : Bool). MayBeAt c.args.state.now.harts folders b old) c.if-begun.false at)
     (sym (all_in has_exited c.args.harts.now) ∙ sym c.have_exited.ensures ∙ c.if-not-have_exited.false) (c.in-Memory.ensures.begins words))
 
 pub returns-then-begun-clause-refuses : goal.returns-then-begun-clause-refuses

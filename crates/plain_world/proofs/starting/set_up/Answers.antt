@@ -1,6 +1,6 @@
 use Rattle.std.proofs.Common.{ℕ, false, List, refl, sym, subst, arith}
 use Rattle.opening_plan.specs.Startup.{run_of}
-use Rattle.guest_worlds.specs.Worlds.{IsAt, world_of}
+use Rattle.guest_worlds.specs.Worlds.{MayBeAt, world_of}
 use Rattle.plain_world.specs.Started.{StartsAt}
 use Rattle.plain_world.proofs.Started.{at_start, starts_at}
 use Rattle.plain_world.proofs.starting.set_up.Goals as goal
@@ -20,7 +20,7 @@ invariant_of-result c =
     let counted = c.harts.ensures in
     record {
       some = omega (arith, many);
-      at = subst (λ (folders : List (List ℕ)). IsAt c.args.state.harts folders false (world_of c.args.state c.in_ok-memory.memory c.in_ok-memory.harts.items))
+      at = subst (λ (folders : List (List ℕ)). MayBeAt c.args.state.harts folders false (world_of c.args.state c.in_ok-memory.memory c.in_ok-memory.harts.items))
           (sym c.in_ok-folders.ensures)
           (at_start c.runs_stay.ensures.start setup files c.args.state c.args.state c.in_ok-memory.memory c.in_ok-memory.harts.items at_first.starts refl
           c.requires.harts c.requires.over);

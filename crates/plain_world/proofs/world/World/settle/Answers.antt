@@ -5,7 +5,7 @@ use Rattle.link_state.specs.Table.{LinkTable}
 use Rattle.turn_answers.specs.Following.{MayFollowAll}
 use Rattle.hart_seat.specs.Table.{HartTable}
 use Rattle.answer_turns.specs.Settling.{harts_in}
-use Rattle.guest_worlds.specs.Worlds.{IsAt, world_of}
+use Rattle.guest_worlds.specs.Worlds.{MayBeAt, world_of}
 use Rattle.world_turns.specs.Run.{settled}
 use Rattle.world_turns.specs.World.{settling}
 use Rattle.plain_world.specs.Inside.{world_in}
@@ -28,7 +28,7 @@ invariant_of-self c =
     with_items_is c.self.inside.harts c.settle_all.new.harts long in
     record {
       some = subst (λ (n : ℕ). 1 ≤ n) (sym (ap (λ (s : LinkTable). s.harts) c.settle_all.ensures.journal)) c.self.invariant.some;
-      at = subst (λ (hs : List HartTable). IsAt c.settle_all.new.state.harts c.self.inside.folders c.self.inside.begun
+      at = subst (λ (hs : List HartTable). MayBeAt c.settle_all.new.state.harts c.self.inside.folders c.self.inside.begun
           (world_of c.settle_all.new.state c.self.inside.memory hs)) (sym kept)
           (settled_at c.self.inside.folders c.self.inside.begun c.self.inside.state c.settle_all.new.state c.self.inside.memory c.as_mut_slice.result.now
           c.self.inside.harts.items c.settle_all.new.harts c.as_mut_slice.ensures.value c.settle_all.ensures.journal c.settle_all.ensures.harts

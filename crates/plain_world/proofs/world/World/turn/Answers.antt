@@ -3,7 +3,7 @@ use Rattle.std.proofs.lemmas.List.{with_items_is}
 use Rattle.std.specs.Vec.{vec_capacity, with_items}
 use Rattle.hart_seat.specs.Table.{HartTable}
 use Rattle.guest_worlds.specs.Coming.{LeavesHart}
-use Rattle.guest_worlds.specs.Worlds.{IsAt, TakesOver, world_of}
+use Rattle.guest_worlds.specs.Worlds.{MayBeAt, TakesOver, world_of}
 use Rattle.guest_turns.specs.Counting.{IsCounted, counts_at}
 use Rattle.guest_turns.specs.Next.{NextOpens, NextReadsNothing, NextTells}
 use Rattle.world_turns.specs.World.{World}
@@ -23,9 +23,9 @@ invariant_of-self g c =
     let kept : (with_items c.self.inside.harts c.take_turn.new.harts).items ≡ c.take_turn.new.harts = with_items_is c.self.inside.harts c.take_turn.new.harts long in
     record {
       some = subst (λ (n : ℕ). 1 ≤ n) (sym c.take_turn.ensures.count) c.self.invariant.some;
-      at = subst (λ (hs : List HartTable). IsAt c.take_turn.new.state.harts c.self.inside.folders c.self.inside.begun
+      at = subst (λ (hs : List HartTable). MayBeAt c.take_turn.new.state.harts c.self.inside.folders c.self.inside.begun
           (world_of c.take_turn.new.state c.take_turn.new.memory hs)) (sym kept)
-          (subst (λ (n : ℕ). IsAt n c.self.inside.folders c.self.inside.begun new) (sym c.take_turn.ensures.count)
+          (subst (λ (n : ℕ). MayBeAt n c.self.inside.folders c.self.inside.begun new) (sym c.take_turn.ensures.count)
           (c.runs_stay.ensures.turns c.self.inside.state.harts c.self.inside.folders (g.L.Library.files c.args.library.now) c.self.inside.begun c.args.id
           (world_in c.self.inside) new c.self.invariant.at
           (subst (λ (hs : List HartTable). TakesOver c.self.inside.state.harts c.self.inside.folders (g.L.Library.files c.args.library.now) c.args.id

@@ -8,8 +8,8 @@ use Rattle.link_history.specs.Allowed.{IsFirst}
 use Rattle.link_service.specs.Functions.{object_of}
 use Rattle.lawful_journal.specs.Following.{MayFollow}
 use Rattle.call_runs.specs.Ends.{is_end, is_no_other_end}
-use Rattle.call_runs.proofs.Ends.{may_finish}
-use Rattle.call_runs.proofs.checks.may_finish.Goals as goal
+use Rattle.call_runs.proofs.Ends.{may_finalise_at_end}
+use Rattle.call_runs.proofs.checks.may_finalise_at_end.Goals as goal
 
 pub returns : goal.returns
 returns c = λ yes.
@@ -21,6 +21,6 @@ returns c = λ yes.
     let first : IsFirst (map object_of c.in_ok-functions.functions) c.args.object =
     subst (λ (fs : List Function). IsFirst (map object_of fs) c.args.object) c.as_slice-2.ensures (c.begin_with.ensures yes) in
     subst (λ (hart : ℕ). MayFollow c.args.state.now.harts c.args.state.now.events (Fini hart c.args.object)) (sym c.if-number-ne0.false ∙ c.number.ensures)
-    (may_finish c.args.state.now.harts c.args.object c.args.state.now.events (map object_of c.in_ok-functions.functions) exits
+    (may_finalise_at_end c.args.state.now.harts c.args.object c.args.state.now.events (map object_of c.in_ok-functions.functions) exits
     (subst (λ (harts : ℕ). harts ≤ count_by is_end c.args.state.now.events) c.harts.ensures all)
     c.in_ok-functions.ensures.order first)

@@ -1,7 +1,7 @@
 use Rattle.std.proofs.Common.{◌∙◌}
 use Rattle.link_event.specs.declared.event.Event.TheVariants.{Fini}
 use Rattle.call_runs.proofs.Following.{may_follow}
-use Rattle.call_runs.proofs.checks.may_finalise_now.Goals as goal
+use Rattle.call_runs.proofs.checks.may_finalise_in_closing.Goals as goal
 
 pub returns : goal.returns
 returns c =
