@@ -12,7 +12,7 @@ use Rattle.link_history.specs.State.{State}
 use Rattle.relocator.specs.declared.binding.ModulePlace.{ModulePlace}
 use Rattle.scope_rule.specs.Relocation.{choice_at, names_symbols}
 use Rattle.scope_rule.specs.Seen.{Seen, seen}
-use Rattle.search_lists.specs.Lists.{AreListed, AreListsOf, IsListedAt}
+use Rattle.search_lists.specs.Lists.{AreListed, AreListsOf}
 use Rattle.seen_choices.specs.Seeing.{ShowsObjects}
 use Rattle.seg_image.specs.Accepted.{Accepted}
 use Rattle.sym_lookup.specs.Looking.{HaveTables}
@@ -33,11 +33,10 @@ pub record CanSee (x : Sight) : Type 0 where
   pub accepted : (o : Loaded) → Contains (seen x.view).objects o → Accepted o.object
   pub named : (o : Loaded) → Contains x.view.added.now o → IsTrue (names_symbols o.object)
 
--- a new object, at its place in load order, whose scope is there
+-- a new object, at its place in load order
 pub record IsNew (x : Sight) (place : ℕ) (o : Loaded) : Type 0 where
   pub there : slice_get (seen x.view).objects place ≡ Some o
   pub added : Contains x.view.added.now o
-  pub listed : IsListedAt x.lists.now place
 
 -- each relocation names one of so many symbols, and each slot stands low
 abbrev pub AreNamed : ℕ → List Reloc → Type 0

@@ -8,6 +8,7 @@ ghost use Rattle.link_history.specs.State.{State};
 ghost use Rattle.load_choices.specs.Choices.{choices_of};
 ghost use Rattle.scope_rule.specs.Relocation.{choice_at, names_symbols};
 ghost use Rattle.scope_rule.specs.Seen.{seen};
+ghost use Rattle.search_lists.specs.Lists.{IsListedAt};
 ghost use Rattle.seg_image.specs.Accepted.{Accepted};
 ghost use Rattle.sym_lookup.specs.Looking.{HaveTables};
 ghost use Rattle.object_choices.specs.Choices.{IsFaultOf};
@@ -117,6 +118,7 @@ fn choose_at(
 ) -> Result<Option<DlFault>, AllocError>
     requires sight { CanSee sight.now }
     requires new { IsNew sight.now place owner.now }
+    requires listed { IsListedAt sight.now.lists.now place }
     ensures fault { IfOk result (λ fault. (s : State) → Shows s (seen sight.now.view) sight.now.places.now
         → fault ≡ object_fault s (seen sight.now.view) now owner.now) }
     ensures choices { IfOk result (λ fault. fault ≡ None → choices.new ≡ choices.old ++ choices_of (seen sight.now.view) now owner.now) }
