@@ -1,6 +1,9 @@
 -- Lists that are kept of namespaces.
-use Rattle.std.proofs.Common.{◌≡◌, ◌⊎◌, ℕ, ◌<◌, ◌∙◌, Bool, true, false, cond, inl, inr, List, [], ◌∷◌, ap, refl, subst, sym, append-nil, eq-eqb, get_or, drop, length, map, take, ◌++◌, arith}
-use Rattle.std.specs.Prelude.{◌==◌, find, position, option_map, slice_get, nat_eq, IsSome, Option, Some, None}
+use Rattle.std.proofs.Common.{Bor, ◌≡◌, ◌⊎◌, ℕ, ◌<◌, ◌∙◌, Bool, true, false, cond, inl, inr, List, [], ◌∷◌, ap, refl, subst, sym, append-nil, eq-eqb, get_or, drop, length, map, take, ◌++◌, arith}
+use Rattle.std.specs.Prelude.{◌==◌, find, position, option_map, slice_get, nat_eq, IfSome, IsSome, OnOk, Option, Some, None, Result, Ok, Err}
+use Rattle.std.specs.Map.{lookup}
+use Rattle.std.specs.Option.{option_copied}
+use Rattle.std.specs.declared.alloc.AllocError.{AllocError}
 use Rattle.std.proofs.lemmas.Bool.{cases_Bool, eqb-true}
 use Rattle.std.proofs.lemmas.Grind.{common_steps}
 use Rattle.std.proofs.lemmas.List.{drop_all, length-map, take_all}
@@ -11,7 +14,7 @@ use Rattle.ld_base.specs.declared.linking.Loaded.{Loaded}
 use Rattle.ld_base.specs.declared.linking.State.{State}
 use Rattle.ld_base.specs.declared.linking.State.TheVariants as states
 use Rattle.link_history.specs.Step.{ready_in, ready_object, ready_state}
-use Rattle.listed_namespaces.specs.Kept.{AreKept, kept_at}
+use Rattle.listed_namespaces.specs.Kept.{AreKept, IsMade, kept_at}
 use Rattle.listed_namespaces.specs.declared.kept.KeptLists.{KeptLists}
 use Rattle.scope_rule.specs.Seen.{Seen, seen_in}
 use Rattle.scope_rule.specs.declared.namespace.Namespace.{Namespace}
@@ -101,3 +104,30 @@ at_index nss place ns within is = slice_get-get_or nss place ns within ∙ ap (�
 -- what was put at a place is there
 pub is_there : (place : ℕ) (lists : SearchLists) (old new : Option SearchLists) → new ≡ cond (nat_eq place place) (Some lists) old → IsSome new
 is_there place lists old new is = subst IsSome (sym (is ∙ ap (λ b. cond b (Some lists) old) (eq-eqb place place refl))) refl
+
+-- what is kept of the namespace at a place, if anything is
+pub some_kept : (nss : List Namespace) (kept : KeptLists) (place : ℕ) (ns : Namespace) → AreKept nss kept → slice_get nss place ≡ Some ns → IfSome (kept_at kept place) (AreListsOf (seen_in ns))
+some_kept nss kept place ns are at = by (kept_at kept place) refl
+  where
+    by : (x : Option SearchLists) → kept_at kept place ≡ x → IfSome x (AreListsOf (seen_in ns))
+    by (Some lists) is = are place ns lists at is
+    by None is = tt
+
+-- the same entries
+pub same_kept : (nss : List Namespace) (old new : KeptLists) → new.by_place.entries ≡ old.by_place.entries → AreKept nss old → AreKept nss new
+same_kept nss old new same are place ns lists there has = are place ns lists there (ap (lookup (nat_eq place)) (sym same) ∙ has)
+
+-- lists with a scope that was made
+pub made : {X : Type 0} (kept : KeptLists) (owner place : ℕ) (lists : SearchLists) (r : Result X AllocError) → kept_at kept place ≡ Some lists → OnOk r (IsListed lists owner) → OnOk r (IsMade kept owner place)
+made kept owner place lists (Ok x) at listed = record { lists = lists; at = at; listed = listed }
+made kept owner place lists (Err e) at listed = tt
+
+pub made_there : (kept : KeptLists) (owner place : ℕ) (found : Option (Bor SearchLists)) → option_copied found ≡ kept_at kept place → IsMade kept owner place → IsSome found
+made_there kept owner place (Some lists) is m = refl
+made_there kept owner place None is m = absurd (let no : None ≡ Some m.lists = is ∙ m.at in cc no)
+
+pub made_listed : (kept : KeptLists) (owner place : ℕ) (lists : SearchLists) (found : Option SearchLists) → found ≡ kept_at kept place → found ≡ Some lists → IsMade kept owner place → IsListed lists owner
+made_listed kept owner place lists found is some m =
+    let both : Some m.lists ≡ Some lists = sym m.at ∙ sym is ∙ some in
+    let same : m.lists ≡ lists = cc both in
+    subst (λ (x : SearchLists). IsListed x owner) same m.listed

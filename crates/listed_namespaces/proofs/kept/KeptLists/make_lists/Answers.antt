@@ -1,7 +1,10 @@
 use Rattle.std.proofs.Common.{subst}
 use Rattle.scope_rule.specs.Seen.{Seen}
 use Rattle.search_lists.specs.Lists.{AreListsOf}
-use Rattle.listed_namespaces.proofs.Standing.{at_index, is_there, one_kept}
+use Rattle.std.proofs.Common.{subst}
+use Rattle.scope_rule.specs.Seen.{Seen}
+use Rattle.search_lists.specs.Lists.{AreListsOf}
+use Rattle.listed_namespaces.proofs.Standing.{at_index, is_there, one_kept, same_kept}
 use Rattle.listed_namespaces.proofs.kept.KeptLists.make_lists.Goals as goal
 
 pub returns-in_ok-insert-clause-kept : goal.returns-in_ok-insert-clause-kept
@@ -12,3 +15,6 @@ returns-in_ok-insert-clause-kept c =
 
 pub returns-in_ok-insert-clause-there : goal.returns-in_ok-insert-clause-there
 returns-in_ok-insert-clause-there c = is_there c.args.place c.in_ok-lists.lists _ _ (c.in_ok-insert.ensures.updates.0 c.args.place)
+
+pub returns-in_err-insert-clause-kept : goal.returns-in_err-insert-clause-kept
+returns-in_err-insert-clause-kept c = same_kept c.args.namespaces.now c.args.self.now (record { by_place = c.insert.new.self }) c.in_err-insert.ensures.err c.requires.kept

@@ -2,6 +2,7 @@ use Rattle.std.proofs.Common.{◌≡◌, List, subst, sym, ◌∙◌}
 use Rattle.std.specs.Prelude.{IfOk}
 use Rattle.link_history.specs.Laws.{AreApart}
 use Rattle.link_history.specs.State.{State}
+use Rattle.listed_namespaces.specs.Kept.{AreKept}
 use Rattle.scope_rule.specs.declared.namespace.Namespace.{Namespace}
 use Rattle.slot_choice.specs.Choosing.{AllSound, ChoosesSlot}
 use Rattle.listed_namespaces.proofs.listed.ListedNamespaces.slot_choice.Goals as goal
@@ -13,3 +14,9 @@ pub returns-clause-ok : goal.returns-clause-ok
 returns-clause-ok c =
     subst (λ (nss : List Namespace). IfOk c.chosen.result (λ x. (s : State) → s.namespaces ≡ nss → AreApart s → ChoosesSlot s c.args.owner c.args.eights x))
     (c.as_slice-namespaces.ensures.value ∙ c.self.view_is) c.chosen.ensures.ok
+
+pub chosen-requires-clause-kept : goal.chosen-requires-clause-kept
+chosen-requires-clause-kept c = subst (λ (nss : List Namespace). AreKept nss c.self.inside.lists) (sym c.as_slice-namespaces.ensures.value) c.self.invariant
+
+pub invariant_of-self : goal.invariant_of-self
+invariant_of-self c = subst (λ (nss : List Namespace). AreKept nss c.chosen.new.lists) c.as_slice-namespaces.ensures.value c.chosen.ensures.kept
