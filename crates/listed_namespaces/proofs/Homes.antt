@@ -15,7 +15,9 @@ use Rattle.listed_namespaces.specs.Kept.{IsHome}
 use Rattle.scope_rule.specs.Loading.{object_of}
 use Rattle.scope_rule.specs.Seen.{Seen, seen_in}
 use Rattle.scope_rule.specs.declared.namespace.Namespace.{Namespace}
-use Rattle.slot_choice.specs.Choosing.{Shows}
+use Rattle.slot_choice.specs.Choosing.{HasNamespace, IsFaultOf, IsSlotFaultOf}
+use Rattle.slot_choice.specs.declared.choosing.SlotFault.{SlotFault}
+use Rattle.slot_choice.specs.declared.choosing.SlotFault.TheVariants.{Unloaded, NoSlot, Memory}
 
 -- a namespace in which an object is found has it
 pub has_it : (ns : Namespace) (view : Seen) (owner : ℕ) (x : Option (Bor Loaded)) (found : Bool) → view ≡ seen_in ns → option_copied x ≡ object_of view owner → found ≡ is_some x → found ≡ true → has_object owner ns ≡ true
@@ -36,7 +38,7 @@ pub one_there : (nss : List Namespace) (owner place : ℕ) (ns : Namespace) (hom
 one_there nss owner place ns home at = let both : Some home.namespace ≡ Some ns = sym home.at ∙ at in cc both
 
 -- a state whose objects are apart shows each of its namespaces
-pub shows : (s : State) (nss : List Namespace) (place : ℕ) (ns : Namespace) → s.namespaces ≡ nss → AreApart s → slice_get nss place ≡ Some ns → Shows s ns
+pub shows : (s : State) (nss : List Namespace) (place : ℕ) (ns : Namespace) → s.namespaces ≡ nss → AreApart s → slice_get nss place ≡ Some ns → HasNamespace s ns
 shows s nss place ns are apart at =
     let there : Contains s.namespaces ns = subst (λ (all : List Namespace). Contains all ns) (sym are) (at_in nss place ns at) in
     record { there = there; objects = λ d o is. by there d o (found_in (λ (y : Loaded). y.serial == d) ns.objects o is) }
@@ -45,3 +47,9 @@ shows s nss place ns are apart at =
     by there d o found =
         let is_in : IsIn s ns o = record { there = there; inside = found.0 } in
         ap (object_at s) (sym (eqb-true o.serial d found.1)) ∙ apart.found ns o is_in
+
+-- what its slot is refused for is what the object is
+pub refused : (s : State) (owner eights : ℕ) (e : SlotFault) → IsSlotFaultOf s owner eights e → IsFaultOf s owner eights e
+refused s owner eights Unloaded is = absurd is
+refused s owner eights NoSlot is = is
+refused s owner eights Memory is = tt

@@ -1,5 +1,5 @@
 -- What a slot chooses in a state.
-use Rattle.std.specs.Prelude.{◌≡◌, ℕ, ◌*◌, List, Contains, IsTrue}
+use Rattle.std.specs.Prelude.{◌≡◌, ℕ, ◌*◌, ◌^◌, ◌≤◌, List, Contains, IsTrue}
 use Rattle.elf_object.specs.Object.{names_own_symbols}
 use Rattle.ld_base.specs.declared.linking.Loaded.{Loaded}
 use Rattle.link_history.specs.Addresses.{address, leads_to_code}
@@ -27,7 +27,7 @@ abbrev pub AllSound : List Namespace → Type 0
 AllSound namespaces = (ns : Namespace) (o : Loaded) → Contains namespaces ns → Contains ns.objects o → IsSound o
 
 -- the state has the namespace, and each serial in it leads to its object
-pub record Shows (s : State) (ns : Namespace) : Type 0 where
+pub record HasNamespace (s : State) (ns : Namespace) : Type 0 where
   pub there : Contains s.namespaces ns
   pub objects : ShowsObjects s (seen_in ns)
 
@@ -39,6 +39,18 @@ pub record ChoosesSlot (s : State) (owner eights : ℕ) (x : SlotChoice) : Type 
   pub lazy : x.lazy ≡ lazy_word is_slot.object is_slot.reloc
   pub value : x.value ≡ address s x.choice
   pub code : x.code ≡ leads_to_code s x.lazy x.choice
+
+-- eight times a slot's number that is past 32 bits
+pub record IsPastNumbers (eights : ℕ) : Type 0 where
+  pub slot : ℕ
+  pub numbered : eights ≡ 8 * slot
+  pub past : 2 ^ 32 ≤ slot
+
+-- an object that is mapped has no such slot, or its number is past 32 bits
+abbrev pub IsSlotFaultOf : State → ℕ → ℕ → SlotFault → Type 0
+IsSlotFaultOf s owner eights Unloaded = ⊥
+IsSlotFaultOf s owner eights NoSlot = LacksSlot s owner eights
+IsSlotFaultOf s owner eights Memory = IsPastNumbers eights
 
 -- no such object is mapped, or it has no such slot
 abbrev pub IsFaultOf : State → ℕ → ℕ → SlotFault → Type 0

@@ -6,7 +6,7 @@ ghost use Rattle.link_history.specs.Objects.{has_object};
 ghost use Rattle.link_history.specs.State.{State};
 ghost use Rattle.scope_rule.specs.Seen.{seen_in};
 ghost use Rattle.search_lists.specs.Lists.{AreListsOf, IsListed};
-ghost use Rattle.slot_choice.specs.Choosing.{ChoosesSlot, IsFaultOf, IsSound, Shows};
+ghost use Rattle.slot_choice.specs.Choosing.{ChoosesSlot, HasNamespace, IsSlotFaultOf, IsSound};
 ghost use Rattle.slot_choice.specs.declared.choosing.SlotFault.TheVariants.{Memory};
 
 use ld_base::{Choice, Object, Reloc, Serial};
@@ -71,8 +71,8 @@ pub fn slot_choice(
     requires lists { AreListsOf (seen_in namespace.now) lists.now }
     requires listed { IsListed lists.now owner }
     requires there { IsTrue (has_object owner namespace.now) }
-    ensures ok { IfOk result (λ x. (s : State) → Shows s namespace.now → ChoosesSlot s owner eights x) }
-    ensures err { IfErr result (λ e. (s : State) → Contains s.namespaces namespace.now → IsFaultOf s owner eights e) }
+    ensures ok { IfOk result (λ x. (s : State) → HasNamespace s namespace.now → ChoosesSlot s owner eights x) }
+    ensures err { IfErr result (λ e. (s : State) → Contains s.namespaces namespace.now → IsSlotFaultOf s owner eights e) }
 {
     let view = namespace.view();
     let object = lists.object(&view, owner).unwrap();

@@ -7,7 +7,7 @@ use Rattle.link_history.specs.Objects.{has_object}
 use Rattle.link_history.specs.Lemmas.Lists.{at_in}
 use Rattle.scope_rule.specs.declared.namespace.Namespace.{Namespace}
 use Rattle.slot_choice.specs.Lemmas.Unloaded.{unloaded}
-use Rattle.listed_namespaces.proofs.Homes.{one_there, shows}
+use Rattle.listed_namespaces.proofs.Homes.{one_there, refused, shows}
 use Rattle.listed_namespaces.proofs.Standing.{at_index, kept_lists, made_listed, made_there}
 use Rattle.listed_namespaces.proofs.listed.chosen.Goals as goal
 
@@ -56,7 +56,7 @@ pub returns-clause-err : goal.returns-clause-err
 returns-clause-err c =
     let lt = slice_get_within c.args.namespaces.now c.in-Some.place c.in-Some.ensures.there.namespace c.in-Some.ensures.there.at in
     let at : slice_get c.args.namespaces.now c.in-Some.place ≡ Some c.index-namespaces-place.result = at_index c.args.namespaces.now c.in-Some.place c.index-namespaces-place.result lt c.index-namespaces-place.is in
-    if_err c.slot_choice.result _ _ (λ e is s are. is s (subst (λ (all : List Namespace). Contains all c.index-namespaces-place.result) (sym are) (at_in c.args.namespaces.now c.in-Some.place c.index-namespaces-place.result at))) c.slot_choice.ensures.err
+    if_err c.slot_choice.result _ _ (λ e is s are. refused s c.args.owner c.args.eights e (is s (subst (λ (all : List Namespace). Contains all c.index-namespaces-place.result) (sym are) (at_in c.args.namespaces.now c.in-Some.place c.index-namespaces-place.result at)))) c.slot_choice.ensures.err
 
 pub unwrap-requires : goal.unwrap-requires
 unwrap-requires c = made_there c.make.new.self c.args.owner c.in-Some.place c.get.result c.get.ensures c.in_ok-make.ensures.made
