@@ -75,7 +75,8 @@ impl KeptLists {
 
     /// Lets go of all lists, unless they stay.
     pub(crate) fn keep_if(&mut self, alloc: Global, stay: bool)
-        ensures { (namespaces : List Space) → (stay ≡ true → AreKept namespaces self.old) → AreKept namespaces self.new }
+        ensures kept { (namespaces : List Space) → (stay ≡ true → AreKept namespaces self.old) → AreKept namespaces self.new }
+        ensures same { stay ≡ true → self.new ≡ self.old }
     {
         if !stay {
             *self = KeptLists::new(alloc);

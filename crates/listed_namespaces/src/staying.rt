@@ -1,6 +1,6 @@
 //! Whether search lists stay.
 
-ghost use Rattle.std.specs.Prelude.{◌≡◌, ◌==◌, true};
+ghost use Rattle.std.specs.Prelude.{◌≡◌, ◌↔◌, ◌==◌, IsTrue};
 ghost use Rattle.std.specs.List.{list_all, list_any};
 ghost use Rattle.listed_namespaces.specs.Leaving.{IsOpenIn, LowersAlone, OpensAgain, counts_still};
 
@@ -17,14 +17,14 @@ pub(crate) fn opening_leaves_lists(
     root: Serial,
     is_global: bool,
 ) -> bool
-    ensures { result ≡ true → OpensAgain namespaces.now id added.now root is_global }
+    ensures { IsTrue result ↔ OpensAgain namespaces.now id added.now root is_global }
 {
     !is_global && added.is_empty() && is_open_in(namespaces, id, root)
 }
 
 /// Whether a root is open in the namespace with a number.
 fn is_open_in(namespaces: &[Namespace], id: NsId, root: Serial) -> bool
-    ensures { result ≡ true → IsOpenIn namespaces.now id root }
+    ensures { IsTrue result ↔ IsOpenIn namespaces.now id root }
 {
     match namespace_in(namespaces, id) {
         Some(namespace) => is_open(namespace, root),
@@ -42,7 +42,7 @@ fn is_open(namespace: &Namespace, root: Serial) -> bool
 
 /// Whether a closing leaves the lists of all namespaces as they are: it takes nothing, and no opening goes.
 pub(crate) fn closing_leaves_lists(namespaces: &[Namespace], handle: Serial, set: &[Serial]) -> bool
-    ensures { result ≡ true → LowersAlone namespaces.now handle set.now }
+    ensures { IsTrue result ↔ LowersAlone namespaces.now handle set.now }
 {
     set.is_empty() && all_stay_open(namespaces, handle)
 }
