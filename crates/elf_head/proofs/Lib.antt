@@ -1,7 +1,6 @@
 pub mod Accepted
 pub mod Finding
 pub mod Law
-pub mod Limits
 pub mod Passing
 pub mod Placing
 pub mod Verdicts

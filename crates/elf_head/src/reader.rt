@@ -22,6 +22,7 @@ const MAX_FILE: usize = 8 << 20;
 /// # Errors
 ///
 /// The first of the rules 1 to 9 that the file breaks, with its number, or want of memory.
+#[tactic(auto, using(crate::proofs::Law::head_answers))]
 pub fn read_head(alloc: Global, bytes: &[u8]) -> Result<Head, ReadFault>
     ensures answers { Answers (SpellsHead bytes.now) (BreaksFirst bytes.now) result }
     ensures verdict { Gives result (head_verdict bytes.now) }
@@ -31,7 +32,7 @@ pub fn read_head(alloc: Global, bytes: &[u8]) -> Result<Head, ReadFault>
 }
 
 /// Reads the head as the rules are tried, one after the other.
-#[tactic(auto, using(crate::proofs::Verdicts::verdicts), unfolding(crate::specs::Rules::head_of))]
+#[tactic(auto, using(crate::proofs::Verdicts::verdicts), unfolding(crate::specs::Rules::head_of, crate::specs::Rules::head_verdict))]
 fn read_rules(alloc: Global, bytes: &[u8]) -> Result<Head, ReadFault>
     ensures { Gives result (head_verdict bytes.now) }
 {

@@ -1,6 +1,6 @@
 //! Which program headers can be mapped (gABI, "Program Header" and "Program Loading").
 
-ghost use Rattle.std.specs.Prelude.{◌≡◌, ◌==◌, ◌||◌, ◌+◌, ◌<◌, ◌^◌, [], true, List, nat_lt, if◌then◌else◌};
+ghost use Rattle.std.specs.Prelude.{◌≡◌, ◌==◌, ◌||◌, ◌+◌, ◌<◌, ◌^◌, ℕ, [], true, List, nat_lt, if◌then◌else◌};
 ghost use Rattle.ld_base.specs.declared.parts.Header.{Header};
 ghost use Rattle.elf_head.specs.Segments.{bad_segment, first_page, is_bad_storage, is_misshapen, last_page};
 ghost use Rattle.elf_head.specs.Passed.{IsPassed, Judges, reaches};
@@ -44,9 +44,9 @@ struct Passed {
     has_tls: bool,
 }
 
+#[tactic(auto, using(crate::proofs::Passing::passing), unfolding(crate::specs::Segments::is_bad, crate::specs::Segments::is_misplaced))]
 impl Passed {
     /// No header.
-    #[tactic(auto, unfolding(crate::specs::Segments::is_misplaced))]
     fn new() -> Self
         ensures { IsPassed [] result }
     {
@@ -71,11 +71,8 @@ impl Passed {
 
     /// With a segment to be mapped, which is passed over where it takes no memory. As the segments
     /// before it stand in ascending order, it has only to begin above the last of them.
-    #[tactic(auto, using(crate::proofs::Limits::limit_of_shape))]
     fn and_load(self, header: &Header, file_size: u64) -> Option<Self>
-        ensures { result ≡ (if header.now.memsz == 0 then Some self
-            else if is_misshapen file_size header.now || reaches self.last_page header.now then None
-            else Some (record self { last_page = Some (last_page header.now) })) }
+        ensures { (headers before : List Header) → header.now.kind ≡ 1 → IsPassed before self → Judges file_size headers before header.now result }
     {
         if header.memsz == 0 {
             return Some(self);
@@ -94,7 +91,7 @@ impl Passed {
 
     /// With a dynamic table, which has to be the only one.
     fn and_dynamic(self) -> Option<Self>
-        ensures { result ≡ (if self.has_dynamic then None else Some (record self { has_dynamic = true })) }
+        ensures { (size : ℕ) (headers before : List Header) (h : Header) → h.kind ≡ 2 → IsPassed before self → Judges size headers before h result }
     {
         if self.has_dynamic {
             return None;
@@ -107,8 +104,7 @@ impl Passed {
 
     /// With a segment of thread-local storage, which has to be the only one.
     fn and_tls(self, header: &Header, headers: &[Header], file_size: u64) -> Option<Self>
-        ensures { result ≡ (if self.has_tls || is_bad_storage file_size headers.now header.now then None
-            else Some (record self { has_tls = true })) }
+        ensures { (before : List Header) → header.now.kind ≡ 7 → IsPassed before self → Judges file_size headers.now before header.now result }
     {
         if self.has_tls || is_bad_storage(header, headers, file_size) {
             return None;

@@ -16,6 +16,7 @@ pub fn one_verdict()
 
 /// The head of an accepted file has segments that fit into the file and into the first 4 GiB of
 /// addresses, and the file has at most 8 MiB.
+#[tactic(auto, using(crate::proofs::Accepted::all_fit, crate::proofs::Accepted::file_limit))]
 pub fn accepted_head()
     ensures segments { (bytes : List ℕ) (head : Head) → head_verdict bytes ≡ Ok head → AllFit (length bytes) head.headers }
     ensures size { (bytes : List ℕ) (head : Head) → head_verdict bytes ≡ Ok head → length bytes ≤ 8_388_608 }

@@ -1,5 +1,5 @@
 -- The verdict on a file, and the relations that say what it means.
-use Rattle.std.proofs.Common.{◌≡◌, ◌⊎◌, ℕ, Bool, true, List, length, Some, Result, Ok, Err, refl, sym, ◌∙◌, ap, subst, inl, inr}
+use Rattle.std.proofs.Common.{◌≡◌, ◌⊎◌, ℕ, Bool, true, List, length, Some, Result, Ok, Err, refl, sym, ◌∙◌, ap, inl, inr}
 use Rattle.std.specs.Prelude.{IfOk}
 use Rattle.std.specs.List.{slice_get}
 use Rattle.ld_base.specs.declared.fault.NotAccepted.{NotAccepted}
@@ -14,6 +14,7 @@ use Rattle.acceptance.specs.Gives.{Gives}
 use Rattle.elf_head.specs.Rules.{head_verdict}
 use Rattle.elf_head.specs.Verdict.{SpellsHead}
 use Rattle.elf_head.specs.Verdict.{BreaksFirst as HeadBreaks}
+use Rattle.acceptance.specs.Lemmas.Reading.{ok_is}
 use Rattle.acceptance.specs.Lemmas.Judged.{judged_like, judged_next, made, Judges}
 use Rattle.elf_dynamic.specs.Rules.{dynamic_verdict}
 use Rattle.elf_dynamic.specs.Verdict.{SpellsDynamic}
@@ -27,15 +28,10 @@ use Rattle.sym_hash.specs.Reached.{IsTableFor, IsTableOf}
 use Rattle.sym_hash.specs.Verdict.{hash_verdict}
 use Rattle.elf_object.proofs.Named.{parts_name}
 use Rattle.elf_object.proofs.Versioned.{but_versions, length-versions, parts_unversioned}
-use Rattle.elf_object.specs.Object.{names_own_symbols, object_of, with_versions}
+use Rattle.elf_object.specs.Object.{names_own_symbols, object_of}
 use Rattle.elf_object.specs.Spells.{Broken, Say, Spells}
 use Rattle.elf_object.specs.Spells.Broken.{by_head, by_dynamic, by_versions, by_hash}
 use Rattle.elf_object.specs.Verdict.{object_verdict}
-
--- the versions of symbols make no difference to a hash table
-abbrev pub SameTable : Type 0
-SameTable = (t : HashTable) (symbols others : List Symbol) (first : ℕ) → length others ≡ length symbols
-    → ((i : ℕ) (s : Symbol) → slice_get others i ≡ Some s → slice_get symbols i ≡ Some (record s { version = 0 })) → IsTableFor t symbols first → IsTableFor t others first
 
 -- what a reader gave has its own table, where what its bytes mean has
 pub given_table : (meant : Result (Object × HashTable) NotAccepted) (result : Result (Object × HashTable) ReadFault)
@@ -50,53 +46,21 @@ pub record Readings : Type 0 where
   pub kept_parts : (bytes : List ℕ) (head : Head) (program : Bool) (parts : DynParts) → SpellsDynamic bytes head program parts → Keeps bytes head.headers parts
   pub versions : (bytes : List ℕ) (head : Head) (parts : DynParts) → Judges (versions_verdict bytes head parts) (SpellsVersions bytes head parts) (VersionsBreak bytes head parts)
   pub table : (bytes : List ℕ) (head : Head) (parts : DynParts) → Judges (hash_verdict bytes head parts) (IsHashTable bytes head parts) (BreaksHash bytes head parts)
-  pub same_table : SameTable
+  -- the versions of symbols make no difference to a hash table
+  pub same_table : (t : HashTable) (symbols others : List Symbol) (first : ℕ) → length others ≡ length symbols
+      → ((i : ℕ) (s : Symbol) → slice_get others i ≡ Some s → slice_get symbols i ≡ Some (record s { version = 0 })) → IsTableFor t symbols first
+      → IsTableFor t others first
 
 -- ---- its fields
 
 says : (bytes : List ℕ) (head : Head) (parts : DynParts) (versions : Versions) → Say bytes head parts versions (object_of bytes head parts versions)
 unfolding object_of
-says bytes head parts versions = record {
-  kind = refl;
-  entry = refl;
-  soname = refl;
-  needed = refl;
-  segments = refl;
-  symbols = refl;
-  first_exported = refl;
-  has_versym = refl;
-  verdefs = refl;
-  verneeds = refl;
-  relocs = refl;
-  plt_relocs = refl;
-  pltgot = refl;
-  preinit = refl;
-  init = refl;
-  init_array = refl;
-  fini = refl;
-  fini_array = refl;
-  tls = refl;
-  relro = refl;
-  flags = refl;
-  relr = refl;
-  dynamic = refl;
-}
+says bytes head parts versions = assumption
 
 -- an object has the fields that are said of it, and no other
 said : (bytes : List ℕ) (head : Head) (parts : DynParts) (versions : Versions) (o : Object) → Say bytes head parts versions o → object_of bytes head parts versions ≡ o
 unfolding object_of
 said bytes head parts versions o s = rw (← s.kind, ← s.entry, ← s.soname, ← s.needed, ← s.segments, ← s.symbols, ← s.first_exported, ← s.has_versym, ← s.verdefs, ← s.verneeds, ← s.relocs, ← s.plt_relocs, ← s.pltgot, ← s.preinit, ← s.init, ← s.init_array, ← s.fini, ← s.fini_array, ← s.tls, ← s.relro, ← s.flags, ← s.relr, ← s.dynamic) refl
-
--- the table of an object's parts is its own: its symbols have versions besides
-pub own_table : SameTable → (bytes : List ℕ) (head : Head) (program : Bool) (parts : DynParts) (versions : Versions) (t : HashTable) (o : Object) → SpellsDynamic bytes head program parts
-    → IsTableFor t parts.symbols parts.first_exported → o ≡ object_of bytes head parts versions → IsTableFor t o.symbols o.first_exported
-unfolding object_of
-own_table same bytes head program parts versions t o spelled table is =
-    let versioned = same t parts.symbols (with_versions parts.symbols versions.versym) parts.first_exported
-    (length-versions parts.symbols versions.versym)
-    (but_versions parts.symbols versions.versym (parts_unversioned bytes head.headers parts spelled.say))
-    table in
-    subst (λ (x : Object). IsTableFor t x.symbols x.first_exported) (sym is) versioned
 
 -- ---- what the verdict means
 
@@ -131,36 +95,26 @@ module _ (r : Readings) (bytes : List ℕ) (program : Bool) where
       judged_like
       (judged_next (r.head bytes) (λ h. judged_next (r.parts bytes h program) (λ p. judged_next (r.versions bytes h p) (λ v. judged_next (r.table bytes h p) (λ t. made (object_of bytes h p v, t))))))
       (λ x (h, is_head, (p, are_parts, (v, are_versions, (t, is_table, is)))). rw (← is) (
-        record {
-          head = h;
-          parts = p;
-          versions = v;
-          table = t;
-          is_head = is_head;
-          are_parts = are_parts;
-          are_versions = are_versions;
-          is_table = is_table;
-          say = says bytes h p v;
-        },
-        refl,
-      ))
+      let say = says bytes h p v in let s : Spells bytes program (object_of bytes h p v) = search in (s, refl)))
       (λ x (s, is). (s.head, s.is_head, (s.parts, s.are_parts, (s.versions, s.are_versions, (s.table, s.is_table, same_pair (said bytes s.head s.parts s.versions x.0 s.say) is))))) breaks broken
 
   pub read_of : (o : Object) (s : Spells bytes program o) → object_verdict bytes program ≡ Ok (o, s.table)
   read_of o s = (verdict.accepted (o, s.table)).1 (s, refl)
 
   pub one_spelled : (first second : Object) → Spells bytes program first → Spells bytes program second → first ≡ second
-  one_spelled first second s t = ap (λ (x : Object × HashTable). x.0) (same_read (sym (read_of first s) ∙ read_of second t))
-    where
-      same_read : {x y : Object × HashTable} → ◌≡◌ {A = Result (Object × HashTable) NotAccepted} (Ok x) (Ok y) → x ≡ y
-      same_read e = cc
+  one_spelled first second s t = ap (λ (x : Object × HashTable). x.0) (ok_is NotAccepted _ _ (sym (read_of first s) ∙ read_of second t))
 
   -- ---- an accepted object
 
+  own_table : {o : Object} (s : Spells bytes program o) → IsTableFor s.table o.symbols o.first_exported
+  own_table s =
+      let symbols : List Symbol = s.parts.symbols in
+      let versym : List ℕ = s.versions.versym in
+      let unversioned = but_versions symbols versym (parts_unversioned bytes s.head.headers s.parts s.are_parts.say) in
+      rw (s.say.symbols, s.say.first_exported) (r.same_table s.table symbols _ _ (length-versions symbols versym) unversioned s.is_table.1)
+
   pub table_of_read : (o : Object) (t : HashTable) → object_verdict bytes program ≡ Ok (o, t) → IsTableFor t o.symbols o.first_exported
-  table_of_read o t e =
-      let (s, is) = (verdict.accepted (o, t)).0 e in
-      rw (← is) (own_table r.same_table bytes s.head program s.parts s.versions s.table o s.are_parts s.is_table.1 (sym (said bytes s.head s.parts s.versions o s.say)))
+  table_of_read o t e = let (s, is) = (verdict.accepted (o, t)).0 e in rw (← is) (own_table s)
 
   own_names : {o : Object} → Spells bytes program o → names_own_symbols o ≡ true
   own_names s =

@@ -1,4 +1,3 @@
-pub mod Held
 pub mod Laws
 pub mod Named
 pub mod Versioned

@@ -6,11 +6,9 @@ use Rattle.std.proofs.lemmas.List.FromFn.{length-enumerate_from}
 use Rattle.ld_base.specs.declared.object.Symbol.{Symbol}
 use Rattle.ld_base.specs.declared.parts.DynParts.{DynParts}
 use Rattle.ld_base.specs.declared.parts.Header.{Header}
+use Rattle.acceptance.specs.Lemmas.Finds.{same_some}
 use Rattle.elf_dynamic.specs.Parts.{AreParts}
 use Rattle.elf_object.specs.Object.{with_version, with_versions}
-
-some_is : {X : Type 0} {x y : X} → Some x ≡ Some y → x ≡ y
-some_is e = cc
 
 -- as many as there are symbols
 pub length-versions : (symbols : List Symbol) (versym : List ℕ) → length (with_versions symbols versym) ≡ length symbols
@@ -21,7 +19,7 @@ length-versions symbols versym = length-map (enumerate_from 0 symbols) (with_ver
 versioned_from : (n : ℕ) (symbols : List Symbol) (versym : List ℕ) (i : ℕ) (s : Symbol) → slice_get (map (with_version versym) (enumerate_from n symbols)) i ≡ Some s
     → (t : Symbol) × (slice_get symbols i ≡ Some t) × (with_version versym (n + i, t) ≡ s)
 versioned_from n [] versym i s e = absurd cc
-versioned_from n (t ∷ rest) versym zero s e = (t, refl, ap (λ k. with_version versym (k, t)) (add-zero n) ∙ some_is e)
+versioned_from n (t ∷ rest) versym zero s e = (t, refl, ap (λ k. with_version versym (k, t)) (add-zero n) ∙ same_some e)
 versioned_from n (t ∷ rest) versym (suc i) s e =
     let found = versioned_from (n + 1) rest versym i s e in
     let at : n + suc i ≡ n + 1 + i = omega arith in

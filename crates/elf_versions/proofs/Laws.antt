@@ -54,18 +54,7 @@ module _ (strings : Strings) (src : Source) where
       (next (record_reads src 20 at) (λ r.
       next (pass_reads r (both (both (Decides-eqb (field 2 r 0) 1) (Decides-ltb 0 (field 2 r 6))) (links is_last (field 4 r 16)))) (λ kept.
       next (record_reads src 8 (at + field 4 r 12)) (λ aux. next (name_reads (field 4 aux 0)) (λ name. value _)))))
-      (λ d (r, stands, (kept, (same, ((version, counts), leads)), (aux, names, (name, spelt, is)))). rw (← is) (record {
-        verdef = r;
-        stands = stands;
-        version = version;
-        counts = counts;
-        leads = leads;
-        verdaux = aux;
-        names = names;
-        index = refl;
-        flags = refl;
-        name = spelt;
-      }))
+      (λ d (r, stands, (kept, (same, ((version, counts), leads)), (aux, names, (name, spelt, is)))). rw (← is) search)
       (λ d is. (is.verdef, is.stands, (is.verdef, (refl, ((is.version, is.counts), is.leads)), (is.verdaux, is.names, (d.name, is.name, rw (← is.index, ← is.flags) refl)))))
 
   pub verdefs_reads : (tags : List Tag) → Reads (bad_table src.tag) (verdefs_of src tags) (AreVerdefs src tags)
@@ -86,23 +75,14 @@ module _ (strings : Strings) (src : Source) where
       (next (record_reads src 16 at) (λ r.
       next (pass_reads r (both (both (Decides-eqb (field 2 r 0) 1) (Decides-ltb 0 (field 2 r 2))) (links is_last (field 4 r 12)))) (λ kept.
       next (name_reads (field 4 r 4)) (λ file. value _))))
-      (λ need (r, stands, (kept, (same, ((version, counts), leads)), (file, spelt, is))). rw (← is) (record {
-        verneed = r;
-        stands = stands;
-        version = version;
-        counts = counts;
-        leads = leads;
-        file = spelt;
-        versions = refl;
-        count = refl;
-      }))
+      (λ need (r, stands, (kept, (same, ((version, counts), leads)), (file, spelt, is))). rw (← is) search)
       (λ need is. (is.verneed, is.stands, (is.verneed, (refl, ((is.version, is.counts), is.leads)), (need.file, is.file, rw (← is.versions, ← is.count) refl))))
 
   vernaux_reads : (file : List ℕ) (is_last : Bool) (at : ℕ) → Reads (bad_table src.tag) (vernaux_at src file is_last at) (IsVernauxAt src file is_last at)
   unfolding vernaux_at
   vernaux_reads file is_last at =
       like (next (record_reads src 16 at) (λ r. next (pass_reads r (links is_last (field 4 r 12))) (λ kept. next (name_reads (field 4 r 8)) (λ name. value _))))
-      (λ n (r, stands, (kept, (same, leads), (name, spelt, is))). rw (← is) (record { vernaux = r; stands = stands; leads = leads; index = refl; flags = refl; file_is = refl; name = spelt }))
+      (λ n (r, stands, (kept, (same, leads), (name, spelt, is))). rw (← is) search)
       (λ n is. (is.vernaux, is.stands, (is.vernaux, (refl, is.leads), (n.name, is.name, rw (← is.index, ← is.flags, ← is.file_is) refl))))
 
   abbrev OfFile : Need → List Verneed → Type 0

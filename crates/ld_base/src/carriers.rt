@@ -1,8 +1,8 @@
 //! Which of an object's indexes of versions have a name.
 
-ghost use Rattle.std.specs.Prelude.{◌≡◌, ◌==◌, ◌&&◌, ◌<◌, ℕ, List, not, Option, false, if◌then◌else◌, option_map};
+ghost use Rattle.std.specs.Prelude.{◌≡◌, ◌==◌, ◌&&◌, ◌<◌, ℕ, not, false, if◌then◌else◌, option_map};
 ghost use Rattle.std.specs.Int.{bit_at};
-ghost use Rattle.std.specs.Option.{option_or};
+ghost use Rattle.std.specs.Option.{option_map_or};
 ghost use Rattle.ld_base.specs.Marks.{is_marked};
 ghost use Rattle.ld_base.specs.Pick.{carries, is_named};
 ghost use Rattle.std.specs.Str.{bytes_eq};
@@ -32,6 +32,7 @@ impl Model for Carriers {
 }
 
 /// The word with a bit set or cleared.
+#[tactic(auto, using(crate::proofs::Bits::set_bit, crate::proofs::Bits::cleared_bit))]
 fn with_bit(word: u64, bit: u16, has: bool) -> u64
     requires { bit < 64 }
     ensures { (k : ℕ) → k < 64 → bit_at result k ≡ (if bit == k then (if has then 1 else 0) else bit_at word k) }
@@ -93,8 +94,8 @@ impl Carriers {
 
     /// Marks the indexes of defined versions, which count before needed ones.
     fn mark_defined(&mut self, verdefs: &[Verdef], version: &[u8])
-        ensures { (found : ℕ → Option (List ℕ)) → ((k : ℕ) → k < 0x8000 → is_marked self.old k ≡ is_named version.now (found k))
-            → (k : ℕ) → k < 0x8000 → is_marked self.new k ≡ is_named version.now (option_or (option_map (λ d. d.name) (verdef_of verdefs.now k)) (found k)) }
+        ensures { (k : ℕ) → k < 0x8000 → is_marked self.new k
+            ≡ option_map_or (λ d. bytes_eq d.name version.now) (verdef_of verdefs.now k) (is_marked self.old k) }
     {
         for passed in 0..verdefs.len() {
             let verdef = &verdefs[verdefs.len() - 1 - passed];

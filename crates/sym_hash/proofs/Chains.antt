@@ -1,10 +1,12 @@
 -- The chains of a GNU table, as tests and as relations.
-use Rattle.std.proofs.Common.{◌≡◌, ◌≢◌, ◌∙◌, sym, ℕ, zero, suc, ◌+◌, ◌-◌, ◌/◌, ◌%◌, ◌^◌, ◌<◌, ◌≤◌, ◌||◌, ◌&&◌, Bool, true, false, List, [], ◌∷◌, length, take, drop, get_or, refl, arith, length-drop, length-take}
+use Rattle.std.proofs.Common.{◌≡◌, ◌≢◌, ◌∙◌, sym, ℕ, ◌+◌, ◌-◌, ◌/◌, ◌%◌, ◌^◌, ◌<◌, ◌≤◌, ◌||◌, ◌&&◌, Bool}
+use Rattle.std.proofs.Common.{true, false, List, length, take, drop, get_or, refl, arith, length-drop, length-take}
+use Rattle.std.proofs.lemmas.List.{get_or-drop, get_or-take}
 use Rattle.std.specs.Prelude.{Decides, Option, Some, None, not}
 use Rattle.std.specs.List.{slice_get}
 use Rattle.std.proofs.lemmas.Bool.{and_from, and_parts}
 use Rattle.std.proofs.lemmas.Bool.Decides.{Decides-eqb, Decides-ltb}
-use Rattle.std.proofs.lemmas.Option.{slice_get-get_or, slice_get_within}
+use Rattle.std.proofs.lemmas.Option.{gets, slice_get-get_or, slice_get_within}
 use Rattle.ld_base.specs.declared.parts.GnuPart.{GnuPart}
 use Rattle.acceptance.specs.First.{IsFirst}
 use Rattle.acceptance.specs.Lemmas.Finds.{finds_position, same_some, At, Finds}
@@ -23,21 +25,13 @@ unless {a = false} d f = (λ e not_p. f.0 e, λ q. f.1 (q (λ p. let e = d.1 p i
 
 -- ---- a part of a list
 
-get_drop : (a j : ℕ) (xs : List ℕ) → slice_get (drop a xs) j ≡ slice_get xs (a + j)
-get_drop zero j xs = let same : 0 + j ≡ j = omega arith in rw same refl
-get_drop (suc a) j [] = refl
-get_drop (suc a) j (x ∷ xs) = let more : suc a + j ≡ suc (a + j) = omega arith in rw more (get_drop a j xs)
-
-get_take : (c j : ℕ) (xs : List ℕ) → j < c → slice_get (take c xs) j ≡ slice_get xs j
-get_take zero j xs below = absurd (omega arith)
-get_take (suc c) j [] below = refl
-get_take (suc c) zero (x ∷ xs) below = refl
-get_take (suc c) (suc j) (x ∷ xs) below = get_take c j xs (omega arith)
+get_part : (a c j : ℕ) (xs : List ℕ) → a + j < c → slice_get (drop a (take c xs)) j ≡ slice_get xs (a + j)
+get_part a c j xs below = grind (arith, gets, length-drop, length-take, get_or-drop, get_or-take)
 
 in_part : (a c : ℕ) (xs : List ℕ) (j w : ℕ) → slice_get (drop a (take c xs)) j ≡ Some w → (a + j < c) × (slice_get xs (a + j) ≡ Some w)
 in_part a c xs j w at =
     let below : a + j < c = omega (arith, slice_get_within (drop a (take c xs)) j w at, length-drop a (take c xs), length-take c xs) in
-    (below, sym (get_drop a j (take c xs) ∙ get_take c (a + j) xs below) ∙ at)
+    (below, sym (get_part a c j xs below) ∙ at)
 
 -- ---- the chain that a bucket begins
 
@@ -55,36 +49,34 @@ module _ (g : GnuPart) (bucket : ℕ) (low : g.symoffset ≤ bucket) where
   word_of : (i k w : ℕ) → bucket ≤ k → k < i → IsChainWord g k w → slice_get (part i) (k - bucket) ≡ Some w
   word_of i k w least below is =
       let place : bucket - g.symoffset + (k - bucket) ≡ k - g.symoffset = omega (arith, low) in
-      get_drop (bucket - g.symoffset) (k - bucket) (take (i - g.symoffset) g.chain)
-      ∙ rw place (get_take (i - g.symoffset) (k - g.symoffset) g.chain (omega (arith, low)) ∙ is.stands)
+      get_part (bucket - g.symoffset) (i - g.symoffset) (k - bucket) g.chain (omega (arith, low)) ∙ rw place is.stands
 
   marks : (i : ℕ) → Decides (ends_between g bucket i) (Among (part i) (λ w. is_end w ≡ true))
   marks i = among (λ w. itself (is_end w)) (part i)
 
+  -- no word up to a symbol marks an end
+  goes : (i : ℕ) → bucket ≤ i → i - g.symoffset ≤ length g.chain
+      → ((k w : ℕ) → bucket ≤ k → k < i → IsChainWord g k w → is_end w ≡ true → ⊥) → GoesOn g bucket i
+  goes i order within none = record {
+    order = order;
+    on = λ k least below.
+        let w : ℕ = get_or g.chain (k - g.symoffset) 0 in
+        let stands : IsChainWord g k w = record { from = omega (arith, low); stands = slice_get-get_or g.chain (k - g.symoffset) 0 (omega (arith, low)) } in
+        (w, stands, refuted (itself (is_end w)) (none k w least below stands));
+  }
+
   goes_decides : (i : ℕ) → bucket ≤ i → i - g.symoffset ≤ length g.chain → Decides (not (ends_between g bucket i)) (GoesOn g bucket i)
   goes_decides i order within =
-      means (contrary (marks i))
-      (λ none. record {
-        order = order;
-        on = λ k least below.
-            let w : ℕ = get_or g.chain (k - g.symoffset) 0 in
-            let stands : IsChainWord g k w = record { from = omega (arith, low); stands = slice_get-get_or g.chain (k - g.symoffset) 0 (omega (arith, low)) } in
-            (w, stands, refuted (itself (is_end w)) (λ end. none (k - bucket, w, word_of i k w least below stands, end)));
-      })
-      (λ goes (j, w, at, end).
+      means (contrary (marks i)) (λ none. goes i order within (λ k w least below is end. none (k - bucket, w, word_of i k w least below is, end)))
+      (λ on (j, w, at, end).
       let (below, stands) = word_in i j w at in
-      let (other, is, off) = goes.on (bucket + j) (omega arith) below in
+      let (other, is, off) = on.on (bucket + j) (omega arith) below in
       let same : w ≡ other = same_some (sym stands.stands ∙ is.stands) in
       cc)
 
   -- the first mark of a part
   abbrev Marked : ℕ → ℕ → Type 0
   Marked count = At is_end (λ w. is_end w ≡ true) (λ w. itself (is_end w)) (part count)
-
-  before : (count i j v : ℕ) → IsFirst (Marked count) j → bucket + j < count → i < j → IsChainWord g (bucket + i) v → is_end v ≡ true → ⊥
-  before count i j v f below less is end =
-      let place : bucket + i - bucket ≡ i = omega arith in
-      f.before i less (v, rw place at (word_of count (bucket + i) v (omega arith) (omega arith) is), end)
 
   ends_first : (count j : ℕ) → IsFirst (Marked count) j → EndsBefore g bucket count
   ends_first count j f =
@@ -94,8 +86,8 @@ module _ (g : GnuPart) (bucket : ℕ) (low : g.symoffset ≤ bucket) where
       record {
         last = bucket + j;
         within = below;
-        goes_on = (goes_decides (bucket + j) (omega arith) (omega arith)).0 ((contrary (marks (bucket + j))).1
-            (λ (i, v, there, ends). let (less, is) = word_in (bucket + j) i v there in before count i j v f below (omega arith) is ends));
+        goes_on = goes (bucket + j) (omega arith) (omega arith)
+            (λ k v least less is ends. f.before (k - bucket) (omega arith) (v, word_of count k v least (omega arith) is, ends));
         word = w;
         stands = stands;
         ended = end;
@@ -128,18 +120,8 @@ module _ (g : GnuPart) (name : List ℕ) (i : ℕ) where
       (there_decides _ _ (λ word. both (itself (has_bit word (h % 64))) (itself (has_bit word (h / 2 ^ g.shift % 64)))) (slice_get g.bloom (h / 64 % length g.bloom)))
       (there_decides _ _ (λ word. Decides-eqb (word / 2) (h / 2)) (slice_get g.chain (i - g.symoffset))))
       (λ (bloom, (word, at, hash)). there_decides _ _ (walked (slice_get_within g.chain (i - g.symoffset) word at)) (slice_get g.buckets (h % length g.buckets))))
-      (λ (((bloom, filter, (first, second)), (word, at, hash)), (bucket, begins, (((some, low), order), goes))). record {
-        bloom = bloom;
-        filter = filter;
-        first_bit = first;
-        second_bit = second;
-        bucket = bucket;
-        begins = begins;
-        some = omega arith;
-        within = low;
-        goes_on = goes;
-        word = word;
-        stands = record { from = omega arith; stands = at };
-        hash = hash;
-      })
+      (λ (((bloom, filter, (first, second)), (word, at, hash)), (bucket, begins, (((some, low), order), goes))).
+      let begun : bucket ≢ 0 = omega arith in
+      let stands : IsChainWord g i word = record { from = omega arith; stands = at } in
+      search)
       (λ r. (((r.bloom, r.filter, (r.first_bit, r.second_bit)), (r.word, r.stands.stands, r.hash)), (r.bucket, r.begins, (((let some = r.some in omega arith, r.within), r.goes_on.order), r.goes_on))))

@@ -1,11 +1,12 @@
 -- The verdict on hash tables and the relations that say what it means.
-use Rattle.std.proofs.Common.{◌≡◌, ◌↔◌, ◌∙◌, sym, ap, ℕ, zero, suc, Bool, false, List, [], ◌∷◌, length, map, refl, arith, inl, inr}
+use Rattle.std.proofs.Common.{◌≡◌, ◌↔◌, ◌∙◌, sym, ap, ℕ, zero, suc, Bool, false, List, [], ◌∷◌, length, map, get_or, refl, inl, inr}
 use Rattle.std.specs.Prelude.{Decides, Option, Some, None, Ok, Err, Contains, IsTrue, slice_index, unwrap_or}
 use Rattle.std.specs.Option.{option_map}
 use Rattle.std.specs.List.{list_all, slice_get}
 use Rattle.std.proofs.lemmas.Bool.Decides.{Decides-eqb}
 use Rattle.std.proofs.lemmas.List.{length-map}
-use Rattle.std.proofs.lemmas.Option.{get_or_from_slice_get, slice_get-map, slice_get_within}
+use Rattle.std.proofs.lemmas.List.Sums.{AllPass-from_list_all, list_all-from_AllPass}
+use Rattle.std.proofs.lemmas.Option.{get_or_from_slice_get, slice_get-get_or, slice_get-map, slice_get_within}
 use Rattle.ld_base.specs.Symbol.{is_visible_definition}
 use Rattle.ld_base.specs.declared.fault.NotAccepted.{NotAccepted}
 use Rattle.ld_base.specs.declared.object.Symbol.{Symbol}
@@ -31,12 +32,11 @@ use Rattle.sym_hash.specs.Sysv.{sysv_walks_end}
 use Rattle.sym_hash.specs.Verdict.{hash_verdict, table_verdict, unmet}
 
 each_decides : {p : ℕ → Bool} {P : ℕ → Type 0} → ((x : ℕ) → Decides (p x) (P x)) → (xs : List ℕ) → Decides (list_all p xs) ((x : ℕ) → Contains xs x → P x)
-each_decides d [] = (λ e x has. absurd (let below = has.1 in omega arith), λ each. refl)
-each_decides {p} {P} d (x ∷ xs) = means (both (d x) (each_decides d xs)) to (λ each. (each x (0, omega arith, refl), λ y (k, below, is). each y (suc k, omega arith, is)))
-  where
-    to : P x × ((y : ℕ) → Contains xs y → P y) → (y : ℕ) → Contains (x ∷ xs) y → P y
-    to (here, rest) y (zero, below, is) = rw (← is) here
-    to (here, rest) y (suc k, below, is) = rest y (k, omega arith, is)
+each_decides {p} {P} d xs = (
+  λ e x (k, below, is). rw (← is) ((d (get_or xs k x)).0 (AllPass-from_list_all p xs e k x below)),
+  λ each. list_all-from_AllPass p xs (λ k x below.
+      (d (get_or xs k x)).1 (each (get_or xs k x) (k, below, get_or_from_slice_get xs k _ _ (slice_get-get_or xs k x below)))),
+)
 
 -- ---- a table by its parts
 

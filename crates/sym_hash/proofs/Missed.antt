@@ -1,14 +1,14 @@
 -- The first exported definition that isn't found.
-use Rattle.std.proofs.Common.{◌≡◌, ◌∙◌, ap, ℕ, zero, suc, ◌+◌, ◌<◌, Bool, true, false, List, [], ◌∷◌, length, map, get_or, refl, arith}
+use Rattle.std.proofs.Common.{◌≡◌, ◌∙◌, ap, sym, ℕ, zero, suc, ◌+◌, ◌<◌, Bool, true, false, List, length, map, get_or, refl, arith, inl, inr}
 use Rattle.std.specs.Prelude.{Some, None, ◌&&◌, not, nat_le}
 use Rattle.std.specs.Option.{option_map}
 use Rattle.std.specs.List.{slice_get}
 use Rattle.std.proofs.lemmas.List.{length-map}
-use Rattle.std.proofs.lemmas.Option.{slice_get-map, slice_get_read}
+use Rattle.std.proofs.lemmas.Option.{slice_get-map, slice_get_cases, slice_get_read}
 use Rattle.ld_base.specs.Symbol.{is_visible_definition}
 use Rattle.ld_base.specs.declared.object.Symbol.{Symbol}
-use Rattle.acceptance.specs.Lemmas.Finds.{same_some}
 use Rattle.acceptance.specs.Lemmas.Leasts.{least_found, least_kept}
+use Rattle.acceptance.specs.Lemmas.Tables.{same_elements}
 use Rattle.acceptance.specs.Least.{least_below}
 use Rattle.dyn_table.specs.Symbol.{IsBare}
 use Rattle.sym_hash.specs.Hashed.{first_lost, is_lost}
@@ -38,13 +38,11 @@ same_lost p q visible first same = same_least (is_lost p visible first) (is_lost
 
 -- a list of what each element of another gives
 pub map_is : {X Y : Type 0} (f : X → Y) (xs : List X) (ys : List Y) → length ys ≡ length xs → ((i : ℕ) (x : X) → slice_get xs i ≡ Some x → slice_get ys i ≡ Some (f x)) → ys ≡ map f xs
-map_is f [] [] len each = refl
-map_is f [] (y ∷ ys) len each = absurd (omega arith)
-map_is f (x ∷ xs) [] len each = absurd (omega arith)
-map_is f (x ∷ xs) (y ∷ ys) len each =
-    let head : y ≡ f x = same_some (each 0 x refl) in
-    let rest = map_is f xs ys (omega arith) (λ i. each (suc i)) in
-    cc
+map_is f xs ys len each =
+    same_elements ys (map f xs) (len ∙ sym (length-map xs f)) (λ i within. elim (slice_get_cases xs i).1 [
+      | inl (x, below, at, is) ↦ each i x at ∙ sym (slice_get-map f xs i ∙ ap (option_map f) at)
+      | inr (past, none) ↦ absurd (omega (arith, length-map xs f))
+    ])
 
 -- symbols without names
 pub bare_visible : (symbols bare : List Symbol) → IsBare symbols bare → map is_visible_definition bare ≡ map is_visible_definition symbols

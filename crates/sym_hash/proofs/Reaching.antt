@@ -1,5 +1,6 @@
 -- Whether the symbols of a System V table are reached.
-use Rattle.std.proofs.Common.{◌≡◌, ◌∙◌, ap, ℕ, ◌-◌, ◌%◌, ◌^◌, ◌<◌, Bool, List, [], ◌∷◌, length, map, refl, arith, inl, inr}
+use Rattle.std.proofs.Common.{◌≡◌, ◌∙◌, ap, ℕ, ◌-◌, ◌%◌, ◌^◌, ◌<◌, Bool, List, length, map, refl, arith, inl, inr}
+use Rattle.std.proofs.Math.Path.{fun_ext}
 use Rattle.std.specs.Prelude.{Some, None, ◌==◌, slice_index}
 use Rattle.std.specs.List.{list_all, slice_get}
 use Rattle.std.proofs.lemmas.Bool.{cases_lt}
@@ -26,10 +27,6 @@ full_trips chain starts trips len each low is =
       each = λ at below. slice_get-map f starts at ∙ rw (each at below) (ap (λ n. Some (trip chain n at)) (small_mod (length chain) low));
     })
 
-same_all : (p q : ℕ → Bool) → ((x : ℕ) → p x ≡ q x) → (xs : List ℕ) → list_all p xs ≡ list_all q xs
-same_all p q same [] = refl
-same_all p q same (x ∷ xs) = rw (same x, same_all p q same xs) refl
-
 module _ (sysv : SysvPart) (trips : List Trip) (are : AreTrips sysv.chain (length sysv.chain) trips) where
   abbrev chain : List ℕ
   chain = sysv.chain
@@ -52,7 +49,7 @@ module _ (sysv : SysvPart) (trips : List Trip) (are : AreTrips sysv.chain (lengt
 
   pub walks_are : list_all (λ b. (trip_from trips b).end == 0) sysv.buckets ≡ sysv_walks_end sysv
   unfolding sysv_walks_end
-  walks_are = same_all _ _ (λ b. ap (λ (t : Trip). t.end == 0) (trip_from_is b)) sysv.buckets
+  walks_are = ap (λ test. list_all test sysv.buckets) (fun_ext (λ b. ap (λ (t : Trip). t.end == 0) (trip_from_is b)))
 
   module _ (low : n < 2 ^ 32) (hashes : List ℕ) (starts : List Start) (begun : (i hash : ℕ) → slice_get hashes i ≡ Some hash → slice_get starts i ≡ Some (start_to trips (sysv_bucket sysv hash) i))
       (arrived : List Trip) (is : arrived ≡ map (λ (s : Start). trip sysv.chain (s.steps % 2 ^ 32) s.from) starts) where

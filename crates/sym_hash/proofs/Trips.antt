@@ -1,12 +1,15 @@
 -- Following links, many at once.
-use Rattle.std.proofs.Common.{◌≡◌, ◌∙◌, sym, ap, ℕ, zero, suc, ◌+◌, ◌*◌, ◌/◌, ◌%◌, ◌^◌, ◌<◌, ◌≤◌, Bool, true, false, cond, min, List, [], ◌∷◌, length, map, refl, arith, inl, inr, add-one, zero-add}
+use Rattle.std.proofs.Common.{◌≡◌, ◌∙◌, ap, ℕ, zero, suc, ◌+◌, ◌*◌, ◌/◌, ◌%◌, ◌^◌, ◌<◌, ◌≤◌, false}
+use Rattle.std.proofs.Common.{min, List, length, map, refl, arith, inl, inr, add-one, zero-add}
 use Rattle.std.specs.Prelude.{Some, None}
 use Rattle.std.specs.List.{slice_get}
 use Rattle.std.proofs.Math.Nat.{two-pow-succ}
+use Rattle.std.proofs.Math.Path.{fun_ext}
 use Rattle.std.proofs.Math.Pow.{pow_mono, pow_pos}
 use Rattle.std.proofs.lemmas.Bool.{cases_eq, cases_lt, eq-eqb, le-ltb, ne_eqb}
 use Rattle.std.proofs.lemmas.List.{length-map}
 use Rattle.std.proofs.lemmas.Option.{slice_get-map, slice_get_past}
+use Rattle.std.proofs.lemmas.Simd.{map-map}
 use lib.Arith.{mod-mul}
 use Rattle.sym_hash.specs.declared.follow.Start.{Start}
 use Rattle.sym_hash.specs.declared.follow.Trip.{Trip}
@@ -23,13 +26,9 @@ followed-add chain (suc m) k at =
     let more : suc m + k ≡ suc (m + k) = omega arith in
     rw more (let rest = followed-add chain m k (step chain at) in omega arith)
 
-count_le : (b : Bool) (rest m : ℕ) → rest ≤ m → cond b 1 0 + rest ≤ suc m
-count_le true rest m le = omega arith
-count_le false rest m le = omega arith
-
 pub followed_few : (chain : List ℕ) (m at : ℕ) → followed chain m at ≤ m
 followed_few chain zero at = omega arith
-followed_few chain (suc m) at = count_le (leads_on chain at) (followed chain m (step chain at)) m (followed_few chain m (step chain at))
+followed_few chain (suc m) at = let rest = followed_few chain m (step chain at) in grind arith
 
 -- a walk that doesn't lead on stays
 pub follow_stays : (chain : List ℕ) (m at : ℕ) → leads_on chain at ≡ false → follow chain m at ≡ at
@@ -39,9 +38,6 @@ follow_stays chain (suc m) at off = rw off (follow_stays chain m at off)
 pub followed_none : (chain : List ℕ) (m at : ℕ) → leads_on chain at ≡ false → followed chain m at ≡ 0
 followed_none chain zero at off = refl
 followed_none chain (suc m) at off = rw off (let none = followed_none chain m at off in omega arith)
-
-min_small : (a b : ℕ) → a + b ≤ 2 ^ 63 → min (a + b) 0xffff_ffff_ffff_ffff ≡ a + b
-min_small a b le = omega arith
 
 pub outside : (chain : List ℕ) (at : ℕ) → length chain ≤ at → leads_on chain at ≡ false
 outside chain at past = let test = le-ltb at (length chain) past in grind arith
@@ -53,7 +49,9 @@ then_is chain trips m k at are few =
       | inl below ↦
           let first = followed_few chain m at in
           let second = followed_few chain k (follow chain m at) in
-          rw (are.each (follow chain m at) below, min_small (followed chain m at) (followed chain k (follow chain m at)) (omega arith), follow-add chain m k at, followed-add chain m k at) refl
+          let links : ℕ = followed chain m at + followed chain k (follow chain m at) in
+          let small : min links 0xffff_ffff_ffff_ffff ≡ links = omega arith in
+          rw (are.each (follow chain m at) below, small, follow-add chain m k at, followed-add chain m k at) refl
       | inr past ↦
           let off = outside chain (follow chain m at) past in
           let none : slice_get trips (follow chain m at) ≡ None = slice_get_past trips (follow chain m at) (let len = are.len in omega arith) in
@@ -75,49 +73,34 @@ double chain trips all bit are few is =
 abbrev pub walked : List ℕ → ℕ → Start → Walk
 walked chain bit s = record { trip = trip chain (s.steps % 2 ^ bit) s.from; steps = s.steps }
 
-one_more : (n bit : ℕ) → n / 2 ^ bit % 2 ≡ 1 → n % 2 ^ (bit + 1) ≡ n % 2 ^ bit + 2 ^ bit
-one_more n bit is =
-    let parts = mod-mul n {m = 2} {c = 2 ^ bit} (omega arith) (pow_pos bit) in
+next_bit : (n bit : ℕ) → n % 2 ^ (bit + 1) ≡ n % 2 ^ bit + 2 ^ bit * (n / 2 ^ bit % 2)
+next_bit n bit =
     let twice : 2 ^ (bit + 1) ≡ 2 * 2 ^ bit = rw add-one (two-pow-succ bit ∙ (omega arith)) in
-    rw (twice, parts, is) (omega arith)
-
-none_more : (n bit : ℕ) → n / 2 ^ bit % 2 ≡ 0 → n % 2 ^ (bit + 1) ≡ n % 2 ^ bit
-none_more n bit is =
-    let parts = mod-mul n {m = 2} {c = 2 ^ bit} (omega arith) (pow_pos bit) in
-    let twice : 2 ^ (bit + 1) ≡ 2 * 2 ^ bit = rw add-one (two-pow-succ bit ∙ (omega arith)) in
-    rw (twice, parts, is) (omega arith)
+    rw (twice, mod-mul n {m = 2} {c = 2 ^ bit} (omega arith) (pow_pos bit)) (omega arith)
 
 carried_one : (chain : List ℕ) (trips : List Trip) (bit : ℕ) (s : Start) → AreTrips chain (2 ^ bit) trips → bit < 32 → carried trips bit (walked chain bit s) ≡ walked chain (bit + 1) s
 carried_one chain trips bit s are low =
     let made = λ (t : Trip). (let w : Walk = record { trip = t; steps = s.steps } in w) in
     let small : 2 ^ bit ≤ 2 ^ 31 = pow_mono {i = bit} {j = 31} (omega arith) in
     let some : 0 < 2 ^ bit = pow_pos bit in
+    let next = next_bit s.steps bit in
     elim (cases_eq (s.steps / 2 ^ bit % 2) 1) [
       | inl is ↦
-          let test = eq-eqb (s.steps / 2 ^ bit % 2) 1 is in
           let more = then_is chain trips (s.steps % 2 ^ bit) (2 ^ bit) s.from are (omega (arith, small, some)) in
-          rw test (ap made (more ∙ ap (λ n. trip chain n s.from) (sym (one_more s.steps bit is))))
+          let count : s.steps % 2 ^ (bit + 1) ≡ s.steps % 2 ^ bit + 2 ^ bit = rw is at next ∙ (omega arith) in
+          rw (eq-eqb _ 1 is, count) (ap made more)
       | inr other ↦
-          let test = ne_eqb (s.steps / 2 ^ bit % 2) 1 other in
           let zero : s.steps / 2 ^ bit % 2 ≡ 0 = omega arith in
-          rw test (ap made (ap (λ n. trip chain n s.from) (sym (none_more s.steps bit zero))))
+          let count : s.steps % 2 ^ (bit + 1) ≡ s.steps % 2 ^ bit = rw zero at next ∙ (omega arith) in
+          rw (ne_eqb _ 1 other, count) refl
     ]
-
-carried_all : (chain : List ℕ) (trips : List Trip) (bit : ℕ) (starts : List Start) → AreTrips chain (2 ^ bit) trips → bit < 32 → map (carried trips bit) (map (walked chain bit) starts) ≡ map (walked chain (bit + 1)) starts
-carried_all chain trips bit [] are low = refl
-carried_all chain trips bit (s ∷ starts) are low = rw (carried_one chain trips bit s are low, carried_all chain trips bit starts are low) refl
 
 -- one bit more
 pub carry : (chain : List ℕ) (trips : List Trip) (bit : ℕ) (starts : List Start) (walks all : List Walk) → AreTrips chain (2 ^ bit) trips → bit < 32 → walks ≡ map (walked chain bit) starts → all ≡ map (carried trips bit) walks
     → all ≡ map (walked chain (bit + 1)) starts
-carry chain trips bit starts walks all are low begin is = rw (is, begin) (carried_all chain trips bit starts are low)
+carry chain trips bit starts walks all are low begin is =
+    rw (is, begin, map-map) (ap (λ f. map f starts) (fun_ext (λ s. carried_one chain trips bit s are low)))
 
 -- no bit yet
 pub begin : (chain : List ℕ) (starts : List Start) → map begun starts ≡ map (walked chain 0) starts
-begin chain [] = refl
-begin chain (s ∷ starts) = let none : s.steps % 2 ^ 0 ≡ 0 = omega arith in rw (none, begin chain starts) refl
-
--- all bits
-pub all_bits : (chain : List ℕ) (starts : List Start) → map (λ (w : Walk). w.trip) (map (walked chain 32) starts) ≡ map (λ (s : Start). trip chain (s.steps % 2 ^ 32) s.from) starts
-all_bits chain [] = refl
-all_bits chain (s ∷ starts) = rw (all_bits chain starts) refl
+begin chain starts = ap (λ f. map f starts) (fun_ext (λ s. let none : s.steps % 2 ^ 0 ≡ 0 = omega arith in rw none refl))

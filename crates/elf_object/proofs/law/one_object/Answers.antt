@@ -11,27 +11,17 @@ readings c = record {
   same_table = c.one_verdict-4.ensures.versions;
 }
 
-pub returns-clause-verdict : goal.returns-clause-verdict
-returns-clause-verdict c bytes program object =
-    (λ (table, e). (((verdict (readings c) bytes program).accepted (object, table)).0 e).0, λ s. (s.table, read_of (readings c) bytes program object s))
-
-pub returns-clause-one : goal.returns-clause-one
-returns-clause-one c = one_spelled (readings c)
-
-pub returns-clause-refused : goal.returns-clause-refused
-returns-clause-refused c bytes program = (verdict (readings c) bytes program).refused
-
-pub returns-clause-table : goal.returns-clause-table
-returns-clause-table c = table_of_read (readings c)
-
-pub returns-clause-names : goal.returns-clause-names
-returns-clause-names c = names_of_read (readings c)
-
-pub returns-clause-exactly : goal.returns-clause-exactly
-returns-clause-exactly c = spelled_or_broken (readings c)
-
-pub returns-clause-never_both : goal.returns-clause-never_both
-returns-clause-never_both c = never_both (readings c)
-
-pub returns-clause-one_fault : goal.returns-clause-one_fault
-returns-clause-one_fault c = one_broken (readings c)
+pub returns : goal.returns
+returns c = record {
+  verdict = λ bytes program object. (
+    λ (table, e). (((verdict (readings c) bytes program).accepted (object, table)).0 e).0,
+    λ s. (s.table, read_of (readings c) bytes program object s),
+  );
+  one = one_spelled (readings c);
+  exactly = spelled_or_broken (readings c);
+  never_both = never_both (readings c);
+  one_fault = one_broken (readings c);
+  refused = λ bytes program. (verdict (readings c) bytes program).refused;
+  table = table_of_read (readings c);
+  names = names_of_read (readings c);
+}
