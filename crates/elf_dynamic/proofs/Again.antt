@@ -1,37 +1,42 @@
--- The first of a list that is bad: one element more, and what is found.
-use Rattle.std.proofs.Common.{◌≡◌, ℕ, suc, Bool, true, false, ◌||◌, List, [], ◌∷◌, ◌++◌, length, map, append_assoc, refl}
-use Rattle.std.specs.Prelude.{Option, Some, None, option_map, if◌then◌else◌}
-use Rattle.std.specs.List.{list_any}
-use Rattle.std.proofs.lemmas.List.{append-nil}
+-- The first of a list that is bad.
+use Rattle.std.proofs.Common.{◌≡◌, ℕ, suc, ◌+◌, Bool, true, ◌||◌, List, [], ◌∷◌, ◌++◌, length, map, take, append_assoc, append-nil, refl, arith, inl, inr}
+use Rattle.std.specs.Prelude.{Decides, Option, Some, option_map}
+use Rattle.std.specs.List.{list_any, slice_get}
+use Rattle.std.specs.Option.{option_or}
+use Rattle.std.proofs.lemmas.Bool.{cases_Bool}
 use Rattle.ld_base.specs.declared.object.Span.{Span}
+use Rattle.acceptance.specs.Lemmas.Finds.{finds_cons, finds_like, same_some, Finds}
 use Rattle.elf_dynamic.specs.Again.{first_again}
 use Rattle.elf_dynamic.specs.Memory.{overlaps}
 
+none_before : (o : Option ℕ) → option_map (λ k. 0 + k) o ≡ o
+none_before o = grind arith
+
+one_before : (n : ℕ) (o p : Option ℕ) → option_map suc (option_or o (option_map (λ k. n + k) p)) ≡ option_or (option_map suc o) (option_map (λ k. suc n + k) p)
+one_before n o p = grind arith
+
 module _ {X : Type 0} (bad : X → Bool) (range : X → Span) where
-  -- one element more, where none before it is bad
-  pub again_more : (ranges : List Span) (xs : List X) (x : X) → first_again bad range ranges xs ≡ None
-      → first_again bad range ranges (xs ++ x ∷ []) ≡ (if bad x || list_any (overlaps (range x)) (ranges ++ map range xs) then Some (length xs) else None)
-  again_more ranges [] x none = rw append-nil refl
-  again_more ranges (y ∷ xs) x none =
-      let (passed, rest) = kept (bad y || list_any (overlaps (range y)) ranges) (first_again bad range (ranges ++ range y ∷ []) xs) none in
-      rw (passed, again_more (ranges ++ range y ∷ []) xs x rest, append_assoc) (pushed _)
-    where
-      kept : (fails : Bool) (rest : Option ℕ) → (if fails then Some 0 else option_map suc rest) ≡ None → (fails ≡ false) × (rest ≡ None)
-      kept true rest e = absurd cc
-      kept false None e = (refl, refl)
-      kept false (Some k) e = absurd cc
+  -- the element of this index is bad by itself, or has a byte of these ranges or of one before it
+  abbrev pub Again : List Span → List X → ℕ → Type 0
+  Again ranges xs k = (x : X) × (slice_get xs k ≡ Some x) × ((bad x || list_any (overlaps (range x)) (ranges ++ map range (take k xs))) ≡ true)
 
-      pushed : (fails : Bool) → option_map suc (if fails then Some (length xs) else None) ≡ (if fails then Some (suc (length xs)) else None)
-      pushed true = refl
-      pushed false = refl
-
-  -- what is found stays found
-  pub again_found : (ranges : List Span) (xs ys : List X) (k : ℕ) → first_again bad range ranges xs ≡ Some k → first_again bad range ranges (xs ++ ys) ≡ Some k
-  again_found ranges [] ys k found = absurd cc
-  again_found ranges (x ∷ xs) ys k found = step (bad x || list_any (overlaps (range x)) ranges) _ (λ i. again_found (ranges ++ range x ∷ []) xs ys i) k found
+  pub again_finds : (ranges : List Span) (xs : List X) → Finds (Again ranges xs) (first_again bad range ranges xs)
+  again_finds ranges [] = λ k (x, is, h). absurd cc
+  again_finds ranges (x ∷ xs) =
+      finds_cons (Again ranges (x ∷ xs)) _ _ here
+      (finds_like (Again (ranges ++ range x ∷ []) xs) _ (λ k (y, is, fails). (y, is, rw append_assoc at fails))
+      (λ k (y, is, fails). (y, is, rw append_assoc fails)) _
+      (again_finds (ranges ++ range x ∷ []) xs))
     where
-      step : (fails : Bool) (rest : Option ℕ) {more : Option ℕ} → ((i : ℕ) → rest ≡ Some i → more ≡ Some i) → (k : ℕ)
-          → (if fails then Some 0 else option_map suc rest) ≡ Some k → (if fails then Some 0 else option_map suc more) ≡ Some k
-      step true rest same k e = e
-      step false None same k e = absurd cc
-      step false (Some i) same k e = rw (same i refl) e
+      here : Decides (bad x || list_any (overlaps (range x)) ranges) (Again ranges (x ∷ xs) 0)
+      here = (λ fails. (x, refl, rw append-nil fails), λ (y, e, fails). rw (append-nil, ← same_some e) at fails)
+
+  -- the first of two lists, one after the other
+  pub again_append : (ranges : List Span) (xs ys : List X) → first_again bad range ranges (xs ++ ys)
+      ≡ option_or (first_again bad range ranges xs) (option_map (λ k. length xs + k) (first_again bad range (ranges ++ map range xs) ys))
+  again_append ranges [] ys = rw (append-nil, none_before) refl
+  again_append ranges (x ∷ xs) ys =
+      elim (cases_Bool (bad x || list_any (overlaps (range x)) ranges)) [
+        | inl fails ↦ rw fails refl
+        | inr passes ↦ rw (passes, again_append (ranges ++ range x ∷ []) xs ys, append_assoc) (one_before (length xs) _ _)
+      ]

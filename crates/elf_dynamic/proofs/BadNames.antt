@@ -1,8 +1,8 @@
 -- Rule 12: the first offset at which no string stands.
-use Rattle.std.proofs.Common.{◌≡◌, ◌≢◌, ◌↔◌, ◌⊎◌, ◌∙◌, ap, sym, subst, refl, ℕ, zero, suc, ◌*◌, ◌<◌, ◌||◌, ◌&&◌, Bool, true, false, not, List, [], ◌∷◌, Option, Some, None, arith, inl, inr}
-use Rattle.std.specs.Prelude.{Decides, find, is_some, option_map, if◌then◌else◌}
+use Rattle.std.proofs.Common.{◌≡◌, ◌↔◌, ◌⊎◌, ◌∙◌, ap, sym, subst, refl, ℕ, zero, suc, ◌*◌, ◌<◌, ◌||◌, ◌&&◌, Bool, true, false, not, List, [], ◌∷◌, Option, Some}
+use Rattle.std.proofs.Common.{None, arith, inl, inr, ◌≤◌}
+use Rattle.std.specs.Prelude.{Decides, find, option_map, if◌then◌else◌}
 use Rattle.std.specs.List.{list_any, slice_get}
-use Rattle.std.specs.Option.{option_or}
 use Rattle.std.proofs.lemmas.Bool.{true≢false}
 use Rattle.std.proofs.lemmas.Bool.Decides.{not_from_Decides, Decides-eqb}
 use Rattle.ld_base.specs.declared.parts.Tag.{Tag}
@@ -16,7 +16,8 @@ use Rattle.dyn_table.specs.TagNumbers.{dt_needed, dt_soname}
 use Rattle.elf_dynamic.specs.Breaks.{Lacks, LacksName, LacksSymbolName, NamesString}
 use Rattle.elf_dynamic.specs.Parts.{LacksString}
 use Rattle.elf_dynamic.specs.Rules.{bad_string, lacks_string, name_offsets, unnamed_symbol}
-use Rattle.acceptance.specs.Lemmas.Tests.{among, both, contrary, either, means}
+use Rattle.acceptance.specs.Lemmas.Tests.{among, both, contrary, either, means, some_decides}
+use Rattle.elf_dynamic.proofs.Reasons.{or_else}
 
 -- a search of one symbol more
 pub ruleset least_steps = (least_kept, least_found)
@@ -36,6 +37,10 @@ finds_at_is L one None x never = (λ e. absurd cc, λ (k, first, l). absurd (nev
 finds_at_is L one (Some y) x (j, is_first, own) =
     (λ e. subst (StandsFirst L) (same_some e) (j, is_first, own), λ (k, first, l). ap Some (one k y x (subst (λ n. L n y) (one_first (Lacks L) j k is_first first) own) l))
 
+finds_at_none : (L : ℕ → ℕ → Type 0) (o : Option ℕ) → FindsAt L o → (o ≡ None) ↔ ((k : ℕ) → Lacks L k → ⊥)
+finds_at_none L None never = (λ e k (x, l). never k x l, λ none. refl)
+finds_at_none L (Some y) (k, first, l) = (λ e. absurd cc, λ none. absurd (none k (y, l)))
+
 finds_at_cons : (L M : ℕ → ℕ → Type 0) (here : Bool) (v : ℕ) (o : Option ℕ) → (here ≡ true → L 0 v) → ((x : ℕ) → L 0 x → here ≡ true)
     → ((k x : ℕ) → L (suc k) x ↔ M k x) → FindsAt M o → FindsAt L (if here then Some v else o)
 finds_at_cons L M true v o holds fails shift f = (0, record { bad = (v, holds refl); before = λ j below lacking. absurd (omega arith) }, holds refl)
@@ -52,32 +57,32 @@ finds_at_cons L M false v (Some x) holds fails shift (k, first, m) = (suc k, rec
 
 -- ---- names
 
+-- what holds of the elements from an index on
+from_next : {P : Tag → Type 0} (t : Tag) (tags : List Tag) (m : ℕ)
+    → ((j : ℕ) (u : Tag) → m ≤ j → slice_get tags j ≡ Some u → P u) ↔ ((j : ℕ) (u : Tag) → suc m ≤ j → slice_get (t ∷ tags) j ≡ Some u → P u)
+from_next {P} t tags m = (next, λ all j u low is. all (suc j) u (omega arith) is)
+  where
+    next : ((j : ℕ) (u : Tag) → m ≤ j → slice_get tags j ≡ Some u → P u) → (j : ℕ) (u : Tag) → suc m ≤ j → slice_get (t ∷ tags) j ≡ Some u → P u
+    next all zero u low is = absurd (omega arith)
+    next all (suc j) u low is = all j u (omega arith) is
+
 module _ (string : (strings name : List ℕ) (offset : ℕ) → (string_at strings offset ≡ Some name) ↔ IsStringAt strings offset name) (strings : List ℕ) where
   lacks_decides : (offset : ℕ) → Decides (lacks_string strings offset) (LacksString strings offset)
-  lacks_decides offset = by_string (string_at strings offset) refl
-    where
-      by_string : (o : Option (List ℕ)) → string_at strings offset ≡ o → Decides (not (is_some o)) (LacksString strings offset)
-      by_string None none = (λ e name is. absurd (let there = (string strings name offset).1 is in cc), λ never. refl)
-      by_string (Some name) there = (λ e. absurd cc, λ never. absurd (never name ((string strings name offset).0 there)))
+  lacks_decides offset =
+      means (contrary (some_decides (string_at strings offset))) (λ none name is. none (name, (string strings name offset).1 is))
+      (λ lacks (name, e). lacks name ((string strings name offset).0 e))
 
   asks_decides : (t : Tag) (tags : List Tag) → Decides (has_tag dt_needed t || (has_tag dt_soname t && not (list_any (has_tag dt_soname) tags))) (NamesString (t ∷ tags) 0 t)
   asks_decides t tags =
-      either (Decides-eqb t.tag dt_needed)
-      (both (Decides-eqb t.tag dt_soname) (means (contrary (among (λ u. Decides-eqb u.tag dt_soname) tags)) to (λ none (k, u, is, same). none (suc k) u (omega arith) is same)))
-    where
-      to : ((k : ℕ) × (u : Tag) × (slice_get tags k ≡ Some u) × (u.tag ≡ dt_soname) → ⊥) → (j : ℕ) (u : Tag) → 0 < j → slice_get (t ∷ tags) j ≡ Some u → u.tag ≢ dt_soname
-      to never zero u some is same = absurd (omega arith)
-      to never (suc j) u some is same = never (j, u, is, same)
+      either (Decides-eqb t.tag dt_needed) (both (Decides-eqb t.tag dt_soname) (means (contrary (among (λ u. Decides-eqb u.tag dt_soname) tags))
+      (λ never. (from_next t tags 0).0 (λ j u low is same. never (j, u, is, same)))
+      (λ none (j, u, is, same). (from_next t tags 0).1 none j u (omega arith) is same)))
 
   shifted : (t : Tag) (tags : List Tag) (k : ℕ) (u : Tag) → NamesString (t ∷ tags) (suc k) u ↔ NamesString tags k u
   shifted t tags k u = (
-    λ names. elim names [ inl needed ↦ inl needed | inr (soname, last) ↦ inr (soname, λ j v below is same. last (suc j) v (omega arith) is same) ],
-    λ names. elim names [ inl needed ↦ inl needed | inr (soname, last) ↦ inr (soname, past last) ],
+    λ names. elim names [ inl needed ↦ inl needed | inr (soname, last) ↦ inr (soname, (from_next t tags (suc k)).1 last) ],
+    λ names. elim names [ inl needed ↦ inl needed | inr (soname, last) ↦ inr (soname, (from_next t tags (suc k)).0 last) ],
   )
-    where
-      past : ((j : ℕ) (v : Tag) → k < j → slice_get tags j ≡ Some v → v.tag ≢ dt_soname) → (j : ℕ) (v : Tag) → suc k < j → slice_get (t ∷ tags) j ≡ Some v → v.tag ≢ dt_soname
-      past last zero v below is same = absurd (omega arith)
-      past last (suc j) v below is same = last j v (omega arith) is same
 
   names_find : (tags : List Tag) → FindsAt (LacksName strings tags) (find (lacks_string strings) (name_offsets tags))
   names_find [] = λ k x l. absurd (let is = l.is in cc)
@@ -109,21 +114,11 @@ module _ (string : (strings name : List ℕ) (offset : ℕ) → (string_at strin
             let own : LacksSymbolName strings part count k (symbol_name part (24 * k)) = record { there = least.within; at = refl; lacks = (lacks_decides _).0 least.passes } in
             (k, record { bad = (_, own); before = λ j below (x, l). not_from_Decides _ (lacks_decides _) (least.before j below) (rw l.at at l.lacks) }, own)
 
-    pub string_first : (tags : List Tag) (offset : ℕ)
-        → (bad_string strings tags part count ≡ Some offset)
+    pub string_first : (tags : List Tag) (offset : ℕ) → (bad_string strings tags part count ≡ Some offset)
         ↔ (StandsFirst (LacksName strings tags) offset ⊎ (((k : ℕ) → Lacks (LacksName strings tags) k → ⊥) × StandsFirst (LacksSymbolName strings part count) offset))
     unfolding bad_string
-    string_first tags offset = by_found (find (lacks_string strings) (name_offsets tags)) (names_find tags)
-      where
-        symbols : (option_map (λ i. symbol_name part (24 * i)) (unnamed_symbol strings part count) ≡ Some offset) ↔ StandsFirst (LacksSymbolName strings part count) offset
-        symbols = finds_at_is (LacksSymbolName strings part count) (λ k x y l m. l.at ∙ sym m.at) _ offset symbols_find
-
-        by_found : (o : Option ℕ) → FindsAt (LacksName strings tags) o → (option_or o (option_map (λ i. symbol_name part (24 * i)) (unnamed_symbol strings part count)) ≡ Some offset)
-            ↔ (StandsFirst (LacksName strings tags) offset ⊎ (((k : ℕ) → Lacks (LacksName strings tags) k → ⊥) × StandsFirst (LacksSymbolName strings part count) offset))
-        by_found None never = (
-          λ e. inr (λ k (x, l). never k x l, symbols.0 e),
-          λ why. elim why [ inl (k, first, l) ↦ absurd (never k offset l) | inr (none, stands) ↦ symbols.1 stands ],
-        )
-        by_found (Some x) f =
-            let own = finds_at_is (LacksName strings tags) (λ k x y l m. l.at ∙ ap (λ (t : Tag). t.value) (same_some (sym l.is ∙ m.is)) ∙ sym m.at) (Some x) offset f in
-            (λ e. inl (own.0 e), λ why. elim why [ inl first ↦ own.1 first | inr (none, stands) ↦ absurd (none f.0 (x, f.2)) ])
+    string_first tags offset =
+        or_else (finds_at_is (LacksName strings tags) (λ k x y l m. l.at ∙ ap (λ (t : Tag). t.value) (same_some (sym l.is ∙ m.is)) ∙ sym m.at) _ offset
+        (names_find tags))
+        (finds_at_none (LacksName strings tags) _ (names_find tags))
+        (finds_at_is (LacksSymbolName strings part count) (λ k x y l m. l.at ∙ sym m.at) _ offset symbols_find)

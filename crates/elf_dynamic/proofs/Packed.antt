@@ -1,8 +1,9 @@
 -- Packed relocations, one after the other.
-use Rattle.std.proofs.Common.{◌≡◌, ◌∙◌, ap, sym, subst, refl, ℕ, suc, ◌+◌, ◌-◌, ◌*◌, ◌/◌, ◌%◌, ◌<◌, ◌≤◌, ◌==◌, Bool, true, false, ◌||◌, List, [], ◌∷◌, ◌++◌, length, map, filter}
-use Rattle.std.proofs.Common.{add-one, append_assoc, drop, drop-cons, length-append, arith, inl, inr}
+use Rattle.std.proofs.Common.{◌≡◌, ap, sym, subst, refl, ℕ, suc, ◌+◌, ◌-◌, ◌*◌, ◌/◌, ◌%◌, ◌<◌, ◌≤◌, ◌==◌, Bool, true, false, ◌||◌, List, [], ◌∷◌, ◌++◌, length}
+use Rattle.std.proofs.Common.{map, filter}
+use Rattle.std.proofs.Common.{add-one, add-zero, append_assoc, drop, drop-cons, length-append, arith, inl, inr}
 use Rattle.std.specs.Prelude.{Some, if◌then◌else◌, nat_lt}
-use Rattle.std.specs.List.{list_any, range_with_len}
+use Rattle.std.specs.List.{slice_get, list_any, range_with_len}
 use Rattle.std.proofs.lemmas.Bool.{cases_Bool}
 use Rattle.std.proofs.lemmas.Bool.Decides.{nat_tests}
 use Rattle.std.proofs.lemmas.List.{append-nil, map-append}
@@ -17,39 +18,26 @@ use Rattle.elf_dynamic.specs.Judged.{most_places, AdmitsMore, ArePlaces, IsJudge
 use Rattle.elf_dynamic.specs.Marks.{is_marked, AreMarks}
 use Rattle.elf_dynamic.specs.Memory.{overlaps}
 use Rattle.elf_dynamic.specs.Named.{doubleword}
-use Rattle.elf_dynamic.specs.Relr.{after_word, bits_of, has_bit, places_from, relr_words, word_places}
+use Rattle.elf_dynamic.specs.Relr.{after_word, has_bit, places_from, relr_words, word_places}
 use Rattle.elf_dynamic.specs.Rules.{is_bad_place}
-use Rattle.elf_dynamic.proofs.Again.{again_found, again_more}
-use Rattle.elf_dynamic.proofs.Ends.{put_marks}
-use Rattle.elf_dynamic.proofs.Slots.{marked_place}
+use Rattle.elf_dynamic.proofs.Again.{again_append}
+use Rattle.elf_dynamic.proofs.Ranges.{put_marks}
 
 -- ---- one more
-
--- the doubleword of a place that isn't bad is named where one before it has a byte of it
-pub refused : (headers : List Header) (words : List ℕ) (ranges : List Span) (place : ℕ) → AreMarks words ranges
-    → (is_bad_place headers place || is_marked words (place / 8)) ≡ (is_bad_place headers place || list_any (overlaps (doubleword place)) ranges)
-refused headers words ranges place marks =
-    elim (cases_Bool (is_bad_place headers place)) [
-      | inl bad ↦ rw bad refl
-      | inr good ↦ let aligned : place % 8 ≡ 0 = grind arith in rw (good, marked_place words ranges place marks aligned) refl
-    ]
 
 module _ (headers : List Header) (ranges : List Span) (places : List ℕ) (place : ℕ) (old : Judged) (judged : IsJudged headers ranges places old) where
   abbrev fails : Bool
   fails = is_bad_place headers place || list_any (overlaps (doubleword place)) (ranges ++ map doubleword places)
 
   pub admit_bad : fails ≡ true → first_again (is_bad_place headers) doubleword ranges (places ++ place ∷ []) ≡ Some old.count
-  admit_bad bad = again_more (is_bad_place headers) doubleword ranges places place judged.none ∙ rw bad (ap Some (sym judged.are.count))
+  admit_bad bad = rw (again_append, judged.none, bad, add-zero) (ap Some (sym judged.are.count))
 
-  one_more : (new : List ℕ) → is_bad_place headers place ≡ false → ((e : ℕ) → is_marked new e ≡ (place / 8 == e || is_marked old.named.words.items e)) → AreMarks new (ranges ++ map doubleword (places ++ place ∷ []))
+  one_more : (new : List ℕ) → is_bad_place headers place ≡ false → ((e : ℕ) → is_marked new e ≡ (place / 8 == e || is_marked old.named.words.items e))
+      → AreMarks new (ranges ++ map doubleword (places ++ place ∷ []))
   one_more new good step =
       let aligned : place % 8 ≡ 0 = grind arith in
-      let same : (ranges ++ map doubleword places) ++ doubleword place ∷ [] ≡ ranges ++ map doubleword (places ++ place ∷ []) = rw (append_assoc, map-append) refl in
-      rw same at (put_marks old.named.words.items new (ranges ++ map doubleword places) (doubleword place) judged.marks
-      (λ e. step e ∙ ap (λ b. b || is_marked old.named.words.items e) (same_doubleword place e aligned)))
-    where
-      same_doubleword : (place e : ℕ) → place % 8 ≡ 0 → (place / 8 == e) ≡ overlaps (doubleword (8 * e)) (doubleword place)
-      same_doubleword place e aligned = grind (arith, nat_tests)
+      rw (map-append, ← append_assoc) (put_marks old.named.words.items new (ranges ++ map doubleword places) (doubleword place) judged.marks
+      (λ e. let same : (place / 8 == e) ≡ overlaps (doubleword (8 * e)) (doubleword place) = grind (arith, nat_tests) in rw (← same) (step e)))
 
   pub admit_kept : (new : Judged) → fails ≡ false → ((e : ℕ) → is_marked new.named.words.items e ≡ (place / 8 == e || is_marked old.named.words.items e))
       → new.places ≡ (if nat_lt (length old.places) most_places then old.places ++ place ∷ [] else old.places) → new.count ≡ old.count + 1
@@ -57,10 +45,10 @@ module _ (headers : List Header) (ranges : List Span) (places : List ℕ) (place
   admit_kept new good marks listed count =
       let longer = length-append places (place ∷ []) in
       record {
-        none = again_more (is_bad_place headers) doubleword ranges places place judged.none ∙ rw good refl;
+        none = rw (again_append, judged.none, good) refl;
         marks = one_more new.named.words.items (grind arith) marks;
         are = record {
-          listed = λ few. (let kept = judged.are.listed (omega arith) in let room : nat_lt (length old.places) most_places ≡ true = rw kept (grind (arith, nat_tests)) in listed ∙ rw (room, kept) refl);
+          listed = λ few. (let kept = judged.are.listed (omega arith) in grind (arith, nat_tests));
           count = omega (arith, count, judged.are.count, longer);
         };
       }
@@ -76,14 +64,16 @@ all_places j places are few = are.listed (omega (arith, are.count))
 abbrev pub JudgedFront : List Header → List Span → List ℕ → List ℕ → Judged → Type 0
 JudgedFront headers ranges rest all j = (front : List ℕ) × IsJudged headers ranges front j × (front ++ rest ≡ all)
 
-module _ {headers : List Header} {ranges : List Span} {rest all : List ℕ} {old : Judged} (front : JudgedFront headers ranges rest all old) (more after : List ℕ) (split : rest ≡ more ++ after) where
-  pub front_more : (kept : Bool) (new : Judged) → AdmitsMore headers more old kept new → kept ≡ true → JudgedFront headers ranges after all new
-  front_more kept new admits is = (front.0 ++ more, rw is at (admits ranges front.0 front.1), append_assoc front.0 more after ∙ ap (λ xs. front.0 ++ xs) (sym split) ∙ front.2)
+module _ {headers : List Header} {ranges : List Span} {rest all : List ℕ} {old : Judged} (front : JudgedFront headers ranges rest all old) (more after : List ℕ)
+    (split : rest ≡ more ++ after) (kept : Bool) (new : Judged) (admits : AdmitsMore headers more old kept new) where
+  whole : (front.0 ++ more) ++ after ≡ all
+  whole = rw (append_assoc, ← split) front.2
 
-  pub front_stop : (kept : Bool) (new : Judged) → AdmitsMore headers more old kept new → kept ≡ false → first_again (is_bad_place headers) doubleword ranges all ≡ Some new.count
-  front_stop kept new admits is =
-      let whole = append_assoc front.0 more after ∙ ap (λ xs. front.0 ++ xs) (sym split) ∙ front.2 in
-      rw whole at (again_found (is_bad_place headers) doubleword ranges (front.0 ++ more) after new.count (rw is at (admits ranges front.0 front.1)))
+  pub front_more : kept ≡ true → JudgedFront headers ranges after all new
+  front_more is = (front.0 ++ more, rw is at (admits ranges front.0 front.1), whole)
+
+  pub front_stop : kept ≡ false → first_again (is_bad_place headers) doubleword ranges all ≡ Some new.count
+  front_stop is = rw (← whole, again_append, rw is at (admits ranges front.0 front.1)) refl
 
 pub front_end : {headers : List Header} {ranges : List Span} {rest all : List ℕ} {j : Judged} → JudgedFront headers ranges rest all j → rest ≡ [] → IsJudged headers ranges all j
 front_end {headers} {ranges} {j = j} front none = subst (λ ps. IsJudged headers ranges ps j) (rw (none, append-nil) at front.2) front.1
@@ -99,9 +89,8 @@ one_bit word next bit few =
     let same : 64 - bit ≡ suc (64 - (bit + 1)) = omega arith in
     rw same (elim (cases_Bool (has_bit word bit)) [ inl has ↦ rw has refl | inr lacks ↦ rw lacks refl ])
 
-pub all_bits : (word next : ℕ) → bits_from word next 1 ≡ map (λ i. next + 8 * (i - 1)) (bits_of word)
-unfolding bits_of
-all_bits word next = refl
+pub first_word : (packed : List ℕ) → 0 < length packed / 8 → slice_get (relr_words packed) 0 ≡ Some (field 8 packed 0)
+first_word packed some = get-table (field 8 packed) 0 8 (length packed / 8) 0 some
 
 pub one_word : (packed : List ℕ) (next i word : ℕ) → i < length packed / 8 → word ≡ field 8 packed (8 * i)
     → places_from next (drop i (relr_words packed)) ≡ word_places next word ++ places_from (after_word next word) (drop (i + 1) (relr_words packed))

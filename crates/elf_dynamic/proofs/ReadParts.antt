@@ -1,7 +1,7 @@
 -- The parts that the tables say are those of the functions that the code is proved against, field by field.
-use Rattle.std.proofs.Common.{◌≡◌, ◌↔◌, ◌⊎◌, ◌∙◌, ap, sym, subst, refl, ℕ, zero, suc, ◌+◌, ◌-◌, ◌*◌, ◌/◌, ◌%◌, ◌<◌, ◌≤◌, ◌==◌, Bool}
+use Rattle.std.proofs.Common.{◌≡◌, ◌↔◌, ◌⊎◌, ◌∙◌, ap, sym, refl, ℕ, zero, suc, ◌+◌, ◌-◌, ◌*◌, ◌/◌, ◌%◌, ◌<◌, ◌≤◌, ◌==◌, Bool}
 use Rattle.std.proofs.Common.{List, [], ◌∷◌, ◌++◌, length, map, Option, Some, None, arith, inl, inr}
-use Rattle.std.specs.Prelude.{find, fold, max, option_map, position, unwrap_or}
+use Rattle.std.specs.Prelude.{find, fold, max, option_map, position}
 use Rattle.std.specs.List.{position_or_len, slice_get}
 use Rattle.std.specs.Option.{option_and_then, option_map_or}
 use Rattle.std.proofs.lemmas.Bool.{cases_lt, lt-ltb, le-ltb}
@@ -13,12 +13,10 @@ use Rattle.ld_base.specs.Field.{field}
 use Rattle.ld_base.specs.declared.object.ObjFlags.{ObjFlags}
 use Rattle.ld_base.specs.declared.object.Reloc.{Reloc}
 use Rattle.ld_base.specs.declared.object.Span.{Span}
-use Rattle.ld_base.specs.declared.object.Symbol.{Symbol}
 use Rattle.ld_base.specs.declared.parts.DynParts.{DynParts}
 use Rattle.ld_base.specs.declared.parts.GnuPart.{GnuPart}
 use Rattle.ld_base.specs.declared.parts.HashTable.{HashTable}
 use Rattle.ld_base.specs.declared.parts.Header.{Header}
-use Rattle.ld_base.specs.declared.parts.SysvPart.{SysvPart}
 use Rattle.ld_base.specs.declared.parts.Tag.{Tag}
 use Rattle.acceptance.specs.Entries.{AreEntries}
 use Rattle.acceptance.specs.Table.{table}
@@ -29,8 +27,9 @@ use Rattle.dyn_table.specs.HashWords.{hash_words}
 use Rattle.dyn_table.specs.Name.{string_at, string_in, IsStringAt}
 use Rattle.dyn_table.specs.Reloc.{reloc_at, relocs_of}
 use Rattle.dyn_table.specs.Symbol.{symbol_name, symbol_named, symbols_in}
-use Rattle.dyn_table.specs.Tag.{has_flag, last_of, tags_of, value_of, values_of, EndsAtNull}
-use Rattle.dyn_table.specs.TagNumbers.{dt_bind_now, dt_fini_array, dt_fini_arraysz, dt_flags, dt_flags_1, dt_init_array, dt_init_arraysz, dt_jmprel, dt_needed, dt_pltrelsz, dt_preinit_array, dt_preinit_arraysz, dt_relr, dt_relrsz, dt_soname, dt_strsz, dt_strtab, dt_symbolic, dt_symtab}
+use Rattle.dyn_table.specs.Tag.{last_of, tags_of, value_of, values_of, EndsAtNull}
+use Rattle.dyn_table.specs.TagNumbers.{dt_bind_now, dt_fini_array, dt_fini_arraysz, dt_init_array, dt_init_arraysz, dt_jmprel, dt_needed, dt_pltrelsz}
+use Rattle.dyn_table.specs.TagNumbers.{dt_preinit_array, dt_preinit_arraysz, dt_relr, dt_relrsz, dt_soname, dt_strsz, dt_strtab, dt_symbolic, dt_symtab}
 use Rattle.elf_dynamic.specs.Parts.{AreBytes, AreFlags, AreNamesAt, AreParts, AreSymbols, AreTags, HasRoom, IsCount, IsFirstExported, IsNameAt, IsNameOf, IsRange, IsRela, IsSymbolTable, IsThat, NamePlaces}
 use Rattle.elf_dynamic.specs.Parts.AreBytes.{held, missing}
 use Rattle.elf_dynamic.specs.Parts.IsCount.{by_chain, by_room}
@@ -40,11 +39,22 @@ use Rattle.elf_dynamic.specs.Parts.NamePlaces.{no_more, place, bits}
 use Rattle.elf_dynamic.specs.Relr.{bits_of, places_from, relr_places, relr_words}
 use Rattle.elf_dynamic.specs.Tables.{bytes_in, count_in, dynamic_tags, first_exported, flags_of, named_count, parts_in, plt_relocs, rela_relocs, rela_span, relr_bytes, span_of, strings_in, symbol_bytes, symbol_count}
 use Rattle.elf_dynamic.proofs.Relocs.{get_map}
-use Rattle.elf_dynamic.proofs.Spans.{and_then, range_is, rela_is, same_span}
-use Rattle.acceptance.specs.Lemmas.Tests.{either, itself, means}
+use Rattle.elf_dynamic.proofs.Reasons.{and_then, range_is, rela_is, same_span}
+use Rattle.acceptance.specs.Lemmas.Tests.{itself}
 use Rattle.elf_dynamic.proofs.Tests.{stands_decides}
 
 -- ---- options and lists
+
+-- R holds of this value alone
+abbrev Tells : {X : Type 0} → (X → Type 0) → X → Type 0
+Tells {X} R v = (x : X) → R x ↔ (x ≡ v)
+
+tells : {X : Type 0} (R : X → Type 0) (v : X) → R v → ((x : X) → R x → x ≡ v) → Tells R v
+tells R v own is x = (is x, λ e. rw e own)
+
+option_cases : {X : Type 0} (o : Option X) → (o ≡ None) ⊎ ((x : X) × (o ≡ Some x))
+option_cases None = inl refl
+option_cases (Some x) = inr (x, refl)
 
 find_is : {X : Type 0} (p : X → Bool) (xs : List X) → find p xs ≡ option_and_then (slice_get xs) (position p xs)
 find_is p xs =
@@ -62,18 +72,21 @@ entries_one R (x ∷ xs) (y ∷ ys) one count a b =
     let rest = entries_one (λ i. R (suc i)) xs ys (λ i. one (suc i)) (omega arith) (λ i. a (suc i)) (λ i. b (suc i)) in
     cc
 
-module _ {X : Type 0} (R : ℕ → X → Type 0) (n : ℕ) where
-  one_list : ((i : ℕ) (x y : X) → R i x → R i y → x ≡ y) → (xs ys : List X) → AreEntries R n xs → AreEntries R n ys → xs ≡ ys
-  one_list one xs ys a b = entries_one R xs ys one (a.count ∙ sym b.count) a.each b.each
+entries_tell : {X : Type 0} (R : ℕ → X → Type 0) (n : ℕ) (v : List X) → ((i : ℕ) (x y : X) → R i x → R i y → x ≡ y) → AreEntries R n v
+    → Tells (AreEntries R n) v
+entries_tell R n v one own = tells _ v own (λ xs are. entries_one R xs v one (are.count ∙ sym own.count) are.each own.each)
 
-  table_own : (at : ℕ → X) (size : ℕ) → ((i : ℕ) → R i (at (size * i))) → AreEntries R n (table at 0 size n)
-  table_own at size holds = record { count = length-table at 0 size n; each = each }
-    where
-      each : (i : ℕ) (x : X) → slice_get (table at 0 size n) i ≡ Some x → R i x
-      each i x is =
-          let within : i < n = omega (arith, slice_get_within (table at 0 size n) i x is, length-table at 0 size n) in
-          let place : 0 + size * i ≡ size * i = omega arith in
-          subst (R i) (same_some (sym (rw place at (get-table at 0 size n i within)) ∙ is)) (holds i)
+table_own : {X : Type 0} (R : ℕ → X → Type 0) (n : ℕ) (at : ℕ → X) (size : ℕ) → ((i : ℕ) → R i (at (size * i))) → AreEntries R n (table at 0 size n)
+table_own R n at size holds = record {
+  count = length-table at 0 size n;
+  each = λ i x is.
+      let within : i < n = omega (arith, slice_get_within (table at 0 size n) i x is, length-table at 0 size n) in
+      let place : 0 + size * i ≡ size * i = omega arith in
+      rw (same_some (sym (rw place at (get-table at 0 size n i within)) ∙ is)) at (holds i);
+}
+
+table_tells : {X : Type 0} (n : ℕ) (at : ℕ → X) (size : ℕ) → Tells (AreEntries (λ i x. x ≡ at (size * i)) n) (table at 0 size n)
+table_tells n at size = entries_tell _ n _ (λ i x y e f. e ∙ sym f) (table_own _ n at size (λ i. refl))
 
 -- ---- packed relocations
 
@@ -87,77 +100,77 @@ places_own next [] = no_more next
 places_own next (word ∷ words) =
     let parity : (word % 2 ≡ 0) ⊎ (word % 2 ≡ 1) = grind arith in
     elim parity [
-      | inl even ↦ rw even (place next word words (places_from (word + 8) words) even (places_own (word + 8) words))
-      | inr odd ↦ rw odd (bits next word words (places_from (next + 504) words) odd (places_own (next + 504) words))
+      | inl even ↦ rw even (place next word words _ even (places_own (word + 8) words))
+      | inr odd ↦ rw odd (bits next word words _ odd (places_own (next + 504) words))
     ]
 
 -- ---- how many symbols there are
 
 -- a fold of maxima is the least that is above each
-least_above : (relocs : List Reloc) (m n : ℕ) → m ≤ n → ((i : ℕ) (r : Reloc) → slice_get relocs i ≡ Some r → r.symbol < n) → fold (λ a (r : Reloc). max a (r.symbol + 1)) m relocs ≤ n
-least_above [] m n low each = low
-least_above (r ∷ relocs) m n low each = let here = each 0 r refl in least_above relocs (max m (r.symbol + 1)) n (omega arith) (λ i s at. each (suc i) s at)
-
-at_least : (relocs : List Reloc) (m : ℕ) → m ≤ fold (λ a (r : Reloc). max a (r.symbol + 1)) m relocs
-at_least [] m = omega arith
-at_least (r ∷ relocs) m = let rest = at_least relocs (max m (r.symbol + 1)) in omega arith
-
-above : (relocs : List Reloc) (m i : ℕ) (r : Reloc) → slice_get relocs i ≡ Some r → r.symbol < fold (λ a (r : Reloc). max a (r.symbol + 1)) m relocs
-above [] m i r e = absurd cc
-above (s ∷ relocs) m zero r e = let rest = at_least relocs (max m (s.symbol + 1)) in let same : s.symbol ≡ r.symbol = ap (λ (x : Reloc). x.symbol) (same_some e) in omega arith
-above (s ∷ relocs) m (suc i) r e = above relocs (max m (s.symbol + 1)) i r e
+above_all : (relocs : List Reloc) (m n : ℕ)
+    → (fold (λ a (r : Reloc). max a (r.symbol + 1)) m relocs ≤ n) ↔ ((m ≤ n) × ((i : ℕ) (r : Reloc) → slice_get relocs i ≡ Some r → r.symbol < n))
+above_all [] m n = (λ low. (low, λ i r e. absurd cc), λ both. both.0)
+above_all (s ∷ relocs) m n =
+    let rest = above_all relocs (max m (s.symbol + 1)) n in (
+      λ low. let (some, each) = rest.0 low in (omega arith, next (omega arith) each),
+      λ (low, each). let here = each 0 s refl in rest.1 (omega arith, λ i. each (suc i)),
+    )
+  where
+    next : s.symbol < n → ((i : ℕ) (r : Reloc) → slice_get relocs i ≡ Some r → r.symbol < n) → (i : ℕ) (r : Reloc) → slice_get (s ∷ relocs) i ≡ Some r
+        → r.symbol < n
+    next here each zero r e = rw (same_some e) at here
+    next here each (suc i) r e = each i r e
 
 module _ (words : HashTable) (relocs slots : List Reloc) where
   abbrev room : ℕ
   room = max (option_map_or (λ g. g.symoffset + length g.chain) words.gnu 0) (named_count (relocs ++ slots))
 
-  room_own : HasRoom words (relocs ++ slots) room
-  room_own = record {
-    gnu = λ g there. (let is : option_map_or (λ g. g.symoffset + length g.chain) words.gnu 0 ≡ g.symoffset + length g.chain = rw there refl in omega arith);
-    named = λ i r at. (let own = above (relocs ++ slots) 0 i r at in omega arith);
-  }
-
-  room_least : (m : ℕ) → HasRoom words (relocs ++ slots) m → room ≤ m
-  room_least m has = let named = least_above (relocs ++ slots) 0 m (omega arith) has.named in let gnu = by_gnu_part words.gnu refl in omega arith
+  room_is : (n : ℕ) → HasRoom words (relocs ++ slots) n ↔ (room ≤ n)
+  room_is n = (
+    λ has. to has.gnu ((above_all (relocs ++ slots) 0 n).1 (omega arith, has.named)),
+    λ low. record {
+      gnu = λ g there. (let up = rw there at low in omega arith);
+      named = ((above_all (relocs ++ slots) 0 n).0 (omega arith)).1;
+    },
+  )
     where
-      by_gnu_part : (o : Option GnuPart) → words.gnu ≡ o → option_map_or (λ g. g.symoffset + length g.chain) o 0 ≤ m
-      by_gnu_part None none = omega arith
-      by_gnu_part (Some g) there = has.gnu g there
+      to : ((g : GnuPart) → words.gnu ≡ Some g → g.symoffset + length g.chain ≤ n) → named_count (relocs ++ slots) ≤ n → room ≤ n
+      to gnu low = elim (option_cases words.gnu) [ inl none ↦ rw none (omega arith) | inr (g, there) ↦ rw there (omega (arith, gnu g there)) ]
 
-  count_is : {n : ℕ} → IsCount words (relocs ++ slots) n → n ≡ symbol_count words relocs slots
+  count_tells : Tells (IsCount words (relocs ++ slots)) (symbol_count words relocs slots)
   unfolding symbol_count
-  count_is (by_chain s there e) = rw there e
-  count_is (by_room none has least) = rw none (let up = room_least _ has in let down = least room room_own in omega arith)
-
-  count_own : IsCount words (relocs ++ slots) (symbol_count words relocs slots)
-  unfolding symbol_count
-  count_own = by_sysv words.sysv refl
+  count_tells = tells _ _ own is
     where
-      by_sysv : (o : Option SysvPart) → words.sysv ≡ o → IsCount words (relocs ++ slots) (option_map_or (λ s. length s.chain) o room)
-      by_sysv None none = by_room none room_own room_least
-      by_sysv (Some s) there = by_chain s there refl
+      own : IsCount words (relocs ++ slots) (option_map_or (λ s. length s.chain) words.sysv room)
+      own = elim (option_cases words.sysv) [
+        | inl none ↦
+            let same : option_map_or (λ s. length s.chain) words.sysv room ≡ room = rw none refl in
+            rw same (by_room none ((room_is room).1 (omega arith)) (λ m has. (room_is m).0 has))
+        | inr (s, there) ↦ by_chain s there (rw there refl)
+      ]
 
-first_is : {words : HashTable} {n : ℕ} → IsFirstExported words n → n ≡ first_exported words
-first_is (by_gnu g there e) = rw there e
-first_is (after_null none e) = rw none e
+      is : (n : ℕ) → IsCount words (relocs ++ slots) n → n ≡ option_map_or (λ s. length s.chain) words.sysv room
+      is n (by_chain s there e) = rw there e
+      is n (by_room none has least) = rw none (omega (arith, (room_is n).0 has, least room ((room_is room).1 (omega arith))))
 
-first_own : (words : HashTable) → IsFirstExported words (first_exported words)
-first_own words = by_gnu_part words.gnu refl
+first_tells : (words : HashTable) → Tells (IsFirstExported words) (first_exported words)
+first_tells words = tells _ _ own is
   where
-    by_gnu_part : (o : Option GnuPart) → words.gnu ≡ o → IsFirstExported words (option_map_or (λ g. g.symoffset) o 1)
-    by_gnu_part None none = after_null none refl
-    by_gnu_part (Some g) there = by_gnu g there refl
+    own : IsFirstExported words (first_exported words)
+    own = elim (option_cases words.gnu) [ inl none ↦ after_null none (rw none refl) | inr (g, there) ↦ by_gnu g there (rw there refl) ]
+
+    is : (n : ℕ) → IsFirstExported words n → n ≡ first_exported words
+    is n (by_gnu g there e) = rw there e
+    is n (after_null none e) = rw none e
 
 -- ---- flags and ranges
 
 flags_own : (tags : List Tag) → AreFlags tags (flags_of tags)
 unfolding flags_of
-flags_own tags = record {
-  symbolic = either (stands_decides tags dt_symbolic) (itself (has_flag tags dt_flags 2));
-  bind_now = means (either (either (stands_decides tags dt_bind_now) (itself (has_flag tags dt_flags 8))) (itself (has_flag tags dt_flags_1 1)))
-      (λ why. elim why [ inl (inl a) ↦ inl a | inl (inr b) ↦ inr (inl b) | inr c ↦ inr (inr c) ]) (λ why. elim why [ inl a ↦ inl (inl a) | inr (inl b) ↦ inl (inr b) | inr (inr c) ↦ inr c ]);
-  nodelete = itself (has_flag tags dt_flags_1 8);
-}
+flags_own tags =
+    let symbolic = stands_decides tags dt_symbolic in
+    let bind_now = stands_decides tags dt_bind_now in
+    record { symbolic = grind arith; bind_now = grind arith; nodelete = itself _ }
 
 flags_is : {tags : List Tag} {flags : ObjFlags} → AreFlags tags flags → flags ≡ flags_of tags
 flags_is {tags} {flags} a =
@@ -207,44 +220,45 @@ module _ (tags_law : (bytes : List ℕ) (tags : List Tag) → (tags_of bytes ≡
 
   -- ---- bytes and names
 
-  bytes_own : (R : Span → Type 0) (o : Option Span) → ((s : Span) → (o ≡ Some s) ↔ R s) → AreBytes bytes headers R (bytes_in bytes headers o)
-  bytes_own R None is = missing (λ s there r stands. absurd (let e = (is s).1 r in cc)) refl
-  bytes_own R (Some s) is = by_part (file_bytes bytes headers s.start s.size) refl
+  bytes_tell : (R : Span → Type 0) (o : Option Span) → ((s : Span) → (o ≡ Some s) ↔ R s) → Tells (AreBytes bytes headers R) (bytes_in bytes headers o)
+  bytes_tell R o is = tells _ _ own (λ part are. elim are [
+    | held s r stands ↦ rw ((is s).1 r, stands) refl
+    | missing never none ↦ elim own [ held s r stands ↦ absurd (never s _ r stands) | missing also e ↦ none ∙ sym e ]
+  ])
     where
-      by_part : (p : Option (List ℕ)) → file_bytes bytes headers s.start s.size ≡ p → AreBytes bytes headers R (unwrap_or p [])
-      by_part None none = missing (λ t there r stands. absurd (let own = rw (← same_some ((is t).1 r)) at stands in cc)) refl
-      by_part (Some part) there = held s ((is s).0 refl) there
+      own : AreBytes bytes headers R (bytes_in bytes headers o)
+      own = elim (option_cases o) [
+        | inl none ↦ missing (λ s there r stands. absurd (let e = (is s).1 r in cc)) (rw none refl)
+        | inr (s, at) ↦ elim (option_cases (file_bytes bytes headers s.start s.size)) [
+          | inl out ↦ missing (λ t there r stands. absurd (let same = same_some (sym at ∙ (is t).1 r) in let none = rw same at out in cc)) (rw (at, out) refl)
+          | inr (part, stands) ↦ rw (at, stands) (held s ((is s).0 at) stands)
+        ]
+      ]
 
-  bytes_are : (R : Span → Type 0) (o : Option Span) → ((s : Span) → (o ≡ Some s) ↔ R s) → (part : List ℕ) → AreBytes bytes headers R part → part ≡ bytes_in bytes headers o
-  bytes_are R o is part (held s r stands) = rw ((is s).1 r, stands) refl
-  bytes_are R o is part (missing never none) = none ∙ empty (bytes_own R o is)
-    where
-      empty : {other : List ℕ} → AreBytes bytes headers R other → [] ≡ other
-      empty (held s r stands) = absurd (never s _ r stands)
-      empty (missing also e) = sym e
+  name_tells : (strings : List ℕ) (offset : ℕ) → Tells (IsNameAt strings offset) (string_in strings offset)
+  name_tells strings offset =
+      elim (option_cases (string_at strings offset)) [
+        | inl none ↦ rw none (tells _ _ (inr (λ other there. absurd (let e = (string strings other offset).1 there in cc), refl))
+            (λ name is. elim is [ inl there ↦ absurd (let e = (string strings name offset).1 there in cc) | inr (lacks, e) ↦ e ]))
+        | inr (found, at) ↦ rw at (tells _ _ (inl ((string strings found offset).0 at))
+            (λ name is. elim is [
+              | inl there ↦ same_some (sym ((string strings name offset).1 there) ∙ at)
+              | inr (lacks, e) ↦ absurd (lacks found ((string strings found offset).0 at))
+            ]))
+      ]
 
   name_own : (strings : List ℕ) (offset : ℕ) → IsNameAt strings offset (string_in strings offset)
-  name_own strings offset = by_string (string_at strings offset) refl
-    where
-      by_string : (o : Option (List ℕ)) → string_at strings offset ≡ o → IsNameAt strings offset (unwrap_or o [])
-      by_string None none = inr (λ other there. absurd (let e = (string strings other offset).1 there in cc), refl)
-      by_string (Some found) there = inl ((string strings found offset).0 there)
+  name_own strings offset = (name_tells strings offset _).1 refl
 
   name_one : (strings : List ℕ) (offset : ℕ) (a b : List ℕ) → IsNameAt strings offset a → IsNameAt strings offset b → a ≡ b
-  name_one strings offset a b (inl x) (inl y) = same_some (sym ((string strings a offset).1 x) ∙ (string strings b offset).1 y)
-  name_one strings offset a b (inl x) (inr (lacks, e)) = absurd (lacks a x)
-  name_one strings offset a b (inr (lacks, e)) (inl y) = absurd (lacks b y)
-  name_one strings offset a b (inr (lacks, e)) (inr (also, f)) = e ∙ sym f
+  name_one strings offset a b x y = (name_tells strings offset a).0 x ∙ sym ((name_tells strings offset b).0 y)
 
-  names_own : (strings offsets : List ℕ) → AreNamesAt strings offsets (map (string_in strings) offsets)
-  names_own strings offsets = record {
-    count = length-map offsets (string_in strings);
-    each = λ i name is. (let (offset, at, same) = get_map (string_in strings) offsets i name is in (offset, at, rw same at (name_own strings offset)));
-  }
-
-  names_are : (strings offsets : List ℕ) (names : List (List ℕ)) → AreNamesAt strings offsets names → names ≡ map (string_in strings) offsets
-  names_are strings offsets names are =
-      one_list _ _ (λ i x y (j, at, x_is) (k, also, y_is). name_one strings j x y x_is (rw (same_some (sym also ∙ at)) at y_is)) names _ are (names_own strings offsets)
+  names_tell : (strings offsets : List ℕ) → Tells (AreNamesAt strings offsets) (map (string_in strings) offsets)
+  names_tell strings offsets =
+      entries_tell _ _ _ (λ i x y (j, at, x_is) (k, also, y_is). name_one strings j x y x_is (rw (same_some (sym also ∙ at)) at y_is)) (record {
+        count = length-map offsets (string_in strings);
+        each = λ i name is. (let (offset, at, same) = get_map (string_in strings) offsets i name is in (offset, at, rw same at (name_own strings offset)));
+      })
 
   soname_own : (strings : List ℕ) (o : Option ℕ) → IsNameOf strings o (option_map (string_in strings) o)
   soname_own strings None = nameless
@@ -252,18 +266,16 @@ module _ (tags_law : (bytes : List ℕ) (tags : List Tag) → (tags_of bytes ≡
 
   soname_is : {strings : List ℕ} {o : Option ℕ} {name : Option (List ℕ)} → IsNameOf strings o name → name ≡ option_map (string_in strings) o
   soname_is nameless = refl
-  soname_is {strings} (named offset n is) = ap Some (name_one strings offset n (string_in strings offset) is (name_own strings offset))
+  soname_is {strings} (named offset n is) = ap Some ((name_tells strings offset n).0 is)
 
   -- ---- symbols
 
-  symbols_own : (part strings : List ℕ) (count : ℕ) → AreSymbols part strings count (symbols_in part strings count)
+  symbols_tell : (part strings : List ℕ) (count : ℕ) → Tells (AreSymbols part strings count) (symbols_in part strings count)
   unfolding symbols_in
-  symbols_own part strings count =
-      table_own _ count (λ at. symbol_named part at (string_in strings (symbol_name part at))) 24 (λ i. (name_own strings (symbol_name part (24 * i)), refl))
-
-  symbols_are : (part strings : List ℕ) (count : ℕ) (symbols : List Symbol) → AreSymbols part strings count symbols → symbols ≡ symbols_in part strings count
-  symbols_are part strings count symbols are =
-      one_list _ count (λ i s t (n, e) (m, f). e ∙ ap (symbol_named part (24 * i)) (name_one strings (symbol_name part (24 * i)) s.name t.name n m) ∙ sym f) symbols _ are (symbols_own part strings count)
+  symbols_tell part strings count =
+      entries_tell _ count _ (λ i s t (n, e) (m, f). e ∙ ap (symbol_named part (24 * i))
+      (name_one strings (symbol_name part (24 * i)) s.name t.name n m) ∙ sym f)
+      (table_own _ count (λ at. symbol_named part at (string_in strings (symbol_name part at))) 24 (λ i. (name_own strings (symbol_name part (24 * i)), refl)))
 
   symbol_range : (tags : List Tag) (count : ℕ) (s : Span) → (Some (let t : Span = record { start = value_of tags dt_symtab; size = 24 * count } in t) ≡ Some s) ↔ IsSymbolTable tags count s
   symbol_range tags count s = (
@@ -284,38 +296,41 @@ module _ (tags_law : (bytes : List ℕ) (tags : List Tag) → (tags_of bytes ≡
     pub places : parts.relr ≡ relr_places (relr_bytes bytes headers parts.tags)
     pub is : parts ≡ parts_in bytes headers parts.tags
 
-  module _ (tags : List Tag) where
-    range_own : (address size : ℕ) → AreBytes bytes headers (IsRange tags address size) (bytes_in bytes headers (span_of tags address size))
-    range_own address size = bytes_own _ (span_of tags address size) (range_is tags address size)
+  range_tells : (tags : List Tag) (address size : ℕ)
+      → Tells (AreBytes bytes headers (IsRange tags address size)) (bytes_in bytes headers (span_of tags address size))
+  range_tells tags address size = bytes_tell _ (span_of tags address size) (range_is tags address size)
 
-    in_range : (address size : ℕ) (part : List ℕ) → AreBytes bytes headers (IsRange tags address size) part → part ≡ bytes_in bytes headers (span_of tags address size)
-    in_range address size = bytes_are _ (span_of tags address size) (range_is tags address size)
+  rela_tells : (tags : List Tag) → Tells (AreBytes bytes headers (IsRela tags)) (bytes_in bytes headers (rela_span tags))
+  rela_tells tags = bytes_tell (IsRela tags) (rela_span tags) (rela_is tags)
 
-    ranges_are : (address size : ℕ) (range : Option Span) → IsThat (IsRange tags address size) range → range ≡ span_of tags address size
-    ranges_are address size range = that_is (IsRange tags address size) (span_of tags address size) range (range_is tags address size)
+  ranges_are : (tags : List Tag) (address size : ℕ) (range : Option Span) → IsThat (IsRange tags address size) range → range ≡ span_of tags address size
+  ranges_are tags address size range = that_is (IsRange tags address size) (span_of tags address size) range (range_is tags address size)
 
   entries_is : {X : Type 0} (at : List ℕ → ℕ → X) (size : ℕ) (part own : List ℕ) (xs : List X) → AreEntries (λ i x. x ≡ at part (size * i)) (length part / size) xs → part ≡ own
       → xs ≡ table (at own) 0 size (length own / size)
-  entries_is at size part own xs are same =
-      one_list _ _ (λ i x y e f. e ∙ sym f) xs _ are (table_own _ _ (at part) size (λ i. refl)) ∙ ap (λ bs. table (at bs) 0 size (length bs / size)) same
+  entries_is at size part own xs are same = (table_tells _ (at part) size xs).0 are ∙ ap (λ bs. table (at bs) 0 size (length bs / size)) same
 
   pub read : (parts : DynParts) (say : AreParts bytes headers parts) → Reads parts say.strings say.table say.words
   unfolding parts_in strings_in symbol_bytes relocs_of
   read parts say =
       let tags = parts.tags in
-      let strings_is : say.strings ≡ strings_in bytes headers tags = in_range tags dt_strtab dt_strsz say.strings say.are_strings in
-      let rela_bytes = bytes_are (IsRela tags) (rela_span tags) (rela_is tags) say.rela say.is_rela in
-      let relocs : parts.relocs ≡ rela_relocs bytes headers tags = entries_is reloc_at 24 say.rela _ parts.relocs say.relocs rela_bytes in
-      let slots : parts.plt_relocs ≡ plt_relocs bytes headers tags = entries_is reloc_at 24 say.slots _ parts.plt_relocs say.plt_relocs (in_range tags dt_jmprel dt_pltrelsz say.slots say.are_slots) in
-      let words_are : say.words ≡ relr_words (relr_bytes bytes headers tags) = entries_is (field 8) 8 say.packed _ say.words say.are_words (in_range tags dt_relr dt_relrsz say.packed say.is_packed) in
+      let strings_is : say.strings ≡ strings_in bytes headers tags = (range_tells tags dt_strtab dt_strsz say.strings).0 say.are_strings in
+      let relocs : parts.relocs ≡ rela_relocs bytes headers tags = entries_is reloc_at 24 say.rela _ parts.relocs say.relocs
+      ((rela_tells tags say.rela).0 say.is_rela) in
+      let slots : parts.plt_relocs ≡ plt_relocs bytes headers tags = entries_is reloc_at 24 say.slots _ parts.plt_relocs say.plt_relocs
+      ((range_tells tags dt_jmprel dt_pltrelsz say.slots).0 say.are_slots) in
+      let words_are : say.words ≡ relr_words (relr_bytes bytes headers tags) = entries_is (field 8) 8 say.packed _ say.words say.are_words
+      ((range_tells tags dt_relr dt_relrsz say.packed).0 say.is_packed) in
       let relr : parts.relr ≡ relr_places (relr_bytes bytes headers tags) = places_is say.relr ∙ ap (places_from 0) words_are in
-      let count : length parts.symbols ≡ count_in bytes headers tags = rw (relocs, slots) at (count_is (hash_words bytes headers tags) parts.relocs parts.plt_relocs say.count) in
-      let table_is : say.table ≡ symbol_bytes bytes headers tags = rw count at (bytes_are _ _ (symbol_range tags (length parts.symbols)) say.table say.is_table) in
+      let count : length parts.symbols ≡ count_in bytes headers tags = rw (relocs, slots) at ((count_tells
+      (hash_words bytes headers tags) parts.relocs parts.plt_relocs _).0 say.count) in
+      let table_is : say.table ≡ symbol_bytes bytes headers tags = rw count at ((bytes_tell _ _
+      (symbol_range tags (length parts.symbols)) say.table).0 say.is_table) in
       let symbols : parts.symbols ≡ symbols_in (symbol_bytes bytes headers tags) (strings_in bytes headers tags) (count_in bytes headers tags) =
-      rw (← strings_is, ← table_is, ← count) (symbols_are say.table say.strings (length parts.symbols) parts.symbols say.symbols) in
+      rw (← strings_is, ← table_is, ← count) ((symbols_tell say.table say.strings (length parts.symbols) parts.symbols).0 say.symbols) in
       let soname = rw strings_is at (soname_is say.soname) in
-      let needed = rw strings_is at (names_are say.strings (values_of tags dt_needed) parts.needed say.needed) in
-      let first = first_is say.first_exported in
+      let needed = rw strings_is at ((names_tell say.strings (values_of tags dt_needed) parts.needed).0 say.needed) in
+      let first = (first_tells _ _).0 say.first_exported in
       let preinit = ranges_are tags dt_preinit_array dt_preinit_arraysz parts.preinit say.preinit in
       let init_array = ranges_are tags dt_init_array dt_init_arraysz parts.init_array say.init_array in
       let fini_array = ranges_are tags dt_fini_array dt_fini_arraysz parts.fini_array say.fini_array in
@@ -335,30 +350,30 @@ module _ (tags_law : (bytes : List ℕ) (tags : List Tag) → (tags_of bytes ≡
   pub say_in : (tags : List Tag) → dynamic_tags bytes headers ≡ Some tags → AreParts bytes headers (parts_in bytes headers tags)
   unfolding parts_in strings_in symbol_bytes relocs_of
   say_in tags are =
-      let counted = symbols_own (symbol_bytes bytes headers tags) (strings_in bytes headers tags) (count_in bytes headers tags) in
-      let same = sym counted.count in
+      let counted = (symbols_tell (symbol_bytes bytes headers tags) (strings_in bytes headers tags) (count_in bytes headers tags) _).1 refl in
+      let same = counted.count in
       record {
         tags = (tags_are tags).0 are;
         strings = strings_in bytes headers tags;
-        are_strings = range_own tags dt_strtab dt_strsz;
+        are_strings = (range_tells tags dt_strtab dt_strsz _).1 refl;
         rela = bytes_in bytes headers (rela_span tags);
-        is_rela = bytes_own _ (rela_span tags) (rela_is tags);
+        is_rela = (rela_tells tags _).1 refl;
         slots = bytes_in bytes headers (span_of tags dt_jmprel dt_pltrelsz);
-        are_slots = range_own tags dt_jmprel dt_pltrelsz;
+        are_slots = (range_tells tags dt_jmprel dt_pltrelsz _).1 refl;
         packed = relr_bytes bytes headers tags;
-        is_packed = range_own tags dt_relr dt_relrsz;
+        is_packed = (range_tells tags dt_relr dt_relrsz _).1 refl;
         table = symbol_bytes bytes headers tags;
-        is_table = subst (λ n. AreBytes bytes headers (IsSymbolTable tags n) (symbol_bytes bytes headers tags)) same (bytes_own _ _ (symbol_range tags (count_in bytes headers tags)));
+        is_table = rw same ((bytes_tell _ _ (symbol_range tags (count_in bytes headers tags)) _).1 refl);
         soname = soname_own (strings_in bytes headers tags) (last_of tags dt_soname);
-        needed = names_own (strings_in bytes headers tags) (values_of tags dt_needed);
-        relocs = table_own _ _ (reloc_at (bytes_in bytes headers (rela_span tags))) 24 (λ i. refl);
-        plt_relocs = table_own _ _ (reloc_at (bytes_in bytes headers (span_of tags dt_jmprel dt_pltrelsz))) 24 (λ i. refl);
+        needed = (names_tell (strings_in bytes headers tags) (values_of tags dt_needed) _).1 refl;
+        relocs = (table_tells _ (reloc_at _) 24 _).1 refl;
+        plt_relocs = (table_tells _ (reloc_at _) 24 _).1 refl;
         words = relr_words (relr_bytes bytes headers tags);
-        are_words = table_own _ _ (field 8 (relr_bytes bytes headers tags)) 8 (λ i. refl);
+        are_words = (table_tells _ (field 8 _) 8 _).1 refl;
         relr = places_own 0 (relr_words (relr_bytes bytes headers tags));
-        count = subst (IsCount (hash_words bytes headers tags) (rela_relocs bytes headers tags ++ plt_relocs bytes headers tags)) same (count_own (hash_words bytes headers tags) (rela_relocs bytes headers tags) (plt_relocs bytes headers tags));
-        symbols = subst (λ n. AreSymbols (symbol_bytes bytes headers tags) (strings_in bytes headers tags) n (symbols_in (symbol_bytes bytes headers tags) (strings_in bytes headers tags) (count_in bytes headers tags))) same counted;
-        first_exported = first_own (hash_words bytes headers tags);
+        count = rw same ((count_tells (hash_words bytes headers tags) (rela_relocs bytes headers tags) (plt_relocs bytes headers tags) _).1 refl);
+        symbols = rw same counted;
+        first_exported = (first_tells (hash_words bytes headers tags) _).1 refl;
         pltgot = refl;
         preinit = range_is tags dt_preinit_array dt_preinit_arraysz;
         init = refl;

@@ -1,33 +1,119 @@
--- The verdict on the dynamic table and its tables, and the relations that say what it means.
-use Rattle.std.proofs.Common.{◌≡◌, ◌↔◌, ◌∙◌, ℕ, zero, suc, ◌+◌, ◌<◌, Bool, List, [], ◌∷◌, ◌++◌, length, map, Option, Some, None, Ok, Err, refl, sym, ap, subst, arith, inl, inr}
-use Rattle.std.specs.List.{slice_get}
+-- The verdict on the dynamic table and its tables, the relations that say what it means, and what it keeps.
+use mathlib.Core.Path.{fun_ext}
+use Rattle.std.proofs.Common.{◌==◌, ◌≡◌, ◌∙◌, ap, refl, ℕ, zero, suc, ◌+◌, ◌*◌, Bool, Option, List, [], ◌∷◌, ◌++◌, map, ◌↔◌, ◌<◌, length, Some, None, Ok, Err}
+use Rattle.std.proofs.Common.{sym, subst, arith, inl, inr, ◌%◌}
+use Rattle.std.specs.Prelude.{if◌then◌else◌}
+use Rattle.ld_base.specs.declared.object.Span.{Span}
+use Rattle.elf_dynamic.specs.Named.{named_by, slot_ranges, doubleword}
+use Rattle.std.specs.List.{list_any, position_or_len, slice_get}
 use Rattle.std.specs.Option.{option_map_or}
-use Rattle.ld_base.specs.declared.fault.NotAccepted.{NotAccepted}
-use Rattle.ld_base.specs.declared.parts.DynParts.{DynParts}
+use Rattle.std.proofs.lemmas.List.{length-map, map-append}
+use Rattle.ld_base.specs.declared.object.Reloc.{Reloc}
+use Rattle.ld_base.specs.declared.object.Symbol.{Symbol}
 use Rattle.ld_base.specs.declared.parts.Head.{Head}
 use Rattle.ld_base.specs.declared.parts.Tag.{Tag}
+use Rattle.acceptance.specs.Table.{table}
+use Rattle.dyn_table.specs.Name.{string_in, string_at, IsStringAt}
+use Rattle.dyn_table.specs.Symbol.{bare_symbols, symbol_name, symbol_named, symbols_in}
+use Rattle.elf_dynamic.specs.Rules.{bad_packed, bad_rela, bad_reloc as reloc_rule, bad_slot as slot_rule, bad_symbol as symbol_rule, is_bad_reloc, other_ranges}
+use Rattle.elf_dynamic.specs.Rules.{is_bad_slot, is_no_slot, refused_feature as feature_rule, rules_on, dynamic_verdict, no_dynamic, rules_of, tables_verdict}
+use Rattle.elf_dynamic.specs.Rules.{bad_string as string_rule, bad_table as table_rule}
+use Rattle.ld_base.specs.declared.fault.NotAccepted.{NotAccepted}
+use Rattle.ld_base.specs.declared.parts.DynParts.{DynParts}
 use Rattle.acceptance.specs.Lemmas.Firsts.{accepts, refuses, Breaking, Listed}
 use Rattle.dyn_table.specs.HashWords.{hash_words}
-use Rattle.dyn_table.specs.Name.{string_at, IsStringAt}
 use Rattle.dyn_table.specs.Tag.{tags_of, EndsAtNull}
-use Rattle.dyn_table.specs.TagNumbers.{dt_symtab}
-use Rattle.elf_dynamic.specs.Breaks.{named}
-use Rattle.elf_dynamic.specs.Parts.{AreParts, AreTags}
+use Rattle.dyn_table.specs.TagNumbers.{dt_symtab, dt_jmprel}
+use Rattle.elf_dynamic.specs.Breaks.{named, HasFeature, IsBadReloc, IsBadRelocAt, IsBadSlot, IsBadSlotAt, IsBadTable, IsSlotTable}
+use Rattle.elf_dynamic.specs.Parts.{AreParts, AreTags, AreBytes}
 use Rattle.elf_dynamic.specs.Relr.{begins_odd}
-use Rattle.elf_dynamic.specs.Rules.{dynamic_verdict, no_dynamic, rules_of, tables_verdict}
-use Rattle.elf_dynamic.specs.Rules.{bad_reloc as reloc_rule, bad_slot as slot_rule, bad_string as string_rule, bad_symbol as symbol_rule, bad_table as table_rule, refused_feature as feature_rule}
 use Rattle.elf_dynamic.specs.Tables.{bare_in, count_in, dynamic_tags, parts_in, strings_in, symbol_bytes}
 use Rattle.elf_dynamic.specs.Verdict.{Breaks, BreaksFirst, SpellsDynamic, TablesBreak}
 use Rattle.elf_dynamic.specs.Verdict.Breaks.{no_table, by_tables}
 use Rattle.elf_dynamic.specs.Verdict.TablesBreak.{bad_table, lacks_symbols, bad_name, bad_symbol_name, bad_symbol, bad_reloc, has_feature, bad_slot}
 use Rattle.elf_dynamic.proofs.BadNames.{string_first}
-use Rattle.elf_dynamic.proofs.BadTables.{table_first}
-use Rattle.elf_dynamic.proofs.Features.{feature_finds}
-use Rattle.acceptance.specs.Lemmas.Finds.{finds_is, same_some}
+use Rattle.elf_dynamic.proofs.Reasons.{table_first, feature_finds, slots_decides}
+use Rattle.acceptance.specs.Lemmas.Finds.{finds_is, same_some, never}
 use Rattle.elf_dynamic.proofs.ReadParts.{read, say_in, tags_are, Reads}
-use Rattle.elf_dynamic.proofs.Relocs.{reloc_finds, symbol_finds}
-use Rattle.elf_dynamic.proofs.SlotReasons.{slot_finds}
-use Rattle.elf_dynamic.proofs.Unnamed.{bare_is, rules_bare, unnamed}
+use Rattle.elf_dynamic.proofs.Relocs.{reloc_finds, symbol_finds, slot_finds, get_both, get_map, code_decides}
+use Rattle.std.proofs.lemmas.Bool.{cases_lt}
+use Rattle.std.proofs.lemmas.Bool.Decides.{Decides-eqb}
+use Rattle.std.proofs.lemmas.Option.{slice_get_within}
+use Rattle.ld_base.specs.declared.parts.Header.{Header}
+use Rattle.elf_dynamic.specs.Breaks.HasFeature.{open_segment}
+use Rattle.elf_dynamic.specs.Breaks.IsBadReloc.{no_symbol, is_slot, copies_null, copies_outside, no_place}
+use Rattle.elf_dynamic.specs.Breaks.IsBadRelocAt.{by_itself, bad_place, named_twice}
+use Rattle.elf_dynamic.specs.Breaks.IsBadSlot.{other_type, of_null, no_symbol as slot_no_symbol, no_place as slot_no_place, no_code, named_by_other}
+use Rattle.elf_dynamic.specs.Breaks.IsBadSlot.{named_by_slot}
+use Rattle.elf_dynamic.specs.Breaks.IsBadSlotAt.{bad_slot as bad_at, bad_table as bad_head}
+use Rattle.elf_dynamic.specs.Breaks.IsBadTable.{bad_slots}
+use Rattle.elf_dynamic.specs.Keeps.{all_named, IsReloc, IsSlot, Keeps}
+use Rattle.elf_dynamic.specs.Parts.AreBytes.{held, missing}
+use Rattle.elf_dynamic.specs.Ranges.{IsPlace, Share}
+use Rattle.acceptance.specs.Lemmas.Tests.{decided}
+use Rattle.elf_dynamic.proofs.Tests.{writable_decides}
+
+-- ---- no name of a symbol matters to the rules from 13 on
+
+-- a symbol without its name
+abbrev pub unnamed : Symbol → Symbol
+unnamed s = record s { name = [] }
+
+-- symbols without their names
+pub bare_is : (part strings : List ℕ) (n : ℕ) → map unnamed (symbols_in part strings n) ≡ bare_symbols part n
+unfolding bare_symbols symbols_in
+bare_is part strings n = each n
+  where
+    each : (m : ℕ) → map unnamed (table (λ at. symbol_named part at (string_in strings (symbol_name part at))) 0 24 m) ≡ table (λ at. symbol_named part at []) 0 24 m
+    each zero = refl
+    each (suc m) =
+        map-append unnamed (table (λ at. symbol_named part at (string_in strings (symbol_name part at))) 0 24 m) (symbol_named part (0 + 24 * m) (string_in strings (symbol_name part (0 + 24 * m))) ∷ [])
+        ∙ ap (λ xs. xs ++ symbol_named part (0 + 24 * m) [] ∷ []) (each m)
+
+any_map : (p : Symbol → Bool) (xs : List Symbol) → list_any p (map unnamed xs) ≡ list_any (λ s. p (unnamed s)) xs
+any_map p [] = refl
+any_map p (x ∷ xs) = rw (any_map p xs) refl
+
+place_map : (p : Symbol → Bool) (xs : List Symbol) → position_or_len p (map unnamed xs) ≡ position_or_len (λ s. p (unnamed s)) xs
+place_map p [] = refl
+place_map p (x ∷ xs) = rw (place_map p xs) refl
+
+size_map : (xs : List Symbol) (i : ℕ) → option_map_or (λ (s : Symbol). s.size) (slice_get (map unnamed xs) i) 0 ≡ option_map_or (λ (s : Symbol). s.size) (slice_get xs i) 0
+size_map [] i = refl
+size_map (x ∷ xs) zero = refl
+size_map (x ∷ xs) (suc i) = size_map xs i
+
+module _ (head : Head) (symbols : List Symbol) where
+  sizes : named_by (map unnamed symbols) ≡ named_by symbols
+  sizes = fun_ext (λ r. ap (λ n. let s : Span = record { start = r.place; size = if r.kind == 0 then 0 else if r.kind == 4 then n else 8 } in s) (size_map symbols r.symbol))
+
+  tests : is_bad_reloc head.headers (map unnamed symbols) ≡ is_bad_reloc head.headers symbols
+  tests = fun_ext (λ r. simp (size_map, length-map))
+
+  symbols_bare : symbol_rule head.headers (map unnamed symbols) ≡ symbol_rule head.headers symbols
+  unfolding symbol_rule
+  symbols_bare = simp (place_map, length-map)
+
+  relocs_bare : (relocs : List Reloc) (odd : Bool) (places : List ℕ)
+      → reloc_rule head.headers (map unnamed symbols) relocs odd places ≡ reloc_rule head.headers symbols relocs odd places
+  unfolding bad_packed bad_rela reloc_rule
+  relocs_bare relocs odd places = rw (sizes, tests) refl
+
+  features_bare : (program : Bool) (tags : List Tag) (relocs : List Reloc)
+      → feature_rule head program tags (map unnamed symbols) relocs ≡ feature_rule head program tags symbols relocs
+  unfolding feature_rule
+  features_bare program tags relocs = simp any_map
+
+  slots_bare : (bytes : List ℕ) (others : List Span) (slots : List Reloc) (pltgot : Option ℕ)
+      → slot_rule bytes head.headers (map unnamed symbols) others slots pltgot ≡ slot_rule bytes head.headers symbols others slots pltgot
+  unfolding slot_rule
+  slots_bare bytes others slots pltgot = simp (sizes, length-map, slot_ranges, is_bad_slot, is_no_slot)
+
+  pub rules_bare : (bytes : List ℕ) (program : Bool) (tags : List Tag) (relocs slots : List Reloc) (packed : List ℕ)
+      → rules_on bytes head program tags (map unnamed symbols) relocs slots packed ≡ rules_on bytes head program tags symbols relocs slots packed
+  rules_bare bytes program tags relocs slots packed = rw (symbols_bare, relocs_bare, features_bare, slots_bare, other_ranges, sizes) refl
+
+-- ---- the verdict on the dynamic table and its tables, and the relations that say what it means
 
 module _ (tags_law : (bytes : List ℕ) (tags : List Tag) → (tags_of bytes ≡ Some tags) ↔ EndsAtNull bytes tags)
     (string : (strings name : List ℕ) (offset : ℕ) → (string_at strings offset ≡ Some name) ↔ IsStringAt strings offset name)
@@ -60,7 +146,7 @@ module _ (tags_law : (bytes : List ℕ) (tags : List Tag) → (tags_of bytes ≡
     -- a rule that is broken has its number in the list of rules
     place_of : (rule number : ℕ) → TablesBreak bytes head program parts say rule number → (i : ℕ) × (rule ≡ 11 + i) × (slice_get said i ≡ Some (Some number))
     place_of rule number (bad_table tag first) = (0, refl, ap Some ((table_first _ _ _ _ tag).1 (inl first)))
-    place_of rule number (lacks_symbols never lacking) = (0, refl, ap Some ((table_first _ _ _ _ dt_symtab).1 (inr (never, lacking, refl))))
+    place_of rule number (lacks_symbols never lacking) = (0, refl, ap Some ((table_first _ _ _ _ dt_symtab).1 (inr (never, (lacking, refl)))))
     place_of rule number (bad_name k offset first lacks) = (1, refl, ap Some ((string_first string _ _ _ _ offset).1 (inl (k, first, lacks))))
     place_of rule number (bad_symbol_name never symbol offset first lacks) = (1, refl, ap Some ((string_first string _ _ _ _ offset).1 (inr (never, (symbol, first, lacks)))))
     place_of rule number (bad_symbol symbol first) = (2, refl, ap Some ((finds_is _ _ symbol (symbol_finds _ _)).1 first))
@@ -71,7 +157,11 @@ module _ (tags_law : (bytes : List ℕ) (tags : List Tag) → (tags_of bytes ≡
     -- a number in the list of rules is of a rule that is broken
     broken_at : (i number : ℕ) → slice_get said i ≡ Some (Some number) → TablesBreak bytes head program parts say (11 + i) number
     broken_at zero number e =
-        elim ((table_first _ _ _ _ number).0 (same_some e)) [ inl first ↦ bad_table number first | inr (never, lacking, same) ↦ rw same (lacks_symbols never lacking) ]
+        elim ((table_first _ _ _ _ number).0 (same_some e)) [
+          | inl first ↦ bad_table number first
+          | inr (never, (lacking, same)) ↦ rw same
+              (lacks_symbols never lacking)
+        ]
     broken_at (suc zero) number e =
         elim ((string_first string _ _ _ _ number).0 (same_some e)) [
           | inl (k, first, lacks) ↦ bad_name k number first lacks
@@ -142,3 +232,105 @@ module _ (tags_law : (bytes : List ℕ) (tags : List Tag) → (tags_of bytes ≡
   pub refused : (fault : NotAccepted) → (dynamic_verdict bytes head program ≡ Err fault) ↔ BreaksFirst bytes head program fault
   unfolding dynamic_verdict
   refused fault = refused_at (dynamic_tags bytes head.headers) fault refl
+
+-- ---- tables that break no rule keep what is told of them
+
+its_place : (headers : List Header) (place : ℕ) → ((IsPlace headers place → ⊥) → ⊥) → IsPlace headers place
+its_place headers place never_not = record {
+  aligned = decided (Decides-eqb (place % 8) 0) (λ odd. never_not (λ is. odd is.aligned));
+  writable = decided (writable_decides headers (doubleword place)) (λ out. never_not (λ is. out is.writable));
+}
+
+slot_range : (symbols : List Symbol) (r : Reloc) → r.kind ≡ 5 → named_by symbols r ≡ doubleword r.place
+slot_range symbols r five = rw five refl
+
+turn : (a b : Span) → Share a b → Share b a
+turn a b s = record { byte = s.byte; first = s.second; second = s.first }
+
+module _ (bytes : List ℕ) (head : Head) (program : Bool) (parts : DynParts) (s : SpellsDynamic bytes head program parts) where
+  abbrev others : List Span
+  others = named parts.symbols parts.relocs parts.relr
+
+  no_reloc : (k : ℕ) → IsBadRelocAt head.headers parts.symbols parts.relocs s.say.words parts.relr k → ⊥
+  no_reloc = never _ (λ k first. s.kept 14 k (by_tables parts s.say 14 k (bad_reloc k first)))
+
+  no_bad_slot : (k : ℕ) → IsBadSlotAt bytes head.headers parts.symbols others parts.plt_relocs parts.pltgot k → ⊥
+  no_bad_slot = never _ (λ k first. s.kept 16 k (by_tables parts s.say 16 k (bad_slot k first)))
+
+  no_bad_table : (k : ℕ) → IsBadTable head.headers parts.tags (hash_words bytes head.headers parts.tags) k → ⊥
+  no_bad_table = never _ (λ k first. s.kept 11 k (by_tables parts s.say 11 k (bad_table k first)))
+
+  no_feature : (k : ℕ) → HasFeature head program parts.tags parts.symbols (parts.relocs ++ parts.plt_relocs) k → ⊥
+  no_feature = never _ (λ k first. s.kept 15 k (by_tables parts s.say 15 k (has_feature k first)))
+
+  its_reloc : (i : ℕ) (r : Reloc) → slice_get parts.relocs i ≡ Some r → IsReloc head.headers parts.symbols r
+  its_reloc i r is =
+      let good : IsBadReloc head.headers parts.symbols r → ⊥ = λ bad. no_reloc i (by_itself r is bad) in
+      record {
+        symbol = elim (cases_lt r.symbol (length parts.symbols)) [ inl there ↦ there | inr past ↦ absurd (good (no_symbol past)) ];
+        other = λ five. good (is_slot five);
+        place = λ some other. its_place head.headers r.place (λ bad. good (no_place some other bad));
+        copy = λ four. (λ null. good (copies_null four null), decided (writable_decides head.headers (named_by parts.symbols r)) (λ out. good (copies_outside four out)));
+      }
+
+  its_slot : (i : ℕ) (r : Reloc) → slice_get parts.plt_relocs i ≡ Some r → IsSlot bytes head.headers parts.symbols r
+  its_slot i r is =
+      let good : IsBadSlot bytes head.headers parts.symbols others (slot_ranges parts.symbols parts.plt_relocs) i r → ⊥ = λ bad. no_bad_slot i (bad_at r is bad) in
+      record {
+        type = decided (Decides-eqb r.kind 5) (λ other. good (other_type other));
+        some = λ null. good (of_null null);
+        symbol = elim (cases_lt r.symbol (length parts.symbols)) [ inl there ↦ there | inr past ↦ absurd (good (slot_no_symbol past)) ];
+        place = its_place head.headers r.place (λ bad. good (slot_no_place bad));
+        code = decided (code_decides bytes head.headers r.place) (λ bad. good (no_code bad));
+      }
+
+  -- the range of a slot is its place's doubleword
+  slot_at : (i : ℕ) (a : Span) → slice_get (slot_ranges parts.symbols parts.plt_relocs) i ≡ Some a → (r : Reloc) × (slice_get parts.plt_relocs i ≡ Some r) × (doubleword r.place ≡ a)
+  slot_at i a is = let (r, at, range) = get_map (named_by parts.symbols) parts.plt_relocs i a is in (r, at, sym (slot_range parts.symbols r (its_slot i r at).type) ∙ range)
+
+  apart : (j k : ℕ) (a b : Span) → j < k → slice_get (all_named parts) j ≡ Some a → slice_get (all_named parts) k ≡ Some b → Share a b → ⊥
+  apart j k a b below one two share =
+      elim (get_both others (slot_ranges parts.symbols parts.plt_relocs) k b two) [
+        | inl among ↦ elim (get_both others (slot_ranges parts.symbols parts.plt_relocs) j a one) [
+          | inl before ↦ no_reloc k (named_twice (record { before = j; is_before = below; one = a; is_one = before; range = b; is_range = among; share = share }))
+          | inr (i, e, slot) ↦ let within = slice_get_within others k b among in omega (arith, e)
+        ]
+        | inr (i, e, slot) ↦
+            let (r, at, range) = slot_at i b slot in
+            let own : Share (doubleword r.place) a = turn a (doubleword r.place) (subst (Share a) (sym range) share) in
+            elim (get_both others (slot_ranges parts.symbols parts.plt_relocs) j a one) [
+              | inl among ↦ no_bad_slot i (bad_at r at (named_by_other j a among own))
+              | inr (h, f, other) ↦ no_bad_slot i (bad_at r at (named_by_slot h a (λ same. omega (arith, e, f)) other own))
+            ]
+      ]
+
+  some_bytes : {R : Span → Type 0} (part : List ℕ) → AreBytes bytes head.headers R part → 0 < length part → (x : Span) × R x
+  some_bytes part (held x r stands) some = (x, r)
+  some_bytes part (missing none empty) some = absurd (let size = ap length empty in omega arith)
+
+  its_table : 0 < length parts.plt_relocs → (start : ℕ) × (parts.pltgot ≡ Some start) × IsSlotTable head.headers (all_named parts) start
+  its_table some =
+      let count = s.say.plt_relocs.count in
+      let (range, is) = some_bytes s.say.slots s.say.are_slots (omega arith) in
+      let slots = decided (slots_decides head.headers parts.tags range) (λ bad. no_bad_table dt_jmprel (bad_slots range is bad)) in
+      let (start, there) = slots.words in
+      let at : parts.pltgot ≡ Some start = s.say.pltgot ∙ there in
+      let free : (IsSlotTable head.headers (all_named parts) start → ⊥) → ⊥ = λ bad. no_bad_slot (length parts.plt_relocs) (bad_head refl some start at bad) in (
+        start,
+        at,
+        record {
+          aligned = decided (Decides-eqb (start % 8) 0) (λ odd. free (λ t. odd t.aligned));
+          writable = decided (writable_decides head.headers (record { start = start; size = 16 })) (λ out. free (λ t. out t.writable));
+          free = λ j a is share. free (λ t. t.free j a is share);
+        },
+      )
+
+  pub keeps : Keeps bytes head.headers parts
+  keeps = record {
+    relocs = its_reloc;
+    packed = λ i place is. its_place head.headers place (λ bad. no_reloc (length parts.relocs + i) (bad_place i place refl is bad));
+    slots = its_slot;
+    apart = apart;
+    table = its_table;
+    closed = λ i h is loaded writable executable. no_feature 11 (open_segment i h is loaded writable executable);
+  }

@@ -150,7 +150,7 @@ fn has_unique(symbols: &[Symbol]) -> bool
 }
 
 /// Whether a relocation, a slot's too, is of this type.
-#[tactic(auto, using(crate::proofs::Both::any_of_both))]
+#[tactic(auto, using(crate::proofs::Reading::any_of_both))]
 fn has_type(relocs: Both, kind: u32) -> bool
     ensures { result ≡ has_type kind (relocs.entry.others.now ++ relocs.entry.slots.now) }
 {
@@ -172,7 +172,7 @@ fn changes_text(tags: &[Tag]) -> bool
 }
 
 /// Whether a relocation, a slot's too, is of a type that isn't known.
-#[tactic(auto, using(crate::proofs::Both::any_of_both))]
+#[tactic(auto, using(crate::proofs::Reading::any_of_both))]
 fn has_other_type(relocs: Both) -> bool
     ensures { result ≡ list_any is_other_type (relocs.entry.others.now ++ relocs.entry.slots.now) }
 {

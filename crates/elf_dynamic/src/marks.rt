@@ -23,6 +23,7 @@ pub(crate) struct Marks {
 
 impl Marks {
     /// No doubleword.
+    #[tactic(auto, using(crate::proofs::Ranges::none_marked))]
     pub(crate) fn new(alloc: Global) -> Self
         ensures { (d : ℕ) → is_marked result.words.items d ≡ false }
     {
@@ -43,7 +44,7 @@ impl Marks {
     }
 
     /// Makes room for so many words.
-    #[tactic(auto, using(crate::proofs::Bits::get_or_zero))]
+    #[tactic(auto, using(crate::proofs::Ranges::get_or_zero))]
     fn grow(&mut self, len: usize) -> Result<(), AllocError>
         ensures room { OnOk result (len ≤ length self.new.words.items) }
         ensures same { OnOk result ((k : ℕ) → slice_index self.new.words.items k ≡ slice_index self.old.words.items k) }
@@ -55,6 +56,7 @@ impl Marks {
     }
 
     /// Puts a doubleword into the set.
+    #[tactic(auto, using(crate::proofs::Ranges::set_step))]
     pub(crate) fn set(&mut self, d: u64) -> Result<(), AllocError>
         ensures { OnOk result ((e : ℕ) → is_marked self.new.words.items e ≡ (d == e || is_marked self.old.words.items e)) }
     {
@@ -66,7 +68,7 @@ impl Marks {
     }
 
     /// Puts the doublewords into the set that a word tells of, by the word's index.
-    #[tactic(auto, using(crate::proofs::Bits::fill_step))]
+    #[tactic(auto, using(crate::proofs::Ranges::fill_step))]
     fn fill(&mut self, index: usize) -> Result<(), AllocError>
         requires { index < 2 ^ 32 }
         ensures { OnOk result ((e : ℕ) → is_marked self.new.words.items e ≡ (e / 64 == index || is_marked self.old.words.items e)) }
@@ -78,7 +80,7 @@ impl Marks {
 
     /// Puts a doubleword into the set, or all that its word tells of where it is the first of them and
     /// all are below a limit. Answers the doubleword after them.
-    #[tactic(auto, using(crate::proofs::Bits::one_more, crate::proofs::Bits::word_more))]
+    #[tactic(auto, using(crate::proofs::Ranges::one_more, crate::proofs::Ranges::word_more))]
     fn step(&mut self, d: u64, limit: u64) -> Result<u64, AllocError>
         requires { (d < limit) × (limit ≤ 2 ^ 32) }
         ensures next { IfOk result (λ next. (d < next) × (next ≤ limit)) }

@@ -60,7 +60,7 @@ struct Counted {
 }
 
 /// Reads the relocations that aren't packed and the hash tables, where no table is bad (rule 11).
-#[tactic(auto, using(crate::proofs::Readable::all_symbols, crate::proofs::Readable::few_symbols))]
+#[tactic(auto, using(crate::proofs::Reading::all_symbols, crate::proofs::Reading::few_symbols))]
 fn read_counted(
     alloc: Global,
     bytes: &[u8],
@@ -282,7 +282,7 @@ impl<'a> JudgedParts<'a> {
 }
 
 /// Judges what the tables with these entries say, of which none is bad (rules 12 to 16).
-#[tactic(auto, unfolding(crate::specs::Tables::strings_in, crate::specs::Tables::bare_in))]
+#[tactic(auto, unfolding(crate::specs::Tables::strings_in, crate::specs::Tables::bare_in), using(crate::proofs::Reading::short_parts))]
 fn judge_tables(
     alloc: Global,
     bytes: &[u8],
@@ -319,6 +319,7 @@ fn judge_tables(
 }
 
 /// Judges the tables with these entries. No bound of memory comes before a rule that is broken.
+#[tactic(auto, unfolding(crate::specs::Rules::tables_verdict), using(crate::proofs::Reading::rest_fault, crate::proofs::Reading::table_fault))]
 fn judge_all<'a>(
     alloc: Global,
     bytes: &'a [u8],

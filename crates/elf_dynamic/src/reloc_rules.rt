@@ -20,6 +20,7 @@ use std::alloc::Global;
 pub(crate) const DOUBLEWORD: u64 = 8;
 
 /// Judges the relocations of DT_RELA, and then packed ones (rule 14).
+#[tactic(auto, unfolding(crate::specs::Rules::bad_reloc), using(crate::proofs::Reading::first_fault))]
 pub(crate) fn judge_relocs(
     alloc: Global,
     headers: &[Header],
@@ -41,6 +42,7 @@ pub(crate) fn judge_relocs(
 
 /// Judges the relocations of DT_RELA (rule 14): none is bad by itself, or names a byte that one
 /// before it names.
+#[tactic(auto, using(crate::proofs::Ranges::low_reloc))]
 fn judge_rela(
     alloc: Global,
     headers: &[Header],

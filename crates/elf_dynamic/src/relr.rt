@@ -41,6 +41,7 @@ pub(crate) struct Judged {
 impl Judged {
     /// Takes a packed relocation more, unless it is bad: its place, unless that is sure to be one of
     /// a doubleword, or a byte that one before it names.
+    #[tactic(auto, using(crate::proofs::Ranges::low_place))]
     fn admit(&mut self, headers: &[Header], place: u64, sure: bool) -> Result<bool, AllocError>
         requires few { self.old.count < 2 ^ 63 }
         requires sure { sure ≡ true → is_bad_place headers.now place ≡ false }
@@ -140,6 +141,7 @@ fn list(places: &mut Places, place: u64) -> Result<(), AllocError>
 }
 
 /// Whether all places that the bits of a word may name, from this one on, are those of doublewords.
+#[tactic(auto, using(crate::proofs::Ranges::sure_place))]
 fn is_sure(headers: &[Header], next: u64) -> bool
     requires { next < 2 ^ 62 }
     ensures { result ≡ true → (bit : ℕ) → 1 ≤ bit → bit < 64 → is_bad_place headers.now (next + 8 * (bit - 1)) ≡ false }
@@ -196,6 +198,7 @@ fn next_after(word: u64, next: u64) -> u64
 }
 
 /// Whether the first word names places by its bits, which count from no place.
+#[tactic(auto, using(crate::proofs::Packed::first_word))]
 fn begins_odd(bytes: &[u8]) -> bool
     ensures { result ≡ begins_odd (relr_words bytes.now) }
 {

@@ -87,6 +87,7 @@ fn first_bad_slot(slots: Slots, named: &Marks, naming: &Naming) -> Option<usize>
 }
 
 /// Whether the slot isn't one of a symbol's function, at a place of its own that leads to code.
+#[tactic(auto, using(crate::proofs::Ranges::low_slot))]
 fn is_bad_slot(slots: Slots, named: &Marks, naming: &Naming, slot: Reloc) -> bool
     requires accepted { head_verdict slots.bytes.now ≡ Ok slots.head.now }
     requires low { AreLow slots.head.now.headers }
@@ -102,7 +103,7 @@ fn is_bad_slot(slots: Slots, named: &Marks, naming: &Naming, slot: Reloc) -> boo
 }
 
 /// Whether the slot isn't one of a symbol's function, at a doubleword that leads to code.
-#[tactic(auto, using(crate::proofs::Low::low_slot))]
+#[tactic(auto, using(crate::proofs::Ranges::low_slot))]
 fn is_no_slot(slots: Slots, slot: Reloc) -> bool
     requires accepted { head_verdict slots.bytes.now ≡ Ok slots.head.now }
     ensures { result ≡ is_no_slot slots.entry.bytes.now slots.entry.head.now.headers slots.entry.symbols.now slot }
@@ -115,6 +116,7 @@ fn is_no_slot(slots: Slots, slot: Reloc) -> bool
 }
 
 /// Whether another relocation than the slot at a place names a byte of its doubleword.
+#[tactic(auto, using(crate::proofs::Ranges::marked_place))]
 fn is_shared(slots: Slots, named: &Marks, naming: &Naming, place: u64) -> bool
     requires aligned { place % 8 ≡ 0 }
     requires near { place + 8 ≤ 2 ^ 32 }
@@ -158,6 +160,7 @@ fn has_bad_table(slots: Slots, named: &Marks, naming: &Naming) -> bool
 
 /// Whether the first bytes of the table of slots, which belong to the linker, aren't two doublewords
 /// of writable memory that no relocation names.
+#[tactic(auto, using(crate::proofs::Ranges::head_of_slots))]
 fn is_bad_table_of_slots(slots: Slots, named: &Marks, naming: &Naming, start: u64) -> bool
     requires low { AreLow slots.head.now.headers }
     requires naming { naming.now ≡ slot_ranges slots.symbols.now slots.relocs.now }

@@ -1,6 +1,6 @@
 use Rattle.std.proofs.Common.{◌≡◌, ◌∙◌, sym, length, None, arith}
 use Rattle.elf_dynamic.specs.Rules.{bad_table}
-use Rattle.elf_dynamic.proofs.Readable.{few_symbols}
+use Rattle.elf_dynamic.proofs.Reading.{few_symbols}
 use Rattle.elf_dynamic.proofs.reader.read_counted.Goals as goal
 
 pub overflow_cast-result : goal.overflow_cast-result

@@ -1,15 +1,9 @@
 use Rattle.std.proofs.Common.{refl, length, map}
-use Rattle.std.proofs.lemmas.Result.{err_from_is_err_and, MatchResult-weaker}
+use Rattle.std.proofs.lemmas.Result.{MatchResult-weaker}
 use Rattle.elf_dynamic.specs.Named.{named_by}
 use Rattle.elf_dynamic.specs.Rules.{bad_packed, bad_reloc}
-use Rattle.elf_dynamic.proofs.Judging.{first_fault, later_fault}
+use Rattle.elf_dynamic.proofs.Reading.{later_fault}
 use Rattle.elf_dynamic.proofs.reloc_rules.judge_relocs.Goals as goal
-
-pub returns-in_err-judged : goal.returns-in_err-judged
-unfolding bad_reloc
-returns-in_err-judged c =
-    let p = err_from_is_err_and c.from_residual.result c.from_residual.ensures.1 in
-    rw (p.1, p.2) (first_fault _ _ c.in_err-judged.field-0.0 c.in_err-judged.ensures)
 
 pub returns : goal.returns
 unfolding bad_reloc bad_packed

@@ -1,5 +1,5 @@
 use Rattle.std.proofs.Common.{◌∙◌, sym, below_more}
-use Rattle.elf_dynamic.proofs.Slots.{nothing, position_here, position_past}
+use Rattle.elf_dynamic.proofs.Ranges.{nothing, position_here, position_past}
 use Rattle.elf_dynamic.proofs.slot_rules.first_bad_slot.Goals as goal
 
 pub returns-then-is_bad_slot : goal.returns-then-is_bad_slot

@@ -1,5 +1,5 @@
 use Rattle.std.proofs.Common.{◌≡◌, ℕ, ◌<◌, false, get_or, List}
-use Rattle.elf_dynamic.proofs.Slots.{nothing}
+use Rattle.elf_dynamic.proofs.Ranges.{nothing}
 use Rattle.ld_base.specs.declared.object.Span.{Span}
 use Rattle.elf_dynamic.specs.Marks.{AreMarks}
 use Rattle.elf_dynamic.specs.Named.{slot_ranges}

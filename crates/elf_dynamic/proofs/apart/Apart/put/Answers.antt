@@ -1,7 +1,7 @@
 use Rattle.std.proofs.Common.{◌+◌, arith}
 use Rattle.std.proofs.lemmas.Bool.{false_from_ne_true}
 use Rattle.elf_dynamic.specs.Ends.{IsMet}
-use Rattle.elf_dynamic.proofs.Ends.{none_ends, none_marks, none_overlaps, put_ends, put_marks}
+use Rattle.elf_dynamic.proofs.Ranges.{none_ends, none_marks, none_overlaps, put_ends, put_marks}
 use Rattle.elf_dynamic.proofs.apart.Apart.put.Goals as goal
 
 pub returns-then-range-eq0-clause-put : goal.returns-then-range-eq0-clause-put

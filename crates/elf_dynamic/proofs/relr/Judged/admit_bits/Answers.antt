@@ -1,10 +1,12 @@
-use Rattle.std.proofs.Common.{◌≡◌, ◌++◌, ◌+◌, ◌-◌, refl, ap, arith}
-use Rattle.elf_dynamic.proofs.Packed.{all_bits, bits_from, front_end, front_more, front_stop, one_bit}
+use Rattle.std.proofs.Common.{◌≡◌, ◌+◌, ◌-◌, refl, arith}
+use Rattle.elf_dynamic.specs.Relr.{bits_of}
+use Rattle.elf_dynamic.proofs.Packed.{bits_from, front_end, front_more, front_stop, one_bit}
 use Rattle.elf_dynamic.proofs.relr.Judged.admit_bits.Goals as goal
 
 pub loop-bit-init : goal.loop-bit-init
+unfolding bits_of
 loop-bit-init c = record {
-  kept = λ ranges places judged. (places, judged, ap (λ xs. places ++ xs) (all_bits c.args.word c.args.next));
+  kept = λ ranges places judged. (places, judged, refl);
   few = omega arith;
 }
 
