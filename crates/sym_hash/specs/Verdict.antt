@@ -1,4 +1,4 @@
--- Whether the hash tables lead to all that an object exports, as a test for the code of this crate alone.
+-- Whether the hash tables lead to all that an object exports, as a test: the verdict of an object is made of it.
 use Rattle.std.specs.Prelude.{ℕ, List, [], ◌∷◌, map, Option, Result, Ok, Err}
 use Rattle.std.specs.Option.{option_map_or}
 use Rattle.ld_base.specs.Symbol.{is_visible_definition}
