@@ -1,9 +1,9 @@
 //! Which program headers can be mapped (gABI, "Program Header" and "Program Loading").
 
-ghost use Rattle.std.specs.Prelude.{◌≡◌, ◌==◌, ◌||◌, ◌+◌, ◌<◌, ◌^◌, ℕ, [], true, List, nat_lt, if◌then◌else◌};
+ghost use Rattle.std.specs.Prelude.{◌≡◌, ◌+◌, ◌<◌, ◌^◌, ℕ, [], List, nat_lt};
 ghost use Rattle.ld_base.specs.declared.parts.Header.{Header};
 ghost use Rattle.elf_head.specs.Segments.{bad_segment, first_page, is_bad_storage, is_misshapen, last_page};
-ghost use Rattle.elf_head.specs.Passed.{IsPassed, Judges, reaches};
+ghost use Rattle.elf_head.specs.Passed.{IsPassed, Judges};
 
 use crate::program_headers::{PT_DYNAMIC, PT_LOAD, PT_TLS};
 use crate::range::is_readable;
