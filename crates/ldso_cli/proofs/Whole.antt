@@ -175,13 +175,13 @@ module _ (handed handed' : Handing) (law : Law) (words : List (List ℕ)) (files
   one_turned turns asks one two =
       let a = one.answers in
       let b = two.answers in
-      let still = p.reads_well (commands.Turns turns) asks.0 in
-      let still' = q.reads_well (commands.Turns turns) asks.0 in
+      let still = p.reads_well (commands.Turns turns) asks.0 refl in
+      let still' = q.reads_well (commands.Turns turns) asks.0 refl in
       let few : harts_of turns.setup ≤ 2 ^ 32 = (let below = few_harts words turns asks.0 in omega (arith, below)) in
       let items : b.items ≡ a.items = one_schedule (harts_of turns.setup) turns.schedule b.items a.items few b.says a.says in
-      let over : IsOver turns.setup a.items (Some files) a.ended a.left = subst (λ (t : Option (List File)). IsOver turns.setup a.items t a.ended a.left) (p.told (commands.Turns turns) asks.0) a.plays.is in
+      let over : IsOver turns.setup a.items (Some files) a.ended a.left = subst (λ (t : Option (List File)). IsOver turns.setup a.items t a.ended a.left) (p.told (commands.Turns turns) asks.0 refl) a.plays.is in
       let over' : IsOver turns.setup a.items (Some files) b.ended b.left =
-      subst (λ (t : Option (List File)). IsOver turns.setup a.items t b.ended b.left) (q.told (commands.Turns turns) asks.0)
+      subst (λ (t : Option (List File)). IsOver turns.setup a.items t b.ended b.left) (q.told (commands.Turns turns) asks.0 refl)
       (subst (λ (it : List TurnItem). IsOver turns.setup it second.before.files b.ended b.left) items b.plays.is) in
       let same =
       one_outcome law.runs turns.setup a.items files a.ended b.ended a.left b.left over (quiet_run first a.ended a.left (no_reads handed (Some (commands.Turns turns)) first one still) a.end_is)
@@ -206,12 +206,12 @@ module _ (handed handed' : Handing) (law : Law) (words : List (List ℕ)) (files
   one_of : (command : Option Command) → Asks words command → IsTold handed command first → IsTold handed' command second → ComeToOne handed handed' first second
   one_of None asks one two =
       come_to_one None one two (same_end first.end second.end (one.answers.end_is ∙ sym two.answers.end_is)) (one.answers.text_is ∙ sym two.answers.text_is)
-  one_of (Some (commands.Bind bind)) asks one two = over_files (commands.Bind bind) (p.told (commands.Bind bind) asks.0) (q.told (commands.Bind bind) asks.0)
-      (p.reads_well (commands.Bind bind) asks.0) (q.reads_well (commands.Bind bind) asks.0) one two one.answers two.answers
-  one_of (Some (commands.Dump path)) asks one two = over_files (commands.Dump path) (p.told (commands.Dump path) asks.0) (q.told (commands.Dump path) asks.0)
-      (p.reads_well (commands.Dump path) asks.0) (q.reads_well (commands.Dump path) asks.0) one two one.answers two.answers
-  one_of (Some (commands.Assemble path)) asks one two = over_files (commands.Assemble path) (p.told (commands.Assemble path) asks.0) (q.told (commands.Assemble path) asks.0)
-      (p.reads_well (commands.Assemble path) asks.0) (q.reads_well (commands.Assemble path) asks.0) one two one.answers two.answers
+  one_of (Some (commands.Bind bind)) asks one two = over_files (commands.Bind bind) (p.told (commands.Bind bind) asks.0 refl) (q.told (commands.Bind bind) asks.0 refl)
+      (p.reads_well (commands.Bind bind) asks.0 refl) (q.reads_well (commands.Bind bind) asks.0 refl) one two one.answers two.answers
+  one_of (Some (commands.Dump path)) asks one two = over_files (commands.Dump path) (p.told (commands.Dump path) asks.0 refl) (q.told (commands.Dump path) asks.0 refl)
+      (p.reads_well (commands.Dump path) asks.0 refl) (q.reads_well (commands.Dump path) asks.0 refl) one two one.answers two.answers
+  one_of (Some (commands.Assemble path)) asks one two = over_files (commands.Assemble path) (p.told (commands.Assemble path) asks.0 refl) (q.told (commands.Assemble path) asks.0 refl)
+      (p.reads_well (commands.Assemble path) asks.0 refl) (q.reads_well (commands.Assemble path) asks.0 refl) one two one.answers two.answers
   one_of (Some (commands.Turns turns)) asks one two = one_turned turns asks one two
   one_of (Some (commands.Run run)) asks one two = absurd one.answers
   one_of (Some (commands.Generate number)) asks one two = one_generated number one two
