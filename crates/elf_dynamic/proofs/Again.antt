@@ -1,6 +1,6 @@
 -- The first of a list that is bad.
-use Rattle.std.proofs.Common.{◌≡◌, ℕ, suc, ◌+◌, Bool, true, ◌||◌, List, [], ◌∷◌, ◌++◌, length, map, take, append_assoc, append-nil, refl, arith, inl, inr}
-use Rattle.std.specs.Prelude.{Decides, Option, Some, option_map}
+use Rattle.std.proofs.Common.{◌≡◌, ℕ, ◌+◌, Bool, true, ◌||◌, List, [], ◌∷◌, ◌++◌, length, map, take, append_assoc, append-nil, refl, arith, inl, inr}
+use Rattle.std.specs.Prelude.{Decides, Some, option_map}
 use Rattle.std.specs.List.{list_any, slice_get}
 use Rattle.std.specs.Option.{option_or}
 use Rattle.std.proofs.lemmas.Bool.{cases_Bool}
@@ -8,12 +8,6 @@ use Rattle.ld_base.specs.declared.object.Span.{Span}
 use Rattle.acceptance.specs.Lemmas.Finds.{finds_cons, finds_like, same_some, Finds}
 use Rattle.elf_dynamic.specs.Again.{first_again}
 use Rattle.elf_dynamic.specs.Memory.{overlaps}
-
-none_before : (o : Option ℕ) → option_map (λ k. 0 + k) o ≡ o
-none_before o = grind arith
-
-one_before : (n : ℕ) (o p : Option ℕ) → option_map suc (option_or o (option_map (λ k. n + k) p)) ≡ option_or (option_map suc o) (option_map (λ k. suc n + k) p)
-one_before n o p = grind arith
 
 module _ {X : Type 0} (bad : X → Bool) (range : X → Span) where
   -- the element of this index is bad by itself, or has a byte of these ranges or of one before it
@@ -34,9 +28,9 @@ module _ {X : Type 0} (bad : X → Bool) (range : X → Span) where
   -- the first of two lists, one after the other
   pub again_append : (ranges : List Span) (xs ys : List X) → first_again bad range ranges (xs ++ ys)
       ≡ option_or (first_again bad range ranges xs) (option_map (λ k. length xs + k) (first_again bad range (ranges ++ map range xs) ys))
-  again_append ranges [] ys = rw (append-nil, none_before) refl
+  again_append ranges [] ys = rw append-nil (grind arith)
   again_append ranges (x ∷ xs) ys =
       elim (cases_Bool (bad x || list_any (overlaps (range x)) ranges)) [
         | inl fails ↦ rw fails refl
-        | inr passes ↦ rw (passes, again_append (ranges ++ range x ∷ []) xs ys, append_assoc) (one_before (length xs) _ _)
+        | inr passes ↦ rw (passes, again_append (ranges ++ range x ∷ []) xs ys, append_assoc) (grind arith)
       ]

@@ -1,6 +1,7 @@
 -- Rule 12: the first offset at which no string stands.
-use Rattle.std.proofs.Common.{◌≡◌, ◌↔◌, ◌⊎◌, ◌∙◌, ap, sym, subst, refl, ℕ, zero, suc, ◌*◌, ◌<◌, ◌||◌, ◌&&◌, Bool, true, false, not, List, [], ◌∷◌, Option, Some}
-use Rattle.std.proofs.Common.{None, arith, inl, inr, ◌≤◌}
+use Rattle.std.proofs.Common.{◌≢◌, ◌≡◌, ◌↔◌, ◌⊎◌, ◌∙◌, ap, sym, subst, refl, ℕ, zero, suc, ◌*◌, ◌<◌, ◌||◌, ◌&&◌, Bool, true, false, not, List, [], ◌∷◌}
+use Rattle.std.proofs.Common.{Option, Some}
+use Rattle.std.proofs.Common.{None, arith, ◌≤◌}
 use Rattle.std.specs.Prelude.{Decides, find, option_map, if◌then◌else◌}
 use Rattle.std.specs.List.{list_any, slice_get}
 use Rattle.std.proofs.lemmas.Bool.{true≢false}
@@ -35,7 +36,8 @@ StandsFirst L x = (k : ℕ) × IsFirst (Lacks L) k × L k x
 finds_at_is : (L : ℕ → ℕ → Type 0) → ((k x y : ℕ) → L k x → L k y → x ≡ y) → (o : Option ℕ) (x : ℕ) → FindsAt L o → (o ≡ Some x) ↔ StandsFirst L x
 finds_at_is L one None x never = (λ e. absurd cc, λ (k, first, l). absurd (never k x l))
 finds_at_is L one (Some y) x (j, is_first, own) =
-    (λ e. subst (StandsFirst L) (same_some e) (j, is_first, own), λ (k, first, l). ap Some (one k y x (subst (λ n. L n y) (one_first (Lacks L) j k is_first first) own) l))
+    (λ e. subst (StandsFirst L) (same_some e) (j, is_first, own),
+        λ (k, first, l). ap Some (one k y x (subst (λ n. L n y) (one_first (Lacks L) j k is_first first) own) l))
 
 finds_at_none : (L : ℕ → ℕ → Type 0) (o : Option ℕ) → FindsAt L o → (o ≡ None) ↔ ((k : ℕ) → Lacks L k → ⊥)
 finds_at_none L None never = (λ e k (x, l). never k x l, λ none. refl)
@@ -43,17 +45,14 @@ finds_at_none L (Some y) (k, first, l) = (λ e. absurd cc, λ none. absurd (none
 
 finds_at_cons : (L M : ℕ → ℕ → Type 0) (here : Bool) (v : ℕ) (o : Option ℕ) → (here ≡ true → L 0 v) → ((x : ℕ) → L 0 x → here ≡ true)
     → ((k x : ℕ) → L (suc k) x ↔ M k x) → FindsAt M o → FindsAt L (if here then Some v else o)
-finds_at_cons L M true v o holds fails shift f = (0, record { bad = (v, holds refl); before = λ j below lacking. absurd (omega arith) }, holds refl)
-finds_at_cons L M false v None holds fails shift never = none
-  where
-    none : (k x : ℕ) → L k x → ⊥
-    none zero x l = true≢false (sym (fails x l))
-    none (suc k) x l = never k x ((shift k x).0 l)
-finds_at_cons L M false v (Some x) holds fails shift (k, first, m) = (suc k, record { bad = (x, (shift k x).1 m); before = before }, (shift k x).1 m)
-  where
-    before : (j : ℕ) → j < suc k → Lacks L j → ⊥
-    before zero below (y, l) = true≢false (sym (fails y l))
-    before (suc j) below (y, l) = first.before j (omega arith) (y, (shift j y).0 l)
+finds_at_cons L M true v o holds fails shift f = grind arith
+finds_at_cons L M false v None holds fails shift never = elim [ zero ↦ λ x l. true≢false (sym (fails x l)) | suc k ↦ λ x l. never k x ((shift k x).0 l) ]
+finds_at_cons L M false v (Some x) holds fails shift (k, first, m) =
+    let before : (j : ℕ) → j < suc k → Lacks L j → ⊥ = elim [
+      | zero ↦ λ below (y, l). true≢false (sym (fails y l))
+      | suc j ↦ λ below (y, l). first.before j (omega arith) (y, (shift j y).0 l)
+    ] in
+    (suc k, record { bad = (x, (shift k x).1 m); before = before }, (shift k x).1 m)
 
 -- ---- names
 
@@ -72,17 +71,15 @@ module _ (string : (strings name : List ℕ) (offset : ℕ) → (string_at strin
       means (contrary (some_decides (string_at strings offset))) (λ none name is. none (name, (string strings name offset).1 is))
       (λ lacks (name, e). lacks name ((string strings name offset).0 e))
 
-  asks_decides : (t : Tag) (tags : List Tag) → Decides (has_tag dt_needed t || (has_tag dt_soname t && not (list_any (has_tag dt_soname) tags))) (NamesString (t ∷ tags) 0 t)
+  asks_decides : (t : Tag) (tags : List Tag)
+      → Decides (has_tag dt_needed t || (has_tag dt_soname t && not (list_any (has_tag dt_soname) tags))) (NamesString (t ∷ tags) 0 t)
   asks_decides t tags =
       either (Decides-eqb t.tag dt_needed) (both (Decides-eqb t.tag dt_soname) (means (contrary (among (λ u. Decides-eqb u.tag dt_soname) tags))
       (λ never. (from_next t tags 0).0 (λ j u low is same. never (j, u, is, same)))
       (λ none (j, u, is, same). (from_next t tags 0).1 none j u (omega arith) is same)))
 
   shifted : (t : Tag) (tags : List Tag) (k : ℕ) (u : Tag) → NamesString (t ∷ tags) (suc k) u ↔ NamesString tags k u
-  shifted t tags k u = (
-    λ names. elim names [ inl needed ↦ inl needed | inr (soname, last) ↦ inr (soname, (from_next t tags (suc k)).1 last) ],
-    λ names. elim names [ inl needed ↦ inl needed | inr (soname, last) ↦ inr (soname, (from_next t tags (suc k)).0 last) ],
-  )
+  shifted t tags k u = let next = from_next {P = λ (u : Tag). u.tag ≢ dt_soname} t tags (suc k) in grind arith
 
   names_find : (tags : List Tag) → FindsAt (LacksName strings tags) (find (lacks_string strings) (name_offsets tags))
   names_find [] = λ k x l. absurd (let is = l.is in cc)
@@ -90,32 +87,35 @@ module _ (string : (strings name : List ℕ) (offset : ℕ) → (string_at strin
       let asks = has_tag dt_needed t || (has_tag dt_soname t && not (list_any (has_tag dt_soname) tags)) in
       let here = both (asks_decides t tags) (lacks_decides t.value) in
       subst (FindsAt (LacksName strings (t ∷ tags))) (same asks (name_offsets tags))
-      (finds_at_cons (LacksName strings (t ∷ tags)) (LacksName strings tags) (asks && lacks_string strings t.value) t.value (find (lacks_string strings) (name_offsets tags))
-      (λ e. let (names, lacks) = here.0 e in record { entry = t; is = refl; names = names; at = refl; lacks = lacks })
-      (λ x l. let own = same_some l.is in here.1 (rw (← own) at l.names, rw (l.at, ← own) at l.lacks))
+      (finds_at_cons (LacksName strings (t ∷ tags)) (LacksName strings tags) (asks && lacks_string strings t.value) t.value
+          (find (lacks_string strings) (name_offsets tags))
+      (λ e. let (names, lacks) = here.0 e in record { entry = t; is = refl; names = names; at = refl; lacks = lacks }) (λ x l. grind arith)
       (λ k x. (
         λ l. record { entry = l.entry; is = l.is; names = (shifted t tags k l.entry).0 l.names; at = l.at; lacks = l.lacks },
         λ l. record { entry = l.entry; is = l.is; names = (shifted t tags k l.entry).1 l.names; at = l.at; lacks = l.lacks },
-      ))
-      (names_find tags))
+      )) (names_find tags))
     where
-      same : (asks : Bool) (rest : List ℕ) → (if asks && lacks_string strings t.value then Some t.value else find (lacks_string strings) rest) ≡ find (lacks_string strings) (if asks then t.value ∷ rest else rest)
-      same true rest = refl
-      same false rest = refl
+      same : (asks : Bool) (rest : List ℕ)
+          → (if asks && lacks_string strings t.value then Some t.value else find (lacks_string strings) rest)
+          ≡ find (lacks_string strings) (if asks then t.value ∷ rest else rest)
+      same asks rest = grind arith
 
   module _ (part : List ℕ) (count : ℕ) where
     symbols_find : FindsAt (LacksSymbolName strings part count) (option_map (λ i. symbol_name part (24 * i)) (unnamed_symbol strings part count))
     symbols_find = by_found (unnamed_symbol strings part count) refl
       where
-        by_found : (o : Option ℕ) → unnamed_symbol strings part count ≡ o → FindsAt (LacksSymbolName strings part count) (option_map (λ i. symbol_name part (24 * i)) o)
+        by_found : (o : Option ℕ) → unnamed_symbol strings part count ≡ o
+            → FindsAt (LacksSymbolName strings part count) (option_map (λ i. symbol_name part (24 * i)) o)
         by_found None none = λ k x l. not_from_Decides _ (lacks_decides _) (least_none _ count k none l.there) (rw l.at at l.lacks)
         by_found (Some k) found =
             let least = least_at _ count k found in
-            let own : LacksSymbolName strings part count k (symbol_name part (24 * k)) = record { there = least.within; at = refl; lacks = (lacks_decides _).0 least.passes } in
+            let own : LacksSymbolName strings part count k
+                (symbol_name part (24 * k)) = record { there = least.within; at = refl; lacks = (lacks_decides _).0 least.passes } in
             (k, record { bad = (_, own); before = λ j below (x, l). not_from_Decides _ (lacks_decides _) (least.before j below) (rw l.at at l.lacks) }, own)
 
     pub string_first : (tags : List Tag) (offset : ℕ) → (bad_string strings tags part count ≡ Some offset)
-        ↔ (StandsFirst (LacksName strings tags) offset ⊎ (((k : ℕ) → Lacks (LacksName strings tags) k → ⊥) × StandsFirst (LacksSymbolName strings part count) offset))
+        ↔ (StandsFirst (LacksName strings tags) offset ⊎
+            (((k : ℕ) → Lacks (LacksName strings tags) k → ⊥) × StandsFirst (LacksSymbolName strings part count) offset))
     unfolding bad_string
     string_first tags offset =
         or_else (finds_at_is (LacksName strings tags) (λ k x y l m. l.at ∙ ap (λ (t : Tag). t.value) (same_some (sym l.is ∙ m.is)) ∙ sym m.at) _ offset

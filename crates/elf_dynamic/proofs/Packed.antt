@@ -1,10 +1,9 @@
 -- Packed relocations, one after the other.
 use Rattle.std.proofs.Common.{◌≡◌, ap, sym, subst, refl, ℕ, suc, ◌+◌, ◌-◌, ◌*◌, ◌/◌, ◌%◌, ◌<◌, ◌≤◌, ◌==◌, Bool, true, false, ◌||◌, List, [], ◌∷◌, ◌++◌, length}
 use Rattle.std.proofs.Common.{map, filter}
-use Rattle.std.proofs.Common.{add-one, add-zero, append_assoc, drop, drop-cons, length-append, arith, inl, inr}
+use Rattle.std.proofs.Common.{add-one, add-zero, append_assoc, drop, drop-cons, length-append, arith}
 use Rattle.std.specs.Prelude.{Some, if◌then◌else◌, nat_lt}
 use Rattle.std.specs.List.{slice_get, list_any, range_with_len}
-use Rattle.std.proofs.lemmas.Bool.{cases_Bool}
 use Rattle.std.proofs.lemmas.Bool.Decides.{nat_tests}
 use Rattle.std.proofs.lemmas.List.{append-nil, map-append}
 use Rattle.std.proofs.lemmas.Option.{get_or_from_slice_get}
@@ -75,7 +74,8 @@ module _ {headers : List Header} {ranges : List Span} {rest all : List ℕ} {old
   pub front_stop : kept ≡ false → first_again (is_bad_place headers) doubleword ranges all ≡ Some new.count
   front_stop is = rw (← whole, again_append, rw is at (admits ranges front.0 front.1)) refl
 
-pub front_end : {headers : List Header} {ranges : List Span} {rest all : List ℕ} {j : Judged} → JudgedFront headers ranges rest all j → rest ≡ [] → IsJudged headers ranges all j
+pub front_end : {headers : List Header} {ranges : List Span} {rest all : List ℕ} {j : Judged} → JudgedFront headers ranges rest all j → rest ≡ []
+    → IsJudged headers ranges all j
 front_end {headers} {ranges} {j = j} front none = subst (λ ps. IsJudged headers ranges ps j) (rw (none, append-nil) at front.2) front.1
 
 -- ---- bit by bit, and word by word
@@ -84,10 +84,11 @@ front_end {headers} {ranges} {j = j} front none = subst (λ ps. IsJudged headers
 abbrev pub bits_from : ℕ → ℕ → ℕ → List ℕ
 bits_from word next bit = map (λ i. next + 8 * (i - 1)) (filter (has_bit word) (range_with_len bit (64 - bit)))
 
-pub one_bit : (word next bit : ℕ) → bit < 64 → bits_from word next bit ≡ (if has_bit word bit then (next + 8 * (bit - 1)) ∷ [] else []) ++ bits_from word next (bit + 1)
+pub one_bit : (word next bit : ℕ) → bit < 64
+    → bits_from word next bit ≡ (if has_bit word bit then (next + 8 * (bit - 1)) ∷ [] else []) ++ bits_from word next (bit + 1)
 one_bit word next bit few =
     let same : 64 - bit ≡ suc (64 - (bit + 1)) = omega arith in
-    rw same (elim (cases_Bool (has_bit word bit)) [ inl has ↦ rw has refl | inr lacks ↦ rw lacks refl ])
+    rw same (grind arith)
 
 pub first_word : (packed : List ℕ) → 0 < length packed / 8 → slice_get (relr_words packed) 0 ≡ Some (field 8 packed 0)
 first_word packed some = get-table (field 8 packed) 0 8 (length packed / 8) 0 some
@@ -98,5 +99,6 @@ one_word packed next i word within is =
     let longer : i < length (relr_words packed) = omega (arith, length-table (field 8 packed) 0 8 (length packed / 8)) in
     let place : 0 + 8 * i ≡ 8 * i = omega arith in
     let here : drop i (relr_words packed) ≡ word ∷ drop (i + 1) (relr_words packed) =
-    rw (add-one, drop-cons (relr_words packed) i 0 longer, get_or_from_slice_get (relr_words packed) i _ 0 (get-table (field 8 packed) 0 8 (length packed / 8) i within), place, is) refl in
+    rw (add-one, drop-cons (relr_words packed) i 0 longer,
+        get_or_from_slice_get (relr_words packed) i _ 0 (get-table (field 8 packed) 0 8 (length packed / 8) i within), place, is) refl in
     rw here refl

@@ -1,6 +1,6 @@
 -- Ranges of addresses: where they lie, the doublewords that they name, and how they are counted.
-use Rattle.std.proofs.Common.{◌≡◌, ℕ, ◌+◌, ◌-◌, ◌*◌, ◌%◌, ◌<◌, ◌≤◌, ◌^◌, true, false, List, arith, inl, inr, ◌∙◌, ap, refl, ◌/◌, ◌==◌, ◌||◌, Bool, [], ◌∷◌}
-use Rattle.std.proofs.Common.{◌++◌, length, get_or, Some, None, ◌↔◌, ◌⊎◌, sym, zero, suc, ◌&&◌, w64, nat_le, nat_lt, cond, map, take, add-one}
+use Rattle.std.proofs.Common.{◌≡◌, ℕ, ◌+◌, ◌-◌, ◌*◌, ◌%◌, ◌<◌, ◌≤◌, ◌^◌, true, false, List, arith, inl, inr, ◌∙◌, refl, ◌/◌, ◌==◌, ◌||◌, Bool, [], ◌∷◌}
+use Rattle.std.proofs.Common.{◌++◌, length, get_or, Some, None, ◌↔◌, ◌⊎◌, zero, suc, ◌&&◌, w64, nat_le, nat_lt, cond, map, take, add-one}
 use Rattle.std.proofs.lemmas.Option.{get_or_from_slice_get, slice_get_within, slice_get-get_or, slice_get_past}
 use Rattle.ld_base.specs.declared.object.Reloc.{Reloc}
 use Rattle.ld_base.specs.declared.object.Span.{Span}
@@ -14,14 +14,13 @@ use Rattle.std.proofs.lemmas.Bool.Decides.{nat_tests}
 use Rattle.elf_dynamic.specs.Ranges.{is_writable, LiesIn}
 use lib.IntN.{pos}
 use Rattle.std.specs.Prelude.{position, if◌then◌else◌, count_by, min}
-use Rattle.std.specs.List.{list_any, position_or_len}
-use Rattle.std.proofs.lemmas.Bool.{lt-ltb, le-ltb, cases_Bool, cases_eq, cases_lt}
+use Rattle.std.specs.List.{list_any}
+use Rattle.std.proofs.lemmas.Bool.{lt-ltb, le-ltb, cases_Bool, cases_lt}
 use Rattle.std.proofs.lemmas.List.Folds.{list_any-append}
 use Rattle.std.proofs.lemmas.List.Sums.{position_or_len_is, count_by_more_yes, count_by_more_no, sum_by-cons}
 use Rattle.elf_dynamic.specs.Marks.{is_marked, AreMarks}
 use Rattle.std.specs.BTreeMap.{BTreeMap, Updates, get, is_at}
 use Rattle.std.specs.Ordering.{nat_cmp}
-use Rattle.acceptance.specs.Lemmas.Finds.{same_some}
 use Rattle.elf_dynamic.specs.Ends.{IsMet}
 use Rattle.elf_dynamic.specs.Judged.{AreEnds}
 use Rattle.std.proofs.Math.ListN.{set}
@@ -41,7 +40,8 @@ low_writable headers s low inside some =
     elim ((writable_decides headers s).0 inside) [
       | inl none ↦ absurd (omega arith)
       | inr l ↦
-          let ends = rw (get_or_from_slice_get headers l.index l.segment l.segment l.is) at (low l.index l.segment (slice_get_within headers l.index l.segment l.is)) in
+          let ends = rw (get_or_from_slice_get headers l.index l.segment l.segment l.is) at
+              (low l.index l.segment (slice_get_within headers l.index l.segment l.is)) in
           omega (arith, l.high, ends l.mapped)
     ]
 
@@ -57,11 +57,13 @@ pub low_reloc : (headers : List Header) (symbols : List Symbol) (r : Reloc) → 
 low_reloc headers symbols r low good some = low_writable headers (named_by symbols r) low (grind (arith, nat_tests)) some
 
 -- a slot that isn't bad by itself
-pub low_slot : (bytes : List ℕ) (headers : List Header) (symbols : List Symbol) (r : Reloc) → AreLow headers → is_no_slot bytes headers symbols r ≡ false → (r.place % 8 ≡ 0) × (r.place + 8 ≤ 2 ^ 32)
+pub low_slot : (bytes : List ℕ) (headers : List Header) (symbols : List Symbol) (r : Reloc) → AreLow headers → is_no_slot bytes headers symbols r ≡ false
+    → (r.place % 8 ≡ 0) × (r.place + 8 ≤ 2 ^ 32)
 low_slot bytes headers symbols r low good = (grind arith, low_place headers r.place low (grind arith))
 
 -- a doubleword of a range of writable memory is in writable memory
-pub sure_place : (headers : List Header) (next bit : ℕ) → 1 ≤ bit → bit < 64 → next % 8 ≡ 0 → in_writable headers (record { start = next; size = 504 }) ≡ true → is_bad_place headers (next + 8 * (bit - 1)) ≡ false
+pub sure_place : (headers : List Header) (next bit : ℕ) → 1 ≤ bit → bit < 64 → next % 8 ≡ 0
+    → in_writable headers (record { start = next; size = 504 }) ≡ true → is_bad_place headers (next + 8 * (bit - 1)) ≡ false
 sure_place headers next bit some few aligned inside =
     let wide = (writable_decides headers (record { start = next; size = 504 })).0 inside in
     let fits = writable_decides headers (doubleword (next + 8 * (bit - 1))) in
@@ -74,9 +76,7 @@ sure_place headers next bit some few aligned inside =
 module _ (words : List ℕ) (others : List Span) (place : ℕ) (marks : AreMarks words others) (aligned : place % 8 ≡ 0) where
   -- a doubleword at its place
   pub marked_place : is_marked words (place / 8) ≡ list_any (overlaps (doubleword place)) others
-  marked_place =
-      let same : 8 * (place / 8) ≡ place = omega arith in
-      marks (place / 8) ∙ ap (λ p. list_any (overlaps (doubleword p)) others) same
+  marked_place = let same : 8 * (place / 8) ≡ place = omega arith in rw (marks (place / 8), same) refl
 
   -- two doublewords
   pub marked_two : (is_marked words (place / 8) || is_marked words (place / 8 + 1)) ≡ list_any (overlaps (record { start = place; size = 16 })) others
@@ -88,7 +88,8 @@ module _ (words : List ℕ) (others : List Span) (place : ℕ) (marks : AreMarks
       two : (s : Span) → overlaps (record { start = place; size = 16 }) s ≡ (overlaps (doubleword place) s || overlaps (doubleword (place + 8)) s)
       two s = grind (arith, nat_tests)
 
-      each : (spans : List Span) → (list_any (overlaps (doubleword place)) spans || list_any (overlaps (doubleword (place + 8))) spans) ≡ list_any (overlaps (record { start = place; size = 16 })) spans
+      each : (spans : List Span) → (list_any (overlaps (doubleword place)) spans || list_any (overlaps (doubleword (place + 8))) spans)
+          ≡ list_any (overlaps (record { start = place; size = 16 })) spans
       each [] = refl
       each (s ∷ spans) = rw (two s, ← each spans) (grind arith)
 
@@ -104,13 +105,12 @@ nothing = record { place = 0; kind = 0; symbol = 0; addend = pos 0 }
 module _ {X : Type 0} (p : X → Bool) (xs : List X) (i : ℕ) (d : X) (before : (k : ℕ) → k < i → p (get_or xs k d) ≡ false) where
   pub position_here : i < length xs → p (get_or xs i d) ≡ true → Some i ≡ position p xs
   position_here within passes =
-      let at : position_or_len p xs ≡ i = position_or_len_is p xs i d (omega arith) before (λ less. passes) in
-      rw (at, lt-ltb i (length xs) within) refl
+      rw (position_or_len_is p xs i d (omega arith) before (λ less. passes), lt-ltb i (length xs) within) refl
 
   pub position_past : length xs ≤ i → None ≡ position p xs
   position_past past =
-      let at : position_or_len p xs ≡ length xs = position_or_len_is p xs (length xs) d (omega arith) (λ k below. before k (omega arith)) (λ less. absurd (omega arith)) in
-      rw (at, le-ltb (length xs) (length xs) (omega arith)) refl
+      rw (position_or_len_is p xs (length xs) d (omega arith) (λ k below. before k (omega arith)) (λ less. absurd (omega arith)),
+          le-ltb (length xs) (length xs) (omega arith)) refl
 
 -- ---- ranges that lie apart, as a map from where each begins to where it ends
 
@@ -132,27 +132,23 @@ module _ (range : Span) (none : range.size ≡ 0) where
 
 -- ---- one range more
 
-module _ (ranges : List Span) (ends : BTreeMap ℕ ℕ) (are : AreEnds ranges ends) (range : Span) (some : 0 < range.size) (clear : IsMet ends range.start (range.start + range.size) → ⊥)
+module _ (ranges : List Span) (ends : BTreeMap ℕ ℕ) (are : AreEnds ranges ends) (range : Span) (some : 0 < range.size)
+    (clear : IsMet ends range.start (range.start + range.size) → ⊥)
     (new : BTreeMap ℕ ℕ) (put : Updates nat_cmp ends new range.start (Some (range.start + range.size))) where
   not_at : (other : ℕ) → (range.start ≡ other → ⊥) → is_at (nat_cmp range.start) other ≡ false
   not_at other apart = grind (arith, nat_tests)
 
-  from_new : (start end : ℕ) → get nat_cmp new start ≡ Some end → ((range.start ≡ start) × (range.start + range.size ≡ end)) ⊎ (get nat_cmp ends start ≡ Some end)
-  from_new start end found =
-      elim (cases_eq range.start start) [
-        | inl same ↦ inl (same, same_some (sym put.1 ∙ rw (← same) at found))
-        | inr other ↦ inr (sym (put.2 start (not_at start other)) ∙ found)
-      ]
+  from_new : (start end : ℕ) → get nat_cmp new start ≡ Some end
+      → ((range.start ≡ start) × (range.start + range.size ≡ end)) ⊎ (get nat_cmp ends start ≡ Some end)
+  from_new start end found = let other = put.2 start in let kept = not_at start in grind (arith, put.1)
 
   from_old : (start end : ℕ) → get nat_cmp ends start ≡ Some end → get nat_cmp new start ≡ Some end
   from_old start end found =
       let reaches = are.apart.some start end found in
       put.2 start (not_at start (λ same. clear (start, (end, record { stands = found; begins = omega arith; reaches = omega arith })))) ∙ found
 
-  -- none of those before it has a byte of it
   before : (start end : ℕ) → get nat_cmp ends start ≡ Some end → start < range.start + range.size → end ≤ range.start
-  before start end found begins =
-      elim (cases_lt range.start end) [ inl inside ↦ absurd (clear (start, (end, record { stands = found; begins = begins; reaches = inside }))) | inr clears ↦ clears ]
+  before start end found begins = grind arith
 
   apart_more : (start end next past : ℕ) → get nat_cmp new start ≡ Some end → get nat_cmp new next ≡ Some past → start < next → end ≤ next
   apart_more start end next past found also less =
@@ -188,7 +184,8 @@ module _ (ranges : List Span) (ends : BTreeMap ℕ ℕ) (are : AreEnds ranges en
 
 -- ---- the doublewords of one range more
 
-pub put_marks : (old new : List ℕ) (ranges : List Span) (range : Span) → AreMarks old ranges → ((e : ℕ) → is_marked new e ≡ (overlaps (doubleword (8 * e)) range || is_marked old e)) → AreMarks new (ranges ++ range ∷ [])
+pub put_marks : (old new : List ℕ) (ranges : List Span) (range : Span) → AreMarks old ranges
+    → ((e : ℕ) → is_marked new e ≡ (overlaps (doubleword (8 * e)) range || is_marked old e)) → AreMarks new (ranges ++ range ∷ [])
 put_marks old new ranges range are step e = step e ∙ rw (are e, any_more) refl
 
 pub none_marks : (words : List ℕ) (ranges : List Span) (range : Span) → AreMarks words ranges → range.size ≡ 0 → AreMarks words (ranges ++ range ∷ [])
@@ -198,19 +195,12 @@ none_marks words ranges range are none = put_marks words words ranges range are 
 
 -- one word of no bits more
 pub get_or_zero : (xs : List ℕ) (k : ℕ) → get_or (xs ++ 0 ∷ []) k 0 ≡ get_or xs k 0
-get_or_zero [] zero = refl
-get_or_zero [] (suc k) = refl
-get_or_zero (x ∷ xs) zero = refl
-get_or_zero (x ∷ xs) (suc k) = get_or_zero xs k
+get_or_zero xs k = grind (arith, common_steps)
 
 -- a doubleword by the bit of its word, which is 0 where there is no word
 marked_get : (words : List ℕ) (d : ℕ) → is_marked words d ≡ (bit_at (get_or words (d / 64) 0) (d % 64) == 1)
 unfolding is_marked
-marked_get words d =
-    elim (cases_lt (d / 64) (length words)) [
-      | inl within ↦ rw (slice_get-get_or words (d / 64) 0 within) refl
-      | inr past ↦ rw (slice_get_past words (d / 64) past, get_or_past words (d / 64) 0 past, bit_at-zero (d % 64)) refl
-    ]
+marked_get words d = grind (arith, common_steps, slice_get-get_or, slice_get_past, get_or_past, bit_at-zero)
 
 -- words that read the same have the same doublewords
 pub same_marks : (old new : List ℕ) → ((k : ℕ) → get_or new k 0 ≡ get_or old k 0) → (d : ℕ) → is_marked new d ≡ is_marked old d
@@ -226,10 +216,7 @@ marked_set words i v e within = rw (marked_get (set words i v) e, marked_get wor
 
 bit_more : (word bit k : ℕ) → bit < 64 → (bit_at (bit_or word (1 * 2 ^ bit % 2 ^ 64)) k == 1) ≡ (bit == k || bit_at word k == 1)
 bit_more word bit k below =
-    elim (cases_eq bit k) [
-      | inl same ↦ let has = bit_at_set_same w64 word bit below in grind (arith, nat_tests)
-      | inr other ↦ let kept = bit_at_set_other w64 word bit below k (λ e. other (sym e)) in grind (arith, nat_tests)
-    ]
+    let has = bit_at_set_same w64 word bit below in let kept = bit_at_set_other w64 word bit below k in grind (arith, nat_tests)
 
 -- one doubleword more, of words that may have been made longer
 pub set_step : (old grown : List ℕ) (d e word : ℕ) → ((k : ℕ) → get_or grown k 0 ≡ get_or old k 0) → d / 64 < length grown → word ≡ get_or grown (d / 64) word
@@ -242,7 +229,8 @@ set_step old grown d e word same within is =
 -- ---- a whole word
 
 -- its doublewords
-pub fill_step : (old grown : List ℕ) (i e : ℕ) → ((k : ℕ) → get_or grown k 0 ≡ get_or old k 0) → i < length grown → is_marked (set grown i (2 ^ 64 - 1)) e ≡ (e / 64 == i || is_marked old e)
+pub fill_step : (old grown : List ℕ) (i e : ℕ) → ((k : ℕ) → get_or grown k 0 ≡ get_or old k 0) → i < length grown
+    → is_marked (set grown i (2 ^ 64 - 1)) e ≡ (e / 64 == i || is_marked old e)
 fill_step old grown i e same within =
     rw (marked_set grown i _ e within, bit_at_ones 64 (e % 64) (omega arith), ← same_marks old grown same e) (grind (arith, nat_tests))
 
@@ -273,26 +261,17 @@ module _ (p : ℕ → Bool) (xs : List ℕ) (i : ℕ) (point : IsPartitionPoint 
 -- ---- those that begin before the end of a range, and don't end before its first byte
 
 module _ (a : Span) where
-  one_of : (b : Span) → 0 < a.size → a.start + a.size < 2 ^ 64 → cond (overlaps a b) 1 0 + cond (nat_lt (end_of b) (a.start + 1)) 1 0 ≡ cond (nat_lt (begin_of b) (a.start + a.size)) 1 0
+  one_of : (b : Span) → 0 < a.size → a.start + a.size < 2 ^ 64
+      → cond (overlaps a b) 1 0 + cond (nat_lt (end_of b) (a.start + 1)) 1 0 ≡ cond (nat_lt (begin_of b) (a.start + a.size)) 1 0
   one_of b some near = grind (arith, nat_tests)
 
   pub times_from_counts : (ranges : List Span) → 0 < a.size → a.start + a.size < 2 ^ 64
       → times_named ranges a + count_below (a.start + 1) (map end_of ranges) ≡ count_below (a.start + a.size) (map begin_of ranges)
   times_from_counts [] some near = refl
   times_from_counts (b ∷ ranges) some near =
-      omega (
-        arith,
-        sum_by-cons (λ s. cond (overlaps a s) 1 0) b ranges,
-        sum_by-cons (λ n. cond (nat_lt n (a.start + 1)) 1 0) (end_of b) (map end_of ranges),
-        sum_by-cons (λ n. cond (nat_lt n (a.start + a.size)) 1 0) (begin_of b) (map begin_of ranges),
-        one_of b some near,
-        times_from_counts ranges some near,
-      )
-
-  none_of : (b : Span) → a.size ≡ 0 → overlaps a b ≡ false
-  none_of b none = grind (arith, nat_tests)
+      omega (arith, sum_by-cons (λ s. cond (overlaps a s) 1 0) b ranges, sum_by-cons (λ n. cond (nat_lt n (a.start + 1)) 1 0) (end_of b) (map end_of ranges),
+      sum_by-cons (λ n. cond (nat_lt n (a.start + a.size)) 1 0) (begin_of b) (map begin_of ranges), one_of b some near, times_from_counts ranges some near)
 
   -- a range without bytes has none in common
   pub times_of_none : (ranges : List Span) → a.size ≡ 0 → times_named ranges a ≡ 0
-  times_of_none [] none = refl
-  times_of_none (b ∷ ranges) none = let more = sum_by-cons (λ s. cond (overlaps a s) 1 0) b ranges in grind (arith, none_of, times_of_none ranges none)
+  times_of_none ranges none = let any = none_overlaps a none ranges in grind (arith, nat_tests, counted (overlaps a) ranges)

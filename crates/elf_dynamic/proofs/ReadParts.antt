@@ -1,11 +1,10 @@
 -- The parts that the tables say are those of the functions that the code is proved against, field by field.
-use Rattle.std.proofs.Common.{◌≡◌, ◌↔◌, ◌⊎◌, ◌∙◌, ap, sym, refl, ℕ, zero, suc, ◌+◌, ◌-◌, ◌*◌, ◌/◌, ◌%◌, ◌<◌, ◌≤◌, ◌==◌, Bool}
+use Rattle.std.proofs.Common.{◌≡◌, ◌↔◌, ◌⊎◌, ◌∙◌, ap, sym, refl, ℕ, zero, suc, ◌+◌, ◌*◌, ◌/◌, ◌<◌, ◌≤◌, ◌==◌, Bool}
 use Rattle.std.proofs.Common.{List, [], ◌∷◌, ◌++◌, length, map, Option, Some, None, arith, inl, inr}
 use Rattle.std.specs.Prelude.{find, fold, max, option_map, position}
-use Rattle.std.specs.List.{position_or_len, slice_get}
+use Rattle.std.specs.List.{slice_get}
 use Rattle.std.specs.Option.{option_and_then, option_map_or}
-use Rattle.std.proofs.lemmas.Bool.{cases_lt, lt-ltb, le-ltb}
-use Rattle.std.proofs.lemmas.Bool.Decides.{same_from_decides, Decides-eqb}
+use Rattle.std.proofs.lemmas.Bool.Decides.{nat_tests, same_from_decides, Decides-eqb}
 use Rattle.std.proofs.lemmas.List.{length-map}
 use Rattle.std.proofs.lemmas.List.Folds.{find_at}
 use Rattle.std.proofs.lemmas.Option.{slice_get_past, slice_get_within}
@@ -27,17 +26,19 @@ use Rattle.dyn_table.specs.HashWords.{hash_words}
 use Rattle.dyn_table.specs.Name.{string_at, string_in, IsStringAt}
 use Rattle.dyn_table.specs.Reloc.{reloc_at, relocs_of}
 use Rattle.dyn_table.specs.Symbol.{symbol_name, symbol_named, symbols_in}
-use Rattle.dyn_table.specs.Tag.{last_of, tags_of, value_of, values_of, EndsAtNull}
-use Rattle.dyn_table.specs.TagNumbers.{dt_bind_now, dt_fini_array, dt_fini_arraysz, dt_init_array, dt_init_arraysz, dt_jmprel, dt_needed, dt_pltrelsz}
-use Rattle.dyn_table.specs.TagNumbers.{dt_preinit_array, dt_preinit_arraysz, dt_relr, dt_relrsz, dt_soname, dt_strsz, dt_strtab, dt_symbolic, dt_symtab}
-use Rattle.elf_dynamic.specs.Parts.{AreBytes, AreFlags, AreNamesAt, AreParts, AreSymbols, AreTags, HasRoom, IsCount, IsFirstExported, IsNameAt, IsNameOf, IsRange, IsRela, IsSymbolTable, IsThat, NamePlaces}
+use Rattle.dyn_table.specs.Tag.{tags_of, value_of, values_of, EndsAtNull}
+use Rattle.dyn_table.specs.TagNumbers.{dt_fini_array, dt_fini_arraysz, dt_init_array, dt_init_arraysz, dt_jmprel, dt_needed, dt_pltrelsz}
+use Rattle.dyn_table.specs.TagNumbers.{dt_preinit_array, dt_preinit_arraysz, dt_relr, dt_relrsz, dt_strsz, dt_strtab, dt_symtab}
+use Rattle.elf_dynamic.specs.Parts.{AreBytes, AreFlags, AreNamesAt, AreParts, AreSymbols, AreTags, HasRoom, IsCount, IsFirstExported, IsNameAt, IsNameOf}
+use Rattle.elf_dynamic.specs.Parts.{IsRange, IsRela, IsSymbolTable, IsThat, LacksString, NamePlaces}
 use Rattle.elf_dynamic.specs.Parts.AreBytes.{held, missing}
 use Rattle.elf_dynamic.specs.Parts.IsCount.{by_chain, by_room}
 use Rattle.elf_dynamic.specs.Parts.IsFirstExported.{by_gnu, after_null}
 use Rattle.elf_dynamic.specs.Parts.IsNameOf.{nameless, named}
 use Rattle.elf_dynamic.specs.Parts.NamePlaces.{no_more, place, bits}
-use Rattle.elf_dynamic.specs.Relr.{bits_of, places_from, relr_places, relr_words}
-use Rattle.elf_dynamic.specs.Tables.{bytes_in, count_in, dynamic_tags, first_exported, flags_of, named_count, parts_in, plt_relocs, rela_relocs, rela_span, relr_bytes, span_of, strings_in, symbol_bytes, symbol_count}
+use Rattle.elf_dynamic.specs.Relr.{places_from, relr_places, relr_words}
+use Rattle.elf_dynamic.specs.Tables.{bytes_in, count_in, dynamic_tags, first_exported, flags_of, named_count, parts_in, plt_relocs, rela_relocs, rela_span}
+use Rattle.elf_dynamic.specs.Tables.{relr_bytes, span_of, strings_in, symbol_bytes, symbol_count}
 use Rattle.elf_dynamic.proofs.Relocs.{get_map}
 use Rattle.elf_dynamic.proofs.Reasons.{and_then, range_is, rela_is, same_span}
 use Rattle.acceptance.specs.Lemmas.Tests.{itself}
@@ -57,9 +58,7 @@ option_cases None = inl refl
 option_cases (Some x) = inr (x, refl)
 
 find_is : {X : Type 0} (p : X → Bool) (xs : List X) → find p xs ≡ option_and_then (slice_get xs) (position p xs)
-find_is p xs =
-    let n = position_or_len p xs in
-    find_at p xs ∙ elim (cases_lt n (length xs)) [ inl within ↦ rw (lt-ltb n (length xs) within) refl | inr past ↦ rw (le-ltb n (length xs) past, slice_get_past xs n past) refl ]
+find_is p xs = let at = find_at p xs in grind (arith, nat_tests, slice_get_past)
 
 -- two lists of as many entries are one, where R tells each
 entries_one : {X : Type 0} (R : ℕ → X → Type 0) (xs ys : List X) → ((i : ℕ) (x y : X) → R i x → R i y → x ≡ y) → length xs ≡ length ys
@@ -92,17 +91,13 @@ table_tells n at size = entries_tell _ n _ (λ i x y e f. e ∙ sym f) (table_ow
 
 places_is : {next : ℕ} {words places : List ℕ} → NamePlaces next words places → places ≡ places_from next words
 places_is (no_more n) = refl
-places_is (place n word rest others even more) = rw even (ap (λ ps. word ∷ ps) (places_is more))
-places_is (bits n word rest others odd more) = rw odd (ap (λ ps. map (λ i. n + 8 * (i - 1)) (bits_of word) ++ ps) (places_is more))
+places_is (place n word rest others even more) = let e = places_is more in grind arith
+places_is (bits n word rest others odd more) = let e = places_is more in grind arith
 
 places_own : (next : ℕ) (words : List ℕ) → NamePlaces next words (places_from next words)
 places_own next [] = no_more next
 places_own next (word ∷ words) =
-    let parity : (word % 2 ≡ 0) ⊎ (word % 2 ≡ 1) = grind arith in
-    elim parity [
-      | inl even ↦ rw even (place next word words _ even (places_own (word + 8) words))
-      | inr odd ↦ rw odd (bits next word words _ odd (places_own (next + 504) words))
-    ]
+    grind (arith, place, bits, places_own (word + 8) words, places_own (next + 504) words)
 
 -- ---- how many symbols there are
 
@@ -112,14 +107,14 @@ above_all : (relocs : List Reloc) (m n : ℕ)
 above_all [] m n = (λ low. (low, λ i r e. absurd cc), λ both. both.0)
 above_all (s ∷ relocs) m n =
     let rest = above_all relocs (max m (s.symbol + 1)) n in (
-      λ low. let (some, each) = rest.0 low in (omega arith, next (omega arith) each),
-      λ (low, each). let here = each 0 s refl in rest.1 (omega arith, λ i. each (suc i)),
+      λ low. (omega (arith, (rest.0 low).0),
+          λ i r e. elim (at i r e) [ inl same ↦ rw same (omega (arith, (rest.0 low).0)) | inr (j, there) ↦ (rest.0 low).1 j r there ]),
+      λ both. (let here = both.1 0 s refl in rest.1 (omega (arith, both.0), λ i. both.1 (suc i))),
     )
   where
-    next : s.symbol < n → ((i : ℕ) (r : Reloc) → slice_get relocs i ≡ Some r → r.symbol < n) → (i : ℕ) (r : Reloc) → slice_get (s ∷ relocs) i ≡ Some r
-        → r.symbol < n
-    next here each zero r e = rw (same_some e) at here
-    next here each (suc i) r e = each i r e
+    at : (i : ℕ) (r : Reloc) → slice_get (s ∷ relocs) i ≡ Some r → (r ≡ s) ⊎ ((j : ℕ) × (slice_get relocs j ≡ Some r))
+    at zero r e = inl (sym (same_some e))
+    at (suc i) r e = inr (i, e)
 
 module _ (words : HashTable) (relocs slots : List Reloc) where
   abbrev room : ℕ
@@ -139,46 +134,33 @@ module _ (words : HashTable) (relocs slots : List Reloc) where
 
   count_tells : Tells (IsCount words (relocs ++ slots)) (symbol_count words relocs slots)
   unfolding symbol_count
-  count_tells = tells _ _ own is
-    where
-      own : IsCount words (relocs ++ slots) (option_map_or (λ s. length s.chain) words.sysv room)
-      own = elim (option_cases words.sysv) [
-        | inl none ↦
-            let same : option_map_or (λ s. length s.chain) words.sysv room ≡ room = rw none refl in
-            rw same (by_room none ((room_is room).1 (omega arith)) (λ m has. (room_is m).0 has))
+  count_tells =
+      tells _ _
+      (elim (option_cases words.sysv) [
+        | inl none ↦ (let upper = room_is room in let lower = λ (m : ℕ). room_is m in grind (arith, by_room))
         | inr (s, there) ↦ by_chain s there (rw there refl)
-      ]
-
-      is : (n : ℕ) → IsCount words (relocs ++ slots) n → n ≡ option_map_or (λ s. length s.chain) words.sysv room
-      is n (by_chain s there e) = rw there e
-      is n (by_room none has least) = rw none (omega (arith, (room_is n).0 has, least room ((room_is room).1 (omega arith))))
+      ])
+      (λ n count. elim count [
+        | by_chain s there e ↦ rw there e
+        | by_room none has least ↦ rw none (omega (arith, (room_is n).0 has, least room ((room_is room).1 (omega arith))))
+      ])
 
 first_tells : (words : HashTable) → Tells (IsFirstExported words) (first_exported words)
-first_tells words = tells _ _ own is
-  where
-    own : IsFirstExported words (first_exported words)
-    own = elim (option_cases words.gnu) [ inl none ↦ after_null none (rw none refl) | inr (g, there) ↦ by_gnu g there (rw there refl) ]
-
-    is : (n : ℕ) → IsFirstExported words n → n ≡ first_exported words
-    is n (by_gnu g there e) = rw there e
-    is n (after_null none e) = rw none e
+first_tells words =
+    tells _ _ (elim (option_cases words.gnu) [ inl none ↦ after_null none (rw none refl) | inr (g, there) ↦ by_gnu g there (rw there refl) ])
+    (λ n first. elim first [ by_gnu g there e ↦ rw there e | after_null none e ↦ rw none e ])
 
 -- ---- flags and ranges
 
 flags_own : (tags : List Tag) → AreFlags tags (flags_of tags)
 unfolding flags_of
-flags_own tags =
-    let symbolic = stands_decides tags dt_symbolic in
-    let bind_now = stands_decides tags dt_bind_now in
-    record { symbolic = grind arith; bind_now = grind arith; nodelete = itself _ }
+flags_own tags = record { symbolic = grind (arith, stands_decides); bind_now = grind (arith, stands_decides); nodelete = itself _ }
 
 flags_is : {tags : List Tag} {flags : ObjFlags} → AreFlags tags flags → flags ≡ flags_of tags
-flags_is {tags} {flags} a =
+flags_is {tags} a =
     let b = flags_own tags in
-    let symbolic = same_from_decides flags.symbolic (flags_of tags).symbolic a.symbolic b.symbolic in
-    let bind_now = same_from_decides flags.bind_now (flags_of tags).bind_now a.bind_now b.bind_now in
-    let nodelete = same_from_decides flags.nodelete (flags_of tags).nodelete a.nodelete b.nodelete in
-    λ i. record { symbolic = symbolic i; bind_now = bind_now i; nodelete = nodelete i }
+    λ i. record { symbolic = same_from_decides _ _ a.symbolic b.symbolic i; bind_now = same_from_decides _ _ a.bind_now b.bind_now i;
+        nodelete = same_from_decides _ _ a.nodelete b.nodelete i }
 
 -- a range is known by what it is
 that_is : (R : Span → Type 0) (o range : Option Span) → ((s : Span) → (o ≡ Some s) ↔ R s) → IsThat R range → range ≡ o
@@ -204,48 +186,33 @@ module _ (tags_law : (bytes : List ℕ) (tags : List Tag) → (tags_of bytes ≡
         let first = (finds_is _ _ k (first_dynamic headers)).0 at in
         let (g, own, two) = first.bad in
         record {
-          index = k;
-          header = h;
-          is = is;
-          kind = rw (same_some (sym own ∙ is)) at two;
-          first = λ j g below here two. first.before j below (g, here, two);
-          table = part;
-          stands = stands;
-          ends = (tags_law part tags).0 ends;
+          index = k; header = h; is = is; kind = rw (same_some (sym own ∙ is)) at two; first = λ j g below here two. first.before j below (g, here, two);
+          table = part; stands = stands; ends = (tags_law part tags).0 ends;
         },
     λ t.
-        let at = (finds_is _ _ t.index (first_dynamic headers)).1 (record { bad = (t.header, t.is, t.kind); before = λ j below (h, is, two). t.first j h below is two }) in
+        let at = (finds_is _ _ t.index (first_dynamic headers)).1
+            (record { bad = (t.header, t.is, t.kind); before = λ j below (h, is, two). t.first j h below is two }) in
         rw (at, t.is, t.stands) ((tags_law t.table tags).1 t.ends),
   )
 
   -- ---- bytes and names
 
   bytes_tell : (R : Span → Type 0) (o : Option Span) → ((s : Span) → (o ≡ Some s) ↔ R s) → Tells (AreBytes bytes headers R) (bytes_in bytes headers o)
-  bytes_tell R o is = tells _ _ own (λ part are. elim are [
-    | held s r stands ↦ rw ((is s).1 r, stands) refl
-    | missing never none ↦ elim own [ held s r stands ↦ absurd (never s _ r stands) | missing also e ↦ none ∙ sym e ]
-  ])
-    where
-      own : AreBytes bytes headers R (bytes_in bytes headers o)
-      own = elim (option_cases o) [
-        | inl none ↦ missing (λ s there r stands. absurd (let e = (is s).1 r in cc)) (rw none refl)
-        | inr (s, at) ↦ elim (option_cases (file_bytes bytes headers s.start s.size)) [
-          | inl out ↦ missing (λ t there r stands. absurd (let same = same_some (sym at ∙ (is t).1 r) in let none = rw same at out in cc)) (rw (at, out) refl)
-          | inr (part, stands) ↦ rw (at, stands) (held s ((is s).0 at) stands)
-        ]
-      ]
+  bytes_tell R None is part = grind (arith, held, missing)
+  bytes_tell R (Some s) is part = let here = (is s).0 refl in elim (option_cases (file_bytes bytes headers s.start s.size)) [
+    | inl out ↦ grind (arith, missing)
+    | inr (own, stands) ↦ (
+        λ are. elim are [ held t r there ↦ (let same = same_some ((is t).1 r) in let more = rw (← same) at there in cc)
+            | missing never none ↦ absurd (never s own here stands) ],
+        λ e. rw e (rw stands (held s here stands)),
+      )
+  ]
 
   name_tells : (strings : List ℕ) (offset : ℕ) → Tells (IsNameAt strings offset) (string_in strings offset)
-  name_tells strings offset =
-      elim (option_cases (string_at strings offset)) [
-        | inl none ↦ rw none (tells _ _ (inr (λ other there. absurd (let e = (string strings other offset).1 there in cc), refl))
-            (λ name is. elim is [ inl there ↦ absurd (let e = (string strings name offset).1 there in cc) | inr (lacks, e) ↦ e ]))
-        | inr (found, at) ↦ rw at (tells _ _ (inl ((string strings found offset).0 at))
-            (λ name is. elim is [
-              | inl there ↦ same_some (sym ((string strings name offset).1 there) ∙ at)
-              | inr (lacks, e) ↦ absurd (lacks found ((string strings found offset).0 at))
-            ]))
-      ]
+  name_tells strings offset name = let at = string strings name offset in elim (option_cases (string_at strings offset)) [
+    | inl none ↦ (let lacks : LacksString strings offset = λ other there. absurd (let e = (string strings other offset).1 there in cc) in grind (arith, at))
+    | inr (found, there) ↦ (let own = string strings found offset in grind (arith, at, own))
+  ]
 
   name_own : (strings : List ℕ) (offset : ℕ) → IsNameAt strings offset (string_in strings offset)
   name_own strings offset = (name_tells strings offset _).1 refl
@@ -260,13 +227,8 @@ module _ (tags_law : (bytes : List ℕ) (tags : List Tag) → (tags_of bytes ≡
         each = λ i name is. (let (offset, at, same) = get_map (string_in strings) offsets i name is in (offset, at, rw same at (name_own strings offset)));
       })
 
-  soname_own : (strings : List ℕ) (o : Option ℕ) → IsNameOf strings o (option_map (string_in strings) o)
-  soname_own strings None = nameless
-  soname_own strings (Some offset) = named offset (string_in strings offset) (name_own strings offset)
-
-  soname_is : {strings : List ℕ} {o : Option ℕ} {name : Option (List ℕ)} → IsNameOf strings o name → name ≡ option_map (string_in strings) o
-  soname_is nameless = refl
-  soname_is {strings} (named offset n is) = ap Some ((name_tells strings offset n).0 is)
+  soname_tells : (strings : List ℕ) (o : Option ℕ) → Tells (IsNameOf strings o) (option_map (string_in strings) o)
+  soname_tells strings o name = grind (arith, nameless, named, name_tells)
 
   -- ---- symbols
 
@@ -277,11 +239,9 @@ module _ (tags_law : (bytes : List ℕ) (tags : List Tag) → (tags_of bytes ≡
       (name_one strings (symbol_name part (24 * i)) s.name t.name n m) ∙ sym f)
       (table_own _ count (λ at. symbol_named part at (string_in strings (symbol_name part at))) 24 (λ i. (name_own strings (symbol_name part (24 * i)), refl)))
 
-  symbol_range : (tags : List Tag) (count : ℕ) (s : Span) → (Some (let t : Span = record { start = value_of tags dt_symtab; size = 24 * count } in t) ≡ Some s) ↔ IsSymbolTable tags count s
-  symbol_range tags count s = (
-    λ e. let same = same_some e in (sym (ap (λ (t : Span). t.start) same), sym (ap (λ (t : Span). t.size) same)),
-    λ (a, b). ap Some (same_span (record { start = value_of tags dt_symtab; size = 24 * count }) s (sym a) (sym b)),
-  )
+  symbol_range : (tags : List Tag) (count : ℕ) (s : Span)
+      → (Some (let t : Span = record { start = value_of tags dt_symtab; size = 24 * count } in t) ≡ Some s) ↔ IsSymbolTable tags count s
+  symbol_range tags count s = grind (arith, same_span)
 
   -- ---- the record
 
@@ -306,7 +266,8 @@ module _ (tags_law : (bytes : List ℕ) (tags : List Tag) → (tags_of bytes ≡
   ranges_are : (tags : List Tag) (address size : ℕ) (range : Option Span) → IsThat (IsRange tags address size) range → range ≡ span_of tags address size
   ranges_are tags address size range = that_is (IsRange tags address size) (span_of tags address size) range (range_is tags address size)
 
-  entries_is : {X : Type 0} (at : List ℕ → ℕ → X) (size : ℕ) (part own : List ℕ) (xs : List X) → AreEntries (λ i x. x ≡ at part (size * i)) (length part / size) xs → part ≡ own
+  entries_is : {X : Type 0} (at : List ℕ → ℕ → X) (size : ℕ) (part own : List ℕ) (xs : List X)
+      → AreEntries (λ i x. x ≡ at part (size * i)) (length part / size) xs → part ≡ own
       → xs ≡ table (at own) 0 size (length own / size)
   entries_is at size part own xs are same = (table_tells _ (at part) size xs).0 are ∙ ap (λ bs. table (at bs) 0 size (length bs / size)) same
 
@@ -314,26 +275,20 @@ module _ (tags_law : (bytes : List ℕ) (tags : List Tag) → (tags_of bytes ≡
   unfolding parts_in strings_in symbol_bytes relocs_of
   read parts say =
       let tags = parts.tags in
-      let strings_is : say.strings ≡ strings_in bytes headers tags = (range_tells tags dt_strtab dt_strsz say.strings).0 say.are_strings in
-      let relocs : parts.relocs ≡ rela_relocs bytes headers tags = entries_is reloc_at 24 say.rela _ parts.relocs say.relocs
-      ((rela_tells tags say.rela).0 say.is_rela) in
-      let slots : parts.plt_relocs ≡ plt_relocs bytes headers tags = entries_is reloc_at 24 say.slots _ parts.plt_relocs say.plt_relocs
-      ((range_tells tags dt_jmprel dt_pltrelsz say.slots).0 say.are_slots) in
-      let words_are : say.words ≡ relr_words (relr_bytes bytes headers tags) = entries_is (field 8) 8 say.packed _ say.words say.are_words
-      ((range_tells tags dt_relr dt_relrsz say.packed).0 say.is_packed) in
-      let relr : parts.relr ≡ relr_places (relr_bytes bytes headers tags) = places_is say.relr ∙ ap (places_from 0) words_are in
-      let count : length parts.symbols ≡ count_in bytes headers tags = rw (relocs, slots) at ((count_tells
-      (hash_words bytes headers tags) parts.relocs parts.plt_relocs _).0 say.count) in
-      let table_is : say.table ≡ symbol_bytes bytes headers tags = rw count at ((bytes_tell _ _
-      (symbol_range tags (length parts.symbols)) say.table).0 say.is_table) in
-      let symbols : parts.symbols ≡ symbols_in (symbol_bytes bytes headers tags) (strings_in bytes headers tags) (count_in bytes headers tags) =
-      rw (← strings_is, ← table_is, ← count) ((symbols_tell say.table say.strings (length parts.symbols) parts.symbols).0 say.symbols) in
-      let soname = rw strings_is at (soname_is say.soname) in
-      let needed = rw strings_is at ((names_tell say.strings (values_of tags dt_needed) parts.needed).0 say.needed) in
+      let strings_is = (range_tells tags dt_strtab dt_strsz _).0 say.are_strings in
+      let relocs = entries_is reloc_at 24 say.rela _ parts.relocs say.relocs ((rela_tells tags _).0 say.is_rela) in
+      let slots = entries_is reloc_at 24 say.slots _ parts.plt_relocs say.plt_relocs ((range_tells tags dt_jmprel dt_pltrelsz _).0 say.are_slots) in
+      let words_are = entries_is (field 8) 8 say.packed _ say.words say.are_words ((range_tells tags dt_relr dt_relrsz _).0 say.is_packed) in
+      let relr = places_is say.relr ∙ ap (places_from 0) words_are in
+      let count = rw (relocs, slots) at ((count_tells (hash_words bytes headers tags) parts.relocs parts.plt_relocs _).0 say.count) in
+      let table_is = rw count at ((bytes_tell _ _ (symbol_range tags (length parts.symbols)) _).0 say.is_table) in
+      let symbols = rw (strings_is, table_is, count) at ((symbols_tell say.table say.strings (length parts.symbols) parts.symbols).0 say.symbols) in
+      let soname = rw strings_is at ((soname_tells _ _ _).0 say.soname) in
+      let needed = rw strings_is at ((names_tell say.strings (values_of tags dt_needed) _).0 say.needed) in
       let first = (first_tells _ _).0 say.first_exported in
-      let preinit = ranges_are tags dt_preinit_array dt_preinit_arraysz parts.preinit say.preinit in
-      let init_array = ranges_are tags dt_init_array dt_init_arraysz parts.init_array say.init_array in
-      let fini_array = ranges_are tags dt_fini_array dt_fini_arraysz parts.fini_array say.fini_array in
+      let preinit = ranges_are tags dt_preinit_array dt_preinit_arraysz _ say.preinit in
+      let init_array = ranges_are tags dt_init_array dt_init_arraysz _ say.init_array in
+      let fini_array = ranges_are tags dt_fini_array dt_fini_arraysz _ say.fini_array in
       let flags = flags_is say.flags in
       record {
         strings_is = strings_is;
@@ -343,7 +298,8 @@ module _ (tags_law : (bytes : List ℕ) (tags : List Tag) → (tags_of bytes ≡
         relocs = relocs;
         slots = slots;
         places = relr;
-        is = rw (← soname, ← needed, ← symbols, ← first, ← relocs, ← slots, ← say.pltgot, ← preinit, ← say.init, ← init_array, ← say.fini, ← fini_array, ← flags, ← relr) refl;
+        is = rw (← soname, ← needed, ← symbols, ← first, ← relocs, ← slots, ← say.pltgot, ← preinit, ← say.init, ← init_array, ← say.fini, ← fini_array,
+            ← flags, ← relr) refl;
       }
 
   -- the parts that the functions give are said
@@ -364,7 +320,7 @@ module _ (tags_law : (bytes : List ℕ) (tags : List Tag) → (tags_of bytes ≡
         is_packed = (range_tells tags dt_relr dt_relrsz _).1 refl;
         table = symbol_bytes bytes headers tags;
         is_table = rw same ((bytes_tell _ _ (symbol_range tags (count_in bytes headers tags)) _).1 refl);
-        soname = soname_own (strings_in bytes headers tags) (last_of tags dt_soname);
+        soname = (soname_tells _ _ _).1 refl;
         needed = (names_tell (strings_in bytes headers tags) (values_of tags dt_needed) _).1 refl;
         relocs = (table_tells _ (reloc_at _) 24 _).1 refl;
         plt_relocs = (table_tells _ (reloc_at _) 24 _).1 refl;

@@ -1,7 +1,7 @@
 -- Rules 11 and 15: the least of the tables that are bad, and of the features that are not linked.
-use Rattle.std.proofs.Common.{◌≡◌, ◌↔◌, ◌⊎◌, refl, ℕ, suc, ◌≤◌, Bool, true, false, List, [], ◌∷◌, arith, inl, inr, Option, None, Some, ap, sym, ◌-◌, ◌<◌}
+use Rattle.std.proofs.Common.{◌≡◌, ◌↔◌, ◌⊎◌, refl, ℕ, suc, ◌≤◌, Bool, false, List, [], ◌∷◌, arith, inl, inr, Option, None, Some, ap, sym, ◌-◌}
 use Rattle.std.proofs.Common.{◌==◌, ◌%◌, ◌&&◌, not, length, nat_lt, ◌≢◌, ◌||◌, nat_le}
-use Rattle.std.specs.Prelude.{Decides, if◌then◌else◌, unwrap_or}
+use Rattle.std.specs.Prelude.{Decides, if◌then◌else◌}
 use Rattle.std.specs.Option.{option_or, option_and_then, option_map_or}
 use Rattle.elf_dynamic.specs.Rules.{first_bad, are_addresses, bad_table, has_bad_array, has_bad_strings, has_entries, is_bad_table, is_readable, lacks_symbols}
 use Rattle.elf_dynamic.specs.Rules.{table_checks, has_type, is_exec, is_other_type, refused_feature}
@@ -64,18 +64,14 @@ HasReason (r ∷ rs) n = ((n ≡ r.0) × r.2) ⊎ HasReason rs n
 
 above : (low : ℕ) (rs : List Reason) → Ascends low rs → (n : ℕ) → HasReason rs n → low ≤ n
 above low [] up n why = absurd why
-above low (r ∷ rs) up n (inl (is, why)) = omega (arith, up.0)
-above low (r ∷ rs) up n (inr more) = omega (arith, up.0, above (suc r.0) rs up.1 n more)
+above low (r ∷ rs) up n why = let more = above (suc r.0) rs up.1 n in grind arith
 
 pub reason_finds : (low : ℕ) (rs : List Reason) → Ascends low rs → Finds (HasReason rs) (first_bad (tests rs))
 reason_finds low [] up = λ n why. why
-reason_finds low ((m, true, P, d) ∷ rs) up = record {
-  bad = inl (refl, d.0 refl);
-  before = λ j below why. elim why [ inl (is, p) ↦ omega arith | inr more ↦ omega (arith, above (suc m) rs up.1 j more) ];
-}
-reason_finds low ((m, false, P, d) ∷ rs) up =
-    finds_like (HasReason rs) _ (λ n why. inr why) (λ n why. elim why [ inl (is, p) ↦ absurd (let holds = d.1 p in cc) | inr more ↦ more ]) _
-    (reason_finds (suc m) rs up.1)
+reason_finds low ((m, test, P, d) ∷ rs) up =
+    let more = above (suc m) rs up.1 in
+    let rest = reason_finds (suc m) rs up.1 in
+    grind arith
 
 -- ---- what is found first, or else in another way
 
@@ -84,8 +80,7 @@ finds_nothing Bad o f = (λ none. rw none at f, finds_none Bad o f)
 
 pub or_else : {X : Type 0} {o p : Option X} {x : X} {P N Q : Type 0} → (o ≡ Some x) ↔ P → (o ≡ None) ↔ N → (p ≡ Some x) ↔ Q → (option_or o p ≡ Some x)
     ↔ (P ⊎ (N × Q))
-or_else {o = None} a b c = (λ e. inr (b.0 refl, c.0 e), λ why. elim why [ inl p ↦ absurd (let e = a.1 p in cc) | inr (n, q) ↦ c.1 q ])
-or_else {o = Some y} a b c = (λ e. inl (a.0 e), λ why. elim why [ inl p ↦ a.1 p | inr (n, q) ↦ absurd (let e = b.1 n in cc) ])
+or_else a b c = grind arith
 
 pub if_some : {X : Type 0} {b : Bool} {P : Type 0} (v x : X) → Decides b P → ((if b then Some v else None) ≡ Some x) ↔ (P × (x ≡ v))
 if_some v x d = grind arith
@@ -99,18 +94,10 @@ and_then f (Some x) y e = (x, refl, e)
 pub same_span : (s t : Span) → s.start ≡ t.start → s.size ≡ t.size → s ≡ t
 same_span s t a b = λ i. record { start = a i; size = b i }
 
--- a range of options
-abbrev named_range : Option ℕ → Option ℕ → Option Span
-named_range a b = option_and_then (λ at. if unwrap_or b 0 == 0 then None else Some (record { start = at; size = unwrap_or b 0 })) a
-
-range_of : (a b : Option ℕ) (s : Span) → (named_range a b ≡ Some s) ↔ ((a ≡ Some s.start) × (b ≡ Some s.size) × (0 < s.size))
-range_of a b s = grind (arith, nat_tests)
-
 pub range_is : (tags : List Tag) (address size : ℕ) (s : Span) → (span_of tags address size ≡ Some s) ↔ IsRange tags address size s
 unfolding span_of
 range_is tags address size s =
-    let iff = range_of (last_of tags address) (last_of tags size) s in
-    (λ e. let (a, b, c) = iff.0 e in record { start = a; bytes = b; some = c }, λ r. iff.1 (r.start, r.bytes, r.some))
+    grind (arith, nat_tests)
 
 tail_decides : (slots all : Span) → Decides (is_tail slots all) (IsTail slots all)
 tail_decides slots all = grind (arith, nat_tests)
@@ -142,16 +129,16 @@ module _ (tags : List Tag) (s : Span) where
   whole_left None apart = refl
   whole_left (Some plt) apart = rw (refuted (tail_decides plt s) (apart plt refl)) refl
 
-  from_rela : (a p : Option Span) → ((x : Span) → IsRange tags dt_rela dt_relasz x → a ≡ Some x) → Slots p → IsRela tags s → option_and_then (less_tail p) a ≡ Some s
+  from_rela : (a p : Option Span) → ((x : Span) → IsRange tags dt_rela dt_relasz x → a ≡ Some x) → Slots p → IsRela tags s
+      → option_and_then (less_tail p) a ≡ Some s
   from_rela a p rela slots (whole r apart) = rw (rela s r) (whole_left p (λ x is. apart x ((slots x).0 is)))
-  from_rela a p rela slots (front x y r t tail begins ends some) =
-      let other = refuted (Decides-eqb y.start x.start) (λ same. omega arith) in
-      rw (rela x r, (slots y).1 t, (tail_decides y x).1 tail, other) (ap Some (same_span (record { start = x.start; size = y.start - x.start }) s (sym begins) (omega arith)))
+  from_rela a p rela slots (front x y r t tail begins ends some) = rw (rela x r, (slots y).1 t) (grind (arith, nat_tests, same_span))
 
 pub rela_is : (tags : List Tag) (s : Span) → (rela_span tags ≡ Some s) ↔ IsRela tags s
 unfolding rela_span
 rela_is tags s = (
-  λ e. let (all, is, left) = and_then (less_tail (span_of tags dt_jmprel dt_pltrelsz)) _ s e in to_rela tags s all _ (range_is tags dt_jmprel dt_pltrelsz) ((range_is tags dt_rela dt_relasz all).0 is) left,
+  λ e. let (all, is, left) = and_then (less_tail (span_of tags dt_jmprel dt_pltrelsz)) _ s e in
+      to_rela tags s all _ (range_is tags dt_jmprel dt_pltrelsz) ((range_is tags dt_rela dt_relasz all).0 is) left,
   from_rela tags s _ _ (λ x. (range_is tags dt_rela dt_relasz x).1) (range_is tags dt_jmprel dt_pltrelsz),
 )
 
@@ -170,22 +157,24 @@ lacks_decides tags tag = grind arith
 abbrev Unfit : (Span → Type 0) → (Span → Type 0) → Type 0
 Unfit R Fits = (s : Span) × R s × (Fits s → ⊥)
 
-unfit_decides : {fits : Span → Bool} {Fits : Span → Type 0} (R : Span → Type 0) (o : Option Span) → ((s : Span) → (o ≡ Some s) ↔ R s) → ((s : Span) → Decides (fits s) (Fits s))
+unfit_decides : {fits : Span → Bool} {Fits : Span → Type 0} (R : Span → Type 0) (o : Option Span) → ((s : Span) → (o ≡ Some s) ↔ R s)
+    → ((s : Span) → Decides (fits s) (Fits s))
     → Decides (option_map_or (λ s. not (fits s)) o false) (Unfit R Fits)
 unfit_decides {fits} R o is each =
-    means (there_decides (λ s. not (fits s)) _ (λ s. contrary (each s)) o) (λ (s, e, bad). (s, (is s).0 e, bad)) (λ (s, r, bad). (s, (is s).1 r, bad))
+    let found = there_decides (λ s. not (fits s)) _ (λ s. contrary (each s)) o in grind (arith, is)
 
 module _ (headers : List Header) (tags : List Tag) where
   abbrev LacksOther : ℕ → ℕ → Type 0
   LacksOther tag other = Stands tags tag × (last_of tags other ≡ None)
 
   other_decides : (tag other : ℕ) → Decides (has tags tag && not (has tags other)) (LacksOther tag other)
-  other_decides tag other = both (stands_decides tags tag) (lacks_decides tags other)
+  other_decides tag other = grind (arith, stands_decides)
 
   entries_decides : (entry size : ℕ) (s : Span) → Decides (has_entries tags entry size s && is_readable headers s) (HasEntries headers tags entry size s)
   entries_decides entry size s = grind (arith, nat_tests)
 
-  pub slots_decides : (s : Span) → Decides (value_of tags dt_pltrel == dt_rela && has tags dt_pltgot && s.size % 24 == 0 && is_readable headers s) (AreSlots headers tags s)
+  pub slots_decides : (s : Span)
+      → Decides (value_of tags dt_pltrel == dt_rela && has tags dt_pltgot && s.size % 24 == 0 && is_readable headers s) (AreSlots headers tags s)
   slots_decides s = grind (arith, nat_tests, stands_decides)
 
   addresses_decides : (s : Span) → Decides (are_addresses headers s) (AreAddresses headers s)
@@ -197,7 +186,8 @@ module _ (headers : List Header) (tags : List Tag) where
       → Decides (is_bad_table tags address size fits) (LacksOther address size ⊎ Unfit (IsRange tags address size) Fits)
   named_by_two address size each = either (other_decides address size) (unfit_decides _ (span_of tags address size) (range_is tags address size) each)
 
-  array : (address size : ℕ) → Decides (has_bad_array headers tags address size) (LacksOther address size ⊎ Unfit (IsRange tags address size) (AreAddresses headers))
+  array : (address size : ℕ) → Decides (has_bad_array headers tags address size)
+      (LacksOther address size ⊎ Unfit (IsRange tags address size) (AreAddresses headers))
   array address size = named_by_two address size addresses_decides
 
   strings : Decides (has_bad_strings headers tags) ((s : Span) → IsRange tags dt_strtab dt_strsz s → IsHeld headers s → ⊥)
@@ -256,9 +246,11 @@ type_decides kind relocs = among (λ r. Decides-eqb r.kind kind) relocs
 
 other_type_decides : (r : Reloc) → Decides (is_other_type r) ((j kind : ℕ) → slice_get known_types j ≡ Some kind → r.kind ≢ kind)
 other_type_decides r =
-    means (Decides-at _ _ (same r.kind) (contrary (among (Decides-eqb r.kind) known_types))) (λ none j kind is same. none (j, kind, is, same)) (λ none (j, kind, is, same). none j kind is same)
+    means (Decides-at _ _ (same r.kind) (contrary (among (Decides-eqb r.kind) known_types))) (λ none j kind is same. none (j, kind, is, same))
+        (λ none (j, kind, is, same). none j kind is same)
   where
-    same : (n : ℕ) → not (n == 0 || nat_le 1 n && nat_le n 5 || n == 7 || n == 9 || n == 11 || n == 12 || n == 58) ≡ not (list_any (λ kind. n == kind) known_types)
+    same : (n : ℕ) → not (n == 0 || nat_le 1 n && nat_le n 5 || n == 7 || n == 9 || n == 11 || n == 12 || n == 58)
+        ≡ not (list_any (λ kind. n == kind) known_types)
     same n = grind (arith, nat_tests)
 
 library_decides : (program : Bool) → Decides (not program) (program ≡ false)

@@ -1,12 +1,11 @@
 -- Rules 13, 14 and 16: the first bad symbol, relocation and slot.
-use Rattle.std.proofs.Common.{◌≡◌, ◌≢◌, ◌⊎◌, ◌∙◌, ap, sym, refl, ℕ, zero, suc, ◌+◌, ◌%◌, ◌<◌, ◌==◌, ◌||◌, Bool, true, false, not, List, [], ◌∷◌, ◌++◌, length}
-use Rattle.std.proofs.Common.{map, take, ◌↔◌, Option, Some, arith, inl, inr, nat_le, ◌&&◌, None}
+use Rattle.std.proofs.Common.{◌≡◌, ◌⊎◌, ◌∙◌, ap, sym, refl, ℕ, zero, suc, ◌+◌, ◌%◌, ◌<◌, ◌==◌, ◌||◌, Bool, true, List, [], ◌∷◌, ◌++◌, length}
+use Rattle.std.proofs.Common.{map, not, take, ◌↔◌, Option, Some, arith, inl, inr, ◌&&◌, None, ◌-◌}
 use Rattle.std.specs.Prelude.{Decides, option_map, if◌then◌else◌}
 use Rattle.std.specs.List.{list_any, slice_get}
 use Rattle.std.proofs.lemmas.Bool.Decides.{nat_tests, Decides-eqb}
 use Rattle.std.proofs.lemmas.List.{length-map, take-append-le, take-map}
 use Rattle.std.proofs.lemmas.Option.{slice_get_within, slice_get-map}
-use Rattle.ld_base.specs.Symbol.{binding, is_defined, is_tls}
 use Rattle.ld_base.specs.declared.object.Reloc.{Reloc}
 use Rattle.ld_base.specs.declared.object.Span.{Span}
 use Rattle.ld_base.specs.declared.object.Symbol.{Symbol}
@@ -16,7 +15,7 @@ use Rattle.elf_dynamic.specs.Breaks.{named, IsBadRelocAt, IsBadSymbol, IsBadSymb
 use Rattle.elf_dynamic.specs.Breaks.{LeadsToCode}
 use Rattle.elf_dynamic.specs.Breaks.IsBadRelocAt.{by_itself, begins_with_bits, bad_place, named_twice}
 use Rattle.elf_dynamic.specs.Breaks.IsBadSymbol.{other_binding, no_storage}
-use Rattle.elf_dynamic.specs.Memory.{overlaps, in_executable}
+use Rattle.elf_dynamic.specs.Memory.{overlaps, in_executable, in_writable}
 use Rattle.elf_dynamic.specs.Named.{doubleword, named_by, slot_ranges}
 use Rattle.elf_dynamic.specs.Ranges.{IsPlace, Share}
 use Rattle.elf_dynamic.specs.Relr.{begins_odd}
@@ -40,40 +39,26 @@ pub map_get : {X Y : Type 0} (f : X → Y) (xs : List X) (k : ℕ) (x : X) → s
 map_get f xs k x e = slice_get-map f xs k ∙ ap (option_map f) e
 
 pub get_map : {X Y : Type 0} (f : X → Y) (xs : List X) (k : ℕ) (y : Y) → slice_get (map f xs) k ≡ Some y → (x : X) × (slice_get xs k ≡ Some x) × (f x ≡ y)
-get_map f [] k y e = absurd cc
-get_map f (x ∷ xs) zero y e = (x, refl, same_some e)
-get_map f (x ∷ xs) (suc k) y e = get_map f xs k y e
+get_map f xs k y e = let at = slice_get-map f xs k in grind arith
 
 pub get_left : {X : Type 0} (xs ys : List X) (k : ℕ) → k < length xs → slice_get (xs ++ ys) k ≡ slice_get xs k
 get_left [] ys k within = absurd (omega arith)
-get_left (y ∷ xs) ys zero within = refl
-get_left (y ∷ xs) ys (suc k) within = get_left xs ys k (omega arith)
+get_left (x ∷ xs) ys k within = let rest = get_left xs ys (k - 1) in grind arith
 
 pub get_right : {X : Type 0} (xs ys : List X) (k : ℕ) → slice_get (xs ++ ys) (length xs + k) ≡ slice_get ys k
-get_right [] ys k = let same : 0 + k ≡ k = omega arith in rw same refl
-get_right (x ∷ xs) ys k = let same : suc (length xs) + k ≡ suc (length xs + k) = omega arith in rw same (get_right xs ys k)
+get_right [] ys k = grind arith
+get_right (x ∷ xs) ys k = let rest = get_right xs ys k in grind arith
 
 pub get_both : {X : Type 0} (xs ys : List X) (k : ℕ) (x : X) → slice_get (xs ++ ys) k ≡ Some x
     → (slice_get xs k ≡ Some x) ⊎ ((i : ℕ) × (k ≡ length xs + i) × (slice_get ys i ≡ Some x))
-get_both [] ys k x e = inr (k, omega arith, e)
-get_both (y ∷ xs) ys zero x e = inl e
-get_both (y ∷ xs) ys (suc k) x e = elim (get_both xs ys k x e) [ inl here ↦ inl here | inr (i, at, is) ↦ inr (i, omega (arith, at), is) ]
+get_both xs ys k x e = let left = get_left xs ys k in let right = get_right xs ys (k - length xs) in grind arith
 
 -- ---- rule 13
 
-binding_decides : (n : ℕ) → Decides (not (nat_le n 2 || n == 10)) ((n ≢ 0) × (n ≢ 1) × (n ≢ 2) × (n ≢ 10))
-binding_decides n = grind (arith, nat_tests)
-
 symbol_decides : (headers : List Header) (s : Symbol) → Decides (is_bad_symbol (has_storage headers) s) (IsBadSymbol headers s)
 symbol_decides headers s =
-    means
-    (either (binding_decides (binding s)) (both (both (itself (is_defined s)) (itself (is_tls s))) (contrary (any_at (λ h. h.kind == 7) _ (λ h. Decides-eqb h.kind 7) headers))))
-    (λ why. elim why [
-      | inl (a, b, c, d) ↦ other_binding a b c d
-      | inr ((defined, tls), none) ↦ no_storage defined tls
-          (λ i h is seven. none (i, h, is, seven))
-    ])
-    (λ bad. elim bad [ other_binding a b c d ↦ inl (a, b, c, d) | no_storage defined tls none ↦ inr ((defined, tls), λ (i, h, is, seven). none i h is seven) ])
+    let storage = any_at (λ h. h.kind == 7) _ (λ h. Decides-eqb h.kind 7) headers in
+    grind (arith, nat_tests, other_binding, no_storage)
 
 pub symbol_finds : (headers : List Header) (symbols : List Symbol) → Finds (IsBadSymbolAt headers symbols) (bad_symbol headers symbols)
 unfolding bad_symbol
@@ -82,11 +67,10 @@ symbol_finds headers symbols = finds_position (is_bad_symbol (has_storage header
 -- ---- rule 14
 
 get_take : {X : Type 0} (xs : List X) (k j : ℕ) (x : X) → (slice_get (take k xs) j ≡ Some x) ↔ ((j < k) × (slice_get xs j ≡ Some x))
-get_take xs zero j x = (λ e. absurd cc, λ (below, is). absurd (omega arith))
-get_take [] (suc k) j x = (λ e. absurd cc, λ (below, is). absurd cc)
-get_take (y ∷ xs) (suc k) zero x = (λ e. (omega arith, e), λ (below, is). is)
-get_take (y ∷ xs) (suc k) (suc j) x =
-    let rest = get_take xs k j x in (λ e. let (below, is) = rest.0 e in (omega arith, is), λ (below, is). rest.1 (omega arith, is))
+get_take xs zero j x = grind arith
+get_take [] (suc k) j x = grind arith
+get_take (y ∷ xs) (suc k) zero x = grind arith
+get_take (y ∷ xs) (suc k) (suc j) x = let rest = get_take xs k j x in grind arith
 
 shares_decides : (ranges : List Span) (k : ℕ) (a : Span) → slice_get ranges k ≡ Some a → Decides (list_any (overlaps a) (take k ranges)) (SharesBefore ranges k)
 shares_decides ranges k a is =
@@ -100,9 +84,9 @@ odd_decides : (words : List ℕ) → Decides (begins_odd words) ((word : ℕ) ×
 odd_decides words = there_decides (λ word. word % 2 == 1) _ (λ word. Decides-eqb (word % 2) 1) (slice_get words 0)
 
 -- 0 where a test passes, and else what is found
-first_or : (test : Bool) (P : Type 0) (A : ℕ → Type 0) (o : Option ℕ) → Decides test P → Finds A o → Finds (λ i. (P × (i ≡ 0)) ⊎ A i) (if test then Some 0 else o)
-first_or true P A o d f = record { bad = inl (d.0 refl, refl); before = λ j below b. absurd (omega arith) }
-first_or false P A o d f = finds_like A _ (λ k a. inr a) (λ k why. elim why [ inl (p, e) ↦ absurd (let holds = d.1 p in cc) | inr a ↦ a ]) o f
+first_or : (test : Bool) (P : Type 0) (A : ℕ → Type 0) (o : Option ℕ) → Decides test P → Finds A o
+    → Finds (λ i. (P × (i ≡ 0)) ⊎ A i) (if test then Some 0 else o)
+first_or test P A o d f = grind arith
 
 module _ (headers : List Header) (symbols : List Symbol) (relocs : List Reloc) (words places : List ℕ) where
   abbrev ranges : List Span
@@ -155,7 +139,8 @@ module _ (headers : List Header) (symbols : List Symbol) (relocs : List Reloc) (
   unfolding bad_reloc bad_rela bad_packed
   reloc_finds =
       finds_like _ (IsBadRelocAt headers symbols relocs words places) to from _
-      (finds_append (length relocs) OfRela OfPacked _ _ (λ k (r, is, why). slice_get_within relocs k r is) (again_finds (is_bad_reloc headers symbols) (named_by symbols) [] relocs)
+      (finds_append (length relocs) OfRela OfPacked _ _ (λ k (r, is, why). slice_get_within relocs k r is)
+          (again_finds (is_bad_reloc headers symbols) (named_by symbols) [] relocs)
       (first_or (begins_odd words) _ _ _ (odd_decides words) (again_finds (is_bad_place headers) doubleword ranges places)))
 
 -- ---- rule 16: the first bad slot, or a bad table of slots
@@ -169,11 +154,7 @@ code_decides bytes headers place =
 -- what is found below n, or else n where a test passes
 end_or : (n : ℕ) (A : ℕ → Type 0) (P : Type 0) (o : Option ℕ) (test : Bool) → ((i : ℕ) → A i → i < n) → Finds A o → Decides test P
     → Finds (λ k. A k ⊎ ((k ≡ n) × P)) (option_or o (if test then Some n else None))
-end_or n A P (Some k) test within f d =
-    let here = within k f.bad in
-    record { bad = inl f.bad; before = λ j below bad. elim bad [ inl a ↦ f.before j below a | inr (e, p) ↦ omega arith ] }
-end_or n A P None true within f d = record { bad = inr (refl, d.0 refl); before = λ j below bad. elim bad [ inl a ↦ f j a | inr (e, p) ↦ omega arith ] }
-end_or n A P None false within f d = λ k bad. elim bad [ inl a ↦ f k a | inr (e, p) ↦ absurd (let holds = d.1 p in cc) ]
+end_or n A P o test within f d = grind arith
 
 module _ (bytes : List ℕ) (headers : List Header) (symbols : List Symbol) (others : List Span) (slots : List Reloc) where
   abbrev own_ranges : List Span
@@ -186,7 +167,8 @@ module _ (bytes : List ℕ) (headers : List Header) (symbols : List Symbol) (oth
       let own : Span = doubleword r.place in
       means
       (or_then
-      (either (either (either (either (contrary (Decides-eqb r.kind 5)) (Decides-eqb r.symbol 0)) (past_decides r.symbol (length symbols))) (place_decides headers r.place))
+      (either (either (either (either (contrary (Decides-eqb r.kind 5)) (Decides-eqb r.symbol 0)) (past_decides r.symbol (length symbols)))
+          (place_decides headers r.place))
       (contrary (code_decides bytes headers r.place)))
       (λ fine.
       let five : r.kind ≡ 5 = decided (Decides-eqb r.kind 5) (λ other. fine (inl (inl (inl (inl other))))) in
@@ -202,14 +184,16 @@ module _ (bytes : List ℕ) (headers : List Header) (symbols : List Symbol) (oth
 
   -- ---- the table of slots
 
-  table_decides : (start : ℕ) → Decides (is_bad_table_of_slots headers (others ++ own_ranges) start) (IsSlotTable headers (others ++ own_ranges) start → ⊥)
+  pub table_decides : (start : ℕ)
+      → Decides (start % 8 == 0 && in_writable headers (record { start = start; size = 16 }) && not
+          (list_any (overlaps (record { start = start; size = 16 })) (others ++ own_ranges)))
+      (IsSlotTable headers (others ++ own_ranges) start)
   table_decides start =
       let head : Span = record { start = start; size = 16 } in
-      contrary
-      (means (both (both (Decides-eqb (start % 8) 0) (writable_decides headers head))
+      means (both (both (Decides-eqb (start % 8) 0) (writable_decides headers head))
       (contrary (any_at (overlaps head) (Share head) (share_decides head) (others ++ own_ranges))))
       (λ ((a, w), free). record { aligned = a; writable = w; free = λ j s at share. free (j, s, at, share) })
-      (λ t. ((t.aligned, t.writable), λ (j, s, at, share). t.free j s at share)))
+      (λ t. ((t.aligned, t.writable), λ (j, s, at, share). t.free j s at share))
 
   -- ---- both
 
@@ -229,4 +213,4 @@ module _ (bytes : List ℕ) (headers : List Header) (symbols : List Symbol) (oth
         (end_or (length slots) BadSlot BadHead _ _ (λ k (r, is, bad). slice_get_within slots k r is)
         (finds_position (is_bad_slot bytes headers symbols others own_ranges) _ (λ r. itself (is_bad_slot bytes headers symbols others own_ranges r)) slots)
         (both (λ e. grind (arith, nat_tests), λ some. grind (arith, nat_tests))
-        (there_decides (is_bad_table_of_slots headers (others ++ own_ranges)) _ table_decides pltgot)))
+        (there_decides (is_bad_table_of_slots headers (others ++ own_ranges)) _ (λ start. contrary (table_decides start)) pltgot)))

@@ -1,5 +1,5 @@
 -- What each test that the code is proved against decides.
-use Rattle.std.proofs.Common.{cond, ◌≡◌, ◌≢◌, ap, refl, ℕ, zero, suc, ◌==◌, ◌&&◌, Bool, true, not, ◌≤◌, ◌+◌}
+use Rattle.std.proofs.Common.{cond, ◌≡◌, ◌≢◌, refl, ℕ, zero, suc, ◌==◌, ◌&&◌, Bool, true, not}
 use Rattle.std.proofs.Common.{List, [], ◌∷◌, Some, arith, inl, inr}
 use Rattle.std.specs.Prelude.{Decides, count_by, max}
 use Rattle.std.specs.List.{list_any, slice_get}
@@ -18,8 +18,7 @@ use Rattle.elf_dynamic.specs.Parts.{Stands}
 use Rattle.elf_dynamic.specs.Ranges.{is_executable, is_writable, IsPlace, IsWritable, LiesIn, Share}
 use Rattle.elf_dynamic.specs.Rules.{is_bad_place, is_bad_reloc}
 use Rattle.acceptance.specs.Lemmas.Finds.{any_at, same_some}
-use Rattle.acceptance.specs.Lemmas.Tests.{either, means, refuted, settle, Among, some_decides}
-use Rattle.elf_head.specs.Header.{is_loaded}
+use Rattle.acceptance.specs.Lemmas.Tests.{either, itself, means, refuted, settle, some_decides}
 
 pub stands_decides : (tags : List Tag) (tag : ℕ) → Decides (has tags tag) (Stands tags tag)
 stands_decides tags tag = some_decides (last_of tags tag)
@@ -37,18 +36,17 @@ turn a b s = record { byte = s.byte; first = s.second; second = s.first }
 
 lies_decides : (headers : List Header) (kind : Header → Bool) (s : Span) → Decides (list_any (λ h. kind h && holds s h) headers) (LiesIn headers kind s)
 lies_decides headers kind s =
-    means (any_at (λ h. kind h && holds s h) _ each headers)
-    (λ (k, h, is, (flagged, ((mapped, low), high))). record { index = k; segment = h; is = is; mapped = mapped; flagged = flagged; low = low; high = high })
-    (λ l. (l.index, l.segment, l.is, (l.flagged, ((l.mapped, l.low), l.high))))
-  where
-    each : (h : Header) → Decides (kind h && holds s h) ((kind h ≡ true) × (((is_loaded h ≡ true) × (h.vaddr ≤ s.start)) × (s.start + s.size ≤ h.vaddr + h.memsz)))
-    each h = grind (arith, nat_tests)
+    let any = any_at (λ h. kind h && holds s h) _ (λ h. itself (kind h && holds s h)) headers in
+    means any (λ (k, h, is, inside). record { index = k; segment = h; is = is; mapped = grind arith; flagged = grind arith; low = grind (arith, nat_tests);
+        high = grind (arith, nat_tests) })
+    (λ l. (l.index, l.segment, l.is, (let flagged = l.flagged in let mapped = l.mapped in let low = l.low in let high = l.high in grind (arith, nat_tests))))
 
 pub writable_decides : (headers : List Header) (s : Span) → Decides (in_writable headers s) (IsWritable headers s)
 unfolding in_writable
 writable_decides headers s = either (Decides-eqb s.size 0) (lies_decides headers is_writable s)
 
-pub executable_decides : (headers : List Header) (address : ℕ) → Decides (in_executable headers address) (LiesIn headers is_executable (record { start = address; size = 1 }))
+pub executable_decides : (headers : List Header) (address : ℕ)
+    → Decides (in_executable headers address) (LiesIn headers is_executable (record { start = address; size = 1 }))
 unfolding in_executable
 executable_decides headers address = lies_decides headers is_executable (record { start = address; size = 1 })
 
@@ -78,11 +76,7 @@ module _ {X : Type 0} (p : X → Bool) (P : X → Type 0) (each : (x : X) → De
       let here : p x ≡ true = rw (← same_some is) at ((each y).1 h) in
       let more = sum_by-cons (λ z. cond (p z) 1 0) x xs in
       let same : not (count_by p (x ∷ xs) == 1) ≡ list_any p xs = grind (arith, nat_tests, counted p xs) in
-      rw same (means (any_at p P each xs) (λ (j, z, at, passes). (suc j, λ e. absurd (omega arith), z, at, passes)) rest)
-    where
-      rest : Others (x ∷ xs) 0 → Among xs P
-      rest (zero, other, z, at, passes) = absurd (other refl)
-      rest (suc j, other, z, at, passes) = (j, z, at, passes)
+      rw same (means (any_at p P each xs) (λ (j, z, at, passes). (suc j, λ e. absurd (omega arith), z, at, passes)) (λ found. grind arith))
   twice_decides (x ∷ xs) (suc k) y is h =
       let more = sum_by-cons (λ z. cond (p z) 1 0) x xs in
       let some = (any_at p P each xs).1 (k, y, is, h) in
@@ -91,9 +85,5 @@ module _ {X : Type 0} (p : X → Bool) (P : X → Type 0) (each : (x : X) → De
         | inr fails ↦
             let none = refuted (each x) fails in
             let same : count_by p (x ∷ xs) ≡ count_by p xs = grind arith in
-            rw same (means (twice_decides xs k y is h) (λ (j, other, z, at, passes). (suc j, λ e. other (omega arith), z, at, passes)) (rest fails))
+            rw same (means (twice_decides xs k y is h) (λ (j, other, z, at, passes). (suc j, λ e. other (omega arith), z, at, passes)) (λ found. grind arith))
       ]
-    where
-      rest : (P x → ⊥) → Others (x ∷ xs) (suc k) → Others xs k
-      rest fails (zero, other, z, at, passes) = absurd (fails (rw (← same_some at) at passes))
-      rest fails (suc j, other, z, at, passes) = (j, λ same. other (ap suc same), z, at, passes)

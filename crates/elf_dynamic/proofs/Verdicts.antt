@@ -1,7 +1,7 @@
 -- The verdict on the dynamic table and its tables, the relations that say what it means, and what it keeps.
 use mathlib.Core.Path.{fun_ext}
-use Rattle.std.proofs.Common.{◌==◌, ◌≡◌, ◌∙◌, ap, refl, ℕ, zero, suc, ◌+◌, ◌*◌, Bool, Option, List, [], ◌∷◌, ◌++◌, map, ◌↔◌, ◌<◌, length, Some, None, Ok, Err}
-use Rattle.std.proofs.Common.{sym, subst, arith, inl, inr, ◌%◌}
+use Rattle.std.proofs.Common.{◌==◌, ◌≡◌, ◌∙◌, ap, refl, ℕ, zero, suc, ◌+◌, Bool, Option, List, [], ◌∷◌, ◌++◌, map, ◌↔◌, ◌<◌, length, Some, None, Ok, Err}
+use Rattle.std.proofs.Common.{sym, subst, arith, inl, inr}
 use Rattle.std.specs.Prelude.{if◌then◌else◌}
 use Rattle.ld_base.specs.declared.object.Span.{Span}
 use Rattle.elf_dynamic.specs.Named.{named_by, slot_ranges, doubleword}
@@ -24,7 +24,7 @@ use Rattle.acceptance.specs.Lemmas.Firsts.{accepts, refuses, Breaking, Listed}
 use Rattle.dyn_table.specs.HashWords.{hash_words}
 use Rattle.dyn_table.specs.Tag.{tags_of, EndsAtNull}
 use Rattle.dyn_table.specs.TagNumbers.{dt_symtab, dt_jmprel}
-use Rattle.elf_dynamic.specs.Breaks.{named, HasFeature, IsBadReloc, IsBadRelocAt, IsBadSlot, IsBadSlotAt, IsBadTable, IsSlotTable}
+use Rattle.elf_dynamic.specs.Breaks.{named, IsBadReloc, IsBadRelocAt, IsBadSlot, IsBadSlotAt, IsSlotTable}
 use Rattle.elf_dynamic.specs.Parts.{AreParts, AreTags, AreBytes}
 use Rattle.elf_dynamic.specs.Relr.{begins_odd}
 use Rattle.elf_dynamic.specs.Tables.{bare_in, count_in, dynamic_tags, parts_in, strings_in, symbol_bytes}
@@ -35,9 +35,8 @@ use Rattle.elf_dynamic.proofs.BadNames.{string_first}
 use Rattle.elf_dynamic.proofs.Reasons.{table_first, feature_finds, slots_decides}
 use Rattle.acceptance.specs.Lemmas.Finds.{finds_is, same_some, never}
 use Rattle.elf_dynamic.proofs.ReadParts.{read, say_in, tags_are, Reads}
-use Rattle.elf_dynamic.proofs.Relocs.{reloc_finds, symbol_finds, slot_finds, get_both, get_map, code_decides}
-use Rattle.std.proofs.lemmas.Bool.{cases_lt}
-use Rattle.std.proofs.lemmas.Bool.Decides.{Decides-eqb}
+use Rattle.elf_dynamic.proofs.Relocs.{reloc_finds, symbol_finds, slot_finds, get_both, get_map, code_decides, table_decides}
+use Rattle.std.proofs.lemmas.Bool.Decides.{nat_tests}
 use Rattle.std.proofs.lemmas.Option.{slice_get_within}
 use Rattle.ld_base.specs.declared.parts.Header.{Header}
 use Rattle.elf_dynamic.specs.Breaks.HasFeature.{open_segment}
@@ -51,7 +50,7 @@ use Rattle.elf_dynamic.specs.Keeps.{all_named, IsReloc, IsSlot, Keeps}
 use Rattle.elf_dynamic.specs.Parts.AreBytes.{held, missing}
 use Rattle.elf_dynamic.specs.Ranges.{IsPlace, Share}
 use Rattle.acceptance.specs.Lemmas.Tests.{decided}
-use Rattle.elf_dynamic.proofs.Tests.{writable_decides}
+use Rattle.elf_dynamic.proofs.Tests.{turn, writable_decides}
 
 -- ---- no name of a symbol matters to the rules from 13 on
 
@@ -64,11 +63,10 @@ pub bare_is : (part strings : List ℕ) (n : ℕ) → map unnamed (symbols_in pa
 unfolding bare_symbols symbols_in
 bare_is part strings n = each n
   where
-    each : (m : ℕ) → map unnamed (table (λ at. symbol_named part at (string_in strings (symbol_name part at))) 0 24 m) ≡ table (λ at. symbol_named part at []) 0 24 m
+    each : (m : ℕ) → map unnamed (table (λ at. symbol_named part at (string_in strings (symbol_name part at))) 0 24 m)
+        ≡ table (λ at. symbol_named part at []) 0 24 m
     each zero = refl
-    each (suc m) =
-        map-append unnamed (table (λ at. symbol_named part at (string_in strings (symbol_name part at))) 0 24 m) (symbol_named part (0 + 24 * m) (string_in strings (symbol_name part (0 + 24 * m))) ∷ [])
-        ∙ ap (λ xs. xs ++ symbol_named part (0 + 24 * m) [] ∷ []) (each m)
+    each (suc m) = let more = each m in rw (map-append, more) refl
 
 any_map : (p : Symbol → Bool) (xs : List Symbol) → list_any p (map unnamed xs) ≡ list_any (λ s. p (unnamed s)) xs
 any_map p [] = refl
@@ -78,14 +76,16 @@ place_map : (p : Symbol → Bool) (xs : List Symbol) → position_or_len p (map 
 place_map p [] = refl
 place_map p (x ∷ xs) = rw (place_map p xs) refl
 
-size_map : (xs : List Symbol) (i : ℕ) → option_map_or (λ (s : Symbol). s.size) (slice_get (map unnamed xs) i) 0 ≡ option_map_or (λ (s : Symbol). s.size) (slice_get xs i) 0
+size_map : (xs : List Symbol) (i : ℕ)
+    → option_map_or (λ (s : Symbol). s.size) (slice_get (map unnamed xs) i) 0 ≡ option_map_or (λ (s : Symbol). s.size) (slice_get xs i) 0
 size_map [] i = refl
 size_map (x ∷ xs) zero = refl
 size_map (x ∷ xs) (suc i) = size_map xs i
 
 module _ (head : Head) (symbols : List Symbol) where
   sizes : named_by (map unnamed symbols) ≡ named_by symbols
-  sizes = fun_ext (λ r. ap (λ n. let s : Span = record { start = r.place; size = if r.kind == 0 then 0 else if r.kind == 4 then n else 8 } in s) (size_map symbols r.symbol))
+  sizes = fun_ext (λ r. ap (λ n. let s : Span = record { start = r.place; size = if r.kind == 0 then 0 else if r.kind == 4 then n else 8 } in s)
+      (size_map symbols r.symbol))
 
   tests : is_bad_reloc head.headers (map unnamed symbols) ≡ is_bad_reloc head.headers symbols
   tests = fun_ext (λ r. simp (size_map, length-map))
@@ -137,7 +137,8 @@ module _ (tags_law : (bytes : List ℕ) (tags : List Tag) → (tags_of bytes ≡
 
     bare : map unnamed parts.symbols ≡ bare_in bytes head.headers parts.tags
     unfolding bare_in parts_in
-    bare = ap (λ (p : DynParts). map unnamed p.symbols) own.is ∙ bare_is (symbol_bytes bytes head.headers parts.tags) (strings_in bytes head.headers parts.tags) (count_in bytes head.headers parts.tags)
+    bare = ap (λ (p : DynParts). map unnamed p.symbols) own.is
+        ∙ bare_is (symbol_bytes bytes head.headers parts.tags) (strings_in bytes head.headers parts.tags) (count_in bytes head.headers parts.tags)
 
     are_said : rules_of bytes head program parts.tags ≡ said
     are_said =
@@ -148,7 +149,8 @@ module _ (tags_law : (bytes : List ℕ) (tags : List Tag) → (tags_of bytes ≡
     place_of rule number (bad_table tag first) = (0, refl, ap Some ((table_first _ _ _ _ tag).1 (inl first)))
     place_of rule number (lacks_symbols never lacking) = (0, refl, ap Some ((table_first _ _ _ _ dt_symtab).1 (inr (never, (lacking, refl)))))
     place_of rule number (bad_name k offset first lacks) = (1, refl, ap Some ((string_first string _ _ _ _ offset).1 (inl (k, first, lacks))))
-    place_of rule number (bad_symbol_name never symbol offset first lacks) = (1, refl, ap Some ((string_first string _ _ _ _ offset).1 (inr (never, (symbol, first, lacks)))))
+    place_of rule number (bad_symbol_name never symbol offset first lacks) =
+        (1, refl, ap Some ((string_first string _ _ _ _ offset).1 (inr (never, (symbol, first, lacks)))))
     place_of rule number (bad_symbol symbol first) = (2, refl, ap Some ((finds_is _ _ symbol (symbol_finds _ _)).1 first))
     place_of rule number (bad_reloc index first) = (3, refl, ap Some ((finds_is _ _ index (reloc_finds _ _ _ _ _)).1 first))
     place_of rule number (has_feature feature first) = (4, refl, ap Some ((finds_is _ _ feature (feature_finds _ _ _ _ _)).1 first))
@@ -157,16 +159,12 @@ module _ (tags_law : (bytes : List ℕ) (tags : List Tag) → (tags_of bytes ≡
     -- a number in the list of rules is of a rule that is broken
     broken_at : (i number : ℕ) → slice_get said i ≡ Some (Some number) → TablesBreak bytes head program parts say (11 + i) number
     broken_at zero number e =
-        elim ((table_first _ _ _ _ number).0 (same_some e)) [
-          | inl first ↦ bad_table number first
-          | inr (never, (lacking, same)) ↦ rw same
-              (lacks_symbols never lacking)
-        ]
-    broken_at (suc zero) number e =
-        elim ((string_first string _ _ _ _ number).0 (same_some e)) [
-          | inl (k, first, lacks) ↦ bad_name k number first lacks
-          | inr (never, (symbol, first, lacks)) ↦ bad_symbol_name never symbol number first lacks
-        ]
+        let is = table_first head.headers parts.tags (hash_words bytes head.headers parts.tags) (length parts.symbols) number in
+        grind (arith, bad_table, lacks_symbols)
+    broken_at (suc zero) number e = elim ((string_first string _ _ _ _ number).0 (same_some e)) [
+      | inl (k, first, lacks) ↦ bad_name k number first lacks
+      | inr (never, (symbol, first, lacks)) ↦ bad_symbol_name never symbol number first lacks
+    ]
     broken_at (suc (suc zero)) number e = bad_symbol number ((finds_is _ _ number (symbol_finds _ _)).0 (same_some e))
     broken_at (suc (suc (suc zero))) number e = bad_reloc number ((finds_is _ _ number (reloc_finds _ _ _ _ _)).0 (same_some e))
     broken_at (suc (suc (suc (suc zero)))) number e = has_feature number ((finds_is _ _ number (feature_finds _ _ _ _ _)).0 (same_some e))
@@ -187,10 +185,12 @@ module _ (tags_law : (bytes : List ℕ) (tags : List Tag) → (tags_of bytes ≡
 
     listed : Listed 11 (rules_of bytes head program tags) (Breaks bytes head program)
     listed rule number (no_table none) = absurd (none tags ((tags_are tags_law string bytes head.headers tags).0 is))
-    listed rule number (by_tables parts say r n broken) = subst (λ rs. (i : ℕ) × (r ≡ 11 + i) × (slice_get rs i ≡ Some (Some n))) (sym (same_rules parts say)) (place_of parts say r n broken)
+    listed rule number (by_tables parts say r n broken) = subst (λ rs. (i : ℕ) × (r ≡ 11 + i) × (slice_get rs i ≡ Some (Some n)))
+        (sym (same_rules parts say)) (place_of parts say r n broken)
 
     breaking : Breaking 11 (rules_of bytes head program tags) (Breaks bytes head program)
-    breaking i number e = by_tables (parts_in bytes head.headers tags) its (11 + i) number (broken_at _ its i number (subst (λ rs. slice_get rs i ≡ Some (Some number)) (same_rules _ its) e))
+    breaking i number e = by_tables (parts_in bytes head.headers tags) its (11 + i) number
+        (broken_at _ its i number (subst (λ rs. slice_get rs i ≡ Some (Some number)) (same_rules _ its) e))
 
   -- ---- the verdict
 
@@ -202,7 +202,8 @@ module _ (tags_law : (bytes : List ℕ) (tags : List Tag) → (tags_of bytes ≡
   unfolding tables_verdict
   accepted_at None parts is = (λ e. absurd cc, λ s. absurd (no_tags is parts.tags s.say.tags))
   accepted_at (Some tags) parts is =
-      let both = accepts 11 (rules_of bytes head program tags) (Breaks bytes head program) (listed tags is) (breaking tags is) (parts_in bytes head.headers tags) parts in (
+      let both = accepts 11 (rules_of bytes head program tags) (Breaks bytes head program) (listed tags is) (breaking tags is)
+          (parts_in bytes head.headers tags) parts in (
         λ e. let ok = both.0 e in rw ok.1 (record { kept = ok.0; say = its tags is }),
         λ s. both.1 (s.kept, (own parts s.say).is ∙ ap (parts_in bytes head.headers) (same_tags tags is parts s.say)),
       )
@@ -211,14 +212,12 @@ module _ (tags_law : (bytes : List ℕ) (tags : List Tag) → (tags_of bytes ≡
       → (option_map_or (tables_verdict bytes head program) found (Err no_dynamic) ≡ Err fault) ↔ BreaksFirst bytes head program fault
   unfolding tables_verdict
   refused_at None fault is = (
-    λ e. let same : no_dynamic ≡ fault = cc in rw (← same) (record { broken = no_table (no_tags is); kept = λ rule number below b. none_early rule number below b }),
+    λ e. let same : no_dynamic ≡ fault = cc in
+        rw (← same) (record { broken = no_table (no_tags is);
+            kept = λ rule number below b. (let ten : 10 ≡ rule = ap (λ (f : NotAccepted). f.rule) (only b) in omega arith) }),
     λ first. ap Err (only first.broken),
   )
     where
-      none_early : (rule number : ℕ) → rule < 10 → Breaks bytes head program rule number → ⊥
-      none_early rule number below (no_table e) = absurd (omega arith)
-      none_early rule number below (by_tables parts say r n b) = no_tags is parts.tags say.tags
-
       only : {rule number : ℕ} → Breaks bytes head program rule number → no_dynamic ≡ record { rule = rule; number = number }
       only (no_table e) = refl
       only (by_tables parts say r n b) = absurd (no_tags is parts.tags say.tags)
@@ -236,63 +235,51 @@ module _ (tags_law : (bytes : List ℕ) (tags : List Tag) → (tags_of bytes ≡
 -- ---- tables that break no rule keep what is told of them
 
 its_place : (headers : List Header) (place : ℕ) → ((IsPlace headers place → ⊥) → ⊥) → IsPlace headers place
-its_place headers place never_not = record {
-  aligned = decided (Decides-eqb (place % 8) 0) (λ odd. never_not (λ is. odd is.aligned));
-  writable = decided (writable_decides headers (doubleword place)) (λ out. never_not (λ is. out is.writable));
-}
+its_place headers place never_not =
+    let writes = writable_decides headers (doubleword place) in record { aligned = grind arith; writable = decided writes (λ out. grind arith) }
 
-slot_range : (symbols : List Symbol) (r : Reloc) → r.kind ≡ 5 → named_by symbols r ≡ doubleword r.place
-slot_range symbols r five = rw five refl
+good_reloc : (headers : List Header) (symbols : List Symbol) (r : Reloc) → (IsBadReloc headers symbols r → ⊥) → IsReloc headers symbols r
+good_reloc headers symbols r good =
+    let place = its_place headers r.place in
+    let writes = writable_decides headers (named_by symbols r) in
+    grind (arith, nat_tests, no_symbol, is_slot, copies_null, copies_outside, no_place)
 
-turn : (a b : Span) → Share a b → Share b a
-turn a b s = record { byte = s.byte; first = s.second; second = s.first }
+good_slot : (bytes : List ℕ) (headers : List Header) (symbols : List Symbol) (others slots : List Span) (k : ℕ) (r : Reloc)
+    → (IsBadSlot bytes headers symbols others slots k r → ⊥)
+    → IsSlot bytes headers symbols r
+good_slot bytes headers symbols others slots k r good =
+    record {
+      type = grind (arith, other_type); some = grind (arith, of_null); symbol = grind (arith, slot_no_symbol);
+      place = its_place headers r.place (λ bad. good (slot_no_place bad)); code = decided (code_decides bytes headers r.place) (λ bad. good (no_code bad));
+    }
 
 module _ (bytes : List ℕ) (head : Head) (program : Bool) (parts : DynParts) (s : SpellsDynamic bytes head program parts) where
   abbrev others : List Span
   others = named parts.symbols parts.relocs parts.relr
 
+  none_at : (rule k : ℕ) → TablesBreak bytes head program parts s.say rule k → ⊥
+  none_at rule k broken = s.kept rule k (by_tables parts s.say rule k broken)
+
   no_reloc : (k : ℕ) → IsBadRelocAt head.headers parts.symbols parts.relocs s.say.words parts.relr k → ⊥
-  no_reloc = never _ (λ k first. s.kept 14 k (by_tables parts s.say 14 k (bad_reloc k first)))
+  no_reloc = never _ (λ k first. none_at 14 k (bad_reloc k first))
 
   no_bad_slot : (k : ℕ) → IsBadSlotAt bytes head.headers parts.symbols others parts.plt_relocs parts.pltgot k → ⊥
-  no_bad_slot = never _ (λ k first. s.kept 16 k (by_tables parts s.say 16 k (bad_slot k first)))
-
-  no_bad_table : (k : ℕ) → IsBadTable head.headers parts.tags (hash_words bytes head.headers parts.tags) k → ⊥
-  no_bad_table = never _ (λ k first. s.kept 11 k (by_tables parts s.say 11 k (bad_table k first)))
-
-  no_feature : (k : ℕ) → HasFeature head program parts.tags parts.symbols (parts.relocs ++ parts.plt_relocs) k → ⊥
-  no_feature = never _ (λ k first. s.kept 15 k (by_tables parts s.say 15 k (has_feature k first)))
-
-  its_reloc : (i : ℕ) (r : Reloc) → slice_get parts.relocs i ≡ Some r → IsReloc head.headers parts.symbols r
-  its_reloc i r is =
-      let good : IsBadReloc head.headers parts.symbols r → ⊥ = λ bad. no_reloc i (by_itself r is bad) in
-      record {
-        symbol = elim (cases_lt r.symbol (length parts.symbols)) [ inl there ↦ there | inr past ↦ absurd (good (no_symbol past)) ];
-        other = λ five. good (is_slot five);
-        place = λ some other. its_place head.headers r.place (λ bad. good (no_place some other bad));
-        copy = λ four. (λ null. good (copies_null four null), decided (writable_decides head.headers (named_by parts.symbols r)) (λ out. good (copies_outside four out)));
-      }
+  no_bad_slot = never _ (λ k first. none_at 16 k (bad_slot k first))
 
   its_slot : (i : ℕ) (r : Reloc) → slice_get parts.plt_relocs i ≡ Some r → IsSlot bytes head.headers parts.symbols r
-  its_slot i r is =
-      let good : IsBadSlot bytes head.headers parts.symbols others (slot_ranges parts.symbols parts.plt_relocs) i r → ⊥ = λ bad. no_bad_slot i (bad_at r is bad) in
-      record {
-        type = decided (Decides-eqb r.kind 5) (λ other. good (other_type other));
-        some = λ null. good (of_null null);
-        symbol = elim (cases_lt r.symbol (length parts.symbols)) [ inl there ↦ there | inr past ↦ absurd (good (slot_no_symbol past)) ];
-        place = its_place head.headers r.place (λ bad. good (slot_no_place bad));
-        code = decided (code_decides bytes head.headers r.place) (λ bad. good (no_code bad));
-      }
+  its_slot i r is = good_slot bytes head.headers parts.symbols others (slot_ranges parts.symbols parts.plt_relocs) i r (λ bad. no_bad_slot i (bad_at r is bad))
 
   -- the range of a slot is its place's doubleword
-  slot_at : (i : ℕ) (a : Span) → slice_get (slot_ranges parts.symbols parts.plt_relocs) i ≡ Some a → (r : Reloc) × (slice_get parts.plt_relocs i ≡ Some r) × (doubleword r.place ≡ a)
-  slot_at i a is = let (r, at, range) = get_map (named_by parts.symbols) parts.plt_relocs i a is in (r, at, sym (slot_range parts.symbols r (its_slot i r at).type) ∙ range)
+  slot_at : (i : ℕ) (a : Span) → slice_get (slot_ranges parts.symbols parts.plt_relocs) i ≡ Some a
+      → (r : Reloc) × (slice_get parts.plt_relocs i ≡ Some r) × (doubleword r.place ≡ a)
+  slot_at i a is = let (r, at, range) = get_map (named_by parts.symbols) parts.plt_relocs i a is in (r, at, rw (its_slot i r at).type at range)
 
   apart : (j k : ℕ) (a b : Span) → j < k → slice_get (all_named parts) j ≡ Some a → slice_get (all_named parts) k ≡ Some b → Share a b → ⊥
   apart j k a b below one two share =
       elim (get_both others (slot_ranges parts.symbols parts.plt_relocs) k b two) [
         | inl among ↦ elim (get_both others (slot_ranges parts.symbols parts.plt_relocs) j a one) [
-          | inl before ↦ no_reloc k (named_twice (record { before = j; is_before = below; one = a; is_one = before; range = b; is_range = among; share = share }))
+          | inl before ↦ no_reloc k (named_twice
+              (record { before = j; is_before = below; one = a; is_one = before; range = b; is_range = among; share = share }))
           | inr (i, e, slot) ↦ let within = slice_get_within others k b among in omega (arith, e)
         ]
         | inr (i, e, slot) ↦
@@ -312,25 +299,19 @@ module _ (bytes : List ℕ) (head : Head) (program : Bool) (parts : DynParts) (s
   its_table some =
       let count = s.say.plt_relocs.count in
       let (range, is) = some_bytes s.say.slots s.say.are_slots (omega arith) in
-      let slots = decided (slots_decides head.headers parts.tags range) (λ bad. no_bad_table dt_jmprel (bad_slots range is bad)) in
+      let slots = decided (slots_decides head.headers parts.tags range)
+          (λ bad. never _ (λ k first. none_at 11 k (bad_table k first)) dt_jmprel (bad_slots range is bad)) in
       let (start, there) = slots.words in
       let at : parts.pltgot ≡ Some start = s.say.pltgot ∙ there in
-      let free : (IsSlotTable head.headers (all_named parts) start → ⊥) → ⊥ = λ bad. no_bad_slot (length parts.plt_relocs) (bad_head refl some start at bad) in (
-        start,
-        at,
-        record {
-          aligned = decided (Decides-eqb (start % 8) 0) (λ odd. free (λ t. odd t.aligned));
-          writable = decided (writable_decides head.headers (record { start = start; size = 16 })) (λ out. free (λ t. out t.writable));
-          free = λ j a is share. free (λ t. t.free j a is share);
-        },
-      )
+      let table = table_decides bytes head.headers parts.symbols others parts.plt_relocs start in
+      (start, at, decided table (λ bad. no_bad_slot (length parts.plt_relocs) (bad_head refl some start at bad)))
 
   pub keeps : Keeps bytes head.headers parts
   keeps = record {
-    relocs = its_reloc;
+    relocs = λ i r is. good_reloc _ _ r (λ bad. no_reloc i (by_itself r is bad));
     packed = λ i place is. its_place head.headers place (λ bad. no_reloc (length parts.relocs + i) (bad_place i place refl is bad));
     slots = its_slot;
     apart = apart;
     table = its_table;
-    closed = λ i h is loaded writable executable. no_feature 11 (open_segment i h is loaded writable executable);
+    closed = λ i h is loaded writable executable. never _ (λ k first. none_at 15 k (has_feature k first)) 11 (open_segment i h is loaded writable executable);
   }

@@ -19,7 +19,8 @@ module _ (headers : List Header) (symbols : List Symbol) (relocs : List Reloc) (
     (none : (k : ℕ) → k < i → Again (is_bad_reloc headers symbols) (named_by symbols) [] relocs k → ⊥) where
   -- the next one is bad by itself, or names a byte that one before it names
   abbrev fails : Bool
-  fails = is_bad_reloc headers symbols (get_or relocs i d) || list_any (overlaps (named_by symbols (get_or relocs i d))) (map (named_by symbols) (take i relocs))
+  fails = is_bad_reloc headers symbols (get_or relocs i d) || list_any (overlaps (named_by symbols (get_or relocs i d)))
+      (map (named_by symbols) (take i relocs))
 
   found : fails ≡ true → rela_broken headers symbols relocs ≡ Some (broken_at 14 i)
   unfolding bad_rela
