@@ -1,6 +1,2 @@
-pub mod Chains
+pub mod Following
 pub mod Judging
-pub mod Links
-pub mod Missed
-pub mod Reaching
-pub mod Trips

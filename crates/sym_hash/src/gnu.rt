@@ -175,7 +175,7 @@ fn ended_after(gnu: &GnuPart, index: usize, ended: usize) -> usize
 }
 
 /// The first exported definition that isn't found by its hash.
-#[tactic(auto, unfolding(crate::specs::Hashed::first_lost), using(crate::proofs::Missed::lost_here, crate::proofs::Missed::not_lost))]
+#[tactic(auto, unfolding(crate::specs::Hashed::first_lost), using(crate::proofs::Following::lost_here, crate::proofs::Following::not_lost))]
 fn first_lost(gnu: &GnuPart, symbols: &[Symbol], hashes: &[u32], first: u32) -> Option<usize>
     requires { length hashes.now ≡ length symbols.now }
     ensures { result ≡ first_lost (λ i. gnu_leads gnu.now (slice_index hashes.now i) i) (map is_visible_definition symbols.now) first }

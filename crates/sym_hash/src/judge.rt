@@ -68,7 +68,7 @@ fn is_exported(symbol: &Symbol, first: u32, index: usize) -> bool
 }
 
 /// The first exported definition.
-#[tactic(auto, unfolding(crate::specs::Hashed::first_lost), using(crate::proofs::Missed::lost_here, crate::proofs::Missed::not_lost))]
+#[tactic(auto, unfolding(crate::specs::Hashed::first_lost), using(crate::proofs::Following::lost_here, crate::proofs::Following::not_lost))]
 fn first_exported(symbols: &[Symbol], first: u32) -> Option<usize>
     ensures { result ≡ first_lost (λ i. false) (map is_visible_definition symbols.now) first }
 {

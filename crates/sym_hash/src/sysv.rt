@@ -95,7 +95,7 @@ fn is_lost(arrived: &[Trip], symbol: &Symbol, first: u32, index: u32) -> bool
 }
 
 /// The first exported definition to which its walk hasn't come.
-#[tactic(auto, unfolding(crate::specs::Hashed::first_lost), using(crate::proofs::Missed::lost_here, crate::proofs::Missed::not_lost))]
+#[tactic(auto, unfolding(crate::specs::Hashed::first_lost), using(crate::proofs::Following::lost_here, crate::proofs::Following::not_lost))]
 fn first_lost(symbols: &[Symbol], arrived: &[Trip], first: u32) -> Option<usize>
     requires { length symbols.now < 2 ^ 32 }
     ensures { result ≡ first_lost (arrives arrived.now) (map is_visible_definition symbols.now) first }
@@ -109,6 +109,7 @@ fn first_lost(symbols: &[Symbol], arrived: &[Trip], first: u32) -> Option<usize>
 }
 
 /// What breaks rule 19, of symbols whose names have these hashes.
+#[tactic(auto, using(crate::proofs::Following::links_few))]
 pub(crate) fn unmet(
     alloc: Global,
     sysv: &SysvPart,

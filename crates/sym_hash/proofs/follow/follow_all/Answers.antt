@@ -1,7 +1,7 @@
 use Rattle.std.proofs.Common.{◌≡◌, ◌∙◌, arith}
 use Rattle.std.proofs.lemmas.Result.{IfOk-weaker}
 use Rattle.std.proofs.lemmas.Simd.{map-map}
-use Rattle.sym_hash.proofs.Trips.{carry, double}
+use Rattle.sym_hash.proofs.Following.{carry, double}
 use Rattle.sym_hash.proofs.follow.follow_all.Goals as goal
 
 pub loop-bit-preserved : goal.loop-bit-preserved

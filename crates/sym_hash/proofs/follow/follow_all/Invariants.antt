@@ -1,6 +1,6 @@
 use Rattle.std.proofs.Common.{◌≡◌, ◌^◌, map}
 use Rattle.sym_hash.specs.Follow.{AreTrips}
-use Rattle.sym_hash.proofs.Trips.{walked}
+use Rattle.sym_hash.proofs.Following.{walked}
 use Rattle.sym_hash.proofs.follow.follow_all.Given as goal
 
 abbrev pub invariant-loop-bit : goal.invariant-loop-bit

@@ -1,7 +1,7 @@
 use Rattle.std.proofs.Common.{◌≡◌, map}
 use Rattle.ld_base.specs.Symbol.{is_visible_definition}
 use Rattle.ld_base.specs.declared.object.Symbol.{Symbol}
-use Rattle.sym_hash.proofs.Missed.{bare_visible, map_is}
+use Rattle.sym_hash.proofs.Following.{bare_visible, map_is}
 use Rattle.sym_hash.specs.Hashed.{hash_by}
 use Rattle.sym_hash.specs.Verdict.{table_verdict}
 use Rattle.sym_hash.proofs.judge.judge_table.Goals as goal

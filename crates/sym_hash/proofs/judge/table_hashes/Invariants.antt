@@ -1,5 +1,4 @@
-use Rattle.std.proofs.Common.{◌≡◌, ℕ, ◌<◌, length, Some}
-use Rattle.std.specs.List.{slice_get}
+use Rattle.std.proofs.Common.{◌≡◌, ℕ, ◌<◌, length, slice_get, Some}
 use Rattle.ld_base.specs.declared.object.Symbol.{Symbol}
 use Rattle.sym_hash.specs.Hashed.{hash_by}
 use Rattle.sym_hash.proofs.judge.table_hashes.Given as goal

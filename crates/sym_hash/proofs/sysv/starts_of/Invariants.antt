@@ -1,5 +1,4 @@
-use Rattle.std.proofs.Common.{◌≡◌, ℕ, ◌<◌, length, Some}
-use Rattle.std.specs.List.{slice_get}
+use Rattle.std.proofs.Common.{◌≡◌, ℕ, ◌<◌, length, slice_get, Some}
 use Rattle.sym_hash.specs.Follow.{start_to}
 use Rattle.sym_hash.specs.Sysv.{sysv_bucket}
 use Rattle.sym_hash.proofs.sysv.starts_of.Given as goal
