@@ -35,9 +35,10 @@ StandsFirst L x = (k : ℕ) × IsFirst (Lacks L) k × L k x
 
 finds_at_is : (L : ℕ → ℕ → Type 0) → ((k x y : ℕ) → L k x → L k y → x ≡ y) → (o : Option ℕ) (x : ℕ) → FindsAt L o → (o ≡ Some x) ↔ StandsFirst L x
 finds_at_is L one None x never = (λ e. absurd cc, λ (k, first, l). absurd (never k x l))
-finds_at_is L one (Some y) x (j, is_first, own) =
-    (λ e. subst (StandsFirst L) (same_some e) (j, is_first, own),
-        λ (k, first, l). ap Some (one k y x (subst (λ n. L n y) (one_first (Lacks L) j k is_first first) own) l))
+finds_at_is L one (Some y) x (j, is_first, own) = (
+  λ e. subst (StandsFirst L) (same_some e) (j, is_first, own),
+  λ (k, first, l). ap Some (one k y x (subst (λ n. L n y) (one_first (Lacks L) j k is_first first) own) l),
+)
 
 finds_at_none : (L : ℕ → ℕ → Type 0) (o : Option ℕ) → FindsAt L o → (o ≡ None) ↔ ((k : ℕ) → Lacks L k → ⊥)
 finds_at_none L None never = (λ e k (x, l). never k x l, λ none. refl)
@@ -88,7 +89,7 @@ module _ (string : (strings name : List ℕ) (offset : ℕ) → (string_at strin
       let here = both (asks_decides t tags) (lacks_decides t.value) in
       subst (FindsAt (LacksName strings (t ∷ tags))) (same asks (name_offsets tags))
       (finds_at_cons (LacksName strings (t ∷ tags)) (LacksName strings tags) (asks && lacks_string strings t.value) t.value
-          (find (lacks_string strings) (name_offsets tags))
+      (find (lacks_string strings) (name_offsets tags))
       (λ e. let (names, lacks) = here.0 e in record { entry = t; is = refl; names = names; at = refl; lacks = lacks }) (λ x l. grind arith)
       (λ k x. (
         λ l. record { entry = l.entry; is = l.is; names = (shifted t tags k l.entry).0 l.names; at = l.at; lacks = l.lacks },
@@ -110,12 +111,12 @@ module _ (string : (strings name : List ℕ) (offset : ℕ) → (string_at strin
         by_found (Some k) found =
             let least = least_at _ count k found in
             let own : LacksSymbolName strings part count k
-                (symbol_name part (24 * k)) = record { there = least.within; at = refl; lacks = (lacks_decides _).0 least.passes } in
+            (symbol_name part (24 * k)) = record { there = least.within; at = refl; lacks = (lacks_decides _).0 least.passes } in
             (k, record { bad = (_, own); before = λ j below (x, l). not_from_Decides _ (lacks_decides _) (least.before j below) (rw l.at at l.lacks) }, own)
 
     pub string_first : (tags : List Tag) (offset : ℕ) → (bad_string strings tags part count ≡ Some offset)
         ↔ (StandsFirst (LacksName strings tags) offset ⊎
-            (((k : ℕ) → Lacks (LacksName strings tags) k → ⊥) × StandsFirst (LacksSymbolName strings part count) offset))
+        (((k : ℕ) → Lacks (LacksName strings tags) k → ⊥) × StandsFirst (LacksSymbolName strings part count) offset))
     unfolding bad_string
     string_first tags offset =
         or_else (finds_at_is (LacksName strings tags) (λ k x y l m. l.at ∙ ap (λ (t : Tag). t.value) (same_some (sym l.is ∙ m.is)) ∙ sym m.at) _ offset

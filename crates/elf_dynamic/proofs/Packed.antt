@@ -99,6 +99,11 @@ one_word packed next i word within is =
     let longer : i < length (relr_words packed) = omega (arith, length-table (field 8 packed) 0 8 (length packed / 8)) in
     let place : 0 + 8 * i ≡ 8 * i = omega arith in
     let here : drop i (relr_words packed) ≡ word ∷ drop (i + 1) (relr_words packed) =
-    rw (add-one, drop-cons (relr_words packed) i 0 longer,
-        get_or_from_slice_get (relr_words packed) i _ 0 (get-table (field 8 packed) 0 8 (length packed / 8) i within), place, is) refl in
+    rw (
+      add-one,
+      drop-cons (relr_words packed) i 0 longer,
+      get_or_from_slice_get (relr_words packed) i _ 0 (get-table (field 8 packed) 0 8 (length packed / 8) i within),
+      place,
+      is,
+    ) refl in
     rw here refl

@@ -41,7 +41,7 @@ low_writable headers s low inside some =
       | inl none ↦ absurd (omega arith)
       | inr l ↦
           let ends = rw (get_or_from_slice_get headers l.index l.segment l.segment l.is) at
-              (low l.index l.segment (slice_get_within headers l.index l.segment l.is)) in
+          (low l.index l.segment (slice_get_within headers l.index l.segment l.is)) in
           omega (arith, l.high, ends l.mapped)
     ]
 
@@ -109,8 +109,10 @@ module _ {X : Type 0} (p : X → Bool) (xs : List X) (i : ℕ) (d : X) (before :
 
   pub position_past : length xs ≤ i → None ≡ position p xs
   position_past past =
-      rw (position_or_len_is p xs (length xs) d (omega arith) (λ k below. before k (omega arith)) (λ less. absurd (omega arith)),
-          le-ltb (length xs) (length xs) (omega arith)) refl
+      rw (
+        position_or_len_is p xs (length xs) d (omega arith) (λ k below. before k (omega arith)) (λ less. absurd (omega arith)),
+        le-ltb (length xs) (length xs) (omega arith),
+      ) refl
 
 -- ---- ranges that lie apart, as a map from where each begins to where it ends
 
@@ -269,8 +271,14 @@ module _ (a : Span) where
       → times_named ranges a + count_below (a.start + 1) (map end_of ranges) ≡ count_below (a.start + a.size) (map begin_of ranges)
   times_from_counts [] some near = refl
   times_from_counts (b ∷ ranges) some near =
-      omega (arith, sum_by-cons (λ s. cond (overlaps a s) 1 0) b ranges, sum_by-cons (λ n. cond (nat_lt n (a.start + 1)) 1 0) (end_of b) (map end_of ranges),
-      sum_by-cons (λ n. cond (nat_lt n (a.start + a.size)) 1 0) (begin_of b) (map begin_of ranges), one_of b some near, times_from_counts ranges some near)
+      omega (
+        arith,
+        sum_by-cons (λ s. cond (overlaps a s) 1 0) b ranges,
+        sum_by-cons (λ n. cond (nat_lt n (a.start + 1)) 1 0) (end_of b) (map end_of ranges),
+        sum_by-cons (λ n. cond (nat_lt n (a.start + a.size)) 1 0) (begin_of b) (map begin_of ranges),
+        one_of b some near,
+        times_from_counts ranges some near,
+      )
 
   -- a range without bytes has none in common
   pub times_of_none : (ranges : List Span) → a.size ≡ 0 → times_named ranges a ≡ 0

@@ -107,8 +107,10 @@ above_all : (relocs : List Reloc) (m n : ℕ)
 above_all [] m n = (λ low. (low, λ i r e. absurd cc), λ both. both.0)
 above_all (s ∷ relocs) m n =
     let rest = above_all relocs (max m (s.symbol + 1)) n in (
-      λ low. (omega (arith, (rest.0 low).0),
-          λ i r e. elim (at i r e) [ inl same ↦ rw same (omega (arith, (rest.0 low).0)) | inr (j, there) ↦ (rest.0 low).1 j r there ]),
+      λ low. (
+        omega (arith, (rest.0 low).0),
+        λ i r e. elim (at i r e) [ inl same ↦ rw same (omega (arith, (rest.0 low).0)) | inr (j, there) ↦ (rest.0 low).1 j r there ],
+      ),
       λ both. (let here = both.1 0 s refl in rest.1 (omega (arith, both.0), λ i. both.1 (suc i))),
     )
   where
@@ -159,8 +161,11 @@ flags_own tags = record { symbolic = grind (arith, stands_decides); bind_now = g
 flags_is : {tags : List Tag} {flags : ObjFlags} → AreFlags tags flags → flags ≡ flags_of tags
 flags_is {tags} a =
     let b = flags_own tags in
-    λ i. record { symbolic = same_from_decides _ _ a.symbolic b.symbolic i; bind_now = same_from_decides _ _ a.bind_now b.bind_now i;
-        nodelete = same_from_decides _ _ a.nodelete b.nodelete i }
+    λ i. record {
+      symbolic = same_from_decides _ _ a.symbolic b.symbolic i;
+      bind_now = same_from_decides _ _ a.bind_now b.bind_now i;
+      nodelete = same_from_decides _ _ a.nodelete b.nodelete i;
+    }
 
 -- a range is known by what it is
 that_is : (R : Span → Type 0) (o range : Option Span) → ((s : Span) → (o ≡ Some s) ↔ R s) → IsThat R range → range ≡ o
@@ -186,12 +191,18 @@ module _ (tags_law : (bytes : List ℕ) (tags : List Tag) → (tags_of bytes ≡
         let first = (finds_is _ _ k (first_dynamic headers)).0 at in
         let (g, own, two) = first.bad in
         record {
-          index = k; header = h; is = is; kind = rw (same_some (sym own ∙ is)) at two; first = λ j g below here two. first.before j below (g, here, two);
-          table = part; stands = stands; ends = (tags_law part tags).0 ends;
+          index = k;
+          header = h;
+          is = is;
+          kind = rw (same_some (sym own ∙ is)) at two;
+          first = λ j g below here two. first.before j below (g, here, two);
+          table = part;
+          stands = stands;
+          ends = (tags_law part tags).0 ends;
         },
     λ t.
         let at = (finds_is _ _ t.index (first_dynamic headers)).1
-            (record { bad = (t.header, t.is, t.kind); before = λ j below (h, is, two). t.first j h below is two }) in
+        (record { bad = (t.header, t.is, t.kind); before = λ j below (h, is, two). t.first j h below is two }) in
         rw (at, t.is, t.stands) ((tags_law t.table tags).1 t.ends),
   )
 
@@ -202,10 +213,12 @@ module _ (tags_law : (bytes : List ℕ) (tags : List Tag) → (tags_of bytes ≡
   bytes_tell R (Some s) is part = let here = (is s).0 refl in elim (option_cases (file_bytes bytes headers s.start s.size)) [
     | inl out ↦ grind (arith, missing)
     | inr (own, stands) ↦ (
-        λ are. elim are [ held t r there ↦ (let same = same_some ((is t).1 r) in let more = rw (← same) at there in cc)
-            | missing never none ↦ absurd (never s own here stands) ],
-        λ e. rw e (rw stands (held s here stands)),
-      )
+      λ are. elim are [
+        | held t r there ↦ (let same = same_some ((is t).1 r) in let more = rw (← same) at there in cc)
+        | missing never none ↦ absurd (never s own here stands)
+      ],
+      λ e. rw e (rw stands (held s here stands)),
+    )
   ]
 
   name_tells : (strings : List ℕ) (offset : ℕ) → Tells (IsNameAt strings offset) (string_in strings offset)
@@ -298,8 +311,22 @@ module _ (tags_law : (bytes : List ℕ) (tags : List Tag) → (tags_of bytes ≡
         relocs = relocs;
         slots = slots;
         places = relr;
-        is = rw (← soname, ← needed, ← symbols, ← first, ← relocs, ← slots, ← say.pltgot, ← preinit, ← say.init, ← init_array, ← say.fini, ← fini_array,
-            ← flags, ← relr) refl;
+        is = rw (
+          ← soname,
+          ← needed,
+          ← symbols,
+          ← first,
+          ← relocs,
+          ← slots,
+          ← say.pltgot,
+          ← preinit,
+          ← say.init,
+          ← init_array,
+          ← say.fini,
+          ← fini_array,
+          ← flags,
+          ← relr,
+        ) refl;
       }
 
   -- the parts that the functions give are said

@@ -247,7 +247,7 @@ type_decides kind relocs = among (λ r. Decides-eqb r.kind kind) relocs
 other_type_decides : (r : Reloc) → Decides (is_other_type r) ((j kind : ℕ) → slice_get known_types j ≡ Some kind → r.kind ≢ kind)
 other_type_decides r =
     means (Decides-at _ _ (same r.kind) (contrary (among (Decides-eqb r.kind) known_types))) (λ none j kind is same. none (j, kind, is, same))
-        (λ none (j, kind, is, same). none j kind is same)
+    (λ none (j, kind, is, same). none j kind is same)
   where
     same : (n : ℕ) → not (n == 0 || nat_le 1 n && nat_le n 5 || n == 7 || n == 9 || n == 11 || n == 12 || n == 58)
         ≡ not (list_any (λ kind. n == kind) known_types)

@@ -140,7 +140,7 @@ module _ (headers : List Header) (symbols : List Symbol) (relocs : List Reloc) (
   reloc_finds =
       finds_like _ (IsBadRelocAt headers symbols relocs words places) to from _
       (finds_append (length relocs) OfRela OfPacked _ _ (λ k (r, is, why). slice_get_within relocs k r is)
-          (again_finds (is_bad_reloc headers symbols) (named_by symbols) [] relocs)
+      (again_finds (is_bad_reloc headers symbols) (named_by symbols) [] relocs)
       (first_or (begins_odd words) _ _ _ (odd_decides words) (again_finds (is_bad_place headers) doubleword ranges places)))
 
 -- ---- rule 16: the first bad slot, or a bad table of slots
@@ -168,7 +168,7 @@ module _ (bytes : List ℕ) (headers : List Header) (symbols : List Symbol) (oth
       means
       (or_then
       (either (either (either (either (contrary (Decides-eqb r.kind 5)) (Decides-eqb r.symbol 0)) (past_decides r.symbol (length symbols)))
-          (place_decides headers r.place))
+      (place_decides headers r.place))
       (contrary (code_decides bytes headers r.place)))
       (λ fine.
       let five : r.kind ≡ 5 = decided (Decides-eqb r.kind 5) (λ other. fine (inl (inl (inl (inl other))))) in
@@ -186,7 +186,7 @@ module _ (bytes : List ℕ) (headers : List Header) (symbols : List Symbol) (oth
 
   pub table_decides : (start : ℕ)
       → Decides (start % 8 == 0 && in_writable headers (record { start = start; size = 16 }) && not
-          (list_any (overlaps (record { start = start; size = 16 })) (others ++ own_ranges)))
+      (list_any (overlaps (record { start = start; size = 16 })) (others ++ own_ranges)))
       (IsSlotTable headers (others ++ own_ranges) start)
   table_decides start =
       let head : Span = record { start = start; size = 16 } in

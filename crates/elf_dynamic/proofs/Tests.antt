@@ -37,8 +37,15 @@ turn a b s = record { byte = s.byte; first = s.second; second = s.first }
 lies_decides : (headers : List Header) (kind : Header → Bool) (s : Span) → Decides (list_any (λ h. kind h && holds s h) headers) (LiesIn headers kind s)
 lies_decides headers kind s =
     let any = any_at (λ h. kind h && holds s h) _ (λ h. itself (kind h && holds s h)) headers in
-    means any (λ (k, h, is, inside). record { index = k; segment = h; is = is; mapped = grind arith; flagged = grind arith; low = grind (arith, nat_tests);
-        high = grind (arith, nat_tests) })
+    means any (λ (k, h, is, inside). record {
+      index = k;
+      segment = h;
+      is = is;
+      mapped = grind arith;
+      flagged = grind arith;
+      low = grind (arith, nat_tests);
+      high = grind (arith, nat_tests);
+    })
     (λ l. (l.index, l.segment, l.is, (let flagged = l.flagged in let mapped = l.mapped in let low = l.low in let high = l.high in grind (arith, nat_tests))))
 
 pub writable_decides : (headers : List Header) (s : Span) → Decides (in_writable headers s) (IsWritable headers s)

@@ -203,7 +203,7 @@ module _ (tags_law : (bytes : List ℕ) (tags : List Tag) → (tags_of bytes ≡
   accepted_at None parts is = (λ e. absurd cc, λ s. absurd (no_tags is parts.tags s.say.tags))
   accepted_at (Some tags) parts is =
       let both = accepts 11 (rules_of bytes head program tags) (Breaks bytes head program) (listed tags is) (breaking tags is)
-          (parts_in bytes head.headers tags) parts in (
+      (parts_in bytes head.headers tags) parts in (
         λ e. let ok = both.0 e in rw ok.1 (record { kept = ok.0; say = its tags is }),
         λ s. both.1 (s.kept, (own parts s.say).is ∙ ap (parts_in bytes head.headers) (same_tags tags is parts s.say)),
       )
@@ -213,8 +213,10 @@ module _ (tags_law : (bytes : List ℕ) (tags : List Tag) → (tags_of bytes ≡
   unfolding tables_verdict
   refused_at None fault is = (
     λ e. let same : no_dynamic ≡ fault = cc in
-        rw (← same) (record { broken = no_table (no_tags is);
-            kept = λ rule number below b. (let ten : 10 ≡ rule = ap (λ (f : NotAccepted). f.rule) (only b) in omega arith) }),
+        rw (← same) (record {
+          broken = no_table (no_tags is);
+          kept = λ rule number below b. (let ten : 10 ≡ rule = ap (λ (f : NotAccepted). f.rule) (only b) in omega arith);
+        }),
     λ first. ap Err (only first.broken),
   )
     where
@@ -249,8 +251,11 @@ good_slot : (bytes : List ℕ) (headers : List Header) (symbols : List Symbol) (
     → IsSlot bytes headers symbols r
 good_slot bytes headers symbols others slots k r good =
     record {
-      type = grind (arith, other_type); some = grind (arith, of_null); symbol = grind (arith, slot_no_symbol);
-      place = its_place headers r.place (λ bad. good (slot_no_place bad)); code = decided (code_decides bytes headers r.place) (λ bad. good (no_code bad));
+      type = grind (arith, other_type);
+      some = grind (arith, of_null);
+      symbol = grind (arith, slot_no_symbol);
+      place = its_place headers r.place (λ bad. good (slot_no_place bad));
+      code = decided (code_decides bytes headers r.place) (λ bad. good (no_code bad));
     }
 
 module _ (bytes : List ℕ) (head : Head) (program : Bool) (parts : DynParts) (s : SpellsDynamic bytes head program parts) where
@@ -300,7 +305,7 @@ module _ (bytes : List ℕ) (head : Head) (program : Bool) (parts : DynParts) (s
       let count = s.say.plt_relocs.count in
       let (range, is) = some_bytes s.say.slots s.say.are_slots (omega arith) in
       let slots = decided (slots_decides head.headers parts.tags range)
-          (λ bad. never _ (λ k first. none_at 11 k (bad_table k first)) dt_jmprel (bad_slots range is bad)) in
+      (λ bad. never _ (λ k first. none_at 11 k (bad_table k first)) dt_jmprel (bad_slots range is bad)) in
       let (start, there) = slots.words in
       let at : parts.pltgot ≡ Some start = s.say.pltgot ∙ there in
       let table = table_decides bytes head.headers parts.symbols others parts.plt_relocs start in

@@ -113,8 +113,10 @@ gnu_decides g name i =
     let begun : bucket ≢ 0 = omega arith in
     let stands : IsChainWord g i word = record { from = omega arith; stands = at } in
     search)
-    (λ r. (((r.bloom, r.filter, (r.first_bit, r.second_bit)), (r.word, r.stands.stands, r.hash)),
-    (r.bucket, r.begins, (((let some = r.some in omega arith, r.within), r.goes_on.order), r.goes_on))))
+    (λ r. (
+      ((r.bloom, r.filter, (r.first_bit, r.second_bit)), (r.word, r.stands.stands, r.hash)),
+      (r.bucket, r.begins, (((let some = r.some in omega arith, r.within), r.goes_on.order), r.goes_on)),
+    ))
 
 each_decides : {p : ℕ → Bool} {P : ℕ → Type 0} → ((x : ℕ) → Decides (p x) (P x)) → (xs : List ℕ) → Decides (list_all p xs) ((x : ℕ) → Contains xs x → P x)
 each_decides {p} {P} d xs = (
@@ -217,6 +219,6 @@ module _ (t : HashTable) (symbols : List Symbol) (first : ℕ) where
   refuses None is f = (λ e. absurd cc, λ broken. absurd (against broken.broken is))
   refuses (Some number) broken f = (
     λ e. let same : f ≡ record { rule = 19; number = number } = cc in
-    rw same (record { broken = broken; kept = λ rule other less more. let both = one more broken in omega (arith, both.0) }),
+        rw same (record { broken = broken; kept = λ rule other less more. let both = one more broken in omega (arith, both.0) }),
     λ first. let (rule, other) = one broken first.broken in rw (rule, other) refl,
   )

@@ -10,4 +10,4 @@ returns-clause-answers c =
     let program = c.args.program in
     answers (SpellsDynamic bytes head program) (BreaksFirst bytes head program) (dynamic_verdict bytes head program)
     (λ parts. (c.one_verdict.ensures.accepted bytes head program parts).0)
-        (λ fault. (c.one_verdict.ensures.refused bytes head program fault).0) c.read_judged.result c.read_judged.ensures
+    (λ fault. (c.one_verdict.ensures.refused bytes head program fault).0) c.read_judged.result c.read_judged.ensures

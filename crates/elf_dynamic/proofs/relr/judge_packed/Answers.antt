@@ -39,5 +39,5 @@ loop-index-preserved c = record {
 pub returns : goal.returns
 returns c ranges judged =
     let past : drop c.loop-index.index (relr_words c.args.packed.now)
-        ≡ [] = drop_of_length-le (relr_words c.args.packed.now) (omega (arith, length-table (field 8 c.args.packed.now) 0 8 (length c.args.packed.now / 8))) in
+    ≡ [] = drop_of_length-le (relr_words c.args.packed.now) (omega (arith, length-table (field 8 c.args.packed.now) 0 8 (length c.args.packed.now / 8))) in
     (sym c.begins_odd.ensures ∙ c.if-begins_odd.false, front_end (c.loop-index.invariant.kept ranges judged) (rw past refl))

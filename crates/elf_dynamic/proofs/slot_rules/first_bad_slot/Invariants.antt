@@ -10,4 +10,4 @@ use Rattle.elf_dynamic.proofs.slot_rules.first_bad_slot.Given as goal
 abbrev pub invariant-loop-index : goal.invariant-loop-index
 invariant-loop-index l = (others : List Span) → AreMarks l.named.words.items others → (k : ℕ) → k < l.index
     → is_bad_slot l.slots.bytes.now l.slots.head.now.headers l.slots.symbols.now others (slot_ranges l.slots.symbols.now l.slots.relocs.now)
-        (get_or l.slots.relocs.now k nothing) ≡ false
+    (get_or l.slots.relocs.now k nothing) ≡ false

@@ -16,7 +16,7 @@ returns-then-is_met-clause-met c ranges are truth = (are.ends.met c.args.range (
 pub returns-clause-put : goal.returns-clause-put
 returns-clause-put c ranges are truth =
     let clear : IsMet c.args.self.now.ends c.args.range.start (c.args.range.start + c.args.range.size)
-        → ⊥ = λ met. (let found = c.is_met.ensures.1 met in let none = c.if-is_met.false in cc) in (
+    → ⊥ = λ met. (let found = c.is_met.ensures.1 met in let none = c.if-is_met.false in cc) in (
       false_from_ne_true _ (λ any. clear ((are.ends.met c.args.range (omega arith)).1 any)),
       record {
         ends = put_ends ranges c.args.self.now.ends are.ends c.args.range (omega arith) clear c.insert.new.self c.in_ok-insert.ensures.updates;

@@ -13,14 +13,14 @@ loop-bit-init c = record {
 pub returns-then-not-kept-clause-kept : goal.returns-then-not-kept-clause-kept
 returns-then-not-kept-clause-kept c ranges places judged =
     front_stop (c.loop-bit.invariant.kept ranges places judged) _ (bits_from c.args.word c.args.next (c.loop-bit.bit + 1))
-        (one_bit c.args.word c.args.next c.loop-bit.bit (omega arith))
+    (one_bit c.args.word c.args.next c.loop-bit.bit (omega arith))
     _ c.admit_bit.new.self c.in_ok-kept.ensures.kept c.if-not-kept.true
 
 pub loop-bit-preserved : goal.loop-bit-preserved
 loop-bit-preserved c = record {
   kept = λ ranges places judged.
       front_more (c.loop-bit.invariant.kept ranges places judged) _ (bits_from c.args.word c.args.next (c.loop-bit.bit + 1))
-          (one_bit c.args.word c.args.next c.loop-bit.bit (omega arith))
+      (one_bit c.args.word c.args.next c.loop-bit.bit (omega arith))
       _ c.admit_bit.new.self c.in_ok-kept.ensures.kept c.if-not-kept.false;
   few = omega (arith, c.in_ok-kept.ensures.few, c.loop-bit.invariant.few);
 }
