@@ -1,7 +1,6 @@
 -- Rule 12: the first offset at which no string stands.
 use Rattle.std.proofs.Common.{◌≢◌, ◌≡◌, ◌↔◌, ◌⊎◌, ◌∙◌, ap, sym, subst, refl, ℕ, zero, suc, ◌*◌, ◌<◌, ◌||◌, ◌&&◌, Bool, true, false, not, List, [], ◌∷◌}
-use Rattle.std.proofs.Common.{Option, Some}
-use Rattle.std.proofs.Common.{None, arith, ◌≤◌}
+use Rattle.std.proofs.Common.{Option, Some, None, arith, ◌≤◌}
 use Rattle.std.specs.Prelude.{Decides, find, option_map, if◌then◌else◌}
 use Rattle.std.specs.List.{list_any, slice_get}
 use Rattle.std.proofs.lemmas.Bool.{true≢false}

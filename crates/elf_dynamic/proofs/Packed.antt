@@ -1,7 +1,6 @@
 -- Packed relocations, one after the other.
 use Rattle.std.proofs.Common.{◌≡◌, ap, sym, subst, refl, ℕ, suc, ◌+◌, ◌-◌, ◌*◌, ◌/◌, ◌%◌, ◌<◌, ◌≤◌, ◌==◌, Bool, true, false, ◌||◌, List, [], ◌∷◌, ◌++◌, length}
-use Rattle.std.proofs.Common.{map, filter}
-use Rattle.std.proofs.Common.{add-one, add-zero, append_assoc, drop, drop-cons, length-append, arith}
+use Rattle.std.proofs.Common.{map, filter, add-one, add-zero, append_assoc, drop, drop-cons, length-append, arith}
 use Rattle.std.specs.Prelude.{Some, if◌then◌else◌, nat_lt}
 use Rattle.std.specs.List.{slice_get, list_any, range_with_len}
 use Rattle.std.proofs.lemmas.Bool.Decides.{nat_tests}

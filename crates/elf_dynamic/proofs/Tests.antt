@@ -1,6 +1,5 @@
 -- What each test that the code is proved against decides.
-use Rattle.std.proofs.Common.{cond, ◌≡◌, ◌≢◌, refl, ℕ, zero, suc, ◌==◌, ◌&&◌, Bool, true, not}
-use Rattle.std.proofs.Common.{List, [], ◌∷◌, Some, arith, inl, inr}
+use Rattle.std.proofs.Common.{cond, ◌≡◌, ◌≢◌, refl, ℕ, zero, suc, ◌==◌, ◌&&◌, Bool, true, not, List, [], ◌∷◌, Some, arith, inl, inr}
 use Rattle.std.specs.Prelude.{Decides, count_by, max}
 use Rattle.std.specs.List.{list_any, slice_get}
 use Rattle.std.proofs.lemmas.List.Sums.{sum_by-cons}

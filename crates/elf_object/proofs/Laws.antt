@@ -12,16 +12,13 @@ use Rattle.ld_base.specs.declared.parts.Head.{Head}
 use Rattle.ld_base.specs.declared.parts.Versions.{Versions}
 use Rattle.acceptance.specs.Gives.{Gives}
 use Rattle.elf_head.specs.Rules.{head_verdict}
-use Rattle.elf_head.specs.Verdict.{SpellsHead}
-use Rattle.elf_head.specs.Verdict.{BreaksFirst as HeadBreaks}
+use Rattle.elf_head.specs.Verdict.{SpellsHead, BreaksFirst as HeadBreaks}
 use Rattle.acceptance.specs.Lemmas.Reading.{ok_is}
 use Rattle.acceptance.specs.Lemmas.Judged.{judged_like, judged_next, made, Judges}
 use Rattle.elf_dynamic.specs.Rules.{dynamic_verdict}
-use Rattle.elf_dynamic.specs.Verdict.{SpellsDynamic}
-use Rattle.elf_dynamic.specs.Verdict.{BreaksFirst as DynamicBreaks}
+use Rattle.elf_dynamic.specs.Verdict.{SpellsDynamic, BreaksFirst as DynamicBreaks}
 use Rattle.elf_dynamic.specs.Keeps.{Keeps}
-use Rattle.elf_versions.specs.Spells.{SpellsVersions}
-use Rattle.elf_versions.specs.Spells.{BreaksFirst as VersionsBreak}
+use Rattle.elf_versions.specs.Spells.{SpellsVersions, BreaksFirst as VersionsBreak}
 use Rattle.elf_versions.specs.Verdict.{versions_verdict}
 use Rattle.sym_hash.specs.Breaks.{BreaksHash, IsHashTable}
 use Rattle.sym_hash.specs.Reached.{IsTableFor, IsTableOf}
