@@ -4,16 +4,16 @@ use Rattle.std.specs.Prelude.{Option, Some, None}
 use Rattle.std.specs.List.{count_by}
 use Rattle.std.proofs.lemmas.Bool.Decides.{nat_tests}
 use Rattle.std.proofs.lemmas.List.Sums.{sum_by-append, sum_by-cons}
-use Rattle.elf_write.specs.declared.contents.Fix.{Fix}
-use Rattle.elf_write.specs.declared.contents.Spot.{Spot}
-use Rattle.elf_write.specs.declared.part.Part.{Part}
-use Rattle.elf_write.specs.declared.part.Part.TheVariants as parts
-use Rattle.elf_write.specs.Parts.{number_of, same_part}
-use Rattle.elf_write.specs.Sizes.{count_in, plain_size, stands_in}
-use Rattle.elf_write.specs.Starts.{size_in, size_of, starts_of}
-use Rattle.elf_spelled.specs.Lemmas.Starting.{told}
-use Rattle.elf_spelled.specs.Said.{span_if}
-use Rattle.elf_accepted.specs.Said.{said_array}
+use Rattle.asm_write.specs.declared.contents.Fix.{Fix}
+use Rattle.asm_write.specs.declared.contents.Spot.{Spot}
+use Rattle.asm_write.specs.declared.part.Part.{Part}
+use Rattle.asm_write.specs.declared.part.Part.TheVariants as parts
+use Rattle.asm_write.specs.Parts.{number_of, same_part}
+use Rattle.asm_write.specs.Sizes.{count_in, plain_size, stands_in}
+use Rattle.asm_write.specs.Starts.{size_in, size_of, starts_of}
+use Rattle.asm_laws.specs.ElfSpelled.Lemmas.Starting.{told}
+use Rattle.asm_laws.specs.ElfSpelled.Said.{span_if}
+use Rattle.asm_accepted.specs.ElfAccepted.Said.{said_array}
 use Rattle.asm_statement.specs.declared.directive.Array.{Array}
 use Rattle.asm_statement.specs.declared.directive.Array.TheVariants as arrays
 use Rattle.asm_statement.specs.declared.directive.Directive.TheVariants as directives
@@ -34,7 +34,7 @@ use Rattle.asm_layout.specs.Tables.{entries, got_words}
 use Rattle.asm_layout.specs.Uses.{got_uses}
 use Rattle.asm_laws.specs.Lemmas.Each.{Each, both}
 use Rattle.asm_laws.specs.Lemmas.Filled.{is_same}
-use Rattle.asm_record.specs.Record.{array_of}
+use Rattle.asm_accepted.specs.AsmRecord.Record.{array_of}
 
 -- Places of one part
 

@@ -10,7 +10,7 @@ use Rattle.ld_base.specs.declared.object.Verdef.{Verdef}
 use Rattle.ld_base.specs.declared.parts.Tag.{Tag}
 use Rattle.elf_versions.specs.Source.{Source}
 use Rattle.elf_versions.specs.Spells.{AreVerdefs}
-use Rattle.elf_spelled.specs.Lemmas.Rows.{at_index}
+use Rattle.asm_laws.specs.ElfSpelled.Lemmas.Rows.{at_index}
 use Rattle.asm_statement.specs.declared.directive.Directive.TheVariants as directives
 use Rattle.asm_statement.specs.declared.directive.Need.{Need}
 use Rattle.asm_statement.specs.declared.line.Line.{Line}

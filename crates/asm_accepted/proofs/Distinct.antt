@@ -5,7 +5,7 @@ use Rattle.std.specs.List.{list_any, slice_get}
 use Rattle.std.specs.Str.{bytes_eq}
 use Rattle.std.proofs.lemmas.List.Folds.{list_any-append}
 use Rattle.std.proofs.lemmas.Slice.Eq.{bytes_eq-Decides}
-use Rattle.acceptance.specs.Lemmas.Finds.{At, finds_is, finds_position}
+use Rattle.elf_head.specs.AcceptancePart.Lemmas.Finds.{At, finds_is, finds_position}
 use Rattle.asm_layout.specs.Uses.{distinct, distinct_after, distinct_names}
 
 neither : (a b : Bool) → (a || b) ≡ false → (a ≡ false) × (b ≡ false)

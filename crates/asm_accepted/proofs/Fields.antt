@@ -4,13 +4,13 @@ use Rattle.std.specs.Prelude.{Some, None}
 use Rattle.std.specs.Option.{option_map_or}
 use Rattle.ld_base.specs.declared.object.Object.{Object}
 use Rattle.ld_base.specs.declared.parts.GnuPart.{GnuPart}
-use Rattle.elf_write.specs.declared.part.Part.TheVariants as parts
-use Rattle.elf_write.specs.Starts.{wrapped}
-use Rattle.elf_spelled.specs.Said.{told_if}
-use Rattle.elf_spelled.specs.Lemmas.Rows.{length-map}
-use Rattle.elf_tabled.specs.Tables.{said_slots, slots_at}
+use Rattle.asm_write.specs.declared.part.Part.TheVariants as parts
+use Rattle.asm_write.specs.Starts.{wrapped}
+use Rattle.asm_laws.specs.ElfSpelled.Said.{told_if}
+use Rattle.asm_laws.specs.ElfSpelled.Lemmas.Rows.{length-map}
+use Rattle.asm_accepted.specs.ElfTabled.Tables.{said_slots, slots_at}
 use Rattle.asm_statement.specs.declared.line.Line.{Line}
-use Rattle.hash_build.specs.Hashed.{gnu_of}
+use Rattle.asm_write.specs.HashBuild.Hashed.{gnu_of}
 use Rattle.sym_hash.specs.Hash.{gnu_hash}
 use Rattle.asm_layout.specs.Contents.{contents_of}
 use Rattle.asm_layout.specs.Parts.{start_of}
@@ -18,8 +18,8 @@ use Rattle.asm_layout.specs.Symbols.{first_export, sorted_exports, symbol_index}
 use Rattle.asm_layout.specs.Tables.{has_gnu, hash_of}
 use Rattle.asm_layout.specs.Uses.{slots}
 use Rattle.asm_layout.specs.Versions.{word}
-use Rattle.asm_bounds.specs.Lemmas.Counts.{imports_few}
-use Rattle.asm_record.specs.Record.{slot_words}
+use Rattle.asm_laws.specs.AsmBounds.Lemmas.Counts.{imports_few}
+use Rattle.asm_accepted.specs.AsmRecord.Record.{slot_words}
 
 -- two objects have the same fields
 

@@ -9,3 +9,12 @@ pub mod Record
 pub mod Symbols
 pub mod Table
 pub mod Versions
+pub mod ElfTabled
+pub mod ElfHashed
+pub mod ElfVersioned
+pub mod ElfAccepted
+pub mod AsmFields
+pub mod AsmHashed
+pub mod AsmVersioned
+pub mod AsmPacked
+pub mod AsmRecord

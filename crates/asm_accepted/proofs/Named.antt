@@ -2,13 +2,13 @@
 use Rattle.std.proofs.Common.{◌≡◌, ◌∙◌, ap, sym, subst, refl, ℕ, ◌+◌, ◌==◌, List, [], ◌∷◌, ◌++◌, length, drop, arith}
 use Rattle.std.specs.Prelude.{Option, Some, None, option_to_list, unwrap_or}
 use Rattle.std.proofs.lemmas.List.Sums.{sum_by-cons}
-use Rattle.acceptance.specs.Before.{StandsBefore}
-use Rattle.acceptance.specs.Lemmas.Finds.{same_some}
-use Rattle.acceptance.specs.Lemmas.Reading.{before_from-stands}
-use Rattle.dyn_table.specs.Name.{IsStringAt}
+use Rattle.elf_head.specs.AcceptancePart.Before.{StandsBefore}
+use Rattle.elf_head.specs.AcceptancePart.Lemmas.Finds.{same_some}
+use Rattle.elf_head.specs.AcceptancePart.Lemmas.Reading.{before_from-stands}
+use Rattle.elf_head.specs.DynTable.Name.{IsStringAt}
 use Rattle.asm_layout.specs.Contents.{offsets_from, soname_offset}
 use Rattle.asm_layout.specs.Versions.{strings_length, word}
-use Rattle.asm_fields.specs.Strings.{StandFrom, StandsAt}
+use Rattle.asm_accepted.specs.AsmFields.Strings.{StandFrom, StandsAt}
 use Rattle.asm_accepted.specs.Strings.{IsStringOf}
 use Rattle.asm_accepted.proofs.Pairs.{Paired, behind}
 

@@ -6,18 +6,18 @@ use Rattle.std.specs.List.{slice_get}
 use Rattle.std.proofs.lemmas.Bool.Decides.{nat_tests}
 use Rattle.std.proofs.lemmas.List.{reverse-append}
 use Rattle.std.proofs.lemmas.List.Folds.{find-append}
-use Rattle.acceptance.specs.Lemmas.Finds.{never}
+use Rattle.elf_head.specs.AcceptancePart.Lemmas.Finds.{never}
 use Rattle.ld_base.specs.declared.parts.DynParts.{DynParts}
 use Rattle.ld_base.specs.declared.parts.Head.{Head}
 use Rattle.ld_base.specs.declared.parts.Tag.{Tag}
-use Rattle.dyn_table.specs.Name.{IsStringAt}
-use Rattle.dyn_table.specs.Symbol.{symbol_name}
-use Rattle.dyn_table.specs.Tag.{has_tag, last_of, values_of}
-use Rattle.dyn_table.specs.TagNumbers.{dt_needed, dt_soname}
+use Rattle.elf_head.specs.DynTable.Name.{IsStringAt}
+use Rattle.elf_head.specs.DynTable.Symbol.{symbol_name}
+use Rattle.elf_head.specs.DynTable.Tag.{has_tag, last_of, values_of}
+use Rattle.elf_head.specs.DynTable.TagNumbers.{dt_needed, dt_soname}
 use Rattle.elf_dynamic.specs.Breaks.{Lacks, LacksName, LacksSymbolName}
 use Rattle.elf_dynamic.specs.Parts.{IsNameAt, IsNameOf, LacksString}
 use Rattle.elf_dynamic.specs.Verdict.{SpellsDynamic, bad_name, bad_symbol_name, by_tables}
-use Rattle.elf_spelled.specs.Said.{AreSaidBy}
+use Rattle.asm_laws.specs.ElfSpelled.Said.{AreSaidBy}
 use Rattle.asm_accepted.specs.Strings.{IsStringOf}
 
 -- an entry with a value of a tag

@@ -2,7 +2,7 @@
 use Rattle.std.proofs.Common.{◌≡◌, ◌∙◌, ap, subst, refl, suc, List, [], ◌∷◌, ◌++◌, length, arith}
 use Rattle.std.specs.Prelude.{⊤, Some}
 use Rattle.std.specs.List.{slice_get}
-use Rattle.elf_spelled.specs.Said.{AreSaidBy}
+use Rattle.asm_laws.specs.ElfSpelled.Said.{AreSaidBy}
 
 abbrev pub Paired : {A B : Type 0} → (A → B → Type 0) → List A → List B → Type 0
 Paired R [] [] = ⊤

@@ -8,15 +8,15 @@ use Rattle.ld_base.specs.declared.object.Verneed.{Verneed}
 use Rattle.ld_base.specs.declared.parts.DynParts.{DynParts}
 use Rattle.ld_base.specs.declared.parts.Head.{Head}
 use Rattle.ld_base.specs.declared.parts.Versions.{Versions}
-use Rattle.dyn_table.specs.Name.{IsStringAt}
-use Rattle.elf_accepted.specs.Said.{SaysObject, SaysVersioned}
+use Rattle.elf_head.specs.DynTable.Name.{IsStringAt}
+use Rattle.asm_accepted.specs.ElfAccepted.Said.{SaysObject, SaysVersioned}
 use Rattle.elf_object.specs.Segments.{relro_of, segments_of, tls_of}
 use Rattle.elf_object.specs.Spells.{Say}
-use Rattle.elf_spelled.specs.Said.{AreSaidBy}
-use Rattle.elf_tabled.specs.Tables.{null_entry}
-use Rattle.elf_versioned.specs.Said.{SaysDefined, SaysNeeded, with_files}
-use Rattle.elf_write.specs.declared.contents.SectionBytes.{SectionBytes}
-use Rattle.elf_write.specs.declared.part.Part.TheVariants as parts
+use Rattle.asm_laws.specs.ElfSpelled.Said.{AreSaidBy}
+use Rattle.asm_accepted.specs.ElfTabled.Tables.{null_entry}
+use Rattle.asm_accepted.specs.ElfVersioned.Said.{SaysDefined, SaysNeeded, with_files}
+use Rattle.asm_write.specs.declared.contents.SectionBytes.{SectionBytes}
+use Rattle.asm_write.specs.declared.part.Part.TheVariants as parts
 use Rattle.asm_statement.specs.declared.line.Line.{Line}
 use Rattle.asm_layout.specs.Contents.{contents_of, files_at, needed_at, needed_versions_at, strings_of, versions_at}
 use Rattle.asm_layout.specs.Faults.{HasNoFault}
@@ -24,8 +24,8 @@ use Rattle.asm_layout.specs.Object.{object_of}
 use Rattle.asm_layout.specs.Parts.{start_of}
 use Rattle.asm_layout.specs.Tables.{needed, soname, versions}
 use Rattle.asm_layout.specs.Versions.{first_needed, needed_files}
-use Rattle.asm_fields.specs.Strings.{NamesStand}
-use Rattle.asm_record.specs.Record.{head_of, record_of, symbols_of, verdefs_of, verneeds_from}
+use Rattle.asm_accepted.specs.AsmFields.Strings.{NamesStand}
+use Rattle.asm_accepted.specs.AsmRecord.Record.{head_of, record_of, symbols_of, verdefs_of, verneeds_from}
 use Rattle.asm_accepted.specs.Strings.{IsNamed, IsStringOf, NamesAreStrings}
 use Rattle.asm_accepted.proofs.Arrays.{fini_is, init_is, preinit_is}
 use Rattle.asm_accepted.proofs.Bounds.{indexes_fit}

@@ -3,17 +3,17 @@ use Rattle.std.proofs.Common.{◌≡◌, ◌∙◌, ap, refl, ℕ, ◌+◌, Bool
 use Rattle.std.specs.List.{enumerate_from}
 use Rattle.ld_base.specs.declared.object.Symbol.{Symbol}
 use Rattle.elf_object.specs.Object.{with_version, with_versions}
-use Rattle.elf_write.specs.declared.contents.SymbolEntry.{SymbolEntry}
-use Rattle.elf_accepted.specs.Said.{SaysVersioned}
-use Rattle.elf_tabled.specs.Tables.{null_entry, said_symbol}
+use Rattle.asm_write.specs.declared.contents.SymbolEntry.{SymbolEntry}
+use Rattle.asm_accepted.specs.ElfAccepted.Said.{SaysVersioned}
+use Rattle.asm_accepted.specs.ElfTabled.Tables.{null_entry, said_symbol}
 use Rattle.asm_statement.specs.declared.line.Line.{Line}
 use Rattle.asm_layout.specs.declared.uses.Exported.{Exported}
 use Rattle.asm_layout.specs.Contents.{contents_of, exports_at, imports_at, strings_of}
 use Rattle.asm_layout.specs.Symbols.{export_entries, export_entry, import_entries, import_entry, sorted_exports}
 use Rattle.asm_layout.specs.Uses.{imports}
 use Rattle.asm_layout.specs.Versions.{has_versions}
-use Rattle.asm_fields.specs.Strings.{NamesStand, StandFrom}
-use Rattle.asm_record.specs.Record.{exported_symbol, null_symbol, starts_for, symbols_of, undefined_symbol}
+use Rattle.asm_accepted.specs.AsmFields.Strings.{NamesStand, StandFrom}
+use Rattle.asm_accepted.specs.AsmRecord.Record.{exported_symbol, null_symbol, starts_for, symbols_of, undefined_symbol}
 use Rattle.asm_accepted.specs.Strings.{IsNamed}
 use Rattle.asm_accepted.proofs.Named.{name_at, name_of_word}
 use Rattle.asm_accepted.proofs.Pairs.{Paired, behind, joined, split}

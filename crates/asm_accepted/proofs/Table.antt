@@ -7,31 +7,31 @@ use Rattle.ld_base.specs.declared.object.Span.{Span}
 use Rattle.ld_base.specs.declared.parts.DynParts.{DynParts}
 use Rattle.ld_base.specs.declared.parts.Tag.{Tag}
 use Rattle.elf_head.specs.Readable.{file_bytes}
-use Rattle.dyn_table.specs.Name.{IsStringAt}
-use Rattle.dyn_table.specs.Symbol.{symbol_name}
-use Rattle.dyn_table.specs.Tag.{last_of, value_of}
-use Rattle.dyn_table.specs.TagNumbers.{dt_symtab}
+use Rattle.elf_head.specs.DynTable.Name.{IsStringAt}
+use Rattle.elf_head.specs.DynTable.Symbol.{symbol_name}
+use Rattle.elf_head.specs.DynTable.Tag.{last_of, value_of}
+use Rattle.elf_head.specs.DynTable.TagNumbers.{dt_symtab}
 use Rattle.elf_dynamic.specs.Breaks.{LacksSymbols}
 use Rattle.elf_dynamic.specs.Parts.{IsNameAt, IsSymbolTable}
 use Rattle.elf_dynamic.specs.Verdict.{SpellsDynamic, by_tables, lacks_symbols}
-use Rattle.elf_write.specs.declared.contents.Contents.{Contents}
-use Rattle.elf_write.specs.declared.contents.SymbolEntry.{SymbolEntry}
-use Rattle.elf_write.specs.declared.part.Part.TheVariants as parts
-use Rattle.elf_write.specs.declared.starts.Starts.{Starts}
-use Rattle.elf_write.specs.Fields.{record_bytes}
-use Rattle.elf_write.specs.Records.{symbol_fields}
-use Rattle.elf_write.specs.Sizes.{segments_of, symbol_count}
-use Rattle.elf_write.specs.Starts.{size_in, start_in, starts_of}
-use Rattle.elf_write.specs.Values.{symbol_bytes}
-use Rattle.elf_records.specs.Numbers.{AllFit}
-use Rattle.elf_records.specs.Standing.{StandAt}
-use Rattle.elf_records.specs.Lemmas.Records.{symbol}
-use Rattle.elf_spelled.specs.Said.{AreSaidBy, IsTold, said_head, said_tags}
-use Rattle.elf_spelled.specs.Lemmas.Bytes.{held_bytes, none_bad, table_bytes}
-use Rattle.elf_spelled.specs.Lemmas.Reading.{all_placed, part_read}
-use Rattle.elf_spelled.specs.Lemmas.Rows.{rows}
-use Rattle.elf_spelled.specs.Lemmas.Starting.{Apart}
-use Rattle.elf_tabled.specs.Tables.{SaysSymbol, SymbolsFit, null_entry}
+use Rattle.asm_write.specs.declared.contents.Contents.{Contents}
+use Rattle.asm_write.specs.declared.contents.SymbolEntry.{SymbolEntry}
+use Rattle.asm_write.specs.declared.part.Part.TheVariants as parts
+use Rattle.asm_write.specs.declared.starts.Starts.{Starts}
+use Rattle.asm_write.specs.Fields.{record_bytes}
+use Rattle.asm_write.specs.Records.{symbol_fields}
+use Rattle.asm_write.specs.Sizes.{segments_of, symbol_count}
+use Rattle.asm_write.specs.Starts.{size_in, start_in, starts_of}
+use Rattle.asm_write.specs.Values.{symbol_bytes}
+use Rattle.asm_laws.specs.ElfRecords.Numbers.{AllFit}
+use Rattle.asm_laws.specs.ElfRecords.Standing.{StandAt}
+use Rattle.asm_laws.specs.ElfRecords.Lemmas.Records.{symbol}
+use Rattle.asm_laws.specs.ElfSpelled.Said.{AreSaidBy, IsTold, said_head, said_tags}
+use Rattle.asm_laws.specs.ElfSpelled.Lemmas.Bytes.{held_bytes, none_bad, table_bytes}
+use Rattle.asm_laws.specs.ElfSpelled.Lemmas.Reading.{all_placed, part_read}
+use Rattle.asm_laws.specs.ElfSpelled.Lemmas.Rows.{rows}
+use Rattle.asm_laws.specs.ElfSpelled.Lemmas.Starting.{Apart}
+use Rattle.asm_accepted.specs.ElfTabled.Tables.{SaysSymbol, SymbolsFit, null_entry}
 use Rattle.asm_accepted.specs.Strings.{IsNamed}
 use Rattle.asm_accepted.proofs.Naming.{symbol_string}
 

@@ -5,16 +5,16 @@ use Rattle.std.proofs.Math.Seq.{drop-append_seam, take-append_seam}
 use Rattle.std.proofs.lemmas.Bool.{cases_lt}
 use Rattle.ld_base.specs.declared.object.Verdef.{Verdef}
 use Rattle.ld_base.specs.declared.object.Verneed.{Verneed}
-use Rattle.dyn_table.specs.Name.{IsStringAt}
-use Rattle.elf_write.specs.declared.contents.NeedRecord.{NeedRecord}
-use Rattle.elf_write.specs.declared.contents.NeededVersion.{NeededVersion}
-use Rattle.elf_versioned.specs.Said.{SaysDefined, SaysNeeded, with_files}
+use Rattle.elf_head.specs.DynTable.Name.{IsStringAt}
+use Rattle.asm_write.specs.declared.contents.NeedRecord.{NeedRecord}
+use Rattle.asm_write.specs.declared.contents.NeededVersion.{NeededVersion}
+use Rattle.asm_accepted.specs.ElfVersioned.Said.{SaysDefined, SaysNeeded, with_files}
 use Rattle.asm_statement.specs.declared.line.Line.{Line}
 use Rattle.asm_layout.specs.Contents.{soname_offset}
 use Rattle.asm_layout.specs.Versions.{file_versions, half, need_records, needed_of, needed_records, next_need, records_for, strings_length, version_flags, version_records, word}
-use Rattle.asm_bounds.specs.Lemmas.Records.{of_file_long, versions_long}
-use Rattle.asm_fields.specs.Strings.{StandFrom, StandsAt}
-use Rattle.asm_record.specs.Record.{defined_from, needed_from, verdefs_of, verneeds_from}
+use Rattle.asm_laws.specs.AsmBounds.Lemmas.Records.{of_file_long, versions_long}
+use Rattle.asm_accepted.specs.AsmFields.Strings.{StandFrom, StandsAt}
+use Rattle.asm_accepted.specs.AsmRecord.Record.{defined_from, needed_from, verdefs_of, verneeds_from}
 use Rattle.asm_accepted.proofs.Named.{base_name, name_of_word, split_from}
 use Rattle.asm_accepted.proofs.Pairs.{Paired, behind, joined, lengths, split}
 

@@ -2,11 +2,11 @@
 use Rattle.std.specs.Prelude.{ℕ, ⊤, List, ◌∷◌, Option, Some, None}
 use Rattle.ld_base.specs.declared.object.Symbol.{Symbol}
 use Rattle.ld_base.specs.declared.parts.DynParts.{DynParts}
-use Rattle.dyn_table.specs.Name.{IsStringAt}
-use Rattle.elf_write.specs.declared.contents.Contents.{Contents}
-use Rattle.elf_write.specs.declared.contents.SymbolEntry.{SymbolEntry}
-use Rattle.elf_spelled.specs.Said.{AreSaidBy}
-use Rattle.elf_tabled.specs.Tables.{null_entry}
+use Rattle.elf_head.specs.DynTable.Name.{IsStringAt}
+use Rattle.asm_write.specs.declared.contents.Contents.{Contents}
+use Rattle.asm_write.specs.declared.contents.SymbolEntry.{SymbolEntry}
+use Rattle.asm_laws.specs.ElfSpelled.Said.{AreSaidBy}
+use Rattle.asm_accepted.specs.ElfTabled.Tables.{null_entry}
 
 -- the string at an offset, where there is an offset
 abbrev pub IsStringOf : List ℕ → Option ℕ → Option (List ℕ) → Type 0

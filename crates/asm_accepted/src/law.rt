@@ -6,31 +6,30 @@ ghost use Rattle.ld_base.specs.declared.object.Object.{Object};
 ghost use Rattle.ld_base.specs.declared.parts.DynParts.{DynParts};
 ghost use Rattle.elf_dynamic.specs.Verdict.{SpellsDynamic};
 ghost use Rattle.elf_object.specs.Spells.{Broken, Spells};
-ghost use Rattle.elf_write.specs.declared.contents.Contents.{Contents};
-ghost use Rattle.elf_write.specs.declared.contents.SectionBytes.{SectionBytes};
-ghost use Rattle.elf_write.specs.Starts.{starts_of};
-ghost use Rattle.elf_write.specs.Values.{object_bytes};
-ghost use Rattle.elf_spelled.specs.Said.{said_head};
-ghost use Rattle.elf_spelled.specs.Whole.{IsWhole};
-ghost use Rattle.elf_hashed.specs.Hashes.{FitsTables};
-ghost use Rattle.asm_denotes.specs.Denotes.{Denotes};
-ghost use Rattle.asm_record.specs.Record.{record_of};
+ghost use Rattle.asm_write.specs.declared.contents.Contents.{Contents};
+ghost use Rattle.asm_write.specs.declared.contents.SectionBytes.{SectionBytes};
+ghost use Rattle.asm_write.specs.Starts.{starts_of};
+ghost use Rattle.asm_write.specs.Values.{object_bytes};
+ghost use Rattle.asm_laws.specs.ElfSpelled.Said.{said_head};
+ghost use Rattle.asm_laws.specs.ElfSpelled.Whole.{IsWhole};
+ghost use Rattle.asm_accepted.specs.ElfHashed.Hashes.{FitsTables};
+ghost use Rattle.asm_layout.specs.AsmDenotes.Denotes.{Denotes};
+ghost use Rattle.asm_accepted.specs.AsmRecord.Record.{record_of};
 ghost use Rattle.asm_accepted.specs.Strings.{NamesAreStrings};
 
-use asm_bounds::{objects_are_whole, parts_end_low};
-use asm_fields::{names_stand_at_their_offsets, numbers_fit_their_fields};
-use asm_hashed::{hash_tables_count_symbols, hash_tables_fit};
-use asm_packed::packed_places_ascend;
-use asm_record::the_head_is_said;
-use asm_versioned::versions_lead_on;
-use asm_whole::sources_are_short;
-use elf_accepted::the_object_is_spelled;
-use elf_hashed::{the_symbols_are_counted, the_symbols_are_spelled};
-use elf_object::one_object;
-use elf_spelled::{
-    parts_stand_at_their_starts, the_head_is_spelled, the_table_tells, the_tags_are_spelled,
+use crate::asm_fields::{names_stand_at_their_offsets, numbers_fit_their_fields};
+use crate::asm_hashed::{hash_tables_count_symbols, hash_tables_fit};
+use crate::asm_packed::packed_places_ascend;
+use crate::asm_record::the_head_is_said;
+use crate::asm_versioned::versions_lead_on;
+use crate::elf_accepted::the_object_is_spelled;
+use crate::elf_hashed::{the_symbols_are_counted, the_symbols_are_spelled};
+use asm_laws::{
+    objects_are_whole, parts_end_low, parts_have_their_sizes, parts_stand_apart,
+    parts_stand_at_their_starts, sources_are_short, the_head_is_spelled, the_table_tells,
+    the_tags_are_spelled,
 };
-use elf_written::{parts_have_their_sizes, parts_stand_apart};
+use elf_object::one_object;
 
 /// The name of an accepted object, those of the libraries that it needs and those of its symbols are strings of its table, each at its
 /// offset: a reader refuses an object of whose names one isn't, as is one of 4,096 bytes or more.

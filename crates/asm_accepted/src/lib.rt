@@ -5,6 +5,30 @@
 //! - [`the_names_are_strings`]: each name of an accepted object is a string of its table.
 #![tactic(auto)]
 
+mod asm_fields;
+mod asm_hashed;
+mod asm_packed;
+mod asm_record;
+mod asm_versioned;
+mod elf_accepted;
+mod elf_hashed;
+mod elf_tabled;
+mod elf_versioned;
 mod law;
 
+pub use asm_fields::{names_stand_at_their_offsets, numbers_fit_their_fields};
+pub use asm_hashed::{hash_tables_count_symbols, hash_tables_fit};
+pub use asm_packed::packed_places_ascend;
+pub use asm_record::{the_head_is_said, worked_library, worked_program};
+pub use asm_versioned::versions_lead_on;
+pub use elf_accepted::the_object_is_spelled;
+pub use elf_hashed::{
+    the_hash_tables_are_spelled, the_symbols_are_counted, the_symbols_are_spelled,
+};
+pub use elf_tabled::{
+    the_names_are_spelled, the_packed_places_are_spelled, the_relocations_are_spelled,
+    the_slots_are_spelled, the_table_of_packed_places, the_table_of_relocations,
+    the_table_of_symbols, words_name_one_list,
+};
+pub use elf_versioned::the_versions_are_spelled;
 pub use law::{the_names_are_strings, the_object_is_the_record, unbroken_bytes_spell_the_record};

@@ -3,7 +3,7 @@ use Rattle.std.proofs.Common.{◌≡◌, ℕ, ◌+◌, ◌*◌, true, false, Lis
 use Rattle.std.specs.Prelude.{Option, option_map, position}
 use Rattle.std.specs.Str.{bytes_eq}
 use Rattle.asm_statement.specs.declared.line.Line.{Line}
-use Rattle.elf_write.specs.declared.part.Part.TheVariants as parts
+use Rattle.asm_write.specs.declared.part.Part.TheVariants as parts
 use Rattle.asm_layout.specs.declared.uses.GotUse.{GotUse}
 use Rattle.asm_layout.specs.Labels.{defines, label}
 use Rattle.asm_layout.specs.Names.{is_preemptible}

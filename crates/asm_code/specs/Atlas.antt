@@ -2,12 +2,12 @@
 use Rattle.std.specs.Prelude.{◌≡◌, ℕ, List, slice_index}
 use Rattle.asm_statement.specs.declared.directive.Section.{Section}
 use Rattle.asm_statement.specs.declared.line.Line.{Line}
-use Rattle.elf_write.specs.declared.part.Part.TheVariants as parts
+use Rattle.asm_write.specs.declared.part.Part.TheVariants as parts
 use Rattle.asm_layout.specs.Places.{section_number}
 use Rattle.asm_layout.specs.Parts.{start_of, section_start}
 use Rattle.asm_places.specs.Counts.{ArePlacesOf}
 use Rattle.asm_uses.specs.Uses.{AreUsesOf}
-use Rattle.asm_needs.specs.Files.{AreFilesOf}
+use Rattle.asm_places.specs.AsmNeeds.Files.{AreFilesOf}
 use Rattle.asm_code.specs.declared.atlas.Bases.{Bases}
 use Rattle.asm_code.specs.declared.atlas.Atlas.{Atlas}
 

@@ -10,8 +10,7 @@ ghost use Rattle.asm_code.specs.Atlas.{section_base, IsAtlasOf};
 ghost use Rattle.asm_code.specs.Encoded.{IsModest, MayBe};
 
 use asm_layout::{GotKind, Place};
-use asm_needs::NeededFiles;
-use asm_places::{Places, section_number, value_of};
+use asm_places::{NeededFiles, Places, section_number, value_of};
 use asm_uses::{Operand, Uses, is_got_plt};
 
 /// Where the sections and the tables that code goes by start.

@@ -3,10 +3,10 @@
 ghost use Rattle.std.specs.Prelude.{◌≡◌, List};
 ghost use Rattle.asm_statement.specs.declared.line.Line.{Line};
 ghost use Rattle.asm_layout.specs.Faults.{is_version_index, need_fits, version_fits};
-ghost use Rattle.asm_needs.specs.Files.{AreFilesOf};
+ghost use Rattle.asm_places.specs.AsmNeeds.Files.{AreFilesOf};
 ghost use Rattle.asm_uses.specs.Uses.{AreUsesOf};
 
-use asm_needs::{NeededFiles, defined_number, first_needed};
+use asm_places::{NeededFiles, defined_number, first_needed};
 use asm_statement::{Directive, Need};
 use asm_uses::Uses;
 

@@ -5,7 +5,7 @@ ghost use Rattle.asm_layout.specs.Faults.{fault_at, HasNoFault};
 ghost use Rattle.asm_layout.specs.Words.{words_at};
 ghost use Rattle.asm_statement.specs.declared.line.Line.{Line};
 ghost use Rattle.asm_uses.specs.Uses.{AreUsesOf};
-ghost use Rattle.asm_needs.specs.Files.{AreFilesOf};
+ghost use Rattle.asm_places.specs.AsmNeeds.Files.{AreFilesOf};
 ghost use Rattle.asm_places.specs.Counts.{ArePlacesOf};
 ghost use Rattle.asm_code.specs.Atlas.{AreBasesOf, IsAtlasOf};
 ghost use Rattle.asm_code.specs.Code.{AreWordsOf, IsFaultAt, TellsOf};
@@ -13,8 +13,7 @@ ghost use Rattle.asm_code.specs.Encoded.{word_list};
 
 use crate::atlas::{Atlas, Bases};
 use crate::encoding::LineWords;
-use asm_needs::NeededFiles;
-use asm_places::Places;
+use asm_places::{NeededFiles, Places};
 use asm_statement::{AsmFault, Line, Statements};
 use asm_uses::Uses;
 use ld_base::Sequence;

@@ -5,13 +5,13 @@ use Rattle.std.proofs.lemmas.Grind.{flat_map-append}
 use Rattle.std.proofs.lemmas.List.{ext_get_or, get_or-map, length-append, length-map}
 use Rattle.std.proofs.lemmas.List.Folds.{flat_map-map}
 use Rattle.std.proofs.lemmas.List.Sums.{sum_by-cons}
-use Rattle.elf_write.specs.declared.contents.VersionRecord.{VersionRecord}
+use Rattle.asm_write.specs.declared.contents.VersionRecord.{VersionRecord}
 use Rattle.asm_statement.specs.declared.line.Line.{Line}
 use Rattle.asm_layout.specs.Contents.{string_bytes}
 use Rattle.asm_layout.specs.Versions.{base_record, file_versions, needed_files, records_for, strings_length, version_records, word}
 use Rattle.asm_layout.proofs.Offsets.{cut_versions}
-use Rattle.asm_needs.specs.declared.needed_file.NeededFile.{NeededFile}
-use Rattle.asm_needs.specs.Files.{file_of}
+use Rattle.asm_places.specs.declared.asm_needs.needed_file.NeededFile.{NeededFile}
+use Rattle.asm_places.specs.AsmNeeds.Files.{file_of}
 
 -- what is so where an answer is one, and so something else
 pub on_ok : {T E : Type 0} {P Q : Type 0} (r : Result T E) → OnOk r P → (P → Q) → OnOk r Q

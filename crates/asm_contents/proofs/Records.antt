@@ -5,8 +5,8 @@ use Rattle.std.specs.Global.{Vec}
 use Rattle.std.proofs.Math.Seq.{drop-cons}
 use Rattle.std.proofs.lemmas.List.{take_all, take_more}
 use Rattle.std.proofs.lemmas.List.Sums.{fold-append, sum_by-cons}
-use Rattle.elf_write.specs.declared.contents.NeedRecord.{NeedRecord}
-use Rattle.elf_write.specs.declared.contents.NeededVersion.{NeededVersion}
+use Rattle.asm_write.specs.declared.contents.NeedRecord.{NeedRecord}
+use Rattle.asm_write.specs.declared.contents.NeededVersion.{NeededVersion}
 use Rattle.sym_hash.specs.Hash.{sysv_hash}
 use Rattle.asm_statement.specs.declared.line.Line.{Line}
 use Rattle.asm_layout.specs.Versions.{half, word, next_need, need_records, needed_of, needed_records, file_versions, version_flags, version_count, strings_length}

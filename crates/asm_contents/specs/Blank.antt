@@ -3,17 +3,17 @@ use Rattle.std.specs.Prelude.{◌≡◌, ℕ, false, if◌then◌else◌, List, 
 use Rattle.ld_base.specs.declared.object.Kind.TheVariants.{Dyn}
 use Rattle.ld_base.specs.declared.parts.GnuPart.{GnuPart}
 use Rattle.ld_base.specs.declared.parts.SysvPart.{SysvPart}
-use Rattle.elf_write.specs.declared.contents.Contents.{Contents}
-use Rattle.elf_write.specs.declared.contents.Extent.{Extent}
-use Rattle.elf_write.specs.declared.contents.VersionRecord.{VersionRecord}
-use Rattle.hash_build.specs.Hashed.{gnu_of, sysv_of}
+use Rattle.asm_write.specs.declared.contents.Contents.{Contents}
+use Rattle.asm_write.specs.declared.contents.Extent.{Extent}
+use Rattle.asm_write.specs.declared.contents.VersionRecord.{VersionRecord}
+use Rattle.asm_write.specs.HashBuild.Hashed.{gnu_of, sysv_of}
 use Rattle.sym_hash.specs.Hash.{gnu_hash, sysv_hash}
 use Rattle.asm_statement.specs.declared.directive.HashKind.{HashKind}
 use Rattle.asm_layout.specs.declared.uses.Exported.{Exported}
 use Rattle.asm_layout.specs.Contents.{soname_offset}
 use Rattle.asm_layout.specs.Tables.{has_gnu, has_sysv}
 use Rattle.asm_layout.specs.Versions.{records_for}
-use Rattle.asm_needs.specs.Files.{AreFilesOf}
+use Rattle.asm_places.specs.AsmNeeds.Files.{AreFilesOf}
 use Rattle.asm_places.specs.Counts.{ArePlacesOf}
 use Rattle.asm_uses.specs.Uses.{AreUsesOf}
 use Rattle.asm_contents.specs.declared.contents.Source.{Source}

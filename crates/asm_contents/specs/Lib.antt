@@ -1,3 +1,4 @@
 pub mod Blank
 pub mod Marks
 pub mod Needs
+pub mod AsmFixes

@@ -5,8 +5,8 @@ use Rattle.asm_layout.specs.declared.uses.Exported.{Exported}
 use Rattle.asm_layout.specs.Contents.{strings_of, needed_at, imports_at, exports_at, versions_at, files_at, needed_versions_at}
 use Rattle.asm_layout.specs.Symbols.{sorted_exports}
 use Rattle.asm_layout.specs.Versions.{word}
-use Rattle.asm_needs.specs.declared.needed_files.NeededFiles.{NeededFiles}
-use Rattle.asm_needs.specs.Files.{AreFilesOf}
+use Rattle.asm_places.specs.declared.asm_needs.needed_files.NeededFiles.{NeededFiles}
+use Rattle.asm_places.specs.AsmNeeds.Files.{AreFilesOf}
 use Rattle.asm_uses.specs.declared.uses.Uses.{Uses}
 use Rattle.asm_uses.specs.Uses.{AreUsesOf}
 use Rattle.asm_contents.specs.declared.strings.Marks.{Marks}

@@ -1,7 +1,7 @@
 //! What the object holds.
 
 ghost use Rattle.std.specs.Prelude.{◌≡◌, ◌++◌, [], List, IfOk, OnOk, map};
-ghost use Rattle.hash_build.specs.Hashed.{gnu_of, sysv_of};
+ghost use Rattle.asm_write.specs.HashBuild.Hashed.{gnu_of, sysv_of};
 ghost use Rattle.sym_hash.specs.Hash.{gnu_hash, sysv_hash};
 ghost use Rattle.asm_statement.specs.declared.line.Line.{Line};
 ghost use Rattle.asm_layout.specs.Contents.{contents_of, elf_kind, entry_name, soname_offset};
@@ -12,27 +12,27 @@ ghost use Rattle.asm_layout.specs.Symbols.{export_entries, first_export, import_
 ghost use Rattle.asm_layout.specs.Tables.{flags_of, has_gnu, has_sysv, hash_of, needed, soname, versions};
 ghost use Rattle.asm_layout.specs.Uses.{imports, slots};
 ghost use Rattle.asm_layout.specs.Versions.{first_needed, has_versions, need_records, needed_files, needed_records, records_for, word};
-ghost use Rattle.asm_needs.specs.Files.{AreFilesOf};
+ghost use Rattle.asm_places.specs.AsmNeeds.Files.{AreFilesOf};
 ghost use Rattle.asm_places.specs.Counts.{ArePlacesOf};
 ghost use Rattle.asm_symbols.specs.Indexes.{AreIndexesOf, AreOwnNumbers};
-ghost use Rattle.asm_tables.specs.Spots.{AreSpotsOf};
+ghost use Rattle.asm_symbols.specs.AsmTables.Spots.{AreSpotsOf};
 ghost use Rattle.asm_uses.specs.Uses.{AreUsesOf};
 ghost use Rattle.asm_contents.specs.Marks.{AreMarksOf};
 ghost use Rattle.asm_contents.specs.Blank.{blank_contents, IsSource, gnu_table, sysv_table, own_records};
 
+use crate::asm_fixes::{Fixer, fixes_of};
 use crate::needs::{push_files, push_needed};
 use crate::object_words::{elf_kind, entry_name, flags_of, has_gnu, has_sysv, soname};
 use crate::strings::{Marks, append_strings, push_offsets};
-use asm_fixes::{Fixer, fixes_of};
 use asm_layout::Exported;
-use asm_needs::NeededFiles;
-use asm_places::Places;
+use asm_places::{NeededFiles, Places};
 use asm_statement::Statements;
-use asm_symbols::{SymbolFacts, SymbolIndexes, SymbolTable, has_versions, own_numbers};
-use asm_tables::{Spots, gnu_hashes, records_for, sections_of, sorted_exports, sysv_hashes, word};
+use asm_symbols::{
+    Spots, SymbolFacts, SymbolIndexes, SymbolTable, gnu_hashes, has_versions, own_numbers,
+    records_for, sections_of, sorted_exports, sysv_hashes, word,
+};
 use asm_uses::{Uses, hash_of};
-use elf_write::{Contents, Extent, Sections, VersionRecord};
-use hash_build::{gnu_of, sysv_of};
+use asm_write::{Contents, Extent, Sections, VersionRecord, gnu_of, sysv_of};
 use ld_base::{GnuPart, Ints, Kind, ObjFlags, Sequence, SysvPart};
 use std::alloc::{AllocError, Global};
 

@@ -5,9 +5,11 @@
 //! they say of names, and exported symbols are sorted by the buckets of their hashes.
 #![tactic(auto)]
 
+mod asm_fixes;
 mod contents;
 mod needs;
 mod object_words;
 mod strings;
 
+pub use asm_fixes::{Fixer, addend_of, fixes_of};
 pub use contents::contents_of;

@@ -4,14 +4,14 @@ ghost use Rattle.std.specs.Prelude.{◌≡◌, ◌+◌, ◌*◌, ◌++◌, ◌^�
 ghost use Rattle.asm_statement.specs.declared.line.Line.{Line};
 ghost use Rattle.sym_hash.specs.Hash.{sysv_hash};
 ghost use Rattle.asm_layout.specs.Versions.{first_needed, half, need_records, needed_of, needed_records, next_need, strings_length, word};
-ghost use Rattle.asm_needs.specs.Files.{AreFilesOf, file_of};
+ghost use Rattle.asm_places.specs.AsmNeeds.Files.{AreFilesOf, file_of};
 ghost use Rattle.asm_uses.specs.Uses.{AreUsesOf};
 ghost use Rattle.asm_contents.specs.Needs.{flags_in};
 
-use asm_needs::{NeededFile, NeededFiles, first_needed};
-use asm_tables::{half, offset_behind, word};
+use asm_places::{NeededFile, NeededFiles, first_needed};
+use asm_symbols::{half, offset_behind, word};
 use asm_uses::Uses;
-use elf_write::{NeedRecord, NeededVersion};
+use asm_write::{NeedRecord, NeededVersion};
 use ld_base::Sequence;
 use std::alloc::AllocError;
 use sym_hash::sysv_hash;

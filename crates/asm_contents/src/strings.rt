@@ -7,15 +7,15 @@ ghost use Rattle.asm_layout.specs.Symbols.{sorted_exports};
 ghost use Rattle.asm_layout.specs.Tables.{library_needed, needed as needed_of};
 ghost use Rattle.asm_layout.specs.Versions.{word};
 ghost use Rattle.std.specs.List.{cons_option};
-ghost use Rattle.asm_needs.specs.Files.{AreFilesOf};
+ghost use Rattle.asm_places.specs.AsmNeeds.Files.{AreFilesOf};
 ghost use Rattle.asm_uses.specs.Uses.{AreUsesOf};
 ghost use Rattle.asm_contents.specs.Marks.{AreMarksOf, AreStringsBehind};
 
 use crate::object_words::soname;
 use asm_layout::Exported;
-use asm_needs::{NeededFile, NeededFiles};
+use asm_places::{NeededFile, NeededFiles};
 use asm_statement::{Directive, Line, Statement, Statements};
-use asm_tables::{
+use asm_symbols::{
     append_exports, append_needed, append_spelled, append_string, offset_behind, word,
 };
 use asm_uses::Uses;

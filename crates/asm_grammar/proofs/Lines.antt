@@ -4,8 +4,8 @@ use Rattle.std.specs.List.{list_all}
 use Rattle.std.specs.Str.{byte}
 use Rattle.std.proofs.lemmas.Bool.{and_parts, or_cases, or_parts, or_left, or_right, cases_Bool, cases_eq, eqb-true, eq-eqb, ne_eqb, not-true, not-false}
 use Rattle.std.proofs.lemmas.Option.{same_Some}
-use Rattle.asm_words.specs.Text.{is_blank, is_mark, after_blanks, trimmed, until, cut_at, parts_of}
-use Rattle.asm_words.specs.Names.{is_name, is_name_byte, may_begin}
+use Rattle.asm_statement.specs.AsmWords.Text.{is_blank, is_mark, after_blanks, trimmed, until, cut_at, parts_of}
+use Rattle.asm_statement.specs.AsmWords.Names.{is_name, is_name_byte, may_begin}
 use Rattle.asm_grammar.specs.Lines.{is_printed, is_quoted_after}
 use Rattle.asm_grammar.specs.Texts.{ArePadded, AreParts}
 use Rattle.asm_grammar.specs.Grammar.{is_quoted, IsBeforeComment, BeginsWithLabel, IsLabelled, HasText, AreOperands}

@@ -6,7 +6,7 @@ use Rattle.std.proofs.lemmas.Bool.{and_parts, and_from, cases_Bool, eq-eqb}
 use Rattle.std.proofs.lemmas.List.{reverse-append}
 use Rattle.std.proofs.lemmas.List.Folds.{list_all-append}
 use Rattle.std.proofs.lemmas.List.Splits.{slice_split-cons_yes, slice_split-cons_no, length-slice_split, join_with_byte-slice_split}
-use Rattle.asm_words.specs.Text.{is_blank, after_blanks, before_blanks, trimmed, until, cut_at, around}
+use Rattle.asm_statement.specs.AsmWords.Text.{is_blank, after_blanks, before_blanks, trimmed, until, cut_at, around}
 use Rattle.asm_grammar.specs.Texts.{Lacks, AreBlank, LacksBlanks, BeginsBare, IsPadded, AreParts, AllLack, IsApart, IsWorded}
 use Rattle.asm_grammar.specs.Reading.{worded, word_of}
 

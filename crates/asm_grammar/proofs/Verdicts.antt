@@ -3,11 +3,11 @@ use Rattle.std.proofs.Common.{◌≡◌, ◌≢◌, ◌⊎◌, ℕ, ◌∙◌, t
 use Rattle.std.specs.List.{list_all}
 use Rattle.std.specs.Option.{option_map, ok_or}
 use Rattle.std.proofs.lemmas.Bool.{cases_Bool}
-use Rattle.asm_words.specs.Names.{is_name}
-use Rattle.asm_words.specs.DirectiveWords.{directive_word}
-use Rattle.asm_words.specs.Mnemonics.{mnemonic}
-use Rattle.asm_words.specs.declared.directive_words.DirectiveWord.{DirectiveWord}
-use Rattle.asm_words.specs.declared.mnemonics.Form.{Form}
+use Rattle.asm_statement.specs.AsmWords.Names.{is_name}
+use Rattle.asm_statement.specs.AsmWords.DirectiveWords.{directive_word}
+use Rattle.asm_statement.specs.AsmWords.Mnemonics.{mnemonic}
+use Rattle.asm_statement.specs.declared.asm_words.directive_words.DirectiveWord.{DirectiveWord}
+use Rattle.asm_statement.specs.declared.asm_words.mnemonics.Form.{Form}
 use Rattle.asm_grammar.specs.Lines.{is_printed}
 use Rattle.asm_grammar.specs.Texts.{IsWorded}
 use Rattle.asm_grammar.specs.Grammar.{HasText, SaysOf, SaysStatement, SaysText, SaysLine, HasWord, BreaksLine}

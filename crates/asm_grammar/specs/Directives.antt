@@ -3,18 +3,18 @@ use Rattle.std.specs.Prelude.{ℕ, Bool, true, false, not, ◌&&◌, ◌||◌, �
 use Rattle.std.specs.Option.{option_map, option_or}
 use Rattle.std.specs.List.{list_all, list_any, slice_split}
 use Rattle.std.specs.Str.{bytes_eq, byte}
-use Rattle.asm_words.specs.Text.{◌>>=◌, is_blank, cut, cut_blank, after_blanks, trimmed}
-use Rattle.asm_words.specs.Names.{name}
-use Rattle.asm_words.specs.Number.{number}
-use Rattle.asm_words.specs.Kinds.{kind, hash}
-use Rattle.asm_words.specs.declared.directive_words.NameWord.{NameWord}
-use Rattle.asm_words.specs.declared.directive_words.NameWord.TheVariants as names
-use Rattle.asm_words.specs.declared.directive_words.NumberWord.{NumberWord}
-use Rattle.asm_words.specs.declared.directive_words.NumberWord.TheVariants as numbers
-use Rattle.asm_words.specs.declared.directive_words.LoneWord.{LoneWord}
-use Rattle.asm_words.specs.declared.directive_words.LoneWord.TheVariants as lones
-use Rattle.asm_words.specs.declared.directive_words.DirectiveWord.{DirectiveWord}
-use Rattle.asm_words.specs.declared.directive_words.DirectiveWord.TheVariants as words
+use Rattle.asm_statement.specs.AsmWords.Text.{◌>>=◌, is_blank, cut, cut_blank, after_blanks, trimmed}
+use Rattle.asm_statement.specs.AsmWords.Names.{name}
+use Rattle.asm_statement.specs.AsmWords.Number.{number}
+use Rattle.asm_statement.specs.AsmWords.Kinds.{kind, hash}
+use Rattle.asm_statement.specs.declared.asm_words.directive_words.NameWord.{NameWord}
+use Rattle.asm_statement.specs.declared.asm_words.directive_words.NameWord.TheVariants as names
+use Rattle.asm_statement.specs.declared.asm_words.directive_words.NumberWord.{NumberWord}
+use Rattle.asm_statement.specs.declared.asm_words.directive_words.NumberWord.TheVariants as numbers
+use Rattle.asm_statement.specs.declared.asm_words.directive_words.LoneWord.{LoneWord}
+use Rattle.asm_statement.specs.declared.asm_words.directive_words.LoneWord.TheVariants as lones
+use Rattle.asm_statement.specs.declared.asm_words.directive_words.DirectiveWord.{DirectiveWord}
+use Rattle.asm_statement.specs.declared.asm_words.directive_words.DirectiveWord.TheVariants as words
 use Rattle.asm_statement.specs.Alignments.{is_alignment}
 use Rattle.asm_statement.specs.declared.directive.Doubleword.TheVariants as doublewords
 use Rattle.asm_statement.specs.declared.directive.Directive.{Directive}

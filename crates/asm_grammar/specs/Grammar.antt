@@ -2,11 +2,11 @@
 use Rattle.std.specs.Prelude.{ℕ, Bool, true, false, ◌≡◌, ◌≢◌, ◌≤◌, ◌<◌, ◌+◌, ◌^◌, ◌⊎◌, List, [], ◌∷◌, ◌++◌, length, Option, Some, None}
 use Rattle.std.specs.List.{list_all}
 use Rattle.std.specs.Str.{byte}
-use Rattle.asm_words.specs.Names.{is_name}
-use Rattle.asm_words.specs.DirectiveWords.{directive_word}
-use Rattle.asm_words.specs.Mnemonics.{mnemonic}
-use Rattle.asm_words.specs.declared.directive_words.DirectiveWord.{DirectiveWord}
-use Rattle.asm_words.specs.declared.mnemonics.Form.{Form}
+use Rattle.asm_statement.specs.AsmWords.Names.{is_name}
+use Rattle.asm_statement.specs.AsmWords.DirectiveWords.{directive_word}
+use Rattle.asm_statement.specs.AsmWords.Mnemonics.{mnemonic}
+use Rattle.asm_statement.specs.declared.asm_words.directive_words.DirectiveWord.{DirectiveWord}
+use Rattle.asm_statement.specs.declared.asm_words.mnemonics.Form.{Form}
 use Rattle.asm_grammar.specs.Lines.{is_printed, is_quoted_after}
 use Rattle.asm_grammar.specs.Texts.{AreBlank, BeginsBare, IsPadded, ArePadded, AreParts, IsWorded}
 use Rattle.asm_grammar.specs.Operands.{instruction}

@@ -2,21 +2,21 @@
 use Rattle.std.specs.Prelude.{ℕ, true, false, if◌then◌else◌, List, [], ◌∷◌, length, map, ◌==◌, Option, Some, None}
 use Rattle.std.specs.Option.{option_map}
 use Rattle.std.specs.Str.{byte}
-use Rattle.asm_words.specs.Text.{◌>>=◌, trimmed, cut, parts_of}
-use Rattle.asm_words.specs.Names.{name}
-use Rattle.asm_words.specs.Number.{number}
-use Rattle.asm_words.specs.Registers.{register}
-use Rattle.asm_words.specs.Kinds.{fence_set}
-use Rattle.asm_words.specs.declared.mnemonics.TargetForm.{TargetForm}
-use Rattle.asm_words.specs.declared.mnemonics.AddressForm.{AddressForm}
-use Rattle.asm_words.specs.declared.mnemonics.TargetForm.TheVariants as targets
-use Rattle.asm_words.specs.declared.mnemonics.AddressForm.TheVariants as labels
-use Rattle.asm_words.specs.declared.mnemonics.MemoryForm.{MemoryForm}
-use Rattle.asm_words.specs.declared.mnemonics.MemoryForm.TheVariants as memories
-use Rattle.asm_words.specs.declared.mnemonics.RegisterForm.{RegisterForm}
-use Rattle.asm_words.specs.declared.mnemonics.RegisterForm.TheVariants as registers
-use Rattle.asm_words.specs.declared.mnemonics.Form.{Form}
-use Rattle.asm_words.specs.declared.mnemonics.Form.TheVariants as forms
+use Rattle.asm_statement.specs.AsmWords.Text.{◌>>=◌, trimmed, cut, parts_of}
+use Rattle.asm_statement.specs.AsmWords.Names.{name}
+use Rattle.asm_statement.specs.AsmWords.Number.{number}
+use Rattle.asm_statement.specs.AsmWords.Registers.{register}
+use Rattle.asm_statement.specs.AsmWords.Kinds.{fence_set}
+use Rattle.asm_statement.specs.declared.asm_words.mnemonics.TargetForm.{TargetForm}
+use Rattle.asm_statement.specs.declared.asm_words.mnemonics.AddressForm.{AddressForm}
+use Rattle.asm_statement.specs.declared.asm_words.mnemonics.TargetForm.TheVariants as targets
+use Rattle.asm_statement.specs.declared.asm_words.mnemonics.AddressForm.TheVariants as labels
+use Rattle.asm_statement.specs.declared.asm_words.mnemonics.MemoryForm.{MemoryForm}
+use Rattle.asm_statement.specs.declared.asm_words.mnemonics.MemoryForm.TheVariants as memories
+use Rattle.asm_statement.specs.declared.asm_words.mnemonics.RegisterForm.{RegisterForm}
+use Rattle.asm_statement.specs.declared.asm_words.mnemonics.RegisterForm.TheVariants as registers
+use Rattle.asm_statement.specs.declared.asm_words.mnemonics.Form.{Form}
+use Rattle.asm_statement.specs.declared.asm_words.mnemonics.Form.TheVariants as forms
 use Rattle.asm_statement.specs.declared.number.Number.{Number}
 use Rattle.asm_statement.specs.declared.instruction.Fence.{Fence}
 use Rattle.asm_statement.specs.declared.instruction.FenceSet.{FenceSet}

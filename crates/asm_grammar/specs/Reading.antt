@@ -4,12 +4,12 @@ use Rattle.std.specs.Prelude.{Ok, Err}
 use Rattle.std.specs.Option.{option_map, ok_or}
 use Rattle.std.specs.List.{list_all, slice_split}
 use Rattle.std.specs.Str.{byte}
-use Rattle.asm_words.specs.Text.{trimmed, after_blanks, cut, cut_blank}
-use Rattle.asm_words.specs.Names.{is_name}
-use Rattle.asm_words.specs.DirectiveWords.{directive_word}
-use Rattle.asm_words.specs.Mnemonics.{mnemonic}
-use Rattle.asm_words.specs.declared.directive_words.DirectiveWord.{DirectiveWord}
-use Rattle.asm_words.specs.declared.mnemonics.Form.{Form}
+use Rattle.asm_statement.specs.AsmWords.Text.{trimmed, after_blanks, cut, cut_blank}
+use Rattle.asm_statement.specs.AsmWords.Names.{is_name}
+use Rattle.asm_statement.specs.AsmWords.DirectiveWords.{directive_word}
+use Rattle.asm_statement.specs.AsmWords.Mnemonics.{mnemonic}
+use Rattle.asm_statement.specs.declared.asm_words.directive_words.DirectiveWord.{DirectiveWord}
+use Rattle.asm_statement.specs.declared.asm_words.mnemonics.Form.{Form}
 use Rattle.asm_grammar.specs.Lines.{is_printed, is_quoted_after}
 use Rattle.asm_grammar.specs.Operands.{operands_of, instruction}
 use Rattle.asm_grammar.specs.Directives.{directive}

@@ -1,7 +1,7 @@
 -- How a text is made of others: with blanks around it, of parts with marks between them, of a word and what stands behind it.
 use Rattle.std.specs.Prelude.{ℕ, not, ◌≡◌, ◌≤◌, ◌⊎◌, ◌==◌, true, false, List, [], ◌∷◌, ◌++◌, length, reverse}
 use Rattle.std.specs.List.{list_all, join_with_byte}
-use Rattle.asm_words.specs.Text.{is_blank}
+use Rattle.asm_statement.specs.AsmWords.Text.{is_blank}
 
 -- a text without some byte
 abbrev pub Lacks : ℕ → List ℕ → Type 0

@@ -3,3 +3,7 @@ pub mod Ordered
 pub mod Sized
 pub mod Small
 pub mod Strings
+pub mod ElfWritten
+pub mod ElfSpelled
+pub mod AsmWhole
+pub mod AsmBounds

@@ -2,11 +2,11 @@
 use Rattle.std.proofs.Common.{◌≡◌, ◌∙◌, ap, sym, subst, ℕ, ◌+◌, ◌*◌, ◌^◌, ◌<◌, ◌≤◌, Bool, true, false, if◌then◌else◌, List, [], ◌∷◌, ◌++◌, length, take, inl, inr, refl, arith}
 use Rattle.std.specs.Prelude.{Option, Some, None, ⊤}
 use Rattle.std.proofs.Common.{append_assoc}
-use Rattle.elf_write.specs.declared.contents.Fix.{Fix}
-use Rattle.elf_write.specs.declared.part.Part.{Part}
-use Rattle.elf_write.specs.declared.part.Part.TheVariants as parts
-use Rattle.elf_write.specs.Parts.{number_of}
-use Rattle.elf_write.specs.Starts.{wrapped}
+use Rattle.asm_write.specs.declared.contents.Fix.{Fix}
+use Rattle.asm_write.specs.declared.part.Part.{Part}
+use Rattle.asm_write.specs.declared.part.Part.TheVariants as parts
+use Rattle.asm_write.specs.Parts.{number_of}
+use Rattle.asm_write.specs.Starts.{wrapped}
 use Rattle.asm_statement.specs.declared.directive.Array.TheVariants as arrays
 use Rattle.asm_statement.specs.declared.directive.Directive.{Directive}
 use Rattle.asm_statement.specs.declared.directive.Section.{Section}

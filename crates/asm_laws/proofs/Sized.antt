@@ -6,8 +6,8 @@ use Rattle.std.specs.Option.{is_some}
 use Rattle.std.specs.Int.{w32, to_le_bytes}
 use Rattle.std.specs.Str.{bytes_eq}
 use Rattle.std.proofs.lemmas.List.{length-map, length-replicate}
-use Rattle.elf_write.specs.declared.starts.Starts.{Starts}
-use Rattle.elf_write.specs.Sizes.{plt_size}
+use Rattle.asm_write.specs.declared.starts.Starts.{Starts}
+use Rattle.asm_write.specs.Sizes.{plt_size}
 use Rattle.rv_isa.specs.Encoding.{word_of}
 use Rattle.asm_statement.specs.declared.directive.DataSize.{DataSize}
 use Rattle.asm_statement.specs.declared.directive.DataSize.TheVariants as sizes
@@ -37,7 +37,7 @@ use Rattle.asm_laws.specs.Lemmas.Filled.{one_more, is_same}
 use Rattle.asm_laws.specs.Lemmas.Given.{given, same_name}
 use Rattle.asm_laws.proofs.Known.{same_as_itself, HasSlot, valued}
 use Rattle.asm_laws.proofs.Ordered.{at_line}
-use Rattle.elf_written.specs.Fitting.{FitsSections}
+use Rattle.asm_laws.specs.ElfWritten.Fitting.{FitsSections}
 
 first_of : (a b : Bool) → (a && b) ≡ true → a ≡ true
 first_of true b both = refl

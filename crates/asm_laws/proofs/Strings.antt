@@ -4,7 +4,7 @@ use Rattle.std.specs.Prelude.{⊤, Option, Some, None, option_to_list}
 use Rattle.std.specs.List.{All, Contains, cons_option, list_any, range_with_len}
 use Rattle.std.specs.Str.{bytes_eq}
 use Rattle.std.proofs.lemmas.List.Elements.{All-contains_itself}
-use Rattle.hash_build.specs.Hashed.{bucket_count, by_bucket}
+use Rattle.asm_write.specs.HashBuild.Hashed.{bucket_count, by_bucket}
 use Rattle.sym_hash.specs.Hash.{gnu_hash}
 use Rattle.asm_statement.specs.declared.directive.Directive.TheVariants as directives
 use Rattle.asm_statement.specs.declared.directive.Doubleword.TheVariants as doublewords

@@ -1,9 +1,9 @@
 -- Places in ascending order of address, none of which reaches into the next.
 use Rattle.std.specs.Prelude.{◌≡◌, ℕ, ◌+◌, ◌<◌, ◌≤◌, ◌⊎◌, ⊤, List, [], ◌∷◌}
-use Rattle.elf_write.specs.declared.contents.Fix.{Fix}
-use Rattle.elf_write.specs.declared.contents.FixKind.{FixKind}
-use Rattle.elf_write.specs.declared.contents.FixKind.TheVariants as kinds
-use Rattle.elf_write.specs.Parts.{number_of}
+use Rattle.asm_write.specs.declared.contents.Fix.{Fix}
+use Rattle.asm_write.specs.declared.contents.FixKind.{FixKind}
+use Rattle.asm_write.specs.declared.contents.FixKind.TheVariants as kinds
+use Rattle.asm_write.specs.Parts.{number_of}
 
 -- how many bytes a place has at least: a doubleword; how many a copy has is its symbol's size, which may be 0
 abbrev pub room : FixKind → ℕ

@@ -2,3 +2,8 @@ pub mod Ascending
 pub mod Lemmas
 pub mod Said
 pub mod Short
+pub mod ElfWritten
+pub mod ElfRecords
+pub mod ElfSpelled
+pub mod AsmWhole
+pub mod AsmBounds

@@ -2,8 +2,8 @@
 
 ghost use Rattle.std.specs.Prelude.{◌≡◌, ◌<◌, ◌^◌, List, ℕ, length, take};
 ghost use Rattle.std.specs.List.{All};
-ghost use Rattle.elf_write.specs.declared.starts.Starts.{Starts};
-ghost use Rattle.elf_written.specs.Fitting.{FitsSections};
+ghost use Rattle.asm_write.specs.declared.starts.Starts.{Starts};
+ghost use Rattle.asm_laws.specs.ElfWritten.Fitting.{FitsSections};
 ghost use Rattle.asm_statement.specs.declared.directive.Section.{Section as Sections};
 ghost use Rattle.asm_statement.specs.declared.line.Line.{Line};
 ghost use Rattle.asm_layout.specs.Contents.{contents_of, string_names};

@@ -3,3 +3,4 @@ pub mod Distinct
 pub mod Firsts
 pub mod Forms
 pub mod Offsets
+pub mod AsmDenotes

@@ -1,9 +1,9 @@
 -- Offsets of strings count modulo 2^32: a list of records depends on no more of the first one.
 use Rattle.std.proofs.Common.{◌≡◌, ℕ, ◌+◌, ◌*◌, List, [], ◌∷◌, ◌++◌, length, refl, ap, ◌∙◌, arith}
-use Rattle.elf_write.specs.declared.contents.NeedRecord.{NeedRecord}
-use Rattle.elf_write.specs.declared.contents.NeededVersion.{NeededVersion}
-use Rattle.elf_write.specs.declared.contents.SymbolEntry.{SymbolEntry}
-use Rattle.elf_write.specs.declared.contents.VersionRecord.{VersionRecord}
+use Rattle.asm_write.specs.declared.contents.NeedRecord.{NeedRecord}
+use Rattle.asm_write.specs.declared.contents.NeededVersion.{NeededVersion}
+use Rattle.asm_write.specs.declared.contents.SymbolEntry.{SymbolEntry}
+use Rattle.asm_write.specs.declared.contents.VersionRecord.{VersionRecord}
 use Rattle.sym_hash.specs.Hash.{sysv_hash}
 use Rattle.asm_statement.specs.declared.line.Line.{Line}
 use Rattle.asm_layout.specs.declared.uses.Exported.{Exported}

@@ -2,14 +2,14 @@
 use Rattle.std.specs.Prelude.{ℕ, ◌+◌, if◌then◌else◌, List, [], ◌∷◌, ◌++◌, map, flat_map, length, Option, Some, None, option_to_list, unwrap_or}
 use Rattle.ld_base.specs.declared.object.Kind.{Kind}
 use Rattle.ld_base.specs.declared.object.Kind.TheVariants.{Exec, Dyn}
-use Rattle.elf_write.specs.declared.contents.Contents.{Contents}
+use Rattle.asm_write.specs.declared.contents.Contents.{Contents}
 use Rattle.sym_hash.specs.Hash.{gnu_hash, sysv_hash}
 use Rattle.asm_statement.specs.declared.directive.Directive.TheVariants as directives
 use Rattle.asm_statement.specs.declared.line.Statement.{Statement}
 use Rattle.asm_statement.specs.declared.line.Statement.TheVariants as statements
 use Rattle.asm_statement.specs.declared.line.Line.{Line}
 use Rattle.asm_layout.specs.Fixes.{fixes_of}
-use Rattle.hash_build.specs.Hashed.{gnu_of, sysv_of}
+use Rattle.asm_write.specs.HashBuild.Hashed.{gnu_of, sysv_of}
 use Rattle.asm_layout.specs.Names.{kind_of, is_executable}
 use Rattle.asm_layout.specs.Spots.{label_spot, sections_of}
 use Rattle.asm_layout.specs.Symbols.{sorted_exports, first_export, symbol_index, import_entries, export_entries}

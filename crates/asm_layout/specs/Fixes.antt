@@ -2,17 +2,17 @@
 use Rattle.std.specs.Prelude.{ℕ, ◌+◌, ◌*◌, ◌%◌, ◌==◌, Bool, ◌&&◌, if◌then◌else◌, List, [], ◌∷◌, ◌++◌, Option, Some}
 use Rattle.std.specs.Int.{w64, cast_unsigned}
 use Rattle.std.specs.Option.{option_map_or}
-use Rattle.elf_write.specs.declared.contents.Fix.{Fix}
-use Rattle.elf_write.specs.declared.contents.FixKind.{FixKind}
-use Rattle.elf_write.specs.declared.contents.FixKind.TheVariants as kinds
-use Rattle.elf_write.specs.declared.contents.Spot.{Spot}
-use Rattle.elf_write.specs.declared.contents.Target.{Target}
-use Rattle.elf_write.specs.declared.contents.Target.TheVariants as targets
-use Rattle.elf_write.specs.declared.contents.Way.{Way}
-use Rattle.elf_write.specs.declared.contents.Way.TheVariants as ways
-use Rattle.elf_write.specs.declared.part.Part.{Part}
-use Rattle.elf_write.specs.declared.part.Part.TheVariants as parts
-use Rattle.elf_write.specs.Starts.{wrapped}
+use Rattle.asm_write.specs.declared.contents.Fix.{Fix}
+use Rattle.asm_write.specs.declared.contents.FixKind.{FixKind}
+use Rattle.asm_write.specs.declared.contents.FixKind.TheVariants as kinds
+use Rattle.asm_write.specs.declared.contents.Spot.{Spot}
+use Rattle.asm_write.specs.declared.contents.Target.{Target}
+use Rattle.asm_write.specs.declared.contents.Target.TheVariants as targets
+use Rattle.asm_write.specs.declared.contents.Way.{Way}
+use Rattle.asm_write.specs.declared.contents.Way.TheVariants as ways
+use Rattle.asm_write.specs.declared.part.Part.{Part}
+use Rattle.asm_write.specs.declared.part.Part.TheVariants as parts
+use Rattle.asm_write.specs.Starts.{wrapped}
 use Rattle.asm_statement.specs.declared.directive.Array.TheVariants as arrays
 use Rattle.asm_statement.specs.declared.directive.Section.{Section}
 use Rattle.asm_statement.specs.declared.directive.Section.TheVariants as sections

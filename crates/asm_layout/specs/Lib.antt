@@ -16,3 +16,4 @@ pub mod Tables
 pub mod Uses
 pub mod Versions
 pub mod Words
+pub mod AsmDenotes

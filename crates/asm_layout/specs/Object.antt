@@ -8,12 +8,12 @@ use Rattle.rv_isa.specs.declared.operation.ImmOp.TheVariants as imms
 use Rattle.rv_isa.specs.declared.operation.LoadOp.TheVariants as loads
 use Rattle.rv_isa.specs.declared.operation.RegOp.TheVariants as ops
 use Rattle.rv_isa.specs.Encoding.{word_of}
-use Rattle.elf_write.specs.declared.contents.SectionBytes.{SectionBytes}
-use Rattle.elf_write.specs.declared.part.Part.TheVariants as parts
-use Rattle.elf_write.specs.declared.starts.Starts.{Starts}
-use Rattle.elf_write.specs.Records.{file_word, file_size}
-use Rattle.elf_write.specs.Starts.{starts_of}
-use Rattle.elf_write.specs.Values.{object_bytes}
+use Rattle.asm_write.specs.declared.contents.SectionBytes.{SectionBytes}
+use Rattle.asm_write.specs.declared.part.Part.TheVariants as parts
+use Rattle.asm_write.specs.declared.starts.Starts.{Starts}
+use Rattle.asm_write.specs.Records.{file_word, file_size}
+use Rattle.asm_write.specs.Starts.{starts_of}
+use Rattle.asm_write.specs.Values.{object_bytes}
 use Rattle.asm_statement.specs.declared.directive.DataSize.{DataSize}
 use Rattle.asm_statement.specs.declared.directive.DataSize.TheVariants as sizes
 use Rattle.asm_statement.specs.declared.directive.Section.{Section}

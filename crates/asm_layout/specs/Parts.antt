@@ -1,7 +1,7 @@
 -- Where the parts of the object start.
 use Rattle.std.specs.Prelude.{ℕ, List}
-use Rattle.elf_write.specs.declared.part.Part.{Part}
-use Rattle.elf_write.specs.Starts.{start_in, starts_of}
+use Rattle.asm_write.specs.declared.part.Part.{Part}
+use Rattle.asm_write.specs.Starts.{start_in, starts_of}
 use Rattle.asm_statement.specs.declared.directive.Section.{Section}
 use Rattle.asm_statement.specs.declared.line.Line.{Line}
 use Rattle.asm_layout.specs.Contents.{contents_of}

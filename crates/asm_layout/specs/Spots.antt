@@ -1,10 +1,10 @@
 -- Where sections and labels stand in the object.
 use Rattle.std.specs.Prelude.{ℕ, max, ◌&&◌, nat_lt, if◌then◌else◌, List, fold, length, Option, Some, None, unwrap_or}
-use Rattle.elf_write.specs.declared.contents.Extent.{Extent}
-use Rattle.elf_write.specs.declared.contents.Sections.{Sections}
-use Rattle.elf_write.specs.declared.contents.Spot.{Spot}
-use Rattle.elf_write.specs.declared.part.Part.{Part}
-use Rattle.elf_write.specs.declared.part.Part.TheVariants as parts
+use Rattle.asm_write.specs.declared.contents.Extent.{Extent}
+use Rattle.asm_write.specs.declared.contents.Sections.{Sections}
+use Rattle.asm_write.specs.declared.contents.Spot.{Spot}
+use Rattle.asm_write.specs.declared.part.Part.{Part}
+use Rattle.asm_write.specs.declared.part.Part.TheVariants as parts
 use Rattle.asm_statement.specs.declared.directive.Section.{Section}
 use Rattle.asm_statement.specs.declared.directive.Section.TheVariants as sections
 use Rattle.asm_statement.specs.declared.directive.Directive.TheVariants as directives

@@ -4,7 +4,7 @@ use Rattle.std.specs.Prelude.{Option, Some, None, unwrap_or, position}
 use Rattle.std.specs.Option.{option_map_or}
 use Rattle.std.specs.Str.{bytes_eq}
 use Rattle.std.specs.List.{list_any}
-use Rattle.elf_write.specs.declared.contents.SymbolEntry.{SymbolEntry}
+use Rattle.asm_write.specs.declared.contents.SymbolEntry.{SymbolEntry}
 use Rattle.sym_hash.specs.Hash.{gnu_hash}
 use Rattle.asm_statement.specs.declared.directive.Section.{Section}
 use Rattle.asm_statement.specs.declared.directive.Section.TheVariants as sections
@@ -15,7 +15,7 @@ use Rattle.asm_statement.specs.declared.line.Statement.TheVariants as statements
 use Rattle.asm_statement.specs.declared.line.Line.{Line}
 use Rattle.asm_layout.specs.declared.place.Place.{Place}
 use Rattle.asm_layout.specs.declared.uses.Exported.{Exported}
-use Rattle.hash_build.specs.Hashed.{bucket_count, by_bucket}
+use Rattle.asm_write.specs.HashBuild.Hashed.{bucket_count, by_bucket}
 use Rattle.asm_layout.specs.Labels.{label, defines, defined_by}
 use Rattle.asm_layout.specs.Names.{is_exported}
 use Rattle.asm_layout.specs.Numbers.{count_of}

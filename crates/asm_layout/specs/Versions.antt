@@ -3,9 +3,9 @@ use Rattle.std.specs.Prelude.{ℕ, ◌+◌, ◌*◌, ◌%◌, ◌^◌, ◌||◌,
 use Rattle.std.specs.Prelude.{Option, option_map, unwrap_or, position}
 use Rattle.std.specs.Str.{bytes_eq}
 use Rattle.std.specs.List.{list_any}
-use Rattle.elf_write.specs.declared.contents.NeedRecord.{NeedRecord}
-use Rattle.elf_write.specs.declared.contents.NeededVersion.{NeededVersion}
-use Rattle.elf_write.specs.declared.contents.VersionRecord.{VersionRecord}
+use Rattle.asm_write.specs.declared.contents.NeedRecord.{NeedRecord}
+use Rattle.asm_write.specs.declared.contents.NeededVersion.{NeededVersion}
+use Rattle.asm_write.specs.declared.contents.VersionRecord.{VersionRecord}
 use Rattle.sym_hash.specs.Hash.{sysv_hash}
 use Rattle.asm_statement.specs.declared.directive.Need.{Need}
 use Rattle.asm_statement.specs.declared.line.Line.{Line}

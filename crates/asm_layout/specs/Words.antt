@@ -9,7 +9,7 @@ use Rattle.asm_statement.specs.declared.line.Statement.{Statement}
 use Rattle.asm_statement.specs.declared.line.Statement.TheVariants as statements
 use Rattle.asm_statement.specs.declared.line.Line.{Line}
 use Rattle.asm_layout.specs.declared.place.Place.{Place}
-use Rattle.elf_write.specs.declared.part.Part.TheVariants as parts
+use Rattle.asm_write.specs.declared.part.Part.TheVariants as parts
 use Rattle.asm_layout.specs.declared.uses.GotUse.{GotUse}
 use Rattle.asm_layout.specs.Numbers.{value_of}
 use Rattle.asm_layout.specs.Expansions.{Operand, Registers, Immediate, Upper, Word, Label, Code, Entry, Expansion, expansion, operand_of}

@@ -3,21 +3,21 @@
 ghost use Rattle.std.specs.Prelude.{◌≡◌, ◌++◌, ℤ, [], ◌∷◌, length, flat_map, replicate, Some, None, option_map, codes, Decides};
 ghost use Rattle.std.specs.Int.{w32, w64, to_le_bytes};
 ghost use Rattle.asm_statement.specs.declared.directive.Section.TheVariants as sections;
-ghost use Rattle.elf_write.specs.Starts.{starts_of};
-ghost use Rattle.elf_write.specs.Values.{symbol_bytes, gnu_bytes, rela_bytes, relr_bytes, fixed_bytes};
+ghost use Rattle.asm_write.specs.Starts.{starts_of};
+ghost use Rattle.asm_write.specs.Values.{symbol_bytes, gnu_bytes, rela_bytes, relr_bytes, fixed_bytes};
 ghost use Rattle.asm_layout.specs.Contents.{contents_of};
 ghost use Rattle.asm_layout.specs.Object.{plt_bytes, section_bytes};
 ghost use Rattle.rv_isa.specs.declared.instr.Instr.{Instr};
 ghost use Rattle.rv_isa.specs.Encoding.{HasForm};
 ghost use Rattle.ld_base.specs.declared.fault.AsmCause.TheVariants.{OutOfRange, DoubleLabel, UnknownLabel, WrongSection};
-ghost use Rattle.elf_write.specs.declared.part.Part.TheVariants as parts;
+ghost use Rattle.asm_write.specs.declared.part.Part.TheVariants as parts;
 ghost use Rattle.asm_statement.specs.declared.instruction.Instruction.{Instruction};
 ghost use Rattle.asm_layout.specs.Expansions.{expansion};
 ghost use Rattle.asm_layout.specs.Places.{words_in};
 ghost use Rattle.asm_layout.specs.Examples.{program, library, twice, too_great, nowhere, misplaced};
 ghost use Rattle.asm_layout.specs.Uses.{slots, imports};
 ghost use Rattle.asm_layout.specs.Parts.{start_of};
-ghost use Rattle.elf_write.specs.Relr.{relr_words};
+ghost use Rattle.asm_write.specs.Relr.{relr_words};
 ghost use Rattle.asm_layout.specs.Words.{words_at};
 ghost use Rattle.asm_layout.specs.Faults.{fault_at, has_form};
 

@@ -19,10 +19,12 @@
 //! words as its line's place has room for.
 #![tactic(auto)]
 
+mod asm_denotes;
 mod law;
 mod place;
 mod uses;
 
+pub use asm_denotes::one_answer;
 pub use law::{
     forms_are_those_of_the_table, words_have_their_room, worked_bytes, worked_faults,
     worked_library, worked_program,

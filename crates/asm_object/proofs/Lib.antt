@@ -1,2 +1,4 @@
 pub mod Held
 pub mod Lasting
+pub mod AsmBytes
+pub mod AsmData

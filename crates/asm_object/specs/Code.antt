@@ -1,12 +1,12 @@
 -- Placed code.
 use Rattle.std.specs.Prelude.{◌≡◌, List, length}
-use Rattle.elf_write.specs.Starts.{starts_of}
+use Rattle.asm_write.specs.Starts.{starts_of}
 use Rattle.asm_statement.specs.declared.line.Line.{Line}
 use Rattle.asm_layout.specs.Contents.{contents_of}
 use Rattle.asm_layout.specs.Uses.{slots}
 use Rattle.asm_places.specs.Counts.{ArePlacesOf}
 use Rattle.asm_code.specs.Code.{AreWordsOf}
-use Rattle.asm_bytes.specs.Numbers.{AreNumbersOf}
+use Rattle.asm_object.specs.AsmBytes.Numbers.{AreNumbersOf}
 use Rattle.asm_object.specs.declared.placing.Code.{Code}
 
 -- where lines stand, what their object holds, where its parts start, the words of each line, and the numbers that their data holds

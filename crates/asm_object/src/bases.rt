@@ -1,13 +1,13 @@
 //! Where sections and tables start.
 
 ghost use Rattle.std.specs.Prelude.{◌≡◌, List};
-ghost use Rattle.elf_write.specs.Starts.{starts_of};
+ghost use Rattle.asm_write.specs.Starts.{starts_of};
 ghost use Rattle.asm_statement.specs.declared.line.Line.{Line};
 ghost use Rattle.asm_layout.specs.Contents.{contents_of};
 ghost use Rattle.asm_code.specs.Atlas.{AreBasesOf};
 
 use asm_code::Bases;
-use elf_write::{Part, Starts};
+use asm_write::{Part, Starts};
 
 /// Where the sections and tables that code goes by start.
 pub(crate) fn bases_of(starts: &Starts) -> Bases

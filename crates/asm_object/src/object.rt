@@ -4,14 +4,14 @@ ghost use Rattle.std.specs.Prelude.{◌≡◌, IfOk, IfErr};
 ghost use Rattle.asm_layout.specs.Faults.{HasNoFault};
 ghost use Rattle.asm_layout.specs.Object.{code_of, object_of};
 ghost use Rattle.asm_object.specs.Code.{IsCodeOf};
-ghost use Rattle.asm_denotes.specs.Denotes.{AreObjectOf, Denotes, TellsOfLines, TellsOf};
+ghost use Rattle.asm_layout.specs.AsmDenotes.Denotes.{AreObjectOf, Denotes, TellsOfLines, TellsOf};
 
+use crate::asm_bytes::code_of;
 use crate::last::last_statement;
 use crate::placing::{Code, layout};
-use asm_bytes::code_of;
 use asm_statement::{AsmFault, Statements};
 use asm_text::parse;
-use elf_write::{SectionBytes, file_size, object_bytes};
+use asm_write::{SectionBytes, file_size, object_bytes};
 use ld_base::AsmCause;
 use std::alloc::{AllocError, Global};
 

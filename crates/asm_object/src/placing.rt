@@ -1,24 +1,23 @@
 //! Placed code.
 
 ghost use Rattle.std.specs.Prelude.{◌≡◌, IfOk, IfErr};
-ghost use Rattle.elf_write.specs.Starts.{starts_of};
+ghost use Rattle.asm_write.specs.Starts.{starts_of};
 ghost use Rattle.asm_layout.specs.Contents.{contents_of};
 ghost use Rattle.asm_layout.specs.Faults.{HasNoFault};
 ghost use Rattle.asm_uses.specs.Uses.{AreUsesOf};
-ghost use Rattle.asm_needs.specs.Files.{AreFilesOf};
+ghost use Rattle.asm_places.specs.AsmNeeds.Files.{AreFilesOf};
 ghost use Rattle.asm_places.specs.Counts.{ArePlacesOf};
 ghost use Rattle.asm_code.specs.Code.{TellsOf, AreWordsOf};
 ghost use Rattle.asm_object.specs.Code.{IsCodeOf};
 
+use crate::asm_data::numbers_of;
 use crate::bases::bases_of;
 use asm_code::{LineWords, line_words};
 use asm_contents::contents_of;
-use asm_data::numbers_of;
-use asm_needs::NeededFiles;
-use asm_places::Places;
+use asm_places::{NeededFiles, Places};
 use asm_statement::{AsmFault, Statements};
 use asm_uses::Uses;
-use elf_write::{Contents, Starts};
+use asm_write::{Contents, Starts};
 use ld_base::{Longs, Sequence};
 use std::alloc::Global;
 

@@ -5,11 +5,13 @@
 //! is. What all that means is in `asm_layout`, definitions over the lines.
 #![tactic(auto)]
 
+mod asm_needs;
 mod counter;
 mod numbers;
 mod places;
 mod sizes;
 
+pub use asm_needs::{NeededFile, NeededFiles, VersionNumber, defined_number, first_needed};
 pub use counter::{Counter, section_number};
 pub use numbers::{
     count_of, fits_addend, fits_addi, fits_count, fits_data, fits_dword, fits_li, fits_upper,

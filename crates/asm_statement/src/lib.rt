@@ -10,6 +10,7 @@
 #![tactic(auto)]
 
 mod alignment;
+mod asm_words;
 mod directive;
 mod fault;
 mod instruction;
@@ -17,6 +18,11 @@ mod line;
 mod number;
 
 pub use alignment::Alignment;
+pub use asm_words::{
+    AddressForm, DirectiveWord, Form, LoneWord, MemoryForm, NameWord, NumberWord, RegisterForm,
+    TargetForm, after_blanks, cut, cut_blank, directive_word, each_word_once, fence_set, hash,
+    is_blank, is_name, kind, mnemonic, name_of, number_of, parts_of, register, trimmed,
+};
 pub use directive::{
     Array, DataSize, Directive, Doubleword, Export, HashKind, Need, ObjectKind, Section, Symver,
 };

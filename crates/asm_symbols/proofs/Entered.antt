@@ -5,7 +5,7 @@ use Rattle.std.specs.List.{position_or_len}
 use Rattle.std.proofs.lemmas.Bool.Decides.{nat_tests}
 use Rattle.std.proofs.lemmas.List.Folds.{find_at}
 use Rattle.std.proofs.lemmas.Option.{slice_get_past}
-use Rattle.elf_write.specs.declared.contents.SymbolEntry.{SymbolEntry}
+use Rattle.asm_write.specs.declared.contents.SymbolEntry.{SymbolEntry}
 use Rattle.asm_statement.specs.declared.line.Line.{Line}
 use Rattle.asm_layout.specs.declared.uses.Exported.{Exported}
 use Rattle.asm_layout.specs.Labels.{defines}

@@ -2,3 +2,4 @@ pub mod Behind
 pub mod Entered
 pub mod Given
 pub mod Owns
+pub mod AsmTables

@@ -7,7 +7,7 @@ use Rattle.std.specs.Str.{bytes_eq}
 use Rattle.std.proofs.Math.Bool.{beq}
 use Rattle.std.proofs.lemmas.Cmp.{nat_list_eq_equiv}
 use Rattle.std.proofs.lemmas.Slice.Eq.{bytes_eq-Decides}
-use Rattle.hash_build.specs.Hashed.{by_bucket, bucket_count}
+use Rattle.asm_write.specs.HashBuild.Hashed.{by_bucket, bucket_count}
 use Rattle.sym_hash.specs.Hash.{gnu_hash}
 use Rattle.asm_statement.specs.declared.directive.Directive.{Directive}
 use Rattle.asm_statement.specs.declared.directive.Directive.TheVariants as directives

@@ -7,8 +7,8 @@ use Rattle.asm_layout.specs.Once.{is_among}
 use Rattle.asm_layout.specs.Symbols.{weakens, visibility_given}
 use Rattle.asm_layout.specs.Uses.{needs}
 use Rattle.asm_uses.specs.Numbers.{number_of}
-use Rattle.asm_needs.specs.Files.{AreFilesOf}
-use Rattle.asm_tables.specs.Spots.{AreSpotsOf}
+use Rattle.asm_places.specs.AsmNeeds.Files.{AreFilesOf}
+use Rattle.asm_symbols.specs.AsmTables.Spots.{AreSpotsOf}
 use Rattle.asm_symbols.specs.declared.entries.SymbolTable.{SymbolTable}
 use Rattle.asm_symbols.specs.declared.facts.SymbolFacts.{SymbolFacts}
 use Rattle.asm_symbols.specs.Reaches.{AreSizesFrom}

@@ -12,14 +12,13 @@ ghost use Rattle.asm_layout.specs.Versions.{has_versions, needed_index};
 ghost use Rattle.asm_uses.specs.Uses.{AreUsesOf};
 ghost use Rattle.asm_symbols.specs.Facts.{IsTableOf};
 
+use crate::asm_tables::{Spots, half, offset_behind};
 use crate::facts::SymbolFacts;
 use asm_layout::Exported;
-use asm_needs::{NeededFiles, defined_number, first_needed};
-use asm_places::count_of;
+use asm_places::{NeededFiles, count_of, defined_number, first_needed};
 use asm_statement::{Directive, Line, Need, Section, Statement, Statements};
-use asm_tables::{Spots, half, offset_behind};
 use asm_uses::Uses;
-use elf_write::SymbolEntry;
+use asm_write::SymbolEntry;
 use ld_base::{Name, Sequence};
 use std::alloc::AllocError;
 

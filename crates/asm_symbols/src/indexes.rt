@@ -8,8 +8,8 @@ ghost use Rattle.asm_layout.specs.Symbols.{sorted_exports, symbol_index};
 ghost use Rattle.asm_uses.specs.Numbers.{number_of};
 ghost use Rattle.asm_symbols.specs.Indexes.{AreIndexesOf, AreOwnNumbers, is_own};
 
+use crate::asm_tables::word;
 use asm_layout::Exported;
-use asm_tables::word;
 use asm_uses::{FirstNumbers, NameSet};
 use std::alloc::{AllocError, Global};
 

@@ -5,12 +5,18 @@
 //! [`SymbolTable`] makes the entries. What all that means is in `asm_layout`, definitions over the lines.
 #![tactic(auto)]
 
+mod asm_tables;
 mod entries;
 mod facts;
 mod indexes;
 mod label_sizes;
 mod visibilities;
 
+pub use asm_tables::{
+    Spots, append_exports, append_names, append_needed, append_spelled, append_string, gnu_hashes,
+    half, offset_behind, part_of, records_for, sections_of, sorted_exports, spot_of, sysv_hashes,
+    word,
+};
 pub use entries::{SymbolTable, has_versions};
 pub use facts::SymbolFacts;
 pub use indexes::{SymbolIndexes, own_numbers};

@@ -9,8 +9,14 @@
 //! memory.
 #![tactic(auto)]
 
+mod asm_directives;
+mod asm_operands;
+mod asm_parts;
 mod lines;
 
+pub use asm_directives::directive;
+pub use asm_operands::instruction;
+pub use asm_parts::{operands_of, words_of, zero};
 pub use asm_statement::AsmFault;
 pub use ld_base::AsmCause;
 pub use lines::parse;

@@ -6,8 +6,8 @@ ghost use Rattle.asm_grammar.specs.Lines.{is_printed, is_quoted_after};
 ghost use Rattle.asm_grammar.specs.Reading.{before_comment, uncommented, labelled, worded, statement, read_statement, read_text, line_of};
 ghost use Rattle.asm_grammar.specs.Reading.{read_line, read_lines, lines_of, statements_of};
 ghost use Rattle.std.specs.Option.{ok_or};
-ghost use Rattle.asm_words.specs.DirectiveWords.{directive_word};
-ghost use Rattle.asm_words.specs.Mnemonics.{mnemonic};
+ghost use Rattle.asm_statement.specs.AsmWords.DirectiveWords.{directive_word};
+ghost use Rattle.asm_statement.specs.AsmWords.Mnemonics.{mnemonic};
 ghost use Rattle.asm_grammar.specs.Operands.{operands_of, instruction};
 ghost use Rattle.asm_grammar.specs.Directives.{directive};
 ghost use Rattle.asm_statement.specs.declared.line.Statement.TheVariants as statements;
@@ -15,12 +15,12 @@ ghost use Rattle.ld_base.specs.declared.fault.AsmCause.TheVariants as causes;
 ghost use Rattle.asm_grammar.specs.Grammar.{SaysSource};
 ghost use Rattle.asm_text.specs.Faults.{TellsOfLine, TellsOfLines, TellsOfSource, TellsOf};
 
-use asm_directives::directive;
-use asm_operands::instruction;
-use asm_parts::operands_of;
-use asm_statement::{AsmFault, Line, Statement, Statements};
-use asm_words::{
-    DirectiveWord, Form, after_blanks, cut, cut_blank, directive_word, is_name, mnemonic, trimmed,
+use crate::asm_directives::directive;
+use crate::asm_operands::instruction;
+use crate::asm_parts::operands_of;
+use asm_statement::{
+    AsmFault, DirectiveWord, Form, Line, Statement, Statements, after_blanks, cut, cut_blank,
+    directive_word, is_name, mnemonic, trimmed,
 };
 use ld_base::{AsmCause, Name};
 use std::alloc::{AllocError, Global};

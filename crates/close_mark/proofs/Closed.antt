@@ -7,10 +7,10 @@ use Rattle.std.proofs.lemmas.List.{length-map}
 use Rattle.std.proofs.lemmas.List.Elements.{Contains-append_left, Contains-append_right, Contains-append_cases, Contains-push, Contains-push_cases}
 use Rattle.std.proofs.lemmas.List.Sorted.{Contains-permutation, IsPermutation-sym}
 use Rattle.std.proofs.lemmas.List.Sums.{length-filter}
-use Rattle.link_graph.specs.declared.graph.Edge.{Edge}
-use Rattle.link_graph.specs.Reached.{Reached, leads_from}
-use Rattle.link_graph.specs.Reached.Reached.{root, on}
-use Rattle.link_graph.specs.Lemmas.Members.{kept, from_kept, mapped, from_mapped, count_parts}
+use Rattle.history_graph.specs.declared.graph.Edge.{Edge}
+use Rattle.history_graph.specs.Reached.{Reached, leads_from}
+use Rattle.history_graph.specs.Reached.Reached.{root, on}
+use Rattle.history_graph.specs.Lemmas.Members.{kept, from_kept, mapped, from_mapped, count_parts}
 use Rattle.close_mark.specs.Marks.{target_of}
 
 -- the serial is marked, or is going to be

@@ -1,6 +1,6 @@
 -- What marking goes by.
 use Rattle.std.specs.Prelude.{ℕ}
-use Rattle.link_graph.specs.declared.graph.Edge.{Edge}
+use Rattle.history_graph.specs.declared.graph.Edge.{Edge}
 
 abbrev pub target_of : Edge → ℕ
 target_of e = e.target

@@ -4,6 +4,18 @@
 //! nodes of a graph, in its order. Each edge is followed once.
 #![tactic(auto)]
 
+mod closing_graph;
+mod closing_laws;
+mod closing_plans;
+mod closing_sets;
 mod marking;
+mod unmap_steps;
+mod unmapped_objects;
 
+pub use closing_graph::{edges_of, opened_in, roots_of};
+pub use closing_laws::{closes_exactly, first_is_opened};
+pub use closing_plans::{ClosingPlan, close_in, wait};
+pub use closing_sets::closing_set;
 pub use marking::unneeded;
+pub use unmap_steps::{first_is_least, holding, remove_modules};
+pub use unmapped_objects::{count_in, take_out};

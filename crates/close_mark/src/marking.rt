@@ -2,11 +2,11 @@
 
 ghost use Rattle.std.specs.Prelude.{◌≡◌, ◌++◌, ◌↔◌, ℕ, IfOk, IsTrue, OnOk, filter, map, nat_eq, not};
 ghost use Rattle.std.specs.HashSet.{contains};
-ghost use Rattle.link_graph.specs.Reached.{Reached, Unneeded};
+ghost use Rattle.history_graph.specs.Reached.{Reached, Unneeded};
 ghost use Rattle.close_mark.specs.Marks.{target_of};
 
+use history_graph::{Edge, Graph, Successors};
 use ld_base::Serial;
-use link_graph::{Edge, Graph, Successors};
 use std::alloc::{AllocError, Global};
 use std::collections::HashSet;
 

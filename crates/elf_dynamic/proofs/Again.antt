@@ -5,7 +5,7 @@ use Rattle.std.specs.List.{list_any, slice_get}
 use Rattle.std.specs.Option.{option_or}
 use Rattle.std.proofs.lemmas.Bool.{cases_Bool}
 use Rattle.ld_base.specs.declared.object.Span.{Span}
-use Rattle.acceptance.specs.Lemmas.Finds.{finds_cons, finds_like, same_some, Finds}
+use Rattle.elf_head.specs.AcceptancePart.Lemmas.Finds.{finds_cons, finds_like, same_some, Finds}
 use Rattle.elf_dynamic.specs.Again.{first_again}
 use Rattle.elf_dynamic.specs.Memory.{overlaps}
 

@@ -6,17 +6,17 @@ use Rattle.std.specs.List.{list_any, slice_get}
 use Rattle.std.proofs.lemmas.Bool.{true≢false}
 use Rattle.std.proofs.lemmas.Bool.Decides.{not_from_Decides, Decides-eqb}
 use Rattle.ld_base.specs.declared.parts.Tag.{Tag}
-use Rattle.acceptance.specs.First.{IsFirst}
-use Rattle.acceptance.specs.Lemmas.Finds.{one_first, same_some}
-use Rattle.acceptance.specs.Lemmas.Leasts.{least_at, least_found, least_kept, least_none}
-use Rattle.dyn_table.specs.Name.{string_at, IsStringAt}
-use Rattle.dyn_table.specs.Symbol.{symbol_name}
-use Rattle.dyn_table.specs.Tag.{has_tag}
-use Rattle.dyn_table.specs.TagNumbers.{dt_needed, dt_soname}
+use Rattle.elf_head.specs.AcceptancePart.First.{IsFirst}
+use Rattle.elf_head.specs.AcceptancePart.Lemmas.Finds.{one_first, same_some}
+use Rattle.elf_head.specs.AcceptancePart.Lemmas.Leasts.{least_at, least_found, least_kept, least_none}
+use Rattle.elf_head.specs.DynTable.Name.{string_at, IsStringAt}
+use Rattle.elf_head.specs.DynTable.Symbol.{symbol_name}
+use Rattle.elf_head.specs.DynTable.Tag.{has_tag}
+use Rattle.elf_head.specs.DynTable.TagNumbers.{dt_needed, dt_soname}
 use Rattle.elf_dynamic.specs.Breaks.{Lacks, LacksName, LacksSymbolName, NamesString}
 use Rattle.elf_dynamic.specs.Parts.{LacksString}
 use Rattle.elf_dynamic.specs.Rules.{bad_string, lacks_string, name_offsets, unnamed_symbol}
-use Rattle.acceptance.specs.Lemmas.Tests.{among, both, contrary, either, means, some_decides}
+use Rattle.elf_head.specs.AcceptancePart.Lemmas.Tests.{among, both, contrary, either, means, some_decides}
 use Rattle.elf_dynamic.proofs.Reasons.{or_else}
 
 -- a search of one symbol more

@@ -9,7 +9,7 @@ use Rattle.std.proofs.lemmas.Option.{get_or_from_slice_get}
 use Rattle.ld_base.specs.Field.{field}
 use Rattle.ld_base.specs.declared.object.Span.{Span}
 use Rattle.ld_base.specs.declared.parts.Header.{Header}
-use Rattle.acceptance.specs.Lemmas.Tables.{get-table, length-table}
+use Rattle.elf_head.specs.AcceptancePart.Lemmas.Tables.{get-table, length-table}
 use Rattle.elf_dynamic.specs.declared.relr.Judged.{Judged}
 use Rattle.elf_dynamic.specs.Again.{first_again}
 use Rattle.elf_dynamic.specs.Judged.{most_places, AdmitsMore, ArePlaces, IsJudged}

@@ -17,18 +17,18 @@ use Rattle.ld_base.specs.declared.parts.GnuPart.{GnuPart}
 use Rattle.ld_base.specs.declared.parts.HashTable.{HashTable}
 use Rattle.ld_base.specs.declared.parts.Header.{Header}
 use Rattle.ld_base.specs.declared.parts.Tag.{Tag}
-use Rattle.acceptance.specs.Entries.{AreEntries}
-use Rattle.acceptance.specs.Table.{table}
-use Rattle.acceptance.specs.Lemmas.Finds.{finds_is, finds_position, same_some, Finds}
-use Rattle.acceptance.specs.Lemmas.Tables.{get-table, length-table}
+use Rattle.elf_head.specs.AcceptancePart.Entries.{AreEntries}
+use Rattle.elf_head.specs.AcceptancePart.Table.{table}
+use Rattle.elf_head.specs.AcceptancePart.Lemmas.Finds.{finds_is, finds_position, same_some, Finds}
+use Rattle.elf_head.specs.AcceptancePart.Lemmas.Tables.{get-table, length-table}
 use Rattle.elf_head.specs.Readable.{file_bytes}
-use Rattle.dyn_table.specs.HashWords.{hash_words}
-use Rattle.dyn_table.specs.Name.{string_at, string_in, IsStringAt}
-use Rattle.dyn_table.specs.Reloc.{reloc_at, relocs_of}
-use Rattle.dyn_table.specs.Symbol.{symbol_name, symbol_named, symbols_in}
-use Rattle.dyn_table.specs.Tag.{tags_of, value_of, values_of, EndsAtNull}
-use Rattle.dyn_table.specs.TagNumbers.{dt_fini_array, dt_fini_arraysz, dt_init_array, dt_init_arraysz, dt_jmprel, dt_needed, dt_pltrelsz}
-use Rattle.dyn_table.specs.TagNumbers.{dt_preinit_array, dt_preinit_arraysz, dt_relr, dt_relrsz, dt_strsz, dt_strtab, dt_symtab}
+use Rattle.elf_head.specs.DynTable.HashWords.{hash_words}
+use Rattle.elf_head.specs.DynTable.Name.{string_at, string_in, IsStringAt}
+use Rattle.elf_head.specs.DynTable.Reloc.{reloc_at, relocs_of}
+use Rattle.elf_head.specs.DynTable.Symbol.{symbol_name, symbol_named, symbols_in}
+use Rattle.elf_head.specs.DynTable.Tag.{tags_of, value_of, values_of, EndsAtNull}
+use Rattle.elf_head.specs.DynTable.TagNumbers.{dt_fini_array, dt_fini_arraysz, dt_init_array, dt_init_arraysz, dt_jmprel, dt_needed, dt_pltrelsz}
+use Rattle.elf_head.specs.DynTable.TagNumbers.{dt_preinit_array, dt_preinit_arraysz, dt_relr, dt_relrsz, dt_strsz, dt_strtab, dt_symtab}
 use Rattle.elf_dynamic.specs.Parts.{AreBytes, AreFlags, AreNamesAt, AreParts, AreSymbols, AreTags, HasRoom, IsCount, IsFirstExported, IsNameAt, IsNameOf}
 use Rattle.elf_dynamic.specs.Parts.{IsRange, IsRela, IsSymbolTable, IsThat, LacksString, NamePlaces}
 use Rattle.elf_dynamic.specs.Parts.AreBytes.{held, missing}
@@ -41,7 +41,7 @@ use Rattle.elf_dynamic.specs.Tables.{bytes_in, count_in, dynamic_tags, first_exp
 use Rattle.elf_dynamic.specs.Tables.{relr_bytes, span_of, strings_in, symbol_bytes, symbol_count}
 use Rattle.elf_dynamic.proofs.Relocs.{get_map}
 use Rattle.elf_dynamic.proofs.Reasons.{and_then, range_is, rela_is, same_span}
-use Rattle.acceptance.specs.Lemmas.Tests.{itself}
+use Rattle.elf_head.specs.AcceptancePart.Lemmas.Tests.{itself}
 use Rattle.elf_dynamic.proofs.Tests.{stands_decides}
 
 -- ---- options and lists

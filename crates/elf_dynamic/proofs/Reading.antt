@@ -6,8 +6,8 @@ use Rattle.std.proofs.lemmas.List.{length-take}
 use Rattle.ld_base.specs.declared.object.Span.{Span}
 use Rattle.ld_base.specs.declared.parts.Header.{Header}
 use Rattle.elf_head.specs.Readable.{file_bytes, covers, readable}
-use Rattle.acceptance.specs.Lemmas.Tables.{length-table}
-use Rattle.dyn_table.specs.Reloc.{reloc_at, relocs_of}
+use Rattle.elf_head.specs.AcceptancePart.Lemmas.Tables.{length-table}
+use Rattle.elf_head.specs.DynTable.Reloc.{reloc_at, relocs_of}
 use Rattle.elf_dynamic.specs.Tables.{bytes_in}
 use Rattle.ld_base.specs.declared.parts.HashTable.{HashTable}
 use Rattle.ld_base.specs.declared.parts.Tag.{Tag}
@@ -17,11 +17,11 @@ use Rattle.elf_head.specs.Accepted.{AllFit, Fits}
 use Rattle.elf_head.specs.Header.{is_loaded}
 use Rattle.std.proofs.lemmas.Bool.{cases_lt}
 use Rattle.elf_dynamic.specs.Rules.{bad_table, first_bad, lacks_symbols, table_checks}
-use Rattle.dyn_table.specs.Tag.{value_of}
-use Rattle.dyn_table.specs.TagNumbers.{dt_symtab}
+use Rattle.elf_head.specs.DynTable.Tag.{value_of}
+use Rattle.elf_head.specs.DynTable.TagNumbers.{dt_symtab}
 use Rattle.ld_base.specs.declared.fault.ReadFault.{ReadFault}
-use Rattle.acceptance.specs.Broken.{first_broken}
-use Rattle.acceptance.specs.Gives.{Faults}
+use Rattle.elf_head.specs.AcceptancePart.Broken.{first_broken}
+use Rattle.elf_head.specs.AcceptancePart.Gives.{Faults}
 use Rattle.elf_dynamic.specs.Judged.{broken_at, FaultIs}
 
 -- ---- how long the parts of a file may be

@@ -5,24 +5,24 @@ use Rattle.std.specs.Prelude.{Decides, if◌then◌else◌}
 use Rattle.std.specs.Option.{option_or, option_and_then, option_map_or}
 use Rattle.elf_dynamic.specs.Rules.{first_bad, are_addresses, bad_table, has_bad_array, has_bad_strings, has_entries, is_bad_table, is_readable, lacks_symbols}
 use Rattle.elf_dynamic.specs.Rules.{table_checks, has_type, is_exec, is_other_type, refused_feature}
-use Rattle.acceptance.specs.Lemmas.Finds.{finds_like, finds_none, Finds, same_some, finds_is}
+use Rattle.elf_head.specs.AcceptancePart.Lemmas.Finds.{finds_like, finds_none, Finds, same_some, finds_is}
 use Rattle.std.proofs.lemmas.Bool.Decides.{nat_tests, Decides-eqb, Decides-ltb, Decides-at}
 use Rattle.ld_base.specs.declared.object.Span.{Span}
 use Rattle.ld_base.specs.declared.parts.Tag.{Tag}
-use Rattle.dyn_table.specs.Tag.{last_of, has, value_of, has_flag}
-use Rattle.dyn_table.specs.TagNumbers.{dt_jmprel, dt_pltrelsz, dt_rela, dt_relasz, dt_fini_array, dt_fini_arraysz, dt_gnu_hash, dt_hash, dt_init_array}
-use Rattle.dyn_table.specs.TagNumbers.{dt_init_arraysz, dt_pltgot, dt_pltrel, dt_preinit_array, dt_preinit_arraysz, dt_relaent, dt_relr, dt_relrent, dt_relrsz}
-use Rattle.dyn_table.specs.TagNumbers.{dt_strsz, dt_strtab, dt_syment, dt_symtab, dt_verdef, dt_verdefnum, dt_verneed, dt_verneednum, dt_flags, dt_rel}
-use Rattle.dyn_table.specs.TagNumbers.{dt_textrel}
+use Rattle.elf_head.specs.DynTable.Tag.{last_of, has, value_of, has_flag}
+use Rattle.elf_head.specs.DynTable.TagNumbers.{dt_jmprel, dt_pltrelsz, dt_rela, dt_relasz, dt_fini_array, dt_fini_arraysz, dt_gnu_hash, dt_hash, dt_init_array}
+use Rattle.elf_head.specs.DynTable.TagNumbers.{dt_init_arraysz, dt_pltgot, dt_pltrel, dt_preinit_array, dt_preinit_arraysz, dt_relaent, dt_relr, dt_relrent, dt_relrsz}
+use Rattle.elf_head.specs.DynTable.TagNumbers.{dt_strsz, dt_strtab, dt_syment, dt_symtab, dt_verdef, dt_verdefnum, dt_verneed, dt_verneednum, dt_flags, dt_rel}
+use Rattle.elf_head.specs.DynTable.TagNumbers.{dt_textrel}
 use Rattle.elf_dynamic.specs.Parts.{IsRange, IsRela, IsTail, Stands}
 use Rattle.elf_dynamic.specs.Parts.IsRela.{whole, front}
 use Rattle.elf_dynamic.specs.Tables.{is_tail, less_tail, rela_span, span_of}
-use Rattle.acceptance.specs.Lemmas.Tests.{both, refuted, settle, all_decides, contrary, either, itself, means, there_decides, among}
+use Rattle.elf_head.specs.AcceptancePart.Lemmas.Tests.{both, refuted, settle, all_decides, contrary, either, itself, means, there_decides, among}
 use Rattle.ld_base.specs.declared.parts.GnuPart.{GnuPart}
 use Rattle.ld_base.specs.declared.parts.HashTable.{HashTable}
 use Rattle.ld_base.specs.declared.parts.Header.{Header}
 use Rattle.ld_base.specs.declared.parts.SysvPart.{SysvPart}
-use Rattle.acceptance.specs.First.{IsFirst}
+use Rattle.elf_head.specs.AcceptancePart.First.{IsFirst}
 use Rattle.elf_dynamic.specs.Breaks.{AreAddresses, AreSlots, HasEntries, IsBadTable, IsHeld, LacksSymbols, known_types, HasFeature, HasType}
 use Rattle.elf_dynamic.specs.Breaks.IsArray.{init, fini, preinit}
 use Rattle.elf_dynamic.specs.Breaks.IsBadTable.{lacks, no_hash, bad_hash, no_strings, no_symbols, bad_symbols, bad_rela, bad_slots, bad_array, bad_packed}

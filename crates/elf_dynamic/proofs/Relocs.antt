@@ -10,7 +10,7 @@ use Rattle.ld_base.specs.declared.object.Reloc.{Reloc}
 use Rattle.ld_base.specs.declared.object.Span.{Span}
 use Rattle.ld_base.specs.declared.object.Symbol.{Symbol}
 use Rattle.ld_base.specs.declared.parts.Header.{Header}
-use Rattle.acceptance.specs.Lemmas.Finds.{any_at, finds_append, finds_like, finds_position, same_some, Finds}
+use Rattle.elf_head.specs.AcceptancePart.Lemmas.Finds.{any_at, finds_append, finds_like, finds_position, same_some, Finds}
 use Rattle.elf_dynamic.specs.Breaks.{named, IsBadRelocAt, IsBadSymbol, IsBadSymbolAt, SharesBefore, IsBadReloc, IsBadSlot, IsBadSlotAt, IsSlotTable}
 use Rattle.elf_dynamic.specs.Breaks.{LeadsToCode}
 use Rattle.elf_dynamic.specs.Breaks.IsBadRelocAt.{by_itself, begins_with_bits, bad_place, named_twice}
@@ -21,7 +21,7 @@ use Rattle.elf_dynamic.specs.Ranges.{IsPlace, Share}
 use Rattle.elf_dynamic.specs.Relr.{begins_odd}
 use Rattle.elf_dynamic.specs.Rules.{bad_packed, bad_rela, bad_reloc, bad_symbol, has_storage, is_bad_place, is_bad_reloc, is_bad_symbol, bad_slot, is_bad_slot}
 use Rattle.elf_dynamic.specs.Rules.{is_bad_table_of_slots, leads_to_code}
-use Rattle.acceptance.specs.Lemmas.Tests.{both, contrary, either, itself, means, there_decides, or_then, decided, past_decides}
+use Rattle.elf_head.specs.AcceptancePart.Lemmas.Tests.{both, contrary, either, itself, means, there_decides, or_then, decided, past_decides}
 use Rattle.elf_dynamic.proofs.Tests.{place_decides, reloc_decides, share_decides, turn, executable_decides, twice_decides, writable_decides}
 use Rattle.std.proofs.Math.Seq.{take-append-add}
 use Rattle.elf_dynamic.proofs.Again.{again_finds, Again}

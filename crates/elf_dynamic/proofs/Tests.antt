@@ -9,15 +9,15 @@ use Rattle.ld_base.specs.declared.object.Span.{Span}
 use Rattle.ld_base.specs.declared.object.Symbol.{Symbol}
 use Rattle.ld_base.specs.declared.parts.Header.{Header}
 use Rattle.ld_base.specs.declared.parts.Tag.{Tag}
-use Rattle.dyn_table.specs.Tag.{has, last_of}
+use Rattle.elf_head.specs.DynTable.Tag.{has, last_of}
 use Rattle.elf_dynamic.specs.Breaks.{IsBadReloc}
 use Rattle.elf_dynamic.specs.Breaks.IsBadReloc.{no_symbol, is_slot, copies_null, copies_outside, no_place}
 use Rattle.elf_dynamic.specs.Memory.{holds, in_executable, in_writable, overlaps}
 use Rattle.elf_dynamic.specs.Parts.{Stands}
 use Rattle.elf_dynamic.specs.Ranges.{is_executable, is_writable, IsPlace, IsWritable, LiesIn, Share}
 use Rattle.elf_dynamic.specs.Rules.{is_bad_place, is_bad_reloc}
-use Rattle.acceptance.specs.Lemmas.Finds.{any_at, same_some}
-use Rattle.acceptance.specs.Lemmas.Tests.{either, itself, means, refuted, settle, some_decides}
+use Rattle.elf_head.specs.AcceptancePart.Lemmas.Finds.{any_at, same_some}
+use Rattle.elf_head.specs.AcceptancePart.Lemmas.Tests.{either, itself, means, refuted, settle, some_decides}
 
 pub stands_decides : (tags : List Tag) (tag : ℕ) → Decides (has tags tag) (Stands tags tag)
 stands_decides tags tag = some_decides (last_of tags tag)

@@ -12,18 +12,18 @@ use Rattle.ld_base.specs.declared.object.Reloc.{Reloc}
 use Rattle.ld_base.specs.declared.object.Symbol.{Symbol}
 use Rattle.ld_base.specs.declared.parts.Head.{Head}
 use Rattle.ld_base.specs.declared.parts.Tag.{Tag}
-use Rattle.acceptance.specs.Table.{table}
-use Rattle.dyn_table.specs.Name.{string_in, string_at, IsStringAt}
-use Rattle.dyn_table.specs.Symbol.{bare_symbols, symbol_name, symbol_named, symbols_in}
+use Rattle.elf_head.specs.AcceptancePart.Table.{table}
+use Rattle.elf_head.specs.DynTable.Name.{string_in, string_at, IsStringAt}
+use Rattle.elf_head.specs.DynTable.Symbol.{bare_symbols, symbol_name, symbol_named, symbols_in}
 use Rattle.elf_dynamic.specs.Rules.{bad_packed, bad_rela, bad_reloc as reloc_rule, bad_slot as slot_rule, bad_symbol as symbol_rule, is_bad_reloc, other_ranges}
 use Rattle.elf_dynamic.specs.Rules.{is_bad_slot, is_no_slot, refused_feature as feature_rule, rules_on, dynamic_verdict, no_dynamic, rules_of, tables_verdict}
 use Rattle.elf_dynamic.specs.Rules.{bad_string as string_rule, bad_table as table_rule}
 use Rattle.ld_base.specs.declared.fault.NotAccepted.{NotAccepted}
 use Rattle.ld_base.specs.declared.parts.DynParts.{DynParts}
-use Rattle.acceptance.specs.Lemmas.Firsts.{accepts, refuses, Breaking, Listed}
-use Rattle.dyn_table.specs.HashWords.{hash_words}
-use Rattle.dyn_table.specs.Tag.{tags_of, EndsAtNull}
-use Rattle.dyn_table.specs.TagNumbers.{dt_symtab, dt_jmprel}
+use Rattle.elf_head.specs.AcceptancePart.Lemmas.Firsts.{accepts, refuses, Breaking, Listed}
+use Rattle.elf_head.specs.DynTable.HashWords.{hash_words}
+use Rattle.elf_head.specs.DynTable.Tag.{tags_of, EndsAtNull}
+use Rattle.elf_head.specs.DynTable.TagNumbers.{dt_symtab, dt_jmprel}
 use Rattle.elf_dynamic.specs.Breaks.{named, IsBadReloc, IsBadRelocAt, IsBadSlot, IsBadSlotAt, IsSlotTable}
 use Rattle.elf_dynamic.specs.Parts.{AreParts, AreTags, AreBytes}
 use Rattle.elf_dynamic.specs.Relr.{begins_odd}
@@ -33,7 +33,7 @@ use Rattle.elf_dynamic.specs.Verdict.Breaks.{no_table, by_tables}
 use Rattle.elf_dynamic.specs.Verdict.TablesBreak.{bad_table, lacks_symbols, bad_name, bad_symbol_name, bad_symbol, bad_reloc, has_feature, bad_slot}
 use Rattle.elf_dynamic.proofs.BadNames.{string_first}
 use Rattle.elf_dynamic.proofs.Reasons.{table_first, feature_finds, slots_decides}
-use Rattle.acceptance.specs.Lemmas.Finds.{finds_is, same_some, never}
+use Rattle.elf_head.specs.AcceptancePart.Lemmas.Finds.{finds_is, same_some, never}
 use Rattle.elf_dynamic.proofs.ReadParts.{read, say_in, tags_are, Reads}
 use Rattle.elf_dynamic.proofs.Relocs.{reloc_finds, symbol_finds, slot_finds, get_both, get_map, code_decides, table_decides}
 use Rattle.std.proofs.lemmas.Bool.Decides.{nat_tests}
@@ -49,7 +49,7 @@ use Rattle.elf_dynamic.specs.Breaks.IsBadTable.{bad_slots}
 use Rattle.elf_dynamic.specs.Keeps.{all_named, IsReloc, IsSlot, Keeps}
 use Rattle.elf_dynamic.specs.Parts.AreBytes.{held, missing}
 use Rattle.elf_dynamic.specs.Ranges.{IsPlace, Share}
-use Rattle.acceptance.specs.Lemmas.Tests.{decided}
+use Rattle.elf_head.specs.AcceptancePart.Lemmas.Tests.{decided}
 use Rattle.elf_dynamic.proofs.Tests.{turn, writable_decides}
 
 -- ---- no name of a symbol matters to the rules from 13 on

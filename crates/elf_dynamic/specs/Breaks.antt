@@ -16,12 +16,12 @@ use Rattle.ld_base.specs.declared.parts.SysvPart.{SysvPart}
 use Rattle.ld_base.specs.declared.parts.Tag.{Tag}
 use Rattle.elf_head.specs.Header.{is_loaded}
 use Rattle.elf_head.specs.Readable.{file_bytes, readable}
-use Rattle.dyn_table.specs.Symbol.{symbol_name}
-use Rattle.dyn_table.specs.Tag.{has_flag, last_of, value_of}
-use Rattle.dyn_table.specs.TagNumbers.{dt_fini_array, dt_fini_arraysz, dt_flags, dt_gnu_hash, dt_hash, dt_init_array, dt_init_arraysz, dt_jmprel, dt_needed}
-use Rattle.dyn_table.specs.TagNumbers.{dt_pltgot, dt_pltrel, dt_pltrelsz, dt_preinit_array, dt_preinit_arraysz, dt_rel, dt_rela, dt_relaent, dt_relasz}
-use Rattle.dyn_table.specs.TagNumbers.{dt_relr, dt_relrent, dt_relrsz, dt_soname, dt_strsz, dt_strtab, dt_syment, dt_symtab, dt_textrel, dt_verdef}
-use Rattle.dyn_table.specs.TagNumbers.{dt_verdefnum, dt_verneed, dt_verneednum}
+use Rattle.elf_head.specs.DynTable.Symbol.{symbol_name}
+use Rattle.elf_head.specs.DynTable.Tag.{has_flag, last_of, value_of}
+use Rattle.elf_head.specs.DynTable.TagNumbers.{dt_fini_array, dt_fini_arraysz, dt_flags, dt_gnu_hash, dt_hash, dt_init_array, dt_init_arraysz, dt_jmprel, dt_needed}
+use Rattle.elf_head.specs.DynTable.TagNumbers.{dt_pltgot, dt_pltrel, dt_pltrelsz, dt_preinit_array, dt_preinit_arraysz, dt_rel, dt_rela, dt_relaent, dt_relasz}
+use Rattle.elf_head.specs.DynTable.TagNumbers.{dt_relr, dt_relrent, dt_relrsz, dt_soname, dt_strsz, dt_strtab, dt_syment, dt_symtab, dt_textrel, dt_verdef}
+use Rattle.elf_head.specs.DynTable.TagNumbers.{dt_verdefnum, dt_verneed, dt_verneednum}
 use Rattle.elf_dynamic.specs.Named.{doubleword, named_by, slot_ranges}
 use Rattle.elf_dynamic.specs.Parts.{IsRange, IsRela, LacksString, Stands}
 use Rattle.elf_dynamic.specs.Ranges.{is_executable, is_writable, IsPlace, IsWritable, LiesIn, Share}

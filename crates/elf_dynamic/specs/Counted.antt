@@ -5,9 +5,9 @@ use Rattle.ld_base.specs.declared.parts.Header.{Header}
 use Rattle.ld_base.specs.declared.parts.Tag.{Tag}
 use Rattle.elf_head.specs.Readable.{readable}
 use Rattle.elf_head.specs.Rules.{head_verdict}
-use Rattle.dyn_table.specs.HashWords.{hash_words}
-use Rattle.dyn_table.specs.Tag.{value_of}
-use Rattle.dyn_table.specs.TagNumbers.{dt_symtab}
+use Rattle.elf_head.specs.DynTable.HashWords.{hash_words}
+use Rattle.elf_head.specs.DynTable.Tag.{value_of}
+use Rattle.elf_head.specs.DynTable.TagNumbers.{dt_symtab}
 use Rattle.elf_dynamic.specs.declared.reader.Counted.{Counted}
 use Rattle.elf_dynamic.specs.declared.relr.Judged.{Judged}
 use Rattle.elf_dynamic.specs.Judged.{ArePlaces}

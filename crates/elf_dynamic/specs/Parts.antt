@@ -15,17 +15,17 @@ use Rattle.ld_base.specs.declared.parts.HashTable.{HashTable}
 use Rattle.ld_base.specs.declared.parts.Header.{Header}
 use Rattle.ld_base.specs.declared.parts.SysvPart.{SysvPart}
 use Rattle.ld_base.specs.declared.parts.Tag.{Tag}
-use Rattle.acceptance.specs.Entries.{AreEntries}
+use Rattle.elf_head.specs.AcceptancePart.Entries.{AreEntries}
 use Rattle.elf_head.specs.Readable.{file_bytes}
-use Rattle.dyn_table.specs.Bits.{has_bit}
-use Rattle.dyn_table.specs.HashWords.{hash_words}
-use Rattle.dyn_table.specs.Name.{IsStringAt}
-use Rattle.dyn_table.specs.Reloc.{reloc_at}
-use Rattle.dyn_table.specs.Symbol.{symbol_name, symbol_named}
-use Rattle.dyn_table.specs.Tag.{has_flag, last_of, value_of, values_of, EndsAtNull}
-use Rattle.dyn_table.specs.TagNumbers.{dt_bind_now, dt_fini, dt_fini_array, dt_fini_arraysz, dt_flags, dt_flags_1, dt_init, dt_init_array, dt_init_arraysz}
-use Rattle.dyn_table.specs.TagNumbers.{dt_jmprel, dt_needed, dt_pltgot, dt_pltrelsz, dt_preinit_array, dt_preinit_arraysz, dt_rela, dt_relasz, dt_relr}
-use Rattle.dyn_table.specs.TagNumbers.{dt_relrsz, dt_soname, dt_strsz, dt_strtab, dt_symbolic, dt_symtab}
+use Rattle.elf_head.specs.DynTable.Bits.{has_bit}
+use Rattle.elf_head.specs.DynTable.HashWords.{hash_words}
+use Rattle.elf_head.specs.DynTable.Name.{IsStringAt}
+use Rattle.elf_head.specs.DynTable.Reloc.{reloc_at}
+use Rattle.elf_head.specs.DynTable.Symbol.{symbol_name, symbol_named}
+use Rattle.elf_head.specs.DynTable.Tag.{has_flag, last_of, value_of, values_of, EndsAtNull}
+use Rattle.elf_head.specs.DynTable.TagNumbers.{dt_bind_now, dt_fini, dt_fini_array, dt_fini_arraysz, dt_flags, dt_flags_1, dt_init, dt_init_array, dt_init_arraysz}
+use Rattle.elf_head.specs.DynTable.TagNumbers.{dt_jmprel, dt_needed, dt_pltgot, dt_pltrelsz, dt_preinit_array, dt_preinit_arraysz, dt_rela, dt_relasz, dt_relr}
+use Rattle.elf_head.specs.DynTable.TagNumbers.{dt_relrsz, dt_soname, dt_strsz, dt_strtab, dt_symbolic, dt_symtab}
 
 -- ---- where the tables stand
 

@@ -3,8 +3,8 @@ use Rattle.std.specs.Prelude.{ℕ, ◌+◌, ◌-◌, ◌*◌, ◌/◌, ◌%◌, 
 use Rattle.std.specs.List.{slice_get}
 use Rattle.std.specs.Option.{option_map_or}
 use Rattle.ld_base.specs.Field.{field}
-use Rattle.acceptance.specs.Table.{table}
-pub use Rattle.dyn_table.specs.Bits.{has_bit}
+use Rattle.elf_head.specs.AcceptancePart.Table.{table}
+pub use Rattle.elf_head.specs.DynTable.Bits.{has_bit}
 unfoldable pub use Rattle.elf_dynamic.specs.Parts.{bits_of}
 
 -- the 64-bit words of the table's bytes

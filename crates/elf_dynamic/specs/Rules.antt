@@ -17,25 +17,25 @@ use Rattle.ld_base.specs.declared.parts.Head.{Head}
 use Rattle.ld_base.specs.declared.parts.HashTable.{HashTable}
 use Rattle.ld_base.specs.declared.parts.Header.{Header}
 use Rattle.ld_base.specs.declared.parts.Tag.{Tag}
-use Rattle.acceptance.specs.Broken.{first_broken}
-use Rattle.acceptance.specs.Least.{least_below}
+use Rattle.elf_head.specs.AcceptancePart.Broken.{first_broken}
+use Rattle.elf_head.specs.AcceptancePart.Least.{least_below}
 use Rattle.elf_head.specs.Header.{is_loaded}
 use Rattle.elf_head.specs.Readable.{file_bytes, readable}
-use Rattle.dyn_table.specs.HashWords.{hash_words}
+use Rattle.elf_head.specs.DynTable.HashWords.{hash_words}
 use Rattle.elf_dynamic.specs.Memory.{in_writable, in_executable, is_writable, is_executable, overlaps}
-use Rattle.dyn_table.specs.Name.{string_at}
+use Rattle.elf_head.specs.DynTable.Name.{string_at}
 use Rattle.elf_dynamic.specs.Again.{first_again}
 use Rattle.elf_dynamic.specs.Named.{doubleword, named_by, slot_ranges}
 use Rattle.elf_dynamic.specs.Relr.{begins_odd, relr_places, relr_words}
-use Rattle.dyn_table.specs.Symbol.{symbol_name}
+use Rattle.elf_head.specs.DynTable.Symbol.{symbol_name}
 use Rattle.elf_dynamic.specs.Tables.{bare_in, count_in, dynamic_tags, parts_in, plt_relocs, rela_relocs, rela_span, relr_bytes, span_of, strings_in}
 use Rattle.elf_dynamic.specs.Tables.{symbol_bytes}
-use Rattle.dyn_table.specs.Tag.{value_of, has, has_flag}
-use Rattle.dyn_table.specs.Tag.{has_tag, last_of}
-use Rattle.dyn_table.specs.TagNumbers.{dt_fini_array, dt_fini_arraysz, dt_flags, dt_gnu_hash, dt_hash, dt_init_array, dt_init_arraysz, dt_jmprel, dt_needed}
-use Rattle.dyn_table.specs.TagNumbers.{dt_pltgot, dt_pltrel, dt_pltrelsz, dt_preinit_array, dt_preinit_arraysz, dt_rel, dt_rela, dt_relaent, dt_relasz}
-use Rattle.dyn_table.specs.TagNumbers.{dt_relr, dt_relrent, dt_relrsz, dt_soname, dt_strsz, dt_strtab, dt_syment, dt_symtab, dt_textrel, dt_verdef}
-use Rattle.dyn_table.specs.TagNumbers.{dt_verdefnum, dt_verneed, dt_verneednum}
+use Rattle.elf_head.specs.DynTable.Tag.{value_of, has, has_flag}
+use Rattle.elf_head.specs.DynTable.Tag.{has_tag, last_of}
+use Rattle.elf_head.specs.DynTable.TagNumbers.{dt_fini_array, dt_fini_arraysz, dt_flags, dt_gnu_hash, dt_hash, dt_init_array, dt_init_arraysz, dt_jmprel, dt_needed}
+use Rattle.elf_head.specs.DynTable.TagNumbers.{dt_pltgot, dt_pltrel, dt_pltrelsz, dt_preinit_array, dt_preinit_arraysz, dt_rel, dt_rela, dt_relaent, dt_relasz}
+use Rattle.elf_head.specs.DynTable.TagNumbers.{dt_relr, dt_relrent, dt_relrsz, dt_soname, dt_strsz, dt_strtab, dt_syment, dt_symtab, dt_textrel, dt_verdef}
+use Rattle.elf_head.specs.DynTable.TagNumbers.{dt_verdefnum, dt_verneed, dt_verneednum}
 
 -- ---- rule 11: the tables
 

@@ -12,15 +12,15 @@ use Rattle.ld_base.specs.declared.parts.HashTable.{HashTable}
 use Rattle.ld_base.specs.declared.parts.Header.{Header}
 use Rattle.ld_base.specs.declared.parts.Tag.{Tag}
 use Rattle.elf_head.specs.Readable.{file_bytes}
-use Rattle.dyn_table.specs.HashWords.{hash_words}
-use Rattle.dyn_table.specs.Name.{string_in}
+use Rattle.elf_head.specs.DynTable.HashWords.{hash_words}
+use Rattle.elf_head.specs.DynTable.Name.{string_in}
 use Rattle.elf_dynamic.specs.Relr.{relr_places}
-use Rattle.dyn_table.specs.Reloc.{relocs_of}
-use Rattle.dyn_table.specs.Symbol.{bare_symbols, symbols_in}
-use Rattle.dyn_table.specs.Tag.{has, has_flag, last_of, tags_of, value_of, values_of}
-use Rattle.dyn_table.specs.TagNumbers.{dt_bind_now, dt_fini, dt_fini_array, dt_fini_arraysz, dt_flags, dt_flags_1, dt_init, dt_init_array, dt_init_arraysz}
-use Rattle.dyn_table.specs.TagNumbers.{dt_jmprel, dt_needed, dt_pltgot, dt_pltrelsz, dt_preinit_array, dt_preinit_arraysz, dt_rela, dt_relasz, dt_relr}
-use Rattle.dyn_table.specs.TagNumbers.{dt_relrsz, dt_soname, dt_strsz, dt_strtab, dt_symbolic, dt_symtab}
+use Rattle.elf_head.specs.DynTable.Reloc.{relocs_of}
+use Rattle.elf_head.specs.DynTable.Symbol.{bare_symbols, symbols_in}
+use Rattle.elf_head.specs.DynTable.Tag.{has, has_flag, last_of, tags_of, value_of, values_of}
+use Rattle.elf_head.specs.DynTable.TagNumbers.{dt_bind_now, dt_fini, dt_fini_array, dt_fini_arraysz, dt_flags, dt_flags_1, dt_init, dt_init_array, dt_init_arraysz}
+use Rattle.elf_head.specs.DynTable.TagNumbers.{dt_jmprel, dt_needed, dt_pltgot, dt_pltrelsz, dt_preinit_array, dt_preinit_arraysz, dt_rela, dt_relasz, dt_relr}
+use Rattle.elf_head.specs.DynTable.TagNumbers.{dt_relrsz, dt_soname, dt_strsz, dt_strtab, dt_symbolic, dt_symtab}
 
 -- the entries of the dynamic table, whose header is PT_DYNAMIC (2): those before the first DT_NULL, where the bytes that its header names are there
 unfoldable pub dynamic_tags : List ℕ → List Header → Option (List Tag)

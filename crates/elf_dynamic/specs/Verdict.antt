@@ -4,9 +4,9 @@ use Rattle.ld_base.specs.declared.fault.NotAccepted.{NotAccepted}
 use Rattle.ld_base.specs.declared.parts.DynParts.{DynParts}
 use Rattle.ld_base.specs.declared.parts.Head.{Head}
 use Rattle.ld_base.specs.declared.parts.Tag.{Tag}
-use Rattle.acceptance.specs.First.{IsFirst, IsFirstBroken, NoneBroken}
-use Rattle.dyn_table.specs.HashWords.{hash_words}
-use Rattle.dyn_table.specs.TagNumbers.{dt_symtab}
+use Rattle.elf_head.specs.AcceptancePart.First.{IsFirst, IsFirstBroken, NoneBroken}
+use Rattle.elf_head.specs.DynTable.HashWords.{hash_words}
+use Rattle.elf_head.specs.DynTable.TagNumbers.{dt_symtab}
 use Rattle.elf_dynamic.specs.Breaks.{named, HasFeature, IsBadRelocAt, IsBadSlotAt, IsBadSymbolAt, IsBadTable, Lacks, LacksName, LacksSymbolName, LacksSymbols}
 use Rattle.elf_dynamic.specs.Parts.{AreParts, AreTags}
 

@@ -5,13 +5,13 @@ ghost use Rattle.std.specs.List.{list_any};
 ghost use Rattle.ld_base.specs.Symbol.{binding, is_defined, type_of};
 ghost use Rattle.elf_dynamic.specs.Feature.{number_of};
 ghost use Rattle.elf_dynamic.specs.Rules.{has_open_segment, has_type, is_exec, is_other_type, refused_feature};
-ghost use Rattle.dyn_table.specs.Tag.{has, has_flag};
-ghost use Rattle.dyn_table.specs.TagNumbers.{dt_flags, dt_rel, dt_textrel};
+ghost use Rattle.elf_head.specs.DynTable.Tag.{has, has_flag};
+ghost use Rattle.elf_head.specs.DynTable.TagNumbers.{dt_flags, dt_rel, dt_textrel};
 
 use crate::memory::{is_executable, is_loaded, is_writable};
 use crate::symbol_rules::{STB_GNU_UNIQUE, binding_of};
 use crate::tables::DF_TEXTREL;
-use dyn_table::{DT_FLAGS, DT_REL, DT_TEXTREL, R_RISCV_JUMP_SLOT, has, has_flag};
+use elf_head::{DT_FLAGS, DT_REL, DT_TEXTREL, R_RISCV_JUMP_SLOT, has, has_flag};
 use ld_base::{Head, Header, Kind, Reloc, Symbol, Tag};
 
 /// The type of a symbol whose value is a function that gives its address.

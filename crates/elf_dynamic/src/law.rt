@@ -8,7 +8,7 @@ ghost use Rattle.elf_dynamic.specs.Keeps.{Keeps};
 ghost use Rattle.elf_dynamic.specs.Rules.{dynamic_verdict};
 ghost use Rattle.elf_dynamic.specs.Verdict.{BreaksFirst, SpellsDynamic};
 
-use dyn_table::one_reading;
+use elf_head::one_reading;
 
 /// The tables of a file have one verdict: either they break no rule, and one record alone has what
 /// they say, or one rule is the least that they break, with one number.

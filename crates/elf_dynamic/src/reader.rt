@@ -1,8 +1,8 @@
 //! Reading the dynamic table and the tables that it names.
 
 ghost use Rattle.std.specs.Prelude.{◌≡◌, ◌∷◌, [], ◌*◌, ◌<◌, ◌≤◌, ◌^◌, Ok, Err, IfOk, IsTrue, MatchResult, None, ℕ, List, length, map, option_map};
-ghost use Rattle.acceptance.specs.Broken.{first_broken};
-ghost use Rattle.acceptance.specs.Gives.{Answers, Gives};
+ghost use Rattle.elf_head.specs.AcceptancePart.Broken.{first_broken};
+ghost use Rattle.elf_head.specs.AcceptancePart.Gives.{Answers, Gives};
 ghost use Rattle.elf_head.specs.Readable.{readable};
 ghost use Rattle.elf_head.specs.Rules.{head_verdict};
 ghost use Rattle.ld_base.specs.declared.fault.ReadFault.TheVariants as faults;
@@ -12,10 +12,10 @@ ghost use Rattle.elf_dynamic.specs.Judged.{broken_at, ArePlaces, FaultIs};
 ghost use Rattle.elf_dynamic.specs.Relr.{relr_places};
 ghost use Rattle.elf_dynamic.specs.Rules.{bad_table, dynamic_verdict, rules_on, tables_verdict};
 ghost use Rattle.elf_dynamic.specs.Verdict.{BreaksFirst, SpellsDynamic};
-ghost use Rattle.dyn_table.specs.HashWords.{hash_words};
-ghost use Rattle.dyn_table.specs.Name.{string_in};
-ghost use Rattle.dyn_table.specs.Tag.{last_of, value_of, values_of};
-ghost use Rattle.dyn_table.specs.TagNumbers.{dt_needed, dt_soname, dt_symtab};
+ghost use Rattle.elf_head.specs.DynTable.HashWords.{hash_words};
+ghost use Rattle.elf_head.specs.DynTable.Name.{string_in};
+ghost use Rattle.elf_head.specs.DynTable.Tag.{last_of, value_of, values_of};
+ghost use Rattle.elf_head.specs.DynTable.TagNumbers.{dt_needed, dt_soname, dt_symtab};
 ghost use Rattle.elf_dynamic.specs.Tables.{count_in, parts_in, relr_bytes, symbol_bytes};
 
 use crate::feature::{Both, refused_feature};
@@ -29,13 +29,12 @@ use crate::table_rules::bad_table;
 use crate::tables::{
     bytes_in, dynamic_tags, first_exported, flags_of, plt_span, rela_span, span_of, symbol_count,
 };
-use dyn_table::{
+use elf_head::{
     DT_FINI, DT_FINI_ARRAY, DT_FINI_ARRAYSZ, DT_INIT, DT_INIT_ARRAY, DT_INIT_ARRAYSZ, DT_NEEDED,
     DT_PLTGOT, DT_PREINIT_ARRAY, DT_PREINIT_ARRAYSZ, DT_RELR, DT_RELRSZ, DT_SONAME, DT_STRSZ,
-    DT_STRTAB, DT_SYMTAB, SYMBOL_SIZE, SymbolTable, last_of, read_hash_words, read_relocs,
-    read_string, read_symbols, value_of, values_of, with_name,
+    DT_STRTAB, DT_SYMTAB, SYMBOL_SIZE, SymbolTable, accepted_head, file_bytes, last_of,
+    read_hash_words, read_relocs, read_string, read_symbols, value_of, values_of, with_name,
 };
-use elf_head::{accepted_head, file_bytes};
 use ld_base::{
     DynParts, Head, Header, Name, Names, NotAccepted, Places, ReadFault, Reloc, Relocs, Symbol,
     Tag, Tags,

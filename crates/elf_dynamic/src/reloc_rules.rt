@@ -12,7 +12,7 @@ use crate::feature::{R_RISCV_COPY, R_RISCV_NONE};
 use crate::memory::in_writable;
 use crate::reader::broken;
 use crate::relr::{Judged, judge_packed};
-use dyn_table::R_RISCV_JUMP_SLOT;
+use elf_head::R_RISCV_JUMP_SLOT;
 use ld_base::{Header, Places, ReadFault, Reloc, Span, Symbol};
 use std::alloc::Global;
 

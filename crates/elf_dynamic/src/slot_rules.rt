@@ -14,8 +14,7 @@ use crate::marks::Marks;
 use crate::memory::{in_executable, in_writable};
 use crate::naming::Naming;
 use crate::reloc_rules::{DOUBLEWORD, doubleword, is_bad_place, named_by};
-use dyn_table::R_RISCV_JUMP_SLOT;
-use elf_head::file_bytes;
+use elf_head::{R_RISCV_JUMP_SLOT, file_bytes};
 use ld_base::{Head, Header, Reloc, Span, Symbol, field64};
 use std::alloc::{AllocError, Global};
 

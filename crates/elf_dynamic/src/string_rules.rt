@@ -2,12 +2,12 @@
 
 ghost use Rattle.std.specs.Prelude.{◌≡◌, ◌==◌, ◌||◌, ◌&&◌, ◌*◌, ◌≤◌, ℕ, not, nat_lt, drop, find, length, option_map};
 ghost use Rattle.std.specs.List.{list_any};
-ghost use Rattle.dyn_table.specs.Symbol.{symbol_name};
+ghost use Rattle.elf_head.specs.DynTable.Symbol.{symbol_name};
 ghost use Rattle.elf_dynamic.specs.Rules.{bad_string, lacks_string, name_offsets, unnamed_symbol};
-ghost use Rattle.dyn_table.specs.Tag.{has_tag};
-ghost use Rattle.dyn_table.specs.TagNumbers.{dt_needed, dt_soname};
+ghost use Rattle.elf_head.specs.DynTable.Tag.{has_tag};
+ghost use Rattle.elf_head.specs.DynTable.TagNumbers.{dt_needed, dt_soname};
 
-use dyn_table::{DT_NEEDED, DT_SONAME, SYMBOL_SIZE, string_at};
+use elf_head::{DT_NEEDED, DT_SONAME, SYMBOL_SIZE, string_at};
 use ld_base::{Tag, field32};
 
 fn is_soname(entry: &Tag) -> bool

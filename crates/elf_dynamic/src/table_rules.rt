@@ -8,14 +8,13 @@ ghost use Rattle.elf_dynamic.specs.Rules.{has_bad_relr, has_bad_strings, has_bad
 ghost use Rattle.elf_dynamic.specs.Rules.{lacks_string, lacks_symbols};
 
 use crate::tables::{rela_span, span_of};
-use dyn_table::{
+use elf_head::{
     DT_FINI_ARRAY, DT_FINI_ARRAYSZ, DT_GNU_HASH, DT_HASH, DT_INIT_ARRAY, DT_INIT_ARRAYSZ,
     DT_JMPREL, DT_PLTGOT, DT_PLTREL, DT_PLTRELSZ, DT_PREINIT_ARRAY, DT_PREINIT_ARRAYSZ, DT_RELA,
     DT_RELAENT, DT_RELASZ, DT_RELR, DT_RELRENT, DT_RELRSZ, DT_STRSZ, DT_STRTAB, DT_SYMENT,
     DT_SYMTAB, DT_VERDEF, DT_VERDEFNUM, DT_VERNEED, DT_VERNEEDNUM, RELOC_SIZE, SYMBOL_SIZE, has,
-    string_at, value_of,
+    is_readable, string_at, value_of,
 };
-use elf_head::is_readable;
 use ld_base::{HashTable, Header, Span, Tag};
 
 /// The bytes of an address, and of a word of packed relocations.

@@ -6,13 +6,12 @@ ghost use Rattle.elf_head.specs.Rules.{head_verdict};
 ghost use Rattle.ld_base.specs.declared.object.Reloc.{Reloc};
 ghost use Rattle.elf_dynamic.specs.Tables.{bytes_in, dynamic_tags, flags_of, first_exported, is_tail, less_tail, named_count, plt_span, rela_span, span_of};
 ghost use Rattle.elf_dynamic.specs.Tables.{symbol_count};
-ghost use Rattle.dyn_table.specs.Tag.{has, has_flag, value_of};
+ghost use Rattle.elf_head.specs.DynTable.Tag.{has, has_flag, value_of};
 
-use dyn_table::{
+use elf_head::{
     DT_BIND_NOW, DT_FLAGS, DT_FLAGS_1, DT_JMPREL, DT_PLTRELSZ, DT_RELA, DT_RELASZ, DT_SYMBOLIC,
-    has, has_flag, last_of, read_tags, value_of,
+    PT_DYNAMIC, file_bytes, has, has_flag, last_of, read_tags, value_of,
 };
-use elf_head::{PT_DYNAMIC, file_bytes};
 use ld_base::{HashTable, Head, Header, ObjFlags, Reloc, Span, Tag, Tags};
 use std::alloc::{AllocError, Global};
 

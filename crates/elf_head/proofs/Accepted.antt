@@ -7,8 +7,8 @@ use Rattle.std.proofs.lemmas.List.{length-take}
 use Rattle.std.proofs.lemmas.Option.{slice_get-get_or}
 use Rattle.ld_base.specs.declared.parts.Head.{Head}
 use Rattle.ld_base.specs.declared.parts.Header.{Header}
-use Rattle.acceptance.specs.Lemmas.Firsts.{none_at, test_kept}
-use Rattle.acceptance.specs.Lemmas.Leasts.{least_none}
+use Rattle.elf_head.specs.AcceptancePart.Lemmas.Firsts.{none_at, test_kept}
+use Rattle.elf_head.specs.AcceptancePart.Lemmas.Leasts.{least_none}
 use Rattle.elf_head.proofs.Verdicts.{verdict_ok}
 use Rattle.elf_head.specs.Accepted.{AllFit, Fits}
 use Rattle.elf_head.specs.Header.{headers_of, is_loaded}

@@ -13,15 +13,15 @@ use Rattle.ld_base.specs.declared.object.Kind.TheVariants.{Exec, Dyn}
 use Rattle.ld_base.specs.declared.parts.Head.{Head}
 use Rattle.ld_base.specs.declared.parts.Header.{Header}
 use Rattle.ld_base.specs.declared.fault.ReadFault.{ReadFault}
-use Rattle.acceptance.specs.Gives.{Answers, Gives}
-use Rattle.acceptance.specs.Lemmas.Answers.{answers}
-use Rattle.acceptance.specs.Lemmas.Tables.{length-table, get-table, same_elements}
-use Rattle.acceptance.specs.Lemmas.Finds.{same_some, Finds}
-use Rattle.acceptance.specs.Lemmas.Leasts.{finds_least}
-use Rattle.acceptance.specs.Lemmas.Tests.{contrary, decided, either, itself, refuted}
-use Rattle.acceptance.specs.Lemmas.Firsts.{accepts, refuses, Breaking, Listed}
-use Rattle.acceptance.specs.Broken.{broken_if}
-use Rattle.acceptance.specs.First.{NoneBroken}
+use Rattle.elf_head.specs.AcceptancePart.Gives.{Answers, Gives}
+use Rattle.elf_head.specs.AcceptancePart.Lemmas.Answers.{answers}
+use Rattle.elf_head.specs.AcceptancePart.Lemmas.Tables.{length-table, get-table, same_elements}
+use Rattle.elf_head.specs.AcceptancePart.Lemmas.Finds.{same_some, Finds}
+use Rattle.elf_head.specs.AcceptancePart.Lemmas.Leasts.{finds_least}
+use Rattle.elf_head.specs.AcceptancePart.Lemmas.Tests.{contrary, decided, either, itself, refuted}
+use Rattle.elf_head.specs.AcceptancePart.Lemmas.Firsts.{accepts, refuses, Breaking, Listed}
+use Rattle.elf_head.specs.AcceptancePart.Broken.{broken_if}
+use Rattle.elf_head.specs.AcceptancePart.First.{NoneBroken}
 use Rattle.elf_head.specs.Header.{header_at, header_count, headers_of, is_loaded, table_start}
 use Rattle.elf_head.specs.Rules.{file_rules, head_broken, head_of, head_verdict, header_rules, kind_of}
 use Rattle.elf_head.specs.Segments.{bad_segment, is_bad_at}

@@ -4,3 +4,4 @@ pub mod Law
 pub mod Passing
 pub mod Placing
 pub mod Verdicts
+pub mod DynTable

@@ -4,8 +4,8 @@ use Rattle.std.specs.Prelude.{Some, None}
 use Rattle.std.specs.List.{list_any}
 use Rattle.std.proofs.lemmas.List.Folds.{list_any-append}
 use Rattle.std.proofs.lemmas.Option.{slice_get-get_or}
-use Rattle.acceptance.specs.Least.{least_below}
-use Rattle.acceptance.specs.Lemmas.Leasts.{least_found, least_kept}
+use Rattle.elf_head.specs.AcceptancePart.Least.{least_below}
+use Rattle.elf_head.specs.AcceptancePart.Lemmas.Leasts.{least_found, least_kept}
 use Rattle.ld_base.specs.declared.parts.Header.{Header}
 use Rattle.elf_head.specs.Segments.{bad_segment, is_bad, is_bad_at, is_misshapen}
 

@@ -3,8 +3,8 @@ use Rattle.std.proofs.Common.{◌≡◌, ℕ, ◌+◌, ◌*◌, ◌≤◌, false
 use Rattle.std.specs.Prelude.{None, Ok}
 use Rattle.std.specs.Option.{option_or}
 use Rattle.ld_base.specs.declared.parts.Head.{Head}
-use Rattle.acceptance.specs.Broken.{first_broken}
-use Rattle.acceptance.specs.Lemmas.Firsts.{first_of_both, test_kept, verdict_ok_is}
+use Rattle.elf_head.specs.AcceptancePart.Broken.{first_broken}
+use Rattle.elf_head.specs.AcceptancePart.Lemmas.Firsts.{first_of_both, test_kept, verdict_ok_is}
 use Rattle.elf_head.specs.Header.{table_start, header_count}
 use Rattle.elf_head.specs.Rules.{is_too_short, has_bad_program_headers, header_rules, file_rules, head_broken, head_of, head_verdict}
 

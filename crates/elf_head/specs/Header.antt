@@ -2,7 +2,7 @@
 use Rattle.std.specs.Prelude.{ℕ, ◌+◌, Bool, ◌&&◌, ◌==◌, nat_lt, List}
 use Rattle.ld_base.specs.Field.{field}
 use Rattle.ld_base.specs.declared.parts.Header.{Header}
-use Rattle.acceptance.specs.Table.{table}
+use Rattle.elf_head.specs.AcceptancePart.Table.{table}
 
 -- the header at a place of the file
 unfoldable pub header_at : List ℕ → ℕ → Header

@@ -5,3 +5,5 @@ pub mod Readable
 pub mod Rules
 pub mod Segments
 pub mod Verdict
+pub mod AcceptancePart
+pub mod DynTable

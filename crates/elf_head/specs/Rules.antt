@@ -8,7 +8,7 @@ use Rattle.ld_base.specs.declared.fault.NotAccepted.{NotAccepted}
 use Rattle.ld_base.specs.declared.object.Kind.{Kind}
 use Rattle.ld_base.specs.declared.object.Kind.TheVariants.{Exec, Dyn}
 use Rattle.ld_base.specs.declared.parts.Head.{Head}
-use Rattle.acceptance.specs.Broken.{broken_if, first_broken}
+use Rattle.elf_head.specs.AcceptancePart.Broken.{broken_if, first_broken}
 use Rattle.elf_head.specs.Header.{headers_of, table_start, entry_size, header_count}
 use Rattle.elf_head.specs.Segments.{bad_segment}
 

@@ -7,7 +7,7 @@ use Rattle.std.specs.List.{list_any, slice_get}
 use Rattle.std.specs.Int.{is_power_of_two}
 use Rattle.ld_base.specs.declared.parts.Header.{Header}
 use Rattle.elf_head.specs.Header.{is_loaded}
-use Rattle.acceptance.specs.Least.{least_below}
+use Rattle.elf_head.specs.AcceptancePart.Least.{least_below}
 use Rattle.elf_head.specs.Readable.{readable}
 
 -- more bytes of the file than memory to hold them

@@ -6,7 +6,7 @@ use Rattle.ld_base.specs.declared.fault.NotAccepted.{NotAccepted}
 use Rattle.ld_base.specs.declared.object.Kind.TheVariants.{Exec, Dyn}
 use Rattle.ld_base.specs.declared.parts.Head.{Head}
 use Rattle.ld_base.specs.declared.parts.Header.{Header}
-use Rattle.acceptance.specs.First.{IsFirstBroken, NoneBroken}
+use Rattle.elf_head.specs.AcceptancePart.First.{IsFirstBroken, NoneBroken}
 use Rattle.elf_head.specs.Header.{header_at, headers_of, header_count, is_loaded, table_start}
 use Rattle.elf_head.specs.Rules.{is_too_short, is_not_elf, is_not_class64_little, is_not_riscv, is_not_linked, needs_extension, has_bad_program_headers}
 use Rattle.elf_head.specs.Rules.{is_too_big}

@@ -21,6 +21,8 @@
 //! such ([`is_readable`]), and [`bytes_from`] those from an address to the end of its segment.
 #![tactic(auto)]
 
+mod acceptance;
+mod dyn_table;
 mod elf_header;
 mod program_headers;
 mod range;
@@ -28,6 +30,16 @@ mod reader;
 mod segments;
 mod verdict;
 
+pub use dyn_table::{
+    DT_BIND_NOW, DT_FINI, DT_FINI_ARRAY, DT_FINI_ARRAYSZ, DT_FLAGS, DT_FLAGS_1, DT_GNU_HASH,
+    DT_HASH, DT_INIT, DT_INIT_ARRAY, DT_INIT_ARRAYSZ, DT_JMPREL, DT_NEEDED, DT_NULL, DT_PLTGOT,
+    DT_PLTREL, DT_PLTRELSZ, DT_PREINIT_ARRAY, DT_PREINIT_ARRAYSZ, DT_REL, DT_RELA, DT_RELAENT,
+    DT_RELASZ, DT_RELR, DT_RELRENT, DT_RELRSZ, DT_SONAME, DT_STRSZ, DT_STRTAB, DT_SYMBOLIC,
+    DT_SYMENT, DT_SYMTAB, DT_TEXTREL, DT_VERDEF, DT_VERDEFNUM, DT_VERNEED, DT_VERNEEDNUM,
+    DT_VERSYM, MOST_NAME_BYTES, R_RISCV_JUMP_SLOT, RELOC_SIZE, STRING_LIMIT, SYMBOL_SIZE,
+    SymbolTable, count_of, has, has_flag, last_of, one_reading, read_hash_words, read_relocs,
+    read_string, read_symbols, read_tags, string_at, value_of, values_of, with_name,
+};
 pub use program_headers::{PT_DYNAMIC, PT_GNU_RELRO, PT_LOAD, PT_TLS};
 pub use range::{bytes_from, file_bytes, is_readable};
 pub use reader::read_head;

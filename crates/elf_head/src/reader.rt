@@ -1,8 +1,8 @@
 //! Reading the head.
 
 ghost use Rattle.std.specs.Prelude.{◌≡◌};
-ghost use Rattle.acceptance.specs.Broken.{first_broken};
-ghost use Rattle.acceptance.specs.Gives.{Answers, Gives};
+ghost use Rattle.elf_head.specs.AcceptancePart.Broken.{first_broken};
+ghost use Rattle.elf_head.specs.AcceptancePart.Gives.{Answers, Gives};
 ghost use Rattle.elf_head.specs.Header.{headers_of};
 ghost use Rattle.elf_head.specs.Rules.{file_rules, head_of, head_verdict};
 ghost use Rattle.elf_head.specs.Verdict.{BreaksFirst, SpellsHead};

@@ -10,11 +10,11 @@ use Rattle.ld_base.specs.declared.parts.DynParts.{DynParts}
 use Rattle.ld_base.specs.declared.parts.HashTable.{HashTable}
 use Rattle.ld_base.specs.declared.parts.Head.{Head}
 use Rattle.ld_base.specs.declared.parts.Versions.{Versions}
-use Rattle.acceptance.specs.Gives.{Gives}
+use Rattle.elf_head.specs.AcceptancePart.Gives.{Gives}
 use Rattle.elf_head.specs.Rules.{head_verdict}
 use Rattle.elf_head.specs.Verdict.{SpellsHead, BreaksFirst as HeadBreaks}
-use Rattle.acceptance.specs.Lemmas.Reading.{ok_is}
-use Rattle.acceptance.specs.Lemmas.Judged.{judged_like, judged_next, made, Judges}
+use Rattle.elf_head.specs.AcceptancePart.Lemmas.Reading.{ok_is}
+use Rattle.elf_head.specs.AcceptancePart.Lemmas.Judged.{judged_like, judged_next, made, Judges}
 use Rattle.elf_dynamic.specs.Rules.{dynamic_verdict}
 use Rattle.elf_dynamic.specs.Verdict.{SpellsDynamic, BreaksFirst as DynamicBreaks}
 use Rattle.elf_dynamic.specs.Keeps.{Keeps}

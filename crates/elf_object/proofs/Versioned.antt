@@ -6,7 +6,7 @@ use Rattle.std.proofs.lemmas.List.FromFn.{length-enumerate_from}
 use Rattle.ld_base.specs.declared.object.Symbol.{Symbol}
 use Rattle.ld_base.specs.declared.parts.DynParts.{DynParts}
 use Rattle.ld_base.specs.declared.parts.Header.{Header}
-use Rattle.acceptance.specs.Lemmas.Finds.{same_some}
+use Rattle.elf_head.specs.AcceptancePart.Lemmas.Finds.{same_some}
 use Rattle.elf_dynamic.specs.Parts.{AreParts}
 use Rattle.elf_object.specs.Object.{with_version, with_versions}
 

@@ -4,7 +4,7 @@ use Rattle.ld_base.specs.declared.fault.NotAccepted.{NotAccepted}
 use Rattle.ld_base.specs.declared.object.Object.{Object}
 use Rattle.ld_base.specs.declared.parts.HashTable.{HashTable}
 use Rattle.elf_head.specs.Rules.{head_verdict}
-use Rattle.acceptance.specs.Entries.{◌>>=◌}
+use Rattle.elf_head.specs.AcceptancePart.Entries.{◌>>=◌}
 use Rattle.elf_dynamic.specs.Rules.{dynamic_verdict}
 use Rattle.elf_versions.specs.Verdict.{versions_verdict}
 use Rattle.sym_hash.specs.Verdict.{hash_verdict}

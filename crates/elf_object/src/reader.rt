@@ -1,7 +1,7 @@
 //! Reading an object.
 
 ghost use Rattle.std.specs.Prelude.{◌≡◌, Ok, IfOk};
-ghost use Rattle.acceptance.specs.Gives.{Answers, Gives};
+ghost use Rattle.elf_head.specs.AcceptancePart.Gives.{Answers, Gives};
 ghost use Rattle.elf_head.specs.Rules.{head_verdict};
 ghost use Rattle.sym_hash.specs.Reached.{IsTableOf};
 ghost use Rattle.elf_versions.specs.Verdict.{versions_verdict};

@@ -7,11 +7,11 @@ use Rattle.ld_base.specs.declared.fault.NotAccepted.{NotAccepted}
 use Rattle.ld_base.specs.declared.object.Verneed.{Verneed}
 use Rattle.ld_base.specs.declared.parts.Tag.{Tag}
 use Rattle.elf_head.specs.Readable.{file_bytes}
-use Rattle.acceptance.specs.Lemmas.Judged.{entries_reads, like, next, pass_reads, table_reads, value, wanted_reads, Reads}
-use Rattle.acceptance.specs.Lemmas.Tests.{both, le_decides, means}
-use Rattle.dyn_table.specs.Name.{string_at, IsStringAt}
-use Rattle.dyn_table.specs.Tag.{last_of}
-use Rattle.dyn_table.specs.TagNumbers.{dt_versym, dt_verdef, dt_verdefnum, dt_verneed, dt_verneednum}
+use Rattle.elf_head.specs.AcceptancePart.Lemmas.Judged.{entries_reads, like, next, pass_reads, table_reads, value, wanted_reads, Reads}
+use Rattle.elf_head.specs.AcceptancePart.Lemmas.Tests.{both, le_decides, means}
+use Rattle.elf_head.specs.DynTable.Name.{string_at, IsStringAt}
+use Rattle.elf_head.specs.DynTable.Tag.{last_of}
+use Rattle.elf_head.specs.DynTable.TagNumbers.{dt_versym, dt_verdef, dt_verdefnum, dt_verneed, dt_verneednum}
 use Rattle.elf_versions.specs.Need.{Need}
 use Rattle.elf_versions.specs.Linked.{linked, is_linked, place}
 use Rattle.elf_versions.specs.Record.{bad_table, distance, named, record_at, value_of}

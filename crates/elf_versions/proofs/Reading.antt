@@ -5,12 +5,12 @@ use Rattle.std.specs.Result.{result_map_both}
 use Rattle.ld_base.specs.Field.{field}
 use Rattle.ld_base.specs.declared.fault.NotAccepted.{NotAccepted}
 use Rattle.ld_base.specs.declared.fault.ReadFault.{ReadFault}
-use Rattle.acceptance.specs.Entries.{entries_of}
-use Rattle.acceptance.specs.Gives.{Faults, Gives}
-use Rattle.acceptance.specs.Lemmas.Read.{entries_fault}
+use Rattle.elf_head.specs.AcceptancePart.Entries.{entries_of}
+use Rattle.elf_head.specs.AcceptancePart.Gives.{Faults, Gives}
+use Rattle.elf_head.specs.AcceptancePart.Lemmas.Read.{entries_fault}
 use Rattle.elf_versions.specs.Linked.{linked, place}
 use Rattle.elf_head.specs.Readable.{file_bytes}
-use Rattle.acceptance.specs.Lemmas.Reading.{some_from-ok_or}
+use Rattle.elf_head.specs.AcceptancePart.Lemmas.Reading.{some_from-ok_or}
 use Rattle.elf_versions.specs.Record.{bad_table, distance, record_at}
 use Rattle.elf_versions.specs.Source.{Source}
 

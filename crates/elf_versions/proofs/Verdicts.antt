@@ -11,12 +11,12 @@ use Rattle.ld_base.specs.declared.fault.NotAccepted.{NotAccepted}
 use Rattle.ld_base.specs.declared.parts.DynParts.{DynParts}
 use Rattle.ld_base.specs.declared.parts.Head.{Head}
 use Rattle.ld_base.specs.declared.parts.Versions.{Versions}
-use Rattle.acceptance.specs.Lemmas.Reading.{ok_is}
-use Rattle.acceptance.specs.Lemmas.Finds.{finds_position, one_first, Finds}
-use Rattle.acceptance.specs.Lemmas.Judged.{judged, judged_like, judged_next, made, Judges}
-use Rattle.acceptance.specs.Lemmas.Tests.{among, both, contrary, either, le_decides, Among}
-use Rattle.acceptance.specs.First.{IsFirst}
-use Rattle.dyn_table.specs.TagNumbers.{dt_versym, dt_verdef, dt_verneed}
+use Rattle.elf_head.specs.AcceptancePart.Lemmas.Reading.{ok_is}
+use Rattle.elf_head.specs.AcceptancePart.Lemmas.Finds.{finds_position, one_first, Finds}
+use Rattle.elf_head.specs.AcceptancePart.Lemmas.Judged.{judged, judged_like, judged_next, made, Judges}
+use Rattle.elf_head.specs.AcceptancePart.Lemmas.Tests.{among, both, contrary, either, le_decides, Among}
+use Rattle.elf_head.specs.AcceptancePart.First.{IsFirst}
+use Rattle.elf_head.specs.DynTable.TagNumbers.{dt_versym, dt_verdef, dt_verneed}
 use Rattle.elf_versions.proofs.Laws.{verdefs_reads, verneeds_reads, versym_reads, Strings}
 use Rattle.elf_versions.specs.Index.{indexes_of, is_unknown, unknown_index}
 use Rattle.elf_versions.specs.Record.{bad_table}

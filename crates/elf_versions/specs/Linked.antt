@@ -1,7 +1,7 @@
 -- Records that are linked: each tells how far after it the next one stands (Drepper, "ELF Symbol Versioning").
 use Rattle.std.specs.Prelude.{ℕ, zero, suc, ◌+◌, ◌==◌, ◌||◌, Bool, nat_lt, List, Result}
 use Rattle.ld_base.specs.declared.fault.NotAccepted.{NotAccepted}
-use Rattle.acceptance.specs.Entries.{entries_of}
+use Rattle.elf_head.specs.AcceptancePart.Entries.{entries_of}
 
 -- the place of a record: the first stands at the start, each other so far after the one before it as that one tells
 abbrev pub place : (ℕ → ℕ) → ℕ → ℕ → ℕ

@@ -2,7 +2,7 @@
 use Rattle.std.specs.Prelude.{ℕ, List}
 use Rattle.ld_base.specs.declared.object.Verdef.{Verdef}
 use Rattle.ld_base.specs.declared.object.Verneed.{Verneed}
-use Rattle.dyn_table.specs.Name.{string_in}
+use Rattle.elf_head.specs.DynTable.Name.{string_in}
 use Rattle.elf_versions.specs.declared.verdef.VerdefRecord.{VerdefRecord}
 use Rattle.elf_versions.specs.declared.verneed.NeedRecord.{NeedRecord}
 use Rattle.elf_versions.specs.declared.verneed.VerneedRecord.{VerneedRecord}

@@ -4,8 +4,8 @@ use Rattle.std.specs.Option.{ok_or, option_map_or}
 use Rattle.ld_base.specs.Field.{field}
 use Rattle.ld_base.specs.declared.fault.NotAccepted.{NotAccepted}
 use Rattle.elf_head.specs.Readable.{file_bytes}
-use Rattle.dyn_table.specs.Name.{string_at}
-pub use Rattle.dyn_table.specs.Tag.{value_of}
+use Rattle.elf_head.specs.DynTable.Name.{string_at}
+pub use Rattle.elf_head.specs.DynTable.Tag.{value_of}
 use Rattle.elf_versions.specs.Source.{Source}
 
 -- rule 17, which the table of this tag breaks

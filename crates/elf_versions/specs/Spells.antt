@@ -10,12 +10,12 @@ use Rattle.ld_base.specs.declared.parts.Head.{Head}
 use Rattle.ld_base.specs.declared.parts.Tag.{Tag}
 use Rattle.ld_base.specs.declared.parts.Versions.{Versions}
 use Rattle.elf_head.specs.Readable.{file_bytes}
-use Rattle.acceptance.specs.First.{IsFirst}
-use Rattle.acceptance.specs.Table.{table}
-use Rattle.acceptance.specs.Entries.{AreEntries}
-use Rattle.dyn_table.specs.Name.{IsStringAt}
-use Rattle.dyn_table.specs.Tag.{last_of}
-use Rattle.dyn_table.specs.TagNumbers.{dt_versym, dt_verdef, dt_verdefnum, dt_verneed, dt_verneednum}
+use Rattle.elf_head.specs.AcceptancePart.First.{IsFirst}
+use Rattle.elf_head.specs.AcceptancePart.Table.{table}
+use Rattle.elf_head.specs.AcceptancePart.Entries.{AreEntries}
+use Rattle.elf_head.specs.DynTable.Name.{IsStringAt}
+use Rattle.elf_head.specs.DynTable.Tag.{last_of}
+use Rattle.elf_head.specs.DynTable.TagNumbers.{dt_versym, dt_verdef, dt_verdefnum, dt_verneed, dt_verneednum}
 use Rattle.elf_versions.specs.Need.{Need}
 use Rattle.elf_versions.specs.Linked.{place}
 use Rattle.elf_versions.specs.Record.{bad_table, distance, value_of}

@@ -8,9 +8,9 @@ use Rattle.ld_base.specs.declared.parts.Header.{Header}
 use Rattle.ld_base.specs.declared.parts.Tag.{Tag}
 use Rattle.ld_base.specs.declared.parts.Versions.{Versions}
 use Rattle.elf_head.specs.Readable.{file_bytes}
-use Rattle.acceptance.specs.Entries.{◌>>=◌}
-use Rattle.dyn_table.specs.Tag.{last_of}
-use Rattle.dyn_table.specs.TagNumbers.{dt_strtab, dt_strsz, dt_versym, dt_verdef, dt_verneed}
+use Rattle.elf_head.specs.AcceptancePart.Entries.{◌>>=◌}
+use Rattle.elf_head.specs.DynTable.Tag.{last_of}
+use Rattle.elf_head.specs.DynTable.TagNumbers.{dt_strtab, dt_strsz, dt_versym, dt_verdef, dt_verneed}
 use Rattle.elf_versions.specs.Index.{unknown_index}
 use Rattle.elf_versions.specs.Record.{value_of}
 use Rattle.elf_versions.specs.Source.{Source}

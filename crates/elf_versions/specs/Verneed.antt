@@ -5,9 +5,9 @@ use Rattle.ld_base.specs.Field.{field}
 use Rattle.ld_base.specs.declared.fault.NotAccepted.{NotAccepted}
 use Rattle.ld_base.specs.declared.object.Verneed.{Verneed}
 use Rattle.ld_base.specs.declared.parts.Tag.{Tag}
-use Rattle.acceptance.specs.Entries.{◌>>=◌}
-use Rattle.dyn_table.specs.Tag.{last_of}
-use Rattle.dyn_table.specs.TagNumbers.{dt_verneed, dt_verneednum}
+use Rattle.elf_head.specs.AcceptancePart.Entries.{◌>>=◌}
+use Rattle.elf_head.specs.DynTable.Tag.{last_of}
+use Rattle.elf_head.specs.DynTable.TagNumbers.{dt_verneed, dt_verneednum}
 use Rattle.elf_versions.specs.Need.{Need}
 use Rattle.elf_versions.specs.Linked.{linked, is_linked}
 use Rattle.elf_versions.specs.Record.{record_at, passing, named, distance, value_of}

@@ -4,10 +4,10 @@ use Rattle.std.specs.Option.{option_map_or}
 use Rattle.ld_base.specs.Field.{field}
 use Rattle.ld_base.specs.declared.fault.NotAccepted.{NotAccepted}
 use Rattle.ld_base.specs.declared.parts.Tag.{Tag}
-use Rattle.acceptance.specs.Table.{table}
-use Rattle.acceptance.specs.Entries.{◌>>=◌}
-use Rattle.dyn_table.specs.Tag.{last_of}
-use Rattle.dyn_table.specs.TagNumbers.{dt_versym}
+use Rattle.elf_head.specs.AcceptancePart.Table.{table}
+use Rattle.elf_head.specs.AcceptancePart.Entries.{◌>>=◌}
+use Rattle.elf_head.specs.DynTable.Tag.{last_of}
+use Rattle.elf_head.specs.DynTable.TagNumbers.{dt_versym}
 use Rattle.elf_versions.specs.Record.{record_at}
 use Rattle.elf_versions.specs.Source.{Source}
 

@@ -8,7 +8,7 @@ ghost use Rattle.ld_base.specs.declared.parts.Versions.{Versions};
 ghost use Rattle.elf_versions.specs.Spells.{BreaksFirst, SpellsVersions};
 ghost use Rattle.elf_versions.specs.Verdict.{versions_verdict};
 
-use dyn_table::one_reading;
+use elf_head::one_reading;
 
 /// The tables of an object have one verdict: either they break no rule, and one record alone has what
 /// they say, or one rule is the first that they break, with one number.

@@ -1,7 +1,7 @@
 //! Reading the versions of an object.
 
 ghost use Rattle.std.specs.Prelude.{◌≡◌, Ok, length};
-ghost use Rattle.acceptance.specs.Gives.{Answers, Gives};
+ghost use Rattle.elf_head.specs.AcceptancePart.Gives.{Answers, Gives};
 ghost use Rattle.elf_head.specs.Rules.{head_verdict};
 ghost use Rattle.elf_versions.specs.Spells.{BreaksFirst, SpellsVersions};
 ghost use Rattle.elf_versions.specs.Verdict.{strings_of, tables_of, versions_in, versions_verdict};
@@ -13,8 +13,9 @@ use crate::records::Records;
 use crate::verdef::read_verdefs;
 use crate::verneed::read_verneeds;
 use crate::versym::read_versym;
-use dyn_table::{DT_STRSZ, DT_STRTAB, DT_VERDEF, DT_VERNEED, DT_VERSYM, last_of, value_of};
-use elf_head::file_bytes;
+use elf_head::{
+    DT_STRSZ, DT_STRTAB, DT_VERDEF, DT_VERNEED, DT_VERSYM, file_bytes, last_of, value_of,
+};
 use ld_base::{DynParts, Head, NotAccepted, ReadFault, Tag, Versions};
 use std::alloc::Global;
 

@@ -2,14 +2,13 @@
 
 ghost use Rattle.std.specs.Prelude.{◌≡◌, ◌+◌, ◌≤◌, ◌<◌, ◌^◌, Ok, IfOk, length};
 ghost use Rattle.std.specs.Result.{result_map_both};
-ghost use Rattle.acceptance.specs.Gives.{Gives};
+ghost use Rattle.elf_head.specs.AcceptancePart.Gives.{Gives};
 ghost use Rattle.elf_head.specs.Rules.{head_verdict};
 ghost use Rattle.ld_base.specs.declared.fault.ReadFault.TheVariants as faults;
-ghost use Rattle.dyn_table.specs.Name.{string_in};
+ghost use Rattle.elf_head.specs.DynTable.Name.{string_in};
 ghost use Rattle.elf_versions.specs.Record.{bad_table, named, record_at};
 
-use dyn_table::string_at;
-use elf_head::file_bytes;
+use elf_head::{file_bytes, string_at};
 use ld_base::{Head, NotAccepted, ReadFault};
 use std::marker::Model;
 

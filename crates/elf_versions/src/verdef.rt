@@ -2,13 +2,13 @@
 
 ghost use Rattle.std.specs.Prelude.{◌≡◌, ◌+◌, ◌≤◌, IfOk, length, map};
 ghost use Rattle.std.specs.Result.{result_map_both};
-ghost use Rattle.acceptance.specs.Gives.{Gives};
+ghost use Rattle.elf_head.specs.AcceptancePart.Gives.{Gives};
 ghost use Rattle.elf_versions.specs.Record.{distance};
 ghost use Rattle.elf_versions.specs.Names.{defined};
 ghost use Rattle.elf_versions.specs.Verdef.{is_verdef, verdef_at, verdefs_from, verdefs_of};
 
 use crate::records::{MAX_RECORDS, Records};
-use dyn_table::{DT_VERDEF, DT_VERDEFNUM, last_of, read_string, value_of, with_name};
+use elf_head::{DT_VERDEF, DT_VERDEFNUM, last_of, read_string, value_of, with_name};
 use ld_base::{ReadFault, Tag, Verdef, Verdefs, field16, field32};
 use std::alloc::{AllocError, Global};
 

@@ -2,15 +2,15 @@
 
 ghost use Rattle.std.specs.Prelude.{◌≡◌, ◌+◌, ◌≤◌, IfOk, length, map, sum_by};
 ghost use Rattle.std.specs.Result.{result_map_both};
-ghost use Rattle.acceptance.specs.Gives.{Gives};
+ghost use Rattle.elf_head.specs.AcceptancePart.Gives.{Gives};
 ghost use Rattle.elf_versions.specs.Linked.{is_linked};
 ghost use Rattle.elf_versions.specs.Record.{distance};
-ghost use Rattle.dyn_table.specs.Name.{string_in};
+ghost use Rattle.elf_head.specs.DynTable.Name.{string_in};
 ghost use Rattle.elf_versions.specs.Names.{need_of, needed};
 ghost use Rattle.elf_versions.specs.Verneed.{is_verneed, need_at, needs_from, vernaux_at, versions_of, versions_of_all, verneeds_from, verneeds_of};
 
 use crate::records::{MAX_RECORDS, Records};
-use dyn_table::{DT_VERNEED, DT_VERNEEDNUM, last_of, read_string, value_of, with_name};
+use elf_head::{DT_VERNEED, DT_VERNEEDNUM, last_of, read_string, value_of, with_name};
 use ld_base::{ReadFault, Tag, Verneed, Verneeds, field16, field32};
 use std::alloc::{AllocError, Global};
 

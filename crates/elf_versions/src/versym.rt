@@ -1,13 +1,13 @@
 //! The version indexes of symbols (Drepper, "ELF Symbol Versioning").
 
 ghost use Rattle.std.specs.Prelude.{◌≡◌, ◌*◌, ◌≤◌, IfOk, length};
-ghost use Rattle.acceptance.specs.Gives.{Gives};
-ghost use Rattle.acceptance.specs.Table.{table};
+ghost use Rattle.elf_head.specs.AcceptancePart.Gives.{Gives};
+ghost use Rattle.elf_head.specs.AcceptancePart.Table.{table};
 ghost use Rattle.ld_base.specs.Field.{field};
 ghost use Rattle.elf_versions.specs.Versym.{versym_of};
 
 use crate::records::Records;
-use dyn_table::{DT_VERSYM, last_of};
+use elf_head::{DT_VERSYM, last_of};
 use ld_base::{ReadFault, Shorts, Tag, field16};
 use std::alloc::{AllocError, Global};
 

@@ -4,25 +4,25 @@ use Rattle.std.specs.Option.{option_map_or}
 use Rattle.ld_base.specs.declared.linking.Choice.{Choice}
 use Rattle.ld_base.specs.declared.linking.Choice.TheVariants.{Def, WeakZero, Missing}
 use Rattle.ld_base.specs.declared.linking.Loaded.{Loaded}
-use Rattle.link_event.specs.declared.event.CloseAnswer.{CloseAnswer}
-use Rattle.link_event.specs.declared.event.CloseAnswer.TheVariants as closings
-use Rattle.link_event.specs.declared.event.Event.{Event}
-use Rattle.link_event.specs.declared.event.Event.TheVariants as events
-use Rattle.link_event.specs.declared.event.OpenAnswer.{OpenAnswer}
-use Rattle.link_event.specs.declared.event.OpenAnswer.TheVariants as openings
-use Rattle.link_event.specs.declared.event.SymAnswer.{SymAnswer}
-use Rattle.link_event.specs.declared.event.SymAnswer.TheVariants as symbols
-use Rattle.link_event.specs.declared.hart_end.HartEnd.TheVariants as ends
-use Rattle.link_event.specs.declared.state.Module.{Module}
-use Rattle.link_event.specs.declared.state.Standing.TheVariants.{Open}
-use Rattle.link_history.specs.After.{after}
-use Rattle.link_history.specs.Setting.{Setting}
-use Rattle.link_history.specs.State.{State}
-use Rattle.link_history.specs.Storage.{tls_block}
+use Rattle.history_event.specs.declared.event.CloseAnswer.{CloseAnswer}
+use Rattle.history_event.specs.declared.event.CloseAnswer.TheVariants as closings
+use Rattle.history_event.specs.declared.event.Event.{Event}
+use Rattle.history_event.specs.declared.event.Event.TheVariants as events
+use Rattle.history_event.specs.declared.event.OpenAnswer.{OpenAnswer}
+use Rattle.history_event.specs.declared.event.OpenAnswer.TheVariants as openings
+use Rattle.history_event.specs.declared.event.SymAnswer.{SymAnswer}
+use Rattle.history_event.specs.declared.event.SymAnswer.TheVariants as symbols
+use Rattle.history_event.specs.declared.hart_end.HartEnd.TheVariants as ends
+use Rattle.history_event.specs.declared.state.Module.{Module}
+use Rattle.history_event.specs.declared.state.Standing.TheVariants.{Open}
+use Rattle.history_state.specs.After.{after}
+use Rattle.history_state.specs.Setting.{Setting}
+use Rattle.history_state.specs.State.{State}
+use Rattle.history_state.specs.Storage.{tls_block}
 use Rattle.tls_blocks.specs.Numbers.{module_at}
-use Rattle.link_service.specs.Answer.{Answer, returns, loading, closing, refused, granted, told, again, over}
-use Rattle.link_service.specs.Call.{Call, resolves, opens, looks_up, closes, unmaps, asks_fault, locates, writes, stops}
-use Rattle.link_service.specs.Gives.{Answers, Gives, Serves, ending, variable_at}
+use Rattle.history_calls.specs.Answer.{Answer, returns, loading, closing, refused, granted, told, again, over}
+use Rattle.history_calls.specs.Call.{Call, resolves, opens, looks_up, closes, unmaps, asks_fault, locates, writes, stops}
+use Rattle.history_calls.specs.Gives.{Answers, Gives, Serves, ending, variable_at}
 
 -- ---- an answer, read off the first events
 

@@ -5,12 +5,12 @@ use Rattle.std.specs.Option.{is_some}
 use Rattle.ld_base.specs.declared.fault.DlFault.{DlFault}
 use Rattle.ld_base.specs.declared.fault.Shown.{Shown}
 use Rattle.ld_base.specs.declared.object.Reloc.{Reloc}
-use Rattle.link_event.specs.declared.event.Event.{Event}
-use Rattle.link_event.specs.declared.event.Event.TheVariants.{Ended, Fini}
-use Rattle.link_event.specs.declared.handed.Function.{Function}
-use Rattle.link_event.specs.declared.hart_end.HartEnd.{HartEnd}
-use Rattle.link_event.specs.declared.hart_end.HartEnd.TheVariants as ends
-use Rattle.link_event.specs.declared.state.Granting.{Granting}
+use Rattle.history_event.specs.declared.event.Event.{Event}
+use Rattle.history_event.specs.declared.event.Event.TheVariants.{Ended, Fini}
+use Rattle.history_event.specs.declared.handed.Function.{Function}
+use Rattle.history_event.specs.declared.hart_end.HartEnd.{HartEnd}
+use Rattle.history_event.specs.declared.hart_end.HartEnd.TheVariants as ends
+use Rattle.history_event.specs.declared.state.Granting.{Granting}
 use Rattle.relocator.specs.Relocated.{moved_word}
 use Rattle.rv_hart.specs.declared.bus.BusFault.{BusFault}
 use Rattle.rv_hart.specs.declared.bus.BusFault.TheVariants.{Role as RoleFault, Misaligned, Again}
@@ -20,17 +20,17 @@ use Rattle.rv_hart.specs.declared.stepping.Stop.{Stop}
 use Rattle.rv_hart.specs.declared.stepping.Stop.TheVariants as stop
 use Rattle.rv_hart.specs.Laws.{OneEnd, StepLeads}
 use Rattle.rv_hart.specs.Trail.{IsStep, Place, Ready, Accessing, Stopped}
-use Rattle.link_history.specs.After.{after}
-use Rattle.link_history.specs.Laws.{slot_address}
-use Rattle.link_history.specs.Memory.{image_of}
-use Rattle.link_history.specs.Objects.{has, object_at, serial_of}
-use Rattle.link_history.specs.Setting.{Setting}
-use Rattle.link_history.specs.State.{Linked, State}
-use Rattle.link_service.specs.Answer.{Answer, returns, loading, closing, refused, granted, told, again, over}
-use Rattle.link_service.specs.Call.{Call}
-use Rattle.link_service.specs.Functions.{AreAddresses, AreConstructors, AreDestructors, destructors, left}
-use Rattle.link_service.specs.Lemmas.OneOrder.{one_finalisation, one_initialisation}
-use Rattle.link_service.specs.Lemmas.Unique.{both_found}
+use Rattle.history_state.specs.After.{after}
+use Rattle.history_state.specs.Laws.{slot_address}
+use Rattle.history_state.specs.Memory.{image_of}
+use Rattle.history_state.specs.Objects.{has, object_at, serial_of}
+use Rattle.history_state.specs.Setting.{Setting}
+use Rattle.history_state.specs.State.{Linked, State}
+use Rattle.history_calls.specs.Answer.{Answer, returns, loading, closing, refused, granted, told, again, over}
+use Rattle.history_calls.specs.Call.{Call}
+use Rattle.history_calls.specs.Functions.{AreAddresses, AreConstructors, AreDestructors, destructors, left}
+use Rattle.history_calls.specs.Lemmas.OneOrder.{one_finalisation, one_initialisation}
+use Rattle.history_calls.specs.Lemmas.Unique.{both_found}
 use Rattle.hart_moves.specs.Copying.{Copy}
 use Rattle.hart_moves.specs.Due.{Due, Return, due}
 use Rattle.hart_moves.specs.Follows.{Follows, Turned}

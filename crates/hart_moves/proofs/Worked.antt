@@ -5,35 +5,35 @@ use Rattle.std.specs.Option.{option_and_then, option_map_or}
 use Rattle.ld_base.specs.declared.linking.Choice.TheVariants.{Def}
 use Rattle.ld_base.specs.declared.linking.Role.TheVariants.{None as NoRole}
 use Rattle.ld_base.specs.declared.object.Reloc.{Reloc}
-use Rattle.link_event.specs.declared.event.Event.{Event}
-use Rattle.link_event.specs.declared.event.Event.TheVariants.{Ended, Grant, Init}
-use Rattle.link_event.specs.declared.hart_end.HartEnd.TheVariants.{Break, Exit}
-use Rattle.link_event.specs.declared.state.Granting.{Granting}
+use Rattle.history_event.specs.declared.event.Event.{Event}
+use Rattle.history_event.specs.declared.event.Event.TheVariants.{Ended, Grant, Init}
+use Rattle.history_event.specs.declared.hart_end.HartEnd.TheVariants.{Break, Exit}
+use Rattle.history_event.specs.declared.state.Granting.{Granting}
 use Rattle.relocator.specs.Relocated.{moved_word}
 use Rattle.rv_hart.specs.declared.bus.BusFault.TheVariants.{Role as RoleFault}
 use Rattle.rv_hart.specs.declared.bus.Item.{Item}
 use Rattle.seg_image.specs.Pages.{guest_address, segment_at}
 use Rattle.seg_image.specs.Words.{byte_of, file_byte, file_word, word_of}
-use Rattle.link_history.specs.After.{after, after_from}
-use Rattle.link_history.specs.Bound.{linked_with}
-use Rattle.link_history.specs.FirstMatch as first_match
-use Rattle.link_history.specs.Laws.{slot_address}
-use Rattle.link_history.specs.Legal.{Legal}
-use Rattle.link_history.specs.Memory.{image_of}
-use Rattle.link_history.specs.Parts.{slot as slot_reloc}
-use Rattle.link_history.specs.Race as race
-use Rattle.link_history.specs.Setting.{Setting}
-use Rattle.link_history.specs.State.{Linked, State}
-use Rattle.link_history.specs.Step.{initialise, loaded}
-use Rattle.link_history.specs.Lemmas.History.{legal_push, legal_take}
-use Rattle.link_history.specs.Lemmas.Matched.{first_match_legal, program_not_first}
-use Rattle.link_history.specs.Lemmas.Raced.{first_not_granted, race_legal}
-use Rattle.link_service.specs.Answer.{granted, over}
-use Rattle.link_service.specs.Call.{stops}
-use Rattle.link_service.specs.Ends.EndsAs.{asked}
-use Rattle.link_service.specs.Gives.Gives.{to_end}
-use Rattle.link_service.specs.Worked.{granted_to}
-use Rattle.link_service.specs.Lemmas.Examples as calls
+use Rattle.history_state.specs.After.{after, after_from}
+use Rattle.history_state.specs.Bound.{linked_with}
+use Rattle.history_state.specs.FirstMatch as first_match
+use Rattle.history_state.specs.Laws.{slot_address}
+use Rattle.history_state.specs.Legal.{Legal}
+use Rattle.history_state.specs.Memory.{image_of}
+use Rattle.history_state.specs.Parts.{slot as slot_reloc}
+use Rattle.history_state.specs.Race as race
+use Rattle.history_state.specs.Setting.{Setting}
+use Rattle.history_state.specs.State.{Linked, State}
+use Rattle.history_state.specs.Step.{initialise, loaded}
+use Rattle.history_state.specs.Lemmas.History.{legal_push, legal_take}
+use Rattle.history_state.specs.Lemmas.Matched.{first_match_legal, program_not_first}
+use Rattle.history_state.specs.Lemmas.Raced.{first_not_granted, race_legal}
+use Rattle.history_calls.specs.Answer.{granted, over}
+use Rattle.history_calls.specs.Call.{stops}
+use Rattle.history_calls.specs.Ends.EndsAs.{asked}
+use Rattle.history_calls.specs.Gives.Gives.{to_end}
+use Rattle.history_calls.specs.Worked.{granted_to}
+use Rattle.history_calls.specs.Lemmas.Examples as calls
 use Rattle.hart_moves.specs.Copying.{Copy, bytes_from, grown, text_words, with_bytes}
 use Rattle.hart_moves.specs.Due.{by_phase, due}
 use Rattle.hart_moves.specs.Harts.{HartState, Naming, Offered}

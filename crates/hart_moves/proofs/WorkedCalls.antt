@@ -4,21 +4,21 @@ use Rattle.std.specs.Option.{is_some}
 use Rattle.ld_base.specs.declared.fault.Shown.TheVariants.{OpenGrant}
 use Rattle.ld_base.specs.declared.linking.Loaded.{Loaded}
 use Rattle.ld_base.specs.declared.linking.Role.TheVariants.{None as NoRole}
-use Rattle.link_event.specs.declared.event.Event.{Event}
-use Rattle.link_event.specs.declared.event.Event.TheVariants.{Ended, Fini, Told, Wrote}
-use Rattle.link_event.specs.declared.hart_end.HartEnd.TheVariants.{Misaligned}
+use Rattle.history_event.specs.declared.event.Event.{Event}
+use Rattle.history_event.specs.declared.event.Event.TheVariants.{Ended, Fini, Told, Wrote}
+use Rattle.history_event.specs.declared.hart_end.HartEnd.TheVariants.{Misaligned}
 use Rattle.rv_hart.specs.declared.bus.BusFault.TheVariants.{Role as RoleFault}
 use Rattle.seg_image.specs.Words.{byte_of}
-use Rattle.link_history.specs.After.{after, after_from}
-use Rattle.link_history.specs.Objects.{has}
-use Rattle.link_history.specs.Setting.{Setting}
-use Rattle.link_history.specs.State.{State}
-use Rattle.link_history.specs.Step.{initialise, loaded}
-use Rattle.link_service.specs.Answer.{again, over, returns}
-use Rattle.link_service.specs.Call.{stops, unmaps, writes}
-use Rattle.link_service.specs.Ends.EndsAs.{asked}
-use Rattle.link_service.specs.Gives.Answers.{is_written}
-use Rattle.link_service.specs.Gives.Gives.{by_event, to_again, to_end}
+use Rattle.history_state.specs.After.{after, after_from}
+use Rattle.history_state.specs.Objects.{has}
+use Rattle.history_state.specs.Setting.{Setting}
+use Rattle.history_state.specs.State.{State}
+use Rattle.history_state.specs.Step.{initialise, loaded}
+use Rattle.history_calls.specs.Answer.{again, over, returns}
+use Rattle.history_calls.specs.Call.{stops, unmaps, writes}
+use Rattle.history_calls.specs.Ends.EndsAs.{asked}
+use Rattle.history_calls.specs.Gives.Answers.{is_written}
+use Rattle.history_calls.specs.Gives.Gives.{by_event, to_again, to_end}
 use Rattle.hart_moves.specs.Copying.{bytes_from, grown, with_bytes}
 use Rattle.hart_moves.specs.Due.{by_phase, due}
 use Rattle.hart_moves.specs.Follows.{Follows}

@@ -2,7 +2,7 @@
 use Rattle.std.specs.Prelude.{ℕ, ◌+◌, ◌-◌, ◌*◌, ◌/◌, ◌%◌, ◌^◌, ◌==◌, ◌||◌, nat_le, Bool, if◌then◌else◌, List, [], ◌∷◌, ◌++◌, length, map, take, slice_index}
 use Rattle.std.specs.List.{list_any, range_with_len}
 use Rattle.seg_image.specs.Words.{byte_of, word_of}
-use Rattle.link_history.specs.Asking.{is_too_long}
+use Rattle.history_state.specs.Asking.{is_too_long}
 use Rattle.hart_moves.specs.Harts.{Naming, Phase, naming, versioning, named, pairing, writing}
 
 -- what is copied: a name; the version that follows it; the two doublewords of __tls_get_addr; so many bytes to write

@@ -1,10 +1,10 @@
 -- What a hart's next turn is: its state says it, and which objects are mapped.
 use Rattle.std.specs.Prelude.{ℕ, ◌%◌, ◌==◌, nat_lt, if◌then◌else◌, List, [], ◌∷◌, length, min, Some, None}
-use Rattle.link_event.specs.declared.handed.Function.{Function}
-use Rattle.link_event.specs.declared.hart_end.HartEnd.TheVariants as ends
-use Rattle.link_history.specs.State.{State}
-use Rattle.link_service.specs.Call.{Call, resolves, closes, unmaps, asks_fault, locates, writes, stops}
-use Rattle.link_service.specs.Call as call
+use Rattle.history_event.specs.declared.handed.Function.{Function}
+use Rattle.history_event.specs.declared.hart_end.HartEnd.TheVariants as ends
+use Rattle.history_state.specs.State.{State}
+use Rattle.history_calls.specs.Call.{Call, resolves, closes, unmaps, asks_fault, locates, writes, stops}
+use Rattle.history_calls.specs.Call as call
 use Rattle.rv_hart.specs.Registers.{Registers, next}
 use Rattle.hart_moves.specs.Copying.{Copy, number_in}
 use Rattle.hart_moves.specs.Harts.{Frame, HartState, Naming, Offered, Phase, Purpose, Resolving}

@@ -1,14 +1,14 @@
 -- What a hart did, turn after turn, over a journal.
 use Rattle.std.specs.Prelude.{◌≡◌, ◌≢◌, ℕ, ◌+◌, ◌≤◌, ◌<◌, List, [], ◌∷◌, length, take, drop, Some, IsTrue}
 use Rattle.std.specs.List.{slice_get}
-use Rattle.link_event.specs.declared.event.Event.{Event}
-use Rattle.link_event.specs.declared.hart_end.HartEnd.TheVariants.{Exit}
+use Rattle.history_event.specs.declared.event.Event.{Event}
+use Rattle.history_event.specs.declared.hart_end.HartEnd.TheVariants.{Exit}
 use Rattle.rv_hart.specs.Registers.{Registers}
-use Rattle.link_history.specs.After.{after}
-use Rattle.link_history.specs.Memory.{image_of}
-use Rattle.link_history.specs.Setting.{Setting, have_exited}
-use Rattle.link_service.specs.Functions.{AreAddresses, destructors}
-use Rattle.link_service.specs.Laws.{hart_of}
+use Rattle.history_state.specs.After.{after}
+use Rattle.history_state.specs.Memory.{image_of}
+use Rattle.history_state.specs.Setting.{Setting, have_exited}
+use Rattle.history_calls.specs.Functions.{AreAddresses, destructors}
+use Rattle.history_calls.specs.Laws.{hart_of}
 use Rattle.hart_moves.specs.Harts.{HartState}
 use Rattle.hart_moves.specs.Moves.{Did, Moves, all_finis, events_of}
 use Rattle.hart_moves.specs.Starting.{finalising_hart}

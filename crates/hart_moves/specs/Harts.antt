@@ -1,7 +1,7 @@
 -- A hart between two turns: its registers, how far it is with what it asked the linker for, and the functions that the linker has it run.
 use Rattle.std.specs.Prelude.{ℕ, Bool, true, false, List, Option}
-use Rattle.link_event.specs.declared.handed.Function.{Function}
-use Rattle.link_event.specs.declared.hart_end.HartEnd.{HartEnd}
+use Rattle.history_event.specs.declared.handed.Function.{Function}
+use Rattle.history_event.specs.declared.hart_end.HartEnd.{HartEnd}
 use Rattle.rv_hart.specs.Registers.{Registers}
 
 -- ---- a slot

@@ -1,11 +1,11 @@
 -- What holds of every turn of a hart.
 use Rattle.std.specs.Prelude.{◌≡◌, ◌⊎◌, ℕ, ◌+◌, List, ◌++◌, Contains, Some}
-use Rattle.link_event.specs.declared.event.Event.{Event}
-use Rattle.link_event.specs.declared.hart_end.HartEnd.{HartEnd}
-use Rattle.link_event.specs.declared.hart_end.HartEnd.TheVariants.{FuelOut}
-use Rattle.link_history.specs.Legal.{Legal}
-use Rattle.link_history.specs.Setting.{Setting}
-use Rattle.link_service.specs.Laws.{hart_of}
+use Rattle.history_event.specs.declared.event.Event.{Event}
+use Rattle.history_event.specs.declared.hart_end.HartEnd.{HartEnd}
+use Rattle.history_event.specs.declared.hart_end.HartEnd.TheVariants.{FuelOut}
+use Rattle.history_state.specs.Legal.{Legal}
+use Rattle.history_state.specs.Setting.{Setting}
+use Rattle.history_calls.specs.Laws.{hart_of}
 use Rattle.hart_moves.specs.Follows.{Follows, Turned}
 use Rattle.hart_moves.specs.Harts.{HartState}
 use Rattle.hart_moves.specs.Moves.{Did, Moves, events_of}

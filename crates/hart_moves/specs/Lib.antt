@@ -10,3 +10,5 @@ pub mod Services
 pub mod Starting
 pub mod Worked
 pub mod WorkedCalls
+pub mod TurnEvents
+pub mod TurnFrames

@@ -10,12 +10,12 @@ use Rattle.ld_base.specs.declared.linking.Loaded.{Loaded}
 use Rattle.ld_base.specs.declared.linking.Role.{Role}
 use Rattle.ld_base.specs.declared.linking.Role.TheVariants.{Slot}
 use Rattle.ld_base.specs.declared.object.Reloc.{Reloc}
-use Rattle.link_event.specs.declared.event.Event.{Event}
-use Rattle.link_event.specs.declared.event.Event.TheVariants as events
-use Rattle.link_event.specs.declared.handed.Function.{Function}
-use Rattle.link_event.specs.declared.hart_end.HartEnd.{HartEnd}
-use Rattle.link_event.specs.declared.hart_end.HartEnd.TheVariants as ends
-use Rattle.link_event.specs.declared.state.Granting.{Granting}
+use Rattle.history_event.specs.declared.event.Event.{Event}
+use Rattle.history_event.specs.declared.event.Event.TheVariants as events
+use Rattle.history_event.specs.declared.handed.Function.{Function}
+use Rattle.history_event.specs.declared.hart_end.HartEnd.{HartEnd}
+use Rattle.history_event.specs.declared.hart_end.HartEnd.TheVariants as ends
+use Rattle.history_event.specs.declared.state.Granting.{Granting}
 use Rattle.relocator.specs.Relocated.{moved_word}
 use Rattle.rv_hart.specs.declared.bus.BusFault.{BusFault}
 use Rattle.rv_hart.specs.declared.bus.BusFault.TheVariants.{Role as RoleFault, Misaligned, Again}
@@ -25,20 +25,20 @@ use Rattle.rv_hart.specs.declared.stepping.Stop.{Stop}
 use Rattle.rv_hart.specs.declared.stepping.Stop.TheVariants as stop
 use Rattle.rv_hart.specs.Registers.{Registers}
 use Rattle.rv_hart.specs.Trail.{IsStep, Place, Ready, Accessing, Stopped}
-use Rattle.link_history.specs.After.{after}
-use Rattle.link_history.specs.Allowed.{Allowed, MayEnd}
-use Rattle.link_history.specs.Laws.{slot_address}
-use Rattle.link_history.specs.Links.{finis_of}
-use Rattle.link_history.specs.Memory.{image_of}
-use Rattle.link_history.specs.Objects.{has, mapped, object_at, serial_of}
-use Rattle.link_history.specs.Setting.{Setting}
-use Rattle.link_history.specs.State.{Linked, State}
-use Rattle.link_service.specs.Answer.{Answer, returns, loading, closing, refused, granted, told, again, over, refused_value}
-use Rattle.link_service.specs.Call.{Call}
-use Rattle.link_service.specs.Functions.{AreAddresses, AreConstructors, AreDestructors, destructors, left, passed}
-use Rattle.link_service.specs.Gives.{Serves}
-use Rattle.link_service.specs.Served.{answer_text}
-use Rattle.link_service.specs.Startup.{is_stack}
+use Rattle.history_state.specs.After.{after}
+use Rattle.history_state.specs.Allowed.{Allowed, MayEnd}
+use Rattle.history_state.specs.Laws.{slot_address}
+use Rattle.history_state.specs.Links.{finis_of}
+use Rattle.history_state.specs.Memory.{image_of}
+use Rattle.history_state.specs.Objects.{has, mapped, object_at, serial_of}
+use Rattle.history_state.specs.Setting.{Setting}
+use Rattle.history_state.specs.State.{Linked, State}
+use Rattle.history_calls.specs.Answer.{Answer, returns, loading, closing, refused, granted, told, again, over, refused_value}
+use Rattle.history_calls.specs.Call.{Call}
+use Rattle.history_calls.specs.Functions.{AreAddresses, AreConstructors, AreDestructors, destructors, left, passed}
+use Rattle.history_calls.specs.Gives.{Serves}
+use Rattle.history_calls.specs.Served.{answer_text}
+use Rattle.history_calls.specs.Startup.{is_stack}
 use Rattle.hart_moves.specs.Copying.{Copy, doubleword_at, first_left, grown, text_words, with_bytes}
 use Rattle.hart_moves.specs.Due.{Due, Return, due}
 use Rattle.hart_moves.specs.Harts.{Frame, HartState, Offered, Phase, Purpose, Resolving}

@@ -1,7 +1,7 @@
 -- Harts that start, and the first hart when the final destructors begin.
 use Rattle.std.specs.Prelude.{ℕ, List, [], ◌∷◌, map, None}
-use Rattle.link_event.specs.declared.handed.Function.{Function}
-use Rattle.link_event.specs.declared.handed.HartEntry.{HartEntry}
+use Rattle.history_event.specs.declared.handed.Function.{Function}
+use Rattle.history_event.specs.declared.handed.HartEntry.{HartEntry}
 use Rattle.rv_hart.specs.Registers.{Registers, starting}
 use Rattle.hart_moves.specs.Harts.{HartState, Phase, Purpose, Resolving}
 use Rattle.hart_moves.specs.Moves.{runs}

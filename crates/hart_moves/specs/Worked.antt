@@ -2,15 +2,15 @@
 use Rattle.std.specs.Prelude.{◌≡◌, ℕ, ◌-◌, ◌^◌, List, [], ◌∷◌, replicate, slice_set, None, Ok, Err, codes}
 use Rattle.ld_base.specs.declared.linking.Choice.TheVariants.{Def}
 use Rattle.ld_base.specs.declared.linking.Role.TheVariants.{None as NoRole, Slot}
-use Rattle.link_event.specs.declared.event.Event.{Event}
-use Rattle.link_event.specs.declared.event.Event.TheVariants.{Ended, Grant, Init}
-use Rattle.link_event.specs.declared.hart_end.HartEnd.TheVariants.{Break, Exit, NotMapped, SlotStore}
+use Rattle.history_event.specs.declared.event.Event.{Event}
+use Rattle.history_event.specs.declared.event.Event.TheVariants.{Ended, Grant, Init}
+use Rattle.history_event.specs.declared.hart_end.HartEnd.TheVariants.{Break, Exit, NotMapped, SlotStore}
 use Rattle.rv_hart.specs.declared.bus.BusFault.TheVariants.{Role as RoleFault}
 use Rattle.rv_hart.specs.declared.bus.Item.{Item}
 use Rattle.rv_hart.specs.declared.bus.Item.TheVariants.{Fetch, Read, Write}
-use Rattle.link_history.specs.FirstMatch as first_match
-use Rattle.link_history.specs.Race as race
-use Rattle.link_history.specs.Setting.{Setting}
+use Rattle.history_state.specs.FirstMatch as first_match
+use Rattle.history_state.specs.Race as race
+use Rattle.history_state.specs.Setting.{Setting}
 use Rattle.hart_moves.specs.Copying.{text_words}
 use Rattle.hart_moves.specs.Harts.{HartState, Naming, Offered, Phase, Purpose, Resolving}
 use Rattle.hart_moves.specs.Moves.{Did, Moves, Trap, ended, role_end, runs, spent, trap_of}

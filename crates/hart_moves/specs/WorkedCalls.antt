@@ -2,21 +2,21 @@
 use Rattle.std.specs.Prelude.{◌≡◌, ℕ, ◌-◌, ◌^◌, List, [], ◌∷◌, replicate, slice_set, None, Some, Ok, Err, true}
 use Rattle.ld_base.specs.declared.fault.Shown.TheVariants.{OpenGrant}
 use Rattle.ld_base.specs.declared.linking.Role.TheVariants.{None as NoRole}
-use Rattle.link_event.specs.declared.event.Event.{Event}
-use Rattle.link_event.specs.declared.event.Event.TheVariants.{Ended, Told, Wrote}
-use Rattle.link_event.specs.declared.handed.Function.{Function}
-use Rattle.link_event.specs.declared.hart_end.HartEnd.TheVariants.{Exit, FuelOut, Memory, Misaligned}
+use Rattle.history_event.specs.declared.event.Event.{Event}
+use Rattle.history_event.specs.declared.event.Event.TheVariants.{Ended, Told, Wrote}
+use Rattle.history_event.specs.declared.handed.Function.{Function}
+use Rattle.history_event.specs.declared.hart_end.HartEnd.TheVariants.{Exit, FuelOut, Memory, Misaligned}
 use Rattle.rv_hart.specs.declared.bus.BusFault.TheVariants.{Role as RoleFault}
 use Rattle.rv_hart.specs.declared.bus.Item.TheVariants.{Read, Write}
-use Rattle.link_history.specs.After.{after}
-use Rattle.link_history.specs.Allowed.{MayEnd}
-use Rattle.link_history.specs.Objects.{object_at}
-use Rattle.link_history.specs.Race as race
-use Rattle.link_history.specs.Setting.{Setting}
-use Rattle.link_history.specs.State.{State}
-use Rattle.link_service.specs.Call.{unmaps}
-use Rattle.link_service.specs.Functions.{preceded}
-use Rattle.link_service.specs.Waiting.{Shows}
+use Rattle.history_state.specs.After.{after}
+use Rattle.history_state.specs.Allowed.{MayEnd}
+use Rattle.history_state.specs.Objects.{object_at}
+use Rattle.history_state.specs.Race as race
+use Rattle.history_state.specs.Setting.{Setting}
+use Rattle.history_state.specs.State.{State}
+use Rattle.history_calls.specs.Call.{unmaps}
+use Rattle.history_calls.specs.Functions.{preceded}
+use Rattle.history_calls.specs.Waiting.{Shows}
 use Rattle.hart_moves.specs.Due.{Due, due}
 use Rattle.hart_moves.specs.Follows.{Follows, Turned}
 use Rattle.hart_moves.specs.Harts.{HartState, Naming, Phase, Purpose, Resolving}

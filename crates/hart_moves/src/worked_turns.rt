@@ -1,14 +1,14 @@
 //! Worked turns: what a hart does, and what it doesn't.
 
 ghost use Rattle.std.specs.Prelude.{List};
-ghost use Rattle.link_event.specs.declared.event.Event.{Event};
-ghost use Rattle.link_history.specs.Setting.{Setting};
+ghost use Rattle.history_event.specs.declared.event.Event.{Event};
+ghost use Rattle.history_state.specs.Setting.{Setting};
 ghost use Rattle.hart_moves.specs.Worked.{CopiesInside, CopiesName, EndsAtRole, EntersSecond, Exchanges, Exits, FindsNoName};
 ghost use Rattle.hart_moves.specs.Worked.{FollowsItself, FollowsWinner, GoesOn, GoesOnWithoutFuel, GrantsGlobal, GrantsTheFirst, HasNoFunction};
 ghost use Rattle.hart_moves.specs.Worked.{RunsWithoutFuel, ServesAtOnce, Starts, StartsEarly, TextWords, Traps};
 ghost use Rattle.hart_moves.specs.WorkedCalls.{CompletesBehind, CopiesNoVersion, CopiesSome, EndsAtPair, EndsForMemory, EntersPreinit};
 ghost use Rattle.hart_moves.specs.WorkedCalls.{PassesClosed, ReadsNothing, SettlesAtEnd, SkipsItsOwn, StoresFirst, StoresLast, WaitsForGrant, WritesSome};
-ghost use Rattle.link_history.specs.State.{State};
+ghost use Rattle.history_state.specs.State.{State};
 
 /// Of two harts at one slot the one that is granted it last may win: its exchange finds the lazy word,
 /// and it goes on at its function. The other finds that address, and goes on there too and not at its

@@ -1,10 +1,10 @@
 -- Where a copied doubleword leaves a hart whose next turn is to copy one.
 use Rattle.std.proofs.Common.{◌≡◌, ℕ, ◌%◌, Bool, true, false, cond, eqb, ltb, List, [], ◌∷◌, length, Option, Some, None, refl, sym, ap, ◌∙◌}
-use Rattle.link_event.specs.declared.handed.Function.{Function}
-use Rattle.link_event.specs.declared.hart_end.HartEnd.{HartEnd}
-use Rattle.link_event.specs.declared.hart_end.HartEnd.TheVariants as ends
-use Rattle.link_history.specs.State.{State}
-use Rattle.link_service.specs.Call as call
+use Rattle.history_event.specs.declared.handed.Function.{Function}
+use Rattle.history_event.specs.declared.hart_end.HartEnd.{HartEnd}
+use Rattle.history_event.specs.declared.hart_end.HartEnd.TheVariants as ends
+use Rattle.history_state.specs.State.{State}
+use Rattle.history_calls.specs.Call as call
 use Rattle.hart_moves.specs.Copying.{Copy, number_in}
 use Rattle.hart_moves.specs.Due.{Due, all_done, at_service, back, behind, by_frames, by_name, by_phase, by_queue, by_resolving, done, due, within_fuel, write_count}
 use Rattle.hart_moves.specs.Harts.{Frame, HartState, Naming, Phase, Purpose, Resolving}

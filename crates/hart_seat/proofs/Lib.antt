@@ -1,3 +1,4 @@
 pub mod Copies
 pub mod Running
 pub mod Taken
+pub mod HartParts

@@ -7,8 +7,8 @@ use Rattle.hart_moves.specs.Due.{name_start, write_count}
 use Rattle.hart_moves.specs.Harts.{HartState, Naming, Phase}
 use Rattle.hart_moves.specs.Moves.{telling}
 use Rattle.hart_moves.specs.Registers.{a0, a1, a2}
-use Rattle.hart_parts.specs.Views.{naming_of}
-use Rattle.hart_parts.specs.declared.due.Naming.{Naming as code_naming}
+use Rattle.hart_seat.specs.HartParts.Views.{naming_of}
+use Rattle.hart_seat.specs.declared.hart_parts.due.Naming.{Naming as code_naming}
 use Rattle.hart_seat.specs.Copied.{copied_phase, more_bytes, with_word}
 use Rattle.hart_seat.specs.Inside.{hart_of}
 use Rattle.hart_seat.specs.Phases.{phase_of, text_word}

@@ -3,7 +3,7 @@ use Rattle.std.specs.Prelude.{◌≡◌, ℕ, ◌+◌, ◌-◌, ◌*◌, ◌/◌
 use Rattle.std.specs.List.{range_with_len}
 use Rattle.seg_image.specs.Words.{word_of}
 use Rattle.hart_moves.specs.Harts.{Phase, Resolving}
-use Rattle.hart_parts.specs.Views.{naming_of, offered_of}
+use Rattle.hart_seat.specs.HartParts.Views.{naming_of, offered_of}
 use Rattle.hart_seat.specs.declared.phase.Phase.{Phase as code_phase}
 use Rattle.hart_seat.specs.declared.phase.Phase.TheVariants as phase
 use Rattle.hart_seat.specs.declared.phase.Resolving.{Resolving as code_resolving}

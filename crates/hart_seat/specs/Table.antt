@@ -1,8 +1,8 @@
 -- What contracts see of a hart that runs with its linker.
 use Rattle.std.specs.Prelude.{ℕ, Option, Some, None}
 use Rattle.hart_moves.specs.Harts.{HartState, Offered, Purpose, Resolving}
-use Rattle.hart_parts.specs.Views.{offered_of}
-use Rattle.hart_parts.specs.declared.due.Offered.{Offered as code_offered}
+use Rattle.hart_seat.specs.HartParts.Views.{offered_of}
+use Rattle.hart_seat.specs.declared.hart_parts.due.Offered.{Offered as code_offered}
 
 pub record HartTable : Type 0 where
   pub hart : HartState

@@ -15,10 +15,10 @@ mod functions;
 mod services;
 mod slot;
 
+use crate::hart_parts::{FunctionQueue, Offered, PassedBytes, start};
 use crate::phase::{Phase, Resolving};
-use hart_parts::{FunctionQueue, Offered, PassedBytes, start};
+use history_event::{HartEnd, HartEntry};
 use ld_base::Name;
-use link_event::{HartEnd, HartEntry};
 use rv_hart::{Bus, Hart, Stop};
 use std::alloc::{AllocError, Global};
 use std::marker::Model;

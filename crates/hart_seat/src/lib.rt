@@ -10,6 +10,12 @@
 #![tactic(auto)]
 
 mod hart;
+mod hart_parts;
 mod phase;
 
 pub use hart::LinkedHart;
+pub use hart_parts::{
+    A0, A1, A2, Call, Copying, Due, FunctionQueue, NEXT_FUNCTION, Naming, Offered, PassedBytes,
+    Purpose, RA, Service, enter_function, first_left, number_at, passed_objects, return_with,
+    service_at, start,
+};

@@ -1,6 +1,6 @@
 //! How far a hart is with what it passes to the linker, and with a slot.
 
-use hart_parts::{Naming, Offered};
+use crate::hart_parts::{Naming, Offered};
 
 /// What a hart has of what it passes. The bytes stand beside it.
 #[derive(Clone, Copy)]

@@ -9,11 +9,11 @@ use Rattle.std.proofs.lemmas.List.Elements.{All-cons, All-contains, All-head, Al
 use Rattle.std.proofs.lemmas.List.Kept.{AllPairs-cons}
 use Rattle.std.proofs.lemmas.List.Sums.{length-filter, sum_by-cons}
 use Rattle.std.proofs.lemmas.List.Sorted.{IsPermutation-refl}
-use Rattle.link_graph.specs.declared.graph.Edge.{Edge}
-use Rattle.link_graph.specs.Reached.{leads_from}
-use Rattle.link_graph.specs.Initialised.{Reaches}
-use Rattle.link_graph.specs.Lemmas.Members.{count_parts}
-use Rattle.link_graph.specs.Lemmas.Pairs.{pairs_front, pairs_head, pairs_last, pairs_tail}
+use Rattle.history_graph.specs.declared.graph.Edge.{Edge}
+use Rattle.history_graph.specs.Reached.{leads_from}
+use Rattle.history_graph.specs.Initialised.{Reaches}
+use Rattle.history_graph.specs.Lemmas.Members.{count_parts}
+use Rattle.history_graph.specs.Lemmas.Pairs.{pairs_front, pairs_head, pairs_last, pairs_tail}
 use Rattle.init_order.specs.declared.walk.Mark.{Mark}
 use Rattle.init_order.specs.declared.walk.Mark.TheVariants.{OnPath, Settled}
 use Rattle.init_order.specs.declared.walk.Step.{Step}

@@ -3,9 +3,9 @@ use Rattle.std.proofs.Common.{◌≡◌, ℕ, zero, suc, ◌*◌, ◌<◌, ◌�
 use Rattle.std.specs.List.{Contains}
 use Rattle.std.proofs.lemmas.Bool.{cases_eq, cases_lt}
 use Rattle.std.proofs.lemmas.List.Elements.{Contains-push_cases}
-use Rattle.link_graph.specs.declared.graph.Edge.{Edge}
-use Rattle.link_graph.specs.Reached.Reached.{root, on}
-use Rattle.link_graph.specs.Initialised.{Reaches}
+use Rattle.history_graph.specs.declared.graph.Edge.{Edge}
+use Rattle.history_graph.specs.Reached.Reached.{root, on}
+use Rattle.history_graph.specs.Initialised.{Reaches}
 use Rattle.init_order.specs.Least.{Blocked}
 use Rattle.init_order.specs.Jobs.{IsLedNeed, IsPlan, IsStartNeed, IsWholeNeed, need, opens, starts, whole}
 use Rattle.init_order.proofs.Results.{some_number}

@@ -4,9 +4,9 @@ use Rattle.std.specs.List.{Contains, filter, list_any}
 use Rattle.std.specs.Ordering.{nat_cmp, is_eq, is_gt}
 use Rattle.std.proofs.lemmas.Bool.{cases_Bool, cases_eq, cases_lt, eq-eqb, eqb-true, le-ltb, ne_eqb, or_cases, true≢false}
 use Rattle.std.proofs.lemmas.List.Elements.{Contains-get_or}
-use Rattle.link_graph.specs.declared.graph.Edge.{Edge}
-use Rattle.link_graph.specs.Reached.{leads_from}
-use Rattle.link_graph.specs.Lemmas.Members.{from_kept, kept}
+use Rattle.history_graph.specs.declared.graph.Edge.{Edge}
+use Rattle.history_graph.specs.Reached.{leads_from}
+use Rattle.history_graph.specs.Lemmas.Members.{from_kept, kept}
 use Rattle.init_order.specs.Least.{AreMet, Blocked, IsPending, flip_of}
 
 -- ---- the order of a set of numbers

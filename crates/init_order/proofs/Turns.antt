@@ -6,8 +6,8 @@ use Rattle.std.proofs.lemmas.Bool.{cases_Bool, cases_eq, cases_lt, eq-eqb, lt-lt
 use Rattle.std.proofs.lemmas.List.{get_or_default, get_or-take, length-take-le, take_at, take-append-le}
 use Rattle.std.proofs.lemmas.List.Elements.{Contains-append_left, Contains-push, Contains-push_cases}
 use Rattle.std.proofs.lemmas.Option.{get_or_from_slice_get, slice_get-get_or, slice_get_within}
-use Rattle.link_graph.specs.declared.graph.Edge.{Edge}
-use Rattle.link_graph.specs.Initialised.{InitNext, InitOrder, IsStrictDependency, MayStart}
+use Rattle.history_graph.specs.declared.graph.Edge.{Edge}
+use Rattle.history_graph.specs.Initialised.{InitNext, InitOrder, IsStrictDependency, MayStart}
 use Rattle.init_order.specs.Least.{Blocked, IsNextTask}
 use Rattle.init_order.specs.Jobs.{AreFirsts, AreStarted, IsLedNeed, IsPlan, IsStartNeed, IsWholeNeed, need, opens, starts, whole}
 use Rattle.init_order.proofs.Firsts.{slice_get-push}

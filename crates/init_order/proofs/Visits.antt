@@ -8,12 +8,12 @@ use Rattle.std.proofs.lemmas.List.{get_or_append_left, get_or_push}
 use Rattle.std.proofs.lemmas.List.Elements.{Contains-append_left, Contains-append_right, Contains-append_cases, Contains-push, Contains-push_cases, Contains-get_or}
 use Rattle.std.proofs.lemmas.List.Quantifiers.{all_pairs_push}
 use Rattle.std.proofs.lemmas.List.Sorted.{Contains-permutation, IsPermutation-sym}
-use Rattle.link_graph.specs.declared.graph.Edge.{Edge}
-use Rattle.link_graph.specs.Reached.{leads_from}
-use Rattle.link_graph.specs.Reached.Reached.{root, on}
-use Rattle.link_graph.specs.Initialised.{Reaches}
-use Rattle.link_graph.specs.Lemmas.Members.{kept, from_kept, mapped, from_mapped}
-use Rattle.link_graph.specs.Lemmas.Pairs.{pairs_join}
+use Rattle.history_graph.specs.declared.graph.Edge.{Edge}
+use Rattle.history_graph.specs.Reached.{leads_from}
+use Rattle.history_graph.specs.Reached.Reached.{root, on}
+use Rattle.history_graph.specs.Initialised.{Reaches}
+use Rattle.history_graph.specs.Lemmas.Members.{kept, from_kept, mapped, from_mapped}
+use Rattle.history_graph.specs.Lemmas.Pairs.{pairs_join}
 use Rattle.init_order.specs.declared.walk.Mark.{Mark}
 use Rattle.init_order.specs.declared.walk.Mark.TheVariants.{OnPath, Settled}
 use Rattle.init_order.specs.declared.walk.Step.{Step}

@@ -6,9 +6,9 @@ use Rattle.std.specs.Option.{is_some}
 use Rattle.std.specs.List.{Contains}
 use Rattle.std.specs.List.Sorted.{IsPermutation}
 use Rattle.std.proofs.lemmas.List.Sorted.{Contains-permutation, IsPermutation-sym}
-use Rattle.link_graph.specs.declared.graph.Edge.{Edge}
-use Rattle.link_graph.specs.Reached.{Reached}
-use Rattle.link_graph.specs.Reached.Reached.{root, on}
+use Rattle.history_graph.specs.declared.graph.Edge.{Edge}
+use Rattle.history_graph.specs.Reached.{Reached}
+use Rattle.history_graph.specs.Reached.Reached.{root, on}
 use Rattle.init_order.specs.declared.components.Components.{Components}
 use Rattle.init_order.specs.declared.walk.Mark.{Mark}
 use Rattle.init_order.specs.declared.walk.Mark.TheVariants.{OnPath, Settled}

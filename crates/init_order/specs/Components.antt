@@ -1,8 +1,8 @@
 -- Strongly connected components, in the order in which nothing waits for a later one.
 use Rattle.std.specs.Prelude.{◌≡◌, ℕ, ◌<◌, ◌≤◌, List, Option, Some, None, IsSome, Contains, nat_eq}
 use Rattle.std.specs.HashMap.{get}
-use Rattle.link_graph.specs.declared.graph.Edge.{Edge}
-use Rattle.link_graph.specs.Initialised.{Reaches}
+use Rattle.history_graph.specs.declared.graph.Edge.{Edge}
+use Rattle.history_graph.specs.Initialised.{Reaches}
 use Rattle.init_order.specs.declared.components.Components.{Components}
 use Rattle.init_order.specs.declared.walk.Mark.{Mark}
 use Rattle.init_order.specs.declared.walk.Mark.TheVariants.{OnPath, Settled}

@@ -2,8 +2,8 @@
 -- and a component is whole when it is open and its objects have started.
 use Rattle.std.specs.Prelude.{◌≡◌, ℕ, ◌+◌, ◌*◌, ◌<◌, ◌≤◌, ◌⊎◌, ◌≢◌, Bool, true, false, AllPairs, List, length, take, Option, Some, Contains, slice_index_or}
 use Rattle.std.specs.List.{slice_get}
-use Rattle.link_graph.specs.declared.graph.Edge.{Edge}
-use Rattle.link_graph.specs.Initialised.{InitNext, InitOrder, Reaches}
+use Rattle.history_graph.specs.declared.graph.Edge.{Edge}
+use Rattle.history_graph.specs.Initialised.{InitNext, InitOrder, Reaches}
 
 -- the numbers of tasks: two for each of so many components, and behind them one for each object
 abbrev pub opens : ℕ → ℕ

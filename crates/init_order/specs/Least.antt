@@ -4,8 +4,8 @@ use Rattle.std.specs.BTreeSet as tree
 use Rattle.std.specs.HashMap as hash
 use Rattle.std.specs.Option.{unwrap_or}
 use Rattle.std.specs.Ordering.{nat_cmp}
-use Rattle.link_graph.specs.declared.graph.Edge.{Edge}
-use Rattle.link_graph.specs.Reached.{leads_from}
+use Rattle.history_graph.specs.declared.graph.Edge.{Edge}
+use Rattle.history_graph.specs.Reached.{leads_from}
 use Rattle.init_order.specs.declared.tasks.Tasks.{Tasks}
 
 -- a task is to be looked at, or isn't done yet

@@ -1,8 +1,8 @@
 -- How a walk stands between two of its steps.
 use Rattle.std.specs.Prelude.{◌≡◌, ℕ, ◌+◌, ◌*◌, ◌<◌, ◌≤◌, ◌⊎◌, not, List, [], ◌∷◌, ◌++◌, length, count_by, Option, Some, is_some, Contains, AllPairs, ◌≢◌}
 use Rattle.std.specs.Prelude.{slice_index_or}
-use Rattle.link_graph.specs.declared.graph.Edge.{Edge}
-use Rattle.link_graph.specs.Initialised.{Reaches}
+use Rattle.history_graph.specs.declared.graph.Edge.{Edge}
+use Rattle.history_graph.specs.Initialised.{Reaches}
 use Rattle.init_order.specs.declared.walk.Mark.{Mark}
 use Rattle.init_order.specs.declared.walk.Mark.TheVariants.{OnPath, Settled}
 use Rattle.init_order.specs.declared.walk.Step.{Step}

@@ -5,8 +5,8 @@ ghost use Rattle.init_order.specs.Components.{AreComponents, number_of};
 ghost use Rattle.init_order.specs.Walked.{IsWalked};
 
 use crate::walk::{Mark, Walk};
+use history_graph::{Graph, Successors};
 use ld_base::Serial;
-use link_graph::{Graph, Successors};
 use std::alloc::{AllocError, Global};
 use std::collections::HashMap;
 

@@ -1,15 +1,15 @@
 //! The order of initialisation.
 
 ghost use Rattle.std.specs.Prelude.{◌≡◌, ◌==◌, ◌+◌, ◌++◌, ℕ, filter, length, nat_lt, not, IfOk, OnOk};
-ghost use Rattle.link_graph.specs.Initialised.{InitOrder, program_last};
+ghost use Rattle.history_graph.specs.Initialised.{InitOrder, program_last};
 ghost use Rattle.init_order.specs.Jobs.{AreFirsts, AreInTurn};
 ghost use Rattle.init_order.specs.Least.{ArePending, is_left};
 
 use crate::components::components_of;
 use crate::needs::needs_of;
 use crate::tasks::Tasks;
+use history_graph::Graph;
 use ld_base::Serial;
-use link_graph::Graph;
 use std::alloc::{AllocError, Global};
 use std::collections::HashSet;
 

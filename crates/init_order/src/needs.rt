@@ -5,8 +5,8 @@ ghost use Rattle.init_order.specs.Components.{number_of};
 ghost use Rattle.init_order.specs.Jobs.{Adds, IsLedNeed, IsNeed, IsStartNeed, IsWholeNeed, need};
 
 use crate::components::Components;
+use history_graph::{Edge, Graph};
 use ld_base::Serial;
-use link_graph::{Edge, Graph};
 use std::alloc::{AllocError, Global};
 
 /// What the tasks need of one another: those of the objects of a line, and of their components.

@@ -2,7 +2,7 @@
 
 ghost use Rattle.std.specs.Prelude.{◌≡◌, ℕ, IfOk, filter, nat_eq, reverse};
 ghost use Rattle.std.specs.HashSet.{contains};
-ghost use Rattle.link_graph.specs.Initialised.{fini_list, is_one_of};
+ghost use Rattle.history_graph.specs.Initialised.{fini_list, is_one_of};
 
 use ld_base::Serial;
 use std::alloc::{AllocError, Global};

@@ -6,12 +6,12 @@ ghost use Rattle.std.specs.BTreeSet as tree;
 ghost use Rattle.std.specs.BTreeSet.{btree_set_len};
 ghost use Rattle.std.specs.List.Sorted.{IsPermutation};
 ghost use Rattle.std.specs.Ordering.{nat_cmp};
-ghost use Rattle.link_graph.specs.declared.graph.Edge.{Edge as edge};
-ghost use Rattle.link_graph.specs.Reached.{leads_from};
+ghost use Rattle.history_graph.specs.declared.graph.Edge.{Edge as edge};
+ghost use Rattle.history_graph.specs.Reached.{leads_from};
 ghost use Rattle.init_order.specs.Least.{AreMet, ArePending, Blocked, IsNextTask, flip_of, is_left, is_ready, met_of};
 
+use history_graph::{Edge, Successors};
 use ld_base::Serial;
-use link_graph::{Edge, Successors};
 use std::alloc::{AllocError, Global};
 use std::collections::{BTreeSet, HashMap};
 

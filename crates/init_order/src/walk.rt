@@ -7,8 +7,8 @@ ghost use Rattle.std.specs.HashMap.{get};
 ghost use Rattle.init_order.specs.Walked.{Grows, IsWalked, Walked, work, work_of};
 ghost use Rattle.init_order.specs.Walking.{DropsBehind, IsCut, at, is_in, step_of};
 
+use history_graph::{Edge, Successors};
 use ld_base::Serial;
-use link_graph::{Edge, Successors};
 use std::alloc::{AllocError, Global};
 use std::collections::HashMap;
 

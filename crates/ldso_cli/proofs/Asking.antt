@@ -3,11 +3,11 @@ use Rattle.std.proofs.Common.{◌≡◌, ◌⊎◌, inl, inr, ⊎_elim, ℕ, Lis
 use Rattle.std.specs.Prelude.{IfOk}
 use Rattle.std.proofs.lemmas.Bool.{true≢false}
 use Rattle.std.specs.declared.alloc.AllocError.{AllocError}
-use Rattle.command_line.specs.Reads.{OneCommand, Reads}
-use Rattle.command_line.specs.declared.command.Command.{Command}
-use Rattle.command_line.specs.declared.command.Command.TheVariants as commands
-use Rattle.command_line.specs.declared.command.Turns.{Turns}
-use Rattle.link_service.specs.Startup.{harts_of}
+use Rattle.cli_words.specs.Reads.{OneCommand, Reads}
+use Rattle.cli_words.specs.declared.command.Command.{Command}
+use Rattle.cli_words.specs.declared.command.Command.TheVariants as commands
+use Rattle.cli_words.specs.declared.command.Turns.{Turns}
+use Rattle.history_calls.specs.Startup.{harts_of}
 use Rattle.ldso_cli.proofs.Schedules.{Schedule, told_schedule}
 use Rattle.ldso_cli.specs.Asked.{Asks, CanBeDone, OfAsked}
 use Rattle.ldso_cli.specs.Command.{Answers, AsScheduled, IsUsage, LeavesLibrary}

@@ -7,8 +7,8 @@ use Rattle.ld_base.specs.declared.fault.DlFault.TheVariants as dl
 use Rattle.ld_base.specs.declared.linking.File.{File}
 use Rattle.library_source.specs.Count.{Rises}
 use Rattle.library_source.specs.Files.{file_at}
-use Rattle.asm_denotes.specs.Denotes.{Denotes, AsmBroken}
-use Rattle.command_line.specs.declared.command.Command.TheVariants as commands
+use Rattle.asm_layout.specs.AsmDenotes.Denotes.{Denotes, AsmBroken}
+use Rattle.cli_words.specs.declared.command.Command.TheVariants as commands
 use Rattle.ldso_cli.specs.Asm.{SourceRead, source, missing, failed, SourceComes, ReadsSource, GivesCause, AsmComes, AsmPrints, IsOfFile}
 use Rattle.ldso_cli.specs.Command.{Answers, EndsBare}
 use Rattle.ldso_cli.specs.End.{bare}

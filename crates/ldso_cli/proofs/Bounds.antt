@@ -1,10 +1,10 @@
 -- How many harts and turns words may ask for.
 use Rattle.std.proofs.Common.{ℕ, ◌^◌, ◌≤◌, List, length, Option, Some, None, sym, subst, arith}
-use Rattle.command_line.specs.Reads.{Reads}
-use Rattle.command_line.specs.Values.{AreHarts, IsFuel}
-use Rattle.command_line.specs.declared.command.Command.TheVariants as commands
-use Rattle.command_line.specs.declared.command.Turns.{Turns}
-use Rattle.link_service.specs.Startup.{harts_of}
+use Rattle.cli_words.specs.Reads.{Reads}
+use Rattle.cli_words.specs.Values.{AreHarts, IsFuel}
+use Rattle.cli_words.specs.declared.command.Command.TheVariants as commands
+use Rattle.cli_words.specs.declared.command.Turns.{Turns}
+use Rattle.history_calls.specs.Startup.{harts_of}
 
 few_names : (given : Option (List ℕ)) (names : List (List ℕ)) → AreHarts given names → length names ≤ 15
 few_names None names are = subst (λ (l : List (List ℕ)). length l ≤ 15) (sym are) (omega arith)

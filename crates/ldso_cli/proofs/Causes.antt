@@ -8,17 +8,17 @@ use Rattle.ld_base.specs.declared.fault.DlFault.TheVariants as dl
 use Rattle.ld_base.specs.declared.linking.File.{File}
 use Rattle.library_source.specs.Count.{Rises}
 use Rattle.library_source.specs.Files.{AreFiles, file_at}
-use Rattle.run_texts.specs.declared.run_end.RunEnd.{RunEnd}
-use Rattle.run_texts.specs.declared.run_end.RunEnd.TheVariants.{Exited, Ended}
+use Rattle.trace_text.specs.declared.run_texts.run_end.RunEnd.{RunEnd}
+use Rattle.trace_text.specs.declared.run_texts.run_end.RunEnd.TheVariants.{Exited, Ended}
 use Rattle.scope_rule.specs.Finding.{Reading, here, unaccepted, absent, failed}
-use Rattle.command_text.specs.Refusal.{first_refusal}
-use Rattle.command_line.specs.declared.command.Bind.{Bind}
-use Rattle.command_line.specs.declared.command.Command.{Command}
-use Rattle.command_line.specs.declared.command.Command.TheVariants as commands
+use Rattle.cli_text.specs.Refusal.{first_refusal}
+use Rattle.cli_words.specs.declared.command.Bind.{Bind}
+use Rattle.cli_words.specs.declared.command.Command.{Command}
+use Rattle.cli_words.specs.declared.command.Command.TheVariants as commands
 use Rattle.ldso_cli.proofs.Told.{never_rises}
 use Rattle.ldso_cli.specs.Asm.{SourceRead, SourceComes, ReadsSource, GivesCause}
 use Rattle.ldso_cli.specs.Bind.{BindComes, cause_of, namespace_of}
-use Rattle.command_line.specs.declared.command.Turns.{Turns}
+use Rattle.cli_words.specs.declared.command.Turns.{Turns}
 use Rattle.ldso_cli.specs.Command.{Answers, CommandAnswers, Misses}
 use Rattle.ldso_cli.specs.Dump.{DumpComes, ReadsAs, dump_cause}
 use Rattle.ldso_cli.specs.End.{bare}

@@ -12,10 +12,10 @@ use Rattle.load_walk.specs.declared.ask.LoadAsk.{LoadAsk}
 use Rattle.scope_rule.specs.Needed.{version_fault}
 use Rattle.scope_rule.specs.Finding.{Reading, here, unaccepted, absent, failed}
 use Rattle.scope_rule.specs.Load.{Brings, Load, Stop, Stops, Walk, records_of, refuses}
-use Rattle.command_text.specs.Refusal.{first_refusal}
-use Rattle.command_line.specs.declared.command.Bind.{Bind}
-use Rattle.command_line.specs.declared.command.Command.{Command}
-use Rattle.command_line.specs.declared.command.Command.TheVariants as commands
+use Rattle.cli_text.specs.Refusal.{first_refusal}
+use Rattle.cli_words.specs.declared.command.Bind.{Bind}
+use Rattle.cli_words.specs.declared.command.Command.{Command}
+use Rattle.cli_words.specs.declared.command.Command.TheVariants as commands
 use Rattle.ldso_cli.proofs.Assembling.{SourceLaw, asm_end}
 use Rattle.ldso_cli.proofs.Same.{OneWalk, one_list}
 use Rattle.ldso_cli.specs.Bind.{IsLoaded, IsNotLoaded, ask_of, cause_of, namespace_of, program_load}

@@ -18,7 +18,7 @@ use Rattle.library_source.specs.declared.library.ReadError.TheVariants.{Missing}
 use Rattle.load_walk.specs.Files.{as_read}
 use Rattle.library_source.specs.Files.{Over}
 use Rattle.scope_rule.specs.Finding.{Reading, here, unaccepted, absent, failed}
-use Rattle.command_line.specs.declared.command.Command.TheVariants as commands
+use Rattle.cli_words.specs.declared.command.Command.TheVariants as commands
 use Rattle.ldso_cli.specs.Command.{Answers}
 use Rattle.ldso_cli.specs.Dump.{ReadsAs, DumpPrints, dump_cause, program_read, reading_text}
 use Rattle.ldso_cli.specs.End.{bare}

@@ -34,13 +34,13 @@ use Rattle.scope_rule.specs.declared.namespace.Namespace.{Namespace}
 use Rattle.ldso_cli.specs.declared.outcome.Cause.{Cause}
 use Rattle.ldso_cli.specs.declared.outcome.Cause.TheVariants as causes
 use Rattle.ldso_cli.specs.declared.outcome.End.{End}
-use Rattle.command_line.specs.declared.command.Bind.{Bind}
-use Rattle.command_line.specs.declared.command.Command.TheVariants as commands
+use Rattle.cli_words.specs.declared.command.Bind.{Bind}
+use Rattle.cli_words.specs.declared.command.Command.TheVariants as commands
 use Rattle.ldso_cli.specs.Bind.{BindComes, BindPrints, Loads, ask_of, cause_of, namespace_of, nothing_loaded, objects_text, program_load, unopened}
 use Rattle.ldso_cli.specs.Command.{Answers}
 use Rattle.ldso_cli.specs.End.{bare}
 use Rattle.ldso_cli.specs.Outside.{LibraryAt}
-use Rattle.command_text.specs.Refusal.{is_missing, missing_symbol, refusal_at, first_missing, refusal_of, first_refusal}
+use Rattle.cli_text.specs.Refusal.{is_missing, missing_symbol, refusal_at, first_missing, refusal_of, first_refusal}
 use Rattle.ldso_cli.specs.Status.{refused_text}
 
 -- ---- a load that has to wait

@@ -5,18 +5,18 @@ use Rattle.ld_base.specs.declared.fault.DlFault.{DlFault}
 use Rattle.ld_base.specs.declared.fault.DlFault.TheVariants as dl
 use Rattle.ld_base.specs.declared.linking.File.{File}
 use Rattle.library_source.specs.Count.{Rises}
-use Rattle.link_history.specs.Legal.{Legal, Whole}
-use Rattle.link_history.specs.Setting.{Setting}
-use Rattle.link_served.specs.declared.startup.Setup.{Setup}
-use Rattle.link_service.specs.Laws.{FailsLegal, StartsOrFails, is_read_fault}
+use Rattle.history_state.specs.Legal.{Legal, Whole}
+use Rattle.history_state.specs.Setting.{Setting}
+use Rattle.history_calls.specs.declared.link_served.startup.Setup.{Setup}
+use Rattle.history_calls.specs.Laws.{FailsLegal, StartsOrFails, is_read_fault}
 use Rattle.link_startup.specs.Startup.{CanStart}
-use Rattle.opening_plan.specs.Startup.{run_of}
-use Rattle.run_moments.specs.Laws.{RunsAreTrue}
-use Rattle.run_texts.specs.declared.record.RunRecord.{RunRecord}
-use Rattle.run_texts.specs.declared.run_end.RunEnd.{RunEnd}
-use Rattle.schedules.specs.declared.schedule.TurnItem.{TurnItem}
+use Rattle.link_open_plan.specs.Startup.{run_of}
+use Rattle.world_laws.specs.RunMoments.Laws.{RunsAreTrue}
+use Rattle.trace_text.specs.declared.run_texts.record.RunRecord.{RunRecord}
+use Rattle.trace_text.specs.declared.run_texts.run_end.RunEnd.{RunEnd}
+use Rattle.world_turns.specs.declared.schedules.schedule.TurnItem.{TurnItem}
 use Rattle.world_turns.specs.Throughout.{RunsAreSound}
-use Rattle.world_whole.specs.Laws.{RunsAreWhole}
+use Rattle.world_laws.specs.WorldWhole.Laws.{RunsAreWhole}
 use Rattle.ldso_cli.proofs.Turning.{Accepts}
 use Rattle.ldso_cli.specs.Laws.{LeavesLegal, LeavesTrue, LeavesWhole, RunsWhereItMay}
 use Rattle.ldso_cli.specs.Outside.{LibraryAt}

@@ -3,11 +3,11 @@ use Rattle.std.proofs.Common.{◌≡◌, ℕ, Bool, List, sym, ap, ◌∙◌}
 use Rattle.ld_base.specs.declared.linking.File.{File}
 use Rattle.ld_base.specs.declared.linking.Loaded.{Loaded}
 use Rattle.scope_rule.specs.Load.{Brings, Load, Walk, records_of}
-use Rattle.command_text.specs.DumpLines.{dump_text}
-use Rattle.command_text.specs.Lines.{bound_text}
-use Rattle.command_line.specs.declared.command.Bind.{Bind}
-use Rattle.command_line.specs.declared.command.Command.{Command}
-use Rattle.command_line.specs.declared.command.Command.TheVariants as commands
+use Rattle.cli_text.specs.DumpLines.{dump_text}
+use Rattle.cli_text.specs.Lines.{bound_text}
+use Rattle.cli_words.specs.declared.command.Bind.{Bind}
+use Rattle.cli_words.specs.declared.command.Command.{Command}
+use Rattle.cli_words.specs.declared.command.Command.TheVariants as commands
 use Rattle.ldso_cli.proofs.Assembling.{OneObject, asm_text}
 use Rattle.ldso_cli.specs.Bind.{BindPrints, IsBound, Loads, namespace_of, program_load}
 use Rattle.ldso_cli.specs.Command.{Prints}

@@ -12,8 +12,8 @@ use Rattle.std.specs.Fmt.{decimal}
 use Rattle.std.specs.List.{All, Contains, slice_index_or, slice_split, join_with_byte}
 use Rattle.std.specs.Str.{IsAscii, IsUtf8, bytes_eq}
 use Rattle.std.specs.Str.Parse.{AllDigits}
-use Rattle.schedules.specs.Grammar.{AreItems, IsItem, SaysTurns, parts_of}
-use Rattle.schedules.specs.declared.schedule.TurnItem.{TurnItem}
+use Rattle.world_turns.specs.SchedulesPart.Grammar.{AreItems, IsItem, SaysTurns, parts_of}
+use Rattle.world_turns.specs.declared.schedules.schedule.TurnItem.{TurnItem}
 
 -- ---- one list of items
 

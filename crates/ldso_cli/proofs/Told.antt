@@ -4,12 +4,12 @@ use Rattle.std.specs.Prelude.{IfOk}
 use Rattle.std.specs.declared.alloc.AllocError.{AllocError}
 use Rattle.ld_base.specs.declared.linking.File.{File}
 use Rattle.library_source.specs.Count.{Rises}
-use Rattle.command_line.specs.declared.command.Turns.{Turns}
+use Rattle.cli_words.specs.declared.command.Turns.{Turns}
 use Rattle.lib_gen.specs.Library.{SetState}
 use Rattle.lib_gen.specs.Set.{AreSetOf}
-use Rattle.link_served.specs.declared.startup.Setup.{Setup}
-use Rattle.run_texts.specs.Printed.{journal_lines}
-use Rattle.schedules.specs.declared.schedule.TurnItem.{TurnItem}
+use Rattle.history_calls.specs.declared.link_served.startup.Setup.{Setup}
+use Rattle.trace_text.specs.RunTexts.Printed.{journal_lines}
+use Rattle.world_turns.specs.declared.schedules.schedule.TurnItem.{TurnItem}
 use Rattle.ldso_cli.specs.End.{kept_end}
 use Rattle.ldso_cli.specs.Generate.{GenComes, set_at, set_cause, set_setup, set_text}
 use Rattle.ldso_cli.specs.Outside.{LibraryAt}

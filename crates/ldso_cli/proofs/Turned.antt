@@ -3,25 +3,25 @@ use Rattle.std.proofs.Common.{◌≡◌, inl, inr, suc, Bool, List, [], ◌∷�
 use Rattle.ld_base.specs.declared.fault.DlFault.{DlFault}
 use Rattle.ld_base.specs.declared.fault.DlFault.TheVariants as dl
 use Rattle.ld_base.specs.declared.linking.File.{File}
-use Rattle.call_laws.specs.Coming.{IsOver}
-use Rattle.call_laws.specs.Counts.{ArePathsAtStart, ShowsInCounts}
+use Rattle.history_calls.specs.CallLaws.Coming.{IsOver}
+use Rattle.history_calls.specs.CallLaws.Counts.{ArePathsAtStart, ShowsInCounts}
 use Rattle.hart_moves.specs.Harts.{HartState}
 use Rattle.hart_moves.specs.Starting.{starting_registers}
-use Rattle.lawful_journal.specs.Following.{machine_of}
-use Rattle.link_event.specs.declared.event.Event.{Event}
-use Rattle.link_event.specs.declared.hart_end.HartEnd.{HartEnd}
-use Rattle.link_history.specs.Setting.{Setting}
-use Rattle.link_served.specs.declared.startup.Setup.{Setup}
-use Rattle.link_service.specs.Startup.{FailsToStart, harts_of}
-use Rattle.opening_plan.specs.Startup.{run_of}
+use Rattle.history_journal.specs.Following.{machine_of}
+use Rattle.history_event.specs.declared.event.Event.{Event}
+use Rattle.history_event.specs.declared.hart_end.HartEnd.{HartEnd}
+use Rattle.history_state.specs.Setting.{Setting}
+use Rattle.history_calls.specs.declared.link_served.startup.Setup.{Setup}
+use Rattle.history_calls.specs.Startup.{FailsToStart, harts_of}
+use Rattle.link_open_plan.specs.Startup.{run_of}
 use Rattle.plain_world.specs.Ends.{AreEndsOf}
 use Rattle.plain_world.specs.Laws.{PlayedIsRun}
 use Rattle.plain_world.specs.Playing.{InEachRun, Plays}
 use Rattle.plain_world.specs.Started.{StartsAt}
 use Rattle.plain_world.specs.Table.{WorldTable}
-use Rattle.run_texts.specs.declared.record.RunRecord.{RunRecord}
-use Rattle.run_texts.specs.declared.run_end.RunEnd.{RunEnd}
-use Rattle.schedules.specs.declared.schedule.TurnItem.{TurnItem}
+use Rattle.trace_text.specs.declared.run_texts.record.RunRecord.{RunRecord}
+use Rattle.trace_text.specs.declared.run_texts.run_end.RunEnd.{RunEnd}
+use Rattle.world_turns.specs.declared.schedules.schedule.TurnItem.{TurnItem}
 use Rattle.world_turns.specs.Counts.{Counts, CountsJoin, ShowInCounts}
 use Rattle.world_turns.specs.Run.{Run}
 use Rattle.world_turns.specs.World.{World}

@@ -4,19 +4,19 @@ use Rattle.ld_base.specs.declared.fault.DlFault.{DlFault}
 use Rattle.ld_base.specs.declared.fault.DlFault.TheVariants as dl
 use Rattle.ld_base.specs.declared.linking.File.{File}
 use Rattle.elf_object.specs.Verdict.{object_verdict}
-use Rattle.link_event.specs.declared.hart_end.HartEnd.{HartEnd}
-use Rattle.link_history.specs.Accepted.{AcceptsOnly}
-use Rattle.link_history.specs.Setting.{Machine}
-use Rattle.link_served.specs.declared.startup.Setup.{Setup}
-use Rattle.link_service.specs.Laws.{FailsOneWay, StartsOrFails, is_read_fault}
-use Rattle.opening_plan.specs.Startup.{run_of}
-use Rattle.run_once.specs.Laws.{OneRun}
-use Rattle.run_texts.specs.Counting.{counts_of}
-use Rattle.run_texts.specs.Ends.{IsRunEnd}
-use Rattle.run_texts.specs.declared.record.RunRecord.{RunRecord}
-use Rattle.run_texts.specs.declared.run_end.RunEnd.{RunEnd}
-use Rattle.schedules.specs.declared.schedule.TurnItem.{TurnItem}
-use Rattle.turn_once.specs.Laws.{NothingFails}
+use Rattle.history_event.specs.declared.hart_end.HartEnd.{HartEnd}
+use Rattle.history_state.specs.Accepted.{AcceptsOnly}
+use Rattle.history_state.specs.Setting.{Machine}
+use Rattle.history_calls.specs.declared.link_served.startup.Setup.{Setup}
+use Rattle.history_calls.specs.Laws.{FailsOneWay, StartsOrFails, is_read_fault}
+use Rattle.link_open_plan.specs.Startup.{run_of}
+use Rattle.world_laws.specs.RunOnce.Laws.{OneRun}
+use Rattle.trace_text.specs.RunTexts.Counting.{counts_of}
+use Rattle.trace_text.specs.RunTexts.Ends.{IsRunEnd}
+use Rattle.trace_text.specs.declared.run_texts.record.RunRecord.{RunRecord}
+use Rattle.trace_text.specs.declared.run_texts.run_end.RunEnd.{RunEnd}
+use Rattle.world_turns.specs.declared.schedules.schedule.TurnItem.{TurnItem}
+use Rattle.world_laws.specs.TurnOnce.Laws.{NothingFails}
 use Rattle.world_turns.specs.World.{World}
 use Rattle.ldso_cli.specs.End.{AreOneEnd, KeepOne, ShowOne, kept_end}
 use Rattle.ldso_cli.specs.Played.{IsNotRun, IsRun, LeavesRun}

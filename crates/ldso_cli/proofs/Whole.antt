@@ -9,22 +9,22 @@ use Rattle.ld_base.specs.declared.fault.DlFault.{DlFault}
 use Rattle.ld_base.specs.declared.linking.File.{File}
 use Rattle.library_source.specs.Count.{Rises, RisesBy}
 use Rattle.library_source.specs.Files.{Over}
-use Rattle.command_line.specs.declared.command.Command.{Command}
-use Rattle.command_line.specs.declared.command.Command.TheVariants as commands
-use Rattle.command_line.specs.declared.command.Turns.{Turns}
-use Rattle.command_line.specs.Reads.{OneCommand}
+use Rattle.cli_words.specs.declared.command.Command.{Command}
+use Rattle.cli_words.specs.declared.command.Command.TheVariants as commands
+use Rattle.cli_words.specs.declared.command.Turns.{Turns}
+use Rattle.cli_words.specs.Reads.{OneCommand}
 use Rattle.lib_gen.specs.Set.{AreSetOf}
-use Rattle.link_event.specs.declared.event.Event.{Event}
-use Rattle.link_event.specs.declared.event.Event.TheVariants as events
-use Rattle.link_event.specs.declared.event.OpenAnswer.TheVariants as openings
-use Rattle.link_served.specs.declared.startup.Setup.{Setup}
-use Rattle.link_service.specs.Laws.{is_read_fault}
-use Rattle.link_service.specs.Startup.{harts_of}
-use Rattle.run_texts.specs.Printed.{journal_lines}
-use Rattle.run_texts.specs.declared.record.RunRecord.{RunRecord}
-use Rattle.run_texts.specs.declared.run_end.RunEnd.{RunEnd}
-use Rattle.schedules.specs.declared.schedule.TurnItem.{TurnItem}
-use Rattle.turn_once.specs.Laws.{NothingFails, is_from_outside}
+use Rattle.history_event.specs.declared.event.Event.{Event}
+use Rattle.history_event.specs.declared.event.Event.TheVariants as events
+use Rattle.history_event.specs.declared.event.OpenAnswer.TheVariants as openings
+use Rattle.history_calls.specs.declared.link_served.startup.Setup.{Setup}
+use Rattle.history_calls.specs.Laws.{is_read_fault}
+use Rattle.history_calls.specs.Startup.{harts_of}
+use Rattle.trace_text.specs.RunTexts.Printed.{journal_lines}
+use Rattle.trace_text.specs.declared.run_texts.record.RunRecord.{RunRecord}
+use Rattle.trace_text.specs.declared.run_texts.run_end.RunEnd.{RunEnd}
+use Rattle.world_turns.specs.declared.schedules.schedule.TurnItem.{TurnItem}
+use Rattle.world_laws.specs.TurnOnce.Laws.{NothingFails, is_from_outside}
 use Rattle.world_turns.specs.Counts.{is_refused_for, read_faults}
 use Rattle.ldso_cli.proofs.Asking.{one_asked}
 use Rattle.ldso_cli.proofs.Assembling.{SourceLaw}

@@ -3,7 +3,7 @@ use Rattle.std.proofs.Common.{inl, inr, Option, Result, Ok, Err}
 use Rattle.std.specs.Prelude.{IfOk}
 use Rattle.std.specs.Result.{MatchResult}
 use Rattle.std.specs.declared.alloc.AllocError.{AllocError}
-use Rattle.command_line.specs.declared.command.Command.{Command}
+use Rattle.cli_words.specs.declared.command.Command.{Command}
 use Rattle.ldso_cli.specs.Command.{Answers}
 use Rattle.ldso_cli.specs.Ends.{Ends, Handing, IsUnanswered, Written}
 use Rattle.ldso_cli.specs.Outside.{LibraryAt, SinkAt}

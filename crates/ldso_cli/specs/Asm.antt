@@ -4,7 +4,7 @@ use Rattle.ld_base.specs.declared.fault.DlFault.TheVariants as dl
 use Rattle.ld_base.specs.declared.linking.File.{File}
 use Rattle.library_source.specs.Count.{Rises}
 use Rattle.library_source.specs.Files.{file_at}
-use Rattle.asm_denotes.specs.Denotes.{Denotes, AsmBroken}
+use Rattle.asm_layout.specs.AsmDenotes.Denotes.{Denotes, AsmBroken}
 use Rattle.ldso_cli.specs.Outside.{LibraryAt}
 use Rattle.ldso_cli.specs.Status.{refused_text, asm_refused_text}
 use Rattle.ldso_cli.specs.declared.outcome.Cause.{Cause}

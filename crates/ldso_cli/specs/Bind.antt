@@ -17,9 +17,9 @@ use Rattle.load_walk.specs.Plan.{IsMissed, StopsFor}
 use Rattle.load_walk.specs.declared.ask.LoadAsk.{LoadAsk}
 use Rattle.ldso_cli.specs.declared.outcome.Cause.{Cause}
 use Rattle.ldso_cli.specs.declared.outcome.Cause.TheVariants as causes
-use Rattle.command_line.specs.declared.command.Bind.{Bind}
-use Rattle.command_text.specs.Lines.{bound_text}
-use Rattle.command_text.specs.Refusal.{first_refusal}
+use Rattle.cli_words.specs.declared.command.Bind.{Bind}
+use Rattle.cli_text.specs.Lines.{bound_text}
+use Rattle.cli_text.specs.Refusal.{first_refusal}
 use Rattle.ldso_cli.specs.Outside.{LibraryAt}
 use Rattle.ldso_cli.specs.Status.{refused_text}
 

@@ -4,9 +4,9 @@ use Rattle.ld_base.specs.declared.fault.DlFault.TheVariants as dl
 use Rattle.ld_base.specs.declared.linking.File.{File}
 use Rattle.library_source.specs.Count.{Rises}
 use Rattle.library_source.specs.Files.{Over}
-use Rattle.command_line.specs.declared.command.Command.{Command}
-use Rattle.command_line.specs.declared.command.Command.TheVariants as commands
-use Rattle.command_line.specs.declared.command.Turns.{Turns}
+use Rattle.cli_words.specs.declared.command.Command.{Command}
+use Rattle.cli_words.specs.declared.command.Command.TheVariants as commands
+use Rattle.cli_words.specs.declared.command.Turns.{Turns}
 use Rattle.ldso_cli.specs.Asm.{AsmComes, AsmPrints}
 use Rattle.ldso_cli.specs.Bind.{BindComes, BindMisses, BindPrints}
 use Rattle.ldso_cli.specs.Dump.{DumpComes, DumpPrints}

@@ -9,7 +9,7 @@ use Rattle.library_source.specs.Files.{file_at}
 use Rattle.elf_object.specs.Verdict.{object_verdict}
 use Rattle.load_walk.specs.Files.{as_read}
 use Rattle.scope_rule.specs.Finding.{Reading, here, unaccepted, absent, failed}
-use Rattle.command_text.specs.DumpLines.{dump_text}
+use Rattle.cli_text.specs.DumpLines.{dump_text}
 use Rattle.ldso_cli.specs.Outside.{LibraryAt}
 use Rattle.ldso_cli.specs.Status.{refused_text}
 use Rattle.ldso_cli.specs.declared.outcome.Cause.{Cause}

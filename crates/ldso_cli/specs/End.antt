@@ -1,7 +1,7 @@
 -- How a command ends.
 use Rattle.std.specs.Prelude.{◌≡◌, List, [], Option, Some, None}
-use Rattle.link_event.specs.declared.event.Event.{Event}
-use Rattle.run_texts.specs.declared.record.RunRecord.{RunRecord}
+use Rattle.history_event.specs.declared.event.Event.{Event}
+use Rattle.trace_text.specs.declared.run_texts.record.RunRecord.{RunRecord}
 use Rattle.ldso_cli.specs.declared.outcome.Cause.{Cause}
 use Rattle.ldso_cli.specs.declared.outcome.End.{End}
 use Rattle.ldso_cli.specs.declared.outcome.Outcome.{Outcome}

@@ -8,11 +8,11 @@ use Rattle.library_source.specs.Count.{Rises}
 use Rattle.library_source.specs.Writing.{TakesFront}
 use Rattle.library_source.specs.declared.sink.WriteError.{WriteError}
 use Rattle.library_source.specs.declared.sink.WriteError.TheVariants as writes
-use Rattle.command_line.specs.Reads.{Reads}
-use Rattle.command_line.specs.declared.command.Command.{Command}
-use Rattle.link_event.specs.declared.event.Event.{Event}
-use Rattle.link_event.specs.declared.event.Event.TheVariants.{Ended}
-use Rattle.link_service.specs.Laws.{is_memory}
+use Rattle.cli_words.specs.Reads.{Reads}
+use Rattle.cli_words.specs.declared.command.Command.{Command}
+use Rattle.history_event.specs.declared.event.Event.{Event}
+use Rattle.history_event.specs.declared.event.Event.TheVariants.{Ended}
+use Rattle.history_calls.specs.Laws.{is_memory}
 use Rattle.ldso_cli.specs.Asked.{OfAsked}
 use Rattle.ldso_cli.specs.Command.{Answers, AreTold, Misses, ReadsWell}
 use Rattle.ldso_cli.specs.End.{AreOneEnd, bare, events_kept}

@@ -4,13 +4,13 @@ use Rattle.ld_base.specs.declared.fault.DlFault.{DlFault}
 use Rattle.ld_base.specs.declared.linking.File.{File}
 use Rattle.lib_gen.specs.Set.{AreSetOf}
 use Rattle.lib_gen.specs.Summary.{summary_line}
-use Rattle.link_event.specs.declared.event.Event.{Event}
-use Rattle.link_served.specs.declared.startup.Setup.{Setup}
-use Rattle.run_texts.specs.Counting.{counts_of}
-use Rattle.run_texts.specs.Ends.{end_line}
-use Rattle.run_texts.specs.declared.record.RunRecord.{RunRecord}
-use Rattle.run_texts.specs.declared.run_end.RunEnd.{RunEnd}
-use Rattle.run_texts.specs.declared.run_end.RunEnd.TheVariants.{Exited, Ended}
+use Rattle.history_event.specs.declared.event.Event.{Event}
+use Rattle.history_calls.specs.declared.link_served.startup.Setup.{Setup}
+use Rattle.trace_text.specs.RunTexts.Counting.{counts_of}
+use Rattle.trace_text.specs.RunTexts.Ends.{end_line}
+use Rattle.trace_text.specs.declared.run_texts.record.RunRecord.{RunRecord}
+use Rattle.trace_text.specs.declared.run_texts.run_end.RunEnd.{RunEnd}
+use Rattle.trace_text.specs.declared.run_texts.run_end.RunEnd.TheVariants.{Exited, Ended}
 use Rattle.ldso_cli.specs.End.{kept_end}
 use Rattle.ldso_cli.specs.Outside.{LibraryAt}
 use Rattle.ldso_cli.specs.Played.{IsPlayed, last_line, run_cause}

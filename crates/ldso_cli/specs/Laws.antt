@@ -3,14 +3,14 @@ use Rattle.std.specs.Prelude.{◌≡◌, List, Option, Result, Some}
 use Rattle.ld_base.specs.declared.fault.DlFault.{DlFault}
 use Rattle.ld_base.specs.declared.linking.File.{File}
 use Rattle.library_source.specs.Count.{Rises}
-use Rattle.link_history.specs.Legal.{Legal, Whole}
-use Rattle.link_served.specs.declared.startup.Setup.{Setup}
+use Rattle.history_state.specs.Legal.{Legal, Whole}
+use Rattle.history_calls.specs.declared.link_served.startup.Setup.{Setup}
 use Rattle.link_startup.specs.Startup.{CanStart}
-use Rattle.opening_plan.specs.Startup.{run_of}
-use Rattle.run_moments.specs.Laws.{IsTrueThroughout}
-use Rattle.run_texts.specs.declared.record.RunRecord.{RunRecord}
-use Rattle.run_texts.specs.declared.run_end.RunEnd.{RunEnd}
-use Rattle.schedules.specs.declared.schedule.TurnItem.{TurnItem}
+use Rattle.link_open_plan.specs.Startup.{run_of}
+use Rattle.world_laws.specs.RunMoments.Laws.{IsTrueThroughout}
+use Rattle.trace_text.specs.declared.run_texts.record.RunRecord.{RunRecord}
+use Rattle.trace_text.specs.declared.run_texts.run_end.RunEnd.{RunEnd}
+use Rattle.world_turns.specs.declared.schedules.schedule.TurnItem.{TurnItem}
 use Rattle.ldso_cli.specs.Outside.{LibraryAt}
 use Rattle.ldso_cli.specs.Played.{IsPlayed, IsRun}
 

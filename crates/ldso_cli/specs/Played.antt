@@ -4,16 +4,16 @@ use Rattle.ld_base.specs.declared.fault.DlFault.{DlFault}
 use Rattle.ld_base.specs.declared.fault.DlFault.TheVariants as dl
 use Rattle.ld_base.specs.declared.linking.File.{File}
 use Rattle.library_source.specs.Count.{Rises}
-use Rattle.call_laws.specs.Counts.{AreMissed, ArePathsAtStart}
-use Rattle.link_event.specs.declared.event.Event.{Event}
-use Rattle.link_served.specs.declared.startup.Setup.{Setup}
-use Rattle.link_service.specs.Startup.{FailsToStart}
-use Rattle.opening_plan.specs.Startup.{run_of}
+use Rattle.history_calls.specs.CallLaws.Counts.{AreMissed, ArePathsAtStart}
+use Rattle.history_event.specs.declared.event.Event.{Event}
+use Rattle.history_calls.specs.declared.link_served.startup.Setup.{Setup}
+use Rattle.history_calls.specs.Startup.{FailsToStart}
+use Rattle.link_open_plan.specs.Startup.{run_of}
 use Rattle.plain_world.specs.Ends.{AreEndsOf}
-use Rattle.run_texts.specs.Ends.{IsRunEnd, end_line}
-use Rattle.run_texts.specs.declared.record.RunRecord.{RunRecord}
-use Rattle.run_texts.specs.declared.run_end.RunEnd.{RunEnd}
-use Rattle.schedules.specs.declared.schedule.TurnItem.{TurnItem}
+use Rattle.trace_text.specs.RunTexts.Ends.{IsRunEnd, end_line}
+use Rattle.trace_text.specs.declared.run_texts.record.RunRecord.{RunRecord}
+use Rattle.trace_text.specs.declared.run_texts.run_end.RunEnd.{RunEnd}
+use Rattle.world_turns.specs.declared.schedules.schedule.TurnItem.{TurnItem}
 use Rattle.world_turns.specs.Counts.{ShowInCounts}
 use Rattle.world_turns.specs.Run.{Run}
 use Rattle.world_turns.specs.World.{World}

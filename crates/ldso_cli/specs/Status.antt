@@ -6,7 +6,7 @@ use Rattle.ld_base.specs.declared.fault.AsmCause.{AsmCause}
 use Rattle.ld_base.specs.declared.fault.AsmCause.TheVariants as asm
 use Rattle.ld_base.specs.declared.fault.DlFault.{DlFault}
 use Rattle.ld_base.specs.declared.fault.DlFault.TheVariants as dl
-use Rattle.run_texts.specs.Ends.{run_status}
+use Rattle.trace_text.specs.RunTexts.Ends.{run_status}
 use Rattle.ldso_cli.specs.declared.outcome.Cause.{Cause}
 use Rattle.ldso_cli.specs.declared.outcome.Cause.TheVariants as causes
 use Rattle.ldso_cli.specs.declared.outcome.End.{End}

@@ -1,13 +1,13 @@
 -- What turns comes to.
 use Rattle.std.specs.Prelude.{◌≡◌, ℕ, List, ◌++◌, Result}
 use Rattle.ld_base.specs.declared.fault.DlFault.{DlFault}
-use Rattle.command_line.specs.declared.command.Turns.{Turns}
-use Rattle.link_service.specs.Startup.{harts_of}
-use Rattle.run_texts.specs.Printed.{journal_lines}
-use Rattle.run_texts.specs.declared.record.RunRecord.{RunRecord}
-use Rattle.run_texts.specs.declared.run_end.RunEnd.{RunEnd}
-use Rattle.schedules.specs.Grammar.{SaysTurns}
-use Rattle.schedules.specs.declared.schedule.TurnItem.{TurnItem}
+use Rattle.cli_words.specs.declared.command.Turns.{Turns}
+use Rattle.history_calls.specs.Startup.{harts_of}
+use Rattle.trace_text.specs.RunTexts.Printed.{journal_lines}
+use Rattle.trace_text.specs.declared.run_texts.record.RunRecord.{RunRecord}
+use Rattle.trace_text.specs.declared.run_texts.run_end.RunEnd.{RunEnd}
+use Rattle.world_turns.specs.SchedulesPart.Grammar.{SaysTurns}
+use Rattle.world_turns.specs.declared.schedules.schedule.TurnItem.{TurnItem}
 use Rattle.ldso_cli.specs.End.{kept_end}
 use Rattle.ldso_cli.specs.Outside.{LibraryAt}
 use Rattle.ldso_cli.specs.Played.{IsPlayed, last_line, run_cause}

@@ -7,7 +7,7 @@ ghost use Rattle.ldso_cli.specs.Outside.{library_at};
 
 use crate::answer::{Answer, asm_refused, assembled, refused};
 use asm_object::{AsmFault, assemble};
-use command_line::Command;
+use cli_words::Command;
 use ld_base::{DlFault, Name};
 use library_source::{Library, ReadError};
 use std::alloc::{AllocError, Global};

@@ -7,8 +7,8 @@ ghost use Rattle.ldso_cli.specs.End.{bare};
 ghost use Rattle.ldso_cli.specs.Outside.{library_at};
 
 use crate::answer::{Answer, done, refused};
-use command_line::Command;
-use command_text::dump_text;
+use cli_text::dump_text;
+use cli_words::Command;
 use elf_object::read_object;
 use ld_base::{DlFault, Name, ReadFault};
 use library_source::{Library, ReadError};

@@ -8,12 +8,12 @@ ghost use Rattle.ldso_cli.specs.Generate.{GenComes, exit_code, set_cause, set_li
 use crate::answer::Answer;
 use crate::outcome::{Cause, End};
 use crate::play::{Played, last_line, play, run_cause};
+use history_calls::Setup;
 use ld_base::{Bytes, DlFault, Name, Names};
 use lib_gen::{SetLibrary, library_set, summary_line};
-use link_served::Setup;
-use run_texts::RunEnd;
-use schedules::Turns;
 use std::alloc::{AllocError, Global};
+use trace_text::RunEnd;
+use world_turns::Turns;
 
 /// How many turns the program has.
 const FUEL: u64 = 1_000_000;

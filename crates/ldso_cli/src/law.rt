@@ -2,24 +2,22 @@
 
 ghost use Rattle.std.specs.Prelude.{◌≡◌, ℕ, List};
 ghost use Rattle.ld_base.specs.declared.linking.File.{File};
-ghost use Rattle.command_line.specs.declared.command.Command.{Command};
+ghost use Rattle.cli_words.specs.declared.command.Command.{Command};
 ghost use Rattle.ldso_cli.specs.Command.{Comes, NoReadFails, Prints};
 ghost use Rattle.ldso_cli.specs.Ends.{ComeToOne, IsUndisturbed, RunAt};
 ghost use Rattle.ldso_cli.specs.Laws.{LeavesLegal, LeavesTrue, LeavesWhole, RunsWhereItMay};
 ghost use Rattle.ldso_cli.specs.Outside.{LibraryAt, handed_to};
 ghost use Rattle.ldso_cli.specs.declared.outcome.End.{End};
 
-use accepted_image::accepted_object;
-use command_line::words_are_one_command;
+use cli_words::words_are_one_command;
+use history_calls::{one_startup, served_calls_are_legal};
+use history_journal::accepted_object;
 use lib_gen::one_set;
 use library_source::Sink;
-use link_service::{one_startup, served_calls_are_legal};
-use run_moments::moments_are_true;
-use run_once::runs_are_one;
-use run_texts::one_run_end;
 use scope_rule::one_outcome;
+use trace_text::one_run_end;
+use world_laws::{moments_are_true, runs_are_one, runs_are_whole};
 use world_turns::runs_stay_sound;
-use world_whole::runs_are_whole;
 
 /// The words and the files decide what a call of the command comes to, where the library tells its
 /// files, neither it nor the sink fails, and memory suffices, in a run that it makes, too: one status,
@@ -31,7 +29,7 @@ pub fn one_answer<K: Sink, J: Sink>()
 {
     words_are_one_command();
     one_outcome();
-    asm_denotes::one_answer();
+    asm_layout::one_answer();
     one_set();
     runs_are_one();
     one_startup();
@@ -45,7 +43,7 @@ pub fn one_end()
         Comes command before after files first → NoReadFails first → Comes command before' after' files second → NoReadFails second → first ≡ second }
 {
     one_outcome();
-    asm_denotes::one_answer();
+    asm_layout::one_answer();
 }
 
 /// Over the same files such a command prints one text at an end.
@@ -54,7 +52,7 @@ pub fn one_text()
         Prints command files end first → Prints command files end second → first ≡ second }
 {
     one_outcome();
-    asm_denotes::one_answer();
+    asm_layout::one_answer();
 }
 
 /// The journal that a run leaves is one legal history, over the files as its library tells them; and that

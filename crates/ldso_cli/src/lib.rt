@@ -3,7 +3,7 @@
 //! libraries that a number makes.
 //!
 //! [`ldso`] is the whole of it, over any library of files and any sink of bytes. Which command words are
-//! stands in `command_line`, and what its texts are in `command_text`.
+//! stands in `cli_words`, and what its texts are in `cli_text`.
 #![tactic(auto)]
 
 mod answer;

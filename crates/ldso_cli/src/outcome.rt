@@ -6,8 +6,8 @@ ghost use Rattle.ldso_cli.specs.End.{bare, end_of};
 ghost use Rattle.ldso_cli.specs.Status.{refused_text, status_of, status_of_cause, status_of_fault};
 
 use ld_base::{AsmCause, DlFault};
-use run_texts::{RunEnd, RunRecord};
 use std::alloc::{AllocError, Global};
+use trace_text::{RunEnd, RunRecord};
 
 /// Why the command ends.
 #[derive(Debug, Drop)]

@@ -4,20 +4,19 @@ ghost use Rattle.std.specs.Prelude.{◌≡◌, ◌<◌, ◌≤◌, ◌^◌, Cont
 ghost use Rattle.std.specs.String.{string_bytes};
 ghost use Rattle.ldso_cli.specs.Outside.{library_at};
 ghost use Rattle.ldso_cli.specs.Played.{IsPlayed, LeavesRefusal, LeavesRun, last_line, run_cause};
-ghost use Rattle.link_service.specs.Startup.{harts_of};
-ghost use Rattle.schedules.specs.declared.schedule.TurnItem.{TurnItem};
+ghost use Rattle.history_calls.specs.Startup.{harts_of};
+ghost use Rattle.world_turns.specs.declared.schedules.schedule.TurnItem.{TurnItem};
 ghost use Rattle.world_turns.specs.Run.{have_ended};
 
 use crate::outcome::{Cause, refused_line};
+use history_calls::{Setup, StartFault};
+use history_event::{Ends, Journal};
 use ld_base::DlFault;
 use library_source::Library;
-use link_event::{Ends, Journal};
-use link_served::{Setup, StartFault};
 use plain_world::{World, played_worlds_are_runs};
-use run_texts::{RunEnd, RunRecord};
-use schedules::Turns;
 use std::alloc::{AllocError, Global};
-use world_turns::counts_show;
+use trace_text::{RunEnd, RunRecord};
+use world_turns::{Turns, counts_show};
 
 /// A run that is over.
 #[derive(Debug, Drop)]

@@ -1,7 +1,7 @@
 //! The top call.
 
 ghost use Rattle.std.specs.Prelude.{◌≡◌, ◌≤◌, IfOk, MatchResult};
-ghost use Rattle.said_words.specs.Words.{texts};
+ghost use Rattle.cli_read.specs.SaidWords.Words.{texts};
 ghost use Rattle.ldso_cli.specs.Asked.{OfAsked};
 ghost use Rattle.ldso_cli.specs.Command.{Answers, LeavesLibrary};
 ghost use Rattle.ldso_cli.specs.End.{end_of};
@@ -16,8 +16,8 @@ use crate::dump::dump;
 use crate::generate::generate;
 use crate::outcome::{Cause, End, Outcome};
 use crate::turns::turns;
-use command_line::{Command, words_are_one_command};
-use command_read::{WordsFault, read_command};
+use cli_read::{WordsFault, read_command};
+use cli_words::{Command, words_are_one_command};
 use library_source::{Library, Sink, WriteError, put_all};
 use std::alloc::{AllocError, Global};
 use std::sync::Wait;

@@ -6,24 +6,24 @@ ghost use Rattle.ldso_cli.specs.End.{kept_end};
 ghost use Rattle.ldso_cli.specs.Outside.{library_at};
 ghost use Rattle.ldso_cli.specs.Played.{last_line, run_cause};
 ghost use Rattle.ldso_cli.specs.Turns.{IsScheduled, Schedules, TurnsComes};
-ghost use Rattle.link_service.specs.Startup.{harts_of};
-ghost use Rattle.run_texts.specs.Printed.{journal_lines};
-ghost use Rattle.schedule_read.specs.declared.fault.TurnsFault.TheVariants.{NotTurns};
-ghost use Rattle.schedules.specs.Grammar.{SaysTurns};
-ghost use Rattle.schedules.specs.declared.schedule.TurnItem.{TurnItem};
+ghost use Rattle.history_calls.specs.Startup.{harts_of};
+ghost use Rattle.trace_text.specs.RunTexts.Printed.{journal_lines};
+ghost use Rattle.cli_read.specs.declared.schedule_read.fault.TurnsFault.TheVariants.{NotTurns};
+ghost use Rattle.world_turns.specs.SchedulesPart.Grammar.{SaysTurns};
+ghost use Rattle.world_turns.specs.declared.schedules.schedule.TurnItem.{TurnItem};
 ghost use Rattle.trace_text.specs.Lines.{IsSayable};
 
 use crate::answer::{Answer, usage};
 use crate::outcome::End;
 use crate::play::{Played, last_line, play, run_cause};
-use accepted_image::accepted_object;
-use command_line::Turns;
+use cli_read::{TurnsFault, read_turns};
+use cli_words::Turns;
+use history_calls::served_calls_are_legal;
+use history_journal::accepted_object;
 use ld_base::Name;
 use library_source::Library;
-use link_service::served_calls_are_legal;
-use run_texts::{events_are_sayable, journal_text};
-use schedule_read::{TurnsFault, read_turns};
 use std::alloc::{AllocError, Global};
+use trace_text::{events_are_sayable, journal_text};
 use world_turns::runs_stay_sound;
 
 /// The items of a written schedule of so many harts.
@@ -31,7 +31,7 @@ use world_turns::runs_stay_sound;
 /// # Errors
 ///
 /// `NotTurns` where it is none, or want of memory.
-fn items_of(alloc: Global, schedule: &Name, harts: u32) -> Result<schedules::Turns, TurnsFault>
+fn items_of(alloc: Global, schedule: &Name, harts: u32) -> Result<world_turns::Turns, TurnsFault>
     ensures says { IfOk result (SaysTurns harts schedule.now) }
     ensures not_turns { IfErr result (λ fault. fault ≡ NotTurns → (items : List TurnItem) → SaysTurns harts schedule.now items → ⊥) }
 {
@@ -61,7 +61,7 @@ fn told(alloc: Global, played: Played) -> Result<Answer, AllocError>
 fn of_items<L: Library>(
     alloc: Global,
     command: &Turns,
-    items: &schedules::Turns,
+    items: &world_turns::Turns,
     library: &mut L,
 ) -> Result<Answer, AllocError>
     requires few { harts_of command.now.setup < 2 ^ 32 }

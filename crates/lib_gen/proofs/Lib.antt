@@ -1,1 +1,4 @@
 pub mod Sets
+pub mod GeneratedSources
+pub mod GeneratedLines
+pub mod GeneratedDenotes

@@ -2,7 +2,7 @@
 use Rattle.std.proofs.Common.{◌≡◌, ℕ, List, [], ◌∷◌, refl, sym, ◌∙◌}
 use Rattle.std.specs.List.{AllZip}
 use Rattle.ld_base.specs.declared.linking.File.{File}
-use Rattle.asm_denotes.specs.Denotes.{Denotes}
+use Rattle.asm_layout.specs.AsmDenotes.Denotes.{Denotes}
 use Rattle.lib_gen.specs.Set.{IsObjectOf}
 
 -- what is known: a source has one object

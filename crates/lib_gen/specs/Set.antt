@@ -2,8 +2,8 @@
 use Rattle.std.specs.Prelude.{◌≡◌, ℕ, List}
 use Rattle.std.specs.List.{AllZip}
 use Rattle.ld_base.specs.declared.linking.File.{File}
-use Rattle.asm_denotes.specs.Denotes.{Denotes}
-use Rattle.generated_sources.specs.Sources.{sources}
+use Rattle.asm_layout.specs.AsmDenotes.Denotes.{Denotes}
+use Rattle.lib_gen.specs.GeneratedSources.Sources.{sources}
 
 -- a file is the object of a source: it stands at the source's path, and its bytes are those that the source denotes
 pub record IsObjectOf (source file : File) : Type 0 where

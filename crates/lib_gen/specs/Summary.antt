@@ -1,8 +1,8 @@
 -- The line that sums up the run of a generated set.
 use Rattle.std.specs.Prelude.{ℕ, List, [], ◌∷◌, ◌++◌, Option, Some, None, codes}
 use Rattle.std.specs.Fmt.{decimal}
-use Rattle.generated_sources.specs.Shape.{library_count, symbol_count}
-use Rattle.run_texts.specs.declared.record.Counts.{Counts}
+use Rattle.lib_gen.specs.GeneratedSources.Shape.{library_count, symbol_count}
+use Rattle.trace_text.specs.declared.run_texts.record.Counts.{Counts}
 
 -- libraries, symbols and slots are as many as the number makes
 abbrev pub set_words : ℕ → List ℕ

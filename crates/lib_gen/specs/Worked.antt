@@ -1,6 +1,6 @@
 -- Worked summaries.
 use Rattle.std.specs.Prelude.{ℕ, ◌*◌, List, [], ◌∷◌, ◌++◌, codes}
-use Rattle.run_texts.specs.declared.record.Counts.{Counts}
+use Rattle.trace_text.specs.declared.run_texts.record.Counts.{Counts}
 
 -- a journal with so many slots, each granted and bound
 abbrev pub all_bound : ℕ → Counts

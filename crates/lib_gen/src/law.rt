@@ -8,5 +8,5 @@ ghost use Rattle.lib_gen.specs.Set.{AreSetOf};
 pub fn one_set()
     ensures { (number : ℕ) (first second : List File) → AreSetOf number first → AreSetOf number second → first ≡ second }
 {
-    asm_denotes::one_answer();
+    asm_layout::one_answer();
 }

@@ -1,12 +1,12 @@
 //! The files of a set.
 
 ghost use Rattle.std.specs.Prelude.{IfOk};
-ghost use Rattle.generated_denotes.specs.Accepted.{IsUnrefused};
+ghost use Rattle.lib_gen.specs.GeneratedDenotes.Accepted.{IsUnrefused};
 ghost use Rattle.lib_gen.specs.Set.{AreSetOf, IsObjectOf};
 
+use crate::generated_denotes::sources_denote;
+use crate::generated_sources::sources;
 use asm_object::{AsmFault, assemble};
-use generated_denotes::sources_denote;
-use generated_sources::sources;
 use ld_base::{Bytes, File, Files};
 use std::alloc::{AllocError, Global};
 

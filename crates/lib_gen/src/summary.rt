@@ -2,13 +2,13 @@
 
 ghost use Rattle.std.specs.Prelude.{◌≡◌, [], ◌∷◌, ◌++◌, IfOk, OnOk};
 ghost use Rattle.std.specs.String.{string_bytes};
-ghost use Rattle.generated_sources.specs.Shape.{symbol_count};
+ghost use Rattle.lib_gen.specs.GeneratedSources.Shape.{symbol_count};
 ghost use Rattle.lib_gen.specs.Summary.{run_words, set_words, summary_line};
 
-use generated_sources::{function_count, library_count};
-use run_texts::Counts;
+use crate::generated_sources::{function_count, library_count};
 use std::alloc::{AllocError, Global};
 use std::fmt;
+use trace_text::Counts;
 
 /// The code with which a run exited, as its summary says it.
 #[derive(Clone, Copy)]

@@ -1,31 +1,31 @@
 -- What a closing comes to.
 use Rattle.std.proofs.Common.{◌≡◌, ◌≢◌, ℕ, List, [], ◌∷◌, Result, Ok, Err, IfOk, OnOk, refl, sym, ap, subst, ◌∙◌}
-use Rattle.call_laws.specs.Coming.{IsOn}
-use Rattle.call_laws.specs.Laws.{ClosingKeepsImages, ClosingKeepsOrder}
-use Rattle.lawful_journal.specs.Following.{MayFollow, machine_of}
+use Rattle.history_calls.specs.CallLaws.Coming.{IsOn}
+use Rattle.history_calls.specs.CallLaws.Laws.{ClosingKeepsImages, ClosingKeepsOrder}
+use Rattle.history_journal.specs.Following.{MayFollow, machine_of}
 use Rattle.ld_base.specs.declared.fault.DlFault.TheVariants.{BadHandle}
-use Rattle.link_event.specs.declared.event.Ask.TheVariants as asks
-use Rattle.link_event.specs.declared.event.CloseAnswer.TheVariants as closings
-use Rattle.link_event.specs.declared.event.Event.{Event}
-use Rattle.link_event.specs.declared.event.Event.TheVariants.{Close}
-use Rattle.link_event.specs.declared.handed.Dying.{Dying}
-use Rattle.link_event.specs.declared.handed.Function.{Function}
-use Rattle.link_history.specs.After.{after}
-use Rattle.link_history.specs.Allowed.{Closes, IsBadHandle}
-use Rattle.link_history.specs.Setting.{Setting}
-use Rattle.link_history.specs.State.{State}
-use Rattle.link_history.specs.Step.{step}
-use Rattle.link_history.specs.Lemmas.History.{after_push}
-use Rattle.link_served.specs.declared.served.Served.{Served}
-use Rattle.link_served.specs.declared.served.Served.TheVariants as served
-use Rattle.link_service.specs.Answer.{returns}
-use Rattle.link_service.specs.Call.{closes}
-use Rattle.link_service.specs.Functions.{AreAddresses, AreDestructors, destructors}
-use Rattle.link_service.specs.Gives.{Gives, by_event, dies, is_not_closed, stays}
-use Rattle.link_service.specs.Served.{IsClosing}
+use Rattle.history_event.specs.declared.event.Ask.TheVariants as asks
+use Rattle.history_event.specs.declared.event.CloseAnswer.TheVariants as closings
+use Rattle.history_event.specs.declared.event.Event.{Event}
+use Rattle.history_event.specs.declared.event.Event.TheVariants.{Close}
+use Rattle.history_event.specs.declared.handed.Dying.{Dying}
+use Rattle.history_event.specs.declared.handed.Function.{Function}
+use Rattle.history_state.specs.After.{after}
+use Rattle.history_state.specs.Allowed.{Closes, IsBadHandle}
+use Rattle.history_state.specs.Setting.{Setting}
+use Rattle.history_state.specs.State.{State}
+use Rattle.history_state.specs.Step.{step}
+use Rattle.history_state.specs.Lemmas.History.{after_push}
+use Rattle.history_calls.specs.declared.link_served.served.Served.{Served}
+use Rattle.history_calls.specs.declared.link_served.served.Served.TheVariants as served
+use Rattle.history_calls.specs.Answer.{returns}
+use Rattle.history_calls.specs.Call.{closes}
+use Rattle.history_calls.specs.Functions.{AreAddresses, AreDestructors, destructors}
+use Rattle.history_calls.specs.Gives.{Gives, by_event, dies, is_not_closed, stays}
+use Rattle.history_calls.specs.Served.{IsClosing}
 use Rattle.link_state.specs.Table.{LinkTable, appended}
-use Rattle.linker_lists.specs.Events.{refusal}
-use Rattle.linker_lists.specs.Lemmas.Held.{follows}
+use Rattle.link_holds.specs.Events.{refusal}
+use Rattle.link_holds.specs.Lemmas.Held.{follows}
 use Rattle.link_calls.specs.Coming.{ComesIn}
 use Rattle.link_calls.proofs.Refused.{nothing_came, refused_so}
 

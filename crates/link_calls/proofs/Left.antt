@@ -3,16 +3,16 @@ use Rattle.std.proofs.Common.{◌≡◌, ℕ, true, List, [], ◌∷◌, cond, m
 use Rattle.std.specs.Prelude.{IsSome, Option, Bool}
 use Rattle.std.specs.List.{Contains, filter}
 use Rattle.ld_base.specs.declared.linking.Loaded.{Loaded}
-use Rattle.link_event.specs.declared.handed.Function.{Function}
-use Rattle.link_graph.specs.Initialised.{is_one_of}
-use Rattle.link_history.specs.Laws.{FindsImage}
-use Rattle.link_history.specs.Links.{unfinished}
-use Rattle.link_history.specs.Memory.{image_of}
-use Rattle.link_history.specs.Objects.{IsMapped, mapped, serial_of}
-use Rattle.link_history.specs.State.{Linked, State}
-use Rattle.link_history.specs.Lemmas.Finalised.{from_reverse}
-use Rattle.link_history.specs.Lemmas.Lists.{here, in_flat, in_has, in_map, later}
-use Rattle.link_service.specs.Functions.{AreFinalDestructors, AreOf, destructors, object_of}
+use Rattle.history_event.specs.declared.handed.Function.{Function}
+use Rattle.history_graph.specs.Initialised.{is_one_of}
+use Rattle.history_state.specs.Laws.{FindsImage}
+use Rattle.history_state.specs.Links.{unfinished}
+use Rattle.history_state.specs.Memory.{image_of}
+use Rattle.history_state.specs.Objects.{IsMapped, mapped, serial_of}
+use Rattle.history_state.specs.State.{Linked, State}
+use Rattle.history_state.specs.Lemmas.Finalised.{from_reverse}
+use Rattle.history_state.specs.Lemmas.Lists.{here, in_flat, in_has, in_map, later}
+use Rattle.history_calls.specs.Functions.{AreFinalDestructors, AreOf, destructors, object_of}
 use Rattle.scope_rule.specs.declared.namespace.Namespace.{Namespace}
 
 is_there : (s : State) (d : ℕ) → (is : IsMapped s d) → Contains (mapped s) is.object

@@ -6,3 +6,4 @@ pub mod Opened
 pub mod Refused
 pub mod Told
 pub mod Unfinished
+pub mod LinkOpening

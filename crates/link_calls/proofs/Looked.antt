@@ -3,27 +3,27 @@ use Rattle.std.proofs.Common.{◌≡◌, ℕ, ◌<◌, ◌≤◌, Bool, true, fa
 use Rattle.std.specs.Prelude.{IsTrue}
 use Rattle.std.proofs.lemmas.Bool.{leb-false, leb-true}
 use Rattle.std.proofs.lemmas.List.{length-take-le, take_all}
-use Rattle.call_laws.specs.Coming.{IsOn}
-use Rattle.lawful_journal.specs.Following.{MayFollow, machine_of}
+use Rattle.history_calls.specs.CallLaws.Coming.{IsOn}
+use Rattle.history_journal.specs.Following.{MayFollow, machine_of}
 use Rattle.ld_base.specs.declared.fault.DlFault.{DlFault}
 use Rattle.ld_base.specs.declared.linking.Want.TheVariants.{Dlsym, Dlvsym}
-use Rattle.link_event.specs.declared.event.Ask.TheVariants as asks
-use Rattle.link_event.specs.declared.event.Event.TheVariants.{Sym}
-use Rattle.link_event.specs.declared.event.SymAnswer.TheVariants as syms
-use Rattle.link_event.specs.declared.event.SymAsk.{SymAsk}
-use Rattle.link_history.specs.After.{after}
-use Rattle.link_history.specs.Asking.{is_too_long}
-use Rattle.link_history.specs.Lookup.{RefusesSymbol}
-use Rattle.link_history.specs.Objects.{has_namespace}
-use Rattle.link_served.specs.declared.served.Served.{Served}
-use Rattle.link_served.specs.declared.served.Served.TheVariants as served
-use Rattle.link_service.specs.Call.{Call, asked_version, looks_up}
-use Rattle.link_service.specs.Gives.{is_not_found}
+use Rattle.history_event.specs.declared.event.Ask.TheVariants as asks
+use Rattle.history_event.specs.declared.event.Event.TheVariants.{Sym}
+use Rattle.history_event.specs.declared.event.SymAnswer.TheVariants as syms
+use Rattle.history_event.specs.declared.event.SymAsk.{SymAsk}
+use Rattle.history_state.specs.After.{after}
+use Rattle.history_state.specs.Asking.{is_too_long}
+use Rattle.history_state.specs.Lookup.{RefusesSymbol}
+use Rattle.history_state.specs.Objects.{has_namespace}
+use Rattle.history_calls.specs.declared.link_served.served.Served.{Served}
+use Rattle.history_calls.specs.declared.link_served.served.Served.TheVariants as served
+use Rattle.history_calls.specs.Call.{Call, asked_version, looks_up}
+use Rattle.history_calls.specs.Gives.{is_not_found}
 use Rattle.link_state.specs.Looking.{IsLookedUp}
 use Rattle.link_state.specs.Table.{LinkTable, appended}
-use Rattle.linker_lists.specs.Events.{refusal}
-use Rattle.linker_lists.specs.Lemmas.Held.{follows}
-use Rattle.symbol_search.specs.Asking.{ask_of}
+use Rattle.link_holds.specs.Events.{refusal}
+use Rattle.link_holds.specs.Lemmas.Held.{follows}
+use Rattle.link_search.specs.Asking.{ask_of}
 use Rattle.link_calls.specs.Coming.{LooksUpIn}
 use Rattle.link_calls.proofs.Refused.{nothing_came, refused_so}
 

@@ -4,12 +4,12 @@ use Rattle.std.specs.List.{Contains, flat_map}
 use Rattle.std.specs.Option.{option_map}
 use Rattle.std.proofs.lemmas.List.{append-nil, length-map, length-take}
 use Rattle.std.proofs.lemmas.Option.{slice_get-map}
-use Rattle.call_laws.specs.Coming.{Comes, IsOver, refusal_of}
-use Rattle.call_laws.specs.Counts.{FaultsShow, ShowsInCounts}
-use Rattle.call_laws.specs.Laws.{AreNumberedFrom, NewEdgesSuffice, NumberedByPlace, WholeUnlessReadsFail}
+use Rattle.history_calls.specs.CallLaws.Coming.{Comes, IsOver, refusal_of}
+use Rattle.history_calls.specs.CallLaws.Counts.{FaultsShow, ShowsInCounts}
+use Rattle.history_calls.specs.CallLaws.Laws.{AreNumberedFrom, NewEdgesSuffice, NumberedByPlace, WholeUnlessReadsFail}
 use Rattle.elf_object.specs.Verdict.{object_verdict}
-use Rattle.image_reads.specs.Reads.{ArePrepared}
-use Rattle.lawful_journal.specs.Following.{MayFollow, machine_of}
+use Rattle.link_images.specs.ImageReads.Reads.{ArePrepared}
+use Rattle.history_journal.specs.Following.{MayFollow, machine_of}
 use Rattle.ld_base.specs.declared.fault.DlFault.{DlFault}
 use Rattle.ld_base.specs.declared.fault.Shown.{Shown}
 use Rattle.ld_base.specs.declared.linking.Choice.{Choice}
@@ -17,44 +17,44 @@ use Rattle.ld_base.specs.declared.linking.File.{File}
 use Rattle.ld_base.specs.declared.linking.Loaded.{Loaded}
 use Rattle.ld_base.specs.declared.object.Object.{Object}
 use Rattle.ld_base.specs.declared.parts.HashTable.{HashTable}
-use Rattle.link_event.specs.declared.event.Ask.TheVariants as asks
-use Rattle.link_event.specs.declared.event.Event.{Event}
-use Rattle.link_event.specs.declared.event.Event.TheVariants.{Open}
-use Rattle.link_event.specs.declared.event.OpenAnswer.TheVariants.{Absent, Done}
-use Rattle.link_event.specs.declared.event.OpenAsk.{OpenAsk}
-use Rattle.link_event.specs.declared.event.Range.{Range}
-use Rattle.link_event.specs.declared.handed.Function.{Function}
-use Rattle.link_graph.specs.Initialised.{InitOrder, program_last}
-use Rattle.link_history.specs.Accepted.{IsAccepted}
-use Rattle.link_history.specs.After.{after}
-use Rattle.link_history.specs.Allowed.{Allowed}
-use Rattle.link_history.specs.Legal.{Lawful}
-use Rattle.link_history.specs.Lemmas.Lists.{at_in}
-use Rattle.link_history.specs.Links.{found_edges}
-use Rattle.link_history.specs.Objects.{serial_of}
-use Rattle.link_history.specs.Opening.{IsAbsent, IsRefused, Opens}
-use Rattle.link_history.specs.Read.{WasRead}
-use Rattle.link_history.specs.Setting.{Setting}
-use Rattle.link_history.specs.State.{State}
-use Rattle.link_opening.specs.Planned.{IsOpenPlan}
-use Rattle.link_opening.specs.declared.planning.OpenPlan.{OpenPlan}
-use Rattle.link_served.specs.declared.installs.Installs.{Installs}
-use Rattle.link_served.specs.declared.served.Served.{Served}
-use Rattle.link_served.specs.declared.served.Served.TheVariants as served
-use Rattle.link_service.specs.Answer.{returns as returning}
-use Rattle.link_service.specs.Call.{Call, opens}
-use Rattle.link_service.specs.Functions.{AreConstructors, AreOf, constructors, object_of}
-use Rattle.link_service.specs.Gives.{by_event, is_absent, is_loaded, is_not_opened, is_there, to_again}
-use Rattle.link_service.specs.Served.{AreInstalls}
-use Rattle.link_service.specs.Waiting.{Waits, by_load}
+use Rattle.history_event.specs.declared.event.Ask.TheVariants as asks
+use Rattle.history_event.specs.declared.event.Event.{Event}
+use Rattle.history_event.specs.declared.event.Event.TheVariants.{Open}
+use Rattle.history_event.specs.declared.event.OpenAnswer.TheVariants.{Absent, Done}
+use Rattle.history_event.specs.declared.event.OpenAsk.{OpenAsk}
+use Rattle.history_event.specs.declared.event.Range.{Range}
+use Rattle.history_event.specs.declared.handed.Function.{Function}
+use Rattle.history_graph.specs.Initialised.{InitOrder, program_last}
+use Rattle.history_state.specs.Accepted.{IsAccepted}
+use Rattle.history_state.specs.After.{after}
+use Rattle.history_state.specs.Allowed.{Allowed}
+use Rattle.history_state.specs.Legal.{Lawful}
+use Rattle.history_state.specs.Lemmas.Lists.{at_in}
+use Rattle.history_state.specs.Links.{found_edges}
+use Rattle.history_state.specs.Objects.{serial_of}
+use Rattle.history_state.specs.Opening.{IsAbsent, IsRefused, Opens}
+use Rattle.history_state.specs.Read.{WasRead}
+use Rattle.history_state.specs.Setting.{Setting}
+use Rattle.history_state.specs.State.{State}
+use Rattle.link_calls.specs.LinkOpening.Planned.{IsOpenPlan}
+use Rattle.link_calls.specs.declared.link_opening.planning.OpenPlan.{OpenPlan}
+use Rattle.history_calls.specs.declared.link_served.installs.Installs.{Installs}
+use Rattle.history_calls.specs.declared.link_served.served.Served.{Served}
+use Rattle.history_calls.specs.declared.link_served.served.Served.TheVariants as served
+use Rattle.history_calls.specs.Answer.{returns as returning}
+use Rattle.history_calls.specs.Call.{Call, opens}
+use Rattle.history_calls.specs.Functions.{AreConstructors, AreOf, constructors, object_of}
+use Rattle.history_calls.specs.Gives.{by_event, is_absent, is_loaded, is_not_opened, is_there, to_again}
+use Rattle.history_calls.specs.Served.{AreInstalls}
+use Rattle.history_calls.specs.Waiting.{Waits, by_load}
 use Rattle.link_state.specs.Table.{LinkTable, appended}
-use Rattle.linker_lists.specs.Events.{refusal}
-use Rattle.load_choices.specs.Choices.{choices_of}
-use Rattle.object_functions.specs.Rooms.{AreInRow, CanReadAll}
-use Rattle.opening_images.specs.Relocated.{AreChoices}
-use Rattle.opening_plan.specs.Lemmas.Counts.{counts_none}
-use Rattle.opening_plan.specs.declared.planning.NewObjects.{NewObjects}
-use Rattle.opening_plan.specs.declared.planning.Planned.TheVariants as plans
+use Rattle.link_holds.specs.Events.{refusal}
+use Rattle.history_calls.specs.LoadChoices.Choices.{choices_of}
+use Rattle.link_images.specs.ObjectFunctions.Rooms.{AreInRow, CanReadAll}
+use Rattle.link_open_images.specs.Relocated.{AreChoices}
+use Rattle.link_open_plan.specs.Lemmas.Counts.{counts_none}
+use Rattle.link_open_plan.specs.declared.planning.NewObjects.{NewObjects}
+use Rattle.link_open_plan.specs.declared.planning.Planned.TheVariants as plans
 use Rattle.scope_rule.specs.Seen.{Seen}
 use Rattle.link_calls.specs.Opening.{MayPlan, OpensIn, OpensUnlessReadsFail, asked}
 use Rattle.link_calls.proofs.Refused.{nothing_came, refused_so}

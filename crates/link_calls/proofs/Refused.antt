@@ -3,16 +3,16 @@ use Rattle.std.proofs.Common.{◌≡◌, List, [], ◌∷◌, ◌++◌, Result, 
 use Rattle.std.specs.Prelude.{ℕ}
 use Rattle.std.specs.Result.{result_unwrap_or}
 use Rattle.std.proofs.lemmas.List.{append-nil}
-use Rattle.call_laws.specs.Coming.{Comes}
+use Rattle.history_calls.specs.CallLaws.Coming.{Comes}
 use Rattle.ld_base.specs.declared.fault.DlFault.{DlFault}
-use Rattle.link_event.specs.declared.event.Event.{Event}
-use Rattle.link_history.specs.Allowed.{Allowed}
-use Rattle.link_history.specs.Setting.{Setting}
-use Rattle.link_served.specs.declared.served.Served.{Served}
-use Rattle.link_served.specs.declared.served.Served.TheVariants as served
-use Rattle.link_service.specs.Answer.{refused}
-use Rattle.link_service.specs.Call.{Call}
-use Rattle.link_service.specs.Gives.{Answers, by_event}
+use Rattle.history_event.specs.declared.event.Event.{Event}
+use Rattle.history_state.specs.Allowed.{Allowed}
+use Rattle.history_state.specs.Setting.{Setting}
+use Rattle.history_calls.specs.declared.link_served.served.Served.{Served}
+use Rattle.history_calls.specs.declared.link_served.served.Served.TheVariants as served
+use Rattle.history_calls.specs.Answer.{refused}
+use Rattle.history_calls.specs.Call.{Call}
+use Rattle.history_calls.specs.Gives.{Answers, by_event}
 use Rattle.link_state.specs.Table.{LinkTable}
 
 -- what came is answered; or else memory is wanted, and nothing has changed

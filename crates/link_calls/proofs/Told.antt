@@ -2,13 +2,13 @@
 use Rattle.std.proofs.Common.{◌≡◌, ℕ, List, [], ◌∷◌, Option, sym, ap, ◌∙◌}
 use Rattle.std.specs.Option.{option_map}
 use Rattle.ld_base.specs.declared.fault.DlFault.{DlFault}
-use Rattle.link_event.specs.declared.event.Event.TheVariants.{Told}
-use Rattle.link_history.specs.After.{after}
-use Rattle.link_history.specs.Allowed.{kept_for}
-use Rattle.link_service.specs.Answer.{told}
-use Rattle.link_service.specs.Call.{asks_fault}
-use Rattle.link_service.specs.Gives.{by_event, is_told}
-use Rattle.link_service.specs.Served.{answer_text}
+use Rattle.history_event.specs.declared.event.Event.TheVariants.{Told}
+use Rattle.history_state.specs.After.{after}
+use Rattle.history_state.specs.Allowed.{kept_for}
+use Rattle.history_calls.specs.Answer.{told}
+use Rattle.history_calls.specs.Call.{asks_fault}
+use Rattle.history_calls.specs.Gives.{by_event, is_told}
+use Rattle.history_calls.specs.Served.{answer_text}
 use Rattle.link_state.specs.Table.{LinkTable, appended}
 use Rattle.link_calls.specs.Coming.{TellsIn}
 

@@ -5,29 +5,29 @@ use Rattle.std.proofs.lemmas.Bool.{true≢false}
 use Rattle.std.proofs.lemmas.Grind.{reverse_onto}
 use Rattle.std.proofs.lemmas.List.Elements.{Contains-append_cases, Contains-append_left, Contains-append_right}
 use Rattle.ld_base.specs.declared.linking.Loaded.{Loaded}
-use Rattle.link_event.specs.declared.event.CloseAnswer.TheVariants as closes
-use Rattle.link_event.specs.declared.event.Event.{Event}
-use Rattle.link_event.specs.declared.event.Event.TheVariants as events
-use Rattle.link_event.specs.declared.event.OpenAnswer.TheVariants as opens
-use Rattle.link_event.specs.declared.event.OpenAsk.{OpenAsk}
-use Rattle.link_event.specs.declared.event.Range.{Range}
-use Rattle.link_event.specs.declared.event.SymAnswer.TheVariants as syms
-use Rattle.link_history.specs.After.{after}
-use Rattle.link_history.specs.Allowed.{AllowedIn, MayInitialise}
-use Rattle.link_history.specs.Flags.{is_global}
-use Rattle.link_history.specs.Laws.{UninitialisedStay}
-use Rattle.link_history.specs.Legal.{Lawful}
-use Rattle.link_history.specs.Links.{finis_of, unfinished}
-use Rattle.link_history.specs.Objects.{IsMapped, has, serial_of}
-use Rattle.link_history.specs.Setting.{Machine, Setting}
-use Rattle.link_history.specs.State.{State}
-use Rattle.link_history.specs.Step.{die, dying_in, dying_object, finalise, gone_in, initialise, is_left, loaded, lower, lowered_in, ready_in, ready_object, step, unmap}
-use Rattle.link_history.specs.Lemmas.Changed.{Leaves, leaves_dying, leaves_ready}
-use Rattle.link_history.specs.Lemmas.Dangling.{left_nonempty}
-use Rattle.link_history.specs.Lemmas.History.{by_lawful}
-use Rattle.link_history.specs.Lemmas.Imaged.{reached_open}
-use Rattle.link_history.specs.Lemmas.Initialised.{of_loading}
-use Rattle.link_history.specs.Lemmas.Lists.{first_or_later, from_filter, has_in, here, in_filter, in_has, in_map, none_in, only_in}
+use Rattle.history_event.specs.declared.event.CloseAnswer.TheVariants as closes
+use Rattle.history_event.specs.declared.event.Event.{Event}
+use Rattle.history_event.specs.declared.event.Event.TheVariants as events
+use Rattle.history_event.specs.declared.event.OpenAnswer.TheVariants as opens
+use Rattle.history_event.specs.declared.event.OpenAsk.{OpenAsk}
+use Rattle.history_event.specs.declared.event.Range.{Range}
+use Rattle.history_event.specs.declared.event.SymAnswer.TheVariants as syms
+use Rattle.history_state.specs.After.{after}
+use Rattle.history_state.specs.Allowed.{AllowedIn, MayInitialise}
+use Rattle.history_state.specs.Flags.{is_global}
+use Rattle.history_state.specs.Laws.{UninitialisedStay}
+use Rattle.history_state.specs.Legal.{Lawful}
+use Rattle.history_state.specs.Links.{finis_of, unfinished}
+use Rattle.history_state.specs.Objects.{IsMapped, has, serial_of}
+use Rattle.history_state.specs.Setting.{Machine, Setting}
+use Rattle.history_state.specs.State.{State}
+use Rattle.history_state.specs.Step.{die, dying_in, dying_object, finalise, gone_in, initialise, is_left, loaded, lower, lowered_in, ready_in, ready_object, step, unmap}
+use Rattle.history_state.specs.Lemmas.Changed.{Leaves, leaves_dying, leaves_ready}
+use Rattle.history_state.specs.Lemmas.Dangling.{left_nonempty}
+use Rattle.history_state.specs.Lemmas.History.{by_lawful}
+use Rattle.history_state.specs.Lemmas.Imaged.{reached_open}
+use Rattle.history_state.specs.Lemmas.Initialised.{of_loading}
+use Rattle.history_state.specs.Lemmas.Lists.{first_or_later, from_filter, has_in, here, in_filter, in_has, in_map, none_in, only_in}
 use Rattle.scope_rule.specs.declared.namespace.Namespace.{Namespace}
 
 -- an object of the serial is of one of the namespaces

@@ -1,12 +1,12 @@
 -- What calls of a linker's state come to: the words of the service, over the state before a call and after it.
 use Rattle.std.specs.Prelude.{◌≡◌, ℕ, List, ◌++◌, Option}
-use Rattle.call_laws.specs.Coming.{Comes, IsOn, LooksUp}
-use Rattle.lawful_journal.specs.Following.{machine_of}
-use Rattle.link_event.specs.declared.event.Event.{Event}
-use Rattle.link_history.specs.Setting.{Setting}
-use Rattle.link_served.specs.declared.served.Served.{Served}
-use Rattle.link_service.specs.Call.{Call}
-use Rattle.link_service.specs.Served.{IsTold}
+use Rattle.history_calls.specs.CallLaws.Coming.{Comes, IsOn, LooksUp}
+use Rattle.history_journal.specs.Following.{machine_of}
+use Rattle.history_event.specs.declared.event.Event.{Event}
+use Rattle.history_state.specs.Setting.{Setting}
+use Rattle.history_calls.specs.declared.link_served.served.Served.{Served}
+use Rattle.history_calls.specs.Call.{Call}
+use Rattle.history_calls.specs.Served.{IsTold}
 use Rattle.link_state.specs.Table.{LinkTable}
 
 -- the call came to this (dlclose(3))

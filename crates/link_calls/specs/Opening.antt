@@ -1,18 +1,18 @@
 -- What openings of a linker's state come to (dlopen(3), dlmopen(3)).
 use Rattle.std.specs.Prelude.{◌≡◌, ℕ, List, Option, Some}
 use Rattle.std.specs.Option.{option_map}
-use Rattle.call_laws.specs.Coming.{Comes, IsOver, OpensWhole}
-use Rattle.lawful_journal.specs.Following.{machine_of}
+use Rattle.history_calls.specs.CallLaws.Coming.{Comes, IsOver, OpensWhole}
+use Rattle.history_journal.specs.Following.{machine_of}
 use Rattle.ld_base.specs.declared.linking.File.{File}
 use Rattle.library_source.specs.Count.{Rises}
-use Rattle.link_event.specs.declared.event.OpenAsk.{OpenAsk}
-use Rattle.link_history.specs.Setting.{Setting}
-use Rattle.link_history.specs.State.{State}
-use Rattle.link_opening.specs.Planned.{IsPlanIn}
-use Rattle.link_served.specs.declared.served.Served.{Served}
-use Rattle.link_service.specs.Call.{Call, known}
+use Rattle.history_event.specs.declared.event.OpenAsk.{OpenAsk}
+use Rattle.history_state.specs.Setting.{Setting}
+use Rattle.history_state.specs.State.{State}
+use Rattle.link_calls.specs.LinkOpening.Planned.{IsPlanIn}
+use Rattle.history_calls.specs.declared.link_served.served.Served.{Served}
+use Rattle.history_calls.specs.Call.{Call, known}
 use Rattle.link_state.specs.Table.{LinkTable}
-use Rattle.opening_plan.specs.declared.planning.Planned.{Planned}
+use Rattle.link_open_plan.specs.declared.planning.Planned.{Planned}
 
 -- what is asked for: of a name that is too long as many bytes are known as show that it is
 abbrev pub asked : Option ℕ → Option (List ℕ) → ℕ → OpenAsk

@@ -2,17 +2,16 @@
 
 ghost use Rattle.std.specs.Prelude.{◌≡◌, IfOk, OnErr};
 ghost use Rattle.link_calls.specs.Coming.{ComesIn};
-ghost use Rattle.link_history.specs.After.{after};
-ghost use Rattle.link_service.specs.Call.{closes};
+ghost use Rattle.history_state.specs.After.{after};
+ghost use Rattle.history_calls.specs.Call.{closes};
 ghost use Rattle.link_state.specs.Closing.{IsPlanOf};
 
 use crate::destructors::closing_destructors;
 use crate::refusing::refuse;
-use call_laws::closings_keep;
-use closing_plans::ClosingPlan;
+use close_mark::ClosingPlan;
+use history_calls::{Served, closings_keep};
+use history_event::Ask;
 use ld_base::{DlFault, HartId};
-use link_event::Ask;
-use link_served::Served;
 use link_state::{CloseFault, LinkState};
 use std::alloc::{AllocError, Global};
 

@@ -1,17 +1,17 @@
 //! Destructors.
 
 ghost use Rattle.std.specs.Prelude.{◌≡◌, ℕ, Contains, map, reverse, IfOk, IsSome};
-ghost use Rattle.link_history.specs.After.{after};
-ghost use Rattle.link_history.specs.Links.{unfinished};
-ghost use Rattle.link_history.specs.Memory.{image_of};
-ghost use Rattle.link_service.specs.Functions.{AreAddresses, AreDestructors, AreFinalDestructors, AreOf, destructors, object_of};
+ghost use Rattle.history_state.specs.After.{after};
+ghost use Rattle.history_state.specs.Links.{unfinished};
+ghost use Rattle.history_state.specs.Memory.{image_of};
+ghost use Rattle.history_calls.specs.Functions.{AreAddresses, AreDestructors, AreFinalDestructors, AreOf, destructors, object_of};
 
 use crate::law::unfinished_are_mapped;
+use history_event::{Addresses, Function, Functions};
+use history_state::images_are_found;
 use ld_base::Serial;
-use link_event::{Addresses, Function, Functions};
-use link_history::images_are_found;
+use link_images::destructor_order;
 use link_state::LinkState;
-use object_functions::destructor_order;
 use std::alloc::{AllocError, Global};
 
 /// The destructors that are left at the end of a run, once every hart has ended: those of all mapped objects

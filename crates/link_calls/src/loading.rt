@@ -1,32 +1,31 @@
 //! Openings that are carried out.
 
 ghost use Rattle.std.specs.Prelude.{◌≡◌, ℕ, [], List, None, Option, IfOk, OnErr, OnOk};
-ghost use Rattle.call_laws.specs.Coming.{IsOver, refusal_of};
-ghost use Rattle.lawful_journal.specs.Following.{MayFollow, machine_of};
+ghost use Rattle.history_calls.specs.CallLaws.Coming.{IsOver, refusal_of};
+ghost use Rattle.history_journal.specs.Following.{MayFollow, machine_of};
 ghost use Rattle.ld_base.specs.declared.linking.File.{File};
 ghost use Rattle.link_calls.specs.Opening.{MayPlan, OpensIn};
-ghost use Rattle.link_event.specs.declared.event.Event.TheVariants.{Open};
-ghost use Rattle.link_event.specs.declared.event.OpenAnswer.TheVariants.{Done};
-ghost use Rattle.link_history.specs.After.{after};
-ghost use Rattle.link_history.specs.Setting.{Setting};
-ghost use Rattle.link_opening.specs.Planned.{IsOpenPlan, OpensNew};
+ghost use Rattle.history_event.specs.declared.event.Event.TheVariants.{Open};
+ghost use Rattle.history_event.specs.declared.event.OpenAnswer.TheVariants.{Done};
+ghost use Rattle.history_state.specs.After.{after};
+ghost use Rattle.history_state.specs.Setting.{Setting};
+ghost use Rattle.link_calls.specs.LinkOpening.Planned.{IsOpenPlan, OpensNew};
 ghost use Rattle.link_state.specs.Opening.{AreChosen};
 ghost use Rattle.link_state.specs.Table.{appended};
-ghost use Rattle.link_served.specs.declared.served.Served.TheVariants.{Done as Returns};
-ghost use Rattle.link_service.specs.Call.{opens};
-ghost use Rattle.opening_plan.specs.declared.planning.Planned.TheVariants.{New};
+ghost use Rattle.history_calls.specs.declared.link_served.served.Served.TheVariants.{Done as Returns};
+ghost use Rattle.history_calls.specs.Call.{opens};
+ghost use Rattle.link_open_plan.specs.declared.planning.Planned.TheVariants.{New};
 
-use accepted_image::accepted_object;
-use call_laws::{new_objects_stand_behind, own_order_is_the_order};
+use crate::link_opening::OpenPlan;
+use history_calls::{Served, new_objects_stand_behind, own_order_is_the_order};
+use history_event::{ChoiceLists, OpenAnswer, OpenAsk, Opening, Ranges};
+use history_journal::accepted_object;
+use history_state::objects_are_read;
 use ld_base::{Added, HartId, NsId, Serial};
-use link_event::{ChoiceLists, OpenAnswer, OpenAsk, Opening, Ranges};
-use link_history::objects_are_read;
-use link_opening::OpenPlan;
-use link_served::Served;
+use link_images::ConstructorRooms;
+use link_lists::Copied;
+use link_open_plan::{NewObjects, Planned};
 use link_state::LinkState;
-use object_functions::ConstructorRooms;
-use opening_plan::{NewObjects, Planned};
-use record_copies::Copied;
 use std::alloc::{AllocError, Global};
 
 /// An opening that is planned is carried out.

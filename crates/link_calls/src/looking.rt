@@ -2,21 +2,21 @@
 
 ghost use Rattle.std.specs.Prelude.{◌≡◌, ◌<◌, IfOk, IsTrue, OnErr};
 ghost use Rattle.link_calls.specs.Coming.{LooksUpIn};
-ghost use Rattle.link_history.specs.After.{after};
-ghost use Rattle.link_history.specs.Lookup.{IsShort, IsTooLong, wanted_of};
-ghost use Rattle.link_history.specs.Objects.{has_namespace};
-ghost use Rattle.link_history.specs.Relocating.{version_of};
-ghost use Rattle.link_service.specs.Call.{dlsym_in, dlvsym_in, looks_up};
-ghost use Rattle.symbol_search.specs.Asking.{ask_of};
+ghost use Rattle.history_state.specs.After.{after};
+ghost use Rattle.history_state.specs.Lookup.{IsShort, IsTooLong, wanted_of};
+ghost use Rattle.history_state.specs.Objects.{has_namespace};
+ghost use Rattle.history_state.specs.Relocating.{version_of};
+ghost use Rattle.history_calls.specs.Call.{dlsym_in, dlvsym_in, looks_up};
+ghost use Rattle.link_search.specs.Asking.{ask_of};
 
 use crate::names::LONG_NAME;
 use crate::refusing::refuse;
+use history_calls::Served;
+use history_event::Ask;
 use ld_base::{DlFault, HartId, Name, NsId, Want};
-use link_event::Ask;
-use link_served::Served;
+use link_search::symbol_ask;
 use link_state::{LinkState, SymFault};
 use std::alloc::{AllocError, Global};
-use symbol_search::symbol_ask;
 
 /// Looks a name up for a caller in a namespace (dlsym(3)): on the handle 0 among all that is global there, and
 /// on another in what its object leads to. A variable of thread-local storage is in the hart's block, which is

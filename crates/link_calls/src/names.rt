@@ -1,7 +1,7 @@
 //! Names that a guest passes.
 
 ghost use Rattle.std.specs.Prelude.{◌≡◌};
-ghost use Rattle.link_service.specs.Call.{known};
+ghost use Rattle.history_calls.specs.Call.{known};
 
 /// Of a longer name 256 bytes are known.
 pub(crate) const LONG_NAME: usize = 256;

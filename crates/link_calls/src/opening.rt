@@ -2,24 +2,23 @@
 
 ghost use Rattle.std.specs.Prelude.{◌≡◌, ◌≤◌, ℕ, List, false, length, Some, IfOk, OnErr};
 ghost use Rattle.std.specs.Option.{option_copied};
-ghost use Rattle.call_laws.specs.Coming.{NeedsNoRead, refusal_of};
-ghost use Rattle.call_laws.specs.Counts.{ArePaths, ShowsInCounts};
+ghost use Rattle.history_calls.specs.CallLaws.Coming.{NeedsNoRead, refusal_of};
+ghost use Rattle.history_calls.specs.CallLaws.Counts.{ArePaths, ShowsInCounts};
 ghost use Rattle.link_calls.specs.Opening.{OpensIn, OpensUnlessReadsFail, asked};
-ghost use Rattle.link_history.specs.After.{after};
-ghost use Rattle.link_history.specs.Objects.{is_startup};
-ghost use Rattle.link_service.specs.Call.{asked_namespace, dlmopen, dlopen_in, opens};
+ghost use Rattle.history_state.specs.After.{after};
+ghost use Rattle.history_state.specs.Objects.{is_startup};
+ghost use Rattle.history_calls.specs.Call.{asked_namespace, dlmopen, dlopen_in, opens};
 
+use crate::link_opening::plan;
 use crate::loading::carry_out;
 use crate::names::known;
 use crate::refusing::refuse;
-use call_laws::only_failed_reads_stop;
+use history_calls::{Served, only_failed_reads_stop};
+use history_event::{Ask, OpenAsk};
 use ld_base::{HartId, Name, Names, NsId};
 use library_source::Library;
-use link_event::{Ask, OpenAsk};
-use link_opening::plan;
-use link_served::Served;
+use link_open_plan::Unopened;
 use link_state::LinkState;
-use opening_plan::Unopened;
 use std::alloc::{AllocError, Global};
 
 /// What dlmopen takes for a new namespace (LM_ID_NEWLM).

@@ -1,16 +1,16 @@
 //! Calls that are refused.
 
 ghost use Rattle.std.specs.Prelude.{◌≡◌, IfOk, OnErr, OnOk};
-ghost use Rattle.lawful_journal.specs.Following.{MayFollow};
-ghost use Rattle.link_served.specs.declared.served.Served.TheVariants.{Refused};
+ghost use Rattle.history_journal.specs.Following.{MayFollow};
+ghost use Rattle.history_calls.specs.declared.link_served.served.Served.TheVariants.{Refused};
 ghost use Rattle.link_state.specs.Table.{appended};
-ghost use Rattle.linker_lists.specs.Events.{refusal};
+ghost use Rattle.link_holds.specs.Events.{refusal};
 
+use history_calls::Served;
+use history_event::Ask;
 use ld_base::{DlFault, HartId};
-use link_event::Ask;
-use link_served::Served;
+use link_lists::Copied;
 use link_state::LinkState;
-use record_copies::Copied;
 use std::alloc::{AllocError, Global};
 
 /// A call of the hart is refused, which is noted and kept for it.

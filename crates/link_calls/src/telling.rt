@@ -3,9 +3,9 @@
 ghost use Rattle.std.specs.Prelude.{◌≡◌, IfOk, OnErr};
 ghost use Rattle.std.specs.Option.{option_map};
 ghost use Rattle.link_calls.specs.Coming.{TellsIn};
-ghost use Rattle.link_history.specs.After.{after};
-ghost use Rattle.link_history.specs.Allowed.{kept_for};
-ghost use Rattle.link_service.specs.Served.{answer_text};
+ghost use Rattle.history_state.specs.After.{after};
+ghost use Rattle.history_state.specs.Allowed.{kept_for};
+ghost use Rattle.history_calls.specs.Served.{answer_text};
 
 use ld_base::{DlFault, HartId, Name};
 use link_state::LinkState;

@@ -1,34 +1,34 @@
 -- What an opening brings: its objects follow one another, their images can be read, and their constructors are in order.
 use Rattle.std.proofs.Common.{◌≡◌, ℕ, ◌+◌, Bool, List, map, Some, Ok, sym, ap, subst, arith}
 use Rattle.std.specs.List.{Contains, flat_map}
-use Rattle.call_laws.specs.Laws.{AreNumberedFrom, NewEdgesSuffice, NumberedByPlace}
+use Rattle.history_calls.specs.CallLaws.Laws.{AreNumberedFrom, NewEdgesSuffice, NumberedByPlace}
 use Rattle.elf_object.specs.Verdict.{object_verdict}
-use Rattle.image_reads.specs.Reads.{ArePrepared}
-use Rattle.lawful_journal.specs.Following.{MayFollow, machine_of}
+use Rattle.link_images.specs.ImageReads.Reads.{ArePrepared}
+use Rattle.history_journal.specs.Following.{MayFollow, machine_of}
 use Rattle.ld_base.specs.declared.linking.Loaded.{Loaded}
 use Rattle.ld_base.specs.declared.object.Object.{Object}
 use Rattle.ld_base.specs.declared.parts.HashTable.{HashTable}
-use Rattle.link_event.specs.declared.event.Event.TheVariants.{Open}
-use Rattle.link_event.specs.declared.event.OpenAnswer.TheVariants.{Done}
-use Rattle.link_event.specs.declared.event.OpenAnswer.{OpenAnswer}
-use Rattle.link_event.specs.declared.event.OpenAsk.{OpenAsk}
-use Rattle.link_event.specs.declared.event.Range.{Range}
-use Rattle.link_event.specs.declared.handed.Function.{Function}
-use Rattle.link_event.specs.declared.handed.Opening.{Opening}
-use Rattle.link_graph.specs.Initialised.{InitOrder, program_last}
-use Rattle.link_history.specs.Accepted.{IsAccepted}
-use Rattle.link_history.specs.After.{after}
-use Rattle.link_history.specs.Legal.{Lawful}
-use Rattle.link_history.specs.Lemmas.Lists.{at_in}
-use Rattle.link_history.specs.Links.{found_edges}
-use Rattle.link_history.specs.Objects.{mapped, serial_of}
-use Rattle.link_history.specs.Read.{WasRead}
-use Rattle.link_history.specs.State.{State}
-use Rattle.link_served.specs.declared.installs.Installs.{Installs}
-use Rattle.link_service.specs.Functions.{AreConstructors, AreOf, constructors, object_of}
+use Rattle.history_event.specs.declared.event.Event.TheVariants.{Open}
+use Rattle.history_event.specs.declared.event.OpenAnswer.TheVariants.{Done}
+use Rattle.history_event.specs.declared.event.OpenAnswer.{OpenAnswer}
+use Rattle.history_event.specs.declared.event.OpenAsk.{OpenAsk}
+use Rattle.history_event.specs.declared.event.Range.{Range}
+use Rattle.history_event.specs.declared.handed.Function.{Function}
+use Rattle.history_event.specs.declared.handed.Opening.{Opening}
+use Rattle.history_graph.specs.Initialised.{InitOrder, program_last}
+use Rattle.history_state.specs.Accepted.{IsAccepted}
+use Rattle.history_state.specs.After.{after}
+use Rattle.history_state.specs.Legal.{Lawful}
+use Rattle.history_state.specs.Lemmas.Lists.{at_in}
+use Rattle.history_state.specs.Links.{found_edges}
+use Rattle.history_state.specs.Objects.{mapped, serial_of}
+use Rattle.history_state.specs.Read.{WasRead}
+use Rattle.history_state.specs.State.{State}
+use Rattle.history_calls.specs.declared.link_served.installs.Installs.{Installs}
+use Rattle.history_calls.specs.Functions.{AreConstructors, AreOf, constructors, object_of}
 use Rattle.link_state.specs.Opening.{ArePut, IsPut, event_of}
 use Rattle.link_state.specs.Table.{LinkTable, appended}
-use Rattle.object_functions.specs.Rooms.{AreInRow, CanReadAll}
+use Rattle.link_images.specs.ObjectFunctions.Rooms.{AreInRow, CanReadAll}
 use Rattle.link_startup.specs.Bringing.{CameLast}
 
 pub in_row : NumberedByPlace → (next : ℕ) (added : List Loaded) → AreNumberedFrom next added → AreInRow added

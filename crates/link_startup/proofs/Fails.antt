@@ -1,33 +1,33 @@
 -- A run that doesn't start: the first refusal, and what the library's counts show of it.
 use Rattle.std.proofs.Common.{◌≡◌, ℕ, ◌+◌, List, [], ◌∷◌, ◌++◌, Option, Some, None, Result, Ok, Err, IfErr, refl, sym, ap, subst, ◌∙◌}
 use Rattle.std.specs.Result.{IsErrAnd}
-use Rattle.call_laws.specs.Counts.{FaultsShow, ShowsInCounts}
-use Rattle.call_laws.specs.Laws.{StartsUnlessReadsFail}
+use Rattle.history_calls.specs.CallLaws.Counts.{FaultsShow, ShowsInCounts}
+use Rattle.history_calls.specs.CallLaws.Laws.{StartsUnlessReadsFail}
 use Rattle.ld_base.specs.declared.fault.DlFault.{DlFault}
 use Rattle.ld_base.specs.declared.linking.File.{File}
-use Rattle.link_event.specs.declared.event.Event.{Event}
-use Rattle.link_event.specs.declared.event.Event.TheVariants.{Open}
-use Rattle.link_event.specs.declared.event.OpenAnswer.TheVariants.{Refused}
-use Rattle.link_event.specs.declared.event.OpenAsk.{OpenAsk}
-use Rattle.link_event.specs.declared.event.SymAsk.{SymAsk}
-use Rattle.link_history.specs.After.{after}
-use Rattle.link_history.specs.Lookup.{RefusesSymbol}
-use Rattle.link_history.specs.Opening.{Refuses}
-use Rattle.link_history.specs.Setting.{Setting}
-use Rattle.link_history.specs.State.{State}
-use Rattle.link_served.specs.declared.startup.Setup.{Setup}
-use Rattle.link_served.specs.declared.startup.StartFault.{StartFault}
-use Rattle.link_served.specs.declared.startup.StartFault.TheVariants as starts
-use Rattle.link_service.specs.Startup.{FailsToStart, LacksHart, opening, program_ask}
+use Rattle.history_event.specs.declared.event.Event.{Event}
+use Rattle.history_event.specs.declared.event.Event.TheVariants.{Open}
+use Rattle.history_event.specs.declared.event.OpenAnswer.TheVariants.{Refused}
+use Rattle.history_event.specs.declared.event.OpenAsk.{OpenAsk}
+use Rattle.history_event.specs.declared.event.SymAsk.{SymAsk}
+use Rattle.history_state.specs.After.{after}
+use Rattle.history_state.specs.Lookup.{RefusesSymbol}
+use Rattle.history_state.specs.Opening.{Refuses}
+use Rattle.history_state.specs.Setting.{Setting}
+use Rattle.history_state.specs.State.{State}
+use Rattle.history_calls.specs.declared.link_served.startup.Setup.{Setup}
+use Rattle.history_calls.specs.declared.link_served.startup.StartFault.{StartFault}
+use Rattle.history_calls.specs.declared.link_served.startup.StartFault.TheVariants as starts
+use Rattle.history_calls.specs.Startup.{FailsToStart, LacksHart, opening, program_ask}
 use Rattle.link_state.specs.Table.{LinkTable, appended}
-use Rattle.opening_plan.specs.Lemmas.Counts.{counts_none, counts_without}
-use Rattle.opening_plan.specs.Planned.{ShowsInNoCount}
-use Rattle.opening_plan.specs.Startup.{run_of}
-use Rattle.opening_plan.specs.declared.planning.NewObjects.{NewObjects}
-use Rattle.opening_plan.specs.declared.planning.Unopened.TheVariants as unopened
-use Rattle.start_parts.specs.Harts.{IsLacking}
-use Rattle.start_parts.specs.declared.harts.Unstarted.{Unstarted}
-use Rattle.start_parts.specs.declared.harts.Unstarted.TheVariants as unstarted
+use Rattle.link_open_plan.specs.Lemmas.Counts.{counts_none, counts_without}
+use Rattle.link_open_plan.specs.Planned.{ShowsInNoCount}
+use Rattle.link_open_plan.specs.Startup.{run_of}
+use Rattle.link_open_plan.specs.declared.planning.NewObjects.{NewObjects}
+use Rattle.link_open_plan.specs.declared.planning.Unopened.TheVariants as unopened
+use Rattle.link_startup.specs.StartParts.Harts.{IsLacking}
+use Rattle.link_startup.specs.declared.start_parts.harts.Unstarted.{Unstarted}
+use Rattle.link_startup.specs.declared.start_parts.harts.Unstarted.TheVariants as unstarted
 use Rattle.link_startup.specs.Startup.{FailsAs, IsNotStarted, IsOfNoFile, IsUnstarted, PlansStart, StartsWhole, refusal_of_start, refusal_unstarted, start_refusal, startup_refusal}
 use Rattle.link_startup.proofs.First.{may_open, may_refuse}
 

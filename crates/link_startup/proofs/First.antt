@@ -4,28 +4,28 @@ use Rattle.std.specs.Prelude.{if◌then◌else◌, IsTrue}
 use Rattle.std.specs.Option.{option_map}
 use Rattle.std.proofs.lemmas.List.{length-map}
 use Rattle.std.proofs.lemmas.Option.{slice_get-map}
-use Rattle.call_laws.specs.Laws.{AreNumberedFrom}
-use Rattle.lawful_journal.specs.Following.{MayFollow, machine_of}
+use Rattle.history_calls.specs.CallLaws.Laws.{AreNumberedFrom}
+use Rattle.history_journal.specs.Following.{MayFollow, machine_of}
 use Rattle.ld_base.specs.declared.fault.DlFault.{DlFault}
 use Rattle.ld_base.specs.declared.linking.Choice.{Choice}
 use Rattle.ld_base.specs.declared.linking.File.{File}
 use Rattle.ld_base.specs.declared.linking.Loaded.{Loaded}
-use Rattle.link_event.specs.declared.event.Event.{Event}
-use Rattle.link_event.specs.declared.event.Event.TheVariants.{Open}
-use Rattle.link_event.specs.declared.event.OpenAnswer.TheVariants.{Refused}
-use Rattle.link_history.specs.After.{after, after_from}
-use Rattle.link_history.specs.Allowed.{Allowed}
-use Rattle.link_history.specs.Asking.{IsAsked, MayAsk}
-use Rattle.link_history.specs.Flags.{are_flags}
-use Rattle.link_history.specs.Objects.{namespace_of}
-use Rattle.link_history.specs.Opening.{Refuses}
-use Rattle.link_history.specs.State.{State, Statics, empty_namespace, start}
-use Rattle.link_served.specs.declared.startup.Setup.{Setup}
-use Rattle.link_service.specs.Startup.{harts_of, opening, program_ask}
-use Rattle.load_choices.specs.Choices.{choices_of}
-use Rattle.opening_images.specs.Relocated.{AreChoices}
-use Rattle.opening_plan.specs.Startup.{run_of}
-use Rattle.opening_plan.specs.declared.planning.NewObjects.{NewObjects}
+use Rattle.history_event.specs.declared.event.Event.{Event}
+use Rattle.history_event.specs.declared.event.Event.TheVariants.{Open}
+use Rattle.history_event.specs.declared.event.OpenAnswer.TheVariants.{Refused}
+use Rattle.history_state.specs.After.{after, after_from}
+use Rattle.history_state.specs.Allowed.{Allowed}
+use Rattle.history_state.specs.Asking.{IsAsked, MayAsk}
+use Rattle.history_state.specs.Flags.{are_flags}
+use Rattle.history_state.specs.Objects.{namespace_of}
+use Rattle.history_state.specs.Opening.{Refuses}
+use Rattle.history_state.specs.State.{State, Statics, empty_namespace, start}
+use Rattle.history_calls.specs.declared.link_served.startup.Setup.{Setup}
+use Rattle.history_calls.specs.Startup.{harts_of, opening, program_ask}
+use Rattle.history_calls.specs.LoadChoices.Choices.{choices_of}
+use Rattle.link_open_images.specs.Relocated.{AreChoices}
+use Rattle.link_open_plan.specs.Startup.{run_of}
+use Rattle.link_open_plan.specs.declared.planning.NewObjects.{NewObjects}
 use Rattle.scope_rule.specs.Seen.{Seen}
 use Rattle.scope_rule.specs.declared.namespace.Namespace.{Namespace}
 use Rattle.tls_blocks.specs.Numbers.{ModuleTable}

@@ -4,3 +4,4 @@ pub mod First
 pub mod Opened
 pub mod Stacks
 mod Worked
+pub mod StartParts

@@ -2,38 +2,38 @@
 use Rattle.std.proofs.Common.{◌≡◌, ◌≢◌, ℕ, suc, ◌+◌, ◌<◌, List, [], ◌∷◌, ◌++◌, map, length, false, Option, Some, get_or, refl, sym, ap, subst, ◌∙◌, arith}
 use Rattle.std.specs.List.{slice_get}
 use Rattle.std.proofs.lemmas.Option.{slice_get-get_or}
-use Rattle.call_laws.specs.Laws.{AreNumberedFrom}
-use Rattle.image_reads.specs.Reads.{ArePrepared, IsImageOf}
+use Rattle.history_calls.specs.CallLaws.Laws.{AreNumberedFrom}
+use Rattle.link_images.specs.ImageReads.Reads.{ArePrepared, IsImageOf}
 use Rattle.ld_base.specs.declared.linking.File.{File}
 use Rattle.ld_base.specs.declared.linking.Loaded.{Loaded}
-use Rattle.link_event.specs.declared.event.Event.{Event}
-use Rattle.link_event.specs.declared.event.Event.TheVariants.{Open}
-use Rattle.link_event.specs.declared.event.OpenAnswer.TheVariants.{Done}
-use Rattle.link_event.specs.declared.event.OpenAsk.{OpenAsk}
-use Rattle.link_event.specs.declared.event.Range.{Range}
-use Rattle.link_event.specs.declared.handed.Function.{Function}
-use Rattle.link_event.specs.declared.handed.HartEntry.{HartEntry}
-use Rattle.link_history.specs.After.{after, after_from}
-use Rattle.link_history.specs.Memory.{image_of}
-use Rattle.link_history.specs.Objects.{is_startup, serial_of}
-use Rattle.link_history.specs.Read.{BeginsUntouched, IsUntouched}
-use Rattle.link_history.specs.Setting.{Setting}
-use Rattle.link_history.specs.State.{Linked, State}
-use Rattle.link_history.specs.Step.{loaded}
-use Rattle.link_served.specs.declared.installs.Installs.{Installs}
-use Rattle.link_served.specs.declared.startup.Setup.{Setup}
-use Rattle.link_service.specs.Functions.{AreAddresses, AreConstructors, preceded, preinits}
-use Rattle.link_service.specs.Served.{AreInstalls}
-use Rattle.link_service.specs.Startup.{FindHarts, Starts, entries_from, opening, program_ask, program_entry}
+use Rattle.history_event.specs.declared.event.Event.{Event}
+use Rattle.history_event.specs.declared.event.Event.TheVariants.{Open}
+use Rattle.history_event.specs.declared.event.OpenAnswer.TheVariants.{Done}
+use Rattle.history_event.specs.declared.event.OpenAsk.{OpenAsk}
+use Rattle.history_event.specs.declared.event.Range.{Range}
+use Rattle.history_event.specs.declared.handed.Function.{Function}
+use Rattle.history_event.specs.declared.handed.HartEntry.{HartEntry}
+use Rattle.history_state.specs.After.{after, after_from}
+use Rattle.history_state.specs.Memory.{image_of}
+use Rattle.history_state.specs.Objects.{is_startup, serial_of}
+use Rattle.history_state.specs.Read.{BeginsUntouched, IsUntouched}
+use Rattle.history_state.specs.Setting.{Setting}
+use Rattle.history_state.specs.State.{Linked, State}
+use Rattle.history_state.specs.Step.{loaded}
+use Rattle.history_calls.specs.declared.link_served.installs.Installs.{Installs}
+use Rattle.history_calls.specs.declared.link_served.startup.Setup.{Setup}
+use Rattle.history_calls.specs.Functions.{AreAddresses, AreConstructors, preceded, preinits}
+use Rattle.history_calls.specs.Served.{AreInstalls}
+use Rattle.history_calls.specs.Startup.{FindHarts, Starts, entries_from, opening, program_ask, program_entry}
 use Rattle.link_state.specs.Opening.{ArePut}
 use Rattle.link_state.specs.Table.{LinkTable, appended}
-use Rattle.object_functions.specs.Rooms.{CanRead, CanReadAll}
-use Rattle.opening_plan.specs.Startup.{run_of}
-use Rattle.opening_plan.specs.declared.planning.NewObjects.{NewObjects}
+use Rattle.link_images.specs.ObjectFunctions.Rooms.{CanRead, CanReadAll}
+use Rattle.link_open_plan.specs.Startup.{run_of}
+use Rattle.link_open_plan.specs.declared.planning.NewObjects.{NewObjects}
 use Rattle.scope_rule.specs.declared.namespace.Namespace.{Namespace}
 use Rattle.seg_image.specs.declared.image.Image.{Image}
-use Rattle.start_parts.specs.Harts.{FoundAll}
-use Rattle.start_parts.specs.Loaded.{HasLoaded}
+use Rattle.link_startup.specs.StartParts.Harts.{FoundAll}
+use Rattle.link_startup.specs.StartParts.Loaded.{HasLoaded}
 use Rattle.link_startup.specs.Bringing.{IsBrought}
 use Rattle.link_startup.specs.Startup.{PlansStart}
 use Rattle.link_startup.proofs.First.{first_serial, may_open, nothing_yet}

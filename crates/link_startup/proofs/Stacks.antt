@@ -9,23 +9,23 @@ use Rattle.std.proofs.lemmas.List.Elements.{Contains-append_cases, Contains-appe
 use Rattle.std.proofs.lemmas.Option.{slice_get_within}
 use Rattle.address_space.specs.Pages.{without}
 use Rattle.ld_base.specs.declared.linking.Loaded.{Loaded}
-use Rattle.link_event.specs.declared.event.Event.{Event}
-use Rattle.link_event.specs.declared.event.Purpose.{Purpose}
-use Rattle.link_event.specs.declared.event.Purpose.TheVariants as purposes
-use Rattle.link_event.specs.declared.event.Range.{Range}
-use Rattle.link_event.specs.declared.handed.HartEntry.{HartEntry}
-use Rattle.link_history.specs.After.{after, after_from}
-use Rattle.link_history.specs.Areas.{Area, AreGiven, IsGiven, areas, has_storage, object_area, stack_area, static_area, static_areas}
-use Rattle.link_history.specs.Lemmas.History.{after_push}
-use Rattle.link_history.specs.Lemmas.Lists.{first_or_later, found_in, from_map, here, in_map, later, none_in, not_found}
-use Rattle.link_history.specs.Lemmas.Pages.{range_has}
-use Rattle.link_history.specs.Setting.{Setting}
-use Rattle.link_history.specs.State.{State, Statics}
-use Rattle.link_history.specs.Step.{loaded}
-use Rattle.link_history.specs.Storage.{statics_with}
-use Rattle.link_served.specs.declared.startup.Setup.{Setup}
-use Rattle.link_service.specs.Lemmas.Serving.{harts_have_entries}
-use Rattle.link_service.specs.Startup.{FindHarts, entries_from, entry_at, found_at, is_stack, opening, program_entry, stack_end}
+use Rattle.history_event.specs.declared.event.Event.{Event}
+use Rattle.history_event.specs.declared.event.Purpose.{Purpose}
+use Rattle.history_event.specs.declared.event.Purpose.TheVariants as purposes
+use Rattle.history_event.specs.declared.event.Range.{Range}
+use Rattle.history_event.specs.declared.handed.HartEntry.{HartEntry}
+use Rattle.history_state.specs.After.{after, after_from}
+use Rattle.history_state.specs.Areas.{Area, AreGiven, IsGiven, areas, has_storage, object_area, stack_area, static_area, static_areas}
+use Rattle.history_state.specs.Lemmas.History.{after_push}
+use Rattle.history_state.specs.Lemmas.Lists.{first_or_later, found_in, from_map, here, in_map, later, none_in, not_found}
+use Rattle.history_state.specs.Lemmas.Pages.{range_has}
+use Rattle.history_state.specs.Setting.{Setting}
+use Rattle.history_state.specs.State.{State, Statics}
+use Rattle.history_state.specs.Step.{loaded}
+use Rattle.history_state.specs.Storage.{statics_with}
+use Rattle.history_calls.specs.declared.link_served.startup.Setup.{Setup}
+use Rattle.history_calls.specs.Lemmas.Serving.{harts_have_entries}
+use Rattle.history_calls.specs.Startup.{FindHarts, entries_from, entry_at, found_at, is_stack, opening, program_entry, stack_end}
 use Rattle.link_startup.specs.Stacks.{StacksAreOwn, StartsInStack}
 
 -- ---- what is given for what is wanted

@@ -6,11 +6,11 @@ use Rattle.ld_base.specs.declared.fault.DlFault.{DlFault}
 use Rattle.ld_base.specs.declared.fault.DlFault.TheVariants.{MissingLibrary}
 use Rattle.ld_base.specs.declared.linking.File.{File}
 use Rattle.ld_base.specs.declared.linking.Loaded.{Loaded}
-use Rattle.link_event.specs.declared.event.Event.{Event}
-use Rattle.link_event.specs.declared.event.Event.TheVariants.{Open, Sym}
-use Rattle.link_event.specs.declared.event.OpenAnswer.TheVariants as openings
-use Rattle.link_event.specs.declared.event.Range.{Range}
-use Rattle.link_event.specs.declared.handed.HartEntry.{HartEntry}
+use Rattle.history_event.specs.declared.event.Event.{Event}
+use Rattle.history_event.specs.declared.event.Event.TheVariants.{Open, Sym}
+use Rattle.history_event.specs.declared.event.OpenAnswer.TheVariants as openings
+use Rattle.history_event.specs.declared.event.Range.{Range}
+use Rattle.history_event.specs.declared.handed.HartEntry.{HartEntry}
 use Rattle.scope_rule.specs.Breadth.{breadth}
 use Rattle.scope_rule.specs.Choose.{pick_at}
 use Rattle.scope_rule.specs.Linker.{linker_symbol}
@@ -18,29 +18,29 @@ use Rattle.scope_rule.specs.Load.{find_opened, find_path, finds, step as load_st
 use Rattle.scope_rule.specs.Searching.{in_global}
 use Rattle.seg_image.specs.Pages.{align_of, guest_address, high_of, low_of, own_address, pages_of, segment_at}
 use Rattle.seg_image.specs.Roles.{role_of}
-use Rattle.link_history.specs.Addresses.{address}
-use Rattle.link_history.specs.Bound.{linked_with}
-use Rattle.link_history.specs.After.{after, after_from}
-use Rattle.link_history.specs.Allowed.{Allowed}
-use Rattle.link_history.specs.Legal.{Legal}
-use Rattle.link_history.specs.Lookup.{search}
-use Rattle.link_history.specs.Lookup.RefusesSymbol.{missing}
-use Rattle.link_history.specs.Memory.{role_at}
-use Rattle.link_history.specs.Opening.Refuses.{stopped}
-use Rattle.link_history.specs.Parts.{file_of, placed}
-use Rattle.link_history.specs.Race as race
-use Rattle.link_history.specs.Relocating.{relocation_fault}
-use Rattle.link_history.specs.State.{start}
-use Rattle.link_history.specs.Step.{loaded}
-use Rattle.link_history.specs.Storage.{tp_of}
-use Rattle.link_history.specs.Lemmas.Played.{loads}
-use Rattle.link_history.specs.Lemmas.Raced.{race_legal}
-use Rattle.link_service.specs.Lemmas.Readings.{reading_told, told_reads}
-use Rattle.link_service.specs.Laws.{FailsOneWay, StartsOrFails}
-use Rattle.link_service.specs.Startup.{FailsToStart, FindHarts, FindsStart, LacksHart, Starts, entries_from, found_at, hart_ask, is_executable, opening, program_ask}
-use Rattle.link_service.specs.Startup.FindHarts.{no_more, one_more}
-use Rattle.link_service.specs.Startup.LacksHart.{is_not_code, is_refused}
-use Rattle.link_service.specs.Startup.FailsToStart.{is_not_opened, lacks_hart}
+use Rattle.history_state.specs.Addresses.{address}
+use Rattle.history_state.specs.Bound.{linked_with}
+use Rattle.history_state.specs.After.{after, after_from}
+use Rattle.history_state.specs.Allowed.{Allowed}
+use Rattle.history_state.specs.Legal.{Legal}
+use Rattle.history_state.specs.Lookup.{search}
+use Rattle.history_state.specs.Lookup.RefusesSymbol.{missing}
+use Rattle.history_state.specs.Memory.{role_at}
+use Rattle.history_state.specs.Opening.Refuses.{stopped}
+use Rattle.history_state.specs.Parts.{file_of, placed}
+use Rattle.history_state.specs.Race as race
+use Rattle.history_state.specs.Relocating.{relocation_fault}
+use Rattle.history_state.specs.State.{start}
+use Rattle.history_state.specs.Step.{loaded}
+use Rattle.history_state.specs.Storage.{tp_of}
+use Rattle.history_state.specs.Lemmas.Played.{loads}
+use Rattle.history_state.specs.Lemmas.Raced.{race_legal}
+use Rattle.history_calls.specs.Lemmas.Readings.{reading_told, told_reads}
+use Rattle.history_calls.specs.Laws.{FailsOneWay, StartsOrFails}
+use Rattle.history_calls.specs.Startup.{FailsToStart, FindHarts, FindsStart, LacksHart, Starts, entries_from, found_at, hart_ask, is_executable, opening, program_ask}
+use Rattle.history_calls.specs.Startup.FindHarts.{no_more, one_more}
+use Rattle.history_calls.specs.Startup.LacksHart.{is_not_code, is_refused}
+use Rattle.history_calls.specs.Startup.FailsToStart.{is_not_opened, lacks_hart}
 use Rattle.link_startup.specs.Worked.{HasNoProgram, LacksName, LooksOn, SharesAStack, StartsInData, StartsTwo, StopsAtData}
 use Rattle.link_startup.specs.Worked.{at_data, both_found, data_found, data_setting, h2_missing, h2_refused, holder, lacks_first, prog_placed, prog_ranges, setup_of, two_harts}
 

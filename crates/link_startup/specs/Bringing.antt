@@ -1,16 +1,16 @@
 -- What the latest opening brought.
 use Rattle.std.specs.Prelude.{◌≡◌, ℕ, List, [], ◌∷◌, ◌++◌}
-use Rattle.image_reads.specs.Reads.{ArePrepared}
+use Rattle.link_images.specs.ImageReads.Reads.{ArePrepared}
 use Rattle.ld_base.specs.declared.linking.Loaded.{Loaded}
-use Rattle.link_event.specs.declared.event.Event.{Event}
-use Rattle.link_event.specs.declared.event.Event.TheVariants.{Open}
-use Rattle.link_event.specs.declared.event.OpenAnswer.TheVariants.{Done}
-use Rattle.link_event.specs.declared.event.OpenAsk.{OpenAsk}
-use Rattle.link_event.specs.declared.event.Range.{Range}
-use Rattle.link_history.specs.After.{after}
-use Rattle.link_served.specs.declared.installs.Installs.{Installs}
-use Rattle.object_functions.specs.Rooms.{CanReadAll}
-use Rattle.start_parts.specs.Loaded.{HasLoaded}
+use Rattle.history_event.specs.declared.event.Event.{Event}
+use Rattle.history_event.specs.declared.event.Event.TheVariants.{Open}
+use Rattle.history_event.specs.declared.event.OpenAnswer.TheVariants.{Done}
+use Rattle.history_event.specs.declared.event.OpenAsk.{OpenAsk}
+use Rattle.history_event.specs.declared.event.Range.{Range}
+use Rattle.history_state.specs.After.{after}
+use Rattle.history_calls.specs.declared.link_served.installs.Installs.{Installs}
+use Rattle.link_images.specs.ObjectFunctions.Rooms.{CanReadAll}
+use Rattle.link_startup.specs.StartParts.Loaded.{HasLoaded}
 
 -- the latest event is an opening that brought these objects
 pub record CameLast (events : List Event) (objects : List Loaded) : Type 0 where

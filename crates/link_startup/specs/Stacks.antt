@@ -1,16 +1,16 @@
 -- In which stacks the harts of a run start.
 use Rattle.std.specs.Prelude.{◌≡◌, ℕ, ◌+◌, ◌*◌, ◌%◌, ◌≤◌, List, Contains, Some}
 use Rattle.std.specs.List.{slice_get}
-use Rattle.link_event.specs.declared.event.Event.{Event}
-use Rattle.link_event.specs.declared.event.Purpose.TheVariants.{Stack}
-use Rattle.link_event.specs.declared.event.Range.{Range}
-use Rattle.link_event.specs.declared.handed.HartEntry.{HartEntry}
-use Rattle.link_history.specs.After.{after}
-use Rattle.link_history.specs.Setting.{Setting}
-use Rattle.link_history.specs.State.{State}
-use Rattle.link_served.specs.declared.startup.Setup.{Setup}
-use Rattle.link_served.specs.declared.startup.Started.{Started}
-use Rattle.link_service.specs.Startup.{Starts, harts_of}
+use Rattle.history_event.specs.declared.event.Event.{Event}
+use Rattle.history_event.specs.declared.event.Purpose.TheVariants.{Stack}
+use Rattle.history_event.specs.declared.event.Range.{Range}
+use Rattle.history_event.specs.declared.handed.HartEntry.{HartEntry}
+use Rattle.history_state.specs.After.{after}
+use Rattle.history_state.specs.Setting.{Setting}
+use Rattle.history_state.specs.State.{State}
+use Rattle.history_calls.specs.declared.link_served.startup.Setup.{Setup}
+use Rattle.history_calls.specs.declared.link_served.startup.Started.{Started}
+use Rattle.history_calls.specs.Startup.{Starts, harts_of}
 
 -- the sp is in the stack that is the hart's own, 48 bytes below its end, and a multiple of 16 (psABI)
 pub record StartsInStack (s : State) (hart sp : ℕ) : Type 0 where

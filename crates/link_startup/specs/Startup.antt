@@ -4,21 +4,21 @@ use Rattle.ld_base.specs.declared.fault.DlFault.{DlFault}
 use Rattle.ld_base.specs.declared.linking.File.{File}
 use Rattle.ld_base.specs.declared.linking.Loaded.{Loaded}
 use Rattle.library_source.specs.Count.{Rises}
-use Rattle.link_event.specs.declared.event.Event.{Event}
-use Rattle.link_event.specs.declared.event.Range.{Range}
-use Rattle.link_history.specs.After.{after}
-use Rattle.link_history.specs.Allowed.{Allowed}
-use Rattle.link_history.specs.Setting.{Setting}
-use Rattle.link_served.specs.declared.startup.Setup.{Setup}
-use Rattle.link_served.specs.declared.startup.StartFault.{StartFault}
-use Rattle.link_served.specs.declared.startup.StartFault.TheVariants as starts
-use Rattle.link_service.specs.Startup.{FailsToStart, FindHarts, opening, program_ask}
-use Rattle.opening_plan.specs.Planned.{PlansNew, ShowsInNoCount}
-use Rattle.opening_plan.specs.Startup.{run_of}
-use Rattle.opening_plan.specs.declared.planning.NewObjects.{NewObjects}
-use Rattle.opening_plan.specs.declared.planning.Unopened.TheVariants as unopened
-use Rattle.start_parts.specs.declared.harts.Unstarted.{Unstarted}
-use Rattle.start_parts.specs.declared.harts.Unstarted.TheVariants as unstarted
+use Rattle.history_event.specs.declared.event.Event.{Event}
+use Rattle.history_event.specs.declared.event.Range.{Range}
+use Rattle.history_state.specs.After.{after}
+use Rattle.history_state.specs.Allowed.{Allowed}
+use Rattle.history_state.specs.Setting.{Setting}
+use Rattle.history_calls.specs.declared.link_served.startup.Setup.{Setup}
+use Rattle.history_calls.specs.declared.link_served.startup.StartFault.{StartFault}
+use Rattle.history_calls.specs.declared.link_served.startup.StartFault.TheVariants as starts
+use Rattle.history_calls.specs.Startup.{FailsToStart, FindHarts, opening, program_ask}
+use Rattle.link_open_plan.specs.Planned.{PlansNew, ShowsInNoCount}
+use Rattle.link_open_plan.specs.Startup.{run_of}
+use Rattle.link_open_plan.specs.declared.planning.NewObjects.{NewObjects}
+use Rattle.link_open_plan.specs.declared.planning.Unopened.TheVariants as unopened
+use Rattle.link_startup.specs.declared.start_parts.harts.Unstarted.{Unstarted}
+use Rattle.link_startup.specs.declared.start_parts.harts.Unstarted.TheVariants as unstarted
 
 -- it doesn't start: the first refusal and the events up to it, or memory is wanted
 abbrev pub IsNotStarted : Setting → Setup → StartFault → Type 0

@@ -3,23 +3,23 @@ use Rattle.std.specs.Prelude.{ℕ, false, List, [], ◌∷◌, Some, None, codes
 use Rattle.ld_base.specs.declared.fault.DlFault.{DlFault}
 use Rattle.ld_base.specs.declared.fault.DlFault.TheVariants.{MissingLibrary, MissingSymbol, NotCode}
 use Rattle.ld_base.specs.declared.linking.Loaded.{Loaded}
-use Rattle.link_event.specs.declared.event.Event.{Event}
-use Rattle.link_event.specs.declared.event.Event.TheVariants.{Open, Sym}
-use Rattle.link_event.specs.declared.event.OpenAnswer.TheVariants as openings
-use Rattle.link_event.specs.declared.event.Range.{Range}
-use Rattle.link_event.specs.declared.event.SymAnswer.TheVariants as symbols
-use Rattle.link_event.specs.declared.handed.Function.{Function}
-use Rattle.link_event.specs.declared.handed.HartEntry.{HartEntry}
-use Rattle.link_served.specs.declared.installs.Installs.{Installs}
-use Rattle.link_served.specs.declared.startup.Setup.{Setup}
-use Rattle.link_served.specs.declared.startup.Started.{Started}
-use Rattle.link_history.specs.After.{after}
-use Rattle.link_history.specs.Parts.{Held, code, defined, given, object, pages_at, placed, slots, stack_at}
-use Rattle.link_history.specs.Race as race
-use Rattle.link_history.specs.Setting.{Setting}
-use Rattle.link_service.specs.Functions.{AreStartConstructors}
-use Rattle.link_service.specs.Served.{AreInstalls}
-use Rattle.link_service.specs.Startup.{FailsToStart, Starts, found_at, hart_ask, opening, program_ask}
+use Rattle.history_event.specs.declared.event.Event.{Event}
+use Rattle.history_event.specs.declared.event.Event.TheVariants.{Open, Sym}
+use Rattle.history_event.specs.declared.event.OpenAnswer.TheVariants as openings
+use Rattle.history_event.specs.declared.event.Range.{Range}
+use Rattle.history_event.specs.declared.event.SymAnswer.TheVariants as symbols
+use Rattle.history_event.specs.declared.handed.Function.{Function}
+use Rattle.history_event.specs.declared.handed.HartEntry.{HartEntry}
+use Rattle.history_calls.specs.declared.link_served.installs.Installs.{Installs}
+use Rattle.history_calls.specs.declared.link_served.startup.Setup.{Setup}
+use Rattle.history_calls.specs.declared.link_served.startup.Started.{Started}
+use Rattle.history_state.specs.After.{after}
+use Rattle.history_state.specs.Parts.{Held, code, defined, given, object, pages_at, placed, slots, stack_at}
+use Rattle.history_state.specs.Race as race
+use Rattle.history_state.specs.Setting.{Setting}
+use Rattle.history_calls.specs.Functions.{AreStartConstructors}
+use Rattle.history_calls.specs.Served.{AreInstalls}
+use Rattle.history_calls.specs.Startup.{FailsToStart, Starts, found_at, hart_ask, opening, program_ask}
 
 -- a run of this program, with further harts that start at these names
 abbrev pub setup_of : List ℕ → List (List ℕ) → Setup

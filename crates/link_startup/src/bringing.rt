@@ -1,31 +1,30 @@
 //! New objects and their constructors.
 
 ghost use Rattle.std.specs.Prelude.{◌≡◌, ◌∷◌, ◌++◌, [], List, map, IfOk, OnErr, OnOk};
-ghost use Rattle.call_laws.specs.Laws.{AreNumberedFrom};
-ghost use Rattle.image_reads.specs.Reads.{ArePrepared};
+ghost use Rattle.history_calls.specs.CallLaws.Laws.{AreNumberedFrom};
+ghost use Rattle.link_images.specs.ImageReads.Reads.{ArePrepared};
 ghost use Rattle.ld_base.specs.declared.linking.Loaded.{Loaded};
-ghost use Rattle.lawful_journal.specs.Following.{MayFollow};
+ghost use Rattle.history_journal.specs.Following.{MayFollow};
 ghost use Rattle.link_startup.specs.Bringing.{CameLast};
-ghost use Rattle.link_event.specs.declared.event.Event.TheVariants.{Open};
-ghost use Rattle.link_event.specs.declared.event.OpenAnswer.TheVariants.{Done};
-ghost use Rattle.link_history.specs.After.{after};
-ghost use Rattle.link_history.specs.Objects.{serial_of};
-ghost use Rattle.link_history.specs.Step.{binds, seen_after};
-ghost use Rattle.link_service.specs.Functions.{AreConstructors, AreOf, constructors, object_of};
+ghost use Rattle.history_event.specs.declared.event.Event.TheVariants.{Open};
+ghost use Rattle.history_event.specs.declared.event.OpenAnswer.TheVariants.{Done};
+ghost use Rattle.history_state.specs.After.{after};
+ghost use Rattle.history_state.specs.Objects.{serial_of};
+ghost use Rattle.history_state.specs.Step.{binds, seen_after};
+ghost use Rattle.history_calls.specs.Functions.{AreConstructors, AreOf, constructors, object_of};
 ghost use Rattle.link_state.specs.Opening.{ArePut, event_of};
 ghost use Rattle.link_state.specs.Table.{appended};
-ghost use Rattle.object_functions.specs.Rooms.{AreRooms, CanReadAll, room_object};
-ghost use Rattle.opening_images.specs.Relocated.{AreChoices};
+ghost use Rattle.link_images.specs.ObjectFunctions.Rooms.{AreRooms, CanReadAll, room_object};
+ghost use Rattle.link_open_images.specs.Relocated.{AreChoices};
 
-use accepted_image::accepted_object;
-use call_laws::{new_objects_stand_behind, own_order_is_the_order};
+use history_calls::{Installs, new_objects_stand_behind, own_order_is_the_order};
+use history_event::{Event, Functions, OpenAnswer, OpenAsk, Opening};
+use history_journal::accepted_object;
+use history_state::objects_are_read;
 use ld_base::{HartId, NsId};
-use link_event::{Event, Functions, OpenAnswer, OpenAsk, Opening};
-use link_history::objects_are_read;
-use link_served::Installs;
+use link_images::ConstructorRooms;
+use link_open_plan::NewObjects;
 use link_state::LinkState;
-use object_functions::ConstructorRooms;
-use opening_plan::NewObjects;
 use std::alloc::{AllocError, Global};
 
 /// Makes an opening that brings these objects: what memory gets of them, and their constructors. The order of

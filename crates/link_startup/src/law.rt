@@ -3,7 +3,7 @@
 ghost use Rattle.link_startup.specs.Stacks.{StacksAreOwn};
 ghost use Rattle.link_startup.specs.Worked.{HasNoProgram, LacksName, LooksOn, SharesAStack, StartsInData, StartsTwo, StopsAtData};
 
-use link_service::one_startup;
+use history_calls::one_startup;
 
 /// The sp with which a hart starts is in the stack that is its own, 48 bytes below its end, and a multiple of 16.
 pub fn stacks_are_own()

@@ -11,7 +11,9 @@ mod bringing;
 mod law;
 mod opening;
 mod preinits;
+mod start_parts;
 mod starting;
 
 pub use law::{stacks_are_own, starts_are_worked};
+pub use start_parts::{Unstarted, entries_of, find_harts, program_entry, startup_objects};
 pub use starting::startup;

@@ -2,22 +2,22 @@
 
 ghost use Rattle.std.specs.Prelude.{◌≡◌, [], false, IfErr, IfOk, List, OnOk, Option};
 ghost use Rattle.ld_base.specs.declared.linking.File.{File};
-ghost use Rattle.link_history.specs.After.{after};
-ghost use Rattle.link_history.specs.Objects.{is_startup};
-ghost use Rattle.link_service.specs.Served.{InstallsNothing};
-ghost use Rattle.link_service.specs.Startup.{Starts, harts_of, program_ask};
+ghost use Rattle.history_state.specs.After.{after};
+ghost use Rattle.history_state.specs.Objects.{is_startup};
+ghost use Rattle.history_calls.specs.Served.{InstallsNothing};
+ghost use Rattle.history_calls.specs.Startup.{Starts, harts_of, program_ask};
 ghost use Rattle.link_startup.specs.Startup.{IsOfNoFile, IsUnstarted, PlansStart};
-ghost use Rattle.opening_plan.specs.Startup.{run_of};
+ghost use Rattle.link_open_plan.specs.Startup.{run_of};
 
 use crate::bringing::bring;
 use crate::preinits::{preceded, preinits};
+use crate::start_parts::{Unstarted, entries_of, find_harts};
+use history_calls::{Setup, Started};
+use history_event::OpenAsk;
+use history_state::nothing_comes_before_startup;
 use ld_base::{HartId, NsId};
-use link_event::OpenAsk;
-use link_history::nothing_comes_before_startup;
-use link_served::{Setup, Started};
+use link_open_plan::NewObjects;
 use link_state::LinkState;
-use opening_plan::NewObjects;
-use start_parts::{Unstarted, entries_of, find_harts};
 use std::alloc::Global;
 
 /// The number of the hart that opens the program.

@@ -1,16 +1,16 @@
 //! What runs before all constructors.
 
 ghost use Rattle.std.specs.Prelude.{◌≡◌, IfOk};
-ghost use Rattle.link_history.specs.After.{after};
-ghost use Rattle.link_history.specs.Memory.{image_of};
-ghost use Rattle.link_service.specs.Functions.{AreAddresses, preceded, preinits};
+ghost use Rattle.history_state.specs.After.{after};
+ghost use Rattle.history_state.specs.Memory.{image_of};
+ghost use Rattle.history_calls.specs.Functions.{AreAddresses, preceded, preinits};
 ghost use Rattle.link_startup.specs.Bringing.{IsBrought};
 
-use image_reads::{preinit_count, push_preinits};
-use link_event::{Addresses, Functions};
-use link_served::Installs;
+use crate::start_parts::startup_objects;
+use history_calls::Installs;
+use history_event::{Addresses, Functions};
+use link_images::{preinit_count, push_preinits};
 use link_state::LinkState;
-use start_parts::startup_objects;
 use std::alloc::{AllocError, Global};
 
 /// The entries of the program's DT_PREINIT_ARRAY, once it is opened.

@@ -1,31 +1,30 @@
 //! Startup.
 
 ghost use Rattle.std.specs.Prelude.{◌≡◌, ◌≢◌, ◌<◌, ◌≤◌, ◌^◌, [], false, IfErr, IfOk, OnErr, OnOk};
-ghost use Rattle.call_laws.specs.Counts.{ArePathsAtStart, ShowsInCounts};
-ghost use Rattle.lawful_journal.specs.Following.{MayFollow};
+ghost use Rattle.history_calls.specs.CallLaws.Counts.{ArePathsAtStart, ShowsInCounts};
+ghost use Rattle.history_journal.specs.Following.{MayFollow};
 ghost use Rattle.ld_base.specs.declared.fault.Shown.{Shown};
-ghost use Rattle.link_event.specs.declared.event.Event.TheVariants.{Open};
-ghost use Rattle.link_event.specs.declared.event.OpenAnswer.TheVariants.{Refused};
-ghost use Rattle.link_history.specs.After.{after};
-ghost use Rattle.link_history.specs.Objects.{is_startup};
-ghost use Rattle.link_service.specs.Served.{InstallsNothing};
-ghost use Rattle.link_service.specs.Startup.{Starts, harts_of, program_ask};
+ghost use Rattle.history_event.specs.declared.event.Event.TheVariants.{Open};
+ghost use Rattle.history_event.specs.declared.event.OpenAnswer.TheVariants.{Refused};
+ghost use Rattle.history_state.specs.After.{after};
+ghost use Rattle.history_state.specs.Objects.{is_startup};
+ghost use Rattle.history_calls.specs.Served.{InstallsNothing};
+ghost use Rattle.history_calls.specs.Startup.{Starts, harts_of, program_ask};
 ghost use Rattle.link_startup.specs.Startup.{FailsAs, IsNotStarted, IsUnstarted, StartsWhole, start_refusal, startup_refusal};
 ghost use Rattle.link_state.specs.Table.{appended};
-ghost use Rattle.opening_plan.specs.Planned.{IsUnopened, PlansNew, refusal_in};
-ghost use Rattle.opening_plan.specs.Startup.{run_of};
-ghost use Rattle.opening_plan.specs.declared.planning.Unopened.TheVariants.{Wait};
+ghost use Rattle.link_open_plan.specs.Planned.{IsUnopened, PlansNew, refusal_in};
+ghost use Rattle.link_open_plan.specs.Startup.{run_of};
+ghost use Rattle.link_open_plan.specs.declared.planning.Unopened.TheVariants.{Wait};
 
 use crate::opening::open_program;
-use call_laws::only_failed_reads_stop;
+use crate::start_parts::Unstarted;
+use history_calls::{Setup, StartFault, Started, only_failed_reads_stop};
+use history_event::{Ask, OpenAsk};
 use ld_base::{DlFault, HartId, NsId};
 use library_source::Library;
-use link_event::{Ask, OpenAsk};
-use link_served::{Setup, StartFault, Started};
+use link_lists::Copied;
+use link_open_plan::{Before, NewObjects, Unopened, plan_program};
 use link_state::LinkState;
-use opening_plan::{Before, NewObjects, Unopened, plan_program};
-use record_copies::Copied;
-use start_parts::Unstarted;
 use std::alloc::{AllocError, Global};
 
 /// Slots are bound at their first call (RTLD_LAZY), and what is opened is global (RTLD_GLOBAL).

@@ -3,18 +3,18 @@ use Rattle.std.proofs.Common.{◌≡◌, ℕ, List, map, sym, ap, subst, ◌∙�
 use Rattle.std.specs.Prelude.{IfSome}
 use Rattle.std.specs.List.{flat_map}
 use Rattle.std.specs.Option.{option_to_list}
-use Rattle.closing_plans.specs.Plans.{IsRoomy}
-use Rattle.closing_plans.specs.declared.planning.ClosingPlan.{ClosingPlan}
-use Rattle.link_event.specs.declared.event.Range.{Range}
-use Rattle.link_history.specs.Allowed.{IsOpened}
-use Rattle.link_history.specs.Links.{IsUnneeded}
-use Rattle.link_history.specs.Objects.{mapped, serial_of}
-use Rattle.link_history.specs.State.{State}
-use Rattle.link_history.specs.Step.{closing_of as waiting_of, lower}
-use Rattle.pending_closings.specs.Pending.{closing_of}
+use Rattle.close_mark.specs.ClosingPlans.Plans.{IsRoomy}
+use Rattle.close_mark.specs.declared.closing_plans.planning.ClosingPlan.{ClosingPlan}
+use Rattle.history_event.specs.declared.event.Range.{Range}
+use Rattle.history_state.specs.Allowed.{IsOpened}
+use Rattle.history_state.specs.Links.{IsUnneeded}
+use Rattle.history_state.specs.Objects.{mapped, serial_of}
+use Rattle.history_state.specs.State.{State}
+use Rattle.history_state.specs.Step.{closing_of as waiting_of, lower}
+use Rattle.link_spaces.specs.PendingClosingsPart.Pending.{closing_of}
 use Rattle.scope_rule.specs.declared.namespace.Namespace.{Namespace}
 use Rattle.link_state.specs.Closing.{IsPlanOf}
-use Rattle.linker_lists.specs.Holding.{HoldsAll, Lists}
+use Rattle.link_holds.specs.Holding.{HoldsAll, Lists}
 
 -- ---- the plan
 

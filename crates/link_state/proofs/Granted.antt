@@ -3,24 +3,24 @@ use Rattle.std.proofs.Common.{◌≡◌, ℕ, ◌+◌, ◌*◌, true, false, Lis
 use Rattle.std.proofs.lemmas.Bool.{true≢false}
 use Rattle.ld_base.specs.declared.linking.Choice.{Choice}
 use Rattle.ld_base.specs.declared.linking.Choice.TheVariants.{Def, WeakZero, Missing}
-use Rattle.link_event.specs.declared.event.Event.{Event}
-use Rattle.link_event.specs.declared.event.Event.TheVariants.{Grant, Unresolved}
-use Rattle.link_event.specs.declared.hart_end.HartEnd.TheVariants as ends
-use Rattle.link_event.specs.declared.state.Standing.TheVariants.{Open}
-use Rattle.link_history.specs.Addresses.{leads_to_code}
-use Rattle.link_history.specs.After.{after}
-use Rattle.link_history.specs.Allowed.{IsUnresolved, MayGrant}
-use Rattle.link_history.specs.Relocating.{is_missing}
-use Rattle.link_history.specs.Slots.{HasNoGrant}
-use Rattle.link_history.specs.State.{State}
-use Rattle.link_service.specs.Answer.{granted}
-use Rattle.link_service.specs.Call.{resolves}
-use Rattle.link_service.specs.Ends.{no_slot, unloaded}
-use Rattle.link_service.specs.Gives.{by_event, is_granted, is_not_code, is_unresolved, to_end}
-use Rattle.slot_choice.specs.Choosing.{ChoosesSlot, IsFaultOf}
-use Rattle.slot_choice.specs.declared.choosing.SlotChoice.{SlotChoice}
-use Rattle.slot_choice.specs.declared.choosing.SlotFault.TheVariants as slots
-use Rattle.link_served.specs.declared.installs.Installs.{Installs}
+use Rattle.history_event.specs.declared.event.Event.{Event}
+use Rattle.history_event.specs.declared.event.Event.TheVariants.{Grant, Unresolved}
+use Rattle.history_event.specs.declared.hart_end.HartEnd.TheVariants as ends
+use Rattle.history_event.specs.declared.state.Standing.TheVariants.{Open}
+use Rattle.history_state.specs.Addresses.{leads_to_code}
+use Rattle.history_state.specs.After.{after}
+use Rattle.history_state.specs.Allowed.{IsUnresolved, MayGrant}
+use Rattle.history_state.specs.Relocating.{is_missing}
+use Rattle.history_state.specs.Slots.{HasNoGrant}
+use Rattle.history_state.specs.State.{State}
+use Rattle.history_calls.specs.Answer.{granted}
+use Rattle.history_calls.specs.Call.{resolves}
+use Rattle.history_calls.specs.Ends.{no_slot, unloaded}
+use Rattle.history_calls.specs.Gives.{by_event, is_granted, is_not_code, is_unresolved, to_end}
+use Rattle.link_finds.specs.SlotChoosing.Choosing.{ChoosesSlot, IsFaultOf}
+use Rattle.link_finds.specs.declared.slot_choosing.choosing.SlotChoice.{SlotChoice}
+use Rattle.link_finds.specs.declared.slot_choosing.choosing.SlotFault.TheVariants as slots
+use Rattle.history_calls.specs.declared.link_served.installs.Installs.{Installs}
 use Rattle.link_state.specs.Granting.{EndsUnresolved, GivesIn, IsNotGranted}
 use Rattle.link_state.specs.Table.{LinkTable, appended}
 use Rattle.link_state.specs.declared.faults.GrantFault.TheVariants as faults

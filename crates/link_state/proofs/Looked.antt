@@ -2,28 +2,28 @@
 use Rattle.std.proofs.Common.{◌≡◌, ℕ, ◌+◌, ◌%◌, ◌^◌, Bool, false, List, [], ◌∷◌, ◌++◌, Some, None, refl, sym, ap, subst, ◌∙◌}
 use Rattle.std.specs.Prelude.{IsTrue, IsSome}
 use Rattle.std.proofs.lemmas.List.{append_assoc}
-use Rattle.lawful_journal.specs.Following.{machine_of}
-use Rattle.link_event.specs.declared.event.Event.{Event}
-use Rattle.link_event.specs.declared.event.Event.TheVariants.{Sym, Tls}
-use Rattle.link_event.specs.declared.event.SymAnswer.TheVariants.{Found}
-use Rattle.link_event.specs.declared.event.SymAsk.{SymAsk}
-use Rattle.link_history.specs.Accepted.{AcceptsOnly}
-use Rattle.link_history.specs.After.{after}
-use Rattle.link_history.specs.Lookup.{IsAddressBy, IsShort, MayAnswer, MayHaveBlock, SymbolsAreStored, is_storage_symbol, no_room, search}
-use Rattle.link_history.specs.Legal.{Lawful}
-use Rattle.link_history.specs.Objects.{has_namespace}
-use Rattle.link_history.specs.Addresses.{address}
-use Rattle.link_history.specs.Setting.{Machine}
-use Rattle.link_history.specs.State.{State}
-use Rattle.link_history.specs.Step.{add_block}
-use Rattle.link_history.specs.Storage.{module_of, tls_block}
+use Rattle.history_journal.specs.Following.{machine_of}
+use Rattle.history_event.specs.declared.event.Event.{Event}
+use Rattle.history_event.specs.declared.event.Event.TheVariants.{Sym, Tls}
+use Rattle.history_event.specs.declared.event.SymAnswer.TheVariants.{Found}
+use Rattle.history_event.specs.declared.event.SymAsk.{SymAsk}
+use Rattle.history_state.specs.Accepted.{AcceptsOnly}
+use Rattle.history_state.specs.After.{after}
+use Rattle.history_state.specs.Lookup.{IsAddressBy, IsShort, MayAnswer, MayHaveBlock, SymbolsAreStored, is_storage_symbol, no_room, search}
+use Rattle.history_state.specs.Legal.{Lawful}
+use Rattle.history_state.specs.Objects.{has_namespace}
+use Rattle.history_state.specs.Addresses.{address}
+use Rattle.history_state.specs.Setting.{Machine}
+use Rattle.history_state.specs.State.{State}
+use Rattle.history_state.specs.Step.{add_block}
+use Rattle.history_state.specs.Storage.{module_of, tls_block}
 use Rattle.ld_base.specs.declared.linking.Choice.TheVariants.{Def}
-use Rattle.link_service.specs.Gives.{by_event, by_first_block, is_found}
-use Rattle.link_service.specs.Served.{AreBlockInstalls, InstallsNothing, a_block, no_block}
-use Rattle.new_blocks.specs.Laws.{HartsHaveNewBlocks}
-use Rattle.new_blocks.specs.declared.placing.BlockFault.{BlockFault}
-use Rattle.new_blocks.specs.declared.placing.BlockFault.TheVariants as blocks
-use Rattle.symbol_search.specs.Finding.{IsSymFault}
+use Rattle.history_calls.specs.Gives.{by_event, by_first_block, is_found}
+use Rattle.history_calls.specs.Served.{AreBlockInstalls, InstallsNothing, a_block, no_block}
+use Rattle.link_open_images.specs.NewBlocks.Laws.{HartsHaveNewBlocks}
+use Rattle.link_open_images.specs.declared.new_blocks.placing.BlockFault.{BlockFault}
+use Rattle.link_open_images.specs.declared.new_blocks.placing.BlockFault.TheVariants as blocks
+use Rattle.link_search.specs.Finding.{IsSymFault}
 use Rattle.link_state.specs.Locating.{PlansNone}
 use Rattle.link_state.specs.Looking.{FindsVariable, IsLookedUp, sym_fault}
 use Rattle.link_state.specs.Table.{LinkTable}

@@ -1,18 +1,18 @@
 -- What an opening brings.
 use Rattle.std.proofs.Common.{◌≡◌, ◌-◌, IfOk, OnOk, Result, Ok, Err, List, sym, ap, subst, ◌∙◌}
 use Rattle.ld_base.specs.declared.linking.Loaded.{Loaded}
-use Rattle.link_event.specs.declared.event.Range.{Range}
-use Rattle.image_reads.specs.Reads.{ArePrepared}
-use Rattle.link_event.specs.declared.event.Event.{Event}
-use Rattle.link_history.specs.After.{after}
-use Rattle.link_history.specs.Lemmas.History.{after_push}
-use Rattle.link_service.specs.Served.{AreInstalls}
+use Rattle.history_event.specs.declared.event.Range.{Range}
+use Rattle.link_images.specs.ImageReads.Reads.{ArePrepared}
+use Rattle.history_event.specs.declared.event.Event.{Event}
+use Rattle.history_state.specs.After.{after}
+use Rattle.history_state.specs.Lemmas.History.{after_push}
+use Rattle.history_calls.specs.Served.{AreInstalls}
 use Rattle.link_state.specs.Table.{LinkTable, appended}
-use Rattle.link_history.specs.State.{State}
-use Rattle.link_history.specs.Step.{open_done, step}
-use Rattle.opening_brings.specs.Brought.{IsBrought, OfLists}
-use Rattle.opening_brings.specs.declared.bringing.Brings.{Brings}
-use Rattle.opening_brings.specs.declared.bringing.Planned.{Planned}
+use Rattle.history_state.specs.State.{State}
+use Rattle.history_state.specs.Step.{open_done, step}
+use Rattle.link_open_brings.specs.Brought.{IsBrought, OfLists}
+use Rattle.link_open_brings.specs.declared.bringing.Brings.{Brings}
+use Rattle.link_open_brings.specs.declared.bringing.Planned.{Planned}
 
 -- ---- what was brought, over plain lists
 

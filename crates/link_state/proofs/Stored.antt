@@ -7,44 +7,44 @@ use Rattle.std.proofs.lemmas.List.{append-nil}
 use Rattle.std.specs.List.{Contains, flat_map}
 use Rattle.std.specs.Option.{option_and_then, option_map_or}
 use Rattle.address_space.specs.Pages.{AllFree}
-use Rattle.area_images.specs.Areas.{IsArea}
-use Rattle.image_parts.specs.Parts.{part_of, storage_of}
-use Rattle.image_parts.specs.declared.parts.Part.{Part}
+use Rattle.link_open_images.specs.AreaImages.Areas.{IsArea}
+use Rattle.link_images.specs.Parts.{part_of, storage_of}
+use Rattle.link_images.specs.declared.parts.Part.{Part}
 use Rattle.ld_base.specs.declared.linking.Loaded.{Loaded}
 use Rattle.ld_base.specs.declared.object.TlsSeg.{TlsSeg}
-use Rattle.link_event.specs.declared.event.Event.{Event}
-use Rattle.link_event.specs.declared.event.Event.TheVariants.{Tls}
-use Rattle.link_event.specs.declared.event.Purpose.TheVariants as purposes
-use Rattle.link_event.specs.declared.event.Range.{Range}
-use Rattle.link_event.specs.declared.hart_end.HartEnd.TheVariants as ends
-use Rattle.link_event.specs.declared.state.Module.{Module}
-use Rattle.link_history.specs.Accepted.{AcceptsOnly, IsAccepted}
-use Rattle.link_history.specs.After.{after}
-use Rattle.link_history.specs.Areas.{free_pages}
-use Rattle.link_history.specs.Laws.{FindsImage, IsIn}
-use Rattle.link_history.specs.Legal.{Lawful}
-use Rattle.link_history.specs.Lookup.{HasNoBlock, MayHaveBlock}
-use Rattle.link_history.specs.Memory.{image_of}
-use Rattle.link_history.specs.Objects.{has, mapped, object_at}
-use Rattle.link_history.specs.State.{Linked, State}
-use Rattle.link_history.specs.Step.{add_block, block_range, block_ranges}
-use Rattle.link_history.specs.Storage.{block_pages, module_of, residue, tls_block}
-use Rattle.link_history.specs.Lemmas.Lists.{found_in, from_flat, not_found}
-use Rattle.lawful_journal.specs.Following.{machine_of}
-use Rattle.link_served.specs.declared.installs.Installs.{Installs}
-use Rattle.link_service.specs.Ends.{bad_module, no_room}
-use Rattle.link_service.specs.Gives.{HasBlock, in_block, in_new_block, to_end}
-use Rattle.link_service.specs.Served.{AreBlockInstalls, InstallsNothing, Makes, a_block, no_event}
-use Rattle.new_blocks.specs.Laws.{HartsHaveNewBlocks, NewBlocksAreInstalled}
-use Rattle.new_blocks.specs.Placing.{IsBlockFault, IsNewBlock, LacksPages}
-use Rattle.new_blocks.specs.declared.placing.BlockFault.{BlockFault}
-use Rattle.new_blocks.specs.declared.placing.BlockFault.TheVariants as blocks
-use Rattle.new_blocks.specs.declared.placing.NewBlock.{NewBlock}
+use Rattle.history_event.specs.declared.event.Event.{Event}
+use Rattle.history_event.specs.declared.event.Event.TheVariants.{Tls}
+use Rattle.history_event.specs.declared.event.Purpose.TheVariants as purposes
+use Rattle.history_event.specs.declared.event.Range.{Range}
+use Rattle.history_event.specs.declared.hart_end.HartEnd.TheVariants as ends
+use Rattle.history_event.specs.declared.state.Module.{Module}
+use Rattle.history_state.specs.Accepted.{AcceptsOnly, IsAccepted}
+use Rattle.history_state.specs.After.{after}
+use Rattle.history_state.specs.Areas.{free_pages}
+use Rattle.history_state.specs.Laws.{FindsImage, IsIn}
+use Rattle.history_state.specs.Legal.{Lawful}
+use Rattle.history_state.specs.Lookup.{HasNoBlock, MayHaveBlock}
+use Rattle.history_state.specs.Memory.{image_of}
+use Rattle.history_state.specs.Objects.{has, mapped, object_at}
+use Rattle.history_state.specs.State.{Linked, State}
+use Rattle.history_state.specs.Step.{add_block, block_range, block_ranges}
+use Rattle.history_state.specs.Storage.{block_pages, module_of, residue, tls_block}
+use Rattle.history_state.specs.Lemmas.Lists.{found_in, from_flat, not_found}
+use Rattle.history_journal.specs.Following.{machine_of}
+use Rattle.history_calls.specs.declared.link_served.installs.Installs.{Installs}
+use Rattle.history_calls.specs.Ends.{bad_module, no_room}
+use Rattle.history_calls.specs.Gives.{HasBlock, in_block, in_new_block, to_end}
+use Rattle.history_calls.specs.Served.{AreBlockInstalls, InstallsNothing, Makes, a_block, no_event}
+use Rattle.link_open_images.specs.NewBlocks.Laws.{HartsHaveNewBlocks, NewBlocksAreInstalled}
+use Rattle.link_open_images.specs.NewBlocks.Placing.{IsBlockFault, IsNewBlock, LacksPages}
+use Rattle.link_open_images.specs.declared.new_blocks.placing.BlockFault.{BlockFault}
+use Rattle.link_open_images.specs.declared.new_blocks.placing.BlockFault.TheVariants as blocks
+use Rattle.link_open_images.specs.declared.new_blocks.placing.NewBlock.{NewBlock}
 use Rattle.tls_blocks.specs.Numbers.{module_at}
 use Rattle.link_state.specs.Locating.{EndsUnlocated, IsLocated, IsModuleOf, IsNotLocated, LacksBlock, PlansBlock, PlansNone}
 use Rattle.link_state.specs.Table.{LinkTable}
 use Rattle.link_state.specs.TlsFaults.{tls_fault}
-use Rattle.linker_lists.specs.Lemmas.Parts.{storage_found}
+use Rattle.link_holds.specs.Lemmas.Parts.{storage_found}
 use Rattle.scope_rule.specs.Loading.{with_serial}
 use Rattle.scope_rule.specs.declared.namespace.Namespace.{Namespace}
 

@@ -1,14 +1,14 @@
 -- What a closing gives.
 use Rattle.std.specs.Prelude.{◌≡◌, ℕ, IfSome, map}
 use Rattle.std.specs.Option.{option_to_list}
-use Rattle.closing_plans.specs.Plans.{IsRoomy}
-use Rattle.closing_plans.specs.declared.planning.ClosingPlan.{ClosingPlan}
+use Rattle.close_mark.specs.ClosingPlans.Plans.{IsRoomy}
+use Rattle.close_mark.specs.declared.closing_plans.planning.ClosingPlan.{ClosingPlan}
 use Rattle.ld_base.specs.declared.fault.DlFault.TheVariants as refusals
-use Rattle.link_history.specs.Allowed.{Closes, IsBadHandle}
-use Rattle.link_history.specs.Objects.{mapped, serial_of}
-use Rattle.link_history.specs.State.{State}
-use Rattle.link_history.specs.Step.{closing_of as waiting_of}
-use Rattle.pending_closings.specs.Pending.{closing_of}
+use Rattle.history_state.specs.Allowed.{Closes, IsBadHandle}
+use Rattle.history_state.specs.Objects.{mapped, serial_of}
+use Rattle.history_state.specs.State.{State}
+use Rattle.history_state.specs.Step.{closing_of as waiting_of}
+use Rattle.link_spaces.specs.PendingClosingsPart.Pending.{closing_of}
 use Rattle.link_state.specs.declared.faults.CloseFault.{CloseFault}
 use Rattle.link_state.specs.declared.faults.CloseFault.TheVariants as faults
 

@@ -1,20 +1,20 @@
 -- What a call for a slot gives.
 use Rattle.std.specs.Prelude.{◌≡◌, ℕ, List, [], ◌∷◌, length}
-use Rattle.lawful_journal.specs.Following.{machine_of}
+use Rattle.history_journal.specs.Following.{machine_of}
 use Rattle.ld_base.specs.declared.linking.Choice.{Choice}
-use Rattle.link_event.specs.declared.event.Event.TheVariants.{Grant, Unresolved}
-use Rattle.link_event.specs.declared.handed.Granted.{Granted}
-use Rattle.link_event.specs.declared.hart_end.HartEnd.{HartEnd}
-use Rattle.link_event.specs.declared.hart_end.HartEnd.TheVariants as ends
-use Rattle.link_event.specs.declared.state.Standing.TheVariants.{Open}
-use Rattle.link_history.specs.After.{after}
-use Rattle.link_history.specs.Bound.{lazy_word}
-use Rattle.link_history.specs.Setting.{Setting}
-use Rattle.link_history.specs.Slots.{IsSlot}
-use Rattle.link_service.specs.Answer.{Answer, granted, over}
-use Rattle.link_service.specs.Call.{Call, resolves}
-use Rattle.link_service.specs.Gives.{Gives}
-use Rattle.link_event.specs.declared.event.Event.{Event}
+use Rattle.history_event.specs.declared.event.Event.TheVariants.{Grant, Unresolved}
+use Rattle.history_event.specs.declared.handed.Granted.{Granted}
+use Rattle.history_event.specs.declared.hart_end.HartEnd.{HartEnd}
+use Rattle.history_event.specs.declared.hart_end.HartEnd.TheVariants as ends
+use Rattle.history_event.specs.declared.state.Standing.TheVariants.{Open}
+use Rattle.history_state.specs.After.{after}
+use Rattle.history_state.specs.Bound.{lazy_word}
+use Rattle.history_state.specs.Setting.{Setting}
+use Rattle.history_state.specs.Slots.{IsSlot}
+use Rattle.history_calls.specs.Answer.{Answer, granted, over}
+use Rattle.history_calls.specs.Call.{Call, resolves}
+use Rattle.history_calls.specs.Gives.{Gives}
+use Rattle.history_event.specs.declared.event.Event.{Event}
 use Rattle.seg_image.specs.Pages.{guest_address}
 use Rattle.link_state.specs.Table.{LinkTable, appended}
 use Rattle.link_state.specs.declared.faults.GrantFault.{GrantFault}

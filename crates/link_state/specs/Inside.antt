@@ -1,6 +1,6 @@
 -- The lists of the linker's state.
 use Rattle.link_state.specs.declared.state.LinkState.TheInside.{Inside}
-use Rattle.linker_lists.specs.Holding.{Lists}
+use Rattle.link_holds.specs.Holding.{Lists}
 
 abbrev pub lists_of : Inside → Lists
 lists_of x = record {

@@ -1,26 +1,26 @@
 -- What a request of a block of thread-local storage gives.
 use Rattle.std.specs.Prelude.{◌≡◌, ℕ, List, [], ◌++◌, Some}
-use Rattle.image_parts.specs.Parts.{storage_of}
+use Rattle.link_images.specs.Parts.{storage_of}
 use Rattle.ld_base.specs.declared.linking.Loaded.{Loaded}
 use Rattle.ld_base.specs.declared.object.TlsSeg.{TlsSeg}
-use Rattle.link_event.specs.declared.event.Event.{Event}
-use Rattle.link_event.specs.declared.hart_end.HartEnd.{HartEnd}
-use Rattle.link_event.specs.declared.hart_end.HartEnd.TheVariants as ends
-use Rattle.link_event.specs.declared.state.Module.{Module}
-use Rattle.link_history.specs.After.{after}
-use Rattle.link_history.specs.Areas.{free_pages}
-use Rattle.link_history.specs.Memory.{image_of}
-use Rattle.link_history.specs.Objects.{object_at}
-use Rattle.link_history.specs.State.{Linked, State}
-use Rattle.link_service.specs.Answer.{over, returns}
-use Rattle.link_service.specs.Call.{locates}
-use Rattle.link_service.specs.Gives.{HasBlock, variable_at}
-use Rattle.link_service.specs.Served.{Makes}
+use Rattle.history_event.specs.declared.event.Event.{Event}
+use Rattle.history_event.specs.declared.hart_end.HartEnd.{HartEnd}
+use Rattle.history_event.specs.declared.hart_end.HartEnd.TheVariants as ends
+use Rattle.history_event.specs.declared.state.Module.{Module}
+use Rattle.history_state.specs.After.{after}
+use Rattle.history_state.specs.Areas.{free_pages}
+use Rattle.history_state.specs.Memory.{image_of}
+use Rattle.history_state.specs.Objects.{object_at}
+use Rattle.history_state.specs.State.{Linked, State}
+use Rattle.history_calls.specs.Answer.{over, returns}
+use Rattle.history_calls.specs.Call.{locates}
+use Rattle.history_calls.specs.Gives.{HasBlock, variable_at}
+use Rattle.history_calls.specs.Served.{Makes}
 use Rattle.tls_blocks.specs.Numbers.{module_at}
-use Rattle.new_blocks.specs.Placing.{IsNewBlock, LacksPages}
-use Rattle.new_blocks.specs.declared.placing.BlockFault.{BlockFault}
-use Rattle.new_blocks.specs.declared.placing.BlockFault.TheVariants as blocks
-use Rattle.new_blocks.specs.declared.placing.NewBlock.{NewBlock}
+use Rattle.link_open_images.specs.NewBlocks.Placing.{IsNewBlock, LacksPages}
+use Rattle.link_open_images.specs.declared.new_blocks.placing.BlockFault.{BlockFault}
+use Rattle.link_open_images.specs.declared.new_blocks.placing.BlockFault.TheVariants as blocks
+use Rattle.link_open_images.specs.declared.new_blocks.placing.NewBlock.{NewBlock}
 use Rattle.link_state.specs.Granting.{GivesIn}
 use Rattle.link_state.specs.Table.{LinkTable}
 use Rattle.link_state.specs.declared.faults.TlsFault.{TlsFault}

@@ -1,19 +1,19 @@
 -- What a look-up of a symbol gives.
 use Rattle.std.specs.Prelude.{◌≡◌, ℕ, List, ◌++◌, Some, IsTrue}
 use Rattle.ld_base.specs.declared.fault.DlFault.TheVariants.{AddressSpaceFull}
-use Rattle.link_event.specs.declared.event.Event.{Event}
-use Rattle.link_event.specs.declared.event.SymAsk.{SymAsk}
-use Rattle.link_history.specs.After.{after}
-use Rattle.link_history.specs.Lookup.{IsShort, is_storage_symbol, search, symbol_value}
-use Rattle.link_history.specs.Objects.{has_namespace}
-use Rattle.link_history.specs.State.{State}
-use Rattle.link_service.specs.Answer.{returns}
-use Rattle.link_service.specs.Call.{looks_up}
-use Rattle.link_service.specs.Served.{Makes}
-use Rattle.new_blocks.specs.declared.placing.BlockFault.{BlockFault}
-use Rattle.new_blocks.specs.declared.placing.BlockFault.TheVariants as blocks
-use Rattle.symbol_search.specs.declared.finding.SymFault.{SymFault}
-use Rattle.symbol_search.specs.declared.finding.SymFault.TheVariants as faults
+use Rattle.history_event.specs.declared.event.Event.{Event}
+use Rattle.history_event.specs.declared.event.SymAsk.{SymAsk}
+use Rattle.history_state.specs.After.{after}
+use Rattle.history_state.specs.Lookup.{IsShort, is_storage_symbol, search, symbol_value}
+use Rattle.history_state.specs.Objects.{has_namespace}
+use Rattle.history_state.specs.State.{State}
+use Rattle.history_calls.specs.Answer.{returns}
+use Rattle.history_calls.specs.Call.{looks_up}
+use Rattle.history_calls.specs.Served.{Makes}
+use Rattle.link_open_images.specs.declared.new_blocks.placing.BlockFault.{BlockFault}
+use Rattle.link_open_images.specs.declared.new_blocks.placing.BlockFault.TheVariants as blocks
+use Rattle.link_search.specs.declared.finding.SymFault.{SymFault}
+use Rattle.link_search.specs.declared.finding.SymFault.TheVariants as faults
 use Rattle.link_state.specs.Granting.{GivesIn}
 use Rattle.link_state.specs.Table.{LinkTable}
 

@@ -1,20 +1,20 @@
 -- What an opening asks for, and what it gives.
 use Rattle.std.specs.Prelude.{List}
-use Rattle.image_reads.specs.Reads.{ArePrepared}
+use Rattle.link_images.specs.ImageReads.Reads.{ArePrepared}
 use Rattle.ld_base.specs.declared.linking.Choice.{Choice}
 use Rattle.ld_base.specs.declared.linking.Loaded.{Loaded}
-use Rattle.link_event.specs.declared.event.Event.{Event}
-use Rattle.link_event.specs.declared.event.Event.TheVariants.{Open}
-use Rattle.link_event.specs.declared.event.OpenAnswer.{OpenAnswer}
-use Rattle.link_event.specs.declared.event.OpenAnswer.TheVariants.{Absent, Done, Refused}
-use Rattle.link_event.specs.declared.event.OpenAsk.{OpenAsk}
-use Rattle.link_event.specs.declared.event.Range.{Range}
-use Rattle.link_event.specs.declared.handed.Opening.{Opening}
-use Rattle.link_history.specs.State.{State}
-use Rattle.link_history.specs.Step.{binds, seen_after}
-use Rattle.link_served.specs.declared.installs.Installs.{Installs}
-use Rattle.link_service.specs.Served.{AreInstalls, InstallsNothing}
-use Rattle.opening_images.specs.Relocated.{AreChoices}
+use Rattle.history_event.specs.declared.event.Event.{Event}
+use Rattle.history_event.specs.declared.event.Event.TheVariants.{Open}
+use Rattle.history_event.specs.declared.event.OpenAnswer.{OpenAnswer}
+use Rattle.history_event.specs.declared.event.OpenAnswer.TheVariants.{Absent, Done, Refused}
+use Rattle.history_event.specs.declared.event.OpenAsk.{OpenAsk}
+use Rattle.history_event.specs.declared.event.Range.{Range}
+use Rattle.history_event.specs.declared.handed.Opening.{Opening}
+use Rattle.history_state.specs.State.{State}
+use Rattle.history_state.specs.Step.{binds, seen_after}
+use Rattle.history_calls.specs.declared.link_served.installs.Installs.{Installs}
+use Rattle.history_calls.specs.Served.{AreInstalls, InstallsNothing}
+use Rattle.link_open_images.specs.Relocated.{AreChoices}
 
 -- the event of an opening
 abbrev pub event_of : Opening → Event

@@ -1,7 +1,7 @@
 -- What contracts see of the linker's state.
 use Rattle.std.specs.Prelude.{ℕ, List, [], ◌∷◌, ◌++◌}
-use Rattle.link_event.specs.declared.event.Event.{Event}
-use Rattle.link_served.specs.declared.installs.Installs.{Installs}
+use Rattle.history_event.specs.declared.event.Event.{Event}
+use Rattle.history_calls.specs.declared.link_served.installs.Installs.{Installs}
 
 pub record LinkTable : Type 0 where
   -- how many harts there are

@@ -1,10 +1,10 @@
 -- What an unmapping hands out.
 use Rattle.std.specs.Prelude.{◌≡◌, ℕ, List, filter}
-use Rattle.link_event.specs.declared.handed.Removed.{Removed}
-use Rattle.link_history.specs.Objects.{mapped}
-use Rattle.link_history.specs.State.{State}
-use Rattle.link_history.specs.Step.{goes_with}
-use Rattle.unmapped_objects.specs.Taken.{goes}
+use Rattle.history_event.specs.declared.handed.Removed.{Removed}
+use Rattle.history_state.specs.Objects.{mapped}
+use Rattle.history_state.specs.State.{State}
+use Rattle.history_state.specs.Step.{goes_with}
+use Rattle.close_mark.specs.UnmappedObjects.Taken.{goes}
 
 -- the mapped objects of the set, and the ranges of their pages and blocks, each in the order in which they stood
 pub record IsRemoved (s : State) (set : List ℕ) (removed : Removed) : Type 0 where

@@ -6,7 +6,7 @@ ghost use Rattle.link_state.specs.declared.faults.CloseFault.TheVariants.{Memory
 ghost use Rattle.link_state.specs.declared.faults.TlsFault.TheVariants.{Memory as TlsMemory};
 
 use ld_base::Serial;
-use new_blocks::BlockFault;
+use link_open_images::BlockFault;
 use std::alloc::AllocError;
 
 /// Why nothing is closed.

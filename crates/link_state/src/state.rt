@@ -2,24 +2,24 @@
 
 ghost use Rattle.std.specs.Prelude.{◌≡◌, ◌<◌, ◌≤◌, [], IfErr, IfNone, IfOk, IfSome, IsTrue, OnOk, OnErr};
 ghost use Rattle.std.specs.Option.{option_copied, option_map};
-ghost use Rattle.link_event.specs.declared.event.Event.TheVariants.{Ended, Fini, Init, Told, Unresolved, Wrote};
-ghost use Rattle.link_history.specs.After.{after};
-ghost use Rattle.link_history.specs.Allowed.{MayWrite, kept_for};
-ghost use Rattle.link_history.specs.Areas.{free_pages};
-ghost use Rattle.link_history.specs.Legal.{Lawful};
-ghost use Rattle.link_history.specs.Links.{unfinished};
-ghost use Rattle.link_history.specs.Memory.{image_of};
-ghost use Rattle.link_history.specs.Objects.{namespace_of};
-ghost use Rattle.link_history.specs.Owed.{ends_at_most, times_ended};
-ghost use Rattle.link_history.specs.Slots.{HasNoGrant};
-ghost use Rattle.link_service.specs.Functions.{destructors};
-ghost use Rattle.link_service.specs.Served.{InstallsNothing};
-ghost use Rattle.lawful_journal.specs.Following.{MayFollow, machine_of};
-ghost use Rattle.object_holders.specs.Holders.{HasNone, IsFound};
-ghost use Rattle.slot_choice.specs.Choosing.{ChoosesSlot, IsFaultOf};
+ghost use Rattle.history_event.specs.declared.event.Event.TheVariants.{Ended, Fini, Init, Told, Unresolved, Wrote};
+ghost use Rattle.history_state.specs.After.{after};
+ghost use Rattle.history_state.specs.Allowed.{MayWrite, kept_for};
+ghost use Rattle.history_state.specs.Areas.{free_pages};
+ghost use Rattle.history_state.specs.Legal.{Lawful};
+ghost use Rattle.history_state.specs.Links.{unfinished};
+ghost use Rattle.history_state.specs.Memory.{image_of};
+ghost use Rattle.history_state.specs.Objects.{namespace_of};
+ghost use Rattle.history_state.specs.Owed.{ends_at_most, times_ended};
+ghost use Rattle.history_state.specs.Slots.{HasNoGrant};
+ghost use Rattle.history_calls.specs.Functions.{destructors};
+ghost use Rattle.history_calls.specs.Served.{InstallsNothing};
+ghost use Rattle.history_journal.specs.Following.{MayFollow, machine_of};
+ghost use Rattle.link_spaces.specs.ObjectHolders.Holders.{HasNone, IsFound};
+ghost use Rattle.link_finds.specs.SlotChoosing.Choosing.{ChoosesSlot, IsFaultOf};
 ghost use Rattle.link_state.specs.Granting.{IsGranted, IsNotGranted};
 ghost use Rattle.link_state.specs.Table.{appended};
-ghost use Rattle.linker_lists.specs.Events.{refusal, settled};
+ghost use Rattle.link_holds.specs.Events.{refusal, settled};
 
 mod closing;
 mod locating;
@@ -28,34 +28,26 @@ mod opening;
 mod unmapping;
 
 use crate::faults::GrantFault;
-use accepted_image::one_image;
 use address_space::Regions;
 use elf_object::one_object;
-use held_edges::HeldEdges;
-use image_parts::ImageParts;
-use late_blocks::LateBlocks;
-use lawful_journal::LawfulJournal;
-use ld_base::{Bytes, DlFault, GrantNo, HartId, NsId, Serial};
-use link_event::{Addresses, Ask, Event, Granted, HartEnd, Journal, Range};
-use link_harts::{HartEnds, KeptFaults};
-use link_history::{
+use history_calls::Installs;
+use history_event::{Addresses, Ask, Event, Granted, HartEnd, Journal, Range};
+use history_journal::{HartEnds, KeptFaults, LawfulJournal, one_image};
+use history_state::{
     edges_follow, events_are_owed, finalised_once, grants_are_tidy, images_are_found,
     legal_step_by_step, objects_are_apart, objects_are_read,
 };
-use link_pending::{OpenGrants, Unfinished};
-use link_served::Installs;
-use linker_lists::{
+use ld_base::{Bytes, DlFault, GrantNo, HartId, NsId, Serial};
+use link_finds::{SlotChoice, SlotFault};
+use link_holds::{
     base_namespaces, end_event, grant_event, granted, hold, is_missing, kept_copy, nothing,
     open_grant, refusal_event, room_for_grant, room_for_refusal, settled_event, unresolved_event,
 };
-use listed_namespaces::ListedNamespaces;
-use load_record::LoadRecord;
-use mapped_objects::namespace_in;
-use object_holders::holder_in;
-use pending_closings::PendingClosings;
-use reserved_pages::ReservedPages;
+use link_images::ImageParts;
+use link_lists::{HeldEdges, LateBlocks, LoadRecord, OpenGrants, Unfinished};
+use link_names::ListedNamespaces;
+use link_spaces::{PendingClosings, ReservedPages, holder_in, namespace_in};
 use scope_rule::Namespace;
-use slot_choice::{SlotChoice, SlotFault};
 use std::alloc::{AllocError, Global};
 use std::marker::Model;
 use tls_blocks::TlsModules;
@@ -82,12 +74,12 @@ pub struct LinkState {
 }
 
 impl Model for LinkState {
-    ghost use Rattle.link_history.specs.After.{after};
+    ghost use Rattle.history_state.specs.After.{after};
     ghost use Rattle.link_state.specs.Table.{LinkTable};
 
     ghost Value = { LinkTable };
 
-    ghost use Rattle.linker_lists.specs.Holding.{HoldsAll};
+    ghost use Rattle.link_holds.specs.Holding.{HoldsAll};
     ghost use Rattle.link_state.specs.Inside.{lists_of};
 
     ghost view = { λ s. record { harts = s.journal.harts; events = s.journal.events; made = s.made } };

@@ -3,11 +3,11 @@ use Rattle.std.proofs.Common.{◌≡◌, ℕ, zero, suc, Bool, true, false, List
 use Rattle.std.specs.Prelude.{not, ◌&&◌, if◌then◌else◌, slice_set}
 use Rattle.std.specs.List.{slice_get}
 use Rattle.std.specs.Option.{is_some, option_map_or}
-use Rattle.link_event.specs.declared.hart_end.HartEnd.{HartEnd}
-use Rattle.link_history.specs.Setting.{Setting}
+use Rattle.history_event.specs.declared.hart_end.HartEnd.{HartEnd}
+use Rattle.history_state.specs.Setting.{Setting}
 use Rattle.hart_moves.specs.Harts.{HartState}
 use Rattle.hart_moves.specs.Moves.{freed, settles}
-use Rattle.turn_events.specs.Lemmas.Starting.{has_startup, moves_runs, startup_away}
+use Rattle.hart_moves.specs.TurnEvents.Lemmas.Starting.{has_startup, moves_runs, startup_away}
 use Rattle.world_turns.specs.Run.{has_ended, is_starting}
 use Rattle.world_turns.specs.Turn.{TakesTurn, Turn}
 use Rattle.world_turns.specs.World.{World, found_harts, found_journal}

@@ -5,24 +5,24 @@ use Rattle.std.specs.List.{list_any}
 use Rattle.std.proofs.lemmas.Bool.{ltb-true}
 use Rattle.ld_base.specs.declared.fault.DlFault.{DlFault}
 use Rattle.ld_base.specs.declared.linking.File.{File}
-use Rattle.link_event.specs.declared.event.Event.{Event}
-use Rattle.link_event.specs.declared.event.Event.TheVariants.{Ended}
-use Rattle.link_event.specs.declared.hart_end.HartEnd.TheVariants.{Memory}
-use Rattle.link_history.specs.Setting.{Setting}
-use Rattle.link_served.specs.declared.startup.Setup.{Setup}
-use Rattle.link_served.specs.declared.startup.StartFault.{StartFault}
-use Rattle.link_served.specs.declared.startup.StartFault.TheVariants as starts
-use Rattle.link_served.specs.declared.startup.Started.{Started}
-use Rattle.link_service.specs.Startup.{FailsToStart, FindHarts, LacksHart, Starts, found_at, opening, program_ask}
+use Rattle.history_event.specs.declared.event.Event.{Event}
+use Rattle.history_event.specs.declared.event.Event.TheVariants.{Ended}
+use Rattle.history_event.specs.declared.hart_end.HartEnd.TheVariants.{Memory}
+use Rattle.history_state.specs.Setting.{Setting}
+use Rattle.history_calls.specs.declared.link_served.startup.Setup.{Setup}
+use Rattle.history_calls.specs.declared.link_served.startup.StartFault.{StartFault}
+use Rattle.history_calls.specs.declared.link_served.startup.StartFault.TheVariants as starts
+use Rattle.history_calls.specs.declared.link_served.startup.Started.{Started}
+use Rattle.history_calls.specs.Startup.{FailsToStart, FindHarts, LacksHart, Starts, found_at, opening, program_ask}
 use Rattle.link_startup.specs.Startup.{IsNotStarted, refusal_of_start}
-use Rattle.call_laws.specs.Counts.{ArePathsAtStart, ShowsInCounts}
-use Rattle.lawful_journal.specs.Following.{machine_of}
-use Rattle.call_laws.specs.Coming.{IsOver}
+use Rattle.history_calls.specs.CallLaws.Counts.{ArePathsAtStart, ShowsInCounts}
+use Rattle.history_journal.specs.Following.{machine_of}
+use Rattle.history_calls.specs.CallLaws.Coming.{IsOver}
 use Rattle.rv_hart.specs.Registers.{Registers}
-use Rattle.guest_worlds.specs.Worlds.{TakesOver}
-use Rattle.guest_turns.specs.Counting.{IsCounted, RefusesNone, Rise, TurnsAreCounted, counts_at, is_refusal}
-use Rattle.guest_turns.specs.Lemmas.Counting.{both_spare, counted_more, none_counted, refusal_shows, same_counts, settling_spares, spare_counts, unmoved}
-use Rattle.guest_turns.specs.Next.{NextRefusalIsCounted}
+use Rattle.world_guests.specs.GuestWorlds.Worlds.{TakesOver}
+use Rattle.world_guests.specs.Counting.{IsCounted, RefusesNone, Rise, TurnsAreCounted, counts_at, is_refusal}
+use Rattle.world_guests.specs.Lemmas.Counting.{both_spare, counted_more, none_counted, refusal_shows, same_counts, settling_spares, spare_counts, unmoved}
+use Rattle.world_guests.specs.Next.{NextRefusalIsCounted}
 use Rattle.world_turns.specs.Counts.{Counts, ShowInCounts, has_candidate}
 use Rattle.world_turns.specs.Run.{Begins, LacksMemory, settled}
 use Rattle.world_turns.specs.Turn.{TakesTurn}

@@ -6,17 +6,17 @@ use Rattle.std.specs.Option.{is_some, option_map_or}
 use Rattle.std.proofs.lemmas.List.{drop_all}
 use Rattle.std.proofs.Math.Seq.{drop-cons}
 use Rattle.ld_base.specs.declared.linking.File.{File}
-use Rattle.link_event.specs.declared.hart_end.HartEnd.{HartEnd}
-use Rattle.link_history.specs.Setting.{Setting}
-use Rattle.lawful_journal.specs.Following.{machine_of}
-use Rattle.call_laws.specs.Coming.{IsOver}
+use Rattle.history_event.specs.declared.hart_end.HartEnd.{HartEnd}
+use Rattle.history_state.specs.Setting.{Setting}
+use Rattle.history_journal.specs.Following.{machine_of}
+use Rattle.history_calls.specs.CallLaws.Coming.{IsOver}
 use Rattle.rv_hart.specs.Registers.{Registers}
 use Rattle.hart_moves.specs.Harts.{HartState, is_startup_frame}
 use Rattle.hart_moves.specs.Moves.{freed, settles}
-use Rattle.schedules.specs.declared.schedule.TurnItem.{TurnItem}
-use Rattle.guest_worlds.specs.Coming.{HasEnd}
-use Rattle.world_ends.specs.Ends.{has_exited}
-use Rattle.world_ends.specs.Lemmas.Places.{exited_ends}
+use Rattle.world_turns.specs.declared.schedules.schedule.TurnItem.{TurnItem}
+use Rattle.world_guests.specs.GuestWorlds.Coming.{HasEnd}
+use Rattle.world_turns.specs.WorldEnds.Ends.{has_exited}
+use Rattle.world_turns.specs.WorldEnds.Lemmas.Places.{exited_ends}
 use Rattle.world_turns.specs.Run.{Ends, Finalises, LacksMemory, Repeats, Rounds, TakesItems, all_harts, has_ended, have_ended, is_starting, settled}
 use Rattle.world_turns.specs.Turn.{TakesTurn, Turn}
 use Rattle.world_turns.specs.World.{World}

@@ -5,11 +5,11 @@ use Rattle.std.specs.List.{range_with_len, slice_get}
 use Rattle.std.specs.Option.{is_some}
 use Rattle.std.proofs.lemmas.Bool.{ltb-true}
 use Rattle.std.proofs.lemmas.Option.{none-some, slice_get_within}
-use Rattle.link_event.specs.declared.event.Event.{Event}
-use Rattle.link_event.specs.declared.hart_end.HartEnd.{HartEnd}
-use Rattle.link_event.specs.declared.hart_end.HartEnd.TheVariants as ends
-use Rattle.link_history.specs.After.{after}
-use Rattle.link_history.specs.Setting.{Setting}
+use Rattle.history_event.specs.declared.event.Event.{Event}
+use Rattle.history_event.specs.declared.hart_end.HartEnd.{HartEnd}
+use Rattle.history_event.specs.declared.hart_end.HartEnd.TheVariants as ends
+use Rattle.history_state.specs.After.{after}
+use Rattle.history_state.specs.Setting.{Setting}
 use Rattle.hart_moves.specs.Due.{Due, by_phase, by_resolving, due, within_fuel}
 use Rattle.hart_moves.specs.Harts.{HartState, Offered, Resolving}
 use Rattle.hart_moves.specs.Moves.{Did, Ends, Exchanges, Finishes, Moves, MovesAs, freed, settled_resolving, settles}
@@ -18,7 +18,7 @@ use Rattle.hart_moves.specs.Lemmas.Legality.{ended_stays, turns_count}
 use Rattle.world_turns.specs.Run.{Rounds, all_harts, has_ended, have_ended}
 use Rattle.world_turns.specs.Turn.{TakesTurn, Turn}
 use Rattle.world_turns.specs.World.{World}
-use Rattle.world_ends.specs.Lemmas.Places.{all_pass, ended_by, freed_here}
+use Rattle.world_turns.specs.WorldEnds.Lemmas.Places.{all_pass, ended_by, freed_here}
 
 -- ---- of a hart
 

@@ -4,14 +4,14 @@ use Rattle.std.specs.Prelude.{◌&&◌}
 use Rattle.std.specs.Bool.{OnFalse, OnTrue}
 use Rattle.std.specs.List.{list_all}
 use Rattle.ld_base.specs.declared.linking.File.{File}
-use Rattle.link_event.specs.declared.handed.HartEntry.{HartEntry}
+use Rattle.history_event.specs.declared.handed.HartEntry.{HartEntry}
 use Rattle.link_state.specs.Table.{LinkTable}
 use Rattle.rv_hart.specs.declared.doubleword.Doubleword.{Doubleword}
 use Rattle.hart_moves.specs.Harts.{HartState}
 use Rattle.hart_moves.specs.Moves.{freed}
 use Rattle.hart_seat.specs.Table.{HartTable}
-use Rattle.answer_turns.specs.Settling.{freed_in, harts_in}
-use Rattle.guest_worlds.specs.Worlds.{MayBeAt, TakesOn, TakesOver, world_of}
+use Rattle.world_returns.specs.Settling.{freed_in, harts_in}
+use Rattle.world_guests.specs.GuestWorlds.Worlds.{MayBeAt, TakesOn, TakesOver, world_of}
 use Rattle.world_turns.specs.Run.{has_ended, settled}
 use Rattle.world_turns.specs.World.{World, settling}
 use Rattle.plain_world.specs.Table.{WorldTable, moved}

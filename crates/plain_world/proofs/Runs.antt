@@ -1,8 +1,8 @@
 -- A run that starts, and is played by a schedule.
 use Rattle.std.proofs.Common.{◌≡◌, false, List, ◌++◌, refl, sym, subst, ◌∙◌, true≢false}
 use Rattle.rv_hart.specs.Registers.{Registers}
-use Rattle.link_history.specs.Setting.{Setting}
-use Rattle.schedules.specs.declared.schedule.TurnItem.{TurnItem}
+use Rattle.history_state.specs.Setting.{Setting}
+use Rattle.world_turns.specs.declared.schedules.schedule.TurnItem.{TurnItem}
 use Rattle.world_turns.specs.Run.{Constructs, Finalises, Repeats, TakesItems, is_starting}
 use Rattle.world_turns.specs.World.{World}
 use Rattle.plain_world.specs.Laws.{HandedIsRun, PlayedIsRun}

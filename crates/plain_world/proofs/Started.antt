@@ -2,27 +2,27 @@
 use Rattle.std.proofs.Common.{◌≡◌, ℕ, ◌+◌, false, List, [], ◌∷◌, ◌++◌, Option, Some, refl, sym, ap, subst, ◌∙◌}
 use Rattle.std.specs.List.{slice_get}
 use Rattle.ld_base.specs.declared.linking.File.{File}
-use Rattle.link_event.specs.declared.event.Event.{Event}
-use Rattle.link_event.specs.declared.handed.HartEntry.{HartEntry}
-use Rattle.link_history.specs.After.{after, after_from}
-use Rattle.link_history.specs.Objects.{is_startup}
-use Rattle.link_history.specs.Setting.{Setting}
-use Rattle.link_history.specs.State.{State, start}
-use Rattle.link_history.specs.Step.{step}
-use Rattle.link_served.specs.declared.startup.Setup.{Setup}
-use Rattle.link_served.specs.declared.startup.Started.{Started}
-use Rattle.link_service.specs.Served.{AreInstalls}
-use Rattle.link_service.specs.Startup.{FindHarts, Starts, found_at, harts_of, opening}
-use Rattle.link_service.specs.Lemmas.Serving.{starts_legal}
+use Rattle.history_event.specs.declared.event.Event.{Event}
+use Rattle.history_event.specs.declared.handed.HartEntry.{HartEntry}
+use Rattle.history_state.specs.After.{after, after_from}
+use Rattle.history_state.specs.Objects.{is_startup}
+use Rattle.history_state.specs.Setting.{Setting}
+use Rattle.history_state.specs.State.{State, start}
+use Rattle.history_state.specs.Step.{step}
+use Rattle.history_calls.specs.declared.link_served.startup.Setup.{Setup}
+use Rattle.history_calls.specs.declared.link_served.startup.Started.{Started}
+use Rattle.history_calls.specs.Served.{AreInstalls}
+use Rattle.history_calls.specs.Startup.{FindHarts, Starts, found_at, harts_of, opening}
+use Rattle.history_calls.specs.Lemmas.Serving.{starts_legal}
 use Rattle.link_state.specs.Table.{LinkTable}
-use Rattle.opening_plan.specs.Startup.{run_of}
+use Rattle.link_open_plan.specs.Startup.{run_of}
 use Rattle.hart_moves.specs.Starting.{starting_harts}
 use Rattle.hart_seat.specs.Table.{HartTable}
-use Rattle.answer_turns.specs.Settling.{harts_in}
-use Rattle.guest_worlds.specs.Laws.{StartIsAt}
-use Rattle.guest_worlds.specs.Worlds.{MayBeAt, world_of}
+use Rattle.world_returns.specs.Settling.{harts_in}
+use Rattle.world_guests.specs.GuestWorlds.Laws.{StartIsAt}
+use Rattle.world_guests.specs.GuestWorlds.Worlds.{MayBeAt, world_of}
 use Rattle.rv_hart.specs.declared.doubleword.Doubleword.{Doubleword}
-use Rattle.turn_answers.specs.Changes.{LeaveMemory}
+use Rattle.world_memory.specs.TurnAnswers.Changes.{LeaveMemory}
 use Rattle.world_turns.specs.Memory.{RemakesAll}
 use Rattle.world_turns.specs.Run.{IsStarted}
 use Rattle.plain_world.specs.Started.{BringsFirst, IsFirstMemory, StartsAt}

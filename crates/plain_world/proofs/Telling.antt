@@ -1,17 +1,17 @@
 -- What is told of a turn.
 use Rattle.std.proofs.Common.{◌≡◌, ℕ, List, Option, sym, subst}
 use Rattle.ld_base.specs.declared.linking.File.{File}
-use Rattle.link_event.specs.declared.event.Event.{Event}
-use Rattle.link_history.specs.After.{after}
+use Rattle.history_event.specs.declared.event.Event.{Event}
+use Rattle.history_state.specs.After.{after}
 use Rattle.link_state.specs.Table.{LinkTable}
 use Rattle.rv_hart.specs.declared.doubleword.Doubleword.{Doubleword}
 use Rattle.hart_moves.specs.Due.{due}
 use Rattle.hart_seat.specs.Table.{HartTable}
-use Rattle.answer_turns.specs.Settling.{harts_in}
-use Rattle.guest_worlds.specs.Worlds.{world_of}
-use Rattle.guest_worlds.specs.declared.turn.Turn.{Turn}
-use Rattle.guest_turns.specs.Lemmas.Turns.{counts_nothing, opens_nothing, tells_nothing}
-use Rattle.guest_turns.specs.Next.{NeverWaits, NextIsNoCall, NextOpens, NextRefusalIsCounted, NextTells}
+use Rattle.world_returns.specs.Settling.{harts_in}
+use Rattle.world_guests.specs.GuestWorlds.Worlds.{world_of}
+use Rattle.world_guests.specs.declared.guest_worlds.turn.Turn.{Turn}
+use Rattle.world_guests.specs.Lemmas.Turns.{counts_nothing, opens_nothing, tells_nothing}
+use Rattle.world_guests.specs.Next.{NeverWaits, NextIsNoCall, NextOpens, NextRefusalIsCounted, NextTells}
 use Rattle.world_turns.specs.Run.{settled}
 use Rattle.world_turns.specs.World.{World}
 use Rattle.plain_world.specs.Inside.{table_of}

@@ -1,6 +1,6 @@
 -- How the harts of a run have ended.
 use Rattle.std.specs.Prelude.{◌≡◌, List, map, Some}
-use Rattle.link_event.specs.declared.hart_end.HartEnd.{HartEnd}
+use Rattle.history_event.specs.declared.hart_end.HartEnd.{HartEnd}
 use Rattle.hart_moves.specs.Harts.{HartState}
 
 -- each has, as these say in their order

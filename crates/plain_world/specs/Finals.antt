@@ -1,14 +1,14 @@
 -- How the final destructors of a run begin, as its parts have it, whatever guest memory holds: for the code of this crate alone.
 use Rattle.std.specs.Prelude.{ℕ, Bool, true, List}
-use Rattle.link_event.specs.declared.handed.HartEntry.{HartEntry}
-use Rattle.link_history.specs.Setting.{Setting}
+use Rattle.history_event.specs.declared.handed.HartEntry.{HartEntry}
+use Rattle.history_state.specs.Setting.{Setting}
 use Rattle.link_state.specs.Table.{LinkTable}
-use Rattle.lawful_journal.specs.Following.{machine_of}
-use Rattle.call_laws.specs.Coming.{IsOn}
+use Rattle.history_journal.specs.Following.{machine_of}
+use Rattle.history_calls.specs.CallLaws.Coming.{IsOn}
 use Rattle.rv_hart.specs.declared.doubleword.Doubleword.{Doubleword}
 use Rattle.hart_moves.specs.Starting.{starting_registers}
 use Rattle.hart_seat.specs.Table.{HartTable}
-use Rattle.guest_worlds.specs.Worlds.{MayBeAt, world_of}
+use Rattle.world_guests.specs.GuestWorlds.Worlds.{MayBeAt, world_of}
 use Rattle.plain_world.specs.Playing.{BeginsToFinalise, FinalisesOnce}
 
 -- a run has these parts

@@ -1,10 +1,10 @@
 -- What a run comes to.
 use Rattle.std.specs.Prelude.{false, List, ◌++◌}
-use Rattle.link_event.specs.declared.handed.HartEntry.{HartEntry}
-use Rattle.link_history.specs.Setting.{Setting}
-use Rattle.link_served.specs.declared.startup.Setup.{Setup}
+use Rattle.history_event.specs.declared.handed.HartEntry.{HartEntry}
+use Rattle.history_state.specs.Setting.{Setting}
+use Rattle.history_calls.specs.declared.link_served.startup.Setup.{Setup}
 use Rattle.hart_moves.specs.Starting.{starting_registers}
-use Rattle.schedules.specs.declared.schedule.TurnItem.{TurnItem}
+use Rattle.world_turns.specs.declared.schedules.schedule.TurnItem.{TurnItem}
 use Rattle.plain_world.specs.Started.{StartsAt}
 use Rattle.world_turns.specs.Run.{Run}
 use Rattle.world_turns.specs.World.{World}

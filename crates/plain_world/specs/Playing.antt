@@ -3,11 +3,11 @@ use Rattle.std.specs.Prelude.{◌≡◌, ℕ, Bool, true, false, List, [], ◌�
 use Rattle.std.specs.List.{list_all}
 use Rattle.ld_base.specs.declared.linking.File.{File}
 use Rattle.rv_hart.specs.Registers.{Registers}
-use Rattle.link_history.specs.Setting.{Setting}
-use Rattle.lawful_journal.specs.Following.{machine_of}
-use Rattle.call_laws.specs.Coming.{IsOver}
-use Rattle.schedules.specs.declared.schedule.TurnItem.{TurnItem}
-use Rattle.guest_worlds.specs.Coming.{HasEnd}
+use Rattle.history_state.specs.Setting.{Setting}
+use Rattle.history_journal.specs.Following.{machine_of}
+use Rattle.history_calls.specs.CallLaws.Coming.{IsOver}
+use Rattle.world_turns.specs.declared.schedules.schedule.TurnItem.{TurnItem}
+use Rattle.world_guests.specs.GuestWorlds.Coming.{HasEnd}
 use Rattle.hart_moves.specs.Harts.{HartState}
 use Rattle.world_turns.specs.Run.{Begins, Constructs, Finalises, Finishes, TakesItems, has_ended, have_exited, is_starting, settled}
 use Rattle.world_turns.specs.Turn.{TakesTurn}

@@ -1,18 +1,18 @@
 -- A run on one thread that starts.
 use Rattle.std.specs.Prelude.{◌≡◌, List, [], Some, Result, Ok, Err}
 use Rattle.std.specs.List.{slice_get}
-use Rattle.link_event.specs.declared.event.Event.{Event}
-use Rattle.link_event.specs.declared.handed.HartEntry.{HartEntry}
-use Rattle.link_history.specs.After.{after}
-use Rattle.link_history.specs.Legal.{Legal}
-use Rattle.link_history.specs.Setting.{Setting}
-use Rattle.link_history.specs.State.{start}
-use Rattle.link_served.specs.declared.installs.Installs.{Installs}
-use Rattle.link_served.specs.declared.startup.Setup.{Setup}
-use Rattle.link_served.specs.declared.startup.StartFault.{StartFault}
-use Rattle.link_served.specs.declared.startup.StartFault.TheVariants as starts
+use Rattle.history_event.specs.declared.event.Event.{Event}
+use Rattle.history_event.specs.declared.handed.HartEntry.{HartEntry}
+use Rattle.history_state.specs.After.{after}
+use Rattle.history_state.specs.Legal.{Legal}
+use Rattle.history_state.specs.Setting.{Setting}
+use Rattle.history_state.specs.State.{start}
+use Rattle.history_calls.specs.declared.link_served.installs.Installs.{Installs}
+use Rattle.history_calls.specs.declared.link_served.startup.Setup.{Setup}
+use Rattle.history_calls.specs.declared.link_served.startup.StartFault.{StartFault}
+use Rattle.history_calls.specs.declared.link_served.startup.StartFault.TheVariants as starts
 use Rattle.rv_hart.specs.declared.doubleword.Doubleword.{Doubleword}
-use Rattle.turn_answers.specs.Changes.{AreReserved}
+use Rattle.world_memory.specs.TurnAnswers.Changes.{AreReserved}
 use Rattle.world_turns.specs.Memory.{AreFresh, RemakesAll}
 use Rattle.world_turns.specs.Run.{IsStarted}
 use Rattle.world_turns.specs.World.{World}

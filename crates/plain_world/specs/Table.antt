@@ -1,6 +1,6 @@
 -- What contracts see of a run on one thread.
 use Rattle.std.specs.Prelude.{ℕ, Bool, List}
-use Rattle.link_event.specs.declared.handed.HartEntry.{HartEntry}
+use Rattle.history_event.specs.declared.handed.HartEntry.{HartEntry}
 use Rattle.world_turns.specs.World.{World}
 
 pub record WorldTable : Type 0 where

@@ -2,12 +2,12 @@
 
 ghost use Rattle.std.specs.Prelude.{◌≡◌, ◌<◌, Bool, List, length, true};
 ghost use Rattle.std.specs.Bool.{OnFalse, OnTrue};
-ghost use Rattle.call_laws.specs.Coming.{IsOn};
-ghost use Rattle.guest_worlds.specs.Worlds.{MayBeAt, world_of};
-ghost use Rattle.guest_turns.specs.Counting.{RefusesNone};
+ghost use Rattle.history_calls.specs.CallLaws.Coming.{IsOn};
+ghost use Rattle.world_guests.specs.GuestWorlds.Worlds.{MayBeAt, world_of};
+ghost use Rattle.world_guests.specs.Counting.{RefusesNone};
 ghost use Rattle.hart_moves.specs.Starting.{starting_registers};
-ghost use Rattle.lawful_journal.specs.Following.{machine_of};
-ghost use Rattle.link_history.specs.Setting.{Setting};
+ghost use Rattle.history_journal.specs.Following.{machine_of};
+ghost use Rattle.history_state.specs.Setting.{Setting};
 ghost use Rattle.plain_world.specs.Finals.{FinalsBegin, FinalsDont, IsAtIn, StaysAt};
 ghost use Rattle.plain_world.specs.Playing.{BeginsToFinalise, FinalisesOnce};
 ghost use Rattle.plain_world.specs.Table.{moved};
@@ -16,13 +16,12 @@ ghost use Rattle.world_turns.specs.Run.{settled};
 
 use crate::World;
 use crate::harts::have_exited;
-use answer_turns::settle_all;
-use guest_turns::{Beginning, begin_finals};
-use guest_worlds::{guests_may_turn, runs_stay};
 use hart_seat::LinkedHart;
-use link_event::HartEntry;
+use history_event::HartEntry;
 use link_state::LinkState;
 use std::alloc::Global;
+use world_guests::{Beginning, begin_finals, guests_may_turn, runs_stay};
+use world_returns::settle_all;
 
 impl World {
     /// The final destructors begin, where each hart has ended by exit, an object is left, and they haven't begun

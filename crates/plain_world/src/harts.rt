@@ -2,14 +2,14 @@
 
 ghost use Rattle.std.specs.Prelude.{◌≡◌, List};
 ghost use Rattle.std.specs.List.{list_all};
-ghost use Rattle.guest_worlds.specs.Worlds.{world_of};
+ghost use Rattle.world_guests.specs.GuestWorlds.Worlds.{world_of};
 ghost use Rattle.link_state.specs.Table.{LinkTable};
 ghost use Rattle.rv_hart.specs.declared.doubleword.Doubleword.{Doubleword};
-ghost use Rattle.world_ends.specs.Ends.{has_exited};
+ghost use Rattle.world_turns.specs.WorldEnds.Ends.{has_exited};
 ghost use Rattle.world_turns.specs.Run.{has_ended, is_starting};
 
 use hart_seat::LinkedHart;
-use link_event::HartEnd;
+use history_event::HartEnd;
 
 /// Whether the first hart runs constructors of startup still.
 pub(crate) fn is_starting(harts: &[LinkedHart]) -> bool

@@ -3,14 +3,14 @@
 ghost use Rattle.std.specs.Prelude.{◌≡◌, ◌≤◌, [], length, Some, IsTrue};
 ghost use Rattle.std.specs.List.{list_all};
 ghost use Rattle.std.specs.Vec.{vec_capacity};
-ghost use Rattle.answer_turns.specs.Settling.{harts_in};
+ghost use Rattle.world_returns.specs.Settling.{harts_in};
 ghost use Rattle.plain_world.specs.Ends.{AreEndsOf};
 ghost use Rattle.world_turns.specs.Run.{has_ended, have_ended};
 
 use crate::World;
 use hart_seat::LinkedHart;
-use link_event::{Ends, HartEnd};
-use run_texts::RunRecord;
+use history_event::{Ends, HartEnd};
+use trace_text::RunRecord;
 
 impl World {
     /// What a run leaves each of whose harts has ended.

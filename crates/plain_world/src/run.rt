@@ -1,20 +1,20 @@
 //! A whole run by a written schedule.
 
 ghost use Rattle.std.specs.Prelude.{◌≡◌, ◌<◌, ◌≤◌, true, Contains, IsTrue};
-ghost use Rattle.guest_turns.specs.Counting.{IsCounted, counts_at};
+ghost use Rattle.world_guests.specs.Counting.{IsCounted, counts_at};
 ghost use Rattle.hart_moves.specs.Starting.{starting_registers};
 ghost use Rattle.plain_world.specs.Playing.{FinalisesOnce, FirstRuns, InEachRun, OthersHaveEnded, Plays};
 ghost use Rattle.plain_world.specs.Table.{moved};
-ghost use Rattle.schedules.specs.declared.schedule.TurnItem.{TurnItem as item_value};
+ghost use Rattle.world_turns.specs.declared.schedules.schedule.TurnItem.{TurnItem as item_value};
 ghost use Rattle.world_turns.specs.Run.{Constructs, Ends, Finishes, Repeats, Rounds, TakesItems, all_harts, have_ended};
 ghost use Rattle.world_turns.specs.Turn.{Turn as one_turn};
 
 use crate::World;
-use guest_worlds::Turn;
 use ld_base::HartId;
 use library_source::Library;
-use schedules::{TurnItem, Turns};
 use std::alloc::Global;
+use world_guests::Turn;
+use world_turns::{TurnItem, Turns};
 
 /// The number of the hart that runs startup's constructors and the final destructors.
 const FIRST_HART: u32 = 0;

@@ -2,34 +2,32 @@
 
 ghost use Rattle.std.specs.Prelude.{◌≡◌, ◌<◌, ◌≤◌, ◌^◌, false, Option, Some, IfErr, IfOk, List, map};
 ghost use Rattle.std.specs.List.{slice_get};
-ghost use Rattle.call_laws.specs.Counts.{ArePathsAtStart, ShowsInCounts};
+ghost use Rattle.history_calls.specs.CallLaws.Counts.{ArePathsAtStart, ShowsInCounts};
 ghost use Rattle.hart_moves.specs.Starting.{starting_hart, starting_harts};
 ghost use Rattle.ld_base.specs.declared.linking.File.{File};
-ghost use Rattle.link_history.specs.After.{after};
-ghost use Rattle.link_history.specs.Objects.{is_startup};
-ghost use Rattle.link_history.specs.Setting.{Setting};
-ghost use Rattle.link_served.specs.declared.startup.Setup.{Setup as setup_value};
-ghost use Rattle.link_service.specs.Startup.{Starts, harts_of};
+ghost use Rattle.history_state.specs.After.{after};
+ghost use Rattle.history_state.specs.Objects.{is_startup};
+ghost use Rattle.history_state.specs.Setting.{Setting};
+ghost use Rattle.history_calls.specs.declared.link_served.startup.Setup.{Setup as setup_value};
+ghost use Rattle.history_calls.specs.Startup.{Starts, harts_of};
 ghost use Rattle.link_startup.specs.Startup.{IsNotStarted, StartsWhole, startup_refusal};
-ghost use Rattle.opening_plan.specs.Startup.{run_of};
-ghost use Rattle.answer_turns.specs.Settling.{harts_in};
-ghost use Rattle.guest_turns.specs.Counting.{counts_at};
+ghost use Rattle.link_open_plan.specs.Startup.{run_of};
+ghost use Rattle.world_returns.specs.Settling.{harts_in};
+ghost use Rattle.world_guests.specs.Counting.{counts_at};
 ghost use Rattle.plain_world.specs.Started.{BringsFirst, IsFirstMemory, StartsAt, start_events};
 ghost use Rattle.world_turns.specs.Counts.{ShowInCounts};
 
 use crate::World;
-use guest_worlds::runs_stay;
-use hart_parts::Purpose;
-use hart_seat::LinkedHart;
+use hart_seat::{LinkedHart, Purpose};
+use history_calls::{Installs, Setup, StartFault, Started};
+use history_event::{Functions, HartEntry};
 use library_source::Library;
-use link_event::{Functions, HartEntry};
-use link_served::{Installs, Setup, StartFault, Started};
+use link_lists::Copied;
 use link_startup::startup;
 use link_state::LinkState;
-use plain_memory::PlainMemory;
-use record_copies::Copied;
 use std::alloc::{AllocError, Global};
-use turn_answers::MemoryChange;
+use world_guests::runs_stay;
+use world_memory::{MemoryChange, PlainMemory};
 
 impl World {
     /// Starts a run up to its first constructor: opens its program in a new state, puts what that brings into

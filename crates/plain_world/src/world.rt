@@ -1,24 +1,24 @@
 //! A run on one thread at a moment.
 
 ghost use Rattle.std.specs.Prelude.{◌≡◌, ◌<◌, ◌≤◌, length};
-ghost use Rattle.guest_worlds.specs.Coming.{LeavesHart};
-ghost use Rattle.guest_worlds.specs.Worlds.{TakesOver};
-ghost use Rattle.guest_turns.specs.Counting.{IsCounted, counts_at};
-ghost use Rattle.guest_turns.specs.Next.{NextOpens, NextReadsNothing, NextTells};
+ghost use Rattle.world_guests.specs.GuestWorlds.Coming.{LeavesHart};
+ghost use Rattle.world_guests.specs.GuestWorlds.Worlds.{TakesOver};
+ghost use Rattle.world_guests.specs.Counting.{IsCounted, counts_at};
+ghost use Rattle.world_guests.specs.Next.{NextOpens, NextReadsNothing, NextTells};
 ghost use Rattle.plain_world.specs.Table.{moved};
 ghost use Rattle.world_turns.specs.Run.{have_ended, is_starting};
 
 use crate::harts::{have_ended, is_starting};
 use crate::turn::take_turn;
-use guest_worlds::{Turn, runs_stay};
 use hart_seat::LinkedHart;
+use history_event::{HartEnd, HartEntry};
 use ld_base::{HartId, Names};
 use library_source::Library;
-use link_event::{HartEnd, HartEntry};
 use link_state::LinkState;
-use plain_memory::PlainMemory;
 use std::alloc::Global;
 use std::marker::Model;
+use world_guests::{Turn, runs_stay};
+use world_memory::PlainMemory;
 
 /// A run on one thread at a moment: the linker's state, guest memory, and the harts. Contracts see how many
 /// harts it has, where it looks for libraries, with which registers its first hart starts, whether its final

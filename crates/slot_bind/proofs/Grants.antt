@@ -1,25 +1,25 @@
 -- Views over the steps of the calls on grants.
 use Rattle.std.proofs.Common.{◌≡◌, ◌≢◌, ◌⊎◌, ⊎_elim, ℕ, ◌%◌, ◌<◌, Bool, true, false, eqb, eq-eqb, ne_eqb, Option, None, Some, Contains, refl, sym, ap, subst, ◌∙◌, arith}
 use Rattle.std.proofs.lemmas.List.Elements.{Contains-push}
-use Rattle.link_event.specs.declared.handed.Offer.{Offer}
-use Rattle.guest_rule.specs.declared.entry.Grant.{Grant}
-use Rattle.guest_rule.specs.declared.entry.RowWord.TheVariants.{Slot, Generation}
-use Rattle.guest_rule.specs.declared.kind.HartKind.TheVariants as harts
-use Rattle.guest_rule.specs.declared.kind.KeeperKind.TheVariants as keepers
-use Rattle.guest_rule.specs.declared.view.HartView.{HartView}
-use Rattle.guest_rule.specs.declared.view.Fate.TheVariants.{Lost as FateLost}
-use Rattle.guest_rule.specs.declared.view.KeeperView.{KeeperView}
-use Rattle.guest_rule.specs.declared.view.Offer.{Offer as ReadOffer}
-use Rattle.guest_rule.specs.declared.view.Row.{Row}
-use Rattle.guest_rule.specs.Allowed.{IsOf, IsSlot}
-use Rattle.guest_rule.specs.HartSteps.{HartReady, entered, finished, hart_after, with_lane_of}
-use Rattle.guest_rule.specs.KeeperSteps.{KeeperLearns, TellsAsk, TellsSlot, asked, asked_if, fixed_by, fixed_if, heeding, keeper_after, settled_as, with_kept, with_row}
-use Rattle.guest_rule.specs.Layout.{address_of, doublewords, IsDoubleword, place_of}
-use Rattle.guest_rule.specs.Views.{IsLong, kept_at, offered, row_of, with_offered}
-use Rattle.guest_rule.specs.declared.view.TrailItem.TheVariants.{Done}
+use Rattle.history_event.specs.declared.handed.Offer.{Offer}
+use Rattle.word_rule.specs.declared.entry.Grant.{Grant}
+use Rattle.word_rule.specs.declared.entry.RowWord.TheVariants.{Slot, Generation}
+use Rattle.word_rule.specs.declared.kind.HartKind.TheVariants as harts
+use Rattle.word_rule.specs.declared.kind.KeeperKind.TheVariants as keepers
+use Rattle.word_rule.specs.declared.view.HartView.{HartView}
+use Rattle.word_rule.specs.declared.view.Fate.TheVariants.{Lost as FateLost}
+use Rattle.word_rule.specs.declared.view.KeeperView.{KeeperView}
+use Rattle.word_rule.specs.declared.view.Offer.{Offer as ReadOffer}
+use Rattle.word_rule.specs.declared.view.Row.{Row}
+use Rattle.word_rule.specs.Allowed.{IsOf, IsSlot}
+use Rattle.word_rule.specs.HartSteps.{HartReady, entered, finished, hart_after, with_lane_of}
+use Rattle.word_rule.specs.KeeperSteps.{KeeperLearns, TellsAsk, TellsSlot, asked, asked_if, fixed_by, fixed_if, heeding, keeper_after, settled_as, with_kept, with_row}
+use Rattle.word_rule.specs.Layout.{address_of, doublewords, IsDoubleword, place_of}
+use Rattle.word_rule.specs.Views.{IsLong, kept_at, offered, row_of, with_offered}
+use Rattle.word_rule.specs.declared.view.TrailItem.TheVariants.{Done}
 use Rattle.word_steps.specs.Views.{IsIdle}
 use Rattle.word_steps.specs.Views.{IsResting}
-use Rattle.guest_rule.specs.Lemmas.Heeding.{heeds, row_here}
+use Rattle.word_rule.specs.Lemmas.Heeding.{heeds, row_here}
 use Rattle.slot_bind.specs.declared.slot.Asked.{Asked}
 use Rattle.slot_bind.specs.declared.slot.Asked.TheVariants.{Open, Won as SaysWon, Lost as SaysLost}
 use Rattle.slot_bind.specs.declared.slot.Bound.{Bound}
@@ -118,14 +118,14 @@ lost_state n all three four = ⊎_elim (λ (e : n % 8 ≡ 3). absurd (three e)) 
 row_slot : (n : ℕ) (r : Row) → (asked n r).slot ≡ r.slot
 row_slot n r = go (eqb (n % 8) 3) (eqb (n % 8) 4) (eqb (n % 8) 5)
   where
-    settles : (f : Rattle.guest_rule.specs.declared.view.Fate.Fate) (p : Option Grant) → (Rattle.guest_rule.specs.KeeperSteps.settled_as f p r).slot ≡ r.slot
+    settles : (f : Rattle.word_rule.specs.declared.view.Fate.Fate) (p : Option Grant) → (Rattle.word_rule.specs.KeeperSteps.settled_as f p r).slot ≡ r.slot
     settles f None = refl
     settles f (Some g) = refl
 
     go : (a b c : Bool) → (asked_if a b c r).slot ≡ r.slot
     go true b c = refl
-    go false true c = settles Rattle.guest_rule.specs.declared.view.Fate.TheVariants.Won r.pending
-    go false false true = settles Rattle.guest_rule.specs.declared.view.Fate.TheVariants.Lost r.pending
+    go false true c = settles Rattle.word_rule.specs.declared.view.Fate.TheVariants.Won r.pending
+    go false false true = settles Rattle.word_rule.specs.declared.view.Fate.TheVariants.Lost r.pending
     go false false false = refl
 
 same_slot : (k k1 : KeeperView) (m n : ℕ) → IsLong k → m < 16 → k1 ≡ keeper_after (keepers.Ask m) k n → (row_of k1 m).slot ≡ (row_of k m).slot
@@ -144,7 +144,7 @@ pub ask_slot : (k k1 : KeeperView) (m n : ℕ) → IsLong k → m < 16 → k1 �
 ask_slot k k1 m n long low is told posted =
     let of_slot : IsOf (kept_at k) (place_of posted.0.entry.slot) posted.0 = told.of_slot posted.0 posted.1 in
     let same : (row_of k1 m).slot ≡ posted.0.entry.slot = asked_slot k k1 m n posted.0 long low is told posted.1 in record {
-      slot = subst (λ (f : ℕ → Rattle.guest_rule.specs.declared.view.Kept.Kept). IsSlot f (place_of (row_of k1 m).slot)) (sym (ap kept_at is)) (subst (λ s. IsSlot (kept_at k) (place_of s)) (sym same) of_slot.0);
+      slot = subst (λ (f : ℕ → Rattle.word_rule.specs.declared.view.Kept.Kept). IsSlot f (place_of (row_of k1 m).slot)) (sym (ap kept_at is)) (subst (λ s. IsSlot (kept_at k) (place_of s)) (sym same) of_slot.0);
       at = subst IsDoubleword (sym same) (slot_at k (place_of posted.0.entry.slot) posted.0 of_slot);
     }
 

@@ -1,14 +1,14 @@
 -- Views of a hart over the steps of one call.
 use Rattle.std.proofs.Common.{◌≡◌, ◌≢◌, ℕ, ◌<◌, inl, inr, Bool, true, false, nat_lt, Option, None, Some, refl, sym, ap, ◌∙◌, arith}
-use Rattle.guest_rule.specs.declared.entry.Entry.{Entry}
-use Rattle.guest_rule.specs.declared.entry.Grant.{Grant}
-use Rattle.guest_rule.specs.declared.entry.RowWord.{RowWord}
-use Rattle.guest_rule.specs.declared.kind.HartKind.TheVariants as kinds
-use Rattle.guest_rule.specs.declared.view.HartView.{HartView}
-use Rattle.guest_rule.specs.declared.view.Lane.{Lane}
-use Rattle.guest_rule.specs.declared.view.Offer.{Offer}
-use Rattle.guest_rule.specs.HartSteps.{HartLearns, HartReady, IsMark, arrived_if, found_in, hart_after, heeded, with_lane_of}
-use Rattle.guest_rule.specs.Views.{IsLane, offer_found, with_offered}
+use Rattle.word_rule.specs.declared.entry.Entry.{Entry}
+use Rattle.word_rule.specs.declared.entry.Grant.{Grant}
+use Rattle.word_rule.specs.declared.entry.RowWord.{RowWord}
+use Rattle.word_rule.specs.declared.kind.HartKind.TheVariants as kinds
+use Rattle.word_rule.specs.declared.view.HartView.{HartView}
+use Rattle.word_rule.specs.declared.view.Lane.{Lane}
+use Rattle.word_rule.specs.declared.view.Offer.{Offer}
+use Rattle.word_rule.specs.HartSteps.{HartLearns, HartReady, IsMark, arrived_if, found_in, hart_after, heeded, with_lane_of}
+use Rattle.word_rule.specs.Views.{IsLane, offer_found, with_offered}
 use Rattle.word_steps.specs.Views.{IsIdle}
 use Rattle.slot_bind.specs.Rows.{HasRow, begun, found_state, full_offer, offer_of, with_offer, with_taken}
 

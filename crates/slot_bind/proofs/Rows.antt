@@ -2,20 +2,20 @@
 use Rattle.std.proofs.Common.{◌≡◌, ◌≢◌, ◌⊎◌, ℕ, ◌≤◌, ◌<◌, true, nat_le, List, [], ◌∷◌, length, set, zero, suc, None, Some, refl, sym, ap, subst, ◌∙◌}
 use mathlib.Core.Logic.{dite}
 use native.Mathlib.Decide.{ℕ_discrete}
-use Rattle.link_event.specs.declared.handed.Granted.{Granted}
-use Rattle.guest_rule.specs.declared.entry.Entry.{Entry}
-use Rattle.guest_rule.specs.declared.entry.Grant.{Grant}
-use Rattle.guest_rule.specs.declared.entry.RowWord.{RowWord}
-use Rattle.guest_rule.specs.declared.entry.RowWord.TheVariants.{Number, Slot, Lazy, Value, Generation}
-use Rattle.guest_rule.specs.declared.kind.KeeperKind.TheVariants as kinds
-use Rattle.guest_rule.specs.declared.view.KeeperView.{KeeperView}
-use Rattle.guest_rule.specs.declared.view.Row.{Row}
-use Rattle.guest_rule.specs.Allowed.{IsPostable}
-use Rattle.guest_rule.specs.KeeperSteps.{KeeperReady, awaited_if, handed, heeding, keeper_after, opened, with_row}
-use Rattle.guest_rule.specs.Views.{IsLong, grant_in, kept_at, row_of, with_field}
-use Rattle.guest_rule.specs.Lemmas.Rows.{field_since}
+use Rattle.history_event.specs.declared.handed.Granted.{Granted}
+use Rattle.word_rule.specs.declared.entry.Entry.{Entry}
+use Rattle.word_rule.specs.declared.entry.Grant.{Grant}
+use Rattle.word_rule.specs.declared.entry.RowWord.{RowWord}
+use Rattle.word_rule.specs.declared.entry.RowWord.TheVariants.{Number, Slot, Lazy, Value, Generation}
+use Rattle.word_rule.specs.declared.kind.KeeperKind.TheVariants as kinds
+use Rattle.word_rule.specs.declared.view.KeeperView.{KeeperView}
+use Rattle.word_rule.specs.declared.view.Row.{Row}
+use Rattle.word_rule.specs.Allowed.{IsPostable}
+use Rattle.word_rule.specs.KeeperSteps.{KeeperReady, awaited_if, handed, heeding, keeper_after, opened, with_row}
+use Rattle.word_rule.specs.Views.{IsLong, grant_in, kept_at, row_of, with_field}
+use Rattle.word_rule.specs.Lemmas.Rows.{field_since}
 use Rattle.word_steps.specs.Views.{IsResting}
-use Rattle.guest_rule.specs.Lemmas.Heeding.{heeds, row_else, row_here}
+use Rattle.word_rule.specs.Lemmas.Heeding.{heeds, row_else, row_here}
 use Rattle.slot_bind.specs.Rows.{IsWaiting, MayHand, handed_over, row_with}
 use Rattle.slot_bind.specs.Grants.{MayPost, grant_of, posted}
 
@@ -109,7 +109,7 @@ unfolding row_granted
 open_ready k k0 k1 k2 m x rest long low same e1 e2 may = subst (KeeperReady (kinds.Open m)) (sym (grants k k0 k1 k2 m (grant_of x k.generation) long low same e1 e2)) (subst
     (λ (r : Row). (c : ℕ) × ((m < 16) × (r.since ≡ Some c) × (r.pending ≡ None)) × (r.number ≡ length k.events) × (c < r.number) × (r.generation ≡ k.generation) × IsPostable (kept_at k) (grant_in r) × (k.access.locked ≡ None))
     (sym (row_here k m (row_granted (grant_of x k.generation) (row_of k m)) (inside k m long low)))
-    (may.waits.0, (low, may.waits.1.1, may.waits.1.2), may.number, may.new, refl, may.postable, ap (λ (a : Rattle.guest_rule.specs.declared.view.Access.Access). a.locked) rest.access))
+    (may.waits.0, (low, may.waits.1.1, may.waits.1.2), may.number, may.new, refl, may.postable, ap (λ (a : Rattle.word_rule.specs.declared.view.Access.Access). a.locked) rest.access))
 
 pub opens : (k k0 k1 k2 k3 : KeeperView) (m n : ℕ) (x : Granted) → IsResting k → IsLong k → m < 16 → k0 ≡ k → k1 ≡ with_row m (row_with (grant_of x k.generation).entry (row_of k0 m)) k0
     → k2 ≡ with_row m (with_field Lazy x.lazy (row_of k1 m)) k1 → k3 ≡ keeper_after (kinds.Open m) k2 n → k3 ≡ posted m (grant_of x k.generation) k

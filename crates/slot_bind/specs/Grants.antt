@@ -1,20 +1,20 @@
 -- What the calls on grants leave in the views of a hart and of the keeper.
 use Rattle.std.specs.Prelude.{◌≡◌, ◌≢◌, ℕ, ◌%◌, ◌<◌, Bool, true, false, [], ◌∷◌, ◌++◌, length, None, Some}
-use Rattle.link_event.specs.declared.handed.Granted.{Granted}
-use Rattle.link_event.specs.declared.handed.Offer.{Offer}
-use Rattle.guest_rule.specs.declared.entry.Exchange.{Exchange}
-use Rattle.guest_rule.specs.declared.entry.Grant.{Grant}
-use Rattle.guest_rule.specs.declared.view.Fate.TheVariants.{Won as FateWon, Lost as FateLost}
-use Rattle.guest_rule.specs.declared.view.HartView.{HartView}
-use Rattle.guest_rule.specs.declared.view.KeeperView.{KeeperView}
-use Rattle.guest_rule.specs.declared.view.Offer.{Offer as ReadOffer}
-use Rattle.guest_rule.specs.declared.view.Row.{Row}
-use Rattle.guest_rule.specs.declared.view.TrailItem.TheVariants.{Done, Exchanged}
-use Rattle.guest_rule.specs.Allowed.{IsPostable}
-use Rattle.guest_rule.specs.HartSteps.{entered, finished, or_zero, with_lane_of}
-use Rattle.guest_rule.specs.KeeperSteps.{TellsSlot, fixed_by, settled_as, with_kept, with_row}
-use Rattle.guest_rule.specs.Layout.{place_of}
-use Rattle.guest_rule.specs.Views.{kept_at, row_of}
+use Rattle.history_event.specs.declared.handed.Granted.{Granted}
+use Rattle.history_event.specs.declared.handed.Offer.{Offer}
+use Rattle.word_rule.specs.declared.entry.Exchange.{Exchange}
+use Rattle.word_rule.specs.declared.entry.Grant.{Grant}
+use Rattle.word_rule.specs.declared.view.Fate.TheVariants.{Won as FateWon, Lost as FateLost}
+use Rattle.word_rule.specs.declared.view.HartView.{HartView}
+use Rattle.word_rule.specs.declared.view.KeeperView.{KeeperView}
+use Rattle.word_rule.specs.declared.view.Offer.{Offer as ReadOffer}
+use Rattle.word_rule.specs.declared.view.Row.{Row}
+use Rattle.word_rule.specs.declared.view.TrailItem.TheVariants.{Done, Exchanged}
+use Rattle.word_rule.specs.Allowed.{IsPostable}
+use Rattle.word_rule.specs.HartSteps.{entered, finished, or_zero, with_lane_of}
+use Rattle.word_rule.specs.KeeperSteps.{TellsSlot, fixed_by, settled_as, with_kept, with_row}
+use Rattle.word_rule.specs.Layout.{place_of}
+use Rattle.word_rule.specs.Views.{kept_at, row_of}
 use Rattle.slot_bind.specs.Rows.{IsWaiting, full_offer, offer_of}
 use Rattle.slot_bind.specs.declared.slot.Asked.{Asked}
 use Rattle.slot_bind.specs.declared.slot.Asked.TheVariants.{Open, Won as SaysWon, Lost as SaysLost}

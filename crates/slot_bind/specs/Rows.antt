@@ -1,15 +1,15 @@
 -- What the calls on rows leave in the views of a hart and of the keeper.
 use Rattle.std.specs.Prelude.{◌≡◌, ◌⊎◌, ℕ, ◌≤◌, ◌<◌, true, false, nat_lt, [], ◌∷◌, ◌++◌, length, Option, None, Some}
-use Rattle.guest_rule.specs.declared.entry.Entry.{Entry}
-use Rattle.guest_rule.specs.declared.entry.Grant.{Grant}
-use Rattle.guest_rule.specs.declared.view.HartView.{HartView}
-use Rattle.guest_rule.specs.declared.view.KeeperView.{KeeperView}
-use Rattle.guest_rule.specs.declared.view.Offer.{Offer}
-use Rattle.guest_rule.specs.declared.view.Row.{Row}
-use Rattle.guest_rule.specs.declared.view.TrailItem.TheVariants.{Took}
-use Rattle.guest_rule.specs.HartSteps.{arrived_if, entered, with_lane_of}
-use Rattle.guest_rule.specs.KeeperSteps.{Waits, handed, with_row}
-use Rattle.guest_rule.specs.Views.{fresh_offer, row_of}
+use Rattle.word_rule.specs.declared.entry.Entry.{Entry}
+use Rattle.word_rule.specs.declared.entry.Grant.{Grant}
+use Rattle.word_rule.specs.declared.view.HartView.{HartView}
+use Rattle.word_rule.specs.declared.view.KeeperView.{KeeperView}
+use Rattle.word_rule.specs.declared.view.Offer.{Offer}
+use Rattle.word_rule.specs.declared.view.Row.{Row}
+use Rattle.word_rule.specs.declared.view.TrailItem.TheVariants.{Took}
+use Rattle.word_rule.specs.HartSteps.{arrived_if, entered, with_lane_of}
+use Rattle.word_rule.specs.KeeperSteps.{Waits, handed, with_row}
+use Rattle.word_rule.specs.Views.{fresh_offer, row_of}
 
 -- ---- a hart
 

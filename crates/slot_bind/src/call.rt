@@ -1,13 +1,13 @@
 //! A hart's side of a call.
 
 ghost use Rattle.std.specs.Prelude.{◌≡◌, ◌≢◌, ◌⊎◌, ◌≤◌, ℕ, true, false, Some, length};
-ghost use Rattle.guest_rule.specs.HartSteps.{Awaits, IsMark};
-ghost use Rattle.guest_rule.specs.Views.{offered, with_offered};
-ghost use Rattle.guest_rule.specs.declared.view.Offer.{Offer};
+ghost use Rattle.word_rule.specs.HartSteps.{Awaits, IsMark};
+ghost use Rattle.word_rule.specs.Views.{offered, with_offered};
+ghost use Rattle.word_rule.specs.declared.view.Offer.{Offer};
 ghost use Rattle.slot_bind.specs.Rows.{HasRow, IsEntryOf, IsRowOf, begun, found_state, full_offer, offer_of, with_offer, with_taken};
 
-use guest_rule::{Entry, Grant, HartKind, RowWord};
 use word_memory::{HartSeat, Memory, Naming, row_word, state_word};
+use word_rule::{Entry, Grant, HartKind, RowWord};
 use word_steps::COUNT;
 
 /// Begins a call: from then on the hart's row awaits an answer.

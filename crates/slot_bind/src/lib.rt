@@ -6,7 +6,7 @@
 //! slot's word ([`bind`]) and gives the row back as won or lost ([`done`]), and the keeper asks what came
 //! of it ([`ask`]). [`tell`] tells a hart between two calls, or one that has read its row, of the keeper's events.
 //!
-//! Each call is one or a few of the steps of `guest_rule`, so the rule holds between any two of them. None
+//! Each call is one or a few of the steps of `word_rule`, so the rule holds between any two of them. None
 //! takes memory or waits.
 #![tactic(auto)]
 

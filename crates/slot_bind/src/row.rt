@@ -1,18 +1,18 @@
 //! The keeper's side of a call.
 
 ghost use Rattle.std.specs.Prelude.{◌≡◌, ◌<◌, ℕ, nat_le};
-ghost use Rattle.guest_rule.specs.declared.view.HartView.{HartView};
-ghost use Rattle.guest_rule.specs.KeeperSteps.{HasEnded, HasTakenAll, awaited_if, with_row};
-ghost use Rattle.guest_rule.specs.Allowed.{IsDecided, IsSlot};
-ghost use Rattle.guest_rule.specs.Views.{IsLong, kept_at, row_of, with_field};
+ghost use Rattle.word_rule.specs.declared.view.HartView.{HartView};
+ghost use Rattle.word_rule.specs.KeeperSteps.{HasEnded, HasTakenAll, awaited_if, with_row};
+ghost use Rattle.word_rule.specs.Allowed.{IsDecided, IsSlot};
+ghost use Rattle.word_rule.specs.Views.{IsLong, kept_at, row_of, with_field};
 ghost use Rattle.word_steps.specs.Views.{IsResting};
 ghost use Rattle.slot_bind.specs.Grants.{MayPost, grant_of, posted};
 ghost use Rattle.slot_bind.specs.Rows.{IsWaiting, MayHand, handed_over, row_with};
 
-use guest_rule::{Entry, KeeperKind, RowWord};
+use history_event::Granted;
 use ld_base::HartId;
-use link_event::Granted;
 use word_memory::{KeeperSeat, Memory, Naming, row_word, state_word};
+use word_rule::{Entry, KeeperKind, RowWord};
 use word_steps::GENERATION;
 
 /// Whether the hart is calling. The keeper's view then knows it.

@@ -2,24 +2,24 @@
 
 ghost use Rattle.std.specs.Prelude.{◌≡◌, ◌<◌, ◌%◌, ℕ, None, Some};
 ghost use Rattle.rv_hart.specs.declared.bus.Item.{Item};
-ghost use Rattle.guest_rule.specs.declared.entry.Grant.{Grant};
-ghost use Rattle.guest_rule.specs.KeeperSteps.{TellsAsk, TellsSlot};
-ghost use Rattle.guest_rule.specs.Views.{IsLong, kept_at, row_of};
-ghost use Rattle.guest_rule.specs.Allowed.{IsSlot};
-ghost use Rattle.guest_rule.specs.Layout.{IsDoubleword, place_of};
+ghost use Rattle.word_rule.specs.declared.entry.Grant.{Grant};
+ghost use Rattle.word_rule.specs.KeeperSteps.{TellsAsk, TellsSlot};
+ghost use Rattle.word_rule.specs.Views.{IsLong, kept_at, row_of};
+ghost use Rattle.word_rule.specs.Allowed.{IsSlot};
+ghost use Rattle.word_rule.specs.Layout.{IsDoubleword, place_of};
 ghost use Rattle.word_access.specs.Accesses.{Calls};
 ghost use Rattle.slot_bind.specs.Grants.{IsBound, IsOffered, Saw, Says, asked_view, exchange_of, exchanged};
 ghost use Rattle.slot_bind.specs.Grants.{fated_view, given_back, grant_read, leads_to, with_look};
 ghost use Rattle.slot_bind.specs.Rows.{HasRow, IsRowOf, offer_of, with_offer};
 
 use crate::call::{find, read_row};
-use guest_rule::{Entry, Grant, HartKind, KeeperKind, RowWord};
+use history_event::Offer;
 use ld_base::HartId;
-use link_event::Offer;
 use rv_hart::{Bus, BusFault};
 use word_memory::{
     HartSeat, KeeperSeat, Memory, Naming, TableBus, place_at, row_word, state_word, value_word,
 };
+use word_rule::{Entry, Grant, HartKind, KeeperKind, RowWord};
 
 /// What came of an exchange.
 #[derive(Clone, Copy, Debug, PartialEq, Eq)]

@@ -16,11 +16,11 @@ use lib.Arith.{mod-mul}
 use Rattle.ld_base.specs.Symbol.{is_visible_definition}
 use Rattle.ld_base.specs.declared.object.Symbol.{Symbol}
 use Rattle.ld_base.specs.declared.parts.SysvPart.{SysvPart}
-use Rattle.acceptance.specs.Least.{least_below}
-use Rattle.acceptance.specs.Lemmas.Leasts.{least_found, least_kept}
-use Rattle.acceptance.specs.Lemmas.Tables.{same_elements}
-use Rattle.acceptance.specs.Lemmas.Tests.{both, contrary, means}
-use Rattle.dyn_table.specs.Symbol.{IsBare}
+use Rattle.elf_head.specs.AcceptancePart.Least.{least_below}
+use Rattle.elf_head.specs.AcceptancePart.Lemmas.Leasts.{least_found, least_kept}
+use Rattle.elf_head.specs.AcceptancePart.Lemmas.Tables.{same_elements}
+use Rattle.elf_head.specs.AcceptancePart.Lemmas.Tests.{both, contrary, means}
+use Rattle.elf_head.specs.DynTable.Symbol.{IsBare}
 use Rattle.sym_hash.specs.Follow.{AreTrips, arrives, carried, follow, followed, leads_on, start_to, step, then_trip, trip, trip_from}
 use Rattle.sym_hash.specs.Hash.{sysv_hash}
 use Rattle.sym_hash.specs.Hashed.{first_lost, is_lost}

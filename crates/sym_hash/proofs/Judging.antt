@@ -16,11 +16,11 @@ use Rattle.ld_base.specs.declared.object.Symbol.{Symbol}
 use Rattle.ld_base.specs.declared.parts.GnuPart.{GnuPart}
 use Rattle.ld_base.specs.declared.parts.HashTable.{HashTable}
 use Rattle.ld_base.specs.declared.parts.SysvPart.{SysvPart}
-use Rattle.acceptance.specs.Broken.{first_broken}
-use Rattle.acceptance.specs.First.{IsFirstBroken}
-use Rattle.acceptance.specs.Lemmas.Finds.{one_first, same_some, Finds}
-use Rattle.acceptance.specs.Lemmas.Leasts.{finds_least}
-use Rattle.acceptance.specs.Lemmas.Tests.{among, both, contrary, decided, itself, le_decides, means, refuted, settle, there_decides}
+use Rattle.elf_head.specs.AcceptancePart.Broken.{first_broken}
+use Rattle.elf_head.specs.AcceptancePart.First.{IsFirstBroken}
+use Rattle.elf_head.specs.AcceptancePart.Lemmas.Finds.{one_first, same_some, Finds}
+use Rattle.elf_head.specs.AcceptancePart.Lemmas.Leasts.{finds_least}
+use Rattle.elf_head.specs.AcceptancePart.Lemmas.Tests.{among, both, contrary, decided, itself, le_decides, means, refuted, settle, there_decides}
 use Rattle.sym_hash.proofs.Following.{end_decides, sysv_decides}
 use Rattle.sym_hash.specs.Breaks.{Breaks, IsMissedAt}
 use Rattle.sym_hash.specs.Breaks.Breaks.{no_end, not_reached}

@@ -7,8 +7,8 @@ use Rattle.ld_base.specs.declared.object.Symbol.{Symbol}
 use Rattle.ld_base.specs.declared.parts.DynParts.{DynParts}
 use Rattle.ld_base.specs.declared.parts.HashTable.{HashTable}
 use Rattle.ld_base.specs.declared.parts.Head.{Head}
-use Rattle.acceptance.specs.First.{IsFirst, IsFirstBroken}
-use Rattle.dyn_table.specs.HashWords.{hash_words}
+use Rattle.elf_head.specs.AcceptancePart.First.{IsFirst, IsFirstBroken}
+use Rattle.elf_head.specs.DynTable.HashWords.{hash_words}
 use Rattle.sym_hash.specs.Reached.{IsTableFor, Reached, WalksEnd}
 
 -- the symbol of this index is an exported definition that isn't reached under its name

@@ -3,8 +3,8 @@ use Rattle.std.specs.Prelude.{ℕ, ◌-◌, ◌/◌, ◌%◌, ◌^◌, ◌==◌,
 use Rattle.std.specs.List.{list_any, list_all, slice_get}
 use Rattle.std.specs.Option.{option_map_or}
 use Rattle.ld_base.specs.declared.parts.GnuPart.{GnuPart}
-pub use Rattle.dyn_table.specs.Bits.{has_bit}
-pub use Rattle.dyn_table.specs.HashWords.{is_end}
+pub use Rattle.elf_head.specs.DynTable.Bits.{has_bit}
+pub use Rattle.elf_head.specs.DynTable.HashWords.{is_end}
 
 -- some chain word marks an end, from that of one symbol on and before that of another
 abbrev pub ends_between : GnuPart → ℕ → ℕ → Bool

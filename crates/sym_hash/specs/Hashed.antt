@@ -5,8 +5,8 @@ use Rattle.std.specs.Option.{option_map_or, option_or}
 use Rattle.std.specs.List.{list_any, slice_get}
 use Rattle.ld_base.specs.declared.parts.GnuPart.{GnuPart}
 use Rattle.ld_base.specs.declared.parts.HashTable.{HashTable}
-use Rattle.acceptance.specs.Least.{least_below}
-use Rattle.dyn_table.specs.HashWords.{is_end}
+use Rattle.elf_head.specs.AcceptancePart.Least.{least_below}
+use Rattle.elf_head.specs.DynTable.HashWords.{is_end}
 use Rattle.sym_hash.specs.Gnu.{gnu_leads, gnu_walks_end}
 use Rattle.sym_hash.specs.Hash.{gnu_hash, sysv_hash}
 use Rattle.sym_hash.specs.Sysv.{sysv_leads, sysv_walks_end}

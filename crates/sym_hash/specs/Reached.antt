@@ -7,8 +7,8 @@ use Rattle.ld_base.specs.declared.object.Symbol.{Symbol}
 use Rattle.ld_base.specs.declared.parts.GnuPart.{GnuPart}
 use Rattle.ld_base.specs.declared.parts.HashTable.{HashTable}
 use Rattle.ld_base.specs.declared.parts.SysvPart.{SysvPart}
-use Rattle.dyn_table.specs.Bits.{has_bit}
-use Rattle.dyn_table.specs.HashWords.{is_end}
+use Rattle.elf_head.specs.DynTable.Bits.{has_bit}
+use Rattle.elf_head.specs.DynTable.HashWords.{is_end}
 use Rattle.sym_hash.specs.Hash.{gnu_hash, sysv_hash}
 
 -- ---- the GNU table

@@ -9,8 +9,8 @@ use Rattle.ld_base.specs.declared.parts.Head.{Head}
 use Rattle.ld_base.specs.declared.parts.HashTable.{HashTable}
 use Rattle.ld_base.specs.declared.parts.Header.{Header}
 use Rattle.ld_base.specs.declared.parts.Tag.{Tag}
-use Rattle.acceptance.specs.Broken.{first_broken}
-use Rattle.dyn_table.specs.HashWords.{hash_words}
+use Rattle.elf_head.specs.AcceptancePart.Broken.{first_broken}
+use Rattle.elf_head.specs.DynTable.HashWords.{hash_words}
 use Rattle.sym_hash.specs.Hashed.{hash_by, unmet_by}
 
 -- what breaks rule 19, of symbols by their names

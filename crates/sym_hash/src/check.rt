@@ -1,7 +1,7 @@
 //! Reading hash tables.
 
 ghost use Rattle.std.specs.Prelude.{◌≡◌, Ok};
-ghost use Rattle.acceptance.specs.Gives.{Answers, Gives};
+ghost use Rattle.elf_head.specs.AcceptancePart.Gives.{Answers, Gives};
 ghost use Rattle.elf_head.specs.Rules.{head_verdict};
 ghost use Rattle.sym_hash.specs.Breaks.{BreaksHash, IsHashTable};
 ghost use Rattle.elf_dynamic.specs.Verdict.{ArePartsOf};
@@ -10,7 +10,7 @@ ghost use Rattle.sym_hash.specs.Verdict.{hash_verdict};
 
 use crate::judge::{hashes_of, judge};
 use crate::law::one_verdict;
-use dyn_table::read_hash_words;
+use elf_head::read_hash_words;
 use ld_base::{DynParts, HashTable, Head, ReadFault, Versions};
 use std::alloc::Global;
 

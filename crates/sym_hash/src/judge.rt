@@ -5,8 +5,8 @@ ghost use Rattle.std.specs.List.{slice_get};
 ghost use Rattle.std.specs.Option.{option_map_or};
 ghost use Rattle.ld_base.specs.Symbol.{is_visible_definition};
 ghost use Rattle.ld_base.specs.declared.object.Symbol.{Symbol};
-ghost use Rattle.acceptance.specs.Broken.{first_broken};
-ghost use Rattle.acceptance.specs.Gives.{Gives};
+ghost use Rattle.elf_head.specs.AcceptancePart.Broken.{first_broken};
+ghost use Rattle.elf_head.specs.AcceptancePart.Gives.{Gives};
 ghost use Rattle.elf_head.specs.Rules.{head_verdict};
 ghost use Rattle.sym_hash.specs.Hashed.{first_lost, hash_by, unmet_by};
 ghost use Rattle.elf_dynamic.specs.Verdict.{ArePartsOf};
@@ -14,8 +14,8 @@ ghost use Rattle.sym_hash.specs.Verdict.{hash_verdict};
 
 use crate::hash::{gnu_hash, sysv_hash};
 use crate::{gnu, sysv};
-use dyn_table::{SymbolTable, read_hash_words};
 use elf_dynamic::JudgedParts;
+use elf_head::{SymbolTable, read_hash_words};
 use ld_base::{HashTable, Head, NotAccepted, ReadFault, Symbol};
 use std::alloc::{AllocError, Global};
 

@@ -24,8 +24,8 @@ use Rattle.scope_rule.specs.Scope.{scope}
 use Rattle.scope_rule.specs.Seen.{Seen}
 use Rattle.sym_lookup.specs.Looking.{HaveTables, choice_of_symbol, outside}
 use Rattle.sym_lookup.specs.References.{AreKept, IsAlike}
-use Rattle.version_places.specs.Places.{places_of}
-use Rattle.version_places.specs.declared.names.VersionPlace.{VersionPlace}
+use Rattle.scope_lists.specs.VersionPlaces.Places.{places_of}
+use Rattle.scope_lists.specs.declared.version_places.names.VersionPlace.{VersionPlace}
 
 module _ (pick : ℕ → Option ℕ) (serial : ℕ) (rest : List ℕ) where
   first_none : pick serial ≡ None → first_with pick (serial ∷ rest) ≡ first_with pick rest

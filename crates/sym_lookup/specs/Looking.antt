@@ -9,7 +9,7 @@ use Rattle.ld_base.specs.declared.linking.Want.TheVariants as want
 use Rattle.scope_rule.specs.Choose.{choose_for}
 use Rattle.scope_rule.specs.Loading.{object_of}
 use Rattle.scope_rule.specs.Seen.{Seen}
-use Rattle.search_lists.specs.Lists.{at_place}
+use Rattle.scope_lists.specs.Lists.{at_place}
 use Rattle.sym_hash.specs.Reached.{IsTableOf}
 use Rattle.sym_lookup.specs.declared.searched.Searched.{Searched}
 

@@ -2,9 +2,9 @@
 //!
 //! [`lookup`] gives what `scope_rule::choose` gives, and [`lookup_reloc`] what `scope_rule::choose_reloc`
 //! gives. [`References`] gives that for all relocations of one object: each symbol is looked up once.
-//! Where the references of an object are searched is known from search lists (`search_lists`), which know
+//! Where the references of an object are searched is known from search lists (`scope_lists`), which know
 //! where the names of each object's versions stand, too, and each object is searched by its hash table
-//! (`sym_find`). The hashes of a reference's name are computed once. None of them takes memory, but for
+//! (`sym_lookup`). The hashes of a reference's name are computed once. None of them takes memory, but for
 //! making [`References`].
 #![tactic(auto)]
 
@@ -13,8 +13,10 @@ mod looking;
 mod references;
 mod searched;
 mod searching;
+mod sym_find;
 
 pub use law::tables_are_there;
 pub use looking::{lookup, lookup_in, lookup_reloc};
 pub use references::References;
-pub use search_lists::SearchLists;
+pub use scope_lists::SearchLists;
+pub use sym_find::{Asked, Find, Sought};

@@ -7,17 +7,16 @@ ghost use Rattle.scope_rule.specs.Loading.{object_of};
 ghost use Rattle.scope_rule.specs.Relocation.{choice_at};
 ghost use Rattle.scope_rule.specs.Scope.{scope};
 ghost use Rattle.scope_rule.specs.Seen.{Seen, seen, seen_in};
-ghost use Rattle.search_lists.specs.Lists.{AreListsOf, IsListed};
-ghost use Rattle.sym_find.specs.Reference.{want_as};
+ghost use Rattle.scope_lists.specs.Lists.{AreListsOf, IsListed};
+ghost use Rattle.sym_lookup.specs.SymFind.Reference.{want_as};
 ghost use Rattle.sym_lookup.specs.Looking.{HaveTables, outside, want_for};
-ghost use Rattle.version_places.specs.Places.{places_of};
+ghost use Rattle.scope_lists.specs.VersionPlaces.Places.{places_of};
 
 use crate::searched::{Searched, found_outside, names_of};
+use crate::sym_find::{Asked, Sought};
 use ld_base::{Choice, Loaded, Name, Object, Reloc, Serial, Symbol};
+use scope_lists::{SearchLists, VersionNames, version_name};
 use scope_rule::{Namespace, View, choice_of, has_no_symbol, is_copy, is_own};
-use search_lists::SearchLists;
-use sym_find::{Asked, Sought};
-use version_places::{VersionNames, version_name};
 
 /// The version that a relocation against a symbol asks for: that of the symbol's index, if the index
 /// names one (Drepper, "ELF Symbol Versioning").

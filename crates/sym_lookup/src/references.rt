@@ -11,12 +11,11 @@ ghost use Rattle.sym_lookup.specs.References.{AreKept, IsAlike};
 use crate::looking::{owner_names, searched, stays_own};
 use crate::searching::Searching;
 use ld_base::{Choice, Loaded, Name, Object, Reloc, Serial, Symbol};
+use scope_lists::{SearchLists, VersionNames};
 use scope_rule::{View, choice_of, has_no_symbol, is_copy};
-use search_lists::SearchLists;
 use std::alloc::{AllocError, Global};
 use std::marker::Model;
 use sym_hash::gnu_hash;
-use version_places::VersionNames;
 
 /// The references of one object to the definitions of its namespace. What is found for a symbol is
 /// kept, so that further relocations against it make no search. Contracts see the object, and what is
@@ -187,9 +186,9 @@ impl<'a> References<'a> {
     ghost use Rattle.scope_rule.specs.Relocation.{choice_at};
     ghost use Rattle.scope_rule.specs.Scope.{scope};
     ghost use Rattle.scope_rule.specs.Seen.{seen};
-    ghost use Rattle.search_lists.specs.Lists.{AreListsOf, IsListed, IsListedAt};
+    ghost use Rattle.scope_lists.specs.Lists.{AreListsOf, IsListed, IsListedAt};
     ghost use Rattle.sym_lookup.specs.Looking.{HaveTables, choice_of_symbol, want_for};
-    ghost use Rattle.version_places.specs.Places.{places_of};
+    ghost use Rattle.scope_lists.specs.VersionPlaces.Places.{places_of};
 
     /// Those of an object of what is seen of a namespace. The lists are those of the namespace and have the
     /// object's scope, and the table of each of its objects is that object's.

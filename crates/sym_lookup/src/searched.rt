@@ -5,15 +5,14 @@ ghost use Rattle.std.specs.List.{AllByRecursion};
 ghost use Rattle.std.specs.Option.{option_copied};
 ghost use Rattle.scope_rule.specs.Choose.{first_with, pick_at};
 ghost use Rattle.scope_rule.specs.Seen.{Seen, seen};
-ghost use Rattle.search_lists.specs.Lists.{AreListsOf, at_place};
+ghost use Rattle.scope_lists.specs.Lists.{AreListsOf, at_place};
 ghost use Rattle.sym_lookup.specs.Looking.{HaveTables, IsSearched, outside};
-ghost use Rattle.version_places.specs.Places.{places_of};
+ghost use Rattle.scope_lists.specs.VersionPlaces.Places.{places_of};
 
+use crate::sym_find::{Find, Sought};
 use ld_base::{Loaded, Serial};
+use scope_lists::{SearchLists, VersionNames, object_at};
 use scope_rule::{View, linker_symbol};
-use search_lists::{SearchLists, object_at};
-use sym_find::{Find, Sought};
-use version_places::VersionNames;
 
 /// An object that is searched: its serial, and its place in load order where it is there.
 #[derive(Clone, Copy)]

@@ -3,17 +3,16 @@
 ghost use Rattle.std.specs.Prelude.{◌≡◌, map, IfOk};
 ghost use Rattle.std.specs.List.{AllByRecursion};
 ghost use Rattle.scope_rule.specs.Seen.{Seen};
-ghost use Rattle.search_lists.specs.Lists.{AreListsOf};
+ghost use Rattle.scope_lists.specs.Lists.{AreListsOf};
 ghost use Rattle.sym_lookup.specs.Looking.{IsSearched};
 
 use crate::looking::{sought_of, stays_own, version_asked};
 use crate::searched::{Searched, first_searched};
 use ld_base::{Choice, Loaded, Name, Serial, Symbol};
+use scope_lists::{SearchLists, VersionNames};
 use scope_rule::{View, choice_of};
-use search_lists::SearchLists;
 use std::alloc::{AllocError, Global};
 use std::marker::Model;
-use version_places::VersionNames;
 
 /// An object, and what its references are searched in: each object that is searched is found once.
 /// Contracts see the object, and what is seen of its namespace.
@@ -32,10 +31,10 @@ impl<'a> Model for Searching<'a> {
     ghost use Rattle.std.specs.List.{AllByRecursion};
     ghost use Rattle.scope_rule.specs.Scope.{scope};
     ghost use Rattle.scope_rule.specs.Seen.{seen};
-    ghost use Rattle.search_lists.specs.Lists.{AreListsOf};
+    ghost use Rattle.scope_lists.specs.Lists.{AreListsOf};
     ghost use Rattle.sym_lookup.specs.Looking.{HaveTables, IsSearched};
     ghost use Rattle.sym_lookup.specs.References.{Referring};
-    ghost use Rattle.version_places.specs.Places.{places_of};
+    ghost use Rattle.scope_lists.specs.VersionPlaces.Places.{places_of};
 
     ghost Value = { Referring };
 
@@ -74,9 +73,9 @@ impl<'a> Searching<'a> {
     ghost use Rattle.scope_rule.specs.Choose.{choose_for, want_of};
     ghost use Rattle.scope_rule.specs.Scope.{scope};
     ghost use Rattle.scope_rule.specs.Seen.{seen};
-    ghost use Rattle.search_lists.specs.Lists.{AreListsOf};
+    ghost use Rattle.scope_lists.specs.Lists.{AreListsOf};
     ghost use Rattle.sym_lookup.specs.Looking.{HaveTables, choice_of_symbol, want_for};
-    ghost use Rattle.version_places.specs.Places.{places_of};
+    ghost use Rattle.scope_lists.specs.VersionPlaces.Places.{places_of};
 
     /// Those of an object with these names of versions, whose references are searched there.
     pub(crate) fn of(

@@ -5,7 +5,7 @@ use Rattle.std.proofs.lemmas.Bool.{cases_lt, ltb-true, lt-ltb, le-ltb}
 use Rattle.std.proofs.lemmas.List.{append-nil, get_or-take, get_or-drop, length-take-le, length-drop, take-append-drop}
 use Rattle.std.proofs.lemmas.List.Elements.{All-append, All-cons, All-filter, All-weaker, Contains-get_or, filter-append, filter_passes}
 use Rattle.std.proofs.lemmas.List.Kept.{AllPairs-cons, AllPairs-filter}
-use Rattle.link_event.specs.declared.state.Module.{Module}
+use Rattle.history_event.specs.declared.state.Module.{Module}
 use Rattle.tls_blocks.specs.Numbers.{AreNumbered, HasGapAt, IsLeastFree, IsTaken, number_of, with_module}
 use Rattle.tls_blocks.proofs.Parts.{filter_all, filter_none, pairs_join}
 

@@ -1,7 +1,7 @@
 -- The blocks that a hart keeps.
 use Rattle.std.specs.Prelude.{◌≡◌, ℕ, ◌≤◌, Bool, true, false, not, ◌==◌, if◌then◌else◌, List, [], ◌∷◌, ◌++◌, filter, find, Option, Some, None, All, AllPairs}
 use Rattle.std.specs.Prelude.{◌≢◌, option_map}
-use Rattle.link_event.specs.declared.state.Module.{Module}
+use Rattle.history_event.specs.declared.state.Module.{Module}
 use Rattle.tls_blocks.specs.declared.dtv.Entry.{Entry}
 use Rattle.tls_blocks.specs.declared.dtv.TlsAnswer.{TlsAnswer}
 use Rattle.tls_blocks.specs.declared.dtv.TlsAnswer.TheVariants as answers

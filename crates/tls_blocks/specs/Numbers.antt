@@ -1,6 +1,6 @@
 -- Modules by their numbers.
 use Rattle.std.specs.Prelude.{◌≡◌, ℕ, ◌+◌, ◌<◌, ◌≤◌, not, ◌==◌, nat_lt, List, ◌∷◌, ◌++◌, length, filter, find, Option, Contains, All, AllPairs, slice_index_or}
-use Rattle.link_event.specs.declared.state.Module.{Module}
+use Rattle.history_event.specs.declared.state.Module.{Module}
 
 -- what contracts see of the modules
 pub record ModuleTable : Type 0 where

@@ -1,7 +1,7 @@
 //! What holds of modules by their numbers.
 
 ghost use Rattle.std.specs.Prelude.{ℕ, ◌≤◌, Bool, List, filter};
-ghost use Rattle.link_event.specs.declared.state.Module.{Module};
+ghost use Rattle.history_event.specs.declared.state.Module.{Module};
 ghost use Rattle.tls_blocks.specs.Numbers.{AreNumbered, number_of, with_module};
 
 /// Modules in the order of their numbers, from 1 on, stay so with one more and with fewer.

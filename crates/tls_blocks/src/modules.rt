@@ -8,8 +8,8 @@ ghost use Rattle.tls_blocks.specs.Places.{IsOffset, alignment_of, end_with, tp_w
 ghost use Rattle.tls_blocks.specs.Numbers.{AreNumbered, HasGapAt, IsLeastFree, number_of, module_at, with_module, without_module};
 
 use crate::placing::{alignment, static_offset};
+use history_event::Module;
 use ld_base::{Serial, TlsPlace, TlsSeg};
-use link_event::Module;
 use std::alloc::{AllocError, Global};
 use std::marker::Model;
 

@@ -7,13 +7,13 @@ use Rattle.std.proofs.lemmas.Slice.Eq.{bytes_eq-Decides}
 use Rattle.std.specs.Fmt.{decimal}
 use Rattle.ld_base.specs.declared.fault.DlFault.{DlFault}
 use Rattle.ld_base.specs.FaultText.{fault_text, hex_text}
-use Rattle.link_event.specs.declared.event.CloseAnswer.{CloseAnswer}
-use Rattle.link_event.specs.declared.event.CloseAnswer.TheVariants as closes
-use Rattle.link_event.specs.declared.event.SymAnswer.{SymAnswer}
-use Rattle.link_event.specs.declared.event.SymAnswer.TheVariants as syms
-use Rattle.link_event.specs.declared.event_line.NewLine.{NewLine}
-use Rattle.link_event.specs.declared.event_line.OpenLine.{OpenLine}
-use Rattle.link_event.specs.declared.event_line.OpenLine.TheVariants as opens
+use Rattle.history_event.specs.declared.event.CloseAnswer.{CloseAnswer}
+use Rattle.history_event.specs.declared.event.CloseAnswer.TheVariants as closes
+use Rattle.history_event.specs.declared.event.SymAnswer.{SymAnswer}
+use Rattle.history_event.specs.declared.event.SymAnswer.TheVariants as syms
+use Rattle.history_event.specs.declared.event_line.NewLine.{NewLine}
+use Rattle.history_event.specs.declared.event_line.OpenLine.{OpenLine}
+use Rattle.history_event.specs.declared.event_line.OpenLine.TheVariants as opens
 use Rattle.trace_text.specs.Lines.{asked_text, close_answer_text, sym_answer_text, definition_text, refused_text}
 use Rattle.trace_text.specs.Lists.{serials_text}
 use Rattle.trace_read.specs.Answers.{asked, done_parts, opened, answer_by, no_or_ok, open_answer, close_answer, found_parts, found, sym_answer}

@@ -5,8 +5,8 @@ use Rattle.std.proofs.lemmas.Option.{none-some, same_Some}
 use Rattle.std.proofs.lemmas.Slice.Eq.{bytes_eq-Decides}
 use Rattle.std.specs.Fmt.{decimal}
 use Rattle.ld_base.specs.FaultText.{hex_text}
-use Rattle.link_event.specs.declared.hart_end.HartEnd.{HartEnd}
-use Rattle.link_event.specs.declared.hart_end.HartEnd.TheVariants as ends
+use Rattle.history_event.specs.declared.hart_end.HartEnd.{HartEnd}
+use Rattle.history_event.specs.declared.hart_end.HartEnd.TheVariants as ends
 use Rattle.trace_text.specs.Ends.{end_text}
 use Rattle.trace_read.specs.declared.ends.EndWord.{EndWord}
 use Rattle.trace_read.specs.declared.ends.EndWord.TheVariants as words

@@ -10,8 +10,8 @@ use Rattle.std.specs.Fmt.{decimal}
 use Rattle.ld_base.specs.declared.fault.DlFault.{DlFault}
 use Rattle.ld_base.specs.FaultText.{fault_text, hex_text}
 use Rattle.ld_base.specs.Text.{name_text, name_or_none}
-use Rattle.link_event.specs.declared.event_line.EventLine.{EventLine}
-use Rattle.link_event.specs.declared.event_line.EventLine.TheVariants as lines
+use Rattle.history_event.specs.declared.event_line.EventLine.{EventLine}
+use Rattle.history_event.specs.declared.event_line.EventLine.TheVariants as lines
 use Rattle.trace_text.specs.Lines.{asked_text, close_answer_text, sym_answer_text, sym_text}
 use Rattle.trace_text.specs.Lists.{byte_digits, serials_text}
 use Rattle.trace_text.specs.Said.{hart_word}

@@ -8,9 +8,9 @@ use Rattle.std.specs.Fmt.{decimal}
 use Rattle.ld_base.specs.declared.linking.Choice.{Choice}
 use Rattle.ld_base.specs.declared.linking.Choice.TheVariants as choices
 use Rattle.ld_base.specs.FaultText.{hex_text}
-use Rattle.link_event.specs.declared.event_line.EventLine.{EventLine}
-use Rattle.link_event.specs.declared.event_line.EventLine.TheVariants as lines
-use Rattle.link_event.specs.declared.hart_end.HartEnd.{HartEnd}
+use Rattle.history_event.specs.declared.event_line.EventLine.{EventLine}
+use Rattle.history_event.specs.declared.event_line.EventLine.TheVariants as lines
+use Rattle.history_event.specs.declared.hart_end.HartEnd.{HartEnd}
 use Rattle.trace_text.specs.Ends.{end_text}
 use Rattle.trace_text.specs.Lines.{definition_text, granted_text, unresolved_text, grant_word, slot_word}
 use Rattle.trace_text.specs.Said.{hart_word, object_word}

@@ -8,7 +8,7 @@ use Rattle.std.specs.Fmt.{decimal, digits}
 use Rattle.ld_base.specs.declared.linking.TlsPlace.{TlsPlace}
 use Rattle.ld_base.specs.FaultText.{hex_text}
 use Rattle.ld_base.specs.Text.{is_plain, name_text}
-use Rattle.link_event.specs.declared.event_line.NewLine.{NewLine}
+use Rattle.history_event.specs.declared.event_line.NewLine.{NewLine}
 use Rattle.trace_text.specs.Lists.{place_text, serials_text}
 use Rattle.trace_text.specs.Lines.{definition_text}
 use Rattle.trace_read.specs.Fits.{Fits8, Fits32, Fits64, Fits64IfSome, PlaceFits, NewLineFits}

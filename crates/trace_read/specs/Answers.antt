@@ -1,13 +1,13 @@
 -- What came of calls of the linker, as lines have it, read back.
 use Rattle.std.specs.Prelude.{ℕ, ◌^◌, if◌then◌else◌, codes, List, [], ◌∷◌, Option, Some, None, option_map}
 use Rattle.std.specs.Str.{bytes_eq}
-use Rattle.link_event.specs.declared.event.CloseAnswer.{CloseAnswer}
-use Rattle.link_event.specs.declared.event.CloseAnswer.TheVariants as closes
-use Rattle.link_event.specs.declared.event.SymAnswer.{SymAnswer}
-use Rattle.link_event.specs.declared.event.SymAnswer.TheVariants as syms
-use Rattle.link_event.specs.declared.event_line.NewLine.{NewLine}
-use Rattle.link_event.specs.declared.event_line.OpenLine.{OpenLine}
-use Rattle.link_event.specs.declared.event_line.OpenLine.TheVariants as opens
+use Rattle.history_event.specs.declared.event.CloseAnswer.{CloseAnswer}
+use Rattle.history_event.specs.declared.event.CloseAnswer.TheVariants as closes
+use Rattle.history_event.specs.declared.event.SymAnswer.{SymAnswer}
+use Rattle.history_event.specs.declared.event.SymAnswer.TheVariants as syms
+use Rattle.history_event.specs.declared.event_line.NewLine.{NewLine}
+use Rattle.history_event.specs.declared.event_line.OpenLine.{OpenLine}
+use Rattle.history_event.specs.declared.event_line.OpenLine.TheVariants as opens
 use Rattle.trace_read.specs.Pieces.{◌>>=◌, behind, labelled, pair}
 use Rattle.trace_read.specs.Numbers.{numeral, decimal_in, definition}
 use Rattle.trace_read.specs.Lists.{hexadecimal, list_of, new_line}

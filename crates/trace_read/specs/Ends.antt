@@ -1,8 +1,8 @@
 -- Ends of harts as lines have them, read back.
 use Rattle.std.specs.Prelude.{ℕ, ◌^◌, if◌then◌else◌, codes, List, [], ◌∷◌, Option, Some, None, option_map}
 use Rattle.std.specs.Str.{bytes_eq}
-use Rattle.link_event.specs.declared.hart_end.HartEnd.{HartEnd}
-use Rattle.link_event.specs.declared.hart_end.HartEnd.TheVariants as ends
+use Rattle.history_event.specs.declared.hart_end.HartEnd.{HartEnd}
+use Rattle.history_event.specs.declared.hart_end.HartEnd.TheVariants as ends
 use Rattle.trace_read.specs.declared.ends.EndWord.{EndWord}
 use Rattle.trace_read.specs.declared.ends.EndWord.TheVariants as words
 use Rattle.trace_read.specs.Pieces.{◌>>=◌, cut, named, pair}

@@ -5,19 +5,19 @@ use Rattle.ld_base.specs.declared.fault.DlFault.TheVariants as faults
 use Rattle.ld_base.specs.declared.linking.Choice.{Choice}
 use Rattle.ld_base.specs.declared.linking.Choice.TheVariants as choices
 use Rattle.ld_base.specs.declared.linking.TlsPlace.{TlsPlace}
-use Rattle.link_event.specs.declared.event.CloseAnswer.{CloseAnswer}
-use Rattle.link_event.specs.declared.event.CloseAnswer.TheVariants as closes
-use Rattle.link_event.specs.declared.event.OpenAsk.{OpenAsk}
-use Rattle.link_event.specs.declared.event.SymAnswer.{SymAnswer}
-use Rattle.link_event.specs.declared.event.SymAnswer.TheVariants as syms
-use Rattle.link_event.specs.declared.event.SymAsk.{SymAsk}
-use Rattle.link_event.specs.declared.event_line.EventLine.{EventLine}
-use Rattle.link_event.specs.declared.event_line.EventLine.TheVariants as lines
-use Rattle.link_event.specs.declared.event_line.NewLine.{NewLine}
-use Rattle.link_event.specs.declared.event_line.OpenLine.{OpenLine}
-use Rattle.link_event.specs.declared.event_line.OpenLine.TheVariants as opens
-use Rattle.link_event.specs.declared.hart_end.HartEnd.{HartEnd}
-use Rattle.link_event.specs.declared.hart_end.HartEnd.TheVariants as ends
+use Rattle.history_event.specs.declared.event.CloseAnswer.{CloseAnswer}
+use Rattle.history_event.specs.declared.event.CloseAnswer.TheVariants as closes
+use Rattle.history_event.specs.declared.event.OpenAsk.{OpenAsk}
+use Rattle.history_event.specs.declared.event.SymAnswer.{SymAnswer}
+use Rattle.history_event.specs.declared.event.SymAnswer.TheVariants as syms
+use Rattle.history_event.specs.declared.event.SymAsk.{SymAsk}
+use Rattle.history_event.specs.declared.event_line.EventLine.{EventLine}
+use Rattle.history_event.specs.declared.event_line.EventLine.TheVariants as lines
+use Rattle.history_event.specs.declared.event_line.NewLine.{NewLine}
+use Rattle.history_event.specs.declared.event_line.OpenLine.{OpenLine}
+use Rattle.history_event.specs.declared.event_line.OpenLine.TheVariants as opens
+use Rattle.history_event.specs.declared.hart_end.HartEnd.{HartEnd}
+use Rattle.history_event.specs.declared.hart_end.HartEnd.TheVariants as ends
 
 abbrev pub Fits8 : ℕ → Type 0
 Fits8 n = n < 2 ^ 8

@@ -3,12 +3,12 @@ use Rattle.std.specs.Prelude.{◌≡◌, ℕ, List, [], ◌∷◌, ◌++◌, fla
 use Rattle.std.specs.Fmt.{decimal}
 use Rattle.ld_base.specs.FaultText.{hex_text}
 use Rattle.ld_base.specs.Text.{name_text, name_or_none}
-use Rattle.link_event.specs.declared.event.OpenAsk.{OpenAsk}
-use Rattle.link_event.specs.declared.event_line.EventLine.{EventLine}
-use Rattle.link_event.specs.declared.event_line.EventLine.TheVariants as lines
-use Rattle.link_event.specs.declared.event_line.NewLine.{NewLine}
-use Rattle.link_event.specs.declared.event_line.OpenLine.{OpenLine}
-use Rattle.link_event.specs.declared.event_line.OpenLine.TheVariants as opens
+use Rattle.history_event.specs.declared.event.OpenAsk.{OpenAsk}
+use Rattle.history_event.specs.declared.event_line.EventLine.{EventLine}
+use Rattle.history_event.specs.declared.event_line.EventLine.TheVariants as lines
+use Rattle.history_event.specs.declared.event_line.NewLine.{NewLine}
+use Rattle.history_event.specs.declared.event_line.OpenLine.{OpenLine}
+use Rattle.history_event.specs.declared.event_line.OpenLine.TheVariants as opens
 use Rattle.trace_text.specs.Said.{said, hart_word, object_word}
 use Rattle.trace_text.specs.Lists.{place_text, byte_digits, serials_text}
 use Rattle.trace_text.specs.Ends.{end_text}

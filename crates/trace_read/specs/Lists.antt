@@ -3,7 +3,7 @@ use Rattle.std.specs.Prelude.{ℕ, ◌==◌, ◌^◌, if◌then◌else◌, List,
 use Rattle.std.specs.List.{slice_split}
 use Rattle.std.specs.Str.{bytes_eq}
 use Rattle.ld_base.specs.declared.linking.TlsPlace.{TlsPlace}
-use Rattle.link_event.specs.declared.event_line.NewLine.{NewLine}
+use Rattle.history_event.specs.declared.event_line.NewLine.{NewLine}
 use Rattle.std.specs.Prelude.{codes}
 use Rattle.trace_read.specs.Pieces.{◌>>=◌, labelled, pair, with_option}
 use Rattle.trace_read.specs.Numbers.{numeral}

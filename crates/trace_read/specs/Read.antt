@@ -1,7 +1,7 @@
 -- A line, read back.
 use Rattle.std.specs.Prelude.{ℕ, ◌-◌, if◌then◌else◌, length, take, drop, List, [], ◌∷◌, Option, None}
 use Rattle.std.specs.Str.{bytes_eq}
-use Rattle.link_event.specs.declared.event_line.EventLine.{EventLine}
+use Rattle.history_event.specs.declared.event_line.EventLine.{EventLine}
 use Rattle.trace_read.specs.Events.{event_of}
 
 -- what stands before the line feed at the end

@@ -1,15 +1,15 @@
 -- What the line of an event says of it: all of it, but neither the records of new objects nor pages.
 use Rattle.std.specs.Prelude.{◌≡◌, ℕ, List, map}
 use Rattle.ld_base.specs.declared.linking.Loaded.{Loaded}
-use Rattle.link_event.specs.declared.event.Event.{Event}
-use Rattle.link_event.specs.declared.event.Event.TheVariants as events
-use Rattle.link_event.specs.declared.event.OpenAnswer.{OpenAnswer}
-use Rattle.link_event.specs.declared.event.OpenAnswer.TheVariants as answers
-use Rattle.link_event.specs.declared.event_line.EventLine.{EventLine}
-use Rattle.link_event.specs.declared.event_line.EventLine.TheVariants as lines
-use Rattle.link_event.specs.declared.event_line.NewLine.{NewLine}
-use Rattle.link_event.specs.declared.event_line.OpenLine.{OpenLine}
-use Rattle.link_event.specs.declared.event_line.OpenLine.TheVariants as opens
+use Rattle.history_event.specs.declared.event.Event.{Event}
+use Rattle.history_event.specs.declared.event.Event.TheVariants as events
+use Rattle.history_event.specs.declared.event.OpenAnswer.{OpenAnswer}
+use Rattle.history_event.specs.declared.event.OpenAnswer.TheVariants as answers
+use Rattle.history_event.specs.declared.event_line.EventLine.{EventLine}
+use Rattle.history_event.specs.declared.event_line.EventLine.TheVariants as lines
+use Rattle.history_event.specs.declared.event_line.NewLine.{NewLine}
+use Rattle.history_event.specs.declared.event_line.OpenLine.{OpenLine}
+use Rattle.history_event.specs.declared.event_line.OpenLine.TheVariants as opens
 
 abbrev pub said_of_new : Loaded → NewLine
 said_of_new o = record { serial = o.serial; path = o.path; base = o.base; «module» = o.«module» }

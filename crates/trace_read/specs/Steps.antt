@@ -3,8 +3,8 @@ use Rattle.std.specs.Prelude.{ℕ, ◌^◌, if◌then◌else◌, codes, List, []
 use Rattle.std.specs.Str.{bytes_eq}
 use Rattle.ld_base.specs.declared.linking.Choice.{Choice}
 use Rattle.ld_base.specs.declared.linking.Choice.TheVariants as choices
-use Rattle.link_event.specs.declared.event_line.EventLine.{EventLine}
-use Rattle.link_event.specs.declared.event_line.EventLine.TheVariants as lines
+use Rattle.history_event.specs.declared.event_line.EventLine.{EventLine}
+use Rattle.history_event.specs.declared.event_line.EventLine.TheVariants as lines
 use Rattle.trace_read.specs.declared.steps.StepWord.{StepWord}
 use Rattle.trace_read.specs.declared.steps.StepWord.TheVariants as words
 use Rattle.trace_read.specs.Pieces.{◌>>=◌, named, labelled, pair}

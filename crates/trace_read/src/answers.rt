@@ -9,8 +9,8 @@ use crate::faults::fault;
 use crate::lists::{new_lines, serials};
 use crate::numbers::{decimal, decimal_field, decimal32_field, definition, hexadecimal};
 use crate::pieces::{behind, cut};
+use history_event::{CloseAnswer, OpenLine, SymAnswer};
 use ld_base::{NsId, Serial};
-use link_event::{CloseAnswer, OpenLine, SymAnswer};
 use std::alloc::Global;
 
 /// A namespace that is asked for, none for a new one.

@@ -5,8 +5,8 @@ ghost use Rattle.trace_read.specs.Ends.{end_word, bare_end, pc_and_address, pc_a
 
 use crate::numbers::{decimal, decimal32, hexadecimal, hexadecimal32};
 use crate::pieces::{cut, named};
+use history_event::HartEnd;
 use ld_base::Serial;
-use link_event::HartEnd;
 
 /// The first word of an end that says more.
 #[derive(Clone, Copy)]

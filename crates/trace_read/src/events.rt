@@ -13,8 +13,8 @@ use crate::names::{bytes, name, some_name};
 use crate::numbers::{decimal_field, decimal32_field, hexadecimal_field};
 use crate::pieces::{behind, cut, named};
 use crate::steps::{step_behind, step_word};
+use history_event::{EventLine, OpenAsk, SymAsk};
 use ld_base::{Bytes, DlFault, HartId, NsId};
-use link_event::{EventLine, OpenAsk, SymAsk};
 use std::alloc::Global;
 
 /// The first word of an event that holds a list or a name.

@@ -10,8 +10,8 @@ use crate::fault::TraceFault;
 use crate::names::name;
 use crate::numbers::{decimal, hexadecimal};
 use crate::pieces::cut;
+use history_event::{NewLine, NewLines};
 use ld_base::{Serial, Serials, TlsPlace};
-use link_event::{NewLine, NewLines};
 use std::alloc::{AllocError, Global};
 
 /// What stands between commas.

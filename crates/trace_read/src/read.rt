@@ -1,8 +1,8 @@
 //! Lines of events.
 
 ghost use Rattle.std.specs.Prelude.{◌≡◌, IfOk, IfErr};
-ghost use Rattle.link_event.specs.declared.event.Event.{Event as AnEvent};
-ghost use Rattle.link_event.specs.declared.event_line.EventLine.{EventLine as ALine};
+ghost use Rattle.history_event.specs.declared.event.Event.{Event as AnEvent};
+ghost use Rattle.history_event.specs.declared.event_line.EventLine.{EventLine as ALine};
 ghost use Rattle.trace_text.specs.Lines.{line_text};
 ghost use Rattle.trace_read.specs.declared.fault.TraceFault.TheVariants.{Memory, NotALine};
 ghost use Rattle.trace_read.specs.Fits.{IsWritable};
@@ -13,7 +13,7 @@ ghost use Rattle.trace_read.specs.Said.{said_of};
 
 use crate::events::event;
 use crate::fault::TraceFault;
-use link_event::EventLine;
+use history_event::EventLine;
 use std::alloc::Global;
 
 #[tactic(auto, unfolding(crate::specs::Read::read_line))]

@@ -8,8 +8,8 @@ ghost use Rattle.trace_read.specs.Steps.{step_behind};
 use crate::ends::end;
 use crate::numbers::{decimal, decimal_field, decimal32_field, definition, hexadecimal};
 use crate::pieces::{behind, cut, named};
+use history_event::EventLine;
 use ld_base::{Choice, GrantNo, HartId, Serial};
-use link_event::EventLine;
 
 /// The first word of such an event.
 #[derive(Clone, Copy)]

@@ -6,16 +6,16 @@ use Rattle.ld_base.specs.declared.linking.Choice.{Choice}
 use Rattle.ld_base.specs.declared.linking.Choice.TheVariants as choices
 use Rattle.ld_base.specs.FaultText.{fault_text, hex_text}
 use Rattle.ld_base.specs.Text.{name_text, name_or_none}
-use Rattle.link_event.specs.declared.event.CloseAnswer.{CloseAnswer}
-use Rattle.link_event.specs.declared.event.CloseAnswer.TheVariants as closes
-use Rattle.link_event.specs.declared.event.Event.{Event}
-use Rattle.link_event.specs.declared.event.Event.TheVariants as events
-use Rattle.link_event.specs.declared.event.OpenAnswer.{OpenAnswer}
-use Rattle.link_event.specs.declared.event.OpenAnswer.TheVariants as opens
-use Rattle.link_event.specs.declared.event.OpenAsk.{OpenAsk}
-use Rattle.link_event.specs.declared.event.SymAnswer.{SymAnswer}
-use Rattle.link_event.specs.declared.event.SymAnswer.TheVariants as syms
-use Rattle.link_event.specs.declared.event.SymAsk.{SymAsk}
+use Rattle.history_event.specs.declared.event.CloseAnswer.{CloseAnswer}
+use Rattle.history_event.specs.declared.event.CloseAnswer.TheVariants as closes
+use Rattle.history_event.specs.declared.event.Event.{Event}
+use Rattle.history_event.specs.declared.event.Event.TheVariants as events
+use Rattle.history_event.specs.declared.event.OpenAnswer.{OpenAnswer}
+use Rattle.history_event.specs.declared.event.OpenAnswer.TheVariants as opens
+use Rattle.history_event.specs.declared.event.OpenAsk.{OpenAsk}
+use Rattle.history_event.specs.declared.event.SymAnswer.{SymAnswer}
+use Rattle.history_event.specs.declared.event.SymAnswer.TheVariants as syms
+use Rattle.history_event.specs.declared.event.SymAsk.{SymAsk}
 use Rattle.trace_text.specs.Said.{said, hart_word, object_word}
 use Rattle.trace_text.specs.Lists.{added_text, byte_digits, serials_text}
 use Rattle.trace_text.specs.Ends.{end_text}

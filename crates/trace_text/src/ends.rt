@@ -3,7 +3,7 @@
 ghost use Rattle.std.specs.Prelude.{Some};
 ghost use Rattle.trace_text.specs.Ends.{end_text};
 
-use link_event::HartEnd;
+use history_event::HartEnd;
 use std::fmt;
 
 /// The end of a hart, which is written as its words.

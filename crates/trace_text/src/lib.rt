@@ -7,7 +7,13 @@
 
 mod ends;
 mod lists;
+mod run_texts;
 mod writing;
 
 pub use ends::EndText;
+pub use run_texts::{
+    Counts, RunEnd, RunRecord, deciding_harts_are_named, ends_are_last, events_are_sayable,
+    guest_text, guests_are_printed, journal_text, journals_are_printed, later_ends_count,
+    one_run_end,
+};
 pub use writing::{event_text, write_event};

@@ -8,8 +8,8 @@ ghost use Rattle.trace_text.specs.Lines.{sym_answer_text, sym_text, told_text, u
 
 use crate::ends::EndText;
 use crate::lists::{write_added, write_bytes, write_serials};
+use history_event::{CloseAnswer, Event, OpenAnswer, OpenAsk, SymAnswer, SymAsk};
 use ld_base::{Choice, DlFault, HartId, Name, Serial};
-use link_event::{CloseAnswer, Event, OpenAnswer, OpenAsk, SymAnswer, SymAsk};
 use std::alloc::{AllocError, Global};
 use std::fmt;
 

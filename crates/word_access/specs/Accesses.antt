@@ -5,10 +5,10 @@ use Rattle.rv_hart.specs.declared.bus.BusFault.{BusFault}
 use Rattle.rv_hart.specs.declared.bus.BusFault.TheVariants.{Role as RoleFault, Misaligned}
 use Rattle.rv_hart.specs.declared.bus.Item.{Item}
 use Rattle.rv_hart.specs.Items.{left_by}
-use Rattle.guest_rule.specs.declared.view.HartView.{HartView}
-use Rattle.guest_rule.specs.declared.view.TrailItem.{TrailItem}
-use Rattle.guest_rule.specs.declared.view.TrailItem.TheVariants.{Call}
-use Rattle.guest_rule.specs.Layout.{doublewords, first_address, place_of}
+use Rattle.word_rule.specs.declared.view.HartView.{HartView}
+use Rattle.word_rule.specs.declared.view.TrailItem.{TrailItem}
+use Rattle.word_rule.specs.declared.view.TrailItem.TheVariants.{Call}
+use Rattle.word_rule.specs.Layout.{doublewords, first_address, place_of}
 
 -- guest memory has a doubleword there
 abbrev pub in_memory : ℕ → Bool

@@ -4,17 +4,17 @@ use Rattle.rv_isa.specs.Encoding.{IsAtomicSize}
 use Rattle.rv_hart.specs.Buses.{IsSize}
 use Rattle.rv_hart.specs.declared.bus.BusFault.{BusFault}
 use Rattle.rv_hart.specs.declared.bus.BusFault.TheVariants.{Role as RoleFault, Misaligned, Again}
-use Rattle.guest_rule.specs.declared.kind.Ask.{Ask}
-use Rattle.guest_rule.specs.declared.kind.Ask.TheVariants.{Load as AsksLoad, Store as AsksStore}
-use Rattle.guest_rule.specs.declared.kind.LoadAsk.{LoadAsk}
-use Rattle.guest_rule.specs.declared.kind.StoreAsk.{StoreAsk}
-use Rattle.guest_rule.specs.declared.kind.StoreAsk.TheVariants.{Write, Amo, Conditional}
-use Rattle.guest_rule.specs.declared.view.HartView.{HartView}
-use Rattle.guest_rule.specs.declared.view.TrailItem.TheVariants.{Call}
-use Rattle.guest_rule.specs.Layout.{role_in, lock_bit}
+use Rattle.word_rule.specs.declared.kind.Ask.{Ask}
+use Rattle.word_rule.specs.declared.kind.Ask.TheVariants.{Load as AsksLoad, Store as AsksStore}
+use Rattle.word_rule.specs.declared.kind.LoadAsk.{LoadAsk}
+use Rattle.word_rule.specs.declared.kind.StoreAsk.{StoreAsk}
+use Rattle.word_rule.specs.declared.kind.StoreAsk.TheVariants.{Write, Amo, Conditional}
+use Rattle.word_rule.specs.declared.view.HartView.{HartView}
+use Rattle.word_rule.specs.declared.view.TrailItem.TheVariants.{Call}
+use Rattle.word_rule.specs.Layout.{role_in, lock_bit}
 use Rattle.word_steps.specs.Showing.{IsShown}
-use Rattle.guest_rule.specs.HartSteps.{ask_is_fresh, ask_place, entered, failed, is_fresh, load_refused, loaded, permits, refused, stored, store_place}
-use Rattle.guest_rule.specs.HartSteps.{store_refused, with_access}
+use Rattle.word_rule.specs.HartSteps.{ask_is_fresh, ask_place, entered, failed, is_fresh, load_refused, loaded, permits, refused, stored, store_place}
+use Rattle.word_rule.specs.HartSteps.{store_refused, with_access}
 
 -- only a conditional store may come too late
 abbrev pub IsConditional : StoreAsk → Type 0

@@ -1,18 +1,18 @@
 //! An access of a hart: its steps in their order, and the one item that it leaves.
 
 ghost use Rattle.std.specs.Prelude.{◌≡◌, ◌%◌, ◌<◌, Some, IfSome};
-ghost use Rattle.guest_rule.specs.Layout.{IsDoubleword, doublewords};
-ghost use Rattle.guest_rule.specs.Views.{nothing_locked};
-ghost use Rattle.guest_rule.specs.HartSteps.{Asked, HartReady, IsAsked, IsWhole, ask_place, entered, hart_after, heeded, made, stored, with_access};
-ghost use Rattle.guest_rule.specs.HartSteps.{load_address, load_place, load_size, store_address, store_place, store_size};
-ghost use Rattle.guest_rule.specs.declared.view.TrailItem.TheVariants.{Call};
+ghost use Rattle.word_rule.specs.Layout.{IsDoubleword, doublewords};
+ghost use Rattle.word_rule.specs.Views.{nothing_locked};
+ghost use Rattle.word_rule.specs.HartSteps.{Asked, HartReady, IsAsked, IsWhole, ask_place, entered, hart_after, heeded, made, stored, with_access};
+ghost use Rattle.word_rule.specs.HartSteps.{load_address, load_place, load_size, store_address, store_place, store_size};
+ghost use Rattle.word_rule.specs.declared.view.TrailItem.TheVariants.{Call};
 ghost use Rattle.word_access.specs.Holding.{Changes, Glances, HasOperands, IsLocking, Loads, Locks};
 ghost use Rattle.word_steps.specs.Views.{IsIdle};
 
 use crate::asks::{is_permitted, is_timely};
-use guest_rule::{Ask, Grant, HartKind, LoadAsk, StoreAsk};
 use ld_base::Shown;
 use rv_hart::{BusFault, combined, lane, with_lane};
+use word_rule::{Ask, Grant, HartKind, LoadAsk, StoreAsk};
 use word_steps::{
     Hand, LOCK, Memory, Naming, control_word, is_locked, place_at, role_of, value_word,
 };

@@ -2,13 +2,13 @@
 
 ghost use Rattle.std.specs.Prelude.{◌≡◌, IfOk, IfErr};
 ghost use Rattle.rv_hart.specs.Buses.{IsSize, may_fetch, may_read, may_write};
-ghost use Rattle.guest_rule.specs.Layout.{place_of};
-ghost use Rattle.guest_rule.specs.HartSteps.{IsAsked, is_fresh, permits};
+ghost use Rattle.word_rule.specs.Layout.{place_of};
+ghost use Rattle.word_rule.specs.HartSteps.{IsAsked, is_fresh, permits};
 ghost use Rattle.word_access.specs.Accesses.{IsUnasked};
 
-use guest_rule::{Ask, LoadAsk, StoreAsk};
 use ld_base::Role;
 use rv_hart::BusFault;
+use word_rule::{Ask, LoadAsk, StoreAsk};
 use word_steps::{DOUBLEWORDS, FIRST_ADDRESS, version_of};
 
 /// The doubleword of the bytes at an address.
@@ -17,7 +17,7 @@ use word_steps::{DOUBLEWORDS, FIRST_ADDRESS, version_of};
 ///
 /// Misaligned where the address is no multiple of the size; the role None where it isn't one of guest
 /// memory.
-#[tactic(auto, unfolding(guest_rule::specs::Layout::doublewords, guest_rule::specs::Layout::place_of))]
+#[tactic(auto, unfolding(word_rule::specs::Layout::doublewords, word_rule::specs::Layout::place_of))]
 pub(crate) fn place(address: u64, size: u8) -> Result<usize, BusFault>
     requires { IsSize size }
     ensures at { IfOk result (λ at. at ≡ place_of address) }

@@ -8,9 +8,9 @@ ghost use Rattle.word_steps.specs.Views.{IsIdle};
 
 use crate::access::{change, load};
 use crate::asks::place;
-use guest_rule::{LoadAsk, StoreAsk};
 use rv_hart::{BusFault, Item, lane};
 use rv_isa::AmoOp;
+use word_rule::{LoadAsk, StoreAsk};
 use word_steps::{Hand, Memory, Naming, version_of};
 
 /// The instruction word at an address.

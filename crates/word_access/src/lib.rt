@@ -15,6 +15,8 @@
 mod access;
 mod asks;
 mod calls;
+mod word_keeping;
 
 pub use access::exchange;
 pub use calls::{amo, conditional, fetch, read, reserve, write};
+pub use word_keeping::{retire, set, tell};

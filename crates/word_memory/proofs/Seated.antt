@@ -1,14 +1,14 @@
 -- A hart's seat between its steps.
 use Rattle.std.proofs.Common.{◌≡◌, ℕ, ◌<◌, sym, subst, ◌∙◌}
-use Rattle.guest_rule.specs.declared.entry.Grant.{Grant}
-use Rattle.guest_rule.specs.declared.kind.HartKind.{HartKind}
-use Rattle.guest_rule.specs.declared.kind.HartKind.TheVariants as kinds
-use Rattle.guest_rule.specs.Layout.{IsDoubleword}
-use Rattle.guest_rule.specs.declared.view.HartView.{HartView}
-use Rattle.guest_rule.specs.HartSteps.{HartLearns, HartLeaves, HartReady, hart_after}
-use Rattle.guest_rule.specs.Views.{IsLane}
-use Rattle.guest_rule.specs.Lemmas.Lanes.{hart_leaves, lane_stays}
-use Rattle.guest_rule.specs.Lemmas.Steps.{same_hart}
+use Rattle.word_rule.specs.declared.entry.Grant.{Grant}
+use Rattle.word_rule.specs.declared.kind.HartKind.{HartKind}
+use Rattle.word_rule.specs.declared.kind.HartKind.TheVariants as kinds
+use Rattle.word_rule.specs.Layout.{IsDoubleword}
+use Rattle.word_rule.specs.declared.view.HartView.{HartView}
+use Rattle.word_rule.specs.HartSteps.{HartLearns, HartLeaves, HartReady, hart_after}
+use Rattle.word_rule.specs.Views.{IsLane}
+use Rattle.word_rule.specs.Lemmas.Lanes.{hart_leaves, lane_stays}
+use Rattle.word_rule.specs.Lemmas.Steps.{same_hart}
 use Rattle.word_steps.specs.Views.{IsIdle}
 
 abbrev pub IsSeated : ℕ → HartView → Type 0

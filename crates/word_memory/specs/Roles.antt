@@ -2,11 +2,11 @@
 use Rattle.std.specs.Prelude.{◌≡◌, ◌≢◌, ◌⊎◌, ℕ}
 use Rattle.ld_base.specs.declared.linking.Role.{Role}
 use Rattle.ld_base.specs.declared.linking.Role.TheVariants.{None as NoRole, Slot as SlotRole}
-use Rattle.guest_rule.specs.declared.view.KeeperView.{KeeperView}
-use Rattle.guest_rule.specs.Layout.{IsDoubleword, place_of}
-use Rattle.guest_rule.specs.Views.{kept_at, row_of}
-use Rattle.guest_rule.specs.Allowed.{LeadsTo, NothingEnters}
-use Rattle.guest_rule.specs.KeeperSteps.{Unposted}
+use Rattle.word_rule.specs.declared.view.KeeperView.{KeeperView}
+use Rattle.word_rule.specs.Layout.{IsDoubleword, place_of}
+use Rattle.word_rule.specs.Views.{kept_at, row_of}
+use Rattle.word_rule.specs.Allowed.{LeadsTo, NothingEnters}
+use Rattle.word_rule.specs.KeeperSteps.{Unposted}
 
 -- a doubleword may be set: a role comes where there was none, and only the value changes of one that has its role already; a
 -- slot's word is 0 or leads to an RX word

@@ -2,22 +2,22 @@
 
 ghost use Rattle.std.specs.Prelude.{◌≡◌, ◌<◌, ◌+◌, IfErr, IfOk, length};
 ghost use Rattle.ld_base.specs.declared.linking.Role.TheVariants.{Rw};
-ghost use Rattle.guest_rule.specs.Joining.{IsSettled};
-ghost use Rattle.guest_rule.specs.KeeperSteps.{KeeperLearns, KeeperLeaves, KeeperReady, keeper_after, keeper_op, keeper_word};
-ghost use Rattle.guest_rule.specs.Layout.{place_of, table_words};
-ghost use Rattle.guest_rule.specs.Operations.{load, store};
-ghost use Rattle.guest_rule.specs.Views.{BeginsWith, IsLong, first_hart, kept_at, known_of, row_of};
+ghost use Rattle.word_rule.specs.Joining.{IsSettled};
+ghost use Rattle.word_rule.specs.KeeperSteps.{KeeperLearns, KeeperLeaves, KeeperReady, keeper_after, keeper_op, keeper_word};
+ghost use Rattle.word_rule.specs.Layout.{place_of, table_words};
+ghost use Rattle.word_rule.specs.Operations.{load, store};
+ghost use Rattle.word_rule.specs.Views.{BeginsWith, IsLong, first_hart, kept_at, known_of, row_of};
 ghost use Rattle.word_steps.specs.Knowing.{counted, with_joined};
 ghost use Rattle.word_steps.specs.Showing.{IsShown};
 ghost use Rattle.word_steps.specs.Views.{IsResting};
-ghost use Rattle.word_keeping.specs.Keeping.{retired, set_as, was_shown};
+ghost use Rattle.word_access.specs.WordKeeping.Keeping.{retired, set_as, was_shown};
 ghost use Rattle.word_memory.specs.Roles.{MayRetire, MaySet};
 
 use crate::HartSeat;
-use guest_rule::KeeperKind;
+use history_event::Event;
 use ld_base::{Role, Shown};
-use link_event::Event;
 use std::marker::Model;
+use word_rule::KeeperKind;
 use word_steps::{Desk, GENERATION, Memory, Naming, place_at};
 
 /// The keeper's seat at a memory. Contracts see it as its view: what the keeper knows.
@@ -27,7 +27,7 @@ pub struct KeeperSeat<J: Naming> {
 }
 
 impl<J: Naming> Model for KeeperSeat<J> {
-    ghost use Rattle.guest_rule.specs.declared.view.KeeperView.{KeeperView};
+    ghost use Rattle.word_rule.specs.declared.view.KeeperView.{KeeperView};
     ghost use Rattle.word_steps.specs.Views.{IsResting};
 
     ghost Value = { KeeperView };
@@ -58,7 +58,7 @@ pub fn set_word<J: Naming>(
     ensures writable { IfErr result (λ shown. (kept_at keeper.old (place_of address)).role ≡ Rw) }
     ensures long { IsLong keeper.old }
 {
-    word_keeping::set(
+    word_access::set(
         memory,
         &mut keeper.desk,
         place_at(address),
@@ -85,7 +85,7 @@ pub fn retire<J: Naming>(
     ensures shown { IfErr result IsShown }
     ensures writable { IfErr result (λ shown. (kept_at keeper.old (place_of address)).role ≡ Rw) }
 {
-    word_keeping::retire(memory, &mut keeper.desk, place_at(address))
+    word_access::retire(memory, &mut keeper.desk, place_at(address))
 }
 
 /// Counts an event.
@@ -112,7 +112,7 @@ pub fn tell<J: Naming>(memory: &Memory<J>, keeper: &mut KeeperSeat<J>, seat: &mu
     ensures keeper { keeper.new ≡ keeper.old }
     ensures issued { known_of seat.old.lane ≡ (row_of keeper.old seat.old.number).issued }
 {
-    word_keeping::tell(memory, &mut keeper.desk, &mut seat.hand);
+    word_access::tell(memory, &mut keeper.desk, &mut seat.hand);
 }
 
 /// Sets the generation of the TLS modules.

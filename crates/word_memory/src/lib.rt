@@ -1,10 +1,10 @@
 //! Guest memory as atomic words that harts on threads share.
 //!
-//! [`Memory`] is a table of atomic words under the rule of `guest_rule`: of each doubleword its value
+//! [`Memory`] is a table of atomic words under the rule of `word_rule`: of each doubleword its value
 //! and its control word, the rows between the linker and the harts, the count and the generation.
 //! Whoever steps on it has a seat: a [`HartSeat`] for each hart, and one for the linker's keeper
-//! ([`KeeperSeat`]); `word_seats` makes them. Each step is one of the kinds of `guest_rule`
-//! (`word_steps`), by the accesses of `word_access` and the changes of `word_keeping`.
+//! ([`KeeperSeat`]); `word_memory` makes them. Each step is one of the kinds of `word_rule`
+//! (`word_steps`), by the accesses and changes of `word_access`.
 //!
 //! [`TableBus`] is that memory as a hart's bus. It appends each call to the trail in the seat's view at
 //! the step that found the answer or made the store.
@@ -16,8 +16,10 @@
 mod bus;
 mod keeper;
 mod seat;
+mod word_seats;
 
 pub use bus::TableBus;
 pub use keeper::{KeeperSeat, count_up, join_hart, retire, set_generation, set_word, tell};
 pub use seat::{HartSeat, generation};
+pub use word_seats::{HartSeats, Seats, name_memory};
 pub use word_steps::{Fresh, Memory, Naming, place_at, row_word, state_word, value_word};

@@ -3,19 +3,19 @@
 ghost use Rattle.std.specs.Prelude.{◌≡◌, ◌<◌, ◌*◌, ◌^◌, IfOk};
 ghost use Rattle.rv_isa.specs.Encoding.{IsAtomicSize};
 ghost use Rattle.rv_hart.specs.Buses.{HasValue, IsSize, Permits, may_fetch, may_read, may_write};
-ghost use Rattle.guest_rule.specs.declared.view.TrailItem.TheVariants.{Generation as ReadGeneration};
-ghost use Rattle.guest_rule.specs.HartSteps.{HartLearns, HartLeaves, HartReady, entered, hart_after, hart_op, hart_word};
-ghost use Rattle.guest_rule.specs.Layout.{table_words};
-ghost use Rattle.guest_rule.specs.Operations.{load, store, add};
-ghost use Rattle.guest_rule.specs.Views.{IsLane, last_block};
+ghost use Rattle.word_rule.specs.declared.view.TrailItem.TheVariants.{Generation as ReadGeneration};
+ghost use Rattle.word_rule.specs.HartSteps.{HartLearns, HartLeaves, HartReady, entered, hart_after, hart_op, hart_word};
+ghost use Rattle.word_rule.specs.Layout.{table_words};
+ghost use Rattle.word_rule.specs.Operations.{load, store, add};
+ghost use Rattle.word_rule.specs.Views.{IsLane, last_block};
 ghost use Rattle.word_access.specs.Accesses.{Calls};
 ghost use Rattle.word_steps.specs.Views.{IsIdle};
 
-use guest_rule::{Grant, HartKind};
 use rv_hart::{BusFault, Item};
 use rv_isa::AmoOp;
 use std::marker::Model;
 use word_access::{amo, conditional, exchange, fetch, read, reserve, write};
+use word_rule::{Grant, HartKind};
 use word_steps::{GENERATION, Hand, Memory, Naming};
 
 /// A hart's seat at a memory. Contracts see it as its view: what the hart knows, and its trail.
@@ -26,9 +26,9 @@ pub struct HartSeat<J: Naming> {
 }
 
 impl<J: Naming> Model for HartSeat<J> {
-    ghost use Rattle.guest_rule.specs.declared.view.HartView.{HartView};
+    ghost use Rattle.word_rule.specs.declared.view.HartView.{HartView};
     ghost use Rattle.std.specs.Prelude.{◌≡◌, ◌<◌};
-    ghost use Rattle.guest_rule.specs.Views.{IsLane};
+    ghost use Rattle.word_rule.specs.Views.{IsLane};
     ghost use Rattle.word_steps.specs.Views.{IsIdle};
 
     ghost Value = { HartView };

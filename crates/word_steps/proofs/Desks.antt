@@ -1,18 +1,18 @@
 -- The view of the keeper's seat over one step.
 use Rattle.std.proofs.Common.{◌≡◌, ℕ, ◌<◌, [], refl, sym, ap, subst, ◌∙◌}
 use Rattle.atomic_table.specs.Table.{Me}
-use Rattle.guest_rule.specs.declared.kind.KeeperKind.{KeeperKind}
-use Rattle.guest_rule.specs.declared.kind.Kind.TheVariants.{Keeper as OfKeeper}
-use Rattle.guest_rule.specs.declared.view.KeeperView.{KeeperView}
-use Rattle.guest_rule.specs.declared.view.Slip.TheVariants.{OfHart, OfKeeper}
-use Rattle.guest_rule.specs.declared.view.View.{View}
-use Rattle.guest_rule.specs.declared.view.View.TheVariants.{Keeper, Hart, Note, Spent}
-use Rattle.guest_rule.specs.KeeperSteps.{KeeperLearns, KeeperReady, keeper_after}
-use Rattle.guest_rule.specs.Table.{Learns, Ready, after_step}
-use Rattle.guest_rule.specs.Joining.{HasNote, HasRoom, MayTake, takes_in}
-use Rattle.guest_rule.specs.Layout.{harts_at_most}
-use Rattle.guest_rule.specs.Views.{IsLong}
-use Rattle.guest_rule.specs.Lemmas.Seating.{stays_long}
+use Rattle.word_rule.specs.declared.kind.KeeperKind.{KeeperKind}
+use Rattle.word_rule.specs.declared.kind.Kind.TheVariants.{Keeper as OfKeeper}
+use Rattle.word_rule.specs.declared.view.KeeperView.{KeeperView}
+use Rattle.word_rule.specs.declared.view.Slip.TheVariants.{OfHart, OfKeeper}
+use Rattle.word_rule.specs.declared.view.View.{View}
+use Rattle.word_rule.specs.declared.view.View.TheVariants.{Keeper, Hart, Note, Spent}
+use Rattle.word_rule.specs.KeeperSteps.{KeeperLearns, KeeperReady, keeper_after}
+use Rattle.word_rule.specs.Table.{Learns, Ready, after_step}
+use Rattle.word_rule.specs.Joining.{HasNote, HasRoom, MayTake, takes_in}
+use Rattle.word_rule.specs.Layout.{harts_at_most}
+use Rattle.word_rule.specs.Views.{IsLong}
+use Rattle.word_rule.specs.Lemmas.Seating.{stays_long}
 use Rattle.word_steps.specs.Views.{keeper_of}
 
 -- the seat is the keeper's, and holds no slot

@@ -1,7 +1,7 @@
 -- The first view of the keeper.
-use Rattle.guest_rule.specs.Start.{IsFirst, first_keeper}
-use Rattle.guest_rule.specs.Views.{IsLong}
-use Rattle.guest_rule.specs.Lemmas.Begins.{is_first}
+use Rattle.word_rule.specs.Start.{IsFirst, first_keeper}
+use Rattle.word_rule.specs.Views.{IsLong}
+use Rattle.word_rule.specs.Lemmas.Begins.{is_first}
 use Rattle.word_steps.specs.Views.{IsResting}
 
 -- the first keeper's view rests, and knows of every doubleword

@@ -1,15 +1,15 @@
 -- The view of a hart's seat over one step.
 use Rattle.std.proofs.Common.{◌≡◌, ℕ, [], refl, sym, ap, subst, ◌∙◌}
 use Rattle.atomic_table.specs.Table.{Me}
-use Rattle.guest_rule.specs.declared.kind.HartKind.{HartKind}
-use Rattle.guest_rule.specs.declared.kind.Kind.TheVariants.{Hart as OfHart}
-use Rattle.guest_rule.specs.declared.view.HartView.{HartView}
-use Rattle.guest_rule.specs.declared.view.Slip.TheVariants.{OfHart, OfKeeper}
-use Rattle.guest_rule.specs.declared.view.View.{View}
-use Rattle.guest_rule.specs.declared.view.View.TheVariants.{Keeper, Hart, Note, Spent}
-use Rattle.guest_rule.specs.Joining.{HasNote, MayTake, takes_in}
-use Rattle.guest_rule.specs.HartSteps.{HartLearns, HartReady, hart_after}
-use Rattle.guest_rule.specs.Table.{Learns, Ready, after_step}
+use Rattle.word_rule.specs.declared.kind.HartKind.{HartKind}
+use Rattle.word_rule.specs.declared.kind.Kind.TheVariants.{Hart as OfHart}
+use Rattle.word_rule.specs.declared.view.HartView.{HartView}
+use Rattle.word_rule.specs.declared.view.Slip.TheVariants.{OfHart, OfKeeper}
+use Rattle.word_rule.specs.declared.view.View.{View}
+use Rattle.word_rule.specs.declared.view.View.TheVariants.{Keeper, Hart, Note, Spent}
+use Rattle.word_rule.specs.Joining.{HasNote, MayTake, takes_in}
+use Rattle.word_rule.specs.HartSteps.{HartLearns, HartReady, hart_after}
+use Rattle.word_rule.specs.Table.{Learns, Ready, after_step}
 use Rattle.word_steps.specs.Views.{hart_of}
 
 -- the seat is a hart's, and holds no slot

@@ -1,11 +1,11 @@
 -- Notes that are taken in.
 use Rattle.std.proofs.Common.{◌≡◌, [], sym, ap, subst, ◌∙◌}
 use Rattle.atomic_table.specs.Table.{Me}
-use Rattle.guest_rule.specs.declared.view.HartView.{HartView}
-use Rattle.guest_rule.specs.declared.view.KeeperView.{KeeperView}
-use Rattle.guest_rule.specs.declared.view.View.{View}
-use Rattle.guest_rule.specs.declared.view.View.TheVariants.{Keeper, Hart}
-use Rattle.guest_rule.specs.Joining.{IsSettled, MayTake, note_of, takes_in}
+use Rattle.word_rule.specs.declared.view.HartView.{HartView}
+use Rattle.word_rule.specs.declared.view.KeeperView.{KeeperView}
+use Rattle.word_rule.specs.declared.view.View.{View}
+use Rattle.word_rule.specs.declared.view.View.TheVariants.{Keeper, Hart}
+use Rattle.word_rule.specs.Joining.{IsSettled, MayTake, note_of, takes_in}
 use Rattle.word_steps.specs.Knowing.{told_by, told_of}
 use Rattle.word_steps.specs.Views.{hart_of, keeper_of}
 

@@ -1,9 +1,9 @@
 -- What a seat knows once an event is counted, a hart's seat is joined, or it was told of another's knowledge.
 use Rattle.std.specs.Prelude.{[], ◌∷◌, ◌++◌, Some}
-use Rattle.link_event.specs.declared.event.Event.{Event}
-use Rattle.guest_rule.specs.declared.view.HartView.{HartView}
-use Rattle.guest_rule.specs.declared.view.KeeperView.{KeeperView}
-use Rattle.guest_rule.specs.Views.{known_of, longer, row_of}
+use Rattle.history_event.specs.declared.event.Event.{Event}
+use Rattle.word_rule.specs.declared.view.HartView.{HartView}
+use Rattle.word_rule.specs.declared.view.KeeperView.{KeeperView}
+use Rattle.word_rule.specs.Views.{known_of, longer, row_of}
 
 -- an event more
 abbrev pub counted : Event → KeeperView → KeeperView

@@ -2,7 +2,7 @@
 use Rattle.std.specs.Prelude.{◌≡◌, ◌≢◌, ◌⊎◌}
 use Rattle.ld_base.specs.declared.fault.Shown.{Shown}
 use Rattle.ld_base.specs.declared.fault.Shown.TheVariants.{Locked, Initialising, Closing, OpenGrant}
-use Rattle.guest_rule.specs.Layout.{lock_bit}
+use Rattle.word_rule.specs.Layout.{lock_bit}
 
 -- a control word with another seat's lock, or two control words that differ
 abbrev pub IsShown : Shown → Type 0

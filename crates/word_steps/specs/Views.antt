@@ -1,11 +1,11 @@
 -- The views of seats between two calls.
 use Rattle.std.specs.Prelude.{◌≡◌, None}
-use Rattle.guest_rule.specs.declared.view.HartView.{HartView}
-use Rattle.guest_rule.specs.declared.view.KeeperView.{KeeperView}
-use Rattle.guest_rule.specs.declared.view.View.{View}
-use Rattle.guest_rule.specs.declared.view.View.TheVariants.{Keeper, Hart}
-use Rattle.guest_rule.specs.Views.{first_hart, nothing_locked}
-use Rattle.guest_rule.specs.Start.{first_keeper}
+use Rattle.word_rule.specs.declared.view.HartView.{HartView}
+use Rattle.word_rule.specs.declared.view.KeeperView.{KeeperView}
+use Rattle.word_rule.specs.declared.view.View.{View}
+use Rattle.word_rule.specs.declared.view.View.TheVariants.{Keeper, Hart}
+use Rattle.word_rule.specs.Views.{first_hart, nothing_locked}
+use Rattle.word_rule.specs.Start.{first_keeper}
 
 -- the view of a hart's seat
 abbrev pub hart_of : View → HartView

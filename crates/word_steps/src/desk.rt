@@ -1,12 +1,12 @@
 //! The keeper's seat in the middle of a call: its steps, one by one.
 
 ghost use Rattle.std.specs.Prelude.{◌≡◌, ◌<◌, ◌+◌, ◌++◌, [], ◌∷◌, length};
-ghost use Rattle.guest_rule.specs.Layout.{table_words};
-ghost use Rattle.guest_rule.specs.Operations.{load, store, exchange, add};
-ghost use Rattle.guest_rule.specs.KeeperSteps.{KeeperLearns, KeeperReady, heeding, keeper_after, keeper_op, keeper_word};
-ghost use Rattle.guest_rule.specs.declared.view.View.TheVariants.{Keeper};
-ghost use Rattle.guest_rule.specs.Joining.{MayTake, note_of, takes_in};
-ghost use Rattle.guest_rule.specs.Views.{IsLong, first_hart};
+ghost use Rattle.word_rule.specs.Layout.{table_words};
+ghost use Rattle.word_rule.specs.Operations.{load, store, exchange, add};
+ghost use Rattle.word_rule.specs.KeeperSteps.{KeeperLearns, KeeperReady, heeding, keeper_after, keeper_op, keeper_word};
+ghost use Rattle.word_rule.specs.declared.view.View.TheVariants.{Keeper};
+ghost use Rattle.word_rule.specs.Joining.{MayTake, note_of, takes_in};
+ghost use Rattle.word_rule.specs.Views.{IsLong, first_hart};
 ghost use Rattle.word_steps.specs.Knowing.{counted, with_joined};
 ghost use Rattle.word_steps.specs.Views.{keeper_of};
 
@@ -16,10 +16,10 @@ use crate::memory::seats::{join_seat, split_hart, split_note};
 use crate::memory::steps::{add_as, exchange_as, load_as, store_as};
 use crate::{Memory, Naming};
 use atomic_table::Seat;
-use guest_rule::{KeeperKind, View};
-use link_event::Event;
+use history_event::Event;
 use std::marker::{Brand, Model, PhantomData};
 use std::snapshot::Snapshot;
+use word_rule::{KeeperKind, View};
 
 /// Contracts see it as its view.
 #[derive(Drop)]
@@ -30,9 +30,9 @@ pub struct Desk<J: Naming> {
 
 impl<J: Naming> Model for Desk<J> {
     ghost use Rattle.std.specs.Prelude.{◌≡◌, []};
-    ghost use Rattle.guest_rule.specs.declared.view.KeeperView.{KeeperView};
-    ghost use Rattle.guest_rule.specs.declared.view.View.TheVariants.{Keeper};
-    ghost use Rattle.guest_rule.specs.Views.{IsLong};
+    ghost use Rattle.word_rule.specs.declared.view.KeeperView.{KeeperView};
+    ghost use Rattle.word_rule.specs.declared.view.View.TheVariants.{Keeper};
+    ghost use Rattle.word_rule.specs.Views.{IsLong};
     ghost use Rattle.word_steps.specs.Views.{keeper_of};
 
     ghost Value = { KeeperView };

@@ -1,19 +1,19 @@
 //! A hart's seat in the middle of an access: its steps, one by one.
 
 ghost use Rattle.std.specs.Prelude.{◌≡◌, ◌<◌, []};
-ghost use Rattle.guest_rule.specs.Layout.{table_words};
-ghost use Rattle.guest_rule.specs.Operations.{load, store, exchange, add};
-ghost use Rattle.guest_rule.specs.declared.view.View.TheVariants.{Hart};
-ghost use Rattle.guest_rule.specs.Joining.{MayTake, note_of, takes_in};
+ghost use Rattle.word_rule.specs.Layout.{table_words};
+ghost use Rattle.word_rule.specs.Operations.{load, store, exchange, add};
+ghost use Rattle.word_rule.specs.declared.view.View.TheVariants.{Hart};
+ghost use Rattle.word_rule.specs.Joining.{MayTake, note_of, takes_in};
 ghost use Rattle.word_steps.specs.Views.{hart_of};
-ghost use Rattle.guest_rule.specs.HartSteps.{HartLearns, HartReady, hart_after, hart_op, hart_word};
+ghost use Rattle.word_rule.specs.HartSteps.{HartLearns, HartReady, hart_after, hart_op, hart_word};
 
 use crate::memory::seats::{join_seat, split_note};
 use crate::memory::steps::{add_as, exchange_as, load_as, store_as};
 use crate::{Memory, Naming};
 use atomic_table::Seat;
-use guest_rule::{HartKind, View};
 use std::marker::{Brand, Model, PhantomData};
+use word_rule::{HartKind, View};
 
 /// Contracts see it as its view.
 #[derive(Drop)]
@@ -24,8 +24,8 @@ pub struct Hand<J: Naming> {
 
 impl<J: Naming> Model for Hand<J> {
     ghost use Rattle.std.specs.Prelude.{◌≡◌, []};
-    ghost use Rattle.guest_rule.specs.declared.view.HartView.{HartView};
-    ghost use Rattle.guest_rule.specs.declared.view.View.TheVariants.{Hart};
+    ghost use Rattle.word_rule.specs.declared.view.HartView.{HartView};
+    ghost use Rattle.word_rule.specs.declared.view.View.TheVariants.{Hart};
     ghost use Rattle.word_steps.specs.Views.{hart_of};
 
     ghost Value = { HartView };

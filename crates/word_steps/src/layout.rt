@@ -1,11 +1,11 @@
 //! Where the words of a doubleword stand, and what a control word says.
 
 ghost use Rattle.std.specs.Prelude.{◌≡◌, ◌+◌, ◌<◌, ◌*◌, ◌==◌};
-ghost use Rattle.guest_rule.specs.Layout.{IsDoubleword, control_at, doublewords, index_of, lock_bit, place_of};
-ghost use Rattle.guest_rule.specs.Layout.{role_code, role_in, row_at, state_at, table_words, value_at, version_in};
+ghost use Rattle.word_rule.specs.Layout.{IsDoubleword, control_at, doublewords, index_of, lock_bit, place_of};
+ghost use Rattle.word_rule.specs.Layout.{role_code, role_in, row_at, state_at, table_words, value_at, version_in};
 
-use guest_rule::RowWord;
 use ld_base::Role;
+use word_rule::RowWord;
 
 /// Where guest memory begins.
 pub const FIRST_ADDRESS: u64 = 0x10000;
@@ -26,7 +26,7 @@ pub const COUNT: usize = 2;
 pub const LOCK: u64 = 8;
 
 /// How many words the table has: the first words, rows, and two words a doubleword.
-#[tactic(auto, unfolding(guest_rule::specs::Layout::doublewords))]
+#[tactic(auto, unfolding(word_rule::specs::Layout::doublewords))]
 pub(crate) fn table_words() -> usize
     ensures { result ≡ table_words }
 {
@@ -34,7 +34,7 @@ pub(crate) fn table_words() -> usize
 }
 
 /// The doubleword of an address.
-#[tactic(auto, unfolding(guest_rule::specs::Layout::doublewords, guest_rule::specs::Layout::place_of))]
+#[tactic(auto, unfolding(word_rule::specs::Layout::doublewords, word_rule::specs::Layout::place_of))]
 pub fn place_at(address: u64) -> usize
     requires { IsDoubleword address }
     ensures place { result ≡ place_of address }
@@ -44,7 +44,7 @@ pub fn place_at(address: u64) -> usize
 }
 
 /// The word that holds a doubleword's value.
-#[tactic(auto, unfolding(guest_rule::specs::Layout::doublewords))]
+#[tactic(auto, unfolding(word_rule::specs::Layout::doublewords))]
 pub fn value_word(at: usize) -> usize
     requires { at < doublewords }
     ensures word { result ≡ value_at at }
@@ -54,7 +54,7 @@ pub fn value_word(at: usize) -> usize
 }
 
 /// The control word of a doubleword.
-#[tactic(auto, unfolding(guest_rule::specs::Layout::doublewords))]
+#[tactic(auto, unfolding(word_rule::specs::Layout::doublewords))]
 pub fn control_word(at: usize) -> usize
     requires { at < doublewords }
     ensures word { result ≡ control_at at }

@@ -1,11 +1,11 @@
 //! The steps on guest memory as atomic words, one by one.
 //!
-//! [`Memory`] is a table of atomic words under the rule of `guest_rule`. Who steps on it has a seat: a
+//! [`Memory`] is a table of atomic words under the rule of `word_rule`. Who steps on it has a seat: a
 //! [`Hand`] for each hart, and a [`Desk`] for the linker's keeper. Each step is one of the kinds of
-//! `guest_rule`: the four functions of the module `steps` are the only ones that touch the table, and
+//! `word_rule`: the four functions of the module `steps` are the only ones that touch the table, and
 //! each asks that its word and its operation are those of the kind.
 //!
-//! `word_access` puts a hart's accesses together of these steps, and `word_keeping` the keeper's changes
+//! `word_access` puts a hart's accesses and the keeper's changes together of these steps: the changes are those
 //! of a doubleword.
 #![tactic(auto)]
 

@@ -1,7 +1,7 @@
 //! The table, and its name.
 
 ghost use Rattle.std.specs.Prelude.{◌≡◌};
-ghost use Rattle.guest_rule.specs.Layout.{table_words};
+ghost use Rattle.word_rule.specs.Layout.{table_words};
 
 mod fresh;
 pub(crate) mod seats;
@@ -9,9 +9,9 @@ pub(crate) mod steps;
 
 pub use self::fresh::Fresh;
 use atomic_table::Table;
-use guest_rule::{GuestRule, View};
 use std::alloc::Global;
 use std::marker::{Brand, PhantomData};
+use word_rule::{GuestRule, View};
 
 /// Names one memory and its seats. A table gets its identity when it is made, so whoever makes it
 /// picks the name.

@@ -4,7 +4,7 @@
 //! from its next load on.
 
 ghost use Rattle.std.specs.Prelude.{◌≡◌};
-ghost use Rattle.guest_rule.specs.Joining.{IsSettled};
+ghost use Rattle.word_rule.specs.Joining.{IsSettled};
 ghost use Rattle.word_steps.specs.Knowing.{told_by, told_of};
 
 use crate::desk::Desk;

@@ -2,9 +2,9 @@
 use Rattle.std.proofs.Common.{◌≡◌, inl, inr, ℕ, ◌+◌, Bool, cond, List, [], ◌∷◌, ◌++◌, length, refl, sym, ap, subst, ◌∙◌, append_assoc, arith}
 use Rattle.std.specs.Prelude.{drop, count_by}
 use Rattle.std.proofs.lemmas.List.Sums.{sum_by-append}
-use Rattle.link_event.specs.declared.event.Event.{Event}
+use Rattle.history_event.specs.declared.event.Event.{Event}
 use Rattle.library_source.specs.Count.{RisesBy}
-use Rattle.link_service.specs.Laws.{is_read_fault}
+use Rattle.history_calls.specs.Laws.{is_read_fault}
 use Rattle.world_turns.specs.Counts.{CountsJoin, NoneIsInvented, NothingShows, RunsShowInCounts, ShowInCounts, is_missed, is_refused_for}
 
 rises_on : (one other old between new : ℕ) → RisesBy one old between → RisesBy other between new → RisesBy (one + other) old new

@@ -4,23 +4,23 @@ use Rattle.std.specs.Prelude.{◌==◌, ◌&&◌}
 use Rattle.std.specs.List.{Contains, slice_get}
 use Rattle.std.proofs.lemmas.List.{length-set}
 use Rattle.std.proofs.lemmas.Option.{none-some}
-use Rattle.link_event.specs.declared.event.Event.{Event}
-use Rattle.link_event.specs.declared.event.Event.TheVariants as events
-use Rattle.link_event.specs.declared.hart_end.HartEnd.TheVariants as ends
-use Rattle.link_event.specs.declared.state.Granting.{Granting}
-use Rattle.link_event.specs.declared.state.Standing.{Standing}
-use Rattle.link_event.specs.declared.state.Standing.TheVariants as standings
-use Rattle.link_served.specs.declared.startup.Setup.{Setup}
+use Rattle.history_event.specs.declared.event.Event.{Event}
+use Rattle.history_event.specs.declared.event.Event.TheVariants as events
+use Rattle.history_event.specs.declared.hart_end.HartEnd.TheVariants as ends
+use Rattle.history_event.specs.declared.state.Granting.{Granting}
+use Rattle.history_event.specs.declared.state.Standing.{Standing}
+use Rattle.history_event.specs.declared.state.Standing.TheVariants as standings
+use Rattle.history_calls.specs.declared.link_served.startup.Setup.{Setup}
 use Rattle.rv_hart.specs.Registers.{Registers}
-use Rattle.link_history.specs.After.{after}
-use Rattle.link_history.specs.Setting.{Setting}
-use Rattle.link_history.specs.Grants.{is_open}
-use Rattle.link_history.specs.State.{State}
-use Rattle.link_history.specs.Step.{settle, settled_as, step}
-use Rattle.link_history.specs.Lemmas.History.{after_push, one_behind}
-use Rattle.link_history.specs.Lemmas.Lists.{from_map, here, later, none_in, only_in}
-use Rattle.link_service.specs.Laws.{hart_of}
-use Rattle.link_service.specs.Lemmas.Unique.{both_found}
+use Rattle.history_state.specs.After.{after}
+use Rattle.history_state.specs.Setting.{Setting}
+use Rattle.history_state.specs.Grants.{is_open}
+use Rattle.history_state.specs.State.{State}
+use Rattle.history_state.specs.Step.{settle, settled_as, step}
+use Rattle.history_state.specs.Lemmas.History.{after_push, one_behind}
+use Rattle.history_state.specs.Lemmas.Lists.{from_map, here, later, none_in, only_in}
+use Rattle.history_calls.specs.Laws.{hart_of}
+use Rattle.history_calls.specs.Lemmas.Unique.{both_found}
 use Rattle.hart_moves.specs.Harts.{HartState, Offered, Resolving}
 use Rattle.hart_moves.specs.Moves.{events_of, freed, settles}
 use Rattle.hart_moves.specs.Starting.{starting_registers}

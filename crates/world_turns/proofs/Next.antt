@@ -1,14 +1,14 @@
 -- What is settled changes no hart's next turn.
 use Rattle.std.proofs.Common.{◌≡◌, ℕ, Bool, true, false, cond, List, [], ◌∷◌, ◌++◌, refl, sym, ap, ◌∙◌, append-nil}
 use Rattle.std.specs.List.{slice_get}
-use Rattle.link_event.specs.declared.event.Event.{Event}
-use Rattle.link_event.specs.declared.event.Event.TheVariants.{Bound, Lost}
-use Rattle.link_history.specs.After.{after}
-use Rattle.link_history.specs.State.{State}
-use Rattle.link_history.specs.Step.{step}
-use Rattle.link_history.specs.Lemmas.History.{after_push, one_behind}
-use Rattle.link_service.specs.Call.{caller_namespace}
-use Rattle.link_service.specs.Lemmas.Unique.{both_found}
+use Rattle.history_event.specs.declared.event.Event.{Event}
+use Rattle.history_event.specs.declared.event.Event.TheVariants.{Bound, Lost}
+use Rattle.history_state.specs.After.{after}
+use Rattle.history_state.specs.State.{State}
+use Rattle.history_state.specs.Step.{step}
+use Rattle.history_state.specs.Lemmas.History.{after_push, one_behind}
+use Rattle.history_calls.specs.Call.{caller_namespace}
+use Rattle.history_calls.specs.Lemmas.Unique.{both_found}
 use Rattle.hart_moves.specs.Due.{by_phase, call_of, due}
 use Rattle.hart_moves.specs.Harts.{HartState, Offered, Resolving}
 use Rattle.hart_moves.specs.Moves.{settles}

@@ -2,13 +2,13 @@
 use Rattle.std.specs.Prelude.{◌≡◌, ℕ, Bool, true, false, nat_lt, List, [], ◌∷◌, ◌++◌, length, drop, count_by}
 use Rattle.ld_base.specs.declared.fault.DlFault.{DlFault}
 use Rattle.ld_base.specs.declared.fault.DlFault.TheVariants as faults
-use Rattle.link_event.specs.declared.event.Event.{Event}
-use Rattle.link_event.specs.declared.event.Event.TheVariants.{Open}
-use Rattle.link_event.specs.declared.event.OpenAnswer.TheVariants.{Refused}
+use Rattle.history_event.specs.declared.event.Event.{Event}
+use Rattle.history_event.specs.declared.event.Event.TheVariants.{Open}
+use Rattle.history_event.specs.declared.event.OpenAnswer.TheVariants.{Refused}
 use Rattle.library_source.specs.Count.{RisesBy}
 use Rattle.scope_rule.specs.Finding.{candidates}
-use Rattle.link_history.specs.Setting.{Setting}
-use Rattle.link_service.specs.Laws.{is_read_fault}
+use Rattle.history_state.specs.Setting.{Setting}
+use Rattle.history_calls.specs.Laws.{is_read_fault}
 use Rattle.world_turns.specs.World.{World}
 
 -- ---- lines of a journal

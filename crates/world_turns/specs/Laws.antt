@@ -1,10 +1,10 @@
 -- What holds of every run on one thread.
 use Rattle.std.specs.Prelude.{ℕ}
-use Rattle.link_served.specs.declared.startup.Setup.{Setup}
-use Rattle.link_history.specs.Accepted.{AcceptsOnly}
-use Rattle.link_history.specs.After.{after}
-use Rattle.link_history.specs.Setting.{Setting}
-use Rattle.memory_holds.specs.Enters.{SlotTrue}
+use Rattle.history_calls.specs.declared.link_served.startup.Setup.{Setup}
+use Rattle.history_state.specs.Accepted.{AcceptsOnly}
+use Rattle.history_state.specs.After.{after}
+use Rattle.history_state.specs.Setting.{Setting}
+use Rattle.history_memory.specs.Enters.{SlotTrue}
 use Rattle.world_turns.specs.Memory.{memory_of}
 use Rattle.rv_hart.specs.Registers.{Registers}
 use Rattle.world_turns.specs.Run.{Begins, IsStarted, LacksMemory, settled}

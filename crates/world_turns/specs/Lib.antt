@@ -8,3 +8,8 @@ pub mod Sound
 pub mod Throughout
 pub mod Turn
 pub mod World
+pub mod SchedulesPart
+pub mod TurnWrites
+pub mod WorldEnds
+pub mod WorldFrames
+pub mod RunningWorlds

@@ -1,15 +1,15 @@
 -- What turns do to guest memory: the doublewords from 0x10000 on.
 use Rattle.std.specs.Prelude.{◌≡◌, ℕ, ◌==◌, if◌then◌else◌, List, [], ◌∷◌, length, Contains, IsTrue}
 use Rattle.ld_base.specs.declared.linking.Role.TheVariants.{None as NoRole, Rx}
-use Rattle.link_event.specs.declared.event.Event.{Event}
-use Rattle.link_event.specs.declared.event.Range.{Range}
-use Rattle.link_history.specs.Addresses.{is_linkers_page}
-use Rattle.link_history.specs.After.{after}
-use Rattle.link_history.specs.Changes.{IsUntouched, reserved, taken}
-use Rattle.link_history.specs.Memory.{covers, ebreaks, role_at, word_at}
-use Rattle.link_history.specs.State.{State}
-use Rattle.link_history.specs.Step.{step}
-use Rattle.memory_holds.specs.Memory.{IsDoubleword, Memory}
+use Rattle.history_event.specs.declared.event.Event.{Event}
+use Rattle.history_event.specs.declared.event.Range.{Range}
+use Rattle.history_state.specs.Addresses.{is_linkers_page}
+use Rattle.history_state.specs.After.{after}
+use Rattle.history_state.specs.Changes.{IsUntouched, reserved, taken}
+use Rattle.history_state.specs.Memory.{covers, ebreaks, role_at, word_at}
+use Rattle.history_state.specs.State.{State}
+use Rattle.history_state.specs.Step.{step}
+use Rattle.history_memory.specs.Memory.{IsDoubleword, Memory}
 use Rattle.rv_hart.specs.Doublewords.{DoesIn, raised, with_word_at}
 use Rattle.rv_hart.specs.Doublewords as doublewords
 use Rattle.rv_hart.specs.declared.doubleword.Doubleword.{Doubleword}

@@ -1,8 +1,8 @@
 -- What a hart's next turn is: the world says it, and what is settled first changes nothing of that.
 use Rattle.std.specs.Prelude.{◌≡◌, ℕ, List, ◌++◌}
-use Rattle.link_event.specs.declared.event.Event.{Event}
-use Rattle.link_history.specs.After.{after}
-use Rattle.link_history.specs.Setting.{Setting}
+use Rattle.history_event.specs.declared.event.Event.{Event}
+use Rattle.history_state.specs.After.{after}
+use Rattle.history_state.specs.Setting.{Setting}
 use Rattle.hart_moves.specs.Due.{due}
 use Rattle.hart_moves.specs.Harts.{HartState}
 use Rattle.world_turns.specs.Turn.{Turn}

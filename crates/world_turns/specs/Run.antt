@@ -2,24 +2,24 @@
 use Rattle.std.specs.Prelude.{◌≡◌, ℕ, suc, Bool, true, false, not, ◌&&◌, List, [], ◌∷◌, ◌++◌, length, map, Option, Some, None, IsTrue}
 use Rattle.std.specs.List.{list_all, list_any, range_with_len, slice_get}
 use Rattle.std.specs.Option.{is_some, option_map_or}
-use Rattle.link_event.specs.declared.event.Event.TheVariants.{Ended}
-use Rattle.link_event.specs.declared.handed.HartEntry.{HartEntry}
-use Rattle.link_event.specs.declared.hart_end.HartEnd.TheVariants as ends
-use Rattle.link_served.specs.declared.startup.Setup.{Setup}
-use Rattle.link_served.specs.declared.startup.Started.{Started}
+use Rattle.history_event.specs.declared.event.Event.TheVariants.{Ended}
+use Rattle.history_event.specs.declared.handed.HartEntry.{HartEntry}
+use Rattle.history_event.specs.declared.hart_end.HartEnd.TheVariants as ends
+use Rattle.history_calls.specs.declared.link_served.startup.Setup.{Setup}
+use Rattle.history_calls.specs.declared.link_served.startup.Started.{Started}
 use Rattle.rv_hart.specs.Registers.{Registers}
 use Rattle.rv_hart.specs.declared.doubleword.Doubleword.{Doubleword}
-use Rattle.link_history.specs.After.{after}
-use Rattle.link_history.specs.Allowed.{MayEnd}
-use Rattle.link_history.specs.Memory.{image_of}
-use Rattle.link_history.specs.Setting.{Setting}
-use Rattle.link_history.specs.State.{start}
-use Rattle.link_service.specs.Functions.{AreAddresses, destructors}
-use Rattle.link_service.specs.Startup.{Starts, setting_of}
+use Rattle.history_state.specs.After.{after}
+use Rattle.history_state.specs.Allowed.{MayEnd}
+use Rattle.history_state.specs.Memory.{image_of}
+use Rattle.history_state.specs.Setting.{Setting}
+use Rattle.history_state.specs.State.{start}
+use Rattle.history_calls.specs.Functions.{AreAddresses, destructors}
+use Rattle.history_calls.specs.Startup.{Starts, setting_of}
 use Rattle.hart_moves.specs.Harts.{HartState, is_startup_frame}
 use Rattle.hart_moves.specs.Moves.{all_finis, ended, freed}
 use Rattle.hart_moves.specs.Starting.{finalising_hart, starting_harts, starting_registers}
-use Rattle.schedules.specs.declared.schedule.TurnItem.{TurnItem}
+use Rattle.world_turns.specs.declared.schedules.schedule.TurnItem.{TurnItem}
 use Rattle.world_turns.specs.Memory.{AreFresh, RemakesAll}
 use Rattle.world_turns.specs.Turn.{TakesTurn, Turn}
 use Rattle.world_turns.specs.World.{World, settling}

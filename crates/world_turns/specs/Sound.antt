@@ -1,15 +1,15 @@
 -- What holds of a run at each moment.
 use Rattle.std.specs.Prelude.{◌≡◌, ℕ, List, length, Some}
 use Rattle.std.specs.List.{slice_get}
-use Rattle.link_event.specs.declared.hart_end.HartEnd.{HartEnd}
-use Rattle.link_event.specs.declared.state.Granting.{Granting}
+use Rattle.history_event.specs.declared.hart_end.HartEnd.{HartEnd}
+use Rattle.history_event.specs.declared.state.Granting.{Granting}
 use Rattle.rv_hart.specs.declared.doubleword.Doubleword.{Doubleword}
-use Rattle.link_history.specs.After.{after}
-use Rattle.link_history.specs.Legal.{Legal}
-use Rattle.link_history.specs.Setting.{Setting}
-use Rattle.link_history.specs.Slots.{HasNoGrant, IsOpenGrant}
-use Rattle.link_history.specs.State.{State}
-use Rattle.memory_holds.specs.Holds.{Holds}
+use Rattle.history_state.specs.After.{after}
+use Rattle.history_state.specs.Legal.{Legal}
+use Rattle.history_state.specs.Setting.{Setting}
+use Rattle.history_state.specs.Slots.{HasNoGrant, IsOpenGrant}
+use Rattle.history_state.specs.State.{State}
+use Rattle.history_memory.specs.Holds.{Holds}
 use Rattle.hart_moves.specs.Harts.{HartState, Offered, Resolving}
 use Rattle.hart_moves.specs.Moves.{IsOffer, settled_resolving, word_left}
 use Rattle.world_turns.specs.Memory.{doubleword, memory_of, word_count}

@@ -1,14 +1,14 @@
 -- What holds of a whole run on one thread, at each of its worlds and at its end.
 use Rattle.std.specs.Prelude.{◌≢◌, ℕ, ◌<◌, List, length, Contains, IsTrue}
-use Rattle.link_event.specs.declared.state.Granting.{Granting}
-use Rattle.link_event.specs.declared.state.Standing.TheVariants.{Open}
-use Rattle.link_served.specs.declared.startup.Setup.{Setup}
+use Rattle.history_event.specs.declared.state.Granting.{Granting}
+use Rattle.history_event.specs.declared.state.Standing.TheVariants.{Open}
+use Rattle.history_calls.specs.declared.link_served.startup.Setup.{Setup}
 use Rattle.rv_hart.specs.Registers.{Registers}
-use Rattle.link_history.specs.Accepted.{AcceptsOnly}
-use Rattle.link_history.specs.After.{after}
-use Rattle.link_history.specs.Setting.{Setting}
-use Rattle.link_history.specs.Slots.{HasNoGrant}
-use Rattle.schedules.specs.declared.schedule.TurnItem.{TurnItem}
+use Rattle.history_state.specs.Accepted.{AcceptsOnly}
+use Rattle.history_state.specs.After.{after}
+use Rattle.history_state.specs.Setting.{Setting}
+use Rattle.history_state.specs.Slots.{HasNoGrant}
+use Rattle.world_turns.specs.declared.schedules.schedule.TurnItem.{TurnItem}
 use Rattle.world_turns.specs.Run.{Constructs, Finalises, Finishes, Run, TakesItems, have_ended}
 use Rattle.world_turns.specs.Sound.{Sound}
 use Rattle.world_turns.specs.World.{World}

@@ -1,8 +1,8 @@
 -- One turn of a hart in a run on one thread.
 use Rattle.std.specs.Prelude.{◌≡◌, ℕ, ◌++◌, Some, slice_set}
 use Rattle.std.specs.List.{slice_get}
-use Rattle.link_event.specs.declared.hart_end.HartEnd.{HartEnd}
-use Rattle.link_history.specs.Setting.{Setting}
+use Rattle.history_event.specs.declared.hart_end.HartEnd.{HartEnd}
+use Rattle.history_state.specs.Setting.{Setting}
 use Rattle.hart_moves.specs.Harts.{HartState}
 use Rattle.hart_moves.specs.Moves.{Did, Moves, events_of}
 use Rattle.world_turns.specs.Memory.{Does}

@@ -1,7 +1,7 @@
 -- A run on one thread at a moment: its journal, its memory, and its harts.
 use Rattle.std.specs.Prelude.{ℕ, ◌==◌, Bool, if◌then◌else◌, List, [], ◌∷◌, ◌++◌, flat_map, map}
-use Rattle.link_event.specs.declared.event.Event.{Event}
-use Rattle.link_event.specs.declared.event.Event.TheVariants.{Bound, Lost}
+use Rattle.history_event.specs.declared.event.Event.{Event}
+use Rattle.history_event.specs.declared.event.Event.TheVariants.{Bound, Lost}
 use Rattle.rv_hart.specs.declared.doubleword.Doubleword.{Doubleword}
 use Rattle.hart_moves.specs.Harts.{HartState, Offered, Resolving}
 use Rattle.hart_moves.specs.Moves.{Did, freed, settles}

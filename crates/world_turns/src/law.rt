@@ -11,8 +11,8 @@ ghost use Rattle.world_turns.specs.Laws.{FinalsBeginSound, FinalsLackSound, Sett
 pub fn runs_start_sound()
     ensures { StartIsSound }
 {
-    memory_holds::memory_begins();
-    memory_holds::events_keep();
+    history_memory::memory_begins();
+    history_memory::events_keep();
 }
 
 /// And every turn leaves it sound: what is settled may be settled, an exchange leaves the winner's value,
@@ -27,14 +27,14 @@ pub fn turns_stay_sound()
     scope_rule::serials_follow();
     scope_rule::found_stands();
     scope_rule::reads_candidates();
-    link_history::slots_begin();
-    link_history::none_is_lazy();
-    link_history::images_are_mapped();
-    link_history::memory_changes();
-    memory_holds::events_keep();
-    memory_holds::exchanges_keep();
-    memory_holds::grants_settle();
-    memory_holds::slots_stand();
+    history_state::slots_begin();
+    history_state::none_is_lazy();
+    history_state::images_are_mapped();
+    history_state::memory_changes();
+    history_memory::events_keep();
+    history_memory::exchanges_keep();
+    history_memory::grants_settle();
+    history_memory::slots_stand();
 }
 
 /// What a library counted in one turn after another it counted in all of them: a read that failed and a
@@ -75,5 +75,5 @@ pub fn turns_are_due()
 pub fn slots_are_true()
     ensures { SoundIsSlotTrue }
 {
-    memory_holds::slots_are_true();
+    history_memory::slots_are_true();
 }

@@ -11,7 +11,20 @@
 #![tactic(auto)]
 
 mod law;
+mod running_worlds;
+mod schedules;
+mod turn_writes;
+mod world_ends;
+mod world_frames;
 
 pub use law::{
     counts_show, runs_start_sound, runs_stay_sound, slots_are_true, turns_are_due, turns_stay_sound,
+};
+pub use running_worlds::{runs_go_on, turns_meet_premises};
+pub use schedules::{TurnItem, Turns, schedules_are_none, schedules_are_written};
+pub use turn_writes::{turns_keep_writes, worlds_keep_writes};
+pub use world_ends::{ends_fit, harts_may_end, runs_end_once};
+pub use world_frames::{
+    finals_belong, finals_may_pass, frames_belong, functions_may_pass, runs_belong,
+    settling_keeps_frames,
 };

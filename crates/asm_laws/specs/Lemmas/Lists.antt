@@ -3,7 +3,7 @@ use Rattle.std.proofs.Common.{ℕ, ◌%◌, ◌==◌, Bool, true, false, if◌th
 use Rattle.std.specs.Prelude.{⊤, Option, Some, None, option_to_list}
 use Rattle.std.specs.List.{cons_option, list_any, range_with_len}
 use Rattle.std.specs.Str.{bytes_eq}
-use Rattle.hash_build.specs.Hashed.{by_bucket}
+use Rattle.asm_write.specs.HashBuild.Hashed.{by_bucket}
 use Rattle.asm_statement.specs.declared.directive.Need.{Need}
 use Rattle.asm_statement.specs.declared.line.Line.{Line}
 use Rattle.asm_layout.specs.Uses.{distinct, distinct_after, need_of, needs, with_need}

@@ -3,11 +3,11 @@ use Rattle.std.proofs.Common.{◌≡◌, ◌⊎◌, inl, inr, ⊎_elim, ℕ, ◌
 use Rattle.std.specs.List.{Contains}
 use Rattle.std.specs.Option.{is_some}
 use Rattle.std.proofs.lemmas.List.{append-nil}
-use Rattle.link_event.specs.declared.event.Event.{Event}
-use Rattle.link_event.specs.declared.event.Event.TheVariants as events
-use Rattle.link_event.specs.declared.handed.Function.{Function}
-use Rattle.link_event.specs.declared.hart_end.HartEnd.{HartEnd}
-use Rattle.link_event.specs.declared.hart_end.HartEnd.TheVariants as ends
+use Rattle.history_event.specs.declared.event.Event.{Event}
+use Rattle.history_event.specs.declared.event.Event.TheVariants as events
+use Rattle.history_event.specs.declared.handed.Function.{Function}
+use Rattle.history_event.specs.declared.hart_end.HartEnd.{HartEnd}
+use Rattle.history_event.specs.declared.hart_end.HartEnd.TheVariants as ends
 use Rattle.ld_base.specs.declared.fault.DlFault.{DlFault}
 use Rattle.rv_hart.specs.declared.bus.BusFault.{BusFault}
 use Rattle.rv_hart.specs.declared.bus.BusFault.TheVariants.{Role as RoleFault, Misaligned, Again}
@@ -16,22 +16,22 @@ use Rattle.rv_hart.specs.declared.bus.Item.TheVariants.{Write}
 use Rattle.rv_hart.specs.declared.stepping.Stop.{Stop}
 use Rattle.rv_hart.specs.declared.stepping.Stop.TheVariants as stop
 use Rattle.rv_hart.specs.Trail.{Place, Ready, Accessing, Stopped}
-use Rattle.link_history.specs.After.{after}
-use Rattle.link_history.specs.Allowed.{MayEnd}
-use Rattle.link_history.specs.Legal.{Legal}
-use Rattle.link_history.specs.Objects.{has, object_at}
-use Rattle.link_history.specs.Setting.{Setting}
-use Rattle.link_history.specs.State.{State}
-use Rattle.link_history.specs.Lemmas.History.{legal_push, one_behind}
-use Rattle.link_history.specs.Lemmas.Lists.{first_or_later, here, later, none_in, only_in}
-use Rattle.link_service.specs.Answer.{Answer, returns, loading, closing, refused, granted, told, again, over}
-use Rattle.link_service.specs.Call.{Call}
-use Rattle.link_service.specs.Functions.{left, passed}
-use Rattle.link_service.specs.Gives.{Gives, Serves, ending}
-use Rattle.link_service.specs.Laws.{hart_of}
-use Rattle.link_service.specs.Served.{answer_text}
-use Rattle.link_service.specs.Lemmas.Given.{ends_keep}
-use Rattle.link_service.specs.Lemmas.Own.{events_own}
+use Rattle.history_state.specs.After.{after}
+use Rattle.history_state.specs.Allowed.{MayEnd}
+use Rattle.history_state.specs.Legal.{Legal}
+use Rattle.history_state.specs.Objects.{has, object_at}
+use Rattle.history_state.specs.Setting.{Setting}
+use Rattle.history_state.specs.State.{State}
+use Rattle.history_state.specs.Lemmas.History.{legal_push, one_behind}
+use Rattle.history_state.specs.Lemmas.Lists.{first_or_later, here, later, none_in, only_in}
+use Rattle.history_calls.specs.Answer.{Answer, returns, loading, closing, refused, granted, told, again, over}
+use Rattle.history_calls.specs.Call.{Call}
+use Rattle.history_calls.specs.Functions.{left, passed}
+use Rattle.history_calls.specs.Gives.{Gives, Serves, ending}
+use Rattle.history_calls.specs.Laws.{hart_of}
+use Rattle.history_calls.specs.Served.{answer_text}
+use Rattle.history_calls.specs.Lemmas.Given.{ends_keep}
+use Rattle.history_calls.specs.Lemmas.Own.{events_own}
 use Rattle.hart_moves.specs.Copying.{Copy, text_words}
 use Rattle.hart_moves.specs.Due.{Due, Return, by_resolving, due}
 use Rattle.hart_moves.specs.Harts.{Frame, HartState, Purpose}

@@ -6,12 +6,12 @@ ghost use Rattle.hart_moves.specs.Due.{back, behind};
 ghost use Rattle.hart_moves.specs.Harts.Phase.{storing, writing};
 ghost use Rattle.hart_moves.specs.Moves.{returning, running, stored_to, telling};
 ghost use Rattle.hart_moves.specs.Registers.{passed_ecall};
-ghost use Rattle.hart_parts.specs.Views.{closing_back, purpose_of};
+ghost use Rattle.hart_seat.specs.HartParts.Views.{closing_back, purpose_of};
 ghost use Rattle.hart_seat.specs.Table.{closing_return};
 
 use crate::LinkedHart;
+use crate::hart_parts::{Purpose, RA, return_with};
 use crate::phase::Phase;
-use hart_parts::{Purpose, RA, return_with};
 use ld_base::Name;
 
 impl LinkedHart {

@@ -1,16 +1,16 @@
 //! A copied doubleword.
 
 ghost use Rattle.std.specs.Prelude.{◌≡◌, ℕ, ◌≤◌, [], List, false};
-ghost use Rattle.link_history.specs.State.{State};
+ghost use Rattle.history_state.specs.State.{State};
 ghost use Rattle.hart_moves.specs.Copying.{Copy, after_name, before_end, grown, is_copied, with_bytes};
 ghost use Rattle.hart_moves.specs.Due.{Due, due, name_start, write_count};
-ghost use Rattle.hart_parts.specs.Views.{naming_of};
+ghost use Rattle.hart_seat.specs.HartParts.Views.{naming_of};
 ghost use Rattle.hart_seat.specs.Copied.{begun, copied_phase, more_bytes};
 ghost use Rattle.hart_seat.specs.Phases.{IsInside, phase_of};
 
 use crate::LinkedHart;
+use crate::hart_parts::{A0, A1, A2, Naming, PassedBytes, Service, first_left, service_at};
 use crate::phase::Phase;
-use hart_parts::{A0, A1, A2, Naming, PassedBytes, Service, first_left, service_at};
 
 /// How many bytes of a name, or of what is written, are copied at most.
 const MOST: usize = 256;

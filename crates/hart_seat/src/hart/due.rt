@@ -1,16 +1,16 @@
 //! What a hart's next turn is.
 
 ghost use Rattle.std.specs.Prelude.{◌≡◌, ℕ, List, [], None};
-ghost use Rattle.link_history.specs.State.{State};
+ghost use Rattle.history_state.specs.State.{State};
 ghost use Rattle.hart_moves.specs.Due.{back, by_phase, call_of, due, within_fuel};
 ghost use Rattle.hart_moves.specs.Due.{Due as is_due};
 ghost use Rattle.hart_moves.specs.Harts.{Phase as phase_is};
-ghost use Rattle.hart_parts.specs.Views.{due_in, naming_of};
-ghost use Rattle.hart_parts.specs.Turns.{HasFuel, HasParts};
+ghost use Rattle.hart_seat.specs.HartParts.Views.{due_in, naming_of};
+ghost use Rattle.hart_seat.specs.HartParts.Turns.{HasFuel, HasParts};
 
 use crate::LinkedHart;
+use crate::hart_parts::{A0, A1, A2, Call, Copying, Due, Naming, RA, number_at};
 use crate::phase::{Phase, Resolving};
-use hart_parts::{A0, A1, A2, Call, Copying, Due, Naming, RA, number_at};
 
 /// The bytes of a module's number and an offset.
 const PAIR: usize = 16;

@@ -2,20 +2,22 @@
 
 ghost use Rattle.std.specs.Prelude.{◌≡◌, ℕ, ◌<◌, ◌≤◌, [], ◌∷◌, List, drop, length};
 ghost use Rattle.std.specs.List.{list_any};
-ghost use Rattle.link_event.specs.declared.handed.Function.{Function as function_value};
+ghost use Rattle.history_event.specs.declared.handed.Function.{Function as function_value};
 ghost use Rattle.hart_moves.specs.Harts.Phase.{at_pc};
 ghost use Rattle.hart_moves.specs.Harts.Purpose.{of_end};
 ghost use Rattle.hart_moves.specs.Harts.{Frame, Purpose as purpose_value, is_startup_frame};
 ghost use Rattle.hart_moves.specs.Moves.{after_all, running, runs};
 ghost use Rattle.hart_moves.specs.Registers.{entered};
 ghost use Rattle.hart_moves.specs.Starting.{starting_registers};
-ghost use Rattle.hart_parts.specs.Queues.{entered_frames};
-ghost use Rattle.hart_parts.specs.Views.{purpose_of};
+ghost use Rattle.hart_seat.specs.HartParts.Queues.{entered_frames};
+ghost use Rattle.hart_seat.specs.HartParts.Views.{purpose_of};
 
 use crate::LinkedHart;
+use crate::hart_parts::{
+    FunctionQueue, NEXT_FUNCTION, Purpose, enter_function, return_with, start,
+};
 use crate::phase::Phase;
-use hart_parts::{FunctionQueue, NEXT_FUNCTION, Purpose, enter_function, return_with, start};
-use link_event::{Functions, HartEnd, HartEntry};
+use history_event::{Functions, HartEnd, HartEntry};
 
 impl LinkedHart {
     /// The hart is to run functions, those of so many objects in front apart, which have passed.

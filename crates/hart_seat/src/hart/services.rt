@@ -1,17 +1,17 @@
 //! What is due at the services of the linker's page.
 
 ghost use Rattle.std.specs.Prelude.{◌≡◌, ℕ};
-ghost use Rattle.link_history.specs.State.{State};
+ghost use Rattle.history_state.specs.State.{State};
 ghost use Rattle.hart_moves.specs.Due.{at_service, by_frames, by_name, by_phase, own_end};
 ghost use Rattle.hart_moves.specs.Harts.{Phase as phase_is};
-ghost use Rattle.link_service.specs.Call.{stops};
-ghost use Rattle.hart_parts.specs.Views.{due_in, naming_of, service_of};
-ghost use Rattle.hart_parts.specs.Turns.{HasParts};
+ghost use Rattle.history_calls.specs.Call.{stops};
+ghost use Rattle.hart_seat.specs.HartParts.Views.{due_in, naming_of, service_of};
+ghost use Rattle.hart_seat.specs.HartParts.Turns.{HasParts};
 
 use crate::LinkedHart;
 use crate::hart::{EIGHTS, OWNER};
-use hart_parts::{A0, A1, A2, Call, Copying, Due, Naming, RA, Service, service_at};
-use link_event::HartEnd;
+use crate::hart_parts::{A0, A1, A2, Call, Copying, Due, Naming, RA, Service, service_at};
+use history_event::HartEnd;
 
 impl LinkedHart {
     /// A service, or an instruction.

@@ -5,11 +5,11 @@ ghost use Rattle.hart_moves.specs.Harts.Resolving.{to_exchange, to_finish, to_se
 ghost use Rattle.hart_moves.specs.Harts.{Offered as granted};
 ghost use Rattle.hart_moves.specs.Moves.{spent, word_left};
 ghost use Rattle.hart_moves.specs.Registers.{at};
-ghost use Rattle.hart_parts.specs.Views.{offered_of};
+ghost use Rattle.hart_seat.specs.HartParts.Views.{offered_of};
 
 use crate::LinkedHart;
+use crate::hart_parts::Offered;
 use crate::phase::Resolving;
-use hart_parts::Offered;
 
 impl LinkedHart {
     /// A slot is granted: its exchange is next.

@@ -1,23 +1,20 @@
 //! Closings.
 
 ghost use Rattle.std.specs.Prelude.{◌≡◌, IfErr, IfOk, OnErr, OnOk};
-ghost use Rattle.link_event.specs.declared.event.CloseAnswer.TheVariants.{Done};
-ghost use Rattle.link_event.specs.declared.event.Event.TheVariants.{Close};
-ghost use Rattle.link_history.specs.After.{after};
-ghost use Rattle.link_history.specs.Allowed.{Closes};
+ghost use Rattle.history_event.specs.declared.event.CloseAnswer.TheVariants.{Done};
+ghost use Rattle.history_event.specs.declared.event.Event.TheVariants.{Close};
+ghost use Rattle.history_state.specs.After.{after};
+ghost use Rattle.history_state.specs.Allowed.{Closes};
 ghost use Rattle.link_state.specs.Closing.{IsNotClosed, IsPlanOf};
 ghost use Rattle.link_state.specs.Table.{appended};
 
 use crate::LinkState;
 use crate::faults::CloseFault;
-use closing_graph::opened_in;
-use closing_laws::first_is_opened;
-use closing_plans::{ClosingPlan, wait};
-use closing_sets::closing_set;
+use close_mark::{ClosingPlan, closing_set, first_is_opened, opened_in, wait};
+use history_event::Dying;
+use history_state::{edges_follow, serials_are_in_order};
 use ld_base::{HartId, Serial};
-use link_event::Dying;
-use link_history::{edges_follow, serials_are_in_order};
-use linker_lists::{closing_event, fixed_roots, room_for_closing};
+use link_holds::{closing_event, fixed_roots, room_for_closing};
 use std::alloc::AllocError;
 
 impl LinkState {

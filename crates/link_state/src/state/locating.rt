@@ -1,23 +1,23 @@
 //! Requests of blocks of thread-local storage.
 
 ghost use Rattle.std.specs.Prelude.{◌≡◌, ◌<◌, None, IfErr, IfOk};
-ghost use Rattle.link_history.specs.After.{after};
-ghost use Rattle.link_history.specs.Storage.{tls_block};
+ghost use Rattle.history_state.specs.After.{after};
+ghost use Rattle.history_state.specs.Storage.{tls_block};
 ghost use Rattle.link_state.specs.Locating.{IsLocated, IsModuleOf, IsNotLocated, PlansBlock, PlansNone};
 
 use crate::LinkState;
 use crate::faults::TlsFault;
-use accepted_image::accepted_object;
+use history_event::Event;
+use history_journal::accepted_object;
+use history_state::{images_are_found, objects_are_read};
 use ld_base::{HartId, Serial};
-use link_event::Event;
-use link_history::{images_are_found, objects_are_read};
-use linker_lists::{nothing, put_block, room_for_block};
-use mapped_objects::object_in;
-use new_blocks::{
+use link_holds::{nothing, put_block, room_for_block};
+use link_open_images::{
     BlockFault, NewBlock, harts_have_new_blocks, new_block, new_blocks_are_installed,
 };
+use link_search::block_in;
+use link_spaces::object_in;
 use std::alloc::AllocError;
-use symbol_search::block_in;
 
 impl LinkState {
     /// Where a hart has its block of the module with a number: the block is made at the hart's first use.

@@ -1,26 +1,26 @@
 //! Look-ups of symbols.
 
 ghost use Rattle.std.specs.Prelude.{◌≡◌, ◌<◌, None, IfErr, IfOk, IsTrue, OnErr};
-ghost use Rattle.link_event.specs.declared.event.Event.TheVariants.{Sym};
-ghost use Rattle.link_event.specs.declared.event.SymAnswer.TheVariants.{Found};
-ghost use Rattle.link_history.specs.After.{after};
-ghost use Rattle.link_history.specs.Lookup.{IsShort, MayAnswer, wanted_of};
-ghost use Rattle.link_history.specs.Objects.{has_namespace};
-ghost use Rattle.link_history.specs.Relocating.{version_of};
-ghost use Rattle.link_history.specs.Storage.{tls_block};
+ghost use Rattle.history_event.specs.declared.event.Event.TheVariants.{Sym};
+ghost use Rattle.history_event.specs.declared.event.SymAnswer.TheVariants.{Found};
+ghost use Rattle.history_state.specs.After.{after};
+ghost use Rattle.history_state.specs.Lookup.{IsShort, MayAnswer, wanted_of};
+ghost use Rattle.history_state.specs.Objects.{has_namespace};
+ghost use Rattle.history_state.specs.Relocating.{version_of};
+ghost use Rattle.history_state.specs.Storage.{tls_block};
 ghost use Rattle.link_state.specs.Looking.{FindsVariable, IsLookedUp, sym_fault};
-ghost use Rattle.symbol_search.specs.Asking.{ask_of};
-ghost use Rattle.symbol_search.specs.Finding.{IsSymFault};
+ghost use Rattle.link_search.specs.Asking.{ask_of};
+ghost use Rattle.link_search.specs.Finding.{IsSymFault};
 
 use crate::LinkState;
-use accepted_image::accepted_object;
+use history_event::{Event, SymAsk};
+use history_journal::accepted_object;
+use history_state::symbols_are_stored;
 use ld_base::{Choice, DlFault, HartId, NsId, Serial, Want};
-use link_event::{Event, SymAsk};
-use link_history::symbols_are_stored;
-use linker_lists::{found_event, nothing, put_block, room_for_block};
-use mapped_objects::address_of;
-use new_blocks::{BlockFault, NewBlock, harts_have_new_blocks, new_blocks_are_installed};
-use symbol_search::{SymFault, find_symbol, symbol_ask, variable_in};
+use link_holds::{found_event, nothing, put_block, room_for_block};
+use link_open_images::{BlockFault, NewBlock, harts_have_new_blocks, new_blocks_are_installed};
+use link_search::{SymFault, find_symbol, symbol_ask, variable_in};
+use link_spaces::address_of;
 
 impl LinkState {
     /// Where the definition of a name is that a look-up by a caller in a namespace finds (dlsym(3),

@@ -1,31 +1,30 @@
 //! Openings that load something, or raise a count.
 
 ghost use Rattle.std.specs.Prelude.{◌≡◌, ◌+◌, ◌<◌, ◌^◌, ◌||◌, if◌then◌else◌, length, IfOk, IsTrue, OnErr, OnOk};
-ghost use Rattle.image_reads.specs.Reads.{ArePrepared};
-ghost use Rattle.lawful_journal.specs.Following.{MayFollow};
-ghost use Rattle.link_event.specs.declared.event.Event.TheVariants.{Open};
-ghost use Rattle.link_event.specs.declared.event.OpenAnswer.TheVariants.{Absent, Done};
-ghost use Rattle.link_history.specs.After.{after};
-ghost use Rattle.link_history.specs.Flags.{is_now};
-ghost use Rattle.link_history.specs.Step.{binds, seen_after};
-ghost use Rattle.link_service.specs.Served.{AreInstalls, InstallsNothing};
+ghost use Rattle.link_images.specs.ImageReads.Reads.{ArePrepared};
+ghost use Rattle.history_journal.specs.Following.{MayFollow};
+ghost use Rattle.history_event.specs.declared.event.Event.TheVariants.{Open};
+ghost use Rattle.history_event.specs.declared.event.OpenAnswer.TheVariants.{Absent, Done};
+ghost use Rattle.history_state.specs.After.{after};
+ghost use Rattle.history_state.specs.Flags.{is_now};
+ghost use Rattle.history_state.specs.Step.{binds, seen_after};
+ghost use Rattle.history_calls.specs.Served.{AreInstalls, InstallsNothing};
 ghost use Rattle.link_state.specs.Opening.{AreChosen, IsPut, event_of};
 ghost use Rattle.link_state.specs.Table.{appended};
-ghost use Rattle.opening_brings.specs.Brought.{IsBrought, OfLists, done};
-ghost use Rattle.opening_images.specs.Relocated.{AreChoices};
+ghost use Rattle.link_open_brings.specs.Brought.{IsBrought, OfLists, done};
+ghost use Rattle.link_open_images.specs.Relocated.{AreChoices};
 
 use crate::LinkState;
+use history_calls::Installs;
+use history_event::{ChoiceLists, Choices, OpenAnswer, OpenAsk, Opening, Ranges};
+use history_state::edges_follow;
 use ld_base::{Added, HartId, NsId, Serial};
-use link_event::{ChoiceLists, Choices, OpenAnswer, OpenAsk, Opening, Ranges};
-use link_history::edges_follow;
-use link_served::Installs;
-use linker_lists::{OpeningCounts, absent_event, nothing, opened_event, room_for_opening};
-use namespace_changes::namespaces_are_numbered_apart;
-use open_flags::{is_global, is_now};
-use opening_brings::{Brings, Planned, prepare};
-use opening_follows::{closings_take_as_much, new_ranges_are_laid};
-use opening_steps::{hold_all, keep_all, reserve_all};
-use record_copies::Copied;
+use link_holds::{OpeningCounts, absent_event, nothing, opened_event, room_for_opening};
+use link_lists::{Copied, is_global, is_now};
+use link_open_brings::{Brings, Planned, prepare};
+use link_open_images::{hold_all, keep_all, reserve_all};
+use link_open_laws::{closings_take_as_much, new_ranges_are_laid};
+use link_spaces::namespaces_are_numbered_apart;
 use std::alloc::AllocError;
 
 impl LinkState {

@@ -1,19 +1,19 @@
 //! Unmappings.
 
 ghost use Rattle.std.specs.Prelude.{◌≡◌, IfErr, IfNone, IfOk, IfSome, OnErr, OnOk};
-ghost use Rattle.link_event.specs.declared.event.Event.TheVariants.{Unmapped};
-ghost use Rattle.link_history.specs.After.{after};
-ghost use Rattle.link_history.specs.Allowed.{IsUngranted};
-ghost use Rattle.link_service.specs.Waiting.{HasFinished, IsHeldBy};
+ghost use Rattle.history_event.specs.declared.event.Event.TheVariants.{Unmapped};
+ghost use Rattle.history_state.specs.After.{after};
+ghost use Rattle.history_state.specs.Allowed.{IsUngranted};
+ghost use Rattle.history_calls.specs.Waiting.{HasFinished, IsHeldBy};
 ghost use Rattle.link_state.specs.Table.{appended};
 ghost use Rattle.link_state.specs.Unmapping.{IsRemoved};
 
 use crate::LinkState;
-use image_parts::parts_go;
+use close_mark::{first_is_least, holding, remove_modules};
+use history_event::{Dying, Event, Ranges, Removed};
+use history_state::{edges_follow, modules_are_few, modules_are_tidy};
 use ld_base::{Added, GrantNo, HartId};
-use link_event::{Dying, Event, Ranges, Removed};
-use link_history::{edges_follow, modules_are_few, modules_are_tidy};
-use unmap_steps::{first_is_least, holding, remove_modules};
+use link_images::parts_go;
 
 impl LinkState {
     /// The objects of a closing of the hart, whose destructors have run, are unmapped: they are handed out,

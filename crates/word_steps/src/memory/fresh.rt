@@ -1,18 +1,18 @@
 //! A memory that is made.
 
 ghost use Rattle.std.specs.Prelude.{◌≡◌, [], IfOk};
-ghost use Rattle.guest_rule.specs.declared.view.View.TheVariants.{Keeper};
-ghost use Rattle.guest_rule.specs.Layout.{table_words};
-ghost use Rattle.guest_rule.specs.Start.{IsFirst, first_keeper, first_words};
+ghost use Rattle.word_rule.specs.declared.view.View.TheVariants.{Keeper};
+ghost use Rattle.word_rule.specs.Layout.{table_words};
+ghost use Rattle.word_rule.specs.Start.{IsFirst, first_keeper, first_words};
 ghost use Rattle.word_steps.specs.Views.{IsResting};
 
 use crate::desk::Desk;
 use crate::layout::table_words;
 use crate::{Memory, Naming};
 use atomic_table::{Seat, Table};
-use guest_rule::{GuestRule, View};
 use std::alloc::{AllocError, Global};
 use std::marker::{Brand, Model, PhantomData};
+use word_rule::{GuestRule, View};
 
 /// A memory that has no name yet. Contracts see it as its table's identity, which whoever names it takes
 /// for the name.

@@ -1,11 +1,11 @@
 //! Seats that are made, and seats that are joined. Nothing else in this crate does that.
 
 ghost use Rattle.std.specs.Prelude.{◌≡◌, []};
-ghost use Rattle.guest_rule.specs.Joining.{HasNote, HasRoom, MayTake, new_hart, note_of, takes_in, with_hart};
+ghost use Rattle.word_rule.specs.Joining.{HasNote, HasRoom, MayTake, new_hart, note_of, takes_in, with_hart};
 
 use crate::{Memory, Naming};
 use atomic_table::Seat;
-use guest_rule::{MakesHart, MakesNote, TakesIn, View};
+use word_rule::{MakesHart, MakesNote, TakesIn, View};
 
 /// A hart's seat is made from the keeper's.
 pub(crate) fn split_hart<J: Naming>(

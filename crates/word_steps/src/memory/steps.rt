@@ -1,17 +1,17 @@
 //! The four functions that step on the table.
 //!
 //! Nothing else does, and nothing outside this module's parent could, so that each step is one of the
-//! kinds of `guest_rule`: a step of the table names its word and its operands, and each of these asks
+//! kinds of `word_rule`: a step of the table names its word and its operands, and each of these asks
 //! that its operation is the kind's.
 
 ghost use Rattle.std.specs.Prelude.{◌≡◌, ◌<◌, []};
-ghost use Rattle.guest_rule.specs.Layout.{table_words};
-ghost use Rattle.guest_rule.specs.Operations.{load, store, exchange, add};
-ghost use Rattle.guest_rule.specs.Table.{Learns, Ready, after_step, op_of, word_of};
+ghost use Rattle.word_rule.specs.Layout.{table_words};
+ghost use Rattle.word_rule.specs.Operations.{load, store, exchange, add};
+ghost use Rattle.word_rule.specs.Table.{Learns, Ready, after_step, op_of, word_of};
 
 use crate::{Memory, Naming};
 use atomic_table::Seat;
-use guest_rule::{Aimed, Does, View};
+use word_rule::{Aimed, Does, View};
 
 /// Loads a word. The last argument is for the proof: it says what the step is for.
 pub(crate) fn load_as<J: Naming, A: Aimed, K>(

@@ -3,21 +3,21 @@ use Rattle.std.proofs.Common.{◌≡◌, ℕ, List, [], ◌∷◌, ◌++◌, len
 use Rattle.std.specs.List.{Contains}
 use Rattle.std.proofs.Math.Seq.{take-append_seam}
 use Rattle.rv_hart.specs.declared.doubleword.Doubleword.{Doubleword}
-use Rattle.link_event.specs.declared.event.Event.{Event}
-use Rattle.link_event.specs.declared.event.Event.TheVariants as events
-use Rattle.link_history.specs.Accepted.{AcceptsOnly}
-use Rattle.link_history.specs.After.{after}
-use Rattle.link_history.specs.Allowed.{Allowed}
-use Rattle.link_history.specs.Legal.{Lawful, Legal}
-use Rattle.link_history.specs.Setting.{Machine, Setting}
-use Rattle.link_history.specs.State.{State}
-use Rattle.link_history.specs.Step.{step}
-use Rattle.link_history.specs.Lemmas.History.{after_push, lawful_push, legal_take, one_behind}
-use Rattle.link_history.specs.Lemmas.Lists.{here, later}
-use Rattle.link_service.specs.Laws.{hart_of}
-use Rattle.memory_holds.specs.Holds.{Holds}
-use Rattle.memory_holds.specs.Memory.{Memory}
-use Rattle.memory_holds.specs.Remade.{Remade, SettlesRightly, won_after}
+use Rattle.history_event.specs.declared.event.Event.{Event}
+use Rattle.history_event.specs.declared.event.Event.TheVariants as events
+use Rattle.history_state.specs.Accepted.{AcceptsOnly}
+use Rattle.history_state.specs.After.{after}
+use Rattle.history_state.specs.Allowed.{Allowed}
+use Rattle.history_state.specs.Legal.{Lawful, Legal}
+use Rattle.history_state.specs.Setting.{Machine, Setting}
+use Rattle.history_state.specs.State.{State}
+use Rattle.history_state.specs.Step.{step}
+use Rattle.history_state.specs.Lemmas.History.{after_push, lawful_push, legal_take, one_behind}
+use Rattle.history_state.specs.Lemmas.Lists.{here, later}
+use Rattle.history_calls.specs.Laws.{hart_of}
+use Rattle.history_memory.specs.Holds.{Holds}
+use Rattle.history_memory.specs.Memory.{Memory}
+use Rattle.history_memory.specs.Remade.{Remade, SettlesRightly, won_after}
 use Rattle.hart_moves.specs.Moves.{AreAllowed}
 use Rattle.world_turns.specs.Memory.{Remakes, RemakesAll, memory_of}
 

@@ -3,20 +3,20 @@ use Rattle.std.proofs.Common.{◌≡◌, ◌≢◌, ◌⊎◌, inl, inr, ⊎_eli
 use Rattle.std.specs.List.{Contains, slice_get}
 use Rattle.std.proofs.lemmas.Bool.{eq-eqb, eqb-true, true≢false}
 use Rattle.ld_base.specs.declared.linking.Role.TheVariants.{None as NoRole, Slot}
-use Rattle.link_event.specs.declared.event.Event.{Event}
-use Rattle.link_event.specs.declared.state.Granting.{Granting}
+use Rattle.history_event.specs.declared.event.Event.{Event}
+use Rattle.history_event.specs.declared.state.Granting.{Granting}
 use Rattle.rv_hart.specs.Doublewords.{nowhere, with_word_at}
 use Rattle.rv_hart.specs.declared.doubleword.Doubleword.{Doubleword}
-use Rattle.link_history.specs.After.{after}
-use Rattle.link_history.specs.Legal.{Lawful}
-use Rattle.link_history.specs.Setting.{Machine, Setting}
-use Rattle.link_history.specs.State.{State}
-use Rattle.link_history.specs.Lemmas.History.{legal_is_lawful}
-use Rattle.link_history.specs.Lemmas.Lists.{first_or_later, here, later, none_in, only_in}
-use Rattle.memory_holds.specs.Holds.{Holds, lazy_at}
-use Rattle.memory_holds.specs.Memory.{IsDoubleword, Memory, doubleword_of}
-use Rattle.memory_holds.specs.Remade.{MayExchange, Wins}
-use Rattle.memory_holds.specs.Lemmas.Exchanged.{fits, not_lazy}
+use Rattle.history_state.specs.After.{after}
+use Rattle.history_state.specs.Legal.{Lawful}
+use Rattle.history_state.specs.Setting.{Machine, Setting}
+use Rattle.history_state.specs.State.{State}
+use Rattle.history_state.specs.Lemmas.History.{legal_is_lawful}
+use Rattle.history_state.specs.Lemmas.Lists.{first_or_later, here, later, none_in, only_in}
+use Rattle.history_memory.specs.Holds.{Holds, lazy_at}
+use Rattle.history_memory.specs.Memory.{IsDoubleword, Memory, doubleword_of}
+use Rattle.history_memory.specs.Remade.{MayExchange, Wins}
+use Rattle.history_memory.specs.Lemmas.Exchanged.{fits, not_lazy}
 use Rattle.hart_moves.specs.Harts.{Offered, Resolving}
 use Rattle.hart_moves.specs.Moves.{word_left}
 use Rattle.world_turns.specs.Memory.{doubleword, exchanged, lowest, memory_of, with_value}

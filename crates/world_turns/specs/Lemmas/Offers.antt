@@ -5,35 +5,35 @@ use Rattle.std.proofs.lemmas.Bool.{eq-eqb, eqb-true, true≢false}
 use Rattle.std.proofs.lemmas.List.Elements.{Contains-append_cases, Contains-append_left}
 use Rattle.ld_base.specs.declared.linking.Role.TheVariants.{None as NoRole, Slot}
 use Rattle.ld_base.specs.declared.object.Reloc.{Reloc}
-use Rattle.link_event.specs.declared.event.CloseAnswer.TheVariants as closes
-use Rattle.link_event.specs.declared.event.Event.{Event}
-use Rattle.link_event.specs.declared.event.Event.TheVariants as events
-use Rattle.link_event.specs.declared.event.OpenAnswer.TheVariants as opens
-use Rattle.link_event.specs.declared.event.SymAnswer.TheVariants as syms
-use Rattle.link_event.specs.declared.state.Granting.{Granting}
-use Rattle.link_event.specs.declared.state.Standing.TheVariants as standings
+use Rattle.history_event.specs.declared.event.CloseAnswer.TheVariants as closes
+use Rattle.history_event.specs.declared.event.Event.{Event}
+use Rattle.history_event.specs.declared.event.Event.TheVariants as events
+use Rattle.history_event.specs.declared.event.OpenAnswer.TheVariants as opens
+use Rattle.history_event.specs.declared.event.SymAnswer.TheVariants as syms
+use Rattle.history_event.specs.declared.state.Granting.{Granting}
+use Rattle.history_event.specs.declared.state.Standing.TheVariants as standings
 use Rattle.relocator.specs.Relocated.{moved_word}
 use Rattle.rv_hart.specs.declared.doubleword.Doubleword.{Doubleword}
-use Rattle.link_history.specs.After.{after}
-use Rattle.link_history.specs.Allowed.{Allowed}
-use Rattle.link_history.specs.Changes.{ChangesMemory, IsUntouched, reserved, taken}
-use Rattle.link_history.specs.Laws.{ImagesAreMapped, NoneIsLazy, SlotsBegin, slot_address}
-use Rattle.link_history.specs.Legal.{Lawful}
-use Rattle.link_history.specs.Memory.{covers, image_of, role_at}
-use Rattle.link_history.specs.Objects.{has}
-use Rattle.link_history.specs.Setting.{Machine, Setting}
-use Rattle.link_history.specs.Slots.{HasNoGrant}
-use Rattle.link_history.specs.State.{Linked, State}
-use Rattle.link_history.specs.Step.{die, initialise, loaded, lower, step, unmap}
-use Rattle.link_history.specs.Lemmas.History.{after_push, lawful_push}
-use Rattle.link_history.specs.Lemmas.Lists.{found_in, has_in, in_filter, not_found, only_in}
-use Rattle.link_history.specs.Lemmas.Map.{Mapped}
-use Rattle.link_history.specs.Lemmas.Tidy.{Tidy}
-use Rattle.memory_holds.specs.Holds.{IsSlotAt, lazy_at}
-use Rattle.memory_holds.specs.Memory.{IsDoubleword}
-use Rattle.memory_holds.specs.Lemmas.Exchanged.{fits}
-use Rattle.memory_holds.specs.Lemmas.Slots.{image_in, lazy_is}
-use Rattle.link_service.specs.Laws.{hart_of}
+use Rattle.history_state.specs.After.{after}
+use Rattle.history_state.specs.Allowed.{Allowed}
+use Rattle.history_state.specs.Changes.{ChangesMemory, IsUntouched, reserved, taken}
+use Rattle.history_state.specs.Laws.{ImagesAreMapped, NoneIsLazy, SlotsBegin, slot_address}
+use Rattle.history_state.specs.Legal.{Lawful}
+use Rattle.history_state.specs.Memory.{covers, image_of, role_at}
+use Rattle.history_state.specs.Objects.{has}
+use Rattle.history_state.specs.Setting.{Machine, Setting}
+use Rattle.history_state.specs.Slots.{HasNoGrant}
+use Rattle.history_state.specs.State.{Linked, State}
+use Rattle.history_state.specs.Step.{die, initialise, loaded, lower, step, unmap}
+use Rattle.history_state.specs.Lemmas.History.{after_push, lawful_push}
+use Rattle.history_state.specs.Lemmas.Lists.{found_in, has_in, in_filter, not_found, only_in}
+use Rattle.history_state.specs.Lemmas.Map.{Mapped}
+use Rattle.history_state.specs.Lemmas.Tidy.{Tidy}
+use Rattle.history_memory.specs.Holds.{IsSlotAt, lazy_at}
+use Rattle.history_memory.specs.Memory.{IsDoubleword}
+use Rattle.history_memory.specs.Lemmas.Exchanged.{fits}
+use Rattle.history_memory.specs.Lemmas.Slots.{image_in, lazy_is}
+use Rattle.history_calls.specs.Laws.{hart_of}
 use Rattle.hart_moves.specs.Harts.{Offered}
 use Rattle.hart_moves.specs.Moves.{IsOffer}
 use Rattle.world_turns.specs.Memory.{Remakes}

@@ -2,19 +2,19 @@
 use Rattle.std.proofs.Common.{◌≡◌, ◌≢◌, ◌⊎◌, inl, inr, ⊎_elim, ℕ, zero, suc, Bool, true, false, cond, List, [], ◌∷◌, ◌++◌, length, flat_map, Some, None, refl, sym, ap, subst, arith}
 use Rattle.std.specs.List.{Contains, slice_get}
 use Rattle.std.proofs.lemmas.List.Elements.{Contains-append_cases, Contains-append_left, Contains-append_right}
-use Rattle.link_history.specs.Lemmas.Lists.{none_in, only_in}
-use Rattle.link_event.specs.declared.event.Event.{Event}
-use Rattle.link_event.specs.declared.state.Granting.{Granting}
+use Rattle.history_state.specs.Lemmas.Lists.{none_in, only_in}
+use Rattle.history_event.specs.declared.event.Event.{Event}
+use Rattle.history_event.specs.declared.state.Granting.{Granting}
 use Rattle.rv_hart.specs.declared.doubleword.Doubleword.{Doubleword}
-use Rattle.link_history.specs.After.{after}
-use Rattle.link_history.specs.Allowed.{Allowed}
-use Rattle.link_history.specs.Legal.{Lawful, Legal}
-use Rattle.link_history.specs.Setting.{Machine, Setting}
-use Rattle.link_history.specs.State.{State}
-use Rattle.link_service.specs.Laws.{hart_of}
-use Rattle.memory_holds.specs.Holds.{Holds, SlotHolds, Took, TookAt}
-use Rattle.memory_holds.specs.Holds.SlotHolds.{exchanged, first}
-use Rattle.memory_holds.specs.Memory.{Memory}
+use Rattle.history_state.specs.After.{after}
+use Rattle.history_state.specs.Allowed.{Allowed}
+use Rattle.history_state.specs.Legal.{Lawful, Legal}
+use Rattle.history_state.specs.Setting.{Machine, Setting}
+use Rattle.history_state.specs.State.{State}
+use Rattle.history_calls.specs.Laws.{hart_of}
+use Rattle.history_memory.specs.Holds.{Holds, SlotHolds, Took, TookAt}
+use Rattle.history_memory.specs.Holds.SlotHolds.{exchanged, first}
+use Rattle.history_memory.specs.Memory.{Memory}
 use Rattle.hart_moves.specs.Harts.{Offered, Resolving}
 use Rattle.world_turns.specs.Memory.{Remakes, memory_of}
 use Rattle.world_turns.specs.Sound.{Fits, HasExchanged}

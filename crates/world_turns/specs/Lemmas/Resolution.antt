@@ -6,13 +6,13 @@ use Rattle.std.specs.Option.{is_some}
 use Rattle.std.proofs.lemmas.List.Elements.{Contains-append_cases}
 use Rattle.ld_base.specs.declared.fault.DlFault.{DlFault}
 use Rattle.ld_base.specs.declared.fault.Shown.{Shown}
-use Rattle.link_event.specs.declared.event.Event.{Event}
-use Rattle.link_event.specs.declared.event.Event.TheVariants as events
-use Rattle.link_event.specs.declared.handed.Function.{Function}
-use Rattle.link_event.specs.declared.hart_end.HartEnd.{HartEnd}
-use Rattle.link_event.specs.declared.hart_end.HartEnd.TheVariants as ends
-use Rattle.link_event.specs.declared.state.Granting.{Granting}
-use Rattle.link_event.specs.declared.state.Standing.TheVariants as standings
+use Rattle.history_event.specs.declared.event.Event.{Event}
+use Rattle.history_event.specs.declared.event.Event.TheVariants as events
+use Rattle.history_event.specs.declared.handed.Function.{Function}
+use Rattle.history_event.specs.declared.hart_end.HartEnd.{HartEnd}
+use Rattle.history_event.specs.declared.hart_end.HartEnd.TheVariants as ends
+use Rattle.history_event.specs.declared.state.Granting.{Granting}
+use Rattle.history_event.specs.declared.state.Standing.TheVariants as standings
 use Rattle.rv_hart.specs.declared.bus.BusFault.{BusFault}
 use Rattle.rv_hart.specs.declared.bus.BusFault.TheVariants.{Role as RoleFault, Misaligned, Again}
 use Rattle.rv_hart.specs.declared.bus.Item.{Item}
@@ -20,17 +20,17 @@ use Rattle.rv_hart.specs.declared.bus.Item.TheVariants.{Write}
 use Rattle.rv_hart.specs.declared.stepping.Stop.{Stop}
 use Rattle.rv_hart.specs.declared.stepping.Stop.TheVariants as stop
 use Rattle.rv_hart.specs.Trail.{Place, Ready, Accessing, Stopped}
-use Rattle.link_history.specs.After.{after}
-use Rattle.link_history.specs.Objects.{has, object_at}
-use Rattle.link_history.specs.Setting.{Setting}
-use Rattle.link_history.specs.State.{State}
-use Rattle.link_history.specs.Lemmas.Lists.{from_map, none_in, only_in}
-use Rattle.link_service.specs.Answer.{Answer, returns, loading, closing, refused, granted, told, again, over}
-use Rattle.link_service.specs.Call.{Call}
-use Rattle.link_service.specs.Call as call
-use Rattle.link_service.specs.Functions.{left, passed}
-use Rattle.link_service.specs.Gives.{Answers, Gives, Serves, ending}
-use Rattle.link_service.specs.Served.{answer_text}
+use Rattle.history_state.specs.After.{after}
+use Rattle.history_state.specs.Objects.{has, object_at}
+use Rattle.history_state.specs.Setting.{Setting}
+use Rattle.history_state.specs.State.{State}
+use Rattle.history_state.specs.Lemmas.Lists.{from_map, none_in, only_in}
+use Rattle.history_calls.specs.Answer.{Answer, returns, loading, closing, refused, granted, told, again, over}
+use Rattle.history_calls.specs.Call.{Call}
+use Rattle.history_calls.specs.Call as call
+use Rattle.history_calls.specs.Functions.{left, passed}
+use Rattle.history_calls.specs.Gives.{Answers, Gives, Serves, ending}
+use Rattle.history_calls.specs.Served.{answer_text}
 use Rattle.hart_moves.specs.Copying.{Copy, number_in, text_words}
 use Rattle.hart_moves.specs.Due.{Due, Return, all_done, at_service, back, behind, by_frames, by_name, by_phase, by_queue, by_resolving, done, due, within_fuel, write_count}
 use Rattle.hart_moves.specs.Harts.{Frame, HartState, Naming, Offered, Phase, Purpose, Resolving}

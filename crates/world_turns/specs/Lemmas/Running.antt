@@ -4,17 +4,17 @@ use Rattle.std.specs.List.{list_all, slice_get}
 use Rattle.std.specs.Option.{is_some}
 use Rattle.std.proofs.lemmas.Bool.{and_parts, false≢true}
 use Rattle.std.proofs.lemmas.Option.{none-some}
-use Rattle.link_event.specs.declared.hart_end.HartEnd.{HartEnd}
-use Rattle.link_served.specs.declared.startup.Setup.{Setup}
+use Rattle.history_event.specs.declared.hart_end.HartEnd.{HartEnd}
+use Rattle.history_calls.specs.declared.link_served.startup.Setup.{Setup}
 use Rattle.rv_hart.specs.Registers.{Registers}
-use Rattle.link_history.specs.Accepted.{AcceptsOnly}
-use Rattle.link_history.specs.After.{after}
-use Rattle.link_history.specs.Setting.{Setting}
-use Rattle.link_history.specs.Slots.{HasNoGrant}
+use Rattle.history_state.specs.Accepted.{AcceptsOnly}
+use Rattle.history_state.specs.After.{after}
+use Rattle.history_state.specs.Setting.{Setting}
+use Rattle.history_state.specs.Slots.{HasNoGrant}
 use Rattle.hart_moves.specs.Harts.{HartState, Resolving}
 use Rattle.hart_moves.specs.Moves.{freed}
 use Rattle.hart_moves.specs.Starting.{starting_registers}
-use Rattle.schedules.specs.declared.schedule.TurnItem.{TurnItem}
+use Rattle.world_turns.specs.declared.schedules.schedule.TurnItem.{TurnItem}
 use Rattle.world_turns.specs.Laws.{FinalsBeginSound, FinalsLackSound, SettlingIsSound, StartIsSound, TurnsAreSound}
 use Rattle.world_turns.specs.Run.{Begins, Constructs, Ends, Finalises, Finishes, LacksMemory, Repeats, Rounds, Run, TakesItems, all_harts, has_ended, settled}
 use Rattle.world_turns.specs.Sound.{Fits, Sound}

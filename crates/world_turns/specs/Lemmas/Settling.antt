@@ -2,28 +2,28 @@
 use Rattle.std.proofs.Common.{◌≡◌, ◌≢◌, ◌⊎◌, inl, inr, ⊎_elim, ℕ, ◌&&◌, not, Bool, true, false, cond, eqb, List, [], ◌∷◌, ◌++◌, length, map, flat_map, Some, refl, sym, ap, subst, ◌∙◌, append_assoc, append-nil}
 use Rattle.std.specs.List.{Contains, slice_get}
 use Rattle.std.proofs.lemmas.Bool.{eq-eqb, eqb-true, true≢false}
-use Rattle.link_event.specs.declared.event.Event.{Event}
-use Rattle.link_event.specs.declared.event.Event.TheVariants as events
-use Rattle.link_event.specs.declared.state.Granting.{Granting}
-use Rattle.link_event.specs.declared.state.Standing.{Standing}
-use Rattle.link_event.specs.declared.state.Standing.TheVariants as standings
+use Rattle.history_event.specs.declared.event.Event.{Event}
+use Rattle.history_event.specs.declared.event.Event.TheVariants as events
+use Rattle.history_event.specs.declared.state.Granting.{Granting}
+use Rattle.history_event.specs.declared.state.Standing.{Standing}
+use Rattle.history_event.specs.declared.state.Standing.TheVariants as standings
 use Rattle.rv_hart.specs.declared.doubleword.Doubleword.{Doubleword}
-use Rattle.link_history.specs.Accepted.{AcceptsOnly}
-use Rattle.link_history.specs.After.{after}
-use Rattle.link_history.specs.Allowed.{Allowed}
-use Rattle.link_history.specs.Grants.{is_open}
-use Rattle.link_history.specs.Legal.{Lawful}
-use Rattle.link_history.specs.Setting.{Machine, Setting}
-use Rattle.link_history.specs.Slots.{HasNoGrant, MayBind, MayLose}
-use Rattle.link_history.specs.State.{State}
-use Rattle.link_history.specs.Step.{settle, settled_as, step}
-use Rattle.link_history.specs.Lemmas.History.{after_push, legal_is_lawful, legal_push}
-use Rattle.link_history.specs.Lemmas.Lists.{from_filter, from_map, here, in_filter, in_map, none_in, only_in}
-use Rattle.link_history.specs.Lemmas.Tidy.{one_number}
-use Rattle.memory_holds.specs.Holds.{Holds, lazy_at}
-use Rattle.memory_holds.specs.Memory.{IsSame, Memory}
-use Rattle.memory_holds.specs.Remade.{MayExchange, Remade, SettlesRightly, won_after}
-use Rattle.memory_holds.specs.Lemmas.Stayed.{quiet}
+use Rattle.history_state.specs.Accepted.{AcceptsOnly}
+use Rattle.history_state.specs.After.{after}
+use Rattle.history_state.specs.Allowed.{Allowed}
+use Rattle.history_state.specs.Grants.{is_open}
+use Rattle.history_state.specs.Legal.{Lawful}
+use Rattle.history_state.specs.Setting.{Machine, Setting}
+use Rattle.history_state.specs.Slots.{HasNoGrant, MayBind, MayLose}
+use Rattle.history_state.specs.State.{State}
+use Rattle.history_state.specs.Step.{settle, settled_as, step}
+use Rattle.history_state.specs.Lemmas.History.{after_push, legal_is_lawful, legal_push}
+use Rattle.history_state.specs.Lemmas.Lists.{from_filter, from_map, here, in_filter, in_map, none_in, only_in}
+use Rattle.history_state.specs.Lemmas.Tidy.{one_number}
+use Rattle.history_memory.specs.Holds.{Holds, lazy_at}
+use Rattle.history_memory.specs.Memory.{IsSame, Memory}
+use Rattle.history_memory.specs.Remade.{MayExchange, Remade, SettlesRightly, won_after}
+use Rattle.history_memory.specs.Lemmas.Stayed.{quiet}
 use Rattle.hart_moves.specs.Harts.{Offered, Resolving}
 use Rattle.hart_moves.specs.Moves.{settled_resolving}
 use Rattle.world_turns.specs.Memory.{memory_of}

@@ -5,26 +5,26 @@ use Rattle.std.specs.List.{Contains, slice_get}
 use Rattle.std.proofs.lemmas.Option.{none-some}
 use Rattle.rv_hart.specs.declared.doubleword.Doubleword.{Doubleword}
 use Rattle.ld_base.specs.declared.linking.Role.TheVariants.{None as NoRole, Rx}
-use Rattle.link_event.specs.declared.event.Event.{Event}
-use Rattle.link_event.specs.declared.handed.Function.{Function}
-use Rattle.link_event.specs.declared.handed.HartEntry.{HartEntry}
-use Rattle.link_event.specs.declared.state.Granting.{Granting}
-use Rattle.link_served.specs.declared.startup.Setup.{Setup}
-use Rattle.link_history.specs.Accepted.{AcceptsOnly}
-use Rattle.link_history.specs.Addresses.{is_linkers_page}
-use Rattle.link_history.specs.After.{after, after_from}
-use Rattle.link_history.specs.Legal.{Lawful, Legal}
-use Rattle.link_history.specs.Memory.{ebreaks}
-use Rattle.link_history.specs.Setting.{Machine, Setting}
-use Rattle.link_history.specs.Slots.{HasNoGrant}
-use Rattle.link_history.specs.State.{State, start}
-use Rattle.link_history.specs.Step.{loaded, step}
-use Rattle.link_history.specs.Lemmas.Lists.{none_in}
-use Rattle.link_service.specs.Startup.{FindHarts, found_at, opening}
-use Rattle.link_service.specs.Lemmas.Serving.{harts_have_entries, starts_legal}
-use Rattle.memory_holds.specs.Holds.{Holds}
-use Rattle.memory_holds.specs.Memory.{Memory}
-use Rattle.memory_holds.specs.Remade.{Begins}
+use Rattle.history_event.specs.declared.event.Event.{Event}
+use Rattle.history_event.specs.declared.handed.Function.{Function}
+use Rattle.history_event.specs.declared.handed.HartEntry.{HartEntry}
+use Rattle.history_event.specs.declared.state.Granting.{Granting}
+use Rattle.history_calls.specs.declared.link_served.startup.Setup.{Setup}
+use Rattle.history_state.specs.Accepted.{AcceptsOnly}
+use Rattle.history_state.specs.Addresses.{is_linkers_page}
+use Rattle.history_state.specs.After.{after, after_from}
+use Rattle.history_state.specs.Legal.{Lawful, Legal}
+use Rattle.history_state.specs.Memory.{ebreaks}
+use Rattle.history_state.specs.Setting.{Machine, Setting}
+use Rattle.history_state.specs.Slots.{HasNoGrant}
+use Rattle.history_state.specs.State.{State, start}
+use Rattle.history_state.specs.Step.{loaded, step}
+use Rattle.history_state.specs.Lemmas.Lists.{none_in}
+use Rattle.history_calls.specs.Startup.{FindHarts, found_at, opening}
+use Rattle.history_calls.specs.Lemmas.Serving.{harts_have_entries, starts_legal}
+use Rattle.history_memory.specs.Holds.{Holds}
+use Rattle.history_memory.specs.Memory.{Memory}
+use Rattle.history_memory.specs.Remade.{Begins}
 use Rattle.hart_moves.specs.Harts.{Frame, HartState, Purpose, Resolving}
 use Rattle.hart_moves.specs.Moves.{AreAllowed, settled_resolving, after_all, runs, with_first}
 use Rattle.world_turns.specs.Memory.{AreFresh, memory_of}

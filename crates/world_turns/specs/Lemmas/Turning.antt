@@ -8,24 +8,24 @@ use Rattle.std.proofs.lemmas.Option.{none-some, slice_get-map}
 use Rattle.std.proofs.lemmas.List.Elements.{Contains-append_right}
 use Rattle.ld_base.specs.declared.linking.Role.TheVariants.{Rw, Slot}
 use Rattle.ld_base.specs.declared.fault.Shown.{Shown}
-use Rattle.link_event.specs.declared.event.Event.{Event}
-use Rattle.link_event.specs.declared.event.Event.TheVariants as events
-use Rattle.link_event.specs.declared.hart_end.HartEnd.{HartEnd}
-use Rattle.link_event.specs.declared.hart_end.HartEnd.TheVariants as ends
-use Rattle.link_event.specs.declared.state.Granting.{Granting}
-use Rattle.link_event.specs.declared.state.Standing.TheVariants as standings
+use Rattle.history_event.specs.declared.event.Event.{Event}
+use Rattle.history_event.specs.declared.event.Event.TheVariants as events
+use Rattle.history_event.specs.declared.hart_end.HartEnd.{HartEnd}
+use Rattle.history_event.specs.declared.hart_end.HartEnd.TheVariants as ends
+use Rattle.history_event.specs.declared.state.Granting.{Granting}
+use Rattle.history_event.specs.declared.state.Standing.TheVariants as standings
 use Rattle.rv_hart.specs.declared.doubleword.Doubleword.{Doubleword}
 use Rattle.rv_hart.specs.declared.bus.Item.{Item}
-use Rattle.link_history.specs.Accepted.{AcceptsOnly}
-use Rattle.link_history.specs.After.{after}
-use Rattle.link_history.specs.Allowed.{Allowed}
-use Rattle.link_history.specs.Memory.{image_of}
-use Rattle.link_history.specs.Setting.{Machine, Setting}
-use Rattle.link_history.specs.State.{State}
-use Rattle.link_history.specs.Lemmas.History.{after_push, legal_is_lawful, legal_push, one_behind}
-use Rattle.link_history.specs.Lemmas.Lists.{here, later, none_in}
-use Rattle.link_service.specs.Laws.{hart_of}
-use Rattle.memory_holds.specs.Holds.{Holds}
+use Rattle.history_state.specs.Accepted.{AcceptsOnly}
+use Rattle.history_state.specs.After.{after}
+use Rattle.history_state.specs.Allowed.{Allowed}
+use Rattle.history_state.specs.Memory.{image_of}
+use Rattle.history_state.specs.Setting.{Machine, Setting}
+use Rattle.history_state.specs.State.{State}
+use Rattle.history_state.specs.Lemmas.History.{after_push, legal_is_lawful, legal_push, one_behind}
+use Rattle.history_state.specs.Lemmas.Lists.{here, later, none_in}
+use Rattle.history_calls.specs.Laws.{hart_of}
+use Rattle.history_memory.specs.Holds.{Holds}
 use Rattle.hart_moves.specs.Harts.{HartState, Offered, Phase, Purpose, Resolving}
 use Rattle.hart_moves.specs.Moves.{AreAllowed, Did, IsOffer, ended, events_of, freed, settled_resolving, settles}
 use Rattle.hart_moves.specs.Starting.{finalising_hart}

@@ -13,10 +13,10 @@ use Rattle.rv_hart.specs.declared.bus.Item.{Item}
 use Rattle.rv_hart.specs.declared.bus.Item.TheVariants.{Fetch, Read, Write, Amo, Reserve, Conditional}
 use Rattle.rv_hart.specs.declared.doubleword.Doubleword.{Doubleword}
 use Rattle.rv_hart.specs.Trail.{Chain}
-use Rattle.link_history.specs.State.{State}
-use Rattle.memory_holds.specs.Holds.{Holds}
-use Rattle.memory_holds.specs.Memory.{IsDoubleword, doubleword_of}
-use Rattle.memory_holds.specs.Lemmas.Stored.{keeps_same, stored as store_holds}
+use Rattle.history_state.specs.State.{State}
+use Rattle.history_memory.specs.Holds.{Holds}
+use Rattle.history_memory.specs.Memory.{IsDoubleword, doubleword_of}
+use Rattle.history_memory.specs.Lemmas.Stored.{keeps_same, stored as store_holds}
 use Rattle.world_turns.specs.Memory.{doubleword, lowest, memory_of}
 
 -- ---- one doubleword

@@ -2,16 +2,16 @@
 use Rattle.std.proofs.Common.{◌≡◌, ◌∙◌, ap, sym, subst, ℕ, List}
 use Rattle.std.specs.Prelude.{Option}
 use Rattle.ld_base.specs.declared.parts.Tag.{Tag}
-use Rattle.dyn_table.specs.Name.{IsStringAt}
-use Rattle.dyn_table.specs.Tag.{last_of, values_of}
-use Rattle.dyn_table.specs.TagNumbers.{dt_needed, dt_soname}
-use Rattle.elf_write.specs.declared.part.Part.TheVariants as parts
-use Rattle.elf_write.specs.Sizes.{plain_size}
-use Rattle.elf_write.specs.Starts.{size_of, starts_of}
-use Rattle.elf_write.specs.Values.{object_bytes, part_bytes}
-use Rattle.elf_spelled.specs.Lemmas.Starting.{told}
-use Rattle.elf_spelled.specs.Lemmas.Strings.{strings_are}
-use Rattle.elf_spelled.specs.Said.{AreSaidBy, said_head}
+use Rattle.elf_head.specs.DynTable.Name.{IsStringAt}
+use Rattle.elf_head.specs.DynTable.Tag.{last_of, values_of}
+use Rattle.elf_head.specs.DynTable.TagNumbers.{dt_needed, dt_soname}
+use Rattle.asm_write.specs.declared.part.Part.TheVariants as parts
+use Rattle.asm_write.specs.Sizes.{plain_size}
+use Rattle.asm_write.specs.Starts.{size_of, starts_of}
+use Rattle.asm_write.specs.Values.{object_bytes, part_bytes}
+use Rattle.asm_laws.specs.ElfSpelled.Lemmas.Starting.{told}
+use Rattle.asm_laws.specs.ElfSpelled.Lemmas.Strings.{strings_are}
+use Rattle.asm_laws.specs.ElfSpelled.Said.{AreSaidBy, said_head}
 use Rattle.asm_accepted.specs.Strings.{IsStringOf}
 use Rattle.asm_accepted.proofs.Naming.{needed_strings, own_string}
 use Rattle.asm_accepted.proofs.Table.{symbols_named}

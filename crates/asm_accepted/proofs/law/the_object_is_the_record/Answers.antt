@@ -1,17 +1,17 @@
 -- What the contents of the source say, and that its names are strings, makes the record.
 use Rattle.std.proofs.Common.{subst, refl, ℕ, List, arith}
 use Rattle.ld_base.specs.declared.parts.Head.{Head}
-use Rattle.dyn_table.specs.TagNumbers.{dt_verdef}
+use Rattle.elf_head.specs.DynTable.TagNumbers.{dt_verdef}
 use Rattle.elf_dynamic.specs.Verdict.{SpellsDynamic}
-use Rattle.elf_hashed.specs.Hashes.{FitsTables}
+use Rattle.asm_accepted.specs.ElfHashed.Hashes.{FitsTables}
 use Rattle.elf_object.specs.Spells.{Spells}
 use Rattle.elf_versions.specs.Verdict.{source_of}
-use Rattle.elf_write.specs.declared.part.Part.TheVariants as parts
-use Rattle.elf_write.specs.Starts.{starts_of}
-use Rattle.asm_denotes.specs.Denotes.{Denotes}
+use Rattle.asm_write.specs.declared.part.Part.TheVariants as parts
+use Rattle.asm_write.specs.Starts.{starts_of}
+use Rattle.asm_layout.specs.AsmDenotes.Denotes.{Denotes}
 use Rattle.asm_layout.specs.Contents.{contents_of}
 use Rattle.asm_layout.specs.Object.{code_of, object_of}
-use Rattle.asm_record.specs.Record.{record_of}
+use Rattle.asm_accepted.specs.AsmRecord.Record.{record_of}
 use Rattle.asm_accepted.proofs.Bounds.{verdefs_few}
 use Rattle.asm_accepted.proofs.Fields.{one_object}
 use Rattle.asm_accepted.proofs.Record.{fields}

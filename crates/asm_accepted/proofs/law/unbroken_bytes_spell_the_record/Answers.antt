@@ -2,7 +2,7 @@ use Rattle.std.proofs.Common.{◌≡◌, ◌⊎◌, inl, inr, ℕ, Bool, List, s
 use Rattle.ld_base.specs.declared.fault.NotAccepted.{NotAccepted}
 use Rattle.ld_base.specs.declared.object.Object.{Object}
 use Rattle.elf_object.specs.Spells.{Broken, Spells}
-use Rattle.asm_record.specs.Record.{record_of}
+use Rattle.asm_accepted.specs.AsmRecord.Record.{record_of}
 use Rattle.asm_accepted.proofs.law.unbroken_bytes_spell_the_record.Goals as goal
 
 -- what is one object or broken is that object, where it isn't broken

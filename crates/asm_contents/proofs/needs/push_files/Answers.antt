@@ -2,10 +2,10 @@ use Rattle.std.proofs.Common.{◌≡◌, ◌∙◌, ◌+◌, ◌-◌, ◌*◌, �
 use Rattle.std.specs.Global.{Vec}
 use Rattle.std.proofs.lemmas.List.{get_or-map, get_or_read, length-map}
 use Rattle.std.specs.List.{drop-map}
-use Rattle.elf_write.specs.declared.contents.NeedRecord.{NeedRecord}
+use Rattle.asm_write.specs.declared.contents.NeedRecord.{NeedRecord}
 use Rattle.asm_layout.specs.Versions.{half, word, next_need, need_records, needed_files, file_versions, version_count}
-use Rattle.asm_needs.specs.declared.needed_file.NeededFile.{NeededFile}
-use Rattle.asm_needs.specs.Files.{file_of}
+use Rattle.asm_places.specs.declared.asm_needs.needed_file.NeededFile.{NeededFile}
+use Rattle.asm_places.specs.AsmNeeds.Files.{file_of}
 use Rattle.asm_contents.proofs.Records.{same_default, tail_slice, from_here, count_more, file_record, files_more}
 use Rattle.asm_contents.proofs.needs.push_files.Goals as goal
 

@@ -2,7 +2,7 @@
 use Rattle.std.proofs.Common.{◌≡◌, ◌++◌, List, drop, take}
 use Rattle.asm_statement.specs.declared.line.Line.{Line}
 use Rattle.asm_layout.specs.Versions.{need_records, needed_files, version_count}
-use Rattle.asm_needs.specs.Files.{AreFilesOf}
+use Rattle.asm_places.specs.AsmNeeds.Files.{AreFilesOf}
 use Rattle.asm_contents.proofs.needs.push_files.Given as goal
 
 abbrev pub invariant-loop-number : goal.invariant-loop-number

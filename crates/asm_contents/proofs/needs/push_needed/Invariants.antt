@@ -2,7 +2,7 @@
 use Rattle.std.proofs.Common.{◌≡◌, ◌++◌, ◌+◌, List, drop, take}
 use Rattle.asm_statement.specs.declared.line.Line.{Line}
 use Rattle.asm_layout.specs.Versions.{first_needed, needed_files, needed_records, version_count}
-use Rattle.asm_needs.specs.Files.{AreFilesOf}
+use Rattle.asm_places.specs.AsmNeeds.Files.{AreFilesOf}
 use Rattle.asm_uses.specs.Uses.{AreUsesOf}
 use Rattle.asm_contents.proofs.needs.push_needed.Given as goal
 

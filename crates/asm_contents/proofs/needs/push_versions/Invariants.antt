@@ -2,7 +2,7 @@
 use Rattle.std.proofs.Common.{◌≡◌, ◌++◌, ◌+◌, List, ℕ, drop}
 use Rattle.asm_statement.specs.declared.line.Line.{Line}
 use Rattle.asm_layout.specs.Versions.{needed_of, strings_length, word}
-use Rattle.asm_needs.specs.Files.{file_of}
+use Rattle.asm_places.specs.AsmNeeds.Files.{file_of}
 use Rattle.asm_contents.proofs.needs.push_versions.Given as goal
 
 abbrev pub invariant-loop-number : goal.invariant-loop-number

@@ -7,7 +7,7 @@ use Rattle.asm_layout.specs.Contents.{string_bytes, strings_of, export_names, ne
 use Rattle.asm_layout.specs.Tables.{soname, needed, versions}
 use Rattle.asm_layout.specs.Uses.{imports}
 use Rattle.asm_layout.specs.Versions.{needed_files, file_versions, word}
-use Rattle.asm_needs.specs.declared.needed_file.NeededFile.{NeededFile}
+use Rattle.asm_places.specs.declared.asm_needs.needed_file.NeededFile.{NeededFile}
 use Rattle.asm_contents.proofs.Joined.{grown, joined, file_names}
 use Rattle.asm_contents.proofs.strings.append_strings.Goals as goal
 

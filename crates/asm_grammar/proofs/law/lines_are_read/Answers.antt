@@ -3,12 +3,12 @@ use Rattle.asm_grammar.specs.Lines.{is_printed}
 use Rattle.asm_grammar.specs.Operands.{parenthesised, address, base, of_registers, of_memory, instruction}
 use Rattle.asm_grammar.specs.Directives.{is_flag, flags, versioned, need_of, need, sum, doubleword, quoted, alignment, named, directive}
 use Rattle.asm_grammar.specs.Reading.{statement, read_statement, read_text, line_of, read_line}
-use Rattle.asm_words.specs.Text.{is_blank, is_mark}
-use Rattle.asm_words.specs.Names.{is_name_byte, may_begin, is_name}
-use Rattle.asm_words.specs.Number.{digit_below, number}
-use Rattle.asm_words.specs.Registers.{register}
-use Rattle.asm_words.specs.DirectiveWords.{directive_word}
-use Rattle.asm_words.specs.Mnemonics.{word_form, atomic_part, access, pointed_form, mnemonic}
+use Rattle.asm_statement.specs.AsmWords.Text.{is_blank, is_mark}
+use Rattle.asm_statement.specs.AsmWords.Names.{is_name_byte, may_begin, is_name}
+use Rattle.asm_statement.specs.AsmWords.Number.{digit_below, number}
+use Rattle.asm_statement.specs.AsmWords.Registers.{register}
+use Rattle.asm_statement.specs.AsmWords.DirectiveWords.{directive_word}
+use Rattle.asm_statement.specs.AsmWords.Mnemonics.{word_form, atomic_part, access, pointed_form, mnemonic}
 use Rattle.asm_statement.specs.Alignments.{is_alignment}
 use Rattle.asm_grammar.proofs.law.lines_are_read.Goals as goal
 

@@ -4,24 +4,24 @@ use Rattle.asm_layout.specs.Labels.{label}
 use Rattle.asm_layout.specs.Expansions.{expansion}
 use Rattle.asm_layout.specs.Contents.{entry_name, string_bytes, strings_of, contents_of}
 use Rattle.asm_layout.specs.Fixes.{fixes_of}
-use Rattle.hash_build.specs.Hashed.{by_bucket, buckets_of, gnu_of, sysv_of}
+use Rattle.asm_write.specs.HashBuild.Hashed.{by_bucket, buckets_of, gnu_of, sysv_of}
 use Rattle.asm_layout.specs.Names.{kind_of, is_preemptible}
 use Rattle.asm_layout.specs.Places.{words_in, directive_size, section_after, filling}
 use Rattle.asm_layout.specs.Spots.{label_spot, section_align, sections_of}
 use Rattle.asm_layout.specs.Symbols.{sorted_exports, symbol_index, label_size}
 use Rattle.asm_layout.specs.Tables.{soname, needed, hash_of, flags_of, versions, entries, is_relr}
 use Rattle.asm_layout.specs.Versions.{needed_files, file_versions, needed_number, strong_versions}
-use Rattle.elf_write.specs.Relr.{relr_words, with_place}
-use Rattle.elf_write.specs.Sizes.{dynamic_entries, segments_of, plain_size}
-use Rattle.elf_write.specs.Starts.{align_of, third_starts, relr_size, size_of, starts_of}
+use Rattle.asm_write.specs.Relr.{relr_words, with_place}
+use Rattle.asm_write.specs.Sizes.{dynamic_entries, segments_of, plain_size}
+use Rattle.asm_write.specs.Starts.{align_of, third_starts, relr_size, size_of, starts_of}
 use Rattle.sym_hash.specs.Hash.{gnu_hash, sysv_hash}
 use Rattle.asm_layout.specs.Uses.{distinct, slots, got_uses, imports, exports, needs}
 use Rattle.asm_layout.specs.Words.{label_address, slot_address, call_address, got_address, target, operand_value, words_at}
 use Rattle.rv_isa.specs.Word.{bits}
 use Rattle.asm_layout.specs.Object.{plt_bytes, code_of}
-use Rattle.elf_write.specs.Fields.{record_bytes}
-use Rattle.elf_write.specs.Records.{symbol_fields, rela_fields, file_word}
-use Rattle.elf_write.specs.Values.{symbol_bytes, gnu_bytes, rela_bytes, relr_bytes, fixed_bytes}
+use Rattle.asm_write.specs.Fields.{record_bytes}
+use Rattle.asm_write.specs.Records.{symbol_fields, rela_fields, file_word}
+use Rattle.asm_write.specs.Values.{symbol_bytes, gnu_bytes, rela_bytes, relr_bytes, fixed_bytes}
 use Rattle.asm_layout.proofs.law.worked_bytes.Goals as goal
 
 pub returns : goal.returns

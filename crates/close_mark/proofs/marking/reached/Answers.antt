@@ -4,7 +4,7 @@ use Rattle.std.specs.List.{list_any}
 use Rattle.std.specs.List.Sorted.{IsPermutation}
 use Rattle.std.proofs.lemmas.Bool.{OnFalse_at, not-true, not-false}
 use Rattle.std.proofs.lemmas.List.{nil_from_length}
-use Rattle.link_graph.specs.declared.graph.Edge.{Edge}
+use Rattle.history_graph.specs.declared.graph.Edge.{Edge}
 use Rattle.close_mark.specs.Marks.{target_of}
 use Rattle.close_mark.proofs.Closed.{Marked, Marked-start, Marked-again, Marked-new, all_marked, left, left_less, targets}
 use Rattle.close_mark.proofs.marking.reached.Goals as goal

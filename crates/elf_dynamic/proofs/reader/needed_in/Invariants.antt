@@ -1,5 +1,5 @@
 use Rattle.std.proofs.Common.{◌≡◌, map, take}
-use Rattle.dyn_table.specs.Name.{string_in}
+use Rattle.elf_head.specs.DynTable.Name.{string_in}
 use Rattle.elf_dynamic.proofs.reader.needed_in.Given as goal
 
 -- the names so far are those of the offsets so far

@@ -1,4 +1,4 @@
-use Rattle.acceptance.specs.Lemmas.Answers.{answers}
+use Rattle.elf_head.specs.AcceptancePart.Lemmas.Answers.{answers}
 use Rattle.elf_dynamic.specs.Rules.{dynamic_verdict}
 use Rattle.elf_dynamic.specs.Verdict.{BreaksFirst, SpellsDynamic}
 use Rattle.elf_dynamic.proofs.reader.read_dynamic.Goals as goal

@@ -6,7 +6,7 @@ use Rattle.std.proofs.lemmas.Option.{slice_get-get_or, slice_get_within}
 use Rattle.ld_base.specs.declared.object.Reloc.{Reloc}
 use Rattle.ld_base.specs.declared.object.Symbol.{Symbol}
 use Rattle.ld_base.specs.declared.parts.Header.{Header}
-use Rattle.acceptance.specs.Lemmas.Finds.{finds_is, finds_none, same_some}
+use Rattle.elf_head.specs.AcceptancePart.Lemmas.Finds.{finds_is, finds_none, same_some}
 use Rattle.elf_dynamic.specs.Judged.{broken_at, rela_broken}
 use Rattle.elf_dynamic.specs.Memory.{overlaps}
 use Rattle.elf_dynamic.specs.Named.{named_by}

@@ -3,7 +3,7 @@ use Rattle.elf_dynamic.specs.Relr.{relr_words}
 use Rattle.elf_dynamic.specs.Rules.{bad_packed}
 use Rattle.std.proofs.Math.ListN.{drop_of_length-le}
 use Rattle.ld_base.specs.Field.{field}
-use Rattle.acceptance.specs.Lemmas.Tables.{length-table}
+use Rattle.elf_head.specs.AcceptancePart.Lemmas.Tables.{length-table}
 use Rattle.elf_dynamic.proofs.Packed.{front_end, front_more, front_stop, one_word}
 use Rattle.elf_dynamic.proofs.relr.judge_packed.Goals as goal
 

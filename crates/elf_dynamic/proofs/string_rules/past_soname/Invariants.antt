@@ -1,7 +1,7 @@
 use Rattle.std.proofs.Common.{◌≡◌, ℕ, take, drop, nat_lt}
 use Rattle.std.specs.List.{list_any}
-use Rattle.dyn_table.specs.Tag.{has_tag}
-use Rattle.dyn_table.specs.TagNumbers.{dt_soname}
+use Rattle.elf_head.specs.DynTable.Tag.{has_tag}
+use Rattle.elf_head.specs.DynTable.TagNumbers.{dt_soname}
 use Rattle.elf_dynamic.proofs.string_rules.past_soname.Given as goal
 
 abbrev pub invariant-loop-index : goal.invariant-loop-index

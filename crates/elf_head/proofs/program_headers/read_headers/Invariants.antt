@@ -1,6 +1,6 @@
 use Rattle.std.proofs.Common.{◌≡◌}
 use Rattle.elf_head.specs.Header.{header_at, table_start}
-use Rattle.acceptance.specs.Table.{table}
+use Rattle.elf_head.specs.AcceptancePart.Table.{table}
 use Rattle.elf_head.proofs.program_headers.read_headers.Given as goal
 
 -- the entries so far

@@ -1,6 +1,6 @@
 use Rattle.std.proofs.Common.{◌≡◌, take}
 use Rattle.std.specs.Prelude.{None}
-use Rattle.acceptance.specs.Least.{least_below}
+use Rattle.elf_head.specs.AcceptancePart.Least.{least_below}
 use Rattle.elf_head.specs.Passed.{IsPassed}
 use Rattle.elf_head.specs.Segments.{is_bad_at}
 use Rattle.elf_head.proofs.segments.bad_segment.Given as goal

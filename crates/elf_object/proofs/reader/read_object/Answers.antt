@@ -1,4 +1,4 @@
-use Rattle.acceptance.specs.Lemmas.Answers.{answers}
+use Rattle.elf_head.specs.AcceptancePart.Lemmas.Answers.{answers}
 use Rattle.elf_object.proofs.Laws.{given_table}
 use Rattle.elf_object.proofs.reader.read_object.Goals as goal
 

@@ -1,5 +1,5 @@
 use Rattle.std.proofs.Common.{map}
-use Rattle.dyn_table.specs.Name.{string_in}
+use Rattle.elf_head.specs.DynTable.Name.{string_in}
 use Rattle.elf_versions.specs.Names.{needed}
 use Rattle.elf_versions.specs.Record.{distance}
 use Rattle.elf_versions.specs.Verneed.{vernaux_at}

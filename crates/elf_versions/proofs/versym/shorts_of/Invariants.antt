@@ -1,6 +1,6 @@
 use Rattle.std.proofs.Common.{◌≡◌}
 use Rattle.ld_base.specs.Field.{field}
-use Rattle.acceptance.specs.Table.{table}
+use Rattle.elf_head.specs.AcceptancePart.Table.{table}
 use Rattle.elf_versions.proofs.versym.shorts_of.Given as goal
 
 abbrev pub invariant-loop-index : goal.invariant-loop-index

@@ -1,6 +1,6 @@
 use Rattle.std.proofs.Common.{List, length, subst, ◌∙◌}
 use Rattle.std.specs.List.Sorted.{IsPermutation}
-use Rattle.link_graph.specs.declared.graph.Edge.{Edge}
+use Rattle.history_graph.specs.declared.graph.Edge.{Edge}
 use Rattle.init_order.proofs.Whole.{are_components}
 use Rattle.init_order.proofs.components.components_of.Goals as goal
 

@@ -1,8 +1,8 @@
 use Rattle.std.proofs.Common.{ℕ, ◌*◌, [], List, refl, sym, subst, ◌∙◌}
 use Rattle.std.specs.List.Sorted.{IsPermutation}
 use Rattle.std.proofs.lemmas.Result.{IfOk-weaker}
-use Rattle.link_graph.specs.declared.graph.Edge.{Edge}
-use Rattle.link_graph.specs.Initialised.{InitOrder, program_last}
+use Rattle.history_graph.specs.declared.graph.Edge.{Edge}
+use Rattle.history_graph.specs.Initialised.{InitOrder, program_last}
 use Rattle.init_order.specs.Components.{AreComponents, number_of}
 use Rattle.init_order.specs.Jobs.{Adds, AreFirsts, AreInTurn, IsNeed, IsPlan}
 use Rattle.init_order.proofs.Pushes.{plan_of}

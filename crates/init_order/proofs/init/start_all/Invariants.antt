@@ -1,6 +1,6 @@
 use Rattle.std.proofs.Common.{◌≡◌, ℕ, ◌+◌, ◌*◌, ◌<◌, true, List, length, Option}
 use Rattle.std.specs.BTreeSet.{btree_set_len}
-use Rattle.link_graph.specs.declared.graph.Edge.{Edge}
+use Rattle.history_graph.specs.declared.graph.Edge.{Edge}
 use Rattle.init_order.specs.Jobs.{AreFirsts, AreStarted, IsPlan}
 use Rattle.init_order.specs.Least.{ArePending, is_left}
 use Rattle.init_order.proofs.init.start_all.Given as goal

@@ -1,5 +1,5 @@
 use Rattle.std.proofs.Common.{ℕ, ◌⊎◌, List, length, Option, subst}
-use Rattle.link_graph.specs.declared.graph.Edge.{Edge}
+use Rattle.history_graph.specs.declared.graph.Edge.{Edge}
 use Rattle.init_order.specs.Components.{number_of}
 use Rattle.init_order.specs.Jobs.{Adds, IsLedNeed, IsNeed, IsStartNeed, IsWholeNeed}
 use Rattle.init_order.proofs.Pushes.{adds_join}

@@ -1,5 +1,5 @@
 use Rattle.std.proofs.Common.{◌+◌, ◌++◌, ◌∷◌, [], List, sym, ap, subst, ◌∙◌}
-use Rattle.link_graph.specs.declared.graph.Edge.{Edge}
+use Rattle.history_graph.specs.declared.graph.Edge.{Edge}
 use Rattle.init_order.specs.Jobs.{Adds, IsWholeNeed}
 use Rattle.init_order.proofs.Pushes.{whole_pushed}
 use Rattle.init_order.proofs.needs.push_components.Goals as goal

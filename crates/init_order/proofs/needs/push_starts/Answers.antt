@@ -1,6 +1,6 @@
 use Rattle.std.proofs.Common.{◌<◌, ℕ, ◌+◌, ◌++◌, ◌∷◌, [], List, Option, length, sym, ap, subst, ◌∙◌, arith}
 use Rattle.std.proofs.lemmas.List.{get_or_default}
-use Rattle.link_graph.specs.declared.graph.Edge.{Edge}
+use Rattle.history_graph.specs.declared.graph.Edge.{Edge}
 use Rattle.init_order.specs.Components.{number_of}
 use Rattle.init_order.specs.Jobs.{Adds, IsStartNeed, need, opens, starts}
 use Rattle.init_order.proofs.Pushes.{start_none, start_pushed}

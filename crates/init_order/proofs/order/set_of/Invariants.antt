@@ -1,6 +1,6 @@
 use Rattle.std.proofs.Common.{◌≡◌, ℕ, eqb, take}
 use Rattle.std.specs.HashSet.{contains}
-use Rattle.link_graph.specs.Initialised.{is_one_of}
+use Rattle.history_graph.specs.Initialised.{is_one_of}
 use Rattle.init_order.proofs.order.set_of.Given as goal
 
 -- the serials so far are in the set, and no others

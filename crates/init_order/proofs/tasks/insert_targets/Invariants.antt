@@ -1,7 +1,7 @@
 use Rattle.std.proofs.Common.{◌≡◌, ℕ, ◌<◌, true, get_or}
 use Rattle.std.specs.BTreeSet.{contains}
 use Rattle.std.specs.Ordering.{nat_cmp}
-use Rattle.link_graph.specs.declared.graph.Edge.{Edge}
+use Rattle.history_graph.specs.declared.graph.Edge.{Edge}
 use Rattle.init_order.proofs.tasks.insert_targets.Given as goal
 
 -- what was there is there still, and so are the targets so far

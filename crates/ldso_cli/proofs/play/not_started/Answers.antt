@@ -1,5 +1,5 @@
 use Rattle.std.proofs.Common.{◌∙◌, ap, refl}
-use Rattle.link_event.specs.Roomy.{RoomyEvents}
+use Rattle.history_event.specs.Roomy.{RoomyEvents}
 use Rattle.ldso_cli.proofs.play.not_started.Goals as goal
 
 pub returns : goal.returns

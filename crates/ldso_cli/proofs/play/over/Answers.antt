@@ -1,6 +1,6 @@
 use Rattle.std.proofs.Common.{◌≡◌, ◌<◌, ◌≤◌, ◌^◌, List, arith, length, refl, subst, sym}
-use Rattle.link_event.specs.declared.hart_end.HartEnd.{HartEnd}
-use Rattle.run_texts.specs.Ends.{IsRunEnd}
+use Rattle.history_event.specs.declared.hart_end.HartEnd.{HartEnd}
+use Rattle.trace_text.specs.RunTexts.Ends.{IsRunEnd}
 use Rattle.ldso_cli.proofs.Turned.{ends_length}
 use Rattle.ldso_cli.proofs.play.over.Goals as goal
 

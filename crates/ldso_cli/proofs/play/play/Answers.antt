@@ -1,9 +1,9 @@
 use Rattle.std.proofs.Common.{◌≡◌, ◌<◌, ℕ, List, Some, Err, subst, sym}
-use Rattle.call_laws.specs.Counts.{ArePathsAtStart, ShowsInCounts}
-use Rattle.link_served.specs.declared.startup.StartFault.{StartFault}
-use Rattle.link_service.specs.Startup.{FailsToStart, harts_of}
+use Rattle.history_calls.specs.CallLaws.Counts.{ArePathsAtStart, ShowsInCounts}
+use Rattle.history_calls.specs.declared.link_served.startup.StartFault.{StartFault}
+use Rattle.history_calls.specs.Startup.{FailsToStart, harts_of}
 use Rattle.link_startup.specs.Startup.{IsNotStarted, refusal_of_start}
-use Rattle.opening_plan.specs.Startup.{run_of}
+use Rattle.link_open_plan.specs.Startup.{run_of}
 use Rattle.plain_world.specs.Started.{start_events}
 use Rattle.world_turns.specs.Counts.{Counts, ShowInCounts}
 use Rattle.world_turns.specs.Run.{Run}

@@ -1,10 +1,10 @@
 use Rattle.std.proofs.Common.{Some, refl, subst, ◌≤◌, arith}
 use Rattle.std.proofs.lemmas.Bool.{true≢false}
-use Rattle.command_line.specs.Reads.{Reads}
-use Rattle.command_line.specs.declared.command.Command.{Command}
-use Rattle.command_line.specs.declared.command.Command.TheVariants as commands
-use Rattle.link_service.specs.Startup.{harts_of}
-use Rattle.said_words.specs.Words.{texts}
+use Rattle.cli_words.specs.Reads.{Reads}
+use Rattle.cli_words.specs.declared.command.Command.{Command}
+use Rattle.cli_words.specs.declared.command.Command.TheVariants as commands
+use Rattle.history_calls.specs.Startup.{harts_of}
+use Rattle.cli_read.specs.SaidWords.Words.{texts}
 use Rattle.ldso_cli.specs.Outside.{library_at}
 use Rattle.ldso_cli.proofs.Asking.{generated, left_as_is, turned, turns_read, unanswered}
 use Rattle.ldso_cli.proofs.Bounds.{few_harts, little_fuel}

@@ -1,6 +1,6 @@
 use Rattle.std.proofs.Common.{◌≡◌, Option, ap, subst, sym, String, Global, List}
-use Rattle.command_line.specs.declared.command.Command.{Command}
-use Rattle.said_words.specs.Words.{texts}
+use Rattle.cli_words.specs.declared.command.Command.{Command}
+use Rattle.cli_read.specs.SaidWords.Words.{texts}
 use Rattle.ldso_cli.specs.Ends.{Ends, IsCaused}
 use Rattle.ldso_cli.specs.Outside.{handed_to, library_at, sink_at}
 use Rattle.ldso_cli.specs.declared.outcome.Cause.{Cause}

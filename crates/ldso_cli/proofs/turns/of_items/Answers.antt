@@ -1,5 +1,5 @@
-use Rattle.link_service.specs.Startup.{harts_of}
-use Rattle.opening_plan.specs.Startup.{run_of}
+use Rattle.history_calls.specs.Startup.{harts_of}
+use Rattle.link_open_plan.specs.Startup.{run_of}
 use Rattle.ldso_cli.specs.Outside.{library_at}
 use Rattle.ldso_cli.proofs.Kept.{leaves_legal}
 use Rattle.ldso_cli.proofs.Schedules.{within}

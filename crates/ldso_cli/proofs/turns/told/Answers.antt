@@ -1,5 +1,5 @@
 use Rattle.std.proofs.Common.{◌≡◌, ◌++◌, ◌∙◌}
-use Rattle.run_texts.specs.Printed.{journal_lines}
+use Rattle.trace_text.specs.RunTexts.Printed.{journal_lines}
 use Rattle.ldso_cli.specs.Played.{last_line}
 use Rattle.ldso_cli.proofs.turns.told.Goals as goal
 

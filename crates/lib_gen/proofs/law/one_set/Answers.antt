@@ -1,4 +1,4 @@
-use Rattle.generated_sources.specs.Sources.{sources}
+use Rattle.lib_gen.specs.GeneratedSources.Sources.{sources}
 use Rattle.lib_gen.proofs.Sets.{same_files}
 use Rattle.lib_gen.proofs.law.one_set.Goals as goal
 

@@ -1,6 +1,6 @@
 use Rattle.std.proofs.Common.{refl}
 use Rattle.std.specs.Fmt.{digits}
-use Rattle.generated_sources.specs.Shape.{function_count, library_count}
+use Rattle.lib_gen.specs.GeneratedSources.Shape.{function_count, library_count}
 use Rattle.lib_gen.specs.Summary.{summary_line}
 use Rattle.lib_gen.proofs.worked.runs_are_summed_up.Goals as goal
 

@@ -1,5 +1,5 @@
 use Rattle.std.proofs.Common.{refl, subst}
-use Rattle.link_history.specs.After.{after}
+use Rattle.history_state.specs.After.{after}
 use Rattle.link_state.specs.Closing.{IsNotClosed}
 use Rattle.link_calls.proofs.Closed.{may_refuse_close, not_closed}
 use Rattle.link_calls.proofs.closing.close.Goals as goal

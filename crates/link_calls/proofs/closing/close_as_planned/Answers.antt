@@ -1,9 +1,9 @@
 use Rattle.std.proofs.Common.{◌≡◌, ℕ, List, ap, subst, sym, ◌∙◌}
-use Rattle.link_event.specs.declared.event.CloseAnswer.TheVariants as closings
-use Rattle.link_event.specs.declared.event.Event.TheVariants.{Close}
-use Rattle.link_history.specs.After.{after}
-use Rattle.link_history.specs.Allowed.{Closes}
-use Rattle.link_service.specs.Functions.{AreDestructors}
+use Rattle.history_event.specs.declared.event.CloseAnswer.TheVariants as closings
+use Rattle.history_event.specs.declared.event.Event.TheVariants.{Close}
+use Rattle.history_state.specs.After.{after}
+use Rattle.history_state.specs.Allowed.{Closes}
+use Rattle.history_calls.specs.Functions.{AreDestructors}
 use Rattle.link_state.specs.Table.{appended}
 use Rattle.link_calls.proofs.Closed.{closed_dies, closed_stays}
 use Rattle.link_calls.proofs.Empty.{none_of, some_of}

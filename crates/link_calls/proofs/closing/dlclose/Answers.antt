@@ -1,4 +1,4 @@
-use Rattle.link_service.specs.Call.{closes}
+use Rattle.history_calls.specs.Call.{closes}
 use Rattle.link_calls.specs.Coming.{ComesIn}
 use Rattle.link_calls.proofs.Closed.{unclosed}
 use Rattle.link_calls.proofs.Refused.{answered}

@@ -1,9 +1,9 @@
 use Rattle.std.proofs.Common.{◌≡◌, ℕ, List, reverse, rules, subst}
 use Rattle.std.specs.List.{Contains}
-use Rattle.lawful_journal.specs.Following.{machine_of}
-use Rattle.link_history.specs.After.{after}
-use Rattle.link_history.specs.Lemmas.Finalised.{from_reverse}
-use Rattle.link_history.specs.Links.{unfinished}
+use Rattle.history_journal.specs.Following.{machine_of}
+use Rattle.history_state.specs.After.{after}
+use Rattle.history_state.specs.Lemmas.Finalised.{from_reverse}
+use Rattle.history_state.specs.Links.{unfinished}
 use Rattle.link_calls.proofs.Left.{has_image}
 use Rattle.link_calls.proofs.destructors.all_destructors.Goals as goal
 

@@ -1,13 +1,13 @@
 use Rattle.std.proofs.Common.{◌≡◌, ℕ, List, map, reverse, rules, ap, subst, ◌∙◌}
 use Rattle.std.specs.List.{Contains}
-use Rattle.lawful_journal.specs.Following.{machine_of}
-use Rattle.link_event.specs.declared.handed.Function.{Function}
-use Rattle.link_graph.specs.Initialised.{fini_list, is_one_of}
-use Rattle.link_history.specs.After.{after}
-use Rattle.link_history.specs.Lemmas.Finalised.{from_reverse}
-use Rattle.link_history.specs.Lemmas.Lists.{from_filter}
-use Rattle.link_history.specs.Links.{finis_of, unfinished}
-use Rattle.link_service.specs.Functions.{AreDestructors, AreOf, destructors, object_of}
+use Rattle.history_journal.specs.Following.{machine_of}
+use Rattle.history_event.specs.declared.handed.Function.{Function}
+use Rattle.history_graph.specs.Initialised.{fini_list, is_one_of}
+use Rattle.history_state.specs.After.{after}
+use Rattle.history_state.specs.Lemmas.Finalised.{from_reverse}
+use Rattle.history_state.specs.Lemmas.Lists.{from_filter}
+use Rattle.history_state.specs.Links.{finis_of, unfinished}
+use Rattle.history_calls.specs.Functions.{AreDestructors, AreOf, destructors, object_of}
 use Rattle.link_calls.proofs.Left.{has_image, if_both}
 use Rattle.link_calls.proofs.destructors.closing_destructors.Goals as goal
 

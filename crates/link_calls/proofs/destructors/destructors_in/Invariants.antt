@@ -1,6 +1,6 @@
 use Rattle.std.proofs.Common.{◌≡◌, map, take}
-use Rattle.link_history.specs.After.{after}
-use Rattle.link_service.specs.Functions.{AreOf, destructors, object_of}
+use Rattle.history_state.specs.After.{after}
+use Rattle.history_calls.specs.Functions.{AreOf, destructors, object_of}
 use Rattle.link_calls.proofs.destructors.destructors_in.Given as goal
 
 -- those of the objects in front

@@ -1,9 +1,9 @@
 use Rattle.std.proofs.Common.{◌≡◌, List, map, reverse}
-use Rattle.lawful_journal.specs.Following.{machine_of}
-use Rattle.link_event.specs.declared.handed.Function.{Function}
-use Rattle.link_history.specs.After.{after}
-use Rattle.link_history.specs.Links.{unfinished}
-use Rattle.link_service.specs.Functions.{AreFinalDestructors, AreOf, destructors, object_of}
+use Rattle.history_journal.specs.Following.{machine_of}
+use Rattle.history_event.specs.declared.handed.Function.{Function}
+use Rattle.history_state.specs.After.{after}
+use Rattle.history_state.specs.Links.{unfinished}
+use Rattle.history_calls.specs.Functions.{AreFinalDestructors, AreOf, destructors, object_of}
 use Rattle.link_calls.proofs.Left.{are_final, if_both}
 use Rattle.link_calls.proofs.destructors.final_functions.Goals as goal
 

@@ -1,12 +1,12 @@
 use Rattle.std.proofs.Common.{◌≡◌, ℕ, [], IfOk, OnOk, sym, subst}
-use Rattle.call_laws.specs.Coming.{IsOver}
-use Rattle.lawful_journal.specs.Following.{MayFollow, machine_of}
-use Rattle.link_event.specs.declared.event.Event.TheVariants.{Open}
-use Rattle.link_event.specs.declared.event.OpenAnswer.{OpenAnswer}
-use Rattle.link_history.specs.After.{after}
-use Rattle.link_history.specs.Step.{binds, seen_after}
-use Rattle.link_opening.specs.Planned.{IsPlanIn}
-use Rattle.link_served.specs.declared.served.Served.TheVariants.{Done as Returns}
+use Rattle.history_calls.specs.CallLaws.Coming.{IsOver}
+use Rattle.history_journal.specs.Following.{MayFollow, machine_of}
+use Rattle.history_event.specs.declared.event.Event.TheVariants.{Open}
+use Rattle.history_event.specs.declared.event.OpenAnswer.{OpenAnswer}
+use Rattle.history_state.specs.After.{after}
+use Rattle.history_state.specs.Step.{binds, seen_after}
+use Rattle.link_calls.specs.LinkOpening.Planned.{IsPlanIn}
+use Rattle.history_calls.specs.declared.link_served.served.Served.TheVariants.{Done as Returns}
 use Rattle.link_state.specs.Opening.{AreChosen}
 use Rattle.link_state.specs.Table.{appended}
 use Rattle.link_calls.specs.Opening.{MayPlan}

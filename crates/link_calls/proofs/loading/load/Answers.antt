@@ -1,17 +1,17 @@
 use Rattle.std.proofs.Common.{ℕ, List, Some, map, sym, subst, ◌∙◌}
 use Rattle.std.specs.List.{flat_map}
-use Rattle.call_laws.specs.Coming.{Comes, IsOver}
-use Rattle.image_reads.specs.Reads.{ArePrepared}
-use Rattle.lawful_journal.specs.Following.{machine_of}
+use Rattle.history_calls.specs.CallLaws.Coming.{Comes, IsOver}
+use Rattle.link_images.specs.ImageReads.Reads.{ArePrepared}
+use Rattle.history_journal.specs.Following.{machine_of}
 use Rattle.ld_base.specs.declared.linking.Loaded.{Loaded}
-use Rattle.link_graph.specs.Initialised.{InitOrder, program_last}
-use Rattle.link_history.specs.After.{after}
-use Rattle.link_history.specs.Links.{found_edges}
-use Rattle.link_history.specs.Objects.{serial_of}
-use Rattle.link_history.specs.Step.{binds, seen_after}
-use Rattle.link_served.specs.declared.served.Served.TheVariants as served
-use Rattle.link_service.specs.Call.{opens}
-use Rattle.object_functions.specs.Rooms.{AreInRow, CanReadAll, room_object}
+use Rattle.history_graph.specs.Initialised.{InitOrder, program_last}
+use Rattle.history_state.specs.After.{after}
+use Rattle.history_state.specs.Links.{found_edges}
+use Rattle.history_state.specs.Objects.{serial_of}
+use Rattle.history_state.specs.Step.{binds, seen_after}
+use Rattle.history_calls.specs.declared.link_served.served.Served.TheVariants as served
+use Rattle.history_calls.specs.Call.{opens}
+use Rattle.link_images.specs.ObjectFunctions.Rooms.{AreInRow, CanReadAll, room_object}
 use Rattle.link_calls.proofs.Empty.{none_of, some_of}
 use Rattle.link_calls.proofs.Opened.{are_choices, can_read, constructed_in, in_row, loaded_in, may_be_loaded, none_in_load}
 use Rattle.link_calls.proofs.loading.load.Goals as goal

@@ -1,4 +1,4 @@
-use Rattle.link_service.specs.Call.{dlsym_in}
+use Rattle.history_calls.specs.Call.{dlsym_in}
 use Rattle.link_calls.specs.Coming.{LooksUpIn}
 use Rattle.link_calls.proofs.Looked.{unlooked}
 use Rattle.link_calls.proofs.Refused.{answered}

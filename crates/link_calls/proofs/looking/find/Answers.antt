@@ -1,7 +1,7 @@
 use Rattle.std.proofs.Common.{◌≤◌, ◌<◌, length, IfOk, subst, refl, arith}
-use Rattle.link_event.specs.declared.event.SymAsk.{SymAsk}
-use Rattle.link_history.specs.Lookup.{name as long_name}
-use Rattle.link_service.specs.Call.{looks_up}
+use Rattle.history_event.specs.declared.event.SymAsk.{SymAsk}
+use Rattle.history_state.specs.Lookup.{name as long_name}
+use Rattle.history_calls.specs.Call.{looks_up}
 use Rattle.link_calls.specs.Coming.{LooksUpIn}
 use Rattle.link_calls.proofs.Looked.{asked_plain, shows_long}
 use Rattle.link_calls.proofs.looking.find.Goals as goal

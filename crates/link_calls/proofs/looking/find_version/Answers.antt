@@ -1,8 +1,8 @@
 use Rattle.std.proofs.Common.{◌≤◌, ◌<◌, length, IfOk, ap, sym, subst, refl, ◌∙◌, arith}
 use Rattle.std.proofs.lemmas.List.{take_all}
-use Rattle.link_event.specs.declared.event.SymAsk.{SymAsk}
-use Rattle.link_history.specs.Lookup.{name as long_name, version as long_version}
-use Rattle.link_service.specs.Call.{looks_up}
+use Rattle.history_event.specs.declared.event.SymAsk.{SymAsk}
+use Rattle.history_state.specs.Lookup.{name as long_name, version as long_version}
+use Rattle.history_calls.specs.Call.{looks_up}
 use Rattle.link_calls.specs.Coming.{LooksUpIn}
 use Rattle.link_calls.proofs.Looked.{asked_none, asked_version_of, not_long, shows_long}
 use Rattle.link_calls.proofs.looking.find_version.Goals as goal

@@ -1,8 +1,8 @@
 use Rattle.std.proofs.Common.{sym, subst}
-use Rattle.link_history.specs.After.{after}
-use Rattle.link_history.specs.Lookup.{RefusesSymbol}
-use Rattle.symbol_search.specs.Asking.{ask_of}
-use Rattle.symbol_search.specs.Finding.{IsSymFault}
+use Rattle.history_state.specs.After.{after}
+use Rattle.history_state.specs.Lookup.{RefusesSymbol}
+use Rattle.link_search.specs.Asking.{ask_of}
+use Rattle.link_search.specs.Finding.{IsSymFault}
 use Rattle.link_calls.proofs.Looked.{looked_up, may_refuse_after, not_found}
 use Rattle.link_calls.proofs.Refused.{still}
 use Rattle.link_calls.proofs.looking.look_up.Goals as goal

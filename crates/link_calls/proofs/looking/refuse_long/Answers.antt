@@ -1,11 +1,11 @@
 use Rattle.std.proofs.Common.{refl, sym, subst}
 use Rattle.ld_base.specs.declared.fault.DlFault.TheVariants.{NameTooLong}
-use Rattle.lawful_journal.specs.Following.{MayFollow}
-use Rattle.link_event.specs.declared.event.Ask.TheVariants as asks
-use Rattle.link_event.specs.declared.event.SymAsk.{SymAsk}
-use Rattle.link_history.specs.Lookup.{name_too_long}
-use Rattle.linker_lists.specs.Events.{refusal}
-use Rattle.symbol_search.specs.Asking.{ask_of}
+use Rattle.history_journal.specs.Following.{MayFollow}
+use Rattle.history_event.specs.declared.event.Ask.TheVariants as asks
+use Rattle.history_event.specs.declared.event.SymAsk.{SymAsk}
+use Rattle.history_state.specs.Lookup.{name_too_long}
+use Rattle.link_holds.specs.Events.{refusal}
+use Rattle.link_search.specs.Asking.{ask_of}
 use Rattle.link_calls.proofs.Looked.{may_refuse, not_found}
 use Rattle.link_calls.proofs.looking.refuse_long.Goals as goal
 

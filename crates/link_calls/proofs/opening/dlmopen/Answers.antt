@@ -1,11 +1,11 @@
 use Rattle.std.proofs.Common.{◌≡◌, ℕ, Option, IfOk, sym, subst}
 use Rattle.std.specs.Option.{option_copied}
-use Rattle.call_laws.specs.Coming.{NeedsNoRead, refusal_of}
-use Rattle.call_laws.specs.Counts.{ArePaths, ShowsInCounts}
-use Rattle.link_history.specs.After.{after}
-use Rattle.link_service.specs.Call.{asked_namespace, dlmopen, opens}
+use Rattle.history_calls.specs.CallLaws.Coming.{NeedsNoRead, refusal_of}
+use Rattle.history_calls.specs.CallLaws.Counts.{ArePaths, ShowsInCounts}
+use Rattle.history_state.specs.After.{after}
+use Rattle.history_calls.specs.Call.{asked_namespace, dlmopen, opens}
 use Rattle.link_calls.specs.Opening.{OpensIn, asked}
-use Rattle.opening_plan.specs.Lemmas.Counts.{counts_none}
+use Rattle.link_open_plan.specs.Lemmas.Counts.{counts_none}
 use Rattle.link_calls.proofs.Opened.{unopened_none, whole_of}
 use Rattle.link_calls.proofs.Refused.{answered}
 use Rattle.link_calls.proofs.opening.dlmopen.Goals as goal

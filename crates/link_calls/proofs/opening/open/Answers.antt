@@ -1,16 +1,16 @@
 use Rattle.std.proofs.Common.{IfOk, sym, subst}
-use Rattle.call_laws.specs.Coming.{IsOver, NeedsNoRead}
-use Rattle.call_laws.specs.Counts.{ArePaths, ShowsInCounts}
-use Rattle.lawful_journal.specs.Following.{machine_of}
-use Rattle.link_event.specs.declared.event.OpenAsk.{OpenAsk}
-use Rattle.link_history.specs.After.{after}
-use Rattle.link_opening.specs.Planned.{IsUnplanned}
-use Rattle.link_served.specs.declared.served.Served.TheVariants.{Again}
-use Rattle.link_service.specs.Call.{opens}
-use Rattle.opening_plan.specs.Planned.{fault_in}
-use Rattle.opening_plan.specs.declared.planning.Unopened.{Unopened}
+use Rattle.history_calls.specs.CallLaws.Coming.{IsOver, NeedsNoRead}
+use Rattle.history_calls.specs.CallLaws.Counts.{ArePaths, ShowsInCounts}
+use Rattle.history_journal.specs.Following.{machine_of}
+use Rattle.history_event.specs.declared.event.OpenAsk.{OpenAsk}
+use Rattle.history_state.specs.After.{after}
+use Rattle.link_calls.specs.LinkOpening.Planned.{IsUnplanned}
+use Rattle.history_calls.specs.declared.link_served.served.Served.TheVariants.{Again}
+use Rattle.history_calls.specs.Call.{opens}
+use Rattle.link_open_plan.specs.Planned.{fault_in}
+use Rattle.link_open_plan.specs.declared.planning.Unopened.{Unopened}
 use Rattle.link_calls.specs.Opening.{OpensIn}
-use Rattle.opening_plan.specs.Lemmas.Counts.{counts_none}
+use Rattle.link_open_plan.specs.Lemmas.Counts.{counts_none}
 use Rattle.link_calls.proofs.Opened.{few_known, may_plan, may_refuse_open, not_opened, refused_shows, unrefused_shows, waits_so}
 use Rattle.link_calls.proofs.opening.open.Goals as goal
 

@@ -1,7 +1,7 @@
 use Rattle.std.proofs.Common.{◌≡◌, ℕ, List, length, min, take, rules, ap, ◌∙◌}
 use Rattle.std.proofs.lemmas.List.{take_min}
 use Rattle.ld_base.specs.FaultText.{fault_text}
-use Rattle.link_service.specs.Served.{answer_text}
+use Rattle.history_calls.specs.Served.{answer_text}
 use Rattle.link_calls.proofs.Left.{if_so}
 use Rattle.link_calls.proofs.telling.text_of.Goals as goal
 

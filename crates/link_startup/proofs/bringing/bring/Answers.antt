@@ -2,15 +2,15 @@ use Rattle.std.proofs.Common.{◌≡◌, List, ap, subst, ◌∙◌}
 use Rattle.std.specs.List.{flat_map}
 use Rattle.std.specs.Prelude.{Some, map}
 use Rattle.ld_base.specs.declared.linking.Loaded.{Loaded}
-use Rattle.link_event.specs.declared.event.Event.TheVariants.{Open}
-use Rattle.link_event.specs.declared.event.OpenAnswer.TheVariants.{Done}
-use Rattle.link_graph.specs.Initialised.{InitOrder, program_last}
-use Rattle.link_history.specs.After.{after}
-use Rattle.link_history.specs.Links.{found_edges}
-use Rattle.link_history.specs.Objects.{serial_of}
+use Rattle.history_event.specs.declared.event.Event.TheVariants.{Open}
+use Rattle.history_event.specs.declared.event.OpenAnswer.TheVariants.{Done}
+use Rattle.history_graph.specs.Initialised.{InitOrder, program_last}
+use Rattle.history_state.specs.After.{after}
+use Rattle.history_state.specs.Links.{found_edges}
+use Rattle.history_state.specs.Objects.{serial_of}
 use Rattle.link_state.specs.Opening.{ArePut}
 use Rattle.link_state.specs.Table.{appended}
-use Rattle.object_functions.specs.Rooms.{AreRooms, room_object}
+use Rattle.link_images.specs.ObjectFunctions.Rooms.{AreRooms, room_object}
 use Rattle.link_startup.proofs.Brought.{came_last, constructed, put_so, readable}
 use Rattle.link_startup.proofs.bringing.bring.Goals as goal
 

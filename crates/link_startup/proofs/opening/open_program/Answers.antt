@@ -1,16 +1,16 @@
 use Rattle.std.proofs.Common.{◌≡◌, ◌+◌, [], ℕ, List, length, sym, ap, subst, ◌∙◌, arith}
-use Rattle.lawful_journal.specs.Following.{MayFollow, machine_of}
-use Rattle.link_event.specs.declared.event.Event.{Event}
-use Rattle.link_event.specs.declared.event.Event.TheVariants.{Open}
-use Rattle.link_event.specs.declared.event.OpenAnswer.TheVariants.{Done}
-use Rattle.link_event.specs.declared.event.OpenAsk.{OpenAsk}
-use Rattle.link_history.specs.After.{after}
-use Rattle.link_history.specs.Step.{binds, seen_after}
-use Rattle.link_service.specs.Served.{InstallsNothing}
-use Rattle.link_service.specs.Startup.{entries_from, opening, program_ask}
+use Rattle.history_journal.specs.Following.{MayFollow, machine_of}
+use Rattle.history_event.specs.declared.event.Event.{Event}
+use Rattle.history_event.specs.declared.event.Event.TheVariants.{Open}
+use Rattle.history_event.specs.declared.event.OpenAnswer.TheVariants.{Done}
+use Rattle.history_event.specs.declared.event.OpenAsk.{OpenAsk}
+use Rattle.history_state.specs.After.{after}
+use Rattle.history_state.specs.Step.{binds, seen_after}
+use Rattle.history_calls.specs.Served.{InstallsNothing}
+use Rattle.history_calls.specs.Startup.{entries_from, opening, program_ask}
 use Rattle.link_state.specs.Table.{LinkTable}
-use Rattle.opening_images.specs.Relocated.{AreChoices}
-use Rattle.opening_plan.specs.Startup.{run_of}
+use Rattle.link_open_images.specs.Relocated.{AreChoices}
+use Rattle.link_open_plan.specs.Startup.{run_of}
 use Rattle.link_startup.specs.Startup.{IsOfNoFile, IsUnstarted}
 use Rattle.link_startup.proofs.Fails.{err_as, lacking_needs_none, lacks_so}
 use Rattle.link_startup.proofs.First.{are_choices, may_follow, may_open}

@@ -1,5 +1,5 @@
 use Rattle.std.proofs.Common.{◌≡◌, ◌∷◌, ◌++◌, ℕ, List, length, ap, ◌∙◌, arith}
-use Rattle.link_service.specs.Functions.{preinits}
+use Rattle.history_calls.specs.Functions.{preinits}
 use Rattle.link_startup.proofs.Opened.{addresses_are, can_read_it}
 use Rattle.link_startup.proofs.preinits.preinits.Goals as goal
 

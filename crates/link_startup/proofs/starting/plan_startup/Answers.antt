@@ -1,8 +1,8 @@
 use Rattle.std.proofs.Common.{◌≡◌, Some, None, sym, ap, ◌∙◌}
 use Rattle.std.specs.Option.{option_copied}
-use Rattle.link_history.specs.After.{after}
-use Rattle.link_history.specs.Areas.{free_pages}
-use Rattle.link_history.specs.State.{State, empty_namespace, start}
+use Rattle.history_state.specs.After.{after}
+use Rattle.history_state.specs.Areas.{free_pages}
+use Rattle.history_state.specs.State.{State, empty_namespace, start}
 use Rattle.link_startup.proofs.First.{base_is, nothing_yet, statics_are}
 use Rattle.link_startup.proofs.starting.plan_startup.Goals as goal
 

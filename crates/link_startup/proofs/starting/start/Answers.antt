@@ -1,10 +1,10 @@
 use Rattle.std.proofs.Common.{[], sym, subst}
 use Rattle.ld_base.specs.declared.fault.DlFault.{DlFault}
-use Rattle.link_history.specs.After.{after}
-use Rattle.link_service.specs.Startup.{FailsToStart}
-use Rattle.opening_plan.specs.Planned.{IsUnopened}
-use Rattle.opening_plan.specs.Startup.{run_of}
-use Rattle.opening_plan.specs.declared.planning.Unopened.{Unopened}
+use Rattle.history_state.specs.After.{after}
+use Rattle.history_calls.specs.Startup.{FailsToStart}
+use Rattle.link_open_plan.specs.Planned.{IsUnopened}
+use Rattle.link_open_plan.specs.Startup.{run_of}
+use Rattle.link_open_plan.specs.declared.planning.Unopened.{Unopened}
 use Rattle.link_startup.proofs.Fails.{refused_so}
 use Rattle.link_startup.proofs.starting.start.Goals as goal
 

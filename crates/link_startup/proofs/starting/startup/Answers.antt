@@ -1,9 +1,9 @@
 use Rattle.std.proofs.Common.{Err, Option, subst}
-use Rattle.call_laws.specs.Counts.{FaultsShow}
+use Rattle.history_calls.specs.CallLaws.Counts.{FaultsShow}
 use Rattle.ld_base.specs.declared.fault.DlFault.{DlFault}
-use Rattle.link_served.specs.declared.startup.Started.{Started}
+use Rattle.history_calls.specs.declared.link_served.startup.Started.{Started}
 use Rattle.link_state.specs.Table.{LinkTable}
-use Rattle.opening_plan.specs.Startup.{run_of}
+use Rattle.link_open_plan.specs.Startup.{run_of}
 use Rattle.link_startup.proofs.Fails.{not_started, same_fault, whole_so}
 use Rattle.link_startup.proofs.starting.startup.Goals as goal
 

@@ -1,8 +1,8 @@
 use Rattle.std.proofs.Common.{ℕ, Bool, true, [], refl, sym, subst, ◌∙◌}
 use Rattle.hart_moves.specs.Starting.{starting_registers}
-use Rattle.guest_turns.specs.Lemmas.Counting.{unmoved}
-use Rattle.guest_worlds.specs.Worlds.{MayBeAt, setting_without, world_of}
-use Rattle.world_ends.specs.Ends.{has_exited}
+use Rattle.world_guests.specs.Lemmas.Counting.{unmoved}
+use Rattle.world_guests.specs.GuestWorlds.Worlds.{MayBeAt, setting_without, world_of}
+use Rattle.world_turns.specs.WorldEnds.Ends.{has_exited}
 use Rattle.world_turns.specs.Run.{Finalises}
 use Rattle.world_turns.specs.World.{World}
 use Rattle.plain_world.specs.Playing.{FinalisesOnce}

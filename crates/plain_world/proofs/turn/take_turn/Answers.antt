@@ -1,14 +1,14 @@
 use Rattle.std.proofs.Common.{◌≡◌, ℕ, refl, ap}
-use Rattle.guest_worlds.specs.Coming.{LeavesHart}
-use Rattle.guest_worlds.specs.Worlds.{TakesOver, world_of}
-use Rattle.guest_turns.specs.Counting.{IsCounted, counts_at}
-use Rattle.guest_turns.specs.Next.{NextOpens, NextReadsNothing, NextTells}
-use Rattle.answer_turns.specs.Settling.{harts_in}
+use Rattle.world_guests.specs.GuestWorlds.Coming.{LeavesHart}
+use Rattle.world_guests.specs.GuestWorlds.Worlds.{TakesOver, world_of}
+use Rattle.world_guests.specs.Counting.{IsCounted, counts_at}
+use Rattle.world_guests.specs.Next.{NextOpens, NextReadsNothing, NextTells}
+use Rattle.world_returns.specs.Settling.{harts_in}
 use Rattle.world_turns.specs.Counts.{Counts}
 use Rattle.world_turns.specs.Turn.{TakesTurn}
 use Rattle.world_turns.specs.World.{World}
 use Rattle.plain_world.proofs.Counting.{goes_up, takes_counted}
-use Rattle.guest_turns.specs.Lemmas.Counting.{same_counts}
+use Rattle.world_guests.specs.Lemmas.Counting.{same_counts}
 use Rattle.plain_world.proofs.Parts.{on_takes}
 use Rattle.plain_world.proofs.Telling.{alone_counts, alone_opens, alone_tells, from_same}
 use Rattle.plain_world.proofs.turn.take_turn.Goals as goal

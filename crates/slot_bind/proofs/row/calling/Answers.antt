@@ -1,7 +1,7 @@
 use Rattle.std.proofs.Common.{refl, subst, ◌∙◌}
-use Rattle.guest_rule.specs.declared.view.HartView.{HartView}
-use Rattle.guest_rule.specs.KeeperSteps.{HasEnded, HasTakenAll}
-use Rattle.guest_rule.specs.Views.{row_of}
+use Rattle.word_rule.specs.declared.view.HartView.{HartView}
+use Rattle.word_rule.specs.KeeperSteps.{HasEnded, HasTakenAll}
+use Rattle.word_rule.specs.Views.{row_of}
 use Rattle.slot_bind.proofs.row.calling.Goals as goal
 
 pub returns-clause-ended : goal.returns-clause-ended

@@ -1,7 +1,7 @@
 use Rattle.std.proofs.Common.{ap, ◌∙◌}
-use Rattle.guest_rule.specs.KeeperSteps.{with_row}
-use Rattle.guest_rule.specs.Views.{row_of}
-use Rattle.guest_rule.specs.Lemmas.Heeding.{heeds}
+use Rattle.word_rule.specs.KeeperSteps.{with_row}
+use Rattle.word_rule.specs.Views.{row_of}
+use Rattle.word_rule.specs.Lemmas.Heeding.{heeds}
 use Rattle.slot_bind.specs.Grants.{grant_of}
 use Rattle.slot_bind.specs.Rows.{row_with}
 use Rattle.slot_bind.proofs.Rows.{opens}

@@ -1,4 +1,4 @@
-use Rattle.dyn_table.specs.HashWords.{hash_words}
+use Rattle.elf_head.specs.DynTable.HashWords.{hash_words}
 use Rattle.sym_hash.specs.Verdict.{table_verdict}
 use Rattle.sym_hash.proofs.Judging.{accepts, refuses, says}
 use Rattle.sym_hash.proofs.law.one_verdict.Goals as goal

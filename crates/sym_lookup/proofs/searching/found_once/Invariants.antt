@@ -1,7 +1,7 @@
 use Rattle.std.proofs.Common.{◌≡◌, map, take}
 use Rattle.std.specs.List.{AllByRecursion}
 use Rattle.scope_rule.specs.Seen.{Seen}
-use Rattle.search_lists.specs.Lists.{AreListsOf}
+use Rattle.scope_lists.specs.Lists.{AreListsOf}
 use Rattle.sym_lookup.specs.Looking.{IsSearched}
 use Rattle.sym_lookup.specs.declared.searched.Searched.{Searched}
 use Rattle.sym_lookup.proofs.searching.found_once.Given as goal

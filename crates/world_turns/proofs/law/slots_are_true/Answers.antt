@@ -1,4 +1,4 @@
-use Rattle.link_history.specs.Lemmas.History.{legal_is_lawful}
+use Rattle.history_state.specs.Lemmas.History.{legal_is_lawful}
 use Rattle.world_turns.specs.Memory.{memory_of}
 use Rattle.world_turns.specs.World.{winners}
 use Rattle.world_turns.proofs.law.slots_are_true.Goals as goal

@@ -1,5 +1,5 @@
-use Rattle.link_history.specs.Lemmas.Map.{mapped_after}
-use Rattle.link_history.specs.Lemmas.Tidy.{tidy_after}
+use Rattle.history_state.specs.Lemmas.Map.{mapped_after}
+use Rattle.history_state.specs.Lemmas.Tidy.{tidy_after}
 use Rattle.world_turns.specs.Lemmas.Turning.{begins_sound, lacks_sound, settles_sound, turns_sound}
 use Rattle.world_turns.proofs.law.turns_stay_sound.Goals as goal
 

@@ -1,6 +1,6 @@
 -- Step by step.
 use Rattle.std.proofs.Common.{◌≡◌, ◌∙◌, ◌++◌, List, ap, map}
-use Rattle.elf_write.specs.declared.contents.Contents.{Contents}
+use Rattle.asm_write.specs.declared.contents.Contents.{Contents}
 use Rattle.asm_layout.specs.declared.uses.Exported.{Exported}
 use Rattle.asm_layout.specs.Contents.{contents_of, elf_kind, entry_name, exports_at, files_at, imports_at, needed_at, needed_versions_at, offsets_from, soname_offset, strings_of, versions_at}
 use Rattle.asm_layout.specs.Fixes.{fixes_of}

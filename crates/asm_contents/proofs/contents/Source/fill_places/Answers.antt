@@ -1,5 +1,5 @@
 use Rattle.std.proofs.Common.{◌≡◌, ◌∙◌, ◌++◌, List, ℕ, ap, map}
-use Rattle.elf_write.specs.declared.contents.Fix.{Fix}
+use Rattle.asm_write.specs.declared.contents.Fix.{Fix}
 use Rattle.asm_layout.specs.Symbols.{symbol_index}
 use Rattle.asm_layout.specs.Uses.{slots}
 use Rattle.asm_contents.proofs.contents.Source.fill_places.Goals as goal

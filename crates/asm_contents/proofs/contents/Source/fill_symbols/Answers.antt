@@ -1,5 +1,5 @@
 use Rattle.std.proofs.Common.{◌≡◌, ◌∙◌, ◌++◌, List, ℕ, ap, map, refl}
-use Rattle.elf_write.specs.declared.contents.SymbolEntry.{SymbolEntry}
+use Rattle.asm_write.specs.declared.contents.SymbolEntry.{SymbolEntry}
 use Rattle.asm_layout.specs.declared.uses.Exported.{Exported}
 use Rattle.asm_layout.specs.Contents.{imports_at, exports_at}
 use Rattle.asm_layout.specs.Symbols.{import_entries, export_entries, sorted_exports}

@@ -1,8 +1,8 @@
 use Rattle.std.proofs.Common.{◌≡◌, ◌∙◌, ◌++◌, [], List, ℕ, ap}
 use Rattle.std.specs.Prelude.{unwrap_or}
-use Rattle.elf_write.specs.declared.contents.NeedRecord.{NeedRecord}
-use Rattle.elf_write.specs.declared.contents.NeededVersion.{NeededVersion}
-use Rattle.elf_write.specs.declared.contents.VersionRecord.{VersionRecord}
+use Rattle.asm_write.specs.declared.contents.NeedRecord.{NeedRecord}
+use Rattle.asm_write.specs.declared.contents.NeededVersion.{NeededVersion}
+use Rattle.asm_write.specs.declared.contents.VersionRecord.{VersionRecord}
 use Rattle.asm_layout.specs.Contents.{files_at, needed_versions_at, soname_offset, versions_at}
 use Rattle.asm_layout.specs.Tables.{soname, versions}
 use Rattle.asm_layout.specs.Versions.{first_needed, need_records, needed_files, needed_records}

@@ -1,7 +1,7 @@
 use Rattle.std.proofs.Common.{List, sym, ap, ◌∙◌}
 use Rattle.std.specs.List.{list_any}
 use Rattle.hart_moves.specs.Harts.{Frame, is_startup_frame}
-use Rattle.link_history.specs.Lemmas.Lists.{any_reverse}
+use Rattle.history_state.specs.Lemmas.Lists.{any_reverse}
 use Rattle.hart_seat.specs.Table.{HartTable}
 use Rattle.hart_seat.proofs.hart.LinkedHart.is_starting.Goals as goal
 

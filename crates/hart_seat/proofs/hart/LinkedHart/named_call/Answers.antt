@@ -1,10 +1,10 @@
 use Rattle.std.proofs.Common.{◌≡◌, List, ℕ, sym, ap, ◌∙◌}
 use Rattle.rv_hart.specs.Registers.{Registers, registers_of}
-use Rattle.link_service.specs.Call.{dlvsym}
+use Rattle.history_calls.specs.Call.{dlvsym}
 use Rattle.hart_moves.specs.Due.{Due, Return, back, call_of}
 use Rattle.hart_moves.specs.Registers.{a0, ra}
-use Rattle.hart_parts.specs.Views.{naming_of}
-use Rattle.hart_parts.specs.declared.due.Naming.{Naming}
+use Rattle.hart_seat.specs.HartParts.Views.{naming_of}
+use Rattle.hart_seat.specs.declared.hart_parts.due.Naming.{Naming}
 use Rattle.hart_seat.specs.Table.{HartTable}
 use Rattle.hart_seat.proofs.Taken.{named_bytes}
 use Rattle.hart_seat.proofs.hart.LinkedHart.named_call.Goals as goal

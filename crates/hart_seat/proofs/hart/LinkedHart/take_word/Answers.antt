@@ -4,7 +4,7 @@ use Rattle.hart_moves.specs.Copying.{after_name, before_end}
 use Rattle.hart_moves.specs.Due.{name_start, write_count}
 use Rattle.hart_moves.specs.Harts.{HartState, Naming, Phase}
 use Rattle.hart_moves.specs.Registers.{a0, a1, a2}
-use Rattle.hart_parts.specs.Views.{naming_of}
+use Rattle.hart_seat.specs.HartParts.Views.{naming_of}
 use Rattle.hart_seat.specs.Copied.{more_bytes}
 use Rattle.hart_seat.specs.Inside.{hart_of}
 use Rattle.hart_seat.specs.Phases.{phase_of}

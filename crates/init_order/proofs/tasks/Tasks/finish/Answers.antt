@@ -1,8 +1,8 @@
 use Rattle.std.proofs.Common.{ℕ, List, eq-eqb, sym, ap, subst, ◌∙◌}
 use Rattle.std.specs.List.{Contains, filter}
-use Rattle.link_graph.specs.declared.graph.Edge.{Edge}
-use Rattle.link_graph.specs.Reached.{leads_from}
-use Rattle.link_graph.specs.Lemmas.Members.{kept}
+use Rattle.history_graph.specs.declared.graph.Edge.{Edge}
+use Rattle.history_graph.specs.Reached.{leads_from}
+use Rattle.history_graph.specs.Lemmas.Members.{kept}
 use Rattle.init_order.proofs.Results.{at_ok, by_ok}
 use Rattle.init_order.proofs.tasks.Tasks.finish.Goals as goal
 

@@ -1,8 +1,8 @@
 use Rattle.std.proofs.Common.{◌≡◌, ◌<◌, ◌≤◌, ℕ, true, List, length, get_or, ap, subst, ◌∙◌}
 use Rattle.std.specs.List.{filter}
 use Rattle.std.proofs.lemmas.Bool.{leb-true, leb-false}
-use Rattle.link_graph.specs.declared.graph.Edge.{Edge}
-use Rattle.link_graph.specs.Reached.{leads_from}
+use Rattle.history_graph.specs.declared.graph.Edge.{Edge}
+use Rattle.history_graph.specs.Reached.{leads_from}
 use Rattle.init_order.specs.Least.{AreMet, is_left}
 use Rattle.init_order.proofs.Ready.{all_met, blocked_at}
 use Rattle.init_order.proofs.tasks.Tasks.may_be_done.Goals as goal

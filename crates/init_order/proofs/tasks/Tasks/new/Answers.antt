@@ -3,8 +3,8 @@ use Rattle.std.specs.HashMap.{get}
 use Rattle.std.specs.List.{Contains}
 use Rattle.std.specs.Option.{unwrap_or}
 use Rattle.std.proofs.lemmas.List.Sorted.{Contains-permutation, IsPermutation-sym}
-use Rattle.link_graph.specs.declared.graph.Edge.{Edge}
-use Rattle.link_graph.specs.Lemmas.Members.{mapped}
+use Rattle.history_graph.specs.declared.graph.Edge.{Edge}
+use Rattle.history_graph.specs.Lemmas.Members.{mapped}
 use Rattle.init_order.specs.Least.{flip_of}
 use Rattle.init_order.proofs.tasks.Tasks.new.Goals as goal
 

@@ -5,7 +5,7 @@ use Rattle.std.specs.List.{Contains}
 use Rattle.std.specs.Option.{unwrap_or}
 use Rattle.std.specs.Ordering.{nat_cmp}
 use Rattle.std.proofs.lemmas.Bool.{false≢true}
-use Rattle.link_graph.specs.declared.graph.Edge.{Edge}
+use Rattle.history_graph.specs.declared.graph.Edge.{Edge}
 use Rattle.init_order.specs.Least.{Blocked, IsPending, is_left, is_ready, met_of}
 use Rattle.init_order.proofs.Ready.{pending_as, pending_done, pending_dropped, pending_seen, popped_cases, any_some}
 use Rattle.init_order.proofs.tasks.Tasks.next.Goals as goal

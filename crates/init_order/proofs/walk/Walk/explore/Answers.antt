@@ -2,7 +2,7 @@ use Rattle.std.proofs.Common.{◌≡◌, ℕ, ◌∷◌, [], None, List, length,
 use Rattle.std.specs.List.{Contains}
 use Rattle.std.proofs.lemmas.List.Elements.{Contains-append_left, Contains-push}
 use Rattle.std.proofs.lemmas.List.Sorted.{IsPermutation-refl}
-use Rattle.link_graph.specs.declared.graph.Edge.{Edge}
+use Rattle.history_graph.specs.declared.graph.Edge.{Edge}
 use Rattle.init_order.specs.Walking.{at}
 use Rattle.init_order.proofs.Visits.{Walked-visit}
 use Rattle.init_order.proofs.Results.{at_ok, by_ok, none_of, some_of, walked_as}

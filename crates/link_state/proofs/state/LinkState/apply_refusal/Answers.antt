@@ -1,9 +1,9 @@
 use Rattle.std.proofs.Common.{◌≡◌, List, ap, ◌∙◌}
-use Rattle.link_event.specs.declared.event.Event.{Event}
-use Rattle.link_history.specs.After.{after}
-use Rattle.link_history.specs.Step.{keep, step}
+use Rattle.history_event.specs.declared.event.Event.{Event}
+use Rattle.history_state.specs.After.{after}
+use Rattle.history_state.specs.Step.{keep, step}
 use Rattle.link_state.specs.Inside.{lists_of}
-use Rattle.linker_lists.specs.Lemmas.Held.{holds_after, holds_keep, refused_step}
+use Rattle.link_holds.specs.Lemmas.Held.{holds_after, holds_keep, refused_step}
 use Rattle.link_state.proofs.state.LinkState.apply_refusal.Goals as goal
 
 pub invariant_of-self : goal.invariant_of-self

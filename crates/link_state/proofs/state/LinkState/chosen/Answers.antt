@@ -1,14 +1,14 @@
 use Rattle.std.proofs.Common.{◌≡◌, List, Result, Ok, Err, IfOk, subst, sym}
 use Rattle.std.specs.List.{Contains}
-use Rattle.link_history.specs.After.{after}
-use Rattle.link_history.specs.Laws.{AreApart, IsIn}
-use Rattle.link_history.specs.State.{State}
-use Rattle.slot_choice.specs.Choosing.{ChoosesSlot}
+use Rattle.history_state.specs.After.{after}
+use Rattle.history_state.specs.Laws.{AreApart, IsIn}
+use Rattle.history_state.specs.State.{State}
+use Rattle.link_finds.specs.SlotChoosing.Choosing.{ChoosesSlot}
 use Rattle.link_state.specs.Table.{LinkTable}
-use Rattle.link_history.specs.Read.{WasRead}
-use Rattle.lawful_journal.specs.Following.{machine_of}
+use Rattle.history_state.specs.Read.{WasRead}
+use Rattle.history_journal.specs.Following.{machine_of}
 use Rattle.scope_rule.specs.declared.namespace.Namespace.{Namespace}
-use Rattle.linker_lists.specs.Holding.{HoldsAll}
+use Rattle.link_holds.specs.Holding.{HoldsAll}
 use Rattle.link_state.specs.Inside.{lists_of}
 use Rattle.link_state.proofs.state.LinkState.chosen.Goals as goal
 

@@ -1,19 +1,19 @@
 use Rattle.std.proofs.Common.{◌≡◌, ℕ, List, ◌++◌, sym, ap, subst, ◌∙◌}
 use Rattle.std.specs.Option.{option_to_list}
-use Rattle.closing_plans.specs.Plans.{closed_by}
-use Rattle.lawful_journal.specs.Following.{MayFollow, machine_of}
-use Rattle.link_event.specs.declared.event.CloseAnswer.TheVariants.{Done}
-use Rattle.link_event.specs.declared.event.Event.{Event}
-use Rattle.link_event.specs.declared.event.Event.TheVariants.{Close}
-use Rattle.link_history.specs.After.{after}
-use Rattle.link_history.specs.Held.{EdgesFollow}
-use Rattle.link_history.specs.Step.{step}
-use Rattle.pending_closings.specs.Pending.{PendingClosing}
+use Rattle.close_mark.specs.ClosingPlans.Plans.{closed_by}
+use Rattle.history_journal.specs.Following.{MayFollow, machine_of}
+use Rattle.history_event.specs.declared.event.CloseAnswer.TheVariants.{Done}
+use Rattle.history_event.specs.declared.event.Event.{Event}
+use Rattle.history_event.specs.declared.event.Event.TheVariants.{Close}
+use Rattle.history_state.specs.After.{after}
+use Rattle.history_state.specs.Held.{EdgesFollow}
+use Rattle.history_state.specs.Step.{step}
+use Rattle.link_spaces.specs.PendingClosingsPart.Pending.{PendingClosing}
 use Rattle.link_state.specs.Closing.{IsPlanOf}
 use Rattle.link_state.specs.Inside.{lists_of}
 use Rattle.link_state.specs.Table.{LinkTable}
-use Rattle.linker_lists.specs.Lemmas.Closed.{all_closed, all_with_room}
-use Rattle.linker_lists.specs.Lemmas.Held.{follows, holds_after}
+use Rattle.link_holds.specs.Lemmas.Closed.{all_closed, all_with_room}
+use Rattle.link_holds.specs.Lemmas.Held.{follows, holds_after}
 use Rattle.link_state.proofs.state.LinkState.close_planned.Goals as goal
 
 pub push-requires-clause-may : goal.push-requires-clause-may

@@ -1,8 +1,8 @@
-use Rattle.link_history.specs.After.{after}
-use Rattle.link_history.specs.Step.{finalise}
+use Rattle.history_state.specs.After.{after}
+use Rattle.history_state.specs.Step.{finalise}
 use Rattle.link_state.specs.Inside.{lists_of}
-use Rattle.linker_lists.specs.Lemmas.Advance.{all_finalised}
-use Rattle.linker_lists.specs.Lemmas.Held.{holds_after}
+use Rattle.link_holds.specs.Lemmas.Advance.{all_finalised}
+use Rattle.link_holds.specs.Lemmas.Held.{holds_after}
 use Rattle.link_state.proofs.state.LinkState.finalised.Goals as goal
 
 pub invariant_of-self : goal.invariant_of-self

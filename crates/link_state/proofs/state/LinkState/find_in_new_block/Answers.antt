@@ -1,25 +1,25 @@
 use Rattle.std.proofs.Common.{◌≡◌, ℕ, ◌+◌, ◌%◌, ◌^◌, List, [], ◌∷◌, ◌++◌, refl, sym, ap, subst, ◌∙◌}
 use Rattle.std.specs.Prelude.{IsSome}
-use Rattle.lawful_journal.specs.Following.{MayFollow, machine_of}
-use Rattle.link_event.specs.declared.event.Event.{Event}
-use Rattle.link_event.specs.declared.event.Event.TheVariants.{Sym, Tls}
-use Rattle.link_event.specs.declared.event.Purpose.TheVariants as purposes
-use Rattle.link_event.specs.declared.event.Range.{Range}
-use Rattle.link_event.specs.declared.event.SymAnswer.TheVariants.{Found}
-use Rattle.link_history.specs.After.{after}
-use Rattle.link_history.specs.Legal.{Lawful}
-use Rattle.link_history.specs.Lookup.{MayAnswer, MayHaveBlock}
-use Rattle.link_history.specs.Step.{add_block, step}
-use Rattle.link_history.specs.Storage.{module_of}
-use Rattle.symbol_search.specs.Finding.{IsSymFault}
-use Rattle.symbol_search.specs.declared.finding.SymFault.{SymFault}
+use Rattle.history_journal.specs.Following.{MayFollow, machine_of}
+use Rattle.history_event.specs.declared.event.Event.{Event}
+use Rattle.history_event.specs.declared.event.Event.TheVariants.{Sym, Tls}
+use Rattle.history_event.specs.declared.event.Purpose.TheVariants as purposes
+use Rattle.history_event.specs.declared.event.Range.{Range}
+use Rattle.history_event.specs.declared.event.SymAnswer.TheVariants.{Found}
+use Rattle.history_state.specs.After.{after}
+use Rattle.history_state.specs.Legal.{Lawful}
+use Rattle.history_state.specs.Lookup.{MayAnswer, MayHaveBlock}
+use Rattle.history_state.specs.Step.{add_block, step}
+use Rattle.history_state.specs.Storage.{module_of}
+use Rattle.link_search.specs.Finding.{IsSymFault}
+use Rattle.link_search.specs.declared.finding.SymFault.{SymFault}
 use Rattle.link_state.specs.Inside.{lists_of}
 use Rattle.link_state.specs.Locating.{PlansBlock}
 use Rattle.link_state.specs.Table.{LinkTable}
-use Rattle.linker_lists.specs.Lemmas.Held.{follows, holds_after}
+use Rattle.link_holds.specs.Lemmas.Held.{follows, holds_after}
 use Rattle.link_state.proofs.Looked.{found_first, no_block_there, once_had, stored}
 use Rattle.link_state.proofs.Stored.{block_made, free_there, may_have, range_is}
-use Rattle.linker_lists.specs.Lemmas.Stored.{all_blocked, all_roomier_closings}
+use Rattle.link_holds.specs.Lemmas.Stored.{all_blocked, all_roomier_closings}
 use Rattle.link_state.proofs.state.LinkState.find_in_new_block.Goals as goal
 
 pub returns-in-Err-clause-refused : goal.returns-in-Err-clause-refused

@@ -1,10 +1,10 @@
 use Rattle.std.proofs.Common.{Some, None, ap, ◌∙◌}
 use Rattle.std.specs.Option.{option_map}
-use Rattle.link_history.specs.After.{after}
-use Rattle.link_history.specs.Memory.{image_of}
-use Rattle.link_service.specs.Functions.{destructors}
+use Rattle.history_state.specs.After.{after}
+use Rattle.history_state.specs.Memory.{image_of}
+use Rattle.history_calls.specs.Functions.{destructors}
 use Rattle.link_state.specs.Table.{LinkTable}
-use Rattle.linker_lists.specs.Lemmas.Parts.{finis_found}
+use Rattle.link_holds.specs.Lemmas.Parts.{finis_found}
 use Rattle.link_state.proofs.state.LinkState.finis.Goals as goal
 
 pub returns-in-Some : goal.returns-in-Some

@@ -1,22 +1,22 @@
 use Rattle.std.proofs.Common.{◌≡◌, List, [], ◌∷◌, ◌++◌, refl, sym, ap, subst, ◌∙◌}
-use Rattle.lawful_journal.specs.Following.{MayFollow, machine_of}
-use Rattle.link_event.specs.declared.event.Event.{Event}
-use Rattle.link_event.specs.declared.event.Event.TheVariants.{Tls}
-use Rattle.link_event.specs.declared.event.Purpose.TheVariants as purposes
-use Rattle.link_event.specs.declared.event.Range.{Range}
-use Rattle.link_history.specs.After.{after}
-use Rattle.link_history.specs.Legal.{Lawful}
-use Rattle.link_history.specs.Lookup.{MayHaveBlock}
-use Rattle.link_history.specs.Step.{add_block}
+use Rattle.history_journal.specs.Following.{MayFollow, machine_of}
+use Rattle.history_event.specs.declared.event.Event.{Event}
+use Rattle.history_event.specs.declared.event.Event.TheVariants.{Tls}
+use Rattle.history_event.specs.declared.event.Purpose.TheVariants as purposes
+use Rattle.history_event.specs.declared.event.Range.{Range}
+use Rattle.history_state.specs.After.{after}
+use Rattle.history_state.specs.Legal.{Lawful}
+use Rattle.history_state.specs.Lookup.{MayHaveBlock}
+use Rattle.history_state.specs.Step.{add_block}
 use Rattle.link_state.specs.Inside.{lists_of}
 use Rattle.link_state.specs.Locating.{IsNotLocated, PlansBlock}
 use Rattle.link_state.specs.Table.{LinkTable}
 use Rattle.link_state.specs.TlsFaults.{tls_fault}
 use Rattle.link_state.specs.declared.faults.TlsFault.{TlsFault}
-use Rattle.new_blocks.specs.declared.placing.BlockFault.{BlockFault}
-use Rattle.linker_lists.specs.Lemmas.Held.{follows, holds_after}
+use Rattle.link_open_images.specs.declared.new_blocks.placing.BlockFault.{BlockFault}
+use Rattle.link_holds.specs.Lemmas.Held.{follows, holds_after}
 use Rattle.link_state.proofs.Stored.{block_made, free_there, has_module, if_err_and, is_got, may_have, not_got, range_is}
-use Rattle.linker_lists.specs.Lemmas.Stored.{all_blocked, all_roomier_closings}
+use Rattle.link_holds.specs.Lemmas.Stored.{all_blocked, all_roomier_closings}
 use Rattle.link_state.proofs.state.LinkState.get_block.Goals as goal
 
 pub returns-in_err-block-clause-err : goal.returns-in_err-block-clause-err

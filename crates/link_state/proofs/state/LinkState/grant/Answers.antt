@@ -1,9 +1,9 @@
 use Rattle.std.proofs.Common.{sym, subst}
-use Rattle.link_event.specs.declared.hart_end.HartEnd.TheVariants as ends
-use Rattle.link_history.specs.After.{after}
-use Rattle.link_history.specs.Slots.{HasNoGrant}
-use Rattle.slot_choice.specs.Choosing.{IsFaultOf}
-use Rattle.slot_choice.specs.declared.choosing.SlotFault.TheVariants as slots
+use Rattle.history_event.specs.declared.hart_end.HartEnd.TheVariants as ends
+use Rattle.history_state.specs.After.{after}
+use Rattle.history_state.specs.Slots.{HasNoGrant}
+use Rattle.link_finds.specs.SlotChoosing.Choosing.{IsFaultOf}
+use Rattle.link_finds.specs.declared.slot_choosing.choosing.SlotFault.TheVariants as slots
 use Rattle.link_state.specs.Granting.{EndsUnchanged}
 use Rattle.link_state.specs.Table.{LinkTable}
 use Rattle.link_state.proofs.Granted.{gives_no_slot, gives_unloaded}

@@ -1,9 +1,9 @@
 use Rattle.std.proofs.Common.{◌≡◌, rules, sym, ◌∙◌}
-use Rattle.link_event.specs.declared.event.Event.TheVariants.{Unresolved}
-use Rattle.link_history.specs.After.{after}
+use Rattle.history_event.specs.declared.event.Event.TheVariants.{Unresolved}
+use Rattle.history_state.specs.After.{after}
 use Rattle.link_state.specs.Table.{appended}
 use Rattle.link_state.proofs.Granted.{may_not, missing, not_missing}
-use Rattle.linker_lists.specs.Lemmas.Held.{follows}
+use Rattle.link_holds.specs.Lemmas.Held.{follows}
 use Rattle.link_state.proofs.state.LinkState.grant_choice.Goals as goal
 
 pub note_unresolved-requires : goal.note_unresolved-requires

@@ -1,12 +1,12 @@
 use Rattle.std.proofs.Common.{◌≡◌, List, ap, subst, ◌∙◌}
 use Rattle.std.specs.Prelude.{IfNone}
 use Rattle.std.specs.List.{Contains}
-use Rattle.link_history.specs.After.{after}
-use Rattle.link_history.specs.Laws.{IsIn}
-use Rattle.link_history.specs.Read.{WasRead}
-use Rattle.lawful_journal.specs.Following.{machine_of}
+use Rattle.history_state.specs.After.{after}
+use Rattle.history_state.specs.Laws.{IsIn}
+use Rattle.history_state.specs.Read.{WasRead}
+use Rattle.history_journal.specs.Following.{machine_of}
 use Rattle.scope_rule.specs.declared.namespace.Namespace.{Namespace}
-use Rattle.object_holders.specs.Holders.{HasNone}
+use Rattle.link_spaces.specs.ObjectHolders.Holders.{HasNone}
 use Rattle.link_state.specs.Table.{LinkTable}
 use Rattle.link_state.proofs.state.LinkState.holder.Goals as goal
 

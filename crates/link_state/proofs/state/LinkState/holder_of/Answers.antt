@@ -2,12 +2,12 @@ use Rattle.std.proofs.Common.{◌≡◌, ℕ, List, ap, subst, ◌∙◌}
 use Rattle.std.specs.Prelude.{IfNone}
 use Rattle.std.specs.Option.{option_map}
 use Rattle.std.specs.List.{find}
-use Rattle.link_event.specs.declared.state.Granting.{Granting}
-use Rattle.link_history.specs.After.{after}
-use Rattle.link_history.specs.Allowed.{IsUngranted}
-use Rattle.unmap_steps.specs.Touched.{is_touching}
+use Rattle.history_event.specs.declared.state.Granting.{Granting}
+use Rattle.history_state.specs.After.{after}
+use Rattle.history_state.specs.Allowed.{IsUngranted}
+use Rattle.close_mark.specs.UnmapSteps.Touched.{is_touching}
 use Rattle.link_state.specs.Table.{LinkTable}
-use Rattle.linker_lists.specs.Lemmas.Unmapped.{free_if}
+use Rattle.link_holds.specs.Lemmas.Unmapped.{free_if}
 use Rattle.link_state.proofs.state.LinkState.holder_of.Goals as goal
 
 pub returns-clause-free : goal.returns-clause-free

@@ -1,17 +1,17 @@
 use Rattle.std.proofs.Common.{◌≡◌, ℕ, ◌+◌, ◌-◌, ◌<◌, ◌≤◌, false, [], ◌∷◌, ◌++◌, length, map, take, drop, sym, subst, arith}
-use Rattle.link_event.specs.declared.event.Event.TheVariants.{Init}
-use Rattle.link_history.specs.After.{after}
-use Rattle.link_history.specs.Held.{EdgesFollow}
-use Rattle.link_history.specs.Laws.{FinalisedOnce}
-use Rattle.link_history.specs.Objects.{has}
-use Rattle.link_history.specs.Owed.{owed}
-use Rattle.link_history.specs.State.{State}
-use Rattle.link_history.specs.Step.{initialise, ready_in}
-use Rattle.lawful_journal.specs.Following.{MayFollow, machine_of}
+use Rattle.history_event.specs.declared.event.Event.TheVariants.{Init}
+use Rattle.history_state.specs.After.{after}
+use Rattle.history_state.specs.Held.{EdgesFollow}
+use Rattle.history_state.specs.Laws.{FinalisedOnce}
+use Rattle.history_state.specs.Objects.{has}
+use Rattle.history_state.specs.Owed.{owed}
+use Rattle.history_state.specs.State.{State}
+use Rattle.history_state.specs.Step.{initialise, ready_in}
+use Rattle.history_journal.specs.Following.{MayFollow, machine_of}
 use Rattle.link_state.specs.Inside.{lists_of}
 use Rattle.link_state.specs.Table.{LinkTable}
-use Rattle.linker_lists.specs.Lemmas.Advance.{all_initialised, not_finished, some_left}
-use Rattle.linker_lists.specs.Lemmas.Held.{holds_after}
+use Rattle.link_holds.specs.Lemmas.Advance.{all_initialised, not_finished, some_left}
+use Rattle.link_holds.specs.Lemmas.Held.{holds_after}
 use Rattle.link_state.proofs.state.LinkState.initialised.Goals as goal
 
 pub push-requires : goal.push-requires

@@ -1,5 +1,5 @@
 use Rattle.std.proofs.Common.{◌∙◌}
-use Rattle.linker_lists.specs.Lemmas.Held.{holds_first}
+use Rattle.link_holds.specs.Lemmas.Held.{holds_first}
 use Rattle.link_state.proofs.state.LinkState.new.Goals as goal
 
 pub invariant_of-result : goal.invariant_of-result

@@ -1,10 +1,10 @@
 use Rattle.std.proofs.Common.{List, [], ◌∷◌, ◌++◌, sym, ap, subst, ◌∙◌}
-use Rattle.lawful_journal.specs.Following.{MayFollow}
-use Rattle.link_event.specs.declared.event.Event.{Event}
-use Rattle.link_event.specs.declared.event.Event.TheVariants.{Sym}
-use Rattle.link_event.specs.declared.event.SymAnswer.TheVariants.{Found}
+use Rattle.history_journal.specs.Following.{MayFollow}
+use Rattle.history_event.specs.declared.event.Event.{Event}
+use Rattle.history_event.specs.declared.event.Event.TheVariants.{Sym}
+use Rattle.history_event.specs.declared.event.SymAnswer.TheVariants.{Found}
 use Rattle.link_state.specs.Table.{LinkTable}
-use Rattle.linker_lists.specs.Lemmas.Held.{follows}
+use Rattle.link_holds.specs.Lemmas.Held.{follows}
 use Rattle.link_state.proofs.Looked.{noted}
 use Rattle.link_state.proofs.state.LinkState.note_found.Goals as goal
 

@@ -1,8 +1,8 @@
-use Rattle.image_reads.specs.Reads.{ArePrepared}
-use Rattle.link_event.specs.declared.event.Event.TheVariants.{Open}
-use Rattle.link_event.specs.declared.event.OpenAnswer.TheVariants.{Done}
-use Rattle.link_history.specs.After.{after}
-use Rattle.link_service.specs.Served.{AreInstalls}
+use Rattle.link_images.specs.ImageReads.Reads.{ArePrepared}
+use Rattle.history_event.specs.declared.event.Event.TheVariants.{Open}
+use Rattle.history_event.specs.declared.event.OpenAnswer.TheVariants.{Done}
+use Rattle.history_state.specs.After.{after}
+use Rattle.history_calls.specs.Served.{AreInstalls}
 use Rattle.link_state.proofs.Opened.{after_it, installs_brought, prepared_brought}
 use Rattle.link_state.proofs.state.LinkState.open_new.Goals as goal
 

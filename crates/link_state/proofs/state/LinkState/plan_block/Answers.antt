@@ -1,12 +1,12 @@
 use Rattle.std.proofs.Common.{◌≡◌, ap, subst, ◌∙◌}
 use Rattle.std.specs.Prelude.{IfErr, IfOk}
 use Rattle.ld_base.specs.declared.linking.Loaded.{Loaded}
-use Rattle.link_history.specs.After.{after}
-use Rattle.link_history.specs.Areas.{free_pages}
-use Rattle.link_history.specs.Accepted.{IsAccepted}
-use Rattle.link_history.specs.State.{State}
-use Rattle.lawful_journal.specs.Following.{machine_of}
-use Rattle.new_blocks.specs.Placing.{IsBlockFault, IsNewBlock}
+use Rattle.history_state.specs.After.{after}
+use Rattle.history_state.specs.Areas.{free_pages}
+use Rattle.history_state.specs.Accepted.{IsAccepted}
+use Rattle.history_state.specs.State.{State}
+use Rattle.history_journal.specs.Following.{machine_of}
+use Rattle.link_open_images.specs.NewBlocks.Placing.{IsBlockFault, IsNewBlock}
 use Rattle.link_state.specs.Locating.{PlansBlock, PlansNone}
 use Rattle.link_state.specs.Table.{LinkTable}
 use Rattle.link_state.proofs.Stored.{accepted_at, if_err, if_ok, object_is, plan_is, plan_none}

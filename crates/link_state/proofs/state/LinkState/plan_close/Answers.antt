@@ -1,20 +1,20 @@
 use Rattle.std.proofs.Common.{◌≡◌, Some, sym, ap, subst, ◌∙◌}
 use Rattle.std.specs.Prelude.{map}
 use Rattle.std.specs.List.{find}
-use Rattle.closing_graph.specs.Graphs.{has_closable}
-use Rattle.closing_laws.specs.Given.{IsGraphOf}
-use Rattle.lawful_journal.specs.Following.{machine_of}
-use Rattle.link_history.specs.After.{after}
-use Rattle.link_history.specs.Allowed.{IsOpened}
-use Rattle.link_history.specs.Laws.{SerialsAreInOrder}
-use Rattle.link_history.specs.Links.{IsUnneeded}
-use Rattle.link_history.specs.Objects.{serial_of}
-use Rattle.link_history.specs.Step.{lower}
+use Rattle.close_mark.specs.ClosingGraph.Graphs.{has_closable}
+use Rattle.close_mark.specs.ClosingLaws.Given.{IsGraphOf}
+use Rattle.history_journal.specs.Following.{machine_of}
+use Rattle.history_state.specs.After.{after}
+use Rattle.history_state.specs.Allowed.{IsOpened}
+use Rattle.history_state.specs.Laws.{SerialsAreInOrder}
+use Rattle.history_state.specs.Links.{IsUnneeded}
+use Rattle.history_state.specs.Objects.{serial_of}
+use Rattle.history_state.specs.Step.{lower}
 use Rattle.link_state.specs.Closing.{IsPlanOf}
 use Rattle.link_state.specs.Inside.{lists_of}
 use Rattle.link_state.specs.Table.{LinkTable}
 use Rattle.link_state.proofs.Closed.{plan_of}
-use Rattle.linker_lists.specs.Lemmas.Closed.{graph_of}
+use Rattle.link_holds.specs.Lemmas.Closed.{graph_of}
 use Rattle.link_state.proofs.state.LinkState.plan_close.Goals as goal
 
 pub returns-clause-ok : goal.returns-clause-ok

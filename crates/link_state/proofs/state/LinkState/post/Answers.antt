@@ -1,22 +1,22 @@
 use Rattle.std.proofs.Common.{◌≡◌, ℕ, ◌+◌, List, [], ◌∷◌, ◌++◌, length, refl, sym, ap, subst, ◌∙◌}
-use Rattle.lawful_journal.specs.Following.{MayFollow, machine_of}
-use Rattle.link_event.specs.declared.event.Event.{Event}
-use Rattle.link_event.specs.declared.event.Event.TheVariants.{Grant}
-use Rattle.link_event.specs.declared.handed.Granted.{Granted}
-use Rattle.link_event.specs.declared.state.Granting.{Granting}
-use Rattle.link_event.specs.declared.state.Standing.TheVariants.{Open}
-use Rattle.link_history.specs.After.{after}
-use Rattle.link_history.specs.Allowed.{MayGrant}
-use Rattle.link_history.specs.Held.{EdgesFollow}
-use Rattle.link_history.specs.Slots.{HasNoGrant}
-use Rattle.link_history.specs.Step.{step}
-use Rattle.slot_choice.specs.Choosing.{ChoosesSlot}
+use Rattle.history_journal.specs.Following.{MayFollow, machine_of}
+use Rattle.history_event.specs.declared.event.Event.{Event}
+use Rattle.history_event.specs.declared.event.Event.TheVariants.{Grant}
+use Rattle.history_event.specs.declared.handed.Granted.{Granted}
+use Rattle.history_event.specs.declared.state.Granting.{Granting}
+use Rattle.history_event.specs.declared.state.Standing.TheVariants.{Open}
+use Rattle.history_state.specs.After.{after}
+use Rattle.history_state.specs.Allowed.{MayGrant}
+use Rattle.history_state.specs.Held.{EdgesFollow}
+use Rattle.history_state.specs.Slots.{HasNoGrant}
+use Rattle.history_state.specs.Step.{step}
+use Rattle.link_finds.specs.SlotChoosing.Choosing.{ChoosesSlot}
 use Rattle.link_state.specs.Granting.{IsGranted}
 use Rattle.link_state.specs.Inside.{lists_of}
 use Rattle.link_state.specs.Table.{LinkTable}
 use Rattle.link_state.proofs.Granted.{appended_is, gives_grant, may_grant}
-use Rattle.linker_lists.specs.Lemmas.Granted.{all_granted, all_roomier}
-use Rattle.linker_lists.specs.Lemmas.Held.{follows, holds_after}
+use Rattle.link_holds.specs.Lemmas.Granted.{all_granted, all_roomier}
+use Rattle.link_holds.specs.Lemmas.Held.{follows, holds_after}
 use Rattle.link_state.proofs.state.LinkState.post.Goals as goal
 
 pub push-requires-clause-may : goal.push-requires-clause-may

@@ -1,16 +1,16 @@
 use Rattle.std.proofs.Common.{sym, ap, subst, ◌∙◌}
 use Rattle.std.specs.List.{find}
-use Rattle.link_history.specs.After.{after}
-use Rattle.link_history.specs.Held.{EdgesFollow}
-use Rattle.link_history.specs.Laws.{GrantsAreTidy}
-use Rattle.link_history.specs.Step.{step}
-use Rattle.lawful_journal.specs.Following.{MayFollow, machine_of}
-use Rattle.link_pending.specs.Pending.{has_number}
+use Rattle.history_state.specs.After.{after}
+use Rattle.history_state.specs.Held.{EdgesFollow}
+use Rattle.history_state.specs.Laws.{GrantsAreTidy}
+use Rattle.history_state.specs.Step.{step}
+use Rattle.history_journal.specs.Following.{MayFollow, machine_of}
+use Rattle.link_lists.specs.LinkPending.Pending.{has_number}
 use Rattle.link_state.specs.Inside.{lists_of}
 use Rattle.link_state.specs.Table.{LinkTable}
-use Rattle.linker_lists.specs.Events.{settled}
-use Rattle.linker_lists.specs.Lemmas.Advance.{all_settled, room_enough}
-use Rattle.linker_lists.specs.Lemmas.Held.{holds_after}
+use Rattle.link_holds.specs.Events.{settled}
+use Rattle.link_holds.specs.Lemmas.Advance.{all_settled, room_enough}
+use Rattle.link_holds.specs.Lemmas.Held.{holds_after}
 use Rattle.link_state.proofs.state.LinkState.settle.Goals as goal
 
 pub hold-requires : goal.hold-requires

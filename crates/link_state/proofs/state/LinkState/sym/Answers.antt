@@ -1,12 +1,12 @@
 use Rattle.std.proofs.Common.{◌≡◌, sym, ap, subst, ◌∙◌}
 use Rattle.std.specs.Prelude.{IsTrue}
-use Rattle.link_event.specs.declared.event.SymAsk.{SymAsk}
-use Rattle.link_history.specs.After.{after}
-use Rattle.link_history.specs.Objects.{has_namespace}
-use Rattle.link_history.specs.State.{State}
-use Rattle.symbol_search.specs.Asking.{ask_of}
-use Rattle.symbol_search.specs.Finding.{IsSymFault}
-use Rattle.symbol_search.specs.declared.finding.SymFault.{SymFault}
+use Rattle.history_event.specs.declared.event.SymAsk.{SymAsk}
+use Rattle.history_state.specs.After.{after}
+use Rattle.history_state.specs.Objects.{has_namespace}
+use Rattle.history_state.specs.State.{State}
+use Rattle.link_search.specs.Asking.{ask_of}
+use Rattle.link_search.specs.Finding.{IsSymFault}
+use Rattle.link_search.specs.declared.finding.SymFault.{SymFault}
 use Rattle.link_state.specs.Table.{LinkTable}
 use Rattle.link_state.proofs.Stored.{if_err_and}
 use Rattle.link_state.proofs.state.LinkState.sym.Goals as goal

@@ -1,30 +1,30 @@
 use Rattle.std.proofs.Common.{◌≡◌, ℕ, ◌+◌, ◌^◌, ◌<◌, ◌≤◌, Bool, List, [], ◌∷◌, ◌++◌, length, map, sym, ap, subst, ◌∙◌, arith}
 use Rattle.std.specs.List.{Contains, flat_map}
-use Rattle.image_parts.specs.Parts.{part_of}
-use Rattle.image_parts.specs.declared.parts.Part.{Part}
-use Rattle.lawful_journal.specs.Following.{MayFollow, machine_of}
+use Rattle.link_images.specs.Parts.{part_of}
+use Rattle.link_images.specs.declared.parts.Part.{Part}
+use Rattle.history_journal.specs.Following.{MayFollow, machine_of}
 use Rattle.ld_base.specs.declared.linking.Loaded.{Loaded}
-use Rattle.link_event.specs.declared.event.Event.{Event}
-use Rattle.link_event.specs.declared.event.Event.TheVariants.{Open}
-use Rattle.link_event.specs.declared.event.OpenAnswer.TheVariants.{Done}
-use Rattle.link_event.specs.declared.event.Range.{Range}
-use Rattle.link_graph.specs.declared.graph.Edge.{Edge}
-use Rattle.link_history.specs.After.{after}
-use Rattle.link_history.specs.Flags.{is_global}
-use Rattle.link_history.specs.Held.{EdgesFollow, gained}
-use Rattle.link_history.specs.State.{State}
-use Rattle.link_history.specs.Step.{open_done, step, with_namespace}
-use Rattle.link_service.specs.Served.{slots_of}
-use Rattle.opening_laws.specs.Laws.{image_made}
-use Rattle.reserved_pages.specs.Laid.{AreLaid}
+use Rattle.history_event.specs.declared.event.Event.{Event}
+use Rattle.history_event.specs.declared.event.Event.TheVariants.{Open}
+use Rattle.history_event.specs.declared.event.OpenAnswer.TheVariants.{Done}
+use Rattle.history_event.specs.declared.event.Range.{Range}
+use Rattle.history_graph.specs.declared.graph.Edge.{Edge}
+use Rattle.history_state.specs.After.{after}
+use Rattle.history_state.specs.Flags.{is_global}
+use Rattle.history_state.specs.Held.{EdgesFollow, gained}
+use Rattle.history_state.specs.State.{State}
+use Rattle.history_state.specs.Step.{open_done, step, with_namespace}
+use Rattle.history_calls.specs.Served.{slots_of}
+use Rattle.link_open_laws.specs.Laws.{image_made}
+use Rattle.link_spaces.specs.ReservedPagesPart.Laid.{AreLaid}
 use Rattle.scope_rule.specs.Opening.{opened}
 use Rattle.scope_rule.specs.declared.namespace.Namespace.{Namespace}
-use Rattle.linker_lists.specs.Holding.{HoldsAll, Lists}
+use Rattle.link_holds.specs.Holding.{HoldsAll, Lists}
 use Rattle.link_state.specs.Inside.{lists_of}
 use Rattle.link_state.specs.Table.{LinkTable}
-use Rattle.linker_lists.specs.Lemmas.Held.{holds_after}
-use Rattle.opening_brings.specs.Brought.{OfLists}
-use Rattle.linker_lists.specs.Lemmas.Opened.{all_opened, all_with_room, notes_over}
+use Rattle.link_holds.specs.Lemmas.Held.{holds_after}
+use Rattle.link_open_brings.specs.Brought.{OfLists}
+use Rattle.link_holds.specs.Lemmas.Opened.{all_opened, all_with_room, notes_over}
 use Rattle.link_state.proofs.state.LinkState.take_in.Goals as goal
 
 pub invariant_of-self : goal.invariant_of-self

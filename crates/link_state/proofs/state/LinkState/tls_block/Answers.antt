@@ -1,6 +1,6 @@
 use Rattle.std.proofs.Common.{List, refl, sym, ap, ◌∙◌}
-use Rattle.link_event.specs.declared.state.Module.{Module}
-use Rattle.link_history.specs.After.{after}
+use Rattle.history_event.specs.declared.state.Module.{Module}
+use Rattle.history_state.specs.After.{after}
 use Rattle.tls_blocks.specs.Numbers.{module_at}
 use Rattle.link_state.specs.Locating.{IsModuleOf}
 use Rattle.link_state.specs.Table.{LinkTable}

@@ -1,10 +1,10 @@
 use Rattle.std.proofs.Common.{◌≡◌, List, sym, ap, ◌∙◌}
-use Rattle.link_event.specs.declared.event.Event.{Event}
-use Rattle.link_event.specs.declared.event.Event.TheVariants.{Told}
-use Rattle.link_harts.specs.Kept.{fault_of}
-use Rattle.link_history.specs.After.{after}
-use Rattle.link_history.specs.Allowed.{kept_for}
-use Rattle.linker_lists.specs.Lemmas.Held.{follows}
+use Rattle.history_event.specs.declared.event.Event.{Event}
+use Rattle.history_event.specs.declared.event.Event.TheVariants.{Told}
+use Rattle.history_journal.specs.LinkHarts.Kept.{fault_of}
+use Rattle.history_state.specs.After.{after}
+use Rattle.history_state.specs.Allowed.{kept_for}
+use Rattle.link_holds.specs.Lemmas.Held.{follows}
 use Rattle.link_state.proofs.state.LinkState.told.Goals as goal
 
 pub push-requires-clause-may : goal.push-requires-clause-may

@@ -1,25 +1,25 @@
 use Rattle.std.proofs.Common.{◌≡◌, ℕ, ◌+◌, ◌≤◌, not, List, [], ◌∷◌, ◌++◌, length, map, Some, sym, ap, subst, ◌∙◌, arith}
 use Rattle.std.specs.List.{count_by, filter, find, flat_map}
-use Rattle.lawful_journal.specs.Following.{MayFollow, machine_of}
+use Rattle.history_journal.specs.Following.{MayFollow, machine_of}
 use Rattle.ld_base.specs.declared.linking.Loaded.{Loaded}
-use Rattle.link_event.specs.declared.event.Event.TheVariants.{Unmapped}
-use Rattle.link_event.specs.declared.event.Range.{Range}
-use Rattle.link_history.specs.After.{after}
-use Rattle.link_history.specs.Allowed.{MayUnmap}
-use Rattle.link_history.specs.Held.{EdgesFollow}
-use Rattle.link_history.specs.Objects.{has}
-use Rattle.link_history.specs.Step.{goes_with, gone_in, is_left, unmap}
-use Rattle.link_service.specs.Waiting.{HasFinished}
-use Rattle.pending_closings.specs.Pending.{is_of}
+use Rattle.history_event.specs.declared.event.Event.TheVariants.{Unmapped}
+use Rattle.history_event.specs.declared.event.Range.{Range}
+use Rattle.history_state.specs.After.{after}
+use Rattle.history_state.specs.Allowed.{MayUnmap}
+use Rattle.history_state.specs.Held.{EdgesFollow}
+use Rattle.history_state.specs.Objects.{has}
+use Rattle.history_state.specs.Step.{goes_with, gone_in, is_left, unmap}
+use Rattle.history_calls.specs.Waiting.{HasFinished}
+use Rattle.link_spaces.specs.PendingClosingsPart.Pending.{is_of}
 use Rattle.scope_rule.specs.declared.namespace.Namespace.{Namespace}
-use Rattle.unmap_steps.specs.Touched.{is_of_set}
-use Rattle.unmapped_objects.specs.Taken.{goes}
+use Rattle.close_mark.specs.UnmapSteps.Touched.{is_of_set}
+use Rattle.close_mark.specs.UnmappedObjects.Taken.{goes}
 use Rattle.link_state.specs.Inside.{lists_of}
 use Rattle.link_state.specs.Table.{LinkTable}
 use Rattle.link_state.specs.Unmapping.{IsRemoved}
 use Rattle.link_state.proofs.Granted.{appended_is}
-use Rattle.linker_lists.specs.Lemmas.Held.{follows, holds_after}
-use Rattle.linker_lists.specs.Lemmas.Unmapped.{AreWithout, IsTaken, all_unmapped, may_unmap, objects_fit, ranges_fit, taken, waiting}
+use Rattle.link_holds.specs.Lemmas.Held.{follows, holds_after}
+use Rattle.link_holds.specs.Lemmas.Unmapped.{AreWithout, IsTaken, all_unmapped, may_unmap, objects_fit, ranges_fit, taken, waiting}
 use Rattle.link_state.proofs.state.LinkState.unmap.Goals as goal
 
 pub unreachable-requires : goal.unreachable-requires

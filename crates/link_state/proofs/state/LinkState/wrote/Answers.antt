@@ -1,7 +1,7 @@
 use Rattle.std.proofs.Common.{sym, subst}
-use Rattle.link_event.specs.declared.event.Event.TheVariants.{Wrote}
-use Rattle.link_history.specs.Allowed.{MayWrite}
-use Rattle.linker_lists.specs.Lemmas.Held.{follows}
+use Rattle.history_event.specs.declared.event.Event.TheVariants.{Wrote}
+use Rattle.history_state.specs.Allowed.{MayWrite}
+use Rattle.link_holds.specs.Lemmas.Held.{follows}
 use Rattle.link_state.proofs.state.LinkState.wrote.Goals as goal
 
 pub push-requires-clause-may : goal.push-requires-clause-may

@@ -2,18 +2,18 @@ use Rattle.std.proofs.Common.{◌≡◌, List, length, sym, ap, subst, arith}
 use Rattle.std.proofs.lemmas.List.{with_items_is}
 use Rattle.std.specs.Vec.{with_items}
 use Rattle.std.specs.Bool.{OnFalse, OnTrue}
-use Rattle.link_history.specs.Setting.{Setting}
-use Rattle.lawful_journal.specs.Following.{machine_of}
-use Rattle.call_laws.specs.Coming.{IsOn}
+use Rattle.history_state.specs.Setting.{Setting}
+use Rattle.history_journal.specs.Following.{machine_of}
+use Rattle.history_calls.specs.CallLaws.Coming.{IsOn}
 use Rattle.hart_moves.specs.Starting.{starting_registers}
 use Rattle.hart_seat.specs.Table.{HartTable}
-use Rattle.guest_worlds.specs.Worlds.{world_of}
+use Rattle.world_guests.specs.GuestWorlds.Worlds.{world_of}
 use Rattle.world_turns.specs.World.{World}
 use Rattle.plain_world.specs.Finals.{FinalsBegin, FinalsDont}
 use Rattle.plain_world.specs.Inside.{world_in}
 use Rattle.plain_world.specs.Playing.{BeginsToFinalise, FinalisesOnce}
 use Rattle.plain_world.specs.Table.{WorldTable}
-use Rattle.guest_turns.specs.Counting.{RefusesNone}
+use Rattle.world_guests.specs.Counting.{RefusesNone}
 use Rattle.plain_world.proofs.Parts.{on_false, on_true}
 use Rattle.plain_world.proofs.Telling.{turn_seen}
 use Rattle.plain_world.proofs.world.World.begin_finals.Goals as goal

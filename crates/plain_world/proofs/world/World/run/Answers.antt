@@ -1,14 +1,14 @@
 use Rattle.std.proofs.Common.{◌≡◌, ℕ, Bool, ◌<◌, ◌≤◌, Contains, List, sym, ap, subst, ◌∙◌, arith}
-use Rattle.link_event.specs.declared.handed.HartEntry.{HartEntry}
+use Rattle.history_event.specs.declared.handed.HartEntry.{HartEntry}
 use Rattle.hart_moves.specs.Starting.{starting_registers}
-use Rattle.schedules.specs.declared.schedule.TurnItem.{TurnItem}
+use Rattle.world_turns.specs.declared.schedules.schedule.TurnItem.{TurnItem}
 use Rattle.world_turns.specs.Counts.{Counts}
 use Rattle.world_turns.specs.Run.{Finishes, TakesItems, have_ended}
 use Rattle.world_turns.specs.World.{World}
 use Rattle.plain_world.specs.Playing.{FinalisesOnce}
 use Rattle.plain_world.specs.Table.{WorldTable, moved}
-use Rattle.guest_turns.specs.Counting.{IsCounted, RefusesNone, counts_at}
-use Rattle.guest_turns.specs.Lemmas.Counting.{counted_more, same_counts}
+use Rattle.world_guests.specs.Counting.{IsCounted, RefusesNone, counts_at}
+use Rattle.world_guests.specs.Lemmas.Counting.{counted_more, same_counts}
 use Rattle.plain_world.proofs.Counting.{goes_up, more_counted, no_count, same_folders, settled_refuses}
 use Rattle.plain_world.proofs.Going.{in_each, moved_more, settled_over}
 use Rattle.plain_world.proofs.world.World.run.Goals as goal

@@ -2,10 +2,10 @@ use Rattle.std.proofs.Common.{◌≡◌, ℕ, ◌≤◌, List, length, sym, ap, 
 use Rattle.std.proofs.lemmas.List.{with_items_is}
 use Rattle.std.specs.Vec.{vec_capacity, with_items}
 use Rattle.link_state.specs.Table.{LinkTable}
-use Rattle.turn_answers.specs.Following.{MayFollowAll}
+use Rattle.world_memory.specs.TurnAnswers.Following.{MayFollowAll}
 use Rattle.hart_seat.specs.Table.{HartTable}
-use Rattle.answer_turns.specs.Settling.{harts_in}
-use Rattle.guest_worlds.specs.Worlds.{MayBeAt, world_of}
+use Rattle.world_returns.specs.Settling.{harts_in}
+use Rattle.world_guests.specs.GuestWorlds.Worlds.{MayBeAt, world_of}
 use Rattle.world_turns.specs.Run.{settled}
 use Rattle.world_turns.specs.World.{settling}
 use Rattle.plain_world.specs.Inside.{world_in}

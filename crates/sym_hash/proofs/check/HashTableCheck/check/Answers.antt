@@ -1,4 +1,4 @@
-use Rattle.acceptance.specs.Lemmas.Answers.{answers}
+use Rattle.elf_head.specs.AcceptancePart.Lemmas.Answers.{answers}
 use Rattle.sym_hash.proofs.check.HashTableCheck.check.Goals as goal
 
 pub returns-clause-answers : goal.returns-clause-answers

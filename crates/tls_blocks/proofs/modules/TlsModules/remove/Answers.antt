@@ -1,6 +1,6 @@
 use Rattle.std.proofs.Common.{◌≡◌, not, eqb, rules, ap, sym, subst, ◌∙◌}
 use Rattle.std.proofs.lemmas.Fn.{filter_same}
-use Rattle.link_event.specs.declared.state.Module.{Module}
+use Rattle.history_event.specs.declared.state.Module.{Module}
 use Rattle.tls_blocks.specs.Numbers.{AreNumbered, without_module}
 use Rattle.tls_blocks.proofs.Gaps.{numbered_filter}
 use Rattle.tls_blocks.proofs.modules.TlsModules.remove.Goals as goal

@@ -1,6 +1,6 @@
 use Rattle.std.proofs.Common.{sym, subst}
-use Rattle.guest_rule.specs.declared.kind.HartKind.TheVariants as kinds
-use Rattle.guest_rule.specs.HartSteps.{HartReady}
+use Rattle.word_rule.specs.declared.kind.HartKind.TheVariants as kinds
+use Rattle.word_rule.specs.HartSteps.{HartReady}
 use Rattle.word_memory.proofs.Seated.{grant_slot, stays_seated}
 use Rattle.word_memory.proofs.seat.HartSeat.exchange.Goals as goal
 

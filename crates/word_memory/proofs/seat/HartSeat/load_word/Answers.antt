@@ -1,5 +1,5 @@
 use Rattle.std.proofs.Common.{sym, subst}
-use Rattle.guest_rule.specs.HartSteps.{HartReady}
+use Rattle.word_rule.specs.HartSteps.{HartReady}
 use Rattle.word_memory.proofs.Seated.{stays_seated}
 use Rattle.word_memory.proofs.seat.HartSeat.load_word.Goals as goal
 

@@ -1,5 +1,5 @@
 use Rattle.std.proofs.Common.{sym, subst}
-use Rattle.guest_rule.specs.KeeperSteps.{KeeperReady}
+use Rattle.word_rule.specs.KeeperSteps.{KeeperReady}
 use Rattle.word_steps.proofs.Desks.{desk_long, desk_ready, desk_still}
 use Rattle.word_steps.proofs.desk.Desk.add_word.Goals as goal
 

@@ -1,5 +1,5 @@
 use Rattle.std.proofs.Common.{sym, subst}
-use Rattle.guest_rule.specs.KeeperSteps.{KeeperReady}
+use Rattle.word_rule.specs.KeeperSteps.{KeeperReady}
 use Rattle.word_steps.proofs.Desks.{desk_ready}
 use Rattle.word_steps.proofs.desk.Desk.exchange_word.Goals as goal
 

@@ -1,5 +1,5 @@
 use Rattle.std.proofs.Common.{sym, subst, ◌<◌}
-use Rattle.guest_rule.specs.declared.view.KeeperView.{KeeperView}
+use Rattle.word_rule.specs.declared.view.KeeperView.{KeeperView}
 use Rattle.word_steps.proofs.Desks.{desk_room}
 use Rattle.word_steps.proofs.desk.Desk.split_hart.Goals as goal
 

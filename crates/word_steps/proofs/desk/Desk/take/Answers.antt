@@ -1,7 +1,7 @@
 use Rattle.std.proofs.Common.{sym, subst}
-use Rattle.guest_rule.specs.declared.view.KeeperView.{KeeperView}
-use Rattle.guest_rule.specs.declared.view.View.TheVariants.{Keeper}
-use Rattle.guest_rule.specs.Joining.{MayTake}
+use Rattle.word_rule.specs.declared.view.KeeperView.{KeeperView}
+use Rattle.word_rule.specs.declared.view.View.TheVariants.{Keeper}
+use Rattle.word_rule.specs.Joining.{MayTake}
 use Rattle.word_steps.proofs.Desks.{desk_may}
 use Rattle.word_steps.proofs.desk.Desk.take.Goals as goal
 

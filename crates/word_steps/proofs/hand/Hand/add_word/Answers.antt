@@ -1,5 +1,5 @@
 use Rattle.std.proofs.Common.{sym, subst}
-use Rattle.guest_rule.specs.HartSteps.{HartReady}
+use Rattle.word_rule.specs.HartSteps.{HartReady}
 use Rattle.word_steps.proofs.Hands.{ready_as}
 use Rattle.word_steps.proofs.hand.Hand.add_word.Goals as goal
 

@@ -1,4 +1,4 @@
-use Rattle.guest_rule.specs.declared.kind.Kind.TheVariants.{Hart}
+use Rattle.word_rule.specs.declared.kind.Kind.TheVariants.{Hart}
 use Rattle.word_steps.proofs.hand.Hand.load_word.Given as goal
 
 abbrev pub ghosts-load_as : goal.ghosts-load_as

@@ -1,7 +1,7 @@
 use Rattle.std.proofs.Common.{sym, subst}
-use Rattle.guest_rule.specs.declared.view.HartView.{HartView}
-use Rattle.guest_rule.specs.declared.view.View.TheVariants.{Hart}
-use Rattle.guest_rule.specs.Joining.{MayTake}
+use Rattle.word_rule.specs.declared.view.HartView.{HartView}
+use Rattle.word_rule.specs.declared.view.View.TheVariants.{Hart}
+use Rattle.word_rule.specs.Joining.{MayTake}
 use Rattle.word_steps.proofs.Hands.{hand_may}
 use Rattle.word_steps.proofs.hand.Hand.take.Goals as goal
 

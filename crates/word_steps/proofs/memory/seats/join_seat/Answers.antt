@@ -1,5 +1,5 @@
 use Rattle.std.proofs.Common.{rules}
-use Rattle.guest_rule.specs.Lemmas.Joining.{join_keeps}
+use Rattle.word_rule.specs.Lemmas.Joining.{join_keeps}
 use Rattle.word_steps.proofs.memory.seats.join_seat.Goals as goal
 
 pub join_seat-requires : goal.join_seat-requires

@@ -1,5 +1,5 @@
 use Rattle.std.proofs.Common.{rules}
-use Rattle.guest_rule.specs.Lemmas.Joining.{made_keeps}
+use Rattle.word_rule.specs.Lemmas.Joining.{made_keeps}
 use Rattle.word_steps.proofs.memory.seats.split_hart.Goals as goal
 
 pub split_seat-requires : goal.split_seat-requires

@@ -1,5 +1,5 @@
 use Rattle.std.proofs.Common.{rules}
-use Rattle.guest_rule.specs.Lemmas.Table.{may_add}
+use Rattle.word_rule.specs.Lemmas.Table.{may_add}
 use Rattle.word_steps.proofs.memory.steps.add_as.Goals as goal
 
 pub fetch_add-requires : goal.fetch_add-requires

@@ -1,5 +1,5 @@
 use Rattle.std.proofs.Common.{rules}
-use Rattle.guest_rule.specs.Lemmas.Table.{may_exchange}
+use Rattle.word_rule.specs.Lemmas.Table.{may_exchange}
 use Rattle.word_steps.proofs.memory.steps.exchange_as.Goals as goal
 
 pub compare_exchange-requires : goal.compare_exchange-requires

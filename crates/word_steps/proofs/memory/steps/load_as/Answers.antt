@@ -1,5 +1,5 @@
 use Rattle.std.proofs.Common.{rules}
-use Rattle.guest_rule.specs.Lemmas.Table.{may_load}
+use Rattle.word_rule.specs.Lemmas.Table.{may_load}
 use Rattle.word_steps.proofs.memory.steps.load_as.Goals as goal
 
 pub load-requires : goal.load-requires

@@ -1,5 +1,5 @@
 use Rattle.std.proofs.Common.{rules}
-use Rattle.guest_rule.specs.Lemmas.Table.{may_store}
+use Rattle.word_rule.specs.Lemmas.Table.{may_store}
 use Rattle.word_steps.proofs.memory.steps.store_as.Goals as goal
 
 pub store-requires : goal.store-requires

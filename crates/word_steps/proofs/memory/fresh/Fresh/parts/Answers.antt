@@ -1,8 +1,8 @@
 use Rattle.std.proofs.Common.{sym, subst}
 use Rattle.atomic_table.specs.Table.{Me}
-use Rattle.guest_rule.specs.declared.view.View.{View}
-use Rattle.guest_rule.specs.Start.{IsFirst}
-use Rattle.guest_rule.specs.Views.{IsLong}
+use Rattle.word_rule.specs.declared.view.View.{View}
+use Rattle.word_rule.specs.Start.{IsFirst}
+use Rattle.word_rule.specs.Views.{IsLong}
 use Rattle.word_steps.specs.Views.{IsResting, keeper_of}
 use Rattle.word_steps.proofs.Firsts.{first_long, first_of, first_rests}
 use Rattle.word_steps.proofs.memory.fresh.Fresh.parts.Goals as goal

@@ -1,10 +1,10 @@
 use Rattle.std.proofs.Common.{List, ℕ, [], ◌∷◌, length, sym, ap, subst, ◌∙◌}
 use Rattle.std.proofs.lemmas.List.{length-replicate}
-use Rattle.guest_rule.specs.declared.view.View.TheVariants.{Keeper}
-use Rattle.guest_rule.specs.Layout.{table_words}
-use Rattle.guest_rule.specs.Rule.{IsGuest}
-use Rattle.guest_rule.specs.Start.{first_keeper}
-use Rattle.guest_rule.specs.Lemmas.Begins.{begins}
+use Rattle.word_rule.specs.declared.view.View.TheVariants.{Keeper}
+use Rattle.word_rule.specs.Layout.{table_words}
+use Rattle.word_rule.specs.Rule.{IsGuest}
+use Rattle.word_rule.specs.Start.{first_keeper}
+use Rattle.word_rule.specs.Lemmas.Begins.{begins}
 use Rattle.word_steps.proofs.memory.fresh.Memory+Brand.new.Goals as goal
 
 pub of_words-requires : goal.of_words-requires

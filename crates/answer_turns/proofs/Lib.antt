@@ -1,5 +1,0 @@
-pub mod Passing
-pub mod Rows
-pub mod Running
-pub mod Settled
-pub mod Stacks

@@ -1,5 +1,0 @@
-pub mod Answering
-pub mod Completing
-pub mod Noting
-pub mod Settling
-pub mod Steps

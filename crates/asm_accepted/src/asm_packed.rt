@@ -1,0 +1,6 @@
+//! The packed places of a source's object: laws; a crate without code.
+//!
+//! - [`packed_places_ascend`]: they are even and ascend.
+mod law;
+
+pub use law::packed_places_ascend;

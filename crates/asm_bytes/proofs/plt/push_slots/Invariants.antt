@@ -1,9 +1,0 @@
-use Rattle.std.proofs.Common.{◌≡◌, ◌++◌}
-use Rattle.std.specs.Prelude.{flat_map}
-use Rattle.std.specs.List.{range_with_len}
-use Rattle.asm_bytes.specs.Words.{slot_code}
-use Rattle.asm_bytes.proofs.plt.push_slots.Given as goal
-
--- the slots so far are appended
-abbrev pub invariant-loop-slot : goal.invariant-loop-slot
-invariant-loop-slot l = l.out.items ≡ l.initial.out.items ++ flat_map (slot_code l.plt l.got_plt) (range_with_len 0 l.slot)

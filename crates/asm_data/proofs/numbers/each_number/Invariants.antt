@@ -1,6 +1,0 @@
-use Rattle.asm_bytes.specs.Numbers.{AreNumbersTo}
-use Rattle.asm_data.proofs.numbers.each_number.Given as goal
-
--- the numbers of the lines so far
-abbrev pub invariant-loop-number : goal.invariant-loop-number
-invariant-loop-number l = AreNumbersTo l.line-items l.starts l.number l.numbers

@@ -1,6 +1,0 @@
--- A source has few lines.
-use Rattle.asm_hashed.proofs.Lines.{hashes_fit}
-use Rattle.asm_hashed.proofs.law.hash_tables_fit.Goals as goal
-
-pub returns : goal.returns
-returns c = λ source lines says. hashes_fit lines (c.sources_are_short.ensures source lines says).0.count

@@ -1,8 +1,0 @@
-//! The packed places of a source's object: laws; a crate without code.
-//!
-//! - [`packed_places_ascend`]: they are even and ascend.
-#![tactic(auto)]
-
-mod law;
-
-pub use law::packed_places_ascend;

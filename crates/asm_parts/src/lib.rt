@@ -1,9 +1,0 @@
-//! The parts of the texts behind an assembler source's words.
-//!
-//! [`operands_of`] gives what stands between commas, [`words_of`] what stands between blanks, and [`zero`]
-//! the number that is meant where none is written.
-#![tactic(auto)]
-
-mod parts;
-
-pub use parts::{operands_of, words_of, zero};

@@ -1,6 +1,0 @@
-use Rattle.std.proofs.Common.{◌≡◌, ◌++◌, take, flat_map, map}
-use Rattle.asm_layout.specs.Contents.{string_bytes}
-use Rattle.asm_tables.proofs.strings.append_spelled.Given as goal
-
-abbrev pub invariant-loop-name : goal.invariant-loop-name
-invariant-loop-name l = l.out ≡ l.initial.out ++ flat_map string_bytes (map (λ name. name.items) (take l.name-index l.names))

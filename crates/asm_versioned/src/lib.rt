@@ -1,8 +1,0 @@
-//! The versions of a source's object: laws; a crate without code.
-//!
-//! - [`versions_lead_on`]: each record of them leads to the next one.
-#![tactic(auto)]
-
-mod law;
-
-pub use law::versions_lead_on;

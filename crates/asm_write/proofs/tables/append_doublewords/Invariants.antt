@@ -1,0 +1,6 @@
+use Rattle.std.proofs.Common.{◌≡◌, ◌++◌, take}
+use Rattle.asm_write.specs.Values.{doublewords}
+use Rattle.asm_write.proofs.tables.append_doublewords.Given as goal
+
+abbrev pub invariant-loop-word : goal.invariant-loop-word
+invariant-loop-word l = l.out.items ≡ l.initial.out.items ++ doublewords (take l.word-index l.numbers)

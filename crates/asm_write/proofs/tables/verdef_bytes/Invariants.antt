@@ -1,0 +1,7 @@
+use Rattle.std.proofs.Common.{◌≡◌, take, flat_map}
+use Rattle.asm_write.specs.Fields.{record_bytes}
+use Rattle.asm_write.specs.Records.{version_fields}
+use Rattle.asm_write.proofs.tables.verdef_bytes.Given as goal
+
+abbrev pub invariant-loop-version : goal.invariant-loop-version
+invariant-loop-version l = l.out.items ≡ flat_map (λ version. record_bytes (version_fields version)) (take l.version-index l.versions)

@@ -1,5 +1,0 @@
-use Rattle.call_answers.proofs.Ends.{ends_few}
-use Rattle.call_answers.proofs.law.ends_are_few.Goals as goal
-
-pub returns : goal.returns
-returns c = ends_few

@@ -1,8 +1,0 @@
-use Rattle.call_laws.proofs.Closed.{images_kept, order_kept}
-use Rattle.call_laws.proofs.law.closings_keep.Goals as goal
-
-pub returns-clause-images : goal.returns-clause-images
-returns-clause-images c = images_kept
-
-pub returns-clause-order : goal.returns-clause-order
-returns-clause-order c = order_kept

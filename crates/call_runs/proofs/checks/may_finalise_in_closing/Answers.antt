@@ -1,9 +1,0 @@
-use Rattle.std.proofs.Common.{◌∙◌}
-use Rattle.link_event.specs.declared.event.Event.TheVariants.{Fini}
-use Rattle.call_runs.proofs.Following.{may_follow}
-use Rattle.call_runs.proofs.checks.may_finalise_in_closing.Goals as goal
-
-pub returns : goal.returns
-returns c =
-    may_follow c.args.state.now.harts c.as_slice.result.now c.args.state.now.events (Fini c.args.hart c.args.object) c.may_finalise.result (c.as_slice.ensures ∙ c.journal.ensures.events)
-    c.may_finalise.ensures

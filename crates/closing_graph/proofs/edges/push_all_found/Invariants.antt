@@ -1,8 +1,0 @@
-use Rattle.std.proofs.Common.{◌≡◌, ◌++◌, take}
-use Rattle.std.specs.List.{flat_map}
-use Rattle.link_history.specs.Links.{found_edges}
-use Rattle.closing_graph.proofs.edges.push_all_found.Given as goal
-
--- those of the objects so far stand at the end
-abbrev pub invariant-loop-object : goal.invariant-loop-object
-invariant-loop-object l = l.edges.items ≡ l.fn.edges.items ++ flat_map found_edges (take l.object-index l.objects)

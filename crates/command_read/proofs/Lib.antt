@@ -1,4 +1,0 @@
-pub mod Folding
-pub mod Parts
-pub mod Reading
-pub mod Taking

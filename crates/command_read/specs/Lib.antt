@@ -1,4 +1,0 @@
-pub mod Found
-pub mod Judged
-pub mod Matched
-pub mod Verbs

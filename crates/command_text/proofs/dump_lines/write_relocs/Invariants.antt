@@ -1,9 +1,0 @@
-use Rattle.std.proofs.Common.{◌≡◌, ◌++◌, drop}
-use Rattle.std.specs.List.{flat_map, enumerate_from}
-use Rattle.std.specs.String.{string_bytes}
-use Rattle.command_text.specs.DumpLines.{reloc_line}
-use Rattle.command_text.proofs.dump_lines.write_relocs.Given as goal
-
--- what is written and the lines that are left are the lines of all
-abbrev pub invariant-loop-number : goal.invariant-loop-number
-invariant-loop-number l = string_bytes l.text ++ flat_map reloc_line (enumerate_from l.number (drop l.number l.relocs)) ≡ string_bytes l.fn.text ++ flat_map reloc_line (enumerate_from 0 l.relocs)

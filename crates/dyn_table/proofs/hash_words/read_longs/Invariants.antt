@@ -1,7 +1,0 @@
-use Rattle.std.proofs.Common.{◌≡◌}
-use Rattle.ld_base.specs.Field.{field}
-use Rattle.acceptance.specs.Table.{table}
-use Rattle.dyn_table.proofs.hash_words.read_longs.Given as goal
-
-abbrev pub invariant-loop-index : goal.invariant-loop-index
-invariant-loop-index l = l.words.items ≡ table (field 8 l.bytes) l.at 8 l.index

@@ -1,9 +1,0 @@
-//! Which object a file is that `elf_write` makes, if it is accepted: a crate without code.
-//!
-//! - [`the_object_is_spelled`]: each field is the one that the object's contents say, and its hash tables are those
-//!   of the contents.
-#![tactic(auto)]
-
-mod law;
-
-pub use law::the_object_is_spelled;

@@ -1,9 +1,0 @@
-//! What a reader finds of the versions of an object that `elf_write` makes: a crate without code.
-//!
-//! - [`the_versions_are_spelled`]: the version indexes of the symbols, the versions that are defined, and those
-//!   that are needed, of an accepted object.
-#![tactic(auto)]
-
-mod law;
-
-pub use law::the_versions_are_spelled;

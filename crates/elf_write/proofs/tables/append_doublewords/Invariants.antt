@@ -1,6 +1,0 @@
-use Rattle.std.proofs.Common.{◌≡◌, ◌++◌, take}
-use Rattle.elf_write.specs.Values.{doublewords}
-use Rattle.elf_write.proofs.tables.append_doublewords.Given as goal
-
-abbrev pub invariant-loop-word : goal.invariant-loop-word
-invariant-loop-word l = l.out.items ≡ l.initial.out.items ++ doublewords (take l.word-index l.numbers)

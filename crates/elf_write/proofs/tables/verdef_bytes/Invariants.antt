@@ -1,7 +1,0 @@
-use Rattle.std.proofs.Common.{◌≡◌, take, flat_map}
-use Rattle.elf_write.specs.Fields.{record_bytes}
-use Rattle.elf_write.specs.Records.{version_fields}
-use Rattle.elf_write.proofs.tables.verdef_bytes.Given as goal
-
-abbrev pub invariant-loop-version : goal.invariant-loop-version
-invariant-loop-version l = l.out.items ≡ flat_map (λ version. record_bytes (version_fields version)) (take l.version-index l.versions)

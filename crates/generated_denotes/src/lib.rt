@@ -1,9 +1,0 @@
-//! The sources of a generated set are accepted: a law; a crate without code.
-//!
-//! [`sources_denote`]: each of the sources that `generated_sources` makes denotes an object, by the relation
-//! that the assembler's contract is about, so the assembler refuses none.
-#![tactic(auto)]
-
-mod law;
-
-pub use law::sources_denote;

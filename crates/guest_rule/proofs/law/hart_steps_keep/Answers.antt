@@ -1,5 +1,0 @@
-use Rattle.guest_rule.specs.Lemmas.Steps.{hart_keeps}
-use Rattle.guest_rule.proofs.law.hart_steps_keep.Goals as goal
-
-pub returns : goal.returns
-returns c = hart_keeps

@@ -1,5 +1,0 @@
-use Rattle.guest_rule.specs.Lemmas.Joining.{join_keeps}
-use Rattle.guest_rule.proofs.law.joined_seats_keep.Goals as goal
-
-pub returns : goal.returns
-returns c = join_keeps

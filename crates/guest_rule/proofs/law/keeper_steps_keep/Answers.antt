@@ -1,9 +1,0 @@
-use Rattle.guest_rule.specs.Lemmas.Seating.{stays_long}
-use Rattle.guest_rule.specs.Lemmas.Steps.{keeper_keeps}
-use Rattle.guest_rule.proofs.law.keeper_steps_keep.Goals as goal
-
-pub returns-clause-keeps : goal.returns-clause-keeps
-returns-clause-keeps c = keeper_keeps
-
-pub returns-clause-long : goal.returns-clause-long
-returns-clause-long c = stays_long

@@ -1,8 +1,0 @@
-use Rattle.guest_rule.specs.Lemmas.Begins.{begins, is_first}
-use Rattle.guest_rule.proofs.law.rule_begins.Goals as goal
-
-pub returns-clause-begins : goal.returns-clause-begins
-returns-clause-begins c = begins
-
-pub returns-clause-first : goal.returns-clause-first
-returns-clause-first c = is_first

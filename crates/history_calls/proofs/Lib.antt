@@ -1,0 +1,14 @@
+pub mod Answered
+pub mod Asks
+pub mod Callers
+pub mod Decide
+pub mod Every
+pub mod Looked
+pub mod OneStartup
+pub mod OpenAnswered
+pub mod Placing
+pub mod Preloads
+pub mod Starting
+pub mod UntoldFiles
+pub mod CallLaws
+pub mod LoadChoices

@@ -1,0 +1,15 @@
+pub mod Answer
+pub mod Call
+pub mod Complete
+pub mod Ends
+pub mod Functions
+pub mod Gives
+pub mod Laws
+pub mod Lemmas
+pub mod Served
+pub mod Startup
+pub mod Waiting
+pub mod Worked
+pub mod UntoldFiles
+pub mod CallLaws
+pub mod LoadChoices

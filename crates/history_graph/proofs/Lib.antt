@@ -1,0 +1,2 @@
+mod BySource
+pub mod SerialSets

@@ -1,8 +1,0 @@
--- What contracts see of a journal.
-use Rattle.std.specs.Prelude.{ℕ, List}
-use Rattle.link_event.specs.declared.event.Event.{Event}
-
-pub record RoomyEvents : Type 0 where
-  pub events : List Event
-  -- how many further events there is room for
-  pub room : ℕ

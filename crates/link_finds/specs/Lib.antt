@@ -1,0 +1,2 @@
+pub mod SeenChoices
+pub mod SlotChoosing

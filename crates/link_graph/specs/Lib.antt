@@ -1,4 +1,0 @@
-pub mod Initialised
-pub mod Lemmas
-pub mod Reached
-pub mod Sources

@@ -1,8 +1,0 @@
-use Rattle.link_history.specs.Lemmas.Data.{areas_data}
-use Rattle.link_history.proofs.law.areas_are_data.Goals as goal
-
-pub returns : goal.returns
-returns c m events only lawful = areas_data
-    (record { low = c.pages_hold_segments.ensures.low; high = c.pages_hold_segments.ensures.high; from = c.pages_hold_segments.ensures.from; to = c.pages_hold_segments.ensures.to; some = c.pages_hold_segments.ensures.some; few = c.pages_hold_segments.ensures.few; one = c.pages_hold_segments.ensures.one })
-    (record { serials = c.serials_follow.ensures; leads = c.found_stands.ensures.names; founds = c.found_stands.ensures.founds })
-    c.reads_candidates.ensures.candidates m only events lawful

@@ -1,5 +1,0 @@
-use Rattle.link_history.specs.Lemmas.Dangling.{held}
-use Rattle.link_history.proofs.law.grants_are_held.Goals as goal
-
-pub returns : goal.returns
-returns c = held (record { serials = c.serials_follow.ensures; leads = c.found_stands.ensures.names; founds = c.found_stands.ensures.founds })

@@ -1,5 +1,0 @@
-use Rattle.link_history.proofs.FullBindings.{images_bound}
-use Rattle.link_history.proofs.law.images_are_bound.Goals as goal
-
-pub returns : goal.returns
-returns c m events only lawful = images_bound c.reads_candidates.ensures.candidates m only events lawful

@@ -1,5 +1,0 @@
-use Rattle.link_history.specs.Lemmas.Openings.{openings_stand}
-use Rattle.link_history.proofs.law.openings_stand.Goals as goal
-
-pub returns : goal.returns
-returns c = openings_stand (record { serials = c.serials_follow.ensures; leads = c.found_stands.ensures.names; founds = c.found_stands.ensures.founds })

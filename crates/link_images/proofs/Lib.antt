@@ -1,0 +1,3 @@
+mod Halves
+pub mod ImageReads
+pub mod ObjectFunctions

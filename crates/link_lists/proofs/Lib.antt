@@ -1,0 +1,6 @@
+pub mod RecordCopies
+pub mod OpenFlags
+pub mod LinkPending
+pub mod HeldEdgesPart
+pub mod LateBlocksPart
+pub mod LoadRecordPart

@@ -1,0 +1,5 @@
+pub mod OpenFlags
+pub mod LinkPending
+pub mod HeldEdgesPart
+pub mod LateBlocksPart
+pub mod LoadRecordPart

@@ -1,0 +1,41 @@
+//! Copies of names and of lists.
+
+use crate::record_copies::Copied;
+use ld_base::{Name, Sequence, Symbols};
+use std::alloc::{AllocError, Global};
+
+impl Copied for Name {
+    fn copy(&self, alloc: Global) -> Result<Self, AllocError> {
+        Name::new(alloc, self.as_bytes())
+    }
+}
+
+impl<T: Copied> Copied for Option<T> {
+    fn copy(&self, alloc: Global) -> Result<Self, AllocError> {
+        match self {
+            Some(it) => Ok(Some(it.copy(alloc)?)),
+            None => Ok(None),
+        }
+    }
+}
+
+impl<T: Copied> Copied for Sequence<T> {
+    fn copy(&self, alloc: Global) -> Result<Self, AllocError> {
+        let mut copies = Sequence::new(alloc);
+        for item in self.as_slice() {
+            copies.push(item.copy(alloc)?)?;
+        }
+        Ok(copies)
+    }
+}
+
+impl Copied for Symbols {
+    fn copy(&self, alloc: Global) -> Result<Self, AllocError> {
+        let mut copies = Symbols::new(alloc);
+        let symbols = self.as_slice();
+        for symbol in symbols {
+            copies.push(symbol.copy(alloc)?)?;
+        }
+        Ok(copies)
+    }
+}

@@ -1,0 +1,6 @@
+pub mod Libraries
+pub mod Places
+pub mod AreaImages
+pub mod NewBlocks
+pub mod ObjectBindings
+pub mod OpeningSteps

@@ -1,0 +1,5 @@
+pub mod Relocated
+pub mod AreaImages
+pub mod NewBlocks
+pub mod ObjectBindings
+pub mod OpeningSteps

@@ -1,0 +1,15 @@
+pub mod Alone
+pub mod Faults
+pub mod FoundLemmas
+pub mod Lent
+pub mod News
+pub mod Objects
+pub mod Program
+pub mod Results
+pub mod Shown
+pub mod Starting
+pub mod Steps
+pub mod There
+pub mod ObjectChoices
+pub mod ObjectPlaces
+pub mod OpeningLoad

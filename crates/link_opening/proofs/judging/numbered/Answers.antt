@@ -1,9 +1,0 @@
-use Rattle.link_history.specs.After.{after}
-use Rattle.lawful_journal.specs.Following.{machine_of}
-use Rattle.link_opening.proofs.Few.{none_past}
-use Rattle.link_opening.proofs.judging.numbered.Goals as goal
-
-pub returns-in_default-clause-none : goal.returns-in_default-clause-none
-returns-in_default-clause-none c =
-    none_past (after c.args.state.now.events).namespaces c.args.number (c.namespaces_are_few.ensures (machine_of c.args.state.now.harts) c.args.state.now.events c.journal.ensures.lawful)
-    c.in_default.ensures

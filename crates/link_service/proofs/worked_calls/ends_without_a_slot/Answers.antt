@@ -1,8 +1,0 @@
-use Rattle.link_service.specs.Lemmas.Examples.{ends_unloaded, ends_without_slot}
-use Rattle.link_service.proofs.worked_calls.ends_without_a_slot.Goals as goal
-
-pub returns-clause-unloaded : goal.returns-clause-unloaded
-returns-clause-unloaded c = ends_unloaded
-
-pub returns-clause-no_slot : goal.returns-clause-no_slot
-returns-clause-no_slot c = ends_without_slot

@@ -1,6 +1,0 @@
-use Rattle.scope_rule.specs.Seen.{seen}
-use Rattle.listed_namespaces.proofs.Homes.{has_it}
-use Rattle.listed_namespaces.proofs.kept.KeptLists.have.Goals as goal
-
-pub returns-in-Some : goal.returns-in-Some
-returns-in-Some c = λ holds. has_it c.args.namespace.now (seen c.view.result) c.args.owner c.object.result c.is_some.result c.view.ensures c.object.ensures c.is_some.ensures holds

@@ -1,5 +1,0 @@
-use Rattle.listed_namespaces.proofs.kept.listed_home.Given as goal
-
--- nothing changes
-abbrev pub invariant-loop-place : goal.invariant-loop-place
-invariant-loop-place l = Unit {0}

@@ -1,8 +1,0 @@
-use Rattle.std.proofs.Common.{◌≡◌, drop}
-use Rattle.std.specs.List.{find}
-use Rattle.link_history.specs.Objects.{has_id}
-use Rattle.mapped_objects.proofs.objects.namespace_in.Given as goal
-
--- the search of the rest is the search of the whole
-abbrev pub invariant-loop-namespace : goal.invariant-loop-namespace
-invariant-loop-namespace l = find (has_id l.id) (drop l.namespace-index l.namespaces) ≡ find (has_id l.id) l.namespaces

@@ -1,8 +1,0 @@
-use Rattle.memory_holds.specs.Lemmas.Stored.{keeps_same, stored}
-use Rattle.memory_holds.proofs.law.stores_keep.Goals as goal
-
-pub returns-clause-store : goal.returns-clause-store
-returns-clause-store c = stored
-
-pub returns-clause-same : goal.returns-clause-same
-returns-clause-same c = keeps_same

@@ -1,9 +1,0 @@
-use Rattle.std.proofs.Common.{◌<◌, length, arith}
-use Rattle.link_history.specs.Step.{lowered_in}
-use Rattle.link_history.specs.Lemmas.InPlace.{changed_more}
-use Rattle.namespace_changes.proofs.lowering.lower.Goals as goal
-
-pub loop-namespace-preserved : goal.loop-namespace-preserved
-loop-namespace-preserved c =
-    let lt : c.loop-namespace.namespace-index < length c.args.namespaces.now = omega arith in
-    changed_more (lowered_in c.args.handle) c.args.namespaces.now c.loop-namespace.namespaces c.loop-namespace.namespace-index c.lower_in.new.namespace c.namespace-item.result lt c.loop-namespace.invariant c.lower_in.ensures

@@ -1,7 +1,0 @@
-use Rattle.std.proofs.Common.{◌≡◌, ◌++◌, map, take, drop}
-use Rattle.link_history.specs.Step.{lowered_in}
-use Rattle.namespace_changes.proofs.lowering.lower.Given as goal
-
--- those in front are changed
-abbrev pub invariant-loop-namespace : goal.invariant-loop-namespace
-invariant-loop-namespace l = l.namespaces ≡ map (lowered_in l.handle) (take l.namespace-index l.fn.namespaces) ++ drop l.namespace-index l.fn.namespaces

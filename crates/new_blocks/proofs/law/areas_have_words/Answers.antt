@@ -1,8 +1,0 @@
-use Rattle.new_blocks.proofs.Words.{area_words}
-use Rattle.new_blocks.proofs.law.areas_have_words.Goals as goal
-
-pub returns : goal.returns
-returns c = area_words
-    (record { low = c.pages_hold_segments.ensures.low; high = c.pages_hold_segments.ensures.high; from = c.pages_hold_segments.ensures.from; to = c.pages_hold_segments.ensures.to; some = c.pages_hold_segments.ensures.some; few = c.pages_hold_segments.ensures.few; one = c.pages_hold_segments.ensures.one })
-    (record { serials = c.serials_follow.ensures; leads = c.found_stands.ensures.names; founds = c.found_stands.ensures.founds })
-    c.reads_candidates.ensures.candidates

@@ -1,8 +1,0 @@
-use Rattle.new_blocks.proofs.Bytes.{among_segment, storage_long}
-use Rattle.new_blocks.proofs.law.blocks_begin_as_kept.Goals as goal
-
-pub returns-clause-bytes : goal.returns-clause-bytes
-returns-clause-bytes c = among_segment
-
-pub returns-clause-count : goal.returns-clause-count
-returns-clause-count c = storage_long

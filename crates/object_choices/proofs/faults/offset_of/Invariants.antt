@@ -1,7 +1,0 @@
-use Rattle.std.proofs.Common.{◌≡◌, drop, Some}
-use Rattle.relocator.specs.Storage.{offset_of}
-use Rattle.object_choices.proofs.faults.offset_of.Given as goal
-
--- the search of the rest is the search of the whole
-abbrev pub invariant-loop-place : goal.invariant-loop-place
-invariant-loop-place l = offset_of (drop l.place-index l.place-items) (Some l.serial) ≡ offset_of l.place-items (Some l.serial)

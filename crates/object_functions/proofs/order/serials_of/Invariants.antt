@@ -1,7 +1,0 @@
-use Rattle.std.proofs.Common.{◌≡◌, map, take}
-use Rattle.link_history.specs.Objects.{serial_of}
-use Rattle.object_functions.proofs.order.serials_of.Given as goal
-
--- those of the objects so far
-abbrev pub invariant-loop-object : goal.invariant-loop-object
-invariant-loop-object l = l.serials ≡ map serial_of (take l.object-index l.added)

@@ -1,6 +1,0 @@
-use Rattle.std.proofs.Common.{subst, ◌<◌, sym}
-use Rattle.object_places.proofs.Given.{some_align}
-use Rattle.object_places.proofs.wanted.Wanted.object.Goals as goal
-
-pub anywhere-requires-clause-align : goal.anywhere-requires-clause-align
-anywhere-requires-clause-align c = subst (λ n. 0 < n) (sym c.align_of.ensures) (some_align c.args.object.now.object)

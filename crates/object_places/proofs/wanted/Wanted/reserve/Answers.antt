@@ -1,9 +1,0 @@
-use Rattle.std.proofs.Common.{subst}
-use Rattle.link_history.specs.Areas.{Area, HasNoRoom}
-use Rattle.object_places.proofs.Same.{on_err}
-use Rattle.object_places.proofs.wanted.Wanted.reserve.Goals as goal
-
-pub returns-in_err-address-clause-none : goal.returns-in_err-address-clause-none
-returns-in_err-address-clause-none c =
-    on_err c.from_residual.result (HasNoRoom c.args.regions.now c.args.self.now.pages c.args.self.now.place)
-    (subst (λ (v : Area). HasNoRoom c.args.regions.now v.pages v.place) c.self.view_is c.in_err-address.ensures.none)

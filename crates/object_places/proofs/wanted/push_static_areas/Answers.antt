@@ -1,9 +1,0 @@
-use Rattle.std.proofs.Common.{ap, ◌∙◌}
-use Rattle.object_places.specs.Placing.{area_of_hart}
-use Rattle.object_places.proofs.Same.{pushed_more}
-use Rattle.object_places.proofs.wanted.push_static_areas.Goals as goal
-
-pub loop-hart-preserved : goal.loop-hart-preserved
-loop-hart-preserved c =
-    pushed_more (area_of_hart c.args.pages c.args.align) c.args.wanted.now.items c.loop-hart.wanted.items c.push.new.self.items c.loop-hart.hart c.anywhere.result c.loop-hart.invariant
-    (c.anywhere.ensures ∙ ap (λ h. area_of_hart c.args.pages c.args.align h) c.new.ensures) c.in_ok-push.ensures.items

@@ -1,2 +1,0 @@
-pub mod Libraries
-pub mod Places

@@ -1,7 +1,0 @@
-use Rattle.std.proofs.Common.{◌≡◌, ◌++◌, map, take}
-use Rattle.link_service.specs.Served.{slot_word}
-use Rattle.opening_images.proofs.slots.push_slots.Given as goal
-
--- those in front
-abbrev pub invariant-loop-slot : goal.invariant-loop-slot
-invariant-loop-slot l = l.slots ≡ l.initial.slots ++ map (slot_word l.object) (take l.slot-index l.slot-items)

@@ -1,7 +1,0 @@
-pub mod Seen
-pub mod Placed
-pub mod Installs
-pub mod Uncopied
-pub mod Outside
-pub mod Copied
-pub mod Bytes

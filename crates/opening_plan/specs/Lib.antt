@@ -1,4 +1,0 @@
-pub mod Before
-pub mod Lemmas
-pub mod Planned
-pub mod Startup

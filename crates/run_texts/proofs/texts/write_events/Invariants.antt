@@ -1,8 +1,0 @@
-use Rattle.std.proofs.Common.{◌≡◌, ◌++◌, take}
-use Rattle.std.specs.String.{string_bytes}
-use Rattle.run_texts.specs.Printed.{journal_lines}
-use Rattle.run_texts.proofs.texts.write_events.Given as goal
-
--- the lines of the events so far are written
-abbrev pub invariant-loop-event : goal.invariant-loop-event
-invariant-loop-event l = string_bytes l.text ≡ string_bytes l.fn.text ++ journal_lines (take l.event-index l.events)

@@ -1,7 +1,0 @@
-use Rattle.std.proofs.Common.{ℕ, List, map, take}
-use Rattle.schedules.specs.Grammar.{AreItems}
-use Rattle.schedule_read.proofs.items.items_of.Given as goal
-
--- the turns so far are the items of the parts so far
-abbrev pub invariant-loop-part : goal.invariant-loop-part
-invariant-loop-part l = AreItems l.harts (map (λ part. part.now) (take l.part-index l.parts)) l.turns

@@ -1,8 +1,0 @@
-use Rattle.schedules.proofs.Worked.{no_hart, no_turn}
-use Rattle.schedules.proofs.law.schedules_are_none.Goals as goal
-
-pub returns-clause-no_hart : goal.returns-clause-no_hart
-returns-clause-no_hart c = no_hart
-
-pub returns-clause-no_turn : goal.returns-clause-no_turn
-returns-clause-no_turn c = no_turn

@@ -1,0 +1,244 @@
+-- What stands where.
+use Rattle.std.proofs.Common.{◌≡◌, ℕ, zero, suc, ◌+◌, ◌<◌, ◌≤◌, ◌==◌, Bool, true, false, cond, inl, inr, List, [], ◌∷◌, ◌++◌, length, map, take, refl, subst, sym, ap, append-nil, eq-eqb, get_or, ◌∙◌, append_assoc, length-take-le, arith}
+use Rattle.std.specs.Prelude.{nat_eq, not, ◌||◌, filter, flat_map, option_map, position, unwrap_or, IfOk, IsSome, OnOk, Option, Some, None, Result, Ok, Err}
+use Rattle.std.specs.declared.alloc.AllocError.{AllocError}
+use Rattle.std.specs.List.{find, list_any, position_or_len, slice_get}
+use Rattle.std.specs.Option.{option_or, is_some}
+use Rattle.std.proofs.lemmas.Bool.{cases_Bool, eqb-true}
+use Rattle.std.proofs.lemmas.Grind.{common_steps, flat_map-append}
+use Rattle.std.proofs.lemmas.List.{length-append, take_more}
+use Rattle.std.proofs.lemmas.List.Folds.{find_at, position_or_len_push}
+use Rattle.std.proofs.lemmas.List.Quantifiers.{position-Some}
+use Rattle.std.proofs.lemmas.Option.{slice_get_within}
+use Rattle.std.proofs.lemmas.List.Sums.{prefix_len-le-length}
+use Rattle.ld_base.specs.declared.linking.Loaded.{Loaded}
+use Rattle.scope_rule.specs.Loading.{found_of, is_dying, is_dying_at, object_of, with_serial}
+use Rattle.scope_rule.specs.Breadth.{breadth, extend}
+use Rattle.scope_rule.specs.Scope.{scope}
+use Rattle.scope_rule.specs.Seen.{Seen}
+use Rattle.scope_rule.specs.declared.namespace.OpenRec.{OpenRec}
+use Rattle.scope_lists.specs.Brought.{brought_to}
+use Rattle.scope_lists.specs.Kept.{AreScopes, KeepsAll, kept_at}
+use Rattle.scope_lists.specs.Links.{found_once}
+use Rattle.scope_lists.specs.Lists.{AreListed, AreListsOf, IsListed, IsListedAt, at_place}
+use Rattle.scope_lists.specs.Places.{place_in, place_of, serials, serials_of}
+use Rattle.scope_lists.specs.declared.kept.KeptScopes.{KeptScopes}
+use Rattle.scope_lists.specs.declared.lists.SearchLists.{SearchLists}
+use Rattle.scope_lists.specs.VersionPlaces.Places.{places_of}
+use Rattle.scope_lists.specs.declared.version_places.names.VersionPlace.{VersionPlace}
+
+-- ---- the first place of a serial
+
+-- of one more at the end
+one_more : (xs : List ℕ) (x q : ℕ) → place_in (xs ++ x ∷ []) q ≡ option_or (place_in xs q) (cond (x == q) (Some (length xs)) None)
+one_more xs x q =
+    let p : ℕ → Bool = λ s. s == q in
+    let within : position_or_len p xs ≤ length xs = prefix_len-le-length (λ y. not (p y)) xs in
+    rw (position_or_len_push p xs x) (grind (arith, common_steps, length-append xs (x ∷ [])))
+
+pub place_added : (xs : List ℕ) (x place q : ℕ) → length xs ≡ place → place_in xs x ≡ None → cond (nat_eq x q) (Some place) (place_in xs q) ≡ place_in (xs ++ x ∷ []) q
+place_added xs x place q long new =
+    elim (cases_Bool (x == q)) [
+      | inl same ↦
+          let e : x ≡ q = eqb-true x q same in
+          let none : place_in xs q ≡ None = ap (place_in xs) (sym e) ∙ new in
+          rw (one_more xs x q, same, none, long) refl
+      | inr other ↦ rw (one_more xs x q, other) (by_place (place_in xs q))
+    ]
+  where
+    by_place : (o : Option ℕ) → o ≡ option_or o None
+    by_place None = refl
+    by_place (Some n) = refl
+
+pub none_from : (o : Option ℕ) → is_some o ≡ false → o ≡ None
+none_from None e = refl
+none_from (Some n) e = absurd (cc e)
+
+abbrev pub serials_so_far : List Loaded → ℕ → List ℕ
+serials_so_far objects k = serials (take k objects)
+
+pub length_serials : (objects : List Loaded) → length (serials objects) ≡ length objects
+length_serials [] = refl
+length_serials (o ∷ rest) = ap suc (length_serials rest)
+
+pub serials_append : (there added : List Loaded) → serials there ++ serials added ≡ serials (there ++ added)
+serials_append [] added = refl
+serials_append (o ∷ rest) added = ap (λ (xs : List ℕ). o.serial ∷ xs) (serials_append rest added)
+
+pub length_so_far : (xs : List ℕ) (objects : List Loaded) (n k : ℕ) → length xs ≡ n → k < length objects → length (xs ++ serials_so_far objects k) ≡ n + k
+length_so_far xs objects n k long lt = omega (arith, length-append xs (serials_so_far objects k), length_serials (take k objects), length-take-le k objects (omega arith))
+
+pub one_serial_more : (xs : List ℕ) (objects : List Loaded) (k : ℕ) (o : Loaded) → k < length objects → o ≡ get_or objects k o → (xs ++ serials_so_far objects k) ++ o.serial ∷ [] ≡ xs ++ serials_so_far objects (k + 1)
+one_serial_more xs objects k o lt is =
+    append_assoc xs (serials_so_far objects k) (o.serial ∷ [])
+    ∙ ap (λ (ys : List ℕ). xs ++ ys) (serials_append (take k objects) (o ∷ []) ∙ ap (λ (x : Loaded). serials (take k objects ++ x ∷ [])) is ∙ ap serials (sym (take_more objects k o lt)))
+
+place_mapped : {X : Type 0} (f : X → ℕ) (xs : List X) (q : ℕ) → place_in (map f xs) q ≡ position (λ x. f x == q) xs
+place_mapped f [] q = refl
+place_mapped f (x ∷ xs) q = grind (arith, common_steps, place_mapped f xs q)
+
+-- the element at its first place is the first
+found_by : {X : Type 0} (p : X → Bool) (xs : List X) (k : ℕ) → position p xs ≡ Some k → slice_get xs k ≡ find p xs
+found_by p xs k e = sym (find_at p xs ∙ ap (slice_get xs) (grind (arith, common_steps)))
+
+none_by : {X : Type 0} (p : X → Bool) (xs : List X) → position p xs ≡ None → None ≡ find p xs
+none_by p [] e = refl
+none_by p (x ∷ xs) e = grind (arith, common_steps, none_by p xs)
+
+pub object_found : (s : Seen) (q k : ℕ) (o : Option Loaded) → place_in (serials_of s) q ≡ Some k → o ≡ slice_get s.objects k → o ≡ object_of s q
+object_found s q k o at is = is ∙ found_by (λ (x : Loaded). x.serial == q) s.objects k (sym (place_mapped (λ (x : Loaded). x.serial) s.objects q) ∙ at)
+
+pub none_found : (s : Seen) (q : ℕ) → place_in (serials_of s) q ≡ None → None ≡ object_of s q
+none_found s q at = none_by (λ (x : Loaded). x.serial == q) s.objects (sym (place_mapped (λ (x : Loaded). x.serial) s.objects q) ∙ at)
+
+-- a place that is the first of a serial has its object
+pub placed : (s : Seen) (q : ℕ) (place : Option ℕ) → place ≡ place_in (serials_of s) q → at_place s place ≡ object_of s q
+placed s q None at = none_found s q (sym at)
+placed s q (Some k) at = object_found s q k (slice_get s.objects k) (sym at) refl
+
+-- so has the first place of the serial of an object that is there
+pub found_place : (s : Seen) (q k : ℕ) (place : Option ℕ) (o : Loaded) → at_place s place ≡ object_of s q → place ≡ Some k → object_of s q ≡ Some o → slice_get s.objects k ≡ Some o
+found_place s q k place o at is there = ap (at_place s) (sym is) ∙ at ∙ there
+
+pub no_place : {X : Type 0} (s : Seen) (q : ℕ) (place : Option ℕ) (o : Loaded) → at_place s place ≡ object_of s q → place ≡ None → object_of s q ≡ Some o → X
+no_place s q place o at is there = absurd (let no : None ≡ Some o = ap (at_place s) (sym is) ∙ at ∙ there in cc no)
+
+-- there is an object at such a place
+one_at : (objects : List Loaded) (k : ℕ) → k < length objects → (o : Loaded) × (slice_get objects k ≡ Some o)
+one_at [] k lt = absurd (omega arith)
+one_at (o ∷ rest) zero lt = (o, refl)
+one_at (o ∷ rest) (suc k) lt = one_at rest k (omega arith)
+
+object_there : (s : Seen) (q k : ℕ) → place_in (serials_of s) q ≡ Some k → (o : Loaded) × (slice_get s.objects k ≡ Some o)
+object_there s q k at = one_at s.objects k (omega (arith, (position-Some (λ n. n == q) (serials_of s) k 0 at).0, length_serials s.objects))
+
+-- ---- what the openings bring
+
+-- one opening more
+pub opening_more : (s : Seen) (opens : List OpenRec) (k q : ℕ) (r : OpenRec) (so_far new : List ℕ) → k < length opens → r ≡ get_or opens k r → so_far ≡ flat_map (λ (x : OpenRec). brought_to (breadth s x.root) q) (take k opens)
+    → new ≡ so_far ++ brought_to (breadth s r.root) q → new ≡ flat_map (λ (x : OpenRec). brought_to (breadth s x.root) q) (take (k + 1) opens)
+opening_more s opens k q r so_far new lt is were are =
+    let f = λ (x : OpenRec). brought_to (breadth s x.root) q in
+    let more : take (k + 1) opens ≡ take k opens ++ r ∷ [] = take_more opens k r lt ∙ ap (λ (y : OpenRec). take k opens ++ y ∷ []) (sym is) in
+    are ∙ ap (λ (l : List ℕ). l ++ f r) were ∙ ap (λ (l : List ℕ). flat_map f (take k opens) ++ l) (sym (append-nil (f r))) ∙ sym (flat_map-append f (take k opens) (r ∷ [])) ∙ ap (flat_map f) (sym more)
+
+pub brought_found : (r : Result (List ℕ) AllocError) (kept brought : List ℕ) → kept ≡ brought → IfOk r (λ found. found ≡ kept) → IfOk r (λ found. found ≡ brought)
+brought_found (Ok found) kept brought are is = is ∙ are
+brought_found (Err e) kept brought are is = tt
+
+-- ---- where nothing is closing
+
+none_dying : (objects : List Loaded) (q : ℕ) → list_any is_dying objects ≡ false → elim (with_serial objects q) [ Some o ↦ is_dying o | None ↦ false ] ≡ false
+none_dying [] q none = refl
+none_dying (o ∷ rest) q none = grind (arith, common_steps, none_dying rest q)
+
+kept_all : (p : ℕ → Bool) → ((x : ℕ) → p x ≡ true) → (xs : List ℕ) → xs ≡ filter p xs
+kept_all p all [] = refl
+kept_all p all (x ∷ xs) = rw (all x) (ap (λ (ys : List ℕ). x ∷ ys) (kept_all p all xs))
+
+pub sees_all : (s : Seen) (o : Loaded) (xs : List ℕ) → (is_dying o || not (list_any is_dying s.objects)) ≡ true → xs ≡ filter (λ x. is_dying o || not (is_dying_at s x)) xs
+sees_all s o xs sees = kept_all (λ x. is_dying o || not (is_dying_at s x)) each xs
+  where
+    each : (x : ℕ) → (is_dying o || not (is_dying_at s x)) ≡ true
+    each x = grind (arith, common_steps, none_dying s.objects x)
+
+-- ---- what objects lead to
+
+-- the element at a place of a list that is made from another
+mapped_at : {X Y : Type 0} (f : X → Y) (xs : List X) (k : ℕ) → slice_get (map f xs) k ≡ option_map f (slice_get xs k)
+mapped_at f [] k = refl
+mapped_at f (x ∷ xs) zero = refl
+mapped_at f (x ∷ xs) (suc k) = mapped_at f xs k
+
+abbrev once_on : Option Loaded → List ℕ
+once_on o = extend [] (elim o [ Some x ↦ x.found | None ↦ [] ])
+
+once_at : (o : Option Loaded) → unwrap_or (option_map found_once o) [] ≡ once_on o
+once_at None = refl
+once_at (Some x) = refl
+
+-- what is found of the object of a serial
+found_is : (s : Seen) (q : ℕ) → (q == 0) ≡ false → once_on (object_of s q) ≡ extend [] (found_of s q)
+found_is s q some = ap (λ (b : Bool). extend [] (cond b [] (elim (object_of s q) [ Some x ↦ x.found | None ↦ [] ]))) (sym some)
+
+pub linked_there : (s : Seen) (q k : ℕ) (found : List (List ℕ)) → (q == 0) ≡ false → place_in (serials_of s) q ≡ Some k → found ≡ map found_once s.objects → unwrap_or (slice_get found k) [] ≡ extend [] (found_of s q)
+linked_there s q k found some at are =
+    ap (λ (fs : List (List ℕ)). unwrap_or (slice_get fs k) []) are
+    ∙ ap (λ (o : Option (List ℕ)). unwrap_or o []) (mapped_at found_once s.objects k)
+    ∙ once_at (slice_get s.objects k)
+    ∙ ap once_on (object_found s q k (slice_get s.objects k) at refl)
+    ∙ found_is s q some
+
+pub linked_nowhere : (s : Seen) (q : ℕ) → (q == 0) ≡ false → place_in (serials_of s) q ≡ None → [] ≡ extend [] (found_of s q)
+linked_nowhere s q some at = ap once_on (none_found s q at) ∙ found_is s q some
+
+-- ---- the names of an object's versions
+
+abbrev names_in : Loaded → List (Option VersionPlace)
+names_in o = places_of o.object
+
+pub names_there : (objects : List Loaded) (names : List (List (Option VersionPlace))) (k : ℕ) (o : Loaded) → names ≡ map (λ (x : Loaded). places_of x.object) objects → slice_get objects k ≡ Some o → slice_get names k ≡ Some (places_of o.object)
+names_there objects names k o are here = ap (λ (ns : List (List (Option VersionPlace))). slice_get ns k) are ∙ mapped_at names_in objects k ∙ ap (option_map names_in) here
+
+-- ---- scopes that are kept
+
+-- one more is kept
+pub one_kept : (s : Seen) (old new : KeptScopes) (k : ℕ) (o : Loaded) (list : List ℕ) → AreScopes s old → slice_get s.objects k ≡ Some o → list ≡ scope s o
+    → ((q : ℕ) → kept_at new q ≡ cond (nat_eq k q) (Some list) (kept_at old q)) → AreScopes s new
+one_kept s old new k o list are there right updates q other found here has =
+    elim (cases_Bool (nat_eq k q)) [
+      | inl same ↦
+          let e : k ≡ q = eqb-true k q same in
+          let one : Some list ≡ Some found = ap (λ b. cond b (Some list) (kept_at old q)) (sym same) ∙ sym (updates q) ∙ has in
+          let is : list ≡ found = cc one in
+          let two : Some o ≡ Some other = sym there ∙ ap (slice_get s.objects) e ∙ here in
+          let home : o ≡ other = cc two in
+          sym is ∙ right ∙ ap (scope s) home
+      | inr apart ↦ are q other found here (sym (updates q ∙ ap (λ b. cond b (Some list) (kept_at old q)) apart) ∙ has)
+    ]
+
+pub keeps_all : (old new : KeptScopes) (k : ℕ) (list : List ℕ) → ((q : ℕ) → kept_at new q ≡ cond (nat_eq k q) (Some list) (kept_at old q)) → KeepsAll old new
+keeps_all old new k list updates q has =
+    elim (cases_Bool (nat_eq k q)) [
+      | inl same ↦ subst IsSome (sym (updates q ∙ ap (λ b. cond b (Some list) (kept_at old q)) same)) refl
+      | inr apart ↦ subst IsSome (sym (updates q ∙ ap (λ b. cond b (Some list) (kept_at old q)) apart)) has
+    ]
+
+pub is_there : (old new : KeptScopes) (k : ℕ) (list : List ℕ) → ((q : ℕ) → kept_at new q ≡ cond (nat_eq k q) (Some list) (kept_at old q)) → IsSome (kept_at new k)
+is_there old new k list updates = subst IsSome (sym (updates k ∙ ap (λ b. cond b (Some list) (kept_at old k)) (eq-eqb k k refl))) refl
+
+-- what is kept of an object is its scope
+pub kept_scope : (s : Seen) (kept : KeptScopes) (k : ℕ) (o : Loaded) → AreScopes s kept → IsSome (kept_at kept k) → slice_get s.objects k ≡ Some o → unwrap_or (kept_at kept k) [] ≡ scope s o
+kept_scope s kept k o are has here = by (kept_at kept k) refl has
+  where
+    by : (x : Option (List ℕ)) → kept_at kept k ≡ x → IsSome x → unwrap_or x [] ≡ scope s o
+    by (Some found) is some = are k o found here is
+    by None is some = absurd (cc some)
+
+-- none is kept at first
+pub none_kept : (s : Seen) (kept : KeptScopes) → ((place : ℕ) → kept_at kept place ≡ None) → AreScopes s kept
+none_kept s kept none place o found here has = absurd (let no : None ≡ Some found = sym (none place) ∙ has in cc no)
+
+-- where the objects stand of any namespace is the same
+listed : (s : Seen) (before after : SearchLists) (q k : ℕ) → AreListsOf s before → AreListsOf s after → place_of before.links.places q ≡ Some k → ((o : Loaded) → slice_get s.objects k ≡ Some o → IsListedAt after k) → IsListed after q
+listed s before after q k was are here there place at =
+    let both : Some k ≡ Some place = sym here ∙ was.links.places q ∙ sym (are.links.places q) ∙ at in
+    let same : k ≡ place = cc both in
+    let one = object_there s q k (sym (was.links.places q) ∙ here) in
+    subst (IsListedAt after) same (there one.0 one.1)
+
+-- each object that is there is listed, where all are
+pub each_listed : (s : Seen) (lists : SearchLists) (q : ℕ) → AreListsOf s lists → AreListed s 0 lists → IsListed lists q
+each_listed s lists q are all place at =
+    let one = object_there s q place (sym (are.links.places q) ∙ at) in
+    all place one.0 (omega arith) one.1
+
+pub one_listed : (s : Seen) (before after : SearchLists) (q k : ℕ) (r : Result Unit AllocError) → AreListsOf s before → AreListsOf s after → place_of before.links.places q ≡ Some k
+    → OnOk r ((o : Loaded) → slice_get s.objects k ≡ Some o → IsListedAt after k) → OnOk r (IsListed after q)
+one_listed s before after q k (Ok x) was are here there = listed s before after q k was are here there
+one_listed s before after q k (Err e) was are here there = tt
+
+pub listed_from : (s : Seen) (first end : ℕ) (lists : SearchLists) (r : Result Unit AllocError) → end ≡ length s.objects
+    → OnOk r ((place : ℕ) (o : Loaded) → first ≤ place → place < end → slice_get s.objects place ≡ Some o → IsListedAt lists place) → OnOk r (AreListed s first lists)
+listed_from s first end lists (Ok x) all there = λ place o le at. there place o le (omega (arith, all, slice_get_within s.objects place o at)) at
+listed_from s first end lists (Err e) all there = tt

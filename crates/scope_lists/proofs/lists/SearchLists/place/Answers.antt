@@ -1,0 +1,6 @@
+use Rattle.std.proofs.Common.{◌∙◌}
+use Rattle.scope_lists.proofs.Stands.{placed}
+use Rattle.scope_lists.proofs.lists.SearchLists.place.Goals as goal
+
+pub returns : goal.returns
+returns c = λ s are. placed s c.args.serial c.get.result (c.get.ensures ∙ are.links.places c.args.serial)

@@ -1,0 +1,38 @@
+-- Search lists: where the references of objects are searched, and where the names of their versions stand.
+use Rattle.std.specs.Prelude.{◌≡◌, ℕ, ◌≤◌, map, slice_get, IsSome, Option, Some, None}
+use Rattle.ld_base.specs.declared.linking.Loaded.{Loaded}
+use Rattle.scope_rule.specs.Loading.{is_dying}
+use Rattle.scope_rule.specs.Seen.{Seen}
+use Rattle.scope_lists.specs.Kept.{AreScopes, kept_at}
+use Rattle.scope_lists.specs.Links.{AreLinks}
+use Rattle.scope_lists.specs.Places.{place_of}
+use Rattle.scope_lists.specs.declared.lists.SearchLists.{SearchLists}
+use Rattle.scope_lists.specs.VersionPlaces.Places.{places_of}
+
+-- the lists are of what is seen of a namespace: they know what its objects lead to, where the names of their versions stand, and of some the Scope
+pub record AreListsOf (s : Seen) (lists : SearchLists) : Type 0 where
+  pub links : AreLinks s lists.links
+  pub names : lists.names.items ≡ map (λ o. places_of o.object) s.objects
+  pub scopes : AreScopes s lists.scopes
+
+-- they know the Scope of the object at a place in load order
+abbrev pub IsListedAt : SearchLists → ℕ → Type 0
+IsListedAt lists place = IsSome (kept_at lists.scopes place)
+
+-- they know that of the object with a serial
+abbrev pub IsListed : SearchLists → ℕ → Type 0
+IsListed lists owner = (place : ℕ) → place_of lists.links.places owner ≡ Some place → IsListedAt lists place
+
+-- they know those of the objects from a place on
+abbrev pub AreListed : Seen → ℕ → SearchLists → Type 0
+AreListed s first lists = (place : ℕ) (o : Loaded) → first ≤ place → slice_get s.objects place ≡ Some o → IsListedAt lists place
+
+-- the object at a place in load order, if any
+abbrev pub at_place : Seen → Option ℕ → Option Loaded
+at_place s (Some place) = slice_get s.objects place
+at_place s None = None
+
+-- an object but for its state; it is closing exactly where it was
+pub record ChangesStateAlone (before after : Loaded) : Type 0 where
+  pub rest : after ≡ record before { state = after.state }
+  pub closing : is_dying after ≡ is_dying before

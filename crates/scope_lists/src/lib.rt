@@ -1,0 +1,24 @@
+//! Where the references of objects of a namespace are searched.
+//!
+//! [`SearchLists`] are made of a namespace as it stands, at the first question behind a change, or as an
+//! opening will leave it. What an object's names found is gathered once, each object once, and an object is
+//! known by its serial in one step: that takes a step a name. Scopes are made for those objects alone that
+//! ask for them, and are kept: each takes a step an entry, and a look-up an opening.
+//! By [`lists_stay`] an object that becomes ready leaves the lists as they are.
+#![tactic(auto)]
+
+mod breadth_first;
+mod brought;
+mod kept;
+mod law;
+mod links;
+mod lists;
+mod owners;
+mod places;
+mod scoping;
+mod version_places;
+
+pub use law::lists_stay;
+pub use lists::SearchLists;
+pub use places::object_at;
+pub use version_places::{VersionNames, VersionPlace, version_name};

@@ -1,5 +1,0 @@
-pub mod Apart
-pub mod Ended
-pub mod Orders
-pub mod Stands
-pub mod States

@@ -1,5 +1,0 @@
-use Rattle.search_lists.proofs.States.{stay}
-use Rattle.search_lists.proofs.law.lists_stay.Goals as goal
-
-pub returns : goal.returns
-returns c = λ s lists change alone. stay change alone s c.breadth_grows.ensures lists

@@ -1,6 +1,0 @@
-use Rattle.std.proofs.Common.{◌∙◌}
-use Rattle.search_lists.proofs.Stands.{placed}
-use Rattle.search_lists.proofs.lists.SearchLists.place.Goals as goal
-
-pub returns : goal.returns
-returns c = λ s are. placed s c.args.serial c.get.result (c.get.ensures ∙ are.links.places c.args.serial)

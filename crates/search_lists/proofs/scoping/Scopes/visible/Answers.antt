@@ -1,6 +1,0 @@
-use Rattle.std.proofs.Common.{sym, ◌∙◌}
-use Rattle.search_lists.proofs.Stands.{sees_all}
-use Rattle.search_lists.proofs.scoping.Scopes.visible.Goals as goal
-
-pub returns-then-sees_all : goal.returns-then-sees_all
-returns-then-sees_all c = sees_all c.args.self.now.seen c.args.owner.now c.args.whole (sym c.sees_all.ensures ∙ c.if-sees_all.true)

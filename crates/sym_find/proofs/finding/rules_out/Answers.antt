@@ -1,5 +1,0 @@
-use Rattle.sym_find.proofs.Found.{ruled_out}
-use Rattle.sym_find.proofs.finding.rules_out.Goals as goal
-
-pub returns-in-Some : goal.returns-in-Some
-returns-in-Some c = ruled_out c.args.table.now c.in-Some.gnu c.args.sought.now.name c.gnu.result c.in_bloom.result c.in-Some.is c.gnu.ensures c.in_bloom.ensures

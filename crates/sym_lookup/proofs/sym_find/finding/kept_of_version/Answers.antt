@@ -1,0 +1,6 @@
+use Rattle.sym_lookup.proofs.SymFind.Found.{fits_version}
+use Rattle.sym_lookup.proofs.sym_find.finding.kept_of_version.Goals as goal
+
+pub returns : goal.returns
+returns c = c.kept.ensures
+    (λ s. fits_version c.args.object.now c.args.sought.now.name s c.args.sought.now.want c.args.version.now c.new-carriers.result c.requires.versions c.requires.want c.new-carriers.ensures)

@@ -1,0 +1,2 @@
+pub mod WordTests
+pub mod BindTests

@@ -1,9 +1,0 @@
-use Rattle.unmap_steps.proofs.Least.{held_by_first, none_holds}
-use Rattle.link_history.specs.After.{after}
-use Rattle.unmap_steps.proofs.law.first_is_least.Goals as goal
-
-pub returns-clause-least : goal.returns-clause-least
-returns-clause-least c = λ m events lawful set g. held_by_first (after events) set g (c.grants_are_tidy.ensures m events lawful)
-
-pub returns-clause-none : goal.returns-clause-none
-returns-clause-none c = λ events. none_holds (after events)

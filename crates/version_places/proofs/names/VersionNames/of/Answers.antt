@@ -1,5 +1,0 @@
-use Rattle.version_places.proofs.Noted.{all_noted}
-use Rattle.version_places.proofs.names.VersionNames.of.Goals as goal
-
-pub returns : goal.returns
-returns c = all_noted c.args.object.now c.in_ok-noted.noted c.indexes_of-past.result c.indexes_of-past.ensures c.in_ok-noted.ensures

@@ -1,9 +1,0 @@
-use Rattle.std.proofs.Common.{refl}
-use Rattle.word_seats.proofs.Made.{page_done, page_set}
-use Rattle.word_seats.proofs.making.make_linker_word.Goals as goal
-
-pub set_word-requires : goal.set_word-requires
-set_word-requires g c = page_set c.args.keeper.now c.args.index _ c.requires.low refl c.requires.made
-
-pub returns : goal.returns
-returns g c = page_done c.args.keeper.now c.set_word.new.keeper c.args.index _ c.set_word.result c.requires.low refl c.requires.made c.set_word.ensures.long c.set_word.ensures.ok c.set_word.ensures.writable

@@ -1,8 +1,0 @@
-//! Tests of harts over guest memory in atomic words: the same as over plain words, and two threads on
-//! one word.
-//!
-//! They stand above `word_memory`, so that it isn't proved again for them.
-#![tactic(auto)]
-
-#[cfg(test)]
-mod tests;

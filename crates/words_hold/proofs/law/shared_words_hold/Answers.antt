@@ -1,6 +1,0 @@
-use Rattle.std.proofs.Common.{slice_index}
-use Rattle.words_hold.proofs.Held.{words_hold}
-use Rattle.words_hold.proofs.law.shared_words_hold.Goals as goal
-
-pub returns : goal.returns
-returns c = λ s won number words views g free is w. words_hold s won number (slice_index words) g.kept g.hart g.parts free is w

@@ -1,0 +1,25 @@
+//! What the linker answers the call that a hart's next turn is.
+//!
+//! [`answer`] asks the hart what its next turn is. Where that is a service it makes the call over the
+//! linker's state: the call's events, and the end of a hart that the call brings, stand in the journal
+//! then. What came of the call is its answer ([`Answered`](world_memory::Answered)): the value with which
+//! it returns, the functions that are to run first, the slot that is granted, the text that is told, that
+//! it has to be made again, or how the hart has ended; and what memory gets of the events. What the answer
+//! makes of the hart is for whoever keeps harts.
+#![tactic(auto)]
+
+mod answering;
+mod callers;
+mod closing;
+mod ending;
+mod granting;
+mod law;
+mod locating;
+mod looking;
+mod opening;
+mod served;
+mod telling;
+mod writing;
+
+pub use answering::answer;
+pub use law::ends_are_few;

@@ -1,8 +1,0 @@
-use Rattle.world_frames.proofs.Finals.{finals_finish, finals_pass}
-use Rattle.world_frames.proofs.law.finals_may_pass.Goals as goal
-
-pub returns-clause-own : goal.returns-clause-own
-returns-clause-own c = finals_finish
-
-pub returns-clause-next : goal.returns-clause-next
-returns-clause-next c = finals_pass

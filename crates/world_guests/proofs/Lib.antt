@@ -1,0 +1,16 @@
+pub mod Answered
+pub mod Arms
+pub mod Carried
+pub mod Counted
+pub mod Ended
+pub mod Freed
+pub mod Lasting
+pub mod Moved
+pub mod Openings
+pub mod Own
+pub mod Places
+pub mod Refusing
+pub mod Starting
+pub mod There
+pub mod Worlds
+pub mod GuestWorlds

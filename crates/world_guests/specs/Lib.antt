@@ -1,0 +1,11 @@
+pub mod Alone
+pub mod Asking
+pub mod Begins
+pub mod Counting
+pub mod Ending
+pub mod Last
+pub mod Laws
+pub mod Lemmas
+pub mod Next
+pub mod Taking
+pub mod GuestWorlds

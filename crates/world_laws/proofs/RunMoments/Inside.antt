@@ -1,0 +1,198 @@
+-- A grant is made in its hart's own call of a slot's resolver.
+use Rattle.std.proofs.Common.{◌≡◌, ⊎_elim, ℕ, ◌*◌, Bool, true, false, cond, List, [], ◌∷◌, ◌++◌, map, Contains, Option, Some, None, refl, sym, ap, subst, ◌∙◌}
+use Rattle.std.proofs.lemmas.Bool.{true≢false}
+use Rattle.std.proofs.lemmas.List.Elements.{Contains-append_cases}
+use Rattle.ld_base.specs.declared.fault.DlFault.{DlFault}
+use Rattle.ld_base.specs.declared.linking.Choice.{Choice}
+use Rattle.history_event.specs.declared.event.Event.{Event}
+use Rattle.history_event.specs.declared.event.Event.TheVariants as events
+use Rattle.history_event.specs.declared.handed.Function.{Function}
+use Rattle.history_event.specs.declared.state.Granting.{Granting}
+use Rattle.history_state.specs.After.{after}
+use Rattle.history_state.specs.Setting.{Setting}
+use Rattle.history_state.specs.Lemmas.Lists.{from_map, none_in, only_in}
+use Rattle.history_calls.specs.Answer.{Answer, returns, loading, closing, refused, granted, told, again, over}
+use Rattle.history_calls.specs.Call.{Call, resolves}
+use Rattle.history_calls.specs.Functions.{passed}
+use Rattle.history_calls.specs.Gives.{Answers, Gives, Serves, ending}
+use Rattle.hart_moves.specs.Due.{Return}
+use Rattle.hart_moves.specs.Harts.{HartState, Offered, Purpose}
+use Rattle.hart_moves.specs.Moves.{Calls, Did, Finals, Resolves, Takes, TellsOf, events_of, own_fini, passing}
+use Rattle.hart_moves.specs.TurnEvents.Lemmas.Frames.{did_events}
+use Rattle.hart_moves.specs.TurnEvents.Lemmas.Kinds.{Kind, kind_of}
+use Rattle.world_turns.specs.Turn.{Turn}
+use Rattle.world_turns.specs.World.{World, found_journal}
+use Rattle.world_laws.specs.RunMoments.True.{GrantsInCalls, IsGrantedInCall}
+
+abbrev is_grant : Event → Bool
+is_grant e = elim e [ events.Grant number hart owner slot choice value ↦ true | _ ↦ false ]
+
+abbrev HasNone : List Event → Type 0
+HasNone given = (e : Event) → Contains given e → is_grant e ≡ false
+
+-- ---- events of functions
+
+passing_none : (purpose : Purpose) (h object : ℕ) → is_grant (passing purpose h object) ≡ false
+passing_none (Purpose.of_startup registers) h object = refl
+passing_none (Purpose.of_opening to root) h object = refl
+passing_none (Purpose.of_closing to set) h object = refl
+passing_none (Purpose.of_end code) h object = refl
+
+passings_none : (purpose : Purpose) (h : ℕ) (objects : List ℕ) → HasNone (map (passing purpose h) objects)
+passings_none purpose h objects e there =
+    let from = from_map (passing purpose h) objects e there in
+    subst (λ (x : Event). is_grant x ≡ false) from.2 (passing_none purpose h from.0)
+
+both_none : (xs ys : List Event) → HasNone xs → HasNone ys → HasNone (xs ++ ys)
+both_none xs ys left right e there = ⊎_elim (left e) (right e) (Contains-append_cases xs ys e there)
+
+empty_none : HasNone []
+empty_none e there = absurd (none_in e there)
+
+one_none : (x : Event) → is_grant x ≡ false → HasNone (x ∷ [])
+one_none x none e there = subst (λ (y : Event). is_grant y ≡ false) (only_in x e there) none
+
+finals_none : (w : Setting) (h : ℕ) (past behind : List Event) (next : Option Function) → Finals w h past behind next → HasNone behind
+finals_none w h past _ _ (Finals.no_more _ none) = empty_none
+finals_none w h past _ _ (Finals.one_runs _ object function rest more next are) = empty_none
+finals_none w h past _ next (Finals.one_passes _ object rest behind _ first are may more) =
+    both_none (events.Fini h object ∷ []) behind (one_none (events.Fini h object) refl) (finals_none w h (past ++ events.Fini h object ∷ []) behind next more)
+
+own_none : (past : List Event) (h object : ℕ) → HasNone (own_fini (after past) h object)
+own_none past h object = by _
+  where
+    by : (t : Bool) → HasNone (cond t (events.Fini h object ∷ []) [])
+    by true = one_none (events.Fini h object) refl
+    by false = empty_none
+
+-- ---- a call
+
+module _ (w : Setting) (past : List Event) (h : ℕ) (b : HartState) (number hart owner slot value : ℕ) (choice : Choice) where
+  abbrev grant : Event
+  grant = events.Grant number hart owner slot choice value
+
+  never : {P : Type 0} (given : List Event) → HasNone given → Contains given grant → P
+  never given none there = absurd (let no : true ≡ false = none grant there in true≢false no)
+
+  -- this answer to a call made it
+  record IsGranting (call : Call) (answer : Answer) : Type 0 where
+    pub own : hart ≡ h
+    pub asked : call ≡ resolves owner (8 * slot)
+    pub granting : Granting
+    pub is : answer ≡ granted granting
+    pub number_is : granting.number ≡ number
+    pub value_is : granting.value ≡ value
+
+  not_it : {P : Type 0} (e : Event) → is_grant e ≡ false → e ≡ grant → P
+  not_it e none same = absurd (true≢false (sym (ap is_grant same) ∙ none))
+
+  answered : (call : Call) (e : Event) (answer : Answer) → Answers h call e answer → e ≡ grant → IsGranting call answer
+  answered call e answer (Answers.is_loaded ask id root first rest ranges) same = not_it e refl same
+  answered call e answer (Answers.is_there ask id root ranges) same = not_it e refl same
+  answered call e answer (Answers.is_absent ask) same = not_it e refl same
+  answered call e answer (Answers.is_not_opened ask fault) same = not_it e refl same
+  answered call e answer (Answers.dies handle first rest) same = not_it e refl same
+  answered call e answer (Answers.stays handle) same = not_it e refl same
+  answered call e answer (Answers.is_not_closed handle fault) same = not_it e refl same
+  answered call e answer (Answers.is_unmapped set) same = not_it e refl same
+  answered call e answer (Answers.is_granted own eights at n chose v eight) same =
+      let owners : own ≡ owner = cc in
+      let slots : at ≡ slot = cc in
+      let harts : h ≡ hart = cc in
+      let numbers : n ≡ number = cc in
+      let values : v ≡ value = cc in
+      record {
+        own = sym harts;
+        asked = λ i. resolves (owners i) ((eight ∙ ap (λ (k : ℕ). 8 * k) slots) i);
+        granting = _;
+        is = refl;
+        number_is = numbers;
+        value_is = values;
+      }
+  answered call e answer (Answers.is_unresolved own eights at eight) same = not_it e refl same
+  answered call e answer (Answers.is_not_code own eights at serial index eight) same = not_it e refl same
+  answered call e answer (Answers.is_found ask serial index v) same = not_it e refl same
+  answered call e answer (Answers.is_not_found ask fault) same = not_it e refl same
+  answered call e answer (Answers.is_told fault) same = not_it e refl same
+  answered call e answer (Answers.is_written bytes) same = not_it e refl same
+
+  given_grants : (call : Call) (given : List Event) (answer : Answer) → Gives w past h call given answer → Contains given grant → IsGranting call answer
+  given_grants call given answer (Gives.by_event _ e _ answers may) there = answered call e answer answers (only_in e grant there)
+  given_grants call given answer (Gives.by_first_block ask e f v finds) there =
+      never (e ∷ f ∷ []) (both_none (e ∷ []) (f ∷ []) (one_none e (ap is_grant finds.gets)) (one_none f (ap is_grant finds.finds))) there
+  given_grants call given answer (Gives.in_new_block n offset block e gets) there = never (e ∷ []) (one_none e (ap is_grant gets.is)) there
+  given_grants call given answer (Gives.in_block n offset block has) there = absurd (none_in grant there)
+  given_grants call given answer (Gives.to_again _ for shows) there = absurd (none_in grant there)
+  given_grants call given answer (Gives.to_end _ reason ends_so) there = absurd (none_in grant there)
+
+  ending_none : (answer : Answer) → HasNone (ending h answer)
+  ending_none (returns v) = empty_none
+  ending_none (loading root added) = empty_none
+  ending_none (closing set) = empty_none
+  ending_none (refused fault) = empty_none
+  ending_none (granted g) = empty_none
+  ending_none (told fault) = empty_none
+  ending_none (again for) = empty_none
+  ending_none (over reason) = one_none (events.Ended h reason) refl
+
+  serves_grants : (call : Call) (appended : List Event) (answer : Answer) → Serves w past h call appended answer → Contains appended grant → IsGranting call answer
+  serves_grants call appended answer serves there = ⊎_elim
+      (given_grants call serves.given answer serves.gives)
+      (never (ending h answer) (ending_none answer))
+      (Contains-append_cases serves.given (ending h answer) grant (subst (λ (es : List Event). Contains es grant) serves.are there))
+
+  told_in : (text : ℕ) (to : Return) (fault : Option DlFault) (appended : List Event) (did : Did) (c : HartState) → TellsOf text b to fault appended did c → Contains (events_of did) grant → Contains appended grant
+  told_in text to (Some fault) appended did c x there = subst (λ (d : Did). Contains (events_of d) grant) x.is there
+  told_in text to None appended did c x there = subst (λ (d : Did). Contains (events_of d) grant) x.is there
+
+  -- of the events that pass behind a call none is a grant
+  before_passings : (purpose : Purpose) (appended : List Event) (objects : List ℕ) → Contains (appended ++ map (passing purpose h) objects) grant → Contains appended grant
+  before_passings purpose appended objects there = ⊎_elim
+      (λ (x : Contains appended grant). x)
+      (never (map (passing purpose h) objects) (passings_none purpose h objects))
+      (Contains-append_cases appended (map (passing purpose h) objects) grant there)
+
+  in_appended : (asked : Call) (to : Return) (answer : Answer) (appended : List Event) (did : Did) (c : HartState) → Takes w past h b asked to answer appended did c → Contains (events_of did) grant → Contains appended grant
+  in_appended asked to (returns v) appended did c x there = subst (λ (d : Did). Contains (events_of d) grant) x.is there
+  in_appended asked to (loading root added) appended did c x there =
+      before_passings (Purpose.of_opening to.to root) appended (passed x.functions) (subst (λ (d : Did). Contains (events_of d) grant) x.passes.is there)
+  in_appended asked to (closing set) appended did c x there =
+      before_passings (Purpose.of_closing to.to set) appended (passed x.functions) (subst (λ (d : Did). Contains (events_of d) grant) x.passes.is there)
+  in_appended asked to (refused fault) appended did c x there = subst (λ (d : Did). Contains (events_of d) grant) x.is there
+  in_appended asked to (granted g) appended did c x there = subst (λ (d : Did). Contains (events_of d) grant) x.is there
+  in_appended asked to (told fault) appended did c x there = told_in _ to fault appended did c x there
+  in_appended asked to (again for) appended did c x there = absurd (none_in grant (subst (λ (d : Did). Contains (events_of d) grant) x.is there))
+  in_appended asked to (over reason) appended did c x there = subst (λ (d : Did). Contains (events_of d) grant) x.is there
+
+  by_calls : (asked : Call) (to : Return) (did : Did) (c : HartState) → Calls w past h b asked to did c → Contains (events_of did) grant → IsGrantedInCall w h past b c did number hart owner slot value
+  by_calls asked to did c x there =
+      let it = serves_grants asked x.appended x.answer x.serves (in_appended asked to x.answer x.appended did c x.takes there) in
+      let takes : Resolves past b it.granting x.appended did c = subst (λ (answer : Answer). Takes w past h b asked to answer x.appended did c) it.is x.takes in
+      record {
+        own = it.own;
+        back = to;
+        calls = subst (λ (call : Call). Calls w past h b call to did c) it.asked x;
+        offered = takes.offered;
+        exchanges = ap (λ (z : HartState). z.resolving) takes.leaves;
+        number_is = ap (λ (o : Offered). o.number) takes.offer.is ∙ it.number_is;
+        value_is = ap (λ (o : Offered). o.value) takes.offer.is ∙ it.value_is;
+      }
+
+  -- ---- a turn
+
+  by_kind : (did : Did) (c : HartState) → Kind w past h b did c → Contains (events_of did) grant → IsGrantedInCall w h past b c did number hart owner slot value
+  by_kind did c (Kind.goes none frames runs_on) there = absurd (none_in grant (subst (λ (es : List Event). Contains es grant) none there))
+  by_kind did c (Kind.ends reason is frames ended) there = never (events.Ended h reason ∷ []) (one_none (events.Ended h reason) refl) (subst (λ (es : List Event). Contains es grant) is there)
+  by_kind did c (Kind.calls asked to from x) there = by_calls asked to did c x there
+  by_kind did c (Kind.enters function frames from x) there = absurd (none_in grant (subst (λ (d : Did). Contains (events_of d) grant) x.is there))
+  by_kind did c (Kind.completes purpose object rest below not_end from x) there =
+      never (map (passing purpose h) (object ∷ passed rest)) (passings_none purpose h (object ∷ passed rest)) (subst (λ (d : Did). Contains (events_of d) grant) x.passes.is there)
+  by_kind did c (Kind.finalises code object rest below from x) there =
+      never (own_fini (after past) h object ++ x.events)
+      (both_none (own_fini (after past) h object) x.events (own_none past h object) (finals_none w h (past ++ own_fini (after past) h object) x.events x.next x.finals))
+      (subst (λ (es : List Event). Contains es grant) (did_events (own_fini (after past) h object ++ x.events)) (subst (λ (d : Did). Contains (events_of d) grant) x.is there))
+
+pub grants_in_calls : (w : Setting) (h : ℕ) (old new : World) (turn : Turn w h old new) → GrantsInCalls w h old new turn
+grants_in_calls w h old new turn number hart owner slot value choice there =
+    by_kind w (found_journal old turn.did) h turn.before number hart owner slot value choice turn.did turn.left
+    (kind_of w (found_journal old turn.did) h turn.before turn.did turn.left turn.moves) there

@@ -1,0 +1,6 @@
+pub mod StepOnce
+pub mod WorldSlots
+pub mod WorldWhole
+pub mod RunMoments
+pub mod TurnOnce
+pub mod RunOnce

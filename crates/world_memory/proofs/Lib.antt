@@ -1,0 +1,5 @@
+pub mod Putting
+pub mod Ranges
+pub mod Remade
+pub mod TurnAnswers
+pub mod TurnParts

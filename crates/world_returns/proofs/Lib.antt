@@ -1,0 +1,6 @@
+pub mod Passing
+pub mod Rows
+pub mod Running
+pub mod Settled
+pub mod Stacks
+pub mod FinalTurns
