@@ -14,7 +14,7 @@ use asm_places::{NeededFiles, Places, section_number, value_of};
 use asm_uses::{Operand, Uses, is_got_plt};
 
 /// Where the sections and the tables that code goes by start.
-#[derive(Clone, Copy, Debug)]
+#[derive(Clone, Copy)]
 pub struct Bases {
     /// The start of each section, in the order of the sections' numbers.
     pub sections: [u64; 7],

@@ -1,7 +1,7 @@
 //! The words of a line.
 
 /// The words of a line, by how many there are.
-#[derive(Clone, Copy, Debug, PartialEq, Eq)]
+#[derive(Clone, Copy, PartialEq, Eq)]
 pub enum LineWords {
     /// A line that is no instruction.
     Nothing,

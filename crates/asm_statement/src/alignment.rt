@@ -6,7 +6,7 @@ ghost use Rattle.asm_statement.specs.Alignments.{is_alignment, IsPower};
 use std::marker::Model;
 
 /// A power of two from 1 to 4,096: how many bytes lie between the places that are aligned.
-#[derive(Clone, Copy, Debug, PartialEq, Eq)]
+#[derive(Clone, Copy, PartialEq, Eq)]
 pub struct Alignment(u64);
 
 impl Model for Alignment {

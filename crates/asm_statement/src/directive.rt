@@ -5,7 +5,7 @@ use crate::number::Number;
 use ld_base::{Bytes, Name, ObjFlags};
 
 /// Which kind of object is made.
-#[derive(Clone, Copy, Debug, PartialEq, Eq)]
+#[derive(Clone, Copy, PartialEq, Eq)]
 pub enum ObjectKind {
     /// A shared library.
     Library,
@@ -16,7 +16,7 @@ pub enum ObjectKind {
 }
 
 /// Which hash tables are made.
-#[derive(Clone, Copy, Debug, PartialEq, Eq)]
+#[derive(Clone, Copy, PartialEq, Eq)]
 pub enum HashKind {
     /// The GNU table.
     Gnu,
@@ -27,7 +27,7 @@ pub enum HashKind {
 }
 
 /// Where code and data go.
-#[derive(Clone, Copy, Debug, PartialEq, Eq)]
+#[derive(Clone, Copy, PartialEq, Eq)]
 pub enum Section {
     /// Code.
     Text,
@@ -46,7 +46,7 @@ pub enum Section {
 }
 
 /// How a label is exported, and how much of that others see.
-#[derive(Clone, Copy, Debug, PartialEq, Eq)]
+#[derive(Clone, Copy, PartialEq, Eq)]
 pub enum Export {
     /// Any object may define it in its place.
     Global,
@@ -57,7 +57,7 @@ pub enum Export {
 }
 
 /// Which functions of an object an entry belongs to.
-#[derive(Clone, Copy, Debug, PartialEq, Eq)]
+#[derive(Clone, Copy, PartialEq, Eq)]
 pub enum Array {
     /// Those that are called before all constructors.
     Preinit,
@@ -68,7 +68,7 @@ pub enum Array {
 }
 
 /// How many bytes a number takes.
-#[derive(Clone, Copy, Debug, PartialEq, Eq)]
+#[derive(Clone, Copy, PartialEq, Eq)]
 pub enum DataSize {
     /// Four bytes.
     Word,

@@ -7,7 +7,7 @@ use ld_base::AsmCause;
 use std::alloc::{AllocError, AllocFailed};
 
 /// Why there is no object.
-#[derive(Clone, Copy, Debug)]
+#[derive(Clone, Copy)]
 pub enum AsmFault {
     /// A line is refused. Lines count from 1; line 0 is the source as a whole.
     At(u64, AsmCause),

@@ -5,7 +5,7 @@ use ld_base::Name;
 use rv_isa::{AmoOp, BranchOp, ImmOp, LoadOp, Reg, RegOp, StoreOp};
 
 /// How many bytes an atomic instruction reaches.
-#[derive(Clone, Copy, Debug, PartialEq, Eq)]
+#[derive(Clone, Copy, PartialEq, Eq)]
 pub enum Width {
     /// Four bytes.
     Word,
@@ -14,7 +14,7 @@ pub enum Width {
 }
 
 /// How an atomic instruction reaches memory.
-#[derive(Clone, Copy, Debug, PartialEq, Eq)]
+#[derive(Clone, Copy, PartialEq, Eq)]
 pub struct Access {
     /// How many bytes it reaches.
     pub width: Width,
@@ -25,7 +25,7 @@ pub struct Access {
 }
 
 /// What a fence orders on one of its sides.
-#[derive(Clone, Copy, Debug, PartialEq, Eq)]
+#[derive(Clone, Copy, PartialEq, Eq)]
 pub struct FenceSet {
     /// Input from devices.
     pub input: bool,
@@ -38,7 +38,7 @@ pub struct FenceSet {
 }
 
 /// What a fence orders.
-#[derive(Clone, Copy, Debug, PartialEq, Eq)]
+#[derive(Clone, Copy, PartialEq, Eq)]
 pub struct Fence {
     /// What has to happen before it.
     pub before: FenceSet,
@@ -47,7 +47,7 @@ pub struct Fence {
 }
 
 /// An instruction without operands.
-#[derive(Clone, Copy, Debug, PartialEq, Eq)]
+#[derive(Clone, Copy, PartialEq, Eq)]
 pub enum PlainOp {
     Ecall,
     Ebreak,
@@ -56,14 +56,14 @@ pub enum PlainOp {
 }
 
 /// A branch that compares a register with 0.
-#[derive(Clone, Copy, Debug, PartialEq, Eq)]
+#[derive(Clone, Copy, PartialEq, Eq)]
 pub enum ZeroBranchOp {
     Beqz,
     Bnez,
 }
 
 /// What of a name is put into a register.
-#[derive(Clone, Copy, Debug, PartialEq, Eq)]
+#[derive(Clone, Copy, PartialEq, Eq)]
 pub enum AddressOp {
     /// The address of a label.
     La,
@@ -76,7 +76,7 @@ pub enum AddressOp {
 }
 
 /// An instruction whose number stands for the upper 20 bits of a word.
-#[derive(Clone, Copy, Debug, PartialEq, Eq)]
+#[derive(Clone, Copy, PartialEq, Eq)]
 pub enum UpperOp {
     Lui,
     Auipc,

@@ -1,7 +1,7 @@
 //! Numbers.
 
 /// A number as it is written.
-#[derive(Clone, Copy, Debug, PartialEq, Eq)]
+#[derive(Clone, Copy, PartialEq, Eq)]
 pub struct Number {
     /// Whether a minus sign stands before it; it may stand before 0, too.
     pub is_negative: bool,

@@ -11,7 +11,7 @@ use std::alloc::{AllocError, Global};
 use std::marker::Model;
 
 /// How much of a symbol other objects see.
-#[derive(Clone, Copy, Debug)]
+#[derive(Clone, Copy)]
 pub enum Visibility {
     /// They find it, and may define another in its place.
     Default,

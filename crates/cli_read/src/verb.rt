@@ -6,7 +6,7 @@ ghost use Rattle.cli_read.specs.Verbs.{form_of, verb_of};
 use crate::clap_words::Form;
 
 /// What a command's own word asks for.
-#[derive(Clone, Copy, Debug, PartialEq, Eq)]
+#[derive(Clone, Copy, PartialEq, Eq)]
 pub(crate) enum Verb {
     Bind,
     Turns,

@@ -4,7 +4,7 @@ use history_calls::Setup;
 use ld_base::{Name, Names};
 
 /// What is asked of `bind`.
-#[derive(Debug, Drop)]
+#[derive(Drop)]
 pub struct Bind {
     /// Where libraries are looked for, in order.
     pub folders: Names,
@@ -17,7 +17,7 @@ pub struct Bind {
 }
 
 /// What is asked of `turns`.
-#[derive(Debug, Drop)]
+#[derive(Drop)]
 pub struct Turns {
     pub setup: Setup,
     /// The schedule, as it is written.
@@ -25,7 +25,7 @@ pub struct Turns {
 }
 
 /// What is asked of `run`.
-#[derive(Debug, Drop)]
+#[derive(Drop)]
 pub struct Run {
     pub setup: Setup,
     /// Whether the journal is printed, in place of what the program wrote.
@@ -33,7 +33,7 @@ pub struct Run {
 }
 
 /// What is to be done.
-#[derive(Debug, Drop)]
+#[derive(Drop)]
 pub enum Command {
     /// The definition of each slot of a program and its libraries.
     Bind(Bind),

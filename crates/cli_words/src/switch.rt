@@ -1,7 +1,7 @@
 //! Options.
 
 /// An option of a command.
-#[derive(Clone, Copy, Debug, PartialEq, Eq)]
+#[derive(Clone, Copy, PartialEq, Eq)]
 pub enum Switch {
     /// Where libraries are looked for.
     Lib,

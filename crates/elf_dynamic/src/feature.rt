@@ -39,7 +39,7 @@ const R_RISCV_TLSDESC: u32 = 12;
 const R_RISCV_IRELATIVE: u32 = 58;
 
 /// What an object may have and isn't linked, the least number first.
-#[derive(Clone, Copy, Debug, PartialEq, Eq)]
+#[derive(Clone, Copy, PartialEq, Eq)]
 pub(crate) enum Feature {
     /// A definition of STT_GNU_IFUNC.
     IndirectFunction,

@@ -6,7 +6,7 @@ use ld_base::{
 };
 
 /// What reserved pages are for.
-#[derive(Clone, Copy, Debug, PartialEq, Eq)]
+#[derive(Clone, Copy, PartialEq, Eq)]
 pub enum Purpose {
     /// The object's segments.
     Object(Serial),
@@ -19,7 +19,7 @@ pub enum Purpose {
 }
 
 /// Reserved pages: the address of the first, their number, and what they are for.
-#[derive(Clone, Copy, Debug, PartialEq, Eq)]
+#[derive(Clone, Copy, PartialEq, Eq)]
 pub struct Range {
     pub address: u64,
     pub pages: u64,
@@ -30,7 +30,7 @@ pub struct Range {
 pub type Ranges = Sequence<Range>;
 
 /// What an opening asks for (dlmopen(3)).
-#[derive(Debug, Drop)]
+#[derive(Drop)]
 pub struct OpenAsk {
     /// The namespace; a new one where there is none (LM_ID_NEWLM).
     pub ns: Option<u64>,
@@ -40,7 +40,7 @@ pub struct OpenAsk {
 }
 
 /// What a look-up asks for (dlsym(3), dlvsym(3)).
-#[derive(Debug, Drop)]
+#[derive(Drop)]
 pub struct SymAsk {
     /// The namespace of the caller.
     pub ns: NsId,
@@ -51,7 +51,7 @@ pub struct SymAsk {
 }
 
 /// What a refused call asked for.
-#[derive(Debug, Drop)]
+#[derive(Drop)]
 pub enum Ask {
     Open(OpenAsk),
     Sym(SymAsk),
@@ -60,7 +60,7 @@ pub enum Ask {
 }
 
 /// What came of an opening.
-#[derive(Debug, Drop)]
+#[derive(Drop)]
 pub enum OpenAnswer {
     Done {
         ns: NsId,
@@ -76,7 +76,7 @@ pub enum OpenAnswer {
 }
 
 /// What came of a closing.
-#[derive(Debug, Drop)]
+#[derive(Drop)]
 pub enum CloseAnswer {
     /// The objects that nothing needs any more, in load order.
     Done(Serials),
@@ -84,7 +84,7 @@ pub enum CloseAnswer {
 }
 
 /// What came of a look-up.
-#[derive(Debug, Drop)]
+#[derive(Drop)]
 pub enum SymAnswer {
     /// The object, the index of its symbol, and the address.
     Found(Serial, u32, u64),
@@ -92,7 +92,7 @@ pub enum SymAnswer {
 }
 
 /// One step of a run's history.
-#[derive(Debug, Drop)]
+#[derive(Drop)]
 pub enum Event {
     Open {
         hart: HartId,

@@ -6,7 +6,7 @@ use ld_base::{
 };
 
 /// What the line of an opening says of a new object.
-#[derive(Debug, Drop)]
+#[derive(Drop)]
 pub struct NewLine {
     pub serial: Serial,
     pub path: Name,
@@ -18,7 +18,7 @@ pub struct NewLine {
 pub type NewLines = Sequence<NewLine>;
 
 /// What came of an opening, as far as its line says it.
-#[derive(Debug, Drop)]
+#[derive(Drop)]
 pub enum OpenLine {
     Done {
         ns: NsId,
@@ -31,7 +31,7 @@ pub enum OpenLine {
 
 /// What the line of an event says: all of it, but of an opening neither the objects' records nor
 /// the pages.
-#[derive(Debug, Drop)]
+#[derive(Drop)]
 pub enum EventLine {
     Open {
         hart: HartId,

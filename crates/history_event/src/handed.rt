@@ -12,7 +12,7 @@ pub type Addresses = Sequence<u64>;
 
 /// An opening that is to be made: the event, but for a refusal, and what the new objects' relocations
 /// choose.
-#[derive(Debug, Drop)]
+#[derive(Drop)]
 pub struct Opening {
     pub hart: HartId,
     pub ask: OpenAsk,
@@ -22,20 +22,20 @@ pub struct Opening {
 }
 
 /// The objects of a closing, in load order.
-#[derive(Debug, Drop)]
+#[derive(Drop)]
 pub struct Dying {
     pub list: Serials,
 }
 
 /// The objects of an unmapping, and the pages that went with them.
-#[derive(Debug, Drop)]
+#[derive(Drop)]
 pub struct Removed {
     pub objects: Added,
     pub ranges: Ranges,
 }
 
 /// A grant that was made.
-#[derive(Clone, Copy, Debug, PartialEq, Eq)]
+#[derive(Clone, Copy, PartialEq, Eq)]
 pub struct Granted {
     /// The number of its event.
     pub event: u64,
@@ -50,7 +50,7 @@ pub struct Granted {
 }
 
 /// A grant as its hart gets it.
-#[derive(Clone, Copy, Debug, PartialEq, Eq)]
+#[derive(Clone, Copy, PartialEq, Eq)]
 pub struct Offer {
     /// The number of its event.
     pub event: u64,
@@ -62,7 +62,7 @@ pub struct Offer {
 }
 
 /// The constructors or destructors of an object, in the order in which they run.
-#[derive(Debug, Drop)]
+#[derive(Drop)]
 pub struct Function {
     pub object: Serial,
     pub addresses: Addresses,
@@ -72,7 +72,7 @@ pub struct Function {
 pub type Functions = Sequence<Function>;
 
 /// The registers with which a hart starts, those apart that are the same for each.
-#[derive(Clone, Copy, Debug, PartialEq, Eq)]
+#[derive(Clone, Copy, PartialEq, Eq)]
 pub struct HartEntry {
     pub pc: u64,
     pub sp: u64,

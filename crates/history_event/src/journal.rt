@@ -8,7 +8,7 @@ use std::marker::Model;
 
 /// Events, the first of a run first. Contracts see them with the room that is kept for further ones: a
 /// number of events that may still be put at the end without memory.
-#[derive(Debug, Drop)]
+#[derive(Drop)]
 pub struct Journal {
     events: Vec<Event>,
     room: usize,

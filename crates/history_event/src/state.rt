@@ -4,7 +4,7 @@ use crate::HartEnd;
 use ld_base::{Choice, DlFault, GrantNo, HartId, Sequence, Serial, Serials};
 
 /// A module of thread-local storage.
-#[derive(Clone, Copy, Debug, PartialEq, Eq)]
+#[derive(Clone, Copy, PartialEq, Eq)]
 pub struct Module {
     pub number: u64,
     pub serial: Serial,
@@ -13,7 +13,7 @@ pub struct Module {
 }
 
 /// A hart's block of a module that came later.
-#[derive(Clone, Copy, Debug, PartialEq, Eq)]
+#[derive(Clone, Copy, PartialEq, Eq)]
 pub struct Block {
     pub hart: HartId,
     pub serial: Serial,
@@ -21,7 +21,7 @@ pub struct Block {
 }
 
 /// What became of a grant.
-#[derive(Clone, Copy, Debug, PartialEq, Eq)]
+#[derive(Clone, Copy, PartialEq, Eq)]
 pub enum Standing {
     /// It isn't settled yet.
     Open,
@@ -32,7 +32,7 @@ pub enum Standing {
 }
 
 /// A grant, with what became of it.
-#[derive(Clone, Copy, Debug, PartialEq, Eq)]
+#[derive(Clone, Copy, PartialEq, Eq)]
 pub struct Granting {
     pub number: GrantNo,
     pub hart: HartId,
@@ -44,7 +44,7 @@ pub struct Granting {
 }
 
 /// What one opening loaded.
-#[derive(Debug, Drop)]
+#[derive(Drop)]
 pub struct Loading {
     pub hart: HartId,
     /// The new objects, in load order.
@@ -57,7 +57,7 @@ pub type BoundChoices = Sequence<Option<Choice>>;
 pub type BoundValues = Sequence<Option<u64>>;
 
 /// What the relocations of an object chose when it was loaded.
-#[derive(Debug, Drop)]
+#[derive(Drop)]
 pub struct Chosen {
     pub owner: Serial,
     /// One for each relocation, and then one for each slot.
@@ -67,7 +67,7 @@ pub struct Chosen {
 }
 
 /// A closing whose objects aren't unmapped yet.
-#[derive(Debug, Drop)]
+#[derive(Drop)]
 pub struct Closing {
     pub hart: HartId,
     /// Its objects, in load order.
@@ -75,14 +75,14 @@ pub struct Closing {
 }
 
 /// The refusal that a hart hasn't been told yet.
-#[derive(Debug, Drop)]
+#[derive(Drop)]
 pub struct Kept {
     pub hart: HartId,
     pub fault: DlFault,
 }
 
 /// The end of a hart.
-#[derive(Clone, Copy, Debug, PartialEq, Eq)]
+#[derive(Clone, Copy, PartialEq, Eq)]
 pub struct Ending {
     pub hart: HartId,
     pub end: HartEnd,

@@ -3,7 +3,7 @@
 use ld_base::{Sequence, Serial, Serials};
 
 /// One object leads to another.
-#[derive(Clone, Copy, Debug, PartialEq, Eq)]
+#[derive(Clone, Copy, PartialEq, Eq)]
 pub struct Edge {
     pub source: Serial,
     pub target: Serial,
@@ -13,7 +13,7 @@ pub struct Edge {
 pub type Edges = Sequence<Edge>;
 
 /// Objects, in load order, with what leads from one to another.
-#[derive(Debug, Drop)]
+#[derive(Drop)]
 pub struct Graph {
     pub nodes: Serials,
     pub edges: Edges,

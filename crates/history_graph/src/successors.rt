@@ -11,7 +11,7 @@ use std::marker::Model;
 
 /// Edges, ordered by their source, so that those of one are found by a search. Contracts see it as
 /// their list.
-#[derive(Debug, Drop)]
+#[derive(Drop)]
 pub struct Successors {
     edges: Vec<Edge>,
 }

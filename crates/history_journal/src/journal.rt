@@ -15,7 +15,7 @@ use std::marker::Model;
 
 /// A lawful journal of so many harts. Contracts see the harts, the events, and the room for more
 /// beside that for the events that are owed, which is always there.
-#[derive(Debug, Drop)]
+#[derive(Drop)]
 pub struct LawfulJournal {
     harts: u32,
     journal: Journal,

@@ -13,7 +13,7 @@ use std::alloc::{AllocError, Global};
 use std::collections::HashMap;
 
 /// Where a serial stands that the walk has come to.
-#[derive(Clone, Copy, Debug, PartialEq, Eq)]
+#[derive(Clone, Copy, PartialEq, Eq)]
 pub(crate) enum Mark {
     /// At this place of the path.
     OnPath(usize),
@@ -22,7 +22,7 @@ pub(crate) enum Mark {
 }
 
 /// An edge from a place of the path that isn't followed yet.
-#[derive(Clone, Copy, Debug, PartialEq, Eq)]
+#[derive(Clone, Copy, PartialEq, Eq)]
 pub(crate) struct Step {
     pub(crate) place: usize,
     pub(crate) target: Serial,

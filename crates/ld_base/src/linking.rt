@@ -3,7 +3,7 @@
 use crate::{Bytes, HartId, HashTable, Name, Object, Sequence, Serial, Serials};
 
 /// What a reference asks of a definition's version.
-#[derive(Debug, Drop)]
+#[derive(Drop)]
 pub enum Want {
     /// A relocation with this version.
     Version(Name),
@@ -37,7 +37,7 @@ pub enum Role {
 }
 
 /// Where a mapped object stands between its opening and its unmapping.
-#[derive(Clone, Copy, Debug, PartialEq, Eq)]
+#[derive(Clone, Copy, PartialEq, Eq)]
 pub enum State {
     /// Its constructors run on this hart.
     Initialising(HartId),
@@ -47,14 +47,14 @@ pub enum State {
 }
 
 /// The number of a TLS module, with its offset in each static block where it has one.
-#[derive(Clone, Copy, Debug, PartialEq, Eq)]
+#[derive(Clone, Copy, PartialEq, Eq)]
 pub struct TlsPlace {
     pub number: u64,
     pub offset: Option<u64>,
 }
 
 /// An object that is loaded: what events and the state of the linker hold of it.
-#[derive(Debug, Drop)]
+#[derive(Drop)]
 pub struct Loaded {
     pub serial: Serial,
     pub path: Name,
@@ -73,7 +73,7 @@ pub struct Loaded {
 pub type Added = Sequence<Loaded>;
 
 /// A file: its path and what is in it.
-#[derive(Debug, Drop)]
+#[derive(Drop)]
 pub struct File {
     pub path: Name,
     pub bytes: Bytes,

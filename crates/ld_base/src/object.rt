@@ -3,21 +3,21 @@
 use crate::{Bytes, Name, Names, Sequence, Symbols};
 
 /// Whether an object stands at its own addresses (ET_EXEC) or anywhere (ET_DYN).
-#[derive(Clone, Copy, Debug, PartialEq, Eq)]
+#[derive(Clone, Copy, PartialEq, Eq)]
 pub enum Kind {
     Exec,
     Dyn,
 }
 
 /// A range of virtual addresses.
-#[derive(Clone, Copy, Debug, PartialEq, Eq)]
+#[derive(Clone, Copy, PartialEq, Eq)]
 pub struct Span {
     pub start: u64,
     pub size: u64,
 }
 
 /// The segment from which each thread's block is made (PT_TLS).
-#[derive(Clone, Copy, Debug, PartialEq, Eq)]
+#[derive(Clone, Copy, PartialEq, Eq)]
 pub struct TlsSeg {
     pub vaddr: u64,
     pub filesz: u64,
@@ -26,7 +26,7 @@ pub struct TlsSeg {
 }
 
 /// Marks of the dynamic table that change how an object is linked.
-#[derive(Clone, Copy, Debug, PartialEq, Eq)]
+#[derive(Clone, Copy, PartialEq, Eq)]
 pub struct ObjFlags {
     /// DT_SYMBOLIC or DF_SYMBOLIC: the object's own definitions come first.
     pub symbolic: bool,
@@ -37,7 +37,7 @@ pub struct ObjFlags {
 }
 
 /// A segment that is mapped (PT_LOAD), with its bytes of the file.
-#[derive(Debug, Drop)]
+#[derive(Drop)]
 pub struct Segment {
     pub vaddr: u64,
     pub memsz: u64,
@@ -47,7 +47,7 @@ pub struct Segment {
 }
 
 /// An entry of the symbol table, with its name and its version's index.
-#[derive(Debug, Drop)]
+#[derive(Drop)]
 pub struct Symbol {
     pub name: Name,
     pub info: u8,
@@ -60,7 +60,7 @@ pub struct Symbol {
 }
 
 /// A relocation with its addend.
-#[derive(Clone, Copy, Debug, PartialEq, Eq)]
+#[derive(Clone, Copy, PartialEq, Eq)]
 pub struct Reloc {
     pub place: u64,
     pub kind: u32,
@@ -69,7 +69,7 @@ pub struct Reloc {
 }
 
 /// A version that an object defines.
-#[derive(Debug, Drop)]
+#[derive(Drop)]
 pub struct Verdef {
     pub index: u16,
     pub flags: u16,
@@ -77,7 +77,7 @@ pub struct Verdef {
 }
 
 /// A version that an object needs of a file.
-#[derive(Debug, Drop)]
+#[derive(Drop)]
 pub struct Verneed {
     pub index: u16,
     pub flags: u16,
@@ -97,7 +97,7 @@ pub type Verneeds = Sequence<Verneed>;
 pub type Places = Sequence<u64>;
 
 /// A linked object: what the reader takes from a file.
-#[derive(Debug, Drop)]
+#[derive(Drop)]
 pub struct Object {
     pub kind: Kind,
     pub entry: u64,

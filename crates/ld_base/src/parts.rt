@@ -5,7 +5,7 @@ use crate::{
 };
 
 /// A program header.
-#[derive(Clone, Copy, Debug, PartialEq, Eq)]
+#[derive(Clone, Copy, PartialEq, Eq)]
 pub struct Header {
     pub kind: u32,
     pub flags: u32,
@@ -20,7 +20,7 @@ pub struct Header {
 pub type Headers = Sequence<Header>;
 
 /// What the ELF header and the program headers say.
-#[derive(Debug, Drop)]
+#[derive(Drop)]
 pub struct Head {
     pub kind: Kind,
     pub entry: u64,
@@ -28,7 +28,7 @@ pub struct Head {
 }
 
 /// An entry of the dynamic table.
-#[derive(Clone, Copy, Debug, PartialEq, Eq)]
+#[derive(Clone, Copy, PartialEq, Eq)]
 pub struct Tag {
     pub tag: u64,
     pub value: u64,
@@ -38,7 +38,7 @@ pub struct Tag {
 pub type Tags = Sequence<Tag>;
 
 /// What the dynamic table and the tables that it names say. Each symbol's version is 0 here.
-#[derive(Debug, Drop)]
+#[derive(Drop)]
 pub struct DynParts {
     pub tags: Tags,
     pub soname: Option<Name>,
@@ -65,7 +65,7 @@ pub type Ints = Sequence<u32>;
 pub type Longs = Sequence<u64>;
 
 /// What the version tables say.
-#[derive(Debug, Drop)]
+#[derive(Drop)]
 pub struct Versions {
     pub has_versym: bool,
     pub versym: Shorts,
@@ -74,14 +74,14 @@ pub struct Versions {
 }
 
 /// The hash tables of an object, as lists of words.
-#[derive(Debug, Drop)]
+#[derive(Drop)]
 pub struct HashTable {
     pub gnu: Option<GnuPart>,
     pub sysv: Option<SysvPart>,
 }
 
 /// A GNU hash table. Chain words stand from the symbol `symoffset` on.
-#[derive(Debug, Drop)]
+#[derive(Drop)]
 pub struct GnuPart {
     pub symoffset: u32,
     pub shift: u32,
@@ -91,7 +91,7 @@ pub struct GnuPart {
 }
 
 /// A System V hash table.
-#[derive(Debug, Drop)]
+#[derive(Drop)]
 pub struct SysvPart {
     pub buckets: Ints,
     pub chain: Ints,

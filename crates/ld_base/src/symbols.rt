@@ -8,7 +8,7 @@ use std::marker::Model;
 
 /// Symbols, by index; the first is the null symbol. There are fewer than 2^32, so that each has an
 /// index.
-#[derive(Debug, Drop)]
+#[derive(Drop)]
 pub struct Symbols {
     items: Sequence<Symbol>,
 }

@@ -12,7 +12,7 @@ use ld_base::{AsmCause, Bytes, DlFault};
 use std::alloc::{AllocError, Global};
 
 /// How a command ended, and the bytes that it prints then.
-#[derive(Debug, Drop)]
+#[derive(Drop)]
 pub(crate) struct Answer {
     pub end: End,
     pub text: Bytes,

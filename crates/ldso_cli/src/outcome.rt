@@ -10,7 +10,7 @@ use std::alloc::{AllocError, Global};
 use trace_text::{RunEnd, RunRecord};
 
 /// Why the command ends.
-#[derive(Debug, Drop)]
+#[derive(Drop)]
 pub enum Cause {
     /// It did what it was asked.
     Done,
@@ -29,7 +29,7 @@ pub enum Cause {
 }
 
 /// How a command ended: why, and what it keeps.
-#[derive(Debug, Drop)]
+#[derive(Drop)]
 pub struct End {
     pub cause: Cause,
     /// The record of the run, of a command that runs a program. Where startup was refused its journal is
@@ -38,7 +38,7 @@ pub struct End {
 }
 
 /// How the command ended: its status, and its end.
-#[derive(Debug, Drop)]
+#[derive(Drop)]
 pub struct Outcome {
     pub status: u8,
     pub cause: Cause,

@@ -19,7 +19,7 @@ use trace_text::{RunEnd, RunRecord};
 use world_turns::{Turns, counts_show};
 
 /// A run that is over.
-#[derive(Debug, Drop)]
+#[derive(Drop)]
 pub(crate) struct Played {
     /// How it ended, or why it didn't start.
     pub ended: Result<RunEnd, DlFault>,

@@ -14,7 +14,7 @@ use std::alloc::{AllocError, Global};
 use std::marker::Model;
 
 /// What is kept of an object's image.
-#[derive(Debug, Drop)]
+#[derive(Drop)]
 pub struct Part {
     pub serial: Serial,
     /// Its destructors, in the order in which they run.
@@ -25,7 +25,7 @@ pub struct Part {
 
 /// Parts of images, in the order of the images: one is searched by halves while that is the order of their
 /// serials. Contracts see them with the room for more.
-#[derive(Debug, Drop)]
+#[derive(Drop)]
 pub struct ImageParts {
     parts: Vec<Part>,
     room: usize,

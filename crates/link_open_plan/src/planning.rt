@@ -51,7 +51,7 @@ pub enum Planned {
 }
 
 /// Why nothing is opened.
-#[derive(Debug, Drop)]
+#[derive(Drop)]
 pub enum Unopened {
     /// It is refused.
     Refused(DlFault),

@@ -18,7 +18,7 @@ use scope_rule::Namespace;
 use std::alloc::{AllocError, Global};
 
 /// Why a look-up gives no address.
-#[derive(Debug, Drop)]
+#[derive(Drop)]
 pub enum SymFault {
     /// It is refused.
     Refused(DlFault),

@@ -10,7 +10,7 @@ use link_open_images::BlockFault;
 use std::alloc::AllocError;
 
 /// Why nothing is closed.
-#[derive(Clone, Copy, Debug, PartialEq, Eq)]
+#[derive(Clone, Copy, PartialEq, Eq)]
 pub enum CloseFault {
     /// The handle is of no opening that may be closed.
     BadHandle(u64),
@@ -27,7 +27,7 @@ impl From<AllocError> for CloseFault {
 }
 
 /// Why a slot isn't granted.
-#[derive(Clone, Copy, Debug, PartialEq, Eq)]
+#[derive(Clone, Copy, PartialEq, Eq)]
 pub enum GrantFault {
     /// No object of this serial is mapped.
     Unloaded(u64),
@@ -42,7 +42,7 @@ pub enum GrantFault {
 }
 
 /// Why a hart has no block of a module's thread-local storage.
-#[derive(Clone, Copy, Debug, PartialEq, Eq)]
+#[derive(Clone, Copy, PartialEq, Eq)]
 pub enum TlsFault {
     /// No module has this number.
     BadModule(u64),

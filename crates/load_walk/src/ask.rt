@@ -8,7 +8,7 @@ use std::alloc::{AllocError, AllocFailed};
 use thiserror::Error;
 
 /// An object to load with all that it needs.
-#[derive(Debug, Drop)]
+#[derive(Drop)]
 pub struct LoadAsk {
     /// A program's path; else a name as dlopen takes it.
     pub name: Name,
@@ -28,7 +28,7 @@ pub struct LoadAsk {
 
 /// What a load brings: the object that was asked for, the new objects in load order, and the
 /// objects that the root leads to.
-#[derive(Debug, Drop)]
+#[derive(Drop)]
 pub struct LoadPlan {
     pub root: Serial,
     pub added: Added,

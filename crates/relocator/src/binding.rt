@@ -3,7 +3,7 @@
 use ld_base::{Bytes, Choice, Sequence, Serial};
 
 /// What the symbol of a relocation was bound to.
-#[derive(Debug, Drop)]
+#[derive(Drop)]
 pub struct Binding {
     /// False exactly for a slot that stays lazy. Its other fields aren't used then.
     pub bound: bool,
@@ -23,7 +23,7 @@ pub type Bindings = Sequence<Binding>;
 
 /// The thread-local storage of an object: the number of its module, with its offset in each static
 /// block where it has one.
-#[derive(Clone, Copy, Debug, PartialEq, Eq)]
+#[derive(Clone, Copy, PartialEq, Eq)]
 pub struct ModulePlace {
     pub serial: Serial,
     pub number: u64,

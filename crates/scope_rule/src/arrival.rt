@@ -3,7 +3,7 @@
 use ld_base::{HashTable, Name, Object};
 
 /// An object that a load read, and where: it has no serial yet.
-#[derive(Debug, Drop)]
+#[derive(Drop)]
 pub struct Arrival {
     pub path: Name,
     pub object: Object,

@@ -5,7 +5,7 @@ ghost use Rattle.std.specs.Prelude.{◌≡◌};
 use ld_base::{Added, NsId, Sequence, Serial, Serials};
 
 /// An opening that counts: what it opened, and how many times.
-#[derive(Clone, Copy, Debug, PartialEq, Eq)]
+#[derive(Clone, Copy, PartialEq, Eq)]
 pub struct OpenRec {
     pub root: Serial,
     pub count: u64,
@@ -15,7 +15,7 @@ pub struct OpenRec {
 pub type Opens = Sequence<OpenRec>;
 
 /// A namespace: objects that see each other's definitions.
-#[derive(Debug, Drop)]
+#[derive(Drop)]
 pub struct Namespace {
     pub id: NsId,
     /// In load order.

@@ -13,7 +13,7 @@ use ld_base::{Added, Serial, Serials};
 use std::alloc::{AllocError, Global};
 
 /// The global objects and the openings of a namespace, as an opening leaves them.
-#[derive(Debug, Drop)]
+#[derive(Drop)]
 pub struct OpenedLists {
     pub global: Serials,
     pub opens: Opens,

@@ -9,7 +9,7 @@ use ld_base::{Loaded, Serial, State};
 
 /// What a search sees of a namespace: as it stands, or as an opening will leave it. So every choice
 /// of an opening is known before anything changes.
-#[derive(Clone, Copy, Debug)]
+#[derive(Clone, Copy)]
 pub struct View<'a> {
     /// The objects that are there, in load order.
     pub objects: &'a [Loaded],

@@ -8,14 +8,14 @@ use ld_base::{Object, Role, Sequence};
 use std::marker::Model;
 
 /// A doubleword of guest memory: its value, and what it may be used for.
-#[derive(Clone, Copy, Debug, PartialEq, Eq)]
+#[derive(Clone, Copy, PartialEq, Eq)]
 pub struct Word {
     pub value: u64,
     pub role: Role,
 }
 
 /// Words, in order of address.
-#[derive(Debug, Drop)]
+#[derive(Drop)]
 pub struct Words {
     items: Vec<Word>,
 }
@@ -77,7 +77,7 @@ impl From<Vec<Word>> for Words {
 }
 
 /// The words of an object's pages, the first of which lies at `start` in guest memory.
-#[derive(Debug, Drop)]
+#[derive(Drop)]
 pub struct Image {
     pub start: u64,
     pub words: Words,

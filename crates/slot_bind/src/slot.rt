@@ -22,7 +22,7 @@ use word_memory::{
 use word_rule::{Entry, Grant, HartKind, KeeperKind, RowWord};
 
 /// What came of an exchange.
-#[derive(Clone, Copy, Debug, PartialEq, Eq)]
+#[derive(Clone, Copy, PartialEq, Eq)]
 pub enum Bound {
     /// The slot held its lazy word.
     Won,
@@ -31,7 +31,7 @@ pub enum Bound {
 }
 
 /// What a hart's row says of its grant.
-#[derive(Clone, Copy, Debug, PartialEq, Eq)]
+#[derive(Clone, Copy, PartialEq, Eq)]
 pub enum Asked {
     Open,
     Won,

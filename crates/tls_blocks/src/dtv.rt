@@ -21,7 +21,7 @@ pub enum TlsAnswer {
 }
 
 /// A block of a module, with the object that the module was of.
-#[derive(Clone, Copy, Debug, PartialEq, Eq)]
+#[derive(Clone, Copy, PartialEq, Eq)]
 pub struct Entry {
     /// The module's number.
     pub number: u64,
@@ -31,7 +31,7 @@ pub struct Entry {
 
 /// The blocks of a hart. Contracts see it as the list of its entries, the generation of the modules
 /// at which they were last compared, and the room that is kept for more.
-#[derive(Debug, Drop)]
+#[derive(Drop)]
 pub struct Dtv {
     /// At most one of each module.
     entries: Vec<Entry>,

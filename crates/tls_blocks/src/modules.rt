@@ -19,7 +19,7 @@ const PROGRAM: u64 = 1;
 /// The modules of the objects that are loaded. Contracts see them in the order of their numbers,
 /// with the end of the last static block, tp's distance from the start of its area, the generation,
 /// and the room that is kept for more.
-#[derive(Debug, Drop)]
+#[derive(Drop)]
 pub struct TlsModules {
     /// In the order of their numbers.
     modules: Vec<Module>,

@@ -6,7 +6,7 @@ ghost use Rattle.trace_read.specs.declared.fault.TraceFault.TheVariants.{Memory}
 use std::alloc::{AllocError, AllocFailed};
 
 /// Why there is no event.
-#[derive(Clone, Copy, Debug)]
+#[derive(Clone, Copy)]
 pub enum TraceFault {
     /// No event has this line.
     NotALine,

@@ -7,7 +7,7 @@ use history_event::HartEnd;
 use std::fmt;
 
 /// The end of a hart, which is written as its words.
-#[derive(Clone, Copy, Debug)]
+#[derive(Clone, Copy)]
 pub struct EndText(pub HartEnd);
 
 #[tactic(auto, unfolding(crate::specs::Ends::end_text))]

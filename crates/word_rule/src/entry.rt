@@ -1,7 +1,7 @@
 //! What goes between the keeper and a hart.
 
 /// What answers a hart's call.
-#[derive(Clone, Copy, Debug, PartialEq, Eq)]
+#[derive(Clone, Copy, PartialEq, Eq)]
 pub struct Entry {
     /// 1: an event. 2: a TLS answer that is no event. 3: a grant. 6: the call is to be tried again.
     pub mark: u8,
@@ -17,7 +17,7 @@ pub struct Entry {
 }
 
 /// A grant as a hart gets it: its entry, of mark 3, and the slot's lazy word.
-#[derive(Clone, Copy, Debug, PartialEq, Eq)]
+#[derive(Clone, Copy, PartialEq, Eq)]
 pub struct Grant {
     /// Its number, its slot's address, and the value to put there.
     pub entry: Entry,
@@ -26,7 +26,7 @@ pub struct Grant {
 }
 
 /// A compare-exchange of a slot: the grant that it was made for, and the word found.
-#[derive(Clone, Copy, Debug, PartialEq, Eq)]
+#[derive(Clone, Copy, PartialEq, Eq)]
 pub struct Exchange {
     /// The grant whose lazy word was compared, and whose value was to be put in.
     pub grant: Grant,
@@ -35,7 +35,7 @@ pub struct Exchange {
 }
 
 /// A word of a hart's row beside its state.
-#[derive(Clone, Copy, Debug, PartialEq, Eq)]
+#[derive(Clone, Copy, PartialEq, Eq)]
 pub enum RowWord {
     /// The entry's number.
     Number,

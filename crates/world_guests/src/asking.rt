@@ -11,7 +11,7 @@ ghost use Rattle.world_guests.specs.Asking.{IsAsked, may_run_functions};
 use hart_seat::{Call, Due, LinkedHart, Purpose};
 
 /// What a hart asks the linker for.
-#[derive(Clone, Copy, Debug, PartialEq, Eq)]
+#[derive(Clone, Copy, PartialEq, Eq)]
 pub(crate) enum Asked {
     /// A call.
     Call,

@@ -20,7 +20,7 @@ use std::alloc::Global;
 use world_returns::begin;
 
 /// How the final destructors of a run begin.
-#[derive(Clone, Copy, Debug, PartialEq, Eq)]
+#[derive(Clone, Copy, PartialEq, Eq)]
 pub enum Beginning {
     /// No object is left: there is nothing to run.
     NoneLeft,

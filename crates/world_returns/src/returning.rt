@@ -10,7 +10,7 @@ ghost use Rattle.history_calls.specs.Call.{Call as is_call};
 use hart_seat::{Call, Due, LinkedHart};
 
 /// How a call returns.
-#[derive(Clone, Copy, Debug, PartialEq, Eq)]
+#[derive(Clone, Copy, PartialEq, Eq)]
 pub(crate) enum CallReturn {
     /// To where its function was called.
     ToCaller,

@@ -1,7 +1,7 @@
 //! What may stand behind the word of a command.
 
 /// The options and the other words that a command has.
-#[derive(Clone, Copy, Debug, PartialEq, Eq)]
+#[derive(Clone, Copy, PartialEq, Eq)]
 pub enum Form {
     /// A program, and what it is bound with.
     Bind,

@@ -8,7 +8,7 @@ use crate::said_words::option::{has_value, is_option, joined_value, option_at};
 use cli_words::Switch;
 
 /// What stands at the front of words.
-#[derive(Clone, Copy, Debug)]
+#[derive(Clone, Copy)]
 pub(crate) enum Front {
     /// The end of the options.
     End,

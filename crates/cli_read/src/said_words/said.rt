@@ -9,7 +9,7 @@ use crate::said_words::front::{Front, first_text, read_front, value_at};
 use cli_words::Switch;
 
 /// What words behind a command say: the values of its options, and the other words.
-#[derive(Clone, Copy, Debug)]
+#[derive(Clone, Copy)]
 pub struct Said<'a> {
     /// The value of `--lib`, where it stands.
     pub lib: Option<&'a str>,

@@ -16,7 +16,7 @@ use scope_rule::Namespace;
 use std::alloc::{AllocError, Global};
 
 /// A closing of some objects that is to be made.
-#[derive(Debug, Drop)]
+#[derive(Drop)]
 pub struct ClosingPlan {
     /// The objects, for its event.
     pub list: Serials,

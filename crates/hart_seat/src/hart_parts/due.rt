@@ -21,7 +21,7 @@ pub struct Offered {
 }
 
 /// The functions that take names.
-#[derive(Clone, Copy, Debug, PartialEq, Eq)]
+#[derive(Clone, Copy, PartialEq, Eq)]
 pub enum Naming {
     Dlopen,
     Dlmopen,
@@ -30,7 +30,7 @@ pub enum Naming {
 }
 
 /// What is copied of a hart's memory, a doubleword a turn.
-#[derive(Clone, Copy, Debug)]
+#[derive(Clone, Copy)]
 pub enum Copying<'a> {
     /// The name that a function takes.
     Name(Naming),
@@ -43,7 +43,7 @@ pub enum Copying<'a> {
 }
 
 /// What a hart asks the linker for.
-#[derive(Clone, Copy, Debug)]
+#[derive(Clone, Copy)]
 pub enum Call<'a> {
     /// A slot is called for the first time.
     Resolve {
@@ -99,7 +99,7 @@ pub enum Call<'a> {
 }
 
 /// What a hart's next turn is.
-#[derive(Clone, Copy, Debug)]
+#[derive(Clone, Copy)]
 pub enum Due<'a> {
     /// The hart has ended.
     Nothing,

@@ -15,7 +15,7 @@ use ld_base::Serial;
 use std::marker::Model;
 
 /// What the linker has a hart run functions for.
-#[derive(Debug, Drop)]
+#[derive(Drop)]
 pub enum Purpose {
     /// The constructors of startup. Then the hart starts with these registers.
     Startup(HartEntry),

@@ -8,7 +8,7 @@ ghost use Rattle.hart_seat.specs.HartParts.Views.{service_of};
 use crate::hart_parts::Naming;
 
 /// A service of the linker.
-#[derive(Clone, Copy, Debug)]
+#[derive(Clone, Copy)]
 pub enum Service {
     /// A slot is called for the first time.
     Resolve,

@@ -4,7 +4,7 @@ use ld_base::Sequence;
 use seg_image::Images;
 
 /// Where a slot stands, and what it holds until it is bound.
-#[derive(Clone, Copy, Debug, PartialEq, Eq)]
+#[derive(Clone, Copy, PartialEq, Eq)]
 pub struct SlotWord {
     pub address: u64,
     pub lazy: u64,
@@ -14,7 +14,7 @@ pub struct SlotWord {
 pub type SlotWords = Sequence<SlotWord>;
 
 /// What an opening, or a hart's first use of a block, puts into guest memory.
-#[derive(Debug, Drop)]
+#[derive(Drop)]
 pub struct Installs {
     /// The new objects, relocated, in load order.
     pub images: Images,

@@ -5,7 +5,7 @@ use history_event::{Dying, Functions};
 use ld_base::{DlFault, Shown};
 
 /// What came of a hart's call of a dl function.
-#[derive(Debug, Drop)]
+#[derive(Drop)]
 pub enum Served {
     /// It returns with this value.
     Done(u64),

@@ -5,7 +5,7 @@ use history_event::{Entries, Functions, Journal};
 use ld_base::{DlFault, Name, Names};
 
 /// What a run is given.
-#[derive(Debug, Drop)]
+#[derive(Drop)]
 pub struct Setup {
     /// The path of the program.
     pub program: Name,
@@ -22,7 +22,7 @@ pub struct Setup {
 }
 
 /// What startup made.
-#[derive(Debug, Drop)]
+#[derive(Drop)]
 pub struct Started {
     pub installs: Installs,
     /// The constructors, which the first hart runs before any other turn.
@@ -32,7 +32,7 @@ pub struct Started {
 }
 
 /// Why nothing starts.
-#[derive(Debug, Drop)]
+#[derive(Drop)]
 pub enum StartFault {
     /// The first refusal, and the events up to it.
     Refused(DlFault, Journal),

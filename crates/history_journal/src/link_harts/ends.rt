@@ -9,7 +9,7 @@ use std::alloc::{AllocError, Global};
 use std::marker::Model;
 
 /// The ends of so many harts, in the order in which they came. Contracts see the number and the list.
-#[derive(Debug, Drop)]
+#[derive(Drop)]
 pub struct HartEnds {
     harts: u32,
     endings: Vec<Ending>,

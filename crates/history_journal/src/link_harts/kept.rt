@@ -11,7 +11,7 @@ use std::marker::Model;
 
 /// The refusals that harts haven't been told yet. Contracts see them as a list, the latest last, with
 /// the room for more.
-#[derive(Debug, Drop)]
+#[derive(Drop)]
 pub struct KeptFaults {
     kept: Vec<Kept>,
 }

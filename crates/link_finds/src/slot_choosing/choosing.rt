@@ -18,7 +18,7 @@ use std::alloc::AllocError;
 use sym_lookup::lookup_reloc;
 
 /// What a slot would be bound to.
-#[derive(Clone, Copy, Debug, PartialEq, Eq)]
+#[derive(Clone, Copy, PartialEq, Eq)]
 pub struct SlotChoice {
     /// Its number among its object's slots.
     pub slot: u32,
@@ -35,7 +35,7 @@ pub struct SlotChoice {
 }
 
 /// Why there is no choice.
-#[derive(Clone, Copy, Debug, PartialEq, Eq)]
+#[derive(Clone, Copy, PartialEq, Eq)]
 pub enum SlotFault {
     /// No such object is mapped.
     Unloaded,

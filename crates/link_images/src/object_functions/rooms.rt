@@ -22,7 +22,7 @@ use std::alloc::{AllocError, Global};
 use std::marker::Model;
 
 /// Room for the constructors of an object.
-#[derive(Debug, Drop)]
+#[derive(Drop)]
 struct Room {
     object: Serial,
     /// Its place among the new objects.
@@ -82,7 +82,7 @@ impl Room {
 }
 
 /// Room for the constructors of new objects, in the order in which they run.
-#[derive(Debug, Drop)]
+#[derive(Drop)]
 pub struct ConstructorRooms {
     rooms: Vec<Room>,
     functions: Vec<Function>,

@@ -10,7 +10,7 @@ use std::marker::Model;
 
 /// Edges from objects to those that their relocations chose and their slots lead to. Contracts see them
 /// with the room for more.
-#[derive(Debug, Drop)]
+#[derive(Drop)]
 pub struct HeldEdges {
     edges: Vec<Edge>,
     room: usize,

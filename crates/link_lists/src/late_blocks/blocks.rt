@@ -11,7 +11,7 @@ use std::alloc::{AllocError, Global};
 use std::marker::Model;
 
 /// Blocks, in the order in which harts got them. Contracts see the list, with the room for more.
-#[derive(Debug, Drop)]
+#[derive(Drop)]
 pub struct LateBlocks {
     blocks: Vec<Block>,
 }

@@ -14,7 +14,7 @@ const LAST_NUMBER: u64 = 1 << 62;
 
 /// Grants that aren't settled yet, in order of their numbers. Contracts see the list, with the number of
 /// all grants that were ever made, and with the room for more.
-#[derive(Debug, Drop)]
+#[derive(Drop)]
 pub struct OpenGrants {
     grants: Vec<Granting>,
     count: u64,

@@ -8,7 +8,7 @@ use std::marker::Model;
 
 /// The objects whose constructors have run and whose destructors haven't, in the order in which they
 /// were initialised. Contracts see them with the room for more.
-#[derive(Debug, Drop)]
+#[derive(Drop)]
 pub struct Unfinished {
     serials: Vec<Serial>,
     room: usize,

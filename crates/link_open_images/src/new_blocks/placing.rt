@@ -18,7 +18,7 @@ use std::alloc::{AllocError, Global};
 const PAGE_SIZE: u64 = 4096;
 
 /// A block that a hart is to get.
-#[derive(Debug, Drop)]
+#[derive(Drop)]
 pub struct NewBlock {
     /// Where its pages begin.
     pub start: u64,
@@ -31,7 +31,7 @@ pub struct NewBlock {
 }
 
 /// Why there is no block.
-#[derive(Clone, Copy, Debug, PartialEq, Eq)]
+#[derive(Clone, Copy, PartialEq, Eq)]
 pub enum BlockFault {
     /// So many pages have no room.
     NoRoom(u64),

@@ -25,7 +25,7 @@ use std::alloc::{AllocError, Global};
 use sym_lookup::References;
 
 /// Why there are no choices.
-#[derive(Debug, Drop)]
+#[derive(Drop)]
 pub enum ChoiceFault {
     /// A relocation is refused.
     Refused(DlFault),

@@ -17,7 +17,7 @@ use std::alloc::{AllocError, Global};
 use tls_blocks::TlsModules;
 
 /// Why new objects have no places.
-#[derive(Clone, Copy, Debug, PartialEq, Eq)]
+#[derive(Clone, Copy, PartialEq, Eq)]
 pub enum PlaceFault {
     /// So many pages have no room.
     Full(u64),

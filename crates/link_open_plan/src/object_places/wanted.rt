@@ -24,7 +24,7 @@ const PAGE_SIZE: u64 = 4096;
 const STACK_PAGES: u64 = 16;
 
 /// Where pages may stand.
-#[derive(Clone, Copy, Debug, PartialEq, Eq)]
+#[derive(Clone, Copy, PartialEq, Eq)]
 pub(crate) enum Spot {
     /// At any multiple of this alignment.
     Anywhere(u64),
@@ -33,7 +33,7 @@ pub(crate) enum Spot {
 }
 
 /// Pages that are wanted: contracts see them as the history's area.
-#[derive(Debug, Drop)]
+#[derive(Drop)]
 pub(crate) struct Wanted {
     pages: u64,
     spot: Spot,

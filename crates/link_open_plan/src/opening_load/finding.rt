@@ -21,7 +21,7 @@ use scope_rule::{Namespace, finds_loaded, one_outcome};
 use std::alloc::{AllocError, Global};
 
 /// What the name of an opening leads to.
-#[derive(Debug, Drop)]
+#[derive(Drop)]
 pub enum Found {
     /// With RTLD_NOLOAD, no object that is there.
     Absent,

@@ -9,7 +9,7 @@ use std::alloc::{AllocError, Global};
 use std::marker::Model;
 
 /// Closings whose objects aren't unmapped yet, in order. Contracts see the list, with the room for more.
-#[derive(Debug, Drop)]
+#[derive(Drop)]
 pub struct PendingClosings {
     closings: Vec<Pending>,
 }

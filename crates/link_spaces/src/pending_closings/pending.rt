@@ -11,7 +11,7 @@ use std::marker::Model;
 
 /// A closing whose objects aren't unmapped yet. Contracts see its hart and its objects, and for how many
 /// objects and ranges there is room.
-#[derive(Debug, Drop)]
+#[derive(Drop)]
 pub struct Pending {
     hart: HartId,
     set: Serials,

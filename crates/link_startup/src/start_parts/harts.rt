@@ -29,7 +29,7 @@ const LINKER_PAGE: u64 = 0x80f000;
 const LINKER_END: u64 = 0x81_0000;
 
 /// Why a run doesn't start.
-#[derive(Debug, Drop)]
+#[derive(Drop)]
 pub enum Unstarted {
     /// The first refusal, which is noted.
     Refused(DlFault),

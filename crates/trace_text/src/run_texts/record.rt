@@ -6,7 +6,7 @@ ghost use Rattle.trace_text.specs.RunTexts.Counting.{counts_of, is_bound, is_gra
 use history_event::{Ends, Event, Journal};
 
 /// How many events a journal has, and how many of the kinds that are counted.
-#[derive(Clone, Copy, Debug, PartialEq, Eq)]
+#[derive(Clone, Copy, PartialEq, Eq)]
 pub struct Counts {
     pub events: u64,
     /// Slots that were granted.
@@ -18,7 +18,7 @@ pub struct Counts {
 }
 
 /// What a run leaves.
-#[derive(Debug, Drop)]
+#[derive(Drop)]
 pub struct RunRecord {
     pub journal: Journal,
     /// Each hart's last end, in order of hart number; none where startup was refused.

@@ -12,7 +12,7 @@ use std::alloc::{AllocError, Global};
 use std::fmt;
 
 /// How a run ended.
-#[derive(Clone, Copy, Debug, PartialEq, Eq)]
+#[derive(Clone, Copy, PartialEq, Eq)]
 pub enum RunEnd {
     /// Every hart ended by exit, hart 0 with this code.
     Exited(u64),

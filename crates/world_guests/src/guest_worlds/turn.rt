@@ -4,7 +4,7 @@ use history_event::HartEnd;
 use ld_base::Shown;
 
 /// What came of a hart's turn.
-#[derive(Clone, Copy, Debug, PartialEq, Eq)]
+#[derive(Clone, Copy, PartialEq, Eq)]
 pub enum Turn {
     /// The hart did something.
     Stepped,

@@ -6,7 +6,7 @@ use history_event::{Dying, Functions, HartEnd, Ranges};
 use ld_base::{Name, Serial, Shown};
 
 /// What guest memory gets of the events of a turn.
-#[derive(Debug, Drop)]
+#[derive(Drop)]
 pub enum MemoryChange {
     /// Nothing.
     Nothing,
@@ -19,7 +19,7 @@ pub enum MemoryChange {
 }
 
 /// What came of a hart's call. Its events are in the journal.
-#[derive(Debug, Drop)]
+#[derive(Drop)]
 pub enum Answered {
     /// It returns with this value.
     Returns(u64, MemoryChange),

@@ -3,7 +3,7 @@
 use ld_base::{HartId, Sequence};
 
 /// A hart takes its next so many turns.
-#[derive(Clone, Copy, Debug, PartialEq, Eq)]
+#[derive(Clone, Copy, PartialEq, Eq)]
 pub struct TurnItem {
     pub hart: HartId,
     pub count: u64,
