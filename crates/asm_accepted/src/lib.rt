@@ -3,6 +3,9 @@
 //! - [`the_object_is_the_record`]: it is the record that the statements of the source say.
 //! - [`unbroken_bytes_spell_the_record`]: that record spells the bytes, where they break no rule.
 //! - [`the_names_are_strings`]: each name of an accepted object is a string of its table.
+//!
+//! `elf_tabled`, `elf_hashed`, `elf_versioned` and `elf_accepted` say it of whatever `asm_write` makes, table by
+//! table; `asm_fields`, `asm_hashed`, `asm_versioned`, `asm_packed` and `asm_record` that a source's contents are such.
 #![tactic(auto)]
 
 mod asm_fields;

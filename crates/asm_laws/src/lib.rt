@@ -5,6 +5,9 @@
 //! - [`sections_have_their_sizes`]: the bytes of each section are as many as its lines fill.
 //! - [`strings_are_said`]: the names in the strings are names that the lines say.
 //! - [`sections_are_small`]: no section of a source comes near 2^64 bytes.
+//!
+//! `elf_written`, `elf_records` and `elf_spelled` say of the writer's bytes how long they are and what a reader
+//! finds at each place; `asm_whole` and `asm_bounds` how large a source and its object are.
 #![tactic(auto)]
 
 mod asm_bounds;

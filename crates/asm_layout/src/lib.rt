@@ -17,6 +17,8 @@
 //! compute to what they have to. [`forms_are_those_of_the_table`]: a number is out of range exactly where the
 //! instruction's form in `rv_isa` can't hold it. [`words_have_their_room`]: the table gives an instruction as many
 //! words as its line's place has room for.
+//!
+//! `asm_denotes` puts it together: which bytes a source denotes, or the line and the cause of its refusal.
 #![tactic(auto)]
 
 mod asm_denotes;

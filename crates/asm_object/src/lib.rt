@@ -5,6 +5,8 @@
 //! ([`Code`]), and last the object must not be larger than 8 MiB, which is known before any of its bytes is
 //! made. What all that means stands in `asm_grammar` and `asm_layout`, definitions over the
 //! source and over its lines.
+//!
+//! `asm_bytes` makes the bytes of each section, `asm_data` the numbers that its data hold.
 #![tactic(auto)]
 
 mod asm_bytes;

@@ -3,6 +3,8 @@
 //! [`Places`] tells of each line its section and the offset in it, and how far the lines fill each
 //! section. [`fits_data`] and its kin tell which written numbers fit where, [`value_of`] which number one
 //! is. What all that means is in `asm_layout`, definitions over the lines.
+//!
+//! `asm_needs` has which versions a source needs of which files, and the numbers of versions.
 #![tactic(auto)]
 
 mod asm_needs;

@@ -7,6 +7,8 @@
 //!
 //! Instructions are those of the RISC-V Unprivileged ISA 20191213, chapters 24 and 25, and the ones
 //! that stand for a name's address in the RISC-V Assembly Programmer's Manual.
+//!
+//! `asm_words` has what the words of a source stand for: registers, mnemonics, directives, numbers, names.
 #![tactic(auto)]
 
 mod alignment;

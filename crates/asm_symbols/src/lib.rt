@@ -3,6 +3,9 @@
 //! [`SymbolIndexes`] tells the index of a name; [`SymbolFacts`] has what the lines say of symbols beside their
 //! places (which are weak, how much of them others see, how far they reach, which versions they need);
 //! [`SymbolTable`] makes the entries. What all that means is in `asm_layout`, definitions over the lines.
+//!
+//! `asm_tables` makes what these entries count on: extents of sections, the string table, exported symbols
+//! in the order of their buckets, records of versions, where labels stand.
 #![tactic(auto)]
 
 mod asm_tables;

@@ -7,6 +7,8 @@
 //! What is promised of every source: either each of its lines is one of the grammar, and the answer
 //! has them in order, or the answer is the first line that isn't, with its cause; or there was no
 //! memory.
+//!
+//! `asm_parts` splits the text of a line, `asm_operands` and `asm_directives` read its operands.
 #![tactic(auto)]
 
 mod asm_directives;

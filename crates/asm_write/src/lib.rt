@@ -3,6 +3,8 @@
 //! [`Contents`] is what an object holds before anything has an address: its symbols, the places that its
 //! linker fills, its hash tables and versions, and how large its sections are. [`Starts`] tells where each
 //! [`Part`] of it starts. The records of its tables are lists of little-endian fields.
+//!
+//! `hash_build` makes the two hash tables of exported symbols, from the hashes of their names.
 #![tactic(auto)]
 
 mod contents;

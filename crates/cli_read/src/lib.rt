@@ -4,6 +4,9 @@
 //! judged here, without memory: which say options of their command, each at most once and with a value that it
 //! may have, and as many other words as it has. What passes goes to the kit's reader of command lines, which
 //! takes it, and the values are those of its matches.
+//!
+//! `decimals` reads decimal numbers, `schedule_read` schedules, `said_words` judges words, `clap_words` hands them to
+//! the kit's reader.
 #![tactic(auto)]
 
 mod arguments;

@@ -2,6 +2,9 @@
 //!
 //! A closing unmaps what no chain of edges leads to from a root: [`unneeded`] gives exactly those
 //! nodes of a graph, in its order. Each edge is followed once.
+//!
+//! Around it stands all that a closing takes: the graph of a namespace (`closing_graph`), its set and its plan
+//! (`closing_sets`, `closing_plans`), the objects and modules that an unmapping takes out (`unmapped_objects`, `unmap_steps`).
 #![tactic(auto)]
 
 mod closing_graph;

@@ -19,6 +19,9 @@
 //!
 //! [`file_bytes`] gives the bytes of the file that stand for a range of addresses, where there are
 //! such ([`is_readable`]), and [`bytes_from`] those from an address to the end of its segment.
+//!
+//! Beside the head stand what all readers of tables share, as definitions with their lemmas (`acceptance`), and
+//! the front of the dynamic table, its entries and the tables that they name, without a rule (`dyn_table`).
 #![tactic(auto)]
 
 mod acceptance;

@@ -11,6 +11,8 @@
 //! the other.
 //!
 //! There is no code but laws: functions without a body, whose contract is the law.
+//!
+//! `turn_events` says which events a turn may leave, `turn_frames` what becomes of the functions that a hart runs.
 #![tactic(auto)]
 
 mod law;

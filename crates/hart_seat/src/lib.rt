@@ -7,6 +7,8 @@
 //!
 //! No method takes memory but [`LinkedHart::make_room`], which is called before a service that may have
 //! the hart run functions.
+//!
+//! `hart_parts` has what is kept between turns, and what a turn is due ([`Due`]).
 #![tactic(auto)]
 
 mod hart;

@@ -12,6 +12,9 @@
 //! the copying of names.
 //!
 //! There is no code but laws: functions without a body, whose contract is the law.
+//!
+//! `link_served` has the types that calls answer with, `untold_files` what is known of files that a library
+//! doesn't tell, `call_laws` what is said of a call beside what it gives, `load_choices` what a load may still choose.
 #![tactic(auto)]
 
 mod call_laws;

@@ -5,6 +5,8 @@
 //! a serial that is no node. What is reached from the roots, what nothing needs, which object depends
 //! on which and in what order objects are initialised stand in `specs/`, each over plain lists.
 //! [`Successors`] looks the edges of a serial up.
+//!
+//! `serial_sets` is a set of serials, of which a look-up takes few steps.
 #![tactic(auto)]
 
 mod graph;

@@ -1,9 +1,12 @@
 //! The set of libraries that a number makes, with the program that runs them, and the line that sums up
 //! their run.
 //!
-//! [`library_set`] assembles the sources of the set (`lib_gen`). [`SetLibrary`] has its files and
+//! [`library_set`] assembles the sources of the set (`generated_sources`). [`SetLibrary`] has its files and
 //! never fails. [`summary_line`] says how large the set is, how many slots its run was granted and bound,
 //! and with which code it exited.
+//!
+//! `generated_sources` writes the sources, `generated_lines` and `generated_denotes` have their laws: each
+//! denotes an object.
 #![tactic(auto)]
 
 mod generated_denotes;

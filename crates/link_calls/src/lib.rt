@@ -6,6 +6,8 @@
 //! comes of a call is its answer ([`Served`](history_calls::Served)), with its events in the journal; a refusal is
 //! kept for the hart. After want of memory the state is as before. [`final_functions`] has the destructors that
 //! are left at the end of a run.
+//!
+//! `link_opening` judges an opening: what it asks, whether it has to wait, and what refuses it.
 #![tactic(auto)]
 
 mod closing;

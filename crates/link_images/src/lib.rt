@@ -2,6 +2,9 @@
 //!
 //! [`ImageParts`] has, for each image, where the object's destructors are, and the bytes with which a
 //! block of its thread-local storage begins: both are taken from the image as it was relocated.
+//!
+//! `image_reads` reads words and bytes of an image, `object_functions` finds the constructors and destructors of
+//! an object in it.
 #![tactic(auto)]
 
 mod image_reads;

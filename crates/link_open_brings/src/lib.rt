@@ -4,6 +4,8 @@
 //! them, the edges to what their relocations chose, and the modules with theirs.
 //!
 //! What is promised: each is what the state after the opening has (`IsBrought` in specs/).
+//!
+//! `startup_areas` has what startup brings besides: stacks and static areas.
 #![tactic(auto)]
 
 mod bringing;

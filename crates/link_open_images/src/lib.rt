@@ -5,6 +5,9 @@
 //!
 //! What is promised: each image is that of one definition (`AreRelocated` in specs/), and slots are those
 //! of the objects, in load order.
+//!
+//! `area_images` makes the images of static areas and blocks, `new_blocks` a late block, `object_bindings` what an
+//! object's relocations come to, `opening_steps` the modules and edges of an opening.
 #![tactic(auto)]
 
 mod area_images;

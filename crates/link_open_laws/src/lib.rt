@@ -5,6 +5,8 @@
 //! `link_open_images` makes of new objects to the history's state: with
 //! [`openings_relocate`] images can be made before the opening is, and by [`relocated_are_installs`] they
 //! are what memory gets.
+//!
+//! `opening_follows` has the laws of what an opening leads to.
 #![tactic(auto)]
 
 mod law;

@@ -6,6 +6,9 @@
 //! nothing but the library's counts.
 //!
 //! What is promised: the plan, or why there is none, is what the history asks of an opening.
+//!
+//! `opening_load` finds and reads what the name leads to, `object_places` gives new objects pages and modules,
+//! `object_choices` has what their relocations choose.
 #![tactic(auto)]
 
 mod before;

@@ -3,6 +3,9 @@
 //! [`make_ready`] says of an object that its constructors have run. [`lower`] takes one opening less of
 //! a handle, and [`make_dying`] lets the objects of a closing die: they are global no longer. These take
 //! no memory. [`open_in`] puts what an opening brings into its namespace, or leaves all as it was.
+//!
+//! Beside namespaces stand the other lists that events change in place: reserved ranges, closings that wait,
+//! objects by serial (`object_holders`) and by address (`mapped_objects`), and the words of slots (`slot_words`).
 #![tactic(auto)]
 
 mod dying;

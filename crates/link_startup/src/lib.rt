@@ -5,6 +5,8 @@
 //! first hart is to run before any other turn, and the registers with which each hart starts; or the first
 //! refusal, with the events up to it. Each hart starts in a stack of its own
 //! ([`stacks_are_own`]); [`starts_are_worked`] has starts that are worked by hand.
+//!
+//! `start_parts` has the parts of a start: harts with their stacks and areas, and the functions that run first.
 #![tactic(auto)]
 
 mod bringing;

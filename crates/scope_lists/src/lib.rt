@@ -5,6 +5,8 @@
 //! known by its serial in one step: that takes a step a name. Scopes are made for those objects alone that
 //! ask for them, and are kept: each takes a step an entry, and a look-up an opening.
 //! By [`lists_stay`] an object that becomes ready leaves the lists as they are.
+//!
+//! `version_places` knows where the names of an object's versions stand, by their index.
 #![tactic(auto)]
 
 mod breadth_first;

@@ -3,6 +3,8 @@
 //! [`write_event`] writes the line of an event: words apart by one space, the first of which names
 //! the kind of event, and a line feed. [`event_text`] is that line by itself, and [`EndText`] the words
 //! of a hart's end.
+//!
+//! `run_texts` has the lines of a run's end and its record.
 #![tactic(auto)]
 
 mod ends;

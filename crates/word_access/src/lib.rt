@@ -10,6 +10,9 @@
 //! or it changed under the access.
 //!
 //! `word_memory` gives a hart its seat and its bus over these.
+//!
+//! `word_keeping` has what the keeper does in a few steps: it gives a doubleword a value and a role, takes the
+//! role away, and tells a hart of its events.
 #![tactic(auto)]
 
 mod access;

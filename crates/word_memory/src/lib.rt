@@ -3,7 +3,7 @@
 //! [`Memory`] is a table of atomic words under the rule of `word_rule`: of each doubleword its value
 //! and its control word, the rows between the linker and the harts, the count and the generation.
 //! Whoever steps on it has a seat: a [`HartSeat`] for each hart, and one for the linker's keeper
-//! ([`KeeperSeat`]); `word_memory` makes them. Each step is one of the kinds of `word_rule`
+//! ([`KeeperSeat`]); `word_seats` makes them. Each step is one of the kinds of `word_rule`
 //! (`word_steps`), by the accesses and changes of `word_access`.
 //!
 //! [`TableBus`] is that memory as a hart's bus. It appends each call to the trail in the seat's view at
@@ -11,6 +11,8 @@
 //!
 //! No call of a bus takes memory or waits: a doubleword that another seat has locked, or that changed
 //! under the call, is answered by `Again`.
+//!
+//! `word_seats` makes a new memory with its seats.
 #![tactic(auto)]
 
 mod bus;

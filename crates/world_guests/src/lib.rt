@@ -14,6 +14,8 @@
 //! what is left, which takes memory: where there is none the hart ends, once more.
 //!
 //! A turn that leaves an event settles before it each grant that a hart is done with.
+//!
+//! `guest_worlds` says which world the linker's state, memory and harts are together, and which turns they take.
 #![tactic(auto)]
 
 mod alone;

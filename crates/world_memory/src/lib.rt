@@ -3,6 +3,8 @@
 //! [`PlainMemory`] has the doublewords of guest memory side by side. It is the bus of a hart; it makes the
 //! exchange of a slot; and [`PlainMemory::apply`] puts the pages there that an event reserves, or takes away
 //! those that one takes. No call but [`PlainMemory::new`] takes memory.
+//!
+//! `turn_answers` has what a turn is answered and what memory gets of it, `turn_parts` laws of the parts of a turn.
 #![tactic(auto)]
 
 mod bus;

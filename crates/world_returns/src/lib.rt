@@ -7,6 +7,8 @@
 //!
 //! [`settle_all`] comes before a service of any hart, and once at the end of a run: each grant whose hart is
 //! done with it is settled, in order of the harts' numbers. None of the three takes memory.
+//!
+//! `final_turns` has the turns of the final destructors.
 #![tactic(auto)]
 
 mod answer;

@@ -8,6 +8,9 @@
 //! `ShowInCounts` (`specs/Counts.antt`) says what a library's counts show of the turns that read it.
 //!
 //! There is no code but laws: functions without a body, whose contract is the law.
+//!
+//! `schedules` says what a schedule is, `turn_writes` which words a turn changes, `world_ends` and `world_frames` how
+//! harts end and what they still run, `running_worlds` what holds while harts run.
 #![tactic(auto)]
 
 mod law;
