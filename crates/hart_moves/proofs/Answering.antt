@@ -22,7 +22,7 @@ use Rattle.history_state.specs.Storage.{tls_block}
 use Rattle.tls_blocks.specs.Numbers.{module_at}
 use Rattle.history_calls.specs.Answer.{Answer, returns, loading, closing, refused, granted, told, again, over}
 use Rattle.history_calls.specs.Call.{Call, resolves, opens, looks_up, closes, unmaps, asks_fault, locates, writes, stops}
-use Rattle.history_calls.specs.Gives.{Answers, Gives, Serves, ending, variable_at}
+use Rattle.history_calls.specs.Gives.{EventAnswers, Gives, Serves, ending, variable_at}
 
 -- ---- an answer, read off the first events
 
@@ -137,22 +137,22 @@ Tells s h call appended (told fault) = answer_from s h call appended ≡ told fa
 Tells s h call appended (again for) = Unit {0}
 Tells s h call appended (over reason) = answer_from s h call appended ≡ over reason
 
-tells_one : (s : State) (h : ℕ) (call : Call) (e : Event) (answer : Answer) → Answers h call e answer → Tells s h call (e ∷ ending h answer) answer
-tells_one s h call e answer (Answers.is_loaded ask id root first rest ranges) = record { first = e; alone = refl; answers = λ more. refl }
-tells_one s h call e answer (Answers.is_there ask id root ranges) = refl
-tells_one s h call e answer (Answers.is_absent ask) = refl
-tells_one s h call e answer (Answers.is_not_opened ask fault) = refl
-tells_one s h call e answer (Answers.dies handle first rest) = record { first = e; alone = refl; answers = λ more. refl }
-tells_one s h call e answer (Answers.stays handle) = refl
-tells_one s h call e answer (Answers.is_not_closed handle fault) = refl
-tells_one s h call e answer (Answers.is_unmapped set) = refl
-tells_one s h call e answer (Answers.is_granted owner eights slot number choice value is) = refl
-tells_one s h call e answer (Answers.is_unresolved owner eights slot is) = refl
-tells_one s h call e answer (Answers.is_not_code owner eights slot serial index is) = refl
-tells_one s h call e answer (Answers.is_found ask serial index value) = refl
-tells_one s h call e answer (Answers.is_not_found ask fault) = refl
-tells_one s h call e answer (Answers.is_told fault) = refl
-tells_one s h call e answer (Answers.is_written bytes) = refl
+tells_one : (s : State) (h : ℕ) (call : Call) (e : Event) (answer : Answer) → EventAnswers h call e answer → Tells s h call (e ∷ ending h answer) answer
+tells_one s h call e answer (EventAnswers.is_loaded ask id root first rest ranges) = record { first = e; alone = refl; answers = λ more. refl }
+tells_one s h call e answer (EventAnswers.is_there ask id root ranges) = refl
+tells_one s h call e answer (EventAnswers.is_absent ask) = refl
+tells_one s h call e answer (EventAnswers.is_not_opened ask fault) = refl
+tells_one s h call e answer (EventAnswers.dies handle first rest) = record { first = e; alone = refl; answers = λ more. refl }
+tells_one s h call e answer (EventAnswers.stays handle) = refl
+tells_one s h call e answer (EventAnswers.is_not_closed handle fault) = refl
+tells_one s h call e answer (EventAnswers.is_unmapped set) = refl
+tells_one s h call e answer (EventAnswers.is_granted owner eights slot number choice value is) = refl
+tells_one s h call e answer (EventAnswers.is_unresolved owner eights slot is) = refl
+tells_one s h call e answer (EventAnswers.is_not_code owner eights slot serial index is) = refl
+tells_one s h call e answer (EventAnswers.is_found ask serial index value) = refl
+tells_one s h call e answer (EventAnswers.is_not_found ask fault) = refl
+tells_one s h call e answer (EventAnswers.is_told fault) = refl
+tells_one s h call e answer (EventAnswers.is_written bytes) = refl
 
 tells_given : (w : Setting) (past : List Event) (h : ℕ) (call : Call) (given : List Event) (answer : Answer) → Gives w past h call given answer
     → Tells (after past) h call (given ++ ending h answer) answer

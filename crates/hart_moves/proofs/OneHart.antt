@@ -37,7 +37,7 @@ use Rattle.hart_moves.specs.Follows.{Follows, Turned}
 use Rattle.hart_moves.specs.Harts.{HartState, Offered, Purpose, Resolving}
 use Rattle.hart_moves.specs.Laws.{OneHart}
 use Rattle.hart_moves.specs.Laws as laws
-use Rattle.hart_moves.specs.Moves.{Did, did_by, events_of, spent, freed, freed_by, Ends, EndsObject, Traps, Trap, trap_of, Refuses, Stops, Comes, Unread, CopiesBy, copied_item, StoresBy, all_finis, own_fini, Finals, final_functions, runs, IsOffer, Takes, TellsOf, MovesAs, Calls, Finalises, Instructs, Copies, StoresText}
+use Rattle.hart_moves.specs.Moves.{Did, did_by, events_of, spent, freed, freed_by, TurnEnds, EndsObject, Traps, Trap, trap_of, TurnRefuses, TurnStops, Comes, Unread, CopiesBy, copied_item, StoresBy, all_finis, own_fini, Finals, final_functions, runs, IsOffer, Takes, TellsOf, MovesAs, Calls, Finalises, Instructs, Copies, StoresText}
 use Rattle.hart_moves.proofs.Answering.{Leads, Tells, answer_from, tells}
 
 -- ---- calls of the bus
@@ -54,12 +54,12 @@ trap_items w past h b items (Trap.exits code) did c x = ap items_of x.is
 trap_items w past h b items (Trap.gives value) did c x = ap items_of x.is
 trap_items w past h b items Trap.writes did c x = ap items_of x.is
 
-refused_items : (w : Setting) (past : List Event) (h : ℕ) (b : HartState) (items : List Item) (address : ℕ) (fault : BusFault) (did : Did) (c : HartState) → Refuses w past h b items address fault did c → items_of did ≡ items
+refused_items : (w : Setting) (past : List Event) (h : ℕ) (b : HartState) (items : List Item) (address : ℕ) (fault : BusFault) (did : Did) (c : HartState) → TurnRefuses w past h b items address fault did c → items_of did ≡ items
 refused_items w past h b items address (RoleFault role) did c x = ap items_of x.is
 refused_items w past h b items address Misaligned did c x = ap items_of x.is
 refused_items w past h b items address (Again shown) did c x = ap items_of x.is
 
-stop_items : (w : Setting) (past : List Event) (h : ℕ) (b : HartState) (items : List Item) (s : Stop) (did : Did) (c : HartState) → Stops w past h b items s did c → items_of did ≡ items
+stop_items : (w : Setting) (past : List Event) (h : ℕ) (b : HartState) (items : List Item) (s : Stop) (did : Did) (c : HartState) → TurnStops w past h b items s did c → items_of did ≡ items
 stop_items w past h b items stop.Ecall did c x = trap_items w past h b items (trap_of b.registers) did c x
 stop_items w past h b items stop.Break did c x = ap items_of x.is
 stop_items w past h b items (stop.Bad word) did c x = ap items_of x.is
@@ -78,12 +78,12 @@ trap_once w past h b items (Trap.exits code) did c d x y = x.leaves ∙ sym y.le
 trap_once w past h b items (Trap.gives value) did c d x y = x.leaves ∙ sym y.leaves
 trap_once w past h b items Trap.writes did c d x y = x.leaves ∙ sym y.leaves
 
-refused_once : (w : Setting) (past : List Event) (h : ℕ) (b : HartState) (items : List Item) (address : ℕ) (fault : BusFault) (did : Did) (c d : HartState) → Refuses w past h b items address fault did c → Refuses w past h b items address fault did d → c ≡ d
+refused_once : (w : Setting) (past : List Event) (h : ℕ) (b : HartState) (items : List Item) (address : ℕ) (fault : BusFault) (did : Did) (c d : HartState) → TurnRefuses w past h b items address fault did c → TurnRefuses w past h b items address fault did d → c ≡ d
 refused_once w past h b items address (RoleFault role) did c d x y = x.leaves ∙ sym y.leaves
 refused_once w past h b items address Misaligned did c d x y = x.leaves ∙ sym y.leaves
 refused_once w past h b items address (Again shown) did c d x y = x.leaves ∙ sym y.leaves
 
-stop_once : (w : Setting) (past : List Event) (h : ℕ) (b : HartState) (items : List Item) (s : Stop) (did : Did) (c d : HartState) → Stops w past h b items s did c → Stops w past h b items s did d → c ≡ d
+stop_once : (w : Setting) (past : List Event) (h : ℕ) (b : HartState) (items : List Item) (s : Stop) (did : Did) (c d : HartState) → TurnStops w past h b items s did c → TurnStops w past h b items s did d → c ≡ d
 stop_once w past h b items stop.Ecall did c d x y = trap_once w past h b items (trap_of b.registers) did c d x y
 stop_once w past h b items stop.Break did c d x y = x.leaves ∙ sym y.leaves
 stop_once w past h b items (stop.Bad word) did c d x y = x.leaves ∙ sym y.leaves
@@ -226,7 +226,7 @@ by_one : (events more : List Event) (e : Event) → did_by events ≡ Did.serves
 by_one [] more e is = absurd (let no : Did.quiet [] ≡ Did.serves [] (e ∷ more) = is in cc)
 by_one (f ∷ rest) more e is = let same : Did.serves [] (f ∷ rest) ≡ Did.serves [] (e ∷ more) = is in cc
 
-not_both : (w : Setting) (past : List Event) (h : ℕ) (b : HartState) (code object : ℕ) (reason : HartEnd) (did : Did) (c d : HartState) → Finalises w past h b code object did c → Ends w past h (spent b) [] reason did d → ⊥
+not_both : (w : Setting) (past : List Event) (h : ℕ) (b : HartState) (code object : ℕ) (reason : HartEnd) (did : Did) (c d : HartState) → Finalises w past h b code object did c → TurnEnds w past h (spent b) [] reason did d → ⊥
 not_both w past h b code object reason did c d x y = by (is_some (object_at (after past) object) && not (has (after past).finis object)) x.finals (by_one _ [] (Ended h reason) (sym x.is ∙ y.is))
   where
     own : Bool → List Event

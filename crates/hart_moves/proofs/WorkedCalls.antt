@@ -17,7 +17,7 @@ use Rattle.history_state.specs.Step.{initialise, loaded}
 use Rattle.history_calls.specs.Answer.{again, over, returns}
 use Rattle.history_calls.specs.Call.{stops, unmaps, writes}
 use Rattle.history_calls.specs.Ends.EndsAs.{asked}
-use Rattle.history_calls.specs.Gives.Answers.{is_written}
+use Rattle.history_calls.specs.Gives.EventAnswers.{is_written}
 use Rattle.history_calls.specs.Gives.Gives.{by_event, to_again, to_end}
 use Rattle.hart_moves.specs.Copying.{bytes_from, grown, with_bytes}
 use Rattle.hart_moves.specs.Due.{by_phase, due}

@@ -97,7 +97,7 @@ abbrev pub ended : HartEnd → HartState → HartState
 ended reason b = record (freed b) { «end» = Some reason }
 
 -- a turn that ends its hart, which that appends
-pub record Ends (w : Setting) (past : List Event) (h : ℕ) (b : HartState) (items : List Item) (reason : HartEnd) (did : Did) (c : HartState) : Type 0 where
+pub record TurnEnds (w : Setting) (past : List Event) (h : ℕ) (b : HartState) (items : List Item) (reason : HartEnd) (did : Did) (c : HartState) : Type 0 where
   pub may : MayEnd w (after past) h
   pub is : did ≡ Did.serves items (events.Ended h reason ∷ [])
   pub leaves : c ≡ ended reason b
@@ -120,7 +120,7 @@ abbrev pub word_left : Offered → ℕ → ℕ
 word_left o found = if found == o.lazy then o.value else found
 
 -- there the hart goes on, with all its registers
-pub record Finishes (b : HartState) (o : Offered) (found : ℕ) (did : Did) (c : HartState) : Type 0 where
+pub record TurnFinishes (b : HartState) (o : Offered) (found : ℕ) (did : Did) (c : HartState) : Type 0 where
   pub is : did ≡ Did.finishes
   pub leaves : c ≡ spent (record b { registers = at (word_left o found) b.registers; resolving = Resolving.to_settle o found })
 
@@ -141,7 +141,7 @@ abbrev pub trap_of : Registers → Trap
 trap_of r = if a7 r == 93 then Trap.exits (a0 r) else if a7 r == 64 then write_trap r else Trap.gives (2 ^ 64 - 38)
 
 abbrev pub Traps : Setting → List Event → ℕ → HartState → List Item → Trap → Did → HartState → Type 0
-Traps w past h b items (Trap.exits code) did c = Ends w past h (spent b) items (ends.Exit code) did c
+Traps w past h b items (Trap.exits code) did c = TurnEnds w past h (spent b) items (ends.Exit code) did c
 Traps w past h b items (Trap.gives value) did c = Goes items (running (passed_ecall value b.registers) b) did c
 Traps w past h b items Trap.writes did c = Goes items (record b { phase = Phase.writing [] }) did c
 
@@ -161,22 +161,22 @@ abbrev pub role_end : (pc address : ℕ) → List Item → Role → HartEnd
 role_end pc address items role = if is_slot role && list_any is_store items then ends.SlotStore pc address else ends.NotMapped pc address
 
 -- memory that changes under an access has the hart try it again
-abbrev pub Refuses : Setting → List Event → ℕ → HartState → List Item → ℕ → BusFault → Did → HartState → Type 0
-Refuses w past h b items address (RoleFault role) did c = Ends w past h (spent b) items (role_end b.registers.pc address items role) did c
-Refuses w past h b items address Misaligned did c = Ends w past h (spent b) items (ends.Misaligned b.registers.pc address) did c
-Refuses w past h b items address (Again shown) did c = Goes items b did c
+abbrev pub TurnRefuses : Setting → List Event → ℕ → HartState → List Item → ℕ → BusFault → Did → HartState → Type 0
+TurnRefuses w past h b items address (RoleFault role) did c = TurnEnds w past h (spent b) items (role_end b.registers.pc address items role) did c
+TurnRefuses w past h b items address Misaligned did c = TurnEnds w past h (spent b) items (ends.Misaligned b.registers.pc address) did c
+TurnRefuses w past h b items address (Again shown) did c = Goes items b did c
 
-abbrev pub Stops : Setting → List Event → ℕ → HartState → List Item → Stop → Did → HartState → Type 0
-Stops w past h b items stop.Ecall did c = Traps w past h b items (trap_of b.registers) did c
-Stops w past h b items stop.Break did c = Ends w past h (spent b) items (ends.Break b.registers.pc) did c
-Stops w past h b items (stop.Bad word) did c = Ends w past h (spent b) items (ends.BadInstruction b.registers.pc word) did c
-Stops w past h b items (stop.Misaligned address) did c = Ends w past h (spent b) items (ends.Misaligned b.registers.pc address) did c
-Stops w past h b items (stop.Refused address fault) did c = Refuses w past h b items address fault did c
+abbrev pub TurnStops : Setting → List Event → ℕ → HartState → List Item → Stop → Did → HartState → Type 0
+TurnStops w past h b items stop.Ecall did c = Traps w past h b items (trap_of b.registers) did c
+TurnStops w past h b items stop.Break did c = TurnEnds w past h (spent b) items (ends.Break b.registers.pc) did c
+TurnStops w past h b items (stop.Bad word) did c = TurnEnds w past h (spent b) items (ends.BadInstruction b.registers.pc word) did c
+TurnStops w past h b items (stop.Misaligned address) did c = TurnEnds w past h (spent b) items (ends.Misaligned b.registers.pc address) did c
+TurnStops w past h b items (stop.Refused address fault) did c = TurnRefuses w past h b items address fault did c
 
 abbrev pub Comes : Setting → List Event → ℕ → HartState → List Item → Place → Did → HartState → Type 0
 Comes w past h b items (Ready r) did c = Goes items (record b { registers = r }) did c
 Comes w past h b items (Accessing r decoded) did c = ⊥
-Comes w past h b items (Stopped r stop) did c = Stops w past h b items stop did c
+Comes w past h b items (Stopped r stop) did c = TurnStops w past h b items stop did c
 
 -- an instruction, by the instruction table
 pub record Instructs (w : Setting) (past : List Event) (h : ℕ) (b : HartState) (did : Did) (c : HartState) : Type 0 where
@@ -189,9 +189,9 @@ pub record Instructs (w : Setting) (past : List Event) (h : ℕ) (b : HartState)
 
 -- a byte that can't be read ends the hart; but a write then answers -14, EFAULT
 abbrev pub Unread : Setting → List Event → ℕ → HartState → List Item → Copy → ℕ → Did → HartState → Type 0
-Unread w past h b items (Copy.of_name n) address did c = Ends w past h (spent b) items (ends.NotMapped b.registers.pc address) did c
-Unread w past h b items (Copy.of_version name) address did c = Ends w past h (spent b) items (ends.NotMapped b.registers.pc address) did c
-Unread w past h b items Copy.of_pair address did c = Ends w past h (spent b) items (ends.NotMapped b.registers.pc address) did c
+Unread w past h b items (Copy.of_name n) address did c = TurnEnds w past h (spent b) items (ends.NotMapped b.registers.pc address) did c
+Unread w past h b items (Copy.of_version name) address did c = TurnEnds w past h (spent b) items (ends.NotMapped b.registers.pc address) did c
+Unread w past h b items Copy.of_pair address did c = TurnEnds w past h (spent b) items (ends.NotMapped b.registers.pc address) did c
 Unread w past h b items (Copy.of_text count) address did c = Goes items (running (passed_ecall (2 ^ 64 - 14) b.registers) b) did c
 
 abbrev pub CopiesBy : Setting → List Event → ℕ → HartState → List Item → Copy → ℕ → List ℕ → Result ℕ BusFault → Did → HartState → Type 0
@@ -219,7 +219,7 @@ stored_to text stored (word ∷ more) b = record b { phase = Phase.storing text 
 abbrev pub StoresBy : Setting → List Event → ℕ → HartState → List Item → (text stored : ℕ) → (more : List ℕ) → Result Unit BusFault → Did → HartState → Type 0
 StoresBy w past h b items text stored more (Ok _) did c = Goes items (stored_to text stored more b) did c
 StoresBy w past h b items text stored more (Err (RoleFault role)) did c =
-    Ends w past h (spent b) items (role_end b.registers.pc (text + 8 * stored) items role) did c
+    TurnEnds w past h (spent b) items (role_end b.registers.pc (text + 8 * stored) items role) did c
 StoresBy w past h b items text stored more (Err Misaligned) did c = ⊥
 StoresBy w past h b items text stored more (Err (Again shown)) did c = Goes items b did c
 
@@ -276,7 +276,7 @@ pub record Completes (w : Setting) (past : List Event) (h : ℕ) (b : HartState)
   pub may : Allowed w past (passing purpose h object)
   pub passes : Passes w past h b purpose (passing purpose h object ∷ []) rest below did c
 
-pub record Enters (function : ℕ) (frames : List Frame) (b : HartState) (did : Did) (c : HartState) : Type 0 where
+pub record TurnEnters (function : ℕ) (frames : List Frame) (b : HartState) (did : Did) (c : HartState) : Type 0 where
   pub is : did ≡ Did.quiet []
   pub leaves : c ≡ spent (running (entered function b.registers) (record b { frames = frames }))
 
@@ -324,7 +324,7 @@ pub record Finalises (w : Setting) (past : List Event) (h : ℕ) (b : HartState)
 
 -- the objects that are left are listed anew, which takes memory: where there is none the hart ends, and nothing else is appended
 abbrev pub EndsObject : Setting → List Event → ℕ → HartState → (code object : ℕ) → Did → HartState → Type 0
-EndsObject w past h b code object did c = Finalises w past h b code object did c ⊎ Ends w past h (spent b) [] ends.Memory did c
+EndsObject w past h b code object did c = Finalises w past h b code object did c ⊎ TurnEnds w past h (spent b) [] ends.Memory did c
 
 -- ---- a service
 
@@ -352,13 +352,13 @@ pub record Returns (b : HartState) (back : Return) (value : ℕ) (appended : Lis
   pub is : did ≡ Did.serves [] appended
   pub leaves : c ≡ spent (returning back value (freed b))
 
-pub record Loads (w : Setting) (past : List Event) (h : ℕ) (b : HartState) (back : Return) (root : ℕ) (added : List Loaded) (appended : List Event)
+pub record TurnLoads (w : Setting) (past : List Event) (h : ℕ) (b : HartState) (back : Return) (root : ℕ) (added : List Loaded) (appended : List Event)
     (did : Did) (c : HartState) : Type 0 where
   pub functions : List Function
   pub are : AreConstructors (after (past ++ appended)) (map serial_of added) functions
   pub passes : Passes w past h b (Purpose.of_opening back.to root) appended functions back.frames did c
 
-pub record Closes (w : Setting) (past : List Event) (h : ℕ) (b : HartState) (back : Return) (set : List ℕ) (appended : List Event)
+pub record TurnCloses (w : Setting) (past : List Event) (h : ℕ) (b : HartState) (back : Return) (set : List ℕ) (appended : List Event)
     (did : Did) (c : HartState) : Type 0 where
   pub functions : List Function
   pub are : AreDestructors (after (past ++ appended)) set functions
@@ -379,7 +379,7 @@ TellsOf text b back (Some fault) appended did c = Tells text b fault appended di
 TellsOf text b back None appended did c = Returns b back 0 appended did c
 
 -- nothing came of it: the hart makes the call again in its next turn
-pub record Waits (b : HartState) (for : Shown) (did : Did) (c : HartState) : Type 0 where
+pub record TurnWaits (b : HartState) (for : Shown) (did : Did) (c : HartState) : Type 0 where
   pub is : did ≡ Did.waits for
   pub leaves : c ≡ spent (freed b)
 
@@ -391,12 +391,12 @@ pub record IsOver (b : HartState) (reason : HartEnd) (appended : List Event) (di
 -- what an answer makes of the hart
 abbrev pub Takes : Setting → List Event → ℕ → HartState → Call → Return → Answer → List Event → Did → HartState → Type 0
 Takes w past h b call back (returns value) appended did c = Returns b back value appended did c
-Takes w past h b call back (loading root added) appended did c = Loads w past h b back root added appended did c
-Takes w past h b call back (closing set) appended did c = Closes w past h b back set appended did c
+Takes w past h b call back (loading root added) appended did c = TurnLoads w past h b back root added appended did c
+Takes w past h b call back (closing set) appended did c = TurnCloses w past h b back set appended did c
 Takes w past h b call back (refused fault) appended did c = Returns b back (refused_value call) appended did c
 Takes w past h b call back (granted grant) appended did c = Resolves past b grant appended did c
 Takes w past h b call back (told fault) appended did c = TellsOf (stack_start (after past) h) b back fault appended did c
-Takes w past h b call back (again for) appended did c = Waits b for did c
+Takes w past h b call back (again for) appended did c = TurnWaits b for did c
 Takes w past h b call back (over reason) appended did c = IsOver b reason appended did c
 
 pub record Calls (w : Setting) (past : List Event) (h : ℕ) (b : HartState) (call : Call) (back : Return) (did : Did) (c : HartState) : Type 0 where
@@ -411,13 +411,13 @@ pub record Calls (w : Setting) (past : List Event) (h : ℕ) (b : HartState) (ca
 abbrev pub MovesAs : Setting → List Event → ℕ → HartState → Due → Did → HartState → Type 0
 MovesAs w past h b Due.nothing did c = ⊥
 MovesAs w past h b (Due.exchange o) did c = Exchanges b o did c
-MovesAs w past h b (Due.finish o found) did c = Finishes b o found did c
-MovesAs w past h b Due.fuel_out did c = Ends w past h b [] ends.FuelOut did c
+MovesAs w past h b (Due.finish o found) did c = TurnFinishes b o found did c
+MovesAs w past h b Due.fuel_out did c = TurnEnds w past h b [] ends.FuelOut did c
 MovesAs w past h b Due.instruction did c = Instructs w past h b did c
 MovesAs w past h b (Due.copy copy start bytes) did c = Copies w past h b copy start bytes did c
 MovesAs w past h b (Due.serve call back) did c = Calls w past h b call back did c
 MovesAs w past h b (Due.store text stored word more) did c = StoresText w past h b text stored word more did c
-MovesAs w past h b (Due.enter function frames) did c = Enters function frames b did c
+MovesAs w past h b (Due.enter function frames) did c = TurnEnters function frames b did c
 MovesAs w past h b (Due.complete purpose object rest below) did c = Completes w past h b purpose object rest below did c
 MovesAs w past h b (Due.finalise code object) did c = EndsObject w past h b code object did c
 

@@ -6,7 +6,7 @@ ghost use Rattle.history_event.specs.declared.event.Event.{Event};
 ghost use Rattle.history_state.specs.Setting.{Setting};
 ghost use Rattle.rv_hart.specs.declared.bus.Item.{Item};
 ghost use Rattle.hart_moves.specs.Due.{Due};
-ghost use Rattle.hart_moves.specs.Moves.{Refuses, Stops, Traps, is_store, trap_of};
+ghost use Rattle.hart_moves.specs.Moves.{TurnRefuses, TurnStops, Traps, is_store, trap_of};
 ghost use Rattle.hart_turns.specs.Turns.{LeavesSpent, Turns, TurnsTo, Watches};
 
 use crate::ending::{end_with, role_end};
@@ -47,7 +47,7 @@ fn step<B: Bus>(hart: &mut LinkedHart, bus: &mut B) -> (Result<(), Stop>, bool)
 fn stopped(hart: &mut LinkedHart, stop: Stop, stores: bool) -> Turned
     requires { hart.old.hart.turns < hart.old.hart.fuel }
     ensures turn { (w : Setting) (past : List Event) (h : ℕ) (items : List Item) → stores ≡ list_any is_store items
-        → TurnsTo (Stops w past h hart.old.hart items stop) w past h items result hart.new.hart }
+        → TurnsTo (TurnStops w past h hart.old.hart items stop) w past h items result hart.new.hart }
     ensures ends { LeavesSpent hart.old.hart result hart.new.hart }
 {
     let pc = hart.registers().pc;
@@ -80,7 +80,7 @@ fn trapped(hart: &mut LinkedHart) -> Turned
 fn refused(hart: &mut LinkedHart, address: u64, fault: BusFault, stores: bool) -> Turned
     requires { hart.old.hart.turns < hart.old.hart.fuel }
     ensures turn { (w : Setting) (past : List Event) (h : ℕ) (items : List Item) → stores ≡ list_any is_store items
-        → TurnsTo (Refuses w past h hart.old.hart items address fault) w past h items result hart.new.hart }
+        → TurnsTo (TurnRefuses w past h hart.old.hart items address fault) w past h items result hart.new.hart }
     ensures ends { LeavesSpent hart.old.hart result hart.new.hart }
 {
     let pc = hart.registers().pc;

@@ -48,7 +48,7 @@ use Rattle.history_calls.specs.Complete.{HasAnswer}
 use Rattle.history_calls.specs.Ends.{LacksSlot}
 use Rattle.history_calls.specs.Ends.EndsAs.{unloaded, no_slot, bad_module, no_room}
 use Rattle.history_calls.specs.Gives.{variable_at}
-use Rattle.history_calls.specs.Gives.Answers.{dies, stays, is_granted, is_not_closed, is_not_code, is_unmapped, is_unresolved}
+use Rattle.history_calls.specs.Gives.EventAnswers.{dies, stays, is_granted, is_not_closed, is_not_code, is_unmapped, is_unresolved}
 use Rattle.history_calls.specs.Gives.Gives.{by_event, in_new_block, in_block, to_again, to_end}
 use Rattle.history_calls.specs.Waiting.{HasFinished, Touches}
 use Rattle.history_calls.specs.Waiting.Shows.{by_grant}

@@ -24,7 +24,7 @@ use Rattle.history_calls.specs.Complete.{HasAnswer, MayMake}
 use Rattle.history_calls.specs.Ends.{is_own_end}
 use Rattle.history_calls.specs.Ends.EndsAs.{asked}
 use Rattle.history_calls.specs.Laws.{is_memory}
-use Rattle.history_calls.specs.Gives.Answers.{is_told, is_written}
+use Rattle.history_calls.specs.Gives.EventAnswers.{is_told, is_written}
 use Rattle.history_calls.specs.Gives.Gives.{by_event, to_end}
 use Rattle.history_calls.proofs.Answered.{closes_answered, locates_answered, resolves_answered, unmaps_answered}
 use Rattle.history_calls.proofs.Looked.{looks_up_answered}

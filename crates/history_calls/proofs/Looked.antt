@@ -33,7 +33,7 @@ use Rattle.history_state.specs.Lemmas.Lookups.{find_behind}
 use Rattle.history_calls.specs.Answer.{returns, refused}
 use Rattle.history_calls.specs.Call.{looks_up}
 use Rattle.history_calls.specs.Complete.{FitsSymbol, HasAnswer}
-use Rattle.history_calls.specs.Gives.Answers.{is_found, is_not_found}
+use Rattle.history_calls.specs.Gives.EventAnswers.{is_found, is_not_found}
 use Rattle.history_calls.specs.Gives.Gives.{by_event, by_first_block}
 use Rattle.history_calls.proofs.Answered.{block_or_full}
 

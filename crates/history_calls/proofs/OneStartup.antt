@@ -21,7 +21,7 @@ use Rattle.history_calls.specs.Answer.{Answer, returns, loading, refused}
 use Rattle.history_calls.specs.Call.{opens}
 use Rattle.history_calls.specs.Functions.{AreStartConstructors}
 use Rattle.history_calls.specs.Gives.{Gives}
-use Rattle.history_calls.specs.Gives.Answers.{is_loaded, is_there, is_not_opened as answers_refused}
+use Rattle.history_calls.specs.Gives.EventAnswers.{is_loaded, is_there, is_not_opened as answers_refused}
 use Rattle.history_calls.specs.Gives.Gives.{by_event}
 use Rattle.history_calls.specs.Laws.{is_chance, is_read_fault}
 use Rattle.history_calls.specs.Startup.{FailsToStart, FindHarts, LacksHart, Starts, entries_from, found_at, hart_ask, is_executable, opening, program_ask, program_entry}

@@ -31,7 +31,7 @@ use Rattle.history_calls.specs.Answer.{again, loading, returns}
 use Rattle.history_calls.specs.Answer.{refused as is_refused}
 use Rattle.history_calls.specs.Call.{opens}
 use Rattle.history_calls.specs.Complete.{ComesToEnd, FitsOpening, HasAnswer}
-use Rattle.history_calls.specs.Gives.Answers.{is_absent, is_loaded, is_not_opened, is_there}
+use Rattle.history_calls.specs.Gives.EventAnswers.{is_absent, is_loaded, is_not_opened, is_there}
 use Rattle.history_calls.specs.Gives.Gives.{by_event, to_again}
 use Rattle.history_calls.specs.Waiting.Shows.{by_load}
 use Rattle.history_calls.specs.Lemmas.Opened.{same_wanted}

@@ -32,29 +32,29 @@ use Rattle.history_calls.specs.Waiting.{Shows}
 -- ---- calls that one event answers
 
 -- this event answers a call of the hart, which comes to this
-pub data Answers (h : ℕ) : Call → Event → Answer → Type 0 where
+pub data EventAnswers (h : ℕ) : Call → Event → Answer → Type 0 where
   is_loaded : (ask : OpenAsk) (id root : ℕ) (first : Loaded) (rest : List Loaded) (ranges : List Range)
-      → Answers h (opens ask) (events.Open h ask (openings.Done id root (first ∷ rest) ranges)) (loading root (first ∷ rest))
+      → EventAnswers h (opens ask) (events.Open h ask (openings.Done id root (first ∷ rest) ranges)) (loading root (first ∷ rest))
   is_there : (ask : OpenAsk) (id root : ℕ) (ranges : List Range)
-      → Answers h (opens ask) (events.Open h ask (openings.Done id root [] ranges)) (returns root)
-  is_absent : (ask : OpenAsk) → Answers h (opens ask) (events.Open h ask openings.Absent) (returns 0)
-  is_not_opened : (ask : OpenAsk) (fault : DlFault) → Answers h (opens ask) (events.Open h ask (openings.Refused fault)) (refused fault)
+      → EventAnswers h (opens ask) (events.Open h ask (openings.Done id root [] ranges)) (returns root)
+  is_absent : (ask : OpenAsk) → EventAnswers h (opens ask) (events.Open h ask openings.Absent) (returns 0)
+  is_not_opened : (ask : OpenAsk) (fault : DlFault) → EventAnswers h (opens ask) (events.Open h ask (openings.Refused fault)) (refused fault)
   dies : (handle first : ℕ) (rest : List ℕ)
-      → Answers h (closes handle) (events.Close h handle (closings.Done (first ∷ rest))) (closing (first ∷ rest))
-  stays : (handle : ℕ) → Answers h (closes handle) (events.Close h handle (closings.Done [])) (returns 0)
-  is_not_closed : (handle : ℕ) (fault : DlFault) → Answers h (closes handle) (events.Close h handle (closings.Refused fault)) (refused fault)
-  is_unmapped : (set : List ℕ) → Answers h (unmaps set) (events.Unmapped h set) (returns 0)
+      → EventAnswers h (closes handle) (events.Close h handle (closings.Done (first ∷ rest))) (closing (first ∷ rest))
+  stays : (handle : ℕ) → EventAnswers h (closes handle) (events.Close h handle (closings.Done [])) (returns 0)
+  is_not_closed : (handle : ℕ) (fault : DlFault) → EventAnswers h (closes handle) (events.Close h handle (closings.Refused fault)) (refused fault)
+  is_unmapped : (set : List ℕ) → EventAnswers h (unmaps set) (events.Unmapped h set) (returns 0)
   is_granted : (owner eights slot number : ℕ) (choice : Choice) (value : ℕ) → eights ≡ 8 * slot
-      → Answers h (resolves owner eights) (events.Grant number h owner slot choice value)
+      → EventAnswers h (resolves owner eights) (events.Grant number h owner slot choice value)
       (granted (record { number = number; hart = h; owner = owner; slot = slot; choice = choice; value = value; standing = Open }))
   is_unresolved : (owner eights slot : ℕ) → eights ≡ 8 * slot
-      → Answers h (resolves owner eights) (events.Unresolved h owner slot Missing) (over (ends.Unresolved owner slot))
+      → EventAnswers h (resolves owner eights) (events.Unresolved h owner slot Missing) (over (ends.Unresolved owner slot))
   is_not_code : (owner eights slot serial index : ℕ) → eights ≡ 8 * slot
-      → Answers h (resolves owner eights) (events.Unresolved h owner slot (Def serial index)) (over (ends.NotCode owner slot))
-  is_found : (ask : SymAsk) (serial index value : ℕ) → Answers h (looks_up ask) (events.Sym h ask (symbols.Found serial index value)) (returns value)
-  is_not_found : (ask : SymAsk) (fault : DlFault) → Answers h (looks_up ask) (events.Sym h ask (symbols.Refused fault)) (refused fault)
-  is_told : (fault : Option DlFault) → Answers h asks_fault (events.Told h fault) (told fault)
-  is_written : (bytes : List ℕ) → Answers h (writes bytes) (events.Wrote h bytes) (returns (length bytes))
+      → EventAnswers h (resolves owner eights) (events.Unresolved h owner slot (Def serial index)) (over (ends.NotCode owner slot))
+  is_found : (ask : SymAsk) (serial index value : ℕ) → EventAnswers h (looks_up ask) (events.Sym h ask (symbols.Found serial index value)) (returns value)
+  is_not_found : (ask : SymAsk) (fault : DlFault) → EventAnswers h (looks_up ask) (events.Sym h ask (symbols.Refused fault)) (refused fault)
+  is_told : (fault : Option DlFault) → EventAnswers h asks_fault (events.Told h fault) (told fault)
+  is_written : (bytes : List ℕ) → EventAnswers h (writes bytes) (events.Wrote h bytes) (returns (length bytes))
 
 -- ---- thread-local storage
 
@@ -90,7 +90,7 @@ pub record FindsFirst (w : Setting) (past : List Event) (hart : ℕ) (ask : SymA
 
 -- what a call of the hart gives after these events: what it appends, but for its hart's end, and its answer
 pub data Gives (w : Setting) (past : List Event) (h : ℕ) : Call → List Event → Answer → Type 0 where
-  by_event : (call : Call) (e : Event) (answer : Answer) → Answers h call e answer → Allowed w past e → Gives w past h call (e ∷ []) answer
+  by_event : (call : Call) (e : Event) (answer : Answer) → EventAnswers h call e answer → Allowed w past e → Gives w past h call (e ∷ []) answer
   by_first_block : (ask : SymAsk) (e f : Event) (value : ℕ) → FindsFirst w past h ask e f value
       → Gives w past h (looks_up ask) (e ∷ f ∷ []) (returns value)
   in_new_block : (number offset block : ℕ) (e : Event) → GetsBlock w past h number block e

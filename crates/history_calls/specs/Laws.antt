@@ -27,7 +27,7 @@ use Rattle.history_state.specs.Asking.{AreNamespacesFull, IsBadNamespace, asks_t
 use Rattle.history_state.specs.Flags.{are_flags}
 use Rattle.history_state.specs.Legal.{Lawful, Legal}
 use Rattle.history_state.specs.Lookup.{RefusesSymbol}
-use Rattle.history_state.specs.Memory.{holds, role_at, word_at}
+use Rattle.history_state.specs.Memory.{holds, role_at, first_word_at}
 use Rattle.history_state.specs.Links.{finis_of}
 use Rattle.history_state.specs.Objects.{has_namespace, serial_of}
 use Rattle.history_state.specs.Opening.{Opens, Refuses}
@@ -71,7 +71,7 @@ RefusedKeeps = (w : Setting) (past : List Event) (h : ℕ) (call : Call) (given 
 abbrev pub RefusedLeavesMemory : Type 0
 RefusedLeavesMemory = (w : Setting) (past : List Event) (h : ℕ) (call : Call) (given : List Event) (fault : DlFault) (a : ℕ)
     → Gives w past h call given (refused fault)
-    → (role_at (after (past ++ given)) a ≡ role_at (after past) a) × (word_at (after (past ++ given)) a ≡ word_at (after past) a)
+    → (role_at (after (past ++ given)) a ≡ role_at (after past) a) × (first_word_at (after (past ++ given)) a ≡ first_word_at (after past) a)
 
 -- a hart that tries again has appended nothing
 abbrev pub AgainAppendsNothing : Type 0

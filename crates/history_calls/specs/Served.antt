@@ -22,7 +22,7 @@ use Rattle.seg_image.specs.Pages.{guest_address}
 use Rattle.seg_image.specs.declared.image.Image.{Image}
 use Rattle.history_state.specs.After.{after}
 use Rattle.history_state.specs.Bound.{lazy_word}
-use Rattle.history_state.specs.Memory.{is_data_purpose, role_at, word_at}
+use Rattle.history_state.specs.Memory.{is_data_purpose, role_at, first_word_at}
 use Rattle.history_state.specs.Objects.{serial_of}
 use Rattle.history_state.specs.Setting.{Setting}
 use Rattle.history_state.specs.State.{State}
@@ -39,7 +39,7 @@ pub record AreWordsOf (s : State) (r : Range) (image : Image) : Type 0 where
   pub start : image.start ≡ r.address
   pub all : length image.words ≡ 512 * r.pages
   pub each : (k : ℕ) → k < 512 * r.pages
-      → slice_get image.words k ≡ Some (record { value = word_at s (r.address + 8 * k); role = role_at s (r.address + 8 * k) })
+      → slice_get image.words k ≡ Some (record { value = first_word_at s (r.address + 8 * k); role = role_at s (r.address + 8 * k) })
 
 -- an image a range, in their order
 abbrev pub AreImages : State → List Range → List Image → Type 0

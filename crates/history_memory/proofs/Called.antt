@@ -17,7 +17,7 @@ use Rattle.history_state.specs.State.{Linked, State}
 use Rattle.history_state.specs.After.{after, after_from}
 use Rattle.history_state.specs.Bound.{linked_with}
 use Rattle.history_state.specs.Parts.{slot as slot_reloc}
-use Rattle.history_state.specs.Memory.{image_at, is_in, role_at, word_at, word_in}
+use Rattle.history_state.specs.Memory.{image_at, is_in, role_at, first_word_at, word_in}
 use Rattle.history_state.specs.Slots.{IsOpenGrant}
 use Rattle.history_state.specs.Step.{initialise, loaded}
 use Rattle.history_state.specs.Lemmas.Chains.{in_all}
@@ -84,7 +84,7 @@ module _ (s : State) (firsts : list_all is_first s.images ≡ true) (g : Grantin
     word b is true e =
         let same : b ≡ slot_address = eqb-true b slot_address e in
         let at_slot : role_at s b ≡ Slot = ap (role_at s) same ∙ role in
-        let value_is : (memory_with s value).value b ≡ value = ap (λ (t : Bool). if t then value else word_at s b) e in
+        let value_is : (memory_with s value).value b ≡ value = ap (λ (t : Bool). if t then value else first_word_at s b) e in
         record {
           role = refl;
           fixed = λ either. ⊎_elim
@@ -94,7 +94,7 @@ module _ (s : State) (firsts : list_all is_first s.images ≡ true) (g : Grantin
           slot = λ is_slot. subst (SlotHolds s won b) (sym value_is) (subst (λ (c : ℕ). SlotHolds s won c value) (sym same) holds);
         }
     word b is false e =
-        let value_is : (memory_with s value).value b ≡ word_at s b = ap (λ (t : Bool). if t then value else word_at s b) e in
+        let value_is : (memory_with s value).value b ≡ first_word_at s b = ap (λ (t : Bool). if t then value else first_word_at s b) e in
         let differs : b ≢ slot_address = λ same. true≢false (sym (eq-eqb b slot_address same) ∙ e) in
         record {
           role = refl;
@@ -141,12 +141,12 @@ role2 : role_at s2 slot_address ≡ Slot
 unfolding role_at loaded initialise after_from linked_with low_of high_of pages_of own_address role_of segment_at
 role2 = refl
 
-pub word1 : word_at s1 slot_address ≡ lazy_word
-unfolding word_at word_in image_word image_byte settled_word with_copies copied_at linkers_at rela_at slot_at moved_word slot_word word_of byte_of file_word file_byte loaded initialise after_from linked_with low_of high_of pages_of own_address segment_at
+pub word1 : first_word_at s1 slot_address ≡ lazy_word
+unfolding first_word_at word_in image_word image_byte settled_word with_copies copied_at linkers_at rela_at slot_at moved_word slot_word word_of byte_of file_word file_byte loaded initialise after_from linked_with low_of high_of pages_of own_address segment_at
 word1 = refl
 
-word2 : word_at s2 slot_address ≡ lazy_word
-unfolding word_at word_in image_word image_byte settled_word with_copies copied_at linkers_at rela_at slot_at moved_word slot_word word_of byte_of file_word file_byte loaded initialise after_from linked_with low_of high_of pages_of own_address segment_at
+word2 : first_word_at s2 slot_address ≡ lazy_word
+unfolding first_word_at word_in image_word image_byte settled_word with_copies copied_at linkers_at rela_at slot_at moved_word slot_word word_of byte_of file_word file_byte loaded initialise after_from linked_with low_of high_of pages_of own_address segment_at
 word2 = refl
 
 lazy1 : lazy_at s1 slot_address ≡ lazy_word

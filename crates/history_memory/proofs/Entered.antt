@@ -7,12 +7,12 @@ use Rattle.history_event.specs.declared.state.Standing.TheVariants.{Bound, Lost,
 use Rattle.relocator.specs.Relocated.{moved_word}
 use Rattle.history_state.specs.State.{State}
 use Rattle.history_state.specs.Laws.{ImagesAreMapped, SlotsBegin, SlotsLeadToRx, slot_address}
-use Rattle.history_state.specs.Memory.{role_at, word_at}
+use Rattle.history_state.specs.Memory.{role_at, first_word_at}
 use Rattle.history_state.specs.Objects.{IsMapped}
 use Rattle.history_state.specs.Slots.{value_at_load}
 use Rattle.history_state.specs.Lemmas.Lazy.{PageLaws}
 use Rattle.history_state.specs.Lemmas.Map.{Mapped}
-use Rattle.history_memory.specs.Enters.{Enters, SlotTrue}
+use Rattle.history_memory.specs.Enters.{LeadsToCode, SlotTrue}
 use Rattle.history_memory.specs.Holds.{Holds, IsSlotAt, SlotHolds, Took, TookAt}
 use Rattle.history_memory.specs.Holds.SlotHolds.{exchanged, first}
 use Rattle.history_memory.specs.Memory.{IsDoubleword, Memory, doubleword_of}
@@ -37,7 +37,7 @@ moved_low o base v = omega arith
 module _ (s : State) (m : Mapped s) (begins : SlotsBegin s) (mapped : ImagesAreMapped s) (leads : SlotsLeadToRx s) (fit : (owner slot : ℕ) → LoadFits s owner slot)
     (low : (g : Granting) → Contains s.grants g → g.value < 2 ^ 64) (won : List ℕ) (a : ℕ) (word : a < 2 ^ 64) where
   -- the first word
-  first_enters : (owner slot : ℕ) → (is : IsSlotAt s a owner slot) (value : Option ℕ) → value_at_load s owner slot ≡ value → Leads s (word_at s a)
+  first_enters : (owner slot : ℕ) → (is : IsSlotAt s a owner slot) (value : Option ℕ) → value_at_load s owner slot ≡ value → Leads s (first_word_at s a)
   first_enters owner slot is (Some value) got =
       let at = loaded_at s m begins mapped a word owner slot is in
       subst (Leads s) (sym (first_bound s m begins a word owner slot (fit owner slot) is value got))
@@ -63,7 +63,7 @@ module _ (s : State) (m : Mapped s) (begins : SlotsBegin s) (mapped : ImagesAreM
 
 module _ (pages : PageLaws) (s : State) (m : Mapped s) (begins : SlotsBegin s) (mapped : ImagesAreMapped s) (leads : SlotsLeadToRx s) (fit : (owner slot : ℕ) → LoadFits s owner slot)
     (low : (g : Granting) → Contains s.grants g → g.value < 2 ^ 64) (won : List ℕ) (memory : Memory) (holds : Holds s won memory) where
-  pub slot_enters : (a owner slot : ℕ) → IsDoubleword a → IsSlotAt s a owner slot → Enters memory (memory.value a)
+  pub slot_enters : (a owner slot : ℕ) → IsDoubleword a → IsSlotAt s a owner slot → LeadsToCode memory (memory.value a)
   slot_enters a owner slot place is = ⊎_elim
       (λ (none : memory.value a ≡ 0). inl none)
       (λ (rx : (memory.value a < 2 ^ 64) × (role_at s (memory.value a) ≡ Rx)).

@@ -9,9 +9,9 @@ use Rattle.history_event.specs.declared.state.Granting.{Granting}
 use Rattle.relocator.specs.Relocated.{moved_word}
 use Rattle.seg_image.specs.Pages.{own_address}
 use Rattle.history_state.specs.State.{Linked, State}
-use Rattle.history_state.specs.Changes.{ChangesMemory, IsUntouched, reserved, taken}
+use Rattle.history_state.specs.Changes.{ChangesMemory, StandsApart, reserved, taken}
 use Rattle.history_state.specs.Laws.{SlotsBegin}
-use Rattle.history_state.specs.Memory.{covers, image_at, is_in, role_at, word_at}
+use Rattle.history_state.specs.Memory.{covers, image_at, is_in, role_at, first_word_at}
 use Rattle.history_state.specs.Step.{step}
 use Rattle.history_state.specs.Lemmas.Good.{Good, core}
 use Rattle.history_state.specs.Lemmas.Lazy.{PageLaws}
@@ -48,12 +48,12 @@ module _ (pages : PageLaws) (s : State) (e : Event) (now : Mapped s) (new : Mapp
 
   -- ---- slots before and after
 
-  at_forth : (a : ℕ) → a < 2 ^ 64 → IsUntouched s e a → (i : Linked) → image_at s a ≡ Some i → image_at t a ≡ Some i
+  at_forth : (a : ℕ) → a < 2 ^ 64 → StandsApart s e a → (i : Linked) → image_at s a ≡ Some i → image_at t a ≡ Some i
   at_forth a word untouched i is =
       let found = found_in (λ q. is_in q a) s.images i is in
       image_there pages t new i (images_forth pages s now e i a found.0 word found.1 untouched) a word found.1
 
-  slot_forth : (a : ℕ) → a < 2 ^ 64 → IsUntouched s e a → (owner slot : ℕ) → IsSlotAt s a owner slot → IsSlotAt t a owner slot
+  slot_forth : (a : ℕ) → a < 2 ^ 64 → StandsApart s e a → (owner slot : ℕ) → IsSlotAt s a owner slot → IsSlotAt t a owner slot
   slot_forth a word untouched owner slot is =
       record { image = is.image; found = at_forth a word untouched is.image is.found; serial = is.serial; reloc = is.reloc; at = is.at; place = is.place }
 
@@ -63,7 +63,7 @@ module _ (pages : PageLaws) (s : State) (e : Event) (now : Mapped s) (new : Mapp
       let was : Contains s.images is.image = images is.image found.0 (subst (λ (n : ℕ). n < s.next) (sym is.serial) low) in
       record { image = is.image; found = image_there pages s now is.image was a word found.1; serial = is.serial; reloc = is.reloc; at = is.at; place = is.place }
 
-  took_forth : (a : ℕ) → a < 2 ^ 64 → IsUntouched s e a → (g : Granting) → TookAt s won a g → (h : Granting) × TookAt t more a h × IsSameGrant g h
+  took_forth : (a : ℕ) → a < 2 ^ 64 → StandsApart s e a → (g : Granting) → TookAt s won a g → (h : Granting) × TookAt t more a h × IsSameGrant g h
   took_forth a word untouched g at =
       let h = taking.forth g at.there at.took in
       let same : IsSameGrant g h.0 = h.3 in
@@ -78,11 +78,11 @@ module _ (pages : PageLaws) (s : State) (e : Event) (now : Mapped s) (new : Mapp
       let of : IsSlotAt s a h.owner h.slot = slot_back a word h.owner h.slot (subst (λ (n : ℕ). n < s.next) same.owner low) at.of in
       (g.0, record { there = g.1; of = subst (λ (n : ℕ). IsSlotAt s a n g.0.slot) (sym same.owner) (subst (λ (n : ℕ). IsSlotAt s a h.owner n) (sym same.slot) of); took = g.2 }, same)
 
-  lazy_same : (a : ℕ) → a < 2 ^ 64 → IsUntouched s e a → (i : Linked) → image_at s a ≡ Some i → lazy_at t a ≡ lazy_at s a
+  lazy_same : (a : ℕ) → a < 2 ^ 64 → StandsApart s e a → (i : Linked) → image_at s a ≡ Some i → lazy_at t a ≡ lazy_at s a
   lazy_same a word untouched i is =
       ap (λ (found : Option Linked). option_map_or (λ i. moved_word i.object i.base (own_address i.base a)) found 0) (at_forth a word untouched i is ∙ sym is)
 
-  slot_kept : (a value : ℕ) → a < 2 ^ 64 → IsUntouched s e a → word_at t a ≡ word_at s a → SlotHolds s won a value → SlotHolds t more a value
+  slot_kept : (a value : ℕ) → a < 2 ^ 64 → StandsApart s e a → first_word_at t a ≡ first_word_at s a → SlotHolds s won a value → SlotHolds t more a value
   slot_kept a value word untouched same (first is none) = first (is ∙ sym same) (λ h at. let g = took_back a word h at in none g.0 g.1)
   slot_kept a value word untouched same (exchanged g at is lazy only) =
       let h = took_forth a word untouched g at in
@@ -92,14 +92,14 @@ module _ (pages : PageLaws) (s : State) (e : Event) (now : Mapped s) (new : Mapp
   -- ---- words
 
   module _ (old remade : Memory) (holds : Holds s won old) (by : Remade s e old remade) where
-    kept : (a : ℕ) → IsDoubleword a → IsUntouched s e a → HoldsAt t more remade a
+    kept : (a : ℕ) → IsDoubleword a → StandsApart s e a → HoldsAt t more remade a
     kept a is untouched =
         let high : a < 0x810000 = is.high in
         let word : a < 2 ^ 64 = omega (arith, high) in
         let role : role_at t a ≡ role_at s a = changes.role a word untouched in
         let was = holds.words a is in
         let both = by.kept a is untouched in
-        let stays : role_at s a ≢ Rw → word_at t a ≡ word_at s a = λ shut. changes.word a word untouched (no_data pages s now a word shut) in
+        let stays : role_at s a ≢ Rw → first_word_at t a ≡ first_word_at s a = λ shut. changes.word a word untouched (no_data pages s now a word shut) in
         record {
           role = both.1 ∙ was.role ∙ sym role;
           fixed = λ either. ⊎_elim

@@ -9,8 +9,8 @@ use Rattle.history_memory.specs.Holds.{SlotHolds, lazy_at}
 use Rattle.history_memory.specs.Memory.{IsDoubleword, Memory, doubleword_of}
 
 -- it is 0, or an address in a word that the memory may execute
-abbrev pub Enters : Memory → ℕ → Type 0
-Enters memory value = (value ≡ 0) ⊎ (IsDoubleword (doubleword_of value) × (memory.role (doubleword_of value) ≡ Rx))
+abbrev pub LeadsToCode : Memory → ℕ → Type 0
+LeadsToCode memory value = (value ≡ 0) ⊎ (IsDoubleword (doubleword_of value) × (memory.role (doubleword_of value) ≡ Rx))
 
 -- a slot reads the same from one state to the next, and would hold the same word until it is bound
 pub record SlotStays (s t : State) (old new : Memory) (a : ℕ) : Type 0 where
@@ -22,4 +22,4 @@ pub record SlotTrue (s : State) (won : List ℕ) (memory : Memory) : Type 0 wher
   pub holds : (i : Linked) (slot : ℕ) (r : Reloc) → Contains s.images i → slice_get i.object.plt_relocs slot ≡ Some r
       → SlotHolds s won (slot_address i r) (memory.value (slot_address i r))
   pub enters : (i : Linked) (slot : ℕ) (r : Reloc) → Contains s.images i → slice_get i.object.plt_relocs slot ≡ Some r
-      → Enters memory (memory.value (slot_address i r))
+      → LeadsToCode memory (memory.value (slot_address i r))

@@ -6,7 +6,7 @@ use Rattle.history_event.specs.declared.event.Event.{Event}
 use Rattle.history_event.specs.declared.event.Event.TheVariants.{Bound, Grant}
 use Rattle.history_state.specs.State.{State}
 use Rattle.history_state.specs.FirstMatch.{before}
-use Rattle.history_state.specs.Memory.{role_at, word_at}
+use Rattle.history_state.specs.Memory.{role_at, first_word_at}
 use Rattle.history_memory.specs.Memory.{Memory}
 
 -- the program has called, and has an open grant; and the grant is bound
@@ -31,4 +31,4 @@ other_function = 0x18000
 
 -- each word as it was put there, but for the slot
 abbrev pub memory_with : State → ℕ → Memory
-memory_with s value = record { value = λ a. if a == slot_address then value else word_at s a; role = role_at s }
+memory_with s value = record { value = λ a. if a == slot_address then value else first_word_at s a; role = role_at s }

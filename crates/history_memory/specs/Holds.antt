@@ -10,7 +10,7 @@ use Rattle.history_event.specs.declared.state.Standing.TheVariants.{Bound, Open}
 use Rattle.seg_image.specs.Pages.{own_address}
 use Rattle.relocator.specs.Relocated.{moved_word}
 use Rattle.history_state.specs.State.{Linked, State}
-use Rattle.history_state.specs.Memory.{image_at, role_at, word_at}
+use Rattle.history_state.specs.Memory.{image_at, role_at, first_word_at}
 use Rattle.history_state.specs.Slots.{IsOpenGrant}
 use Rattle.history_memory.specs.Memory.{IsDoubleword, Memory}
 
@@ -44,13 +44,13 @@ pub record TookAt (s : State) (won : List ℕ) (a : ℕ) (g : Granting) : Type 0
 
 -- what a slot holds: its first word, while no grant took it; else the value of the one that did, the slot's first word having been the lazy one
 pub data SlotHolds (s : State) (won : List ℕ) (a value : ℕ) : Type 0 where
-  first : value ≡ word_at s a → ((g : Granting) → ¬ (TookAt s won a g)) → SlotHolds s won a value
-  exchanged : (g : Granting) → TookAt s won a g → value ≡ g.value → word_at s a ≡ lazy_at s a → ((h : Granting) → TookAt s won a h → h.number ≡ g.number)
+  first : value ≡ first_word_at s a → ((g : Granting) → ¬ (TookAt s won a g)) → SlotHolds s won a value
+  exchanged : (g : Granting) → TookAt s won a g → value ≡ g.value → first_word_at s a ≡ lazy_at s a → ((h : Granting) → TookAt s won a h → h.number ≡ g.number)
       → SlotHolds s won a value
 
 pub record HoldsAt (s : State) (won : List ℕ) (memory : Memory) (a : ℕ) : Type 0 where
   pub role : memory.role a ≡ role_at s a
-  pub fixed : (role_at s a ≡ Ro) ⊎ (role_at s a ≡ Rx) → memory.value a ≡ word_at s a
+  pub fixed : (role_at s a ≡ Ro) ⊎ (role_at s a ≡ Rx) → memory.value a ≡ first_word_at s a
   pub slot : role_at s a ≡ Slot → SlotHolds s won a (memory.value a)
 
 -- memory is as this state says, where these grants have won their slots and aren't settled yet

@@ -8,8 +8,8 @@ use Rattle.history_event.specs.declared.state.Granting.{Granting}
 use Rattle.history_event.specs.declared.state.Standing.TheVariants.{Open}
 use Rattle.history_state.specs.State.{State}
 use Rattle.history_state.specs.Addresses.{is_linkers_page}
-use Rattle.history_state.specs.Changes.{IsUntouched, reserved, taken}
-use Rattle.history_state.specs.Memory.{covers, ebreaks, role_at, word_at}
+use Rattle.history_state.specs.Changes.{StandsApart, reserved, taken}
+use Rattle.history_state.specs.Memory.{covers, ebreaks, role_at, first_word_at}
 use Rattle.history_state.specs.Step.{step}
 use Rattle.history_memory.specs.Holds.{IsSlotAt, lazy_at}
 use Rattle.history_memory.specs.Memory.{IsDoubleword, Memory}
@@ -25,9 +25,9 @@ pub record Begins (memory : Memory) : Type 0 where
 
 -- what is reserved gets the roles and the words of the state after it, what is taken away loses its role, and all else stays
 pub record Remade (s : State) (e : Event) (old new : Memory) : Type 0 where
-  pub kept : (a : ℕ) → IsDoubleword a → IsUntouched s e a → (new.value a ≡ old.value a) × (new.role a ≡ old.role a)
+  pub kept : (a : ℕ) → IsDoubleword a → StandsApart s e a → (new.value a ≡ old.value a) × (new.role a ≡ old.role a)
   pub given : (r : Range) (a : ℕ) → IsDoubleword a → Contains (reserved s e) r → IsTrue (covers a r)
-      → (new.value a ≡ word_at (step s e) a) × (new.role a ≡ role_at (step s e) a)
+      → (new.value a ≡ first_word_at (step s e) a) × (new.role a ≡ role_at (step s e) a)
   pub gone : (r : Range) (a : ℕ) → IsDoubleword a → Contains (taken s e) r → IsTrue (covers a r) → new.role a ≡ NoRole
 
 -- the grants that have won and aren't settled, after an event

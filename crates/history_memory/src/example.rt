@@ -3,7 +3,7 @@
 ghost use Rattle.std.specs.Prelude.{◌≡◌, [], ◌∷◌};
 ghost use Rattle.ld_base.specs.declared.linking.Role.TheVariants.{Slot};
 ghost use Rattle.history_state.specs.After.{after};
-ghost use Rattle.history_state.specs.Memory.{role_at, word_at};
+ghost use Rattle.history_state.specs.Memory.{role_at, first_word_at};
 ghost use Rattle.history_memory.specs.FirstCall as first;
 ghost use Rattle.history_memory.specs.Holds.{Holds};
 
@@ -13,7 +13,7 @@ ghost use Rattle.history_memory.specs.Holds.{Holds};
 /// the grant is bound, nor ever with the address of the same function in another library.
 pub fn first_call_is_held()
     ensures slot { role_at (after first.called) first.slot_address ≡ Slot }
-    ensures lazy { word_at (after first.called) first.slot_address ≡ first.lazy_word }
+    ensures lazy { first_word_at (after first.called) first.slot_address ≡ first.lazy_word }
     ensures before_exchange { Holds (after first.called) [] (first.memory_with (after first.called) first.lazy_word) }
     ensures after_exchange { Holds (after first.called) (1 ∷ []) (first.memory_with (after first.called) first.function) }
     ensures once_bound { Holds (after first.bound) [] (first.memory_with (after first.bound) first.function) }

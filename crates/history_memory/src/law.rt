@@ -17,7 +17,7 @@ ghost use Rattle.history_state.specs.Memory.{role_at};
 ghost use Rattle.history_state.specs.Setting.{Machine, Setting};
 ghost use Rattle.history_state.specs.Slots.{MayBind, MayLose};
 ghost use Rattle.history_state.specs.State.{Linked, State};
-ghost use Rattle.history_memory.specs.Enters.{Enters, SlotStays, SlotTrue};
+ghost use Rattle.history_memory.specs.Enters.{LeadsToCode, SlotStays, SlotTrue};
 ghost use Rattle.history_memory.specs.Holds.{Holds, IsSlotAt, lazy_at};
 ghost use Rattle.history_memory.specs.Memory.{IsDoubleword, IsSame, Memory};
 ghost use Rattle.history_memory.specs.Remade.{Begins, HasSlot, MayExchange, Remade, SettlesRightly, Stores, Wins, won_after};
@@ -110,7 +110,7 @@ pub fn grants_settle()
 pub fn slots_enter()
     ensures { (m : Machine) (events : List Event) (won : List ℕ) (memory : Memory) (a owner slot : ℕ) → AcceptsOnly m → Lawful m events →
         Holds (after events) won memory → IsDoubleword a → IsSlotAt (after events) a owner slot →
-        Enters memory (memory.value a) }
+        LeadsToCode memory (memory.value a) }
 {
     scope_rule::serials_follow();
     scope_rule::found_stands();

@@ -23,7 +23,7 @@ use Rattle.history_state.specs.Accepted.{AcceptsOnly, IsAccepted}
 use Rattle.history_state.specs.After.{after}
 use Rattle.history_state.specs.Laws.{IsTied, SlotsBegin, bound_value, slot_address}
 use Rattle.history_state.specs.Legal.{Lawful}
-use Rattle.history_state.specs.Memory.{is_in, role_at, word_at, word_in}
+use Rattle.history_state.specs.Memory.{is_in, role_at, first_word_at, word_in}
 use Rattle.history_state.specs.Setting.{Machine}
 use Rattle.history_state.specs.Slots.{value_at_load}
 use Rattle.history_state.specs.Lemmas.Lists.{at_in, in_any}
@@ -108,7 +108,7 @@ module _ (pages : PageLaws) (slots : SlotLaw) (s : State) (m : Mapped s) (tied :
       )
 
   -- the slot's word is that of its binding
-  holds : (b : Binding) → slice_get (slots_of o i.bindings) k ≡ Some (r, b) → (b.bound ≡ true → b.value < 2 ^ 64) → word_at s (slot_address i r) ≡ slot_word o i.base r b
+  holds : (b : Binding) → slice_get (slots_of o i.bindings) k ≡ Some (r, b) → (b.bound ≡ true → b.value < 2 ^ 64) → first_word_at s (slot_address i r) ≡ slot_word o i.base r b
   unfolding word_in
   holds b is fits =
       word_in_image pages s m i there (slot_address i r) word is_inside
@@ -116,7 +116,7 @@ module _ (pages : PageLaws) (slots : SlotLaw) (s : State) (m : Mapped s) (tied :
       ∙ slots o i.base i.serial i.bindings i.places k r b accepted.image (tied i there).copied is fits
 
   begins : (b : Binding) (value : Option ℕ) → bound_value b ≡ value → ((v : ℕ) → value ≡ Some v → v < 2 ^ 64) → slice_get (slots_of o i.bindings) k ≡ Some (r, b)
-      → word_at s (slot_address i r) ≡ (elim value [ Some v ↦ v | None ↦ moved_word o i.base r.place ])
+      → first_word_at s (slot_address i r) ≡ (elim value [ Some v ↦ v | None ↦ moved_word o i.base r.place ])
   unfolding slot_word
   begins b value is fits at_slot = holds b at_slot (λ (e : b.bound ≡ true). fits b.value (sym is ∙ ap (λ (t : Bool). if t then Some b.value else None) e)) ∙ by b.bound value is
     where

@@ -25,9 +25,9 @@ use Rattle.history_state.specs.After.{after}
 use Rattle.history_state.specs.Allowed.{Allowed, AllowedIn}
 use Rattle.history_state.specs.Areas.{free_pages}
 use Rattle.history_state.specs.Bound.{linked_with, uncopied, with_copies}
-use Rattle.history_state.specs.Changes.{ChangesMemory, IsUntouched, reserved, taken}
+use Rattle.history_state.specs.Changes.{ChangesMemory, StandsApart, reserved, taken}
 use Rattle.history_state.specs.Legal.{Lawful}
-use Rattle.history_state.specs.Memory.{covers, data_at, ebreaks, first_byte, image_at, is_data_purpose, is_in, role_at, word_at, word_in}
+use Rattle.history_state.specs.Memory.{covers, data_at, ebreaks, first_byte, image_at, is_data_purpose, is_in, role_at, first_word_at, word_in}
 use Rattle.history_state.specs.Objects.{has}
 use Rattle.history_state.specs.Opening.{Opens}
 use Rattle.history_state.specs.Setting.{Machine, Setting}
@@ -54,11 +54,11 @@ role_same s t a image data_is =
 plain_word : State → ℕ → ℕ
 plain_word s a = if is_linkers_page a then ebreaks else elim (image_at s a) [ Some m ↦ word_in m a | None ↦ 0 ]
 
-word_plain : (s : State) (a : ℕ) → data_at s a ≡ None → word_at s a ≡ plain_word s a
-unfolding word_at plain_word
+word_plain : (s : State) (a : ℕ) → data_at s a ≡ None → first_word_at s a ≡ plain_word s a
+unfolding first_word_at plain_word
 word_plain s a none = ap (λ (found : Option Range). if is_linkers_page a then ebreaks else elim (image_at s a) [ Some m ↦ word_in m a | None ↦ option_map_or (λ r. word_of (first_byte s r.purpose) a) found 0 ]) none
 
-word_same : (s t : State) (a : ℕ) → image_at t a ≡ image_at s a → data_at t a ≡ data_at s a → data_at s a ≡ None → word_at t a ≡ word_at s a
+word_same : (s t : State) (a : ℕ) → image_at t a ≡ image_at s a → data_at t a ≡ data_at s a → data_at s a ≡ None → first_word_at t a ≡ first_word_at s a
 unfolding plain_word
 word_same s t a image data_is none =
     word_plain t a (data_is ∙ none) ∙ ap (λ (found : Option Linked). if is_linkers_page a then ebreaks else elim found [ Some m ↦ word_in m a | None ↦ 0 ]) image ∙ sym (word_plain s a none)
@@ -89,7 +89,7 @@ no_data s a none = at (data_at s a) refl
         let found = found_in (λ (q : Range). is_data_purpose q.purpose && covers a q) s.ranges r e in
         absurd (none r found.0 (and_parts (is_data_purpose r.purpose) (covers a r) found.1).1)
 
-uncovered : (s : State) (e : Event) (a : ℕ) → IsUntouched s e a → (r : Range) → Contains (reserved s e) r → (is_data_purpose r.purpose && covers a r) ≡ false
+uncovered : (s : State) (e : Event) (a : ℕ) → StandsApart s e a → (r : Range) → Contains (reserved s e) r → (is_data_purpose r.purpose && covers a r) ≡ false
 uncovered s e a untouched r h = and_right (is_data_purpose r.purpose) (covers a r) (untouched r (inl h))
 
 -- ---- the events that change images and ranges
@@ -113,7 +113,7 @@ abbrev Same : State → Event → ℕ → Type 0
 Same s e a = (image_at (step s e) a ≡ image_at s a) × (data_at (step s e) a ≡ data_at s a)
 
 open_same : PageLaws → (w : Setting) (s : State) (hart : ℕ) (ask : OpenAsk) (id root : ℕ) (added : List Loaded) (ranges : List Range) → Opens w s hart ask id root added ranges
-    → Mapped (step s (events.Open hart ask (opens.Done id root added ranges))) → (a : ℕ) → a < 2 ^ 64 → IsUntouched s (events.Open hart ask (opens.Done id root added ranges)) a
+    → Mapped (step s (events.Open hart ask (opens.Done id root added ranges))) → (a : ℕ) → a < 2 ^ 64 → StandsApart s (events.Open hart ask (opens.Done id root added ranges)) a
     → Same s (events.Open hart ask (opens.Done id root added ranges)) a
 unfolding loaded
 open_same laws w s hart ask id root added ranges may new a word untouched = (
@@ -125,7 +125,7 @@ open_same laws w s hart ask id root added ranges may new a word untouched = (
     not_true true never = absurd (never refl)
     not_true false never = refl
 
-unmap_same : PageLaws → (s : State) → Mapped s → (hart : ℕ) (set : List ℕ) (a : ℕ) → a < 2 ^ 64 → IsUntouched s (events.Unmapped hart set) a → Same s (events.Unmapped hart set) a
+unmap_same : PageLaws → (s : State) → Mapped s → (hart : ℕ) (set : List ℕ) (a : ℕ) → a < 2 ^ 64 → StandsApart s (events.Unmapped hart set) a → Same s (events.Unmapped hart set) a
 unfolding unmap
 unmap_same laws s m hart set a word untouched = (
   find_kept (λ q. is_in q a) (λ q. not (has set q.serial)) s.images (λ i there inside. stays i there inside (has set i.serial) refl),
@@ -142,7 +142,7 @@ unmap_same laws s m hart set a word untouched = (
         range_stays r.range r.there (range_in laws s m i there a word inside) true (ap (purpose_goes set) r.purpose ∙ e)
     stays i there inside false e = refl
 
-same : PageLaws → (w : Setting) (past : List Event) (s : State) (e : Event) → Mapped s → Mapped (step s e) → AllowedIn w past s e → (a : ℕ) → a < 2 ^ 64 → IsUntouched s e a → Same s e a
+same : PageLaws → (w : Setting) (past : List Event) (s : State) (e : Event) → Mapped s → Mapped (step s e) → AllowedIn w past s e → (a : ℕ) → a < 2 ^ 64 → StandsApart s e a → Same s e a
 unfolding loaded die lower initialise
 same laws w past s (events.Open hart ask (opens.Done id root added ranges)) m new may a word untouched = open_same laws w s hart ask id root added ranges may new a word untouched
 same laws w past s (events.Open hart ask opens.Absent) m new may a word untouched = (refl, refl)

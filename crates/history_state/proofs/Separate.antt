@@ -13,7 +13,7 @@ use Rattle.scope_rule.specs.Choose.{pick_at}
 use Rattle.scope_rule.specs.Load.{find_opened, find_path, finds, step as load_step}
 use Rattle.scope_rule.specs.Searching.{in_breadth}
 use Rattle.seg_image.specs.Pages.{align_of, guest_address, high_of, low_of, own_address, pages_of}
-use Rattle.history_state.specs.State.{State, start}
+use Rattle.history_state.specs.State.{State, empty_state}
 use Rattle.history_state.specs.Objects.{has_namespace}
 use Rattle.history_state.specs.Asking.{IsFreeNumber}
 use Rattle.history_state.specs.Addresses.{address}
@@ -34,7 +34,7 @@ files = map file_of (prog ∷ libn ∷ [])
 -- ---- the states
 
 abbrev started : State
-started = step start startup
+started = step empty_state startup
 
 abbrev prog_ready : State
 prog_ready = step started (Init 0 1)
@@ -68,12 +68,12 @@ base_done = step new_done (Fini 0 2)
 
 -- ---- the events
 
-may_start : AllowedIn setting [] start startup
+may_start : AllowedIn setting [] empty_state startup
 unfolding relocation_fault loaded initialise load_step finds find_path find_opened pages_of low_of high_of align_of own_address
 may_start = record {
   may = λ first. record { by_first = refl; base = refl; named = tt; flags = inl refl };
   asked = record { short = refl; flags = refl; namespace = (refl, refl) };
-  name = loads setting files start 0 _ (codes "prog") 0 1 _ _ (1 ∷ []) 0 (record {
+  name = loads setting files empty_state 0 _ (codes "prog") 0 1 _ _ (1 ∷ []) 0 (record {
     told = refl;
     reads = refl;
     walked = refl;

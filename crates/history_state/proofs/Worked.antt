@@ -10,7 +10,7 @@ use Rattle.history_event.specs.declared.event.OpenAsk.{OpenAsk}
 use Rattle.history_event.specs.declared.event.Range.{Range}
 use Rattle.scope_rule.specs.Finding.{Reading, here, absent}
 use Rattle.scope_rule.specs.Load.{Walk, step as load_step, finds, find_path}
-use Rattle.history_state.specs.State.{State, start}
+use Rattle.history_state.specs.State.{State, empty_state}
 use Rattle.history_state.specs.After.{after, after_from}
 use Rattle.history_state.specs.Areas.{free_pages}
 use Rattle.history_state.specs.Exits.{exits, initialised_by_another, loaded_program, unmapped_unclosed, name, pages, program, setting, startup, table}
@@ -101,7 +101,7 @@ may_read path false = tt
 news_are : Walk
 news_are = record { found = 1 ∷ []; arrivals = record { path = name; object = program; table = table } ∷ [] }
 
-found : Finds setting start 0 ask name 0 1 (loaded_program ∷ [])
+found : Finds setting empty_state 0 ask name 0 1 (loaded_program ∷ [])
 unfolding load_step finds find_path news_are reading_by
 found = record {
   reading = reading;
@@ -112,10 +112,10 @@ found = record {
   are = refl;
 }
 
-have_storage : HaveStorage start (loaded_program ∷ []) (loaded_program ∷ [])
+have_storage : HaveStorage empty_state (loaded_program ∷ []) (loaded_program ∷ [])
 have_storage = record { same = refl; modules = (tt, tt) }
 
-are_placed : ArePlaced setting start (loaded_program ∷ []) pages
+are_placed : ArePlaced setting empty_state (loaded_program ∷ []) pages
 unfolding pages_of low_of high_of own_address left_over
 are_placed = record {
   left = without left_over 0x11000 16;
@@ -126,7 +126,7 @@ are_placed = record {
   based = (refl, tt);
 }
 
-opens_program : Opens setting start 0 ask 0 1 (loaded_program ∷ []) pages
+opens_program : Opens setting empty_state 0 ask 0 1 (loaded_program ∷ []) pages
 unfolding relocation_fault loaded
 opens_program = record {
   may = λ first. record { by_first = refl; base = refl; named = tt; flags = inl refl };

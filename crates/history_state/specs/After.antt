@@ -1,7 +1,7 @@
 -- The state after events: a fold from the left.
 use Rattle.std.specs.Prelude.{List, [], ◌∷◌}
 use Rattle.history_event.specs.declared.event.Event.{Event}
-use Rattle.history_state.specs.State.{State, start}
+use Rattle.history_state.specs.State.{State, empty_state}
 use Rattle.history_state.specs.Step.{step}
 
 unfoldable pub after_from : State → List Event → State
@@ -10,4 +10,4 @@ after_from s (e ∷ rest) = after_from (step s e) rest
 
 -- After
 abbrev pub after : List Event → State
-after events = after_from start events
+after events = after_from empty_state events

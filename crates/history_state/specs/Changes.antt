@@ -7,7 +7,7 @@ use Rattle.history_event.specs.declared.event.OpenAnswer.{OpenAnswer}
 use Rattle.history_event.specs.declared.event.OpenAnswer.TheVariants as opens
 use Rattle.history_event.specs.declared.event.Range.{Range}
 use Rattle.history_state.specs.State.{State}
-use Rattle.history_state.specs.Memory.{covers, data_at, role_at, word_at}
+use Rattle.history_state.specs.Memory.{covers, data_at, role_at, first_word_at}
 use Rattle.history_state.specs.Step.{block_ranges, goes_with, step}
 
 -- the ranges that an event reserves: an opening's, and a block's
@@ -27,13 +27,13 @@ taken s (events.Unmapped hart set) = filter (goes_with set) s.ranges
 taken s other = []
 
 -- no range that comes or goes has the address
-abbrev pub IsUntouched : State → Event → ℕ → Type 0
-IsUntouched s e a = (r : Range) → Contains (reserved s e) r ⊎ Contains (taken s e) r → covers a r ≡ false
+abbrev pub StandsApart : State → Event → ℕ → Type 0
+StandsApart s e a = (r : Range) → Contains (reserved s e) r ⊎ Contains (taken s e) r → covers a r ≡ false
 
 -- an address that is in no range which comes or goes keeps its role, and its word, but in stacks, static areas and blocks, where harts write;
 -- what is reserved had no role, and what is taken away has none
 pub record ChangesMemory (s : State) (e : Event) : Type 0 where
-  pub role : (a : ℕ) → a < 2 ^ 64 → IsUntouched s e a → role_at (step s e) a ≡ role_at s a
-  pub word : (a : ℕ) → a < 2 ^ 64 → IsUntouched s e a → data_at s a ≡ None → word_at (step s e) a ≡ word_at s a
+  pub role : (a : ℕ) → a < 2 ^ 64 → StandsApart s e a → role_at (step s e) a ≡ role_at s a
+  pub word : (a : ℕ) → a < 2 ^ 64 → StandsApart s e a → data_at s a ≡ None → first_word_at (step s e) a ≡ first_word_at s a
   pub reserved_before : (r : Range) (a : ℕ) → Contains (reserved s e) r → IsTrue (covers a r) → role_at s a ≡ NoRole
   pub taken_after : (r : Range) (a : ℕ) → Contains (taken s e) r → IsTrue (covers a r) → role_at (step s e) a ≡ NoRole

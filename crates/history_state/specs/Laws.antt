@@ -44,7 +44,7 @@ use Rattle.history_state.specs.State.{Linked, State}
 use Rattle.history_state.specs.Step.{block_range}
 use Rattle.history_state.specs.Storage.{module_of_place, pages_for, residue, tp_of, with_modules}
 use Rattle.history_state.specs.Grants.{chosen_target, target_of}
-use Rattle.history_state.specs.Memory.{covers, data_at, first_byte, holds, image_at, image_of, is_data_purpose, is_in_block, role_at, word_at}
+use Rattle.history_state.specs.Memory.{covers, data_at, first_byte, holds, image_at, image_of, is_data_purpose, is_in_block, role_at, first_word_at}
 use Rattle.history_state.specs.Objects.{IsMapped, object_at, startup_serials, has}
 
 -- a mapped object, with its namespace
@@ -345,7 +345,7 @@ pub record IsDataAt (s : State) (r : Range) (a : ℕ) : Type 0 where
   pub image : image_at s a ≡ None
   pub area : data_at s a ≡ Some r
   pub role : role_at s a ≡ Rw
-  pub word : word_at s a ≡ word_of (first_byte s r.purpose) a
+  pub word : first_word_at s a ≡ word_of (first_byte s r.purpose) a
 
 -- the pages of stacks, static areas and blocks are data, and nothing else
 abbrev pub AreasAreData : State → Type 0
@@ -360,7 +360,7 @@ BlocksAreApart m s = (h k a : ℕ) (x y : Module) → h < m.harts → k < m.hart
 abbrev pub ImagesAreInstalled : State → Type 0
 ImagesAreInstalled s = (i : Linked) → Contains s.images i → (image : Image)
     → IsImage i.object i.base (image_word i.object i.base i.serial i.bindings i.places) image → (k : ℕ) → k < length image.words
-    → slice_get image.words k ≡ Some (record { value = word_at s (image.start + 8 * k); role = role_at s (image.start + 8 * k) })
+    → slice_get image.words k ≡ Some (record { value = first_word_at s (image.start + 8 * k); role = role_at s (image.start + 8 * k) })
 
 -- where slots lead is code that memory holds: a value of a mapped object's slot is 0 or lies in an RX word, and so does the word that a slot
 -- holds until it is bound
@@ -415,9 +415,9 @@ slot_address i r = guest_address i.base r.place
 pub record SlotsBegin (s : State) : Type 0 where
   pub at_load : (i : Linked) (slot value : ℕ) (r : Reloc) → Contains s.images i → slice_get i.object.plt_relocs slot ≡ Some r
       → value_at_load s i.serial slot ≡ Some value → value < 2 ^ 64
-      → word_at s (slot_address i r) ≡ value
+      → first_word_at s (slot_address i r) ≡ value
   pub lazy : (i : Linked) (slot : ℕ) (r : Reloc) → Contains s.images i → slice_get i.object.plt_relocs slot ≡ Some r → value_at_load s i.serial slot ≡ None
-      → word_at s (slot_address i r) ≡ moved_word i.object i.base r.place
+      → first_word_at s (slot_address i r) ≡ moved_word i.object i.base r.place
   pub role : (i : Linked) (slot : ℕ) (r : Reloc) → Contains s.images i → slice_get i.object.plt_relocs slot ≡ Some r → role_at s (slot_address i r) ≡ Slot
 
 -- the module is that of a mapped object, with the number and the offset of its place

@@ -137,10 +137,10 @@ pub record FindsSymbol (s : State) (hart : ℕ) (ask : SymAsk) (serial index val
   pub found : search s ask ≡ Some (Some (serial, index))
   pub is : IsAddress s hart serial index value
 
-abbrev pub Answers : State → ℕ → SymAsk → SymAnswer → Type 0
-Answers s hart ask (syms.Found serial index value) = FindsSymbol s hart ask serial index value
-Answers s hart ask (syms.Refused fault) = RefusesSymbol s hart ask fault
+abbrev pub SearchAnswers : State → ℕ → SymAsk → SymAnswer → Type 0
+SearchAnswers s hart ask (syms.Found serial index value) = FindsSymbol s hart ask serial index value
+SearchAnswers s hart ask (syms.Refused fault) = RefusesSymbol s hart ask fault
 
 -- the caller's namespace is there
 abbrev pub MayAnswer : State → ℕ → SymAsk → SymAnswer → Type 0
-MayAnswer s hart ask answer = IsTrue (has_namespace s ask.ns) × Answers s hart ask answer
+MayAnswer s hart ask answer = IsTrue (has_namespace s ask.ns) × SearchAnswers s hart ask answer

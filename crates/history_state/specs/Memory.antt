@@ -95,8 +95,8 @@ abbrev pub ebreaks : ℕ
 ebreaks = 0x0010007300100073
 
 -- the word at a multiple of 8 when its pages were reserved
-unfoldable pub word_at : State → ℕ → ℕ
-word_at s a =
+unfoldable pub first_word_at : State → ℕ → ℕ
+first_word_at s a =
     if is_linkers_page a then ebreaks
     else elim (image_at s a) [
       | Some m ↦ word_in m a

@@ -61,8 +61,8 @@ abbrev pub empty_namespace : ℕ → Namespace
 empty_namespace id = record { id = id; objects = []; global = []; opens = [] }
 
 -- before the first event: the base namespace, with nothing in it
-abbrev pub start : State
-start = record {
+abbrev pub empty_state : State
+empty_state = record {
   now = false;
   namespaces = empty_namespace 0 ∷ [];
   next = 1;

@@ -10,7 +10,7 @@ use Rattle.cli_words.specs.declared.command.Turns.{Turns}
 use Rattle.history_calls.specs.Startup.{harts_of}
 use Rattle.ldso_cli.proofs.Schedules.{Schedule, told_schedule}
 use Rattle.ldso_cli.specs.Asked.{Asks, CanBeDone, OfAsked}
-use Rattle.ldso_cli.specs.Command.{Answers, AsScheduled, IsUsage, LeavesLibrary}
+use Rattle.ldso_cli.specs.Command.{WordsAnswer, AsScheduled, IsUsage, LeavesLibrary}
 use Rattle.ldso_cli.specs.Generate.{GenComes}
 use Rattle.ldso_cli.specs.Outside.{LibraryAt}
 use Rattle.ldso_cli.specs.Turns.{IsScheduled, TurnsComes}
@@ -57,7 +57,7 @@ unanswered one words command reads {P} holds = either (told command)
 -- ---- turns
 
 pub turned : OneCommand → (words : List (List ℕ)) (turns : Turns) → Reads words (commands.Turns turns) → (before after : LibraryAt) (r : Result Answer AllocError) → IfOk r (λ a. AsScheduled turns before after a.end a.text)
-    → OfAsked words (λ command. IfOk r (λ a. Answers command before after a.end a.text))
+    → OfAsked words (λ command. IfOk r (λ a. WordsAnswer command before after a.end a.text))
 turned one words turns reads before after (Err e) come = unanswered one words (commands.Turns turns) reads (λ _. tt)
 turned one words turns reads before after (Ok a) come = ⊎_elim
     (λ (x : IsScheduled turns × TurnsComes turns before after a.end a.text). record { asked = Some (commands.Turns turns); asks = (reads, x.0); holds = x.1 })
@@ -67,7 +67,7 @@ turned one words turns reads before after (Ok a) come = ⊎_elim
 -- ---- gen
 
 pub generated : (words : List (List ℕ)) (number : ℕ) → Reads words (commands.Generate number) → (before after : LibraryAt) (r : Result Answer AllocError) → IfOk r (λ a. GenComes number a.end a.text)
-    → OfAsked words (λ command. IfOk r (λ a. Answers command before after a.end a.text))
+    → OfAsked words (λ command. IfOk r (λ a. WordsAnswer command before after a.end a.text))
 generated words number reads before after (Err e) come = record { asked = Some (commands.Generate number); asks = (reads, tt); holds = tt }
 generated words number reads before after (Ok a) come = record { asked = Some (commands.Generate number); asks = (reads, tt); holds = come }
 

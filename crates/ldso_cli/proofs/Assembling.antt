@@ -10,7 +10,7 @@ use Rattle.library_source.specs.Files.{file_at}
 use Rattle.asm_layout.specs.AsmDenotes.Denotes.{Denotes, AsmBroken}
 use Rattle.cli_words.specs.declared.command.Command.TheVariants as commands
 use Rattle.ldso_cli.specs.Asm.{SourceRead, source, missing, failed, SourceComes, ReadsSource, GivesCause, AsmComes, AsmPrints, IsOfFile}
-use Rattle.ldso_cli.specs.Command.{Answers, EndsBare}
+use Rattle.ldso_cli.specs.Command.{WordsAnswer, EndsBare}
 use Rattle.ldso_cli.specs.End.{bare}
 use Rattle.ldso_cli.specs.Outside.{LibraryAt}
 use Rattle.ldso_cli.specs.Status.{refused_text}
@@ -32,7 +32,7 @@ record IsGiven (path : List ℕ) (before after : LibraryAt) (cause : Cause) (tex
   pub prints : (files : List File) → file_at files path ≡ file → AsmPrints path files cause text
 
 answer_over : (path : List ℕ) (before after : LibraryAt) (cause : Cause) (answer : Answer) → IsGiven path before after cause answer.text → answer.end ≡ bare cause
-    → Answers (Some (commands.Assemble path)) before after answer.end answer.text
+    → WordsAnswer (Some (commands.Assemble path)) before after answer.end answer.text
 answer_over path before after cause answer given end =
     let over = files_at before.files path given.file given.told in
     let P : Option (List ℕ) → Type 0 = λ f. ReadsSource before after f given.read in
@@ -56,7 +56,7 @@ source_prints path bytes text files causes.WriteFault at comes = absurd comes
 source_prints path bytes text files causes.Memory at comes = absurd comes
 
 pub source_answers : (path : List ℕ) (before after : LibraryAt) (bytes : List ℕ) (r : Result Answer AllocError) → IfSome before.files (λ all. file_at all path ≡ Some bytes)
-    → IfOk r (λ a. EndsBare (λ cause. SourceComes bytes cause a.text) a.end) → IfOk r (λ a. Answers (Some (commands.Assemble path)) before after a.end a.text)
+    → IfOk r (λ a. EndsBare (λ cause. SourceComes bytes cause a.text) a.end) → IfOk r (λ a. WordsAnswer (Some (commands.Assemble path)) before after a.end a.text)
 source_answers path before after bytes (Err e) told ends = tt
 source_answers path before after bytes (Ok answer) told ends =
     answer_over path before after ends.cause answer (record {
@@ -70,7 +70,7 @@ source_answers path before after bytes (Ok answer) told ends =
 
 pub missing_answers : (path : List ℕ) (before after : LibraryAt) (r : Result Answer AllocError) → IfSome before.files (λ all. file_at all path ≡ None) → Rises before.misses after.misses
     → IfOk r (λ a. a.end ≡ bare (causes.Refused (dl.MissingLibrary path))) → IfOk r (λ a. a.text ≡ refused_text (dl.MissingLibrary path))
-    → IfOk r (λ a. Answers (Some (commands.Assemble path)) before after a.end a.text)
+    → IfOk r (λ a. WordsAnswer (Some (commands.Assemble path)) before after a.end a.text)
 missing_answers path before after (Err e) told missed end text = tt
 missing_answers path before after (Ok answer) told missed end text =
     answer_over path before after (causes.Refused (dl.MissingLibrary path)) answer (record {
@@ -84,7 +84,7 @@ missing_answers path before after (Ok answer) told missed end text =
 
 pub failed_answers : (path : List ℕ) (before after : LibraryAt) (r : Result Answer AllocError) → Rises before.faults after.faults
     → IfOk r (λ a. a.end ≡ bare (causes.Refused (dl.ReadFault path))) → IfOk r (λ a. a.text ≡ refused_text (dl.ReadFault path))
-    → IfOk r (λ a. Answers (Some (commands.Assemble path)) before after a.end a.text)
+    → IfOk r (λ a. WordsAnswer (Some (commands.Assemble path)) before after a.end a.text)
 failed_answers path before after (Err e) counted end text = tt
 failed_answers path before after (Ok answer) counted end text =
     let some = some_file path before.files in

@@ -19,7 +19,7 @@ use Rattle.ldso_cli.proofs.Told.{never_rises}
 use Rattle.ldso_cli.specs.Asm.{SourceRead, SourceComes, ReadsSource, GivesCause}
 use Rattle.ldso_cli.specs.Bind.{BindComes, cause_of, namespace_of}
 use Rattle.cli_words.specs.declared.command.Turns.{Turns}
-use Rattle.ldso_cli.specs.Command.{Answers, CommandAnswers, Misses}
+use Rattle.ldso_cli.specs.Command.{WordsAnswer, CommandAnswers, Misses}
 use Rattle.ldso_cli.specs.Dump.{DumpComes, ReadsAs, dump_cause}
 use Rattle.ldso_cli.specs.End.{bare}
 use Rattle.ldso_cli.specs.Ends.{Handing, IsCaused, IsUnanswered, Written}
@@ -181,7 +181,7 @@ own_end (commands.Generate number) before after end text comes = gen_own number 
 
 -- ---- what is written
 
-pub own_caused : (command : Option Command) (before after : LibraryAt) (old new : SinkAt) (end : End) (text : List ℕ) → Answers command before after end text → IsCaused command before after old new end.cause
+pub own_caused : (command : Option Command) (before after : LibraryAt) (old new : SinkAt) (end : End) (text : List ℕ) → WordsAnswer command before after end text → IsCaused command before after old new end.cause
 own_caused None before after old new end text usage =
     let P : Cause → Type 0 = λ c. IsCaused None before after old new c in
     subst P (sym (ap (λ (e : End). e.cause) usage.end_is))
@@ -204,7 +204,7 @@ memory_caused : (command : Option Command) (before after : LibraryAt) (old new :
 memory_caused command before after old new =
     record { usage = λ e. absurd (cc e); no_command = λ e. inr (inr refl); read_fault = λ path e. absurd (cc e); missing = λ name e. absurd (cc e); write_fault = λ e. absurd (cc e) }
 
-written_caused : (handed : Handing) (command : Option Command) (before after : LibraryAt) (old new : SinkAt) (own end : End) (text : List ℕ) → Answers command before after own text → Written handed own text old new end
+written_caused : (handed : Handing) (command : Option Command) (before after : LibraryAt) (old new : SinkAt) (own end : End) (text : List ℕ) → WordsAnswer command before after own text → Written handed own text old new end
     → IsCaused command before after old new end.cause
 written_caused handed command before after old new own end text answers written =
     let P : Cause → Type 0 = λ c. IsCaused command before after old new c in
@@ -214,7 +214,7 @@ written_caused handed command before after old new own end text answers written 
       | inr (inr stopped) ↦ subst P (sym (ap (λ (e : End). e.cause) stopped.end_is)) (memory_caused command before after old new)
     ]
 
-pub end_caused : (handed : Handing) (command : Option Command) (before after : LibraryAt) (old new : SinkAt) (r : Result Answer AllocError) (end : End) → IfOk r (λ a. Answers command before after a.end a.text)
+pub end_caused : (handed : Handing) (command : Option Command) (before after : LibraryAt) (old new : SinkAt) (r : Result Answer AllocError) (end : End) → IfOk r (λ a. WordsAnswer command before after a.end a.text)
     → MatchResult r (λ a. Written handed a.end a.text old new end) (λ _. IsUnanswered handed old new end) → IsCaused command before after old new end.cause
 end_caused handed command before after old new (Ok a) end answers written = written_caused handed command before after old new a.end end a.text answers written
 end_caused handed command before after old new (Err e) end answers unanswered =

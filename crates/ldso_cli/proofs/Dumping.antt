@@ -19,7 +19,7 @@ use Rattle.load_walk.specs.Files.{as_read}
 use Rattle.library_source.specs.Files.{Over}
 use Rattle.scope_rule.specs.Finding.{Reading, here, unaccepted, absent, failed}
 use Rattle.cli_words.specs.declared.command.Command.TheVariants as commands
-use Rattle.ldso_cli.specs.Command.{Answers}
+use Rattle.ldso_cli.specs.Command.{WordsAnswer}
 use Rattle.ldso_cli.specs.Dump.{ReadsAs, DumpPrints, dump_cause, program_read, reading_text}
 use Rattle.ldso_cli.specs.End.{bare}
 use Rattle.ldso_cli.specs.Outside.{LibraryAt}
@@ -57,7 +57,7 @@ record IsGiven (path : List ℕ) (before after : LibraryAt) (reading : Reading) 
   pub prints : (files : List File) → file_at files path ≡ file → DumpPrints path files (dump_cause path reading) (reading_text path reading)
 
 answer_over : (path : List ℕ) (before after : LibraryAt) (reading : Reading) (answer : Answer) → IsGiven path before after reading → answer.end ≡ bare (dump_cause path reading) → answer.text ≡ reading_text path reading
-    → Answers (Some (commands.Dump path)) before after answer.end answer.text
+    → WordsAnswer (Some (commands.Dump path)) before after answer.end answer.text
 answer_over path before after reading answer given end text =
     let over = files_at before.files path given.file given.told in
     let P : Option (List ℕ) → Type 0 = λ f. ReadsAs before after f reading in
@@ -73,7 +73,7 @@ answer_over path before after reading answer given end text =
     }
 
 dump_answers : (path : List ℕ) (before after : LibraryAt) (reading : Reading) (r : Result Answer AllocError) → IsGiven path before after reading → IfOk r (λ a. a.end ≡ bare (dump_cause path reading)) → IfOk r (λ a. a.text ≡ reading_text path reading)
-    → IfOk r (λ a. Answers (Some (commands.Dump path)) before after a.end a.text)
+    → IfOk r (λ a. WordsAnswer (Some (commands.Dump path)) before after a.end a.text)
 dump_answers path before after reading (Err e) given end text = tt
 dump_answers path before after reading (Ok answer) given end text = answer_over path before after reading answer given end text
 
@@ -83,7 +83,7 @@ gives_read before after bytes (Err broken) is = ap as_read is
 
 pub shown_answers : (path : List ℕ) (before after : LibraryAt) (bytes : List ℕ) (r : Result Answer AllocError) → IfSome before.files (λ all. file_at all path ≡ Some bytes)
     → IfOk r (λ a. a.end ≡ bare (dump_cause path (program_read (Some bytes)))) → IfOk r (λ a. a.text ≡ reading_text path (program_read (Some bytes)))
-    → IfOk r (λ a. Answers (Some (commands.Dump path)) before after a.end a.text)
+    → IfOk r (λ a. WordsAnswer (Some (commands.Dump path)) before after a.end a.text)
 shown_answers path before after bytes r told end text =
     dump_answers path before after (program_read (Some bytes)) r (record {
       file = Some bytes;
@@ -93,7 +93,7 @@ shown_answers path before after bytes r told end text =
     }) end text
 
 pub missing_answers : (path : List ℕ) (before after : LibraryAt) (r : Result Answer AllocError) → IfSome before.files (λ all. file_at all path ≡ None) → Rises before.misses after.misses
-    → IfOk r (λ a. a.end ≡ bare (dump_cause path absent)) → IfOk r (λ a. a.text ≡ reading_text path absent) → IfOk r (λ a. Answers (Some (commands.Dump path)) before after a.end a.text)
+    → IfOk r (λ a. a.end ≡ bare (dump_cause path absent)) → IfOk r (λ a. a.text ≡ reading_text path absent) → IfOk r (λ a. WordsAnswer (Some (commands.Dump path)) before after a.end a.text)
 missing_answers path before after r told missed end text =
     dump_answers path before after absent r (record { file = None; told = told; gives = (refl, missed); prints = λ files at. refl }) end text
 
@@ -102,7 +102,7 @@ some_file path None = (None, tt)
 some_file path (Some all) = (file_at all path, refl)
 
 pub failed_answers : (path : List ℕ) (before after : LibraryAt) (r : Result Answer AllocError) → Rises before.faults after.faults
-    → IfOk r (λ a. a.end ≡ bare (dump_cause path failed)) → IfOk r (λ a. a.text ≡ reading_text path failed) → IfOk r (λ a. Answers (Some (commands.Dump path)) before after a.end a.text)
+    → IfOk r (λ a. a.end ≡ bare (dump_cause path failed)) → IfOk r (λ a. a.text ≡ reading_text path failed) → IfOk r (λ a. WordsAnswer (Some (commands.Dump path)) before after a.end a.text)
 failed_answers path before after r counted end text =
     let some = some_file path before.files in
     dump_answers path before after failed r (record { file = some.0; told = some.1; gives = counted; prints = λ files at. refl }) end text

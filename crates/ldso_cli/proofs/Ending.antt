@@ -36,8 +36,8 @@ use Rattle.ldso_cli.specs.declared.outcome.Cause.TheVariants as causes
 use Rattle.ldso_cli.specs.declared.outcome.End.{End}
 use Rattle.cli_words.specs.declared.command.Bind.{Bind}
 use Rattle.cli_words.specs.declared.command.Command.TheVariants as commands
-use Rattle.ldso_cli.specs.Bind.{BindComes, BindPrints, Loads, ask_of, cause_of, namespace_of, nothing_loaded, objects_text, program_load, unopened}
-use Rattle.ldso_cli.specs.Command.{Answers}
+use Rattle.ldso_cli.specs.Bind.{BindComes, BindPrints, BindLoads, ask_of, cause_of, namespace_of, nothing_loaded, objects_text, program_load, unopened}
+use Rattle.ldso_cli.specs.Command.{WordsAnswer}
 use Rattle.ldso_cli.specs.End.{bare}
 use Rattle.ldso_cli.specs.Outside.{LibraryAt}
 use Rattle.cli_text.specs.Refusal.{is_missing, missing_symbol, refusal_at, first_missing, refusal_of, first_refusal}
@@ -122,7 +122,7 @@ of_refusal (Some g) f e = cc
 
 pub refused_answers : (bind : Bind) (before after : LibraryAt) (fault : DlFault) (r : Result Answer AllocError) → IfOk r (λ a. a.end ≡ bare (causes.Refused fault)) → IfOk r (λ a. a.text ≡ refused_text fault)
     → Over before.files (IsRefused object_verdict (ask_of bind) [] before.misses after.misses fault) → ((path : List ℕ) → fault ≡ dl.ReadFault path → Rises before.faults after.faults)
-    → IfOk r (λ a. Answers (Some (commands.Bind bind)) before after a.end a.text)
+    → IfOk r (λ a. WordsAnswer (Some (commands.Bind bind)) before after a.end a.text)
 refused_answers bind before after fault (Err e) end text over counted = tt
 refused_answers bind before after fault (Ok answer) end text over counted =
     let P : Cause → Type 0 = λ c. BindPrints bind over.files c answer.text in
@@ -157,7 +157,7 @@ unfolding breadth
 breadth_from_one ns root = from_one (first_kept (levels ns root (length ns.objects)))
 
 module _ (breadth_first : BreadthFirst) (root_new : RootIsNew) (bind : Bind) (plan : LoadPlan) (files : List File) (is : IsPlan object_verdict (ask_of bind) nothing_loaded plan files) where
-  loads_is : Loads bind files plan.added
+  loads_is : BindLoads bind files plan.added
   loads_is = record { walk = is.walk; brings = is.brings; are = is.added }
 
   root_is_first : plan.root ≡ 1
@@ -186,12 +186,12 @@ module _ (breadth_first : BreadthFirst) (root_new : RootIsNew) (bind : Bind) (pl
         missing = λ name e. absurd (none.not_missing name (of_refusal (first_refusal ns bind.now plan.added) (dl.MissingLibrary name) e));
       }
 
-loaded_prints : (bind : Bind) (files : List File) (objects : List Loaded) (fault : Option DlFault) → Loads bind files objects → BindPrints bind files (cause_of fault) (objects_text (namespace_of objects) fault)
+loaded_prints : (bind : Bind) (files : List File) (objects : List Loaded) (fault : Option DlFault) → BindLoads bind files objects → BindPrints bind files (cause_of fault) (objects_text (namespace_of objects) fault)
 loaded_prints bind files objects None loads = record { objects = objects; loads = loads; text_is = refl }
 loaded_prints bind files objects (Some fault) loads = refl
 
 loaded_answer : BreadthFirst → RootIsNew → (bind : Bind) (before after : LibraryAt) (plan : LoadPlan) (ns : Namespace) (answer : Answer) → ns ≡ namespace_of plan.added → (over : Over before.files (IsPlan object_verdict (ask_of bind) nothing_loaded plan))
-    → answer.end ≡ bare (cause_of (first_refusal ns bind.now ns.objects)) → answer.text ≡ objects_text ns (first_refusal ns bind.now ns.objects) → Answers (Some (commands.Bind bind)) before after answer.end answer.text
+    → answer.end ≡ bare (cause_of (first_refusal ns bind.now ns.objects)) → answer.text ≡ objects_text ns (first_refusal ns bind.now ns.objects) → WordsAnswer (Some (commands.Bind bind)) before after answer.end answer.text
 loaded_answer law first bind before after plan ns answer same over end text =
     let C : Namespace → Type 0 = λ n. answer.end ≡ bare (cause_of (first_refusal n bind.now n.objects)) in
     let T : Namespace → Type 0 = λ n. answer.text ≡ objects_text n (first_refusal n bind.now n.objects) in
@@ -210,6 +210,6 @@ loaded_answer law first bind before after plan ns answer same over end text =
     }
 
 pub loaded_answers : BreadthFirst → RootIsNew → (bind : Bind) (before after : LibraryAt) (plan : LoadPlan) (ns : Namespace) (r : Result Answer AllocError) → ns ≡ opened nothing_loaded plan.added plan.root true → Over before.files (IsPlan object_verdict (ask_of bind) nothing_loaded plan)
-    → IfOk r (λ a. a.end ≡ bare (cause_of (first_refusal ns bind.now ns.objects))) → IfOk r (λ a. a.text ≡ objects_text ns (first_refusal ns bind.now ns.objects)) → IfOk r (λ a. Answers (Some (commands.Bind bind)) before after a.end a.text)
+    → IfOk r (λ a. a.end ≡ bare (cause_of (first_refusal ns bind.now ns.objects))) → IfOk r (λ a. a.text ≡ objects_text ns (first_refusal ns bind.now ns.objects)) → IfOk r (λ a. WordsAnswer (Some (commands.Bind bind)) before after a.end a.text)
 loaded_answers law first bind before after plan ns (Err e) same over end text = tt
 loaded_answers law first bind before after plan ns (Ok answer) same over end text = loaded_answer law first bind before after plan ns answer (same ∙ same_namespace law first bind plan over.files over.holds) over end text

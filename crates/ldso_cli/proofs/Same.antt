@@ -9,7 +9,7 @@ use Rattle.cli_words.specs.declared.command.Bind.{Bind}
 use Rattle.cli_words.specs.declared.command.Command.{Command}
 use Rattle.cli_words.specs.declared.command.Command.TheVariants as commands
 use Rattle.ldso_cli.proofs.Assembling.{OneObject, asm_text}
-use Rattle.ldso_cli.specs.Bind.{BindPrints, IsBound, Loads, namespace_of, program_load}
+use Rattle.ldso_cli.specs.Bind.{BindPrints, IsBound, BindLoads, namespace_of, program_load}
 use Rattle.ldso_cli.specs.Command.{Prints}
 use Rattle.ldso_cli.specs.Dump.{DumpPrints, IsDumped}
 use Rattle.ldso_cli.specs.declared.outcome.Cause.{Cause}
@@ -21,7 +21,7 @@ abbrev pub OneWalk : Type 0
 OneWalk = (load : Load) (first second : Walk) → Brings load first → Brings load second → first ≡ second
 
 -- so a program's objects are one list
-pub one_list : OneWalk → (bind : Bind) (files : List File) (first second : List Loaded) → Loads bind files first → Loads bind files second → first ≡ second
+pub one_list : OneWalk → (bind : Bind) (files : List File) (first second : List Loaded) → BindLoads bind files first → BindLoads bind files second → first ≡ second
 one_list law bind files first second p q =
     p.are ∙ ap (records_of (program_load bind files) Bool.false) (law (program_load bind files) p.walk q.walk p.brings q.brings) ∙ sym q.are
 

@@ -36,9 +36,9 @@ use Rattle.ldso_cli.proofs.Schedules.{one_schedule}
 use Rattle.ldso_cli.proofs.Told.{never_rises}
 use Rattle.ldso_cli.proofs.Turning.{Quiet, RunLaw, one_end_kept, one_outcome}
 use Rattle.ldso_cli.specs.Asked.{Asks}
-use Rattle.ldso_cli.specs.Command.{Answers, IsAnswer, NoReadFails, OverFiles, Prints}
+use Rattle.ldso_cli.specs.Command.{WordsAnswer, IsAnswer, NoReadFails, OverFiles, Prints}
 use Rattle.ldso_cli.specs.End.{AreOneEnd, KeepOne, events_kept, kept_end}
-use Rattle.ldso_cli.specs.Ends.{ComeToOne, Ends, Handing, IsUndisturbed, RunAt, Written, is_want_of_memory}
+use Rattle.ldso_cli.specs.Ends.{ComeToOne, WordsEnd, Handing, IsUndisturbed, RunAt, Written, is_want_of_memory}
 use Rattle.ldso_cli.specs.Generate.{set_cause, set_setup, set_text}
 use Rattle.ldso_cli.specs.Played.{IsNotRun, IsRun, last_line, run_cause}
 use Rattle.ldso_cli.specs.Status.{status_of_cause}
@@ -49,17 +49,17 @@ use Rattle.ldso_cli.specs.declared.outcome.End.{End}
 -- a call that answered, and whose text was written whole
 record IsTold (handed : Handing) (command : Option Command) (run : RunAt) : Type 0 where
   pub text : List ℕ
-  pub answers : Answers command run.before run.after run.end text
+  pub answers : WordsAnswer command run.before run.after run.end text
   pub written : handed text (Ok tt)
   pub taken : run.new.taken ≡ append_known run.old.taken text
 
-written_whole : (handed : Handing) (command : Option Command) (run : RunAt) (own : End) (text : List ℕ) → (run.end.cause ≡ causes.WriteFault → ⊥) → (run.end.cause ≡ causes.Memory → ⊥) → Answers command run.before run.after own text
+written_whole : (handed : Handing) (command : Option Command) (run : RunAt) (own : End) (text : List ℕ) → (run.end.cause ≡ causes.WriteFault → ⊥) → (run.end.cause ≡ causes.Memory → ⊥) → WordsAnswer command run.before run.after own text
     → Written handed own text run.old run.new run.end → IsTold handed command run
-written_whole handed command run own text wrote memory answers (inl whole) = record { text = text; answers = subst (λ (e : End). Answers command run.before run.after e text) (sym whole.end_is) answers; written = whole.written; taken = whole.taken }
+written_whole handed command run own text wrote memory answers (inl whole) = record { text = text; answers = subst (λ (e : End). WordsAnswer command run.before run.after e text) (sym whole.end_is) answers; written = whole.written; taken = whole.taken }
 written_whole handed command run own text wrote memory answers (inr (inl cut)) = absurd (wrote (ap (λ (e : End). e.cause) cut.end_is))
 written_whole handed command run own text wrote memory answers (inr (inr stopped)) = absurd (memory (ap (λ (e : End). e.cause) stopped.end_is))
 
-told : (handed : Handing) (command : Option Command) (run : RunAt) → (run.end.cause ≡ causes.WriteFault → ⊥) → (run.end.cause ≡ causes.Memory → ⊥) → Ends handed command run.before run.after run.old run.new run.end → IsTold handed command run
+told : (handed : Handing) (command : Option Command) (run : RunAt) → (run.end.cause ≡ causes.WriteFault → ⊥) → (run.end.cause ≡ causes.Memory → ⊥) → WordsEnd handed command run.before run.after run.old run.new run.end → IsTold handed command run
 told handed command run wrote memory (inl answered) = written_whole handed command run answered.own answered.text wrote memory answered.answers answered.written
 told handed command run wrote memory (inr unanswered) = absurd (memory (ap (λ (e : End). e.cause) unanswered.end_is))
 
@@ -220,7 +220,7 @@ pub one_answer : OneCommand → Law → (handed handed' : Handing) (words : List
     → ComeToOne handed handed' first second
 one_answer one law handed handed' words files first second p q =
     let same : q.ends.asked ≡ p.ends.asked = one_asked one words q.ends.asked p.ends.asked q.ends.asks p.ends.asks in
-    let ends : Ends handed' p.ends.asked second.before second.after second.old second.new second.end =
-    subst (λ (c : Option Command). Ends handed' c second.before second.after second.old second.new second.end) same q.ends.holds in
+    let ends : WordsEnd handed' p.ends.asked second.before second.after second.old second.new second.end =
+    subst (λ (c : Option Command). WordsEnd handed' c second.before second.after second.old second.new second.end) same q.ends.holds in
     one_of handed handed' law words files first second p q p.ends.asked p.ends.asks (told handed p.ends.asked first p.writes_well p.has_memory p.ends.holds)
     (told handed' p.ends.asked second q.writes_well q.has_memory ends)

@@ -44,7 +44,7 @@ abbrev pub program_load : Bind → List File → Load
 program_load bind files = load_over object_verdict (ask_of bind) [] files
 
 -- a program's objects are these: those that its load brings, with what their names found
-pub record Loads (bind : Bind) (files : List File) (objects : List Loaded) : Type 0 where
+pub record BindLoads (bind : Bind) (files : List File) (objects : List Loaded) : Type 0 where
   pub walk : Walk
   pub brings : Brings (program_load bind files) walk
   pub are : objects ≡ records_of (program_load bind files) Bool.false walk
@@ -70,7 +70,7 @@ objects_text ns (Some fault) = refused_text fault
 -- the program and all that it needs are there, breadth-first, with the versions that they need: their references decide
 pub record IsLoaded (bind : Bind) (files : List File) (cause : Cause) : Type 0 where
   pub objects : List Loaded
-  pub loads : Loads bind files objects
+  pub loads : BindLoads bind files objects
   pub breadth_first : map (λ (o : Loaded). o.serial) objects ≡ breadth (unopened objects) 1
   pub versions : version_fault [] objects ≡ None
   pub cause_is : cause ≡ cause_of (first_refusal (namespace_of objects) bind.now objects)
@@ -94,7 +94,7 @@ pub record BindComes (bind : Bind) (before after : LibraryAt) (files : List File
 -- the text of the objects that the program's load brings
 pub record IsBound (bind : Bind) (files : List File) (text : List ℕ) : Type 0 where
   pub objects : List Loaded
-  pub loads : Loads bind files objects
+  pub loads : BindLoads bind files objects
   pub text_is : text ≡ bound_text (namespace_of objects)
 
 -- what bind prints at an end: the objects and the choices of their slots, or its refusal alone

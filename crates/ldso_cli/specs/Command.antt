@@ -98,9 +98,9 @@ CommandAnswers (commands.Run run) before after end text = ⊥
 CommandAnswers (commands.Generate number) before after end text = GenComes number end text
 
 -- what the words come to
-abbrev pub Answers : Option Command → LibraryAt → LibraryAt → End → List ℕ → Type 0
-Answers None before after end text = IsUsage end text
-Answers (Some command) before after end text = CommandAnswers command before after end text
+abbrev pub WordsAnswer : Option Command → LibraryAt → LibraryAt → End → List ℕ → Type 0
+WordsAnswer None before after end text = IsUsage end text
+WordsAnswer (Some command) before after end text = CommandAnswers command before after end text
 
 -- where the words ask for no command, and by one that doesn't read it, the library isn't touched, whether an answer comes of it or not
 abbrev pub LeavesLibrary : {L : Type 0} → Option Command → L → L → Type 0

@@ -14,7 +14,7 @@ use Rattle.history_event.specs.declared.event.Event.{Event}
 use Rattle.history_event.specs.declared.event.Event.TheVariants.{Ended}
 use Rattle.history_calls.specs.Laws.{is_memory}
 use Rattle.ldso_cli.specs.Asked.{OfAsked}
-use Rattle.ldso_cli.specs.Command.{Answers, AreTold, Misses, ReadsWell}
+use Rattle.ldso_cli.specs.Command.{WordsAnswer, AreTold, Misses, ReadsWell}
 use Rattle.ldso_cli.specs.End.{AreOneEnd, bare, events_kept}
 use Rattle.ldso_cli.specs.Outside.{LibraryAt, SinkAt}
 use Rattle.ldso_cli.specs.Status.{status_of}
@@ -53,7 +53,7 @@ Written handed own text old new end = IsWhole handed own text old new end ⊎ Is
 pub record IsAnswered (handed : Handing) (command : Option Command) (before after : LibraryAt) (old new : SinkAt) (end : End) : Type 0 where
   pub own : End
   pub text : List ℕ
-  pub answers : Answers command before after own text
+  pub answers : WordsAnswer command before after own text
   pub written : Written handed own text old new end
 
 -- the command found no memory for an answer: nothing is kept, and nothing was handed to the sink
@@ -63,8 +63,8 @@ pub record IsUnanswered (handed : Handing) (old new : SinkAt) (end : End) : Type
   pub taken : new.taken ≡ old.taken
 
 -- how a command ends
-abbrev pub Ends : Handing → Option Command → LibraryAt → LibraryAt → SinkAt → SinkAt → End → Type 0
-Ends handed command before after old new end = IsAnswered handed command before after old new end ⊎ IsUnanswered handed old new end
+abbrev pub WordsEnd : Handing → Option Command → LibraryAt → LibraryAt → SinkAt → SinkAt → End → Type 0
+WordsEnd handed command before after old new end = IsAnswered handed command before after old new end ⊎ IsUnanswered handed old new end
 
 -- each cause comes only where it is so
 pub record IsCaused (command : Option Command) (before after : LibraryAt) (old new : SinkAt) (cause : Cause) : Type 0 where
@@ -92,7 +92,7 @@ is_want_of_memory e = elim e [ Ended hart reason ↦ is_memory reason | _ ↦ fa
 -- and memory suffices, for the harts of a run that it makes, too
 pub record IsUndisturbed (handed : Handing) (words : List (List ℕ)) (files : List File) (run : RunAt) : Type 0 where
   pub told : (command : Command) → Reads words command → AreTold command run.before files
-  pub ends : OfAsked words (λ command. Ends handed command run.before run.after run.old run.new run.end)
+  pub ends : OfAsked words (λ command. WordsEnd handed command run.before run.after run.old run.new run.end)
   pub reads_well : (command : Command) → Reads words command → ReadsWell command run.before run.after
   pub writes_well : run.end.cause ≢ causes.WriteFault
   pub has_memory : run.end.cause ≢ causes.Memory

@@ -2,7 +2,7 @@
 
 ghost use Rattle.std.specs.Prelude.{◌≡◌, ◌≤◌, IfOk, Some};
 ghost use Rattle.ldso_cli.specs.Asm.{SourceComes};
-ghost use Rattle.ldso_cli.specs.Command.{Answers, EndsBare};
+ghost use Rattle.ldso_cli.specs.Command.{WordsAnswer, EndsBare};
 ghost use Rattle.ldso_cli.specs.Outside.{library_at};
 
 use crate::answer::{Answer, asm_refused, assembled, refused};
@@ -29,7 +29,7 @@ pub(crate) fn asm<L: Library>(
     path: Name,
     library: &mut L,
 ) -> Result<Answer, AllocError>
-    ensures answers { IfOk result (λ answer. Answers (Some (Command.Assemble path)) (library_at L.files L.faults L.misses library.old)
+    ensures answers { IfOk result (λ answer. WordsAnswer (Some (Command.Assemble path)) (library_at L.files L.faults L.misses library.old)
         (library_at L.files L.faults L.misses library.new) answer.end answer.text) }
 
     // What the library is left as.

@@ -8,7 +8,7 @@ ghost use Rattle.scope_lists.specs.Lists.{AreListed, AreListsOf};
 ghost use Rattle.sym_lookup.specs.Looking.{HaveTables};
 ghost use Rattle.cli_text.specs.Refusal.{first_refusal};
 ghost use Rattle.ldso_cli.specs.Bind.{ask_of, cause_of, nothing_loaded, objects_text};
-ghost use Rattle.ldso_cli.specs.Command.{Answers};
+ghost use Rattle.ldso_cli.specs.Command.{WordsAnswer};
 ghost use Rattle.ldso_cli.specs.End.{bare};
 ghost use Rattle.ldso_cli.specs.Outside.{library_at};
 
@@ -94,7 +94,7 @@ pub(crate) fn bind<L: Library>(
     command: Bind,
     library: &mut L,
 ) -> Result<Answer, AllocError>
-    ensures answers { IfOk result (λ answer. Answers (Some (Command.Bind command)) (library_at L.files L.faults L.misses library.old)
+    ensures answers { IfOk result (λ answer. WordsAnswer (Some (Command.Bind command)) (library_at L.files L.faults L.misses library.old)
         (library_at L.files L.faults L.misses library.new) answer.end answer.text) }
 
     // What the library is left as.

@@ -1,7 +1,7 @@
 //! `dump`: what the object in a file holds.
 
 ghost use Rattle.std.specs.Prelude.{◌≡◌, ◌≤◌, IfOk, Some, true};
-ghost use Rattle.ldso_cli.specs.Command.{Answers};
+ghost use Rattle.ldso_cli.specs.Command.{WordsAnswer};
 ghost use Rattle.ldso_cli.specs.Dump.{dump_cause, program_read, reading_text};
 ghost use Rattle.ldso_cli.specs.End.{bare};
 ghost use Rattle.ldso_cli.specs.Outside.{library_at};
@@ -34,7 +34,7 @@ pub(crate) fn dump<L: Library>(
     path: Name,
     library: &mut L,
 ) -> Result<Answer, AllocError>
-    ensures answers { IfOk result (λ answer. Answers (Some (Command.Dump path)) (library_at L.files L.faults L.misses library.old)
+    ensures answers { IfOk result (λ answer. WordsAnswer (Some (Command.Dump path)) (library_at L.files L.faults L.misses library.old)
         (library_at L.files L.faults L.misses library.new) answer.end answer.text) }
 
     // What the library is left as.

@@ -3,9 +3,9 @@
 ghost use Rattle.std.specs.Prelude.{◌≡◌, ◌≤◌, IfOk, MatchResult};
 ghost use Rattle.cli_read.specs.SaidWords.Words.{texts};
 ghost use Rattle.ldso_cli.specs.Asked.{OfAsked};
-ghost use Rattle.ldso_cli.specs.Command.{Answers, LeavesLibrary};
+ghost use Rattle.ldso_cli.specs.Command.{WordsAnswer, LeavesLibrary};
 ghost use Rattle.ldso_cli.specs.End.{end_of};
-ghost use Rattle.ldso_cli.specs.Ends.{Ends, IsCaused, IsUnanswered, Written};
+ghost use Rattle.ldso_cli.specs.Ends.{WordsEnd, IsCaused, IsUnanswered, Written};
 ghost use Rattle.ldso_cli.specs.Outside.{handed_to, library_at, sink_at};
 ghost use Rattle.ldso_cli.specs.Status.{status_of};
 
@@ -29,7 +29,7 @@ fn answer<L: Library>(
     words: &[String],
     library: &mut L,
 ) -> Result<Answer, AllocError>
-    ensures answers { OfAsked (texts words.now) (λ command. IfOk result (λ answer. Answers command (library_at L.files L.faults L.misses library.old)
+    ensures answers { OfAsked (texts words.now) (λ command. IfOk result (λ answer. WordsAnswer command (library_at L.files L.faults L.misses library.old)
         (library_at L.files L.faults L.misses library.new) answer.end answer.text)) }
     ensures untouched { OfAsked (texts words.now) (λ command. LeavesLibrary command library.old library.new) }
     ensures files { L.files library.new ≡ L.files library.old }
@@ -88,7 +88,7 @@ pub fn ldso<R: Threads + Wait + Sync, L: Library + Send + Drop, K: Sink>(
     out: &mut K,
 ) -> (Outcome, L)
     // How it ends, the text that it prints then, and how that was written.
-    ensures ends { OfAsked (texts words.items) (λ command. Ends (handed_to K.writes out.old out.new)
+    ensures ends { OfAsked (texts words.items) (λ command. WordsEnd (handed_to K.writes out.old out.new)
         command (library_at L.files L.faults L.misses library) (library_at L.files L.faults L.misses result.1)
         (sink_at K.taken K.faults out.old) (sink_at K.taken K.faults out.new) (end_of result.0)) }
     ensures causes { OfAsked (texts words.items) (λ command. IsCaused

@@ -12,7 +12,7 @@ use Rattle.history_calls.specs.declared.link_served.served.Served.{Served}
 use Rattle.history_calls.specs.declared.link_served.served.Served.TheVariants as served
 use Rattle.history_calls.specs.Answer.{refused}
 use Rattle.history_calls.specs.Call.{Call}
-use Rattle.history_calls.specs.Gives.{Answers, by_event}
+use Rattle.history_calls.specs.Gives.{EventAnswers, by_event}
 use Rattle.link_state.specs.Table.{LinkTable}
 
 -- what came is answered; or else memory is wanted, and nothing has changed
@@ -29,7 +29,7 @@ pub nothing_came : (IsOf : Setting → Type 0) (past : List Event) (hart : ℕ) 
 nothing_came IsOf past hart call = record { given = []; are = sym (append-nil past); served = λ w of. refl }
 
 -- the event of the refusal answers the call, in each of these runs
-pub refused_so : (IsOf : Setting → Type 0) (past : List Event) (hart : ℕ) (call : Call) (e : Event) (fault : DlFault) → Answers hart call e (refused fault)
+pub refused_so : (IsOf : Setting → Type 0) (past : List Event) (hart : ℕ) (call : Call) (e : Event) (fault : DlFault) → EventAnswers hart call e (refused fault)
     → ((w : Setting) → IsOf w → Allowed w past e) → Comes IsOf past (past ++ e ∷ []) hart call (served.Refused fault)
 refused_so IsOf past hart call e fault answers may = record {
   given = e ∷ [];

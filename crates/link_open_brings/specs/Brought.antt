@@ -10,7 +10,7 @@ use Rattle.history_event.specs.declared.event.OpenAsk.{OpenAsk}
 use Rattle.history_event.specs.declared.event.Range.{Range}
 use Rattle.history_state.specs.Flags.{is_global}
 use Rattle.history_state.specs.Held.{gained}
-use Rattle.history_state.specs.State.{State, start}
+use Rattle.history_state.specs.State.{State, empty_state}
 use Rattle.history_state.specs.Step.{has_module, open_done, seen_after}
 use Rattle.history_state.specs.Storage.{with_modules}
 use Rattle.history_calls.specs.Served.{AreInstalls}
@@ -38,7 +38,7 @@ seen_of s p = seen_after s p.ask.now p.ns p.root p.added.now
 
 -- that depends on the namespaces alone
 abbrev pub seen_with : List Namespace → Planned → Seen
-seen_with namespaces p = seen_of (record start { namespaces = namespaces }) p
+seen_with namespaces p = seen_of (record empty_state { namespaces = namespaces }) p
 
 -- what is seen of a namespace that is opened so
 abbrev pub seen_over : Namespace → Planned → Seen

@@ -12,7 +12,7 @@ use Rattle.history_state.specs.After.{after}
 use Rattle.history_state.specs.Areas.{Area, AreBased, AreGiven, free_pages, has_storage, object_area, other_areas, stack_area, static_area, static_areas}
 use Rattle.history_state.specs.Laws.{ImagesAreInstalled}
 use Rattle.history_state.specs.Legal.{Lawful}
-use Rattle.history_state.specs.Memory.{is_data_purpose, role_at, word_at}
+use Rattle.history_state.specs.Memory.{is_data_purpose, role_at, first_word_at}
 use Rattle.history_state.specs.Objects.{is_startup}
 use Rattle.history_state.specs.Opening.{Opens, OpensName}
 use Rattle.history_state.specs.Setting.{Machine, Setting}
@@ -110,7 +110,7 @@ module _ (loads : LoadLaws) (reads : ReadLaw) (pages : PageLaws) (m : Machine) (
         start = start;
         all = is.all ∙ ap (λ (n : ℕ). 512 * n) (sym count);
         each = λ k less.
-            there k (omega (arith, less, is.all, count)) ∙ ap (λ (a : ℕ). Some (record { value = word_at end_state (a + 8 * k); role = role_at end_state (a + 8 * k) })) start;
+            there k (omega (arith, less, is.all, count)) ∙ ap (λ (a : ℕ). Some (record { value = first_word_at end_state (a + 8 * k); role = role_at end_state (a + 8 * k) })) start;
       }
     where
       at_start : (a low : ℕ) → a + (low - low) ≡ a

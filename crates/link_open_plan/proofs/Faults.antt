@@ -12,7 +12,7 @@ use Rattle.history_state.specs.Addresses.{symbol_at}
 use Rattle.history_state.specs.Bound.{binds_now, place_of}
 use Rattle.history_state.specs.Relocating.{first_fault, is_missing, missing_of, missing_symbol, not_code, object_fault, reloc_fault, relocation_fault, slot_fault, slot_fault_by}
 use Rattle.history_event.specs.declared.state.Module.{Module}
-use Rattle.history_state.specs.State.{State, start}
+use Rattle.history_state.specs.State.{State, empty_state}
 use Rattle.scope_rule.specs.Relocation.{choice_at}
 use Rattle.scope_rule.specs.Loading.{with_serial}
 use Rattle.scope_rule.specs.Seen.{Seen}
@@ -74,7 +74,7 @@ needs_no_file s ns now added fault is = first_is (object_fault s ns now) (object
 -- ---- in a state that has what is seen
 
 abbrev state_with : Seen → List Module → State
-state_with ns modules = record start { namespaces = record { id = 0; objects = ns.objects; global = []; opens = [] } ∷ []; modules = modules }
+state_with ns modules = record empty_state { namespaces = record { id = 0; objects = ns.objects; global = []; opens = [] } ∷ []; modules = modules }
 
 shows_it : (ns : Seen) (modules : List Module) → Shows (state_with ns modules) ns (map place_of modules)
 shows_it ns modules = record { objects = λ d o is. ap (λ (os : List Loaded). with_serial os d) (append-nil ns.objects) ∙ is; modules = refl }

@@ -18,7 +18,7 @@ use Rattle.library_source.specs.Files.{AreFiles, Over, file_at}
 use Rattle.history_state.specs.Flags.{are_flags, is_deepbind, is_noload}
 use Rattle.history_state.specs.Opening.{IsNamed, Refuses, lacks_version, stopped}
 use Rattle.history_state.specs.Setting.{AreReadings, MayHold, MayRead, Readings, ReadingsBy, Setting}
-use Rattle.history_state.specs.State.{empty_namespace, start}
+use Rattle.history_state.specs.State.{empty_namespace, empty_state}
 use Rattle.history_calls.specs.declared.link_served.startup.Setup.{Setup}
 use Rattle.history_calls.specs.Startup.{program_ask}
 use Rattle.history_calls.specs.Waiting.{Waits}
@@ -68,7 +68,7 @@ flags_by : (P : ℕ → Type 0) → P 0x102 → P 0x101 → (now : Bool) → P (
 flags_by P bound lazy true = bound
 flags_by P bound lazy false = lazy
 
-pub is_named : (setup : Setup) → IsNamed start (program_ask setup) setup.program 0
+pub is_named : (setup : Setup) → IsNamed empty_state (program_ask setup) setup.program 0
 is_named setup = record {
   asked = record {
     short = refl;
@@ -103,13 +103,13 @@ module _ (setup : Setup) (told : Option (List File)) where
       at (Ok read) e = (bytes, holds, e)
       at (Err broken) e = (bytes, holds, e)
 
-  are_readings : (files : List File) → AreFiles told files → AreReadings w start setup.program (reading_of object_verdict files (program_load 1 setup))
+  are_readings : (files : List File) → AreFiles told files → AreReadings w empty_state setup.program (reading_of object_verdict files (program_load 1 setup))
   unfolding reading_of
   are_readings files are = λ path. may_read path (file_at files path) (may_hold told files path are)
 
   -- the same, where the read of a path fails
-  until : (files : List File) (fault : DlFault) → AreReadings w start setup.program (reading_of object_verdict files (program_load 1 setup))
-      → AreReadings w start setup.program (reading_until object_verdict files (program_load 1 setup) fault)
+  until : (files : List File) (fault : DlFault) → AreReadings w empty_state setup.program (reading_of object_verdict files (program_load 1 setup))
+      → AreReadings w empty_state setup.program (reading_until object_verdict files (program_load 1 setup) fault)
   until files (dl.ReadFault at) h = λ path. by path (bytes_eq path at)
     where
       by : (path : List ℕ) (b : Bool) → MayRead w (bytes_eq setup.program path) path (if b then failed else reading_of object_verdict files (program_load 1 setup) path)
@@ -117,10 +117,10 @@ module _ (setup : Setup) (told : Option (List File)) where
       by path false = h path
   until files fault h = h
 
-  read_by : (reading : List ℕ → Reading) → AreReadings w start setup.program reading → Readings w start (program_ask setup) setup.program reading
-  read_by reading h = subst (λ (b : Bool). ReadingsBy b w start setup.program reading) (sym (reads setup)) h
+  read_by : (reading : List ℕ → Reading) → AreReadings w empty_state setup.program reading → Readings w empty_state (program_ask setup) setup.program reading
+  read_by reading h = subst (λ (b : Bool). ReadingsBy b w empty_state setup.program reading) (sym (reads setup)) h
 
-  read_over : (files : List File) → AreFiles told files → Readings w start (program_ask setup) setup.program (reading_of object_verdict files (program_load 1 setup))
+  read_over : (files : List File) → AreFiles told files → Readings w empty_state (program_ask setup) setup.program (reading_of object_verdict files (program_load 1 setup))
   read_over files are = read_by (reading_of object_verdict files (program_load 1 setup)) (are_readings files are)
 
   -- ---- what the load comes to
@@ -140,7 +140,7 @@ module _ (setup : Setup) (told : Option (List File)) where
   records_are load walk = ap (λ (deep : Bool). records_of load deep walk) (sym (not_deep setup))
 
   pub program_finds : (plan : LoadPlan) → Over told (IsPlan object_verdict (program_load 1 setup) (empty_namespace 0) plan)
-      → FindsAll w start 0 (program_ask setup) setup.program 0 plan.root plan.added
+      → FindsAll w empty_state 0 (program_ask setup) setup.program 0 plan.root plan.added
   program_finds plan p = record {
     finds = record {
       reading = reading_of object_verdict p.files (program_load 1 setup);
@@ -154,7 +154,7 @@ module _ (setup : Setup) (told : Option (List File)) where
   }
 
   stopping : (files : List File) (fault : DlFault) → AreFiles told files → Stops (load_until object_verdict fault (program_load 1 setup) [] files) (refuses fault)
-      → Refuses w start 0 (program_ask setup) fault
+      → Refuses w empty_state 0 (program_ask setup) fault
   stopping files fault are h = stopped setup.program 0 fault (record {
     named = is_named setup;
     reading = reading_until object_verdict files (program_load 1 setup) fault;
@@ -164,7 +164,7 @@ module _ (setup : Setup) (told : Option (List File)) where
   })
 
   lacking : (files : List File) (fault : DlFault) → AreFiles told files → Lacks (load_over object_verdict (program_load 1 setup) [] files) false fault
-      → Refuses w start 0 (program_ask setup) fault
+      → Refuses w empty_state 0 (program_ask setup) fault
   lacking files fault are h =
       let load : Load = load_over object_verdict (program_load 1 setup) [] files in
       let root : (r : ℕ) × IsRoot h.walk r = root_of load h.walk h.brings in
@@ -184,13 +184,13 @@ module _ (setup : Setup) (told : Option (List File)) where
       })
 
   program_refused : (misses misses' : ℕ) (fault : DlFault) → Over told (IsRefused object_verdict (program_load 1 setup) [] misses misses' fault)
-      → Refuses w start 0 (program_ask setup) fault
+      → Refuses w empty_state 0 (program_ask setup) fault
   program_refused misses misses' fault p = ⊎_elim
       (λ (h : Stops (load_until object_verdict fault (program_load 1 setup) [] p.files) (refuses fault)). stopping p.files fault p.are h)
       (λ (h : Lacks (load_over object_verdict (program_load 1 setup) [] p.files) false fault). lacking p.files fault p.are h)
       p.holds.stops
 
-  program_waits : (shown : Shown) → Over told (HasToWait object_verdict (program_load 1 setup) [] shown) → Waits w start 0 (program_ask setup) shown
+  program_waits : (shown : Shown) → Over told (HasToWait object_verdict (program_load 1 setup) [] shown) → Waits w empty_state 0 (program_ask setup) shown
   program_waits shown p = record {
     name = setup.program;
     id = 0;
@@ -203,7 +203,7 @@ module _ (setup : Setup) (told : Option (List File)) where
   pub program_stops : (misses misses' : ℕ) (fault : LoadFault)
       → ((why : DlFault) → fault ≡ loads.Refused why → Over told (IsRefused object_verdict (program_load 1 setup) [] misses misses' why))
       → ((shown : Shown) → fault ≡ loads.Wait shown → Over told (HasToWait object_verdict (program_load 1 setup) [] shown))
-      → StopsAt w start 0 (program_ask setup) fault
+      → StopsAt w empty_state 0 (program_ask setup) fault
   program_stops misses misses' (loads.Refused why) refused waiting = program_refused misses misses' why (refused why refl)
   program_stops misses misses' (loads.Wait shown) refused waiting = program_waits shown (waiting shown refl)
   program_stops misses misses' loads.Memory refused waiting = tt

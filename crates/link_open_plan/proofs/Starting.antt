@@ -11,7 +11,7 @@ use Rattle.history_state.specs.After.{after, after_from}
 use Rattle.history_state.specs.Flags.{is_now}
 use Rattle.history_state.specs.Legal.{Lawful}
 use Rattle.history_state.specs.Setting.{Machine}
-use Rattle.history_state.specs.State.{State, empty_namespace, start}
+use Rattle.history_state.specs.State.{State, empty_namespace, empty_state}
 use Rattle.history_calls.specs.declared.link_served.startup.Setup.{Setup}
 use Rattle.history_calls.specs.Startup.{harts_of, program_ask}
 use Rattle.load_walk.specs.Plan.{HasToWait, IsPlan, IsRefused}
@@ -28,7 +28,7 @@ use Rattle.link_open_plan.specs.declared.before.Before.{Before}
 use Rattle.link_open_plan.proofs.FoundLemmas.{stopped_so}
 use Rattle.link_open_plan.proofs.Program.{is_named, program_finds, program_stops}
 
-pub nothing_yet : after [] ≡ start
+pub nothing_yet : after [] ≡ empty_state
 unfolding after_from
 nothing_yet = refl
 
@@ -72,7 +72,7 @@ pub finds_first : (setup : Setup) (told : Option (List File)) (ask : OpenAsk) (l
     → FindsAll (run_of setup told) (after []) 0 ask setup.program 0 plan.root plan.added
 finds_first setup told ask load b plan first asked are p =
     subst (λ (s : State). FindsAll (run_of setup told) s 0 ask setup.program 0 plan.root plan.added) (sym nothing_yet)
-    (subst (λ (a : OpenAsk). FindsAll (run_of setup told) start 0 a setup.program 0 plan.root plan.added) (sym asked)
+    (subst (λ (a : OpenAsk). FindsAll (run_of setup told) empty_state 0 a setup.program 0 plan.root plan.added) (sym asked)
     (program_finds setup told plan
     (subst (λ (ns : Namespace). Over told (IsPlan object_verdict (program_load 1 setup) ns plan)) first.namespace
     (subst (λ (l : LoadAsk). Over told (IsPlan object_verdict l b.namespace.now plan)) (load_is setup load b first are) p))))
@@ -95,8 +95,8 @@ pub stops_first : (setup : Setup) (told : Option (List File)) (ask : OpenAsk) (l
     → IsUnopened (run_of setup told) (after []) 0 ask (load_fault fault)
 stops_first setup told ask load b misses misses' fault first asked are refused waiting =
     subst (λ (s : State). IsUnopened (run_of setup told) s 0 ask (load_fault fault)) (sym nothing_yet)
-    (subst (λ (a : OpenAsk). IsUnopened (run_of setup told) start 0 a (load_fault fault)) (sym asked)
-    (stopped_so (run_of setup told) start 0 (program_ask setup) fault
+    (subst (λ (a : OpenAsk). IsUnopened (run_of setup told) empty_state 0 a (load_fault fault)) (sym asked)
+    (stopped_so (run_of setup told) empty_state 0 (program_ask setup) fault
     (program_stops setup told misses misses' fault
     (λ why is. refused_first setup told load b misses misses' why first are (refused why is))
     (λ shown is. among_none (λ l ns. Over told (HasToWait object_verdict l ns.objects shown)) setup load b first are (waiting shown is)))))

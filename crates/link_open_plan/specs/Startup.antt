@@ -4,7 +4,7 @@ use Rattle.elf_object.specs.Verdict.{object_verdict}
 use Rattle.ld_base.specs.declared.linking.File.{File}
 use Rattle.history_state.specs.Areas.{free_pages}
 use Rattle.history_state.specs.Setting.{Setting}
-use Rattle.history_state.specs.State.{empty_namespace, start}
+use Rattle.history_state.specs.State.{empty_namespace, empty_state}
 use Rattle.history_calls.specs.declared.link_served.startup.Setup.{Setup}
 use Rattle.history_calls.specs.Startup.{setting_of}
 use Rattle.load_walk.specs.declared.ask.LoadAsk.{LoadAsk}
@@ -18,10 +18,10 @@ run_of setup files = setting_of object_verdict setup files
 -- what is lent is what the state has before the first event
 pub record IsFirst (b : Before) : Type 0 where
   pub namespace : b.namespace.now ≡ empty_namespace 0
-  pub next : b.next ≡ start.next
-  pub free : b.regions.now ≡ free_pages start.ranges
-  pub modules : b.modules.now.modules ≡ start.modules
-  pub statics : statics_of b.modules.now ≡ start.statics
+  pub next : b.next ≡ empty_state.next
+  pub free : b.regions.now ≡ free_pages empty_state.ranges
+  pub modules : b.modules.now.modules ≡ empty_state.modules
+  pub statics : statics_of b.modules.now ≡ empty_state.statics
   pub binds : b.binds_now ≡ false
 
 -- ---- for the code of this crate alone

@@ -19,7 +19,7 @@ use Rattle.history_state.specs.Asking.{IsAsked, MayAsk}
 use Rattle.history_state.specs.Flags.{are_flags}
 use Rattle.history_state.specs.Objects.{namespace_of}
 use Rattle.history_state.specs.Opening.{Refuses}
-use Rattle.history_state.specs.State.{State, Statics, empty_namespace, start}
+use Rattle.history_state.specs.State.{State, Statics, empty_namespace, empty_state}
 use Rattle.history_calls.specs.declared.link_served.startup.Setup.{Setup}
 use Rattle.history_calls.specs.Startup.{harts_of, opening, program_ask}
 use Rattle.history_calls.specs.LoadChoices.Choices.{choices_of}
@@ -33,7 +33,7 @@ use Rattle.link_startup.specs.Startup.{PlansStart}
 
 -- ---- the state before the first event
 
-pub nothing_yet : (events : List Event) → events ≡ [] → after events ≡ start
+pub nothing_yet : (events : List Event) → events ≡ [] → after events ≡ empty_state
 unfolding after_from
 nothing_yet events none = ap after none
 

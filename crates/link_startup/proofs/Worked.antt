@@ -30,7 +30,7 @@ use Rattle.history_state.specs.Opening.Refuses.{stopped}
 use Rattle.history_state.specs.Parts.{file_of, placed}
 use Rattle.history_state.specs.Race as race
 use Rattle.history_state.specs.Relocating.{relocation_fault}
-use Rattle.history_state.specs.State.{start}
+use Rattle.history_state.specs.State.{empty_state}
 use Rattle.history_state.specs.Step.{loaded}
 use Rattle.history_state.specs.Storage.{tp_of}
 use Rattle.history_state.specs.Lemmas.Played.{loads}
@@ -96,8 +96,8 @@ has_no_program = is_not_opened (MissingLibrary (codes "nope")) (record {
   may = λ first. record { by_first = refl; base = refl; named = tt; flags = inl refl };
   refuses = stopped (codes "nope") 0 (MissingLibrary (codes "nope")) (record {
     named = record { asked = record { short = refl; flags = refl; namespace = (refl, refl) }; named = refl };
-    reading = reading_told race.setting race_files start (program_ask (setup_of (codes "nope") [])) (codes "nope");
-    read = told_reads race.setting race_files start (program_ask (setup_of (codes "nope") [])) (codes "nope") refl;
+    reading = reading_told race.setting race_files empty_state (program_ask (setup_of (codes "nope") [])) (codes "nope");
+    read = told_reads race.setting race_files empty_state (program_ask (setup_of (codes "nope") [])) (codes "nope") refl;
     loads = λ none. true≢false (sym none.noload);
     stops = record { steps = 1; is = refl };
   });
@@ -134,7 +134,7 @@ unfolding after_from relocation_fault loaded load_step finds find_path find_open
 opens_holder = record {
   may = λ first. record { by_first = refl; base = refl; named = tt; flags = inl refl };
   asked = record { short = refl; flags = refl; namespace = (refl, refl) };
-  name = loads data_setting data_files start 0 _ (codes "prog") 0 1 _ _ (1 ∷ []) 0 (record {
+  name = loads data_setting data_files empty_state 0 _ (codes "prog") 0 1 _ _ (1 ∷ []) 0 (record {
     told = refl;
     reads = refl;
     walked = refl;

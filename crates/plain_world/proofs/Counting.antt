@@ -24,7 +24,7 @@ use Rattle.world_guests.specs.Counting.{IsCounted, RefusesNone, Rise, TurnsAreCo
 use Rattle.world_guests.specs.Lemmas.Counting.{both_spare, counted_more, none_counted, refusal_shows, same_counts, settling_spares, spare_counts, unmoved}
 use Rattle.world_guests.specs.Next.{NextRefusalIsCounted}
 use Rattle.world_turns.specs.Counts.{Counts, ShowInCounts, has_candidate}
-use Rattle.world_turns.specs.Run.{Begins, LacksMemory, settled}
+use Rattle.world_turns.specs.Run.{RunBegins, LacksMemory, settled}
 use Rattle.world_turns.specs.Turn.{TakesTurn}
 use Rattle.world_turns.specs.World.{World, settling}
 use Rattle.plain_world.specs.Started.{start_events}
@@ -54,7 +54,7 @@ takes_counted law count folders files h old new before after rise takes counted 
 pub same_refuses : (old new : World) → new ≡ old → RefusesNone old new
 same_refuses old new same = subst (λ (v : World). RefusesNone old v) (sym same) (unmoved old)
 
-pub begun_refuses : (registers : Registers) (old new : World) → Begins registers old new → RefusesNone old new
+pub begun_refuses : (registers : Registers) (old new : World) → RunBegins registers old new → RefusesNone old new
 begun_refuses registers old new x =
     record { appended = []; are = ap (λ (v : World). v.journal) x.begun ∙ sym (append-nil old.journal); none = refl }
 

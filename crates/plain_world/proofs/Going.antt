@@ -17,7 +17,7 @@ use Rattle.world_turns.specs.declared.schedules.schedule.TurnItem.{TurnItem}
 use Rattle.world_guests.specs.GuestWorlds.Coming.{HasEnd}
 use Rattle.world_turns.specs.WorldEnds.Ends.{has_exited}
 use Rattle.world_turns.specs.WorldEnds.Lemmas.Places.{exited_ends}
-use Rattle.world_turns.specs.Run.{Ends, Finalises, LacksMemory, Repeats, Rounds, TakesItems, all_harts, has_ended, have_ended, is_starting, settled}
+use Rattle.world_turns.specs.Run.{RunEnds, Finalises, LacksMemory, Repeats, Rounds, TakesItems, all_harts, has_ended, have_ended, is_starting, settled}
 use Rattle.world_turns.specs.Turn.{TakesTurn, Turn}
 use Rattle.world_turns.specs.World.{World}
 use Rattle.plain_world.specs.Playing.{BeginsToFinalise, FinalisesOnce, FirstRuns, InEachRun, OthersHaveEnded}
@@ -148,9 +148,9 @@ others_when_begun begun registers old new x = record {
 
 -- ---- all harts have ended
 
-ends_over : (w : Setting) (old new : World) → Ends w old new → have_ended new ≡ true
-ends_over w old new (Ends.no_more _ over) = over
-ends_over w old new (Ends.one_more _ between _ runs t more) = ends_over w between new more
+ends_over : (w : Setting) (old new : World) → RunEnds w old new → have_ended new ≡ true
+ends_over w old new (RunEnds.no_more _ over) = over
+ends_over w old new (RunEnds.one_more _ between _ runs t more) = ends_over w between new more
 
 lacks_over : (w : Setting) (old new : World) → LacksMemory w old new → have_ended old ≡ true → have_ended new ≡ true
 lacks_over w old new x over =

@@ -12,7 +12,7 @@ use Rattle.history_state.specs.After.{after}
 use Rattle.history_state.specs.Setting.{Setting}
 use Rattle.hart_moves.specs.Due.{Due, by_phase, by_resolving, due, within_fuel}
 use Rattle.hart_moves.specs.Harts.{HartState, Offered, Resolving}
-use Rattle.hart_moves.specs.Moves.{Did, Ends, Exchanges, Finishes, Moves, MovesAs, freed, settled_resolving, settles}
+use Rattle.hart_moves.specs.Moves.{Did, TurnEnds, Exchanges, TurnFinishes, Moves, MovesAs, freed, settled_resolving, settles}
 use Rattle.hart_moves.specs.Laws.{RunsOut}
 use Rattle.hart_moves.specs.Lemmas.Legality.{ended_stays, turns_count}
 use Rattle.world_turns.specs.Run.{Rounds, all_harts, has_ended, have_ended}
@@ -68,7 +68,7 @@ module _ (w : Setting) (past : List Event) (h : ℕ) (b c : HartState) (did : Di
 
   finish_less : (o : Offered) (found : ℕ) → b.resolving ≡ Resolving.to_finish o found → hart_left c < hart_left b
   finish_less o found is =
-      let x : Finishes b o found did c = as_due (Due.finish o found) (ap (by_resolving (after past) b) is) in
+      let x : TurnFinishes b o found did c = as_due (Due.finish o found) (ap (by_resolving (after past) b) is) in
       let here : hart_left b ≡ 3 * (b.fuel - b.turns) + 1 + 1 = runs_some b runs ∙ ap (λ (r : Resolving). 3 * (b.fuel - b.turns) + pending r + 1) is in
       let left_then : running_left c ≡ 3 * (b.fuel - (b.turns + 1)) + 0 + 1 = ap running_left x.leaves in
       let most : hart_left c ≤ running_left c = at_most (has_ended c) (running_left c) in
@@ -99,7 +99,7 @@ module _ (w : Setting) (past : List Event) (h : ℕ) (b c : HartState) (did : Di
           (λ (out : RunsOut b c). ends_less ends.FuelOut out.ends)
           (turns_count w past h b c did moves).1
       at false out =
-          let x : Ends w past h b [] ends.FuelOut did c =
+          let x : TurnEnds w past h b [] ends.FuelOut did c =
           as_due Due.fuel_out (is ∙ ap (λ (t : Bool). if t then by_phase (after past) b b.phase else Due.fuel_out) out) in
           ends_less ends.FuelOut (ap (λ (y : HartState). y.«end») x.leaves)
 

@@ -7,7 +7,7 @@ use Rattle.history_event.specs.declared.handed.HartEntry.{HartEntry}
 use Rattle.history_state.specs.After.{after, after_from}
 use Rattle.history_state.specs.Objects.{is_startup}
 use Rattle.history_state.specs.Setting.{Setting}
-use Rattle.history_state.specs.State.{State, start}
+use Rattle.history_state.specs.State.{State, empty_state}
 use Rattle.history_state.specs.Step.{step}
 use Rattle.history_calls.specs.declared.link_served.startup.Setup.{Setup}
 use Rattle.history_calls.specs.declared.link_served.startup.Started.{Started}
@@ -48,11 +48,11 @@ module _ (w : Setting) (setup : Setup) (events : List Event) (started : Started)
   abbrev first : Event
   first = opening setup is.root is.added is.ranges
 
-  opened : after events ≡ step start first
+  opened : after events ≡ step empty_state first
   unfolding after_from
-  opened = ap after is.are ∙ found_same w (first ∷ []) 1 setup.harts is.found is.addresses is.finds (step start first)
+  opened = ap after is.are ∙ found_same w (first ∷ []) 1 setup.harts is.found is.addresses is.finds (step empty_state first)
 
-  before : step (after []) first ≡ step start first
+  before : step (after []) first ≡ step empty_state first
   unfolding after_from
   before = refl
 
@@ -70,7 +70,7 @@ module _ (w : Setting) (setup : Setup) (events : List Event) (started : Started)
     };
   }
 
-pub from_start : (events : List Event) (old new : List Doubleword) → RemakesAll (after []) events old new → RemakesAll start events old new
+pub from_start : (events : List Event) (old new : List Doubleword) → RemakesAll (after []) events old new → RemakesAll empty_state events old new
 unfolding after_from
 from_start events old new remakes = remakes
 

@@ -9,7 +9,7 @@ use Rattle.history_calls.specs.CallLaws.Coming.{IsOver}
 use Rattle.world_turns.specs.declared.schedules.schedule.TurnItem.{TurnItem}
 use Rattle.world_guests.specs.GuestWorlds.Coming.{HasEnd}
 use Rattle.hart_moves.specs.Harts.{HartState}
-use Rattle.world_turns.specs.Run.{Begins, Constructs, Finalises, Finishes, TakesItems, has_ended, have_exited, is_starting, settled}
+use Rattle.world_turns.specs.Run.{RunBegins, Constructs, Finalises, RunFinishes, TakesItems, has_ended, harts_have_exited, is_starting, settled}
 use Rattle.world_turns.specs.Turn.{TakesTurn}
 use Rattle.world_turns.specs.World.{World}
 use Rattle.plain_world.specs.Table.{WorldTable}
@@ -31,7 +31,7 @@ pub record Plays (w : Setting) (begun : Bool) (registers : Registers) (items : L
   pub scheduled : World
   pub follows : TakesItems w items constructed scheduled
   pub finished : World
-  pub finishes : Finishes w scheduled finished
+  pub finishes : RunFinishes w scheduled finished
   pub finalised : World
   pub finalises : FinalisesOnce w begun registers finished finalised
   pub ends : new ≡ settled finalised
@@ -50,8 +50,8 @@ pub data TakesByHand (w : Setting) : List TurnItem → World → World → Type 
 -- each hart has ended by exit, and the first one begins with the destructors of what is left
 pub record BeginsToFinalise (begun : Bool) (registers : Registers) (old new : World) : Type 0 where
   pub before : begun ≡ false
-  pub exited : IsTrue (have_exited old)
-  pub begins : Begins registers old new
+  pub exited : IsTrue (harts_have_exited old)
+  pub begins : RunBegins registers old new
 
 -- the first hart runs
 abbrev pub FirstRuns : World → Type 0

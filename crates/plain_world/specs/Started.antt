@@ -6,7 +6,7 @@ use Rattle.history_event.specs.declared.handed.HartEntry.{HartEntry}
 use Rattle.history_state.specs.After.{after}
 use Rattle.history_state.specs.Legal.{Legal}
 use Rattle.history_state.specs.Setting.{Setting}
-use Rattle.history_state.specs.State.{start}
+use Rattle.history_state.specs.State.{empty_state}
 use Rattle.history_calls.specs.declared.link_served.installs.Installs.{Installs}
 use Rattle.history_calls.specs.declared.link_served.startup.Setup.{Setup}
 use Rattle.history_calls.specs.declared.link_served.startup.StartFault.{StartFault}
@@ -35,7 +35,7 @@ start_events (Err starts.Memory) = []
 pub record IsFirstMemory (events : List Event) (words : List Doubleword) : Type 0 where
   pub fresh : List Doubleword
   pub are_fresh : AreFresh fresh
-  pub remade : RemakesAll start events fresh words
+  pub remade : RemakesAll empty_state events fresh words
 
 -- startup's events are legal, and bring this
 pub record BringsFirst (events : List Event) (installs : Installs) : Type 0 where

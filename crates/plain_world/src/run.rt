@@ -6,7 +6,7 @@ ghost use Rattle.hart_moves.specs.Starting.{starting_registers};
 ghost use Rattle.plain_world.specs.Playing.{FinalisesOnce, FirstRuns, InEachRun, OthersHaveEnded, Plays};
 ghost use Rattle.plain_world.specs.Table.{moved};
 ghost use Rattle.world_turns.specs.declared.schedules.schedule.TurnItem.{TurnItem as item_value};
-ghost use Rattle.world_turns.specs.Run.{Constructs, Ends, Finishes, Repeats, Rounds, TakesItems, all_harts, have_ended};
+ghost use Rattle.world_turns.specs.Run.{Constructs, RunEnds, RunFinishes, Repeats, Rounds, TakesItems, all_harts, have_ended};
 ghost use Rattle.world_turns.specs.Turn.{Turn as one_turn};
 
 use crate::World;
@@ -110,7 +110,7 @@ fn repeat<L: Library>(run: &mut World, alloc: Global, item: TurnItem, library: &
 
 /// The harts in their order, again and again, until all have ended.
 fn finish<L: Library>(run: &mut World, alloc: Global, library: &mut L)
-    ensures finishes { InEachRun run.old (L.files library.old) (λ w. Finishes w run.old.world run.new.world) }
+    ensures finishes { InEachRun run.old (L.files library.old) (λ w. RunFinishes w run.old.world run.new.world) }
     ensures rest { run.new ≡ moved run.old run.new.world }
     ensures over { IsTrue (have_ended run.new.world) }
     ensures counts { IsCounted run.old.folders run.old.world run.new.world
@@ -160,7 +160,7 @@ fn finalise<L: Library>(run: &mut World, alloc: Global, library: &mut L)
 /// The first hart runs the final destructors until it ends.
 fn run_finals<L: Library>(run: &mut World, alloc: Global, library: &mut L)
     requires { OthersHaveEnded run.old.world }
-    ensures ends { InEachRun run.old (L.files library.old) (λ w. Ends w run.old.world run.new.world) }
+    ensures ends { InEachRun run.old (L.files library.old) (λ w. RunEnds w run.old.world run.new.world) }
     ensures rest { run.new ≡ moved run.old run.new.world }
     ensures over { IsTrue (have_ended run.new.world) }
     ensures counts { IsCounted run.old.folders run.old.world run.new.world

@@ -140,26 +140,26 @@ branched r op rs1 rs2 offset = record {
   held = r.held;
 }
 
-abbrev pub after : Registers → Instr → Answer → Registers
-after r (Lui rd number) answer = result_in r rd (cast_unsigned w64 number)
-after r (Auipc rd number) answer = result_in r rd (offset_by r.pc number)
-after r (Jal rd offset) answer = jumped r rd (offset_by r.pc offset)
-after r (Jalr rd rs1 offset) answer = jumped r rd (jalr_target (slice_index r.x rs1) offset)
-after r (Branch op rs1 rs2 offset) answer = branched r op rs1 rs2 offset
-after r (Load op rd rs1 offset) answer = found_in r rd (loaded op) answer
-after r (Store op rs1 rs2 offset) answer = passed r
-after r (Imm op rd rs1 number) answer = result_in r rd (imm_result op (slice_index r.x rs1) number)
-after r (Op op rd rs1 rs2) answer = result_in r rd (reg_result op (slice_index r.x rs1) (slice_index r.x rs2))
-after r (AmoInstr op size rd rs1 rs2 aq rl) answer = found_in r rd (atomic_loaded size) answer
-after r (Lr size rd rs1 aq rl) answer = reserved r rd (slice_index r.x rs1) size answer
-after r (Sc size rd rs1 rs2 aq rl) answer = released r rd answer
-after r (Fence word) answer = passed r
-after r EcallInstr answer = passed r
-after r Ebreak answer = r
+abbrev pub registers_after : Registers → Instr → Answer → Registers
+registers_after r (Lui rd number) answer = result_in r rd (cast_unsigned w64 number)
+registers_after r (Auipc rd number) answer = result_in r rd (offset_by r.pc number)
+registers_after r (Jal rd offset) answer = jumped r rd (offset_by r.pc offset)
+registers_after r (Jalr rd rs1 offset) answer = jumped r rd (jalr_target (slice_index r.x rs1) offset)
+registers_after r (Branch op rs1 rs2 offset) answer = branched r op rs1 rs2 offset
+registers_after r (Load op rd rs1 offset) answer = found_in r rd (loaded op) answer
+registers_after r (Store op rs1 rs2 offset) answer = passed r
+registers_after r (Imm op rd rs1 number) answer = result_in r rd (imm_result op (slice_index r.x rs1) number)
+registers_after r (Op op rd rs1 rs2) answer = result_in r rd (reg_result op (slice_index r.x rs1) (slice_index r.x rs2))
+registers_after r (AmoInstr op size rd rs1 rs2 aq rl) answer = found_in r rd (atomic_loaded size) answer
+registers_after r (Lr size rd rs1 aq rl) answer = reserved r rd (slice_index r.x rs1) size answer
+registers_after r (Sc size rd rs1 rs2 aq rl) answer = released r rd answer
+registers_after r (Fence word) answer = passed r
+registers_after r EcallInstr answer = passed r
+registers_after r Ebreak answer = r
 
 abbrev pub after_action : Registers → Option Instr → Answer → Registers
 after_action r None answer = r
-after_action r (Some instr) answer = after r instr answer
+after_action r (Some instr) answer = registers_after r instr answer
 
 -- ---- actions and answers
 

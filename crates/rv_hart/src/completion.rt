@@ -2,7 +2,7 @@
 
 ghost use Rattle.std.specs.Prelude.{◌≡◌, ◌<◌, ◌^◌, ◌*◌, slice_index};
 ghost use Rattle.rv_hart.specs.Registers.{registers_of};
-ghost use Rattle.rv_hart.specs.Instructions.{load_size, loaded, atomic_loaded, branched, found_in, reserved, released, access_of, after};
+ghost use Rattle.rv_hart.specs.Instructions.{load_size, loaded, atomic_loaded, branched, found_in, reserved, released, access_of, registers_after};
 ghost use Rattle.rv_hart.specs.Instructions.{after_action, IsPlanned, IsOfKind, IsValue, IsReservation};
 
 use crate::arithmetic::{imm_result, reg_result};
@@ -94,7 +94,7 @@ fn conditional(hart: &mut Hart, rd: Reg, answer: Answer)
 // Does the rest of an instruction.
 fn finish_instr(hart: &mut Hart, instr: Instr, answer: Answer)
     requires { IsOfKind (access_of (registers_of hart.old) instr) answer }
-    ensures { registers_of hart.new ≡ after (registers_of hart.old) instr answer }
+    ensures { registers_of hart.new ≡ registers_after (registers_of hart.old) instr answer }
 {
     match instr {
         Instr::Lui(rd, number) => hart.finish(rd, i64::from(number).cast_unsigned()),

@@ -21,7 +21,7 @@ use Rattle.history_state.specs.Links.{finis_of, unfinished}
 use Rattle.history_state.specs.Objects.{IsMapped, has, mapped, serial_of}
 use Rattle.history_state.specs.Owed.{ends_at_most, times_ended}
 use Rattle.history_state.specs.Setting.{Setting, exited, have_exited}
-use Rattle.history_state.specs.State.{State, start}
+use Rattle.history_state.specs.State.{State, empty_state}
 use Rattle.history_state.specs.Step.{die, initialise, loaded, lower, step, unmap}
 use Rattle.scope_rule.specs.declared.namespace.Namespace.{Namespace}
 use Rattle.test_calls.specs.Ends.{is_end, is_no_end_of, is_no_other_end}
@@ -75,7 +75,7 @@ not_ended hart (e ∷ rest) all =
     not_first hart e (endings_of rest) parts.0 (not_ended hart rest parts.1)
 
 not_after : (hart : ℕ) (es : List Event) → list_all (is_no_end_of hart) es ≡ true → HasNotEnded hart (after es).endings
-not_after hart es all = subst (HasNotEnded hart) (sym (endings_from start es)) (not_ended hart es all)
+not_after hart es all = subst (HasNotEnded hart) (sym (endings_from empty_state es)) (not_ended hart es all)
 
 never : (hart : ℕ) (endings : List Ending) → HasNotEnded hart endings → times_ended hart endings ≡ 0
 never hart [] none = refl
@@ -136,7 +136,7 @@ counted (e ∷ rest) =
 
 over : (w : Setting) (harts : ℕ) (es : List Event) → w.machine.harts ≡ harts → list_all is_no_other_end es ≡ true → harts ≤ count_by is_end es → have_exited w (after es) ≡ true
 over w harts es are all enough =
-    let left : (after es).endings ≡ endings_of es = endings_from start es in
+    let left : (after es).endings ≡ endings_of es = endings_from empty_state es in
     let many : w.machine.harts ≤ length (after es).endings = (let long = ap length left in let count = counted es in omega (arith, are, enough, long, count)) in
     and_from _ _ (le-leb w.machine.harts (length (after es).endings) many)
     (all_taken w.machine.harts (after es).endings (subst (λ (xs : List Ending). list_all exited xs ≡ true) (sym left) (all_exit es all)))

@@ -23,7 +23,7 @@ use Rattle.history_state.specs.Lemmas.AtLoad.{chosen_at, get_map}
 use Rattle.history_state.specs.Lemmas.Lists.{any_in, first_or_later, from_filter, from_map, in_any, none_in}
 use Rattle.history_state.specs.Objects.{is_startup}
 use Rattle.history_state.specs.Slots.{HasBound, IsOpenGrant, MayBind, MayLose, value_at_load}
-use Rattle.history_state.specs.State.{State, start}
+use Rattle.history_state.specs.State.{State, empty_state}
 use Rattle.history_state.specs.Step.{binds, die, initialise, loaded, lower, now_after, step, unmap}
 use Rattle.scope_rule.specs.Relocation.{choice_at}
 use Rattle.scope_rule.specs.Seen.{Seen}
@@ -177,7 +177,7 @@ pub no_value : (events : List Event) (owner slot : ℕ) → list_all stays_lazy 
 no_value events owner slot lazy = by (value_at_load (after events) owner slot) refl
   where
     unbound : Unbound (after events)
-    unbound = unbound_from start events lazy (record { later = refl; before = λ k there. absurd (none_in k there) })
+    unbound = unbound_from empty_state events lazy (record { later = refl; before = λ k there. absurd (none_in k there) })
 
     by : (value : Option ℕ) → value_at_load (after events) owner slot ≡ value → value_at_load (after events) owner slot ≡ None
     by None e = e

@@ -17,7 +17,7 @@ use Rattle.word_rule.specs.Views.{exchanges_of, kept_at, row_of}
 use Rattle.word_rule.specs.Words.{Holds as HoldsWord, Owner, hart, keeper, nobody}
 use Rattle.word_rule.specs.Lemmas.SlotFrames.{at_place, in_reach}
 use Rattle.word_rule.specs.Lemmas.Unlocking.{role_is}
-use Rattle.history_state.specs.Memory.{role_at, word_at}
+use Rattle.history_state.specs.Memory.{role_at, first_word_at}
 use Rattle.history_state.specs.Slots.{IsOpenGrant}
 use Rattle.history_state.specs.State.{State}
 use Rattle.history_memory.specs.Holds.{Holds, HoldsAt, IsSlotAt, SlotHolds, Took, TookAt, exchanged, first, lazy_at}
@@ -47,7 +47,7 @@ module _ (s : State) (won : List ℕ) (number : ℕ → Grant → ℕ) (word : �
       let free' : p.locks.owner d ≡ nobody = unowned d (λ rw. other (sym role ∙ rw)) (p.locks.owner d) refl in
       subst (λ r. HoldsWord r (kept_at kept d).value (word (value_at d))) role ((p.locks.each_word d (place_low a da)).holds free')
 
-  fixed : (a : ℕ) → IsDoubleword a → (role_at s a ≡ Ro) ⊎ (role_at s a ≡ Rx) → word (value_at (place_of a)) ≡ word_at s a
+  fixed : (a : ℕ) → IsDoubleword a → (role_at s a ≡ Ro) ⊎ (role_at s a ≡ Rx) → word (value_at (place_of a)) ≡ first_word_at s a
   fixed a da h = ⊎_elim
       (λ (e : role_at s a ≡ Ro). holds a da Ro (λ q. absurd (cc)) e ∙ is.word a da (inl e))
       (λ (e : role_at s a ≡ Rx). holds a da Rx (λ q. absurd (cc)) e ∙ is.word a da (inr (inl e)))

@@ -11,7 +11,7 @@ use Rattle.word_rule.specs.Allowed.{IsOf, Stands}
 use Rattle.word_rule.specs.Layout.{control_at, harts_at_most, place_of, role_in, value_at}
 use Rattle.word_rule.specs.Slots.{HasWon}
 use Rattle.word_rule.specs.Views.{exchanges_of, kept_at, row_of}
-use Rattle.history_state.specs.Memory.{role_at, word_at}
+use Rattle.history_state.specs.Memory.{role_at, first_word_at}
 use Rattle.history_state.specs.State.{State}
 use Rattle.history_memory.specs.Holds.{IsSlotAt, lazy_at}
 use Rattle.history_memory.specs.Memory.{IsDoubleword, Memory}
@@ -33,7 +33,7 @@ pub record IsGrantOf (s : State) (k : KeeperView) (m : ℕ) (g : Grant) (x : Gra
 -- gives the number of a hart's grant in the state
 pub record IsOfState (s : State) (k : KeeperView) (number : ℕ → Grant → ℕ) : Type 0 where
   pub role : (a : ℕ) → IsDoubleword a → (kept_at k (place_of a)).role ≡ role_at s a
-  pub word : (a : ℕ) → IsDoubleword a → (role_at s a ≡ Ro) ⊎ (role_at s a ≡ Rx) ⊎ (role_at s a ≡ Slot) → (kept_at k (place_of a)).value ≡ word_at s a
+  pub word : (a : ℕ) → IsDoubleword a → (role_at s a ≡ Ro) ⊎ (role_at s a ≡ Rx) ⊎ (role_at s a ≡ Slot) → (kept_at k (place_of a)).value ≡ first_word_at s a
   pub lazy : (a : ℕ) → IsDoubleword a → role_at s a ≡ Slot → (kept_at k (place_of a)).lazy ≡ lazy_at s a
   -- a grant that stands is one of the state's
   pub granted : (m : ℕ) (g : Grant) → m < harts_at_most → Stands (row_of k m) g → IsOf (kept_at k) (place_of g.entry.slot) g

@@ -21,7 +21,7 @@ use Rattle.history_calls.specs.declared.link_served.served.Served.TheVariants as
 use Rattle.history_calls.specs.Answer.{Answer, refused, again, over}
 use Rattle.history_calls.specs.Call.{Call, opens}
 use Rattle.history_calls.specs.Complete.{OpensOr}
-use Rattle.history_calls.specs.Gives.{Answers, Gives}
+use Rattle.history_calls.specs.Gives.{EventAnswers, Gives}
 use Rattle.history_calls.specs.Served.{IsServed}
 use Rattle.link_state.specs.Table.{LinkTable}
 use Rattle.world_memory.specs.declared.turn_answers.answered.Answered.{Answered}
@@ -88,22 +88,22 @@ abbrev OpeningTells : Call → Answer → List Event → Type 0
 OpeningTells (opens ask) answer given = first_refusal given ≡ refusal_in answer
 OpeningTells call answer given = Unit {0}
 
-one_tells : {h : ℕ} {call : Call} {e : Event} {answer : Answer} → Answers h call e answer → OpeningTells call answer (e ∷ [])
-one_tells (Answers.is_loaded ask id root first rest ranges) = refl
-one_tells (Answers.is_there ask id root ranges) = refl
-one_tells (Answers.is_absent ask) = refl
-one_tells (Answers.is_not_opened ask fault) = refl
-one_tells (Answers.dies handle first rest) = tt
-one_tells (Answers.stays handle) = tt
-one_tells (Answers.is_not_closed handle fault) = tt
-one_tells (Answers.is_unmapped set) = tt
-one_tells (Answers.is_granted owner eights slot number choice value eight) = tt
-one_tells (Answers.is_unresolved owner eights slot eight) = tt
-one_tells (Answers.is_not_code owner eights slot serial index eight) = tt
-one_tells (Answers.is_found ask serial index value) = tt
-one_tells (Answers.is_not_found ask fault) = tt
-one_tells (Answers.is_told fault) = tt
-one_tells (Answers.is_written bytes) = tt
+one_tells : {h : ℕ} {call : Call} {e : Event} {answer : Answer} → EventAnswers h call e answer → OpeningTells call answer (e ∷ [])
+one_tells (EventAnswers.is_loaded ask id root first rest ranges) = refl
+one_tells (EventAnswers.is_there ask id root ranges) = refl
+one_tells (EventAnswers.is_absent ask) = refl
+one_tells (EventAnswers.is_not_opened ask fault) = refl
+one_tells (EventAnswers.dies handle first rest) = tt
+one_tells (EventAnswers.stays handle) = tt
+one_tells (EventAnswers.is_not_closed handle fault) = tt
+one_tells (EventAnswers.is_unmapped set) = tt
+one_tells (EventAnswers.is_granted owner eights slot number choice value eight) = tt
+one_tells (EventAnswers.is_unresolved owner eights slot eight) = tt
+one_tells (EventAnswers.is_not_code owner eights slot serial index eight) = tt
+one_tells (EventAnswers.is_found ask serial index value) = tt
+one_tells (EventAnswers.is_not_found ask fault) = tt
+one_tells (EventAnswers.is_told fault) = tt
+one_tells (EventAnswers.is_written bytes) = tt
 
 none_tells : (call : Call) (answer : Answer) → refusal_in answer ≡ None → OpeningTells call answer []
 none_tells (opens ask) answer none = sym none

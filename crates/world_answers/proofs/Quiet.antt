@@ -20,7 +20,7 @@ use Rattle.history_state.specs.Lemmas.History.{after_push}
 use Rattle.history_calls.specs.declared.link_served.installs.Installs.{Installs}
 use Rattle.history_calls.specs.Answer.{Answer, returns, loading, closing, refused, granted, told, again, over}
 use Rattle.history_calls.specs.Call.{Call, opens, closes, writes, looks_up, locates}
-use Rattle.history_calls.specs.Gives.{Answers, Gives}
+use Rattle.history_calls.specs.Gives.{EventAnswers, Gives}
 use Rattle.history_calls.specs.Served.{AreBlockInstalls, InstallsNothing, Makes}
 use Rattle.world_memory.specs.TurnAnswers.Changes.{Changes, LeaveMemory}
 use Rattle.world_memory.specs.declared.turn_answers.answered.MemoryChange.TheVariants as change
@@ -57,22 +57,22 @@ Leaves s h (told fault) given = LeaveMemory s given
 Leaves s h (again for) given = LeaveMemory s given
 Leaves s h (over reason) given = LeaveMemory s (given ++ events.Ended h reason ∷ [])
 
-one_leaves : {h : ℕ} {call : Call} {e : Event} {answer : Answer} (s : State) → Answers h call e answer → Leaves s h answer (e ∷ [])
-one_leaves s (Answers.is_loaded ask id root first rest ranges) = tt
-one_leaves s (Answers.is_there ask id root ranges) = tt
-one_leaves s (Answers.is_absent ask) = tt
-one_leaves s (Answers.is_not_opened ask fault) = (refl, refl, tt)
-one_leaves s (Answers.dies handle first rest) = (refl, refl, tt)
-one_leaves s (Answers.stays handle) = tt
-one_leaves s (Answers.is_not_closed handle fault) = (refl, refl, tt)
-one_leaves s (Answers.is_unmapped set) = tt
-one_leaves s (Answers.is_granted owner eights slot number choice value eight) = (refl, refl, tt)
-one_leaves s (Answers.is_unresolved owner eights slot eight) = (refl, refl, (refl, refl, tt))
-one_leaves s (Answers.is_not_code owner eights slot serial index eight) = (refl, refl, (refl, refl, tt))
-one_leaves s (Answers.is_found ask serial index value) = tt
-one_leaves s (Answers.is_not_found ask fault) = (refl, refl, tt)
-one_leaves s (Answers.is_told fault) = (refl, refl, tt)
-one_leaves s (Answers.is_written bytes) = tt
+one_leaves : {h : ℕ} {call : Call} {e : Event} {answer : Answer} (s : State) → EventAnswers h call e answer → Leaves s h answer (e ∷ [])
+one_leaves s (EventAnswers.is_loaded ask id root first rest ranges) = tt
+one_leaves s (EventAnswers.is_there ask id root ranges) = tt
+one_leaves s (EventAnswers.is_absent ask) = tt
+one_leaves s (EventAnswers.is_not_opened ask fault) = (refl, refl, tt)
+one_leaves s (EventAnswers.dies handle first rest) = (refl, refl, tt)
+one_leaves s (EventAnswers.stays handle) = tt
+one_leaves s (EventAnswers.is_not_closed handle fault) = (refl, refl, tt)
+one_leaves s (EventAnswers.is_unmapped set) = tt
+one_leaves s (EventAnswers.is_granted owner eights slot number choice value eight) = (refl, refl, tt)
+one_leaves s (EventAnswers.is_unresolved owner eights slot eight) = (refl, refl, (refl, refl, tt))
+one_leaves s (EventAnswers.is_not_code owner eights slot serial index eight) = (refl, refl, (refl, refl, tt))
+one_leaves s (EventAnswers.is_found ask serial index value) = tt
+one_leaves s (EventAnswers.is_not_found ask fault) = (refl, refl, tt)
+one_leaves s (EventAnswers.is_told fault) = (refl, refl, tt)
+one_leaves s (EventAnswers.is_written bytes) = tt
 
 pub leaves : {w : Setting} {past : List Event} {h : ℕ} {call : Call} {given : List Event} {answer : Answer} → Gives w past h call given answer → Leaves (after past) h answer given
 leaves {w} {past} (Gives.by_event call e answer answers may) = one_leaves (after past) answers
@@ -90,23 +90,23 @@ LeavesValue s (closes handle) (returns value) given = LeaveMemory s given
 LeavesValue s (writes bytes) (returns value) given = LeaveMemory s given
 LeavesValue s call answer given = Unit {0}
 
-one_value : {h : ℕ} {call : Call} {e : Event} {answer : Answer} (w : Setting) (past : List Event) → Answers h call e answer → Allowed w past e
+one_value : {h : ℕ} {call : Call} {e : Event} {answer : Answer} (w : Setting) (past : List Event) → EventAnswers h call e answer → Allowed w past e
     → LeavesValue (after past) call answer (e ∷ [])
-one_value {h} w past (Answers.is_there ask id root ranges) may = λ started. (no_pages w (after past) h ask id root ranges started may, refl, tt)
-one_value w past (Answers.is_loaded ask id root first rest ranges) may = tt
-one_value w past (Answers.is_absent ask) may = λ started. (refl, refl, tt)
-one_value w past (Answers.is_not_opened ask fault) may = tt
-one_value w past (Answers.dies handle first rest) may = tt
-one_value w past (Answers.stays handle) may = (refl, refl, tt)
-one_value w past (Answers.is_not_closed handle fault) may = tt
-one_value w past (Answers.is_unmapped set) may = tt
-one_value w past (Answers.is_granted owner eights slot number choice value eight) may = tt
-one_value w past (Answers.is_unresolved owner eights slot eight) may = tt
-one_value w past (Answers.is_not_code owner eights slot serial index eight) may = tt
-one_value w past (Answers.is_found ask serial index value) may = tt
-one_value w past (Answers.is_not_found ask fault) may = tt
-one_value w past (Answers.is_told fault) may = tt
-one_value w past (Answers.is_written bytes) may = (refl, refl, tt)
+one_value {h} w past (EventAnswers.is_there ask id root ranges) may = λ started. (no_pages w (after past) h ask id root ranges started may, refl, tt)
+one_value w past (EventAnswers.is_loaded ask id root first rest ranges) may = tt
+one_value w past (EventAnswers.is_absent ask) may = λ started. (refl, refl, tt)
+one_value w past (EventAnswers.is_not_opened ask fault) may = tt
+one_value w past (EventAnswers.dies handle first rest) may = tt
+one_value w past (EventAnswers.stays handle) may = (refl, refl, tt)
+one_value w past (EventAnswers.is_not_closed handle fault) may = tt
+one_value w past (EventAnswers.is_unmapped set) may = tt
+one_value w past (EventAnswers.is_granted owner eights slot number choice value eight) may = tt
+one_value w past (EventAnswers.is_unresolved owner eights slot eight) may = tt
+one_value w past (EventAnswers.is_not_code owner eights slot serial index eight) may = tt
+one_value w past (EventAnswers.is_found ask serial index value) may = tt
+one_value w past (EventAnswers.is_not_found ask fault) may = tt
+one_value w past (EventAnswers.is_told fault) may = tt
+one_value w past (EventAnswers.is_written bytes) may = (refl, refl, tt)
 
 -- other answers say nothing of it
 abbrev IsOther : Answer → Type 0
@@ -177,22 +177,22 @@ ChangesMade past made (looks_up ask) (returns value) given = MadeOf (after (past
 ChangesMade past made (locates number offset) (returns value) given = MadeOf (after (past ++ given)) given made → Changes (after past) given made change.Made
 ChangesMade past made call answer given = Unit {0}
 
-one_made : {h : ℕ} {call : Call} {e : Event} {answer : Answer} (past : List Event) (made : Installs) → Answers h call e answer → ChangesMade past made call answer (e ∷ [])
-one_made past made (Answers.is_loaded ask id root first rest ranges) = tt
-one_made past made (Answers.is_there ask id root ranges) = tt
-one_made past made (Answers.is_absent ask) = tt
-one_made past made (Answers.is_not_opened ask fault) = tt
-one_made past made (Answers.dies handle first rest) = tt
-one_made past made (Answers.stays handle) = tt
-one_made past made (Answers.is_not_closed handle fault) = tt
-one_made past made (Answers.is_unmapped set) = tt
-one_made past made (Answers.is_granted owner eights slot number choice value eight) = tt
-one_made past made (Answers.is_unresolved owner eights slot eight) = tt
-one_made past made (Answers.is_not_code owner eights slot serial index eight) = tt
-one_made past made (Answers.is_found ask serial index value) = λ nothing. inr (nothing, (refl, refl, tt))
-one_made past made (Answers.is_not_found ask fault) = tt
-one_made past made (Answers.is_told fault) = tt
-one_made past made (Answers.is_written bytes) = tt
+one_made : {h : ℕ} {call : Call} {e : Event} {answer : Answer} (past : List Event) (made : Installs) → EventAnswers h call e answer → ChangesMade past made call answer (e ∷ [])
+one_made past made (EventAnswers.is_loaded ask id root first rest ranges) = tt
+one_made past made (EventAnswers.is_there ask id root ranges) = tt
+one_made past made (EventAnswers.is_absent ask) = tt
+one_made past made (EventAnswers.is_not_opened ask fault) = tt
+one_made past made (EventAnswers.dies handle first rest) = tt
+one_made past made (EventAnswers.stays handle) = tt
+one_made past made (EventAnswers.is_not_closed handle fault) = tt
+one_made past made (EventAnswers.is_unmapped set) = tt
+one_made past made (EventAnswers.is_granted owner eights slot number choice value eight) = tt
+one_made past made (EventAnswers.is_unresolved owner eights slot eight) = tt
+one_made past made (EventAnswers.is_not_code owner eights slot serial index eight) = tt
+one_made past made (EventAnswers.is_found ask serial index value) = λ nothing. inr (nothing, (refl, refl, tt))
+one_made past made (EventAnswers.is_not_found ask fault) = tt
+one_made past made (EventAnswers.is_told fault) = tt
+one_made past made (EventAnswers.is_written bytes) = tt
 
 other_made : (past : List Event) (made : Installs) (call : Call) (answer : Answer) (given : List Event) → IsOther answer → ChangesMade past made call answer given
 other_made past made (looks_up ask) (returns value) given other = absurd other

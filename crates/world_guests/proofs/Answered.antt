@@ -17,7 +17,7 @@ use Rattle.history_calls.specs.declared.link_served.installs.Installs.{Installs}
 use Rattle.history_calls.specs.Answer.{Answer, returns, loading, closing, refused, granted, told, again, over}
 use Rattle.history_calls.specs.Call.{Call, resolves, opens, looks_up, closes, unmaps, asks_fault, locates, writes, stops}
 use Rattle.history_calls.specs.Ends.{EndsAs, takes_memory}
-use Rattle.history_calls.specs.Gives.{Answers, Gives, ending}
+use Rattle.history_calls.specs.Gives.{EventAnswers, Gives, ending}
 use Rattle.history_calls.specs.Waiting.{Shows}
 use Rattle.link_state.specs.Table.{LinkTable, appended}
 use Rattle.history_journal.specs.Following.{machine_of}
@@ -108,23 +108,23 @@ Runs call given (told fault) = Unit {0}
 Runs call given (again for) = Unit {0}
 Runs call given (over reason) = Unit {0}
 
-answer_runs : (h : ℕ) (call : Call) (e : Event) (answer : Answer) → Answers h call e answer → Runs call (e ∷ ending h answer) answer
-answer_runs h call e answer (Answers.is_loaded ask id root first rest ranges) =
+answer_runs : (h : ℕ) (call : Call) (e : Event) (answer : Answer) → EventAnswers h call e answer → Runs call (e ∷ ending h answer) answer
+answer_runs h call e answer (EventAnswers.is_loaded ask id root first rest ranges) =
     record { may = refl; first = _; behind = []; are = refl; opens_some = refl }
-answer_runs h call e answer (Answers.is_there ask id root ranges) = tt
-answer_runs h call e answer (Answers.is_absent ask) = tt
-answer_runs h call e answer (Answers.is_not_opened ask fault) = tt
-answer_runs h call e answer (Answers.dies handle first rest) = record { may = refl; first = _; behind = []; are = refl; opens_some = refl }
-answer_runs h call e answer (Answers.stays handle) = tt
-answer_runs h call e answer (Answers.is_not_closed handle fault) = tt
-answer_runs h call e answer (Answers.is_unmapped set) = tt
-answer_runs h call e answer (Answers.is_granted owner eights slot number choice value is) = tt
-answer_runs h call e answer (Answers.is_unresolved owner eights slot is) = tt
-answer_runs h call e answer (Answers.is_not_code owner eights slot serial index is) = tt
-answer_runs h call e answer (Answers.is_found ask serial index value) = tt
-answer_runs h call e answer (Answers.is_not_found ask fault) = tt
-answer_runs h call e answer (Answers.is_told fault) = tt
-answer_runs h call e answer (Answers.is_written bytes) = tt
+answer_runs h call e answer (EventAnswers.is_there ask id root ranges) = tt
+answer_runs h call e answer (EventAnswers.is_absent ask) = tt
+answer_runs h call e answer (EventAnswers.is_not_opened ask fault) = tt
+answer_runs h call e answer (EventAnswers.dies handle first rest) = record { may = refl; first = _; behind = []; are = refl; opens_some = refl }
+answer_runs h call e answer (EventAnswers.stays handle) = tt
+answer_runs h call e answer (EventAnswers.is_not_closed handle fault) = tt
+answer_runs h call e answer (EventAnswers.is_unmapped set) = tt
+answer_runs h call e answer (EventAnswers.is_granted owner eights slot number choice value is) = tt
+answer_runs h call e answer (EventAnswers.is_unresolved owner eights slot is) = tt
+answer_runs h call e answer (EventAnswers.is_not_code owner eights slot serial index is) = tt
+answer_runs h call e answer (EventAnswers.is_found ask serial index value) = tt
+answer_runs h call e answer (EventAnswers.is_not_found ask fault) = tt
+answer_runs h call e answer (EventAnswers.is_told fault) = tt
+answer_runs h call e answer (EventAnswers.is_written bytes) = tt
 
 given_runs : (w : Setting) (past : List Event) (h : ℕ) (call : Call) (given : List Event) (answer : Answer) → Gives w past h call given answer
     → Runs call (given ++ ending h answer) answer
@@ -196,22 +196,22 @@ Waits w past h call (told fault) = Unit {0}
 Waits w past h call (again for) = Shows w (after past) h call for
 Waits w past h call (over reason) = Unit {0}
 
-answer_waits : (w : Setting) (past : List Event) (h : ℕ) (call : Call) (e : Event) (answer : Answer) → Answers h call e answer → Waits w past h call answer
-answer_waits w past h call e answer (Answers.is_loaded ask id root first rest ranges) = tt
-answer_waits w past h call e answer (Answers.is_there ask id root ranges) = tt
-answer_waits w past h call e answer (Answers.is_absent ask) = tt
-answer_waits w past h call e answer (Answers.is_not_opened ask fault) = tt
-answer_waits w past h call e answer (Answers.dies handle first rest) = tt
-answer_waits w past h call e answer (Answers.stays handle) = tt
-answer_waits w past h call e answer (Answers.is_not_closed handle fault) = tt
-answer_waits w past h call e answer (Answers.is_unmapped set) = tt
-answer_waits w past h call e answer (Answers.is_granted owner eights slot number choice value is) = tt
-answer_waits w past h call e answer (Answers.is_unresolved owner eights slot is) = tt
-answer_waits w past h call e answer (Answers.is_not_code owner eights slot serial index is) = tt
-answer_waits w past h call e answer (Answers.is_found ask serial index value) = tt
-answer_waits w past h call e answer (Answers.is_not_found ask fault) = tt
-answer_waits w past h call e answer (Answers.is_told fault) = tt
-answer_waits w past h call e answer (Answers.is_written bytes) = tt
+answer_waits : (w : Setting) (past : List Event) (h : ℕ) (call : Call) (e : Event) (answer : Answer) → EventAnswers h call e answer → Waits w past h call answer
+answer_waits w past h call e answer (EventAnswers.is_loaded ask id root first rest ranges) = tt
+answer_waits w past h call e answer (EventAnswers.is_there ask id root ranges) = tt
+answer_waits w past h call e answer (EventAnswers.is_absent ask) = tt
+answer_waits w past h call e answer (EventAnswers.is_not_opened ask fault) = tt
+answer_waits w past h call e answer (EventAnswers.dies handle first rest) = tt
+answer_waits w past h call e answer (EventAnswers.stays handle) = tt
+answer_waits w past h call e answer (EventAnswers.is_not_closed handle fault) = tt
+answer_waits w past h call e answer (EventAnswers.is_unmapped set) = tt
+answer_waits w past h call e answer (EventAnswers.is_granted owner eights slot number choice value is) = tt
+answer_waits w past h call e answer (EventAnswers.is_unresolved owner eights slot is) = tt
+answer_waits w past h call e answer (EventAnswers.is_not_code owner eights slot serial index is) = tt
+answer_waits w past h call e answer (EventAnswers.is_found ask serial index value) = tt
+answer_waits w past h call e answer (EventAnswers.is_not_found ask fault) = tt
+answer_waits w past h call e answer (EventAnswers.is_told fault) = tt
+answer_waits w past h call e answer (EventAnswers.is_written bytes) = tt
 
 given_waits : (w : Setting) (past : List Event) (h : ℕ) (call : Call) (given : List Event) (answer : Answer) → Gives w past h call given answer
     → Waits w past h call answer

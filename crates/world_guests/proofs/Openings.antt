@@ -18,7 +18,7 @@ use Rattle.history_state.specs.Opening.{Opens}
 use Rattle.history_state.specs.Setting.{Setting}
 use Rattle.history_calls.specs.Answer.{Answer, returns, loading, closing, refused, granted, told, again, over}
 use Rattle.history_calls.specs.Call.{Call, opens}
-use Rattle.history_calls.specs.Gives.{Answers, Gives, Serves, ending}
+use Rattle.history_calls.specs.Gives.{EventAnswers, Gives, Serves, ending}
 use Rattle.history_calls.specs.Laws.{PassedOpens, is_chance, is_memory, is_read_fault}
 use Rattle.link_state.specs.Table.{LinkTable}
 use Rattle.rv_hart.specs.declared.doubleword.Doubleword.{Doubleword}
@@ -77,23 +77,23 @@ Gave h call given (told fault) = Unit {0}
 Gave h call given (again for) = given ≡ []
 Gave h call given (over reason) = Unit {0}
 
-answer_gave : (h : ℕ) (call : Call) (e : Event) (answer : Answer) → Answers h call e answer → Gave h call (e ∷ []) answer
-answer_gave h call e answer (Answers.is_loaded ask id root first rest ranges) = tt
-answer_gave h call e answer (Answers.is_there ask id root ranges) = tt
-answer_gave h call e answer (Answers.is_absent ask) = tt
-answer_gave h call e answer (Answers.is_not_opened ask fault) = λ other is.
+answer_gave : (h : ℕ) (call : Call) (e : Event) (answer : Answer) → EventAnswers h call e answer → Gave h call (e ∷ []) answer
+answer_gave h call e answer (EventAnswers.is_loaded ask id root first rest ranges) = tt
+answer_gave h call e answer (EventAnswers.is_there ask id root ranges) = tt
+answer_gave h call e answer (EventAnswers.is_absent ask) = tt
+answer_gave h call e answer (EventAnswers.is_not_opened ask fault) = λ other is.
     let same : ask ≡ other = cc in ap (λ (a : OpenAsk). events.Open h a (openings.Refused fault) ∷ []) same
-answer_gave h call e answer (Answers.dies handle first rest) = tt
-answer_gave h call e answer (Answers.stays handle) = tt
-answer_gave h call e answer (Answers.is_not_closed handle fault) = λ other is. absurd cc
-answer_gave h call e answer (Answers.is_unmapped set) = tt
-answer_gave h call e answer (Answers.is_granted owner eights slot number choice value is) = tt
-answer_gave h call e answer (Answers.is_unresolved owner eights slot is) = tt
-answer_gave h call e answer (Answers.is_not_code owner eights slot serial index is) = tt
-answer_gave h call e answer (Answers.is_found ask serial index value) = tt
-answer_gave h call e answer (Answers.is_not_found ask fault) = λ other is. absurd cc
-answer_gave h call e answer (Answers.is_told fault) = tt
-answer_gave h call e answer (Answers.is_written bytes) = tt
+answer_gave h call e answer (EventAnswers.dies handle first rest) = tt
+answer_gave h call e answer (EventAnswers.stays handle) = tt
+answer_gave h call e answer (EventAnswers.is_not_closed handle fault) = λ other is. absurd cc
+answer_gave h call e answer (EventAnswers.is_unmapped set) = tt
+answer_gave h call e answer (EventAnswers.is_granted owner eights slot number choice value is) = tt
+answer_gave h call e answer (EventAnswers.is_unresolved owner eights slot is) = tt
+answer_gave h call e answer (EventAnswers.is_not_code owner eights slot serial index is) = tt
+answer_gave h call e answer (EventAnswers.is_found ask serial index value) = tt
+answer_gave h call e answer (EventAnswers.is_not_found ask fault) = λ other is. absurd cc
+answer_gave h call e answer (EventAnswers.is_told fault) = tt
+answer_gave h call e answer (EventAnswers.is_written bytes) = tt
 
 pub given_gave : (w : Setting) (past : List Event) (h : ℕ) (call : Call) (given : List Event) (answer : Answer) → Gives w past h call given answer
     → Gave h call given answer

@@ -16,7 +16,7 @@ use Rattle.history_state.specs.Setting.{Setting}
 use Rattle.hart_moves.specs.Copying.{Copy, first_left}
 use Rattle.hart_moves.specs.Due.{Due}
 use Rattle.hart_moves.specs.Harts.{HartState}
-use Rattle.hart_moves.specs.Moves.{Comes, CopiesBy, Did, Ends as EndsBy, Goes, MovesAs, Refuses, Stops, StoresBy, Trap, Traps, Unread, copied_item, stored_to, trap_of}
+use Rattle.hart_moves.specs.Moves.{Comes, CopiesBy, Did, TurnEnds as EndsBy, Goes, MovesAs, TurnRefuses, TurnStops, StoresBy, Trap, Traps, Unread, copied_item, stored_to, trap_of}
 use Rattle.world_answers.specs.Answers.{is_service}
 use Rattle.world_guests.specs.GuestWorlds.Worlds.{setting_without}
 use Rattle.hart_turns.specs.Turns.{TakesOwn, Turns, is_own}
@@ -42,12 +42,12 @@ module _ (w : Setting) (past : List Event) (h : ℕ) (b : HartState) (made : Lis
   by_trap items (Trap.gives value) x = goes _ items refl x
   by_trap items Trap.writes x = goes _ items refl x
 
-  by_refusal : (items : List Item) (address : ℕ) (fault : BusFault) → Refuses w past h b items address fault (Did.quiet made) c → RunsOn
+  by_refusal : (items : List Item) (address : ℕ) (fault : BusFault) → TurnRefuses w past h b items address fault (Did.quiet made) c → RunsOn
   by_refusal items address (RoleFault role) x = absurd (ends_not _ items _ x)
   by_refusal items address Misaligned x = absurd (ends_not _ items _ x)
   by_refusal items address (AgainFault shown) x = goes b items refl x
 
-  by_stop : (items : List Item) (s : Stop) → Stops w past h b items s (Did.quiet made) c → RunsOn
+  by_stop : (items : List Item) (s : Stop) → TurnStops w past h b items s (Did.quiet made) c → RunsOn
   by_stop items stop.Ecall x = by_trap items (trap_of b.registers) x
   by_stop items stop.Break x = absurd (ends_not _ items _ x)
   by_stop items (stop.Bad word) x = absurd (ends_not _ items _ x)

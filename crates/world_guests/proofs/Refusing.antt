@@ -24,11 +24,11 @@ use Rattle.history_state.specs.State.{State}
 use Rattle.history_calls.specs.Answer.{Answer, returns, loading, closing, refused, granted, told, again, over}
 use Rattle.history_calls.specs.Call.{Call, opens}
 use Rattle.history_calls.specs.Functions.{passed}
-use Rattle.history_calls.specs.Gives.{Answers, Gives, ending}
+use Rattle.history_calls.specs.Gives.{EventAnswers, Gives, ending}
 use Rattle.hart_moves.specs.Copying.{Copy}
 use Rattle.hart_moves.specs.Due.{Due, Return, due}
 use Rattle.hart_moves.specs.Harts.{HartState, Purpose}
-use Rattle.hart_moves.specs.Moves.{Calls, Comes, CopiesBy, Did, Ends, Finals, Goes, Moves, MovesAs, Refuses, Stops, StoresBy, Takes, TellsOf, Trap, Traps, Unread, copied_item, events_of, own_fini, passing, settles, spent, stack_start, stored_to, trap_of}
+use Rattle.hart_moves.specs.Moves.{Calls, Comes, CopiesBy, Did, TurnEnds, Finals, Goes, Moves, MovesAs, TurnRefuses, TurnStops, StoresBy, Takes, TellsOf, Trap, Traps, Unread, copied_item, events_of, own_fini, passing, settles, spent, stack_start, stored_to, trap_of}
 use Rattle.hart_moves.specs.TurnEvents.Lemmas.Frames.{did_events}
 use Rattle.world_guests.specs.Counting.{is_refusal}
 use Rattle.world_guests.specs.Lemmas.Counting.{both_spare}
@@ -50,22 +50,22 @@ data Gave (h : ℕ) (call : Call) (given : List Event) (answer : Answer) : Type 
   refuses : (ask : OpenAsk) (fault : DlFault) → call ≡ opens ask → answer ≡ refused fault → given ≡ events.Open h ask (openings.Refused fault) ∷ []
       → Gave h call given answer
 
-answer_gave : (h : ℕ) (call : Call) (e : Event) (answer : Answer) → Answers h call e answer → Gave h call (e ∷ []) answer
-answer_gave h call e answer (Answers.is_loaded ask id root first rest ranges) = Gave.spares refl
-answer_gave h call e answer (Answers.is_there ask id root ranges) = Gave.spares refl
-answer_gave h call e answer (Answers.is_absent ask) = Gave.spares refl
-answer_gave h call e answer (Answers.is_not_opened ask fault) = Gave.refuses ask fault refl refl refl
-answer_gave h call e answer (Answers.dies handle first rest) = Gave.spares refl
-answer_gave h call e answer (Answers.stays handle) = Gave.spares refl
-answer_gave h call e answer (Answers.is_not_closed handle fault) = Gave.spares refl
-answer_gave h call e answer (Answers.is_unmapped set) = Gave.spares refl
-answer_gave h call e answer (Answers.is_granted owner eights slot number choice value is) = Gave.spares refl
-answer_gave h call e answer (Answers.is_unresolved owner eights slot is) = Gave.spares refl
-answer_gave h call e answer (Answers.is_not_code owner eights slot serial index is) = Gave.spares refl
-answer_gave h call e answer (Answers.is_found ask serial index value) = Gave.spares refl
-answer_gave h call e answer (Answers.is_not_found ask fault) = Gave.spares refl
-answer_gave h call e answer (Answers.is_told fault) = Gave.spares refl
-answer_gave h call e answer (Answers.is_written bytes) = Gave.spares refl
+answer_gave : (h : ℕ) (call : Call) (e : Event) (answer : Answer) → EventAnswers h call e answer → Gave h call (e ∷ []) answer
+answer_gave h call e answer (EventAnswers.is_loaded ask id root first rest ranges) = Gave.spares refl
+answer_gave h call e answer (EventAnswers.is_there ask id root ranges) = Gave.spares refl
+answer_gave h call e answer (EventAnswers.is_absent ask) = Gave.spares refl
+answer_gave h call e answer (EventAnswers.is_not_opened ask fault) = Gave.refuses ask fault refl refl refl
+answer_gave h call e answer (EventAnswers.dies handle first rest) = Gave.spares refl
+answer_gave h call e answer (EventAnswers.stays handle) = Gave.spares refl
+answer_gave h call e answer (EventAnswers.is_not_closed handle fault) = Gave.spares refl
+answer_gave h call e answer (EventAnswers.is_unmapped set) = Gave.spares refl
+answer_gave h call e answer (EventAnswers.is_granted owner eights slot number choice value is) = Gave.spares refl
+answer_gave h call e answer (EventAnswers.is_unresolved owner eights slot is) = Gave.spares refl
+answer_gave h call e answer (EventAnswers.is_not_code owner eights slot serial index is) = Gave.spares refl
+answer_gave h call e answer (EventAnswers.is_found ask serial index value) = Gave.spares refl
+answer_gave h call e answer (EventAnswers.is_not_found ask fault) = Gave.spares refl
+answer_gave h call e answer (EventAnswers.is_told fault) = Gave.spares refl
+answer_gave h call e answer (EventAnswers.is_written bytes) = Gave.spares refl
 
 given_gave : (w : Setting) (past : List Event) (h : ℕ) (call : Call) (given : List Event) (answer : Answer) → Gives w past h call given answer
     → Gave h call given answer
@@ -116,7 +116,7 @@ module _ (w : Setting) (past : List Event) (h : ℕ) (b : HartState) (did : Did)
   goes : (x : HartState) (items : List Item) → Goes items x did c → Spares
   goes x items y = did_spare (Did.quiet items) y.is refl
 
-  ends : (x : HartState) (items : List Item) (reason : HartEnd) → Ends w past h x items reason did c → Spares
+  ends : (x : HartState) (items : List Item) (reason : HartEnd) → TurnEnds w past h x items reason did c → Spares
   ends x items reason y = did_spare (Did.serves items (events.Ended h reason ∷ [])) y.is refl
 
   by_trap : (items : List Item) (trap : Trap) → Traps w past h b items trap did c → Spares
@@ -124,12 +124,12 @@ module _ (w : Setting) (past : List Event) (h : ℕ) (b : HartState) (did : Did)
   by_trap items (Trap.gives value) x = goes _ items x
   by_trap items Trap.writes x = goes _ items x
 
-  by_refusal : (items : List Item) (address : ℕ) (fault : BusFault) → Refuses w past h b items address fault did c → Spares
+  by_refusal : (items : List Item) (address : ℕ) (fault : BusFault) → TurnRefuses w past h b items address fault did c → Spares
   by_refusal items address (RoleFault role) x = ends (spent b) items _ x
   by_refusal items address Misaligned x = ends (spent b) items _ x
   by_refusal items address (Again shown) x = goes b items x
 
-  by_stop : (items : List Item) (s : Stop) → Stops w past h b items s did c → Spares
+  by_stop : (items : List Item) (s : Stop) → TurnStops w past h b items s did c → Spares
   by_stop items stop.Ecall x = by_trap items (trap_of b.registers) x
   by_stop items stop.Break x = ends (spent b) items _ x
   by_stop items (stop.Bad word) x = ends (spent b) items _ x

@@ -10,7 +10,7 @@ use Rattle.rv_hart.specs.declared.doubleword.Doubleword.{Doubleword}
 use Rattle.hart_moves.specs.Moves.{all_finis}
 use Rattle.hart_seat.specs.Table.{HartTable}
 use Rattle.world_guests.specs.GuestWorlds.Worlds.{MayBeAt, world_of}
-use Rattle.world_turns.specs.Run.{Begins, LacksMemory}
+use Rattle.world_turns.specs.Run.{RunBegins, LacksMemory}
 use Rattle.world_turns.specs.World.{World}
 use Rattle.world_guests.specs.declared.beginning.Beginning.{Beginning}
 use Rattle.world_guests.specs.declared.beginning.Beginning.TheVariants as begins
@@ -31,5 +31,5 @@ begun_if false = begins.NoneLeft
 -- no object is left, and nothing has changed; or the first hart begins with the one that comes first; or there is no memory
 abbrev pub BeginsWith : ℕ → Registers → World → World → Beginning → Type 0
 BeginsWith count registers old new begins.NoneLeft = (all_finis (after old.journal) ≡ []) × (new ≡ old)
-BeginsWith count registers old new begins.Begun = Begins registers old new
+BeginsWith count registers old new begins.Begun = RunBegins registers old new
 BeginsWith count registers old new begins.Memory = LacksMemoryOn count old new

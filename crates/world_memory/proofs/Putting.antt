@@ -7,7 +7,7 @@ use Rattle.std.proofs.lemmas.List.{get_or-set_same}
 use Rattle.std.proofs.lemmas.Option.{same_Some}
 use Rattle.address_space.specs.Pages.{IsGuestRange}
 use Rattle.history_event.specs.declared.event.Range.{Range}
-use Rattle.history_state.specs.Memory.{covers, role_at, word_at}
+use Rattle.history_state.specs.Memory.{covers, role_at, first_word_at}
 use Rattle.history_state.specs.State.{State}
 use Rattle.history_calls.specs.Served.{AreWordsOf}
 use Rattle.history_memory.specs.Memory.{IsDoubleword, doubleword_of}
@@ -142,7 +142,7 @@ one_reserved s r start words k a word old mid new are guest within found whole a
     here : a ≡ r.address + 8 * k
     here = at ∙ ap (λ (n : ℕ). (n + 8 * k) % 2 ^ 64) are.start ∙ unwrapped r guest k inside
 
-    same : word ≡ record { value = word_at s (r.address + 8 * k); role = role_at s (r.address + 8 * k) }
+    same : word ≡ record { value = first_word_at s (r.address + 8 * k); role = role_at s (r.address + 8 * k) }
     same = same_Some word _ (sym found ∙ are.each k inside)
 
 pub all_reserved : (s : State) (r : Range) (start : ℕ) (words : List Word) (k : ℕ) (old new : List Doubleword) → AreWordsOf s r (record { start = start; words = words }) → k ≤ length words → length words ≤ k

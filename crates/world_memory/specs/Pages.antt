@@ -3,7 +3,7 @@ use Rattle.std.specs.Prelude.{◌≡◌, ℕ, ◌<◌, Bool, true, false, not, L
 use Rattle.ld_base.specs.declared.linking.Role.TheVariants.{None as NoRole, Rx}
 use Rattle.address_space.specs.Pages.{IsGuestRange}
 use Rattle.history_event.specs.declared.event.Range.{Range}
-use Rattle.history_state.specs.Memory.{covers, ebreaks, role_at, word_at}
+use Rattle.history_state.specs.Memory.{covers, ebreaks, role_at, first_word_at}
 use Rattle.history_state.specs.State.{State}
 use Rattle.history_calls.specs.Served.{is_area}
 use Rattle.history_memory.specs.Memory.{IsDoubleword}
@@ -24,7 +24,7 @@ word_over word found = record { value = word.value; role = word.role; version = 
 
 -- what is found at an address becomes this where its page is reserved: its first word in a state, with its role
 abbrev pub reserved_word : State → ℕ → Doubleword → Doubleword
-reserved_word s a found = word_over (record { value = word_at s a; role = role_at s a }) found
+reserved_word s a found = word_over (record { value = first_word_at s a; role = role_at s a }) found
 
 -- and this where its page is taken away: it loses its role alone, and the version rises
 abbrev pub released_word : ℕ → Doubleword → Doubleword

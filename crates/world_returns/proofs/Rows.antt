@@ -27,7 +27,7 @@ use Rattle.history_calls.specs.declared.link_served.installs.Installs.{Installs}
 use Rattle.history_calls.specs.Answer.{Answer, returns, loading, closing, refused, granted, told, again, over}
 use Rattle.history_calls.specs.Call.{Call, opens, closes}
 use Rattle.history_calls.specs.Functions.{AreConstructors, AreDestructors, left, passed}
-use Rattle.history_calls.specs.Gives.{Answers, Gives, Serves, ending}
+use Rattle.history_calls.specs.Gives.{EventAnswers, Gives, Serves, ending}
 use Rattle.history_calls.specs.Served.{answer_text}
 use Rattle.hart_moves.specs.Copying.{text_words}
 use Rattle.hart_moves.specs.Due.{Due, Return, back, due}
@@ -83,25 +83,25 @@ Comes w past h call given (told fault) = Unit {0}
 Comes w past h call given (again for) = given ≡ []
 Comes w past h call given (over reason) = Unit {0}
 
-answer_comes : (w : Setting) (past : List Event) (h : ℕ) (call : Call) (e : Event) (answer : Answer) → Answers h call e answer → Allowed w past e
+answer_comes : (w : Setting) (past : List Event) (h : ℕ) (call : Call) (e : Event) (answer : Answer) → EventAnswers h call e answer → Allowed w past e
     → Comes w past h call (e ∷ ending h answer) answer
-answer_comes w past h call e answer (Answers.is_loaded ask id root first rest ranges) may =
+answer_comes w past h call e answer (EventAnswers.is_loaded ask id root first rest ranges) may =
     record { ask = ask; id = id; root = root; first = first; rest = rest; ranges = ranges; asked = refl; are = refl; is = refl; may = may }
-answer_comes w past h call e answer (Answers.is_there ask id root ranges) may = tt
-answer_comes w past h call e answer (Answers.is_absent ask) may = tt
-answer_comes w past h call e answer (Answers.is_not_opened ask fault) may = tt
-answer_comes w past h call e answer (Answers.dies handle first rest) may =
+answer_comes w past h call e answer (EventAnswers.is_there ask id root ranges) may = tt
+answer_comes w past h call e answer (EventAnswers.is_absent ask) may = tt
+answer_comes w past h call e answer (EventAnswers.is_not_opened ask fault) may = tt
+answer_comes w past h call e answer (EventAnswers.dies handle first rest) may =
     record { handle = handle; first = first; rest = rest; asked = refl; are = refl; is = refl; may = may }
-answer_comes w past h call e answer (Answers.stays handle) may = tt
-answer_comes w past h call e answer (Answers.is_not_closed handle fault) may = tt
-answer_comes w past h call e answer (Answers.is_unmapped set) may = tt
-answer_comes w past h call e answer (Answers.is_granted owner eights slot number choice value is) may = tt
-answer_comes w past h call e answer (Answers.is_unresolved owner eights slot is) may = tt
-answer_comes w past h call e answer (Answers.is_not_code owner eights slot serial index is) may = tt
-answer_comes w past h call e answer (Answers.is_found ask serial index value) may = tt
-answer_comes w past h call e answer (Answers.is_not_found ask fault) may = tt
-answer_comes w past h call e answer (Answers.is_told fault) may = tt
-answer_comes w past h call e answer (Answers.is_written bytes) may = tt
+answer_comes w past h call e answer (EventAnswers.stays handle) may = tt
+answer_comes w past h call e answer (EventAnswers.is_not_closed handle fault) may = tt
+answer_comes w past h call e answer (EventAnswers.is_unmapped set) may = tt
+answer_comes w past h call e answer (EventAnswers.is_granted owner eights slot number choice value is) may = tt
+answer_comes w past h call e answer (EventAnswers.is_unresolved owner eights slot is) may = tt
+answer_comes w past h call e answer (EventAnswers.is_not_code owner eights slot serial index is) may = tt
+answer_comes w past h call e answer (EventAnswers.is_found ask serial index value) may = tt
+answer_comes w past h call e answer (EventAnswers.is_not_found ask fault) may = tt
+answer_comes w past h call e answer (EventAnswers.is_told fault) may = tt
+answer_comes w past h call e answer (EventAnswers.is_written bytes) may = tt
 
 given_comes : (w : Setting) (past : List Event) (h : ℕ) (call : Call) (given : List Event) (answer : Answer) → Gives w past h call given answer
     → Comes w past h call (given ++ ending h answer) answer

@@ -25,7 +25,7 @@ use Rattle.hart_moves.specs.Harts.{HartState, Offered, Resolving}
 use Rattle.hart_moves.specs.Moves.{events_of, freed, settles}
 use Rattle.hart_moves.specs.Starting.{starting_registers}
 use Rattle.hart_moves.specs.Lemmas.Legality.{turns_own}
-use Rattle.world_turns.specs.Run.{Begins, IsStarted, LacksMemory, settled}
+use Rattle.world_turns.specs.Run.{RunBegins, IsStarted, LacksMemory, settled}
 use Rattle.world_turns.specs.Throughout.{GrantsAreOfHarts, RunsGrantHarts, RunsLeaveNoGrant, RunsAreSound, RunsSettle}
 use Rattle.world_turns.specs.Turn.{Turn}
 use Rattle.world_turns.specs.World.{World, found_harts, found_journal, has_won, settled_by, settling, settling_event}
@@ -134,7 +134,7 @@ turn_below w h old new all turn =
 start_below : (w : Setting) (setup : Setup) (world : World) → IsStarted w setup world → GrantsAreOfHarts world
 start_below w setup world is g there = absurd (none_in g (subst (λ (gs : List Granting). Contains gs g) (start_grants w setup world is) there))
 
-begins_below : (registers : Registers) (old begun : World) → GrantsAreOfHarts old → Begins registers old begun → GrantsAreOfHarts begun
+begins_below : (registers : Registers) (old begun : World) → GrantsAreOfHarts old → RunBegins registers old begun → GrantsAreOfHarts begun
 begins_below registers old begun all x =
     subst GrantsAreOfHarts (sym x.begun) (subst (λ (n : ℕ). Below n old.journal) (ap (λ (bs : List HartState). length bs) x.harts) all)
 

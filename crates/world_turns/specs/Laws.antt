@@ -7,7 +7,7 @@ use Rattle.history_state.specs.Setting.{Setting}
 use Rattle.history_memory.specs.Enters.{SlotTrue}
 use Rattle.world_turns.specs.Memory.{memory_of}
 use Rattle.rv_hart.specs.Registers.{Registers}
-use Rattle.world_turns.specs.Run.{Begins, IsStarted, LacksMemory, settled}
+use Rattle.world_turns.specs.Run.{RunBegins, IsStarted, LacksMemory, settled}
 use Rattle.world_turns.specs.Sound.{Sound}
 use Rattle.world_turns.specs.Turn.{Turn}
 use Rattle.world_turns.specs.World.{World, winners}
@@ -22,7 +22,7 @@ TurnsAreSound = (w : Setting) (h : ℕ) (old new : World) → AcceptsOnly w.mach
 
 -- so it does when the final destructors begin
 abbrev pub FinalsBeginSound : Type 0
-FinalsBeginSound = (w : Setting) (registers : Registers) (old new : World) → Begins registers old new → Sound w old → Sound w new
+FinalsBeginSound = (w : Setting) (registers : Registers) (old new : World) → RunBegins registers old new → Sound w old → Sound w new
 
 -- when there is no memory for them
 abbrev pub FinalsLackSound : Type 0

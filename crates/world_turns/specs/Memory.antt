@@ -5,8 +5,8 @@ use Rattle.history_event.specs.declared.event.Event.{Event}
 use Rattle.history_event.specs.declared.event.Range.{Range}
 use Rattle.history_state.specs.Addresses.{is_linkers_page}
 use Rattle.history_state.specs.After.{after}
-use Rattle.history_state.specs.Changes.{IsUntouched, reserved, taken}
-use Rattle.history_state.specs.Memory.{covers, ebreaks, role_at, word_at}
+use Rattle.history_state.specs.Changes.{StandsApart, reserved, taken}
+use Rattle.history_state.specs.Memory.{covers, ebreaks, role_at, first_word_at}
 use Rattle.history_state.specs.State.{State}
 use Rattle.history_state.specs.Step.{step}
 use Rattle.history_memory.specs.Memory.{IsDoubleword, Memory}
@@ -47,9 +47,9 @@ pub record AreFresh (words : List Doubleword) : Type 0 where
 -- what an event reserves gets its first words and its roles, what it takes away loses its role alone, and the version of both rises; all else stays
 pub record Remakes (s : State) (e : Event) (old new : List Doubleword) : Type 0 where
   pub all : length new ≡ length old
-  pub kept : (a : ℕ) → IsDoubleword a → IsUntouched s e a → doubleword new a ≡ doubleword old a
+  pub kept : (a : ℕ) → IsDoubleword a → StandsApart s e a → doubleword new a ≡ doubleword old a
   pub given : (r : Range) (a : ℕ) → IsDoubleword a → Contains (reserved s e) r → IsTrue (covers a r)
-      → doubleword new a ≡ record { value = word_at (step s e) a; role = role_at (step s e) a; version = raised (doubleword old a).version }
+      → doubleword new a ≡ record { value = first_word_at (step s e) a; role = role_at (step s e) a; version = raised (doubleword old a).version }
   pub gone : (r : Range) (a : ℕ) → IsDoubleword a → Contains (taken s e) r → IsTrue (covers a r)
       → doubleword new a ≡ record (doubleword old a) { role = NoRole; version = raised (doubleword old a).version }
 

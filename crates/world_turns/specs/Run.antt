@@ -13,7 +13,7 @@ use Rattle.history_state.specs.After.{after}
 use Rattle.history_state.specs.Allowed.{MayEnd}
 use Rattle.history_state.specs.Memory.{image_of}
 use Rattle.history_state.specs.Setting.{Setting}
-use Rattle.history_state.specs.State.{start}
+use Rattle.history_state.specs.State.{empty_state}
 use Rattle.history_calls.specs.Functions.{AreAddresses, destructors}
 use Rattle.history_calls.specs.Startup.{Starts, setting_of}
 use Rattle.hart_moves.specs.Harts.{HartState, is_startup_frame}
@@ -34,7 +34,7 @@ pub record IsStarted (w : Setting) (setup : Setup) (world : World) : Type 0 wher
   pub starts : Starts w setup world.journal started
   pub fresh : List Doubleword
   pub are_fresh : AreFresh fresh
-  pub words : RemakesAll start world.journal fresh world.words
+  pub words : RemakesAll empty_state world.journal fresh world.words
   pub harts : world.harts ≡ starting_harts setup.fuel started.functions started.entries
 
 -- ---- startup's constructors
@@ -76,20 +76,20 @@ abbrev pub all_harts : World → List ℕ
 all_harts world = range_with_len 0 (length world.harts)
 
 -- again and again, until all have ended
-pub data Finishes (w : Setting) : World → World → Type 0 where
-  no_more : (world : World) → IsTrue (have_ended world) → Finishes w world world
-  one_more : (old between new : World) → have_ended old ≡ false → Rounds w (all_harts old) old between → Finishes w between new → Finishes w old new
+pub data RunFinishes (w : Setting) : World → World → Type 0 where
+  no_more : (world : World) → IsTrue (have_ended world) → RunFinishes w world world
+  one_more : (old between new : World) → have_ended old ≡ false → Rounds w (all_harts old) old between → RunFinishes w between new → RunFinishes w old new
 
 -- ---- the final destructors
 
 abbrev pub exit_code : HartState → Option ℕ
 exit_code b = elim b.«end» [ Some reason ↦ elim reason [ ends.Exit code ↦ Some code | _ ↦ None ] | None ↦ None ]
 
-abbrev pub have_exited : World → Bool
-have_exited world = list_all (λ b. is_some (exit_code b)) world.harts
+abbrev pub harts_have_exited : World → Bool
+harts_have_exited world = list_all (λ b. is_some (exit_code b)) world.harts
 
 -- the first hart gets its starting registers again, and runs the destructors of the object that comes first
-pub record Begins (registers : Registers) (old new : World) : Type 0 where
+pub record RunBegins (registers : Registers) (old new : World) : Type 0 where
   pub first : HartState
   pub others : List HartState
   pub harts : old.harts ≡ first ∷ others
@@ -116,16 +116,16 @@ pub record LacksMemory (w : Setting) (old new : World) : Type 0 where
   }
 
 -- and takes turns until it ends
-pub data Ends (w : Setting) : World → World → Type 0 where
-  no_more : (world : World) → IsTrue (have_ended world) → Ends w world world
-  one_more : (old between new : World) → have_ended old ≡ false → Turn w 0 old between → Ends w between new → Ends w old new
+pub data RunEnds (w : Setting) : World → World → Type 0 where
+  no_more : (world : World) → IsTrue (have_ended world) → RunEnds w world world
+  one_more : (old between new : World) → have_ended old ≡ false → Turn w 0 old between → RunEnds w between new → RunEnds w old new
 
 -- where each hart has ended by exit, and an object is left
 pub data Finalises (w : Setting) (registers : Registers) (old new : World) : Type 0 where
-  none_runs : have_exited old ≡ false → new ≡ old → Finalises w registers old new
+  none_runs : harts_have_exited old ≡ false → new ≡ old → Finalises w registers old new
   none_is_left : all_finis (after old.journal) ≡ [] → new ≡ old → Finalises w registers old new
-  no_memory : IsTrue (have_exited old) → LacksMemory w old new → Finalises w registers old new
-  all_run : (begun : World) → IsTrue (have_exited old) → Begins registers old begun → Ends w begun new → Finalises w registers old new
+  no_memory : IsTrue (harts_have_exited old) → LacksMemory w old new → Finalises w registers old new
+  all_run : (begun : World) → IsTrue (harts_have_exited old) → RunBegins registers old begun → RunEnds w begun new → Finalises w registers old new
 
 -- ---- a run
 
@@ -141,7 +141,7 @@ pub record Run (w : Setting) (setup : Setup) (items : List TurnItem) (world : Wo
   pub scheduled : World
   pub follows : TakesItems w items constructed scheduled
   pub finished : World
-  pub finishes : Finishes w scheduled finished
+  pub finishes : RunFinishes w scheduled finished
   pub entry : HartEntry
   pub first : slice_get starts.started.entries 0 ≡ Some entry
   pub finalised : World

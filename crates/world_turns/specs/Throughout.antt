@@ -9,7 +9,7 @@ use Rattle.history_state.specs.After.{after}
 use Rattle.history_state.specs.Setting.{Setting}
 use Rattle.history_state.specs.Slots.{HasNoGrant}
 use Rattle.world_turns.specs.declared.schedules.schedule.TurnItem.{TurnItem}
-use Rattle.world_turns.specs.Run.{Constructs, Finalises, Finishes, Run, TakesItems, have_ended}
+use Rattle.world_turns.specs.Run.{Constructs, Finalises, RunFinishes, Run, TakesItems, have_ended}
 use Rattle.world_turns.specs.Sound.{Sound}
 use Rattle.world_turns.specs.World.{World}
 
@@ -23,7 +23,7 @@ ItemsKeep =
     (w : Setting) (items : List TurnItem) (old new : World) → AcceptsOnly w.machine → TakesItems w items old new → Sound w old → Sound w new
 
 abbrev pub RoundsKeep : Type 0
-RoundsKeep = (w : Setting) (old new : World) → AcceptsOnly w.machine → Finishes w old new → Sound w old → Sound w new
+RoundsKeep = (w : Setting) (old new : World) → AcceptsOnly w.machine → RunFinishes w old new → Sound w old → Sound w new
 
 abbrev pub FinalsKeep : Type 0
 FinalsKeep = (w : Setting) (registers : Registers) (old new : World) → AcceptsOnly w.machine → Finalises w registers old new → Sound w old

@@ -36,7 +36,7 @@ use Rattle.hart_moves.specs.Copying.{Copy, text_words}
 use Rattle.hart_moves.specs.Due.{Due, Return, by_resolving, due}
 use Rattle.hart_moves.specs.Harts.{Frame, HartState, Purpose}
 use Rattle.hart_moves.specs.Laws.{EndedStays, RunsOut, TurnsAreOwn, TurnsCount, TurnsLegal}
-use Rattle.hart_moves.specs.Moves.{Did, events_of, spent, freed, freed_by, did_by, ended, Ends, Goes, Traps, Trap, trap_of, Refuses, Stops, Comes, Unread, CopiesBy, copied_item, StoresBy, stored_to, passing, AreAllowed, Passes, runs, with_first, after_all, own_fini, Finals, final_functions, Takes, TellsOf, telling, MovesAs, Moves, Finalises}
+use Rattle.hart_moves.specs.Moves.{Did, events_of, spent, freed, freed_by, did_by, ended, TurnEnds, Goes, Traps, Trap, trap_of, TurnRefuses, TurnStops, Comes, Unread, CopiesBy, copied_item, StoresBy, stored_to, passing, AreAllowed, Passes, runs, with_first, after_all, own_fini, Finals, final_functions, Takes, TellsOf, telling, MovesAs, Moves, Finalises}
 
 -- ---- events
 
@@ -164,11 +164,11 @@ keeps_going : (w : Setting) (past : List Event) (h : ℕ) (b x : HartState) (ite
 keeps_going w past h b x items did c fuel turns goes =
     keeps_by w past h b did c (spent x) [] (ap events_of goes.is) tt (of_none h) goes.leaves fuel (ap (λ n. n + 1) turns)
 
-keeps_ending : (w : Setting) (past : List Event) (h : ℕ) (b : HartState) (items : List Item) (reason : HartEnd) (did : Did) (c : HartState) → Ends w past h (spent b) items reason did c → Keeps w past h b did c
+keeps_ending : (w : Setting) (past : List Event) (h : ℕ) (b : HartState) (items : List Item) (reason : HartEnd) (did : Did) (c : HartState) → TurnEnds w past h (spent b) items reason did c → Keeps w past h b did c
 keeps_ending w past h b items reason did c x =
     keeps_by w past h b did c (ended reason (spent b)) (events.Ended h reason ∷ []) (ap events_of x.is) (x.may, tt) (of_one h (events.Ended h reason) refl) x.leaves refl refl
 
-runs_out : (w : Setting) (past : List Event) (h : ℕ) (b : HartState) (did : Did) (c : HartState) → Ends w past h b [] ends.FuelOut did c → Keeps w past h b did c
+runs_out : (w : Setting) (past : List Event) (h : ℕ) (b : HartState) (did : Did) (c : HartState) → TurnEnds w past h b [] ends.FuelOut did c → Keeps w past h b did c
 runs_out w past h b did c x = record {
   allowed = subst (AreAllowed w past) (sym (ap events_of x.is)) (x.may, tt);
   own = subst (AreOf h) (sym (ap events_of x.is)) (of_one h (events.Ended h ends.FuelOut) refl);
@@ -183,12 +183,12 @@ keeps_trap w past h b items (Trap.exits code) did c x = keeps_ending w past h b 
 keeps_trap w past h b items (Trap.gives value) did c x = keeps_going w past h b _ items did c refl refl x
 keeps_trap w past h b items Trap.writes did c x = keeps_going w past h b _ items did c refl refl x
 
-keeps_refused : (w : Setting) (past : List Event) (h : ℕ) (b : HartState) (items : List Item) (address : ℕ) (fault : BusFault) (did : Did) (c : HartState) → Refuses w past h b items address fault did c → Keeps w past h b did c
+keeps_refused : (w : Setting) (past : List Event) (h : ℕ) (b : HartState) (items : List Item) (address : ℕ) (fault : BusFault) (did : Did) (c : HartState) → TurnRefuses w past h b items address fault did c → Keeps w past h b did c
 keeps_refused w past h b items address (RoleFault role) did c x = keeps_ending w past h b items _ did c x
 keeps_refused w past h b items address Misaligned did c x = keeps_ending w past h b items _ did c x
 keeps_refused w past h b items address (Again shown) did c x = keeps_going w past h b b items did c refl refl x
 
-keeps_stop : (w : Setting) (past : List Event) (h : ℕ) (b : HartState) (items : List Item) (s : Stop) (did : Did) (c : HartState) → Stops w past h b items s did c → Keeps w past h b did c
+keeps_stop : (w : Setting) (past : List Event) (h : ℕ) (b : HartState) (items : List Item) (s : Stop) (did : Did) (c : HartState) → TurnStops w past h b items s did c → Keeps w past h b did c
 keeps_stop w past h b items stop.Ecall did c x = keeps_trap w past h b items (trap_of b.registers) did c x
 keeps_stop w past h b items stop.Break did c x = keeps_ending w past h b items _ did c x
 keeps_stop w past h b items (stop.Bad word) did c x = keeps_ending w past h b items _ did c x

@@ -21,7 +21,7 @@ use Rattle.history_calls.specs.Answer.{Answer, returns, loading, closing, refuse
 use Rattle.history_calls.specs.Call.{opens}
 use Rattle.history_calls.specs.Complete.{OpensOr}
 use Rattle.history_calls.specs.Gives.{Gives}
-use Rattle.history_calls.specs.Gives.Answers.{is_loaded, is_there}
+use Rattle.history_calls.specs.Gives.EventAnswers.{is_loaded, is_there}
 use Rattle.history_calls.specs.Gives.Gives.{by_event}
 use Rattle.history_calls.specs.Laws.{OneOpening, StartsOrFails, is_chance, is_read_fault}
 use Rattle.history_calls.specs.Served.{IsServed}

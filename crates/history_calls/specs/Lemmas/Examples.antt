@@ -40,7 +40,7 @@ use Rattle.history_calls.specs.Answer.{again, closing, granted, loading, refused
 use Rattle.history_calls.specs.Call.{asks_fault, closes, locates, looks_up, opens, resolves, unmaps}
 use Rattle.history_calls.specs.Ends.EndsAs.{bad_module, no_slot, unloaded}
 use Rattle.history_calls.specs.Gives.{FindsFirst, Gives}
-use Rattle.history_calls.specs.Gives.Answers.{dies, is_absent, is_found, is_granted, is_not_closed, is_not_found, is_not_opened, is_there, is_told, is_unmapped, stays}
+use Rattle.history_calls.specs.Gives.EventAnswers.{dies, is_absent, is_found, is_granted, is_not_closed, is_not_found, is_not_opened, is_there, is_told, is_unmapped, stays}
 use Rattle.history_calls.specs.Gives.Gives.{by_event, by_first_block, in_block, to_again, to_end}
 use Rattle.history_calls.specs.Laws.{RefusesAsk}
 use Rattle.history_calls.specs.Laws.RefusesAsk.{flags as by_flags}

@@ -13,7 +13,7 @@ use Rattle.history_event.specs.declared.state.Kept.{Kept}
 use Rattle.history_state.specs.After.{after}
 use Rattle.history_state.specs.Allowed.{Allowed, MayEnd, kept_for}
 use Rattle.history_state.specs.Legal.{Lawful, Legal}
-use Rattle.history_state.specs.Memory.{role_at, word_at}
+use Rattle.history_state.specs.Memory.{role_at, first_word_at}
 use Rattle.history_state.specs.Setting.{Machine, Setting}
 use Rattle.history_state.specs.Storage.{tls_block, tp_of}
 use Rattle.history_state.specs.State.{State}
@@ -23,8 +23,8 @@ use Rattle.history_state.specs.Lemmas.Lists.{from_filter}
 use Rattle.history_state.specs.Lemmas.Lookups.{find_behind, find_less}
 use Rattle.history_calls.specs.Answer.{Answer, again, over, refused, told, returns, loading, closing, granted}
 use Rattle.history_calls.specs.Call.{Call, asks_fault}
-use Rattle.history_calls.specs.Gives.{Answers, Gives, Serves, ending}
-use Rattle.history_calls.specs.Gives.Answers.{is_loaded, is_there, is_absent, is_not_opened, dies, stays, is_not_closed, is_unmapped, is_granted, is_unresolved, is_not_code, is_found, is_not_found, is_told, is_written}
+use Rattle.history_calls.specs.Gives.{EventAnswers, Gives, Serves, ending}
+use Rattle.history_calls.specs.Gives.EventAnswers.{is_loaded, is_there, is_absent, is_not_opened, dies, stays, is_not_closed, is_unmapped, is_granted, is_unresolved, is_not_code, is_found, is_not_found, is_told, is_written}
 use Rattle.history_calls.specs.Gives.Gives.{by_event, by_first_block, in_new_block, in_block, to_again, to_end}
 
 -- ---- legality
@@ -59,7 +59,7 @@ Left s h (told fault) t = t ≡ tell h s
 Left s h (again for) t = t ≡ s
 Left s h (over reason) t = t ≡ s
 
-answered : {h : ℕ} {call : Call} {e : Event} {answer : Answer} (s : State) → Answers h call e answer → Left s h answer (step s e)
+answered : {h : ℕ} {call : Call} {e : Event} {answer : Answer} (s : State) → EventAnswers h call e answer → Left s h answer (step s e)
 answered s (is_loaded ask id root first rest ranges) = tt
 answered s (is_there ask id root ranges) = tt
 answered s (is_absent ask) = tt
@@ -94,7 +94,7 @@ Appends (told fault) given = Unit {0}
 Appends (again for) given = given ≡ []
 Appends (over reason) given = Unit {0}
 
-one_appended : {h : ℕ} {call : Call} {e : Event} {answer : Answer} → Answers h call e answer → Appends answer (e ∷ [])
+one_appended : {h : ℕ} {call : Call} {e : Event} {answer : Answer} → EventAnswers h call e answer → Appends answer (e ∷ [])
 one_appended (is_loaded ask id root first rest ranges) = tt
 one_appended (is_there ask id root ranges) = tt
 one_appended (is_absent ask) = tt
@@ -127,15 +127,15 @@ kept_role : (h : ℕ) (fault : DlFault) (s : State) (a : ℕ) → role_at (keep 
 unfolding role_at
 kept_role h fault s a = refl
 
-kept_word : (h : ℕ) (fault : DlFault) (s : State) (a : ℕ) → word_at (keep h fault s) a ≡ word_at s a
-unfolding word_at tls_block tp_of
+kept_word : (h : ℕ) (fault : DlFault) (s : State) (a : ℕ) → first_word_at (keep h fault s) a ≡ first_word_at s a
+unfolding first_word_at tls_block tp_of
 kept_word h fault s a = refl
 
 pub refused_leaves_memory : (w : Setting) (past : List Event) (h : ℕ) (call : Call) (given : List Event) (fault : DlFault) (a : ℕ) → Gives w past h call given (refused fault)
-    → (role_at (after (past ++ given)) a ≡ role_at (after past) a) × (word_at (after (past ++ given)) a ≡ word_at (after past) a)
+    → (role_at (after (past ++ given)) a ≡ role_at (after past) a) × (first_word_at (after (past ++ given)) a ≡ first_word_at (after past) a)
 refused_leaves_memory w past h call given fault a gives = (
   ap (λ (s : State). role_at s a) (refused_keeps w past h call given fault gives) ∙ kept_role h fault (after past) a,
-  ap (λ (s : State). word_at s a) (refused_keeps w past h call given fault gives) ∙ kept_word h fault (after past) a,
+  ap (λ (s : State). first_word_at s a) (refused_keeps w past h call given fault gives) ∙ kept_word h fault (after past) a,
 )
 
 pub again_appends_nothing : (w : Setting) (past : List Event) (h : ℕ) (call : Call) (given : List Event) (for : Shown) → Gives w past h call given (again for) → given ≡ []
@@ -199,7 +199,7 @@ Tells past h (told fault) = fault ≡ kept_for (after past) h
 Tells past h (again for) = Unit {0}
 Tells past h (over reason) = Unit {0}
 
-tells_one : (w : Setting) (past : List Event) {h : ℕ} {call : Call} {e : Event} {answer : Answer} → Answers h call e answer → Allowed w past e → Tells past h answer
+tells_one : (w : Setting) (past : List Event) {h : ℕ} {call : Call} {e : Event} {answer : Answer} → EventAnswers h call e answer → Allowed w past e → Tells past h answer
 tells_one w past (is_loaded ask id root first rest ranges) may = tt
 tells_one w past (is_there ask id root ranges) may = tt
 tells_one w past (is_absent ask) may = tt

@@ -7,25 +7,25 @@ use Rattle.history_state.specs.Setting.{Setting}
 use Rattle.history_state.specs.Lemmas.Lists.{first_or_later, none_in, only_in}
 use Rattle.history_calls.specs.Answer.{Answer}
 use Rattle.history_calls.specs.Call.{Call, looks_up}
-use Rattle.history_calls.specs.Gives.{Answers, Gives}
+use Rattle.history_calls.specs.Gives.{EventAnswers, Gives}
 use Rattle.history_calls.specs.Laws.{hart_of}
 
-answers_own : (h : ℕ) (call : Call) (e : Event) (answer : Answer) → Answers h call e answer → hart_of e ≡ Some h
-answers_own h call e answer (Answers.is_loaded ask id root first rest ranges) = refl
-answers_own h call e answer (Answers.is_there ask id root ranges) = refl
-answers_own h call e answer (Answers.is_absent ask) = refl
-answers_own h call e answer (Answers.is_not_opened ask fault) = refl
-answers_own h call e answer (Answers.dies handle first rest) = refl
-answers_own h call e answer (Answers.stays handle) = refl
-answers_own h call e answer (Answers.is_not_closed handle fault) = refl
-answers_own h call e answer (Answers.is_unmapped set) = refl
-answers_own h call e answer (Answers.is_granted owner eights slot number choice value is) = refl
-answers_own h call e answer (Answers.is_unresolved owner eights slot is) = refl
-answers_own h call e answer (Answers.is_not_code owner eights slot serial index is) = refl
-answers_own h call e answer (Answers.is_found ask serial index value) = refl
-answers_own h call e answer (Answers.is_not_found ask fault) = refl
-answers_own h call e answer (Answers.is_told fault) = refl
-answers_own h call e answer (Answers.is_written bytes) = refl
+answers_own : (h : ℕ) (call : Call) (e : Event) (answer : Answer) → EventAnswers h call e answer → hart_of e ≡ Some h
+answers_own h call e answer (EventAnswers.is_loaded ask id root first rest ranges) = refl
+answers_own h call e answer (EventAnswers.is_there ask id root ranges) = refl
+answers_own h call e answer (EventAnswers.is_absent ask) = refl
+answers_own h call e answer (EventAnswers.is_not_opened ask fault) = refl
+answers_own h call e answer (EventAnswers.dies handle first rest) = refl
+answers_own h call e answer (EventAnswers.stays handle) = refl
+answers_own h call e answer (EventAnswers.is_not_closed handle fault) = refl
+answers_own h call e answer (EventAnswers.is_unmapped set) = refl
+answers_own h call e answer (EventAnswers.is_granted owner eights slot number choice value is) = refl
+answers_own h call e answer (EventAnswers.is_unresolved owner eights slot is) = refl
+answers_own h call e answer (EventAnswers.is_not_code owner eights slot serial index is) = refl
+answers_own h call e answer (EventAnswers.is_found ask serial index value) = refl
+answers_own h call e answer (EventAnswers.is_not_found ask fault) = refl
+answers_own h call e answer (EventAnswers.is_told fault) = refl
+answers_own h call e answer (EventAnswers.is_written bytes) = refl
 
 pub events_own : (w : Setting) (past : List Event) (h : ℕ) (call : Call) (given : List Event) (answer : Answer) → Gives w past h call given answer → (e : Event) → Contains given e → hart_of e ≡ Some h
 events_own w past h call given answer (Gives.by_event _ e _ answers may) x there = ap hart_of (sym (only_in e x there)) ∙ answers_own h call e answer answers

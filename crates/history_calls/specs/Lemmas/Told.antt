@@ -46,8 +46,8 @@ use Rattle.history_calls.specs.Answer.{Answer, returns, loading, closing, refuse
 use Rattle.history_calls.specs.Call.{Call, resolves, opens, looks_up, closes, unmaps, asks_fault, locates, writes, stops}
 use Rattle.history_calls.specs.Ends.{EndsAs, HasNoRoom, IsBadModule, IsUnloaded, LacksSlot}
 use Rattle.history_calls.specs.Ends.EndsAs.{unloaded, no_slot, bad_module, no_room, no_memory, asked}
-use Rattle.history_calls.specs.Gives.{Answers, FindsFirst, GetsBlock, Gives, HasBlock, variable_at}
-use Rattle.history_calls.specs.Gives.Answers.{is_loaded, is_there, is_absent, is_not_opened, dies, stays, is_not_closed, is_unmapped, is_granted, is_unresolved, is_not_code, is_found, is_not_found, is_told, is_written}
+use Rattle.history_calls.specs.Gives.{EventAnswers, FindsFirst, GetsBlock, Gives, HasBlock, variable_at}
+use Rattle.history_calls.specs.Gives.EventAnswers.{is_loaded, is_there, is_absent, is_not_opened, dies, stays, is_not_closed, is_unmapped, is_granted, is_unresolved, is_not_code, is_found, is_not_found, is_told, is_written}
 use Rattle.history_calls.specs.Gives.Gives.{by_event, by_first_block, in_new_block, in_block, to_again, to_end}
 use Rattle.history_calls.specs.Laws.{IsPlain, is_chance, is_memory, is_want}
 use Rattle.history_calls.specs.Waiting.{IsHeldBy, Shows}
@@ -397,7 +397,7 @@ none_is : returns 0 ≡ close_answer []
 unfolding close_answer
 none_is = refl
 
-invert_one : (w : Setting) (past : List Event) {h : ℕ} {call : Call} {e : Event} {answer : Answer} → Answers h call e answer → Allowed w past e → Inverts w past h call (e ∷ []) answer
+invert_one : (w : Setting) (past : List Event) {h : ℕ} {call : Call} {e : Event} {answer : Answer} → EventAnswers h call e answer → Allowed w past e → Inverts w past h call (e ∷ []) answer
 unfolding Inverts
 invert_one w past {h} (is_loaded ask id root first rest ranges) may =
     record { end = opened id root (first ∷ rest) ranges; ends = from_opens w (after past) h ask id root (first ∷ rest) ranges may; events_are = refl; answer_is = refl }

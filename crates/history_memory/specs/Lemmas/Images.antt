@@ -21,7 +21,7 @@ use Rattle.history_state.specs.State.{Linked, State}
 use Rattle.history_state.specs.Addresses.{is_linkers_page}
 use Rattle.history_state.specs.Allowed.{AllowedIn}
 use Rattle.history_state.specs.Bound.{linked_with, uncopied}
-use Rattle.history_state.specs.Changes.{IsUntouched}
+use Rattle.history_state.specs.Changes.{StandsApart}
 use Rattle.history_state.specs.Memory.{covers, data_at, image_at, is_data_purpose, is_in, role_at}
 use Rattle.history_state.specs.Objects.{has}
 use Rattle.history_state.specs.Opening.{Opens}
@@ -80,7 +80,7 @@ images_back laws w past s good (events.Ended hart reason) may = λ i there low. 
 
 -- the image of an address that the event doesn't touch stays
 abbrev pub ImagesForth : State → Event → Type 0
-ImagesForth s e = (i : Linked) (a : ℕ) → Contains s.images i → a < 2 ^ 64 → is_in i a ≡ true → IsUntouched s e a → Contains (step s e).images i
+ImagesForth s e = (i : Linked) (a : ℕ) → Contains s.images i → a < 2 ^ 64 → is_in i a ≡ true → StandsApart s e a → Contains (step s e).images i
 
 unmapped_forth : PageLaws → (s : State) → Mapped s → (hart : ℕ) (set : List ℕ) → ImagesForth s (events.Unmapped hart set)
 unfolding unmap

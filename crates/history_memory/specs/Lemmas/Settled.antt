@@ -7,7 +7,7 @@ use Rattle.history_event.specs.declared.state.Standing.TheVariants.{Bound, Lost,
 use Rattle.seg_image.specs.Pages.{own_address}
 use Rattle.history_state.specs.State.{Linked, State}
 use Rattle.history_state.specs.Laws.{ImagesAreMapped, NoneIsLazy, SlotsBegin}
-use Rattle.history_state.specs.Memory.{word_at}
+use Rattle.history_state.specs.Memory.{first_word_at}
 use Rattle.history_state.specs.Slots.{HasBound, IsOthers, MayBind, MayLose, value_at_load}
 use Rattle.history_state.specs.Lemmas.Map.{Mapped}
 use Rattle.history_state.specs.Lemmas.Tidy.{Tidy, one_number}
@@ -26,17 +26,17 @@ abbrev pub LoadFits : State → ℕ → ℕ → Type 0
 LoadFits s owner slot = (value : ℕ) → value_at_load s owner slot ≡ Some value → value < 2 ^ 64
 
 -- the first word of a slot that got no value at load is its lazy one
-pub first_lazy : (s : State) (m : Mapped s) (begins : SlotsBegin s) (a : ℕ) (word : a < 2 ^ 64) (owner slot : ℕ) (is : IsSlotAt s a owner slot) → value_at_load s owner slot ≡ None → word_at s a ≡ lazy_at s a
+pub first_lazy : (s : State) (m : Mapped s) (begins : SlotsBegin s) (a : ℕ) (word : a < 2 ^ 64) (owner slot : ℕ) (is : IsSlotAt s a owner slot) → value_at_load s owner slot ≡ None → first_word_at s a ≡ lazy_at s a
 first_lazy s m begins a word owner slot is none =
-    ap (word_at s) (sym (stands s m begins a word owner slot is))
+    ap (first_word_at s) (sym (stands s m begins a word owner slot is))
     ∙ begins.lazy is.image slot is.reloc (image_in s m begins a word owner slot is) is.at (subst (λ (n : ℕ). value_at_load s n slot ≡ None) (sym is.serial) none)
     ∙ sym (lazy_is s m begins a word owner slot is)
 
 -- and of one that got a value, that value
 pub first_bound : (s : State) (m : Mapped s) (begins : SlotsBegin s) → (a : ℕ) (word : a < 2 ^ 64) (owner slot : ℕ) → LoadFits s owner slot → (is : IsSlotAt s a owner slot) (value : ℕ)
-    → value_at_load s owner slot ≡ Some value → word_at s a ≡ value
+    → value_at_load s owner slot ≡ Some value → first_word_at s a ≡ value
 first_bound s m begins a word owner slot fit is value got =
-    ap (word_at s) (sym (stands s m begins a word owner slot is))
+    ap (first_word_at s) (sym (stands s m begins a word owner slot is))
     ∙ begins.at_load is.image slot value is.reloc (image_in s m begins a word owner slot is) is.at (subst (λ (n : ℕ). value_at_load s n slot ≡ Some value) (sym is.serial) got) (fit value got)
 
 -- ---- settling
@@ -50,7 +50,7 @@ module _ (s : State) (m : Mapped s) (begins : SlotsBegin s) (mapped : ImagesAreM
   slot = (holds.words a may.place).slot (role_is s m begins a word g.owner g.slot may.of)
 
   -- a slot whose first word is the lazy one got no value at load
-  unbound : word_at s a ≡ lazy_at s a → (value : Option ℕ) → value_at_load s g.owner g.slot ≡ value → value_at_load s g.owner g.slot ≡ None
+  unbound : first_word_at s a ≡ lazy_at s a → (value : Option ℕ) → value_at_load s g.owner g.slot ≡ value → value_at_load s g.owner g.slot ≡ None
   unbound is None got = got
   unbound is (Some value) got =
       let at = loaded_at s m begins mapped a word g.owner g.slot may.of in

@@ -10,10 +10,10 @@ use Rattle.history_event.specs.declared.event.Range.{Range}
 use Rattle.history_event.specs.declared.state.Granting.{Granting}
 use Rattle.relocator.specs.Relocated.{moved_word}
 use Rattle.seg_image.specs.Pages.{own_address}
-use Rattle.history_state.specs.State.{Linked, State, start}
+use Rattle.history_state.specs.State.{Linked, State, empty_state}
 use Rattle.history_state.specs.Addresses.{is_linkers_page}
-use Rattle.history_state.specs.Changes.{ChangesMemory, IsUntouched, reserved, taken}
-use Rattle.history_state.specs.Memory.{covers, ebreaks, is_in, role_at, word_at}
+use Rattle.history_state.specs.Changes.{ChangesMemory, StandsApart, reserved, taken}
+use Rattle.history_state.specs.Memory.{covers, ebreaks, is_in, role_at, first_word_at}
 use Rattle.history_state.specs.Step.{step}
 use Rattle.history_state.specs.Lemmas.Lazy.{PageLaws}
 use Rattle.history_state.specs.Lemmas.Lists.{found_in, none_in}
@@ -28,7 +28,7 @@ use Rattle.history_memory.specs.Lemmas.Slots.{slot_there}
 
 module _ (pages : PageLaws) (s : State) (e : Event) (now : Mapped s) (new : Mapped (step s e)) (changes : ChangesMemory s e) (old remade : Memory) (by : Remade s e old remade) (a : ℕ) (is : IsDoubleword a)
     (before : role_at s a ≡ Slot) (behind : role_at (step s e) a ≡ Slot) where
-  untouched : IsUntouched s e a
+  untouched : StandsApart s e a
   untouched r either = at (covers a r) refl either
     where
       at : (t : Bool) → covers a r ≡ t → Contains (reserved s e) r ⊎ Contains (taken s e) r → covers a r ≡ false
@@ -62,23 +62,23 @@ quiet s e old new none gone same = record {
 
 -- ---- before the first event
 
-first_role : (a : ℕ) → role_at start a ≡ (if is_linkers_page a then Rx else NoRole)
+first_role : (a : ℕ) → role_at empty_state a ≡ (if is_linkers_page a then Rx else NoRole)
 unfolding role_at
 first_role a = refl
 
-first_word : (a : ℕ) → is_linkers_page a ≡ true → word_at start a ≡ ebreaks
-unfolding word_at
+first_word : (a : ℕ) → is_linkers_page a ≡ true → first_word_at empty_state a ≡ ebreaks
+unfolding first_word_at
 first_word a e = ap (λ (t : Bool). if t then ebreaks else 0) e
 
-pub begins : (memory : Memory) → Begins memory → Holds start [] memory
+pub begins : (memory : Memory) → Begins memory → Holds empty_state [] memory
 begins memory is = record {
   words = λ a place. record {
     role = is.role a place ∙ sym (first_role a);
     fixed = λ either. ⊎_elim
         (λ (page : is_linkers_page a ≡ true). is.code a place page ∙ sym (first_word a page))
         (λ (other : is_linkers_page a ≡ false).
-        let none : role_at start a ≡ NoRole = first_role a ∙ ap (λ (t : Bool). if t then Rx else NoRole) other in
-        ⊎_elim (λ (ro : role_at start a ≡ Ro). absurd (let no : NoRole ≡ Ro = sym none ∙ ro in cc)) (λ (rx : role_at start a ≡ Rx). absurd (let no : NoRole ≡ Rx = sym none ∙ rx in cc)) either)
+        let none : role_at empty_state a ≡ NoRole = first_role a ∙ ap (λ (t : Bool). if t then Rx else NoRole) other in
+        ⊎_elim (λ (ro : role_at empty_state a ≡ Ro). absurd (let no : NoRole ≡ Ro = sym none ∙ ro in cc)) (λ (rx : role_at empty_state a ≡ Rx). absurd (let no : NoRole ≡ Rx = sym none ∙ rx in cc)) either)
         (cases_Bool (is_linkers_page a));
     slot = λ slot. absurd (no_slot a (is_linkers_page a) (sym (first_role a) ∙ slot));
   };

@@ -12,7 +12,7 @@ use Rattle.history_event.specs.declared.event.OpenAnswer.TheVariants as opens
 use Rattle.history_event.specs.declared.event.SymAnswer.TheVariants as syms
 use Rattle.history_event.specs.declared.state.Loading.{Loading}
 use Rattle.scope_rule.specs.declared.namespace.Namespace.{Namespace}
-use Rattle.history_state.specs.State.{State, Linked, start}
+use Rattle.history_state.specs.State.{State, Linked, empty_state}
 use Rattle.history_state.specs.After.{after, after_from}
 use Rattle.history_graph.specs.Initialised.{is_one_of}
 use Rattle.history_state.specs.Allowed.{Allowed, IsFirst}
@@ -63,7 +63,7 @@ past_from s [] (e ∷ more) later = past_from (step s e) [] more (past_step s e 
 past_from s (e ∷ events) more later = past_from (step s e) events more later
 
 pub startup_is_past : (events more : List Event) → is_startup (after events) ≡ false → is_startup (after (events ++ more)) ≡ false
-startup_is_past events more later = past_from start events more later
+startup_is_past events more later = past_from empty_state events more later
 
 -- ---- what was initialised stays so
 
@@ -103,7 +103,7 @@ finals_follow w before since o over first mapped_still unfinished_still =
     inr (record {
       first_hart = refl;
       mapped = mapped_still;
-      initialised = in_has (after (before ++ since)).inits o (inits_from start before since o was.0);
+      initialised = in_has (after (before ++ since)).inits o (inits_from empty_state before since o was.0);
       unfinished = unfinished_still;
       was = record { before = before; since = since; are = refl; over = over; next = first };
     })

@@ -20,7 +20,7 @@ use Rattle.seg_image.specs.Pages.{align_of, guest_address, high_of, low_of, own_
 use Rattle.seg_image.specs.Roles.{role_of}
 use Rattle.seg_image.specs.Words.{file_byte, file_word, word_of}
 use Rattle.relocator.specs.Relocated.{moved_word}
-use Rattle.history_state.specs.State.{State, start}
+use Rattle.history_state.specs.State.{State, empty_state}
 use Rattle.history_state.specs.Addresses.{address, is_code_of, leads_to_code}
 use Rattle.history_state.specs.After.{after_from}
 use Rattle.history_state.specs.Allowed.{Allowed, AllowedIn, AtTheEnd, ByClosing, Closes, MayUnmap}
@@ -40,7 +40,7 @@ files = map file_of (prog ∷ libp ∷ libq ∷ [])
 -- ---- the states
 
 abbrev started : State
-started = step start startup
+started = step empty_state startup
 
 abbrev prog_ready : State
 prog_ready = step started (Init 0 1)
@@ -98,12 +98,12 @@ ended = step told (Ended 0 (Exit 0))
 
 -- ---- the events
 
-may_start : AllowedIn setting [] start startup
+may_start : AllowedIn setting [] empty_state startup
 unfolding relocation_fault loaded initialise load_step finds find_path find_opened pages_of low_of high_of align_of own_address
 may_start = record {
   may = λ first. record { by_first = refl; base = refl; named = tt; flags = inl refl };
   asked = record { short = refl; flags = refl; namespace = (refl, refl) };
-  name = loads setting files start 0 _ (codes "prog") 0 1 _ _ (1 ∷ []) 0 (record {
+  name = loads setting files empty_state 0 _ (codes "prog") 0 1 _ _ (1 ∷ []) 0 (record {
     told = refl;
     reads = refl;
     walked = refl;

@@ -17,7 +17,7 @@ use Rattle.history_state.specs.Addresses.{is_linkers_page}
 use Rattle.history_state.specs.After.{after}
 use Rattle.history_state.specs.Laws.{AreasAreData, IsDataAt}
 use Rattle.history_state.specs.Legal.{Lawful}
-use Rattle.history_state.specs.Memory.{covers, data_at, ebreaks, first_byte, image_at, is_data_purpose, is_in, role_at, word_at, word_in}
+use Rattle.history_state.specs.Memory.{covers, data_at, ebreaks, first_byte, image_at, is_data_purpose, is_in, role_at, first_word_at, word_in}
 use Rattle.history_state.specs.Setting.{Machine}
 use Rattle.history_state.specs.Lemmas.Accepting.{ReadLaw}
 use Rattle.history_state.specs.Lemmas.Brought.{LoadLaws}
@@ -70,8 +70,8 @@ module _ (laws : PageLaws) (s : State) (m : Mapped s) (r : Range) (a : ℕ) (the
       by false e None f None g = absurd (let n : None ≡ Some r = g in cc)
       by false e None f (Some q) g = refl
 
-  word : word_at s a ≡ word_of (first_byte s r.purpose) a
-  unfolding word_at
+  word : first_word_at s a ≡ word_of (first_byte s r.purpose) a
+  unfolding first_word_at
   word = by (is_linkers_page a) linkers (image_at s a) image (data_at s a) its
     where
       by : (t : Bool) → t ≡ false → (i : Option Linked) → i ≡ None → (d : Option Range) → d ≡ Some r

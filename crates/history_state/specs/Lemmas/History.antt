@@ -3,7 +3,7 @@ use Rattle.std.proofs.Common.{◌≡◌, ◌⊎◌, inl, inr, ⊎_elim, ℕ, zer
 use Rattle.std.specs.List.{slice_get}
 use Rattle.std.proofs.lemmas.List.{take_all}
 use Rattle.history_event.specs.declared.event.Event.{Event}
-use Rattle.history_state.specs.State.{State, start}
+use Rattle.history_state.specs.State.{State, empty_state}
 use Rattle.history_state.specs.Step.{step}
 use Rattle.history_state.specs.After.{after, after_from}
 use Rattle.history_state.specs.Allowed.{Allowed, AllowedIn}
@@ -21,7 +21,7 @@ from_push s [] e = refl
 from_push s (x ∷ events) e = from_push (step s x) events e
 
 pub after_push : (events : List Event) (e : Event) → after (events ++ e ∷ []) ≡ step (after events) e
-after_push events e = from_push start events e
+after_push events e = from_push empty_state events e
 
 -- the state after a prefix and its next event
 from_take : (s : State) (events : List Event) (k : ℕ) (e : Event) → slice_get events k ≡ Some e → after_from s (take (suc k) events) ≡ step (after_from s (take k events)) e
@@ -31,7 +31,7 @@ from_take s (x ∷ events) zero e at = let same : x ≡ e = cc in ap (λ (y : Ev
 from_take s (x ∷ events) (suc k) e at = from_take (step s x) events k e at
 
 pub after_take : (events : List Event) (k : ℕ) (e : Event) → slice_get events k ≡ Some e → after (take (suc k) events) ≡ step (after (take k events)) e
-after_take events k e at = from_take start events k e at
+after_take events k e at = from_take empty_state events k e at
 
 -- a prefix that ends before the list does has a next event; else it is the whole list
 pub take_next : {X : Type 0} (xs : List X) (k : ℕ) → ((x : X) × (slice_get xs k ≡ Some x)) ⊎ (take (suc k) xs ≡ take k xs)
@@ -45,8 +45,8 @@ take_next {X} (x ∷ xs) (suc k) = ⊎_elim
 
 -- ---- induction
 
--- what holds at the start and is kept by each event that is allowed holds after each prefix of a lawful journal
-pub by_history : (m : Machine) (P : State → Type 0) → P start
+-- what holds in the empty state and is kept by each event that is allowed holds after each prefix of a lawful journal
+pub by_history : (m : Machine) (P : State → Type 0) → P empty_state
     → ((w : Setting) (past : List Event) (e : Event) → w.machine ≡ m → P (after past) → AllowedIn w past (after past) e → P (step (after past) e))
     → (events : List Event) → Lawful m events → (k : ℕ) → P (after (take k events))
 unfolding after_from Lawful
@@ -113,7 +113,7 @@ lawful_take m events n lawful k e at =
 -- ---- induction with what is known of the past
 
 -- the same, where each step may use what was proved of lawful journals
-pub by_lawful : (m : Machine) (P : State → Type 0) → P start
+pub by_lawful : (m : Machine) (P : State → Type 0) → P empty_state
     → ((w : Setting) (past : List Event) (e : Event) → w.machine ≡ m → Lawful m past → P (after past) → AllowedIn w past (after past) e → P (step (after past) e))
     → (events : List Event) → Lawful m events → P (after events)
 unfolding after_from Lawful

@@ -11,7 +11,7 @@ use Rattle.scope_rule.specs.Choose.{pick_at}
 use Rattle.scope_rule.specs.Load.{find_opened, find_path, finds, step as load_step}
 use Rattle.scope_rule.specs.Searching.{in_breadth}
 use Rattle.seg_image.specs.Pages.{align_of, high_of, low_of, own_address, pages_of}
-use Rattle.history_state.specs.State.{State, start}
+use Rattle.history_state.specs.State.{State, empty_state}
 use Rattle.history_state.specs.After.{after_from}
 use Rattle.history_state.specs.Allowed.{Allowed, AllowedIn, ByClosing}
 use Rattle.history_state.specs.Lookup.{MayAnswer, search}
@@ -32,7 +32,7 @@ files = map file_of (prog ∷ libt ∷ [])
 -- ---- the states
 
 abbrev started : State
-started = step start startup
+started = step empty_state startup
 
 abbrev prog_ready : State
 prog_ready = step started (Init 0 1)
@@ -69,12 +69,12 @@ again_block = step again_ready (Tls 0 3 0x36000)
 
 -- ---- the events
 
-may_start : AllowedIn setting [] start startup
+may_start : AllowedIn setting [] empty_state startup
 unfolding relocation_fault loaded initialise lower die unmap tls_block tp_of load_step finds find_path find_opened pages_of low_of high_of align_of own_address
 may_start = record {
   may = λ first. record { by_first = refl; base = refl; named = tt; flags = inl refl };
   asked = record { short = refl; flags = refl; namespace = (refl, refl) };
-  name = loads setting files start 0 _ (codes "prog") 0 1 _ _ (1 ∷ []) 0 (record {
+  name = loads setting files empty_state 0 _ (codes "prog") 0 1 _ _ (1 ∷ []) 0 (record {
     told = refl;
     reads = refl;
     walked = refl;

@@ -28,7 +28,7 @@ use Rattle.history_state.specs.Allowed.{AllowedIn}
 use Rattle.history_state.specs.Bound.{linked_with, uncopied, with_copies}
 use Rattle.history_state.specs.Laws.{ImagesAreInstalled, IsRangeOf, RangesAreApart}
 use Rattle.history_state.specs.Legal.{Lawful}
-use Rattle.history_state.specs.Memory.{covers, data_at, image_at, is_in, role_at, word_at, word_in}
+use Rattle.history_state.specs.Memory.{covers, data_at, image_at, is_in, role_at, first_word_at, word_in}
 use Rattle.history_state.specs.Objects.{has}
 use Rattle.history_state.specs.Opening.{Opens}
 use Rattle.history_state.specs.Setting.{Machine, Setting}
@@ -300,8 +300,8 @@ module _ (laws : PageLaws) (s : State) (m : Mapped s) where
       ap (λ (t : Bool). if t then Rx else elim (image_at s a) [ Some q ↦ role_of q.object (own_address q.base a) | None ↦ elim (data_at s a) [ Some r ↦ Rw | None ↦ NoRole ] ]) (not_linkers i there a word e)
       ∙ ap (λ (found : Option Linked). elim found [ Some q ↦ role_of q.object (own_address q.base a) | None ↦ elim (data_at s a) [ Some r ↦ Rw | None ↦ NoRole ] ]) (image_there i there a word e)
 
-  pub word_in_image : (i : Linked) → Contains s.images i → (a : ℕ) → a < 2 ^ 64 → is_in i a ≡ true → word_at s a ≡ word_in i a
-  unfolding word_at
+  pub word_in_image : (i : Linked) → Contains s.images i → (a : ℕ) → a < 2 ^ 64 → is_in i a ≡ true → first_word_at s a ≡ word_in i a
+  unfolding first_word_at
   word_in_image i there a word e = at _ _ (is_linkers_page a) (not_linkers i there a word e) (image_at s a) (image_there i there a word e)
     where
       at : (x y : ℕ) (t : Bool) → t ≡ false → (found : Option Linked) → found ≡ Some i → (if t then x else elim found [ Some q ↦ word_in q a | None ↦ y ]) ≡ word_in i a
@@ -328,5 +328,5 @@ module _ (laws : PageLaws) (s : State) (m : Mapped s) where
       let inside : is_in i (image.start + 8 * k) ≡ true = in_pages i there (image.start + 8 * k) from to in
       let own : own_address i.base (image.start + 8 * k) ≡ low_of i.object + 8 * k = own_at i there (image.start + 8 * k) from to ∙ omega (arith, start) in
       is.words.each k few
-      ∙ word_is i (low_of i.object + 8 * k) (own_address i.base (image.start + 8 * k)) (word_at s (image.start + 8 * k)) (role_at s (image.start + 8 * k))
+      ∙ word_is i (low_of i.object + 8 * k) (own_address i.base (image.start + 8 * k)) (first_word_at s (image.start + 8 * k)) (role_at s (image.start + 8 * k))
       own (word_in_image i there (image.start + 8 * k) word inside) (role_in_image i there (image.start + 8 * k) word inside)

@@ -15,7 +15,7 @@ use Rattle.seg_image.specs.Pages.{align_of, guest_address, high_of, low_of, own_
 use Rattle.seg_image.specs.Roles.{role_of}
 use Rattle.seg_image.specs.Words.{file_byte, file_word, word_of}
 use Rattle.relocator.specs.Relocated.{moved_word}
-use Rattle.history_state.specs.State.{State, start}
+use Rattle.history_state.specs.State.{State, empty_state}
 use Rattle.history_state.specs.Addresses.{address, is_code_of, leads_to_code}
 use Rattle.address_space.specs.Pages.{IsFirstFit, without}
 use Rattle.history_state.specs.Areas.{free_pages}
@@ -35,7 +35,7 @@ files = map file_of (prog ∷ liba ∷ libb ∷ [])
 -- ---- the states
 
 abbrev started : State
-started = step start startup
+started = step empty_state startup
 
 abbrev liba_ready : State
 liba_ready = step started (Init 0 2)
@@ -63,12 +63,12 @@ libb_done = step prog_done (Fini 0 3)
 
 -- ---- the events
 
-may_start : AllowedIn setting [] start startup
+may_start : AllowedIn setting [] empty_state startup
 unfolding relocation_fault loaded initialise load_step finds find_path find_opened pages_of low_of high_of align_of own_address
 may_start = record {
   may = λ first. record { by_first = refl; base = refl; named = tt; flags = inl refl };
   asked = record { short = refl; flags = refl; namespace = (refl, refl) };
-  name = loads setting files start 0 _ (codes "prog") 0 1 _ _ (1 ∷ 2 ∷ 3 ∷ []) 0 (record {
+  name = loads setting files empty_state 0 _ (codes "prog") 0 1 _ _ (1 ∷ 2 ∷ 3 ∷ []) 0 (record {
     told = refl;
     reads = refl;
     walked = refl;
@@ -151,8 +151,8 @@ no_gap legal =
     let low : 0x18000 ≤ 0x17000 = (stands (at_startup (legal 0 (startup_with 0x18000) refl))).least 0x17000 third_page.fits in
     omega (arith, low)
   where
-    at_startup : Allowed setting [] (startup_with 0x18000) → AllowedIn setting [] start (startup_with 0x18000)
+    at_startup : Allowed setting [] (startup_with 0x18000) → AllowedIn setting [] empty_state (startup_with 0x18000)
     at_startup h = h
 
-    stands : AllowedIn setting [] start (startup_with 0x18000) → IsFirstFit (without (without (free_pages []) 0x10000 4) 0x14000 3) 3 4096 0x18000
+    stands : AllowedIn setting [] empty_state (startup_with 0x18000) → IsFirstFit (without (without (free_pages []) 0x10000 4) 0x14000 3) 3 4096 0x18000
     stands opens = opens.name.placed.given.1.1.0.stands

@@ -16,7 +16,7 @@ use Rattle.history_event.specs.declared.state.Closing.{Closing}
 use Rattle.scope_rule.specs.Loading.{is_dying}
 use Rattle.scope_rule.specs.Opening.{opened}
 use Rattle.scope_rule.specs.declared.namespace.Namespace.{Namespace}
-use Rattle.history_state.specs.State.{State, empty_namespace, start}
+use Rattle.history_state.specs.State.{State, empty_namespace, empty_state}
 use Rattle.history_state.specs.Objects.{has, has_id, is_ready}
 use Rattle.history_state.specs.Flags.{is_global}
 use Rattle.history_state.specs.Links.{Needed, stays}
@@ -270,7 +270,7 @@ once_initialise s object once = record {
 
 once_law : Law Once
 once_law = record {
-  starts = once_start (empty_namespace 0 ∷ []) (λ ns o there inside. none_in o (subst (λ (n : Namespace). Contains n.objects o) (sym (only_in (empty_namespace 0) ns there)) inside)) (core start) refl refl;
+  starts = once_start (empty_namespace 0 ∷ []) (λ ns o there inside. none_in o (subst (λ (n : Namespace). Contains n.objects o) (sym (only_in (empty_namespace 0) ns there)) inside)) (core empty_state) refl refl;
   opens = λ w s hart ask id root added ranges good once opens came. once_open s hart ask id root added ranges good once came;
   closes = λ s hart handle set good once closes.
       once_die (lower handle s) hart (lowered_in handle closes.namespace) set (good_lower s handle good) (once_lower s handle once) (closes_dies s handle set closes);

@@ -32,7 +32,7 @@ use Rattle.scope_rule.specs.declared.namespace.OpenRec.{OpenRec}
 use Rattle.scope_rule.specs.Finding.{Reading, here, unaccepted, absent}
 use Rattle.scope_rule.specs.Load.{Load, asks, records_of, walk as walk_of}
 use Rattle.scope_rule.specs.Needed.{version_fault}
-use Rattle.history_state.specs.State.{State, start}
+use Rattle.history_state.specs.State.{State, empty_state}
 use Rattle.history_state.specs.After.{after, after_from}
 use Rattle.history_state.specs.Allowed.{AllowedIn, AtTheEnd, ByClosing, Closes, IsBadHandle, IsFirst, MayGrant, MayInitialise, MayUnmap, closable}
 use Rattle.history_state.specs.Addresses.{address, leads_to_code}
@@ -75,7 +75,7 @@ none_legal : (w : Setting) → Legal w []
 unfolding Legal
 none_legal w k e at = absurd (let d : None ≡ Some e = at in cc)
 
-pub legal_by : (w : Setting) (events : List Event) → AreAllowed w [] start events → Legal w events
+pub legal_by : (w : Setting) (events : List Event) → AreAllowed w [] empty_state events → Legal w events
 unfolding after_from
 legal_by w events all = legal_on w [] events (none_legal w) all
 

@@ -19,7 +19,7 @@ use Rattle.seg_image.specs.Pages.{align_of, guest_address, high_of, low_of, own_
 use Rattle.seg_image.specs.Roles.{role_of}
 use Rattle.seg_image.specs.Words.{file_byte, file_word, word_of}
 use Rattle.relocator.specs.Relocated.{moved_word}
-use Rattle.history_state.specs.State.{State, start}
+use Rattle.history_state.specs.State.{State, empty_state}
 use Rattle.history_state.specs.Addresses.{address, is_code_of, leads_to_code}
 use Rattle.history_state.specs.After.{after, after_from}
 use Rattle.history_state.specs.Allowed.{Allowed, AllowedIn, AtTheEnd, ByClosing, Closes, MayGrant}
@@ -38,7 +38,7 @@ files = map file_of (prog ∷ libo ∷ libf ∷ libg ∷ [])
 -- ---- the states
 
 abbrev started : State
-started = step start startup
+started = step empty_state startup
 
 abbrev dlopen_granted : State
 dlopen_granted = step started (Grant 1 0 1 0 (Def 0 1) 0x80f010)
@@ -99,12 +99,12 @@ libo_done = step prog_done (Fini 0 2)
 
 -- ---- the events
 
-may_start : AllowedIn setting [] start startup
+may_start : AllowedIn setting [] empty_state startup
 unfolding relocation_fault loaded load_step finds find_path find_opened pages_of low_of high_of align_of own_address
 may_start = record {
   may = λ first. record { by_first = refl; base = refl; named = tt; flags = inl refl };
   asked = record { short = refl; flags = refl; namespace = (refl, refl) };
-  name = loads setting files start 0 _ (codes "prog") 0 1 _ _ (1 ∷ []) 0 (record {
+  name = loads setting files empty_state 0 _ (codes "prog") 0 1 _ _ (1 ∷ []) 0 (record {
     told = refl;
     reads = refl;
     walked = refl;

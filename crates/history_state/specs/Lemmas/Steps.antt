@@ -20,7 +20,7 @@ use Rattle.history_event.specs.declared.state.Standing.TheVariants as standings
 use Rattle.scope_rule.specs.Relocation.{choice_at}
 use Rattle.scope_rule.specs.Seen.{seen_in}
 use Rattle.scope_rule.specs.declared.namespace.Namespace.{Namespace}
-use Rattle.history_state.specs.State.{State, start}
+use Rattle.history_state.specs.State.{State, empty_state}
 use Rattle.history_state.specs.Grants.{is_open_standing, target_of}
 use Rattle.history_state.specs.Slots.{IsSlot}
 use Rattle.history_state.specs.Step.{die, grant, initialise, lower, open_done, namespace_before, settle, step, unmap}
@@ -39,7 +39,7 @@ use Rattle.history_state.specs.Lemmas.Brought.{LoadLaws, arrived_by, good_open}
 
 -- ---- the invariant itself
 
-good_start : Good (core start)
+good_start : Good (core empty_state)
 good_start = record {
   leads = λ ns o d inside leads. absurd (none_in o (subst (λ (n : Namespace). Contains n.objects o) (sym (only_in _ ns inside.0)) inside.1));
   global = λ ns d there h. absurd (none_in d (subst (λ (n : Namespace). Contains n.global d) (sym (only_in _ ns there)) h));
@@ -73,9 +73,9 @@ good_grant s number hart owner slot choice value good may =
 
 -- ---- laws
 
--- a law of the core: it holds at the start, and each step that changes the core keeps it
+-- a law of the core: it holds in the empty state, and each step that changes the core keeps it
 pub record Law (Q : Core → Type 0) : Type 0 where
-  pub starts : Q (core start)
+  pub starts : Q (core empty_state)
   pub opens : (w : Setting) (s : State) (hart : ℕ) (ask : OpenAsk) (id root : ℕ) (added : List Loaded) (ranges : List Range) → Good (core s) → Q (core s)
       → Opens w s hart ask id root added ranges → Arrived (core s) (namespace_before s id) added root → Q (core (open_done s hart ask id root added ranges))
   pub closes : (s : State) (hart handle : ℕ) (set : List ℕ) → Good (core s) → Q (core s) → Closes s handle set → Q (core (die hart set (lower handle s)))

@@ -15,7 +15,7 @@ use Rattle.history_state.specs.After.{after}
 use Rattle.history_state.specs.Opening.{Opens}
 use Rattle.history_state.specs.Setting.{Machine, Setting}
 use Rattle.history_calls.specs.declared.link_served.served.Served.TheVariants as served
-use Rattle.history_calls.specs.Gives.Answers.{is_not_opened}
+use Rattle.history_calls.specs.Gives.EventAnswers.{is_not_opened}
 use Rattle.history_calls.specs.Gives.Gives.{by_event, to_again}
 use Rattle.history_calls.specs.Waiting.Shows.{by_load}
 use Rattle.link_open_plan.specs.Planned.{fault_in}

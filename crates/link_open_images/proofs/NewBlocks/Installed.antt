@@ -22,7 +22,7 @@ use Rattle.history_state.specs.After.{after}
 use Rattle.history_state.specs.Laws.{IsDataAt}
 use Rattle.history_state.specs.Legal.{Lawful}
 use Rattle.history_state.specs.Lookup.{MayHaveBlock}
-use Rattle.history_state.specs.Memory.{covers, first_byte, image_of, role_at, word_at}
+use Rattle.history_state.specs.Memory.{covers, first_byte, image_of, role_at, first_word_at}
 use Rattle.history_state.specs.Objects.{mapped}
 use Rattle.history_state.specs.Setting.{Machine, Setting}
 use Rattle.history_state.specs.State.{Linked, State}

@@ -11,7 +11,7 @@ use Rattle.history_state.specs.Accepted.{AcceptsOnly}
 use Rattle.history_state.specs.After.{after}
 use Rattle.history_state.specs.Laws.{IsDataAt}
 use Rattle.history_state.specs.Legal.{Lawful}
-use Rattle.history_state.specs.Memory.{covers, first_byte, is_data_purpose, role_at, word_at}
+use Rattle.history_state.specs.Memory.{covers, first_byte, is_data_purpose, role_at, first_word_at}
 use Rattle.history_state.specs.Setting.{Machine}
 use Rattle.history_state.specs.State.{State}
 use Rattle.history_state.specs.Lemmas.Accepting.{ReadLaw}
@@ -36,13 +36,13 @@ module _ (page_laws : PageLaws) (loads : LoadLaws) (reads : ReadLaw) where
     all = area.all;
     each = λ k less. area.each k less
         ∙ ap (λ n. Some (record { value = n; role = Rw })) (each k less).0
-        ∙ ap (λ (x : Role). Some (record { value = word_at t (r.address + 8 * k); role = x })) (sym (each k less).1);
+        ∙ ap (λ (x : Role). Some (record { value = first_word_at t (r.address + 8 * k); role = x })) (sym (each k less).1);
   }
     where
       t : State
       t = after events
 
-      each : (k : ℕ) → k < 512 * r.pages → (word_of (byte_among at bytes) (r.address + 8 * k) ≡ word_at t (r.address + 8 * k)) × (role_at t (r.address + 8 * k) ≡ Rw)
+      each : (k : ℕ) → k < 512 * r.pages → (word_of (byte_among at bytes) (r.address + 8 * k) ≡ first_word_at t (r.address + 8 * k)) × (role_at t (r.address + 8 * k) ≡ Rw)
       each k less =
           let zero : r.address + 8 * k + 0 ≡ r.address + 8 * k = omega arith in
           let inside : covers (r.address + 8 * k) r ≡ true = subst (λ n. covers n r ≡ true) zero (in_pages r.address r.pages k 0 less (omega arith) r refl refl) in

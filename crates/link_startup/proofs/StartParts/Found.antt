@@ -21,7 +21,7 @@ use Rattle.history_state.specs.Storage.{late_block, module_of, tls_block, tp_of}
 use Rattle.history_calls.specs.declared.link_served.installs.Installs.{Installs}
 use Rattle.history_calls.specs.Answer.{Answer, returns, loading, closing, refused, granted, told, again, over}
 use Rattle.history_calls.specs.Call.{Call, opens, looks_up, unmaps, locates}
-use Rattle.history_calls.specs.Gives.{Answers, FindsFirst, Gives}
+use Rattle.history_calls.specs.Gives.{EventAnswers, FindsFirst, Gives}
 use Rattle.history_calls.specs.Served.{InstallsNothing, Makes}
 use Rattle.history_calls.specs.Waiting.{Shows}
 
@@ -52,16 +52,16 @@ no_first w past h ask e f value static finds =
 
 -- ---- what a look-up gives
 
-found_by : (h : ℕ) (call : Call) (e : Event) (answer : Answer) (ask : SymAsk) (value : ℕ) → Answers h call e answer → call ≡ looks_up ask → answer ≡ returns value
+found_by : (h : ℕ) (call : Call) (e : Event) (answer : Answer) (ask : SymAsk) (value : ℕ) → EventAnswers h call e answer → call ≡ looks_up ask → answer ≡ returns value
     → (serial : ℕ) × (index : ℕ) × (e ≡ events.Sym h ask (symbols.Found serial index value))
-found_by h call e answer ask value (Answers.is_found a serial index v) is gives =
+found_by h call e answer ask value (EventAnswers.is_found a serial index v) is gives =
     let one : a ≡ ask = cc in let same : v ≡ value = cc in
     (serial, index, ap (λ (x : SymAsk). events.Sym h x (symbols.Found serial index v)) one ∙ ap (λ x. events.Sym h ask (symbols.Found serial index x)) same)
 found_by h call e answer ask value _ is gives = absurd cc
 
-refused_by : (h : ℕ) (call : Call) (e : Event) (answer : Answer) (ask : SymAsk) (fault : DlFault) → Answers h call e answer → call ≡ looks_up ask → answer ≡ refused fault
+refused_by : (h : ℕ) (call : Call) (e : Event) (answer : Answer) (ask : SymAsk) (fault : DlFault) → EventAnswers h call e answer → call ≡ looks_up ask → answer ≡ refused fault
     → e ≡ events.Sym h ask (symbols.Refused fault)
-refused_by h call e answer ask fault (Answers.is_not_found a f) is gives =
+refused_by h call e answer ask fault (EventAnswers.is_not_found a f) is gives =
     let one : a ≡ ask = cc in let same : f ≡ fault = cc in
     ap (λ (x : SymAsk). events.Sym h x (symbols.Refused f)) one ∙ ap (λ (x : DlFault). events.Sym h ask (symbols.Refused x)) same
 refused_by h call e answer ask fault _ is gives = absurd cc
@@ -102,9 +102,9 @@ IsOfLookUp (told fault) = ⊥
 IsOfLookUp (again for) = ⊥
 IsOfLookUp (over reason) = Unit {0}
 
-event_of_look_up : (h : ℕ) (call : Call) (e : Event) (answer : Answer) (ask : SymAsk) → Answers h call e answer → call ≡ looks_up ask → IsOfLookUp answer
-event_of_look_up h call e answer ask (Answers.is_found a serial index v) is = tt
-event_of_look_up h call e answer ask (Answers.is_not_found a f) is = tt
+event_of_look_up : (h : ℕ) (call : Call) (e : Event) (answer : Answer) (ask : SymAsk) → EventAnswers h call e answer → call ≡ looks_up ask → IsOfLookUp answer
+event_of_look_up h call e answer ask (EventAnswers.is_found a serial index v) is = tt
+event_of_look_up h call e answer ask (EventAnswers.is_not_found a f) is = tt
 event_of_look_up h call e answer ask _ is = absurd cc
 
 never_waits : (w : Setting) (s : State) (h : ℕ) (call : Call) (for : Shown) (ask : SymAsk) → Shows w s h call for → call ≡ looks_up ask → ⊥

@@ -22,8 +22,8 @@ use Rattle.hart_moves.specs.Copying.{Copy, first_left}
 use Rattle.hart_moves.specs.Due.{Due, Return, due}
 use Rattle.hart_moves.specs.Harts.{Frame, HartState, Purpose}
 use Rattle.hart_moves.specs.Moves.{Did, Trap, copied_item, own_fini, passing, spent, trap_of}
-use Rattle.hart_moves.specs.Moves.{AreAllowed, Calls, Comes, Completes, Copies, CopiesBy, Ends, EndsObject, Finalises, Finals, Instructs, MovesAs, Passes}
-use Rattle.hart_moves.specs.Moves.{Refuses, Stops, StoresBy, StoresText, Takes, Traps, Unread}
+use Rattle.hart_moves.specs.Moves.{AreAllowed, Calls, Comes, Completes, Copies, CopiesBy, TurnEnds, EndsObject, Finalises, Finals, Instructs, MovesAs, Passes}
+use Rattle.hart_moves.specs.Moves.{TurnRefuses, TurnStops, StoresBy, StoresText, Takes, Traps, Unread}
 use Rattle.world_turns.specs.Turn.{Turn}
 use Rattle.world_turns.specs.World.{World, found_journal}
 
@@ -42,7 +42,7 @@ module _ (allowed : AllowedUntold) (serves : ServesUntold) (w : Setting) (h : �
       (finals (past ++ events.Fini h object ∷ []) behind last later)
 
   module _ (past : List Event) (did : Did) (c : HartState) where
-    ending : (b : HartState) (items : List Item) (reason : HartEnd) → Ends w past h b items reason did c → Ends (untold w) past h b items reason did c
+    ending : (b : HartState) (items : List Item) (reason : HartEnd) → TurnEnds w past h b items reason did c → TurnEnds (untold w) past h b items reason did c
     ending b items reason x = record { may = x.may; is = x.is; leaves = x.leaves }
 
     -- ---- an instruction
@@ -52,13 +52,13 @@ module _ (allowed : AllowedUntold) (serves : ServesUntold) (w : Setting) (h : �
     traps b items (Trap.gives value) x = x
     traps b items Trap.writes x = x
 
-    refuses : (b : HartState) (items : List Item) (address : ℕ) (fault : BusFault) → Refuses w past h b items address fault did c
-        → Refuses (untold w) past h b items address fault did c
+    refuses : (b : HartState) (items : List Item) (address : ℕ) (fault : BusFault) → TurnRefuses w past h b items address fault did c
+        → TurnRefuses (untold w) past h b items address fault did c
     refuses b items address (RoleFault role) x = ending (spent b) items _ x
     refuses b items address Misaligned x = ending (spent b) items _ x
     refuses b items address (Again shown) x = x
 
-    stops : (b : HartState) (items : List Item) (s : Stop) → Stops w past h b items s did c → Stops (untold w) past h b items s did c
+    stops : (b : HartState) (items : List Item) (s : Stop) → TurnStops w past h b items s did c → TurnStops (untold w) past h b items s did c
     stops b items stop.Ecall x = traps b items (trap_of b.registers) x
     stops b items stop.Break x = ending (spent b) items _ x
     stops b items (stop.Bad word) x = ending (spent b) items _ x
@@ -135,7 +135,7 @@ module _ (allowed : AllowedUntold) (serves : ServesUntold) (w : Setting) (h : �
     ends_object : (b : HartState) (code object : ℕ) → EndsObject w past h b code object did c → EndsObject (untold w) past h b code object did c
     ends_object b code object x = ⊎_elim
         (λ (f : Finalises w past h b code object did c). inl (finalises b code object f))
-        (λ (e : Ends w past h (spent b) [] ends.Memory did c). inr (ending (spent b) [] ends.Memory e))
+        (λ (e : TurnEnds w past h (spent b) [] ends.Memory did c). inr (ending (spent b) [] ends.Memory e))
         x
 
     -- ---- a service

@@ -21,7 +21,7 @@ use Rattle.world_returns.specs.Completing.{MayPass}
 use Rattle.world_returns.specs.FinalTurns.Planned.{FinalsMayFollow}
 use Rattle.world_memory.specs.TurnAnswers.Following.{MayFollowAll}
 use Rattle.world_turns.specs.Memory.{Does}
-use Rattle.world_turns.specs.Run.{Begins, IsStarted, LacksMemory, have_exited, settled}
+use Rattle.world_turns.specs.Run.{RunBegins, IsStarted, LacksMemory, harts_have_exited, settled}
 use Rattle.world_turns.specs.Turn.{Turn}
 use Rattle.world_turns.specs.World.{World, settling}
 use Rattle.world_guests.specs.GuestWorlds.Worlds.{MayBeAt, MayEndNow, TakesOver}
@@ -58,7 +58,7 @@ EndsNow = (count : ℕ) (folders : List (List ℕ)) (begun : Bool) (world : Worl
 
 -- and once each hart has ended by exit, before the final destructors, the first one may once more
 abbrev pub FirstEndsNow : Type 0
-FirstEndsNow = (count : ℕ) (folders : List (List ℕ)) (world : World) → MayBeAt count folders false world → IsTrue (have_exited world) → 0 < length world.harts
+FirstEndsNow = (count : ℕ) (folders : List (List ℕ)) (world : World) → MayBeAt count folders false world → IsTrue (harts_have_exited world) → 0 < length world.harts
     → MayEndNow count world.journal 0
 
 -- a hart whose next turn is a call of the linker, and whose grant is settled, may make it, and has fuel for it
@@ -107,9 +107,9 @@ TurnsStayAt = (count : ℕ) (folders : List (List ℕ)) (files : Option (List Fi
 -- the begin of the final destructors
 abbrev pub FinalsBeginAt : Type 0
 FinalsBeginAt = (count : ℕ) (folders : List (List ℕ)) (registers : Registers) (old new : World) → MayBeAt count folders false old
-    → IsTrue (have_exited old) → Begins registers old new → MayBeAt count folders true new
+    → IsTrue (harts_have_exited old) → RunBegins registers old new → MayBeAt count folders true new
 
 -- or want of memory for them
 abbrev pub FinalsLackAt : Type 0
-FinalsLackAt = (count : ℕ) (folders : List (List ℕ)) (old new : World) → MayBeAt count folders false old → IsTrue (have_exited old)
+FinalsLackAt = (count : ℕ) (folders : List (List ℕ)) (old new : World) → MayBeAt count folders false old → IsTrue (harts_have_exited old)
     → ((w : Setting) → IsOn (machine_of count) w → LacksMemory w old new) → MayBeAt count folders true new

@@ -6,7 +6,7 @@ use Rattle.rv_hart.specs.Registers.{Registers}
 use Rattle.history_state.specs.Setting.{Setting}
 use Rattle.history_state.specs.Lemmas.Lists.{first_or_later, here, later, only_in}
 use Rattle.world_turns.specs.declared.schedules.schedule.TurnItem.{TurnItem}
-use Rattle.world_turns.specs.Run.{Constructs, Ends, Finalises, Finishes, Repeats, Rounds, Run, TakesItems}
+use Rattle.world_turns.specs.Run.{Constructs, RunEnds, Finalises, RunFinishes, Repeats, Rounds, Run, TakesItems}
 use Rattle.world_turns.specs.Turn.{TakesTurn, Turn}
 use Rattle.world_turns.specs.World.{World}
 use Rattle.world_laws.specs.WorldSlots.Later.{Later, Steps}
@@ -60,13 +60,13 @@ module _ (w : Setting) (Goes : World → World → Type 0) (turns : (h : ℕ) (o
   round_leads (Rounds.no_more _) = refl
   round_leads (Rounds.one_more h rest old between _ taken more) = (takes h old between taken, round_leads more)
 
-  pub rounds_lead : {old new : World} (part : Finishes w old new) → Leads Goes old (of_rounds part) new
-  rounds_lead (Finishes.no_more _ over) = refl
-  rounds_lead (Finishes.one_more old between new runs round more) = joined Goes (of_round round) (of_rounds more) old between new (round_leads round) (rounds_lead more)
+  pub rounds_lead : {old new : World} (part : RunFinishes w old new) → Leads Goes old (of_rounds part) new
+  rounds_lead (RunFinishes.no_more _ over) = refl
+  rounds_lead (RunFinishes.one_more old between new runs round more) = joined Goes (of_round round) (of_rounds more) old between new (round_leads round) (rounds_lead more)
 
-  pub destructors_lead : {old new : World} (part : Ends w old new) → Leads Goes old (of_destructors part) new
-  destructors_lead (Ends.no_more _ over) = refl
-  destructors_lead (Ends.one_more old between _ runs taken more) = (turns 0 old between taken, destructors_lead more)
+  pub destructors_lead : {old new : World} (part : RunEnds w old new) → Leads Goes old (of_destructors part) new
+  destructors_lead (RunEnds.no_more _ over) = refl
+  destructors_lead (RunEnds.one_more old between _ runs taken more) = (turns 0 old between taken, destructors_lead more)
 
 -- ---- a run
 

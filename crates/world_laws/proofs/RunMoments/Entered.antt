@@ -10,7 +10,7 @@ use Rattle.history_state.specs.Laws.{ImagesAreMapped}
 use Rattle.history_state.specs.Memory.{data_at, image_at, is_in, role_at}
 use Rattle.history_state.specs.State.{Linked, State}
 use Rattle.history_state.specs.Lemmas.Lists.{found_in}
-use Rattle.history_memory.specs.Enters.{Enters}
+use Rattle.history_memory.specs.Enters.{LeadsToCode}
 use Rattle.history_memory.specs.Holds.{Holds}
 use Rattle.history_memory.specs.Memory.{IsDoubleword, Memory, doubleword_of}
 use Rattle.world_laws.specs.RunMoments.True.{EntersCode, IsCode}
@@ -31,7 +31,7 @@ module _ (s : State) (mapped : ImagesAreMapped s) where
   unfolding role_at
   is_code a role = code_by a (is_linkers_page a) (image_at s a) refl refl role
 
-  pub enters_code : (won : List ℕ) (memory : Memory) → Holds s won memory → (value : ℕ) → Enters memory value → EntersCode s value
+  pub enters_code : (won : List ℕ) (memory : Memory) → Holds s won memory → (value : ℕ) → LeadsToCode memory value → EntersCode s value
   enters_code won memory holds value enters = ⊎_elim
       (λ (none : value ≡ 0). inl none)
       (λ (code : IsDoubleword (doubleword_of value) × (memory.role (doubleword_of value) ≡ Rx)).

@@ -21,7 +21,7 @@ use Rattle.hart_moves.specs.Moves.{ended}
 use Rattle.hart_moves.specs.Starting.{starting_registers}
 use Rattle.hart_moves.specs.TurnFrames.Closings.{closing_frame}
 use Rattle.world_turns.specs.Laws.{StartIsSound}
-use Rattle.world_turns.specs.Run.{Begins, Ends, Finalises, LacksMemory, Run, have_exited, settled}
+use Rattle.world_turns.specs.Run.{RunBegins, RunEnds, Finalises, LacksMemory, Run, harts_have_exited, settled}
 use Rattle.world_turns.specs.Sound.{Sound}
 use Rattle.world_turns.specs.Turn.{Turn}
 use Rattle.world_turns.specs.World.{World}
@@ -146,7 +146,7 @@ module _ (laws : FrameLaws) (w : Setting) (only : AcceptsOnly w.machine) where
   own_within world x = finals_own w world (others_over w world x.finals) x.belong
 
   -- no hart runs behind want of memory
-  own_lacking : (old new : World) → IsTrue (have_exited old) → LacksMemory w old new → Before w old → (h : ℕ) (b : HartState) → slice_get new.harts h ≡ Some b → b.«end» ≡ None → ⊥
+  own_lacking : (old new : World) → IsTrue (harts_have_exited old) → LacksMemory w old new → Before w old → (h : ℕ) (b : HartState) → slice_get new.harts h ≡ Some b → b.«end» ≡ None → ⊥
   own_lacking old new exited lacks x zero b at runs =
       let there : slice_get new.harts zero ≡ Some (ended ends.Memory lacks.first) = ap (λ (z : World). slice_get z.harts zero) lacks.leaves in
       let is : ended ends.Memory lacks.first ≡ b = cc in
@@ -155,14 +155,14 @@ module _ (laws : FrameLaws) (w : Setting) (only : AcceptsOnly w.machine) where
 
   -- the final destructors
   module _ (registers : Registers) (old new : World) (x : Before w old) where
-    within : (begun : World) → IsTrue (have_exited old) → Begins registers old begun → Within w begun
+    within : (begun : World) → IsTrue (harts_have_exited old) → RunBegins registers old begun → Within w begun
     within begun exited begins = record {
       sound = sound_next old begun x.sound (Steps.by_beginning registers exited begins);
       finals = laws.finals_begin w registers old begun exited begins x.before;
       belong = laws.begin w registers old begun exited begins x.before;
     }
 
-    destructors_keep : (begun : World) → IsTrue (have_exited old) → Begins registers old begun → (ends : Ends w begun new) → (world : World) → Contains (begun ∷ of_destructors ends) world → Within w world
+    destructors_keep : (begun : World) → IsTrue (harts_have_exited old) → RunBegins registers old begun → (ends : RunEnds w begun new) → (world : World) → Contains (begun ∷ of_destructors ends) world → Within w world
     destructors_keep begun exited begins ends = all_keep (Within w) (of_destructors ends) begun new
         (destructors_lead w (λ one other. Within w one → Within w other) turn_within same_within ends) (within begun exited begins)
 

@@ -14,7 +14,7 @@ use Rattle.history_state.specs.Lemmas.Lists.{from_map, none_in, only_in}
 use Rattle.history_calls.specs.Answer.{Answer, returns, loading, closing, refused, granted, told, again, over}
 use Rattle.history_calls.specs.Call.{Call, resolves}
 use Rattle.history_calls.specs.Functions.{passed}
-use Rattle.history_calls.specs.Gives.{Answers, Gives, Serves, ending}
+use Rattle.history_calls.specs.Gives.{EventAnswers, Gives, Serves, ending}
 use Rattle.hart_moves.specs.Due.{Return}
 use Rattle.hart_moves.specs.Harts.{HartState, Offered, Purpose}
 use Rattle.hart_moves.specs.Moves.{Calls, Did, Finals, Resolves, Takes, TellsOf, events_of, own_fini, passing}
@@ -86,16 +86,16 @@ module _ (w : Setting) (past : List Event) (h : ℕ) (b : HartState) (number har
   not_it : {P : Type 0} (e : Event) → is_grant e ≡ false → e ≡ grant → P
   not_it e none same = absurd (true≢false (sym (ap is_grant same) ∙ none))
 
-  answered : (call : Call) (e : Event) (answer : Answer) → Answers h call e answer → e ≡ grant → IsGranting call answer
-  answered call e answer (Answers.is_loaded ask id root first rest ranges) same = not_it e refl same
-  answered call e answer (Answers.is_there ask id root ranges) same = not_it e refl same
-  answered call e answer (Answers.is_absent ask) same = not_it e refl same
-  answered call e answer (Answers.is_not_opened ask fault) same = not_it e refl same
-  answered call e answer (Answers.dies handle first rest) same = not_it e refl same
-  answered call e answer (Answers.stays handle) same = not_it e refl same
-  answered call e answer (Answers.is_not_closed handle fault) same = not_it e refl same
-  answered call e answer (Answers.is_unmapped set) same = not_it e refl same
-  answered call e answer (Answers.is_granted own eights at n chose v eight) same =
+  answered : (call : Call) (e : Event) (answer : Answer) → EventAnswers h call e answer → e ≡ grant → IsGranting call answer
+  answered call e answer (EventAnswers.is_loaded ask id root first rest ranges) same = not_it e refl same
+  answered call e answer (EventAnswers.is_there ask id root ranges) same = not_it e refl same
+  answered call e answer (EventAnswers.is_absent ask) same = not_it e refl same
+  answered call e answer (EventAnswers.is_not_opened ask fault) same = not_it e refl same
+  answered call e answer (EventAnswers.dies handle first rest) same = not_it e refl same
+  answered call e answer (EventAnswers.stays handle) same = not_it e refl same
+  answered call e answer (EventAnswers.is_not_closed handle fault) same = not_it e refl same
+  answered call e answer (EventAnswers.is_unmapped set) same = not_it e refl same
+  answered call e answer (EventAnswers.is_granted own eights at n chose v eight) same =
       let owners : own ≡ owner = cc in
       let slots : at ≡ slot = cc in
       let harts : h ≡ hart = cc in
@@ -109,12 +109,12 @@ module _ (w : Setting) (past : List Event) (h : ℕ) (b : HartState) (number har
         number_is = numbers;
         value_is = values;
       }
-  answered call e answer (Answers.is_unresolved own eights at eight) same = not_it e refl same
-  answered call e answer (Answers.is_not_code own eights at serial index eight) same = not_it e refl same
-  answered call e answer (Answers.is_found ask serial index v) same = not_it e refl same
-  answered call e answer (Answers.is_not_found ask fault) same = not_it e refl same
-  answered call e answer (Answers.is_told fault) same = not_it e refl same
-  answered call e answer (Answers.is_written bytes) same = not_it e refl same
+  answered call e answer (EventAnswers.is_unresolved own eights at eight) same = not_it e refl same
+  answered call e answer (EventAnswers.is_not_code own eights at serial index eight) same = not_it e refl same
+  answered call e answer (EventAnswers.is_found ask serial index v) same = not_it e refl same
+  answered call e answer (EventAnswers.is_not_found ask fault) same = not_it e refl same
+  answered call e answer (EventAnswers.is_told fault) same = not_it e refl same
+  answered call e answer (EventAnswers.is_written bytes) same = not_it e refl same
 
   given_grants : (call : Call) (given : List Event) (answer : Answer) → Gives w past h call given answer → Contains given grant → IsGranting call answer
   given_grants call given answer (Gives.by_event _ e _ answers may) there = answered call e answer answers (only_in e grant there)

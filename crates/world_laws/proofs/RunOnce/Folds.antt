@@ -21,7 +21,7 @@ use Rattle.hart_moves.specs.Starting.{finalising_hart}
 use Rattle.hart_moves.specs.Lemmas.Legality.{ended_stays}
 use Rattle.world_turns.specs.declared.schedules.schedule.TurnItem.{TurnItem}
 use Rattle.world_turns.specs.Laws.{FinalsBeginSound, TurnsAreSound}
-use Rattle.world_turns.specs.Run.{Begins, Constructs, Ends, Finalises, Finishes, LacksMemory, Repeats, Rounds, TakesItems, all_harts, exit_code}
+use Rattle.world_turns.specs.Run.{RunBegins, Constructs, RunEnds, Finalises, RunFinishes, LacksMemory, Repeats, Rounds, TakesItems, all_harts, exit_code}
 use Rattle.world_turns.specs.Sound.{Sound}
 use Rattle.world_turns.specs.Turn.{TakesTurn, Turn}
 use Rattle.world_turns.specs.World.{World, found_journal, settling}
@@ -80,15 +80,15 @@ module _ (w : Setting) where
   rounds_grow harts old new (Rounds.no_more _) = stays old
   rounds_grow harts old new (Rounds.one_more h rest _ between _ t more) = both old between new (takes_grow h old between t) (rounds_grow rest between new more)
 
-  pub finishes_grow : (old new : World) → Finishes w old new → Grows old new
-  finishes_grow old new (Finishes.no_more _ all) = stays old
-  finishes_grow old new (Finishes.one_more _ between _ runs round more) = both old between new (rounds_grow (all_harts old) old between round) (finishes_grow between new more)
+  pub finishes_grow : (old new : World) → RunFinishes w old new → Grows old new
+  finishes_grow old new (RunFinishes.no_more _ all) = stays old
+  finishes_grow old new (RunFinishes.one_more _ between _ runs round more) = both old between new (rounds_grow (all_harts old) old between round) (finishes_grow between new more)
 
-  ends_grow : (old new : World) → Ends w old new → Grows old new
-  ends_grow old new (Ends.no_more _ all) = stays old
-  ends_grow old new (Ends.one_more _ between _ runs t more) = both old between new (turn_grows w 0 old between t) (ends_grow between new more)
+  ends_grow : (old new : World) → RunEnds w old new → Grows old new
+  ends_grow old new (RunEnds.no_more _ all) = stays old
+  ends_grow old new (RunEnds.one_more _ between _ runs t more) = both old between new (turn_grows w 0 old between t) (ends_grow between new more)
 
-  begins_grow : (registers : Registers) (old new : World) → Begins registers old new → Grows old new
+  begins_grow : (registers : Registers) (old new : World) → RunBegins registers old new → Grows old new
   begins_grow registers old new x = record { more = []; is = ap (λ (y : World). y.journal) x.begun ∙ sym (append-nil old.journal) }
 
   lacks_grow : (old new : World) → LacksMemory w old new → Grows old new
@@ -120,7 +120,7 @@ head_same a b xs ys e = let same : a ∷ xs ≡ b ∷ ys = e in cc
 tail_same : {X : Type 0} (a b : X) (xs ys : List X) → a ∷ xs ≡ b ∷ ys → xs ≡ ys
 tail_same a b xs ys e = let same : a ∷ xs ≡ b ∷ ys = e in cc
 
-begins_once : (registers : Registers) (old new other : World) → Begins registers old new → Begins registers old other → new ≡ other
+begins_once : (registers : Registers) (old new other : World) → RunBegins registers old new → RunBegins registers old other → new ≡ other
 begins_once registers old new other x y =
     let first : x.first ≡ y.first = head_same x.first y.first x.others y.others (sym x.harts ∙ y.harts) in
     let others : x.others ≡ y.others = tail_same x.first y.first x.others y.others (sym x.harts ∙ y.harts) in
@@ -198,23 +198,23 @@ module _ (laws : TurnLaws) (w : Setting) (files : List File) (files_are : w.file
   sound_rounds harts old new x (Rounds.no_more _) = x
   sound_rounds harts old new x (Rounds.one_more h rest _ between _ s more) = sound_rounds rest between new (sound_takes h old between x s) more
 
-  pub finishes_once : (old new other : World) → Sound w old → Finishes w old new → Finishes w old other → HasNotFailed new → HasNotFailed other → new ≡ other
-  finishes_once old new other x (Finishes.no_more _ all) (Finishes.no_more _ over) none nor = refl
-  finishes_once old new other x (Finishes.no_more _ all) (Finishes.one_more _ between _ runs s more) none nor = absurd (true≢false (sym all ∙ runs))
-  finishes_once old new other x (Finishes.one_more _ between _ runs s more) (Finishes.no_more _ all) none nor = absurd (true≢false (sym all ∙ runs))
-  finishes_once old new other x (Finishes.one_more _ between _ runs s more) (Finishes.one_more _ middle _ goes t others) none nor =
+  pub finishes_once : (old new other : World) → Sound w old → RunFinishes w old new → RunFinishes w old other → HasNotFailed new → HasNotFailed other → new ≡ other
+  finishes_once old new other x (RunFinishes.no_more _ all) (RunFinishes.no_more _ over) none nor = refl
+  finishes_once old new other x (RunFinishes.no_more _ all) (RunFinishes.one_more _ between _ runs s more) none nor = absurd (true≢false (sym all ∙ runs))
+  finishes_once old new other x (RunFinishes.one_more _ between _ runs s more) (RunFinishes.no_more _ all) none nor = absurd (true≢false (sym all ∙ runs))
+  finishes_once old new other x (RunFinishes.one_more _ between _ runs s more) (RunFinishes.one_more _ middle _ goes t others) none nor =
       let same : between ≡ middle = rounds_once (all_harts old) old between middle x s t (none_yet between new (finishes_grow w between new more) none) (none_yet middle other (finishes_grow w middle other others) nor) in
-      finishes_once between new other (sound_rounds (all_harts old) old between x s) more (subst (λ (y : World). Finishes w y other) (sym same) others) none nor
+      finishes_once between new other (sound_rounds (all_harts old) old between x s) more (subst (λ (y : World). RunFinishes w y other) (sym same) others) none nor
 
-  ends_once : (old new other : World) → Sound w old → Ends w old new → Ends w old other → HasNotFailed new → HasNotFailed other → new ≡ other
-  ends_once old new other x (Ends.no_more _ all) (Ends.no_more _ over) none nor = refl
-  ends_once old new other x (Ends.no_more _ all) (Ends.one_more _ between _ runs s more) none nor = absurd (true≢false (sym all ∙ runs))
-  ends_once old new other x (Ends.one_more _ between _ runs s more) (Ends.no_more _ all) none nor = absurd (true≢false (sym all ∙ runs))
-  ends_once old new other x (Ends.one_more _ between _ runs s more) (Ends.one_more _ middle _ goes t others) none nor =
+  ends_once : (old new other : World) → Sound w old → RunEnds w old new → RunEnds w old other → HasNotFailed new → HasNotFailed other → new ≡ other
+  ends_once old new other x (RunEnds.no_more _ all) (RunEnds.no_more _ over) none nor = refl
+  ends_once old new other x (RunEnds.no_more _ all) (RunEnds.one_more _ between _ runs s more) none nor = absurd (true≢false (sym all ∙ runs))
+  ends_once old new other x (RunEnds.one_more _ between _ runs s more) (RunEnds.no_more _ all) none nor = absurd (true≢false (sym all ∙ runs))
+  ends_once old new other x (RunEnds.one_more _ between _ runs s more) (RunEnds.one_more _ middle _ goes t others) none nor =
       let same : between ≡ middle = turn_once 0 old between middle x s t (none_yet between new (ends_grow w between new more) none) (none_yet middle other (ends_grow w middle other others) nor) in
-      ends_once between new other (sound_turn 0 old between x s) more (subst (λ (y : World). Ends w y other) (sym same) others) none nor
+      ends_once between new other (sound_turn 0 old between x s) more (subst (λ (y : World). RunEnds w y other) (sym same) others) none nor
 
-  no_first : (registers : Registers) (old new : World) → all_finis (after old.journal) ≡ [] → Begins registers old new → ⊥
+  no_first : (registers : Registers) (old new : World) → all_finis (after old.journal) ≡ [] → RunBegins registers old new → ⊥
   no_first registers old new none x = let no : [] ≡ x.object ∷ x.rest = sym none ∙ x.next in cc
 
   pub finals_once : (registers : Registers) (old new other : World) → Sound w old → Finalises w registers old new → Finalises w registers old other → HasNotFailed new → HasNotFailed other → new ≡ other
@@ -232,7 +232,7 @@ module _ (laws : TurnLaws) (w : Setting) (files : List File) (files_are : w.file
   finals_once registers old new other x (Finalises.all_run begun exited begin run) (Finalises.no_memory over lack) none nor = absurd (lacks_none w old other lack nor)
   finals_once registers old new other x (Finalises.all_run begun exited begin run) (Finalises.all_run first over starts goes) none nor =
       let same : begun ≡ first = begins_once registers old begun first begin starts in
-      ends_once begun new other (laws.begins w registers old begun begin x) run (subst (λ (y : World). Ends w y other) (sym same) goes) none nor
+      ends_once begun new other (laws.begins w registers old begun begin x) run (subst (λ (y : World). RunEnds w y other) (sym same) goes) none nor
 
   pub sound_constructs : (old new : World) → Sound w old → Constructs w old new → Sound w new
   sound_constructs old new x (Constructs.no_more _ stop) = x
@@ -242,6 +242,6 @@ module _ (laws : TurnLaws) (w : Setting) (files : List File) (files_are : w.file
   sound_items items old new x (TakesItems.no_more _) = x
   sound_items items old new x (TakesItems.one_more item rest _ between _ s more) = sound_items rest between new (sound_repeats item.hart item.count old between x s) more
 
-  pub sound_finishes : (old new : World) → Sound w old → Finishes w old new → Sound w new
-  sound_finishes old new x (Finishes.no_more _ all) = x
-  sound_finishes old new x (Finishes.one_more _ between _ runs s more) = sound_finishes between new (sound_rounds (all_harts old) old between x s) more
+  pub sound_finishes : (old new : World) → Sound w old → RunFinishes w old new → Sound w new
+  sound_finishes old new x (RunFinishes.no_more _ all) = x
+  sound_finishes old new x (RunFinishes.one_more _ between _ runs s more) = sound_finishes between new (sound_rounds (all_harts old) old between x s) more

@@ -9,7 +9,7 @@ use Rattle.history_calls.specs.declared.link_served.startup.Setup.{Setup}
 use Rattle.rv_hart.specs.declared.doubleword.Doubleword.{Doubleword}
 use Rattle.history_state.specs.Accepted.{AcceptsOnly}
 use Rattle.history_state.specs.Setting.{Setting}
-use Rattle.history_state.specs.State.{start}
+use Rattle.history_state.specs.State.{empty_state}
 use Rattle.history_calls.specs.Laws.{StartsOneWay}
 use Rattle.history_calls.specs.Lemmas.Unique.{both_found}
 use Rattle.hart_moves.specs.Harts.{HartState}
@@ -19,7 +19,7 @@ use Rattle.world_laws.specs.TurnOnce.Laws.{OneTurn}
 use Rattle.world_laws.specs.TurnOnce.Lemmas.Memory.{all_remade, same_words}
 use Rattle.world_turns.specs.Laws.{FinalsBeginSound, StartIsSound, TurnsAreSound}
 use Rattle.world_turns.specs.Memory.{RemakesAll}
-use Rattle.world_turns.specs.Run.{Constructs, Finalises, Finishes, IsStarted, Run, TakesItems, settled}
+use Rattle.world_turns.specs.Run.{Constructs, Finalises, RunFinishes, IsStarted, Run, TakesItems, settled}
 use Rattle.world_turns.specs.Sound.{Sound}
 use Rattle.world_turns.specs.World.{World, settling}
 use Rattle.world_laws.specs.RunOnce.Laws.{OneRun}
@@ -29,7 +29,7 @@ pub record RunLaws : Type 0 where
   pub turn : OneTurn
   pub sound : TurnsAreSound
   pub begins : FinalsBeginSound
-  pub start : StartIsSound
+  pub empty_state : StartIsSound
   pub starts : StartsOneWay
 
 -- ---- the start
@@ -42,8 +42,8 @@ module _ (laws : RunLaws) (w : Setting) (setup : Setup) (files : List File) (fil
   fresh_same = same_words x.fresh y.fresh x.are_fresh.all y.are_fresh.all (λ a is. x.are_fresh.each a is ∙ sym (y.are_fresh.each a is))
 
   words_same : one.words ≡ other.words
-  words_same = all_remade start one.journal x.fresh one.words other.words x.are_fresh.all x.words
-      (subst (λ (es : List Event). RemakesAll start es x.fresh other.words) (sym way.0) (subst (λ (ws : List Doubleword). RemakesAll start other.journal ws other.words) (sym fresh_same) y.words))
+  words_same = all_remade empty_state one.journal x.fresh one.words other.words x.are_fresh.all x.words
+      (subst (λ (es : List Event). RemakesAll empty_state es x.fresh other.words) (sym way.0) (subst (λ (ws : List Doubleword). RemakesAll empty_state other.journal ws other.words) (sym fresh_same) y.words))
 
   harts_same : one.harts ≡ other.harts
   harts_same = x.harts ∙ ap (λ (fs : List Function). starting_harts setup.fuel fs x.started.entries) way.1 ∙ ap (λ (es : List HartEntry). starting_harts setup.fuel y.started.functions es) way.2 ∙ sym y.harts
@@ -101,7 +101,7 @@ module _ (laws : RunLaws) (w : Setting) (setup : Setup) (items : List TurnItem) 
 
   finished : x.finished ≡ y.finished
   finished = finishes_once turns w files files_are only x.scheduled x.finished y.finished sound_scheduled x.finishes
-      (subst (λ (z : World). Finishes w z y.finished) (sym scheduled) y.finishes) (none_finished world x none) (none_finished other y nor)
+      (subst (λ (z : World). RunFinishes w z y.finished) (sym scheduled) y.finishes) (none_finished world x none) (none_finished other y nor)
 
   sound_finished : Sound w x.finished
   sound_finished = sound_finishes turns w files files_are only x.scheduled x.finished sound_scheduled x.finishes

@@ -17,7 +17,7 @@ use Rattle.history_state.specs.State.{State}
 use Rattle.history_calls.specs.Answer.{Answer, returns, loading, closing, refused, granted, told, again, over}
 use Rattle.history_calls.specs.Call.{Call, resolves, opens, looks_up, closes, unmaps, asks_fault, locates, writes, stops}
 use Rattle.history_calls.specs.Functions.{passed}
-use Rattle.history_calls.specs.Gives.{Answers, Gives, ending}
+use Rattle.history_calls.specs.Gives.{EventAnswers, Gives, ending}
 use Rattle.history_calls.specs.Laws.{OneAnswer, OneOpening, is_chance, is_memory, is_read_fault}
 use Rattle.history_calls.specs.Lemmas.OneOrder.{one_finalisation, one_initialisation}
 use Rattle.hart_moves.specs.Due.{Return}
@@ -60,22 +60,22 @@ not_found s h ask fault (RefusesSymbol.bad_handle short nonzero none) = refl
 not_found s h ask fault (RefusesSymbol.missing short found) = refl
 not_found s h ask fault (RefusesSymbol.no_room serial index pages short found storage none) = refl
 
-answer_safe : (w : Setting) (past : List Event) (h : ℕ) (call : Call) (e : Event) (answer : Answer) → Answers h call e answer → Allowed w past e → is_from_outside e ≡ false → IsSafe answer
-answer_safe w past h call e answer (Answers.is_loaded ask id root first rest ranges) may none = tt
-answer_safe w past h call e answer (Answers.is_there ask id root ranges) may none = tt
-answer_safe w past h call e answer (Answers.is_absent ask) may none = tt
-answer_safe w past h call e answer (Answers.is_not_opened ask fault) may none = none
-answer_safe w past h call e answer (Answers.dies handle first rest) may none = tt
-answer_safe w past h call e answer (Answers.stays handle) may none = tt
-answer_safe w past h call e answer (Answers.is_not_closed handle fault) may none = ap is_read_fault may.is
-answer_safe w past h call e answer (Answers.is_unmapped set) may none = tt
-answer_safe w past h call e answer (Answers.is_granted owner eights slot number choice value is) may none = tt
-answer_safe w past h call e answer (Answers.is_unresolved owner eights slot is) may none = tt
-answer_safe w past h call e answer (Answers.is_not_code owner eights slot serial index is) may none = tt
-answer_safe w past h call e answer (Answers.is_found ask serial index value) may none = tt
-answer_safe w past h call e answer (Answers.is_not_found ask fault) may none = not_found (after past) h ask fault may.1
-answer_safe w past h call e answer (Answers.is_told fault) may none = tt
-answer_safe w past h call e answer (Answers.is_written bytes) may none = tt
+answer_safe : (w : Setting) (past : List Event) (h : ℕ) (call : Call) (e : Event) (answer : Answer) → EventAnswers h call e answer → Allowed w past e → is_from_outside e ≡ false → IsSafe answer
+answer_safe w past h call e answer (EventAnswers.is_loaded ask id root first rest ranges) may none = tt
+answer_safe w past h call e answer (EventAnswers.is_there ask id root ranges) may none = tt
+answer_safe w past h call e answer (EventAnswers.is_absent ask) may none = tt
+answer_safe w past h call e answer (EventAnswers.is_not_opened ask fault) may none = none
+answer_safe w past h call e answer (EventAnswers.dies handle first rest) may none = tt
+answer_safe w past h call e answer (EventAnswers.stays handle) may none = tt
+answer_safe w past h call e answer (EventAnswers.is_not_closed handle fault) may none = ap is_read_fault may.is
+answer_safe w past h call e answer (EventAnswers.is_unmapped set) may none = tt
+answer_safe w past h call e answer (EventAnswers.is_granted owner eights slot number choice value is) may none = tt
+answer_safe w past h call e answer (EventAnswers.is_unresolved owner eights slot is) may none = tt
+answer_safe w past h call e answer (EventAnswers.is_not_code owner eights slot serial index is) may none = tt
+answer_safe w past h call e answer (EventAnswers.is_found ask serial index value) may none = tt
+answer_safe w past h call e answer (EventAnswers.is_not_found ask fault) may none = not_found (after past) h ask fault may.1
+answer_safe w past h call e answer (EventAnswers.is_told fault) may none = tt
+answer_safe w past h call e answer (EventAnswers.is_written bytes) may none = tt
 
 given_safe : (w : Setting) (past : List Event) (h : ℕ) (call : Call) (given : List Event) (answer : Answer) → Gives w past h call given answer → NothingFails given → IsSafe answer
 given_safe w past h call given answer (Gives.by_event _ e _ answers may) none = answer_safe w past h call e answer answers may (or_parts (is_from_outside e) false none).0

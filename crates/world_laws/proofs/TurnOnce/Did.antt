@@ -13,7 +13,7 @@ use Rattle.rv_hart.specs.declared.stepping.Stop.TheVariants as stop
 use Rattle.rv_hart.specs.Trail.{Place, Ready, Accessing, Stopped}
 use Rattle.hart_moves.specs.Copying.{Copy, first_left}
 use Rattle.hart_moves.specs.Harts.{HartState}
-use Rattle.hart_moves.specs.Moves.{Comes, CopiesBy, Did, Refuses, StoresBy, Stops, Trap, Traps, Unread, role_end, trap_of}
+use Rattle.hart_moves.specs.Moves.{Comes, CopiesBy, Did, TurnRefuses, StoresBy, TurnStops, Trap, Traps, Unread, role_end, trap_of}
 
 abbrev ended_by : ℕ → List Item → HartEnd → Did
 ended_by h items reason = Did.serves items (Ended h reason ∷ [])
@@ -65,12 +65,12 @@ module _ (w : Setting) (past : List Event) (h : ℕ) (b : HartState) where
   trap_is items (Trap.gives value) did c x = x.is
   trap_is items Trap.writes did c x = x.is
 
-  refusal_is : (items : List Item) (address : ℕ) (fault : BusFault) (did : Did) (c : HartState) → Refuses w past h b items address fault did c → did ≡ did_refusal h b items address fault
+  refusal_is : (items : List Item) (address : ℕ) (fault : BusFault) (did : Did) (c : HartState) → TurnRefuses w past h b items address fault did c → did ≡ did_refusal h b items address fault
   refusal_is items address (RoleFault role) did c x = x.is
   refusal_is items address Misaligned did c x = x.is
   refusal_is items address (Again shown) did c x = x.is
 
-  stop_is : (items : List Item) (s : Stop) (did : Did) (c : HartState) → Stops w past h b items s did c → did ≡ did_stop h b items s
+  stop_is : (items : List Item) (s : Stop) (did : Did) (c : HartState) → TurnStops w past h b items s did c → did ≡ did_stop h b items s
   stop_is items stop.Ecall did c x = trap_is items (trap_of b.registers) did c x
   stop_is items stop.Break did c x = x.is
   stop_is items (stop.Bad word) did c x = x.is

@@ -23,7 +23,7 @@ use Rattle.hart_moves.specs.Moves.{AreAllowed, events_of}
 use Rattle.hart_moves.specs.Starting.{starting_registers}
 use Rattle.world_turns.specs.Laws.{FinalsBeginSound, FinalsLackSound, SettlingIsSound, TurnsAreSound}
 use Rattle.world_turns.specs.Memory.{doubleword, memory_of}
-use Rattle.world_turns.specs.Run.{Begins, Ends, Finalises, LacksMemory, settled}
+use Rattle.world_turns.specs.Run.{RunBegins, RunEnds, Finalises, LacksMemory, settled}
 use Rattle.world_turns.specs.Sound.{Sound}
 use Rattle.world_turns.specs.Turn.{Turn}
 use Rattle.world_turns.specs.World.{World, settling}
@@ -144,7 +144,7 @@ module _ (keeps : TurnsKeepSlots) (w : Setting) (only : AcceptsOnly w.machine) (
   taken_still : (old new : World) → Stays old new → IsTaken old → IsTaken new
   taken_still old new x taken lazy = taken (sym x.value ∙ lazy ∙ x.lazy)
 
-  begun_stays : (registers : Registers) (old new : World) → Begins registers old new → Stays old new
+  begun_stays : (registers : Registers) (old new : World) → RunBegins registers old new → Stays old new
   begun_stays registers old new x = subst (Stays old) (sym x.begun) (record { value = refl; lazy = refl })
 
   lacking_stays : (old new : World) → LacksMemory w old new → Stays old new
@@ -186,9 +186,9 @@ module _ (w : Setting) (begin : World) where
   a_turn : (h : ℕ) (old new : World) → Later w begin old → Turn w h old new → Later w begin new
   a_turn h old new later t = behind begin old new later (Steps.by_turn h t)
 
-ends_later : (w : Setting) (old new : World) → Ends w old new → Later w old new
-ends_later w old new (Ends.no_more _ all) = Later.no_more old
-ends_later w old new (Ends.one_more _ between _ runs t more) = Later.one_more old between new (Steps.by_turn 0 t) (ends_later w between new more)
+ends_later : (w : Setting) (old new : World) → RunEnds w old new → Later w old new
+ends_later w old new (RunEnds.no_more _ all) = Later.no_more old
+ends_later w old new (RunEnds.one_more _ between _ runs t more) = Later.one_more old between new (Steps.by_turn 0 t) (ends_later w between new more)
 
 finals_later : (w : Setting) (registers : Registers) (old new : World) → Finalises w registers old new → Later w old new
 finals_later w registers old new (Finalises.none_runs exited same) = subst (Later w old) (sym same) (Later.no_more old)

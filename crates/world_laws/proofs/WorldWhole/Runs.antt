@@ -11,7 +11,7 @@ use Rattle.history_state.specs.Accepted.{AcceptsOnly}
 use Rattle.history_state.specs.After.{after}
 use Rattle.history_state.specs.Laws.{slot_address}
 use Rattle.history_state.specs.Legal.{Lawful, Settled}
-use Rattle.history_state.specs.Memory.{word_at}
+use Rattle.history_state.specs.Memory.{first_word_at}
 use Rattle.history_state.specs.Objects.{IsMapped}
 use Rattle.history_state.specs.Setting.{Machine, Setting}
 use Rattle.history_state.specs.Slots.{value_at_load}
@@ -69,7 +69,7 @@ module _ (s : State) (known : Known s) (won : List ℕ) (none_open : (g : Granti
         took = inl bound;
       }
 
-  at_load : (value : Option ℕ) → value_at_load s g.owner g.slot ≡ value → saw ≡ word_at s a → Settled s g saw
+  at_load : (value : Option ℕ) → value_at_load s g.owner g.slot ≡ value → saw ≡ first_word_at s a → Settled s g saw
   at_load None got is = absurd (taken (is ∙ first_lazy s known.mapped known.begins a word g.owner g.slot at got))
   at_load (Some value) got is = inl (got ∙ ap (λ (v : ℕ). Some v) (sym (is ∙ first_bound s known.mapped known.begins a word g.owner g.slot fit at value got)))
 

@@ -27,7 +27,7 @@ use Rattle.hart_moves.specs.Moves.{AreAllowed, IsOffer, events_of, settles}
 use Rattle.hart_moves.specs.Lemmas.Legality.{turns_allowed, turns_own}
 use Rattle.world_turns.specs.Laws.{TurnsAreSound}
 use Rattle.world_turns.specs.Memory.{doubleword}
-use Rattle.world_turns.specs.Run.{Begins, LacksMemory, settled}
+use Rattle.world_turns.specs.Run.{RunBegins, LacksMemory, settled}
 use Rattle.world_turns.specs.Sound.{Fits, HasExchanged, Sound}
 use Rattle.world_turns.specs.Turn.{Turn}
 use Rattle.world_turns.specs.World.{World, found_journal, settling}
@@ -148,7 +148,7 @@ turns_keep_seen know load serials turns slots w h old new only sound turn sees =
 
 -- ---- the final destructors begin, or lack memory
 
-pub begins_sees : (registers : Registers) (old new : World) → Begins registers old new → SeesSlots old → SeesSlots new
+pub begins_sees : (registers : Registers) (old new : World) → RunBegins registers old new → SeesSlots old → SeesSlots new
 begins_sees registers old new x sees = subst SeesSlots (sym x.begun) sees
 
 -- an end changes nothing of it

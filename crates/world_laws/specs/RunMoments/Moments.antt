@@ -5,7 +5,7 @@ use Rattle.history_calls.specs.declared.link_served.startup.Setup.{Setup}
 use Rattle.rv_hart.specs.Registers.{Registers}
 use Rattle.history_state.specs.Setting.{Setting}
 use Rattle.world_turns.specs.declared.schedules.schedule.TurnItem.{TurnItem}
-use Rattle.world_turns.specs.Run.{Constructs, Ends, Finalises, Finishes, Repeats, Rounds, Run, TakesItems}
+use Rattle.world_turns.specs.Run.{Constructs, RunEnds, Finalises, RunFinishes, Repeats, Rounds, Run, TakesItems}
 use Rattle.world_turns.specs.World.{World}
 
 -- ---- the parts of a run: a world behind each turn
@@ -27,13 +27,13 @@ abbrev pub of_round : {w : Setting} {harts : List ℕ} {old new : World} → Rou
 of_round (Rounds.no_more world) = []
 of_round (Rounds.one_more h rest old between new taken more) = between ∷ of_round more
 
-abbrev pub of_rounds : {w : Setting} {old new : World} → Finishes w old new → List World
-of_rounds (Finishes.no_more world over) = []
-of_rounds (Finishes.one_more old between new runs round more) = of_round round ++ of_rounds more
+abbrev pub of_rounds : {w : Setting} {old new : World} → RunFinishes w old new → List World
+of_rounds (RunFinishes.no_more world over) = []
+of_rounds (RunFinishes.one_more old between new runs round more) = of_round round ++ of_rounds more
 
-abbrev pub of_destructors : {w : Setting} {old new : World} → Ends w old new → List World
-of_destructors (Ends.no_more world over) = []
-of_destructors (Ends.one_more old between new runs taken more) = between ∷ of_destructors more
+abbrev pub of_destructors : {w : Setting} {old new : World} → RunEnds w old new → List World
+of_destructors (RunEnds.no_more world over) = []
+of_destructors (RunEnds.one_more old between new runs taken more) = between ∷ of_destructors more
 
 -- one more where the final destructors begin, or lack memory
 abbrev pub of_finals : {w : Setting} {registers : Registers} {old new : World} → Finalises w registers old new → List World

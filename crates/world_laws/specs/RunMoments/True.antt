@@ -29,7 +29,7 @@ use Rattle.history_state.specs.Changes.{taken}
 use Rattle.history_state.specs.Laws.{BlocksAreApart, GrantsAreHeld, ImagesAreMapped, slot_address}
 use Rattle.history_state.specs.Legal.{Legal}
 use Rattle.history_state.specs.Lookup.{is_storage_symbol, symbol_value}
-use Rattle.history_state.specs.Memory.{covers, image_at, role_at, word_at}
+use Rattle.history_state.specs.Memory.{covers, image_at, role_at, first_word_at}
 use Rattle.history_state.specs.Objects.{IsMapped}
 use Rattle.history_state.specs.Setting.{Setting}
 use Rattle.history_state.specs.Slots.{value_at_load}
@@ -144,9 +144,9 @@ GrantsInCalls w h old new turn = (number hart owner slot value : ℕ) (choice : 
 -- the first word of a slot: the value that it got when its object was loaded, if it got one, and else the lazy one
 pub record HaveFirstWords (s : State) : Type 0 where
   pub at_load : (i : Linked) (slot value : ℕ) (r : Reloc) → Contains s.images i → slice_get i.object.plt_relocs slot ≡ Some r
-      → value_at_load s i.serial slot ≡ Some value → word_at s (slot_address i r) ≡ value
+      → value_at_load s i.serial slot ≡ Some value → first_word_at s (slot_address i r) ≡ value
   pub lazy : (i : Linked) (slot : ℕ) (r : Reloc) → Contains s.images i → slice_get i.object.plt_relocs slot ≡ Some r → value_at_load s i.serial slot ≡ None
-      → word_at s (slot_address i r) ≡ moved_word i.object i.base r.place
+      → first_word_at s (slot_address i r) ≡ moved_word i.object i.base r.place
 
 -- ---- thread-local storage
 

@@ -23,7 +23,7 @@ use Rattle.hart_moves.specs.Copying.{Copy, first_left, text_words}
 use Rattle.hart_moves.specs.Due.{Due, Return, by_phase, by_resolving, call_of, due}
 use Rattle.hart_moves.specs.Harts.{Frame, HartState, Purpose, Resolving}
 use Rattle.hart_moves.specs.Moves.{Did, did_by, final_functions, freed, freed_by, own_fini, returning, runs, settled_resolving, settles, spent, stack_start, telling, trap_of, Trap}
-use Rattle.hart_moves.specs.Moves.{Calls, Comes, Completes, Copies, CopiesBy, Ends, EndsObject, Finalises, Goes, Instructs, MovesAs, Passes, Refuses, Stops, StoresBy, StoresText, Takes, TellsOf, Traps, Unread}
+use Rattle.hart_moves.specs.Moves.{Calls, Comes, Completes, Copies, CopiesBy, TurnEnds, EndsObject, Finalises, Goes, Instructs, MovesAs, Passes, TurnRefuses, TurnStops, StoresBy, StoresText, Takes, TellsOf, Traps, Unread}
 use Rattle.world_memory.specs.TurnParts.Freed.{FreedIsDue, FreedMoves, FreedTakesTurns}
 
 -- ---- settled twice
@@ -62,10 +62,10 @@ module _ (w : Setting) (past : List Event) (h : ℕ) (b : HartState) (did : Did)
   goes_not : (items : List Item) (x : HartState) → Goes items x did c → ⊥
   goes_not items x goes = not_quiet items goes.is
 
-  ending : (items : List Item) (reason : HartEnd) → Ends w past h (freed b) items reason did c → Ends w past h b items reason did c
+  ending : (items : List Item) (reason : HartEnd) → TurnEnds w past h (freed b) items reason did c → TurnEnds w past h b items reason did c
   ending items reason x = record { may = x.may; is = x.is; leaves = x.leaves ∙ ap (λ (y : HartState). record y { «end» = Some reason }) (freed_twice b) }
 
-  ending_spent : (items : List Item) (reason : HartEnd) → Ends w past h (spent (freed b)) items reason did c → Ends w past h (spent b) items reason did c
+  ending_spent : (items : List Item) (reason : HartEnd) → TurnEnds w past h (spent (freed b)) items reason did c → TurnEnds w past h (spent b) items reason did c
   ending_spent items reason x = record { may = x.may; is = x.is; leaves = x.leaves ∙ ap (λ (r : Resolving). record (spent b) { resolving = r; «end» = Some reason }) (settled_twice b.resolving) }
 
   -- ---- an instruction
@@ -75,12 +75,12 @@ module _ (w : Setting) (past : List Event) (h : ℕ) (b : HartState) (did : Did)
   traps items (Trap.gives value) x = absurd (goes_not items _ x)
   traps items Trap.writes x = absurd (goes_not items _ x)
 
-  refuses : (items : List Item) (address : ℕ) (fault : BusFault) → Refuses w past h (freed b) items address fault did c → Refuses w past h b items address fault did c
+  refuses : (items : List Item) (address : ℕ) (fault : BusFault) → TurnRefuses w past h (freed b) items address fault did c → TurnRefuses w past h b items address fault did c
   refuses items address (RoleFault role) x = ending_spent items _ x
   refuses items address Misaligned x = ending_spent items _ x
   refuses items address (Again shown) x = absurd (goes_not items _ x)
 
-  stops : (items : List Item) (s : Stop) → Stops w past h (freed b) items s did c → Stops w past h b items s did c
+  stops : (items : List Item) (s : Stop) → TurnStops w past h (freed b) items s did c → TurnStops w past h b items s did c
   stops items stop.Ecall x = traps items (trap_of b.registers) x
   stops items stop.Break x = ending_spent items _ x
   stops items (stop.Bad word) x = ending_spent items _ x
@@ -146,7 +146,7 @@ module _ (w : Setting) (past : List Event) (h : ℕ) (b : HartState) (did : Did)
   ends_object : (code object : ℕ) → EndsObject w past h (freed b) code object did c → EndsObject w past h b code object did c
   ends_object code object x = ⊎_elim
       (λ (f : Finalises w past h (freed b) code object did c). inl (finalises code object f))
-      (λ (e : Ends w past h (spent (freed b)) [] ends.Memory did c). inr (ending_spent [] ends.Memory e))
+      (λ (e : TurnEnds w past h (spent (freed b)) [] ends.Memory did c). inr (ending_spent [] ends.Memory e))
       x
 
   -- ---- a service

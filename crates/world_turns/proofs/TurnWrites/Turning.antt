@@ -26,7 +26,7 @@ use Rattle.history_calls.specs.Served.{answer_text}
 use Rattle.hart_moves.specs.Copying.{Copy, after_name, before_end, bytes_from, first_left, grown, is_copied, text_words, with_bytes}
 use Rattle.hart_moves.specs.Due.{Due, Return, due, write_count}
 use Rattle.hart_moves.specs.Harts.{Frame, HartState, Naming, Phase, Purpose}
-use Rattle.hart_moves.specs.Moves.{Comes, CopiesBy, Did, Ends, EndsObject, Goes, MovesAs, Passes, Refuses, Stops, StoresBy, Takes, TellsOf, Trap, Traps, Unread, after_all, copied_item, final_functions, freed, freed_by, own_fini, runs, spent, stack_start, stored_to, telling, trap_of, with_first, write_trap}
+use Rattle.hart_moves.specs.Moves.{Comes, CopiesBy, Did, TurnEnds, EndsObject, Goes, MovesAs, Passes, TurnRefuses, TurnStops, StoresBy, Takes, TellsOf, Trap, Traps, Unread, after_all, copied_item, final_functions, freed, freed_by, own_fini, runs, spent, stack_start, stored_to, telling, trap_of, with_first, write_trap}
 use Rattle.hart_moves.specs.Registers.{a0, a2, a7}
 use Rattle.world_turns.specs.TurnWrites.Laws.{ServedMayBeWritten, TurnsKeepWrites}
 use Rattle.world_turns.specs.TurnWrites.Writing.{HartWrites, IsWriting}
@@ -167,7 +167,7 @@ module _ (w : Setting) (past : List Event) (h : ℕ) (b : HartState) (holds : Ha
   by_goes : (x : HartState) (items : List Item) (did : Did) (c : HartState) → HartWrites x → Goes items x did c → HartWrites c
   by_goes x items did c so y = left_as (spent x) c y.leaves so
 
-  by_ends : (x : HartState) (items : List Item) (reason : HartEnd) (did : Did) (c : HartState) → HartWrites x → Ends w past h x items reason did c → HartWrites c
+  by_ends : (x : HartState) (items : List Item) (reason : HartEnd) (did : Did) (c : HartState) → HartWrites x → TurnEnds w past h x items reason did c → HartWrites c
   by_ends x items reason did c so y = left_as _ c y.leaves so
 
   by_trap : (items : List Item) (trap : Trap) (did : Did) (c : HartState) → trap_of b.registers ≡ trap → Traps w past h b items trap did c → HartWrites c
@@ -177,12 +177,12 @@ module _ (w : Setting) (past : List Event) (h : ℕ) (b : HartState) (holds : Ha
       by_goes (record b { phase = Phase.writing [] }) items did c
       (writes_these (record b { phase = Phase.writing [] }) [] refl (record { some = begins_some b.registers is; few = omega arith })) x
 
-  by_refusal : (items : List Item) (address : ℕ) (fault : BusFault) (did : Did) (c : HartState) → Refuses w past h b items address fault did c → HartWrites c
+  by_refusal : (items : List Item) (address : ℕ) (fault : BusFault) (did : Did) (c : HartState) → TurnRefuses w past h b items address fault did c → HartWrites c
   by_refusal items address (RoleFault role) did c x = by_ends (spent b) items _ did c holds x
   by_refusal items address Misaligned did c x = by_ends (spent b) items _ did c holds x
   by_refusal items address (Again shown) did c x = by_goes b items did c holds x
 
-  by_stop : (items : List Item) (s : Stop) (did : Did) (c : HartState) → Stops w past h b items s did c → HartWrites c
+  by_stop : (items : List Item) (s : Stop) (did : Did) (c : HartState) → TurnStops w past h b items s did c → HartWrites c
   by_stop items stop.Ecall did c x = by_trap items (trap_of b.registers) did c refl x
   by_stop items stop.Break did c x = by_ends (spent b) items _ did c holds x
   by_stop items (stop.Bad word) did c x = by_ends (spent b) items _ did c holds x

@@ -11,7 +11,7 @@ use Rattle.history_calls.specs.declared.link_served.startup.Setup.{Setup}
 use Rattle.rv_hart.specs.Registers.{Registers}
 use Rattle.history_state.specs.After.{after, after_from}
 use Rattle.history_state.specs.Setting.{Setting, are_finals, exited}
-use Rattle.history_state.specs.State.{State, start}
+use Rattle.history_state.specs.State.{State, empty_state}
 use Rattle.history_state.specs.Step.{loaded, step}
 use Rattle.history_state.specs.Lemmas.Lists.{none_in}
 use Rattle.history_calls.specs.Startup.{FindHarts, found_at, opening}
@@ -21,7 +21,7 @@ use Rattle.hart_moves.specs.Moves.{all_finis, runs}
 use Rattle.hart_moves.specs.Starting.{starting_hart, starting_harts, starting_registers}
 use Rattle.hart_moves.specs.TurnEvents.Appends.{has_finals, is_of_end}
 use Rattle.hart_moves.specs.TurnEvents.Lemmas.Frames.{runs_end, runs_some}
-use Rattle.world_turns.specs.Run.{Ends, Finalises, IsStarted, has_ended, have_ended}
+use Rattle.world_turns.specs.Run.{RunEnds, Finalises, IsStarted, has_ended, have_ended}
 use Rattle.world_turns.specs.Turn.{Turn}
 use Rattle.world_turns.specs.World.{World}
 use Rattle.world_turns.specs.Lemmas.Running.{constructs, finishes, items_keep, rounds_end, turns_end}
@@ -73,7 +73,7 @@ start_endings : (w : Setting) (setup : Setup) (world : World) (is : IsStarted w 
 unfolding after_from loaded
 start_endings w setup world is =
     ap (λ (es : List Event). (after es).endings) is.starts.are
-    ∙ finds_endings w _ 1 setup.harts is.starts.found is.starts.addresses is.starts.finds (step start (opening setup is.starts.root is.starts.added is.starts.ranges))
+    ∙ finds_endings w _ 1 setup.harts is.starts.found is.starts.addresses is.starts.finds (step empty_state (opening setup is.starts.root is.starts.added is.starts.ranges))
 
 none_told : (harts : List HartState) → AllBegun harts → (endings : List Ending) → endings ≡ [] → AreEndings endings harts
 none_told harts begun endings none = record {
@@ -93,9 +93,9 @@ start_fits w setup world is =
 
 -- ---- a run
 
-final_turns : (w : Setting) (old new : World) → Ends w old new → InFinals w old → InFinals w new
-final_turns w old new (Ends.no_more _ all) x = x
-final_turns w old new (Ends.one_more _ between _ runs turn more) x = final_turns w between new more (turns_keep_finals w 0 old between turn x)
+final_turns : (w : Setting) (old new : World) → RunEnds w old new → InFinals w old → InFinals w new
+final_turns w old new (RunEnds.no_more _ all) x = x
+final_turns w old new (RunEnds.one_more _ between _ runs turn more) x = final_turns w between new more (turns_keep_finals w 0 old between turn x)
 
 finalised_fits : (w : Setting) (registers : Registers) (old new : World) → Finalises w registers old new → BeforeFinals w old → EndsFit w new
 finalised_fits w registers old new (Finalises.none_runs exited same) x = inl (subst (BeforeFinals w) (sym same) x)

@@ -25,7 +25,7 @@ use Rattle.hart_moves.specs.Lemmas.Legality.{ended_stays}
 use Rattle.hart_moves.specs.TurnEvents.Appends.{Appends, NoneEndsOrUnmaps, has_finals, is_of_end}
 use Rattle.hart_moves.specs.TurnEvents.Lemmas.Frames.{first_end, first_some}
 use Rattle.hart_moves.specs.TurnEvents.Lemmas.Turning.{finals_away, finals_stay, turns_append}
-use Rattle.world_turns.specs.Run.{LacksMemory, exit_code, has_ended, have_exited, settled}
+use Rattle.world_turns.specs.Run.{LacksMemory, exit_code, has_ended, harts_have_exited, settled}
 use Rattle.world_turns.specs.Turn.{Turn}
 use Rattle.world_turns.specs.World.{World, found_harts, found_journal, settling}
 use Rattle.world_turns.specs.Lemmas.Running.{freed_alike}
@@ -279,7 +279,7 @@ all_over harts all = all_pass has_ended harts (λ h b at. exited_ends b (each_pa
 le_same : (n k : ℕ) → k ≡ n → nat_le n k ≡ true
 le_same n k same = le-leb n k (let e : k ≡ n = same in omega (arith, e))
 
-module _ (w : Setting) (old : World) (over : IsTrue (have_exited old)) (x : BeforeFinals w old) where
+module _ (w : Setting) (old : World) (over : IsTrue (harts_have_exited old)) (x : BeforeFinals w old) where
   as_many : length (after old.journal).endings ≡ w.machine.harts
   as_many = x.endings.all ∙ count_all old.harts (all_over old.harts over) ∙ x.harts
 
@@ -330,7 +330,7 @@ finals_lack w old new over x before = subst (InFinals w) (sym x.leaves) (record 
 })
 
 -- then it isn't the one end of the first hart
-pub lack_done : (w : Setting) (old new : World) → IsTrue (have_exited old) → LacksMemory w old new → BeforeFinals w old → IsTrue (are_finals w (after new.journal)) → all_finis (after new.journal) ≡ []
+pub lack_done : (w : Setting) (old new : World) → IsTrue (harts_have_exited old) → LacksMemory w old new → BeforeFinals w old → IsTrue (are_finals w (after new.journal)) → all_finis (after new.journal) ≡ []
 lack_done w old new over x before are =
     absurd (no_more w (after old.journal).endings (record { hart = 0; «end» = ends.Memory }) (as_many w old over before)
     (ap (finals_in w) (sym (lack_endings old) ∙ sym (ap (λ (y : World). (after y.journal).endings) x.leaves)) ∙ are))
@@ -339,7 +339,7 @@ lack_done w old new over x before are =
 exit_coded : (b : HartState) (reason : HartEnd) → b.«end» ≡ Some reason → is_exit reason ≡ true → is_some (exit_code b) ≡ true
 exit_coded b reason over is = ap (λ (e : Option HartEnd). is_some (elim e [ Some why ↦ exit_of_end why | None ↦ None ])) over ∙ code_of reason is
 
-pub exits_are : (w : Setting) (world : World) → IsTrue (list_all has_ended world.harts) → BeforeFinals w world → IsTrue (are_finals w (after world.journal)) → have_exited world ≡ true
+pub exits_are : (w : Setting) (world : World) → IsTrue (list_all has_ended world.harts) → BeforeFinals w world → IsTrue (are_finals w (after world.journal)) → harts_have_exited world ≡ true
 exits_are w world over x are = all_pass (λ b. is_some (exit_code b)) world.harts each
   where
     es : List Ending

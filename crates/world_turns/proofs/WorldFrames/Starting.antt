@@ -14,7 +14,7 @@ use Rattle.history_state.specs.Legal.{Lawful}
 use Rattle.history_state.specs.Links.{found_edges}
 use Rattle.history_state.specs.Objects.{mapped, serial_of}
 use Rattle.history_state.specs.Setting.{Machine, Setting}
-use Rattle.history_state.specs.State.{State, start}
+use Rattle.history_state.specs.State.{State, empty_state}
 use Rattle.history_state.specs.Step.{step}
 use Rattle.history_state.specs.Lemmas.Lists.{none_in}
 use Rattle.history_graph.specs.declared.graph.Edge.{Edge}
@@ -43,7 +43,7 @@ finds_keep w past h names found addresses (FindHarts.one_more _ _ name rest seri
 start_state : (w : Setting) (setup : Setup) (world : World) (is : IsStarted w setup world) → after world.journal ≡ after (opening setup is.starts.root is.starts.added is.starts.ranges ∷ [])
 unfolding after_from
 start_state w setup world is =
-    ap after is.starts.are ∙ finds_keep w _ 1 setup.harts is.starts.found is.starts.addresses is.starts.finds (step start (opening setup is.starts.root is.starts.added is.starts.ranges))
+    ap after is.starts.are ∙ finds_keep w _ 1 setup.harts is.starts.found is.starts.addresses is.starts.finds (step empty_state (opening setup is.starts.root is.starts.added is.starts.ranges))
 
 preceded_objects : (before : List ℕ) (functions : List Function) → map object_of (preceded before functions) ≡ map object_of functions
 preceded_objects before [] = refl

@@ -16,7 +16,7 @@ use Rattle.relocator.specs.Relocated.{moved_word}
 use Rattle.rv_hart.specs.declared.doubleword.Doubleword.{Doubleword}
 use Rattle.history_state.specs.After.{after}
 use Rattle.history_state.specs.Allowed.{Allowed}
-use Rattle.history_state.specs.Changes.{ChangesMemory, IsUntouched, reserved, taken}
+use Rattle.history_state.specs.Changes.{ChangesMemory, StandsApart, reserved, taken}
 use Rattle.history_state.specs.Laws.{ImagesAreMapped, NoneIsLazy, SlotsBegin, slot_address}
 use Rattle.history_state.specs.Legal.{Lawful}
 use Rattle.history_state.specs.Memory.{covers, image_of, role_at}
@@ -225,7 +225,7 @@ has_offer_stays m know w same past e h of lawful may j o x = record {
 
 -- the slot of an open grant isn't touched
 untouched : (m : Machine) → Know m → Changes m → (w : Setting) → w.machine ≡ m → (past : List Event) (e : Event) (h : ℕ) → hart_of e ≡ Some h → Lawful m past → Allowed w past e → (j : ℕ) (o : Offered)
-    → HasOffer (after past) j o → IsUntouched (after past) e o.slot
+    → HasOffer (after past) j o → StandsApart (after past) e o.slot
 untouched m know changes w same past e h of lawful may j o x r either = by (covers o.slot r) refl
   where
     after_it : HasOffer (after (past ++ e ∷ [])) j o

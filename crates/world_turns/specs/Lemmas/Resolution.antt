@@ -29,12 +29,12 @@ use Rattle.history_calls.specs.Answer.{Answer, returns, loading, closing, refuse
 use Rattle.history_calls.specs.Call.{Call}
 use Rattle.history_calls.specs.Call as call
 use Rattle.history_calls.specs.Functions.{left, passed}
-use Rattle.history_calls.specs.Gives.{Answers, Gives, Serves, ending}
+use Rattle.history_calls.specs.Gives.{EventAnswers, Gives, Serves, ending}
 use Rattle.history_calls.specs.Served.{answer_text}
 use Rattle.hart_moves.specs.Copying.{Copy, number_in, text_words}
 use Rattle.hart_moves.specs.Due.{Due, Return, all_done, at_service, back, behind, by_frames, by_name, by_phase, by_queue, by_resolving, done, due, within_fuel, write_count}
 use Rattle.hart_moves.specs.Harts.{Frame, HartState, Naming, Offered, Phase, Purpose, Resolving}
-use Rattle.hart_moves.specs.Moves.{Did, spent, freed, freed_by, did_by, Ends, Goes, Traps, Trap, trap_of, Refuses, Stops, Comes, Unread, CopiesBy, copied_item, StoresBy, stored_to, passing, Passes, runs, own_fini, Finals, final_functions, IsOffer, Takes, TellsOf, telling, MovesAs, Moves, settled_resolving}
+use Rattle.hart_moves.specs.Moves.{Did, spent, freed, freed_by, did_by, TurnEnds, Goes, Traps, Trap, trap_of, TurnRefuses, TurnStops, Comes, Unread, CopiesBy, copied_item, StoresBy, stored_to, passing, Passes, runs, own_fini, Finals, final_functions, IsOffer, Takes, TellsOf, telling, MovesAs, Moves, settled_resolving}
 use Rattle.hart_moves.specs.Registers.{a0, a1, a2, ra}
 use Rattle.hart_moves.specs.Services.{Service, service_at}
 use Rattle.world_turns.specs.Lemmas.Offers.{granted_to}
@@ -173,22 +173,22 @@ GrantsAs h given (told fault) = GrantNothing given
 GrantsAs h given (again for) = GrantNothing given
 GrantsAs h given (over reason) = GrantNothing given
 
-answer_grants : (h : ℕ) (call : Call) (e : Event) (answer : Answer) → Answers h call e answer → GrantsAs h (e ∷ ending h answer) answer
-answer_grants h call e answer (Answers.is_loaded ask id root first rest ranges) = one_of e refl
-answer_grants h call e answer (Answers.is_there ask id root ranges) = one_of e refl
-answer_grants h call e answer (Answers.is_absent ask) = one_of e refl
-answer_grants h call e answer (Answers.is_not_opened ask fault) = one_of e refl
-answer_grants h call e answer (Answers.dies handle first rest) = one_of e refl
-answer_grants h call e answer (Answers.stays handle) = one_of e refl
-answer_grants h call e answer (Answers.is_not_closed handle fault) = one_of e refl
-answer_grants h call e answer (Answers.is_unmapped set) = one_of e refl
-answer_grants h call e answer (Answers.is_granted owner eights slot number choice value is) = (refl, refl, refl)
-answer_grants h call e answer (Answers.is_unresolved owner eights slot is) = both_of (e ∷ []) (events.Ended h (ends.Unresolved owner slot) ∷ []) (one_of e refl) (one_of (events.Ended h (ends.Unresolved owner slot)) refl)
-answer_grants h call e answer (Answers.is_not_code owner eights slot serial index is) = both_of (e ∷ []) (events.Ended h (ends.NotCode owner slot) ∷ []) (one_of e refl) (one_of (events.Ended h (ends.NotCode owner slot)) refl)
-answer_grants h call e answer (Answers.is_found ask serial index value) = one_of e refl
-answer_grants h call e answer (Answers.is_not_found ask fault) = one_of e refl
-answer_grants h call e answer (Answers.is_told fault) = one_of e refl
-answer_grants h call e answer (Answers.is_written bytes) = one_of e refl
+answer_grants : (h : ℕ) (call : Call) (e : Event) (answer : Answer) → EventAnswers h call e answer → GrantsAs h (e ∷ ending h answer) answer
+answer_grants h call e answer (EventAnswers.is_loaded ask id root first rest ranges) = one_of e refl
+answer_grants h call e answer (EventAnswers.is_there ask id root ranges) = one_of e refl
+answer_grants h call e answer (EventAnswers.is_absent ask) = one_of e refl
+answer_grants h call e answer (EventAnswers.is_not_opened ask fault) = one_of e refl
+answer_grants h call e answer (EventAnswers.dies handle first rest) = one_of e refl
+answer_grants h call e answer (EventAnswers.stays handle) = one_of e refl
+answer_grants h call e answer (EventAnswers.is_not_closed handle fault) = one_of e refl
+answer_grants h call e answer (EventAnswers.is_unmapped set) = one_of e refl
+answer_grants h call e answer (EventAnswers.is_granted owner eights slot number choice value is) = (refl, refl, refl)
+answer_grants h call e answer (EventAnswers.is_unresolved owner eights slot is) = both_of (e ∷ []) (events.Ended h (ends.Unresolved owner slot) ∷ []) (one_of e refl) (one_of (events.Ended h (ends.Unresolved owner slot)) refl)
+answer_grants h call e answer (EventAnswers.is_not_code owner eights slot serial index is) = both_of (e ∷ []) (events.Ended h (ends.NotCode owner slot) ∷ []) (one_of e refl) (one_of (events.Ended h (ends.NotCode owner slot)) refl)
+answer_grants h call e answer (EventAnswers.is_found ask serial index value) = one_of e refl
+answer_grants h call e answer (EventAnswers.is_not_found ask fault) = one_of e refl
+answer_grants h call e answer (EventAnswers.is_told fault) = one_of e refl
+answer_grants h call e answer (EventAnswers.is_written bytes) = one_of e refl
 
 given_grants : (w : Setting) (past : List Event) (h : ℕ) (call : Call) (given : List Event) (answer : Answer) → Gives w past h call given answer → GrantsAs h (given ++ ending h answer) answer
 given_grants w past h call given answer (Gives.by_event _ e _ answers may) = answer_grants h call e answer answers
@@ -217,7 +217,7 @@ module _ (w : Setting) (past : List Event) (h : ℕ) (b : HartState) where
   goes : (x : HartState) (items : List Item) (did : Did) (c : HartState) → x.resolving ≡ b.resolving → Goes items x did c → Resolution past h b did c
   goes x items did c same y = Resolution.quietly items y.is (ap (λ (z : HartState). z.resolving) y.leaves ∙ same)
 
-  stops_here : (x : HartState) (items : List Item) (reason : HartEnd) (did : Did) (c : HartState) → x.resolving ≡ b.resolving → Ends w past h x items reason did c → Resolution past h b did c
+  stops_here : (x : HartState) (items : List Item) (reason : HartEnd) (did : Did) (c : HartState) → x.resolving ≡ b.resolving → TurnEnds w past h x items reason did c → Resolution past h b did c
   stops_here x items reason did c same y =
       Resolution.serving items (events.Ended h reason ∷ []) y.is (ap (λ (z : HartState). z.resolving) y.leaves ∙ ap settled_resolving same) (one_of (events.Ended h reason) refl)
 
@@ -226,12 +226,12 @@ module _ (w : Setting) (past : List Event) (h : ℕ) (b : HartState) where
   by_trap items (Trap.gives value) did c x = goes _ items did c refl x
   by_trap items Trap.writes did c x = goes _ items did c refl x
 
-  by_refusal : (items : List Item) (address : ℕ) (fault : BusFault) (did : Did) (c : HartState) → Refuses w past h b items address fault did c → Resolution past h b did c
+  by_refusal : (items : List Item) (address : ℕ) (fault : BusFault) (did : Did) (c : HartState) → TurnRefuses w past h b items address fault did c → Resolution past h b did c
   by_refusal items address (RoleFault role) did c x = stops_here (spent b) items _ did c refl x
   by_refusal items address Misaligned did c x = stops_here (spent b) items _ did c refl x
   by_refusal items address (Again shown) did c x = goes b items did c refl x
 
-  by_stop : (items : List Item) (s : Stop) (did : Did) (c : HartState) → Stops w past h b items s did c → Resolution past h b did c
+  by_stop : (items : List Item) (s : Stop) (did : Did) (c : HartState) → TurnStops w past h b items s did c → Resolution past h b did c
   by_stop items stop.Ecall did c x = by_trap items (trap_of b.registers) did c x
   by_stop items stop.Break did c x = stops_here (spent b) items _ did c refl x
   by_stop items (stop.Bad word) did c x = stops_here (spent b) items _ did c refl x

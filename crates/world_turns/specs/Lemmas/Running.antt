@@ -16,7 +16,7 @@ use Rattle.hart_moves.specs.Moves.{freed}
 use Rattle.hart_moves.specs.Starting.{starting_registers}
 use Rattle.world_turns.specs.declared.schedules.schedule.TurnItem.{TurnItem}
 use Rattle.world_turns.specs.Laws.{FinalsBeginSound, FinalsLackSound, SettlingIsSound, StartIsSound, TurnsAreSound}
-use Rattle.world_turns.specs.Run.{Begins, Constructs, Ends, Finalises, Finishes, LacksMemory, Repeats, Rounds, Run, TakesItems, all_harts, has_ended, settled}
+use Rattle.world_turns.specs.Run.{RunBegins, Constructs, RunEnds, Finalises, RunFinishes, LacksMemory, Repeats, Rounds, Run, TakesItems, all_harts, has_ended, settled}
 use Rattle.world_turns.specs.Sound.{Fits, Sound}
 use Rattle.world_turns.specs.Throughout.{ConstructorsKeep, FinalsKeep, IsSoundThroughout, ItemsKeep, RoundsKeep, RunsAreSound, RunsEnd, RunsLeaveNoGrant}
 use Rattle.world_turns.specs.Turn.{TakesTurn, Turn}
@@ -47,15 +47,15 @@ module _ (w : Setting) (Holds : World → Type 0) (turns : (h : ℕ) (old new : 
   rounds harts old new (Rounds.no_more _) x = x
   rounds harts old new (Rounds.one_more h rest _ between _ taken more) x = rounds rest between new more (takes h old between taken x)
 
-  pub finishes : (old new : World) → Finishes w old new → Holds old → Holds new
-  finishes old new (Finishes.no_more _ all) x = x
-  finishes old new (Finishes.one_more _ between _ runs round more) x = finishes between new more (rounds (all_harts old) old between round x)
+  pub finishes : (old new : World) → RunFinishes w old new → Holds old → Holds new
+  finishes old new (RunFinishes.no_more _ all) x = x
+  finishes old new (RunFinishes.one_more _ between _ runs round more) x = finishes between new more (rounds (all_harts old) old between round x)
 
-  ends_keep : (old new : World) → Ends w old new → Holds old → Holds new
-  ends_keep old new (Ends.no_more _ all) x = x
-  ends_keep old new (Ends.one_more _ between _ runs turn more) x = ends_keep between new more (turns 0 old between x turn)
+  ends_keep : (old new : World) → RunEnds w old new → Holds old → Holds new
+  ends_keep old new (RunEnds.no_more _ all) x = x
+  ends_keep old new (RunEnds.one_more _ between _ runs turn more) x = ends_keep between new more (turns 0 old between x turn)
 
-  pub finals : (registers : Registers) (old new : World) → ((begun : World) → Begins registers old begun → Holds begun) → (LacksMemory w old new → Holds new) → Finalises w registers old new → Holds old → Holds new
+  pub finals : (registers : Registers) (old new : World) → ((begun : World) → RunBegins registers old begun → Holds begun) → (LacksMemory w old new → Holds new) → Finalises w registers old new → Holds old → Holds new
   finals registers old new begins lacks (Finalises.none_runs exited same) x = subst Holds (sym same) x
   finals registers old new begins lacks (Finalises.none_is_left none same) x = subst Holds (sym same) x
   finals registers old new begins lacks (Finalises.no_memory exited lack) x = lacks lack
@@ -103,13 +103,13 @@ freed_alike p same (b ∷ rest) = ap (λ (t : Bool). t && list_all p (map freed 
 abbrev pub HaveEnded : List HartState → Type 0
 HaveEnded harts = IsTrue (list_all has_ended harts)
 
-pub rounds_end : (w : Setting) (old new : World) → Finishes w old new → HaveEnded new.harts
-rounds_end w old new (Finishes.no_more _ all) = all
-rounds_end w old new (Finishes.one_more _ between _ runs round more) = rounds_end w between new more
+pub rounds_end : (w : Setting) (old new : World) → RunFinishes w old new → HaveEnded new.harts
+rounds_end w old new (RunFinishes.no_more _ all) = all
+rounds_end w old new (RunFinishes.one_more _ between _ runs round more) = rounds_end w between new more
 
-pub turns_end : (w : Setting) (old new : World) → Ends w old new → HaveEnded new.harts
-turns_end w old new (Ends.no_more _ all) = all
-turns_end w old new (Ends.one_more _ between _ runs turn more) = turns_end w between new more
+pub turns_end : (w : Setting) (old new : World) → RunEnds w old new → HaveEnded new.harts
+turns_end w old new (RunEnds.no_more _ all) = all
+turns_end w old new (RunEnds.one_more _ between _ runs turn more) = turns_end w between new more
 
 finals_end : (w : Setting) (registers : Registers) (old new : World) → HaveEnded old.harts → Finalises w registers old new → HaveEnded new.harts
 finals_end w registers old new over (Finalises.none_runs exited same) = subst (λ (x : World). HaveEnded x.harts) (sym same) over

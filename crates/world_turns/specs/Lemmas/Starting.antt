@@ -17,7 +17,7 @@ use Rattle.history_state.specs.Legal.{Lawful, Legal}
 use Rattle.history_state.specs.Memory.{ebreaks}
 use Rattle.history_state.specs.Setting.{Machine, Setting}
 use Rattle.history_state.specs.Slots.{HasNoGrant}
-use Rattle.history_state.specs.State.{State, start}
+use Rattle.history_state.specs.State.{State, empty_state}
 use Rattle.history_state.specs.Step.{loaded, step}
 use Rattle.history_state.specs.Lemmas.Lists.{none_in}
 use Rattle.history_calls.specs.Startup.{FindHarts, found_at, opening}
@@ -99,7 +99,7 @@ pub start_grants : (w : Setting) (setup : Setup) (world : World) (is : IsStarted
 unfolding after_from loaded
 start_grants w setup world is =
     ap (λ (es : List Event). (after es).grants) is.starts.are
-    ∙ finds_grants w _ 1 setup.harts is.starts.found is.starts.addresses is.starts.finds (step start (opening setup is.starts.root is.starts.added is.starts.ranges))
+    ∙ finds_grants w _ 1 setup.harts is.starts.found is.starts.addresses is.starts.finds (step empty_state (opening setup is.starts.root is.starts.added is.starts.ranges))
 
 start_of : (w : Setting) (setup : Setup) (world : World) (is : IsStarted w setup world) → OfHarts world.journal
 start_of w setup world is = subst OfHarts (sym is.starts.are) ((0, refl), finds_of w _ 1 setup.harts is.starts.found is.starts.addresses is.starts.finds)
@@ -145,7 +145,7 @@ start_sound begins keep w setup world only is =
     record {
       legal = legal;
       harts = ap (λ (bs : List HartState). length bs) is.harts ∙ start_length setup.fuel is.started.functions is.started.entries ∙ harts_have_entries w setup world.journal is.started is.starts ∙ sym (ap (λ (v : Setting). v.machine.harts) is.setting);
-      words = remakes_length start world.journal is.fresh world.words is.words ∙ is.are_fresh.all;
+      words = remakes_length empty_state world.journal is.fresh world.words is.words ∙ is.are_fresh.all;
       holds = subst (λ (ns : List ℕ). Holds (after world.journal) ns (memory_of world.words)) (sym (none_won world.harts idle))
           (events_hold keep w only [] [] world.journal is.fresh world.words (none_lawful w.machine) (start_allowed w setup world is) (start_of w setup world is) first is.words);
       rests = λ h b reason at is_over. ap settled_resolving (idle h b at);

@@ -8,7 +8,7 @@ use Rattle.history_state.specs.Accepted.{AcceptsOnly}
 use Rattle.history_state.specs.After.{after}
 use Rattle.history_state.specs.Allowed.{MayEnd}
 use Rattle.history_state.specs.Objects.{has, is_startup}
-use Rattle.history_state.specs.Setting.{Setting, have_exited as have_all_exited}
+use Rattle.history_state.specs.Setting.{Setting, harts_have_exited as have_all_exited}
 use Rattle.history_state.specs.Slots.{HasNoGrant}
 use Rattle.history_calls.specs.Call.{unmaps}
 use Rattle.history_calls.specs.Functions.{passed}
@@ -16,7 +16,7 @@ use Rattle.history_calls.specs.Waiting.{HasFinished}
 use Rattle.hart_moves.specs.Due.{Due, Return, due}
 use Rattle.hart_moves.specs.Harts.{Frame, HartState, Purpose, Resolving}
 use Rattle.hart_moves.specs.Moves.{AreAllowed, own_fini, passing}
-use Rattle.world_turns.specs.Run.{Begins, IsStarted, LacksMemory, have_exited, settled}
+use Rattle.world_turns.specs.Run.{RunBegins, IsStarted, LacksMemory, harts_have_exited, settled}
 use Rattle.world_turns.specs.Turn.{Turn}
 use Rattle.world_turns.specs.World.{World}
 use Rattle.world_turns.specs.WorldEnds.Ends.{BeforeFinals}
@@ -32,11 +32,11 @@ abbrev pub TurnsRun : Type 0
 TurnsRun = (w : Setting) (h : ℕ) (old new : World) → AcceptsOnly w.machine → IsRunning w old → Turn w h old new → IsRunning w new
 
 abbrev pub FinalsRun : Type 0
-FinalsRun = (w : Setting) (registers : Registers) (old new : World) → IsTrue (have_exited old) → Begins registers old new → BeforeFinals w old
+FinalsRun = (w : Setting) (registers : Registers) (old new : World) → IsTrue (harts_have_exited old) → RunBegins registers old new → BeforeFinals w old
     → IsRunning w old → IsRunning w new
 
 abbrev pub FinalsLackRuns : Type 0
-FinalsLackRuns = (w : Setting) (old new : World) → AcceptsOnly w.machine → IsTrue (have_exited old) → LacksMemory w old new
+FinalsLackRuns = (w : Setting) (old new : World) → AcceptsOnly w.machine → IsTrue (harts_have_exited old) → LacksMemory w old new
     → BeforeFinals w old → IsRunning w old → IsRunning w new
 
 abbrev pub SettledRuns : Type 0

@@ -10,7 +10,7 @@ use Rattle.history_calls.specs.Call.{writes}
 use Rattle.hart_moves.specs.Due.{Due, Return, due}
 use Rattle.hart_moves.specs.Harts.{HartState}
 use Rattle.hart_moves.specs.Moves.{Did, Moves}
-use Rattle.world_turns.specs.Run.{Begins, IsStarted, LacksMemory, settled}
+use Rattle.world_turns.specs.Run.{RunBegins, IsStarted, LacksMemory, settled}
 use Rattle.world_turns.specs.Turn.{Turn}
 use Rattle.world_turns.specs.World.{World}
 use Rattle.world_turns.specs.TurnWrites.Writing.{HartWrites, WorldWrites}
@@ -36,7 +36,7 @@ WorldsKeepWrites = (w : Setting) (h : ℕ) (old new : World) → Turn w h old ne
 
 -- the final destructors begin
 abbrev pub FinalsBeginWriting : Type 0
-FinalsBeginWriting = (registers : Registers) (old new : World) → Begins registers old new → WorldWrites old → WorldWrites new
+FinalsBeginWriting = (registers : Registers) (old new : World) → RunBegins registers old new → WorldWrites old → WorldWrites new
 
 -- there is no memory for them
 abbrev pub FinalsLackWriting : Type 0

@@ -9,7 +9,7 @@ use Rattle.history_state.specs.Setting.{Setting, are_finals}
 use Rattle.hart_moves.specs.Harts.{HartState}
 use Rattle.hart_moves.specs.Moves.{all_finis}
 use Rattle.world_turns.specs.declared.schedules.schedule.TurnItem.{TurnItem}
-use Rattle.world_turns.specs.Run.{Begins, IsStarted, LacksMemory, Run, have_exited, settled}
+use Rattle.world_turns.specs.Run.{RunBegins, IsStarted, LacksMemory, Run, harts_have_exited, settled}
 use Rattle.world_turns.specs.Turn.{Turn}
 use Rattle.world_turns.specs.World.{World}
 use Rattle.world_turns.specs.WorldEnds.Ends.{BeforeFinals, EndsFit, InFinals}
@@ -26,11 +26,11 @@ abbrev pub TurnsKeepFinals : Type 0
 TurnsKeepFinals = (w : Setting) (h : ℕ) (old new : World) → Turn w h old new → InFinals w old → InFinals w new
 
 abbrev pub FinalsBegin : Type 0
-FinalsBegin = (w : Setting) (registers : Registers) (old new : World) → IsTrue (have_exited old) → Begins registers old new → BeforeFinals w old
+FinalsBegin = (w : Setting) (registers : Registers) (old new : World) → IsTrue (harts_have_exited old) → RunBegins registers old new → BeforeFinals w old
     → InFinals w new
 
 abbrev pub FinalsLack : Type 0
-FinalsLack = (w : Setting) (old new : World) → IsTrue (have_exited old) → LacksMemory w old new → BeforeFinals w old → InFinals w new
+FinalsLack = (w : Setting) (old new : World) → IsTrue (harts_have_exited old) → LacksMemory w old new → BeforeFinals w old → InFinals w new
 
 abbrev pub SettlingFits : Type 0
 SettlingFits = (w : Setting) (world : World) → EndsFit w world → EndsFit w (settled world)

@@ -15,13 +15,13 @@ use Rattle.history_state.specs.After.{after}
 use Rattle.history_state.specs.Allowed.{Allowed, IsUngranted}
 use Rattle.history_state.specs.Legal.{Legal}
 use Rattle.history_state.specs.Objects.{serial_of}
-use Rattle.history_state.specs.Setting.{Setting, have_exited as have_all_exited}
+use Rattle.history_state.specs.Setting.{Setting, harts_have_exited as have_all_exited}
 use Rattle.history_calls.specs.Functions.{AreConstructors, AreDestructors, passed}
 use Rattle.history_calls.specs.Waiting.{HasFinished}
 use Rattle.hart_moves.specs.Harts.{Frame, Purpose}
 use Rattle.hart_moves.specs.Moves.{AreAllowed, all_finis, own_fini, passing}
 use Rattle.world_turns.specs.declared.schedules.schedule.TurnItem.{TurnItem}
-use Rattle.world_turns.specs.Run.{Begins, IsStarted, Run, have_exited, settled}
+use Rattle.world_turns.specs.Run.{RunBegins, IsStarted, Run, harts_have_exited, settled}
 use Rattle.world_turns.specs.Turn.{Turn}
 use Rattle.world_turns.specs.World.{World}
 use Rattle.world_turns.specs.WorldEnds.Ends.{BeforeFinals, InFinals}
@@ -81,7 +81,7 @@ SettlingKeepsFinals = (w : Setting) (world : World) → FinalsBelong w world →
 -- ---- the final destructors
 
 abbrev pub FinalsBeginBelong : Type 0
-FinalsBeginBelong = (w : Setting) (registers : Registers) (old new : World) → IsTrue (have_exited old) → Begins registers old new → BeforeFinals w old
+FinalsBeginBelong = (w : Setting) (registers : Registers) (old new : World) → IsTrue (harts_have_exited old) → RunBegins registers old new → BeforeFinals w old
     → FinalsBelong w new
 
 abbrev pub FinalsKeepFrames : Type 0

@@ -18,7 +18,7 @@ use Rattle.history_calls.specs.Call.{Call}
 use Rattle.hart_moves.specs.Copying.{Copy}
 use Rattle.hart_moves.specs.Due.{Due, Return, by_phase, by_resolving, due, within_fuel}
 use Rattle.hart_moves.specs.Harts.{Frame, HartState, Purpose, Resolving}
-use Rattle.hart_moves.specs.Moves.{Calls, Comes, Completes, CopiesBy, Did, Ends, Enters, Finalises, Goes, Moves, MovesAs, Refuses, Stops, StoresBy, Trap, Traps, Unread, copied_item, events_of, spent, stored_to, trap_of}
+use Rattle.hart_moves.specs.Moves.{Calls, Comes, Completes, CopiesBy, Did, TurnEnds, TurnEnters, Finalises, Goes, Moves, MovesAs, TurnRefuses, TurnStops, StoresBy, Trap, Traps, Unread, copied_item, events_of, spent, stored_to, trap_of}
 use Rattle.hart_moves.specs.TurnEvents.Appends.{is_of_end}
 use Rattle.hart_moves.specs.TurnEvents.Lemmas.Dues.{AskedFrom, EntersFirst, HasRun, IsFrom, within_from}
 
@@ -28,7 +28,7 @@ pub data Kind (w : Setting) (past : List Event) (h : ℕ) (b : HartState) (did :
   -- it ends by itself
   ends : (reason : HartEnd) → events_of did ≡ Ended h reason ∷ [] → c.frames ≡ b.frames → c.«end» ≡ Some reason → Kind w past h b did c
   calls : (asked : Call) (to : Return) → AskedFrom b asked to → Calls w past h b asked to did c → Kind w past h b did c
-  enters : (function : ℕ) (frames : List Frame) → EntersFirst b.frames function frames → Enters function frames b did c → Kind w past h b did c
+  enters : (function : ℕ) (frames : List Frame) → EntersFirst b.frames function frames → TurnEnters function frames b did c → Kind w past h b did c
   completes : (purpose : Purpose) (object : ℕ) (rest : List Function) (below : List Frame) → is_of_end purpose ≡ false
       → HasRun b.frames purpose object rest below → Completes w past h b purpose object rest below did c → Kind w past h b did c
   finalises : (code object : ℕ) (rest : List Function) (below : List Frame) → HasRun b.frames (Purpose.of_end code) object rest below
@@ -39,7 +39,7 @@ module _ (w : Setting) (past : List Event) (h : ℕ) (b : HartState) where
   by_goes x items did c frames runs y =
       Kind.goes (ap events_of y.is) (ap (λ (z : HartState). z.frames) y.leaves ∙ frames) (ap (λ (z : HartState). z.«end») y.leaves ∙ runs)
 
-  by_ends : (x : HartState) (items : List Item) (reason : HartEnd) (did : Did) (c : HartState) → x.frames ≡ b.frames → Ends w past h x items reason did c → Kind w past h b did c
+  by_ends : (x : HartState) (items : List Item) (reason : HartEnd) (did : Did) (c : HartState) → x.frames ≡ b.frames → TurnEnds w past h x items reason did c → Kind w past h b did c
   by_ends x items reason did c frames y =
       Kind.ends reason (ap events_of y.is) (ap (λ (z : HartState). z.frames) y.leaves ∙ frames) (ap (λ (z : HartState). z.«end») y.leaves)
 
@@ -48,12 +48,12 @@ module _ (w : Setting) (past : List Event) (h : ℕ) (b : HartState) where
   by_trap items (Trap.gives value) did c x = by_goes _ items did c refl refl x
   by_trap items Trap.writes did c x = by_goes _ items did c refl refl x
 
-  by_refusal : (items : List Item) (address : ℕ) (fault : BusFault) (did : Did) (c : HartState) → Refuses w past h b items address fault did c → Kind w past h b did c
+  by_refusal : (items : List Item) (address : ℕ) (fault : BusFault) (did : Did) (c : HartState) → TurnRefuses w past h b items address fault did c → Kind w past h b did c
   by_refusal items address (RoleFault role) did c x = by_ends (spent b) items _ did c refl x
   by_refusal items address Misaligned did c x = by_ends (spent b) items _ did c refl x
   by_refusal items address (Again shown) did c x = by_goes b items did c refl refl x
 
-  by_stop : (items : List Item) (s : Stop) (did : Did) (c : HartState) → Stops w past h b items s did c → Kind w past h b did c
+  by_stop : (items : List Item) (s : Stop) (did : Did) (c : HartState) → TurnStops w past h b items s did c → Kind w past h b did c
   by_stop items stop.Ecall did c x = by_trap items (trap_of b.registers) did c x
   by_stop items stop.Break did c x = by_ends (spent b) items _ did c refl x
   by_stop items (stop.Bad word) did c x = by_ends (spent b) items _ did c refl x

@@ -17,7 +17,7 @@ use Rattle.history_state.specs.State.{State}
 use Rattle.history_calls.specs.Answer.{Answer, returns, loading, closing, refused, granted, told, again, over}
 use Rattle.history_calls.specs.Call.{Call}
 use Rattle.history_calls.specs.Functions.{left, passed}
-use Rattle.history_calls.specs.Gives.{Answers, Gives, Serves, ending}
+use Rattle.history_calls.specs.Gives.{EventAnswers, Gives, Serves, ending}
 use Rattle.history_calls.specs.Served.{answer_text}
 use Rattle.hart_moves.specs.Copying.{text_words}
 use Rattle.hart_moves.specs.Due.{Return}
@@ -83,22 +83,22 @@ ComesTo h given (told fault) = NoneEndsOrUnmaps given
 ComesTo h given (again for) = NoneEndsOrUnmaps given
 ComesTo h given (over reason) = EndsIn h given reason
 
-answer_comes : (h : ℕ) (call : Call) (e : Event) (answer : Answer) → Answers h call e answer → ComesTo h (e ∷ ending h answer) answer
-answer_comes h call e answer (Answers.is_loaded ask id root first rest ranges) = (refl, tt)
-answer_comes h call e answer (Answers.is_there ask id root ranges) = Gone.nothing_goes (refl, tt)
-answer_comes h call e answer (Answers.is_absent ask) = Gone.nothing_goes (refl, tt)
-answer_comes h call e answer (Answers.is_not_opened ask fault) = (refl, tt)
-answer_comes h call e answer (Answers.dies handle first rest) = (refl, tt)
-answer_comes h call e answer (Answers.stays handle) = Gone.nothing_goes (refl, tt)
-answer_comes h call e answer (Answers.is_not_closed handle fault) = (refl, tt)
-answer_comes h call e answer (Answers.is_unmapped set) = Gone.objects_go set refl
-answer_comes h call e answer (Answers.is_granted owner eights slot number choice value is) = (refl, tt)
-answer_comes h call e answer (Answers.is_unresolved owner eights slot is) = record { front = e ∷ []; spares = (refl, tt); is = refl }
-answer_comes h call e answer (Answers.is_not_code owner eights slot serial index is) = record { front = e ∷ []; spares = (refl, tt); is = refl }
-answer_comes h call e answer (Answers.is_found ask serial index value) = Gone.nothing_goes (refl, tt)
-answer_comes h call e answer (Answers.is_not_found ask fault) = (refl, tt)
-answer_comes h call e answer (Answers.is_told fault) = (refl, tt)
-answer_comes h call e answer (Answers.is_written bytes) = Gone.nothing_goes (refl, tt)
+answer_comes : (h : ℕ) (call : Call) (e : Event) (answer : Answer) → EventAnswers h call e answer → ComesTo h (e ∷ ending h answer) answer
+answer_comes h call e answer (EventAnswers.is_loaded ask id root first rest ranges) = (refl, tt)
+answer_comes h call e answer (EventAnswers.is_there ask id root ranges) = Gone.nothing_goes (refl, tt)
+answer_comes h call e answer (EventAnswers.is_absent ask) = Gone.nothing_goes (refl, tt)
+answer_comes h call e answer (EventAnswers.is_not_opened ask fault) = (refl, tt)
+answer_comes h call e answer (EventAnswers.dies handle first rest) = (refl, tt)
+answer_comes h call e answer (EventAnswers.stays handle) = Gone.nothing_goes (refl, tt)
+answer_comes h call e answer (EventAnswers.is_not_closed handle fault) = (refl, tt)
+answer_comes h call e answer (EventAnswers.is_unmapped set) = Gone.objects_go set refl
+answer_comes h call e answer (EventAnswers.is_granted owner eights slot number choice value is) = (refl, tt)
+answer_comes h call e answer (EventAnswers.is_unresolved owner eights slot is) = record { front = e ∷ []; spares = (refl, tt); is = refl }
+answer_comes h call e answer (EventAnswers.is_not_code owner eights slot serial index is) = record { front = e ∷ []; spares = (refl, tt); is = refl }
+answer_comes h call e answer (EventAnswers.is_found ask serial index value) = Gone.nothing_goes (refl, tt)
+answer_comes h call e answer (EventAnswers.is_not_found ask fault) = (refl, tt)
+answer_comes h call e answer (EventAnswers.is_told fault) = (refl, tt)
+answer_comes h call e answer (EventAnswers.is_written bytes) = Gone.nothing_goes (refl, tt)
 
 given_comes : (w : Setting) (past : List Event) (h : ℕ) (call : Call) (given : List Event) (answer : Answer) → Gives w past h call given answer → ComesTo h (given ++ ending h answer) answer
 given_comes w past h call given answer (Gives.by_event _ e _ answers may) = answer_comes h call e answer answers

@@ -16,7 +16,7 @@ use Rattle.history_state.specs.Lemmas.History.{after_push}
 use Rattle.history_calls.specs.Answer.{returns}
 use Rattle.history_calls.specs.Call.{unmaps}
 use Rattle.history_calls.specs.Functions.{left}
-use Rattle.history_calls.specs.Gives.{Answers, Gives}
+use Rattle.history_calls.specs.Gives.{EventAnswers, Gives}
 use Rattle.hart_moves.specs.Harts.{Frame, HartState, Purpose}
 use Rattle.hart_moves.specs.Moves.{Did, events_of, freed, runs, spent}
 use Rattle.hart_moves.specs.Registers.{returned}
@@ -25,7 +25,7 @@ use Rattle.hart_moves.specs.TurnFrames.Leaves.{AreFrames, LeavesFrames, behind_a
 use Rattle.hart_moves.specs.TurnFrames.Lemmas.Turning.{turns_leave_frames}
 
 pub closes_at_once : ClosesAtOnce
-closes_at_once w past given h handle value (Gives.by_event call e answer (Answers.stays at) may) = (refl, refl)
+closes_at_once w past given h handle value (Gives.by_event call e answer (EventAnswers.stays at) may) = (refl, refl)
 
 pub unmaps_next : UnmapsNext
 unmaps_next w past before h to b c did set functions below x none =
@@ -97,7 +97,7 @@ returns_behind w past h to b c did set queue below moves was goes = behind w pas
 -- ---- what is unmapped
 
 unmapped : (w : Setting) (past given : List Event) (h value : ℕ) (set : List ℕ) → Gives w past h (unmaps set) given (returns value) → (value ≡ 0) × (given ≡ Unmapped h set ∷ []) × Allowed w past (Unmapped h set)
-unmapped w past given h value set (Gives.by_event call e answer (Answers.is_unmapped gone) may) = (refl, refl, may)
+unmapped w past given h value set (Gives.by_event call e answer (EventAnswers.is_unmapped gone) may) = (refl, refl, may)
 
 pub unmaps_all : ((m : Machine) (w : Setting) (past : List Event) (e : Event) → w.machine ≡ m → AcceptsOnly m → Lawful m past → Allowed w past e → ChangesMemory (after past) e) → UnmapsAll
 unmaps_all changes m w past given h value set same only lawful gives =

@@ -16,7 +16,7 @@ use Rattle.history_state.specs.Setting.{Setting}
 use Rattle.history_calls.specs.Answer.{Answer, returns, loading, closing, refused, granted, told, again, over}
 use Rattle.history_calls.specs.Call.{Call, resolves, opens, looks_up, closes, unmaps, asks_fault, locates, writes, stops}
 use Rattle.history_calls.specs.Functions.{AreConstructors, AreDestructors, left, passed}
-use Rattle.history_calls.specs.Gives.{Answers, Gives, Serves, ending}
+use Rattle.history_calls.specs.Gives.{EventAnswers, Gives, Serves, ending}
 use Rattle.history_calls.specs.Served.{answer_text}
 use Rattle.hart_moves.specs.Copying.{text_words}
 use Rattle.hart_moves.specs.Due.{Return}
@@ -125,22 +125,22 @@ no_write bytes set e = let no : writes bytes ≡ unmaps set = e in cc
 no_locate : (number offset : ℕ) (set : List ℕ) → locates number offset ≡ unmaps set → ⊥
 no_locate number offset set e = let no : locates number offset ≡ unmaps set = e in cc
 
-answer_comes : (h : ℕ) (call : Call) (e : Event) (answer : Answer) → Answers h call e answer → ComesTo h call (e ∷ ending h answer) answer
-answer_comes h call e answer (Answers.is_loaded ask id root first rest ranges) = record { ask = ask; id = id; first = first; rest = rest; ranges = ranges; asked = refl; are = refl; is = refl }
-answer_comes h call e answer (Answers.is_there ask id root ranges) = inl (record { touches_none = (refl, tt); not_unmaps = no_open ask })
-answer_comes h call e answer (Answers.is_absent ask) = inl (record { touches_none = (refl, tt); not_unmaps = no_open ask })
-answer_comes h call e answer (Answers.is_not_opened ask fault) = record { touches_none = (refl, tt); not_unmaps = no_open ask }
-answer_comes h call e answer (Answers.dies handle first rest) = record { handle = handle; first = first; rest = rest; asked = refl; are = refl; is = refl }
-answer_comes h call e answer (Answers.stays handle) = inl (record { touches_none = (refl, tt); not_unmaps = no_close handle })
-answer_comes h call e answer (Answers.is_not_closed handle fault) = record { touches_none = (refl, tt); not_unmaps = no_close handle }
-answer_comes h call e answer (Answers.is_unmapped set) = inr (set, refl, refl, refl)
-answer_comes h call e answer (Answers.is_granted owner eights slot number choice value is) = (refl, tt)
-answer_comes h call e answer (Answers.is_unresolved owner eights slot is) = (refl, (refl, tt))
-answer_comes h call e answer (Answers.is_not_code owner eights slot serial index is) = (refl, (refl, tt))
-answer_comes h call e answer (Answers.is_found ask serial index value) = inl (record { touches_none = (refl, tt); not_unmaps = no_look ask })
-answer_comes h call e answer (Answers.is_not_found ask fault) = record { touches_none = (refl, tt); not_unmaps = no_look ask }
-answer_comes h call e answer (Answers.is_told fault) = record { touches_none = (refl, tt); not_unmaps = no_fault }
-answer_comes h call e answer (Answers.is_written bytes) = inl (record { touches_none = (refl, tt); not_unmaps = no_write bytes })
+answer_comes : (h : ℕ) (call : Call) (e : Event) (answer : Answer) → EventAnswers h call e answer → ComesTo h call (e ∷ ending h answer) answer
+answer_comes h call e answer (EventAnswers.is_loaded ask id root first rest ranges) = record { ask = ask; id = id; first = first; rest = rest; ranges = ranges; asked = refl; are = refl; is = refl }
+answer_comes h call e answer (EventAnswers.is_there ask id root ranges) = inl (record { touches_none = (refl, tt); not_unmaps = no_open ask })
+answer_comes h call e answer (EventAnswers.is_absent ask) = inl (record { touches_none = (refl, tt); not_unmaps = no_open ask })
+answer_comes h call e answer (EventAnswers.is_not_opened ask fault) = record { touches_none = (refl, tt); not_unmaps = no_open ask }
+answer_comes h call e answer (EventAnswers.dies handle first rest) = record { handle = handle; first = first; rest = rest; asked = refl; are = refl; is = refl }
+answer_comes h call e answer (EventAnswers.stays handle) = inl (record { touches_none = (refl, tt); not_unmaps = no_close handle })
+answer_comes h call e answer (EventAnswers.is_not_closed handle fault) = record { touches_none = (refl, tt); not_unmaps = no_close handle }
+answer_comes h call e answer (EventAnswers.is_unmapped set) = inr (set, refl, refl, refl)
+answer_comes h call e answer (EventAnswers.is_granted owner eights slot number choice value is) = (refl, tt)
+answer_comes h call e answer (EventAnswers.is_unresolved owner eights slot is) = (refl, (refl, tt))
+answer_comes h call e answer (EventAnswers.is_not_code owner eights slot serial index is) = (refl, (refl, tt))
+answer_comes h call e answer (EventAnswers.is_found ask serial index value) = inl (record { touches_none = (refl, tt); not_unmaps = no_look ask })
+answer_comes h call e answer (EventAnswers.is_not_found ask fault) = record { touches_none = (refl, tt); not_unmaps = no_look ask }
+answer_comes h call e answer (EventAnswers.is_told fault) = record { touches_none = (refl, tt); not_unmaps = no_fault }
+answer_comes h call e answer (EventAnswers.is_written bytes) = inl (record { touches_none = (refl, tt); not_unmaps = no_write bytes })
 
 given_comes : (w : Setting) (past : List Event) (h : ℕ) (call : Call) (given : List Event) (answer : Answer) → Gives w past h call given answer → ComesTo h call (given ++ ending h answer) answer
 given_comes w past h call given answer (Gives.by_event _ e _ answers may) = answer_comes h call e answer answers

@@ -1,7 +1,7 @@
 use Rattle.std.proofs.Common.{◌≡◌, Option, ap, subst, sym, String, Global, List}
 use Rattle.cli_words.specs.declared.command.Command.{Command}
 use Rattle.cli_read.specs.SaidWords.Words.{texts}
-use Rattle.ldso_cli.specs.Ends.{Ends, IsCaused}
+use Rattle.ldso_cli.specs.Ends.{WordsEnd, IsCaused}
 use Rattle.ldso_cli.specs.Outside.{handed_to, library_at, sink_at}
 use Rattle.ldso_cli.specs.declared.outcome.Cause.{Cause}
 use Rattle.ldso_cli.specs.declared.outcome.End.{End}
@@ -17,7 +17,7 @@ returns-clause-ends g c =
     let old = sink_at g.K.Sink.taken g.K.Sink.faults c.args.out.now in
     let new = sink_at g.K.Sink.taken g.K.Sink.faults c.write_answer-end.new.out in
     let handed = handed_to g.K.Sink.writes c.args.out.now c.write_answer-end.new.out in
-    let P : Option Command → End → Type 0 = λ command end. Ends handed command before after old new end in
+    let P : Option Command → End → Type 0 = λ command end. WordsEnd handed command before after old new end in
     along (texts c.as_slice.result.now) (texts c.args.words.items) (ap (λ (ws : List (String Global)). texts ws) c.as_slice.ensures.value)
     (λ command answers. subst (P command) (sym c.into_outcome.ensures.end) (ended handed command before after old new c.answer-answer.result c.write_answer-end.result answers c.write_answer-end.ensures.written))
     c.answer-answer.ensures.answers

@@ -2,7 +2,7 @@ use Rattle.std.proofs.Common.{◌≡◌, Some, None, sym, ap, ◌∙◌}
 use Rattle.std.specs.Option.{option_copied}
 use Rattle.history_state.specs.After.{after}
 use Rattle.history_state.specs.Areas.{free_pages}
-use Rattle.history_state.specs.State.{State, empty_namespace, start}
+use Rattle.history_state.specs.State.{State, empty_namespace, empty_state}
 use Rattle.link_startup.proofs.First.{base_is, nothing_yet, statics_are}
 use Rattle.link_startup.proofs.starting.plan_startup.Goals as goal
 
@@ -14,7 +14,7 @@ unreachable-requires g c =
 
 pub plan_program-requires-clause-first : goal.plan_program-requires-clause-first
 plan_program-requires-clause-first g c =
-    let at : after c.args.state.now.events ≡ start = nothing_yet c.args.state.now.events c.requires.first in
+    let at : after c.args.state.now.events ≡ empty_state = nothing_yet c.args.state.now.events c.requires.first in
     let some : Some c.in-Some.namespace.now ≡ Some (empty_namespace 0) =
     sym (ap option_copied c.in-Some.is) ∙ base_is c.args.state.now.events (option_copied c.namespace.result) c.requires.first c.namespace.ensures in
     record {

@@ -1,6 +1,6 @@
 use Rattle.std.proofs.Common.{refl, ap, arith}
 use Rattle.hart_moves.specs.Starting.{starting_registers}
-use Rattle.world_turns.specs.Run.{Ends, Finalises}
+use Rattle.world_turns.specs.Run.{RunEnds, Finalises}
 use Rattle.plain_world.specs.Playing.{FinalisesOnce}
 use Rattle.plain_world.specs.Table.{WorldTable}
 use Rattle.world_guests.specs.Counting.{counts_at}
@@ -18,7 +18,7 @@ returns-then-begin_finals-clause-finalises g c = λ w over.
     let x = c.if-begin_finals.ensures.begins in
     FinalisesOnce.for_once x.before (Finalises.all_run c.begin_finals.new.self.world x.exited x.begins
     (in_each_of c.args.run.now c.begin_finals.new.self (g.L.Library.files c.args.library.now) (g.L.Library.files c.args.library.now)
-    (λ v. Ends v c.begin_finals.new.self.world c.run_finals.new.run.world)
+    (λ v. RunEnds v c.begin_finals.new.self.world c.run_finals.new.run.world)
     (ap (λ (t : WorldTable). t.count) c.begin_finals.ensures.rest) (ap (λ (t : WorldTable). t.folders) c.begin_finals.ensures.rest) refl
     c.run_finals.ensures.ends w over))
 

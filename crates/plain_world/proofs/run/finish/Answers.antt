@@ -1,5 +1,5 @@
 use Rattle.std.proofs.Common.{sym, ◌∙◌, arith, refl}
-use Rattle.world_turns.specs.Run.{Finishes, Rounds, all_harts}
+use Rattle.world_turns.specs.Run.{RunFinishes, Rounds, all_harts}
 use Rattle.world_guests.specs.Counting.{counts_at}
 use Rattle.world_guests.specs.Lemmas.Counting.{unmoved}
 use Rattle.plain_world.proofs.Counting.{more_counted, no_count, same_folders}
@@ -26,7 +26,7 @@ pub loop-alloc-preserved : goal.loop-alloc-preserved
 loop-alloc-preserved g c = record {
   rest = moved_more c.args.run.now c.loop-alloc.run c.go_round.new.run c.loop-alloc.invariant.rest c.go_round.ensures.rest;
   goes = λ w over new more. c.loop-alloc.invariant.goes w over new
-      (Finishes.one_more c.loop-alloc.run.world c.go_round.new.run.world new (sym c.have_ended.ensures ∙ c.loop-alloc-test.true)
+      (RunFinishes.one_more c.loop-alloc.run.world c.go_round.new.run.world new (sym c.have_ended.ensures ∙ c.loop-alloc-test.true)
       (in_each c.args.run.now c.loop-alloc.run (g.L.Library.files c.args.library.now) (g.L.Library.files c.loop-alloc.library)
       (λ v. Rounds v (all_harts c.loop-alloc.run.world) c.loop-alloc.run.world c.go_round.new.run.world) c.loop-alloc.invariant.rest c.loop-alloc.invariant.files
       c.go_round.ensures.rounds w over) more);
@@ -40,4 +40,4 @@ loop-alloc-preserved g c = record {
 
 pub returns-clause-finishes : goal.returns-clause-finishes
 returns-clause-finishes g c = λ w over. c.loop-alloc.invariant.goes w over c.loop-alloc.run.world
-    (Finishes.no_more c.loop-alloc.run.world (sym c.have_ended.ensures ∙ c.loop-alloc-test.false))
+    (RunFinishes.no_more c.loop-alloc.run.world (sym c.have_ended.ensures ∙ c.loop-alloc-test.false))

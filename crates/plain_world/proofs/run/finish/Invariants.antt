@@ -1,6 +1,6 @@
 use Rattle.std.proofs.Common.{◌≡◌, ◌≤◌}
 use Rattle.world_guests.specs.Counting.{IsCounted, counts_at}
-use Rattle.world_turns.specs.Run.{Finishes}
+use Rattle.world_turns.specs.Run.{RunFinishes}
 use Rattle.world_turns.specs.World.{World}
 use Rattle.plain_world.specs.Playing.{InEachRun}
 use Rattle.plain_world.specs.Table.{moved}
@@ -11,7 +11,7 @@ use Rattle.plain_world.proofs.run.finish.Given as goal
 abbrev pub invariant-loop-alloc : goal.invariant-loop-alloc
 invariant-loop-alloc g l = record {
   rest : l.run ≡ moved l.fn.run l.run.world;
-  goes : InEachRun l.fn.run (g.L.Library.files l.fn.library) (λ w. (new : World) → Finishes w l.run.world new → Finishes w l.fn.run.world new);
+  goes : InEachRun l.fn.run (g.L.Library.files l.fn.library) (λ w. (new : World) → RunFinishes w l.run.world new → RunFinishes w l.fn.run.world new);
   counts : IsCounted l.fn.run.folders l.fn.run.world l.run.world (counts_at g.L.Library.faults g.L.Library.misses l.fn.library)
       (counts_at g.L.Library.faults g.L.Library.misses l.library);
   files : g.L.Library.files l.library ≡ g.L.Library.files l.fn.library;

@@ -1,6 +1,6 @@
 use Rattle.std.proofs.Common.{◌≡◌, ◌≤◌}
 use Rattle.world_guests.specs.Counting.{IsCounted, counts_at}
-use Rattle.world_turns.specs.Run.{Ends}
+use Rattle.world_turns.specs.Run.{RunEnds}
 use Rattle.world_turns.specs.World.{World}
 use Rattle.plain_world.specs.Playing.{InEachRun, OthersHaveEnded}
 use Rattle.plain_world.specs.Table.{moved}
@@ -11,7 +11,7 @@ use Rattle.plain_world.proofs.run.run_finals.Given as goal
 abbrev pub invariant-loop-alloc : goal.invariant-loop-alloc
 invariant-loop-alloc g l = record {
   rest : l.run ≡ moved l.fn.run l.run.world;
-  goes : InEachRun l.fn.run (g.L.Library.files l.fn.library) (λ w. (new : World) → Ends w l.run.world new → Ends w l.fn.run.world new);
+  goes : InEachRun l.fn.run (g.L.Library.files l.fn.library) (λ w. (new : World) → RunEnds w l.run.world new → RunEnds w l.fn.run.world new);
   others : OthersHaveEnded l.run.world;
   counts : IsCounted l.fn.run.folders l.fn.run.world l.run.world (counts_at g.L.Library.faults g.L.Library.misses l.fn.library)
       (counts_at g.L.Library.faults g.L.Library.misses l.library);

@@ -1,13 +1,13 @@
 use Rattle.std.proofs.Common.{◌≡◌, true, false, eqb, [], Some, rules, refl, sym, ◌∙◌}
 use Rattle.history_state.specs.Objects.{object_at}
-use Rattle.history_state.specs.State.{start}
+use Rattle.history_state.specs.State.{empty_state}
 use Rattle.link_finds.proofs.SeenChoices.Leading.{address_by, linkers_address}
 use Rattle.link_finds.proofs.seen_choices.coming.address_at.Goals as goal
 
 pub returns-then-number-eq0 : goal.returns-then-number-eq0
 returns-then-number-eq0 c = λ s shows.
     let is : eqb c.args.serial 0 ≡ true = search rules in
-    c.address_of.ensures (record start { namespaces = [] }) refl ∙ linkers_address s (record start { namespaces = [] }) c.args.serial c.args.index is
+    c.address_of.ensures (record empty_state { namespaces = [] }) refl ∙ linkers_address s (record empty_state { namespaces = [] }) c.args.serial c.args.index is
 
 pub returns-in-Some : goal.returns-in-Some
 returns-in-Some c = λ s shows.

@@ -2,7 +2,7 @@ use Rattle.std.proofs.Common.{◌≡◌, ◌&&◌, Bool, true, false, not, eqb, 
 use Rattle.ld_base.specs.declared.linking.Loaded.{Loaded}
 use Rattle.history_state.specs.Lemmas.Lists.{found_in}
 use Rattle.history_state.specs.Objects.{object_at}
-use Rattle.history_state.specs.State.{start}
+use Rattle.history_state.specs.State.{empty_state}
 use Rattle.scope_rule.specs.Seen.{seen}
 use Rattle.link_finds.proofs.SeenChoices.Leading.{of_linker, of_object}
 use Rattle.link_finds.proofs.seen_choices.coming.enters_code.Goals as goal
@@ -10,7 +10,7 @@ use Rattle.link_finds.proofs.seen_choices.coming.enters_code.Goals as goal
 pub returns-then-number-eq0 : goal.returns-then-number-eq0
 returns-then-number-eq0 c = λ s shows.
     let is : eqb c.args.serial 0 ≡ true = search rules in
-    c.leads_to_code.ensures (record start { namespaces = [] }) refl ∙ of_linker s (record start { namespaces = [] }) c.args.lazy c.args.serial c.args.index is
+    c.leads_to_code.ensures (record empty_state { namespaces = [] }) refl ∙ of_linker s (record empty_state { namespaces = [] }) c.args.lazy c.args.serial c.args.index is
 
 pub is_code_in-requires : goal.is_code_in-requires
 is_code_in-requires c =

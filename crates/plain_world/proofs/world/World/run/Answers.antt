@@ -3,7 +3,7 @@ use Rattle.history_event.specs.declared.handed.HartEntry.{HartEntry}
 use Rattle.hart_moves.specs.Starting.{starting_registers}
 use Rattle.world_turns.specs.declared.schedules.schedule.TurnItem.{TurnItem}
 use Rattle.world_turns.specs.Counts.{Counts}
-use Rattle.world_turns.specs.Run.{Finishes, TakesItems, have_ended}
+use Rattle.world_turns.specs.Run.{RunFinishes, TakesItems, have_ended}
 use Rattle.world_turns.specs.World.{World}
 use Rattle.plain_world.specs.Playing.{FinalisesOnce}
 use Rattle.plain_world.specs.Table.{WorldTable, moved}
@@ -36,7 +36,7 @@ returns-clause-plays g c = λ w over.
           (in_each run c.construct.new.run files (g.L.Library.files c.construct.new.library)
           (λ v. TakesItems v c.as_slice.result.now c.construct.new.run.world c.follow.new.run.world) first files_1 c.follow.ensures.follows w over);
       finished = c.finish.new.run.world;
-      finishes = in_each run c.follow.new.run files (g.L.Library.files c.follow.new.library) (λ v. Finishes v c.follow.new.run.world c.finish.new.run.world) second files_2
+      finishes = in_each run c.follow.new.run files (g.L.Library.files c.follow.new.library) (λ v. RunFinishes v c.follow.new.run.world c.finish.new.run.world) second files_2
           c.finish.ensures.finishes w over;
       finalised = c.finalise.new.run.world;
       finalises =
