@@ -18,8 +18,7 @@ use Rattle.history_event.specs.declared.hart_end.HartEnd.TheVariants as ends
 use Rattle.history_event.specs.declared.state.Granting.{Granting}
 use Rattle.ld_base.specs.declared.fault.Shown.TheVariants as shown
 use Rattle.history_event.specs.declared.state.Module.{Module}
-use Rattle.history_event.specs.declared.state.Standing.{Standing}
-use Rattle.history_event.specs.declared.state.Standing.TheVariants.{Open, Bound, Lost}
+use Rattle.history_event.specs.declared.state.Standing.TheVariants.{Open}
 use Rattle.scope_rule.specs.declared.namespace.OpenRec.{OpenRec}
 use Rattle.scope_rule.specs.Relocation.{choice_at}
 use Rattle.scope_rule.specs.Seen.{seen_in}
@@ -30,7 +29,7 @@ use Rattle.history_state.specs.After.{after}
 use Rattle.history_state.specs.Allowed.{Closes, IsOpened, closable}
 use Rattle.history_state.specs.Areas.{free_pages}
 use Rattle.history_state.specs.Bound.{lazy_word}
-use Rattle.history_state.specs.Grants.{is_open, is_open_standing, target_of}
+use Rattle.history_state.specs.Grants.{is_open, target_of}
 use Rattle.history_state.specs.Laws.{AreApart, IsModule, ModulesAreTidy}
 use Rattle.history_state.specs.Links.{edges, roots}
 use Rattle.history_state.specs.Lookup.{HasStorage, HasNoBlock, MayHaveBlock, WantsBlock}
@@ -53,12 +52,9 @@ use Rattle.history_calls.specs.Gives.Gives.{by_event, in_new_block, in_block, to
 use Rattle.history_calls.specs.Waiting.{HasFinished, Touches}
 use Rattle.history_calls.specs.Waiting.Shows.{by_grant}
 use Rattle.history_calls.proofs.Decide.{first_fit, unneeded}
+use Rattle.history_state.specs.Lemmas.Standing.{is_open_of, open_is, weak_leads}
 
 -- ---- a slot
-
-weak_leads : (s : State) (lazy : ℕ) → leads_to_code s lazy WeakZero ≡ true
-unfolding leads_to_code
-weak_leads s lazy = refl
 
 -- a slot that may not be bound
 lacking : (w : Setting) (past : List Event) (h owner eights slot : ℕ) (choice : Choice) → HasNoGrant (after past) h → eights ≡ 8 * slot → (is : IsSlot (after past) owner slot choice)
@@ -170,14 +166,6 @@ closes_answered w past h handle = ⊎_elim
 
 abbrev touches : List ℕ → Granting → Bool
 touches set g = is_open g && (has set g.owner || list_any (has set) (target_of g.choice))
-
-open_is : (standing : Standing) → is_open_standing standing ≡ true → standing ≡ Open
-open_is Open t = refl
-open_is Bound t = absurd (true≢false (sym t))
-open_is (Lost saw) t = absurd (true≢false (sym t))
-
-is_open_of : (standing : Standing) → standing ≡ Open → is_open_standing standing ≡ true
-is_open_of standing e = subst (λ (x : Standing). is_open_standing x ≡ true) (sym e) refl
 
 touched : (set : List ℕ) (g : Granting) → touches set g ≡ true → (g.standing ≡ Open) × Touches g set
 touched set g t =

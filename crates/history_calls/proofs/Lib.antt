@@ -6,8 +6,11 @@ pub mod Every
 pub mod Looked
 pub mod OneStartup
 pub mod OpenAnswered
+pub mod OpeningLaws
 pub mod Placing
 pub mod Preloads
+pub mod ProgramLast
+pub mod RunJournal
 pub mod Starting
 pub mod UntoldFiles
 pub mod CallLaws

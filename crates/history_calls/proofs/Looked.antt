@@ -36,6 +36,7 @@ use Rattle.history_calls.specs.Complete.{FitsSymbol, HasAnswer}
 use Rattle.history_calls.specs.Gives.EventAnswers.{is_found, is_not_found}
 use Rattle.history_calls.specs.Gives.Gives.{by_event, by_first_block}
 use Rattle.history_calls.proofs.Answered.{block_or_full}
+use Rattle.history_calls.specs.Lemmas.Told.{searches_on}
 
 -- ---- the new block is the hart's block
 
@@ -48,10 +49,6 @@ by_offset s h serial offset = option_map_or (λ o. Some (tp_of s h + o)) offset 
 tls_is : (s : State) (h serial : ℕ) (m : Module) → module_of s serial ≡ Some m → tls_block s h serial ≡ by_offset s h serial m.offset
 unfolding tls_block
 tls_is s h serial m e = ap (λ (found : Option Module). elim found [ Some k ↦ by_offset s h serial k.offset | None ↦ None ]) e
-
-tls_none : (s : State) (h serial : ℕ) → module_of s serial ≡ None → tls_block s h serial ≡ None
-unfolding tls_block
-tls_none s h serial e = ap (λ (found : Option Module). elim found [ Some k ↦ by_offset s h serial k.offset | None ↦ None ]) e
 
 abbrev is_hers : ℕ → ℕ → Block → Bool
 is_hers h serial b = eqb b.hart h && eqb b.serial serial
@@ -116,10 +113,6 @@ unsearched s ask there none = ⊎_elim
     no_handle (Some ns) e h = absurd (let d : Some (in_breadth (seen_in ns) ask.handle ask.name (wanted_of ask.version)) ≡ None =
         sym (ap (option_map (λ (n : Namespace). in_breadth (seen_in n) ask.handle ask.name (wanted_of ask.version))) e) ∙ h in cc)
 
-searched_on : (s : State) (h serial block : ℕ) (ask : SymAsk) → search (step s (events.Tls h serial block)) ask ≡ search s ask
-unfolding search
-searched_on s h serial block ask = refl
-
 -- ---- the answer
 
 refusing : (w : Setting) (past : List Event) (h : ℕ) (ask : SymAsk) (fault : DlFault) → IsTrue (has_namespace (after past) ask.ns) → RefusesSymbol (after past) h ask fault → HasAnswer w past h (looks_up ask)
@@ -158,7 +151,7 @@ first_use w past h ask serial index block there short found storage some none ma
       there,
       record {
         short = short;
-        found = searched_on (after past) h serial block ask ∙ found;
+        found = searches_on (after past) h serial block ask ∙ found;
         is = subst (λ (b : Bool). IsAddressBy b (step (after past) (events.Tls h serial block)) h serial index value) (sym storage)
             (block, new_block (after past) h serial block (module_of (after past) serial) refl some none, refl);
       },

@@ -124,7 +124,7 @@ abbrev open_answer : ℕ → List Loaded → Answer
 open_answer root [] = returns root
 open_answer root (first ∷ rest) = loading root (first ∷ rest)
 
-no_chance : (root : ℕ) (added : List Loaded) → is_chance (open_answer root added) ≡ false
+pub no_chance : (root : ℕ) (added : List Loaded) → is_chance (open_answer root added) ≡ false
 no_chance root [] = refl
 no_chance root (first ∷ rest) = refl
 
@@ -166,9 +166,9 @@ added_is setup root other added more ranges others e = cc
 pub starts_or_fails : OutcomeLaws → (w : Setting) (setup : Setup) (files : List File) (root : ℕ) (added : List Loaded) (ranges : List Range) (found failed : List Event)
     (addresses : List ℕ) (fault : DlFault) → w.files ≡ Some files → Allowed w [] (opening setup root added ranges)
     → FindHarts w (opening setup root added ranges ∷ []) 1 setup.harts found addresses → FailsToStart w setup fault failed → is_read_fault fault ≡ true
-starts_or_fails laws w setup files root added ranges found failed addresses fault told first finds (is_not_opened _ may) =
+starts_or_fails laws w setup files root added ranges found failed addresses fault told first finds (is_not_opened _ set may) =
     by_chance (is_read_fault fault) (not_opened laws w setup files told root added ranges fault first may)
-starts_or_fails laws w setup files root added ranges found failed addresses fault told first finds (lacks_hart other more others events _ may lacks) =
+starts_or_fails laws w setup files root added ranges found failed addresses fault told first finds (lacks_hart other more others events _ set may lacks) =
     let same = same_program laws w setup files told root other added more ranges others first may in
     absurd (harts_or_lack w setup.program (opening setup other more others ∷ []) 1 setup.harts found events addresses fault
     (subst (λ (e : Event). FindHarts w (e ∷ []) 1 setup.harts found addresses) same finds) lacks)
@@ -196,14 +196,14 @@ refused_is fault other e = cc
 
 pub fails_one_way : OutcomeLaws → (w : Setting) (setup : Setup) (files : List File) (journal others : List Event) (fault other : DlFault) → w.files ≡ Some files
     → FailsToStart w setup fault journal → FailsToStart w setup other others → is_read_fault fault ≡ false → is_read_fault other ≡ false → (fault ≡ other) × (journal ≡ others)
-fails_one_way laws w setup files journal others fault other told (is_not_opened _ may) (is_not_opened _ also) ample well =
+fails_one_way laws w setup files journal others fault other told (is_not_opened _ set may) (is_not_opened _ set' also) ample well =
     let same = one_opening laws w [] 0 (program_ask setup) files _ _ _ _ told (refuses_program w setup fault may) (refuses_program w setup other also) ample well in
     (refused_is fault other same.1, same.0)
-fails_one_way laws w setup files journal others fault other told (is_not_opened _ may) (lacks_hart root added ranges events _ also lacks) ample well =
+fails_one_way laws w setup files journal others fault other told (is_not_opened _ set may) (lacks_hart root added ranges events _ set' also lacks) ample well =
     absurd (not_opened laws w setup files told root added ranges fault also may ample)
-fails_one_way laws w setup files journal others fault other told (lacks_hart root added ranges events _ may lacks) (is_not_opened _ also) ample well =
+fails_one_way laws w setup files journal others fault other told (lacks_hart root added ranges events _ set may lacks) (is_not_opened _ set' also) ample well =
     absurd (not_opened laws w setup files told root added ranges other may also well)
-fails_one_way laws w setup files journal others fault other told (lacks_hart root added ranges events _ may lacks) (lacks_hart root' added' ranges' events' _ also lack') ample well =
+fails_one_way laws w setup files journal others fault other told (lacks_hart root added ranges events _ set may lacks) (lacks_hart root' added' ranges' events' _ set' also lack') ample well =
     let same = same_program laws w setup files told root root' added added' ranges ranges' may also in
     let harts = same_lacks w setup.program (opening setup root' added' ranges' ∷ []) 1 setup.harts events events' fault other
     (subst (λ (e : Event). LacksHart w setup.program (e ∷ []) 1 setup.harts events fault) same lacks) lack' in (

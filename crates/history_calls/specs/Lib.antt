@@ -6,6 +6,8 @@ pub mod Functions
 pub mod Gives
 pub mod Laws
 pub mod Lemmas
+pub mod OpeningLaws
+pub mod RunJournal
 pub mod Served
 pub mod Startup
 pub mod Waiting

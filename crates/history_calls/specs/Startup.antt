@@ -48,6 +48,10 @@ setting_of verdict setup files = record {
   files = files;
 }
 
+-- folders, preload names and the number of harts are those that are set up
+abbrev pub IsSetUp : Setting → Setup → Type 0
+IsSetUp w setup = w ≡ setting_of w.machine.verdict setup w.files
+
 -- the program is opened by its path, in the base namespace: RTLD_GLOBAL is 0x100, RTLD_LAZY 1, RTLD_NOW 2
 abbrev pub program_ask : Setup → OpenAsk
 program_ask setup = record { ns = Some 0; name = Some setup.program; flags = if setup.bind_now then 0x102 else 0x101 }
@@ -123,6 +127,7 @@ opening setup root added ranges = Open 0 (program_ask setup) (openings.Done 0 ro
 
 -- the program is loaded, and each hart has a place to start
 pub record Starts (w : Setting) (setup : Setup) (journal : List Event) (started : Started) : Type 0 where
+  pub set_up : IsSetUp w setup
   pub root : ℕ
   pub added : List Loaded
   pub ranges : List Range
@@ -137,8 +142,8 @@ pub record Starts (w : Setting) (setup : Setup) (journal : List Event) (started 
 
 -- the program is refused, or a hart has none: the first refusal, and the events up to it
 pub data FailsToStart (w : Setting) (setup : Setup) : DlFault → List Event → Type 0 where
-  is_not_opened : (fault : DlFault) → Allowed w [] (Open 0 (program_ask setup) (openings.Refused fault))
+  is_not_opened : (fault : DlFault) → IsSetUp w setup → Allowed w [] (Open 0 (program_ask setup) (openings.Refused fault))
       → FailsToStart w setup fault (Open 0 (program_ask setup) (openings.Refused fault) ∷ [])
-  lacks_hart : (root : ℕ) (added : List Loaded) (ranges : List Range) (events : List Event) (fault : DlFault) → Allowed w [] (opening setup root added ranges)
-      → LacksHart w setup.program (opening setup root added ranges ∷ []) 1 setup.harts events fault
+  lacks_hart : (root : ℕ) (added : List Loaded) (ranges : List Range) (events : List Event) (fault : DlFault) → IsSetUp w setup
+      → Allowed w [] (opening setup root added ranges) → LacksHart w setup.program (opening setup root added ranges ∷ []) 1 setup.harts events fault
       → FailsToStart w setup fault (opening setup root added ranges ∷ events)

@@ -7,6 +7,8 @@ ghost use Rattle.history_calls.specs.Laws.{BringsWithPreload, FailsOneWay, Start
 ghost use Rattle.history_calls.specs.Laws.{PassedComeFirst, PassedOpens, RunsAFunction, StartsStay};
 ghost use Rattle.history_calls.specs.Laws.{RefusalIsKept, RefusalIsTold, TextIsOfKept, RefusedKeeps, RefusedLeavesMemory, ServesLegal, StagesInOrder};
 ghost use Rattle.history_calls.specs.Laws.{SymbolsInOrder};
+ghost use Rattle.history_calls.specs.OpeningLaws.{FoundByName, OpeningsSeeTheStateAfter, ProgramIsLast};
+ghost use Rattle.history_calls.specs.RunJournal.{RunJournalsGrow, RunJournalsStart};
 ghost use Rattle.history_calls.specs.Laws.{CallersAreHolders, EventsAreOwn, FailsLegal, FewEvents, HartsHaveEntries, OthersAreBase, ServedLegal, StartsLegal};
 
 /// A history that is legal before a call is legal with what the call gives, and with the end of the
@@ -24,6 +26,13 @@ pub fn served_calls_are_legal()
     ensures starts { StartsLegal }
     ensures fails { FailsLegal }
     ensures entries { HartsHaveEntries }
+{}
+
+/// Startup's events are the journal of a run, and it stays one with events of harts that run: so a count of
+/// ends by exit is one of each hart, at each moment.
+pub fn run_journals_grow()
+    ensures start { RunJournalsStart }
+    ensures grow { RunJournalsGrow }
 {}
 
 /// A call that is refused, that has to be tried again, or that ends its hart leaves everything as it
@@ -94,6 +103,26 @@ pub fn calls_are_answered()
     scope_rule::found_stands();
     scope_rule::reads_candidates();
     tls_blocks::modules_stay_numbered();
+}
+
+/// The functions that startup has run end with the program's, which leads to each object that is loaded with it.
+pub fn the_program_is_last()
+    ensures { ProgramIsLast }
+{
+    scope_rule::loads_breadth_first();
+    scope_rule::root_is_new();
+}
+
+/// The namespace that the relocations of an opening see is the one of the state after it.
+pub fn openings_see_the_state_after()
+    ensures { OpeningsSeeTheStateAfter }
+{}
+
+/// What stands in a new object's `found` at the place of one of its names is what that name found.
+pub fn names_found_in_order()
+    ensures { FoundByName }
+{
+    scope_rule::names_find();
 }
 
 /// The namespace of each caller is there. It is that of the object whose pages hold the return address, and

@@ -31,9 +31,10 @@ pub use call_laws::{
 };
 pub use law::{
     callers_are_there, calls_are_answered, calls_are_legal, constructors_follow,
-    destructors_follow, events_are_own, functions_run_in_order, one_answer, one_list_of_functions,
-    one_startup, preload_is_the_programs, refusals_are_told, refusals_come_in_order,
-    refused_calls_leave, served_calls_are_legal,
+    destructors_follow, events_are_own, functions_run_in_order, names_found_in_order, one_answer,
+    one_list_of_functions, one_startup, openings_see_the_state_after, preload_is_the_programs,
+    refusals_are_told, refusals_come_in_order, refused_calls_leave, run_journals_grow,
+    served_calls_are_legal, the_program_is_last,
 };
 pub use link_served::{Installs, Served, Setup, SlotWord, SlotWords, StartFault, Started};
 pub use untold_files::files_only_narrow;

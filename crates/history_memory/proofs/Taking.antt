@@ -15,13 +15,14 @@ use Rattle.history_event.specs.declared.state.Standing.{Standing}
 use Rattle.history_event.specs.declared.state.Standing.TheVariants as standings
 use Rattle.history_state.specs.State.{State}
 use Rattle.history_state.specs.Allowed.{AllowedIn}
-use Rattle.history_state.specs.Grants.{is_open, is_open_standing}
+use Rattle.history_state.specs.Grants.{is_open}
 use Rattle.history_state.specs.Setting.{Setting}
 use Rattle.history_state.specs.Step.{die, initialise, loaded, lower, settled_as, step, unmap}
 use Rattle.history_state.specs.Lemmas.Lists.{from_filter, from_map, in_filter, in_map}
 use Rattle.history_state.specs.Lemmas.Tidy.{Tidy, in_at}
 use Rattle.history_memory.specs.Holds.{Took}
 use Rattle.history_memory.specs.Remade.{SettlesRightly, won_after}
+use Rattle.history_state.specs.Lemmas.Standing.{is_open_of, open_is}
 
 -- the same grant, whatever became of it
 pub record IsSameGrant (g h : Granting) : Type 0 where
@@ -74,21 +75,10 @@ taking_more won grants new tidy open_yet number standing = record {
 
 -- ---- a settled grant
 
-open_is : (g : Granting) → g.standing ≡ standings.Open → is_open g ≡ true
-open_is g e = ap (λ (s : Standing). is_open_standing s) e
-
-bound_not : (g : Granting) → g.standing ≡ standings.Bound → is_open g ≡ false
-bound_not g e = ap (λ (s : Standing). is_open_standing s) e
-
 -- what became of a grant: it was settled, or it stays as it was
 data Became (number : ℕ) (standing : Standing) (g q : Granting) : Type 0 where
   settled : g.number ≡ number → g.standing ≡ standings.Open → IsSameGrant g q → q.standing ≡ standing → Became number standing g q
   stayed : (g.standing ≡ standings.Open → g.number ≢ number) → q ≡ g → Became number standing g q
-
-opened : (s : Standing) → is_open_standing s ≡ true → s ≡ standings.Open
-opened standings.Open e = refl
-opened standings.Bound e = absurd (true≢false (sym e))
-opened (standings.Lost saw) e = absurd (true≢false (sym e))
 
 became : (number : ℕ) (standing : Standing) (g : Granting) → Became number standing g (settled_as number standing g)
 became number standing g = at (eqb g.number number && is_open g) refl
@@ -96,8 +86,8 @@ became number standing g = at (eqb g.number number && is_open g) refl
     at : (t : Bool) → (eqb g.number number && is_open g) ≡ t → Became number standing g (if t then record g { standing = standing } else g)
     at true e =
         let parts = and_parts (eqb g.number number) (is_open g) e in
-        settled (eqb-true g.number number parts.0) (opened g.standing parts.1) (record { number = refl; owner = refl; slot = refl; value = refl }) refl
-    at false e = stayed (λ on is. true≢false (sym (and_from (eqb g.number number) (is_open g) (eq-eqb g.number number is) (open_is g on)) ∙ e)) refl
+        settled (eqb-true g.number number parts.0) (open_is g.standing parts.1) (record { number = refl; owner = refl; slot = refl; value = refl }) refl
+    at false e = stayed (λ on is. true≢false (sym (and_from (eqb g.number number) (is_open g) (eq-eqb g.number number is) (is_open_of g.standing on)) ∙ e)) refl
 
 module _ (won : List ℕ) (grants : List Granting) (open_yet : AreOpen won grants) (number : ℕ) where
   abbrev others : List ℕ

@@ -1,8 +1,8 @@
 //! What keeps memory as the journal says.
 
-ghost use Rattle.std.specs.Prelude.{◌≡◌, ◌≢◌, ℕ, List, [], ◌∷◌, ◌++◌, Some, Contains};
+ghost use Rattle.std.specs.Prelude.{◌≡◌, ◌≢◌, ℕ, ◌^◌, ◌<◌, List, [], ◌∷◌, ◌++◌, Some, Contains};
 ghost use Rattle.std.specs.List.{slice_get};
-ghost use Rattle.ld_base.specs.declared.linking.Role.TheVariants.{Slot};
+ghost use Rattle.ld_base.specs.declared.linking.Role.TheVariants.{Rx, Slot};
 ghost use Rattle.ld_base.specs.declared.object.Reloc.{Reloc};
 ghost use Rattle.history_event.specs.declared.event.Event.{Event};
 ghost use Rattle.history_event.specs.declared.state.Granting.{Granting};
@@ -19,7 +19,7 @@ ghost use Rattle.history_state.specs.Slots.{MayBind, MayLose};
 ghost use Rattle.history_state.specs.State.{Linked, State};
 ghost use Rattle.history_memory.specs.Enters.{LeadsToCode, SlotStays, SlotTrue};
 ghost use Rattle.history_memory.specs.Holds.{Holds, IsSlotAt, lazy_at};
-ghost use Rattle.history_memory.specs.Memory.{IsDoubleword, IsSame, Memory};
+ghost use Rattle.history_memory.specs.Memory.{IsDoubleword, IsSame, Memory, doubleword_of};
 ghost use Rattle.history_memory.specs.Remade.{Begins, HasSlot, MayExchange, Remade, SettlesRightly, Stores, Wins, won_after};
 
 /// Before the first event memory is as it should be where the linker's own page alone has a role.
@@ -119,6 +119,18 @@ pub fn slots_enter()
     history_state::slots_begin();
     history_state::slots_lead_to_rx();
     history_state::images_are_mapped();
+}
+
+/// An address that may be executed lies in a doubleword of guest memory that may be executed: roles are of
+/// doublewords, and so this is said of each byte.
+pub fn code_is_whole()
+    ensures { (m : Machine) (events : List Event) (a : ℕ) → AcceptsOnly m → Lawful m events → a < 2 ^ 64 → role_at (after events) a ≡ Rx →
+        IsDoubleword (doubleword_of a) × (role_at (after events) (doubleword_of a) ≡ Rx) }
+{
+    scope_rule::serials_follow();
+    scope_rule::found_stands();
+    scope_rule::reads_candidates();
+    seg_image::pages_hold_segments();
 }
 
 /// Where memory is as it should be, each slot of each mapped object holds its first word or the value of

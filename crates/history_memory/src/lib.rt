@@ -14,6 +14,6 @@ mod law;
 
 pub use example::first_call_is_held;
 pub use law::{
-    events_keep, exchanges_keep, grants_settle, memory_begins, slots_are_true, slots_enter,
-    slots_stand, slots_stay, stores_keep,
+    code_is_whole, events_keep, exchanges_keep, grants_settle, memory_begins, slots_are_true,
+    slots_enter, slots_stand, slots_stay, stores_keep,
 };

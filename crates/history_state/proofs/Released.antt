@@ -11,17 +11,12 @@ use Rattle.history_state.specs.Areas.{free_pages, released}
 use Rattle.history_state.specs.Legal.{Lawful}
 use Rattle.history_state.specs.Setting.{Machine}
 use Rattle.history_state.specs.Step.{goes_with}
-use Rattle.history_state.specs.Lemmas.Lists.{any_in, from_filter, here, in_any, in_filter, later}
+use Rattle.history_state.specs.Lemmas.Lists.{any_in, filter_alike, from_filter, in_any, in_filter}
 use Rattle.history_state.specs.Lemmas.Map.{ranges_apart}
 
 -- the range has the page
 abbrev page_of : ℕ → Range → Bool
 page_of page r = is_within r.address r.pages page
-
--- tests that agree on a list pick the same of it
-agree : (p q : ℕ → Bool) (xs : List ℕ) → ((x : ℕ) → Contains xs x → p x ≡ q x) → filter p xs ≡ filter q xs
-agree p q [] same = refl
-agree p q (x ∷ xs) same = rw (same x (here x xs), agree p q xs (λ y i. same y (later x xs y i))) refl
 
 -- a page of the list is free where it passed
 is_free : (f : ℕ → Bool) (xs : List ℕ) (x : ℕ) → Contains xs x → list_any (nat_eq x) (filter f xs) ≡ f x
@@ -37,16 +32,16 @@ is_free f xs x inside = by (f x) refl (list_any (nat_eq x) (filter f xs)) refl
         absurd (true≢false (sym kept.1 ∙ ap f (sym (eqb-true x at.0 at.2)) ∙ e))
 
 released_are : (f : ℕ → Bool) (gone : List Range) → released (filter f guest_pages) gone ≡ filter (λ page. f page || list_any (page_of page) gone) guest_pages
-released_are f [] = agree f (λ page. f page || false) guest_pages (λ x i. by (f x))
+released_are f [] = filter_alike f (λ page. f page || false) guest_pages (λ x i. by (f x))
   where
     by : (t : Bool) → t ≡ (t || false)
     by true = refl
     by false = refl
 released_are f (r ∷ gone) =
-    ap (λ (free : List ℕ). released free gone) (agree (λ page. list_any (nat_eq page) (filter f guest_pages) || is_within r.address r.pages page) (λ page. f page || page_of page r) guest_pages
+    ap (λ (free : List ℕ). released free gone) (filter_alike (λ page. list_any (nat_eq page) (filter f guest_pages) || is_within r.address r.pages page) (λ page. f page || page_of page r) guest_pages
     (λ x i. ap (λ (t : Bool). t || page_of x r) (is_free f guest_pages x i)))
     ∙ released_are (λ page. f page || page_of page r) gone
-    ∙ agree (λ page. (f page || page_of page r) || list_any (page_of page) gone) (λ page. f page || (page_of page r || list_any (page_of page) gone)) guest_pages
+    ∙ filter_alike (λ page. (f page || page_of page r) || list_any (page_of page) gone) (λ page. f page || (page_of page r || list_any (page_of page) gone)) guest_pages
     (λ x i. by (f x) (page_of x r) (list_any (page_of x) gone))
   where
     by : (a b c : Bool) → ((a || b) || c) ≡ (a || (b || c))
@@ -74,7 +69,7 @@ pub released_free : (m : Machine) (journal : List Event) → Lawful m journal �
 unfolding free_pages
 released_free m journal lawful set =
     released_are (λ page. not (list_any (page_of page) (after journal).ranges)) (filter (goes_with set) (after journal).ranges)
-    ∙ agree (λ page. not (list_any (page_of page) (after journal).ranges) || list_any (page_of page) (filter (goes_with set) (after journal).ranges))
+    ∙ filter_alike (λ page. not (list_any (page_of page) (after journal).ranges) || list_any (page_of page) (filter (goes_with set) (after journal).ranges))
     (λ page. not (list_any (page_of page) (filter (λ r. not (goes_with set r)) (after journal).ranges))) guest_pages
     (λ page i. ap (λ (t : Bool). not t || list_any (page_of page) (filter (goes_with set) (after journal).ranges)) (parted (goes_with set) (page_of page) (after journal).ranges)
     ∙ by page i (list_any (page_of page) (filter (goes_with set) (after journal).ranges)) refl (list_any (page_of page) (filter (λ r. not (goes_with set r)) (after journal).ranges)) refl)

@@ -26,6 +26,7 @@ pub mod Holders
 pub mod Imaged
 pub mod InRow
 pub mod Initialised
+pub mod InBlocks
 pub mod InPlace
 pub mod Lately
 pub mod Lazy
@@ -51,6 +52,7 @@ pub mod Raced
 pub mod Ranges
 pub mod Scopes
 pub mod Serials
+pub mod Standing
 pub mod Startup
 pub mod Static
 pub mod StaticAreas

@@ -45,7 +45,8 @@ is_data_purpose (purposes.Block hart serial) = true
 abbrev pub data_at : State → ℕ → Option Range
 data_at s a = find (λ r. is_data_purpose r.purpose && covers a r) s.ranges
 
--- RoleAt
+-- RoleAt: the role of the doubleword at an address that is a multiple of 8. At any other address Rx says that its doubleword is RX
+-- (history_memory's code_is_whole); of a byte inside a slot it doesn't say the role
 unfoldable pub role_at : State → ℕ → Role
 role_at s a =
     if is_linkers_page a then Rx

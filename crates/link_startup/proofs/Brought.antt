@@ -1,7 +1,7 @@
 -- What an opening brings: its objects follow one another, their images can be read, and their constructors are in order.
-use Rattle.std.proofs.Common.{◌≡◌, ℕ, ◌+◌, Bool, List, map, Some, Ok, sym, ap, subst, arith}
+use Rattle.std.proofs.Common.{◌≡◌, ℕ, Bool, List, map, Some, Ok, sym, ap, subst}
 use Rattle.std.specs.List.{Contains, flat_map}
-use Rattle.history_calls.specs.CallLaws.Laws.{AreNumberedFrom, NewEdgesSuffice, NumberedByPlace}
+use Rattle.history_calls.specs.CallLaws.Laws.{NewEdgesSuffice}
 use Rattle.elf_object.specs.Verdict.{object_verdict}
 use Rattle.link_images.specs.ImageReads.Reads.{ArePrepared}
 use Rattle.history_journal.specs.Following.{MayFollow, machine_of}
@@ -28,14 +28,8 @@ use Rattle.history_calls.specs.declared.link_served.installs.Installs.{Installs}
 use Rattle.history_calls.specs.Functions.{AreConstructors, AreOf, constructors, object_of}
 use Rattle.link_state.specs.Opening.{ArePut, IsPut, event_of}
 use Rattle.link_state.specs.Table.{LinkTable, appended}
-use Rattle.link_images.specs.ObjectFunctions.Rooms.{AreInRow, CanReadAll}
+use Rattle.link_images.specs.ObjectFunctions.Rooms.{CanReadAll}
 use Rattle.link_startup.specs.Bringing.{CameLast}
-
-pub in_row : NumberedByPlace → (next : ℕ) (added : List Loaded) → AreNumberedFrom next added → AreInRow added
-in_row by_place next added numbered = λ k first o begins at.
-    let here : first.serial ≡ next + 0 = by_place next 0 added first numbered begins in
-    let there : o.serial ≡ next + k = by_place next k added o numbered at in
-    omega (arith, here, there)
 
 -- the images are those of the objects, which were read
 pub readable : (harts : ℕ) (new : LinkTable) (added : List Loaded) (installs : Installs)

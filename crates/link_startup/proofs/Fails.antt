@@ -1,7 +1,7 @@
 -- A run that doesn't start: the first refusal, and what the library's counts show of it.
 use Rattle.std.proofs.Common.{◌≡◌, ℕ, ◌+◌, List, [], ◌∷◌, ◌++◌, Option, Some, None, Result, Ok, Err, IfErr, refl, sym, ap, subst, ◌∙◌}
 use Rattle.std.specs.Result.{IsErrAnd}
-use Rattle.history_calls.specs.CallLaws.Counts.{FaultsShow, ShowsInCounts}
+use Rattle.history_calls.specs.CallLaws.Counts.{FaultsShow}
 use Rattle.history_calls.specs.CallLaws.Laws.{StartsUnlessReadsFail}
 use Rattle.ld_base.specs.declared.fault.DlFault.{DlFault}
 use Rattle.ld_base.specs.declared.linking.File.{File}
@@ -20,7 +20,6 @@ use Rattle.history_calls.specs.declared.link_served.startup.StartFault.{StartFau
 use Rattle.history_calls.specs.declared.link_served.startup.StartFault.TheVariants as starts
 use Rattle.history_calls.specs.Startup.{FailsToStart, LacksHart, opening, program_ask}
 use Rattle.link_state.specs.Table.{LinkTable, appended}
-use Rattle.link_open_plan.specs.Lemmas.Counts.{counts_none, counts_without}
 use Rattle.link_open_plan.specs.Planned.{ShowsInNoCount}
 use Rattle.link_open_plan.specs.Startup.{run_of}
 use Rattle.link_open_plan.specs.declared.planning.NewObjects.{NewObjects}
@@ -28,7 +27,7 @@ use Rattle.link_open_plan.specs.declared.planning.Unopened.TheVariants as unopen
 use Rattle.link_startup.specs.StartParts.Harts.{IsLacking}
 use Rattle.link_startup.specs.declared.start_parts.harts.Unstarted.{Unstarted}
 use Rattle.link_startup.specs.declared.start_parts.harts.Unstarted.TheVariants as unstarted
-use Rattle.link_startup.specs.Startup.{FailsAs, IsNotStarted, IsOfNoFile, IsUnstarted, PlansStart, StartsWhole, refusal_of_start, refusal_unstarted, start_refusal, startup_refusal}
+use Rattle.link_startup.specs.Startup.{FailsAs, IsNotStarted, IsOfNoFile, IsUnstarted, PlansStart, StartsWhole, refusal_of_start, refusal_unstarted, startup_refusal}
 use Rattle.link_startup.proofs.First.{may_open, may_refuse}
 
 -- ---- a hart lacks a place to start
@@ -55,7 +54,7 @@ pub lacks_so : (setup : Setup) (files : Option (List File)) (news : NewObjects) 
     → past ≡ opening setup news.root news.added news.ranges ∷ [] → IsLacking past setup.program setup.harts why events → IsUnstarted (run_of setup files) setup events why
 lacks_so setup files news past events (unstarted.Refused fault) plan are lacks =
     subst (λ (es : List Event). FailsToStart (run_of setup files) setup fault es) (sym (lacks.are ∙ ap (λ (es : List Event). es ++ lacks.given) are))
-    (FailsToStart.lacks_hart news.root news.added news.ranges lacks.given fault (may_open setup files news plan)
+    (FailsToStart.lacks_hart news.root news.added news.ranges lacks.given fault refl (may_open setup files news plan)
     (subst (λ (es : List Event). LacksHart (run_of setup files) setup.program es 1 setup.harts lacks.given fault) are (lacks.lacks (run_of setup files))))
 lacks_so setup files news past events unstarted.Memory plan are lacks = tt
 
@@ -66,15 +65,7 @@ refused_so setup files ask old new fault none asked refuses is =
     let events : new.events ≡ Open 0 (program_ask setup) (Refused fault) ∷ [] =
     ap (λ (t : LinkTable). t.events) is ∙ ap (λ (past : List Event). past ++ Open 0 ask (Refused fault) ∷ []) none ∙ ap (λ (a : OpenAsk). Open 0 a (Refused fault) ∷ []) asked in
     subst (FailsToStart (run_of setup files) setup fault) (sym events)
-    (FailsToStart.is_not_opened fault (may_refuse setup files fault (subst (λ (a : OpenAsk). Refuses (run_of setup files) (after []) 0 a fault) asked refuses)))
-
--- ---- what the counts show
-
-pub counts_as_told : (Are : List ℕ → List (List ℕ) → Type 0) {X : Type 0} (failures failures' misses misses' : ℕ) (r : Result X Unstarted) → IfErr r IsOfNoFile
-    → ShowsInCounts Are (start_refusal r) failures failures' misses misses'
-counts_as_told Are failures failures' misses misses' (Ok x) free = counts_none Are failures failures' misses misses'
-counts_as_told Are failures failures' misses misses' (Err (unstarted.Refused fault)) free = counts_without Are failures failures' misses misses' (unopened.Refused fault) free
-counts_as_told Are failures failures' misses misses' (Err unstarted.Memory) free = counts_none Are failures failures' misses misses'
+    (FailsToStart.is_not_opened fault refl (may_refuse setup files fault (subst (λ (a : OpenAsk). Refuses (run_of setup files) (after []) 0 a fault) asked refuses)))
 
 -- ---- the same as callers get it
 

@@ -70,18 +70,6 @@ has_loaded hart root ask added ranges events are = record {
   same = ap after are;
 }
 
-pub still_loaded : (past events : List Event) (names : List (List ℕ)) (starts : List ℕ) (loaded : HasLoaded past) → FoundAll past names starts events → HasLoaded events
-still_loaded past events names starts loaded all = record {
-  hart = loaded.hart;
-  ask = loaded.ask;
-  root = loaded.root;
-  added = loaded.added;
-  ranges = loaded.ranges;
-  found = loaded.found ++ all.further.found;
-  are = all.further.are ∙ ap (λ (es : List Event). es ++ all.further.found) loaded.are;
-  same = all.same ∙ loaded.same;
-}
-
 -- as many harts start as there are names, and the first one
 found_are : (w : Setting) (past : List Event) (hart : ℕ) (names : List (List ℕ)) (found : List Event) (addresses : List ℕ) → FindHarts w past hart names found addresses
     → length addresses ≡ length names
@@ -162,6 +150,7 @@ module _ (setup : Setup) (files : Option (List File)) (news : NewObjects) (plan 
       → FoundAll past setup.harts starts events → entries ≡ entries_from (after events) 0 starts
       → Starts (run_of setup files) setup events (record { installs = installs; functions = functions; entries = entries })
   starts_so installs plain functions before starts entries events put constructed program with_them found given = record {
+    set_up = refl;
     root = news.root;
     added = news.added;
     ranges = news.ranges;

@@ -30,6 +30,7 @@ use Rattle.history_state.specs.Opening.Refuses.{stopped}
 use Rattle.history_state.specs.Parts.{file_of, placed}
 use Rattle.history_state.specs.Race as race
 use Rattle.history_state.specs.Relocating.{relocation_fault}
+use Rattle.history_state.specs.Setting.{Setting}
 use Rattle.history_state.specs.State.{empty_state}
 use Rattle.history_state.specs.Step.{loaded}
 use Rattle.history_state.specs.Storage.{tp_of}
@@ -37,12 +38,15 @@ use Rattle.history_state.specs.Lemmas.Played.{loads}
 use Rattle.history_state.specs.Lemmas.Raced.{race_legal}
 use Rattle.history_calls.specs.Lemmas.Readings.{reading_told, told_reads}
 use Rattle.history_calls.specs.Laws.{FailsOneWay, StartsOrFails}
-use Rattle.history_calls.specs.Startup.{FailsToStart, FindHarts, FindsStart, LacksHart, Starts, entries_from, found_at, hart_ask, is_executable, opening, program_ask}
+use Rattle.history_calls.specs.declared.link_served.startup.Setup.{Setup}
+use Rattle.history_calls.specs.Startup.{FailsToStart, FindHarts, FindsStart, IsSetUp, LacksHart, Starts, entries_from, found_at, hart_ask, is_executable}
+use Rattle.history_calls.specs.Startup.{opening, program_ask}
 use Rattle.history_calls.specs.Startup.FindHarts.{no_more, one_more}
 use Rattle.history_calls.specs.Startup.LacksHart.{is_not_code, is_refused}
 use Rattle.history_calls.specs.Startup.FailsToStart.{is_not_opened, lacks_hart}
-use Rattle.link_startup.specs.Worked.{HasNoProgram, LacksName, LooksOn, SharesAStack, StartsInData, StartsTwo, StopsAtData}
-use Rattle.link_startup.specs.Worked.{at_data, both_found, data_found, data_setting, h2_missing, h2_refused, holder, lacks_first, prog_placed, prog_ranges, setup_of, two_harts}
+use Rattle.link_startup.specs.Worked.{HasNoProgram, LacksName, LacksNameOfTwo, LooksOn, SharesAStack, StartsInData, StartsTwo, StopsAtData}
+use Rattle.link_startup.specs.Worked.{at_data, both_found, data_found, data_setting, h2_missing, h2_refused, holder, lacks_first, one_hart, prog_placed}
+use Rattle.link_startup.specs.Worked.{prog_ranges, setup_of, three_harts, three_ranges, two_harts}
 
 -- ---- two harts
 
@@ -57,6 +61,7 @@ finds_h1 = record { may = race_legal 1 (found_at 1 (codes "h1") 1 3 0x11058) ref
 pub starts_two : StartsTwo
 unfolding after_from loaded guest_address tp_of
 starts_two installs functions installed constructed = record {
+  set_up = refl;
   root = 1;
   added = prog_placed;
   ranges = prog_ranges;
@@ -87,17 +92,17 @@ shares_a_stack (installs, (functions, starts)) = another_stack starts.addresses 
 
 -- ---- a program that isn't there
 
-abbrev race_files : List File
-race_files = map file_of (race.prog ∷ race.libo ∷ race.libf ∷ race.libg ∷ [])
+abbrev prog_files : List File
+prog_files = map file_of (race.prog ∷ [])
 
 pub has_no_program : HasNoProgram
 unfolding after_from load_step finds find_path find_opened
-has_no_program = is_not_opened (MissingLibrary (codes "nope")) (record {
+has_no_program = is_not_opened (MissingLibrary (codes "nope")) refl (record {
   may = λ first. record { by_first = refl; base = refl; named = tt; flags = inl refl };
   refuses = stopped (codes "nope") 0 (MissingLibrary (codes "nope")) (record {
     named = record { asked = record { short = refl; flags = refl; namespace = (refl, refl) }; named = refl };
-    reading = reading_told race.setting race_files empty_state (program_ask (setup_of (codes "nope") [])) (codes "nope");
-    read = told_reads race.setting race_files empty_state (program_ask (setup_of (codes "nope") [])) (codes "nope") refl;
+    reading = reading_told one_hart prog_files empty_state (program_ask (setup_of (codes "nope") [])) (codes "nope");
+    read = told_reads one_hart prog_files empty_state (program_ask (setup_of (codes "nope") [])) (codes "nope") refl;
     loads = λ none. true≢false (sym none.noload);
     stops = record { steps = 1; is = refl };
   });
@@ -105,16 +110,53 @@ has_no_program = is_not_opened (MissingLibrary (codes "nope")) (record {
 
 -- ---- a name that isn't found
 
-refuses_h2 : Allowed race.setting (race.startup ∷ []) h2_refused
+abbrev three_opened : Event
+three_opened = opening lacks_first 1 prog_placed three_ranges
+
+opens_for_three : Allowed three_harts [] three_opened
+unfolding after_from relocation_fault loaded load_step finds find_path find_opened pages_of low_of high_of align_of own_address
+opens_for_three = record {
+  may = λ first. record { by_first = refl; base = refl; named = tt; flags = inl refl };
+  asked = record { short = refl; flags = refl; namespace = (refl, refl) };
+  name = loads three_harts prog_files empty_state 0 _ (codes "prog") 0 1 _ _ (1 ∷ []) 0 (record {
+    told = refl;
+    reads = refl;
+    walked = refl;
+    all = refl;
+    root_is = refl;
+    are = refl;
+    versions = refl;
+    modules = (tt, tt);
+    row = refl;
+    stand = (refl, refl, refl, refl, refl, (refl, refl, refl, refl, refl, (refl, refl, refl, refl, refl, (refl, refl, refl, refl, refl, tt))));
+    based = (refl, tt);
+    relocated = refl;
+  });
+}
+
+refuses_h2 : Allowed three_harts (three_opened ∷ []) h2_refused
 unfolding after_from loaded search in_global breadth pick_at linker_symbol
 refuses_h2 = (refl, missing (record { name = refl; version = refl }) refl)
 
 pub lacks_name : LacksName
-lacks_name = lacks_hart 1 prog_placed prog_ranges (h2_refused ∷ []) h2_missing opens (is_refused (race.startup ∷ []) 1 (codes "h2") (codes "h1" ∷ []) h2_missing refuses_h2)
+lacks_name = lacks_hart 1 prog_placed three_ranges (h2_refused ∷ []) h2_missing refl opens_for_three
+    (is_refused (three_opened ∷ []) 1 (codes "h2") (codes "h1" ∷ []) h2_missing refuses_h2)
+
+two_not_three : IsSetUp race.setting lacks_first → ⊥
+two_not_three e =
+    let few : 2 ≡ 3 = ap (λ (w : Setting). w.machine.harts) e in
+    omega (arith, few)
+
+is_set_up : (w : Setting) (setup : Setup) (fault : DlFault) (events : List Event) → FailsToStart w setup fault events → IsSetUp w setup
+is_set_up w setup fault events (is_not_opened _ set may) = set
+is_set_up w setup fault events (lacks_hart root added ranges more _ set may lacks) = set
+
+pub not_of_two : LacksNameOfTwo → ⊥
+not_of_two fails = two_not_three (is_set_up _ _ _ _ fails)
 
 pub looks_on : FailsOneWay → LooksOn → ⊥
 looks_on law fails =
-    let same = (law race.setting lacks_first race_files _ _ h2_missing h2_missing refl lacks_name fails refl refl).1 in
+    let same = (law three_harts lacks_first prog_files _ _ h2_missing h2_missing refl lacks_name fails refl refl).1 in
     let short : 2 ≡ 3 = ap length same in
     omega (arith, short)
 
@@ -159,9 +201,10 @@ unfolding after_from loaded role_at role_of own_address segment_at linked_with l
 is_no_code = refl
 
 pub stops_at_data : StopsAtData
-stops_at_data = lacks_hart 1 holder_placed prog_ranges (found_at 1 (codes "v") 1 1 0x13008 ∷ []) _ opens_holder
+stops_at_data = lacks_hart 1 holder_placed prog_ranges (found_at 1 (codes "v") 1 1 0x13008 ∷ []) _ refl opens_holder
     (is_not_code (data_opened ∷ []) 1 (codes "v") [] 1 1 0x13008 finds_v is_no_code)
 
 pub starts_in_data : StartsOrFails → StartsInData → ⊥
 starts_in_data law (started, starts) =
-    true≢false (sym (law data_setting at_data data_files starts.root starts.added starts.ranges starts.found data_found starts.addresses _ refl starts.opens starts.finds stops_at_data))
+    true≢false (sym (law data_setting at_data data_files starts.root starts.added starts.ranges starts.found data_found starts.addresses _ refl
+    starts.opens starts.finds stops_at_data))

@@ -1,5 +1,5 @@
 -- Worked starts of runs, each with one that it isn't.
-use Rattle.std.specs.Prelude.{ℕ, false, List, [], ◌∷◌, Some, None, codes}
+use Rattle.std.specs.Prelude.{ℕ, false, List, [], ◌∷◌, ◌++◌, Some, None, codes}
 use Rattle.ld_base.specs.declared.fault.DlFault.{DlFault}
 use Rattle.ld_base.specs.declared.fault.DlFault.TheVariants.{MissingLibrary, MissingSymbol, NotCode}
 use Rattle.ld_base.specs.declared.linking.Loaded.{Loaded}
@@ -64,14 +64,24 @@ SharesAStack = (installs : Installs) × ((functions : List Function) × Starts r
 
 -- ---- a program that isn't there
 
+abbrev pub one_hart : Setting
+one_hart = given 1 (race.prog ∷ [])
+
 abbrev pub HasNoProgram : Type 0
-HasNoProgram = FailsToStart race.setting (setup_of (codes "nope") []) (MissingLibrary (codes "nope"))
+HasNoProgram = FailsToStart one_hart (setup_of (codes "nope") []) (MissingLibrary (codes "nope"))
     (Open 0 (program_ask (setup_of (codes "nope") [])) (openings.Refused (MissingLibrary (codes "nope"))) ∷ [])
 
 -- ---- a name that isn't found
 
 abbrev pub lacks_first : Setup
 lacks_first = setup_of (codes "prog") (codes "h2" ∷ codes "h1" ∷ [])
+
+-- there is a stack for each of the three harts
+abbrev pub three_harts : Setting
+three_harts = given 3 (race.prog ∷ [])
+
+abbrev pub three_ranges : List Range
+three_ranges = prog_ranges ++ stack_at 2 0x34000 ∷ []
 
 abbrev pub h2_missing : DlFault
 h2_missing = MissingSymbol None (codes "h2") None
@@ -81,12 +91,16 @@ h2_refused = Sym 1 (hart_ask (codes "h2")) (symbols.Refused h2_missing)
 
 -- the run ends there
 abbrev pub LacksName : Type 0
-LacksName = FailsToStart race.setting lacks_first h2_missing (opening lacks_first 1 prog_placed prog_ranges ∷ h2_refused ∷ [])
+LacksName = FailsToStart three_harts lacks_first h2_missing (opening lacks_first 1 prog_placed three_ranges ∷ h2_refused ∷ [])
+
+-- over a setting of fewer harts than are set up nothing starts or fails
+abbrev pub LacksNameOfTwo : Type 0
+LacksNameOfTwo = FailsToStart race.setting lacks_first h2_missing (opening lacks_first 1 prog_placed prog_ranges ∷ h2_refused ∷ [])
 
 -- and the later name isn't looked up
 abbrev pub LooksOn : Type 0
-LooksOn = FailsToStart race.setting lacks_first h2_missing
-    (opening lacks_first 1 prog_placed prog_ranges ∷ h2_refused ∷ found_at 2 (codes "h1") 1 3 0x11058 ∷ [])
+LooksOn = FailsToStart three_harts lacks_first h2_missing
+    (opening lacks_first 1 prog_placed three_ranges ∷ h2_refused ∷ found_at 2 (codes "h1") 1 3 0x11058 ∷ [])
 
 -- ---- a name that is found, but no code
 

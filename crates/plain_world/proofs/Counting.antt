@@ -103,9 +103,9 @@ started_shows w setup journal started first last rise is =
 pub failed_shows : (w : Setting) (setup : Setup) (fault : DlFault) (events : List Event) (first last : Counts) → Rise first last → FailsToStart w setup fault events
     → ShowsInCounts (ArePathsAtStart setup.folders setup.program) (Some fault) first.faults last.faults first.misses last.misses
     → ShowInCounts setup.folders events first last
-failed_shows w setup fault events first last rise (FailsToStart.is_not_opened _ may) shows =
+failed_shows w setup fault events first last rise (FailsToStart.is_not_opened _ set may) shows =
     refusal_shows (ArePathsAtStart setup.folders setup.program) setup.folders (some_at_start setup.folders setup.program) 0 (program_ask setup) fault first last rise shows
-failed_shows w setup fault events first last rise (FailsToStart.lacks_hart root added ranges more _ may lacks) shows =
+failed_shows w setup fault events first last rise (FailsToStart.lacks_hart root added ranges more _ set may lacks) shows =
     spare_counts setup.folders first last (opening setup root added ranges ∷ more) rise
     (lacks_spares w setup.program (opening setup root added ranges ∷ []) 1 setup.harts more fault lacks)
 
@@ -122,10 +122,6 @@ pub unstarted_shows : (w : Setting) (setup : Setup) (result : Result WorldTable 
 unstarted_shows w setup (Ok run) why first last rise is fails shows = absurd is
 unstarted_shows w setup (Err e) why first last rise is fails shows =
     subst (λ (x : StartFault). ShowInCounts setup.folders (start_events (Err x)) first last) (sym is) (fault_shows w setup why first last rise fails shows)
-
--- and so does want of memory
-pub memory_shows : (folders : List (List ℕ)) (first last : Counts) → Rise first last → ShowInCounts folders [] first last
-memory_shows folders first last rise = spare_counts folders first last [] rise refl
 
 -- ---- a run
 

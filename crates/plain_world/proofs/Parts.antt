@@ -24,15 +24,6 @@ same_world old new words words' before behind state memory harts =
     ap (λ (s : LinkTable). world_of s words' behind) state ∙ ap (λ (ws : List Doubleword). world_of old ws behind) memory
     ∙ ap (λ (bs : List HartState). record { journal = old.events; words = words; harts = bs }) harts
 
-in_length : (harts : List HartTable) → length (harts_in harts) ≡ length harts
-in_length [] = refl
-in_length (h ∷ rest) = let again : length (harts_in rest) ≡ length rest = in_length rest in omega (arith, again)
-
--- there are as many as the run has
-pub all_there : (count : ℕ) (folders : List (List ℕ)) (begun : Bool) (state : LinkTable) (words : List Doubleword) (harts : List HartTable)
-    → MayBeAt count folders begun (world_of state words harts) → length harts ≡ count
-all_there count folders begun state words harts at = sym (in_length harts) ∙ at.running.sound.harts
-
 pub all_in : (p : HartState → Bool) (harts : List HartTable) → list_all (λ h. p h.hart) harts ≡ list_all p (harts_in harts)
 all_in p [] = refl
 all_in p (h ∷ rest) = ap (λ (t : Bool). p h.hart && t) (all_in p rest)

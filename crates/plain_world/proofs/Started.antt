@@ -83,7 +83,6 @@ pub starts_at : (setup : Setup) (files : Option (List File)) (state now : LinkTa
 starts_at setup files state now started words harts entry is same memory set first =
     subst (λ (s : LinkTable). StartsAt (run_of setup files) setup (world_of s words harts) entry) (sym same) (record {
       starts = record {
-        setting = refl;
         started = started;
         starts = is;
         fresh = memory.fresh;

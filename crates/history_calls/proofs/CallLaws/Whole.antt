@@ -28,6 +28,7 @@ use Rattle.history_calls.specs.Served.{IsServed}
 use Rattle.history_calls.specs.Startup.{FailsToStart, FindHarts, opening}
 use Rattle.history_calls.specs.CallLaws.Coming.{IsOver, OpensWhole, refusal_of}
 use Rattle.history_calls.specs.CallLaws.Counts.{FaultsShow}
+use Rattle.history_calls.proofs.OneStartup.{no_chance}
 
 -- which path a failed read is of
 is_of_read : (fault : DlFault) → is_read_fault fault ≡ true → (path : List ℕ) × (fault ≡ faults.ReadFault path)
@@ -60,10 +61,6 @@ starts_unless law w setup files root added ranges found failed addresses fault f
 abbrev open_answer : ℕ → List Loaded → Answer
 open_answer root [] = returns root
 open_answer root (first ∷ rest) = loading root (first ∷ rest)
-
-no_chance : (root : ℕ) (added : List Loaded) → is_chance (open_answer root added) ≡ false
-no_chance root [] = refl
-no_chance root (first ∷ rest) = refl
 
 gives_open : (w : Setting) (past : List Event) (h id root : ℕ) (ask : OpenAsk) (added : List Loaded) (ranges : List Range) → Allowed w past (Open h ask (openings.Done id root added ranges))
     → Gives w past h (opens ask) (Open h ask (openings.Done id root added ranges) ∷ []) (open_answer root added)

@@ -1,5 +1,5 @@
 -- What a call gives over told files, and how a run starts, it gives and starts over untold ones.
-use Rattle.std.proofs.Common.{ℕ, ◌+◌, List, [], ◌∷◌, ◌++◌}
+use Rattle.std.proofs.Common.{ℕ, ◌+◌, List, [], ◌∷◌, ◌++◌, ap}
 use Rattle.ld_base.specs.declared.fault.Shown.{Shown}
 use Rattle.history_event.specs.declared.event.Event.{Event}
 use Rattle.history_calls.specs.declared.link_served.startup.Setup.{Setup}
@@ -66,6 +66,7 @@ find_harts w past h names events addresses (one_more _ _ name rest serial index 
 pub starts : (w : Setting) (setup : Setup) (journal : List Event) (started : Started) → Starts w setup journal started
     → Starts (untold w) setup journal started
 starts w setup journal started s = record {
+  set_up = ap untold s.set_up;
   root = s.root;
   added = s.added;
   ranges = s.ranges;

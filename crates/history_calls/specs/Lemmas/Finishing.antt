@@ -30,6 +30,7 @@ use Rattle.history_state.specs.Lemmas.Lists.{from_filter, has_in, has_not, here,
 use Rattle.history_state.specs.Lemmas.Once.{dies_once}
 use Rattle.history_state.specs.Lemmas.Tidy.{in_at}
 use Rattle.history_calls.specs.Functions.{left, object_of, passed}
+use Rattle.history_state.specs.Lemmas.Finalised.{from_reverse}
 
 -- ---- filters
 
@@ -96,16 +97,9 @@ once_push (y ∷ xs) x once out = (
   once_push xs x once.1 (λ h. out (later y xs x h)),
 )
 
-reverse_in : (xs : List ℕ) (x : ℕ) → Contains (reverse xs) x → Contains xs x
-reverse_in [] x h = absurd (none_in x h)
-reverse_in (y ∷ xs) x h = ⊎_elim
-    (λ (i : Contains (reverse xs) x). later y xs x (reverse_in xs x i))
-    (λ (e : y ≡ x). subst (Contains (y ∷ xs)) e (here y xs))
-    (Contains-push_cases (reverse xs) y x (subst (λ (ys : List ℕ). Contains ys x) (reverse_onto xs y []) h))
-
 once_reverse : (xs : List ℕ) → AllOnce xs → AllOnce (reverse xs)
 once_reverse [] once = tt
-once_reverse (x ∷ xs) once = subst AllOnce (sym (reverse_onto xs x [])) (once_push (reverse xs) x (once_reverse xs once.1) (λ h. once.0 (reverse_in xs x h)))
+once_reverse (x ∷ xs) once = subst AllOnce (sym (reverse_onto xs x [])) (once_push (reverse xs) x (once_reverse xs once.1) (λ h. once.0 (from_reverse xs x h)))
 
 -- ---- one object more is finalised
 

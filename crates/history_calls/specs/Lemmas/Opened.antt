@@ -61,7 +61,7 @@ good_or_bad s (Some n) None id bad x y = y.1 x.1
 good_or_bad s None (Some name) id bad x y = y
 good_or_bad s None None id bad x y = x
 
-good_or_full : (s : State) (ns : Option ℕ) (name : Option (List ℕ)) (id : ℕ) → IsNamespace s ns name id → AreNamespacesFull s ns name → ⊥
+pub good_or_full : (s : State) (ns : Option ℕ) (name : Option (List ℕ)) (id : ℕ) → IsNamespace s ns name id → AreNamespacesFull s ns name → ⊥
 good_or_full s (Some n) name id x y = y
 good_or_full s None (Some name) id x y = true≢false (sym (y id x.below) ∙ x.free)
 good_or_full s None None id x y = y

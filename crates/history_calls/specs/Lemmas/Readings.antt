@@ -5,9 +5,6 @@ use Rattle.std.specs.Str.{bytes_eq}
 use Rattle.ld_base.specs.declared.fault.DlFault.TheVariants as faults
 use Rattle.ld_base.specs.declared.linking.File.{File}
 use Rattle.ld_base.specs.declared.linking.Loaded.{Loaded}
-use Rattle.ld_base.specs.declared.fault.NotAccepted.{NotAccepted}
-use Rattle.ld_base.specs.declared.object.Object.{Object}
-use Rattle.ld_base.specs.declared.parts.HashTable.{HashTable}
 use Rattle.library_source.specs.Files.{file_at}
 use Rattle.history_event.specs.declared.event.OpenAsk.{OpenAsk}
 use Rattle.scope_rule.specs.declared.arrival.Arrival.{Arrival}
@@ -17,7 +14,7 @@ use Rattle.history_state.specs.Flags.{is_noload}
 use Rattle.history_state.specs.Objects.{is_startup}
 use Rattle.history_state.specs.Setting.{MayHold, MayRead, Readings, ReadingsBy, Setting}
 use Rattle.history_state.specs.State.{State}
-use Rattle.history_state.specs.Lemmas.Played.{reading_by, readings, told}
+use Rattle.history_state.specs.Lemmas.Played.{may_read, reading_by, readings, told}
 
 -- a reading that gives what another one does, or fails
 abbrev pub Near : (List ℕ → Reading) → (List ℕ → Reading) → Type 0
@@ -157,18 +154,9 @@ near_by false w files s name r are all path = read_is w files (is_startup s && b
 pub near_told : (w : Setting) (files : List File) (s : State) (ask : OpenAsk) (name : List ℕ) (r : List ℕ → Reading) → w.files ≡ Some files → Readings w s ask name r → Near r (reading_told w files s ask name)
 near_told w files s ask name r are read = near_by (is_noload ask.flags) w files s name r are read
 
--- and what they say may be read
-told_by : (w : Setting) (files : List File) (program : Bool) (path : List ℕ) (found : Option (List ℕ)) → w.files ≡ Some files → file_at files path ≡ found → MayRead w program path (told w.machine program found)
-told_by w files program path None are is = subst (λ all. MayHold all path None) (sym are) is
-told_by w files program path (Some bytes) are is = at (w.machine.verdict bytes program) refl
-  where
-    at : (r : Result (Object × HashTable) NotAccepted) → w.machine.verdict bytes program ≡ r → MayRead w program path (reading_by r)
-    at (Ok x) e = (bytes, subst (λ all. MayHold all path (Some bytes)) (sym are) is, e)
-    at (Err broken) e = (bytes, subst (λ all. MayHold all path (Some bytes)) (sym are) is, e)
-
 reads_by : (b : Bool) (w : Setting) (files : List File) (s : State) (name : List ℕ) → w.files ≡ Some files → ReadingsBy b w s name (by_flag b w files s name)
 reads_by true w files s name are = λ path. refl
-reads_by false w files s name are = λ path. told_by w files (is_startup s && bytes_eq name path) path (file_at files path) are refl
+reads_by false w files s name are = λ path. may_read w files (is_startup s && bytes_eq name path) path (file_at files path) are refl
 
 pub told_reads : (w : Setting) (files : List File) (s : State) (ask : OpenAsk) (name : List ℕ) → w.files ≡ Some files → Readings w s ask name (reading_told w files s ask name)
 told_reads w files s ask name are = reads_by (is_noload ask.flags) w files s name are

@@ -57,8 +57,8 @@ starts_legal w setup journal started starts =
     subst (Legal w) (sym starts.are) (harts_legal w (opening setup starts.root starts.added starts.ranges ∷ []) 1 setup.harts starts.found starts.addresses first starts.finds)
 
 pub fails_legal : (w : Setting) (setup : Setup) (fault : DlFault) (journal : List Event) → FailsToStart w setup fault journal → Legal w journal
-fails_legal w setup fault journal (FailsToStart.is_not_opened _ may) = legal_push w [] (Open 0 (program_ask setup) (openings.Refused fault)) (none_legal w) may
-fails_legal w setup fault journal (FailsToStart.lacks_hart root added ranges events _ may lacks) =
+fails_legal w setup fault journal (FailsToStart.is_not_opened _ set may) = legal_push w [] (Open 0 (program_ask setup) (openings.Refused fault)) (none_legal w) may
+fails_legal w setup fault journal (FailsToStart.lacks_hart root added ranges events _ set may lacks) =
     lacks_legal w setup.program (opening setup root added ranges ∷ []) 1 setup.harts events fault (legal_push w [] (opening setup root added ranges) (none_legal w) may) lacks
 
 an_address_each : (w : Setting) (past : List Event) (h : ℕ) (names : List (List ℕ)) (events : List Event) (addresses : List ℕ) → FindHarts w past h names events addresses → length addresses ≡ length names

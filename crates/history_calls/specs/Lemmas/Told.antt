@@ -1,5 +1,5 @@
 -- What a call other than an opening gives is settled by the state.
-use Rattle.std.proofs.Common.{◌≡◌, ⊎_elim, ℕ, ◌+◌, ◌*◌, ◌≤◌, Bool, true, false, List, [], ◌∷◌, ◌++◌, length, map, Option, Some, None, refl, sym, ap, subst, ◌∙◌, arith}
+use Rattle.std.proofs.Common.{◌≡◌, ⊎_elim, ℕ, ◌+◌, ◌*◌, ◌≤◌, Bool, true, false, List, [], ◌∷◌, ◌++◌, length, map, Some, None, refl, sym, ap, subst, ◌∙◌, arith}
 use Rattle.std.specs.List.{Contains, slice_get}
 use Rattle.std.proofs.lemmas.Bool.{true≢false}
 use Rattle.ld_base.specs.declared.fault.DlFault.{DlFault}
@@ -130,7 +130,7 @@ pub data LookedUp (w : Setting) (past : List Event) (h : ℕ) (ask : SymAsk) : L
   refuses : (fault : DlFault) → RefusesSymbol (after past) h ask fault → LookedUp w past h ask (events.Sym h ask (symbols.Refused fault) ∷ []) (refused fault)
 
 -- a block changes no search, and no definition
-searches_on : (s : State) (h serial block : ℕ) (ask : SymAsk) → search (step s (events.Tls h serial block)) ask ≡ search s ask
+pub searches_on : (s : State) (h serial block : ℕ) (ask : SymAsk) → search (step s (events.Tls h serial block)) ask ≡ search s ask
 unfolding search
 searches_on s h serial block ask = refl
 
@@ -167,9 +167,6 @@ first_of {w} {past} {h} {ask} {e} {f} {value} x = record {
 
     find : MayAnswer (step (after past) (events.Tls h x.serial x.block)) h ask (symbols.Found x.serial x.index value) → FindsSymbol (step (after past) (events.Tls h x.serial x.block)) h ask x.serial x.index value
     find may = may.1
-
-abbrev finds_in : {s : State} {h : ℕ} {ask : SymAsk} {e f : Event} {value : ℕ} → First s h ask e f value → Option (Option (ℕ × ℕ))
-finds_in {s} {h} {ask} x = search s ask
 
 first_found : {s : State} {h : ℕ} {ask : SymAsk} {e f : Event} {value : ℕ} (x : First s h ask e f value) → search s ask ≡ Some (Some (x.serial, x.index))
 first_found {s} {h} {ask} x = sym (searches_on s h x.serial x.block ask) ∙ x.found.found

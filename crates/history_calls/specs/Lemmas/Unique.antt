@@ -1,6 +1,6 @@
 -- What a state settles: the slot that is asked for, what a closing takes, a block's address, a symbol's fault.
-use Rattle.std.proofs.Common.{◌≡◌, ℕ, ◌+◌, ◌*◌, ◌≤◌, Bool, true, false, cond, eqb, List, [], ◌∷◌, length, Option, Some, None, refl, sym, ap, subst, ◌∙◌, arith}
-use Rattle.std.specs.List.{Contains, filter, slice_get}
+use Rattle.std.proofs.Common.{◌≡◌, ℕ, ◌+◌, ◌*◌, ◌≤◌, Bool, true, false, eqb, List, length, Option, Some, None, refl, sym, ap, subst, ◌∙◌, arith}
+use Rattle.std.specs.List.{Contains, slice_get}
 use Rattle.std.specs.Option.{option_map}
 use Rattle.std.specs.Prelude.{◌%◌, ◌^◌, if◌then◌else◌}
 use Rattle.std.proofs.lemmas.Bool.{le-leb, true≢false}
@@ -28,7 +28,7 @@ use Rattle.history_state.specs.Objects.{object_at}
 use Rattle.history_state.specs.Slots.{IsSlot, lazy_of}
 use Rattle.history_state.specs.State.{State}
 use Rattle.history_state.specs.Storage.{block_align, block_pages, residue, tls_block}
-use Rattle.history_state.specs.Lemmas.Lists.{here, later}
+use Rattle.history_state.specs.Lemmas.Lists.{filter_alike}
 
 some_is : {X : Type 0} (x y : X) → Some x ≡ Some y → x ≡ y
 some_is x y e = cc
@@ -65,13 +65,6 @@ same_slot s apart owner slot c d a b =
     }
 
 -- ---- closings
-
--- what a test keeps of a list is settled by what it says of the list's elements
-filter_alike : (p q : ℕ → Bool) (xs : List ℕ) → ((x : ℕ) → Contains xs x → p x ≡ q x) → filter p xs ≡ filter q xs
-filter_alike p q [] same = refl
-filter_alike p q (x ∷ xs) same =
-    ap (λ (b : Bool). cond b (x ∷ filter p xs) (filter p xs)) (same x (here x xs))
-    ∙ ap (λ (ys : List ℕ). cond (q x) (x ∷ ys) ys) (filter_alike p q xs (λ y h. same y (later x xs y h)))
 
 same_truth : (a b : Bool) → (a ≡ true → b ≡ true) → (b ≡ true → a ≡ true) → a ≡ b
 same_truth true b to from = sym (to refl)
@@ -146,10 +139,6 @@ abbrev pub has_found : Option (Option (ℕ × ℕ)) → Bool
 has_found None = false
 has_found (Some None) = false
 has_found (Some (Some x)) = true
-
-abbrev has_searched : Option (Option (ℕ × ℕ)) → Bool
-has_searched None = false
-has_searched (Some x) = true
 
 pub record SameSymbol (serial index other at : ℕ) : Type 0 where
   pub serials : serial ≡ other

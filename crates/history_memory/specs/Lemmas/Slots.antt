@@ -30,10 +30,6 @@ there_and_back : (base a : ℕ) → base < 2 ^ 64 → a < 2 ^ 64 → guest_addre
 unfolding guest_address own_address
 there_and_back base a low word = omega (arith, low, word)
 
-same_own : (base a b : ℕ) → base < 2 ^ 64 → a < 2 ^ 64 → b < 2 ^ 64 → own_address base a ≡ own_address base b → a ≡ b
-same_own base a b low first second same =
-    sym (there_and_back base a low first) ∙ ap (guest_address base) same ∙ there_and_back base b low second
-
 own_low : (base a : ℕ) → own_address base a < 2 ^ 64
 unfolding own_address
 own_low base a = omega arith

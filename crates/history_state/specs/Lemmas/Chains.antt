@@ -1,5 +1,5 @@
 -- What chains of edges lead to, by computation: a set that holds the roots and each edge's target where it holds the source is all.
-use Rattle.std.proofs.Common.{◌≡◌, ⊎_elim, ℕ, zero, suc, ◌<◌, Bool, true, false, not, ◌&&◌, ◌||◌, cond, eqb, List, [], ◌∷◌, ◌++◌, map, length, Some, refl, sym, ap, subst, ◌∙◌, arith}
+use Rattle.std.proofs.Common.{◌≡◌, ⊎_elim, ℕ, zero, suc, ◌<◌, Bool, true, false, not, ◌&&◌, ◌||◌, eqb, List, [], ◌∷◌, ◌++◌, map, length, Some, refl, sym, ap, subst, ◌∙◌, arith}
 use Rattle.std.specs.List.{Contains, filter, list_all, list_any, slice_get}
 use Rattle.std.proofs.lemmas.Bool.{and_parts, cases_Bool, eq-eqb, not-true, or_cases, true≢false}
 use Rattle.std.proofs.lemmas.List.Elements.{Contains-append_cases}
@@ -8,7 +8,7 @@ use Rattle.history_graph.specs.Initialised.{InitNext, MayStart, Reaches}
 use Rattle.history_graph.specs.Reached.{Reached, Unneeded}
 use Rattle.history_graph.specs.Reached.Reached.{root, on}
 use Rattle.history_state.specs.Objects.{has}
-use Rattle.history_state.specs.Lemmas.Lists.{first_or_later, from_filter, from_map, has_in, in_any, any_in, here, later, none_in}
+use Rattle.history_state.specs.Lemmas.Lists.{any_in, filter_alike, first_or_later, from_filter, from_map, has_in, here, in_any, later, none_in}
 
 pub in_all : {X : Type 0} (p : X → Bool) (xs : List X) (x : X) → list_all p xs ≡ true → Contains xs x → p x ≡ true
 in_all p [] x all h = absurd (none_in x h)
@@ -155,12 +155,6 @@ init_next edges done before o rest may others = record {
 }
 
 -- ---- what is left
-
-filter_alike : (p q : ℕ → Bool) (xs : List ℕ) → ((x : ℕ) → Contains xs x → p x ≡ q x) → filter p xs ≡ filter q xs
-filter_alike p q [] same = refl
-filter_alike p q (x ∷ xs) same =
-    ap (λ (b : Bool). cond b (x ∷ filter p xs) (filter p xs)) (same x (here x xs))
-    ∙ ap (λ (ys : List ℕ). cond (q x) (x ∷ ys) ys) (filter_alike p q xs (λ y h. same y (later x xs y h)))
 
 -- no other set is it
 pub left_alone : (edges : List Edge) (roots nodes set : List ℕ) → is_all edges roots ≡ true → Unneeded edges roots nodes set → set ≡ left_of edges roots nodes

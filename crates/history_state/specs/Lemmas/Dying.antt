@@ -28,7 +28,7 @@ use Rattle.history_state.specs.Lemmas.Good.{ChoseBy, HeldBy, Inside, Keeps, Lead
 
 -- ---- changes of namespaces
 
-lowered_root : (handle : ℕ) (r : OpenRec) → (lowered_open handle r).root ≡ r.root
+pub lowered_root : (handle : ℕ) (r : OpenRec) → (lowered_open handle r).root ≡ r.root
 lowered_root handle r = by (eqb r.root handle)
   where
     by : (b : Bool) → (if b then record r { count = r.count - 1 } else r).root ≡ r.root

@@ -154,3 +154,19 @@ any_reverse p [] = refl
 any_reverse p (x ∷ xs) =
     ap (list_any p) (reverse_onto xs x []) ∙ list_any-append p (reverse xs) (x ∷ []) ∙ ap (λ (b : Bool). b || (p x || false)) (any_reverse p xs)
     ∙ or_comm (list_any p xs) (p x || false) ∙ ap (λ (b : Bool). b || list_any p xs) (or-false (p x))
+
+-- tests that agree on a list pick the same of it
+pub filter_alike : (p q : ℕ → Bool) (xs : List ℕ) → ((x : ℕ) → Contains xs x → p x ≡ q x) → filter p xs ≡ filter q xs
+filter_alike p q [] same = refl
+filter_alike p q (x ∷ xs) same =
+    ap (λ (b : Bool). cond b (x ∷ filter p xs) (filter p xs)) (same x (here x xs))
+    ∙ ap (λ (ys : List ℕ). cond (q x) (x ∷ ys) ys) (filter_alike p q xs (λ y h. same y (later x xs y h)))
+
+pub same_test : (x y : ℕ) → eqb x y ≡ eqb y x
+same_test x y = at (eqb x y) (eqb y x) refl refl
+  where
+    at : (a b : Bool) → eqb x y ≡ a → eqb y x ≡ b → a ≡ b
+    at true true p q = refl
+    at false false p q = refl
+    at true false p q = absurd (true≢false (sym (eq-eqb y x (sym (eqb-true x y p))) ∙ q))
+    at false true p q = absurd (true≢false (sym (eq-eqb x y (sym (eqb-true y x q))) ∙ p))

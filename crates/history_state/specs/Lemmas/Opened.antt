@@ -56,3 +56,10 @@ members all id b before change ns h = by (list_any (has_id id) all) refl h
             (λ (j : Contains all b). absurd (true≢false (sym (eq-eqb b.id id before.numbered) ∙ in_any_not (has_id id) all b none j)))
             (λ (is : b ≡ empty_namespace id). is)
             was
+
+pub changed_keeps : (id : ℕ) (change : Namespace → Namespace) → ((ns : Namespace) → (change ns).id ≡ ns.id) → (ns : Namespace) → (changed_at id change ns).id ≡ ns.id
+changed_keeps id change same ns = at (has_id id ns)
+  where
+    at : (b : Bool) → (if b then change ns else ns).id ≡ ns.id
+    at true = same ns
+    at false = refl

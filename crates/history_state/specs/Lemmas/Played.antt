@@ -44,7 +44,7 @@ use Rattle.scope_rule.specs.Seen.{seen_in}
 use Rattle.history_state.specs.Lemmas.Chains.{in_all, init_next, is_all, left_alone, left_of, may_not_start, may_start, starts_not, unneeded}
 use Rattle.history_state.specs.Areas.{AreBased, AreGiven, free_pages}
 use Rattle.history_state.specs.Flags.{is_deepbind, is_noload}
-use Rattle.history_state.specs.Grants.{is_bound, is_bound_standing, is_of, is_open, is_open_standing}
+use Rattle.history_state.specs.Grants.{is_bound, is_bound_standing, is_of, is_open}
 use Rattle.history_state.specs.Legal.{IsOnlyBound, Legal, Settled, Whole}
 use Rattle.history_state.specs.Links.{IsUnneeded, edges, finis_of, found_edges, roots}
 use Rattle.history_state.specs.Lookup.{FindsSymbol, MayHaveBlock, search}
@@ -57,6 +57,7 @@ use Rattle.history_state.specs.Storage.{HaveModules, block_align, block_pages, m
 use Rattle.history_state.specs.Lemmas.History.{after_push, legal_push}
 use Rattle.history_state.specs.Lemmas.InRow.{AreInRow, StandInRow, fits_next, free_from, given_in_row}
 use Rattle.history_state.specs.Lemmas.Lists.{at_in, first_or_later, here as first_in, in_any, in_flat, none_in, only_in}
+use Rattle.history_state.specs.Lemmas.Standing.{is_open_of}
 
 -- ---- one event after another
 
@@ -92,7 +93,7 @@ told m program (Some bytes) = reading_by (m.verdict bytes program)
 abbrev pub readings : Setting → List File → State → List ℕ → List ℕ → Reading
 readings w files s name path = told w.machine (is_startup s && bytes_eq name path) (file_at files path)
 
-may_read : (w : Setting) (files : List File) (program : Bool) (path : List ℕ) (found : Option (List ℕ)) → w.files ≡ Some files → file_at files path ≡ found
+pub may_read : (w : Setting) (files : List File) (program : Bool) (path : List ℕ) (found : Option (List ℕ)) → w.files ≡ Some files → file_at files path ≡ found
     → MayRead w program path (told w.machine program found)
 may_read w files program path None are is = subst (λ all. MayHold all path None) (sym are) is
 may_read w files program path (Some bytes) are is = at (w.machine.verdict bytes program) refl
@@ -153,12 +154,9 @@ loads w files s hart ask name id root added ranges leads first c = record {
 
 -- ---- grants
 
-open_standing : (standing : Standing) → standing ≡ Open → is_open_standing standing ≡ true
-open_standing standing e = subst (λ (x : Standing). is_open_standing x ≡ true) (sym e) refl
-
 pub no_grant : (s : State) (hart : ℕ) → list_any (λ g. is_open g && eqb g.hart hart) s.grants ≡ false → HasNoGrant s hart
 no_grant s hart none g there open_yet same =
-    true≢false (sym (in_any (λ (x : Granting). is_open x && eqb x.hart hart) s.grants g there (and_from (is_open g) (eqb g.hart hart) (open_standing g.standing open_yet) (eq-eqb g.hart hart same))) ∙ none)
+    true≢false (sym (in_any (λ (x : Granting). is_open x && eqb x.hart hart) s.grants g there (and_from (is_open g) (eqb g.hart hart) (is_open_of g.standing open_yet) (eq-eqb g.hart hart same))) ∙ none)
 
 bound_standing : (standing : Standing) → standing ≡ Bound → is_bound_standing standing ≡ true
 bound_standing standing e = subst (λ (x : Standing). is_bound_standing x ≡ true) (sym e) refl
@@ -399,7 +397,7 @@ may_unmap {closing} s hart k first rest at by whole done none = record {
   by = by;
   whole = whole;
   done = done;
-  free = λ g d there open_yet. absurd (true≢false (sym (in_any is_open s.grants g there (open_standing g.standing open_yet)) ∙ none));
+  free = λ g d there open_yet. absurd (true≢false (sym (in_any is_open s.grants g there (is_open_of g.standing open_yet)) ∙ none));
 }
 
 -- ---- wrong constructors, and wrong answers

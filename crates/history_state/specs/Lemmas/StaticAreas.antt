@@ -48,10 +48,10 @@ use Rattle.history_state.specs.Lemmas.Static.{Static, Stay, Was, none_later, sta
 
 -- ---- what is given for what is wanted
 
-abbrev For : Area → Range → Type 0
+abbrev pub For : Area → Range → Type 0
 For a r = (r.pages ≡ a.pages) × (r.purpose ≡ a.purpose)
 
-given_area : (free : List ℕ) (areas : List Area) (ranges : List Range) (left : List ℕ) → AreGiven free areas ranges left → (r : Range) → Contains ranges r → (a : Area) × Contains areas a × For a r
+pub given_area : (free : List ℕ) (areas : List Area) (ranges : List Range) (left : List ℕ) → AreGiven free areas ranges left → (r : Range) → Contains ranges r → (a : Area) × Contains areas a × For a r
 given_area free [] [] left g r h = absurd (none_in r h)
 given_area free [] (q ∷ qs) left g r h = absurd g
 given_area free (a ∷ more) [] left g r h = absurd g

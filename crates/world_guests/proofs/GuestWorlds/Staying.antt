@@ -42,11 +42,10 @@ module _ (laws : Laws) where
       → untold w ≡ setting_without count setup.folders setup.preload
   without w setup world count same started =
       ap (λ (m : Machine). record (untold w) { machine = m }) same
-      ∙ ap (λ (v : Setting). setting_without count v.folders v.preload) started.setting
+      ∙ ap (λ (v : Setting). setting_without count v.folders v.preload) started.starts.set_up
 
   untold_start : (w : Setting) (setup : Setup) (world : World) → IsStarted w setup world → IsStarted (untold w) setup world
   untold_start w setup world x = record {
-    setting = ap untold x.setting;
     started = x.started;
     starts = laws.untold_starts w setup world.journal x.started x.starts;
     fresh = x.fresh;

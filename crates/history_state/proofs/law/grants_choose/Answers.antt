@@ -4,15 +4,12 @@ use Rattle.ld_base.specs.declared.linking.Choice.TheVariants.{Missing, WeakZero}
 use Rattle.history_state.specs.Addresses.{address, leads_to_code}
 use Rattle.history_state.specs.After.{after}
 use Rattle.history_state.specs.State.{State}
+use Rattle.history_state.specs.Lemmas.Standing.{weak_leads}
 use Rattle.history_state.proofs.law.grants_choose.Goals as goal
 
 none_missing : (s : State) (lazy : ℕ) → leads_to_code s lazy Missing ≡ false
 unfolding leads_to_code
 none_missing s lazy = refl
-
-weak_leads : (s : State) (lazy : ℕ) → leads_to_code s lazy WeakZero ≡ true
-unfolding leads_to_code
-weak_leads s lazy = refl
 
 weak_zero : (s : State) → address s WeakZero ≡ 0
 unfolding address

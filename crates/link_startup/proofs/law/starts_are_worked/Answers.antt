@@ -1,4 +1,4 @@
-use Rattle.link_startup.proofs.Worked.{has_no_program, lacks_name, looks_on, shares_a_stack, starts_in_data, starts_two, stops_at_data}
+use Rattle.link_startup.proofs.Worked.{has_no_program, lacks_name, looks_on, not_of_two, shares_a_stack, starts_in_data, starts_two, stops_at_data}
 use Rattle.link_startup.proofs.law.starts_are_worked.Goals as goal
 
 pub returns-clause-two : goal.returns-clause-two
@@ -15,6 +15,9 @@ returns-clause-no_name c = lacks_name
 
 pub returns-clause-no_later : goal.returns-clause-no_later
 returns-clause-no_later c = looks_on c.one_startup.ensures.fails
+
+pub returns-clause-of_its_harts : goal.returns-clause-of_its_harts
+returns-clause-of_its_harts c = not_of_two
 
 pub returns-clause-no_code : goal.returns-clause-no_code
 returns-clause-no_code c = stops_at_data
