@@ -366,11 +366,13 @@ moves_once one leads w past h b (Due.finalise code object) did c d x y = object_
 pub one_hart : OneEnd → StepLeads → OneHart
 one_hart one leads w past h b c other did x y = moves_once one leads w past h b (due (after past) b) did c other x y
 
-follows_once : OneHart → (w : Setting) (journal : List Event) (h from : ℕ) (b c other : HartState) (turns : List Turned) → Follows w journal h from b turns c → Follows w journal h from b turns other → c ≡ other
-follows_once one w journal h from b c other turns (Follows.no_more _ _) (Follows.no_more _ _) = refl
-follows_once one w journal h from b c other turns (Follows.one_more _ _ x _ turn rest late none move are more) (Follows.one_more _ _ y _ _ _ later nor moved stand others) =
-    follows_once one w journal h (turn.at + length (events_of turn.did)) x c other rest more
-    (subst (λ (z : HartState). Follows w journal h (turn.at + length (events_of turn.did)) z rest other) (one w (take turn.at journal) h b y x turn.did moved move) others)
+follows_once : OneHart → (w : Setting) (journal : List Event) (h from to at : ℕ) (b c other : HartState) (turns : List Turned) → Follows w journal h from b turns to c
+    → Follows w journal h from b turns at other → (to ≡ at) × (c ≡ other)
+follows_once one w journal h from to at b c other turns (Follows.no_more _ _) (Follows.no_more _ _) = (refl, refl)
+follows_once one w journal h from to at b c other turns (Follows.one_more _ _ _ x _ turn rest late none taken more) (Follows.one_more _ _ _ y _ _ _ later nor took others) =
+    follows_once one w journal h (turn.at + length (events_of turn.did)) to at x c other rest more
+    (subst (λ (z : HartState). Follows w journal h (turn.at + length (events_of turn.did)) z rest at other)
+    (one w (take turn.at journal) h b y x turn.did took.moves taken.moves) others)
 
 pub one_end_of : OneHart → laws.OneEnd
-one_end_of one w journal h from b c other turns x y = follows_once one w journal h from b c other turns x y
+one_end_of one w journal h from to at b c other turns x y = follows_once one w journal h from to at b c other turns x y

@@ -1,11 +1,12 @@
 -- The worked turns of calls and of functions that the linker has run.
-use Rattle.std.proofs.Common.{◌≡◌, inl, inr, not, ◌&&◌, cond, List, [], ◌∷◌, ◌++◌, Option, None, Ok, Err, refl, sym, ap, subst, append-nil, arith}
+use Rattle.std.proofs.Common.{◌≡◌, ℕ, inl, inr, not, ◌&&◌, cond, List, [], ◌∷◌, ◌++◌, take, Option, None, Some, Ok, Err, refl, sym, ap, subst, append-nil, arith}
 use Rattle.std.specs.Option.{is_some}
 use Rattle.ld_base.specs.declared.fault.Shown.TheVariants.{OpenGrant}
 use Rattle.ld_base.specs.declared.linking.Loaded.{Loaded}
 use Rattle.ld_base.specs.declared.linking.Role.TheVariants.{None as NoRole}
 use Rattle.history_event.specs.declared.event.Event.{Event}
 use Rattle.history_event.specs.declared.event.Event.TheVariants.{Ended, Fini, Told, Wrote}
+use Rattle.history_event.specs.declared.hart_end.HartEnd.{HartEnd}
 use Rattle.history_event.specs.declared.hart_end.HartEnd.TheVariants.{Misaligned}
 use Rattle.rv_hart.specs.declared.bus.BusFault.TheVariants.{Role as RoleFault}
 use Rattle.seg_image.specs.Words.{byte_of}
@@ -21,11 +22,12 @@ use Rattle.history_calls.specs.Gives.EventAnswers.{is_written}
 use Rattle.history_calls.specs.Gives.Gives.{by_event, to_again, to_end}
 use Rattle.hart_moves.specs.Copying.{bytes_from, grown, with_bytes}
 use Rattle.hart_moves.specs.Due.{by_phase, due}
-use Rattle.hart_moves.specs.Follows.{Follows}
-use Rattle.hart_moves.specs.Harts.{Purpose}
+use Rattle.hart_moves.specs.Follows.{EndsBehind, Follows, Turned}
+use Rattle.hart_moves.specs.Harts.{HartState, Purpose}
 use Rattle.hart_moves.specs.Moves.{AreAllowed, Finals, did_by, freed_by, own_fini, runs, spent}
+use Rattle.hart_moves.specs.Lemmas.Legality.{ended_stays}
 use Rattle.hart_moves.specs.WorkedCalls as worked
-use Rattle.hart_moves.specs.WorkedCalls.{CompletesBehind, CopiesNoVersion, CopiesSome, EndsAtPair, EndsForMemory, EntersPreinit, PassesClosed, ReadsNothing, SettlesAtEnd, SkipsItsOwn, StoresFirst, StoresLast, WaitsForGrant, WritesSome}
+use Rattle.hart_moves.specs.WorkedCalls.{CompletesBehind, CopiesNoVersion, CopiesSome, EndsAtPair, EndsForMemory, EntersPreinit, LeavesItsOwn, PassesClosed, ReadsNothing, SettlesAtEnd, SkipsItsOwn, StoresFirst, StoresLast, WaitsForGrant, WritesSome}
 
 -- ---- copies
 
@@ -121,4 +123,20 @@ unfolding due after_from initialise loaded
 settles_at_end = (record { may = inl refl; is = refl; leaves = refl }, refl)
 
 pub skips_its_own : (w : Setting) → SkipsItsOwn w
-skips_its_own w b c did rest (Follows.one_more _ _ x _ _ _ later none move are more) = none 0 (Told 1 None) (omega arith) (omega arith) refl refl
+skips_its_own w b c turn rest to at (Follows.one_more _ _ _ x _ _ _ later none taken more) = none 0 (Told 1 None) (omega arith) (omega (arith, at)) refl refl
+
+pub leaves_its_own : (w : Setting) → LeavesItsOwn w
+leaves_its_own w start why reason from ended x = by start.from start.hart x.turns x.to x.ended from ended x.follows x.behind
+  where
+    none_behind : (to : ℕ) (b : HartState) (first last : HartEnd) → to ≡ 0 → EndsBehind w (Told 1 None ∷ []) 1 start.registers to b first last → ⊥
+    none_behind to b first last none (EndsBehind.is_another other spares) = spares 0 (Told 1 None) (omega (arith, none)) (omega arith) refl refl
+    none_behind to b first last none (EndsBehind.none_runs zeroth spares so) = absurd (omega (arith, zeroth))
+    none_behind to b first last none (EndsBehind.none_is_left zeroth spares left) = absurd (omega (arith, zeroth))
+    none_behind to b first last none (EndsBehind.no_memory zeroth at lacks spares) = absurd (omega (arith, zeroth))
+    none_behind to b first last none (EndsBehind.all_run zeroth at upto begun left turns cause begins follows so spares) = absurd (omega (arith, zeroth))
+
+    by : (from : ℕ) (b : HartState) (turns : List Turned) (to : ℕ) (c : HartState) → from ≡ 0 → b.«end» ≡ Some why → Follows w (Told 1 None ∷ []) 1 from b turns to c
+        → EndsBehind w (Told 1 None ∷ []) 1 start.registers to c x.first reason → ⊥
+    by from b turns to c none ended (Follows.no_more _ _) behind = none_behind to c x.first reason none behind
+    by from b turns to c none ended (Follows.one_more _ _ _ d _ turn rest late spares taken more) behind =
+        ended_stays w (take turn.at (Told 1 None ∷ [])) 1 b d turn.did why ended taken.moves

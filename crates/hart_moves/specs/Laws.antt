@@ -37,7 +37,7 @@ TurnsCount = (w : Setting) (past : List Event) (h : ℕ) (b c : HartState) (did 
 abbrev pub EndedStays : Type 0
 EndedStays = (w : Setting) (past : List Event) (h : ℕ) (b c : HartState) (did : Did) (reason : HartEnd) → b.«end» ≡ Some reason → Moves w past h b did c → ⊥
 
--- what a hart did, turn after turn, settles where it ends
+-- what a hart did, turn after turn, settles where it ends, and at which moment
 abbrev pub OneEnd : Type 0
-OneEnd = (w : Setting) (journal : List Event) (h from : ℕ) (b c other : HartState) (turns : List Turned) → Follows w journal h from b turns c
-    → Follows w journal h from b turns other → c ≡ other
+OneEnd = (w : Setting) (journal : List Event) (h from to at : ℕ) (b c other : HartState) (turns : List Turned) → Follows w journal h from b turns to c
+    → Follows w journal h from b turns at other → (to ≡ at) × (c ≡ other)

@@ -1,2 +1,4 @@
 -- Lemmas on this crate's definitions that proofs of the crates above cite, too. They define nothing that a contract means.
+pub mod Following
+pub mod Freed
 pub mod Legality

@@ -8,6 +8,7 @@ pub mod Moves
 pub mod Registers
 pub mod Services
 pub mod Starting
+pub mod Trails
 pub mod Worked
 pub mod WorkedCalls
 pub mod TurnEvents

@@ -5,6 +5,7 @@ use Rattle.ld_base.specs.declared.linking.Role.TheVariants.{None as NoRole}
 use Rattle.history_event.specs.declared.event.Event.{Event}
 use Rattle.history_event.specs.declared.event.Event.TheVariants.{Ended, Told, Wrote}
 use Rattle.history_event.specs.declared.handed.Function.{Function}
+use Rattle.history_event.specs.declared.hart_end.HartEnd.{HartEnd}
 use Rattle.history_event.specs.declared.hart_end.HartEnd.TheVariants.{Exit, FuelOut, Memory, Misaligned}
 use Rattle.rv_hart.specs.declared.bus.BusFault.TheVariants.{Role as RoleFault}
 use Rattle.rv_hart.specs.declared.bus.Item.TheVariants.{Read, Write}
@@ -18,9 +19,10 @@ use Rattle.history_calls.specs.Call.{unmaps}
 use Rattle.history_calls.specs.Functions.{preceded}
 use Rattle.history_calls.specs.Waiting.{Shows}
 use Rattle.hart_moves.specs.Due.{Due, due}
-use Rattle.hart_moves.specs.Follows.{Follows, Turned}
+use Rattle.hart_moves.specs.Follows.{Follows, FollowsToItsEnd, Turned}
 use Rattle.hart_moves.specs.Harts.{HartState, Naming, Phase, Purpose, Resolving}
 use Rattle.hart_moves.specs.Moves.{Did, Moves, all_finis, ended, runs, settles, spent}
+use Rattle.hart_moves.specs.Starting.{HartStart}
 use Rattle.hart_moves.specs.Worked.{hart_at, race_offer, with_one, with_two, without_fuel}
 
 -- ---- a write
@@ -151,4 +153,9 @@ SettlesAtEnd = Moves race.setting race.before 1 (spent_out (Resolving.to_settle 
 
 -- no hart leaves an event of its own out
 abbrev pub SkipsItsOwn : (w : Setting) → Type 0
-SkipsItsOwn w = (b c : HartState) (did : Did) (rest : List Turned) → Follows w (Told 1 None ∷ []) 1 0 b (record { at = 1; did = did } ∷ rest) c → ⊥
+SkipsItsOwn w = (b c : HartState) (turn : Turned) (rest : List Turned) (to : ℕ) → turn.at ≡ 1 → Follows w (Told 1 None ∷ []) 1 0 b (turn ∷ rest) to c → ⊥
+
+-- nor behind its end, where it takes no turn
+abbrev pub LeavesItsOwn : (w : Setting) → Type 0
+LeavesItsOwn w = (start : HartStart) (over reason : HartEnd) → start.from ≡ 0 → start.hart.«end» ≡ Some over
+    → FollowsToItsEnd w (Told 1 None ∷ []) start 1 reason → ⊥

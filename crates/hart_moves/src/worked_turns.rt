@@ -7,7 +7,7 @@ ghost use Rattle.hart_moves.specs.Worked.{CopiesInside, CopiesName, EndsAtRole, 
 ghost use Rattle.hart_moves.specs.Worked.{FollowsItself, FollowsWinner, GoesOn, GoesOnWithoutFuel, GrantsGlobal, GrantsTheFirst, HasNoFunction};
 ghost use Rattle.hart_moves.specs.Worked.{RunsWithoutFuel, ServesAtOnce, Starts, StartsEarly, TextWords, Traps};
 ghost use Rattle.hart_moves.specs.WorkedCalls.{CompletesBehind, CopiesNoVersion, CopiesSome, EndsAtPair, EndsForMemory, EntersPreinit};
-ghost use Rattle.hart_moves.specs.WorkedCalls.{PassesClosed, ReadsNothing, SettlesAtEnd, SkipsItsOwn, StoresFirst, StoresLast, WaitsForGrant, WritesSome};
+ghost use Rattle.hart_moves.specs.WorkedCalls.{LeavesItsOwn, PassesClosed, ReadsNothing, SettlesAtEnd, SkipsItsOwn, StoresFirst, StoresLast, WaitsForGrant, WritesSome};
 ghost use Rattle.history_state.specs.State.{State};
 
 /// Of two harts at one slot the one that is granted it last may win: its exchange finds the lazy word,
@@ -75,8 +75,9 @@ pub fn functions_return()
 {}
 
 /// A hart that ends for its fuel has its grant settled in that turn, and none leaves an event of its own
-/// out.
+/// out, between its turns or behind its end.
 pub fn nothing_is_left_out()
     ensures settles { SettlesAtEnd }
     ensures not_skipped { (w : Setting) → SkipsItsOwn w }
+    ensures not_left { (w : Setting) → LeavesItsOwn w }
 {}

@@ -15,7 +15,7 @@ use Rattle.history_state.specs.Memory.{image_of}
 use Rattle.history_state.specs.Setting.{Setting}
 use Rattle.history_state.specs.State.{empty_state}
 use Rattle.history_calls.specs.Functions.{AreAddresses, destructors}
-use Rattle.history_calls.specs.Startup.{Starts, setting_of}
+use Rattle.history_calls.specs.Startup.{Starts}
 use Rattle.hart_moves.specs.Harts.{HartState, is_startup_frame}
 use Rattle.hart_moves.specs.Moves.{all_finis, ended, freed}
 use Rattle.hart_moves.specs.Starting.{finalising_hart, starting_harts, starting_registers}
@@ -28,8 +28,6 @@ use Rattle.world_turns.specs.World.{World, settling}
 
 -- startup's events, the memory that they make, and the harts
 pub record IsStarted (w : Setting) (setup : Setup) (world : World) : Type 0 where
-  -- folders, preload names and the number of harts are those that are set up
-  pub setting : w ≡ setting_of w.machine.verdict setup w.files
   pub started : Started
   pub starts : Starts w setup world.journal started
   pub fresh : List Doubleword

@@ -86,7 +86,7 @@ pub start_fits : StartFits
 start_fits w setup world is =
     let begun : AllBegun world.harts = subst AllBegun (sym is.harts) (all_begun setup.fuel is.started.functions is.started.entries) in
     record {
-      harts = ap (λ (bs : List HartState). length bs) is.harts ∙ harts_length setup.fuel is.started.functions is.started.entries ∙ harts_have_entries w setup world.journal is.started is.starts ∙ sym (ap (λ (v : Setting). v.machine.harts) is.setting);
+      harts = ap (λ (bs : List HartState). length bs) is.harts ∙ harts_length setup.fuel is.started.functions is.started.entries ∙ harts_have_entries w setup world.journal is.started is.starts ∙ sym (ap (λ (v : Setting). v.machine.harts) is.starts.set_up);
       endings = none_told world.harts begun (after world.journal).endings (start_endings w setup world is);
       none = λ h b at. (begun h b at).none;
     }

@@ -14,7 +14,7 @@ use Rattle.history_event.specs.declared.state.Ending.{Ending}
 use Rattle.history_state.specs.After.{after}
 use Rattle.history_state.specs.Allowed.{MayEnd}
 use Rattle.history_state.specs.Objects.{has}
-use Rattle.history_state.specs.Setting.{Setting, are_finals, exited, is_exit}
+use Rattle.history_state.specs.Setting.{Setting, are_finals, exited, have_exited, is_exit}
 use Rattle.history_state.specs.State.{State}
 use Rattle.history_state.specs.Lemmas.Lists.{first_or_later, from_map, has_in, here, later, none_in}
 use Rattle.history_calls.specs.Lemmas.Unique.{both_found}
@@ -31,8 +31,8 @@ use Rattle.world_turns.specs.World.{World, found_harts, found_journal, settling}
 use Rattle.world_turns.specs.Lemmas.Running.{freed_alike}
 use Rattle.world_turns.specs.Lemmas.Turning.{freed_at, freed_length}
 use Rattle.world_turns.specs.WorldEnds.Ends.{AreEndings, BeforeFinals, InFinals, has_exited}
-use Rattle.world_turns.specs.WorldEnds.Laws.{FinalsBegin, FinalsLack, HartsMayEnd, SettlingFits, TurnsKeepBefore, TurnsKeepFinals}
-use Rattle.world_turns.proofs.WorldEnds.Endings.{an_end, ended_fit, freed_fit, one_longer, sparing_events, same_fit, unmapping}
+use Rattle.world_turns.specs.WorldEnds.Laws.{ExitsAreTold, FinalsBegin, FinalsLack, HartsMayEnd, SettlingKeepsBefore, SettlingKeepsInFinals, TurnsKeepBefore, TurnsKeepFinals}
+use Rattle.world_turns.specs.WorldEnds.Lemmas.Endings.{an_end, ended_fit, freed_fit, one_longer, sparing_events, same_fit, unmapping}
 use Rattle.world_turns.specs.WorldEnds.Lemmas.Places.{all_pass, at_set, count_all, each_passes, exited_ends, freed_here, reason_of, running, runs_on}
 use Rattle.world_turns.specs.WorldEnds.Lemmas.Settled.{found_keeps, settling_keeps}
 
@@ -359,16 +359,29 @@ exits_are w world over x are = all_pass (λ b. is_some (exit_code b)) world.hart
         let told : Contains (after world.journal).endings (record { hart = h; «end» = reason.0 }) = x.endings.told h b reason.0 at reason.1 in
         exit_coded b reason.0 reason.1 (from_all exited (after world.journal).endings (record { hart = h; «end» = reason.0 }) (ap (λ (ys : List Ending). list_all exited ys) (sym whole) ∙ all_of) told)
 
+-- so the journal says whether each end is one
+pub exits_told : ExitsAreTold
+exits_told w world x over = by (harts_have_exited world) (have_exited w (after world.journal)) refl refl
+  where
+    as_many_ended : length (after world.journal).endings ≡ w.machine.harts
+    as_many_ended = x.endings.all ∙ count_all world.harts over ∙ x.harts
+
+    by : (s t : Bool) → harts_have_exited world ≡ s → have_exited w (after world.journal) ≡ t → have_exited w (after world.journal) ≡ harts_have_exited world
+    by true t is told = (and_parts (length (after world.journal).endings == w.machine.harts) (have_exited w (after world.journal)) (finals_are w world is x)).1 ∙ sym is
+    by false false is told = told ∙ sym is
+    by false true is told = absurd (false≢true (sym is ∙ exits_are w world over x
+        (ap (λ (t : Bool). length (after world.journal).endings == w.machine.harts && t) told ∙ ap (λ (t : Bool). t && true) (eq-eqb (length (after world.journal).endings) w.machine.harts as_many_ended))))
+
 -- ---- what is left is settled
 
-pub settled_before : (w : Setting) (world : World) → BeforeFinals w world → BeforeFinals w (settled world)
+pub settled_before : SettlingKeepsBefore
 settled_before w world x = record {
   harts = freed_length world.harts ∙ x.harts;
   endings = subst (λ (es : List Ending). AreEndings es (map freed world.harts)) (sym (endings_stay world.journal world.harts)) (freed_fit (after world.journal).endings world.harts x.endings);
   none = λ h b at. let y = freed_at world.harts h b at in ap (λ (z : HartState). has_finals z.frames) (sym y.2) ∙ x.none h y.0 y.1;
 }
 
-pub settled_finals : (w : Setting) (world : World) → InFinals w world → InFinals w (settled world)
+pub settled_finals : SettlingKeepsInFinals
 settled_finals w world x = record {
   first = freed x.first;
   others = map freed x.others;
@@ -378,9 +391,6 @@ settled_finals w world x = record {
   runs = λ none. ap (finals_in w) (endings_stay world.journal world.harts) ∙ x.runs none;
   done = λ over are. finis_stay world.journal world.harts ∙ x.done over (ap (finals_in w) (sym (endings_stay world.journal world.harts)) ∙ are);
 }
-
-pub settling_fits : SettlingFits
-settling_fits w world x = ⊎_elim (λ (y : BeforeFinals w world). inl (settled_before w world y)) (λ (y : InFinals w world). inr (settled_finals w world y)) x
 
 -- the finals are those of the world before the settling, and so are the objects that are left
 pub finals_settled : (w : Setting) (world : World) → IsTrue (are_finals w (after (settled world).journal)) → IsTrue (are_finals w (after world.journal))

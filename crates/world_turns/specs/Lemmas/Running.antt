@@ -51,7 +51,7 @@ module _ (w : Setting) (Holds : World → Type 0) (turns : (h : ℕ) (old new : 
   finishes old new (RunFinishes.no_more _ all) x = x
   finishes old new (RunFinishes.one_more _ between _ runs round more) x = finishes between new more (rounds (all_harts old) old between round x)
 
-  ends_keep : (old new : World) → RunEnds w old new → Holds old → Holds new
+  pub ends_keep : (old new : World) → RunEnds w old new → Holds old → Holds new
   ends_keep old new (RunEnds.no_more _ all) x = x
   ends_keep old new (RunEnds.one_more _ between _ runs turn more) x = ends_keep between new more (turns 0 old between x turn)
 

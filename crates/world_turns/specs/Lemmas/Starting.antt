@@ -144,7 +144,7 @@ start_sound begins keep w setup world only is =
     let first : Holds (after []) [] (memory_of is.fresh) = begins (memory_of is.fresh) (fresh_begins is.fresh is.are_fresh) in
     record {
       legal = legal;
-      harts = ap (λ (bs : List HartState). length bs) is.harts ∙ start_length setup.fuel is.started.functions is.started.entries ∙ harts_have_entries w setup world.journal is.started is.starts ∙ sym (ap (λ (v : Setting). v.machine.harts) is.setting);
+      harts = ap (λ (bs : List HartState). length bs) is.harts ∙ start_length setup.fuel is.started.functions is.started.entries ∙ harts_have_entries w setup world.journal is.started is.starts ∙ sym (ap (λ (v : Setting). v.machine.harts) is.starts.set_up);
       words = remakes_length empty_state world.journal is.fresh world.words is.words ∙ is.are_fresh.all;
       holds = subst (λ (ns : List ℕ). Holds (after world.journal) ns (memory_of world.words)) (sym (none_won world.harts idle))
           (events_hold keep w only [] [] world.journal is.fresh world.words (none_lawful w.machine) (start_allowed w setup world is) (start_of w setup world is) first is.words);

@@ -8,7 +8,7 @@ use Rattle.history_state.specs.Accepted.{AcceptsOnly}
 use Rattle.history_state.specs.After.{after}
 use Rattle.history_state.specs.Allowed.{MayEnd}
 use Rattle.history_state.specs.Objects.{has, is_startup}
-use Rattle.history_state.specs.Setting.{Setting, harts_have_exited as have_all_exited}
+use Rattle.history_state.specs.Setting.{Setting, have_exited as have_all_exited}
 use Rattle.history_state.specs.Slots.{HasNoGrant}
 use Rattle.history_calls.specs.Call.{unmaps}
 use Rattle.history_calls.specs.Functions.{passed}

@@ -5,11 +5,11 @@ use Rattle.history_calls.specs.declared.link_served.startup.Setup.{Setup}
 use Rattle.rv_hart.specs.Registers.{Registers}
 use Rattle.history_state.specs.After.{after}
 use Rattle.history_state.specs.Allowed.{MayEnd}
-use Rattle.history_state.specs.Setting.{Setting, are_finals}
+use Rattle.history_state.specs.Setting.{Setting, are_finals, have_exited}
 use Rattle.hart_moves.specs.Harts.{HartState}
 use Rattle.hart_moves.specs.Moves.{all_finis}
 use Rattle.world_turns.specs.declared.schedules.schedule.TurnItem.{TurnItem}
-use Rattle.world_turns.specs.Run.{RunBegins, IsStarted, LacksMemory, Run, harts_have_exited, settled}
+use Rattle.world_turns.specs.Run.{RunBegins, IsStarted, LacksMemory, Run, harts_have_exited, have_ended, settled}
 use Rattle.world_turns.specs.Turn.{Turn}
 use Rattle.world_turns.specs.World.{World}
 use Rattle.world_turns.specs.WorldEnds.Ends.{BeforeFinals, EndsFit, InFinals}
@@ -32,8 +32,11 @@ FinalsBegin = (w : Setting) (registers : Registers) (old new : World) → IsTrue
 abbrev pub FinalsLack : Type 0
 FinalsLack = (w : Setting) (old new : World) → IsTrue (harts_have_exited old) → LacksMemory w old new → BeforeFinals w old → InFinals w new
 
-abbrev pub SettlingFits : Type 0
-SettlingFits = (w : Setting) (world : World) → EndsFit w world → EndsFit w (settled world)
+abbrev pub SettlingKeepsBefore : Type 0
+SettlingKeepsBefore = (w : Setting) (world : World) → BeforeFinals w world → BeforeFinals w (settled world)
+
+abbrev pub SettlingKeepsInFinals : Type 0
+SettlingKeepsInFinals = (w : Setting) (world : World) → InFinals w world → InFinals w (settled world)
 
 -- ---- what it is for
 
@@ -41,6 +44,11 @@ SettlingFits = (w : Setting) (world : World) → EndsFit w world → EndsFit w (
 abbrev pub HartsMayEnd : Type 0
 HartsMayEnd = (w : Setting) (world : World) → EndsFit w world → (h : ℕ) (b : HartState) → slice_get world.harts h ≡ Some b → b.«end» ≡ None
     → MayEnd w (after world.journal) h
+
+-- where all harts have ended, the journal says whether each did by exit
+abbrev pub ExitsAreTold : Type 0
+ExitsAreTold = (w : Setting) (world : World) → BeforeFinals w world → IsTrue (have_ended world)
+    → have_exited w (after world.journal) ≡ harts_have_exited world
 
 -- ---- a run
 

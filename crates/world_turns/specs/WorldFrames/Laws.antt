@@ -15,7 +15,7 @@ use Rattle.history_state.specs.After.{after}
 use Rattle.history_state.specs.Allowed.{Allowed, IsUngranted}
 use Rattle.history_state.specs.Legal.{Legal}
 use Rattle.history_state.specs.Objects.{serial_of}
-use Rattle.history_state.specs.Setting.{Setting, harts_have_exited as have_all_exited}
+use Rattle.history_state.specs.Setting.{Setting, have_exited as have_all_exited}
 use Rattle.history_calls.specs.Functions.{AreConstructors, AreDestructors, passed}
 use Rattle.history_calls.specs.Waiting.{HasFinished}
 use Rattle.hart_moves.specs.Harts.{Frame, Purpose}

@@ -1,6 +1,7 @@
 //! What holds of the ends of every run.
 
-ghost use Rattle.world_turns.specs.WorldEnds.Laws.{FinalsBegin, FinalsLack, HartsMayEnd, RunsFinish, RunsFit, SettlingFits, StartFits, TurnsKeepBefore, TurnsKeepFinals};
+ghost use Rattle.world_turns.specs.WorldEnds.Laws.{ExitsAreTold, FinalsBegin, FinalsLack, HartsMayEnd, RunsFinish, RunsFit, StartFits, TurnsKeepBefore, TurnsKeepFinals};
+ghost use Rattle.world_turns.specs.WorldEnds.Laws.{SettlingKeepsBefore, SettlingKeepsInFinals};
 
 /// The ends of the journal are those of the harts when a run starts, and stay so with every turn, when the
 /// final destructors begin or lack memory, and when what is left at the end is settled.
@@ -10,7 +11,8 @@ pub fn ends_fit()
     ensures final_turns { TurnsKeepFinals }
     ensures finals { FinalsBegin }
     ensures no_memory { FinalsLack }
-    ensures settling { SettlingFits }
+    ensures settled_before { SettlingKeepsBefore }
+    ensures settled_finals { SettlingKeepsInFinals }
 {}
 
 /// So a hart that runs may end.
@@ -18,9 +20,10 @@ pub fn harts_may_end()
     ensures { HartsMayEnd }
 {}
 
-/// The ends fit throughout a run. Where every hart ended once, by exit, each object that was initialised
-/// was finalised.
+/// The ends fit throughout a run. Once all harts have ended the journal says whether each did by exit; and
+/// where every hart ended once, by exit, each object that was initialised was finalised.
 pub fn runs_end_once()
     ensures fit { RunsFit }
+    ensures exits { ExitsAreTold }
     ensures finished { RunsFinish }
 {}

@@ -1,4 +1,4 @@
-use Rattle.world_memory.proofs.TurnParts.Freed.{freed_due, freed_moves, freed_turns}
+use Rattle.hart_moves.specs.Lemmas.Freed.{freed_due, freed_moves, freed_turns}
 use Rattle.world_memory.proofs.turn_parts.law.freed_harts_move.Goals as goal
 
 pub returns-clause-due : goal.returns-clause-due

@@ -1,5 +1,5 @@
 use Rattle.world_turns.proofs.WorldEnds.Runs.{start_fits}
-use Rattle.world_turns.proofs.WorldEnds.Turns.{finals_begin, finals_lack, settling_fits, turns_keep_before, turns_keep_finals}
+use Rattle.world_turns.proofs.WorldEnds.Turns.{finals_begin, finals_lack, settled_before, settled_finals, turns_keep_before, turns_keep_finals}
 use Rattle.world_turns.proofs.world_ends.law.ends_fit.Goals as goal
 
 pub returns-clause-start : goal.returns-clause-start
@@ -17,5 +17,8 @@ returns-clause-finals c = finals_begin
 pub returns-clause-no_memory : goal.returns-clause-no_memory
 returns-clause-no_memory c = finals_lack
 
-pub returns-clause-settling : goal.returns-clause-settling
-returns-clause-settling c = settling_fits
+pub returns-clause-settled_before : goal.returns-clause-settled_before
+returns-clause-settled_before c = settled_before
+
+pub returns-clause-settled_finals : goal.returns-clause-settled_finals
+returns-clause-settled_finals c = settled_finals
