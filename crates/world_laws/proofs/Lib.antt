@@ -4,3 +4,5 @@ pub mod WorldWhole
 pub mod RunMoments
 pub mod TurnOnce
 pub mod RunOnce
+pub mod RunJournals
+pub mod HartWays

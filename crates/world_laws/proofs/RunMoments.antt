@@ -1,10 +1,15 @@
-pub mod Chains
+pub mod Answered
 pub mod Chosen
 pub mod Closed
+pub mod Ended
 pub mod Entered
 pub mod Framed
+pub mod Grown
 pub mod Inside
 pub mod Listed
+pub mod Made
 pub mod Own
+pub mod Returned
+pub mod Standing
 pub mod Throughout
 pub mod Unmapped

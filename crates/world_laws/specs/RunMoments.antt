@@ -1,3 +1,5 @@
 pub mod Laws
-pub mod Moments
+pub mod OfJournal
+pub mod OfTurns
+pub mod OfWords
 pub mod True

@@ -24,7 +24,7 @@ use Rattle.history_state.specs.Setting.{Setting}
 use Rattle.history_state.specs.State.{State}
 use Rattle.history_state.specs.Step.{die, initialise, loaded, lower, settle, settled_as, step, unmap}
 use Rattle.history_state.specs.Lemmas.Lists.{from_filter, from_map, none_in, only_in}
-use Rattle.world_laws.specs.RunMoments.True.{WasChosen, WasGranted, opening_choice}
+use Rattle.world_laws.specs.RunMoments.OfJournal.{WasChosen, WasGranted, opening_choice}
 use Rattle.world_laws.proofs.RunMoments.Listed.{all_were}
 
 -- ---- one event

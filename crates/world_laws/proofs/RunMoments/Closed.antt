@@ -15,7 +15,7 @@ use Rattle.history_state.specs.Setting.{Setting}
 use Rattle.history_state.specs.State.{State}
 use Rattle.history_state.specs.Step.{closing_of, die, initialise, is_closing, loaded, lower, step, unmap}
 use Rattle.history_state.specs.Lemmas.Lists.{from_filter, none_in, only_in}
-use Rattle.world_laws.specs.RunMoments.True.{WasClosed}
+use Rattle.world_laws.specs.RunMoments.OfJournal.{WasClosed}
 use Rattle.world_laws.proofs.RunMoments.Listed.{all_were}
 
 record ClosedBy (e : Event) (c : Closing) : Type 0 where
@@ -25,7 +25,8 @@ record ClosedBy (e : Event) (c : Closing) : Type 0 where
 closing_is : (hart handle : ℕ) (set : List ℕ) (c : Closing) → Contains (closing_of hart set) c → ClosedBy (events.Close hart handle (closes.Done set)) c
 closing_is hart handle [] c there = absurd (none_in c there)
 closing_is hart handle (d ∷ rest) c there =
-    subst (ClosedBy (events.Close hart handle (closes.Done (d ∷ rest)))) (only_in (record { hart = hart; set = d ∷ rest }) c there) (record { handle = handle; event = refl })
+    subst (ClosedBy (events.Close hart handle (closes.Done (d ∷ rest)))) (only_in (record { hart = hart; set = d ∷ rest }) c there)
+    (record { handle = handle; event = refl })
 
 closed_by : (s : State) (e : Event) (c : Closing) → Contains (step s e).closings c → Contains s.closings c ⊎ ClosedBy e c
 unfolding loaded die lower unmap initialise

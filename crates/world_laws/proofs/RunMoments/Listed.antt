@@ -20,4 +20,5 @@ module _ {X : Type 0} (list : State → List X) (Was : X → Type 0) (journal : 
       (take_next journal k)
 
   pub all_were : (x : X) → Contains (list (after journal)) x → Was x
-  all_were x there = front_were (length journal) x (subst (λ (es : List Event). Contains (list (after es)) x) (sym (take_all (length journal) journal (omega arith))) there)
+  all_were x there =
+      front_were (length journal) x (subst (λ (es : List Event). Contains (list (after es)) x) (sym (take_all (length journal) journal (omega arith))) there)

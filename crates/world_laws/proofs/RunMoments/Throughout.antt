@@ -1,138 +1,218 @@
--- What holds at each moment of a run, and from each to each later one.
-use Rattle.std.proofs.Common.{◌≡◌, ℕ, ◌≤◌, List, [], ◌∷◌, ◌++◌, refl, sym, ap, ◌∙◌, append-nil, append_assoc, arith}
+-- What holds of each world that a run may come to, and from each to each later one; and so of each run.
+use Rattle.std.proofs.Common.{◌≡◌, ℕ, Bool, true, false, cond, List, [], ◌++◌, Some, Contains, refl, sym, subst, append-nil}
+use Rattle.std.specs.List.{slice_get}
+use Rattle.ld_base.specs.declared.object.Reloc.{Reloc}
 use Rattle.history_event.specs.declared.event.Event.{Event}
-use Rattle.history_event.specs.declared.event.Event.TheVariants as events
-use Rattle.history_event.specs.declared.hart_end.HartEnd.TheVariants as ends
-use Rattle.history_event.specs.declared.state.Granting.{Granting}
-use Rattle.history_event.specs.declared.state.Standing.TheVariants as standings
 use Rattle.history_calls.specs.declared.link_served.startup.Setup.{Setup}
 use Rattle.history_state.specs.Accepted.{AcceptsOnly}
 use Rattle.history_state.specs.After.{after}
-use Rattle.history_state.specs.Laws.{BlocksAreApart, GrantsAreHeld, ImagesAreMapped, SlotsBegin, SlotsLeadToRx, slot_address}
-use Rattle.history_state.specs.Legal.{Lawful}
+use Rattle.history_state.specs.Laws.{BlocksAreApart, GrantsAreHeld, ImagesAreMapped, LoadsEnterCode, SlotsBegin, SlotsEnterCode, SlotsLeadToRx, slot_address}
+use Rattle.history_state.specs.Legal.{Lawful, Legal}
 use Rattle.history_state.specs.Setting.{Machine, Setting}
+use Rattle.history_state.specs.State.{Linked}
+use Rattle.history_state.specs.Lemmas.Brought.{LoadLaws}
 use Rattle.history_state.specs.Lemmas.History.{legal_is_lawful}
-use Rattle.history_state.specs.Lemmas.LoadWords.{load_word}
+use Rattle.history_state.specs.Lemmas.Lazy.{PageLaws}
+use Rattle.history_state.specs.Lemmas.LoadWords.{grant_word, load_word}
+use Rattle.history_state.specs.Lemmas.Map.{Mapped}
+use Rattle.history_memory.specs.Holds.{IsSlotAt}
 use Rattle.link_open_images.specs.NewBlocks.Laws.{HartsHaveNewBlocks}
+use Rattle.hart_moves.specs.Moves.{settles}
 use Rattle.world_turns.specs.declared.schedules.schedule.TurnItem.{TurnItem}
-use Rattle.hart_moves.specs.Moves.{events_of}
-use Rattle.world_turns.specs.Laws.{SoundIsSlotTrue, StartIsSound}
-use Rattle.world_turns.specs.Memory.{doubleword, memory_of}
-use Rattle.world_turns.specs.Run.{Run}
+use Rattle.world_turns.specs.Laws.{SoundIsSlotTrue}
+use Rattle.world_turns.specs.Memory.{memory_of}
+use Rattle.world_turns.specs.Run.{Run, settled}
 use Rattle.world_turns.specs.Sound.{Sound}
-use Rattle.world_turns.specs.Turn.{Turn}
-use Rattle.world_turns.specs.World.{World, settling, winners}
-use Rattle.world_laws.specs.WorldSlots.Later.{Later, Steps}
-use Rattle.world_laws.specs.WorldSlots.Laws.{LaterIsSound, LaterKeepsSlots}
-use Rattle.world_laws.specs.RunMoments.Laws.{IsTrueThroughout, RunsAreTrue}
-use Rattle.world_laws.specs.RunMoments.Moments.{IsMoment}
-use Rattle.world_laws.specs.RunMoments.True.{ClosesItsOwn, HasMore, IsTrueAt, StaysTrue}
-use Rattle.world_laws.proofs.RunMoments.Chains.{behind_start, later_in, run_leads}
+use Rattle.world_turns.specs.World.{World, found_journal, settling, winners}
+use Rattle.world_laws.specs.WorldSlots.Later.{IsReached, Later, Part, Steps}
+use Rattle.world_laws.specs.WorldSlots.Laws.{LaterIsSound, LaterKeepsSlots, RunsGoOn}
+use Rattle.world_laws.specs.WorldSlots.Lemmas.Joined.{joined}
+use Rattle.world_laws.specs.RunMoments.Laws.{IsTrueThroughout, ReachedIsTrue, ReachedStaysTrue, RunsAreTrue, TurnsAreTrue}
+use Rattle.world_laws.specs.RunMoments.OfJournal.{ChoicesAreTrue, HistoryIsTrue, StorageIsTrue}
+use Rattle.world_laws.specs.RunMoments.OfWords.{SlotsAreTrue}
+use Rattle.world_laws.specs.RunMoments.True.{ClosesItsOwn, IsTrueAt, StaysTrue}
+use Rattle.world_laws.proofs.RunMoments.Answered.{answers_look_up, enters_its_slot}
 use Rattle.world_laws.proofs.RunMoments.Chosen.{was_chosen, was_granted}
 use Rattle.world_laws.proofs.RunMoments.Closed.{was_closed}
-use Rattle.world_laws.proofs.RunMoments.Entered.{enters_code}
-use Rattle.world_laws.proofs.RunMoments.Framed.{FrameLaws, closes_own}
+use Rattle.world_laws.proofs.RunMoments.Ended.{AllAreTold, last_ends, later_told, start_told}
+use Rattle.world_laws.proofs.RunMoments.Entered.{SlotLaws, chosen_code, leads_so}
+use Rattle.world_laws.proofs.RunMoments.Framed.{FrameLaws, closes_own, later_stands, stands_sound, start_stands}
+use Rattle.world_laws.proofs.RunMoments.Grown.{later_has_more}
 use Rattle.world_laws.proofs.RunMoments.Inside.{grants_in_calls}
+use Rattle.world_laws.proofs.RunMoments.Made.{grants_made}
 use Rattle.world_laws.proofs.RunMoments.Own.{finds_own, locates_own}
-use Rattle.world_laws.proofs.RunMoments.Unmapped.{UnmapLaws, returns_at_once, returns_behind}
+use Rattle.world_laws.proofs.RunMoments.Standing.{closings_stand}
+use Rattle.world_laws.proofs.RunMoments.Unmapped.{UnmapLaws, answers_dlclose, returns_behind}
 
-pub record MomentLaws : Type 0 where
-  pub mapped : (m : Machine) (journal : List Event) → Lawful m journal → ImagesAreMapped (after journal)
-  pub begins : (m : Machine) (journal : List Event) → AcceptsOnly m → Lawful m journal → SlotsBegin (after journal)
-  pub held : (m : Machine) (journal : List Event) → Lawful m journal → GrantsAreHeld (after journal)
-  pub leads : (m : Machine) (journal : List Event) → AcceptsOnly m → Lawful m journal → SlotsLeadToRx (after journal)
-  pub apart : (m : Machine) (journal : List Event) → Lawful m journal → BlocksAreApart m (after journal)
+-- ---- turns
+
+pub record TurnLaws : Type 0 where
   pub new_blocks : HartsHaveNewBlocks
-  pub start : StartIsSound
+  pub unmaps : UnmapLaws
+
+pub turns_true : TurnLaws → TurnsAreTrue
+turns_true laws w past h b c did only legal moves =
+    let behind = returns_behind laws.unmaps w past h b c did only legal moves in
+    record {
+      grants = grants_in_calls w past h b c did moves;
+      enters = enters_its_slot w past h b c did moves;
+      locates = locates_own laws.new_blocks w past h b c did moves;
+      finds = answers_look_up w past h b c did moves;
+      closes = answers_dlclose w past h b c did moves;
+      stand = closings_stand w past h b c did moves behind;
+      returns_behind = behind;
+    }
+
+-- ---- a world
+
+pub record MomentLaws (m : Machine) : Type 0 where
+  pub pages : PageLaws
+  pub load : LoadLaws
+  pub mapped : (journal : List Event) → Lawful m journal → Mapped (after journal)
+  pub images : (journal : List Event) → Lawful m journal → ImagesAreMapped (after journal)
+  pub begins : (journal : List Event) → Lawful m journal → SlotsBegin (after journal)
+  pub held : (journal : List Event) → Lawful m journal → GrantsAreHeld (after journal)
+  pub leads : (journal : List Event) → Lawful m journal → SlotsLeadToRx (after journal)
+  pub grants : (journal : List Event) → Lawful m journal → SlotsEnterCode (after journal)
+  pub loads : (journal : List Event) → Lawful m journal → LoadsEnterCode (after journal)
+  pub stands : (journal : List Event) (i : Linked) (slot : ℕ) (r : Reloc) → Lawful m journal → Contains (after journal).images i
+      → slice_get i.object.plt_relocs slot ≡ Some r → IsSlotAt (after journal) (slot_address i r) i.serial slot
+  pub apart : (journal : List Event) → Lawful m journal → BlocksAreApart m (after journal)
   pub slot_true : SoundIsSlotTrue
   pub sound : LaterIsSound
   pub slots : LaterKeepsSlots
   pub frames : FrameLaws
-  pub unmaps : UnmapLaws
+  pub turns : TurnsAreTrue
 
--- ---- journals grow
-
-step_has_more : (w : Setting) (old new : World) → Steps w old new → HasMore old.journal new.journal
-step_has_more w old new (Steps.by_turn h turn) = by_turn turn
-  where
-    by_turn : Turn w h old new → HasMore old.journal new.journal
-    by_turn turn = record { added = _; is = turn.journal ∙ append_assoc old.journal _ (events_of turn.did) }
-step_has_more w old new (Steps.by_beginning registers exited begins) = record { added = []; is = ap (λ (y : World). y.journal) begins.begun ∙ sym (append-nil old.journal) }
-step_has_more w old new (Steps.by_lacking exited lacks) = record {
-  added = settling old.harts ++ events.Ended 0 ends.Memory ∷ [];
-  is = ap (λ (y : World). y.journal) lacks.leaves ∙ append_assoc old.journal (settling old.harts) (events.Ended 0 ends.Memory ∷ []);
-}
-step_has_more w old new (Steps.by_settling is) = record { added = settling old.harts; is = ap (λ (y : World). y.journal) is }
-
-both_more : (one other last : List Event) → HasMore one other → HasMore other last → HasMore one last
-both_more one other last x y = record {
-  added = x.added ++ y.added;
-  is = y.is ∙ ap (λ (es : List Event). es ++ y.added) x.is ∙ append_assoc one x.added y.added;
-}
-
-later_has_more : (w : Setting) (old new : World) → Later w old new → HasMore old.journal new.journal
-later_has_more w old new (Later.no_more _) = record { added = []; is = sym (append-nil old.journal) }
-later_has_more w old new (Later.one_more _ between _ step more) =
-    both_more old.journal between.journal new.journal (step_has_more w old between step) (later_has_more w between new more)
-
--- ---- moments
-
-not_lost : (g : Granting) → g.standing ≡ standings.Open → (saw : ℕ) → g.standing ≡ standings.Lost saw → ⊥
-not_lost g is saw lost = let no : standings.Open ≡ standings.Lost saw = sym is ∙ lost in cc
-
-module _ (laws : MomentLaws) (w : Setting) (only : AcceptsOnly w.machine) where
-  turn_sound : (h : ℕ) (old new : World) → Sound w old → Turn w h old new → Sound w new
-  turn_sound h old new sound turn = laws.sound w old new only sound (Later.one_more old new new (Steps.by_turn h turn) (Later.no_more new))
-
-  true_at : (world : World) → Sound w world → ClosesItsOwn world → IsTrueAt w world
-  true_at world sound own =
-      let slots = laws.slot_true w world only sound in
-      let lawful = legal_is_lawful w world.journal sound.legal in
-      record {
-        legal = sound.legal;
-        memory = sound.holds;
-        mapped = laws.mapped w.machine world.journal lawful;
-        first_words = record {
-          at_load = λ i slot value r there at got. (laws.begins w.machine world.journal only lawful).at_load i slot value r there at got (load_word w.machine world.journal lawful i.serial slot value got);
-          lazy = (laws.begins w.machine world.journal only lawful).lazy;
-        };
-        slots = slots;
-        enters = λ i slot r there at. enters_code (after world.journal) (laws.mapped w.machine world.journal lawful) (winners world.harts) (memory_of world.words) sound.holds
-            (doubleword world.words (slot_address i r)).value (slots.enters i slot r there at);
-        granted = was_granted w world.journal sound.legal;
-        chosen = was_chosen w world.journal sound.legal;
-        grants = λ h new turn. grants_in_calls w h world new turn;
-        fits = sound.fits;
-        held = laws.held w.machine world.journal lawful;
-        offers = λ g there is. (laws.leads w.machine world.journal only lawful).granted g there (not_lost g is) (laws.held w.machine world.journal lawful g there is).owner;
-        closed = was_closed w world.journal sound.legal;
-        closes_own = own;
-        returns_behind = λ h new turn. returns_behind laws.unmaps w h world new turn only (turn_sound h world new sound turn).legal;
-        returns_at_once = λ h new turn. returns_at_once laws.unmaps w h world new turn;
-        blocks = laws.apart w.machine world.journal lawful;
-        locates = λ h new turn. locates_own laws.new_blocks w h world new turn;
-        finds = finds_own w world.journal sound.legal;
-      }
-
-  stays_true : (old new : World) → Sound w old → Later w old new → StaysTrue w old new
-  stays_true old new sound later = record {
-    later = later;
-    journal = later_has_more w old new later;
-    slots = λ i slot r there behind at taken. laws.slots w old new i slot r only sound later there behind at taken;
+module _ (w : Setting) (laws : MomentLaws w.machine) (only : AcceptsOnly w.machine) where
+  slot_laws : (journal : List Event) → Lawful w.machine journal → SlotLaws (after journal)
+  slot_laws journal lawful = record {
+    mapped = laws.mapped journal lawful;
+    images = laws.images journal lawful;
+    begins = laws.begins journal lawful;
+    leads = laws.leads journal lawful;
+    grants = laws.grants journal lawful;
+    loads = laws.loads journal lawful;
+    grant_word = grant_word laws.load w.machine journal lawful;
+    load_word = load_word w.machine journal lawful;
+    stands = λ i slot r there at. laws.stands journal i slot r lawful there at;
   }
 
-  module _ (setup : Setup) (items : List TurnItem) (world : World) (run : Run w setup items world) where
-    between : (j k : ℕ) (old new : World) → j ≤ k → IsMoment run j old → IsMoment run k new → Later w old new
-    between j k old new below at behind = later_in w (behind_start run) run.started world (run_leads w setup items world run) j k old new below at behind
+  history_true : (journal : List Event) → Legal w journal → HistoryIsTrue w journal
+  history_true journal legal =
+      let lawful = legal_is_lawful w journal legal in
+      let begins = laws.begins journal lawful in
+      record {
+        legal = legal;
+        mapped = laws.images journal lawful;
+        first_words = record {
+          at_load = λ i slot value r there at got. begins.at_load i slot value r there at got (load_word w.machine journal lawful i.serial slot value got);
+          lazy = begins.lazy;
+        };
+      }
 
-    sound_at : (k : ℕ) (moment : World) → IsMoment run k moment → Sound w moment
-    sound_at k moment at = laws.sound w run.started moment only (laws.start w setup run.started only run.starts) (between 0 k run.started moment (omega arith) refl at)
+  choices_true : (journal : List Event) → Legal w journal → ChoicesAreTrue journal
+  choices_true journal legal =
+      let lawful = legal_is_lawful w journal legal in
+      record {
+        granted = was_granted w journal legal;
+        chosen = was_chosen w journal legal;
+        held = laws.held journal lawful;
+        enter = λ g there kept home.
+            chosen_code laws.pages (after journal) (laws.mapped journal lawful) (laws.images journal lawful) g.choice g.value
+            (grant_word laws.load w.machine journal lawful g there)
+            (laws.grants journal lawful g there kept home);
+      }
 
-    throughout : IsTrueThroughout run
-    throughout = record {
-      each = λ k moment at. true_at moment (sound_at k moment at) (closes_own laws.frames w only setup items world run k moment at);
-      later = λ j k old new below at behind. stays_true old new (sound_at j old at) (between j k old new below at behind);
-    }
+  slots_true : (world : World) → Sound w world → SlotsAreTrue (after world.journal) (winners world.harts) (memory_of world.words)
+  slots_true world sound =
+      let slots = laws.slot_true w world only sound in
+      record {
+        holds = sound.holds;
+        slots = slots;
+        lead = λ i slot r there at.
+            leads_so laws.pages (after world.journal) (slot_laws world.journal (legal_is_lawful w world.journal sound.legal))
+            (winners world.harts) i slot r there at
+            ((memory_of world.words).value (slot_address i r)) (slots.holds i slot r there at);
+      }
 
-pub runs_true : MomentLaws → RunsAreTrue
-runs_true laws w setup items world run only = throughout laws w only setup items world run
+  storage_true : (journal : List Event) → Legal w journal → StorageIsTrue w journal
+  storage_true journal legal = record { blocks = laws.apart journal (legal_is_lawful w journal legal); finds = finds_own w journal legal }
+
+  -- what is settled first leaves the journal legal
+  found_legal : (world : World) → Sound w world → (part : Part) (t : Bool) → Legal w (world.journal ++ cond t (settling world.harts) [])
+  found_legal world sound part true =
+      (laws.sound w part part world (settled world) only sound
+      (Later.one_more part part part world (settled world) (settled world) (Steps.by_settling part world (settled world) refl) (Later.no_more part (settled world)))).legal
+  found_legal world sound part false = subst (Legal w) (sym (append-nil world.journal)) sound.legal
+
+  true_at : (part : Part) (world : World) → Sound w world → ClosesItsOwn world → AllAreTold world → IsTrueAt w world
+  true_at part world sound own told = record {
+    history = history_true world.journal sound.legal;
+    choices = choices_true world.journal sound.legal;
+    slots = slots_true world sound;
+    storage = storage_true world.journal sound.legal;
+    closings = was_closed w world.journal sound.legal;
+    harts = record { all = sound.harts; fits = sound.fits; closes_own = own; ends = λ h b reason at over. (told h b at).over reason over };
+    next = λ h b c did at moves. laws.turns w (found_journal world did) h b c did only (found_legal world sound part (settles did)) moves;
+  }
+
+  -- ---- every interleaving
+
+  pub reached_true : (setup : Setup) (part : Part) (world : World) → IsReached w setup part world → IsTrueAt w world
+  reached_true setup part world x =
+      let stands = later_stands laws.frames w only Part.of_program part x.start world x.leads (start_stands laws.frames w only setup x.start x.starts) in
+      let told = later_told w Part.of_program part x.start world x.leads (start_told w setup x.start x.starts) in
+      true_at part world (stands_sound w part world stands) (closes_own w part world stands) told
+
+  pub reached_stays : (setup : Setup) (part other : Part) (old new : World) → IsReached w setup part old → Later w part old other new
+      → IsReached w setup other new × StaysTrue old new
+  reached_stays setup part other old new x later =
+      let stands = later_stands laws.frames w only Part.of_program part x.start old x.leads (start_stands laws.frames w only setup x.start x.starts) in (
+        record { start = x.start; starts = x.starts; leads = joined w Part.of_program part other x.start old new x.leads later },
+        record {
+          journal = later_has_more w part other old new later;
+          slots = λ i slot r there behind at taken. laws.slots w part other old new i slot r only (stands_sound w part old stands) later there behind at taken;
+        },
+      )
+
+pub reached_is_true : ((m : Machine) → AcceptsOnly m → MomentLaws m) → ReachedIsTrue
+reached_is_true laws w setup part world only x = reached_true w (laws w.machine only) only setup part world x
+
+pub reached_stays_true : ((m : Machine) → AcceptsOnly m → MomentLaws m) → ReachedStaysTrue
+reached_stays_true laws w setup part other old new only x later = reached_stays w (laws w.machine only) only setup part other old new x later
+
+-- ---- a run
+
+module _ (is_true : ReachedIsTrue) (stays : ReachedStaysTrue) (go : RunsGoOn) (w : Setting) (setup : Setup) (items : List TurnItem) (world : World)
+    (run : Run w setup items world)
+    (only : AcceptsOnly w.machine) where
+  -- it goes from its start to its end
+  goes : (part : Part) × Later w Part.of_program run.started part world
+  goes =
+      let on = go w setup items world run in
+      let program : Part = Part.of_program in (
+        on.last,
+        joined w program program on.last run.started run.constructed world on.constructed
+            (joined w program program on.last run.constructed run.scheduled world on.scheduled
+            (joined w program program on.last run.scheduled run.finished world on.finished
+            (joined w program on.last on.last run.finished run.finalised world on.finalised on.ended))),
+      )
+
+  reached : (part : Part) (moment : World) → Later w Part.of_program run.started part moment → IsReached w setup part moment
+  reached part moment leads = record { start = run.started; starts = run.starts; leads = leads }
+
+  pub throughout : IsTrueThroughout run
+  unfolding goes
+  throughout = record {
+    goes = go w setup items world run;
+    each = λ part moment leads. is_true w setup part moment only (reached part moment leads);
+    later = λ part other old new leads later. (stays w setup part other old new only (reached part old leads) later).1;
+    ends = λ last are.
+        let harts = (is_true w setup goes.0 world only (reached goes.0 world goes.1)).harts in
+        last_ends w.machine.harts world.harts (after world.journal).endings harts.all harts.ends last are;
+    made = λ k number hart owner slot value choice at. grants_made w setup goes.0 world k number hart owner slot value choice (reached goes.0 world goes.1) at;
+  }
+
+pub runs_true : ReachedIsTrue → ReachedStaysTrue → RunsGoOn → RunsAreTrue
+runs_true is_true stays go w setup items world run only = throughout is_true stays go w setup items world run only

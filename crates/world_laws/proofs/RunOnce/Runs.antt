@@ -29,7 +29,7 @@ pub record RunLaws : Type 0 where
   pub turn : OneTurn
   pub sound : TurnsAreSound
   pub begins : FinalsBeginSound
-  pub empty_state : StartIsSound
+  pub start : StartIsSound
   pub starts : StartsOneWay
 
 -- ---- the start

@@ -29,7 +29,8 @@ use Rattle.world_turns.specs.Turn.{Turn}
 use Rattle.world_turns.specs.World.{World, settling}
 use Rattle.world_turns.specs.Lemmas.Running.{constructs, finishes, items_keep}
 use Rattle.world_turns.specs.WorldEnds.Lemmas.Settled.{settling_keeps}
-use Rattle.world_laws.specs.WorldSlots.Later.{Later, Steps}
+use Rattle.world_laws.specs.WorldSlots.Later.{Later, Part, Steps}
+use Rattle.world_laws.specs.WorldSlots.Lemmas.Joined.{joined}
 use Rattle.world_laws.specs.WorldSlots.Laws.{LaterIsSound, LaterKeepsSlots, RunsGoOn, TurnsKeepSlots}
 use Rattle.world_laws.specs.WorldSlots.Lemmas.Serials.{SerialLaws, below_grows, next_grows, was_there}
 
@@ -42,18 +43,19 @@ pub record SoundLaws : Type 0 where
 -- ---- sound worlds
 
 module _ (laws : SoundLaws) (w : Setting) (only : AcceptsOnly w.machine) where
-  step_sound : (old new : World) → Sound w old → Steps w old new → Sound w new
-  step_sound old new x (Steps.by_turn h t) = laws.turns w h old new only x t
-  step_sound old new x (Steps.by_beginning registers exited begins) = laws.begins w registers old new begins x
-  step_sound old new x (Steps.by_lacking exited lacks) = laws.lacks w old new only x lacks
-  step_sound old new x (Steps.by_settling is) = subst (Sound w) (sym is) (laws.settles w old only x)
+  step_sound : (part other : Part) (old new : World) → Sound w old → Steps w part old other new → Sound w new
+  step_sound part other old new x (Steps.by_turn _ h _ _ t) = laws.turns w h old new only x t
+  step_sound part other old new x (Steps.by_beginning registers _ _ exited begins) = laws.begins w registers old new begins x
+  step_sound part other old new x (Steps.by_lacking _ _ exited lacks) = laws.lacks w old new only x lacks
+  step_sound part other old new x (Steps.by_settling _ _ _ is) = subst (Sound w) (sym is) (laws.settles w old only x)
 
-  pub sound_later : (old new : World) → Sound w old → Later w old new → Sound w new
-  sound_later old new x (Later.no_more _) = x
-  sound_later old new x (Later.one_more _ between _ step more) = sound_later between new (step_sound old between x step) more
+  pub sound_later : (part other : Part) (old new : World) → Sound w old → Later w part old other new → Sound w new
+  sound_later part other old new x (Later.no_more _ _) = x
+  sound_later part other old new x (Later.one_more _ middle _ _ between _ step more) =
+      sound_later middle other between new (step_sound part middle old between x step) more
 
 pub later_is_sound : SoundLaws → LaterIsSound
-later_is_sound laws w old new only x later = sound_later laws w only old new x later
+later_is_sound laws w part other old new only x later = sound_later laws w only part other old new x later
 
 -- ---- journals grow
 
@@ -61,17 +63,18 @@ record Grows (old new : World) : Type 0 where
   pub added : List Event
   pub is : new.journal ≡ old.journal ++ added
 
-step_grows : (w : Setting) (old new : World) → Steps w old new → Grows old new
-step_grows w old new (Steps.by_turn h t) = turn_grows t
+step_grows : (w : Setting) (part other : Part) (old new : World) → Steps w part old other new → Grows old new
+step_grows w part other old new (Steps.by_turn _ h _ _ t) = turn_grows t
   where
     turn_grows : Turn w h old new → Grows old new
     turn_grows t = record { added = _; is = t.journal ∙ append_assoc old.journal _ (events_of t.did) }
-step_grows w old new (Steps.by_beginning registers exited begins) = record { added = []; is = ap (λ (y : World). y.journal) begins.begun ∙ sym (append-nil old.journal) }
-step_grows w old new (Steps.by_lacking exited lacks) = record {
+step_grows w part other old new (Steps.by_beginning registers _ _ exited begins) =
+    record { added = []; is = ap (λ (y : World). y.journal) begins.begun ∙ sym (append-nil old.journal) }
+step_grows w part other old new (Steps.by_lacking _ _ exited lacks) = record {
   added = settling old.harts ++ events.Ended 0 ends.Memory ∷ [];
   is = ap (λ (y : World). y.journal) lacks.leaves ∙ append_assoc old.journal (settling old.harts) (events.Ended 0 ends.Memory ∷ []);
 }
-step_grows w old new (Steps.by_settling is) = record { added = settling old.harts; is = ap (λ (y : World). y.journal) is }
+step_grows w part other old new (Steps.by_settling _ _ _ is) = record { added = settling old.harts; is = ap (λ (y : World). y.journal) is }
 
 -- ---- events of legal histories
 
@@ -81,17 +84,22 @@ get_seam (x ∷ past) rest e = get_seam past rest e
 
 next_allowed : (w : Setting) (past rest : List Event) (e : Event) → Legal w (past ++ e ∷ rest) → Allowed w past e
 unfolding Legal
-next_allowed w past rest e legal = subst (λ (es : List Event). Allowed w es e) (take-append_seam past (e ∷ rest)) (legal (length past) e (get_seam past rest e))
+next_allowed w past rest e legal =
+    subst (λ (es : List Event). Allowed w es e) (take-append_seam past (e ∷ rest)) (legal (length past) e (get_seam past rest e))
 
 all_allowed : (w : Setting) (past added : List Event) → Legal w (past ++ added) → AreAllowed w past added
 all_allowed w past [] legal = tt
-all_allowed w past (e ∷ rest) legal = (next_allowed w past rest e legal, all_allowed w (past ++ e ∷ []) rest (subst (Legal w) (sym (one_behind past e rest)) legal))
+all_allowed w past (e ∷ rest) legal =
+    (next_allowed w past rest e legal, all_allowed w (past ++ e ∷ []) rest (subst (Legal w) (sym (one_behind past e rest)) legal))
 
 all_grow : (past added : List Event) → (after past).next ≤ (after (past ++ added)).next
-all_grow past [] = let same : (after (past ++ [])).next ≡ (after past).next = ap (λ (es : List Event). (after es).next) (append-nil past) in omega (arith, same)
+all_grow past [] =
+    let same : (after (past ++ [])).next ≡ (after past).next = ap (λ (es : List Event). (after es).next) (append-nil past) in omega (arith, same)
 all_grow past (e ∷ rest) =
-    let one : (after past).next ≤ (after (past ++ e ∷ [])).next = subst (λ (s : State). (after past).next ≤ s.next) (sym (after_push past e)) (next_grows (after past) e) in
-    let more : (after (past ++ e ∷ [])).next ≤ (after (past ++ e ∷ rest)).next = subst (λ (es : List Event). (after (past ++ e ∷ [])).next ≤ (after es).next) (one_behind past e rest) (all_grow (past ++ e ∷ []) rest) in
+    let one : (after past).next ≤ (after (past ++ e ∷ [])).next = subst (λ (s : State). (after past).next ≤ s.next) (sym (after_push past e))
+    (next_grows (after past) e) in
+    let more : (after (past ++ e ∷ [])).next ≤ (after (past ++ e ∷ rest)).next = subst
+    (λ (es : List Event). (after (past ++ e ∷ [])).next ≤ (after es).next) (one_behind past e rest) (all_grow (past ++ e ∷ []) rest) in
     le_trans one more
 
 -- ---- images
@@ -107,31 +115,40 @@ module _ (w : Setting) (laws : ImageLaws w.machine) where
   image_low world x i there =
       let lawful = legal_is_lawful w world.journal x.legal in
       let of = (laws.mapped world.journal lawful).image i there in
-      subst (λ (n : ℕ). n < (after world.journal).next) of.is ((good_after laws.load w.machine world.journal lawful).low of.namespace of.object (of.there, of.inside))
+      subst (λ (n : ℕ). n < (after world.journal).next) of.is
+      ((good_after laws.load w.machine world.journal lawful).low of.namespace of.object (of.there, of.inside))
 
-  step_next : (old new : World) → Steps w old new → (after old.journal).next ≤ (after new.journal).next
-  step_next old new step = let x = step_grows w old new step in subst (λ (es : List Event). (after old.journal).next ≤ (after es).next) (sym x.is) (all_grow old.journal x.added)
+  step_next : (part other : Part) (old new : World) → Steps w part old other new → (after old.journal).next ≤ (after new.journal).next
+  step_next part other old new step =
+      let x = step_grows w part other old new step in subst (λ (es : List Event). (after old.journal).next ≤ (after es).next) (sym x.is)
+      (all_grow old.journal x.added)
 
-  step_was : (old new : World) → Sound w old → Sound w new → Steps w old new → (i : Linked) → i.serial < (after old.journal).next → Contains (after new.journal).images i → Contains (after old.journal).images i
-  step_was old new x y step i low there =
-      let grown = step_grows w old new step in
-      was_there w.machine laws.serials w old.journal grown.added refl (legal_is_lawful w old.journal x.legal) (all_allowed w old.journal grown.added (subst (Legal w) grown.is y.legal)) i low
+  step_was : (part other : Part) (old new : World) → Sound w old → Sound w new → Steps w part old other new → (i : Linked)
+      → i.serial < (after old.journal).next
+      → Contains (after new.journal).images i → Contains (after old.journal).images i
+  step_was part other old new x y step i low there =
+      let grown = step_grows w part other old new step in
+      was_there w.machine laws.serials w old.journal grown.added refl (legal_is_lawful w old.journal x.legal)
+      (all_allowed w old.journal grown.added (subst (Legal w) grown.is y.legal)) i low
       (subst (λ (es : List Event). Contains (after es).images i) grown.is there)
 
   module _ (sound : SoundLaws) (only : AcceptsOnly w.machine) where
     -- what is mapped later, of an object that was loaded, was mapped
-    later_was : (old new : World) → Sound w old → Later w old new → (i : Linked) → i.serial < (after old.journal).next → Contains (after new.journal).images i → Contains (after old.journal).images i
-    later_was old new x (Later.no_more _) i low there = there
-    later_was old new x (Later.one_more _ between _ step more) i low there =
-        let y = step_sound sound w only old between x step in
-        step_was old between x y step i low (later_was between new y more i (below_grows i.serial (after old.journal).next (after between.journal).next low (step_next old between step)) there)
+    later_was : (part other : Part) (old new : World) → Sound w old → Later w part old other new → (i : Linked) → i.serial < (after old.journal).next
+        → Contains (after new.journal).images i → Contains (after old.journal).images i
+    later_was part other old new x (Later.no_more _ _) i low there = there
+    later_was part other old new x (Later.one_more _ middle _ _ between _ step more) i low there =
+        let y = step_sound sound w only part middle old between x step in
+        step_was part middle old between x y step i low (later_was middle other between new y more i
+        (below_grows i.serial (after old.journal).next (after between.journal).next low (step_next part middle old between step)) there)
 
 -- ---- a slot
 
 lazy_settled : (old : World) (a : ℕ) → lazy_at (after (old.journal ++ settling old.harts)) a ≡ lazy_at (after old.journal) a
 lazy_settled old a = settling_keeps ℕ (λ s. lazy_at s a) (λ s number standing. refl) old.journal old.harts
 
-module _ (keeps : TurnsKeepSlots) (w : Setting) (only : AcceptsOnly w.machine) (i : Linked) (slot : ℕ) (r : Reloc) (at : slice_get i.object.plt_relocs slot ≡ Some r) where
+module _ (keeps : TurnsKeepSlots) (w : Setting) (only : AcceptsOnly w.machine) (i : Linked) (slot : ℕ) (r : Reloc)
+    (at : slice_get i.object.plt_relocs slot ≡ Some r) where
   abbrev Stays : World → World → Type 0
   Stays old new = SlotStays (after old.journal) (after new.journal) (memory_of old.words) (memory_of new.words) (slot_address i r)
 
@@ -150,57 +167,74 @@ module _ (keeps : TurnsKeepSlots) (w : Setting) (only : AcceptsOnly w.machine) (
   lacking_stays : (old new : World) → LacksMemory w old new → Stays old new
   lacking_stays old new x = subst (Stays old) (sym x.leaves) (record {
     value = refl;
-    lazy = ap (λ (s : State). lazy_at s (slot_address i r)) (after_push (old.journal ++ settling old.harts) (events.Ended 0 ends.Memory)) ∙ lazy_settled old (slot_address i r);
+    lazy = ap (λ (s : State). lazy_at s (slot_address i r))
+        (after_push (old.journal ++ settling old.harts) (events.Ended 0 ends.Memory)) ∙ lazy_settled old (slot_address i r);
   })
 
   settling_stays : (old : World) → Stays old (settled old)
   settling_stays old = record { value = refl; lazy = lazy_settled old (slot_address i r) }
 
-  step_stays : (old new : World) → Sound w old → Steps w old new → Contains (after old.journal).images i → Contains (after new.journal).images i → IsTaken old → Stays old new
-  step_stays old new x (Steps.by_turn h t) there behind taken = keeps w h old new i slot r only x t there behind at taken
-  step_stays old new x (Steps.by_beginning registers exited begins) there behind taken = begun_stays registers old new begins
-  step_stays old new x (Steps.by_lacking exited lacks) there behind taken = lacking_stays old new lacks
-  step_stays old new x (Steps.by_settling is) there behind taken = subst (Stays old) (sym is) (settling_stays old)
+  step_stays : (part other : Part) (old new : World) → Sound w old → Steps w part old other new → Contains (after old.journal).images i
+      → Contains (after new.journal).images i → IsTaken old → Stays old new
+  step_stays part other old new x (Steps.by_turn _ h _ _ t) there behind taken = keeps w h old new i slot r only x t there behind at taken
+  step_stays part other old new x (Steps.by_beginning registers _ _ exited begins) there behind taken = begun_stays registers old new begins
+  step_stays part other old new x (Steps.by_lacking _ _ exited lacks) there behind taken = lacking_stays old new lacks
+  step_stays part other old new x (Steps.by_settling _ _ _ is) there behind taken = subst (Stays old) (sym is) (settling_stays old)
 
-  pub stays_later : (images : ImageLaws w.machine) → (sound : SoundLaws) → (old new : World) → Sound w old → Later w old new → Contains (after old.journal).images i → Contains (after new.journal).images i → IsTaken old → Stays old new
-  stays_later images sound old new x (Later.no_more _) there behind taken = record { value = refl; lazy = refl }
-  stays_later images sound old new x (Later.one_more _ between _ step more) there behind taken =
-      let y = step_sound sound w only old between x step in
-      let low : i.serial < (after between.journal).next = below_grows i.serial (after old.journal).next (after between.journal).next (image_low w images old x i there) (step_next w images old between step) in
-      let yet : Contains (after between.journal).images i = later_was w images sound only between new y more i low behind in
-      let one : Stays old between = step_stays old between x step there yet taken in
-      both old between new one (stays_later images sound between new y more yet behind (taken_still old between one taken))
+  pub stays_later : (images : ImageLaws w.machine) → (sound : SoundLaws) → (part other : Part) (old new : World) → Sound w old → Later w part old other new
+      → Contains (after old.journal).images i → Contains (after new.journal).images i → IsTaken old → Stays old new
+  stays_later images sound part other old new x (Later.no_more _ _) there behind taken = record { value = refl; lazy = refl }
+  stays_later images sound part other old new x (Later.one_more _ middle _ _ between _ step more) there behind taken =
+      let y = step_sound sound w only part middle old between x step in
+      let low : i.serial < (after between.journal).next =
+      below_grows i.serial (after old.journal).next (after between.journal).next (image_low w images old x i there)
+      (step_next w images part middle old between step) in
+      let yet : Contains (after between.journal).images i = later_was w images sound only middle other between new y more i low behind in
+      let one : Stays old between = step_stays part middle old between x step there yet taken in
+      both old between new one (stays_later images sound middle other between new y more yet behind (taken_still old between one taken))
 
 pub later_keeps_slots : ((m : Machine) → ImageLaws m) → SoundLaws → TurnsKeepSlots → LaterKeepsSlots
-later_keeps_slots images sound keeps w old new i slot r only x later there behind at taken =
-    stays_later keeps w only i slot r at (images w.machine) sound old new x later there behind taken
+later_keeps_slots images sound keeps w part other old new i slot r only x later there behind at taken =
+    stays_later keeps w only i slot r at (images w.machine) sound part other old new x later there behind taken
 
 -- ---- a run
 
-module _ (w : Setting) (begin : World) where
-  -- one step more at the end
-  behind : (old between new : World) → Later w old between → Steps w between new → Later w old new
-  behind old between new (Later.no_more _) step = Later.one_more between new new step (Later.no_more new)
-  behind old between new (Later.one_more _ middle _ first more) step = Later.one_more old middle new first (behind middle between new more step)
+a_turn : (w : Setting) (begin : World) (h : ℕ) (old new : World) → Later w Part.of_program begin Part.of_program old → Turn w h old new
+    → Later w Part.of_program begin Part.of_program new
+a_turn w begin h old new later t =
+    joined w Part.of_program Part.of_program Part.of_program begin old new later
+    (Later.one_more Part.of_program Part.of_program Part.of_program old new new (Steps.by_turn Part.of_program h old new t) (Later.no_more Part.of_program new))
 
-  a_turn : (h : ℕ) (old new : World) → Later w begin old → Turn w h old new → Later w begin new
-  a_turn h old new later t = behind begin old new later (Steps.by_turn h t)
+ends_later : (w : Setting) (old new : World) → RunEnds w old new → Later w Part.of_finals old Part.of_finals new
+ends_later w old new (RunEnds.no_more _ all) = Later.no_more Part.of_finals old
+ends_later w old new (RunEnds.one_more _ between _ runs t more) =
+    Later.one_more Part.of_finals Part.of_finals Part.of_finals old between new (Steps.by_turn Part.of_finals 0 old between t) (ends_later w between new more)
 
-ends_later : (w : Setting) (old new : World) → RunEnds w old new → Later w old new
-ends_later w old new (RunEnds.no_more _ all) = Later.no_more old
-ends_later w old new (RunEnds.one_more _ between _ runs t more) = Later.one_more old between new (Steps.by_turn 0 t) (ends_later w between new more)
-
-finals_later : (w : Setting) (registers : Registers) (old new : World) → Finalises w registers old new → Later w old new
-finals_later w registers old new (Finalises.none_runs exited same) = subst (Later w old) (sym same) (Later.no_more old)
-finals_later w registers old new (Finalises.none_is_left none same) = subst (Later w old) (sym same) (Later.no_more old)
-finals_later w registers old new (Finalises.no_memory exited lacks) = Later.one_more old new new (Steps.by_lacking exited lacks) (Later.no_more new)
-finals_later w registers old new (Finalises.all_run begun exited begins run) = Later.one_more old begun new (Steps.by_beginning registers exited begins) (ends_later w begun new run)
+finals_later : (w : Setting) (registers : Registers) (old new : World) → Finalises w registers old new → (last : Part) × Later w Part.of_program old last new
+finals_later w registers old new (Finalises.none_runs exited same) =
+    (Part.of_program, subst (λ (y : World). Later w Part.of_program old Part.of_program y) (sym same) (Later.no_more Part.of_program old))
+finals_later w registers old new (Finalises.none_is_left none same) =
+    (Part.of_program, subst (λ (y : World). Later w Part.of_program old Part.of_program y) (sym same) (Later.no_more Part.of_program old))
+finals_later w registers old new (Finalises.no_memory exited lacks) =
+    (Part.of_finals, Later.one_more Part.of_program Part.of_finals Part.of_finals old new new (Steps.by_lacking old new exited lacks) (Later.no_more Part.of_finals new))
+finals_later w registers old new (Finalises.all_run begun exited begins run) = (
+  Part.of_finals,
+  Later.one_more Part.of_program Part.of_finals Part.of_finals old begun new (Steps.by_beginning registers old begun exited begins)
+      (ends_later w begun new run),
+)
 
 pub runs_go_on : RunsGoOn
-runs_go_on w setup items world run = record {
-  constructed = constructs w (Later w run.started) (a_turn w run.started) run.started run.constructed run.constructs (Later.no_more run.started);
-  scheduled = items_keep w (Later w run.constructed) (a_turn w run.constructed) items run.constructed run.scheduled run.follows (Later.no_more run.constructed);
-  finished = finishes w (Later w run.scheduled) (a_turn w run.scheduled) run.scheduled run.finished run.finishes (Later.no_more run.scheduled);
-  finalised = finals_later w (starting_registers run.entry) run.finished run.finalised run.finalises;
-  ended = Later.one_more run.finalised world world (Steps.by_settling run.ends) (Later.no_more world);
-}
+runs_go_on w setup items world run =
+    let from : World → World → Type 0 = λ begin new. Later w Part.of_program begin Part.of_program new in
+    let finals = finals_later w (starting_registers run.entry) run.finished run.finalised run.finalises in
+    record {
+      constructed = constructs w (from run.started) (a_turn w run.started) run.started run.constructed run.constructs
+          (Later.no_more Part.of_program run.started);
+      scheduled = items_keep w (from run.constructed) (a_turn w run.constructed) items run.constructed run.scheduled run.follows
+          (Later.no_more Part.of_program run.constructed);
+      finished = finishes w (from run.scheduled) (a_turn w run.scheduled) run.scheduled run.finished run.finishes (Later.no_more Part.of_program run.scheduled);
+      last = finals.0;
+      finalised = finals.1;
+      ended = Later.one_more finals.0 finals.0 finals.0 run.finalised world world (Steps.by_settling finals.0 run.finalised world run.ends)
+          (Later.no_more finals.0 world);
+    }

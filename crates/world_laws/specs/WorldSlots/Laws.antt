@@ -16,7 +16,7 @@ use Rattle.world_turns.specs.Run.{Run}
 use Rattle.world_turns.specs.Sound.{Sound}
 use Rattle.world_turns.specs.Turn.{Turn}
 use Rattle.world_turns.specs.World.{World}
-use Rattle.world_laws.specs.WorldSlots.Later.{Later}
+use Rattle.world_laws.specs.WorldSlots.Later.{Later, Part}
 
 -- through each turn, where its object is mapped before and after it
 abbrev pub TurnsKeepSlots : Type 0
@@ -29,22 +29,25 @@ TurnsKeepSlots = (w : Setting) (h : ℕ) (old new : World) (i : Linked) (slot : 
 
 -- they are sound
 abbrev pub LaterIsSound : Type 0
-LaterIsSound = (w : Setting) (old new : World) → AcceptsOnly w.machine → Sound w old → Later w old new → Sound w new
+LaterIsSound = (w : Setting) (part other : Part) (old new : World) → AcceptsOnly w.machine → Sound w old → Later w part old other new → Sound w new
 
 -- and the slot reads the same in each in which its object is mapped still
 abbrev pub LaterKeepsSlots : Type 0
-LaterKeepsSlots = (w : Setting) (old new : World) (i : Linked) (slot : ℕ) (r : Reloc) → AcceptsOnly w.machine → Sound w old
-    → Later w old new → Contains (after old.journal).images i → Contains (after new.journal).images i → slice_get i.object.plt_relocs slot ≡ Some r
+LaterKeepsSlots = (w : Setting) (part other : Part) (old new : World) (i : Linked) (slot : ℕ) (r : Reloc) → AcceptsOnly w.machine → Sound w old
+    → Later w part old other new → Contains (after old.journal).images i → Contains (after new.journal).images i
+    → slice_get i.object.plt_relocs slot ≡ Some r
     → (doubleword old.words (slot_address i r)).value ≢ lazy_at (after old.journal) (slot_address i r)
     → SlotStays (after old.journal) (after new.journal) (memory_of old.words) (memory_of new.words) (slot_address i r)
 
 -- a run goes from its start to its end by such steps, part after part
 pub record GoesOn (w : Setting) (setup : Setup) (items : List TurnItem) (world : World) (run : Run w setup items world) : Type 0 where
-  pub constructed : Later w run.started run.constructed
-  pub scheduled : Later w run.constructed run.scheduled
-  pub finished : Later w run.scheduled run.finished
-  pub finalised : Later w run.finished run.finalised
-  pub ended : Later w run.finalised world
+  pub constructed : Later w Part.of_program run.started Part.of_program run.constructed
+  pub scheduled : Later w Part.of_program run.constructed Part.of_program run.scheduled
+  pub finished : Later w Part.of_program run.scheduled Part.of_program run.finished
+  -- the final destructors run, or lack memory, or there is none to run
+  pub last : Part
+  pub finalised : Later w Part.of_program run.finished last run.finalised
+  pub ended : Later w last run.finalised last world
 
 abbrev pub RunsGoOn : Type 0
 RunsGoOn = (w : Setting) (setup : Setup) (items : List TurnItem) (world : World) (run : Run w setup items world) → GoesOn w setup items world run

@@ -1,4 +1,5 @@
 -- Lemmas on this crate's definitions that proofs of the crates above cite, too. They define nothing that a contract means.
 pub mod Images
+pub mod Joined
 pub mod Serials
 pub mod Turns
