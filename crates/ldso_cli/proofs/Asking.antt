@@ -10,7 +10,8 @@ use Rattle.cli_words.specs.declared.command.Turns.{Turns}
 use Rattle.history_calls.specs.Startup.{harts_of}
 use Rattle.ldso_cli.proofs.Schedules.{Schedule, told_schedule}
 use Rattle.ldso_cli.specs.Asked.{Asks, CanBeDone, OfAsked}
-use Rattle.ldso_cli.specs.Command.{WordsAnswer, AsScheduled, IsUsage, LeavesLibrary}
+use Rattle.ldso_cli.specs.Command.{WordsAnswer, IsUsage, LeavesLibrary}
+use Rattle.ldso_cli.specs.Scheduled.{AsScheduled}
 use Rattle.ldso_cli.specs.Generate.{GenComes}
 use Rattle.ldso_cli.specs.Outside.{LibraryAt}
 use Rattle.ldso_cli.specs.Turns.{IsScheduled, TurnsComes}
@@ -94,3 +95,7 @@ no_command words none holds = record { asked = None; asks = λ command reads can
 
 pub along : (words words' : List (List ℕ)) → words ≡ words' → {P Q : Option Command → Type 0} → ((command : Option Command) → P command → Q command) → OfAsked words P → OfAsked words' Q
 along words words' same goes of = record { asked = of.asked; asks = subst (λ (ws : List (List ℕ)). Asks ws of.asked) same of.asks; holds = goes of.asked of.holds }
+
+-- what holds of what words ask for holds of each that they ask for
+pub of_each : OneCommand → (words : List (List ℕ)) {P : Option Command → Type 0} → OfAsked words P → (command : Option Command) → Asks words command → P command
+of_each one words {P} of command asks = subst P (one_asked one words of.asked command of.asks asks) of.holds

@@ -44,7 +44,7 @@ stops_over : (bind : Bind) (files : List File) (fault : DlFault) → ((path : Li
 stops_over bind files fault quiet stops = let P : (List ℕ → Reading) → Type 0 = λ r. Stops (load_of (ask_of bind) [] r) (refuses fault) in subst P (until_same files (ask_of bind) fault quiet) stops
 
 -- a load stops, or lacks a version
-record HasFault (bind : Bind) (files : List File) (cause : Cause) : Type 0 where
+pub record HasFault (bind : Bind) (files : List File) (cause : Cause) : Type 0 where
   pub fault : DlFault
   pub is : Stops (program_load bind files) (refuses fault) ⊎ Lacks (program_load bind files) Bool.false fault
   pub cause_is : cause ≡ causes.Refused fault
@@ -54,7 +54,7 @@ stopped : (bind : Bind) (files : List File) (fault : DlFault) → ((path : List 
 stopped bind files fault quiet (inl stops) = inl (stops_over bind files fault quiet stops)
 stopped bind files fault quiet (inr lacks) = inr lacks
 
-settled : (bind : Bind) (files : List File) (cause : Cause) → IsNotLoaded bind files cause → ((path : List ℕ) → cause ≡ causes.Refused (dl.ReadFault path) → ⊥) → HasFault bind files cause
+pub settled : (bind : Bind) (files : List File) (cause : Cause) → IsNotLoaded bind files cause → ((path : List ℕ) → cause ≡ causes.Refused (dl.ReadFault path) → ⊥) → HasFault bind files cause
 settled bind files cause refused quiet = record {
   fault = refused.fault;
   is = stopped bind files refused.fault (λ path e. quiet path (refused.cause_is ∙ ap causes.Refused e)) refused.is;

@@ -2,6 +2,7 @@ pub mod Asking
 pub mod Assembling
 pub mod Bounds
 pub mod Causes
+pub mod Completing
 pub mod Decided
 pub mod Dumping
 pub mod Ending

@@ -24,3 +24,7 @@ pub record OfAsked (words : List (List ℕ)) (P : Option Command → Type 0) : T
   pub asked : Option Command
   pub asks : Asks words asked
   pub holds : P asked
+
+-- this holds of each thing that words ask for: they ask for one
+abbrev pub OfEachAsked : List (List ℕ) → (Option Command → Type 0) → Type 0
+OfEachAsked words P = (command : Option Command) → Asks words command → P command

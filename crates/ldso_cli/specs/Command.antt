@@ -6,7 +6,6 @@ use Rattle.library_source.specs.Count.{Rises}
 use Rattle.library_source.specs.Files.{Over}
 use Rattle.cli_words.specs.declared.command.Command.{Command}
 use Rattle.cli_words.specs.declared.command.Command.TheVariants as commands
-use Rattle.cli_words.specs.declared.command.Turns.{Turns}
 use Rattle.ldso_cli.specs.Asm.{AsmComes, AsmPrints}
 use Rattle.ldso_cli.specs.Bind.{BindComes, BindMisses, BindPrints}
 use Rattle.ldso_cli.specs.Dump.{DumpComes, DumpPrints}
@@ -15,7 +14,7 @@ use Rattle.ldso_cli.specs.Generate.{GenComes}
 use Rattle.ldso_cli.specs.Outside.{LibraryAt}
 use Rattle.ldso_cli.specs.Played.{StartMisses}
 use Rattle.ldso_cli.specs.Status.{usage_text}
-use Rattle.ldso_cli.specs.Turns.{IsScheduled, TurnsComes}
+use Rattle.ldso_cli.specs.Turns.{TurnsComes}
 use Rattle.ldso_cli.specs.declared.outcome.Cause.{Cause}
 use Rattle.ldso_cli.specs.declared.outcome.Cause.TheVariants as causes
 use Rattle.ldso_cli.specs.declared.outcome.End.{End}
@@ -106,9 +105,3 @@ WordsAnswer (Some command) before after end text = CommandAnswers command before
 abbrev pub LeavesLibrary : {L : Type 0} → Option Command → L → L → Type 0
 LeavesLibrary None before after = after ≡ before
 LeavesLibrary (Some command) before after = IsFalse (reads_library command) → after ≡ before
-
--- ---- for the code of this crate alone
-
--- turns is done where its schedule is one, and is a usage where it isn't
-abbrev pub AsScheduled : Turns → LibraryAt → LibraryAt → End → List ℕ → Type 0
-AsScheduled turns before after end text = (IsScheduled turns × TurnsComes turns before after end text) ⊎ ((IsScheduled turns → ⊥) × IsUsage end text)

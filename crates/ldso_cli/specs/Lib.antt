@@ -2,12 +2,15 @@ pub mod Asked
 pub mod Asm
 pub mod Bind
 pub mod Command
+pub mod Complete
 pub mod Dump
 pub mod End
 pub mod Ends
 pub mod Generate
+pub mod Headline
 pub mod Laws
 pub mod Outside
 pub mod Played
+pub mod Scheduled
 pub mod Status
 pub mod Turns

@@ -5,7 +5,7 @@ ghost use Rattle.ld_base.specs.declared.linking.File.{File};
 ghost use Rattle.cli_words.specs.declared.command.Command.{Command};
 ghost use Rattle.ldso_cli.specs.Command.{Comes, NoReadFails, Prints};
 ghost use Rattle.ldso_cli.specs.Ends.{ComeToOne, IsUndisturbed, RunAt};
-ghost use Rattle.ldso_cli.specs.Laws.{LeavesLegal, LeavesTrue, LeavesWhole, RunsWhereItMay};
+ghost use Rattle.ldso_cli.specs.Laws.{AnswersAreHistories, AnswersComplete};
 ghost use Rattle.ldso_cli.specs.Outside.{LibraryAt, handed_to};
 ghost use Rattle.ldso_cli.specs.declared.outcome.End.{End};
 
@@ -16,12 +16,17 @@ use lib_gen::one_set;
 use library_source::Sink;
 use scope_rule::one_outcome;
 use trace_text::one_run_end;
-use world_laws::{moments_are_true, runs_are_one, runs_are_whole};
+use world_laws::{
+    harts_follow, moments_are_true, runs_are_one, runs_are_whole, runs_have_journals,
+};
 use world_turns::runs_stay_sound;
 
 /// The words and the files decide what a call of the command comes to, where the library tells its
 /// files, neither it nor the sink fails, and memory suffices, in a run that it makes, too: one status,
 /// one text, and one record of the run. For `gen` the words alone decide it.
+///
+/// So it is of the commands that can be done, whose runs follow a written schedule. Of harts on threads it
+/// would be false: which of them comes first is written nowhere.
 pub fn one_answer<K: Sink, J: Sink>()
     ensures { (words : List (List ℕ)) (files : List File) (first second : RunAt) (old new : K) (old' new' : J) →
         IsUndisturbed (handed_to K.writes old new) words files first → IsUndisturbed (handed_to J.writes old' new') words files second →
@@ -55,34 +60,28 @@ pub fn one_text()
     asm_layout::one_answer();
 }
 
-/// The journal that a run leaves is one legal history, over the files as its library tells them; and that
-/// of a program that ran is whole: no grant is open, what each lost grant saw is the value of its slot, and
-/// where each hart ended by exit what was initialised was finalised.
-pub fn kept_runs_are_legal()
-    ensures legal { LeavesLegal }
-    ensures whole { LeavesWhole }
+/// What an answer keeps of a run is one legal history, over the files as its library tells them. Where the
+/// program ran it is whole, and at each moment of the run slots, blocks of thread-local storage and closings
+/// are what they should be; and a program that may start over files that are told runs, where no read fails.
+pub(crate) fn answers_are_histories()
+    ensures { AnswersAreHistories }
 {
     accepted_object();
     served_calls_are_legal();
     runs_stay_sound();
+    runs_have_journals();
+    harts_follow();
     runs_are_whole();
-}
-
-/// At each moment of a run, behind each of its turns too, the journal is legal, each slot of a mapped
-/// object holds its first word or the value of the one grant that took it, which the rules chose at one
-/// moment, and leads to no object but one that is mapped; each grant is made in its hart's own call;
-/// blocks of thread-local storage are apart, and each answer on it counts from the hart's own. From each
-/// moment to each later one a slot that is bound reads the same, while its object is mapped.
-pub fn kept_runs_are_true()
-    ensures { LeavesTrue }
-{
-    accepted_object();
     moments_are_true();
+    one_startup();
 }
 
-/// A program that may start over files that are told runs, where no read fails and memory suffices.
-pub fn startable_programs_run()
-    ensures { RunsWhereItMay }
+/// Where the files have all that a command asks for, and no read fails, it does what it was asked.
+pub(crate) fn answers_complete()
+    ensures { AnswersComplete }
 {
+    one_outcome();
+    asm_layout::one_answer();
     one_startup();
+    one_set();
 }

@@ -17,8 +17,6 @@ mod play;
 mod top;
 mod turns;
 
-pub use law::{
-    kept_runs_are_legal, kept_runs_are_true, one_answer, one_end, one_text, startable_programs_run,
-};
+pub use law::{one_answer, one_end, one_text};
 pub use outcome::{Cause, End, Outcome};
 pub use top::ldso;

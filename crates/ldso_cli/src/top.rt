@@ -2,10 +2,12 @@
 
 ghost use Rattle.std.specs.Prelude.{◌≡◌, ◌≤◌, IfOk, MatchResult};
 ghost use Rattle.cli_read.specs.SaidWords.Words.{texts};
-ghost use Rattle.ldso_cli.specs.Asked.{OfAsked};
+ghost use Rattle.ldso_cli.specs.Asked.{OfAsked, OfEachAsked};
 ghost use Rattle.ldso_cli.specs.Command.{WordsAnswer, LeavesLibrary};
+ghost use Rattle.ldso_cli.specs.Complete.{Completes};
 ghost use Rattle.ldso_cli.specs.End.{end_of};
 ghost use Rattle.ldso_cli.specs.Ends.{WordsEnd, IsCaused, IsUnanswered, Written};
+ghost use Rattle.ldso_cli.specs.Headline.{Headline};
 ghost use Rattle.ldso_cli.specs.Outside.{handed_to, library_at, sink_at};
 ghost use Rattle.ldso_cli.specs.Status.{status_of};
 
@@ -14,6 +16,7 @@ use crate::asm::asm;
 use crate::bind::bind;
 use crate::dump::dump;
 use crate::generate::generate;
+use crate::law::{answers_are_histories, answers_complete};
 use crate::outcome::{Cause, End, Outcome};
 use crate::turns::turns;
 use cli_read::{WordsFault, read_command};
@@ -91,10 +94,19 @@ pub fn ldso<R: Threads + Wait + Sync, L: Library + Send + Drop, K: Sink>(
     ensures ends { OfAsked (texts words.items) (λ command. WordsEnd (handed_to K.writes out.old out.new)
         command (library_at L.files L.faults L.misses library) (library_at L.files L.faults L.misses result.1)
         (sink_at K.taken K.faults out.old) (sink_at K.taken K.faults out.new) (end_of result.0)) }
-    ensures causes { OfAsked (texts words.items) (λ command. IsCaused
+    ensures causes { OfEachAsked (texts words.items) (λ command. IsCaused
         command (library_at L.files L.faults L.misses library) (library_at L.files L.faults L.misses result.1)
         (sink_at K.taken K.faults out.old) (sink_at K.taken K.faults out.new) result.0.cause) }
     ensures status { result.0.status ≡ status_of (end_of result.0) }
+
+    // The headline: what is kept of a run is one legal history, true at each of its moments.
+    ensures headline { OfEachAsked (texts words.items) (λ command. Headline
+        command (library_at L.files L.faults L.misses library) (library_at L.files L.faults L.misses result.1) result.0.kept) }
+
+    // Where all that the command asks for is there and nothing fails, it does what it was asked, or memory was wanted.
+    ensures complete { OfEachAsked (texts words.items) (λ command. Completes
+        command (library_at L.files L.faults L.misses library) (library_at L.files L.faults L.misses result.1)
+        (sink_at K.taken K.faults out.old) (sink_at K.taken K.faults out.new) (end_of result.0)) }
 
     // What the library and the sink are left as.
     ensures untouched { OfAsked (texts words.items) (λ command. LeavesLibrary command library result.1) }
@@ -104,6 +116,9 @@ pub fn ldso<R: Threads + Wait + Sync, L: Library + Send + Drop, K: Sink>(
     ensures sink_faults { K.faults out.old ≤ K.faults out.new }
 {
     let _ = rt;
+    words_are_one_command();
+    answers_are_histories();
+    answers_complete();
     let mut library = library;
     let answer = answer(alloc, words.as_slice(), &mut library);
     let end = write_answer(out, answer);

@@ -1,7 +1,7 @@
 //! `turns`: a run on one thread, by a written schedule.
 
 ghost use Rattle.std.specs.Prelude.{◌≡◌, ◌<◌, ◌≤◌, ◌^◌, ◌++◌, All, IfErr, IfOk, List};
-ghost use Rattle.ldso_cli.specs.Command.{AsScheduled};
+ghost use Rattle.ldso_cli.specs.Scheduled.{AsScheduled};
 ghost use Rattle.ldso_cli.specs.End.{kept_end};
 ghost use Rattle.ldso_cli.specs.Outside.{library_at};
 ghost use Rattle.ldso_cli.specs.Played.{last_line, run_cause};

@@ -12,11 +12,10 @@ play-requires-clause-within g c = λ item there. within (harts_of c.args.command
 pub told-requires : goal.told-requires
 told-requires g c =
     let before = library_at g.L.Library.files g.L.Library.faults g.L.Library.misses c.args.library.now in
-    let after = library_at g.L.Library.files g.L.Library.faults g.L.Library.misses c.play.new.library in
     let setup = c.args.command.now.setup in
     let left = c.in_ok-played.played.left in
     c.events_are_sayable.ensures.legal (run_of setup before.files) left.journal.events
-    (leaves_legal c.served_calls_are_legal.ensures.fails c.runs_stay_sound.ensures.run c.accepted_object.ensures.machine setup c.args.items.now before after c.in_ok-played.played.ended left c.in_ok-played.ensures.plays)
+    (leaves_legal c.served_calls_are_legal.ensures.fails c.runs_stay_sound.ensures.run c.accepted_object.ensures.machine setup c.args.items.now before.files c.in_ok-played.played.ended left c.in_ok-played.ensures.plays.is)
 
 pub returns-clause-comes : goal.returns-clause-comes
 returns-clause-comes g c =

@@ -1,0 +1,78 @@
+-- The headline: for all files, programs and interleavings of the harts' turns, the journal that is kept of a run is one legal history.
+use Rattle.std.specs.Prelude.{◌≡◌, ◌≢◌, ℕ, List, [], Option, Some, None}
+use Rattle.cli_words.specs.declared.command.Command.{Command}
+use Rattle.cli_words.specs.declared.command.Command.TheVariants as commands
+use Rattle.cli_words.specs.declared.command.Turns.{Turns}
+use Rattle.history_calls.specs.RunJournal.{IsRunJournal}
+use Rattle.history_calls.specs.Startup.{FailsToStart}
+use Rattle.history_calls.specs.declared.link_served.startup.Setup.{Setup}
+use Rattle.history_state.specs.Legal.{Legal, Whole}
+use Rattle.hart_moves.specs.Follows.{HartsFollow}
+use Rattle.ld_base.specs.declared.fault.DlFault.{DlFault}
+use Rattle.ld_base.specs.declared.linking.File.{File}
+use Rattle.lib_gen.specs.Set.{AreSetOf}
+use Rattle.library_source.specs.Count.{Rises}
+use Rattle.link_open_plan.specs.Startup.{run_of}
+use Rattle.link_startup.specs.Startup.{CanStart}
+use Rattle.plain_world.specs.Ends.{AreEndsOf}
+use Rattle.trace_text.specs.declared.run_texts.record.RunRecord.{RunRecord}
+use Rattle.world_laws.specs.RunMoments.Laws.{IsTrueThroughout}
+use Rattle.world_turns.specs.declared.schedules.schedule.TurnItem.{TurnItem}
+use Rattle.world_turns.specs.Run.{Run}
+use Rattle.world_turns.specs.World.{World}
+use Rattle.ldso_cli.specs.Generate.{set_at, set_setup}
+use Rattle.ldso_cli.specs.Outside.{LibraryAt}
+use Rattle.ldso_cli.specs.Turns.{Schedules}
+
+-- the program ran: a run on one thread by these items, each of whose turns is one of its hart's, left this journal and these ends
+pub record HasRun (setup : Setup) (items : List TurnItem) (files : Option (List File)) (left : RunRecord) : Type 0 where
+  pub world : World
+  pub run : Run (run_of setup files) setup items world
+  pub journal : left.journal.events ≡ world.journal
+  pub ends : AreEndsOf world.harts left.ends
+  -- its events are startup's, and then those of harts that there are and that hadn't ended
+  pub by : IsRunJournal (run_of setup files) setup left.journal.events
+  -- each hart follows from its start to its end, by the table of turns, and none of its events is left out
+  pub follow : HartsFollow (run_of setup files) setup left.journal.events left.ends
+  -- no grant is open, what a lost grant of a mapped object saw is its slot's value, and where each hart ended once, by exit, what was initialised
+  -- was finalised
+  pub whole : Whole (run_of setup files) left.journal.events
+  -- in each world that turns lead to, slots, blocks and closings are what they should be, and a bound slot stays from each to each later one
+  pub moments : IsTrueThroughout run
+
+-- what is kept of the run of a program, over the files as the library tells them
+pub record IsHistory (setup : Setup) (items : List TurnItem) (before after : LibraryAt) (left : RunRecord) : Type 0 where
+  -- the journal is one legal history, whether the program starts or not
+  pub legal : Legal (run_of setup before.files) left.journal.events
+  -- where a hart has ended, the program ran; where none has, startup was refused at the end of these events
+  pub ran : left.ends ≢ [] → HasRun setup items before.files left
+  pub refused : left.ends ≡ [] → (fault : DlFault) × FailsToStart (run_of setup before.files) setup fault left.journal.events
+  -- and it runs where it may start over files that are told, and no read fails
+  pub runs : (files : List File) → before.files ≡ Some files → ¬ (Rises before.faults after.faults) → CanStart (run_of setup before.files) setup → left.ends ≢ []
+
+-- what is kept of turns: a history by the items that its schedule says
+pub record IsHistoryOfTurns (turns : Turns) (before after : LibraryAt) (left : RunRecord) : Type 0 where
+  pub items : List TurnItem
+  pub says : Schedules turns items
+  pub is : IsHistory turns.setup items before after left
+
+-- what is kept of gen: a history of the program of its set, over a library that has the set's files and never fails
+pub record IsHistoryOfSet (number : ℕ) (left : RunRecord) : Type 0 where
+  pub files : List File
+  pub are : AreSetOf number files
+  pub is : IsHistory set_setup [] (set_at files 0) (set_at files 0) left
+
+-- a record is kept by a command that runs a program alone
+abbrev pub IsKept : Command → LibraryAt → LibraryAt → RunRecord → Type 0
+IsKept (commands.Bind bind) before after left = ⊥
+IsKept (commands.Dump path) before after left = ⊥
+IsKept (commands.Assemble path) before after left = ⊥
+IsKept (commands.Turns turns) before after left = IsHistoryOfTurns turns before after left
+IsKept (commands.Run run) before after left = ⊥
+IsKept (commands.Generate number) before after left = IsHistoryOfSet number left
+
+-- so it is of what the words of a command keep
+abbrev pub Headline : Option Command → LibraryAt → LibraryAt → Option RunRecord → Type 0
+Headline command before after None = Unit {0}
+Headline None before after (Some left) = ⊥
+Headline (Some command) before after (Some left) = IsKept command before after left
