@@ -7,9 +7,10 @@ use crate::wanted::Wanted;
 use asm_object::{AsmFault, assemble};
 use ld_base::Name;
 use std::alloc::{AllocError, Global};
+use std::rt::Files;
 use std::sync::Wait;
 use std::thread::Threads;
-use test_file::{Fault, Report, without_remark};
+use test_file::{Fault, Report, bytes_at, without_remark};
 
 /// What the lines belong to.
 #[derive(Clone, Copy)]
@@ -67,7 +68,7 @@ impl<'a> Book<'a> {
     }
 
     /// Reads all lines, runs the examples, and says which of them don't hold.
-    pub fn read<R: Threads + Wait + Sync>(
+    pub fn read<R: Files + Threads + Wait + Sync + Clone + Drop + Send>(
         mut self,
         rt: &R,
         text: &str,
@@ -80,7 +81,7 @@ impl<'a> Book<'a> {
         report.close(path)
     }
 
-    fn read_line<R: Threads + Wait + Sync>(
+    fn read_line<R: Files + Threads + Wait + Sync + Clone + Drop + Send>(
         &mut self,
         rt: &R,
         number: usize,
@@ -94,7 +95,7 @@ impl<'a> Book<'a> {
     }
 
     /// Does what a line says.
-    fn follow<R: Threads + Wait + Sync>(
+    fn follow<R: Files + Threads + Wait + Sync + Clone + Drop + Send>(
         &mut self,
         rt: &R,
         number: usize,
@@ -113,6 +114,7 @@ impl<'a> Book<'a> {
             }
             (_, "$") => self.command.words = Name::new(self.alloc, rest.as_bytes())?,
             (_, "|") => self.wanted.push_line(rest)?,
+            (_, "load") => self.load(rt, without_remark(rest))?,
             _ => self.follow_data(rt, number, without_remark(line))?,
         }
         Ok(())
@@ -321,6 +323,12 @@ impl<'a> Book<'a> {
         let put = layout.put(bytes);
         self.put_back(layout)?;
         Ok(put?)
+    }
+
+    /// Goes on with the bytes of a file that lies beside the book.
+    fn load<R: Files + Clone + Drop + Send>(&mut self, rt: &R, path: &str) -> Result<(), Fault> {
+        let bytes = bytes_at(rt, self.alloc, path)?.ok_or(Fault::Unclear)?;
+        self.put(bytes.as_slice())
     }
 
     /// Goes on with the bytes that the last line of bytes was about.

@@ -1,6 +1,6 @@
 //! Runs the examples of the commands, and says which of them don't hold.
 //!
-//! The examples stand in plain files, which the words of the program name: docs/EXAMPLES.md says how
+//! The examples stand in plain files, which the words of the program name: docs/TESTING.md says how
 //! to write one. Each is a command over files in memory, with the text that it has to write, and is
 //! run through the top call, `ldso_cli::ldso`. For each file one line says that all its examples hold,
 //! or how many do; each that doesn't is shown before it, with the text that it gives.

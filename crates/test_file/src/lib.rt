@@ -19,5 +19,5 @@ pub use fault::Fault;
 pub use number::whole;
 pub use report::Report;
 pub use sheet::{Calls, Sheet, said_of};
-pub use source::{text_at, without_remark};
+pub use source::{bytes_at, text_at, without_remark};
 pub use words::Words;

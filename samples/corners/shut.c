@@ -1,0 +1,1 @@
+int shut(void) { return 1; }

@@ -1,0 +1,1 @@
+int there(int number) { return 10 * number; }

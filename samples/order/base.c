@@ -1,0 +1,4 @@
+#include "says.h"
+SAYS("base")
+
+int base(void) { return 1; }

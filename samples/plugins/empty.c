@@ -1,0 +1,2 @@
+/* Has no object named plugin. */
+int something_else(void) { return 0; }

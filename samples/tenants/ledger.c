@@ -1,0 +1,3 @@
+static int balance;
+
+int pay(int amount) { return balance += amount; }
