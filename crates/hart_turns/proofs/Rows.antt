@@ -28,9 +28,9 @@ turns_map R S within w past h items (Ends reason) c x = λ may. within _ (ended 
 
 -- a hart that is to end
 pub ends_so : (w : Setting) (past : List Event) (h : ℕ) (b c : HartState) (items : List Item) (reason : HartEnd) (result : Turned)
-    → result ≡ Ends reason → c ≡ spent b → TurnsTo (moves.Ends w past h (spent b) items reason) w past h items result c
+    → result ≡ Ends reason → c ≡ spent b → TurnsTo (moves.TurnEnds w past h (spent b) items reason) w past h items result c
 ends_so w past h b c items reason result is left =
-    subst (λ (r : Turned). TurnsTo (moves.Ends w past h (spent b) items reason) w past h items r c) (sym is)
+    subst (λ (r : Turned). TurnsTo (moves.TurnEnds w past h (spent b) items reason) w past h items r c) (sym is)
     (λ may. record { may = may; is = refl; leaves = ap (λ (x : HartState). ended reason x) left })
 
 module _ {B : Type 0} (does : B → Item → B → Type 0) (bus bus' : B) (b c : HartState) (result : Turned) where
@@ -79,7 +79,7 @@ module _ {B : Type 0} (does : B → Item → B → Type 0) (bus bus' : B) (b c :
 pub stops_so : {B : Type 0} (does : B → Item → B → Type 0) (bus bus' : B) (b b' c : HartState) (r' : Registers) (stepped : Result Unit Stop) (stop : Stop)
     (asked : Bool) (result : Turned) → Watches does bus bus' b.registers r' stepped asked → stepped ≡ Err stop → b' ≡ b
     → ((w : Setting) (past : List Event) (h : ℕ) (items : List Item) → asked ≡ list_any moves.is_store items
-    → TurnsTo (moves.Stops w past h b' items stop) w past h items result c)
+    → TurnsTo (moves.TurnStops w past h b' items stop) w past h items result c)
     → Turns does bus bus' Due.instruction b c result
 stops_so does bus bus' b b' c r' stepped stop asked result watched is same comes =
     let step : IsStep b.registers watched.items (Stopped r' stop) = subst (λ (x : Result Unit Stop). IsStep b.registers watched.items (place_after r' x)) is watched.step in
@@ -87,9 +87,9 @@ stops_so does bus bus' b b' c r' stepped stop asked result watched is same comes
       items = watched.items;
       chain = watched.chain;
       turn = λ w past h.
-          turns_map (moves.Stops w past h b watched.items stop) (moves.Instructs w past h b)
+          turns_map (moves.TurnStops w past h b watched.items stop) (moves.Instructs w past h b)
           (λ did x row. record { items = watched.items; place = Stopped r' stop; step = step; comes = row }) w past h watched.items result c
-          (subst (λ (x : HartState). TurnsTo (moves.Stops w past h x watched.items stop) w past h watched.items result c) same (comes w past h watched.items watched.stores));
+          (subst (λ (x : HartState). TurnsTo (moves.TurnStops w past h x watched.items stop) w past h watched.items result c) same (comes w past h watched.items watched.stores));
     }
 
 -- a turn that makes no call of the bus

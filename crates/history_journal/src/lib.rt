@@ -4,8 +4,8 @@
 //! only where it may come next (`history_state`), by a machine that reads objects as `elf_object` does;
 //! so whoever has the journal knows that it is lawful, and what each state of it has.
 //!
-//! `accepted_image` says that what `elf_object` reads is lawful, and `link_harts` keeps beside the journal what is
-//! asked of each hart.
+//! `accepted_image` says that what `elf_object` reads is lawful, and `link_harts` keeps beside the journal what
+//! each hart was refused.
 #![tactic(auto)]
 
 mod accepted_image;
@@ -14,4 +14,4 @@ mod link_harts;
 
 pub use accepted_image::{accepted_object, one_image};
 pub use journal::LawfulJournal;
-pub use link_harts::{HartEnds, KeptFaults, each_hart_ends};
+pub use link_harts::{KeptFaults, each_hart_ends};

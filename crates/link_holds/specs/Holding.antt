@@ -7,12 +7,9 @@ use Rattle.link_lists.specs.LateBlocksPart.Blocks.{BlockList}
 use Rattle.history_event.specs.declared.event.Range.{Range}
 use Rattle.history_event.specs.declared.state.Block.{Block}
 use Rattle.history_event.specs.declared.state.Closing.{Closing}
-use Rattle.history_event.specs.declared.state.Ending.{Ending}
 use Rattle.history_event.specs.declared.state.Granting.{Granting}
-use Rattle.history_event.specs.declared.state.Kept.{Kept}
 use Rattle.history_event.specs.declared.state.Module.{Module}
 use Rattle.history_graph.specs.declared.graph.Edge.{Edge}
-use Rattle.history_journal.specs.LinkHarts.Ends.{EndsOfHarts}
 use Rattle.history_journal.specs.LinkHarts.Kept.{KeptTable}
 use Rattle.history_state.specs.Grants.{is_open}
 use Rattle.history_state.specs.Laws.{HasAll}
@@ -28,7 +25,6 @@ use Rattle.tls_blocks.specs.Numbers.{ModuleTable}
 
 -- the lists beside the journal
 pub record Lists : Type 0 where
-  pub ends : EndsOfHarts
   pub kept : KeptTable
   pub settling : GrantTable
   pub unfinished : SerialsWithRoom
@@ -40,12 +36,6 @@ pub record Lists : Type 0 where
   pub edges : EdgesWithRoom
   pub closings : PendingList
   pub loads : LoadTable
-
--- what is kept of harts
-pub record Holds (ended : List Ending) (refused : List Kept) (harts : ℕ) (ends : EndsOfHarts) (kept : KeptTable) : Type 0 where
-  pub same : ends.harts ≡ harts
-  pub endings : ends.endings ≡ ended
-  pub faults : kept.kept ≡ refused
 
 -- what is kept of grants and objects, with room for each object that is still to be initialised
 pub record Runs (grants : List Granting) (next : ℕ) (inits finis : List ℕ) (namespaces : List Namespace) (settling : GrantTable) (unfinished : SerialsWithRoom)
@@ -85,8 +75,8 @@ pub record Opens (now : Bool) (number : ℕ) (first_loaded stay : List ℕ) (beg
   pub pinned : loads.pinned ≡ stay
   pub first : is_first loads ≡ begins
 
-pub record HoldsAll (s : State) (harts : ℕ) (l : Lists) : Type 0 where
-  pub of_harts : Holds s.endings s.kept harts l.ends l.kept
+pub record HoldsAll (s : State) (l : Lists) : Type 0 where
+  pub faults : l.kept.kept ≡ s.kept
   pub running : Runs s.grants s.next s.inits s.finis s.namespaces l.settling l.unfinished l.namespaces
   pub memory : Maps s.ranges s.modules s.statics s.generation s.blocks s.images l.reserved l.modules l.blocks l.parts
   pub keeping : Keeps (held_edges s) s.grants (map serial_of (mapped s)) s.ranges s.closings l.edges l.closings

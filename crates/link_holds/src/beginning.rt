@@ -5,8 +5,9 @@ ghost use Rattle.history_state.specs.State.{empty_namespace};
 ghost use Rattle.history_calls.specs.Served.{InstallsNothing};
 
 use history_calls::{Installs, SlotWords};
-use ld_base::{Added, NsId, Serials};
-use scope_rule::{Namespace, Opens};
+use ld_base::NsId;
+use link_spaces::empty_namespace;
+use scope_rule::Namespace;
 use seg_image::Images;
 use std::alloc::{AllocError, Global};
 
@@ -19,12 +20,7 @@ pub fn base_namespaces(alloc: Global) -> Result<Vec<Namespace>, AllocError>
     ensures { IfOk result (λ all. all.items ≡ empty_namespace 0 ∷ []) }
 {
     let mut namespaces = Vec::with_capacity(alloc, 1)?;
-    namespaces.push_reserved(Namespace {
-        id: NsId::BASE,
-        objects: Added::new(alloc),
-        global: Serials::new(alloc),
-        opens: Opens::new(alloc),
-    });
+    namespaces.push_reserved(empty_namespace(alloc, NsId::BASE));
     Ok(namespaces)
 }
 

@@ -24,4 +24,4 @@ pub use granting::{granted, is_missing, open_grant, room_for_grant};
 pub use opening::{OpeningCounts, room_for_opening};
 pub use refusing::{kept_copy, room_for_refusal};
 pub use settling::hold;
-pub use storing::{put_block, room_for_block};
+pub use storing::store_block;

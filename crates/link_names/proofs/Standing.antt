@@ -7,8 +7,6 @@ use Rattle.std.specs.declared.alloc.AllocError.{AllocError}
 use Rattle.std.proofs.lemmas.Bool.{cases_Bool, eqb-true}
 use Rattle.std.proofs.lemmas.Grind.{common_steps}
 use Rattle.std.proofs.lemmas.List.{drop_all, length-map, take_all}
-use Rattle.std.proofs.lemmas.List.Folds.{find_at}
-use Rattle.std.proofs.lemmas.List.Quantifiers.{position-Some}
 use Rattle.std.proofs.lemmas.Option.{slice_get-get_or, slice_get-map}
 use Rattle.ld_base.specs.declared.linking.Loaded.{Loaded}
 use Rattle.ld_base.specs.declared.linking.State.{State}
@@ -20,15 +18,6 @@ use Rattle.scope_rule.specs.Seen.{Seen, seen_in}
 use Rattle.scope_rule.specs.declared.namespace.Namespace.{Namespace}
 use Rattle.scope_lists.specs.Lists.{AreListsOf, ChangesStateAlone, IsListed}
 use Rattle.scope_lists.specs.declared.lists.SearchLists.{SearchLists}
-
--- the element at the first place is the first
-found_by : {X : Type 0} (p : X → Bool) (xs : List X) (k : ℕ) → position p xs ≡ Some k → slice_get xs k ≡ find p xs
-found_by p xs k e = sym (find_at p xs ∙ ap (slice_get xs) (grind (arith, common_steps)))
-
--- and it is there
-pub is_place : {X : Type 0} (p : X → Bool) (xs : List X) (k : ℕ) → position p xs ≡ Some k → k < length xs
-is_place p [] k e = absurd (cc e)
-is_place p (x ∷ xs) k e = (position-Some p (x ∷ xs) k x e).0
 
 pub none_found : {X : Type 0} (p : X → Bool) (xs : List X) → position p xs ≡ None → find p xs ≡ None
 none_found p [] e = refl

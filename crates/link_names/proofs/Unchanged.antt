@@ -22,6 +22,7 @@ use Rattle.scope_rule.specs.declared.namespace.Namespace.{Namespace}
 use Rattle.scope_rule.specs.declared.namespace.OpenRec.{OpenRec}
 use Rattle.scope_lists.specs.Lists.{AreListsOf}
 use Rattle.scope_lists.specs.declared.lists.SearchLists.{SearchLists}
+use Rattle.history_state.specs.Lemmas.Dying.{lowered_root}
 
 -- ---- lists tell of the roots of openings alone
 
@@ -164,13 +165,6 @@ either_kept (Ok x) old new after kept ok err before then_kept = subst (λ (nss :
 either_kept (Err e) old new after kept ok err before then_kept = subst (λ (nss : List Namespace). AreKept nss kept) (sym err) before
 
 -- ---- a closing that takes nothing, whose root stays open
-
-lowered_root : (handle : ℕ) (r : OpenRec) → (lowered_open handle r).root ≡ r.root
-lowered_root handle r = by (r.root == handle)
-  where
-    by : (b : Bool) → (cond b (record r { count = r.count - 1 }) r).root ≡ r.root
-    by true = refl
-    by false = refl
 
 lowered_roots : (handle : ℕ) (opens : List OpenRec) → list_all (counts_still handle) opens ≡ true → map root_of (filter (λ r. not (r.count == 0)) (map (lowered_open handle) opens)) ≡ map root_of opens
 lowered_roots handle [] all = refl

@@ -2,18 +2,16 @@
 
 ghost use Rattle.std.specs.Prelude.{◌≡◌, map, IfOk};
 ghost use Rattle.history_state.specs.Bound.{place_of};
-ghost use Rattle.history_state.specs.State.{empty_namespace};
 ghost use Rattle.link_open_brings.specs.Brought.{seen_over, seen_with};
 ghost use Rattle.link_open_images.specs.Relocated.{AreChoices, AreRelocated, MayRelocateAll};
 
 use crate::bringing::Planned;
 use history_event::{Choices, Module};
-use ld_base::{Added, NsId, Serials};
 use link_lists::is_global;
 use link_open_images::images_of;
-use link_spaces::namespace_in;
+use link_spaces::{empty_namespace, namespace_in};
 use relocator::{ModulePlace, TlsPlaces};
-use scope_rule::{Namespace, Opens, opened_lists};
+use scope_rule::{Namespace, opened_lists};
 use seg_image::Images;
 use std::alloc::{AllocError, Global};
 
@@ -57,7 +55,7 @@ pub fn images_in(
         Some(namespace) => images_over(alloc, namespace, planned, now, choices, places),
         None => images_over(
             alloc,
-            &empty(alloc, planned.ns),
+            &empty_namespace(alloc, planned.ns),
             planned,
             now,
             choices,
@@ -89,16 +87,4 @@ fn images_over(
         choices,
         places,
     )
-}
-
-/// A namespace without objects.
-fn empty(alloc: Global, id: NsId) -> Namespace
-    ensures { result ≡ empty_namespace id }
-{
-    Namespace {
-        id,
-        objects: Added::new(alloc),
-        global: Serials::new(alloc),
-        opens: Opens::new(alloc),
-    }
 }

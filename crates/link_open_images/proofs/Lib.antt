@@ -1,4 +1,3 @@
-pub mod Libraries
 pub mod Places
 pub mod AreaImages
 pub mod NewBlocks

@@ -6,7 +6,7 @@ use Rattle.ld_base.specs.declared.linking.Loaded.{Loaded}
 use Rattle.ld_base.specs.declared.object.Reloc.{Reloc}
 use Rattle.link_open_images.specs.ObjectBindings.Bindings.{bindings_in, copies_from, none_copied}
 use Rattle.link_open_images.specs.Relocated.{AreBehind, AreRelocated, IsRelocated}
-use Rattle.link_open_images.proofs.Libraries.{copies_alike}
+use Rattle.link_open_images.specs.Lemmas.Libraries.{copies_alike}
 use Rattle.relocator.specs.Bindings.{is_copy}
 use Rattle.relocator.specs.declared.binding.Binding.{Binding}
 use Rattle.relocator.specs.declared.binding.ModulePlace.{ModulePlace}

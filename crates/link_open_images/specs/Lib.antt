@@ -3,3 +3,4 @@ pub mod AreaImages
 pub mod NewBlocks
 pub mod ObjectBindings
 pub mod OpeningSteps
+pub mod Lemmas

@@ -22,8 +22,7 @@ use Rattle.seg_image.specs.Accepted.{symbol_size}
 use Rattle.seg_image.specs.Images.{AreBytes}
 use Rattle.seg_image.specs.Pages.{own_address}
 use Rattle.seg_image.specs.Words.{byte_of}
-use Rattle.link_open_laws.proofs.Copied.{bindings_plain}
-use Rattle.link_open_laws.proofs.Outside.{plain_settled}
+use Rattle.link_open_images.specs.Lemmas.Plain.{bindings_plain, plain_settled}
 
 byte_small : (i n : ℕ) → byte_at i n < 256
 byte_small zero n = omega arith

@@ -11,7 +11,7 @@ use Rattle.ld_base.specs.declared.object.Object.{Object}
 use Rattle.ld_base.specs.declared.object.Reloc.{Reloc}
 use Rattle.ld_base.specs.declared.object.Symbol.{Symbol}
 use Rattle.ld_base.specs.Symbol.{is_weak}
-use Rattle.history_state.specs.Bound.{binds_now, bytes_from, copied_of, copies_made, no_binding, settled_byte}
+use Rattle.history_state.specs.Bound.{bytes_from, copied_of, copies_made, settled_byte}
 use Rattle.history_state.specs.State.{Linked}
 use Rattle.history_state.specs.Lemmas.Lazy.{PageLaws}
 use Rattle.history_state.specs.Lemmas.Lists.{found_in, from_filter, here, later}
@@ -29,7 +29,8 @@ use Rattle.scope_rule.specs.Seen.{Seen}
 use Rattle.seg_image.specs.Accepted.{Accepted, symbol_size}
 use Rattle.seg_image.specs.Pages.{own_address}
 use Rattle.seg_image.specs.Words.{byte_of}
-use Rattle.link_open_laws.proofs.Outside.{AllPlain, plain_within}
+use Rattle.link_open_laws.proofs.Outside.{plain_within}
+use Rattle.link_open_images.specs.Lemmas.Plain.{AllPlain}
 
 -- ---- a copy is of another object
 
@@ -105,29 +106,6 @@ bytes_same pages m a count accepted small plain = go 0 count
         ≡ map (λ k. byte_within m.object (image_byte m.object m.base m.serial m.bindings m.places) ((own_address m.base a + k) % 2 ^ 64)) (range_with_len from n)
     go from zero = refl
     go from (suc n) = rw (each from, go (from + 1) n)
-
--- ---- bindings without bytes
-
-plain_mapped : (f : Reloc → Binding) → ((r : Reloc) → (f r).copied ≡ []) → (relocs : List Reloc) (rest : List Binding) → AllPlain rest → AllPlain (map f relocs ++ rest)
-plain_mapped f plain [] rest all = all
-plain_mapped f plain (r ∷ relocs) rest all = (plain r, plain_mapped f plain relocs rest all)
-
-nothing_behind : (bs : List Binding) → bs ++ [] ≡ bs
-nothing_behind [] = refl
-nothing_behind (b ∷ bs) = ap (λ (rest : List Binding). b ∷ rest) (nothing_behind bs)
-
-pub bindings_plain : (ns : Seen) (now : Bool) (o : Loaded) → AllPlain (bindings_in none_copied ns now o)
-unfolding bindings_in
-bindings_plain ns now o = plain_mapped (rela_binding none_copied ns o) (λ r. rela r (is_copy r)) o.object.relocs (map (slot_binding ns now o) o.object.plt_relocs)
-    (subst AllPlain (nothing_behind (map (slot_binding ns now o) o.object.plt_relocs)) (plain_mapped (slot_binding ns now o) (λ r. slot r (binds_now now o.object)) o.object.plt_relocs [] tt))
-  where
-    rela : (r : Reloc) (b : Bool) → (if b then record (binding_in ns r (choice_at ns o r)) { copied = [] } else binding_in ns r (choice_at ns o r)).copied ≡ []
-    rela r true = refl
-    rela r false = refl
-
-    slot : (r : Reloc) (b : Bool) → (if b then binding_in ns r (choice_at ns o r) else no_binding).copied ≡ []
-    slot r true = refl
-    slot r false = refl
 
 -- ---- all bindings
 

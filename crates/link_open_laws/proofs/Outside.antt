@@ -13,47 +13,14 @@ use Rattle.ld_base.specs.declared.object.Segment.{Segment}
 use Rattle.history_state.specs.Lemmas.Lazy.{PageLaws}
 use Rattle.history_state.specs.Lemmas.Lists.{found_in, here, later}
 use Rattle.link_images.specs.ImageReads.Reads.{byte_within}
-use Rattle.relocator.specs.Bindings.{is_copy, relas_of, slots_of}
-use Rattle.relocator.specs.Relocated.{copied_at, fills_word, image_byte, linkers_at, moved_word, over, packed_at, rela_at, settled_word, slot_at, value_of, with_copies}
+use Rattle.relocator.specs.Bindings.{relas_of, slots_of}
+use Rattle.relocator.specs.Relocated.{fills_word, image_byte, linkers_at, moved_word, over, packed_at, rela_at, settled_word, slot_at, value_of}
 use Rattle.relocator.specs.declared.binding.Binding.{Binding}
 use Rattle.relocator.specs.declared.binding.ModulePlace.{ModulePlace}
 use Rattle.seg_image.specs.Accepted.{Accepted, IsPlace, IsReloc, IsTable}
 use Rattle.seg_image.specs.Pages.{IsInside, end_of, has_page, low_of, pages_of, segment_at, start_of}
 use Rattle.seg_image.specs.Words.{byte_in, byte_of, file_byte, file_word, word_of}
-
--- ---- bindings without bytes to copy
-
-abbrev pub AllPlain : List Binding → Type 0
-AllPlain [] = Unit {0}
-AllPlain (b ∷ bindings) = (b.copied ≡ []) × AllPlain bindings
-
-abbrev covers : ℕ → Reloc × Binding → Bool
-covers v x = is_copy x.0 && (nat_le x.0.place v && nat_lt v (x.0.place + length x.1.copied))
-
-none_covers : (v : ℕ) (relocs : List Reloc) (bindings : List Binding) → AllPlain bindings → find (covers v) (zip relocs bindings) ≡ None
-none_covers v [] bindings all = refl
-none_covers v (r ∷ relocs) [] all = refl
-none_covers v (r ∷ relocs) (b ∷ bindings) all = rw (misses, none_covers v relocs bindings all.1)
-  where
-    test : (x y z : Bool) → (y && z) ≡ false → (x && (y && z)) ≡ false
-    test true y z e = e
-    test false y z e = refl
-
-    empty : (p w : ℕ) → (nat_le p w && nat_lt w (p + 0)) ≡ false
-    empty p w = grind arith
-
-    misses : covers v (r, b) ≡ false
-    misses = test (is_copy r) (nat_le r.place v) (nat_lt v (r.place + length b.copied)) (ap (λ (bs : List ℕ). nat_le r.place v && nat_lt v (r.place + length bs)) all.0 ∙ empty r.place v)
-
-byte_small : (i n : ℕ) → byte_at i n < 256
-byte_small zero n = omega arith
-byte_small (suc i) n = omega arith
-
--- the bytes of such an image are those of its words before copies
-pub plain_settled : (o : Object) (base serial : ℕ) (bindings : List Binding) (places : List ModulePlace) → AllPlain bindings → (v : ℕ)
-    → image_byte o base serial bindings places v ≡ byte_of (settled_word o base serial bindings places (v / 8 * 8)) v
-unfolding image_byte with_copies copied_at
-plain_settled o base serial bindings places all v = rw (none_covers v o.relocs bindings all)
+use Rattle.link_open_images.specs.Lemmas.Plain.{AllPlain, plain_settled}
 
 -- ---- outside the pages
 

@@ -13,18 +13,12 @@ use Rattle.history_state.specs.Bound.{bytes_from, copies_made, linked_with, unco
 use Rattle.history_state.specs.State.{Linked, State}
 use Rattle.history_state.specs.Step.{binds, loaded, open_done, seen_after}
 use Rattle.history_state.specs.Lemmas.Lists.{here, in_map, later}
-use Rattle.link_open_images.specs.ObjectBindings.Bindings.{Copies, binding_in, bindings_in, none_copied, rela_binding, size_in, slot_binding, value_in}
-use Rattle.relocator.specs.Bindings.{chosen, is_copy}
+use Rattle.link_open_images.specs.ObjectBindings.Bindings.{Copies, bindings_in, none_copied, rela_binding, slot_binding}
+use Rattle.relocator.specs.Bindings.{is_copy}
 use Rattle.relocator.specs.declared.binding.Binding.{Binding}
-use Rattle.scope_rule.specs.Relocation.{choice_at}
-use Rattle.scope_rule.specs.Seen.{Seen}
 use Rattle.seg_image.specs.Accepted.{symbol_size}
 use Rattle.link_open_laws.specs.Laws.{image_made}
-
-map_same_in : {X Y : Type 0} (f g : X → Y) (xs : List X) → ((x : X) → Contains xs x → f x ≡ g x) → map f xs ≡ map g xs
-map_same_in f g [] same = refl
-map_same_in {X} {Y} f g (x ∷ xs) same =
-    ap (λ (y : Y). y ∷ map f xs) (same x (here x xs)) ∙ ap (λ (ys : List Y). g x ∷ ys) (map_same_in f g xs (λ z inside. same z (later x xs z inside)))
+use Rattle.link_open_images.specs.Lemmas.Libraries.{copies_alike}
 
 -- where no relocation copies, the bindings stay as they are
 pub none_made : (images : List Linked) (o : Object) (relocs : List Reloc) (bindings : List Binding) → ((r : Reloc) → Contains relocs r → is_copy r ≡ false)
@@ -39,22 +33,6 @@ none_made images o (r ∷ relocs) (b ∷ bindings) none f rest are =
     plain : (t : Bool) → t ≡ false → (if t then record b { copied = bytes_from images b.object b.value (min (symbol_size o r) b.size) } else b) ≡ b
     plain true e = absurd (true≢false e)
     plain false e = refl
-
--- it doesn't matter where bytes would be taken
-pub copies_alike : (one more : Copies) (ns : Seen) (now : Bool) (o : Loaded) → ((r : Reloc) → Contains o.object.relocs r → is_copy r ≡ false) → bindings_in one ns now o ≡ bindings_in more ns now o
-unfolding bindings_in
-copies_alike one more ns now o none =
-    ap (λ (bs : List Binding). bs ++ map (slot_binding ns now o) o.object.plt_relocs)
-    (map_same_in (rela_binding one ns o) (rela_binding more ns o) o.object.relocs (λ r inside. same r (copied_now one r) (copied_now more r) (is_copy r) (none r inside)))
-  where
-    copied_now : Copies → Reloc → List ℕ
-    copied_now bytes r = bytes (chosen (choice_at ns o r)) (value_in ns r (choice_at ns o r)) (min (symbol_size o.object r) (size_in ns (choice_at ns o r)))
-
-    same : (r : Reloc) (xs ys : List ℕ) (b : Bool) → b ≡ false
-        → (if b then record (binding_in ns r (choice_at ns o r)) { copied = xs } else binding_in ns r (choice_at ns o r))
-        ≡ (if b then record (binding_in ns r (choice_at ns o r)) { copied = ys } else binding_in ns r (choice_at ns o r))
-    same r xs ys true e = absurd (true≢false e)
-    same r xs ys false e = refl
 
 -- the bindings of an object without copies, as they are made
 pub uncopied_made : (s : State) (hart : ℕ) (ask : OpenAsk) (id root : ℕ) (added : List Loaded) (ranges : List Range) (o : Loaded) (bytes : Copies)

@@ -1,5 +1,5 @@
 -- The load of a run's program, in the words of the history.
-use Rattle.std.proofs.Common.{◌≡◌, ℕ, ◌<◌, ◌≤◌, Bool, true, false, ◌&&◌, List, [], ◌∷◌, length, Option, Some, None, Result, Ok, Err, inl, inr, refl, sym, ap, subst, ◌∙◌, ⊎_elim, arith}
+use Rattle.std.proofs.Common.{◌≡◌, ℕ, Bool, true, false, ◌&&◌, List, [], ◌∷◌, length, Option, Some, None, Result, Ok, Err, inl, inr, refl, sym, ap, subst, ◌∙◌, ⊎_elim}
 use Rattle.std.specs.Prelude.{◌==◌, IsTrue, if◌then◌else◌}
 use Rattle.std.specs.List.{AllByRecursion, slice_get}
 use Rattle.std.specs.Str.{bytes_eq}
@@ -30,11 +30,12 @@ use Rattle.load_walk.specs.declared.ask.LoadFault.TheVariants as loads
 use Rattle.load_walk.specs.declared.ask.LoadPlan.{LoadPlan}
 use Rattle.link_open_plan.specs.OpeningLoad.Finding.{FindsAll, StopsAt}
 use Rattle.scope_rule.specs.Finding.{Reading, candidates, failed, here}
-use Rattle.scope_rule.specs.Load.{Brings, IsRoot, Load, Stops, Walk, asks, paths_of, records_of, refuses}
+use Rattle.scope_rule.specs.Load.{IsRoot, Load, Stops, Walk, asks, paths_of, records_of, refuses}
 use Rattle.scope_rule.specs.declared.arrival.Arrival.{Arrival}
 use Rattle.scope_rule.specs.declared.namespace.Namespace.{Namespace}
 use Rattle.link_open_plan.specs.Before.{WasRead}
 use Rattle.link_open_plan.specs.Startup.{program_load, run_of}
+use Rattle.link_open_plan.proofs.OpeningLoad.Loading.{root_of}
 
 -- ---- each object was read
 
@@ -124,17 +125,6 @@ module _ (setup : Setup) (told : Option (List File)) where
   read_over files are = read_by (reading_of object_verdict files (program_load 1 setup)) (are_readings files are)
 
   -- ---- what the load comes to
-
-  root_of : (load : Load) (walk : Walk) → Brings load walk → (root : ℕ) × IsRoot walk root
-  root_of load walk h = by walk.arrivals walk.found h.all
-    where
-      first : (found : List ℕ) → 0 < length found → (root : ℕ) × (slice_get found 0 ≡ Some root)
-      first [] less = absurd (omega (arith, less))
-      first (x ∷ rest) less = (x, refl)
-
-      by : (arrivals : List Arrival) (found : List ℕ) → length (asks load arrivals) ≤ length found → (root : ℕ) × (slice_get found 0 ≡ Some root)
-      by [] found all = first found (omega (arith, all))
-      by (o ∷ rest) found all = first found (omega (arith, all))
 
   records_are : (load : Load) (walk : Walk) → records_of load false walk ≡ records_of load (is_deepbind (program_ask setup).flags) walk
   records_are load walk = ap (λ (deep : Bool). records_of load deep walk) (sym (not_deep setup))

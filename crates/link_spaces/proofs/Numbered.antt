@@ -23,15 +23,8 @@ use Rattle.history_state.specs.Step.{changed_at, close_step, die, dying_in, gone
 use Rattle.link_spaces.specs.Numbered.{AreNumberedApart}
 use Rattle.scope_rule.specs.Opening.{opened}
 use Rattle.scope_rule.specs.declared.namespace.Namespace.{Namespace}
-
-same_test : (x y : ℕ) → eqb x y ≡ eqb y x
-same_test x y = at (eqb x y) (eqb y x) refl refl
-  where
-    at : (a b : Bool) → eqb x y ≡ a → eqb y x ≡ b → a ≡ b
-    at true true p q = refl
-    at false false p q = refl
-    at true false p q = absurd (true≢false (sym (eq-eqb y x (sym (eqb-true x y p))) ∙ q))
-    at false true p q = absurd (true≢false (sym (eq-eqb x y (sym (eqb-true y x q))) ∙ p))
+use Rattle.history_state.specs.Lemmas.Lists.{same_test}
+use Rattle.history_state.specs.Lemmas.Opened.{changed_keeps}
 
 or_left : (a b : Bool) → (a || b) ≡ false → a ≡ false
 or_left true b e = absurd (true≢false e)
@@ -78,13 +71,6 @@ apart_pushed (ns ∷ rest) new none apart = (
       ∙ ap (λ (b : Bool). b || false) (or_left (eqb ns.id new.id) (list_any (has_id new.id) rest) none),
   apart_pushed rest new (or_right (eqb ns.id new.id) (list_any (has_id new.id) rest) none) apart.1,
 )
-
-changed_keeps : (id : ℕ) (change : Namespace → Namespace) → ((ns : Namespace) → (change ns).id ≡ ns.id) → (ns : Namespace) → (changed_at id change ns).id ≡ ns.id
-changed_keeps id change same ns = at (has_id id ns)
-  where
-    at : (b : Bool) → (if b then change ns else ns).id ≡ ns.id
-    at true = same ns
-    at false = refl
 
 pub apart_with : (id : ℕ) (change : Namespace → Namespace) → ((ns : Namespace) → (change ns).id ≡ ns.id) → (all : List Namespace) → AreNumberedApart all
     → AreNumberedApart (with_namespace id change all)

@@ -27,7 +27,7 @@ pub use mapped_objects::{
     object_in,
 };
 pub use object_holders::holder_in;
-pub use opening::open_in;
+pub use opening::{empty_namespace, open_in};
 pub use pending_closings::{Pending, PendingClosings};
 pub use ready::make_ready;
 pub use reserved_pages::ReservedPages;

@@ -42,7 +42,7 @@ pub fn open_in(
             is_global,
         ),
         None => {
-            let namespace = empty(alloc, id).opened(alloc, added, root, is_global)?;
+            let namespace = empty_namespace(alloc, id).opened(alloc, added, root, is_global)?;
             namespaces.push(namespace)?;
             Ok(())
         }
@@ -64,7 +64,7 @@ fn place_of(namespaces: &[Namespace], id: NsId) -> Option<usize>
 }
 
 /// A namespace without objects.
-fn empty(alloc: Global, id: NsId) -> Namespace
+pub fn empty_namespace(alloc: Global, id: NsId) -> Namespace
     ensures { result ≡ empty_namespace id }
 {
     Namespace {

@@ -18,11 +18,11 @@ use Rattle.link_holds.specs.Holding.{HoldsAll, Lists}
 
 -- ---- the plan
 
-pub plan_of : (s : State) (harts hart handle : ℕ) (l : Lists) (nss : List Namespace) (ns : Namespace) (set : List ℕ) (plan : ClosingPlan) → HoldsAll s harts l → nss ≡ s.namespaces
+pub plan_of : (s : State) (hart handle : ℕ) (l : Lists) (nss : List Namespace) (ns : Namespace) (set : List ℕ) (plan : ClosingPlan) → HoldsAll s l → nss ≡ s.namespaces
     → IsOpened s handle ns → IsUnneeded (lower handle s) (map serial_of ns.objects) set → plan.list ≡ set → plan.dying.list ≡ set
     → map closing_of (option_to_list plan.pending) ≡ waiting_of hart set
     → IfSome plan.pending (IsRoomy (map serial_of (flat_map (λ (m : Namespace). m.objects) nss)) l.reserved.ranges) → IsPlanOf s hart handle plan
-plan_of s harts hart handle l nss ns set plan holds are opened exactly list dying waits roomy = record {
+plan_of s hart handle l nss ns set plan holds are opened exactly list dying waits roomy = record {
   closes = record { namespace = ns; opened = opened; exactly = subst (IsUnneeded (lower handle s) (map serial_of ns.objects)) (sym list) exactly };
   dying = dying ∙ sym list;
   waits = waits ∙ ap (waiting_of hart) (sym list);

@@ -24,6 +24,7 @@ use Rattle.history_calls.specs.declared.link_served.installs.Installs.{Installs}
 use Rattle.link_state.specs.Granting.{EndsUnresolved, GivesIn, IsNotGranted}
 use Rattle.link_state.specs.Table.{LinkTable, appended}
 use Rattle.link_state.specs.declared.faults.GrantFault.TheVariants as faults
+use Rattle.history_state.specs.Lemmas.Standing.{weak_leads}
 
 -- ---- what the call gives
 
@@ -47,10 +48,6 @@ may_not s hart owner eights x free chosen code = record {
   may_not = record { is_slot = chosen.is_slot; code = sym (chosen.code ∙ ap (λ w. leads_to_code s w x.choice) chosen.lazy) ∙ code };
 }
 
-weak : (s : State) (lazy : ℕ) → leads_to_code s lazy WeakZero ≡ true
-unfolding leads_to_code
-weak s lazy = refl
-
 pub not_missing : (table new : LinkTable) (hart owner eights : ℕ) (x : SlotChoice) → HasNoGrant (after table.events) hart → ChoosesSlot (after table.events) owner eights x → x.code ≡ false
     → is_missing x.choice ≡ false → new ≡ appended table (Unresolved hart owner x.slot x.choice) → IsNotGranted table hart owner eights (faults.NotCode owner x.slot) new
 not_missing table new hart owner eights x free chosen code some is = by x.choice refl some
@@ -64,7 +61,7 @@ not_missing table new hart owner eights x free chosen code some is = by x.choice
       gives = λ w same. by_event _ _ _ (is_not_code owner eights x.slot serial index chosen.numbered) (may (Def serial index) e);
       is = is ∙ ap (λ (c : Choice). appended table (Unresolved hart owner x.slot c)) e;
     }
-    by WeakZero e kept = absurd (true≢false (sym (weak (after table.events) x.lazy) ∙ ap (leads_to_code (after table.events) x.lazy) (sym e) ∙ sym chosen.code ∙ code))
+    by WeakZero e kept = absurd (true≢false (sym (weak_leads (after table.events) x.lazy) ∙ ap (leads_to_code (after table.events) x.lazy) (sym e) ∙ sym chosen.code ∙ code))
     by Missing e kept = absurd (true≢false kept)
 
 pub missing : (table new : LinkTable) (hart owner eights : ℕ) (x : SlotChoice) → HasNoGrant (after table.events) hart → ChoosesSlot (after table.events) owner eights x → x.code ≡ false

@@ -4,7 +4,6 @@ use Rattle.link_holds.specs.Holding.{Lists}
 
 abbrev pub lists_of : Inside → Lists
 lists_of x = record {
-  ends = x.ends;
   kept = x.kept;
   settling = x.settling;
   unfinished = x.unfinished;

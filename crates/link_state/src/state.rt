@@ -32,7 +32,7 @@ use address_space::Regions;
 use elf_object::one_object;
 use history_calls::Installs;
 use history_event::{Addresses, Ask, Event, Granted, HartEnd, Journal, Range};
-use history_journal::{HartEnds, KeptFaults, LawfulJournal, one_image};
+use history_journal::{KeptFaults, LawfulJournal, one_image};
 use history_state::{
     edges_follow, events_are_owed, finalised_once, grants_are_tidy, images_are_found,
     legal_step_by_step, objects_are_apart, objects_are_read,
@@ -58,7 +58,6 @@ use tls_blocks::TlsModules;
 pub struct LinkState {
     alloc: Global,
     journal: LawfulJournal,
-    ends: HartEnds,
     kept: KeptFaults,
     settling: OpenGrants,
     unfinished: Unfinished,
@@ -84,7 +83,7 @@ impl Model for LinkState {
 
     ghost view = { λ s. record { harts = s.journal.harts; events = s.journal.events; made = s.made } };
 
-    ghost invariant = { λ s. HoldsAll (after s.journal.events) s.journal.harts (lists_of s) };
+    ghost invariant = { λ s. HoldsAll (after s.journal.events) (lists_of s) };
 }
 
 impl LinkState {
@@ -99,13 +98,11 @@ impl LinkState {
         ensures events { IfOk result (λ s. s.events ≡ []) }
         ensures made { IfOk result (λ s. InstallsNothing s.made) }
     {
-        let ends = HartEnds::new(alloc, harts)?;
         let namespaces = base_namespaces(alloc)?;
         let journal = LawfulJournal::new(alloc, harts)?;
         Ok(LinkState {
             alloc,
             journal,
-            ends,
             kept: KeptFaults::new(alloc),
             settling: OpenGrants::new(alloc),
             unfinished: Unfinished::new(alloc),
@@ -449,7 +446,6 @@ impl LinkState {
         ensures { self.new ≡ appended self.old (Ended hart «end») }
     {
         let event = end_event(hart, &end);
-        self.ends.push(hart, end);
         self.journal.push_owed(event);
     }
 }

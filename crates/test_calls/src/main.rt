@@ -1,7 +1,7 @@
 //! Runs of calls on the linker's state: startup, the calls of dl functions, and what harts and a memory would
 //! tell the state between them.
 //!
-//! The runs stand in plain files, which the words of the program name: docs/EXAMPLES.md says how to write one.
+//! The runs stand in plain files, which the words of the program name: docs/TESTING.md says how to write one.
 //! Each call has the answer that it has to give, and behind it the lines of the events that it has to append.
 //! For each file one line says that all of it holds, or how much; what doesn't is shown before it, with what it
 //! gives.

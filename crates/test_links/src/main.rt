@@ -2,7 +2,7 @@
 //! within an object, searches and loads beside other objects, graphs of objects, thread-local storage,
 //! images.
 //!
-//! The lines stand in plain files, which the words of the program name: docs/EXAMPLES.md says how to
+//! The lines stand in plain files, which the words of the program name: docs/TESTING.md says how to
 //! write one. For each file one line says that all its calls hold, or how many do; each that doesn't is
 //! shown before it, with what it gives.
 #![tactic(auto)]

@@ -3,7 +3,7 @@
 //! To add a call, write a function that takes its arguments from [`Words`] and gives the answer as
 //! text, beside those of its topic, and name it here.
 
-use crate::{finding, hashes, instructions, pages, turns};
+use crate::{asm_lines, event_lines, finding, hashes, instructions, pages, turns};
 use address_space::Regions;
 use std::alloc::Global;
 use test_file::{Calls, Fault, Words};
@@ -43,6 +43,10 @@ impl Calls for PlainCalls {
             "reserve" => pages::reserve(alloc, &mut self.regions, &mut words),
             "reserve_at" => pages::reserve_at(alloc, &mut self.regions, &mut words),
             "reserve_and_release" => pages::borrow(alloc, &mut self.regions, &mut words),
+            "words" => asm_lines::words_of(alloc, rest),
+            "parse" => asm_lines::verdict_of(alloc, rest),
+            "event" => event_lines::written(alloc, rest),
+            "line" => event_lines::kind_of(alloc, rest),
             _ => Err(Fault::Unclear),
         }
     }

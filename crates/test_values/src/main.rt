@@ -1,12 +1,14 @@
 //! Calls of public functions over plain data, and the values that they have to give: names, symbols
-//! that are found, instructions, pages, schedules.
+//! that are found, instructions, pages, schedules, lines of sources and of events.
 //!
-//! The lines stand in plain files, which the words of the program name: docs/EXAMPLES.md says how to
+//! The lines stand in plain files, which the words of the program name: docs/TESTING.md says how to
 //! write one. For each file one line says that all its calls hold, or how many do; each that doesn't is
 //! shown before it, with what it gives.
 #![tactic(auto)]
 
+mod asm_lines;
 mod calls;
+mod event_lines;
 mod finding;
 mod hashes;
 mod instructions;

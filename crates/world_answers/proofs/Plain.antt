@@ -34,9 +34,6 @@ use Rattle.world_answers.proofs.Quiet.{leaves}
 
 -- ---- ends
 
-same_harts : (old mid new : LinkTable) (h : ℕ) (reason : HartEnd) → mid.harts ≡ old.harts → new ≡ appended mid (Ended h reason) → new.harts ≡ old.harts
-same_harts old mid new h reason same noted = ap (λ (t : LinkTable). t.harts) noted ∙ same
-
 -- for want of memory nothing has changed, and the hart ends
 pub wants : (old mid new : LinkTable) (h : ℕ) (call : Call) (result : Answered) → IsTrue (takes_memory call) → mid ≡ old → MayEndIn old h → result ≡ answered.Over ends.Memory
     → new ≡ appended mid (Ended h ends.Memory) → AnswersIn old h call result new

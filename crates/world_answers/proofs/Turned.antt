@@ -1,5 +1,5 @@
 -- The turn of a call that was made.
-use Rattle.std.proofs.Common.{◌≡◌, ℕ, true, false, IsTrue, List, Option, refl, sym, subst, ◌∙◌}
+use Rattle.std.proofs.Common.{◌≡◌, ℕ, IsTrue, List, Option, refl, sym, subst, ◌∙◌}
 use Rattle.history_calls.specs.CallLaws.Coming.{NeedsNoRead}
 use Rattle.hart_moves.specs.Due.{Due, Return, due}
 use Rattle.hart_moves.specs.Harts.{HartState}
@@ -58,13 +58,6 @@ other_wholly old folders files failures failures' h d call return came other is 
 pub other_shows : (folders : List (List ℕ)) (past events : List Event) (h : ℕ) (d : Due) (call : Call) (return : Return) (failures failures' misses misses' : ℕ) → IsOther call → Due.serve call return ≡ d
     → TurnRefusalIsCounted folders past events h d failures failures' misses misses'
 other_shows folders past events h d call return failures failures' misses misses' other is = λ ask back due. absurd (differs call ask return back other (is ∙ due))
-
--- ---- no call
-
-pub none_shows : (folders : List (List ℕ)) (past events : List Event) (h : ℕ) (d : Due) (failures failures' misses misses' : ℕ) → is_service d ≡ false
-    → TurnRefusalIsCounted folders past events h d failures failures' misses misses'
-none_shows folders past events h d failures failures' misses misses' none = λ ask back due.
-    absurd (let no : true ≡ false = subst (λ (x : Due). is_service x ≡ false) due none in cc)
 
 -- ---- what is due
 

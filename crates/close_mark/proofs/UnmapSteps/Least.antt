@@ -6,8 +6,6 @@ use Rattle.std.proofs.lemmas.List.Elements.{All-contains}
 use Rattle.std.proofs.lemmas.List.Kept.{AllPairs-filter}
 use Rattle.std.proofs.lemmas.Option.{slice_get-get_or}
 use Rattle.history_event.specs.declared.state.Granting.{Granting}
-use Rattle.history_event.specs.declared.state.Standing.TheVariants.{Open, Bound, Lost}
-use Rattle.history_event.specs.declared.state.Standing.{Standing}
 use Rattle.history_state.specs.Allowed.{IsUngranted}
 use Rattle.history_state.specs.Grants.{is_open, is_open_standing, target_of}
 use Rattle.history_state.specs.Laws.{GrantsAreTidy}
@@ -16,6 +14,7 @@ use Rattle.history_state.specs.State.{State}
 use Rattle.history_state.specs.Lemmas.Lists.{any_in, first_or_later, found_in, from_filter, has_in, has_not, in_any, in_filter, in_has, not_found}
 use Rattle.history_calls.specs.Waiting.{IsHeldBy, Touches}
 use Rattle.close_mark.specs.UnmapSteps.Touched.{is_touching}
+use Rattle.history_state.specs.Lemmas.Standing.{open_is}
 
 abbrev Before : Granting → Granting → Type 0
 Before g h = g.number < h.number
@@ -72,18 +71,13 @@ touching set g (d, inside, named) = by (is_touching set g) refl
     by true e = e
     by false e = absurd (none e)
 
-open_standing : (standing : Standing) → is_open_standing standing ≡ true → standing ≡ Open
-open_standing Open e = refl
-open_standing Bound e = absurd (true≢false (sym e))
-open_standing (Lost saw) e = absurd (true≢false (sym e))
-
 pub held_by_first : (s : State) (set : List ℕ) (g : Granting) → GrantsAreTidy s → find (is_touching set) (filter is_open s.grants) ≡ Some g → IsHeldBy s set g.number
 held_by_first s set g tidy found =
     let at = found_in (is_touching set) (filter is_open s.grants) g found in
     let was = from_filter is_open s.grants g at.0 in
     record {
       grant = g;
-      is = record { there = was.0; numbered = refl; open_yet = open_standing g.standing was.1 };
+      is = record { there = was.0; numbered = refl; open_yet = open_is g.standing was.1 };
       touches = touches set g at.1;
       least = λ other there standing named.
           first_least (is_touching set) (filter is_open s.grants) g other (AllPairs-filter Before is_open s.grants (rising s.grants tidy.numbered)) found

@@ -50,9 +50,6 @@ parted_stays set all queue rest new before gone place o parted begins lt is push
   went = parted.went ∙ ap (λ (ys : List Loaded). before ++ ys) (sym (passed (goes set) all place o false lt begins.at is ∙ append-nil (filter (goes set) (take place all))));
 }
 
-pub none_parted : (set : List ℕ) (all queue before : List Loaded) → queue ≡ all → IsParted set all queue before before 0
-none_parted set all queue before same = record { queue_is = same ∙ sym (append-nil all); went = sym (append-nil before) }
-
 pub all_stay : (set : List ℕ) (all queue before gone : List Loaded) (place : ℕ) → IsParted set all queue before gone place → length all ≤ place → queue ≡ filter (stays set) all
 all_stay set all queue before gone place parted le =
     parted.queue_is ∙ ap (λ (ys : List Loaded). ys ++ filter (stays set) (take place all)) (drop_all place all le) ∙ ap (filter (stays set)) (take_all place all le)

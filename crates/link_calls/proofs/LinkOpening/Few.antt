@@ -23,6 +23,7 @@ use Rattle.history_state.specs.Step.{changed_at, close_step, die, dying_in, gone
 use Rattle.scope_rule.specs.Opening.{opened}
 use Rattle.scope_rule.specs.declared.namespace.Namespace.{Namespace}
 use Rattle.link_calls.specs.LinkOpening.Asked.{AreFew}
+use Rattle.history_state.specs.Lemmas.Opened.{changed_keeps}
 
 -- ---- changes that keep numbers
 
@@ -41,13 +42,6 @@ few_filtered p (ns ∷ rest) few = at (p ns) few.0 (few_filtered p rest few.1)
 few_pushed : (all : List Namespace) (new : Namespace) → new.id < 16 → AreFew all → AreFew (all ++ new ∷ [])
 few_pushed [] new lt few = (lt, tt)
 few_pushed (ns ∷ rest) new lt few = (few.0, few_pushed rest new lt few.1)
-
-changed_keeps : (id : ℕ) (change : Namespace → Namespace) → ((ns : Namespace) → (change ns).id ≡ ns.id) → (ns : Namespace) → (changed_at id change ns).id ≡ ns.id
-changed_keeps id change same ns = at (has_id id ns)
-  where
-    at : (b : Bool) → (if b then change ns else ns).id ≡ ns.id
-    at true = same ns
-    at false = refl
 
 few_with : (id : ℕ) (change : Namespace → Namespace) → ((ns : Namespace) → (change ns).id ≡ ns.id) → id < 16 → (all : List Namespace) → AreFew all → AreFew (with_namespace id change all)
 few_with id change same lt all few = at (list_any (has_id id) all)

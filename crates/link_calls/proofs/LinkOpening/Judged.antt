@@ -5,7 +5,7 @@ use Rattle.history_calls.specs.CallLaws.Coming.{NeedsNoRead, is_refused, is_prog
 use Rattle.history_calls.specs.CallLaws.Laws.{RefusedByAsking}
 use Rattle.ld_base.specs.declared.fault.DlFault.{DlFault}
 use Rattle.history_event.specs.declared.event.OpenAsk.{OpenAsk}
-use Rattle.history_state.specs.Asking.{AreNamespacesFull, IsAsked, IsBadNamespace, IsNamespace}
+use Rattle.history_state.specs.Asking.{IsAsked, IsBadNamespace, IsNamespace}
 use Rattle.history_state.specs.Flags.{is_noload}
 use Rattle.history_state.specs.Objects.{is_startup}
 use Rattle.history_state.specs.Opening.{IsRefused}
@@ -14,6 +14,7 @@ use Rattle.history_state.specs.State.{State}
 use Rattle.history_calls.specs.Laws.{RefusesAsk, flags, full, long, space}
 use Rattle.link_open_plan.specs.Planned.{ShowsInNoCount}
 use Rattle.link_open_plan.specs.declared.planning.Unopened.TheVariants.{Refused}
+use Rattle.history_calls.specs.Lemmas.Opened.{good_or_full}
 
 pub refused_asking : RefusedByAsking → (w : Setting) (s : State) (hart : ℕ) (ask : OpenAsk) (fault : DlFault) → is_startup s ≡ false → RefusesAsk s ask fault
     → ((name : List ℕ) → ask.name ≡ Some name → length name ≤ 256) → IsRefused w s hart ask fault
@@ -31,16 +32,11 @@ bad_or_there s (Some n) None id number has bad = bad.1 has.1
 bad_or_there s None (Some name) id number has bad = bad
 bad_or_there s None None id number has bad = has
 
-full_or_free : (s : State) (ns : Option ℕ) (name : Option (List ℕ)) (id : ℕ) → IsNamespace s ns name id → AreNamespacesFull s ns name → ⊥
-full_or_free s (Some n) name id has all = all
-full_or_free s None (Some name) id has all = true≢false (sym (all id has.below) ∙ has.free)
-full_or_free s None None id has all = has
-
 asked_or_refused : (s : State) (ask : OpenAsk) (id : ℕ) (fault : DlFault) → IsAsked s ask id → RefusesAsk s ask fault → ⊥
 asked_or_refused s ask id _ asked (long h) = true≢false (sym h ∙ asked.short)
 asked_or_refused s ask id _ asked (flags h k) = true≢false (sym asked.flags ∙ k)
 asked_or_refused s ask id _ asked (space number h k bad) = bad_or_there s ask.ns ask.name id number asked.namespace bad
-asked_or_refused s ask id _ asked (full h k all) = full_or_free s ask.ns ask.name id asked.namespace all
+asked_or_refused s ask id _ asked (full h k all) = good_or_full s ask.ns ask.name id asked.namespace all
 
 -- what is asked by a name, and may be, reads nothing only with RTLD_NOLOAD
 pub reads_none : (s : State) (ask : OpenAsk) (id : ℕ) (name : List ℕ) → IsAsked s ask id → ask.name ≡ Some name → NeedsNoRead s ask → is_noload ask.flags ≡ true

@@ -9,13 +9,12 @@ ghost use Rattle.history_calls.specs.Laws.{RefusesAsk};
 ghost use Rattle.link_calls.specs.LinkOpening.Asked.{RefusesNamespace};
 
 use crate::link_opening::law::namespaces_are_few;
+use crate::names::LONG_NAME;
 use history_event::OpenAsk;
 use ld_base::{DlFault, NsId};
 use link_lists::are_flags;
 use link_state::LinkState;
 
-/// Of a longer name 256 bytes are known.
-const LONG_NAME: usize = 256;
 /// How many namespaces there may be.
 const NAMESPACES: u32 = 16;
 

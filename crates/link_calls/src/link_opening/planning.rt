@@ -15,7 +15,6 @@ ghost use Rattle.history_state.specs.Asking.{IsAsked};
 ghost use Rattle.history_state.specs.Flags.{is_noload};
 ghost use Rattle.history_state.specs.Objects.{is_startup};
 ghost use Rattle.history_state.specs.Setting.{Setting};
-ghost use Rattle.history_state.specs.State.{empty_namespace};
 ghost use Rattle.history_state.specs.Step.{namespace_before};
 ghost use Rattle.link_calls.specs.LinkOpening.Planned.{HasPlan, IsOpenPlan, IsPlanIn, IsUnplanned};
 ghost use Rattle.link_open_plan.specs.OpeningLoad.Finding.{WasLibrary};
@@ -27,11 +26,12 @@ use history_calls::{only_failed_reads_stop, refused_by_asking};
 use history_event::OpenAsk;
 use history_journal::one_image;
 use history_state::{objects_are_read, program_stays};
-use ld_base::{Added, HartId, Name, Names, NsId, Serial, Serials};
+use ld_base::{HartId, Name, Names, NsId, Serial};
 use library_source::Library;
 use link_open_plan::{Before, Planned, Unopened, plan_named};
+use link_spaces::empty_namespace;
 use link_state::LinkState;
-use scope_rule::{Namespace, Opens};
+use scope_rule::Namespace;
 use std::alloc::Global;
 
 /// The serial of the program.
@@ -125,7 +125,7 @@ fn plan_in<L: Library>(
             alloc, state, namespace, ns, hart, ask, name, folders, library,
         ),
         None => {
-            let namespace = empty(alloc, ns);
+            let namespace = empty_namespace(alloc, ns);
             plan_among(
                 alloc, state, &namespace, ns, hart, ask, name, folders, library,
             )
@@ -173,16 +173,4 @@ fn plan_among<L: Library>(
         binds_now: state.binds_now(),
     };
     plan_named(alloc, &before, hart, ask, name, folders, library)
-}
-
-/// A namespace without objects.
-fn empty(alloc: Global, id: NsId) -> Namespace
-    ensures { result ≡ empty_namespace id }
-{
-    Namespace {
-        id,
-        objects: Added::new(alloc),
-        global: Serials::new(alloc),
-        opens: Opens::new(alloc),
-    }
 }

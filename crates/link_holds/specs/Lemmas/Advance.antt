@@ -2,7 +2,7 @@
 use Rattle.std.proofs.Common.{◌≡◌, ⊎_elim, ℕ, suc, ◌+◌, ◌-◌, ◌≤◌, ◌&&◌, ◌||◌, Bool, true, false, not, cond, eqb, List, [], ◌∷◌, ◌++◌, map, length, Option, Some, None, refl, sym, ap, subst, ◌∙◌, arith}
 use Rattle.std.specs.Prelude.{if◌then◌else◌}
 use Rattle.std.specs.List.{Contains, filter, find, flat_map, slice_get}
-use Rattle.std.proofs.lemmas.Bool.{eqb-true, eq-eqb, true≢false}
+use Rattle.std.proofs.lemmas.Bool.{eqb-true, true≢false}
 use Rattle.std.proofs.lemmas.List.{append-nil, length-map, map-append}
 use Rattle.std.proofs.lemmas.List.Elements.{Contains-append_left, Contains-append_right, Contains-append_cases, filter-append}
 use Rattle.std.proofs.lemmas.List.Folds.{list_any-append}
@@ -13,23 +13,19 @@ use Rattle.ld_base.specs.declared.linking.Loaded.{Loaded}
 use Rattle.ld_base.specs.declared.linking.State.{State as LoadState}
 use Rattle.ld_base.specs.declared.linking.State.TheVariants as states
 use Rattle.history_event.specs.declared.event.Event.TheVariants.{Init}
-use Rattle.history_event.specs.declared.hart_end.HartEnd.{HartEnd}
-use Rattle.history_event.specs.declared.state.Ending.{Ending}
 use Rattle.history_event.specs.declared.state.Granting.{Granting}
 use Rattle.history_event.specs.declared.state.Standing.{Standing}
 use Rattle.history_event.specs.declared.state.Standing.TheVariants as standings
 use Rattle.history_graph.specs.declared.graph.Edge.{Edge}
-use Rattle.history_journal.specs.LinkHarts.Ends.{EndsOfHarts}
-use Rattle.history_journal.specs.LinkHarts.Kept.{KeptTable, is_anothers}
 use Rattle.history_state.specs.Grants.{is_open, is_open_standing, target_of}
 use Rattle.history_state.specs.Held.{EdgesFollow, bound_gains}
 use Rattle.history_state.specs.Laws.{GrantsAreTidy, HasAll}
 use Rattle.history_state.specs.Links.{edges_to, held_edges}
 use Rattle.history_state.specs.Objects.{has, mapped, serial_of}
-use Rattle.history_state.specs.Owed.{IsOwed, ends_left, owed}
+use Rattle.history_state.specs.Owed.{ends_left, owed}
 use Rattle.history_state.specs.State.{State}
-use Rattle.history_state.specs.Step.{end_hart, finalise, initialise, ready_in, ready_object, ready_state, settle, settled_as, step, tell}
-use Rattle.history_state.specs.Lemmas.Lists.{found_in, from_filter, from_flat, in_filter, in_flat, none_in, not_found}
+use Rattle.history_state.specs.Step.{finalise, initialise, ready_in, ready_object, ready_state, settle, settled_as, step}
+use Rattle.history_state.specs.Lemmas.Lists.{found_in, from_filter, from_flat, in_filter, in_flat, none_in, not_found, same_test}
 use Rattle.link_lists.specs.LinkPending.Pending.{GrantTable, SerialsWithRoom, has_number, is_another}
 use Rattle.scope_rule.specs.declared.namespace.Namespace.{Namespace}
 use Rattle.link_holds.specs.Holding.{HoldsAll, Lists, Runs}
@@ -71,10 +67,6 @@ pub settled_step : (s : State) (number : ℕ) (won : Bool) (saw : ℕ) → step 
 settled_step s number true saw = refl
 settled_step s number false saw = refl
 
-pub settled_is_owed : (harts : ℕ) (s : State) (number : ℕ) (won : Bool) (saw : ℕ) → IsOwed harts s (settled number won saw)
-settled_is_owed harts s number true saw = tt
-settled_is_owed harts s number false saw = tt
-
 shut : (won : Bool) (saw : ℕ) → is_open_standing (standing_of won saw) ≡ false
 shut true saw = refl
 shut false saw = refl
@@ -94,15 +86,6 @@ runs_settled grants next inits finis namespaces before behind unfinished held nu
 
 abbrev left : List ℕ → ℕ → Bool
 left finis o = not (has finis o)
-
-same_test : (x y : ℕ) → eqb x y ≡ eqb y x
-same_test x y = at (eqb x y) (eqb y x) refl refl
-  where
-    at : (a b : Bool) → eqb x y ≡ a → eqb y x ≡ b → a ≡ b
-    at true true p q = refl
-    at false false p q = refl
-    at true false p q = absurd (true≢false (sym (eq-eqb y x (sym (eqb-true x y p))) ∙ q))
-    at false true p q = absurd (true≢false (sym (eq-eqb x y (sym (eqb-true y x q))) ∙ p))
 
 left_push : (finis : List ℕ) (d x : ℕ) → left (finis ++ d ∷ []) x ≡ (left finis x && not (eqb x d))
 left_push finis d x =
@@ -319,17 +302,17 @@ ready_serials object (o ∷ os) = ap (λ d. d ∷ map serial_of (map (ready_obje
 
 -- ---- all lists
 
-pub all_settled : (s : State) (harts number : ℕ) (won : Bool) (saw : ℕ) (l : Lists) (settling : GrantTable) (edges : EdgesWithRoom) (found : Option Granting) → HoldsAll s harts l
+pub all_settled : (s : State) (number : ℕ) (won : Bool) (saw : ℕ) (l : Lists) (settling : GrantTable) (edges : EdgesWithRoom) (found : Option Granting) → HoldsAll s l
     → EdgesFollow s (settled number won saw) → GrantsAreTidy s → settling.grants ≡ filter (is_another number) l.settling.grants → settling.count ≡ l.settling.count
     → found ≡ find (has_number number) l.settling.grants → edges.edges ≡ l.edges.edges ++ settled_edges found won → edges.room + edges_spent found ≡ l.edges.room
-    → HoldsAll (step s (settled number won saw)) harts (record l { settling = settling; edges = edges })
-all_settled s harts number won saw l settling edges found holds follow tidy is same finds edges_are room =
+    → HoldsAll (step s (settled number won saw)) (record l { settling = settling; edges = edges })
+all_settled s number won saw l settling edges found holds follow tidy is same finds edges_are room =
     let at : found ≡ find (has_number number) (opened s.grants) = finds ∙ ap (find (has_number number)) holds.running.opens in
     let are : edges.edges ≡ l.edges.edges ++ settled_edges (find (has_number number) (opened s.grants)) won = edges_are ∙ ap (λ (o : Option Granting). l.edges.edges ++ settled_edges o won) at in
     let both = settled_follow s number won saw l.edges.edges edges.edges follow tidy.numbered holds.keeping.every holds.keeping.only are in
     let state : settle number (standing_of won saw) s ≡ step s (settled number won saw) = sym (settled_step s number won saw) in
-    subst (λ (t : State). HoldsAll t harts (record l { settling = settling; edges = edges })) state (record {
-      of_harts = holds.of_harts;
+    subst (λ (t : State). HoldsAll t (record l { settling = settling; edges = edges })) state (record {
+      faults = holds.faults;
       running = runs_settled s.grants s.next s.inits s.finis s.namespaces l.settling settling l.unfinished l.namespaces number won saw holds.running is same;
       memory = holds.memory;
       keeping = record {
@@ -342,26 +325,26 @@ all_settled s harts number won saw l settling edges found holds follow tidy is s
       opening = holds.opening;
     })
 
-pub all_finalised : (s : State) (harts object : ℕ) (l : Lists) (behind : SerialsWithRoom) → HoldsAll s harts l → behind.serials ≡ filter (λ d. not (eqb d object)) l.unfinished.serials
-    → behind.room ≡ l.unfinished.room → HoldsAll (finalise object s) harts (record l { unfinished = behind })
-all_finalised s harts object l behind holds is room = record {
-  of_harts = holds.of_harts;
+pub all_finalised : (s : State) (object : ℕ) (l : Lists) (behind : SerialsWithRoom) → HoldsAll s l → behind.serials ≡ filter (λ d. not (eqb d object)) l.unfinished.serials
+    → behind.room ≡ l.unfinished.room → HoldsAll (finalise object s) (record l { unfinished = behind })
+all_finalised s object l behind holds is room = record {
+  faults = holds.faults;
   running = runs_finalised s.grants s.next s.inits s.finis s.namespaces l.settling l.unfinished behind l.namespaces object holds.running is room;
   memory = holds.memory;
   keeping = holds.keeping;
   opening = holds.opening;
 }
 
-pub all_initialised : (s : State) (harts hart object : ℕ) (l : Lists) (behind : SerialsWithRoom) (more : List Namespace) → HoldsAll s harts l → EdgesFollow s (Init hart object)
+pub all_initialised : (s : State) (hart object : ℕ) (l : Lists) (behind : SerialsWithRoom) (more : List Namespace) → HoldsAll s l → EdgesFollow s (Init hart object)
     → has s.finis object ≡ false → s.next - 1 - length (s.inits ++ object ∷ []) + 1 ≤ s.next - 1 - length s.inits
     → behind.serials ≡ l.unfinished.serials ++ object ∷ [] → behind.room + 1 ≡ l.unfinished.room → more ≡ map (ready_in object) l.namespaces
-    → HoldsAll (initialise object s) harts (record l { unfinished = behind; namespaces = more })
+    → HoldsAll (initialise object s) (record l { unfinished = behind; namespaces = more })
 unfolding initialise
-all_initialised s harts hart object l behind more holds follow unfinished falls is room ready =
+all_initialised s hart object l behind more holds follow unfinished falls is room ready =
     let stay : map serial_of (flat_map (λ (ns : Namespace). ns.objects) (map (ready_in object) s.namespaces)) ≡ map serial_of (mapped s) =
     serials_stay (ready_in object) (λ ns. ready_serials object ns.objects) s.namespaces in
     record {
-      of_harts = holds.of_harts;
+      faults = holds.faults;
       running = runs_initialised s.grants s.next s.inits s.finis s.namespaces l.settling l.unfinished behind l.namespaces more object holds.running unfinished falls is room ready;
       memory = holds.memory;
       keeping = record {
@@ -376,26 +359,3 @@ all_initialised s harts hart object l behind more holds follow unfinished falls 
       };
       opening = holds.opening;
     }
-
-pub all_told : (s : State) (harts hart : ℕ) (l : Lists) (new : KeptTable) → HoldsAll s harts l → new.kept ≡ filter (is_anothers hart) l.kept.kept → HoldsAll (tell hart s) harts (record l { kept = new })
-all_told s harts hart l new holds is = record {
-  of_harts = record { same = holds.of_harts.same; endings = holds.of_harts.endings; faults = is ∙ ap (filter (is_anothers hart)) holds.of_harts.faults };
-  running = holds.running;
-  memory = holds.memory;
-  keeping = holds.keeping;
-  opening = holds.opening;
-}
-
-pub all_ended : (s : State) (harts hart : ℕ) (reason : HartEnd) (l : Lists) (new : EndsOfHarts) → HoldsAll s harts l → new.harts ≡ l.ends.harts
-    → new.endings ≡ l.ends.endings ++ record { hart = hart; «end» = reason } ∷ [] → HoldsAll (end_hart hart reason s) harts (record l { ends = new })
-all_ended s harts hart reason l new holds same is = record {
-  of_harts = record {
-    same = same ∙ holds.of_harts.same;
-    endings = is ∙ ap (λ (es : List Ending). es ++ record { hart = hart; «end» = reason } ∷ []) holds.of_harts.endings;
-    faults = holds.of_harts.faults;
-  };
-  running = holds.running;
-  memory = holds.memory;
-  keeping = holds.keeping;
-  opening = holds.opening;
-}

@@ -29,9 +29,9 @@ use Rattle.link_holds.specs.Lemmas.Advance.{serials_stay}
 
 -- ---- the plan
 
-pub graph_of : (s : State) (harts : ℕ) (l : Lists) (held : List Edge) (fixed : List ℕ) (granted : List Granting) → HoldsAll s harts l → SerialsAreInOrder s → held ≡ l.edges.edges
+pub graph_of : (s : State) (l : Lists) (held : List Edge) (fixed : List ℕ) (granted : List Granting) → HoldsAll s l → SerialsAreInOrder s → held ≡ l.edges.edges
     → fixed ≡ l.loads.startup ++ l.loads.pinned → granted ≡ l.settling.grants → IsGraphOf s held fixed granted
-graph_of s harts l held fixed granted holds order edges are grants = record {
+graph_of s l held fixed granted holds order edges are grants = record {
   every = subst (λ (es : List Edge). HasAll es (held_edges s)) (sym edges) holds.keeping.every;
   only = subst (λ (es : List Edge). HasAll (held_edges s) es) (sym edges) holds.keeping.only;
   stay = are ∙ ap (λ (ds : List ℕ). ds ++ l.loads.pinned) holds.opening.startup ∙ ap (λ (ds : List ℕ). startup_serials s ++ ds) holds.opening.pinned;
@@ -61,13 +61,13 @@ new_roomy : (serials : List ℕ) (laid : List Range) (waiting : Option PendingCl
 new_roomy serials laid None p roomy inside = absurd (none_in p inside)
 new_roomy serials laid (Some q) p roomy inside = subst (IsRoomy serials laid) (only_in q p inside) roomy
 
-pub all_closed : (s : State) (harts hart handle : ℕ) (set : List ℕ) (l : Lists) (held : List Namespace) (closings : PendingList) (waiting : Option PendingClosing) → HoldsAll s harts l
+pub all_closed : (s : State) (hart handle : ℕ) (set : List ℕ) (l : Lists) (held : List Namespace) (closings : PendingList) (waiting : Option PendingClosing) → HoldsAll s l
     → EdgesFollow s (Close hart handle (Done set)) → held ≡ closed_by hart handle set l.namespaces → closings.closings ≡ l.closings.closings ++ option_to_list waiting
     → map closing_of (option_to_list waiting) ≡ waiting_of hart set → IfSome waiting (IsRoomy (map serial_of (mapped s)) s.ranges)
-    → HoldsAll (die hart set (lower handle s)) harts (record l { namespaces = held; closings = closings })
+    → HoldsAll (die hart set (lower handle s)) (record l { namespaces = held; closings = closings })
 unfolding die lower
-all_closed s harts hart handle set l held closings waiting holds follow are pushed waits roomy = record {
-  of_harts = holds.of_harts;
+all_closed s hart handle set l held closings waiting holds follow are pushed waits roomy = record {
+  faults = holds.faults;
   running = record {
     opens = holds.running.opens;
     count = holds.running.count;
@@ -94,9 +94,9 @@ all_closed s harts hart handle set l held closings waiting holds follow are push
 }
 
 -- only room was made
-pub all_with_room : (s : State) (harts : ℕ) (l : Lists) (closings : PendingList) → HoldsAll s harts l → closings.closings ≡ l.closings.closings → HoldsAll s harts (record l { closings = closings })
-all_with_room s harts l closings holds same = record {
-  of_harts = holds.of_harts;
+pub all_with_room : (s : State) (l : Lists) (closings : PendingList) → HoldsAll s l → closings.closings ≡ l.closings.closings → HoldsAll s (record l { closings = closings })
+all_with_room s l closings holds same = record {
+  faults = holds.faults;
   running = holds.running;
   memory = holds.memory;
   keeping = record {

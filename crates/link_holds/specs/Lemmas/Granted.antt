@@ -20,18 +20,18 @@ use Rattle.link_holds.specs.Holding.{HoldsAll, Lists}
 
 -- ---- the lists with a grant more
 
-pub all_granted : (s : State) (harts number hart owner slot : ℕ) (choice : Choice) (value : ℕ) (l : Lists) (settling : GrantTable) (edges : EdgesWithRoom) → HoldsAll s harts l
+pub all_granted : (s : State) (number hart owner slot : ℕ) (choice : Choice) (value : ℕ) (l : Lists) (settling : GrantTable) (edges : EdgesWithRoom) → HoldsAll s l
     → EdgesFollow s (Grant number hart owner slot choice value) → number ≡ l.settling.count + 1
     → settling.grants ≡ l.settling.grants ++ record { number = l.settling.count + 1; hart = hart; owner = owner; slot = slot; choice = choice; value = value; standing = Open } ∷ []
     → settling.count ≡ l.settling.count + 1 → edges.edges ≡ l.edges.edges → edges.room ≡ l.edges.room + 1
-    → HoldsAll (grant number hart owner slot choice value s) harts (record l { settling = settling; edges = edges })
-all_granted s harts number hart owner slot choice value l settling edges holds follow numbered is count same room =
+    → HoldsAll (grant number hart owner slot choice value s) (record l { settling = settling; edges = edges })
+all_granted s number hart owner slot choice value l settling edges holds follow numbered is count same room =
     let g : ℕ → Granting = λ n. record { number = n; hart = hart; owner = owner; slot = slot; choice = choice; value = value; standing = Open } in
     let opens : settling.grants ≡ filter is_open (s.grants ++ g number ∷ []) =
     is ∙ ap (λ (gs : List Granting). gs ++ g (l.settling.count + 1) ∷ []) holds.running.opens ∙ ap (λ n. filter is_open s.grants ++ g n ∷ []) (sym numbered) ∙ sym (filter-append is_open s.grants (g number ∷ [])) in
     let more : length (filter is_open (s.grants ++ g number ∷ [])) ≡ length (filter is_open s.grants) + 1 = ap length (filter-append is_open s.grants (g number ∷ [])) ∙ length-append (filter is_open s.grants) (g number ∷ []) in
     record {
-      of_harts = holds.of_harts;
+      faults = holds.faults;
       running = record {
         opens = opens;
         count = count ∙ ap (λ n. n + 1) holds.running.count ∙ sym (length-append s.grants (g number ∷ []));
@@ -54,10 +54,10 @@ all_granted s harts number hart owner slot choice value l settling edges holds f
     }
 
 -- only the room changed
-pub all_roomier : (s : State) (harts : ℕ) (l : Lists) (settling : GrantTable) (edges : EdgesWithRoom) → HoldsAll s harts l → settling.grants ≡ l.settling.grants → settling.count ≡ l.settling.count
-    → edges.edges ≡ l.edges.edges → l.edges.room ≤ edges.room → HoldsAll s harts (record l { settling = settling; edges = edges })
-all_roomier s harts l settling edges holds grants count same room = record {
-  of_harts = holds.of_harts;
+pub all_roomier : (s : State) (l : Lists) (settling : GrantTable) (edges : EdgesWithRoom) → HoldsAll s l → settling.grants ≡ l.settling.grants → settling.count ≡ l.settling.count
+    → edges.edges ≡ l.edges.edges → l.edges.room ≤ edges.room → HoldsAll s (record l { settling = settling; edges = edges })
+all_roomier s l settling edges holds grants count same room = record {
+  faults = holds.faults;
   running = record { opens = grants ∙ holds.running.opens; count = count ∙ holds.running.count; serials = holds.running.serials; room = holds.running.room; spaces = holds.running.spaces };
   memory = holds.memory;
   keeping = record {

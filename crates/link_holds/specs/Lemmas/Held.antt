@@ -10,7 +10,6 @@ use Rattle.history_graph.specs.declared.graph.Edge.{Edge}
 use Rattle.history_journal.specs.LinkHarts.Kept.{KeptTable, is_anothers}
 use Rattle.history_state.specs.After.{after, after_from}
 use Rattle.history_state.specs.Allowed.{Allowed}
-use Rattle.history_state.specs.Owed.{brings}
 use Rattle.history_state.specs.Setting.{Setting}
 use Rattle.history_state.specs.State.{State, empty_namespace}
 use Rattle.history_state.specs.Step.{keep, step}
@@ -28,9 +27,7 @@ pub follows : (harts : ℕ) (past : List Event) (e : Event) → Allowed (bare ha
 follows harts past e may = record { setting = bare harts; machine = refl; may = may }
 
 -- the lists are those of the state before the first event
-pub record AreFirst (harts : ℕ) (l : Lists) : Type 0 where
-  pub same : l.ends.harts ≡ harts
-  pub endings : l.ends.endings ≡ []
+pub record AreFirst (l : Lists) : Type 0 where
   pub kept : l.kept.kept ≡ []
   pub grants : l.settling.grants ≡ []
   pub count : l.settling.count ≡ 0
@@ -50,11 +47,11 @@ pub record AreFirst (harts : ℕ) (l : Lists) : Type 0 where
   pub startup : l.loads.startup ≡ []
   pub pinned : l.loads.pinned ≡ []
 
-pub holds_first : (events : List Event) (harts of : ℕ) (l : Lists) → events ≡ [] → of ≡ harts → AreFirst harts l → HoldsAll (after events) of l
+pub holds_first : (events : List Event) (l : Lists) → events ≡ [] → AreFirst l → HoldsAll (after events) l
 unfolding after_from
-holds_first events harts of l none harts_are first =
-    subst (λ (es : List Event). HoldsAll (after es) of l) (sym none) (record {
-      of_harts = record { same = first.same ∙ sym harts_are; endings = first.endings; faults = first.kept };
+holds_first events l none first =
+    subst (λ (es : List Event). HoldsAll (after es) l) (sym none) (record {
+      faults = first.kept;
       running = record { opens = first.grants; count = first.count; serials = first.serials; room = omega arith; spaces = first.namespaces };
       memory = record {
         ranges = first.ranges;
@@ -83,8 +80,8 @@ holds_first events harts of l none harts_are first =
     })
 
 -- the state is the one after a step
-pub holds_after : (s t : State) (harts of : ℕ) (l : Lists) → t ≡ s → of ≡ harts → HoldsAll s harts l → HoldsAll t of l
-holds_after s t harts of l state same holds = subst (λ (x : State). HoldsAll x of l) (sym state) (subst (λ n. HoldsAll s n l) (sym same) holds)
+pub holds_after : (s t : State) (l : Lists) → t ≡ s → HoldsAll s l → HoldsAll t l
+holds_after s t l state holds = subst (λ (x : State). HoldsAll x l) (sym state) holds
 
 -- what a refusal does, whatever was asked
 pub refused_step : (s : State) (hart : ℕ) (ask : Ask) (fault : DlFault) → step s (refusal hart ask fault) ≡ keep hart fault s
@@ -92,21 +89,12 @@ refused_step s hart (asks.Open ask) fault = refl
 refused_step s hart (asks.Sym ask) fault = refl
 refused_step s hart (asks.Close handle) fault = refl
 
-pub refused_brings : (hart : ℕ) (ask : Ask) (fault : DlFault) → brings (refusal hart ask fault) ≡ 0
-refused_brings hart (asks.Open ask) fault = refl
-refused_brings hart (asks.Sym ask) fault = refl
-refused_brings hart (asks.Close handle) fault = refl
-
 -- a refusal is kept
-pub holds_keep : (s : State) (harts hart : ℕ) (l : Lists) (before : List Kept) (new : KeptTable) (fault copy : DlFault) → HoldsAll s harts l
-    → before ≡ l.kept.kept → copy ≡ fault → new.kept ≡ filter (is_anothers hart) before ++ record { hart = hart; fault = copy } ∷ [] → HoldsAll (keep hart fault s) harts (record l { kept = new })
-holds_keep s harts hart l before new fault copy holds was copied is = record {
-  of_harts = record {
-    same = holds.of_harts.same;
-    endings = holds.of_harts.endings;
-    faults = is ∙ ap (λ (ks : List Kept). filter (is_anothers hart) ks ++ record { hart = hart; fault = copy } ∷ []) (was ∙ holds.of_harts.faults)
-        ∙ ap (λ (f : DlFault). filter (is_anothers hart) s.kept ++ record { hart = hart; fault = f } ∷ []) copied;
-  };
+pub holds_keep : (s : State) (hart : ℕ) (l : Lists) (before : List Kept) (new : KeptTable) (fault copy : DlFault) → HoldsAll s l
+    → before ≡ l.kept.kept → copy ≡ fault → new.kept ≡ filter (is_anothers hart) before ++ record { hart = hart; fault = copy } ∷ [] → HoldsAll (keep hart fault s) (record l { kept = new })
+holds_keep s hart l before new fault copy holds was copied is = record {
+  faults = is ∙ ap (λ (ks : List Kept). filter (is_anothers hart) ks ++ record { hart = hart; fault = copy } ∷ []) (was ∙ holds.faults)
+      ∙ ap (λ (f : DlFault). filter (is_anothers hart) s.kept ++ record { hart = hart; fault = f } ∷ []) copied;
   running = holds.running;
   memory = holds.memory;
   keeping = holds.keeping;

@@ -62,21 +62,21 @@ first_after (l ∷ rest) hart added old new first is =
 
 -- ---- all lists
 
-pub all_opened : (s : State) (harts hart id root : ℕ) (ask : OpenAsk) (added : List Loaded) (ranges : List Range) (l : Lists) (unfinished : SerialsWithRoom) (namespaces : List Namespace)
-    (reserved : RangeList) (modules : ModuleTable) (parts : PartsWithRoom) (edges : EdgesWithRoom) (loads : LoadTable) → HoldsAll s harts l → s.next + length added ≤ 2 ^ 63
+pub all_opened : (s : State) (hart id root : ℕ) (ask : OpenAsk) (added : List Loaded) (ranges : List Range) (l : Lists) (unfinished : SerialsWithRoom) (namespaces : List Namespace)
+    (reserved : RangeList) (modules : ModuleTable) (parts : PartsWithRoom) (edges : EdgesWithRoom) (loads : LoadTable) → HoldsAll s l → s.next + length added ≤ 2 ^ 63
     → EdgesFollow s (Open hart ask (Done id root added ranges)) → ((c : Closing) → Contains s.closings c → TakesAsMuch c.set s (open_done s hart ask id root added ranges))
     → unfinished.serials ≡ l.unfinished.serials → l.unfinished.room + length added ≤ unfinished.room
     → namespaces ≡ with_namespace id (λ ns. opened ns added root (is_global ask.flags)) l.namespaces → reserved.ranges ≡ l.reserved.ranges ++ ranges
     → modules.modules ≡ with_modules added s.modules → statics_of modules ≡ statics_after (is_startup s) added s.statics → modules.generation ≡ s.generation + length (filter has_module added)
     → parts.parts ≡ l.parts.parts ++ map part_of (map (image_made s hart ask id root added ranges) added)
     → edges.edges ≡ l.edges.edges ++ gained s (Open hart ask (Done id root added ranges)) → l.edges.room ≤ edges.room → Notes l.loads ask.flags root added loads
-    → HoldsAll (open_done s hart ask id root added ranges) harts
+    → HoldsAll (open_done s hart ask id root added ranges)
     (record l { unfinished = unfinished; namespaces = namespaces; reserved = reserved; modules = modules; parts = parts; edges = edges; loads = loads })
 unfolding loaded
-all_opened s harts hart id root ask added ranges l unfinished namespaces reserved modules parts edges loads holds few follow take serials room spaces laid numbered statics changes read is more notes =
+all_opened s hart id root ask added ranges l unfinished namespaces reserved modules parts edges loads holds few follow take serials room spaces laid numbered statics changes read is more notes =
     let new : List Linked = map (image_made s hart ask id root added ranges) added in
     record {
-      of_harts = holds.of_harts;
+      faults = holds.faults;
       running = record {
         opens = holds.running.opens;
         count = holds.running.count;
@@ -126,12 +126,12 @@ all_opened s harts hart id root ask added ranges l unfinished namespaces reserve
     roomy next n done old new was more = omega (arith, was, more)
 
 -- only the room changed
-pub all_with_room : (s : State) (harts : ℕ) (l : Lists) (unfinished : SerialsWithRoom) (reserved : RangeList) (parts : PartsWithRoom) (edges : EdgesWithRoom) (loads : LoadTable) → HoldsAll s harts l
+pub all_with_room : (s : State) (l : Lists) (unfinished : SerialsWithRoom) (reserved : RangeList) (parts : PartsWithRoom) (edges : EdgesWithRoom) (loads : LoadTable) → HoldsAll s l
     → unfinished.serials ≡ l.unfinished.serials → l.unfinished.room ≤ unfinished.room → reserved.ranges ≡ l.reserved.ranges → parts.parts ≡ l.parts.parts → edges.edges ≡ l.edges.edges
     → l.edges.room ≤ edges.room → loads.binds ≡ l.loads.binds → loads.next ≡ l.loads.next → loads.startup ≡ l.loads.startup → loads.pinned ≡ l.loads.pinned
-    → HoldsAll s harts (record l { unfinished = unfinished; reserved = reserved; parts = parts; edges = edges; loads = loads })
-all_with_room s harts l unfinished reserved parts edges loads holds serials room ranges read same more binds next startup pinned = record {
-  of_harts = holds.of_harts;
+    → HoldsAll s (record l { unfinished = unfinished; reserved = reserved; parts = parts; edges = edges; loads = loads })
+all_with_room s l unfinished reserved parts edges loads holds serials room ranges read same more binds next startup pinned = record {
+  faults = holds.faults;
   running = record {
     opens = holds.running.opens;
     count = holds.running.count;

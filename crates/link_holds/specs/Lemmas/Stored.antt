@@ -56,10 +56,10 @@ roomier serials laid (p ∷ ps) (x ∷ qs) room roomy q inside = ⊎_elim
         }
 
 -- only there is more room
-pub all_roomier_closings : (s : State) (harts : ℕ) (l : Lists) (reserved : RangeList) (blocks : BlockList) (closings : PendingList) → HoldsAll s harts l → reserved.ranges ≡ l.reserved.ranges
-    → blocks.blocks ≡ l.blocks.blocks → HaveRoomOf l.closings.closings closings.closings → HoldsAll s harts (record l { reserved = reserved; blocks = blocks; closings = closings })
-all_roomier_closings s harts l reserved blocks closings holds ranges same room = record {
-  of_harts = holds.of_harts;
+pub all_roomier_closings : (s : State) (l : Lists) (reserved : RangeList) (blocks : BlockList) (closings : PendingList) → HoldsAll s l → reserved.ranges ≡ l.reserved.ranges
+    → blocks.blocks ≡ l.blocks.blocks → HaveRoomOf l.closings.closings closings.closings → HoldsAll s (record l { reserved = reserved; blocks = blocks; closings = closings })
+all_roomier_closings s l reserved blocks closings holds ranges same room = record {
+  faults = holds.faults;
   running = holds.running;
   memory = record {
     ranges = ranges ∙ holds.memory.ranges;
@@ -94,11 +94,11 @@ one_more set laid r n few =
     by false = omega arith
 
 -- a block more
-pub all_blocked : (s : State) (harts hart serial address : ℕ) (r : Range) (l : Lists) (reserved : RangeList) (blocks : BlockList) (closings : PendingList) → HoldsAll s harts l
+pub all_blocked : (s : State) (hart serial address : ℕ) (r : Range) (l : Lists) (reserved : RangeList) (blocks : BlockList) (closings : PendingList) → HoldsAll s l
     → block_ranges s hart serial address ≡ r ∷ [] → reserved.ranges ≡ l.reserved.ranges ++ r ∷ [] → blocks.blocks ≡ l.blocks.blocks ++ record { hart = hart; serial = serial; address = address } ∷ []
-    → closings.closings ≡ map with_more l.closings.closings → HoldsAll (add_block hart serial address s) harts (record l { reserved = reserved; blocks = blocks; closings = closings })
-all_blocked s harts hart serial address r l reserved blocks closings holds its ranges more room = record {
-  of_harts = holds.of_harts;
+    → closings.closings ≡ map with_more l.closings.closings → HoldsAll (add_block hart serial address s) (record l { reserved = reserved; blocks = blocks; closings = closings })
+all_blocked s hart serial address r l reserved blocks closings holds its ranges more room = record {
+  faults = holds.faults;
   running = holds.running;
   memory = record {
     ranges = ranges ∙ ap (λ (rs : List Range). rs ++ r ∷ []) holds.memory.ranges ∙ ap (λ (rs : List Range). s.ranges ++ rs) (sym its);

@@ -40,8 +40,8 @@ use Rattle.link_holds.specs.Holding.{HoldsAll, Lists}
 -- ---- what waits
 
 -- the closing that has finished waits
-pub waiting : (s : State) (harts hart : ℕ) (set : List ℕ) (l : Lists) → HoldsAll s harts l → HasFinished s hart set → (p : PendingClosing) × (find (is_of hart set) l.closings.closings ≡ Some p)
-waiting s harts hart set l holds done = by (find (is_of hart set) l.closings.closings) refl
+pub waiting : (s : State) (hart : ℕ) (set : List ℕ) (l : Lists) → HoldsAll s l → HasFinished s hart set → (p : PendingClosing) × (find (is_of hart set) l.closings.closings ≡ Some p)
+waiting s hart set l holds done = by (find (is_of hart set) l.closings.closings) refl
   where
     by : (found : Option PendingClosing) → find (is_of hart set) l.closings.closings ≡ found → (p : PendingClosing) × (find (is_of hart set) l.closings.closings ≡ Some p)
     by None e =
@@ -58,8 +58,8 @@ pub record IsTaken (s : State) (set : List ℕ) (p : PendingClosing) : Type 0 wh
   pub of : p.set ≡ set
   pub roomy : IsRoomy (map serial_of (mapped s)) s.ranges p
 
-pub taken : (s : State) (harts hart : ℕ) (set : List ℕ) (l : Lists) (p : PendingClosing) → HoldsAll s harts l → find (is_of hart set) l.closings.closings ≡ Some p → IsTaken s set p
-taken s harts hart set l p holds found =
+pub taken : (s : State) (hart : ℕ) (set : List ℕ) (l : Lists) (p : PendingClosing) → HoldsAll s l → find (is_of hart set) l.closings.closings ≡ Some p → IsTaken s set p
+taken s hart set l p holds found =
     let at = found_in (is_of hart set) l.closings.closings p found in
     record { of = (bytes_eq-Decides p.set set).0 (and_parts (eqb p.hart hart) (bytes_eq p.set set) at.1).1; roomy = holds.keeping.roomy p at.0 }
 
@@ -155,14 +155,14 @@ edge_stays : (b : Bool) → not b ≡ true → b ≡ false
 edge_stays true e = absurd (true≢false (sym e))
 edge_stays false e = refl
 
-pub all_unmapped : (s : State) (harts hart : ℕ) (set : List ℕ) (l : Lists) (held : List Namespace) (reserved : RangeList) (modules : ModuleTable) (blocks : BlockList) (parts : PartsWithRoom)
-    (edges : EdgesWithRoom) (closings : PendingList) → HoldsAll s harts l → EdgesFollow s (Unmapped hart set)
+pub all_unmapped : (s : State) (hart : ℕ) (set : List ℕ) (l : Lists) (held : List Namespace) (reserved : RangeList) (modules : ModuleTable) (blocks : BlockList) (parts : PartsWithRoom)
+    (edges : EdgesWithRoom) (closings : PendingList) → HoldsAll s l → EdgesFollow s (Unmapped hart set)
     → ((images : List Linked) → map part_of (filter (λ m. not (has set m.serial)) images) ≡ filter (λ p. not (has set p.serial)) (map part_of images))
     → AreWithout hart set l held reserved modules blocks parts edges closings
-    → HoldsAll (unmap hart set s) harts (record l { namespaces = held; reserved = reserved; modules = modules; blocks = blocks; parts = parts; edges = edges; closings = closings })
+    → HoldsAll (unmap hart set s) (record l { namespaces = held; reserved = reserved; modules = modules; blocks = blocks; parts = parts; edges = edges; closings = closings })
 unfolding unmap
-all_unmapped s harts hart set l held reserved modules blocks parts edges closings holds follow go out = record {
-  of_harts = holds.of_harts;
+all_unmapped s hart set l held reserved modules blocks parts edges closings holds follow go out = record {
+  faults = holds.faults;
   running = record {
     opens = holds.running.opens;
     count = holds.running.count;

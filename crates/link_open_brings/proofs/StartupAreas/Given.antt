@@ -1,12 +1,11 @@
 -- The pages for data that an opening is given.
-use Rattle.std.proofs.Common.{◌≡◌, ◌⊎◌, inl, inr, ⊎_elim, ℕ, zero, suc, ◌+◌, ◌<◌, ◌≤◌, Bool, true, false, cond, eqb, List, [], ◌∷◌, ◌++◌, map, Option, Some, None, refl, sym, ap, subst, ◌∙◌, arith}
+use Rattle.std.proofs.Common.{◌≡◌, ◌⊎◌, inl, inr, ⊎_elim, ℕ, zero, suc, ◌+◌, ◌<◌, ◌≤◌, Bool, true, false, cond, List, [], ◌∷◌, ◌++◌, map, Option, Some, None, refl, sym, ap, subst, ◌∙◌, arith}
 use Rattle.std.specs.List.{Contains, filter, find, range_with_len}
 use Rattle.std.proofs.lemmas.Bool.{eq-eqb, eqb-true, ne_eqb, true≢false}
 use Rattle.std.proofs.lemmas.List.Elements.{Contains-append_cases}
 use Rattle.address_space.specs.Pages.{without}
 use Rattle.ld_base.specs.declared.linking.Loaded.{Loaded}
 use Rattle.history_event.specs.declared.event.OpenAsk.{OpenAsk}
-use Rattle.history_event.specs.declared.event.Purpose.{Purpose}
 use Rattle.history_event.specs.declared.event.Purpose.TheVariants as purposes
 use Rattle.history_event.specs.declared.event.Range.{Range}
 use Rattle.history_state.specs.Areas.{Area, AreGiven, areas, free_pages, has_storage, object_area, other_areas, stack_area, static_area, static_areas}
@@ -18,18 +17,7 @@ use Rattle.history_state.specs.State.{State, Statics}
 use Rattle.history_state.specs.Storage.{is_static_area, statics_with}
 use Rattle.history_state.specs.Lemmas.Lists.{first_or_later, from_map, here, later, none_in}
 use Rattle.history_calls.specs.Served.{is_area}
-
-abbrev For : Area → Range → Type 0
-For a r = (r.pages ≡ a.pages) × (r.purpose ≡ a.purpose)
-
-given_area : (free : List ℕ) (wants : List Area) (ranges : List Range) (left : List ℕ) → AreGiven free wants ranges left → (r : Range) → Contains ranges r → (a : Area) × Contains wants a × For a r
-given_area free [] [] left g r h = absurd (none_in r h)
-given_area free [] (q ∷ qs) left g r h = absurd g
-given_area free (a ∷ more) [] left g r h = absurd g
-given_area free (a ∷ more) (q ∷ qs) left g r h = ⊎_elim
-    (λ (e : q ≡ r). (a, here a more, subst (For a) e (g.0.pages, g.0.purpose)))
-    (λ (i : Contains qs r). let rest = given_area (without free q.address q.pages) more qs left g.1 r i in (rest.0, later a more rest.0 rest.1, rest.2))
-    (first_or_later q qs r h)
+use Rattle.history_state.specs.Lemmas.StaticAreas.{given_area}
 
 -- ---- of a later opening there are none
 

@@ -1,15 +1,13 @@
 -- What memory gets for a new block.
-use Rattle.std.proofs.Common.{◌≡◌, ℕ, ◌+◌, ◌-◌, ◌*◌, ◌<◌, ◌≤◌, ◌&&◌, Bool, true, false, List, [], ◌∷◌, ◌++◌, Option, Some, None, refl, sym, ap, subst, ◌∙◌, arith}
+use Rattle.std.proofs.Common.{◌≡◌, ℕ, ◌+◌, ◌-◌, ◌<◌, ◌≤◌, ◌&&◌, Bool, true, false, List, [], ◌∷◌, ◌++◌, Option, Some, None, refl, sym, ap, subst, ◌∙◌}
 use Rattle.std.specs.Prelude.{◌==◌, find, if◌then◌else◌, IsSome}
 use Rattle.std.specs.List.{Contains}
 use Rattle.std.specs.Option.{option_and_then, option_map, option_map_or}
-use Rattle.std.proofs.lemmas.Bool.{and_from, eq-eqb, eqb-true, le-leb, lt-ltb, true≢false}
+use Rattle.std.proofs.lemmas.Bool.{and_from, eq-eqb, eqb-true, true≢false}
 use Rattle.std.proofs.lemmas.List.Elements.{Contains-append_right}
 use Rattle.link_open_images.specs.AreaImages.Areas.{IsArea, byte_among}
 use Rattle.link_images.specs.Parts.{storage_of}
 use Rattle.ld_base.specs.declared.linking.Loaded.{Loaded}
-use Rattle.ld_base.specs.declared.linking.Role.{Role}
-use Rattle.ld_base.specs.declared.linking.Role.TheVariants.{Rw}
 use Rattle.ld_base.specs.declared.object.Object.{Object}
 use Rattle.ld_base.specs.declared.object.TlsSeg.{TlsSeg}
 use Rattle.history_event.specs.declared.event.Event.{Event}
@@ -19,10 +17,9 @@ use Rattle.history_event.specs.declared.state.Block.{Block}
 use Rattle.history_event.specs.declared.state.Module.{Module}
 use Rattle.history_state.specs.Accepted.{AcceptsOnly}
 use Rattle.history_state.specs.After.{after}
-use Rattle.history_state.specs.Laws.{IsDataAt}
 use Rattle.history_state.specs.Legal.{Lawful}
 use Rattle.history_state.specs.Lookup.{MayHaveBlock}
-use Rattle.history_state.specs.Memory.{covers, first_byte, image_of, role_at, first_word_at}
+use Rattle.history_state.specs.Memory.{covers, first_byte, image_of}
 use Rattle.history_state.specs.Objects.{mapped}
 use Rattle.history_state.specs.Setting.{Machine, Setting}
 use Rattle.history_state.specs.State.{Linked, State}
@@ -31,14 +28,12 @@ use Rattle.history_state.specs.Storage.{block_pages, late_block, module_of, resi
 use Rattle.history_state.specs.Lemmas.Accepting.{ReadLaw, accepted_after}
 use Rattle.history_state.specs.Lemmas.Brought.{LoadLaws}
 use Rattle.history_state.specs.Lemmas.Calling.{images_found}
-use Rattle.history_state.specs.Lemmas.Data.{areas_data}
 use Rattle.history_state.specs.Lemmas.History.{after_push, lawful_push}
 use Rattle.history_state.specs.Lemmas.Lazy.{PageLaws}
 use Rattle.history_state.specs.Lemmas.Lists.{found_in, here, not_found}
 use Rattle.history_state.specs.Lemmas.Lookups.{find_behind}
 use Rattle.history_state.specs.Lemmas.Moduled.{NumberLaws}
 use Rattle.history_calls.specs.Served.{AreBlockInstalls, AreInstalls, AreWordsOf}
-use Rattle.seg_image.specs.Words.{word_of}
 use Rattle.seg_image.specs.declared.image.Image.{Image}
 use Rattle.link_open_images.specs.NewBlocks.Laws.{area_alone}
 use Rattle.link_open_images.proofs.NewBlocks.Blocks.{first_in_block}
@@ -46,9 +41,6 @@ use Rattle.link_open_images.proofs.NewBlocks.Bytes.{among_segment}
 use Rattle.link_open_images.proofs.NewBlocks.Words.{area_words}
 
 -- ---- a hart that got its block has it
-
-of_hart : ℕ → ℕ → Block → Bool
-of_hart hart serial b = b.hart == hart && b.serial == serial
 
 late_is : (s : State) (hart serial : ℕ) → tls_block s hart serial ≡ None → (y : Module) → module_of s serial ≡ Some y → (y.offset ≡ None) × (late_block s hart serial ≡ None)
 unfolding tls_block

@@ -13,12 +13,6 @@ use Rattle.seg_image.specs.declared.image.Image.{Image}
 use Rattle.link_open_images.specs.ObjectBindings.Bindings.{AreMade, CanRead, binding_in, slot_binding}
 use Rattle.scope_rule.specs.Loading.{with_serial}
 
--- what stands at the place of an element is what is made of it
-pub at_mapped : {X Y : Type 0} (f : X → Y) (xs : List X) (more : List Y) (k : ℕ) (x : X) → slice_get xs k ≡ Some x → slice_get (map f xs ++ more) k ≡ Some (f x)
-at_mapped f [] more k x at = absurd (let d : None ≡ Some x = at in cc)
-at_mapped {X} {Y} f (y ∷ xs) more zero x at = let same : y ≡ x = cc in ap (λ (z : X). Some (f z)) same
-at_mapped f (y ∷ xs) more (suc k) x at = at_mapped f xs more k x at
-
 -- the search of the rest stops at its first
 pub found_at : (serial : ℕ) (all : List Loaded) (place : ℕ) (o : Loaded) → place < length all → o ≡ get_or all place o → eqb o.serial serial ≡ true
     → with_serial (drop place all) serial ≡ with_serial all serial → slice_get all place ≡ with_serial all serial

@@ -24,13 +24,6 @@ edges_among [] choices = []
 edges_among (o ∷ objects) [] = []
 edges_among (o ∷ objects) (cs ∷ choices) = flat_map (choice_edges o.serial) cs ++ edges_among objects choices
 
--- those of one object more
-pub among_more : (done more rest : List Edge) (objects all : List Loaded) (choices lists : List (List Choice)) (o : Loaded) (cs : List Choice) (total : List Edge)
-    → done ++ edges_among all lists ≡ total → all ≡ o ∷ objects → lists ≡ cs ∷ choices → more ≡ done ++ flat_map (choice_edges o.serial) cs → more ++ edges_among objects choices ≡ total
-among_more done more rest objects all choices lists o cs total before are has is =
-    ap (λ (es : List Edge). es ++ edges_among objects choices) is ∙ append_assoc done (flat_map (choice_edges o.serial) cs) (edges_among objects choices)
-    ∙ ap (λ (os : List Loaded). done ++ edges_among os (cs ∷ choices)) (sym are) ∙ ap (λ (ls : List (List Choice)). done ++ edges_among all ls) (sym has) ∙ before
-
 -- nothing is left
 pub among_none : (done : List Edge) (objects : List Loaded) (choices : List (List Choice)) (total : List Edge) → done ++ edges_among objects choices ≡ total → objects ≡ [] → done ≡ total
 among_none done objects choices total is none = sym (append-nil done) ∙ ap (λ (os : List Loaded). done ++ edges_among os choices) (sym none) ∙ is

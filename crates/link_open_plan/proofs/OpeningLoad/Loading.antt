@@ -108,7 +108,7 @@ unread_by w s ask name noload = subst (λ (b : Bool). ReadingsBy b w s name (λ 
 
 -- ---- what a load comes to
 
-root_of : (load : Load) (walk : Walk) → Brings load walk → (root : ℕ) × IsRoot walk root
+pub root_of : (load : Load) (walk : Walk) → Brings load walk → (root : ℕ) × IsRoot walk root
 root_of load walk h = by walk.arrivals walk.found h.all
   where
     first : (found : List ℕ) → 0 < length found → (root : ℕ) × (slice_get found 0 ≡ Some root)

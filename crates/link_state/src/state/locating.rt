@@ -7,11 +7,10 @@ ghost use Rattle.link_state.specs.Locating.{IsLocated, IsModuleOf, IsNotLocated,
 
 use crate::LinkState;
 use crate::faults::TlsFault;
-use history_event::Event;
 use history_journal::accepted_object;
 use history_state::{images_are_found, objects_are_read};
 use ld_base::{HartId, Serial};
-use link_holds::{nothing, put_block, room_for_block};
+use link_holds::{nothing, store_block};
 use link_open_images::{
     BlockFault, NewBlock, harts_have_new_blocks, new_block, new_blocks_are_installed,
 };
@@ -96,25 +95,22 @@ impl LinkState {
         accepted_object();
         let _ = self.journal.journal();
         let block = self.plan_block(serial)?;
-        room_for_block(
+        store_block(
             &mut self.reserved,
             &mut self.blocks,
             &mut self.closings,
             &mut self.journal,
+            hart,
+            serial,
+            &block,
             1,
         )?;
-        put_block(&mut self.reserved, &mut self.blocks, hart, serial, &block);
         let NewBlock {
             address,
             installs,
             ..
         } = block;
         self.made = installs;
-        self.journal.push(Event::Tls {
-            hart,
-            owner: serial,
-            address,
-        });
         Ok(address)
     }
 }

@@ -13,11 +13,11 @@ ghost use Rattle.link_search.specs.Asking.{ask_of};
 ghost use Rattle.link_search.specs.Finding.{IsSymFault};
 
 use crate::LinkState;
-use history_event::{Event, SymAsk};
+use history_event::SymAsk;
 use history_journal::accepted_object;
 use history_state::symbols_are_stored;
 use ld_base::{Choice, DlFault, HartId, NsId, Serial, Want};
-use link_holds::{found_event, nothing, put_block, room_for_block};
+use link_holds::{found_event, nothing, store_block};
 use link_open_images::{BlockFault, NewBlock, harts_have_new_blocks, new_blocks_are_installed};
 use link_search::{SymFault, find_symbol, symbol_ask, variable_in};
 use link_spaces::address_of;
@@ -129,14 +129,16 @@ impl LinkState {
             Ok(block) => block,
             Err(fault) => return Err(sym_fault(fault)),
         };
-        room_for_block(
+        store_block(
             &mut self.reserved,
             &mut self.blocks,
             &mut self.closings,
             &mut self.journal,
+            hart,
+            serial,
+            &block,
             2,
         )?;
-        put_block(&mut self.reserved, &mut self.blocks, hart, serial, &block);
         let NewBlock {
             address,
             installs,
@@ -144,11 +146,6 @@ impl LinkState {
         } = block;
         let value = address.wrapping_add(offset);
         self.made = installs;
-        self.journal.push(Event::Tls {
-            hart,
-            owner: serial,
-            address,
-        });
         self.journal
             .push(found_event(hart, ask, serial, index, value));
         Ok(value)

@@ -1,5 +1,5 @@
 -- What a turn is planned of: all that are left, with the object among them or without.
-use Rattle.std.proofs.Common.{◌≡◌, ℕ, suc, Bool, true, false, not, cond, drop, eqb, List, [], ◌∷◌, ◌++◌, length, map, take, refl, sym, ap, subst, ◌∙◌, arith}
+use Rattle.std.proofs.Common.{◌≡◌, ℕ, Bool, true, false, cond, drop, eqb, List, [], ◌∷◌, ◌++◌, map, take, refl, sym, ap, subst, ◌∙◌}
 use Rattle.std.specs.List.{Contains, filter, list_any}
 use Rattle.std.proofs.lemmas.List.{map-append}
 use Rattle.history_event.specs.declared.event.Event.{Event}
@@ -42,13 +42,6 @@ planned s object functions others own plan initialised are is_own kept is finali
         (is_own ∙ any_of object_of (λ d. eqb d object) functions ∙ ap (λ (ds : List ℕ). has ds object) are.order ∙ sym (counts_as_left s object initialised))
 
 -- ---- whether there are events
-
-pub settles_some : (h : ℕ) (objects : List ℕ) → settles (did_by (finis h objects)) ≡ not (eqb (length objects) 0)
-settles_some h [] = refl
-settles_some h (d ∷ rest) = ap not (sym (none (length rest)))
-  where
-    none : (n : ℕ) → eqb (suc n) 0 ≡ false
-    none n = grind arith
 
 pub settled_first : (added : List Event) (b : HartState) → cond (settles (did_by added)) (freed b) b ≡ freed_by added b
 settled_first [] b = refl

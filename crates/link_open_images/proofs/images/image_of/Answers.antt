@@ -1,4 +1,4 @@
-use Rattle.link_open_images.proofs.Libraries.{relocates}
+use Rattle.link_open_images.specs.Lemmas.Libraries.{relocates}
 use Rattle.relocator.specs.Storage.{first_without_offset}
 use Rattle.link_open_images.proofs.images.image_of.Goals as goal
 

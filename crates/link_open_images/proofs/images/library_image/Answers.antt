@@ -2,7 +2,7 @@ use Rattle.std.proofs.Common.{List, sym, subst}
 use Rattle.scope_rule.specs.Seen.{seen}
 use Rattle.relocator.specs.declared.binding.Binding.{Binding}
 use Rattle.link_open_images.specs.Relocated.{MayRelocate}
-use Rattle.link_open_images.proofs.Libraries.{no_sources}
+use Rattle.link_open_images.specs.Lemmas.Libraries.{no_sources}
 use Rattle.link_open_images.proofs.images.library_image.Goals as goal
 
 pub relocated-requires-clause-may : goal.relocated-requires-clause-may

@@ -25,7 +25,8 @@ use Rattle.scope_rule.specs.Seen.{Seen}
 use Rattle.seg_image.specs.Accepted.{symbol_size}
 use Rattle.seg_image.specs.Pages.{low_of, own_address}
 use Rattle.link_open_laws.specs.Laws.{image_made}
-use Rattle.link_open_laws.proofs.Copied.{bindings_plain, copied_bindings, first_copies}
+use Rattle.link_open_images.specs.Lemmas.Plain.{bindings_plain}
+use Rattle.link_open_laws.proofs.Copied.{copied_bindings, first_copies}
 use Rattle.link_open_laws.proofs.Uncopied.{uncopied_made}
 use Rattle.link_open_laws.proofs.law.copies_are_seen.Goals as goal
 

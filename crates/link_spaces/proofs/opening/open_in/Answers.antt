@@ -29,6 +29,6 @@ returns-in-Some-clause-ok c =
 pub returns-in_ok-push-in-None-clause-ok : goal.returns-in_ok-push-in-None-clause-ok
 returns-in_ok-push-in-None-clause-ok c =
     let change : Namespace → Namespace = λ ns. opened ns c.args.added c.args.root c.args.is_global in
-    let new : c.in_ok-namespace-in-None.namespace ≡ change (empty_namespace c.args.id) = c.in_ok-namespace-in-None.ensures ∙ ap change c.empty.ensures in
+    let new : c.in_ok-namespace-in-None.namespace ≡ change (empty_namespace c.args.id) = c.in_ok-namespace-in-None.ensures ∙ ap change c.empty_namespace.ensures in
     c.in_ok-push-in-None.ensures.items ∙ ap (λ (ns : Namespace). c.args.namespaces.now.items ++ ns ∷ []) new
     ∙ found_none c.args.id change c.args.namespaces.now.items (ap (find (has_id c.args.id)) (sym c.as_slice.ensures.value) ∙ c.in-None.ensures.none)

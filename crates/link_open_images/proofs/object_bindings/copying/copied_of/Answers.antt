@@ -11,7 +11,7 @@ use Rattle.seg_image.specs.declared.image.Image.{Image}
 use Rattle.link_images.specs.ImageReads.Reads.{bytes_within}
 use Rattle.link_open_images.specs.ObjectBindings.Bindings.{AreMade, IsMade, copies_from, plain_byte}
 use Rattle.link_open_images.proofs.ObjectBindings.Lists.{if_ok}
-use Rattle.link_open_images.proofs.ObjectBindings.Plain.{plain_bytes, plain_image}
+use Rattle.link_open_images.specs.Lemmas.Plain.{plain_bytes, plain_image}
 use Rattle.link_open_images.proofs.object_bindings.copying.copied_of.Goals as goal
 
 pub bytes_of-requires-clause-accepted : goal.bytes_of-requires-clause-accepted

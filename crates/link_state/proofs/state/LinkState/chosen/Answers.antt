@@ -23,7 +23,7 @@ slot_choice-requires c =
 
 pub invariant_of-self : goal.invariant_of-self
 invariant_of-self c =
-    subst (λ (nss : List Namespace). HoldsAll (after c.self.inside.journal.events) c.self.inside.journal.harts (record (lists_of c.self.inside) { namespaces = nss })) (sym c.slot_choice.ensures.same) c.self.invariant
+    subst (λ (nss : List Namespace). HoldsAll (after c.self.inside.journal.events) (record (lists_of c.self.inside) { namespaces = nss })) (sym c.slot_choice.ensures.same) c.self.invariant
 
 if_ok : {A E : Type 0} (r : Result A E) (P Q : A → Type 0) → ((x : A) → P x → Q x) → IfOk r P → IfOk r Q
 if_ok (Ok x) P Q f h = f x h

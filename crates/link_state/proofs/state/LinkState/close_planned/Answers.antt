@@ -39,13 +39,13 @@ invariant_of-self-2 c =
     c.wait.ensures ∙ ap (λ (ps : List PendingClosing). ps ++ option_to_list c.args.plan.pending) c.room_for_closing.ensures.closings in
     let state : after c.push.new.self.events ≡ step (after c.self.inside.journal.events) e =
     c.push.ensures.state ∙ ap (step (after c.room_for_closing.new.journal.events)) c.closing_event.ensures ∙ ap (λ (es : List Event). step (after es) e) c.room_for_closing.ensures.events in
-    holds_after (step (after c.self.inside.journal.events) e) (after c.push.new.self.events) c.self.inside.journal.harts c.push.new.self.harts
-    (record (lists_of c.self.inside) { namespaces = c.close.new.self; closings = c.wait.new.closings }) state (c.push.ensures.harts ∙ c.room_for_closing.ensures.harts)
-    (all_closed (after c.self.inside.journal.events) c.self.inside.journal.harts c.args.hart c.args.handle c.args.plan.list (lists_of c.self.inside) c.close.new.self c.wait.new.closings
+    holds_after (step (after c.self.inside.journal.events) e) (after c.push.new.self.events)
+    (record (lists_of c.self.inside) { namespaces = c.close.new.self; closings = c.wait.new.closings }) state
+    (all_closed (after c.self.inside.journal.events) c.args.hart c.args.handle c.args.plan.list (lists_of c.self.inside) c.close.new.self c.wait.new.closings
     c.args.plan.pending c.self.invariant follow spaces pushed plan.waits plan.roomy)
 
 pub invariant_of-self : goal.invariant_of-self
 invariant_of-self c =
-    holds_after (after c.self.inside.journal.events) (after c.room_for_closing.new.journal.events) c.self.inside.journal.harts c.room_for_closing.new.journal.harts
-    (record (lists_of c.self.inside) { closings = c.room_for_closing.new.closings }) (ap after c.room_for_closing.ensures.events) c.room_for_closing.ensures.harts
-    (all_with_room (after c.self.inside.journal.events) c.self.inside.journal.harts (lists_of c.self.inside) c.room_for_closing.new.closings c.self.invariant c.room_for_closing.ensures.closings)
+    holds_after (after c.self.inside.journal.events) (after c.room_for_closing.new.journal.events)
+    (record (lists_of c.self.inside) { closings = c.room_for_closing.new.closings }) (ap after c.room_for_closing.ensures.events)
+    (all_with_room (after c.self.inside.journal.events) (lists_of c.self.inside) c.room_for_closing.new.closings c.self.invariant c.room_for_closing.ensures.closings)

@@ -7,6 +7,6 @@ use Rattle.link_state.proofs.state.LinkState.finalised.Goals as goal
 
 pub invariant_of-self : goal.invariant_of-self
 invariant_of-self c =
-    holds_after (finalise c.args.serial (after c.self.inside.journal.events)) (after c.push_owed.new.self.events) c.self.inside.journal.harts c.push_owed.new.self.harts
-    (record (lists_of c.self.inside) { unfinished = c.remove.new.self }) c.push_owed.ensures.state c.push_owed.ensures.harts
-    (all_finalised (after c.self.inside.journal.events) c.self.inside.journal.harts c.args.serial (lists_of c.self.inside) c.remove.new.self c.self.invariant c.remove.ensures.serials c.remove.ensures.room)
+    holds_after (finalise c.args.serial (after c.self.inside.journal.events)) (after c.push_owed.new.self.events)
+    (record (lists_of c.self.inside) { unfinished = c.remove.new.self }) c.push_owed.ensures.state
+    (all_finalised (after c.self.inside.journal.events) c.args.serial (lists_of c.self.inside) c.remove.new.self c.self.invariant c.remove.ensures.serials c.remove.ensures.room)

@@ -8,6 +8,7 @@ use Rattle.history_event.specs.declared.event.Range.{Range}
 use Rattle.history_event.specs.declared.event.SymAnswer.TheVariants.{Found}
 use Rattle.history_state.specs.After.{after}
 use Rattle.history_state.specs.Legal.{Lawful}
+use Rattle.history_state.specs.Lemmas.History.{after_push}
 use Rattle.history_state.specs.Lookup.{MayAnswer, MayHaveBlock}
 use Rattle.history_state.specs.Step.{add_block, step}
 use Rattle.history_state.specs.Storage.{module_of}
@@ -31,62 +32,61 @@ returns-in-Err-clause-refused c =
     subst (λ (f : SymFault). IsSymFault (after c.args.self.now.events) c.args.hart c.args.ask f) (sym c.sym_fault.ensures)
     (no_block_there (after c.args.self.now.events) c.args.hart c.args.ask c.args.serial c.args.index c.args.offset c.in-Err.fault c.requires.finds some c.requires.none c.in-Err.ensures.err)
 
-pub put_block-requires-clause-free : goal.put_block-requires-clause-free
-put_block-requires-clause-free c =
-    free_there (after c.args.self.now.events) c.args.serial c.in-Ok.block c.room_for_block.new.reserved.ranges c.in-Ok.ensures.ok
-    (c.room_for_block.ensures.ranges ∙ c.self.invariant.memory.ranges ∙ ap (λ (v : LinkTable). (after v.events).ranges) c.self.view_is)
+pub store_block-requires-clause-free : goal.store_block-requires-clause-free
+store_block-requires-clause-free c =
+    free_there (after c.args.self.now.events) c.args.serial c.in-Ok.block c.self.inside.reserved.ranges c.in-Ok.ensures.ok
+    (c.self.invariant.memory.ranges ∙ ap (λ (v : LinkTable). (after v.events).ranges) c.self.view_is)
+
+pub store_block-requires-clause-may : goal.store_block-requires-clause-may
+store_block-requires-clause-may c =
+    let lawful : Lawful (machine_of c.args.self.now.harts) c.args.self.now.events = subst (λ (v : LinkTable). Lawful (machine_of v.harts) v.events) c.self.view_is c.journal.ensures.lawful in
+    let only = c.accepted_object.ensures.machine (machine_of c.args.self.now.harts) refl in
+    let some : IsSome (module_of (after c.args.self.now.events) c.args.serial) =
+    stored c.symbols_are_stored.ensures c.args.self.now.harts only c.args.self.now.events lawful c.args.ask c.args.serial c.args.index c.args.offset c.requires.finds in
+    let address : ℕ = c.in-Ok.block.address in
+    let e : Event = Tls c.args.hart c.args.serial address in
+    let may : MayHaveBlock (after c.args.self.now.events) c.args.hart c.args.serial address =
+    may_have (after c.args.self.now.events) c.args.hart c.args.serial c.in-Ok.block c.in-Ok.ensures.ok some c.requires.none in
+    subst (λ (v : LinkTable). MayFollow v.harts v.events e) (sym c.self.view_is) (follows c.args.self.now.harts c.args.self.now.events e may)
 
 pub push-requires-clause-may : goal.push-requires-clause-may
 push-requires-clause-may c =
     let lawful : Lawful (machine_of c.args.self.now.harts) c.args.self.now.events = subst (λ (v : LinkTable). Lawful (machine_of v.harts) v.events) c.self.view_is c.journal.ensures.lawful in
+    let only = c.accepted_object.ensures.machine (machine_of c.args.self.now.harts) refl in
     let some : IsSome (module_of (after c.args.self.now.events) c.args.serial) =
-    stored c.symbols_are_stored.ensures c.args.self.now.harts (c.accepted_object.ensures.machine (machine_of c.args.self.now.harts) refl) c.args.self.now.events lawful c.args.ask c.args.serial c.args.index
-    c.args.offset c.requires.finds in
-    let e : Event = Tls c.args.hart c.args.serial c.in-Ok.block.address in
-    let may : MayHaveBlock (after c.args.self.now.events) c.args.hart c.args.serial c.in-Ok.block.address =
-    may_have (after c.args.self.now.events) c.args.hart c.args.serial c.in-Ok.block c.in-Ok.ensures.ok some c.requires.none in
-    subst (λ (es : List Event). MayFollow c.room_for_block.new.journal.harts es e) (sym (c.room_for_block.ensures.events ∙ ap (λ (v : LinkTable). v.events) c.self.view_is))
-    (follows c.room_for_block.new.journal.harts c.args.self.now.events e may)
-
-pub push-requires-2-clause-may : goal.push-requires-2-clause-may
-push-requires-2-clause-may c =
-    let lawful : Lawful (machine_of c.args.self.now.harts) c.args.self.now.events = subst (λ (v : LinkTable). Lawful (machine_of v.harts) v.events) c.self.view_is c.journal.ensures.lawful in
-    let some : IsSome (module_of (after c.args.self.now.events) c.args.serial) =
-    stored c.symbols_are_stored.ensures c.args.self.now.harts (c.accepted_object.ensures.machine (machine_of c.args.self.now.harts) refl) c.args.self.now.events lawful c.args.ask c.args.serial c.args.index
-    c.args.offset c.requires.finds in
+    stored c.symbols_are_stored.ensures c.args.self.now.harts only c.args.self.now.events lawful c.args.ask c.args.serial c.args.index c.args.offset c.requires.finds in
     let address : ℕ = c.in-Ok.block.address in
     let e : Event = Tls c.args.hart c.args.serial address in
-    let value : ℕ = (address + c.args.offset) % 2 ^ 64 in
-    let f : Event = Sym c.args.hart c.args.ask (Found c.args.serial c.args.index value) in
-    let past : c.room_for_block.new.journal.events ≡ c.args.self.now.events = c.room_for_block.ensures.events ∙ ap (λ (v : LinkTable). v.events) c.self.view_is in
     let may : MayHaveBlock (after c.args.self.now.events) c.args.hart c.args.serial address =
     may_have (after c.args.self.now.events) c.args.hart c.args.serial c.in-Ok.block c.in-Ok.ensures.ok some c.requires.none in
-    let then : MayAnswer (after c.push.new.self.events) c.args.hart c.args.ask (Found c.args.serial c.args.index value) =
-    once_had c.harts_have_new_blocks.ensures c.args.self.now.events c.push.new.self.events c.args.hart c.args.ask c.args.serial c.args.index c.args.offset address value c.requires.finds may
-    (c.push.ensures.events ∙ ap (λ (es : List Event). es ++ e ∷ []) past) (c.push.ensures.state ∙ ap (λ (es : List Event). add_block c.args.hart c.args.serial address (after es)) past) refl in
-    subst (λ (x : Event). MayFollow c.push.new.self.harts c.push.new.self.events x) (sym c.found_event.ensures) (follows c.push.new.self.harts c.push.new.self.events f then)
+    let value : ℕ = (address + c.args.offset) % 2 ^ 64 in
+    let first : c.store_block.new.journal.events ≡ c.args.self.now.events ++ e ∷ [] = c.in_ok-store_block.ensures.events ∙ ap (λ (v : LinkTable). v.events ++ e ∷ []) c.self.view_is in
+    let then : MayAnswer (after c.store_block.new.journal.events) c.args.hart c.args.ask (Found c.args.serial c.args.index value) =
+    once_had c.harts_have_new_blocks.ensures c.args.self.now.events c.store_block.new.journal.events c.args.hart c.args.ask c.args.serial c.args.index c.args.offset address value c.requires.finds may
+    first (ap after first ∙ after_push c.args.self.now.events e) refl in
+    subst (λ (x : Event). MayFollow c.store_block.new.journal.harts c.store_block.new.journal.events x) (sym c.found_event.ensures)
+    (follows c.store_block.new.journal.harts c.store_block.new.journal.events (Sym c.args.hart c.args.ask (Found c.args.serial c.args.index value)) then)
 
 pub invariant_of-self : goal.invariant_of-self
 invariant_of-self c =
-    holds_after (after c.self.inside.journal.events) (after c.room_for_block.new.journal.events) c.self.inside.journal.harts c.room_for_block.new.journal.harts
-    (record (lists_of c.self.inside) { reserved = c.room_for_block.new.reserved; blocks = c.room_for_block.new.blocks; closings = c.room_for_block.new.closings }) (ap after c.room_for_block.ensures.events) c.room_for_block.ensures.harts
-    (all_roomier_closings (after c.self.inside.journal.events) c.self.inside.journal.harts (lists_of c.self.inside) c.room_for_block.new.reserved c.room_for_block.new.blocks c.room_for_block.new.closings c.self.invariant
-    c.room_for_block.ensures.ranges c.room_for_block.ensures.blocks c.room_for_block.ensures.closings)
+    holds_after (after c.self.inside.journal.events) (after c.store_block.new.journal.events)
+    (record (lists_of c.self.inside) { reserved = c.store_block.new.reserved; blocks = c.store_block.new.blocks; closings = c.store_block.new.closings }) (ap after c.in_err-store_block.ensures.no_event)
+    (all_roomier_closings (after c.self.inside.journal.events) (lists_of c.self.inside) c.store_block.new.reserved c.store_block.new.blocks c.store_block.new.closings c.self.invariant
+    c.in_err-store_block.ensures.no_range c.in_err-store_block.ensures.no_block c.store_block.ensures.closings)
 
 pub invariant_of-self-2 : goal.invariant_of-self-2
 invariant_of-self-2 c =
     let plan : PlansBlock (after c.self.inside.journal.events) c.args.serial c.in-Ok.block =
     subst (λ (v : LinkTable). PlansBlock (after v.events) c.args.serial c.in-Ok.block) (sym c.self.view_is) c.in-Ok.ensures.ok in
     let r : Range = record { address = c.in-Ok.block.start; pages = c.in-Ok.block.pages; purpose = purposes.Block c.args.hart c.args.serial } in
-    let same : after c.push-2.new.self.events ≡ after c.push.new.self.events = c.push-2.ensures.state ∙ ap (λ (x : Event). step (after c.push.new.self.events) x) c.found_event.ensures in
-    holds_after (add_block c.args.hart c.args.serial c.in-Ok.block.address (after c.self.inside.journal.events)) (after c.push-2.new.self.events) c.self.inside.journal.harts c.push-2.new.self.harts
-    (record (lists_of c.self.inside) { reserved = c.put_block.new.reserved; blocks = c.put_block.new.blocks; closings = c.room_for_block.new.closings })
-    (same ∙ c.push.ensures.state ∙ ap (λ (es : List Event). add_block c.args.hart c.args.serial c.in-Ok.block.address (after es)) c.room_for_block.ensures.events)
-    (c.push-2.ensures.harts ∙ c.push.ensures.harts ∙ c.room_for_block.ensures.harts)
-    (all_blocked (after c.self.inside.journal.events) c.self.inside.journal.harts c.args.hart c.args.serial c.in-Ok.block.address r (lists_of c.self.inside) c.put_block.new.reserved c.put_block.new.blocks
-    c.room_for_block.new.closings c.self.invariant (range_is (after c.self.inside.journal.events) c.args.hart c.args.serial c.in-Ok.block plan)
-    (c.put_block.ensures.ranges ∙ ap (λ (rs : List Range). rs ++ r ∷ []) c.room_for_block.ensures.ranges)
-    (c.put_block.ensures.blocks ∙ ap (λ bs. bs ++ record { hart = c.args.hart; serial = c.args.serial; address = c.in-Ok.block.address } ∷ []) c.room_for_block.ensures.blocks) c.in_ok-room_for_block.ensures.closing_room)
+    let e : Event = Tls c.args.hart c.args.serial c.in-Ok.block.address in
+    let same : after c.push.new.self.events ≡ after c.store_block.new.journal.events = c.push.ensures.state ∙ ap (λ (x : Event). step (after c.store_block.new.journal.events) x) c.found_event.ensures in
+    holds_after (add_block c.args.hart c.args.serial c.in-Ok.block.address (after c.self.inside.journal.events)) (after c.push.new.self.events)
+    (record (lists_of c.self.inside) { reserved = c.store_block.new.reserved; blocks = c.store_block.new.blocks; closings = c.store_block.new.closings })
+    (same ∙ ap after c.in_ok-store_block.ensures.events ∙ after_push c.self.inside.journal.events e)
+    (all_blocked (after c.self.inside.journal.events) c.args.hart c.args.serial c.in-Ok.block.address r (lists_of c.self.inside) c.store_block.new.reserved c.store_block.new.blocks
+    c.store_block.new.closings c.self.invariant (range_is (after c.self.inside.journal.events) c.args.hart c.args.serial c.in-Ok.block plan)
+    c.in_ok-store_block.ensures.ranges c.in_ok-store_block.ensures.blocks c.in_ok-store_block.ensures.closing_room)
 
 pub returns-clause-ok : goal.returns-clause-ok
 returns-clause-ok c =
@@ -96,18 +96,17 @@ returns-clause-ok c =
     stored c.symbols_are_stored.ensures c.args.self.now.harts only c.args.self.now.events lawful c.args.ask c.args.serial c.args.index c.args.offset c.requires.finds in
     let address : ℕ = c.in-Ok.block.address in
     let e : Event = Tls c.args.hart c.args.serial address in
-    let value : ℕ = (address + c.args.offset) % 2 ^ 64 in
-    let past : c.room_for_block.new.journal.events ≡ c.args.self.now.events = c.room_for_block.ensures.events ∙ ap (λ (v : LinkTable). v.events) c.self.view_is in
     let may : MayHaveBlock (after c.args.self.now.events) c.args.hart c.args.serial address =
     may_have (after c.args.self.now.events) c.args.hart c.args.serial c.in-Ok.block c.in-Ok.ensures.ok some c.requires.none in
-    let first : c.push.new.self.events ≡ c.args.self.now.events ++ e ∷ [] = c.push.ensures.events ∙ ap (λ (es : List Event). es ++ e ∷ []) past in
-    let then : MayAnswer (after c.push.new.self.events) c.args.hart c.args.ask (Found c.args.serial c.args.index value) =
-    once_had c.harts_have_new_blocks.ensures c.args.self.now.events c.push.new.self.events c.args.hart c.args.ask c.args.serial c.args.index c.args.offset address value c.requires.finds may
-    first (c.push.ensures.state ∙ ap (λ (es : List Event). add_block c.args.hart c.args.serial address (after es)) past) refl in
-    let same : after c.push-2.new.self.events ≡ after c.push.new.self.events = c.push-2.ensures.state ∙ ap (λ (x : Event). step (after c.push.new.self.events) x) c.found_event.ensures in
-    found_first c.args.self.now (record { harts = c.push-2.new.self.harts; events = c.push-2.new.self.events; made = c.in-Ok.block.installs }) c.args.hart c.args.ask c.args.serial c.args.index c.args.offset
-    address value c.push.new.self.events c.requires.finds may
+    let value : ℕ = (address + c.args.offset) % 2 ^ 64 in
+    let first : c.store_block.new.journal.events ≡ c.args.self.now.events ++ e ∷ [] = c.in_ok-store_block.ensures.events ∙ ap (λ (v : LinkTable). v.events ++ e ∷ []) c.self.view_is in
+    let then : MayAnswer (after c.store_block.new.journal.events) c.args.hart c.args.ask (Found c.args.serial c.args.index value) =
+    once_had c.harts_have_new_blocks.ensures c.args.self.now.events c.store_block.new.journal.events c.args.hart c.args.ask c.args.serial c.args.index c.args.offset address value c.requires.finds may
+    first (ap after first ∙ after_push c.args.self.now.events e) refl in
+    let same : after c.push.new.self.events ≡ after c.store_block.new.journal.events = c.push.ensures.state ∙ ap (λ (x : Event). step (after c.store_block.new.journal.events) x) c.found_event.ensures in
+    found_first c.args.self.now (record { harts = c.push.new.self.harts; events = c.push.new.self.events; made = c.in-Ok.block.installs }) c.args.hart c.args.ask c.args.serial c.args.index c.args.offset
+    address value c.store_block.new.journal.events c.requires.finds may
     (subst (λ (es : List Event). MayAnswer (after es) c.args.hart c.args.ask (Found c.args.serial c.args.index value)) first then) first
-    (c.push-2.ensures.events ∙ ap (λ (x : Event). c.push.new.self.events ++ x ∷ []) c.found_event.ensures) same
-    (c.push-2.ensures.harts ∙ c.push.ensures.harts ∙ c.room_for_block.ensures.harts ∙ ap (λ (v : LinkTable). v.harts) c.self.view_is)
+    (c.push.ensures.events ∙ ap (λ (x : Event). c.store_block.new.journal.events ++ x ∷ []) c.found_event.ensures) same
+    (c.push.ensures.harts ∙ c.store_block.ensures.harts ∙ ap (λ (v : LinkTable). v.harts) c.self.view_is)
     (block_made c.new_blocks_are_installed.ensures c.args.self.now.harts only c.args.self.now.events c.args.hart c.args.serial c.in-Ok.block lawful c.requires.hart c.in-Ok.ensures.ok some c.requires.none)

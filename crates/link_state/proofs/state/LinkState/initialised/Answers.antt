@@ -1,4 +1,4 @@
-use Rattle.std.proofs.Common.{◌≡◌, ℕ, ◌+◌, ◌-◌, ◌<◌, ◌≤◌, false, [], ◌∷◌, ◌++◌, length, map, take, drop, sym, subst, arith}
+use Rattle.std.proofs.Common.{◌≡◌, ℕ, ◌+◌, ◌-◌, ◌<◌, ◌≤◌, false, [], ◌∷◌, ◌++◌, length, map, sym, subst, arith}
 use Rattle.history_event.specs.declared.event.Event.TheVariants.{Init}
 use Rattle.history_state.specs.After.{after}
 use Rattle.history_state.specs.Held.{EdgesFollow}
@@ -48,9 +48,9 @@ invariant_of-self c =
     c.make_ready.ensures in
     let follow : EdgesFollow (after c.self.inside.journal.events) (Init c.args.hart c.args.serial) =
     c.edges_follow.ensures.follow (machine_of c.self.inside.journal.harts) next.setting c.self.inside.journal.events (Init c.args.hart c.args.serial) c.journal.ensures.lawful next.may in
-    holds_after (initialise c.args.serial (after c.self.inside.journal.events)) (after c.push_owed.new.self.events) c.self.inside.journal.harts c.push_owed.new.self.harts
+    holds_after (initialise c.args.serial (after c.self.inside.journal.events)) (after c.push_owed.new.self.events)
     (record (lists_of c.self.inside) { unfinished = c.push.new.self; namespaces = c.make_ready.new.self })
-    c.push_owed.ensures.state c.push_owed.ensures.harts
-    (all_initialised (after c.self.inside.journal.events) c.self.inside.journal.harts c.args.hart c.args.serial (lists_of c.self.inside) c.push.new.self
+    c.push_owed.ensures.state
+    (all_initialised (after c.self.inside.journal.events) c.args.hart c.args.serial (lists_of c.self.inside) c.push.new.self
     c.make_ready.new.self
     c.self.invariant follow unfinished (some_left c.self.inside.journal.harts (after c.self.inside.journal.events) c.args.serial one) c.push.ensures.serials c.push.ensures.room ready)

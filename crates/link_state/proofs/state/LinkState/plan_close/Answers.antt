@@ -27,11 +27,11 @@ returns-clause-ok c =
     let order : SerialsAreInOrder (after c.self.inside.journal.events) =
     c.serials_are_in_order.ensures.order (machine_of c.self.inside.journal.harts) c.self.inside.journal.events c.journal.ensures.lawful in
     let graph : IsGraphOf (after c.self.inside.journal.events) c.as_slice-2.result.now c.as_slice.result.now c.as_slice-3.result.now =
-    graph_of (after c.self.inside.journal.events) c.self.inside.journal.harts (lists_of c.self.inside) c.as_slice-2.result.now c.as_slice.result.now c.as_slice-3.result.now c.self.invariant order
+    graph_of (after c.self.inside.journal.events) (lists_of c.self.inside) c.as_slice-2.result.now c.as_slice.result.now c.as_slice-3.result.now c.self.invariant order
     c.as_slice-2.ensures (c.as_slice.ensures.value ∙ c.in_ok-fixed.ensures) c.as_slice-3.ensures in
     let exactly : IsUnneeded (lower c.args.handle (after c.self.inside.journal.events)) (map serial_of c.in-Some.namespace.now.objects) c.in_ok-set.set =
     subst (λ h. IsUnneeded (lower h (after c.self.inside.journal.events)) (map serial_of c.in-Some.namespace.now.objects) c.in_ok-set.set) c.new.ensures
     (c.in_ok-set.ensures (after c.self.inside.journal.events) (sym are) graph) in
     subst (λ (v : LinkTable). IsPlanOf (after v.events) c.args.hart c.args.handle c.in_ok-plan.plan) c.self.view_is
-    (plan_of (after c.self.inside.journal.events) c.self.inside.journal.harts c.args.hart c.args.handle (lists_of c.self.inside) c.as_slice-namespaces.result.now c.in-Some.namespace.now c.in_ok-set.set
+    (plan_of (after c.self.inside.journal.events) c.args.hart c.args.handle (lists_of c.self.inside) c.as_slice-namespaces.result.now c.in-Some.namespace.now c.in_ok-set.set
     c.in_ok-plan.plan c.self.invariant are opened exactly c.in_ok-plan.ensures.list c.in_ok-plan.ensures.dying c.in_ok-plan.ensures.waits c.in_ok-plan.ensures.roomy)

@@ -59,16 +59,16 @@ invariant_of-self c =
     let count : c.open_grant.new.settling.count ≡ c.self.inside.settling.count + 1 = c.open_grant.ensures.count ∙ ap (λ n. n + 1) c.room_for_grant.ensures.count in
     let state : after c.push.new.self.events ≡ step (after c.self.inside.journal.events) e =
     c.push.ensures.state ∙ ap (step (after c.room_for_grant.new.journal.events)) c.grant_event.ensures ∙ ap (λ (es : List Event). step (after es) e) c.room_for_grant.ensures.events in
-    holds_after (step (after c.self.inside.journal.events) e) (after c.push.new.self.events) c.self.inside.journal.harts c.push.new.self.harts
-    (record (lists_of c.self.inside) { settling = c.open_grant.new.settling; edges = c.room_for_grant.new.edges }) state (c.push.ensures.harts ∙ c.room_for_grant.ensures.harts)
-    (all_granted (after c.self.inside.journal.events) c.self.inside.journal.harts c.in-Some.number c.args.hart c.args.owner c.args.chosen.now.slot c.args.chosen.now.choice c.args.chosen.now.value
+    holds_after (step (after c.self.inside.journal.events) e) (after c.push.new.self.events)
+    (record (lists_of c.self.inside) { settling = c.open_grant.new.settling; edges = c.room_for_grant.new.edges }) state
+    (all_granted (after c.self.inside.journal.events) c.in-Some.number c.args.hart c.args.owner c.args.chosen.now.slot c.args.chosen.now.choice c.args.chosen.now.value
     (lists_of c.self.inside) c.open_grant.new.settling c.room_for_grant.new.edges c.self.invariant follow c.in-Some.ensures.number grants count c.room_for_grant.ensures.edges c.in-Ok.ensures.more)
 
 pub invariant_of-self-in-Err : goal.invariant_of-self-in-Err
 invariant_of-self-in-Err c =
-    holds_after (after c.self.inside.journal.events) (after c.room_for_grant.new.journal.events) c.self.inside.journal.harts c.room_for_grant.new.journal.harts
-    (record (lists_of c.self.inside) { settling = c.room_for_grant.new.settling; edges = c.room_for_grant.new.edges }) (ap after c.room_for_grant.ensures.events) c.room_for_grant.ensures.harts
-    (all_roomier (after c.self.inside.journal.events) c.self.inside.journal.harts (lists_of c.self.inside) c.room_for_grant.new.settling c.room_for_grant.new.edges c.self.invariant c.room_for_grant.ensures.grants
+    holds_after (after c.self.inside.journal.events) (after c.room_for_grant.new.journal.events)
+    (record (lists_of c.self.inside) { settling = c.room_for_grant.new.settling; edges = c.room_for_grant.new.edges }) (ap after c.room_for_grant.ensures.events)
+    (all_roomier (after c.self.inside.journal.events) (lists_of c.self.inside) c.room_for_grant.new.settling c.room_for_grant.new.edges c.self.invariant c.room_for_grant.ensures.grants
     c.room_for_grant.ensures.count c.room_for_grant.ensures.edges c.room_for_grant.ensures.edge_room)
 
 pub returns-in-Ok-clause-ok : goal.returns-in-Ok-clause-ok

@@ -25,8 +25,8 @@ invariant_of-self c =
     let follow : EdgesFollow (after c.self.inside.journal.events) (settled c.args.grant c.args.won c.args.saw) =
     c.edges_follow.ensures.follow (machine_of c.self.inside.journal.harts) next.setting c.self.inside.journal.events (settled c.args.grant c.args.won c.args.saw) c.journal.ensures.lawful next.may in
     let tidy : GrantsAreTidy (after c.self.inside.journal.events) = c.grants_are_tidy.ensures (machine_of c.self.inside.journal.harts) c.self.inside.journal.events c.journal.ensures.lawful in
-    holds_after (step (after c.self.inside.journal.events) (settled c.args.grant c.args.won c.args.saw)) (after c.push_owed.new.self.events) c.self.inside.journal.harts c.push_owed.new.self.harts
+    holds_after (step (after c.self.inside.journal.events) (settled c.args.grant c.args.won c.args.saw)) (after c.push_owed.new.self.events)
     (record (lists_of c.self.inside) { settling = c.settle-granting.new.self; edges = c.hold.new.edges })
-    (c.push_owed.ensures.state ∙ ap (step (after c.self.inside.journal.events)) c.settled_event.ensures) c.push_owed.ensures.harts
-    (all_settled (after c.self.inside.journal.events) c.self.inside.journal.harts c.args.grant c.args.won c.args.saw (lists_of c.self.inside) c.settle-granting.new.self c.hold.new.edges c.settle-granting.result
+    (c.push_owed.ensures.state ∙ ap (step (after c.self.inside.journal.events)) c.settled_event.ensures)
+    (all_settled (after c.self.inside.journal.events) c.args.grant c.args.won c.args.saw (lists_of c.self.inside) c.settle-granting.new.self c.hold.new.edges c.settle-granting.result
     c.self.invariant follow tidy c.settle-granting.ensures.grants c.settle-granting.ensures.count c.settle-granting.ensures.grant c.hold.ensures.edges c.hold.ensures.room)

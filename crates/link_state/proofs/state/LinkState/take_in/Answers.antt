@@ -1,5 +1,4 @@
-use Rattle.std.proofs.Common.{◌≡◌, ℕ, ◌+◌, ◌^◌, ◌<◌, ◌≤◌, Bool, List, [], ◌∷◌, ◌++◌, length, map, sym, ap, subst, ◌∙◌, arith}
-use Rattle.std.specs.List.{Contains, flat_map}
+use Rattle.std.proofs.Common.{◌≡◌, ◌+◌, ◌^◌, ◌<◌, ◌≤◌, Bool, List, ◌++◌, length, map, sym, ap, subst, ◌∙◌, arith}
 use Rattle.link_images.specs.Parts.{part_of}
 use Rattle.link_images.specs.declared.parts.Part.{Part}
 use Rattle.history_journal.specs.Following.{MayFollow, machine_of}
@@ -14,7 +13,6 @@ use Rattle.history_state.specs.Flags.{is_global}
 use Rattle.history_state.specs.Held.{EdgesFollow, gained}
 use Rattle.history_state.specs.State.{State}
 use Rattle.history_state.specs.Step.{open_done, step, with_namespace}
-use Rattle.history_calls.specs.Served.{slots_of}
 use Rattle.link_open_laws.specs.Laws.{image_made}
 use Rattle.link_spaces.specs.ReservedPagesPart.Laid.{AreLaid}
 use Rattle.scope_rule.specs.Opening.{opened}
@@ -29,7 +27,7 @@ use Rattle.link_state.proofs.state.LinkState.take_in.Goals as goal
 
 pub invariant_of-self : goal.invariant_of-self
 invariant_of-self c =
-    holds_after (after c.self.inside.journal.events) (after c.room_for_opening.new.journal.events) c.self.inside.journal.harts c.room_for_opening.new.journal.harts
+    holds_after (after c.self.inside.journal.events) (after c.room_for_opening.new.journal.events)
     (record (lists_of c.self.inside) {
       unfinished = c.room_for_opening.new.unfinished;
       reserved = c.room_for_opening.new.reserved;
@@ -37,8 +35,8 @@ invariant_of-self c =
       edges = c.room_for_opening.new.edges;
       loads = c.room_for_opening.new.loads;
     })
-    (ap after c.room_for_opening.ensures.events) c.room_for_opening.ensures.harts
-    (all_with_room (after c.self.inside.journal.events) c.self.inside.journal.harts (lists_of c.self.inside) c.room_for_opening.new.unfinished c.room_for_opening.new.reserved c.room_for_opening.new.parts c.room_for_opening.new.edges
+    (ap after c.room_for_opening.ensures.events)
+    (all_with_room (after c.self.inside.journal.events) (lists_of c.self.inside) c.room_for_opening.new.unfinished c.room_for_opening.new.reserved c.room_for_opening.new.parts c.room_for_opening.new.edges
     c.room_for_opening.new.loads c.self.invariant c.room_for_opening.ensures.serials c.room_for_opening.ensures.unfinished_room c.room_for_opening.ensures.ranges c.room_for_opening.ensures.parts c.room_for_opening.ensures.edges
     c.room_for_opening.ensures.edge_room c.room_for_opening.ensures.binds c.room_for_opening.ensures.next c.room_for_opening.ensures.startup c.room_for_opening.ensures.pinned)
 
@@ -52,10 +50,10 @@ invariant_of-self-in_err-open_in c =
       edges = c.room_for_opening.new.edges;
       loads = c.room_for_opening.new.loads;
     } in
-    holds_after (after c.self.inside.journal.events) (after c.room_for_opening.new.journal.events) c.self.inside.journal.harts c.room_for_opening.new.journal.harts (with_spaces c.open_in.new.self)
-    (ap after c.room_for_opening.ensures.events) c.room_for_opening.ensures.harts
-    (subst (λ (all : List Namespace). HoldsAll (after c.self.inside.journal.events) c.self.inside.journal.harts (with_spaces all)) (sym c.in_err-open_in.ensures.err)
-    (all_with_room (after c.self.inside.journal.events) c.self.inside.journal.harts (lists_of c.self.inside) c.room_for_opening.new.unfinished c.room_for_opening.new.reserved c.room_for_opening.new.parts c.room_for_opening.new.edges
+    holds_after (after c.self.inside.journal.events) (after c.room_for_opening.new.journal.events) (with_spaces c.open_in.new.self)
+    (ap after c.room_for_opening.ensures.events)
+    (subst (λ (all : List Namespace). HoldsAll (after c.self.inside.journal.events) (with_spaces all)) (sym c.in_err-open_in.ensures.err)
+    (all_with_room (after c.self.inside.journal.events) (lists_of c.self.inside) c.room_for_opening.new.unfinished c.room_for_opening.new.reserved c.room_for_opening.new.parts c.room_for_opening.new.edges
     c.room_for_opening.new.loads c.self.invariant c.room_for_opening.ensures.serials c.room_for_opening.ensures.unfinished_room c.room_for_opening.ensures.ranges c.room_for_opening.ensures.parts c.room_for_opening.ensures.edges
     c.room_for_opening.ensures.edge_room c.room_for_opening.ensures.binds c.room_for_opening.ensures.next c.room_for_opening.ensures.startup c.room_for_opening.ensures.pinned))
 
@@ -96,7 +94,7 @@ invariant_of-self-2 c =
     omega (arith, c.in_ok-room_for_opening.ensures.more_edges, c.hold_all.ensures.room, c.counts_of-counts.ensures.edges, ap length c.as_slice-2.ensures.value) in
     let state : after c.push.new.self.events ≡ step (after c.self.inside.journal.events) (Open c.args.hart c.args.ask (Done c.args.ns c.args.root c.args.added c.args.ranges)) =
     c.push.ensures.state ∙ ap (step (after c.room_for_opening.new.journal.events)) c.opened_event.ensures ∙ ap (λ (es : List Event). step (after es) e) c.room_for_opening.ensures.events in
-    holds_after (open_done s c.args.hart c.args.ask c.args.ns c.args.root c.args.added c.args.ranges) (after c.push.new.self.events) c.self.inside.journal.harts c.push.new.self.harts
+    holds_after (open_done s c.args.hart c.args.ask c.args.ns c.args.root c.args.added c.args.ranges) (after c.push.new.self.events)
     (record (lists_of c.self.inside) {
       unfinished = c.room_for_opening.new.unfinished;
       namespaces = c.open_in.new.self;
@@ -106,8 +104,8 @@ invariant_of-self-2 c =
       edges = c.hold_all.new.held;
       loads = c.note.new.self;
     })
-    state (c.push.ensures.harts ∙ c.room_for_opening.ensures.harts)
-    (all_opened s c.self.inside.journal.harts c.args.hart c.args.ns c.args.root c.args.ask c.args.added c.args.ranges (lists_of c.self.inside) c.room_for_opening.new.unfinished c.open_in.new.self
+    state
+    (all_opened s c.args.hart c.args.ns c.args.root c.args.ask c.args.added c.args.ranges (lists_of c.self.inside) c.room_for_opening.new.unfinished c.open_in.new.self
     c.reserve_all.new.reserved c.args.brings.modules c.keep_all.new.kept c.hold_all.new.held c.note.new.self c.self.invariant (omega (arith, few)) follow
     (c.closings_take_as_much.ensures c.self.inside.journal.harts c.self.inside.journal.events c.args.hart c.args.ns c.args.root c.args.ask c.args.added c.args.ranges c.journal.ensures.lawful next)
     c.room_for_opening.ensures.serials room spaces ranges is.modules is.statics is.generation parts edges more

@@ -10,5 +10,5 @@ use Rattle.link_state.proofs.state.LinkState.told.Goals as goal
 pub push-requires-clause-may : goal.push-requires-clause-may
 push-requires-clause-may c =
     let is : c.in_ok-fault.fault ≡ kept_for (after c.make_room.new.self.events) c.args.hart =
-    c.in_ok-fault.ensures ∙ ap (fault_of c.args.hart) c.self.invariant.of_harts.faults ∙ sym (ap (λ (es : List Event). kept_for (after es) c.args.hart) c.make_room.ensures.events) in
+    c.in_ok-fault.ensures ∙ ap (fault_of c.args.hart) c.self.invariant.faults ∙ sym (ap (λ (es : List Event). kept_for (after es) c.args.hart) c.make_room.ensures.events) in
     follows c.make_room.new.self.harts c.make_room.new.self.events (Told c.args.hart c.in_ok-fault.fault) is

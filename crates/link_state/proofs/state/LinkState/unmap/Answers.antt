@@ -26,7 +26,7 @@ pub unreachable-requires : goal.unreachable-requires
 unreachable-requires c =
     let finished : HasFinished (after c.self.inside.journal.events) c.args.hart c.args.dying.now.list =
     subst (λ (v : LinkTable). HasFinished (after v.events) c.args.hart c.args.dying.now.list) (sym c.self.view_is) c.requires.finished in
-    let p = waiting (after c.self.inside.journal.events) c.self.inside.journal.harts c.args.hart c.args.dying.now.list (lists_of c.self.inside) c.self.invariant finished in
+    let p = waiting (after c.self.inside.journal.events) c.args.hart c.args.dying.now.list (lists_of c.self.inside) c.self.invariant finished in
     c.in_default.not-Some p.0 (c.take.ensures.taken ∙ ap (λ (ds : List ℕ). find (is_of c.args.hart ds) c.self.inside.closings.closings) c.as_slice.ensures ∙ p.1)
 
 pub take_out-requires : goal.take_out-requires
@@ -34,7 +34,7 @@ take_out-requires c =
     let found : find (is_of c.args.hart c.args.dying.now.list) c.self.inside.closings.closings ≡ Some c.in-Some.pending =
     sym (c.in-Some.ensures.taken ∙ ap (λ (ds : List ℕ). find (is_of c.args.hart ds) c.self.inside.closings.closings) c.as_slice.ensures) in
     let is : IsTaken (after c.self.inside.journal.events) c.args.dying.now.list c.in-Some.pending =
-    taken (after c.self.inside.journal.events) c.self.inside.journal.harts c.args.hart c.args.dying.now.list (lists_of c.self.inside) c.in-Some.pending c.self.invariant found in
+    taken (after c.self.inside.journal.events) c.args.hart c.args.dying.now.list (lists_of c.self.inside) c.in-Some.pending c.self.invariant found in
     let fit : count_by (goes c.as_slice-2.result.now) (flat_map (λ (ns : Namespace). ns.objects) c.self.inside.namespaces) ≤ c.in-Some.pending.objects =
     objects_fit (after c.self.inside.journal.events) c.as_slice-2.result.now c.self.inside.namespaces c.in-Some.pending c.self.invariant.running.spaces
     (sym (c.as_slice-2.ensures ∙ c.into_lists-set.ensures.set)) is.roomy in
@@ -46,7 +46,7 @@ remove-requires c =
     let found : find (is_of c.args.hart c.args.dying.now.list) c.self.inside.closings.closings ≡ Some c.in-Some.pending =
     sym (c.in-Some.ensures.taken ∙ ap (λ (ds : List ℕ). find (is_of c.args.hart ds) c.self.inside.closings.closings) c.as_slice.ensures) in
     let is : IsTaken (after c.self.inside.journal.events) c.args.dying.now.list c.in-Some.pending =
-    taken (after c.self.inside.journal.events) c.self.inside.journal.harts c.args.hart c.args.dying.now.list (lists_of c.self.inside) c.in-Some.pending c.self.invariant found in
+    taken (after c.self.inside.journal.events) c.args.hart c.args.dying.now.list (lists_of c.self.inside) c.in-Some.pending c.self.invariant found in
     let fit : count_by (goes_with c.as_slice-3.result.now) c.self.inside.reserved.ranges ≤ c.in-Some.pending.ranges =
     ranges_fit (after c.self.inside.journal.events) c.as_slice-3.result.now c.self.inside.reserved.ranges c.in-Some.pending c.self.invariant.memory.ranges
     (sym (c.as_slice-3.ensures ∙ c.into_lists-set.ensures.set)) is.roomy in
@@ -58,7 +58,7 @@ push_owed-requires-clause-may c =
     let found : find (is_of c.args.hart c.args.dying.now.list) c.self.inside.closings.closings ≡ Some c.in-Some.pending =
     sym (c.in-Some.ensures.taken ∙ ap (λ (ds : List ℕ). find (is_of c.args.hart ds) c.self.inside.closings.closings) c.as_slice.ensures) in
     let is : IsTaken (after c.self.inside.journal.events) c.args.dying.now.list c.in-Some.pending =
-    taken (after c.self.inside.journal.events) c.self.inside.journal.harts c.args.hart c.args.dying.now.list (lists_of c.self.inside) c.in-Some.pending c.self.invariant found in
+    taken (after c.self.inside.journal.events) c.args.hart c.args.dying.now.list (lists_of c.self.inside) c.in-Some.pending c.self.invariant found in
     let may : MayUnmap (after c.self.inside.journal.events) c.args.hart c.args.dying.now.list =
     subst (λ (v : LinkTable). MayUnmap (after v.events) c.args.hart c.args.dying.now.list) (sym c.self.view_is) (may_unmap (after c.args.self.now.events) c.args.hart c.args.dying.now.list c.requires.finished c.requires.free) in
     subst (λ (ds : List ℕ). MayFollow c.self.inside.journal.harts c.self.inside.journal.events (Unmapped c.args.hart ds)) (sym (c.into_lists-set.ensures.set ∙ is.of))
@@ -69,7 +69,7 @@ invariant_of-self c =
     let found : find (is_of c.args.hart c.args.dying.now.list) c.self.inside.closings.closings ≡ Some c.in-Some.pending =
     sym (c.in-Some.ensures.taken ∙ ap (λ (ds : List ℕ). find (is_of c.args.hart ds) c.self.inside.closings.closings) c.as_slice.ensures) in
     let is : IsTaken (after c.self.inside.journal.events) c.args.dying.now.list c.in-Some.pending =
-    taken (after c.self.inside.journal.events) c.self.inside.journal.harts c.args.hart c.args.dying.now.list (lists_of c.self.inside) c.in-Some.pending c.self.invariant found in
+    taken (after c.self.inside.journal.events) c.args.hart c.args.dying.now.list (lists_of c.self.inside) c.in-Some.pending c.self.invariant found in
     let of : c.into_lists-set.result.0 ≡ c.args.dying.now.list = c.into_lists-set.ensures.set ∙ is.of in
     let may : MayUnmap (after c.self.inside.journal.events) c.args.hart c.into_lists-set.result.0 =
     subst (MayUnmap (after c.self.inside.journal.events) c.args.hart) (sym of)
@@ -92,7 +92,7 @@ invariant_of-self c =
       room = c.remove-4.ensures.room;
       waiting = c.take.ensures.closings ∙ ap (λ (ds : List ℕ). filter (λ p. not (is_of c.args.hart ds p)) c.self.inside.closings.closings) (c.as_slice.ensures ∙ sym of);
     } in
-    holds_after (unmap c.args.hart c.into_lists-set.result.0 (after c.self.inside.journal.events)) (after c.push_owed.new.self.events) c.self.inside.journal.harts c.push_owed.new.self.harts
+    holds_after (unmap c.args.hart c.into_lists-set.result.0 (after c.self.inside.journal.events)) (after c.push_owed.new.self.events)
     (record (lists_of c.self.inside) {
       namespaces = c.take_out.new.self;
       reserved = c.remove.new.self;
@@ -101,8 +101,8 @@ invariant_of-self c =
       parts = c.remove-3.new.self;
       edges = c.remove-4.new.self;
       closings = c.take.new.self;
-    }) c.push_owed.ensures.state c.push_owed.ensures.harts
-    (all_unmapped (after c.self.inside.journal.events) c.self.inside.journal.harts c.args.hart c.into_lists-set.result.0 (lists_of c.self.inside) c.take_out.new.self c.remove.new.self
+    }) c.push_owed.ensures.state
+    (all_unmapped (after c.self.inside.journal.events) c.args.hart c.into_lists-set.result.0 (lists_of c.self.inside) c.take_out.new.self c.remove.new.self
     c.remove_modules.new.modules c.remove-2.new.self c.remove-3.new.self c.remove-4.new.self c.take.new.self c.self.invariant follow (c.parts_go.ensures c.into_lists-set.result.0) out)
 
 pub returns-clause-state : goal.returns-clause-state
@@ -110,7 +110,7 @@ returns-clause-state c =
     let found : find (is_of c.args.hart c.args.dying.now.list) c.self.inside.closings.closings ≡ Some c.in-Some.pending =
     sym (c.in-Some.ensures.taken ∙ ap (λ (ds : List ℕ). find (is_of c.args.hart ds) c.self.inside.closings.closings) c.as_slice.ensures) in
     let is : IsTaken (after c.self.inside.journal.events) c.args.dying.now.list c.in-Some.pending =
-    taken (after c.self.inside.journal.events) c.self.inside.journal.harts c.args.hart c.args.dying.now.list (lists_of c.self.inside) c.in-Some.pending c.self.invariant found in
+    taken (after c.self.inside.journal.events) c.args.hart c.args.dying.now.list (lists_of c.self.inside) c.in-Some.pending c.self.invariant found in
     let events : c.push_owed.new.self.events ≡ c.args.self.now.events ++ Unmapped c.args.hart c.args.dying.now.list ∷ [] =
     c.push_owed.ensures.events ∙ ap (λ (v : LinkTable). v.events ++ Unmapped c.args.hart c.into_lists-set.result.0 ∷ []) c.self.view_is
     ∙ ap (λ (ds : List ℕ). c.args.self.now.events ++ Unmapped c.args.hart ds ∷ []) (c.into_lists-set.ensures.set ∙ is.of) in
@@ -122,7 +122,7 @@ returns-clause-removed c =
     let found : find (is_of c.args.hart c.args.dying.now.list) c.self.inside.closings.closings ≡ Some c.in-Some.pending =
     sym (c.in-Some.ensures.taken ∙ ap (λ (ds : List ℕ). find (is_of c.args.hart ds) c.self.inside.closings.closings) c.as_slice.ensures) in
     let is : IsTaken (after c.self.inside.journal.events) c.args.dying.now.list c.in-Some.pending =
-    taken (after c.self.inside.journal.events) c.self.inside.journal.harts c.args.hart c.args.dying.now.list (lists_of c.self.inside) c.in-Some.pending c.self.invariant found in
+    taken (after c.self.inside.journal.events) c.args.hart c.args.dying.now.list (lists_of c.self.inside) c.in-Some.pending c.self.invariant found in
     let of : c.into_lists-set.result.0 ≡ c.args.dying.now.list = c.into_lists-set.ensures.set ∙ is.of in
     subst (λ (v : LinkTable). IsRemoved (after v.events) c.args.dying.now.list (record { objects = c.from.result; ranges = c.from-2.result })) c.self.view_is (record {
       objects = c.from.ensures ∙ c.take_out.ensures.gone

@@ -1,7 +1,7 @@
 //! New objects, as the line of an opening has them: `S:PATH@0xBASE`, and then `/M` for a module, or
 //! `/M+0xOFFSET`. The line says no more of them, so their records are empty.
 
-use crate::parts::{name_of, number};
+use crate::event_lines::parts::{name_of, number};
 use ld_base::{
     Added, HashTable, Kind, Loaded, Name, Names, ObjFlags, Object, Places, Relocs, Segments,
     Sequence, Serial, Serials, State, Symbols, TlsPlace,

@@ -1,28 +1,11 @@
-//! The calls: `words` with a distance and an instruction, and `parse` with lines of a source, a bar
+//! Lines of sources: `words` has a distance and an instruction, and `parse` lines of a source, a bar
 //! between two of them.
 
 use asm_code::{LineWords, instruction_words};
 use asm_statement::{AsmFault, Line, Statement};
 use asm_text::parse;
 use std::alloc::Global;
-use test_file::{Calls, Fault, whole};
-
-#[derive(Drop)]
-pub struct Lines {
-    pub alloc: Global,
-}
-
-impl Calls for Lines {
-    fn answer(&mut self, line: &str) -> Result<String, Fault> {
-        match line.strip_prefix("words ") {
-            Some(rest) => words_of(self.alloc, rest),
-            None => verdict_of(
-                self.alloc,
-                line.strip_prefix("parse ").ok_or(Fault::Unclear)?,
-            ),
-        }
-    }
-}
+use test_file::{Fault, whole};
 
 /// A distance, which may have a minus sign.
 fn distance_of(text: &str) -> Result<i64, Fault> {
@@ -36,7 +19,7 @@ fn distance_of(text: &str) -> Result<i64, Fault> {
 }
 
 /// The words of an instruction whose label is so far away.
-fn words_of(alloc: Global, text: &str) -> Result<String, Fault> {
+pub fn words_of(alloc: Global, text: &str) -> Result<String, Fault> {
     let (distance, source) = text.split_once(' ').ok_or(Fault::Unclear)?;
     let distance = distance_of(distance)?;
     match parse(alloc, source.as_bytes()) {
@@ -79,7 +62,7 @@ fn source_of(alloc: Global, text: &str) -> Result<String, Fault> {
 }
 
 /// How many lines are read, or the first that is refused and its cause.
-fn verdict_of(alloc: Global, text: &str) -> Result<String, Fault> {
+pub fn verdict_of(alloc: Global, text: &str) -> Result<String, Fault> {
     let source = source_of(alloc, text)?;
     match parse(alloc, source.as_bytes()) {
         Ok(statements) => {

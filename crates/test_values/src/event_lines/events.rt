@@ -3,8 +3,8 @@
 ghost use Rattle.std.specs.Prelude.{IfOk};
 ghost use Rattle.trace_text.specs.Lines.{IsSayable};
 
-use crate::answers::{close_answer, open_answer, sym_answer};
-use crate::parts::{end, fault, number, open_ask, serials, sym_ask};
+use crate::event_lines::answers::{close_answer, open_answer, sym_answer};
+use crate::event_lines::parts::{end, fault, number, open_ask, serials, sym_ask};
 use history_event::Event;
 use ld_base::{Bytes, Choice, GrantNo, HartId, Serial};
 use std::alloc::Global;

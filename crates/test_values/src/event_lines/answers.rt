@@ -1,7 +1,7 @@
 //! What came of a call of the linker.
 
-use crate::openings::added_of;
-use crate::parts::{fault, serials};
+use crate::event_lines::openings::added_of;
+use crate::event_lines::parts::{fault, serials};
 use history_event::{CloseAnswer, OpenAnswer, Ranges, SymAnswer};
 use ld_base::{NsId, Serial};
 use std::alloc::Global;
