@@ -1,7 +1,7 @@
 #!/usr/bin/env python3
-"""Writes what GNU as makes of each instruction of RV64IMA, as lines for the program asm_lines.
+"""Writes what GNU as makes of each instruction of RV64IMA, as lines for the program test_values.
 
-    bench/asm_words.py > crates/asm_lines/data/words.txt
+    bench/asm_words.py > crates/test_values/data/words.txt
 
 It needs riscv64-linux-gnu-as and riscv64-linux-gnu-objcopy (Debian: binutils-riscv64-linux-gnu). Of a
 branch and a jump the line names a label and how far it is away; GNU as is given the distance itself.

@@ -1,11 +1,11 @@
 """Counts out which hart binds which of forty slots where three harts take a turn each, from the rules alone: how many
 instructions a call takes, and that a grant, its exchange and its end are a turn each. Run by hand; the grants of the
-example of three harts in crates/examples/data/assembled.txt are what it prints. The definitions that the slots get, and
+example of three harts in crates/test_commands/data/assembled.txt are what it prints. The definitions that the slots get, and
 their addresses, are those of the example before it."""
 import os
 import re
 
-DATA = f"{os.path.dirname(os.path.abspath(__file__))}/../crates/examples/data/assembled.txt"
+DATA = f"{os.path.dirname(os.path.abspath(__file__))}/../crates/test_commands/data/assembled.txt"
 SLOTS = 40
 # The slot of the function that counts in thread-local storage, which has eight instructions in place of two.
 COUNTER = 10

@@ -10,15 +10,15 @@ top=$(cd "$(dirname "$0")/.." && pwd)
 work=$(mktemp -d)
 trap 'rm -rf "$work"' EXIT
 
-crates='ld_base library_source acceptance elf_head dyn_table elf_dynamic elf_versions sym_hash elf_object scope_rule
-address_space link_event link_graph tls_blocks seg_image relocator link_history accepted_image'
+crates='ld_base library_source elf_head elf_dynamic elf_versions sym_hash elf_object scope_rule address_space
+history_event history_graph tls_blocks seg_image relocator history_state history_journal'
 mkdir -p "$work/crates/bench/src" "$work/crates/bench/specs"
 mkdir -p "$work/crates/bench/proofs/bindings" "$work/crates/bench/proofs/run" "$work/crates/bench/proofs/main"
 for crate in $crates; do
     cp -r "$top/crates/$crate" "$work/crates/"
     grep -E "^$crate:" "$top/crates.txt" >> "$work/crates.txt"
 done
-echo 'bench: ld_base elf_object seg_image relocator accepted_image' >> "$work/crates.txt"
+echo 'bench: ld_base elf_object seg_image relocator history_journal' >> "$work/crates.txt"
 
 cat > "$work/crates/bench/src/main.rt" <<'FILE'
 //! Makes the image of the file `object` and relocates it, so many times.
@@ -30,8 +30,8 @@ ghost use Rattle.seg_image.specs.Accepted.{Accepted};
 ghost use Rattle.seg_image.specs.Pages.{IsPlaced};
 ghost use Rattle.bench.specs.Weak.{undefined};
 
-use accepted_image::one_image;
 use elf_object::read_object;
+use history_journal::one_image;
 use ld_base::{Bytes, Choice, Object, Reloc, Serial};
 use relocator::{Binding, Bindings, TlsPlaces, relocate};
 use seg_image::{low_of, make_image, pages_of};

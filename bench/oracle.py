@@ -1,5 +1,5 @@
 """What an object is and what `ldso dump` should print of it, worked out a second time and in another
-way: plain Python, bytes counted one by one, no index and no cleverness. docs/RULES.md has the rules by
+way: plain Python, bytes counted one by one, no index and no cleverness. docs/REFUSALS.md has the rules by
 their numbers. bench/fuzz.py compares the two."""
 
 import struct

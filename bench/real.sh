@@ -2,7 +2,7 @@
 # Times SHA-256 and a sort under `ldso turns rr`, a library and a program each, against qemu-riscv64 on the
 # same code linked statically, and prints seconds and their ratio. Both have to write the same. Run by hand:
 # bench/real.sh [ROUNDS]. It needs clang, lld and qemu-riscv64 (Debian: clang, lld, qemu-user), and ldso
-# built (rt build in crates/ldso, or PROGRAM names another).
+# built (rt run in crates/ldso, or PROGRAM names another).
 set -eu
 top=$(cd "$(dirname "$0")/.." && pwd)
 program=${PROGRAM:-$top/crates/ldso/out/ldso}

@@ -16,7 +16,7 @@ work=$(cd "$2" && pwd)
 millions=${3:-20}
 top=$(cd "$(dirname "$0")/.." && pwd)
 
-below='ld_base rv_isa rv_hart link_event guest_rule word_steps word_access word_keeping word_memory word_seats'
+below='ld_base rv_isa rv_hart history_event word_rule word_steps word_access word_memory'
 mkdir -p "$work/repo/crates/bench/src" "$work/repo/crates/bench/proofs/put_data"
 cp "$top/HANDLES" "$work/repo/"
 for crate in $below; do
@@ -36,13 +36,16 @@ done
     echo "bench: $below"
 } > "$work/repo/crates.txt"
 
-# The functions that set words, with their proofs, are those of word_tests.
-tests="$top/crates/word_tests"
-cp -r "$tests/specs" "$work/repo/crates/bench/"
-cp "$tests/proofs/Unset.antt" "$tests/proofs/Lib.antt" "$work/repo/crates/bench/proofs/"
-cp -r "$tests/proofs/tests/words/put_word" "$tests/proofs/tests/words/put_code" "$work/repo/crates/bench/proofs/"
-sed 's/put_code/put_data/' "$tests/proofs/tests/words/put_code/Invariants.antt" > "$work/repo/crates/bench/proofs/put_data/Invariants.antt"
-sed -i 's/Rattle\.word_tests\.proofs\.tests\.words\./Rattle.bench.proofs./; s/Rattle\.word_tests\./Rattle.bench./' \
+# The functions that set words, with their proofs, are those of test_words.
+tests="$top/crates/test_words"
+mkdir "$work/repo/crates/bench/specs"
+for part in specs proofs; do
+    cp "$tests/$part/WordTests/Unset.antt" "$work/repo/crates/bench/$part/"
+    echo 'pub mod Unset' > "$work/repo/crates/bench/$part/Lib.antt"
+done
+cp -r "$tests/proofs/word_tests/tests/words/put_word" "$tests/proofs/word_tests/tests/words/put_code" "$work/repo/crates/bench/proofs/"
+sed 's/put_code/put_data/' "$tests/proofs/word_tests/tests/words/put_code/Invariants.antt" > "$work/repo/crates/bench/proofs/put_data/Invariants.antt"
+sed -i 's/Rattle\.test_words\.proofs\.word_tests\.tests\.words\./Rattle.bench.proofs./; s/Rattle\.test_words\.\(specs\|proofs\)\.WordTests\./Rattle.bench.\1./' \
     "$work"/repo/crates/bench/proofs/*.antt "$work"/repo/crates/bench/proofs/*/*.antt "$work"/repo/crates/bench/specs/*.antt
 
 mkdir "$work/repo/crates/bench/proofs/main"
@@ -89,7 +92,7 @@ MAIN
 
 ghost use Rattle.std.specs.Prelude.{◌≡◌, ◌≢◌, ◌≤◌, ◌<◌, ◌+◌};
 ghost use Rattle.ld_base.specs.declared.linking.Role.TheVariants.{None as NoRole, Slot as SlotRole};
-ghost use Rattle.word_seats.specs.Making.{IsMade};
+ghost use Rattle.word_memory.specs.WordSeats.Making.{IsMade};
 ghost use Rattle.bench.specs.Unset.{AreUnset};
 
 use ld_base::Role;
@@ -97,13 +100,14 @@ use rv_hart::{Bus, Hart, step};
 use std::alloc::{AllocError, Global};
 use std::marker::Brand;
 use std::thread::{Threads, join};
-use word_memory::{Fresh, HartSeat, KeeperSeat, Memory, Naming, TableBus, set_word};
-use word_seats::{HartSeats, Seats, name_memory};
+use word_memory::{
+    Fresh, HartSeat, HartSeats, KeeperSeat, Memory, Naming, Seats, TableBus, name_memory, set_word,
+};
 
 MAIN
     cat "$work/common"
-    sed -n '/^\/\/ Gives a doubleword its role/,/^}/p' "$tests/src/tests/words.rt"
-    sed -n '/^\/\/ The code\.$/,/^}/p' "$tests/src/tests/words.rt" | sed 's/512 2/512 4/'
+    sed -n '/^\/\/ Gives a doubleword its role/,/^}/p' "$tests/src/word_tests/tests/words.rt"
+    sed -n '/^\/\/ The code\.$/,/^}/p' "$tests/src/word_tests/tests/words.rt" | sed 's/512 2/512 4/; s/WordTests::Unset/Unset/'
     echo "const CODE: [u64; 14] = [$(echo "$own" "$shared" $ebreaks | tr ' ' ',')];"
     cat <<'MAIN'
 

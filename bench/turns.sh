@@ -1,7 +1,7 @@
 #!/bin/sh
 # Times turns of a hart under `ldso turns rr`, the loop of bench/steps.sh as a program, three times over. To be
 # compared with what bench/steps.sh prints of a step over a plain memory, run just before or behind it. Run by
-# hand: bench/turns.sh [MILLIONS]. It needs ldso built (rt build in crates/ldso, or PROGRAM names another).
+# hand: bench/turns.sh [MILLIONS]. It needs ldso built (rt run in crates/ldso, or PROGRAM names another).
 set -eu
 top=$(cd "$(dirname "$0")/.." && pwd)
 program=${PROGRAM:-$top/crates/ldso/out/ldso}
