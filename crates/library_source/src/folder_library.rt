@@ -21,8 +21,9 @@ pub const READ_LIMIT: usize = 8 * 1024 * 1024 + 1;
 /// How many bytes are asked for at a time.
 const PIECE: usize = 64 * 1024;
 
-/// The files of the system. A path that isn't UTF-8 names none of them. No clause tells what a file
-/// holds, nor that a path is opened: that is shown by tests alone.
+/// The files of the system. A path that isn't UTF-8 names none of them, and what isn't a regular file
+/// (a folder, a pipe, a device) is a read that failed. No clause tells what a file holds, nor that a path
+/// is opened: that is shown by tests alone.
 #[derive(Drop)]
 pub struct FolderLibrary<R> {
     rt: R,
@@ -100,6 +101,10 @@ fn read_file<R: Files>(rt: &R, alloc: Global, path: &[u8]) -> Result<Vec<u8>, Re
     let Ok(path) = str::from_utf8(path) else {
         return Err(ReadError::Missing);
     };
+    // A pipe would hold up whoever opens it, and a device may have no end.
+    if !fs::metadata(rt, path)?.is_file() {
+        return Err(ReadError::Failed);
+    }
     let mut file = fs::open(rt, path)?;
     Ok(read_front(alloc, &mut file)?)
 }

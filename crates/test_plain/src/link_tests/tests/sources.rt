@@ -91,8 +91,22 @@ fn a_folder_gives_real_files(rt: HostRuntime) -> Result<(), Fail> {
         "no UTF-8"
     );
     assert!(rt; fails(&mut library, b".", ReadError::Failed), "a folder");
-    let zeros = library.read(b"/dev/zero").map(|bytes| bytes.len()).ok();
-    assert_eq!(rt; zeros, Some(READ_LIMIT));
+    assert!(rt;
+        fails(&mut library, b"/dev/zero", ReadError::Failed),
+        "a device"
+    );
+    Ok(())
+}
+
+#[test]
+fn a_long_file_is_cut_behind_the_limit(rt: HostRuntime) -> Result<(), Fail> {
+    let bytes = vec![in rt.alloc(); 7u8; READ_LIMIT + 1]?;
+    let written = fs::write(&rt, "long", bytes.as_slice()).is_ok();
+    let mut library = FolderLibrary::new(rt, rt.alloc());
+    let read = library.read(b"long").map(|front| front.len()).ok();
+    let removed = fs::remove_file(&rt, "long").is_ok();
+    assert!(rt; written && removed);
+    assert_eq!(rt; read, Some(READ_LIMIT));
     Ok(())
 }
 
