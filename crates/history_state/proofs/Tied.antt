@@ -26,10 +26,10 @@ use Rattle.scope_rule.specs.Relocation.{choice_at}
 use Rattle.scope_rule.specs.Seen.{Seen}
 use Rattle.history_state.specs.State.{Linked, State}
 use Rattle.history_state.specs.Accepted.{AcceptsOnly, IsAccepted}
-use Rattle.history_state.specs.Addresses.{address, chosen_symbol}
+use Rattle.history_state.specs.Addresses.{address}
 use Rattle.history_state.specs.After.{after}
 use Rattle.history_state.specs.Allowed.{AllowedIn}
-use Rattle.history_state.specs.Bound.{binding_of, chosen_of, copies_made, is_storage, linked_with, reloc_bindings, reloc_choices, slot_binding, slot_bindings, slot_choice, slot_choices, uncopied, with_copies, bytes_from, copied_of, settled_byte}
+use Rattle.history_state.specs.Bound.{binding_of, chosen_of, copies_made, is_storage, linked_with, place_in_block, reloc_bindings, reloc_choices, slot_binding, slot_bindings, slot_choice, slot_choices, uncopied, with_copies, bytes_from, copied_of, settled_byte}
 use Rattle.history_state.specs.Laws.{ImagesAreTied, bound_choice, bound_object, bound_value}
 use Rattle.history_state.specs.Legal.{Lawful}
 use Rattle.history_state.specs.Objects.{has}
@@ -100,7 +100,7 @@ slot_choice_is s r (Some choice) = refl
 
 slot_value_is : (s : State) (r : Reloc) (choice : Option Choice) → is_storage r ≡ false → bound_value (slot_binding s (r, choice)) ≡ option_map (address s) choice
 slot_value_is s r None plain = refl
-slot_value_is s r (Some choice) plain = ap (λ (t : Bool). Some (if t then option_map_or (λ symbol. symbol.value) (chosen_symbol s choice) 0 else address s choice)) plain
+slot_value_is s r (Some choice) plain = ap (λ (t : Bool). Some (if t then place_in_block s choice else address s choice)) plain
 
 slot_object_is : (s : State) (r : Reloc) (choice : Option Choice) → bound_object (slot_binding s (r, choice)) ≡ option_and_then object_of choice
 slot_object_is s r None = refl

@@ -3,7 +3,7 @@ use Rattle.std.specs.Prelude.{ℕ, ◌+◌, ◌*◌, ◌/◌, Bool, true, false,
 use Rattle.std.specs.List.{range_with_len}
 use Rattle.std.specs.Option.{option_map, option_map_or}
 use Rattle.ld_base.specs.declared.linking.Choice.{Choice}
-use Rattle.ld_base.specs.declared.linking.Choice.TheVariants.{Missing}
+use Rattle.ld_base.specs.declared.linking.Choice.TheVariants.{Def, WeakZero, Missing}
 use Rattle.ld_base.specs.declared.linking.Loaded.{Loaded}
 use Rattle.ld_base.specs.declared.object.Object.{Object}
 use Rattle.ld_base.specs.declared.object.Reloc.{Reloc}
@@ -19,7 +19,7 @@ use Rattle.relocator.specs.declared.binding.ModulePlace.{ModulePlace}
 use Rattle.relocator.specs.Bindings.{chosen, is_copy}
 use Rattle.relocator.specs.Relocated.{moved_word, settled_word}
 use Rattle.history_state.specs.State.{State, Linked}
-use Rattle.history_state.specs.Addresses.{address, chosen_symbol}
+use Rattle.history_state.specs.Addresses.{address, chosen_symbol, linker_function}
 
 -- the slots of an object are bound when it is loaded: the opening or the object asks for it (RTLD_NOW, DT_BIND_NOW)
 abbrev pub binds_now : Bool → Object → Bool
@@ -55,8 +55,15 @@ lazy_word o r = moved_word o.object o.base r.place
 abbrev pub is_storage : Reloc → Bool
 is_storage r = r.kind == 7 || r.kind == 9 || r.kind == 11
 
+-- the linker's own functions are in no module's block: of theirs the address is taken
+abbrev pub place_in_block : State → Choice → ℕ
+place_in_block s (Def serial index) =
+    if serial == 0 then linker_function index else option_map_or (λ symbol. symbol.value) (chosen_symbol s (Def serial index)) 0
+place_in_block s WeakZero = 0
+place_in_block s Missing = 0
+
 abbrev pub bound_value : State → Reloc → Choice → ℕ
-bound_value s r choice = if is_storage r then option_map_or (λ symbol. symbol.value) (chosen_symbol s choice) 0 else address s choice
+bound_value s r choice = if is_storage r then place_in_block s choice else address s choice
 
 abbrev pub binding_of : State → Reloc → Choice → Binding
 binding_of s r choice = record {

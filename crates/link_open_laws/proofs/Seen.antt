@@ -63,7 +63,7 @@ abbrev binding_from : Reloc → ℕ → ℕ → Option Loaded → Binding
 binding_from r d index found = record {
   bound = true;
   choice = Def d index;
-  value = if is_storage r then option_map_or (λ symbol. symbol.value) (option_and_then (λ o. symbol_at o.object index) found) 0
+  value = if is_storage r then (if d == 0 then linker_function index else option_map_or (λ symbol. symbol.value) (option_and_then (λ o. symbol_at o.object index) found) 0)
       else (if d == 0 then linker_function index else definition_address found index);
   size = option_map_or (λ symbol. symbol.size) (option_and_then (λ o. symbol_at o.object index) found) 0;
   object = Some d;

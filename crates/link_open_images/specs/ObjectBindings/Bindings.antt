@@ -35,8 +35,15 @@ symbol_in ns (Def serial index) = option_and_then (λ o. symbol_at o.object inde
 symbol_in ns WeakZero = None
 symbol_in ns Missing = None
 
+-- the linker's own functions are in no module's block: of theirs the address is taken
+abbrev pub storage_in : Seen → Choice → ℕ
+storage_in ns (Def serial index) =
+    if serial == 0 then linker_function index else option_map_or (λ symbol. symbol.value) (symbol_in ns (Def serial index)) 0
+storage_in ns WeakZero = 0
+storage_in ns Missing = 0
+
 abbrev pub value_in : Seen → Reloc → Choice → ℕ
-value_in ns r choice = if is_storage r then option_map_or (λ symbol. symbol.value) (symbol_in ns choice) 0 else address_in ns choice
+value_in ns r choice = if is_storage r then storage_in ns choice else address_in ns choice
 
 abbrev pub size_in : Seen → Choice → ℕ
 size_in ns choice = option_map_or (λ symbol. symbol.size) (symbol_in ns choice) 0

@@ -3,9 +3,9 @@
 ghost use Rattle.std.specs.Prelude.{◌≡◌, Some};
 ghost use Rattle.std.specs.Option.{option_copied};
 ghost use Rattle.ld_base.specs.declared.linking.Choice.TheVariants.{Def};
-ghost use Rattle.history_state.specs.Addresses.{definition_address, symbol_address, symbol_at};
+ghost use Rattle.history_state.specs.Addresses.{definition_address, linker_function, symbol_address, symbol_at};
 ghost use Rattle.history_state.specs.Bound.{is_storage};
-ghost use Rattle.link_open_images.specs.ObjectBindings.Bindings.{address_in, size_in, symbol_in, value_in};
+ghost use Rattle.link_open_images.specs.ObjectBindings.Bindings.{address_in, size_in, storage_in, symbol_in, value_in};
 ghost use Rattle.scope_rule.specs.Seen.{seen};
 
 use ld_base::{Choice, Loaded, Reloc, Serial, Symbol};
@@ -23,14 +23,25 @@ const R_RISCV_TLS_DTPREL64: u32 = 9;
 
 const R_RISCV_TLS_TPREL64: u32 = 11;
 
-/// What a relocation takes of its choice: the address, or the symbol's value in thread-local storage.
+/// What a relocation takes of its choice: the address, or the symbol's place in its module's block.
 pub(crate) fn value_of(view: &View, reloc: &Reloc, choice: &Choice) -> u64
     ensures { result ≡ value_in (seen view.now) reloc.now choice.now }
 {
     if is_storage(reloc) {
-        symbol_of(view, choice).map_or(0, |symbol| symbol.value)
+        place_in_block(view, choice)
     } else {
         address_of(view, choice)
+    }
+}
+
+/// The symbol's place in its module's block. The linker's own functions are in none: it is their address.
+fn place_in_block(view: &View, choice: &Choice) -> u64
+    ensures { result ≡ storage_in (seen view.now) choice.now }
+{
+    match *choice {
+        Choice::Def(serial, index) if serial.number() == 0 => linker_function(index),
+        Choice::Def(_, _) => symbol_of(view, choice).map_or(0, |symbol| symbol.value),
+        Choice::WeakZero | Choice::Missing => 0,
     }
 }
 
@@ -85,12 +96,19 @@ fn address_at(view: &View, serial: Serial, index: u32) -> u64
     ensures { result ≡ address_in (seen view.now) (Def serial index) }
 {
     if serial.number() == 0 {
-        return LINKER_PAGE + FUNCTION_SIZE * u64::from(index);
+        return linker_function(index);
     }
     match view.object(serial) {
         Some(object) => definition_in(object, index),
         None => 0,
     }
+}
+
+/// The address of one of the linker's own functions.
+fn linker_function(index: u32) -> u64
+    ensures { result ≡ linker_function index }
+{
+    LINKER_PAGE + FUNCTION_SIZE * u64::from(index)
 }
 
 /// The address of an object's symbol; 0 where it has no such symbol.
