@@ -2,7 +2,7 @@
 use Rattle.std.proofs.Common.{◌≡◌, ◌≢◌, ◌⊎◌, ℕ, ◌≤◌, ◌<◌, true, nat_le, List, [], ◌∷◌, length, set, zero, suc, None, Some, refl, sym, ap, subst, ◌∙◌}
 use mathlib.Core.Logic.{dite}
 use native.Mathlib.Decide.{ℕ_discrete}
-use Rattle.history_event.specs.declared.handed.Granted.{Granted}
+use Rattle.history_event.specs.declared.handed.Offer.{Offer}
 use Rattle.word_rule.specs.declared.entry.Entry.{Entry}
 use Rattle.word_rule.specs.declared.entry.Grant.{Grant}
 use Rattle.word_rule.specs.declared.entry.RowWord.{RowWord}
@@ -103,7 +103,7 @@ grants : (k k0 k1 k2 : KeeperView) (m : ℕ) (g : Grant) → IsLong k → m < 16
 unfolding row_granted
 grants k k0 k1 k2 m g long low same e1 e2 = chain k k1 k2 m (row_with g.entry (row_of k m)) (with_field Lazy g.lazy) (inside k m long low) (e1 ∙ ap (λ k. with_row m (row_with g.entry (row_of k m)) k) same) e2
 
-pub open_ready : (k k0 k1 k2 : KeeperView) (m : ℕ) (x : Granted) → IsResting k → IsLong k → m < 16 → k0 ≡ k → k1 ≡ with_row m (row_with (grant_of x k.generation).entry (row_of k0 m)) k0
+pub open_ready : (k k0 k1 k2 : KeeperView) (m : ℕ) (x : Offer) → IsResting k → IsLong k → m < 16 → k0 ≡ k → k1 ≡ with_row m (row_with (grant_of x k.generation).entry (row_of k0 m)) k0
     → k2 ≡ with_row m (with_field Lazy x.lazy (row_of k1 m)) k1 → MayPost k m x → KeeperReady (kinds.Open m) k2
 unfolding row_granted
 open_ready k k0 k1 k2 m x rest long low same e1 e2 may = subst (KeeperReady (kinds.Open m)) (sym (grants k k0 k1 k2 m (grant_of x k.generation) long low same e1 e2)) (subst
@@ -111,7 +111,7 @@ open_ready k k0 k1 k2 m x rest long low same e1 e2 may = subst (KeeperReady (kin
     (sym (row_here k m (row_granted (grant_of x k.generation) (row_of k m)) (inside k m long low)))
     (may.waits.0, (low, may.waits.1.1, may.waits.1.2), may.number, may.new, refl, may.postable, ap (λ (a : Rattle.word_rule.specs.declared.view.Access.Access). a.locked) rest.access))
 
-pub opens : (k k0 k1 k2 k3 : KeeperView) (m n : ℕ) (x : Granted) → IsResting k → IsLong k → m < 16 → k0 ≡ k → k1 ≡ with_row m (row_with (grant_of x k.generation).entry (row_of k0 m)) k0
+pub opens : (k k0 k1 k2 k3 : KeeperView) (m n : ℕ) (x : Offer) → IsResting k → IsLong k → m < 16 → k0 ≡ k → k1 ≡ with_row m (row_with (grant_of x k.generation).entry (row_of k0 m)) k0
     → k2 ≡ with_row m (with_field Lazy x.lazy (row_of k1 m)) k1 → k3 ≡ keeper_after (kinds.Open m) k2 n → k3 ≡ posted m (grant_of x k.generation) k
 unfolding row_granted
 opens k k0 k1 k2 k3 m n x r long low same e1 e2 now =

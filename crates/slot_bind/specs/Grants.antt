@@ -1,6 +1,5 @@
 -- What the calls on grants leave in the views of a hart and of the keeper.
 use Rattle.std.specs.Prelude.{◌≡◌, ◌≢◌, ℕ, ◌%◌, ◌<◌, Bool, true, false, [], ◌∷◌, ◌++◌, length, None, Some}
-use Rattle.history_event.specs.declared.handed.Granted.{Granted}
 use Rattle.history_event.specs.declared.handed.Offer.{Offer}
 use Rattle.word_rule.specs.declared.entry.Exchange.{Exchange}
 use Rattle.word_rule.specs.declared.entry.Grant.{Grant}
@@ -74,8 +73,8 @@ leads_to offer (Lost saw) = saw
 
 -- ---- the keeper
 
--- the grant that is made of a granted one, at this generation
-abbrev pub grant_of : Granted → ℕ → Grant
+-- the grant that an offer is, at this generation
+abbrev pub grant_of : Offer → ℕ → Grant
 grant_of x generation = record { entry = record { mark = 3; number = x.event; slot = x.slot; value = x.value; generation = generation }; lazy = x.lazy }
 
 -- the grant is posted in the hart's row
@@ -96,7 +95,7 @@ posted m g k = with_row m (row_posted g (row_of k m)) k
 
 -- a grant may be posted: its number is the count, and came since the hart was found calling; its slot is there, with its lazy
 -- word, since a lower count; its value is another, and 0 or in an RX word
-pub record MayPost (k : KeeperView) (m : ℕ) (x : Granted) : Type 0 where
+pub record MayPost (k : KeeperView) (m : ℕ) (x : Offer) : Type 0 where
   pub waits : IsWaiting k m
   pub number : x.event ≡ length k.events
   pub new : waits.0 < x.event

@@ -9,7 +9,7 @@ ghost use Rattle.word_steps.specs.Views.{IsResting};
 ghost use Rattle.slot_bind.specs.Grants.{MayPost, grant_of, posted};
 ghost use Rattle.slot_bind.specs.Rows.{IsWaiting, MayHand, handed_over, row_with};
 
-use history_event::Granted;
+use history_event::Offer;
 use ld_base::HartId;
 use word_memory::{KeeperSeat, Memory, Naming, row_word, state_word};
 use word_rule::{Entry, KeeperKind, RowWord};
@@ -92,37 +92,32 @@ fn hand_row<J: Naming>(memory: &Memory<J>, keeper: &mut KeeperSeat<J>, hart: u64
     keeper.store_word(memory, state_word(hart), u64::from(entry.mark), kind);
 }
 
-/// Opens the hart's row with a grant, of the keeper's generation.
-pub fn post<J: Naming>(
-    memory: &Memory<J>,
-    keeper: &mut KeeperSeat<J>,
-    hart: HartId,
-    granted: &Granted,
-)
+/// Opens the hart's row with a grant, which is the offer at the keeper's generation.
+pub fn post<J: Naming>(memory: &Memory<J>, keeper: &mut KeeperSeat<J>, hart: HartId, offer: &Offer)
     requires low { hart < 16 }
-    requires may { MayPost keeper.old hart granted.now }
-    ensures posted { keeper.new ≡ posted hart (grant_of granted.now keeper.old.generation) keeper.old }
+    requires may { MayPost keeper.old hart offer.now }
+    ensures posted { keeper.new ≡ posted hart (grant_of offer.now keeper.old.generation) keeper.old }
     ensures long { IsLong keeper.old }
 {
-    open_row(memory, keeper, u64::from(hart.number()), granted);
+    open_row(memory, keeper, u64::from(hart.number()), offer);
 }
 
 #[tactic(auto, using(crate::proofs::Rows::open_ready))]
-fn open_row<J: Naming>(memory: &Memory<J>, keeper: &mut KeeperSeat<J>, hart: u64, granted: &Granted)
+fn open_row<J: Naming>(memory: &Memory<J>, keeper: &mut KeeperSeat<J>, hart: u64, offer: &Offer)
     requires low { hart < 16 }
-    requires may { MayPost keeper.old hart granted.now }
-    ensures posted { keeper.new ≡ posted hart (grant_of granted.now keeper.old.generation) keeper.old }
+    requires may { MayPost keeper.old hart offer.now }
+    ensures posted { keeper.new ≡ posted hart (grant_of offer.now keeper.old.generation) keeper.old }
     ensures long { IsLong keeper.old }
 {
     let generation = keeper.load_word(memory, GENERATION, KeeperKind::RecallGeneration);
     let entry = Entry {
         mark: 3,
-        number: granted.event,
-        slot: granted.slot,
-        value: granted.value,
+        number: offer.event,
+        slot: offer.slot,
+        value: offer.value,
         generation,
     };
     write_entry(memory, keeper, hart, entry);
-    fill(memory, keeper, hart, RowWord::Lazy, granted.lazy);
+    fill(memory, keeper, hart, RowWord::Lazy, offer.lazy);
     keeper.store_word(memory, state_word(hart), 3, KeeperKind::Open(hart));
 }

@@ -1,10 +1,10 @@
 //! The keeper's seat between its calls, and what it does with doublewords, events and harts.
 
-ghost use Rattle.std.specs.Prelude.{◌≡◌, ◌<◌, ◌+◌, IfErr, IfOk, length};
-ghost use Rattle.ld_base.specs.declared.linking.Role.TheVariants.{Rw};
+ghost use Rattle.std.specs.Prelude.{◌≡◌, ◌<◌, ◌+◌, ◌↔◌, IfErr, IfOk, IsTrue, length};
+ghost use Rattle.ld_base.specs.declared.linking.Role.TheVariants.{Rw, Slot};
 ghost use Rattle.word_rule.specs.Joining.{IsSettled};
 ghost use Rattle.word_rule.specs.KeeperSteps.{KeeperLearns, KeeperLeaves, KeeperReady, keeper_after, keeper_op, keeper_word};
-ghost use Rattle.word_rule.specs.Layout.{place_of, table_words};
+ghost use Rattle.word_rule.specs.Layout.{IsDoubleword, place_of, table_words};
 ghost use Rattle.word_rule.specs.Operations.{load, store};
 ghost use Rattle.word_rule.specs.Views.{BeginsWith, IsLong, first_hart, kept_at, known_of, row_of};
 ghost use Rattle.word_steps.specs.Knowing.{counted, with_joined};
@@ -18,7 +18,7 @@ use history_event::Event;
 use ld_base::{Role, Shown};
 use std::marker::Model;
 use word_rule::KeeperKind;
-use word_steps::{Desk, GENERATION, Memory, Naming, place_at};
+use word_steps::{Desk, GENERATION, Memory, Naming, Trails, control_word, place_at, role_of};
 
 /// The keeper's seat at a memory. Contracts see it as its view: what the keeper knows.
 #[derive(Drop)]
@@ -128,7 +128,37 @@ pub fn set_generation<J: Naming>(memory: &Memory<J>, keeper: &mut KeeperSeat<J>,
     );
 }
 
+/// The generation of the TLS modules that was set last.
+#[tactic(auto, using(word_rule::specs::Lemmas::Heeding::heeds))]
+pub fn latest_generation<J: Naming>(memory: &Memory<J>, keeper: &mut KeeperSeat<J>) -> u64
+    ensures keeper { keeper.new ≡ keeper.old }
+    ensures latest { result ≡ keeper.old.generation }
+{
+    keeper.load_word(memory, GENERATION, KeeperKind::RecallGeneration)
+}
+
+/// Whether a doubleword is a slot.
+#[tactic(auto, using(word_rule::specs::Lemmas::Unlocking::role_is, word_rule::specs::Lemmas::Heeding::heeds))]
+pub fn is_slot<J: Naming>(memory: &Memory<J>, keeper: &mut KeeperSeat<J>, address: u64) -> bool
+    requires { IsDoubleword address }
+    ensures keeper { keeper.new ≡ keeper.old }
+    ensures slot { IsTrue result ↔ (kept_at keeper.old (place_of address)).role ≡ Slot }
+{
+    let at = place_at(address);
+    let kind = KeeperKind::RecallRole(at as u64);
+    let control = keeper.load_word(memory, control_word(at), kind);
+    matches!(role_of(control), Role::Slot)
+}
+
 impl<J: Naming> KeeperSeat<J> {
+    /// What it knows once nobody steps on the memory any more, without the memory's name.
+    pub fn into_trails(self) -> Trails
+        ensures { result ≡ self }
+    {
+        let KeeperSeat { desk } = self;
+        desk.into_trails()
+    }
+
     /// The first seat of a memory.
     pub fn new(desk: Desk<J>) -> Self
         requires { IsResting desk }

@@ -21,7 +21,10 @@ mod seat;
 mod word_seats;
 
 pub use bus::TableBus;
-pub use keeper::{KeeperSeat, count_up, join_hart, retire, set_generation, set_word, tell};
+pub use keeper::{
+    KeeperSeat, count_up, is_slot, join_hart, latest_generation, retire, set_generation, set_word,
+    tell,
+};
 pub use seat::{HartSeat, generation};
 pub use word_seats::{HartSeats, Seats, name_memory};
-pub use word_steps::{Fresh, Memory, Naming, place_at, row_word, state_word, value_word};
+pub use word_steps::{Fresh, Memory, Naming, Trails, place_at, row_word, state_word, value_word};

@@ -107,6 +107,7 @@ keeper_word (kinds.Retire d old) = control_at d
 keeper_word (kinds.Generation g) = generation_at
 keeper_word (kinds.Recall m i) = row_at m (index_of i)
 keeper_word kinds.RecallGeneration = generation_at
+keeper_word (kinds.RecallRole d) = control_at d
 keeper_word kinds.Listen = quiet_at
 
 abbrev pub keeper_op : KeeperKind → Op
@@ -127,6 +128,7 @@ keeper_op (kinds.Retire d old) = add (to_unlock old NoRole)
 keeper_op (kinds.Generation g) = store g
 keeper_op (kinds.Recall m i) = load
 keeper_op kinds.RecallGeneration = load
+keeper_op (kinds.RecallRole d) = load
 keeper_op kinds.Listen = load
 
 -- the hart is known to call since this count, and the fate of its last grant is known
@@ -168,6 +170,7 @@ KeeperReady (kinds.Retire d old) k =
 KeeperReady (kinds.Generation g) k = k.generation < g
 KeeperReady (kinds.Recall m i) k = m < harts_at_most
 KeeperReady kinds.RecallGeneration k = Unit {0}
+KeeperReady (kinds.RecallRole d) k = d < doublewords
 KeeperReady kinds.Listen k = Unit {0}
 
 -- its view after, by the number found. Each step ends what is kept of a note
@@ -193,6 +196,7 @@ keeper_after (kinds.Retire d old) k n = accessing nothing_locked (with_kept d (r
 keeper_after (kinds.Generation g) k n = record (heeding k) { generation = g }
 keeper_after (kinds.Recall m i) k n = heeding k
 keeper_after kinds.RecallGeneration k n = heeding k
+keeper_after (kinds.RecallRole d) k n = heeding k
 keeper_after kinds.Listen k n = heeding k
 
 -- the kinds that leave what the keeper has locked as it is
@@ -262,5 +266,6 @@ KeeperLearns (kinds.Ask m) k n = TellsAsk k m n
 KeeperLearns (kinds.Saw d) k n = TellsSlot k d n
 KeeperLearns (kinds.Recall m i) k n = n ≡ field_of i (row_of k m)
 KeeperLearns kinds.RecallGeneration k n = n ≡ k.generation
+KeeperLearns (kinds.RecallRole d) k n = n % 8 ≡ role_code (kept_at k d).role
 KeeperLearns kinds.Listen k n = KeeperHeard k.note k
 KeeperLearns _ k n = Unit {0}

@@ -111,6 +111,8 @@ pub enum KeeperKind {
     Recall(u64, RowWord),
     /// To load the generation, which it set. (A load that changes nothing.)
     RecallGeneration,
+    /// To load the control word of a doubleword, whose role it set. (A load that changes nothing.)
+    RecallRole(u64),
     /// To end what it keeps of a note. (A load, which also does this.)
     Listen,
 }

@@ -14,6 +14,7 @@ use crate::hand::Hand;
 use crate::layout::COUNT;
 use crate::memory::seats::{join_seat, split_hart, split_note};
 use crate::memory::steps::{add_as, exchange_as, load_as, store_as};
+use crate::trails::Trails;
 use crate::{Memory, Naming};
 use atomic_table::Seat;
 use history_event::Event;
@@ -141,6 +142,14 @@ impl<J: Naming> Desk<J> {
         ensures { self.new ≡ keeper_of (takes_in (Keeper self.old) other.me.0) }
     {
         join_seat(memory, &mut self.seat, other);
+    }
+
+    /// What it knows, without the memory's name.
+    pub fn into_trails(self) -> Trails
+        ensures { result ≡ self }
+    {
+        let Desk { seat, of: _ } = self;
+        Trails::new(seat)
     }
 
     /// Joins a hart's seat, whose last view it keeps.

@@ -14,6 +14,7 @@ mod hand;
 mod layout;
 mod memory;
 mod notes;
+mod trails;
 
 pub use desk::Desk;
 pub use hand::Hand;
@@ -22,3 +23,4 @@ pub use layout::{
     place_at, role_of, row_word, state_word, value_word, version_of,
 };
 pub use memory::{Fresh, Memory, Naming};
+pub use trails::Trails;

@@ -3,7 +3,7 @@ use Rattle.std.proofs.Common.{◌≡◌, ◌≢◌, ◌⊎◌, ⊎_elim, inl, in
 use mathlib.Core.Logic.{dite}
 use native.Mathlib.Decide.{ℕ_discrete}
 use Rattle.history_event.specs.declared.event.Event.{Event}
-use Rattle.history_event.specs.declared.handed.Granted.{Granted}
+use Rattle.history_event.specs.declared.handed.Offer.{Offer}
 use Rattle.word_rule.specs.declared.entry.Grant.{Grant}
 use Rattle.word_rule.specs.declared.view.Fate.{Fate}
 use Rattle.word_rule.specs.declared.view.Fate.TheVariants.{Won as FateWon, Lost as FateLost}
@@ -28,7 +28,7 @@ use Rattle.test_words.proofs.BindTests.Places.{first_place, low_place, second_pl
 
 -- ---- a grant of the slot may be posted
 
-postable : (known : ℕ → Kept) (x : Granted) (n generation : ℕ) → IsStocked known → IsFor x (n + 1) → IsPostable known (grant_of x generation)
+postable : (known : ℕ → Kept) (x : Offer) (n generation : ℕ) → IsStocked known → IsFor x (n + 1) → IsPostable known (grant_of x generation)
 postable known x n generation stocked is = record {
   of_slot = subst (λ s. IsSlot known (place_of s) × (s ≡ address_of (place_of s)) × ((known (place_of s)).since < x.event)) (sym is.slot) (
     (low_place (place_of 0x37010) 19970 slot_place (omega arith), stocked.role),
@@ -57,7 +57,7 @@ module _ (k : KeeperView) (m : ℕ) (long : IsLong k) (low : m < 16) where
   others : (j : ℕ) → j ≢ m → (row_of (awaited_if m true k) j).pending ≡ (row_of k j).pending
   others j apart = ap (λ (r : Row). r.pending) (row_else (record k { rows = map not_found k.rows }) m (record (not_found (row_of k m)) { since = Some (length k.events) }) inside j apart ∙ sym (map_row k.rows j))
 
-  pub may_post : (b : Bool) (k1 k2 : KeeperView) (x : Granted) (e : Event) → b ≡ true → k1 ≡ awaited_if m b k → k2 ≡ counted e k1 → IsStocked (kept_at k) → (row_of k m).pending ≡ None → IsFor x (length k.events + 1) → MayPost k2 m x
+  pub may_post : (b : Bool) (k1 k2 : KeeperView) (x : Offer) (e : Event) → b ≡ true → k1 ≡ awaited_if m b k → k2 ≡ counted e k1 → IsStocked (kept_at k) → (row_of k m).pending ≡ None → IsFor x (length k.events + 1) → MayPost k2 m x
   may_post b k1 k2 x e yes' e1 e2 stocked free is = subst (λ k. MayPost k m x) (sym (e2 ∙ ap (counted e) (e1 ∙ ap (λ b. awaited_if m b k) yes'))) (record {
     waits = (length k.events, (low, ap (λ (r : Row). r.since) here, ap (λ (r : Row). r.pending) here ∙ free));
     number = is.event ∙ sym (length-append k.events (e ∷ []));

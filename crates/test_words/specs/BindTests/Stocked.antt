@@ -1,7 +1,7 @@
 -- The words of the tests: a slot that is lazy, and the code that it may lead to.
 use Rattle.std.specs.Prelude.{◌≡◌, ◌≢◌, ◌⊎◌, ℕ, ◌+◌, true, false, length, None, Some}
 use Rattle.ld_base.specs.declared.linking.Role.TheVariants.{None as NoRole, Rx, Slot as SlotRole}
-use Rattle.history_event.specs.declared.handed.Granted.{Granted}
+use Rattle.history_event.specs.declared.handed.Offer.{Offer}
 use Rattle.word_rule.specs.declared.entry.Grant.{Grant}
 use Rattle.word_rule.specs.declared.view.HartView.{HartView}
 use Rattle.word_rule.specs.declared.view.KeeperView.{KeeperView}
@@ -42,7 +42,7 @@ pub record IsReady (k : KeeperView) : Type 0 where
   pub events : length k.events ≡ 0
 
 -- a grant of the slot, with this number
-pub record IsFor (x : Granted) (number : ℕ) : Type 0 where
+pub record IsFor (x : Offer) (number : ℕ) : Type 0 where
   pub event : x.event ≡ number
   pub slot : x.slot ≡ 0x37010
   pub lazy : x.lazy ≡ 0x35000

@@ -7,25 +7,21 @@ ghost use Rattle.slot_bind.specs.declared.slot.Asked.TheVariants.{Open};
 ghost use Rattle.test_words.specs.BindTests.Stocked.{HasAsked, HasPosted, IsCalling, IsFor, IsNew, IsStocked};
 
 use crate::bind_tests::words::{LAZY, SLOT};
-use history_event::{Event, Granted};
-use ld_base::{Choice, GrantNo, HartId, Serial};
+use history_event::{Event, Offer};
+use ld_base::HartId;
 use slot_bind::{Asked, Bound, arrived, ask, begin_call, bind, calling, done, post, take};
 use word_memory::{HartSeat, KeeperSeat, Memory, Naming, count_up};
 
-/// The grant of the slot that is this event.
-pub fn granted(number: u64, value: u64) -> Granted
-    requires { number < 1000 }
+/// The grant of the slot that is this event, as its hart gets it.
+pub fn granted(number: u64, value: u64) -> Offer
     ensures event { result.event ≡ number }
     ensures slot { (result.slot ≡ 0x37010) × (result.lazy ≡ 0x35000) }
     ensures value { result.value ≡ value }
 {
-    Granted {
+    Offer {
         event: number,
-        grant: GrantNo::new(number + 2),
-        owner: Serial::new(2),
         slot: SLOT,
         lazy: LAZY,
-        choice: Choice::Def(Serial::new(number + 2), 1),
         value,
     }
 }
@@ -37,7 +33,7 @@ pub fn grant<J: Naming>(
     seat: &mut HartSeat<J>,
     hart: HartId,
     event: &Event,
-    granted: &Granted,
+    granted: &Offer,
 ) -> bool
     requires hart { hart < 16 }
     requires new { IsNew seat.old }

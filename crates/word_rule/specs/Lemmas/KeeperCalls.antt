@@ -289,4 +289,5 @@ module _ (word : ℕ → ℕ) (k : KeeperView) (lane : ℕ → Lane) (entries : 
   keeper_calls (kinds.Generation g) ready = far 1 g (λ (e : 1 ≡ 2). omega arith) (inl (omega arith))
   keeper_calls (kinds.Recall m i) ready = unmoved word (row_at m (index_of i)) (λ f. Calls f (length k.events) (row_of k) lane entries) is
   keeper_calls kinds.RecallGeneration ready = far 1 (word 1) (λ (e : 1 ≡ 2). omega arith) (inl (omega arith))
+  keeper_calls (kinds.RecallRole d) ready = at_control d (word (control_at d))
   keeper_calls kinds.Listen ready = far 0 (word 0) (λ (e : 0 ≡ 2). omega arith) (inl (omega arith))

@@ -191,6 +191,7 @@ module _ (word : ℕ → ℕ) (k : KeeperView) (harts : ℕ → Access) (w : Wor
   keeper_locks (kinds.Generation g) small ready = below 1 g (omega arith)
   keeper_locks (kinds.Recall m i) small ready = below (row_at m (index_of i)) (word (row_at m (index_of i))) (low_row m (index_of i) ready (low_index i))
   keeper_locks kinds.RecallGeneration small ready = below 1 (word 1) (omega arith)
+  keeper_locks (kinds.RecallRole d) small ready = unmoved word (control_at d) (λ f. Words f (kept_at k) k.access harts) w
   keeper_locks kinds.Listen small ready = below 0 (word 0) (omega arith)
 
   -- ---- what the rule tells of words

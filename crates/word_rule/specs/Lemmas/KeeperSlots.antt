@@ -684,6 +684,7 @@ module _ (word : ℕ → ℕ) (k : KeeperView) (tried : ℕ → Option Exchange)
   keeper_slots place held still (kinds.Generation g) ready = beside (put word 1 g) (low_word 1 g (omega arith))
   keeper_slots place held still (kinds.Recall m i) ready = beside (put word (row_at m (index_of i)) (word (row_at m (index_of i)))) (same_word (row_at m (index_of i)))
   keeper_slots place held still kinds.RecallGeneration ready = beside (put word 1 (word 1)) (low_word 1 (word 1) (omega arith))
+  keeper_slots place held still (kinds.RecallRole d) ready = beside (put word (control_at d) (word (control_at d))) (at_control d (word (control_at d)))
   keeper_slots place held still kinds.Listen ready = beside (put word 0 (word 0)) (low_word 0 (word 0) (omega arith))
 
   -- ---- what the rule tells of slots

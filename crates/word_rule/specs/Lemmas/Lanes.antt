@@ -163,4 +163,5 @@ keeper_leaves (keeps.Retire d old) k n leaves = absurd leaves
 keeper_leaves (keeps.Generation g) k n leaves = (refl, refl)
 keeper_leaves (keeps.Recall m i) k n leaves = (refl, refl)
 keeper_leaves keeps.RecallGeneration k n leaves = (refl, refl)
+keeper_leaves (keeps.RecallRole d) k n leaves = (refl, refl)
 keeper_leaves keeps.Listen k n leaves = (refl, refl)

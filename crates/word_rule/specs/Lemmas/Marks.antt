@@ -159,4 +159,5 @@ module _ (word : ℕ → ℕ) (k : KeeperView) (trail : ℕ → List TrailItem) 
   keeper_marks (keeps.Generation n) ready = let up : k.generation < n = ready in rows_grow word (put word 1 n) k.generation n (row_of k) (row_of k) trail (put_here word 1 n) (omega arith) (λ m few e c. inl c) g
   keeper_marks (keeps.Recall m i) ready = aside (row_at m (index_of i)) (word (row_at m (index_of i))) (λ (e : row_at m (index_of i) ≡ 1). omega arith)
   keeper_marks keeps.RecallGeneration ready = rows_grow word (put word 1 (word 1)) k.generation k.generation (row_of k) (row_of k) trail (put_here word 1 (word 1) ∙ g.current) (omega arith) (λ m few e c. inl c) g
+  keeper_marks (keeps.RecallRole d) ready = aside (control_at d) (word (control_at d)) (λ (e : control_at d ≡ 1). omega arith)
   keeper_marks keeps.Listen ready = aside 0 (word 0) (λ (e : 0 ≡ 1). omega arith)

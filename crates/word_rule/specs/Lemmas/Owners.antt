@@ -100,6 +100,7 @@ keepers_raise (keepers.Retire e old) k d n ready at small role = roles_raise old
 keepers_raise (keepers.Generation g) k d n ready at small role = absurd (below 1 d (omega arith) (inr at))
 keepers_raise (keepers.Recall m i) k d n ready at small role = loads_raise n
 keepers_raise keepers.RecallGeneration k d n ready at small role = loads_raise n
+keepers_raise (keepers.RecallRole e) k d n ready at small role = loads_raise n
 keepers_raise keepers.Listen k d n ready at small role = loads_raise n
 
 pub unlocks_raise : UnlocksRaise
@@ -140,6 +141,7 @@ keepers_change (keepers.Retire e old) k d ready acts at = inl (ready.0 ∙ ap So
 keepers_change (keepers.Generation g) k d ready acts at = absurd (below 1 d (omega arith) at)
 keepers_change (keepers.Recall m i) k d ready acts at = absurd (acts refl)
 keepers_change keepers.RecallGeneration k d ready acts at = absurd (acts refl)
+keepers_change (keepers.RecallRole e) k d ready acts at = absurd (acts refl)
 keepers_change keepers.Listen k d ready acts at = absurd (acts refl)
 
 pub only_owners_change : OnlyOwnersChange
@@ -182,6 +184,7 @@ keepers_rows (keepers.Retire e old) k m few ready acts at = absurd (above (contr
 keepers_rows (keepers.Generation g) k m few ready acts at = absurd (before 1 m (omega arith) at)
 keepers_rows (keepers.Recall n i) k m few ready acts at = absurd (acts refl)
 keepers_rows keepers.RecallGeneration k m few ready acts at = absurd (acts refl)
+keepers_rows (keepers.RecallRole e) k m few ready acts at = absurd (acts refl)
 keepers_rows keepers.Listen k m few ready acts at = absurd (acts refl)
 
 module _ (words : List ℕ) (views : List View) (g : IsGuest words views) (seat m : ℕ) (few : m < harts_at_most) where
@@ -316,6 +319,7 @@ joined_stay (keepers.Retire d old) k n = refl
 joined_stay (keepers.Generation g) k n = refl
 joined_stay (keepers.Recall m i) k n = refl
 joined_stay keepers.RecallGeneration k n = refl
+joined_stay (keepers.RecallRole d) k n = refl
 joined_stay keepers.Listen k n = refl
 
 both_trails : (v w : View) → MayTake v w → trails_of (takes_in v w) ≡ trails_of v ++ trails_of w
@@ -376,6 +380,7 @@ module _ (k : KeeperView) (d : ℕ) (long : IsLong k) (here : IsSlot (kept_at k)
   same_slot (keepers.Generation g) n ready = λ now. refl
   same_slot (keepers.Recall m i) n ready = λ now. refl
   same_slot keepers.RecallGeneration n ready = λ now. refl
+  same_slot (keepers.RecallRole e) n ready = λ now. refl
   same_slot keepers.Listen n ready = λ now. refl
 
 pub slots_stay : SlotsStay

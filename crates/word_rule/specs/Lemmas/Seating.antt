@@ -197,6 +197,7 @@ keeper_grows (kinds.Retire d old) k n long ready = plain k (keeper_after (kinds.
 keeper_grows (kinds.Generation g) k n long ready = plain k (keeper_after (kinds.Generation g) k n) refl refl refl refl refl refl
 keeper_grows (kinds.Recall m i) k n long ready = plain k (keeper_after (kinds.Recall m i) k n) refl refl refl refl refl refl
 keeper_grows kinds.RecallGeneration k n long ready = plain k (keeper_after kinds.RecallGeneration k n) refl refl refl refl refl refl
+keeper_grows (kinds.RecallRole d) k n long ready = plain k (keeper_after (kinds.RecallRole d) k n) refl refl refl refl refl refl
 keeper_grows kinds.Listen k n long ready = plain k (keeper_after kinds.Listen k n) refl refl refl refl refl refl
 
 pub stays_long : (kind : KeeperKind) (k : KeeperView) (n : ℕ) → KeeperReady kind k → IsLong k → IsLong (keeper_after kind k n)

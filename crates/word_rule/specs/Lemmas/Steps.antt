@@ -210,6 +210,7 @@ module _ (word : ℕ → ℕ) (k : KeeperView) (harts : ℕ → HartView) (p : P
   keeper_low (keeps.Generation g) ready = omega arith
   keeper_low (keeps.Recall m i) ready = row_low m (index_of i) ready (low_index i)
   keeper_low keeps.RecallGeneration ready = omega arith
+  keeper_low (keeps.RecallRole d) ready = control_low d ready
   keeper_low keeps.Listen ready = omega arith
 
   pub keeper_parts : (kind : KeeperKind) → KeeperReady kind k → word (keeper_word kind) < 18446744073709551616
@@ -262,6 +263,7 @@ module _ (word : ℕ → ℕ) (k : KeeperView) (harts : ℕ → HartView) (p : P
   keeper_tells gone told (keeps.Saw d) ready = saw_tells word k (after (λ (x : HartView). x.lane.tried) harts) (after (λ (x : HartView). exchanges_of x.trail) harts) p.slots words_known rows_known d ready
   keeper_tells gone told (keeps.Recall m i) ready = (p.calls.each_row m ready).fields i
   keeper_tells gone told keeps.RecallGeneration ready = p.generations.current
+  keeper_tells gone told (keeps.RecallRole d) ready = (p.locks.each_word d ready).role
   keeper_tells gone told keeps.Listen ready = told
   keeper_tells gone told _ ready = tt
 

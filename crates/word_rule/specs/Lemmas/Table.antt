@@ -125,6 +125,7 @@ keeper_alike (keepers.RetireSlot d) x is k n m = absurd (add_apart (to_unlock Sl
 keeper_alike (keepers.Retire d old) x is k n m = absurd (add_apart (to_unlock old NoRole) x is)
 keeper_alike (keepers.Recall m i) x is k n j = absurd (load_apart x is)
 keeper_alike keepers.RecallGeneration x is k n j = absurd (load_apart x is)
+keeper_alike (keepers.RecallRole d) x is k n j = absurd (load_apart x is)
 keeper_alike keepers.Listen x is k n m = absurd (load_apart x is)
 
 alike : (kind : Kind) (x : ℕ) → op_of kind ≡ store x → (v : View) → Ready kind v → (n m : ℕ) → Alike kind v n m
