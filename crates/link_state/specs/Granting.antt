@@ -1,16 +1,18 @@
--- What a call for a slot gives.
-use Rattle.std.specs.Prelude.{◌≡◌, ℕ, List, [], ◌∷◌, length}
+-- What a call for a slot gives, and which grant of a hart is open.
+use Rattle.std.specs.Prelude.{◌≡◌, ℕ, ◌==◌, Bool, List, [], ◌∷◌, length, Contains}
 use Rattle.history_journal.specs.Following.{machine_of}
 use Rattle.ld_base.specs.declared.linking.Choice.{Choice}
 use Rattle.history_event.specs.declared.event.Event.TheVariants.{Grant, Unresolved}
 use Rattle.history_event.specs.declared.handed.Granted.{Granted}
 use Rattle.history_event.specs.declared.hart_end.HartEnd.{HartEnd}
 use Rattle.history_event.specs.declared.hart_end.HartEnd.TheVariants as ends
+use Rattle.history_event.specs.declared.state.Granting.{Granting}
 use Rattle.history_event.specs.declared.state.Standing.TheVariants.{Open}
 use Rattle.history_state.specs.After.{after}
 use Rattle.history_state.specs.Bound.{lazy_word}
 use Rattle.history_state.specs.Setting.{Setting}
 use Rattle.history_state.specs.Slots.{IsSlot}
+use Rattle.history_state.specs.State.{State}
 use Rattle.history_calls.specs.Answer.{Answer, granted, over}
 use Rattle.history_calls.specs.Call.{Call, resolves}
 use Rattle.history_calls.specs.Gives.{Gives}
@@ -53,3 +55,15 @@ IsNotGranted table hart owner eights (faults.NoSlot serial at) new = EndsUnchang
 IsNotGranted table hart owner eights (faults.Missing serial slot) new = EndsUnresolved table hart owner eights slot (ends.Unresolved serial slot) new
 IsNotGranted table hart owner eights (faults.NotCode serial slot) new = EndsUnresolved table hart owner eights slot (ends.NotCode serial slot) new
 IsNotGranted table hart owner eights faults.Memory new = new ≡ table
+
+-- a grant of the hart
+abbrev pub is_by : ℕ → Granting → Bool
+is_by hart g = g.hart == hart
+
+-- the hart has an open grant of this number
+pub record HasOpenGrant (s : State) (hart number : ℕ) : Type 0 where
+  pub grant : Granting
+  pub there : Contains s.grants grant
+  pub pending : grant.standing ≡ Open
+  pub of : grant.hart ≡ hart
+  pub numbered : grant.number ≡ number

@@ -9,7 +9,7 @@ ghost use Rattle.history_state.specs.Areas.{free_pages};
 ghost use Rattle.history_state.specs.Legal.{Lawful};
 ghost use Rattle.history_state.specs.Links.{unfinished};
 ghost use Rattle.history_state.specs.Memory.{image_of};
-ghost use Rattle.history_state.specs.Objects.{namespace_of};
+ghost use Rattle.history_state.specs.Objects.{namespace_of, object_at};
 ghost use Rattle.history_state.specs.Owed.{ends_at_most, times_ended};
 ghost use Rattle.history_state.specs.Slots.{HasNoGrant};
 ghost use Rattle.history_calls.specs.Functions.{destructors};
@@ -25,6 +25,7 @@ mod closing;
 mod locating;
 mod looking;
 mod opening;
+mod settling;
 mod unmapping;
 
 use crate::faults::GrantFault;
@@ -37,7 +38,7 @@ use history_state::{
     edges_follow, events_are_owed, finalised_once, grants_are_tidy, images_are_found,
     legal_step_by_step, objects_are_apart, objects_are_read,
 };
-use ld_base::{Bytes, DlFault, GrantNo, HartId, NsId, Serial};
+use ld_base::{Bytes, DlFault, GrantNo, HartId, Loaded, NsId, Serial};
 use link_finds::{SlotChoice, SlotFault};
 use link_holds::{
     base_namespaces, end_event, grant_event, granted, hold, is_missing, kept_copy, nothing,
@@ -46,7 +47,7 @@ use link_holds::{
 use link_images::ImageParts;
 use link_lists::{HeldEdges, LateBlocks, LoadRecord, OpenGrants, Unfinished};
 use link_names::ListedNamespaces;
-use link_spaces::{PendingClosings, ReservedPages, holder_in, namespace_in};
+use link_spaces::{PendingClosings, ReservedPages, holder_in, namespace_in, object_in};
 use scope_rule::Namespace;
 use std::alloc::{AllocError, Global};
 use std::marker::Model;
@@ -199,6 +200,13 @@ impl LinkState {
         ensures { option_copied result ≡ namespace_of (after self.now.events) ns }
     {
         namespace_in(self.namespaces.as_slice(), ns)
+    }
+
+    /// The mapped object with a serial.
+    pub fn object(&self, serial: Serial) -> Option<&Loaded>
+        ensures { option_copied result ≡ object_at (after self.now.events) serial }
+    {
+        object_in(self.namespaces.as_slice(), serial)
     }
 
     /// The mapped object whose pages hold an address, with its namespace.
