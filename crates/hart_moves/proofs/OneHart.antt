@@ -358,6 +358,7 @@ moves_once one leads w past h b Due.fuel_out did c d x y = x.leaves ∙ sym y.le
 moves_once one leads w past h b Due.instruction did c d x y = instruct_once one leads w past h b did c d x y
 moves_once one leads w past h b (Due.copy copy start bytes) did c d x y = copies_once w past h b copy start bytes did c d x y
 moves_once one leads w past h b (Due.serve call back) did c d x y = calls_once w past h b call back did c d x y
+moves_once one leads w past h b (Due.wait for) did c d x y = x.leaves ∙ sym y.leaves
 moves_once one leads w past h b (Due.store text stored word more) did c d x y = stores_once w past h b text stored word more did c d x y
 moves_once one leads w past h b (Due.enter function frames) did c d x y = x.leaves ∙ sym y.leaves
 moves_once one leads w past h b (Due.complete purpose object rest below) did c d x y = x.passes.leaves ∙ sym y.passes.leaves

@@ -1,5 +1,6 @@
 -- What a hart's next turn is: its state says it, and which objects are mapped.
 use Rattle.std.specs.Prelude.{ℕ, ◌%◌, ◌==◌, nat_lt, if◌then◌else◌, List, [], ◌∷◌, length, min, Some, None}
+use Rattle.ld_base.specs.declared.fault.Shown.{Shown}
 use Rattle.history_event.specs.declared.handed.Function.{Function}
 use Rattle.history_event.specs.declared.hart_end.HartEnd.TheVariants as ends
 use Rattle.history_state.specs.State.{State}
@@ -10,6 +11,7 @@ use Rattle.hart_moves.specs.Copying.{Copy, number_in}
 use Rattle.hart_moves.specs.Harts.{Frame, HartState, Naming, Offered, Phase, Purpose, Resolving}
 use Rattle.hart_moves.specs.Registers.{a0, a1, a2, ra, t0, t1}
 use Rattle.hart_moves.specs.Services.{Service, service_at}
+use Rattle.hart_moves.specs.Waiting.{is_still}
 
 -- where a call returns to, and which functions the linker has the hart run then
 pub record Return : Type 0 where
@@ -29,6 +31,8 @@ pub data Due : Type 0 where
   copy : Copy → (start : ℕ) → (bytes : List ℕ) → Due
   -- a service
   serve : Call → Return → Due
+  -- what an opening waits for is still so: nothing is asked
+  wait : Shown → Due
   -- one doubleword more of dlerror's text
   store : (text stored word : ℕ) → (more : List ℕ) → Due
   -- the next function of an object is entered, which leaves these frames
@@ -127,6 +131,7 @@ by_phase s b Phase.at_pc = elim (service_at b.registers.pc) [ Some service ↦ a
 by_phase s b (Phase.naming n bytes) = copy (Copy.of_name n) (name_start n b.registers) bytes
 by_phase s b (Phase.versioning name bytes) = copy (Copy.of_version name) (a2 b.registers) bytes
 by_phase s b (Phase.named n name version) = serve (call_of s b.registers n name version) (back b)
+by_phase s b (Phase.waiting n name version for) = if is_still s for then wait for else serve (call_of s b.registers n name version) (back b)
 by_phase s b (Phase.pairing bytes) =
     if nat_lt (length bytes) 16 then copy Copy.of_pair (a0 b.registers) bytes else serve (locates (number_in bytes 0) (number_in bytes 8)) (back b)
 by_phase s b (Phase.writing bytes) =

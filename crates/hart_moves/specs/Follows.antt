@@ -1,5 +1,5 @@
 -- What a hart did, turn after turn, over a journal: from its start to its end.
-use Rattle.std.specs.Prelude.{◌≡◌, ◌≢◌, ℕ, ◌+◌, ◌≤◌, ◌<◌, false, List, [], ◌∷◌, ◌++◌, length, take, drop, Some, IsTrue}
+use Rattle.std.specs.Prelude.{◌≡◌, ◌≢◌, ℕ, ◌+◌, ◌≤◌, ◌<◌, false, List, [], ◌∷◌, ◌++◌, length, take, drop, Some, Contains, IsTrue}
 use Rattle.std.specs.List.{slice_get}
 use Rattle.history_event.specs.declared.event.Event.{Event}
 use Rattle.history_event.specs.declared.event.Event.TheVariants.{Ended}
@@ -30,6 +30,10 @@ pub record Turned : Type 0 where
 -- no event of the hart stands between two numbers: what does is other harts', or was settled
 abbrev pub HasNone : List Event → ℕ → (from to : ℕ) → Type 0
 HasNone journal h from to = (k : ℕ) (e : Event) → from ≤ k → k < to → slice_get journal k ≡ Some e → hart_of e ≢ Some h
+
+-- none of these events is the hart's
+abbrev pub AreOthers : ℕ → List Event → Type 0
+AreOthers h events = (e : Event) → Contains events e → hart_of e ≢ Some h
 
 -- the hart's turn is a move after the events before it, and its own events stand there, one behind another
 pub record TurnsAt (w : Setting) (journal : List Event) (h : ℕ) (turn : Turned) (b c : HartState) : Type 0 where

@@ -1,5 +1,6 @@
 -- A hart between two turns: its registers, how far it is with what it asked the linker for, and the functions that the linker has it run.
 use Rattle.std.specs.Prelude.{ℕ, Bool, true, false, List, Option}
+use Rattle.ld_base.specs.declared.fault.Shown.{Shown}
 use Rattle.history_event.specs.declared.handed.Function.{Function}
 use Rattle.history_event.specs.declared.hart_end.HartEnd.{HartEnd}
 use Rattle.rv_hart.specs.Registers.{Registers}
@@ -43,6 +44,8 @@ pub data Phase : Type 0 where
   versioning : (name bytes : List ℕ) → Phase
   -- the name, and dlvsym's version: the service is next
   named : Naming → (name version : List ℕ) → Phase
+  -- the same, of an opening that has to wait for this: the service comes again once it is over
+  waiting : Naming → (name version : List ℕ) → Shown → Phase
   -- the first bytes of the module's number and the offset that __tls_get_addr is passed
   pairing : (bytes : List ℕ) → Phase
   -- the first bytes of what is to be written

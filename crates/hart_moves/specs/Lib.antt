@@ -9,7 +9,9 @@ pub mod Registers
 pub mod Services
 pub mod Starting
 pub mod Trails
+pub mod Waiting
 pub mod Worked
 pub mod WorkedCalls
+pub mod WorkedWaits
 pub mod TurnEvents
 pub mod TurnFrames

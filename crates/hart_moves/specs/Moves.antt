@@ -43,6 +43,7 @@ use Rattle.hart_moves.specs.Copying.{Copy, doubleword_at, first_left, grown, tex
 use Rattle.hart_moves.specs.Due.{Due, Return, due}
 use Rattle.hart_moves.specs.Harts.{Frame, HartState, Offered, Phase, Purpose, Resolving}
 use Rattle.hart_moves.specs.Registers.{a0, a2, a7, at, entered, next_function, passed_ecall, ra, returned}
+use Rattle.hart_moves.specs.Waiting.{awaiting}
 
 -- ---- what a turn did
 
@@ -378,10 +379,10 @@ abbrev pub TellsOf : ℕ → HartState → Return → Option DlFault → List Ev
 TellsOf text b back (Some fault) appended did c = Tells text b fault appended did c
 TellsOf text b back None appended did c = Returns b back 0 appended did c
 
--- nothing came of it: the hart makes the call again in its next turn
+-- nothing came of it yet: an opening waits until it may, another call is made again in the hart's next turn
 pub record TurnWaits (b : HartState) (for : Shown) (did : Did) (c : HartState) : Type 0 where
   pub is : did ≡ Did.waits for
-  pub leaves : c ≡ spent (freed b)
+  pub leaves : c ≡ spent (awaiting for (freed b))
 
 -- its end stands in what was appended
 pub record IsOver (b : HartState) (reason : HartEnd) (appended : List Event) (did : Did) (c : HartState) : Type 0 where
@@ -416,6 +417,7 @@ MovesAs w past h b Due.fuel_out did c = TurnEnds w past h b [] ends.FuelOut did 
 MovesAs w past h b Due.instruction did c = Instructs w past h b did c
 MovesAs w past h b (Due.copy copy start bytes) did c = Copies w past h b copy start bytes did c
 MovesAs w past h b (Due.serve call back) did c = Calls w past h b call back did c
+MovesAs w past h b (Due.wait for) did c = TurnWaits b for did c
 MovesAs w past h b (Due.store text stored word more) did c = StoresText w past h b text stored word more did c
 MovesAs w past h b (Due.enter function frames) did c = TurnEnters function frames b did c
 MovesAs w past h b (Due.complete purpose object rest below) did c = Completes w past h b purpose object rest below did c

@@ -24,6 +24,6 @@ pub use law::{turns_are_counted, turns_are_legal, turns_leave_one_hart};
 pub use turn_events::turns_append;
 pub use turn_frames::{closings_unmap_first, turns_leave_frames};
 pub use worked_turns::{
-    ends_are_told, functions_are_entered, functions_return, memory_is_passed, names_are_copied,
-    nothing_is_left_out, two_harts_share_a_slot,
+    ends_are_told, functions_are_entered, functions_return, harts_wait, memory_is_passed,
+    names_are_copied, nothing_is_left_out, two_harts_share_a_slot,
 };

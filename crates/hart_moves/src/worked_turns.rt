@@ -8,6 +8,7 @@ ghost use Rattle.hart_moves.specs.Worked.{FollowsItself, FollowsWinner, GoesOn, 
 ghost use Rattle.hart_moves.specs.Worked.{RunsWithoutFuel, ServesAtOnce, Starts, StartsEarly, TextWords, Traps};
 ghost use Rattle.hart_moves.specs.WorkedCalls.{CompletesBehind, CopiesNoVersion, CopiesSome, EndsAtPair, EndsForMemory, EntersPreinit};
 ghost use Rattle.hart_moves.specs.WorkedCalls.{LeavesItsOwn, PassesClosed, ReadsNothing, SettlesAtEnd, SkipsItsOwn, StoresFirst, StoresLast, WaitsForGrant, WritesSome};
+ghost use Rattle.hart_moves.specs.WorkedWaits.{AsksAgain, AsksNothing, BeginsToWait, WaitsOn};
 ghost use Rattle.history_state.specs.State.{State};
 
 /// Of two harts at one slot the one that is granted it last may win: its exchange finds the lazy word,
@@ -72,6 +73,15 @@ pub fn functions_return()
     ensures waits { (w : Setting) (past : List Event) → WaitsForGrant w past }
     ensures closed { (w : Setting) (past : List Event) → PassesClosed w past }
     ensures no_memory { (w : Setting) (past : List Event) → EndsForMemory w past }
+{}
+
+/// Of two harts one runs an object's constructors, and the other's opening waits for that. Its turns give the
+/// same answer until they have run, and nothing is asked. Then the call is made as if it hadn't waited.
+pub fn harts_wait()
+    ensures begins { (w : Setting) (past : List Event) → BeginsToWait w past }
+    ensures waits { WaitsOn }
+    ensures nothing { AsksNothing }
+    ensures again { AsksAgain }
 {}
 
 /// A hart that ends for its fuel has its grant settled in that turn, and none leaves an event of its own

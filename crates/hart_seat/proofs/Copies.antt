@@ -6,10 +6,11 @@ use Rattle.history_event.specs.declared.hart_end.HartEnd.TheVariants as ends
 use Rattle.history_state.specs.State.{State}
 use Rattle.history_calls.specs.Call as call
 use Rattle.hart_moves.specs.Copying.{Copy, number_in}
-use Rattle.hart_moves.specs.Due.{Due, all_done, at_service, back, behind, by_frames, by_name, by_phase, by_queue, by_resolving, done, due, within_fuel, write_count}
+use Rattle.hart_moves.specs.Due.{Due, all_done, at_service, back, behind, by_frames, by_name, by_phase, by_queue, by_resolving, call_of, done, due, within_fuel, write_count}
 use Rattle.hart_moves.specs.Harts.{Frame, HartState, Naming, Phase, Purpose, Resolving}
 use Rattle.hart_moves.specs.Registers.{a0, a1, a2, ra}
 use Rattle.hart_moves.specs.Services.{Service, service_at}
+use Rattle.hart_moves.specs.Waiting.{is_still}
 use Rattle.hart_seat.specs.Copied.{begun, begun_at, begun_by, copied_phase, with_word}
 
 abbrev is_copy : Due → Bool
@@ -20,6 +21,7 @@ is_copy (Due.finish o found) = false
 is_copy Due.fuel_out = false
 is_copy Due.instruction = false
 is_copy (Due.serve call back) = false
+is_copy (Due.wait for) = false
 is_copy (Due.store text stored word more) = false
 is_copy (Due.enter function frames) = false
 is_copy (Due.complete purpose object rest below) = false
@@ -34,6 +36,7 @@ left_by (Due.finish o found) word = Phase.at_pc
 left_by Due.fuel_out word = Phase.at_pc
 left_by Due.instruction word = Phase.at_pc
 left_by (Due.serve call back) word = Phase.at_pc
+left_by (Due.wait for) word = Phase.at_pc
 left_by (Due.store text stored next more) word = Phase.at_pc
 left_by (Due.enter function frames) word = Phase.at_pc
 left_by (Due.complete purpose object rest below) word = Phase.at_pc
@@ -115,6 +118,10 @@ phase_leaves s b Phase.at_pc word = pc_leaves s b (service_at b.registers.pc) wo
 phase_leaves s b (Phase.naming n bytes) word = λ _. refl
 phase_leaves s b (Phase.versioning name bytes) word = λ _. refl
 phase_leaves s b (Phase.named n name version) word = λ copies. absurd cc
+phase_leaves s b (Phase.waiting n name version for) word =
+    let p : Phase = Phase.waiting n name version for in
+    let asked : Due = Due.serve (call_of s b.registers n name version) (back b) in
+    either (is_still s for) (Due.wait for) asked word p (no_copy (Due.wait for) word p refl) (no_copy asked word p refl)
 phase_leaves s b (Phase.pairing bytes) word =
     let p : Phase = copied_phase b.registers (Phase.pairing bytes) word in
     let asked : Due = Due.serve (call.locates (number_in bytes 0) (number_in bytes 8)) (back b) in

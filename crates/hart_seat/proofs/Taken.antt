@@ -1,5 +1,5 @@
 -- A doubleword that was copied, and a text that is told, by what a hart has in the code.
-use Rattle.std.proofs.Common.{◌≡◌, ℕ, ◌+◌, ◌-◌, ◌/◌, Bool, true, false, cond, List, ◌∷◌, length, map, refl, sym, ap, ◌∙◌, arith, add-one}
+use Rattle.std.proofs.Common.{◌≡◌, inl, inr, ℕ, ◌+◌, ◌-◌, ◌/◌, Bool, true, false, cond, List, ◌∷◌, length, map, refl, sym, ap, ◌∙◌, arith, add-one}
 use Rattle.std.specs.List.{range_with_len}
 use Rattle.rv_hart.specs.Registers.{registers_of}
 use Rattle.hart_moves.specs.Copying.{Copy, after_name, before_end, grown, is_copied, text_words, with_bytes}
@@ -7,6 +7,8 @@ use Rattle.hart_moves.specs.Due.{name_start, write_count}
 use Rattle.hart_moves.specs.Harts.{HartState, Naming, Phase}
 use Rattle.hart_moves.specs.Moves.{telling}
 use Rattle.hart_moves.specs.Registers.{a0, a1, a2}
+use Rattle.ld_base.specs.declared.fault.Shown.{Shown}
+use Rattle.hart_seat.specs.HartParts.Turns.{HasName}
 use Rattle.hart_seat.specs.HartParts.Views.{naming_of}
 use Rattle.hart_seat.specs.declared.hart_parts.due.Naming.{Naming as code_naming}
 use Rattle.hart_seat.specs.Copied.{copied_phase, more_bytes, with_word}
@@ -129,12 +131,29 @@ told at text b = ap (λ (words : List ℕ). telling at words b) (sym (words_of t
 
 -- ---- a name
 
-pub named_bytes : (bytes version message : List ℕ) (p : code_phase) (n : Naming) (name other : List ℕ)
+named_bytes : (bytes version message : List ℕ) (p : code_phase) (n : Naming) (name other : List ℕ)
     → phase_of bytes version message p ≡ Phase.named n name other → (bytes ≡ name) × (version ≡ other)
 named_bytes bytes version message (phase.Named taker) n name other is = (cc, cc)
 named_bytes bytes version message phase.AtPc n name other is = absurd cc
 named_bytes bytes version message (phase.Naming taker) n name other is = absurd cc
 named_bytes bytes version message phase.Versioning n name other is = absurd cc
+named_bytes bytes version message (phase.Waiting taker for) n name other is = absurd cc
 named_bytes bytes version message phase.Pairing n name other is = absurd cc
 named_bytes bytes version message phase.Writing n name other is = absurd cc
 named_bytes bytes version message (phase.Storing text stored) n name other is = absurd cc
+
+waiting_bytes : (bytes version message : List ℕ) (p : code_phase) (n : Naming) (name other : List ℕ) (for : Shown)
+    → phase_of bytes version message p ≡ Phase.waiting n name other for → (bytes ≡ name) × (version ≡ other)
+waiting_bytes bytes version message (phase.Waiting taker shown) n name other for is = (cc, cc)
+waiting_bytes bytes version message (phase.Named taker) n name other for is = absurd cc
+waiting_bytes bytes version message phase.AtPc n name other for is = absurd cc
+waiting_bytes bytes version message (phase.Naming taker) n name other for is = absurd cc
+waiting_bytes bytes version message phase.Versioning n name other for is = absurd cc
+waiting_bytes bytes version message phase.Pairing n name other for is = absurd cc
+waiting_bytes bytes version message phase.Writing n name other for is = absurd cc
+waiting_bytes bytes version message (phase.Storing text stored) n name other for is = absurd cc
+
+pub name_bytes : (bytes version message : List ℕ) (p : code_phase) (n : Naming) (name other : List ℕ)
+    → HasName (phase_of bytes version message p) n name other → (bytes ≡ name) × (version ≡ other)
+name_bytes bytes version message p n name other (inl is) = named_bytes bytes version message p n name other is
+name_bytes bytes version message p n name other (inr (for, is)) = waiting_bytes bytes version message p n name other for is

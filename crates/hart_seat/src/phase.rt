@@ -1,6 +1,7 @@
 //! How far a hart is with what it passes to the linker, and with a slot.
 
 use crate::hart_parts::{Naming, Offered};
+use ld_base::Shown;
 
 /// What a hart has of what it passes. The bytes stand beside it.
 #[derive(Clone, Copy)]
@@ -13,6 +14,8 @@ pub(crate) enum Phase {
     Versioning,
     /// The name, and dlvsym's version.
     Named(Naming),
+    /// The same, of an opening that waits for this.
+    Waiting(Naming, Shown),
     /// The first bytes of a module's number and an offset.
     Pairing,
     /// The first bytes of what is to be written.

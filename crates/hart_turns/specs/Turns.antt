@@ -67,6 +67,7 @@ is_own Due.fuel_out = false
 is_own Due.instruction = true
 is_own (Due.copy copy start bytes) = true
 is_own (Due.serve call back) = false
+is_own (Due.wait for) = false
 is_own (Due.store text stored word more) = true
 is_own (Due.enter function frames) = true
 is_own (Due.complete purpose object rest below) = false

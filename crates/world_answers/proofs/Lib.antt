@@ -9,3 +9,4 @@ pub mod Own
 pub mod Plain
 pub mod Quiet
 pub mod Turned
+pub mod Waits

@@ -6,6 +6,7 @@ use Rattle.hart_moves.specs.Due.{Due, Return, all_done, at_service, back, behind
 use Rattle.hart_moves.specs.Harts.{Frame, HartState, Naming, Phase, Purpose, Resolving}
 use Rattle.hart_moves.specs.Registers.{a0, a1, a2, ra}
 use Rattle.hart_moves.specs.Services.{Service, service_at}
+use Rattle.hart_moves.specs.Waiting.{is_still}
 use Rattle.history_event.specs.declared.handed.Function.{Function}
 use Rattle.history_event.specs.declared.hart_end.HartEnd.{HartEnd}
 use Rattle.history_event.specs.declared.hart_end.HartEnd.TheVariants as ends
@@ -86,6 +87,8 @@ phase_own s b Phase.at_pc = pc_own s b (service_at b.registers.pc)
 phase_own s b (Phase.naming n bytes) = tt
 phase_own s b (Phase.versioning name bytes) = tt
 phase_own s b (Phase.named n name version) = named_own s b n name version
+phase_own s b (Phase.waiting n name version for) =
+    either_own (is_still s for) (Due.wait for) (Due.serve (call_of s b.registers n name version) (back b)) tt (named_own s b n name version)
 phase_own s b (Phase.pairing bytes) =
     either_own (nat_lt (length bytes) 16) (Due.copy Copy.of_pair (a0 b.registers) bytes) (Due.serve (call.locates (number_in bytes 0) (number_in bytes 8)) (back b)) tt tt
 phase_own s b (Phase.writing bytes) =

@@ -39,7 +39,7 @@ WritesSome d = (bytes : List ℕ) (return : Return) → d ≡ Due.serve (writes 
 
 -- ---- what came of it
 
--- the turn asks the linker for something
+-- the turn is a call of the linker
 abbrev pub is_service : Due → Bool
 is_service Due.nothing = false
 is_service (Due.exchange o) = false
@@ -48,10 +48,15 @@ is_service Due.fuel_out = false
 is_service Due.instruction = false
 is_service (Due.copy copy start bytes) = false
 is_service (Due.serve call return) = true
+is_service (Due.wait for) = false
 is_service (Due.store text stored word more) = false
 is_service (Due.enter function frames) = false
 is_service (Due.complete purpose object rest below) = false
 is_service (Due.finalise code object) = false
+
+-- it waits still for what its opening came to
+abbrev pub is_wait : Due → Bool
+is_wait d = elim d [ Due.wait for ↦ true | _ ↦ false ]
 
 -- the call was made, with the events from `past` on, and this came of it
 pub record CallIsAnswered (w : Setting) (past events : List Event) (made : Installs) (h : ℕ) (call : Call) (came : Answered) : Type 0 where

@@ -2,6 +2,7 @@
 
 ghost use Rattle.std.specs.Prelude.{◌≡◌, ◌<◌, ◌≤◌, false, IfNone, IfSome, IsTrue};
 ghost use Rattle.hart_moves.specs.Due.{due};
+ghost use Rattle.hart_seat.specs.HartParts.Views.{due_in};
 ghost use Rattle.history_state.specs.After.{after};
 ghost use Rattle.history_state.specs.Objects.{is_startup};
 ghost use Rattle.world_answers.specs.Answers.{AnswersDue, HasFinishedFirst, IsFreeFirst, MayEndIn, WritesSome, is_service};
@@ -14,6 +15,7 @@ use crate::locating::locate;
 use crate::looking::{dlsym, dlvsym};
 use crate::opening::{dlmopen, dlopen};
 use crate::telling::tell;
+use crate::waiting::is_still;
 use crate::writing::write;
 use hart_seat::{Call, Due, LinkedHart};
 use ld_base::{HartId, Names};
@@ -57,30 +59,30 @@ pub fn answer<L: Library>(
     ensures misses { L.misses library.old ≤ L.misses library.new }
     ensures harts { state.new.harts ≡ state.old.harts }
 {
-    match hart.due() {
-        Due::Serve(Call::Resolve { owner, eights }) => Some(resolve(state, id, owner, eights)),
-        Due::Serve(
+    match asked_of(state, hart) {
+        Some(Call::Resolve { owner, eights }) => Some(resolve(state, id, owner, eights)),
+        Some(
             Call::Dlopen {
                 caller,
                 name,
                 flags,
             },
         ) => Some(dlopen(alloc, state, id, caller, name, flags, folders, library)),
-        Due::Serve(
+        Some(
             Call::Dlmopen {
                 namespace,
                 name,
                 flags,
             },
         ) => Some(dlmopen(alloc, state, id, namespace, name, flags, folders, library)),
-        Due::Serve(
+        Some(
             Call::Dlsym {
                 caller,
                 handle,
                 name,
             },
         ) => Some(dlsym(alloc, state, id, caller, handle, name)),
-        Due::Serve(
+        Some(
             Call::Dlvsym {
                 caller,
                 handle,
@@ -88,12 +90,30 @@ pub fn answer<L: Library>(
                 version,
             },
         ) => Some(dlvsym(alloc, state, id, caller, handle, name, version)),
-        Due::Serve(Call::Dlclose(handle)) => Some(close(alloc, state, id, handle)),
-        Due::Serve(Call::Unmap(dying)) => Some(unmap(state, id, dying)),
-        Due::Serve(Call::Dlerror) => Some(tell(alloc, state, id)),
-        Due::Serve(Call::Locate { number, offset }) => Some(locate(state, id, number, offset)),
-        Due::Serve(Call::Write(bytes)) => Some(write(state, id, bytes)),
-        Due::Serve(Call::Stop(reason)) => Some(stop(state, id, reason)),
+        Some(Call::Dlclose(handle)) => Some(close(alloc, state, id, handle)),
+        Some(Call::Unmap(dying)) => Some(unmap(state, id, dying)),
+        Some(Call::Dlerror) => Some(tell(alloc, state, id)),
+        Some(Call::Locate { number, offset }) => Some(locate(state, id, number, offset)),
+        Some(Call::Write(bytes)) => Some(write(state, id, bytes)),
+        Some(Call::Stop(reason)) => Some(stop(state, id, reason)),
+        None => None,
+    }
+}
+
+/// What a hart asks for, if its next turn is a call. One that waits for what is so still asks for nothing.
+fn asked_of<'a>(state: &LinkState, hart: &'a LinkedHart) -> Option<Call<'a>>
+    ensures asked { IfSome result (λ asked. due_in (after state.now.events) hart.now.hart (Due.Serve asked) ≡ due (after state.now.events) hart.now.hart) }
+    ensures none { IfNone result (is_service (due (after state.now.events) hart.now.hart) ≡ false) }
+{
+    match hart.due() {
+        Due::Serve(asked) => Some(asked),
+        Due::Wait(shown, asked) => {
+            if is_still(state, &shown) {
+                None
+            } else {
+                Some(asked)
+            }
+        }
         _ => None,
     }
 }

@@ -1,6 +1,7 @@
 //! What the linker answers the call that a hart's next turn is.
 //!
-//! [`answer`] asks the hart what its next turn is. Where that is a service it makes the call over the
+//! [`answer`] asks the hart what its next turn is. An opening that waits for another hart's object is none
+//! while [`awaited`] says that it waits. Where the turn is a service it makes the call over the
 //! linker's state: the call's events, and the end of a hart that the call brings, stand in the journal
 //! then. What came of the call is its answer ([`Answered`](world_memory::Answered)): the value with which
 //! it returns, the functions that are to run first, the slot that is granted, the text that is told, that
@@ -19,7 +20,9 @@ mod looking;
 mod opening;
 mod served;
 mod telling;
+mod waiting;
 mod writing;
 
 pub use answering::answer;
 pub use law::ends_are_few;
+pub use waiting::awaited;

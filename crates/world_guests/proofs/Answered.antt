@@ -1,5 +1,5 @@
 -- What an answered call comes to: the room that it takes, what it waits for, and which of its events comes first.
-use Rattle.std.proofs.Common.{◌≡◌, ℕ, ◌<◌, Bool, true, false, List, [], ◌∷◌, ◌++◌, Option, Some, None, refl, sym, ap, subst, ◌∙◌, append-nil, append_assoc}
+use Rattle.std.proofs.Common.{◌≡◌, inl, ℕ, ◌<◌, Bool, true, false, List, [], ◌∷◌, ◌++◌, Option, Some, None, refl, sym, ap, subst, ◌∙◌, append-nil, append_assoc}
 use Rattle.std.proofs.lemmas.Bool.{true≢false}
 use Rattle.std.proofs.lemmas.List.{append_cancel_left}
 use Rattle.std.specs.Prelude.{IsTrue}
@@ -277,7 +277,9 @@ module _ (old mid : LinkTable) (journal : List Event) (folders : List (List ℕ)
       → ((shown : Shown) → waits ≡ Some shown → asked ≡ answered.Again shown)
       → (waits ≡ None → (shown : Shown) → asked ≡ answered.Again shown → ⊥) → TurnTells w old.events journal h d came
   turn_tells turn.Stepped by_turn by_step some none = λ service. (t.call, t.return, t.is, has_answer (none (by_step refl)))
-  turn_tells (turn.Again shown) by_turn by_step some none = (t.call, t.return, t.is, has_to_wait shown (some shown (by_turn shown refl)))
+  turn_tells (turn.Again shown) by_turn by_step some none =
+      let waits_so = has_to_wait shown (some shown (by_turn shown refl)) in
+      (inl (t.call, t.return, t.is, waits_so.0), waits_so.1)
   turn_tells (turn.Ended reason) by_turn by_step some none = tt
   turn_tells turn.Idle by_turn by_step some none = tt
 

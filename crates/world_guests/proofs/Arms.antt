@@ -1,18 +1,22 @@
 -- What it says that the next turn of a hart is one of several.
-use Rattle.std.proofs.Common.{◌≡◌, ◌⊎◌, ⊎_elim, ℕ, true, List, None, Bor, sym, ap, ◌∙◌}
+use Rattle.std.proofs.Common.{◌≡◌, ◌⊎◌, ⊎_elim, ℕ, Bool, true, false, cond, List, None, Bor, refl, sym, ap, ◌∙◌}
 use Rattle.history_event.specs.declared.handed.Function.{Function}
+use Rattle.history_calls.specs.Call as calls
 use Rattle.history_state.specs.State.{State}
-use Rattle.hart_moves.specs.Due.{due}
+use Rattle.ld_base.specs.declared.fault.Shown.{Shown}
+use Rattle.hart_moves.specs.Due.{Return, due}
+use Rattle.hart_moves.specs.Due.{Due as is_due}
 use Rattle.hart_moves.specs.Harts.{HartState}
 use Rattle.hart_seat.specs.HartParts.Queues.{below}
-use Rattle.hart_seat.specs.HartParts.Views.{due_in, purpose_of}
+use Rattle.hart_moves.specs.Waiting.{is_still}
+use Rattle.hart_seat.specs.HartParts.Views.{back_of, call_in, due_in, purpose_of}
 use Rattle.hart_seat.specs.declared.hart_parts.due.Call.{Call}
 use Rattle.hart_seat.specs.declared.hart_parts.due.Copying.{Copying}
 use Rattle.hart_seat.specs.declared.hart_parts.due.Due.{Due}
-use Rattle.hart_seat.specs.declared.hart_parts.due.Due.TheVariants.{Complete, Copy, Enter, Nothing, Serve, Store}
+use Rattle.hart_seat.specs.declared.hart_parts.due.Due.TheVariants.{Complete, Copy, Enter, Nothing, Serve, Store, Wait}
 use Rattle.hart_seat.specs.declared.hart_parts.queue.Purpose.{Purpose}
 use Rattle.hart_turns.specs.Turns.{is_own}
-use Rattle.world_guests.specs.Asking.{needs_linker}
+use Rattle.world_guests.specs.Asking.{is_called, needs_linker}
 use Rattle.world_guests.proofs.There.{done_asks, never_nothing}
 
 -- ---- one that needs neither the linker nor a slot
@@ -37,12 +41,31 @@ own_by s b d by is =
 abbrev IsServe : Due → Type 0
 IsServe d = (asked : Call) × (d ≡ Serve asked)
 
+abbrev IsWait : Due → Type 0
+IsWait d = (for : Shown) × (asked : Call) × (d ≡ Wait for asked)
+
 abbrev IsComplete : Due → Type 0
 IsComplete d = (purpose : Bor Purpose) × (object : ℕ) × (behind : Bor (List Function)) × (d ≡ Complete purpose object behind)
 
-pub asks_by : (s : State) (b : HartState) (d : Due) → (d ≡ Nothing) ⊎ (IsServe d ⊎ IsComplete d) → due_in s b d ≡ due s b → b.«end» ≡ None → needs_linker (due s b) ≡ true
+waits_or_asks : (t : Bool) (for : Shown) (call : calls.Call) (back : Return) → needs_linker (cond t (is_due.wait for) (is_due.serve call back)) ≡ true
+waits_or_asks true for call back = refl
+waits_or_asks false for call back = refl
+
+waits_or_calls : (t : Bool) (for : Shown) (call : calls.Call) (back : Return) → is_called (cond t (is_due.wait for) (is_due.serve call back)) ≡ true
+waits_or_calls true for call back = refl
+waits_or_calls false for call back = refl
+
+pub called_by : (s : State) (b : HartState) (d : Due) → IsServe d ⊎ IsWait d → due_in s b d ≡ due s b → is_called (due s b) ≡ true
+called_by s b d by is =
+    sym (ap is_called is)
+    ∙ ⊎_elim (λ (x : IsServe d). ap (λ (e : Due). is_called (due_in s b e)) x.1)
+    (λ (x : IsWait d). ap (λ (e : Due). is_called (due_in s b e)) x.2 ∙ waits_or_calls (is_still s x.0) x.0 (call_in s x.1) (back_of b x.1)) by
+
+pub asks_by : (s : State) (b : HartState) (d : Due) → (d ≡ Nothing) ⊎ (IsServe d ⊎ (IsWait d ⊎ IsComplete d)) → due_in s b d ≡ due s b → b.«end» ≡ None → needs_linker (due s b) ≡ true
 asks_by s b d by is runs = ⊎_elim
     (λ (nothing : d ≡ Nothing). absurd (never_nothing s b runs (sym (ap (λ (e : Due). due_in s b e) nothing) ∙ is)))
-    (λ (rest : IsServe d ⊎ IsComplete d). sym (ap needs_linker is) ∙ ⊎_elim
+    (λ (rest : IsServe d ⊎ (IsWait d ⊎ IsComplete d)). sym (ap needs_linker is) ∙ ⊎_elim
     (λ (x : IsServe d). ap (λ (e : Due). needs_linker (due_in s b e)) x.1)
-    (λ (x : IsComplete d). ap (λ (e : Due). needs_linker (due_in s b e)) x.3 ∙ done_asks (purpose_of x.0.now) x.1 x.2.now (below b.frames)) rest) by
+    (λ (others : IsWait d ⊎ IsComplete d). ⊎_elim
+    (λ (x : IsWait d). ap (λ (e : Due). needs_linker (due_in s b e)) x.2 ∙ waits_or_asks (is_still s x.0) x.0 (call_in s x.1) (back_of b x.1))
+    (λ (x : IsComplete d). ap (λ (e : Due). needs_linker (due_in s b e)) x.3 ∙ done_asks (purpose_of x.0.now) x.1 x.2.now (below b.frames)) others) rest) by

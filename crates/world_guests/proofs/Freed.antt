@@ -13,10 +13,10 @@ use Rattle.hart_moves.specs.Due.{Due, Return, by_resolving, due}
 use Rattle.hart_moves.specs.Harts.{HartState, Resolving}
 use Rattle.hart_moves.specs.Moves.{freed, settled_resolving}
 use Rattle.hart_seat.specs.Table.{HartTable}
-use Rattle.world_answers.specs.Answers.{is_service}
+use Rattle.world_answers.specs.Answers.{is_service, is_wait}
 use Rattle.world_returns.specs.Completing.{is_complete}
 use Rattle.world_returns.specs.Settling.{freed_in, harts_in}
-use Rattle.world_guests.specs.Asking.{asks_linker}
+use Rattle.world_guests.specs.Asking.{asks_linker, is_called}
 
 -- ---- as lists
 
@@ -74,19 +74,23 @@ serve_of Due.fuel_out is = absurd (true≢false (sym is))
 serve_of Due.instruction is = absurd (true≢false (sym is))
 serve_of (Due.copy copy start bytes) is = absurd (true≢false (sym is))
 serve_of (Due.serve call back) is = record { call = call; back = back; is = refl }
+serve_of (Due.wait for) is = absurd (true≢false (sym is))
 serve_of (Due.store text stored word more) is = absurd (true≢false (sym is))
 serve_of (Due.enter function frames) is = absurd (true≢false (sym is))
 serve_of (Due.complete purpose object rest below) is = absurd (true≢false (sym is))
 serve_of (Due.finalise code object) is = absurd (true≢false (sym is))
 
 pub asks_of_service : (d : Due) → is_service d ≡ true → asks_linker d ≡ true
-asks_of_service d is = ap (λ (x : Bool). x || is_complete d) is
+asks_of_service d is = ap (λ (x : Bool). (x || is_wait d) || is_complete d) is
+
+pub asks_of_called : (d : Due) → is_called d ≡ true → asks_linker d ≡ true
+asks_of_called d is = ap (λ (x : Bool). x || is_complete d) is
 
 pub asks_of_serve : (d : Due) (call : Call) (back : Return) → d ≡ Due.serve call back → asks_linker d ≡ true
 asks_of_serve d call back is = ap asks_linker is
 
 pub asks_of_complete : (d : Due) → is_complete d ≡ true → asks_linker d ≡ true
-asks_of_complete d is = or_right (is_service d) (is_complete d) is
+asks_of_complete d is = or_right (is_called d) (is_complete d) is
 
 pub ended_due : (s : State) (b : HartState) (reason : HartEnd) → b.«end» ≡ Some reason → due s b ≡ Due.nothing
 unfolding due

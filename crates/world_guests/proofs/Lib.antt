@@ -12,5 +12,6 @@ pub mod Places
 pub mod Refusing
 pub mod Starting
 pub mod There
+pub mod Waiting
 pub mod Worlds
 pub mod GuestWorlds

@@ -67,6 +67,7 @@ module _ (past : List Event) (words left : List Doubleword) (did : Did) where
   asks_alone w h b Due.instruction c asks x = absurd (true≢false (sym asks))
   asks_alone w h b (Due.copy copy start bytes) c asks x = absurd (true≢false (sym asks))
   asks_alone w h b (Due.serve call back) c asks x = takes_alone w h b call back x.answer x.appended c x.takes
+  asks_alone w h b (Due.wait for) c asks x = does_none for x.is
   asks_alone w h b (Due.store text stored word more) c asks x = absurd (true≢false (sym asks))
   asks_alone w h b (Due.enter function frames) c asks x = absurd (true≢false (sym asks))
   asks_alone w h b (Due.complete purpose object rest below) c asks x = does_alone _ x.passes.is

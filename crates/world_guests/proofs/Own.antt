@@ -89,6 +89,7 @@ module _ (w : Setting) (past : List Event) (h : ℕ) (b : HartState) (made : Lis
   runs_on Due.instruction own x = by_place x.items x.place x.comes
   runs_on (Due.copy copy start bytes) own x = by_copy (copied_item start bytes x.answer ∷ []) copy start bytes x.answer x.comes
   runs_on (Due.serve call back) own x = absurd (let no : false ≡ true = own in cc)
+  runs_on (Due.wait for) own x = absurd (let no : false ≡ true = own in cc)
   runs_on (Due.store text stored word more) own x = by_store (Write (text + 8 * stored) 8 word x.answer ∷ []) text stored more x.answer x.comes
   runs_on (Due.enter function frames) own x = ap (λ (z : HartState). z.«end») x.leaves
   runs_on (Due.complete purpose object rest below) own x = absurd (let no : false ≡ true = own in cc)

@@ -208,6 +208,7 @@ module _ (w : Setting) (past : List Event) (h : ℕ) (b : HartState) (did : Did)
   by_due Due.instruction is x = Refusal.spares (by_place x.items x.place x.comes)
   by_due (Due.copy copy start bytes) is x = Refusal.spares (by_copy (copied_item start bytes x.answer ∷ []) copy start bytes x.answer x.comes)
   by_due (Due.serve call back) is x = by_call call back is x
+  by_due (Due.wait for) is x = Refusal.spares (did_spare _ x.is refl)
   by_due (Due.store text stored word more) is x = Refusal.spares (by_store (Write (text + 8 * stored) 8 word x.answer ∷ []) text stored more x.answer x.comes)
   by_due (Due.enter function frames) is x = Refusal.spares (did_spare _ x.is refl)
   by_due (Due.complete purpose object rest below) is x =

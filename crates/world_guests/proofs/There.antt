@@ -8,10 +8,11 @@ use Rattle.history_event.specs.declared.hart_end.HartEnd.TheVariants as ends
 use Rattle.history_state.specs.State.{State}
 use Rattle.history_calls.specs.Call as call
 use Rattle.hart_moves.specs.Copying.{Copy, number_in}
-use Rattle.hart_moves.specs.Due.{Due, all_done, at_service, back, behind, by_frames, by_name, by_phase, by_queue, by_resolving, done, due, within_fuel, write_count}
+use Rattle.hart_moves.specs.Due.{Due, all_done, at_service, back, behind, by_frames, by_name, by_phase, by_queue, by_resolving, call_of, done, due, within_fuel, write_count}
 use Rattle.hart_moves.specs.Harts.{Frame, HartState, Naming, Phase, Purpose, Resolving}
 use Rattle.hart_moves.specs.Registers.{a0, a1, a2, ra}
 use Rattle.hart_moves.specs.Services.{Service, service_at}
+use Rattle.hart_moves.specs.Waiting.{is_still}
 use Rattle.world_guests.specs.Asking.{needs_linker}
 
 abbrev is_there : Due → Bool
@@ -74,6 +75,8 @@ phase_there s b Phase.at_pc = pc_there s b (service_at b.registers.pc)
 phase_there s b (Phase.naming n bytes) = refl
 phase_there s b (Phase.versioning name bytes) = refl
 phase_there s b (Phase.named n name version) = refl
+phase_there s b (Phase.waiting n name version for) =
+    either_there (is_still s for) (Due.wait for) (Due.serve (call_of s b.registers n name version) (back b)) refl refl
 phase_there s b (Phase.pairing bytes) =
     either_there (nat_lt (length bytes) 16) (Due.copy Copy.of_pair (a0 b.registers) bytes) (Due.serve (call.locates (number_in bytes 0) (number_in bytes 8)) (back b)) refl refl
 phase_there s b (Phase.writing bytes) =

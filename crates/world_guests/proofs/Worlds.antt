@@ -28,7 +28,9 @@ use Rattle.world_guests.specs.GuestWorlds.Worlds.{MayBeAt, TurnsOver, world_of}
 use Rattle.world_guests.specs.declared.guest_worlds.turn.Turn.{Turn}
 use Rattle.world_guests.specs.declared.guest_worlds.turn.Turn.TheVariants as turn
 use Rattle.world_guests.specs.Next.{OfNext}
-use Rattle.world_guests.specs.Taking.{HartTurns, HartTurnsOn, HartTurnsOver, IsLegal, IsOutcome, MakesCall}
+use Rattle.world_guests.specs.Asking.{is_called}
+use Rattle.world_guests.specs.Taking.{HartTurns, HartTurnsOn, HartTurnsOver, HasCalled, IsLegal, IsOutcome, MakesCall}
+use Rattle.world_guests.proofs.GuestWorlds.Dues.{HasTurn, has_turn, takes_fuel}
 use Rattle.world_guests.proofs.Freed.{IsServe, freed_at, freed_twice, hart_at, harts_freed, left_at, same_hart, serve_of}
 
 -- ---- a turn that asks for something else
@@ -40,6 +42,13 @@ pub complete_no_call : (d : Due) → is_complete d ≡ true → is_service d ≡
 complete_no_call (Due.complete purpose object rest below) is = refl
 complete_no_call (Due.serve call back) is = absurd (serves_not_complete call back is)
 complete_no_call _ is = refl
+
+called_takes : (d : Due) → is_called d ≡ true → takes_fuel d ≡ true
+called_takes Due.nothing is = is
+called_takes (Due.exchange o) is = is
+called_takes (Due.finish o found) is = is
+called_takes Due.fuel_out is = is
+called_takes _ is = refl
 
 -- ---- behind the settling
 
@@ -111,16 +120,22 @@ module _ (old mid : LinkTable) (words : List Doubleword) (harts after_all : List
     freed_stays : freed b' ≡ b'
     freed_stays = ap freed x.hart ∙ freed_twice b ∙ sym x.hart
 
-    pub makes_call : CallsNow → ((s : State) → is_service (due s b) ≡ true) → MakesCall mid.harts mid.events h b'
+    makes_call : CallsNow → is_service (due (after past) b') ≡ true → MakesCall old.harts past h b'
     makes_call calls service =
-        let serve : IsServe (due (after past) b') = serve_of (due (after past) b') (ap is_service (as_due (after past)) ∙ service (after past)) in
-        subst (λ (t : LinkTable). MakesCall t.harts t.events h b') (sym x.state)
-        (record {
+        let serve : IsServe (due (after past) b') = serve_of (due (after past) b') service in
+        record {
           call = serve.call;
           back = serve.back;
           is = serve.is;
           may = calls old.harts folders begun (settled (world_of old words harts)) h b' serve.call serve.back settled_at.at freed_there freed_stays serve.is;
-        })
+        }
+
+    pub has_called : CallsNow → ((s : State) → is_called (due s b) ≡ true) → HasCalled mid.harts mid.events h b'
+    has_called calls called =
+        let now : is_called (due (after past) b') ≡ true = ap is_called (as_due (after past)) ∙ called (after past) in
+        let has : HasTurn b' = has_turn (after past) b' (due (after past) b') refl (called_takes (due (after past) b') now) in
+        subst (λ (t : LinkTable). HasCalled t.harts t.events h b') (sym x.state)
+        (record { called = now; makes = λ service. makes_call calls service; runs = has.runs; fuel = has.fuel })
 
     pub may_pass : PassesNow → MayPass mid.harts mid.events h (due (after mid.events) b')
     may_pass passes =

@@ -5,15 +5,19 @@ use Rattle.history_state.specs.After.{after}
 use Rattle.history_calls.specs.Call.{Call, resolves, opens, looks_up, closes, unmaps, asks_fault, locates, writes, stops}
 use Rattle.hart_moves.specs.Due.{Due, due}
 use Rattle.hart_moves.specs.Harts.{HartState}
-use Rattle.world_answers.specs.Answers.{is_service}
+use Rattle.world_answers.specs.Answers.{is_service, is_wait}
 use Rattle.world_returns.specs.Completing.{is_complete}
 use Rattle.world_turns.specs.World.{World}
 use Rattle.world_guests.specs.declared.asking.Asked.{Asked}
 use Rattle.world_guests.specs.declared.asking.Asked.TheVariants as asked
 
--- it is a call, or the turn in which the functions of an object have run. Those of the final destructors are another's
+-- it is a call, or waits for what an opening came to
+abbrev pub is_called : Due → Bool
+is_called d = is_service d || is_wait d
+
+-- it is one of these, or the turn in which the functions of an object have run. Those of the final destructors are another's
 abbrev pub asks_linker : Due → Bool
-asks_linker d = is_service d || is_complete d
+asks_linker d = is_called d || is_complete d
 
 -- the hart's next turn asks for nothing
 abbrev pub AsksNothing : World → ℕ → Type 0
@@ -25,7 +29,7 @@ is_final d = elim d [ Due.finalise code object ↦ true | _ ↦ false ]
 
 -- a turn that asks the linker, or the one behind the final destructors of an object
 abbrev pub needs_linker : Due → Bool
-needs_linker d = is_service d || (is_complete d || is_final d)
+needs_linker d = is_called d || (is_complete d || is_final d)
 
 -- the hart's next turn is one of these
 abbrev pub NeedsLinker : World → ℕ → Type 0
@@ -34,7 +38,7 @@ NeedsLinker world h = (b : HartState) × (slice_get world.harts h ≡ Some b) ×
 -- ---- for the code of this crate alone
 
 abbrev pub IsAsked : Due → Option Asked → Type 0
-IsAsked d (Some asked.Call) = is_service d ≡ true
+IsAsked d (Some asked.Call) = is_called d ≡ true
 IsAsked d (Some asked.Passing) = is_complete d ≡ true
 IsAsked d None = asks_linker d ≡ false
 

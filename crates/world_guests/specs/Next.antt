@@ -86,10 +86,14 @@ pub record HasAnswer (w : Setting) (past events : List Event) (h : ℕ) (call : 
   pub serves : Serves w past h call appended answer
   pub comes : is_again answer ≡ false
 
--- what is told of a hart that runs on: its call has to wait for this, and nothing was appended; or its call, if it made one, was answered
+-- its call has to wait for this; or it waits for that since another call, and it is so still
+abbrev pub HasToWait : Setting → List Event → ℕ → Due → Shown → Type 0
+HasToWait w past h d shown = OfCall d (λ call. Shows w (after past) h call shown) ⊎ (d ≡ Due.wait shown)
+
+-- what is told of a hart that runs on: it has to wait for this, and nothing was appended; or its call, if it made one, was answered
 abbrev pub TurnTells : Setting → (past events : List Event) → ℕ → Due → Turn → Type 0
 TurnTells w past events h d turn.Stepped = is_service d ≡ true → OfCall d (λ call. HasAnswer w past events h call)
-TurnTells w past events h d (turn.Again shown) = OfCall d (λ call. Shows w (after past) h call shown × (events ≡ past))
+TurnTells w past events h d (turn.Again shown) = HasToWait w past h d shown × (events ≡ past)
 TurnTells w past events h d (turn.Ended reason) = Unit {0}
 TurnTells w past events h d turn.Idle = Unit {0}
 

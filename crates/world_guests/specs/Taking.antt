@@ -1,5 +1,5 @@
 -- A hart's turn behind the settling, and what it meets: for the code of this crate alone.
-use Rattle.std.specs.Prelude.{◌≡◌, ℕ, List, ◌++◌, Option, Some, None, IsTrue}
+use Rattle.std.specs.Prelude.{◌≡◌, ℕ, ◌<◌, true, List, ◌++◌, Option, Some, None, IsTrue}
 use Rattle.ld_base.specs.declared.linking.File.{File}
 use Rattle.history_event.specs.declared.event.Event.{Event}
 use Rattle.history_state.specs.After.{after}
@@ -13,9 +13,11 @@ use Rattle.hart_moves.specs.Due.{Due, Return, due}
 use Rattle.hart_moves.specs.Harts.{HartState}
 use Rattle.hart_moves.specs.Moves.{Did, Moves, events_of, settles}
 use Rattle.link_state.specs.Table.{LinkTable}
+use Rattle.world_answers.specs.Answers.{is_service}
 use Rattle.world_turns.specs.Memory.{Does}
 use Rattle.world_guests.specs.GuestWorlds.Laws.{MayCall}
 use Rattle.world_guests.specs.GuestWorlds.Worlds.{setting_without}
+use Rattle.world_guests.specs.Asking.{is_called}
 use Rattle.world_guests.specs.declared.guest_worlds.turn.Turn.{Turn}
 use Rattle.world_guests.specs.declared.guest_worlds.turn.Turn.TheVariants as turn
 
@@ -32,6 +34,13 @@ pub record MakesCall (count : ℕ) (past : List Event) (h : ℕ) (b : HartState)
   pub back : Return
   pub is : due (after past) b ≡ Due.serve call back
   pub may : MayCall count past h b
+
+-- the hart's next turn is a call, which it may make, or it waits with one
+pub record HasCalled (count : ℕ) (past : List Event) (h : ℕ) (b : HartState) : Type 0 where
+  pub called : is_called (due (after past) b) ≡ true
+  pub makes : is_service (due (after past) b) ≡ true → MakesCall count past h b
+  pub runs : b.«end» ≡ None
+  pub fuel : b.turns < b.fuel
 
 -- ---- a turn
 

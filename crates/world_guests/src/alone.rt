@@ -27,7 +27,7 @@ pub(crate) fn take_alone(hart: &mut LinkedHart, memory: &mut PlainMemory) -> Opt
         Due::Exchange(offered) => Some(exchange(hart, memory, offered)),
         Due::Finish(_, _) => Some(finish_offer(hart)),
         Due::FuelOut => Some(Turned::Ends(HartEnd::FuelOut)),
-        Due::Nothing | Due::Serve(_) | Due::Complete(..) => None,
+        Due::Nothing | Due::Serve(_) | Due::Wait(..) | Due::Complete(..) => None,
     }
 }
 

@@ -7,7 +7,7 @@
 //!
 //! [`take_service`] takes it if it is a call of the linker, or the turn in which the constructors or
 //! destructors of an object have run. The room for functions that the linker may have the hart run is taken
-//! before.
+//! before; [`answer_with_room`] is that room and the linker's answer alone, for a hart of any world.
 //!
 //! The final destructors of the run have two calls. [`begin_finals`] has the first hart begin with them, once
 //! each hart has ended by exit. [`take_final`] takes the turn in which those of an object have run. Both list
@@ -40,3 +40,4 @@ pub use guest_worlds::{Turn, guests_may_turn, guests_take_turns, runs_stay};
 pub use law::{ends_are_turns, refusals_are_counted};
 pub use quiet::take_quiet;
 pub use service::take_service;
+pub use serving::answer_with_room;

@@ -1,4 +1,5 @@
 pub mod Passing
+pub mod ByDue
 pub mod Rows
 pub mod Running
 pub mod Settled

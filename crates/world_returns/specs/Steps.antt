@@ -11,6 +11,7 @@ use Rattle.hart_moves.specs.Due.{Due, Return, back, behind, due}
 use Rattle.hart_moves.specs.Harts.{Frame, HartState, Purpose, Resolving}
 use Rattle.hart_moves.specs.Moves.{ended, freed, passing, returning, runs, spent, telling}
 use Rattle.hart_moves.specs.Registers.{ra}
+use Rattle.hart_moves.specs.Waiting.{awaiting}
 use Rattle.hart_seat.specs.HartParts.Views.{closing_back, offered_of}
 use Rattle.world_memory.specs.declared.turn_answers.answered.Answered.{Answered}
 use Rattle.world_memory.specs.declared.turn_answers.answered.Answered.TheVariants as answered
@@ -58,7 +59,7 @@ hart_after b kind (answered.Loading root installs functions) = spent (runs (open
 hart_after b kind (answered.Closing dying functions) = spent (runs (closing_of b dying.list) (left functions) b.frames (freed b))
 hart_after b kind (answered.Granted offered) = spent (record b { resolving = Resolving.to_exchange (offered_of offered) })
 hart_after b kind (answered.Told text message) = spent (telling text (text_words message) (freed b))
-hart_after b kind (answered.Again for) = spent (freed b)
+hart_after b kind (answered.Again for) = spent (awaiting for (freed b))
 hart_after b kind (answered.Over reason) = ended reason (spent b)
 
 -- which events come with it: those of the objects in front that have no functions

@@ -95,7 +95,8 @@ fn apply(
             hart.spend();
             MemoryChange::Nothing
         }
-        Answered::Again(_) => {
+        Answered::Again(shown) => {
+            hart.wait(shown);
             hart.spend();
             MemoryChange::Nothing
         }

@@ -1,7 +1,9 @@
 //! How calls return.
 
 ghost use Rattle.std.specs.Prelude.{◌≡◌};
-ghost use Rattle.world_returns.specs.Steps.{ReturnsAs, return_of};
+ghost use Rattle.world_returns.specs.Steps.{ReturnsAs, return_by, return_of};
+ghost use Rattle.hart_seat.specs.HartParts.Views.{back_of, call_in};
+ghost use Rattle.hart_moves.specs.Harts.{HartState};
 ghost use Rattle.hart_moves.specs.Due.{Due as is_due, Return, due};
 ghost use Rattle.hart_moves.specs.Moves.{returning};
 ghost use Rattle.history_state.specs.State.{State};
@@ -25,8 +27,20 @@ pub(crate) fn due_return(hart: &LinkedHart) -> CallReturn
     ensures { (s : State) (call : is_call) (to : Return) → due s hart.now.hart ≡ is_due.serve call to → ReturnsAs hart.now.hart call to result }
 {
     match hart.due() {
-        Due::Serve(Call::Write(_)) => CallReturn::BehindEcall,
-        Due::Serve(Call::Unmap(_)) => CallReturn::FromClosing,
+        Due::Serve(asked) => kind_of(&asked),
+        Due::Wait(_, asked) => kind_of(&asked),
+        _ => CallReturn::ToCaller,
+    }
+}
+
+/// How a call returns.
+fn kind_of(asked: &Call<'_>) -> CallReturn
+    ensures by_call { (s : State) → result ≡ return_by (call_in s asked.now) }
+    ensures at { (b : HartState) → back_of b asked.now ≡ return_of b result }
+{
+    match asked {
+        Call::Write(_) => CallReturn::BehindEcall,
+        Call::Unmap(_) => CallReturn::FromClosing,
         _ => CallReturn::ToCaller,
     }
 }

@@ -1,7 +1,4 @@
-pub mod Events
 pub mod Finals
-pub mod Origins
-pub mod Passing
 pub mod Runs
 pub mod Settled
 pub mod Starting

@@ -1,3 +1,4 @@
 pub mod Belong
 pub mod Finals
 pub mod Laws
+pub mod Lemmas

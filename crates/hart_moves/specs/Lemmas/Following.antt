@@ -1,5 +1,5 @@
 -- What a hart followed over a journal it follows over a longer one, and with a turn more.
-use Rattle.std.proofs.Common.{◌≡◌, ◌≢◌, ◌⊎◌, inl, inr, ⊎_elim, ℕ, zero, suc, ◌+◌, ◌-◌, ◌≤◌, ◌<◌, List, [], ◌∷◌, ◌++◌, length, take, drop, Some, sym}
+use Rattle.std.proofs.Common.{◌≡◌, ◌⊎◌, inl, inr, ⊎_elim, ℕ, zero, suc, ◌+◌, ◌-◌, ◌≤◌, ◌<◌, List, [], ◌∷◌, ◌++◌, length, take, drop, Some, sym}
 use Rattle.std.proofs.Common.{ap, subst, ◌∙◌, arith}
 use Rattle.std.specs.List.{Contains, slice_get}
 use Rattle.std.proofs.lemmas.List.{drop-append-le, length-append, length-drop, take-append-le}
@@ -7,17 +7,12 @@ use Rattle.std.proofs.lemmas.Option.{none-some}
 use Rattle.history_event.specs.declared.event.Event.{Event}
 use Rattle.history_state.specs.Setting.{Setting}
 use Rattle.history_state.specs.Lemmas.Lists.{here, later}
-use Rattle.history_calls.specs.Laws.{hart_of}
-use Rattle.hart_moves.specs.Follows.{Follows, HasNone, Turned, TurnsAt}
+use Rattle.hart_moves.specs.Follows.{AreOthers, Follows, HasNone, Turned, TurnsAt}
 use Rattle.hart_moves.specs.Harts.{HartState}
 use Rattle.hart_moves.specs.Moves.{Moves, events_of}
 use Rattle.hart_moves.specs.Trails.{beside_of}
 
 -- ---- events of others
-
--- none of these is the hart's
-abbrev pub AreOthers : ℕ → List Event → Type 0
-AreOthers h events = (e : Event) → Contains events e → hart_of e ≢ Some h
 
 -- what stands in two lists stands in one of them
 at_both : (xs ys : List Event) (k : ℕ) (e : Event) → slice_get (xs ++ ys) k ≡ Some e
@@ -50,7 +45,7 @@ module _ (w : Setting) (journal more : List Event) (h : ℕ) where
       (λ (y : (length journal ≤ k) × Contains more e). others e y.1)
       (at_both journal more k e at)
 
-  turn_longer : (turn : Turned) (b c : HartState) → TurnsAt w journal h turn b c → TurnsAt w (journal ++ more) h turn b c
+  pub turn_longer : (turn : Turned) (b c : HartState) → TurnsAt w journal h turn b c → TurnsAt w (journal ++ more) h turn b c
   turn_longer turn b c x =
       let within : turn.at + length (events_of turn.did) ≤ length journal = x.within in
       let at : turn.at ≤ length journal = omega (arith, within) in

@@ -3,6 +3,7 @@ use Rattle.std.proofs.Common.{◌≡◌, ◌⊎◌, ⊎_elim, inl, inr, ap, sym,
 use Rattle.std.proofs.Common.{Err, true≢false}
 use Rattle.std.specs.Prelude.{IsTrue}
 use Rattle.ld_base.specs.declared.fault.DlFault.{DlFault}
+use Rattle.ld_base.specs.declared.fault.Shown.{Shown}
 use Rattle.history_event.specs.declared.event.Event.{Event}
 use Rattle.history_event.specs.declared.handed.Function.{Function}
 use Rattle.history_event.specs.declared.hart_end.HartEnd.{HartEnd}
@@ -27,7 +28,8 @@ use Rattle.hart_moves.specs.Registers.{entered}
 use Rattle.hart_moves.specs.Moves.{Did, after_all, did_by, final_functions, freed, freed_by, own_fini, returning, running, runs, settled_resolving}
 use Rattle.hart_moves.specs.Moves.{settles, spent, stack_start, telling, trap_of, Trap, with_first}
 use Rattle.hart_moves.specs.Moves.{Calls, Comes, Completes, Copies, CopiesBy, TurnEnds, EndsObject, Finalises, Goes, Instructs, Moves, MovesAs}
-use Rattle.hart_moves.specs.Moves.{Passes, TurnRefuses, TurnStops, StoresBy, StoresText, Takes, TellsOf, Traps, Unread}
+use Rattle.hart_moves.specs.Moves.{Passes, TurnRefuses, TurnStops, TurnWaits, StoresBy, StoresText, Takes, TellsOf, Traps, Unread}
+use Rattle.hart_moves.specs.Waiting.{awaiting}
 
 -- ---- settled twice
 
@@ -215,6 +217,9 @@ module _ (w : Setting) (past : List Event) (h : ℕ) (b : HartState) (did : Did)
   }
   tells text back None appended x = record { is = x.is; leaves = x.leaves ∙ ap (λ (y : HartState). spent (returning back 0 y)) (freed_twice b) }
 
+  waits : (for : Shown) → TurnWaits (freed b) for did c → TurnWaits b for did c
+  waits for x = record { is = x.is; leaves = x.leaves ∙ ap (λ (y : HartState). spent (awaiting for y)) (freed_twice b) }
+
   takes : (call : Call) (back : Return) (answer : Answer) (appended : List Event) → Takes w past h (freed b) call back answer appended did c
       → Takes w past h b call back answer appended did c
   takes call back (returns value) appended x = record { is = x.is; leaves = x.leaves ∙ ap (λ (y : HartState). spent (returning back value y)) (freed_twice b) }
@@ -237,7 +242,7 @@ module _ (w : Setting) (past : List Event) (h : ℕ) (b : HartState) (did : Did)
   }
   takes call back (granted grant) appended x = record { offered = x.offered; offer = x.offer; is = x.is; leaves = x.leaves }
   takes call back (told fault) appended x = tells (stack_start (after past) h) back fault appended x
-  takes call back (again for) appended x = record { is = x.is; leaves = x.leaves ∙ ap spent (freed_twice b) }
+  takes call back (again for) appended x = waits for x
   takes call back (over reason) appended x = record {
     is = x.is;
     leaves = x.leaves
@@ -260,6 +265,7 @@ module _ (w : Setting) (past : List Event) (h : ℕ) (b : HartState) (did : Did)
   as_before Due.instruction x = instructs x
   as_before (Due.copy copy start bytes) x = copies copy start bytes x
   as_before (Due.serve call back) x = same (calls call back x)
+  as_before (Due.wait for) x = same (waits for x)
   as_before (Due.store text stored word more) x = stores text stored word more x
   as_before (Due.enter function frames) x =
       record {

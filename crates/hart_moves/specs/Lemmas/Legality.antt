@@ -307,6 +307,7 @@ keeps w past h b Due.instruction did c x = keeps_coming w past h b x.items x.pla
 keeps w past h b (Due.copy copy start bytes) did c x = keeps_copy w past h b (copied_item start bytes x.answer ∷ []) copy start bytes x.answer did c x.comes
 keeps w past h b (Due.serve call back) did c x =
     keeps_taking w past h b call back x.answer x.appended did c (serves_allowed w past h call x.appended x.answer x.serves) (serves_of w past h call x.appended x.answer x.serves) x.takes
+keeps w past h b (Due.wait for) did c x = keeps_by w past h b did c _ [] (ap events_of x.is) tt (of_none h) x.leaves refl refl
 keeps w past h b (Due.store text stored word more) did c x = keeps_store w past h b (Write (text + 8 * stored) 8 word x.answer ∷ []) text stored more x.answer did c x.comes
 keeps w past h b (Due.enter function frames) did c x = keeps_by w past h b did c _ [] (ap events_of x.is) tt (of_none h) x.leaves refl refl
 keeps w past h b (Due.complete purpose object rest below) did c x =

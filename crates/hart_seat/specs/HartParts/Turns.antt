@@ -1,10 +1,15 @@
 -- What a hart has of its next turn.
-use Rattle.std.specs.Prelude.{◌≡◌, ◌+◌, ◌*◌, ◌%◌, ◌^◌, ◌<◌, ◌≤◌, [], ◌∷◌}
-use Rattle.hart_moves.specs.Harts.{HartState, Phase, Resolving}
+use Rattle.std.specs.Prelude.{◌≡◌, ◌⊎◌, ℕ, List, ◌+◌, ◌*◌, ◌%◌, ◌^◌, ◌<◌, ◌≤◌, [], ◌∷◌}
+use Rattle.ld_base.specs.declared.fault.Shown.{Shown}
+use Rattle.hart_moves.specs.Harts.{HartState, Naming, Phase, Resolving}
 use Rattle.hart_seat.specs.HartParts.Queues.{below}
 use Rattle.hart_seat.specs.HartParts.Views.{more_of, offered_of, purpose_of}
 use Rattle.hart_seat.specs.declared.hart_parts.due.Due.{Due as code_due}
 use Rattle.hart_seat.specs.declared.hart_parts.due.Due.TheVariants as due
+
+-- it has the name of an opening, or of a look-up with its version, whole
+abbrev pub HasName : Phase → Naming → (name version : List ℕ) → Type 0
+HasName phase n name version = (phase ≡ Phase.named n name version) ⊎ ((for : Shown) × (phase ≡ Phase.waiting n name version for))
 
 -- it has fuel for a turn of its own; the turns of a granted slot don't ask for it
 abbrev pub HasFuel : HartState → code_due → Type 0
@@ -15,6 +20,7 @@ HasFuel b due.FuelOut = Unit {0}
 HasFuel b due.Instruction = b.turns < b.fuel
 HasFuel b (due.Copy what start bytes) = b.turns < b.fuel
 HasFuel b (due.Serve asked) = b.turns < b.fuel
+HasFuel b (due.Wait for asked) = b.turns < b.fuel
 HasFuel b (due.Store text stored word) = b.turns < b.fuel
 HasFuel b (due.Enter function) = b.turns < b.fuel
 HasFuel b (due.Complete purpose object behind) = b.turns < b.fuel
@@ -29,6 +35,7 @@ HasParts b due.FuelOut = Unit {0}
 HasParts b due.Instruction = Unit {0}
 HasParts b (due.Copy what start bytes) = Unit {0}
 HasParts b (due.Serve asked) = Unit {0}
+HasParts b (due.Wait for asked) = Unit {0}
 HasParts b (due.Store text stored word) = (b.phase ≡ Phase.storing text stored word (more_of b.phase)) × (text % 8 ≡ 0) × (text + 8 * stored + 8 ≤ 2 ^ 64)
 HasParts b (due.Enter function) = Unit {0}
 HasParts b (due.Complete purpose object behind) =

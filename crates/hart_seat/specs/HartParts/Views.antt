@@ -1,5 +1,5 @@
 -- The types of the code, as the definitions of a hart have them.
-use Rattle.std.specs.Prelude.{ℕ, List, [], ◌∷◌}
+use Rattle.std.specs.Prelude.{ℕ, if◌then◌else◌, List, [], ◌∷◌}
 use Rattle.std.specs.Option.{option_copied}
 use Rattle.history_state.specs.State.{State}
 use Rattle.history_calls.specs.Call.{Call}
@@ -9,6 +9,7 @@ use Rattle.hart_moves.specs.Due.{Due, Return, back, behind, done}
 use Rattle.hart_moves.specs.Harts.{Frame, HartState, Naming, Offered, Phase, Purpose}
 use Rattle.hart_moves.specs.Services.{Service}
 use Rattle.hart_moves.specs.Starting.{starting_registers}
+use Rattle.hart_moves.specs.Waiting.{is_still}
 use Rattle.hart_seat.specs.HartParts.Queues.{below, entered_frames}
 use Rattle.hart_seat.specs.declared.hart_parts.due.Call.{Call as code_call}
 use Rattle.hart_seat.specs.declared.hart_parts.due.Call.TheVariants as call
@@ -97,6 +98,7 @@ more_of Phase.at_pc = []
 more_of (Phase.naming n bytes) = []
 more_of (Phase.versioning name bytes) = []
 more_of (Phase.named n name version) = []
+more_of (Phase.waiting n name version for) = []
 more_of (Phase.pairing bytes) = []
 more_of (Phase.writing bytes) = []
 more_of (Phase.storing text stored word more) = more
@@ -110,6 +112,7 @@ due_in s b due.FuelOut = Due.fuel_out
 due_in s b due.Instruction = Due.instruction
 due_in s b (due.Copy what start bytes) = Due.copy (copying_of what) start bytes.now
 due_in s b (due.Serve asked) = Due.serve (call_in s asked) (back_of b asked)
+due_in s b (due.Wait for asked) = if is_still s for then Due.wait for else Due.serve (call_in s asked) (back_of b asked)
 due_in s b (due.Store text stored word) = Due.store text stored word (more_of b.phase)
 due_in s b (due.Enter function) = Due.enter function (entered_frames b.frames)
 due_in s b (due.Complete purpose object behind) = done (purpose_of purpose.now) object behind.now (below b.frames)

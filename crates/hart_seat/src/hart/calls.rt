@@ -6,13 +6,14 @@ ghost use Rattle.hart_moves.specs.Due.{back, behind};
 ghost use Rattle.hart_moves.specs.Harts.Phase.{storing, writing};
 ghost use Rattle.hart_moves.specs.Moves.{returning, running, stored_to, telling};
 ghost use Rattle.hart_moves.specs.Registers.{passed_ecall};
+ghost use Rattle.hart_moves.specs.Waiting.{awaiting};
 ghost use Rattle.hart_seat.specs.HartParts.Views.{closing_back, purpose_of};
 ghost use Rattle.hart_seat.specs.Table.{closing_return};
 
 use crate::LinkedHart;
 use crate::hart_parts::{Purpose, RA, return_with};
 use crate::phase::Phase;
-use ld_base::Name;
+use ld_base::{Name, Shown};
 
 impl LinkedHart {
     /// A function that the hart called returns with a value.
@@ -41,6 +42,15 @@ impl LinkedHart {
         let to = self.leave_closing();
         return_with(&mut self.registers, to, value);
         self.phase = Phase::AtPc;
+    }
+
+    /// What it asked for has to wait for this. An opening keeps that; another call is made again in the next turn.
+    pub fn wait(&mut self, shown: Shown)
+        ensures { self.new.hart ≡ awaiting shown self.old.hart }
+    {
+        if let Phase::Named(naming) | Phase::Waiting(naming, _) = self.phase {
+            self.phase = Phase::Waiting(naming, shown);
+        }
     }
 
     /// A write has been asked for: its bytes are to be copied.

@@ -6,7 +6,7 @@ ghost use Rattle.hart_moves.specs.Due.{back, by_phase, call_of, due, within_fuel
 ghost use Rattle.hart_moves.specs.Due.{Due as is_due};
 ghost use Rattle.hart_moves.specs.Harts.{Phase as phase_is};
 ghost use Rattle.hart_seat.specs.HartParts.Views.{due_in, naming_of};
-ghost use Rattle.hart_seat.specs.HartParts.Turns.{HasFuel, HasParts};
+ghost use Rattle.hart_seat.specs.HartParts.Turns.{HasFuel, HasName, HasParts};
 
 use crate::LinkedHart;
 use crate::hart_parts::{A0, A1, A2, Call, Copying, Due, Naming, RA, number_at};
@@ -68,6 +68,7 @@ impl LinkedHart {
                 self.version.as_slice(),
             ),
             Phase::Named(naming) => Due::Serve(self.named_call(naming)),
+            Phase::Waiting(naming, shown) => Due::Wait(shown, self.named_call(naming)),
             Phase::Pairing => self.pairing(),
             Phase::Writing => self.writing(),
             Phase::Storing { text, stored } => Due::Store {
@@ -81,7 +82,7 @@ impl LinkedHart {
     /// The call of a function that takes names, once they are copied.
     #[tactic(auto, unfolding(hart_moves::specs::Due::call_of))]
     fn named_call(&self, naming: Naming) -> Call<'_>
-        ensures { (s : State) (name version : List ℕ) → self.now.hart.phase ≡ phase_is.named (naming_of naming) name version
+        ensures { (s : State) (name version : List ℕ) → HasName self.now.hart.phase (naming_of naming) name version
             → due_in s self.now.hart (Due.Serve result) ≡
             is_due.serve (call_of s self.now.hart.registers (naming_of naming) name version) (back self.now.hart) }
     {

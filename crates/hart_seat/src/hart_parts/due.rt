@@ -5,7 +5,7 @@ ghost use Rattle.hart_moves.specs.Copying.{first_left};
 
 use crate::hart_parts::Purpose;
 use history_event::{Dying, Function, HartEnd};
-use ld_base::{GrantNo, Serial};
+use ld_base::{GrantNo, Serial, Shown};
 
 /// A granted slot, as its hart gets it.
 #[derive(Clone, Copy, Debug, PartialEq, Eq)]
@@ -116,6 +116,8 @@ pub enum Due<'a> {
     Copy(Copying<'a>, u64, &'a [u8]),
     /// A service.
     Serve(Call<'a>),
+    /// An opening has to wait for this. While it is so nothing is asked; then the call is made again.
+    Wait(Shown, Call<'a>),
     /// One doubleword more of dlerror's text.
     Store {
         /// Where the text begins.

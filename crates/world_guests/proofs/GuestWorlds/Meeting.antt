@@ -118,6 +118,7 @@ module _ (laws : Laws) where
       by Due.instruction is = tt
       by (Due.copy copy start bytes) is = tt
       by (Due.serve call back) is = tt
+      by (Due.wait for) is = tt
       by (Due.store text stored word more) is = tt
       by (Due.enter function frames) is = tt
       by (Due.complete purpose object rest below) is =

@@ -177,6 +177,7 @@ module _ (allowed : AllowedUntold) (serves : ServesUntold) (w : Setting) (h : â„
     moves_as b Due.instruction x = instructs b x
     moves_as b (Due.copy copy start bytes) x = copies b copy start bytes x
     moves_as b (Due.serve call back) x = calls b call back x
+    moves_as b (Due.wait for) x = x
     moves_as b (Due.store text stored word more) x = stores b text stored word more x
     moves_as b (Due.enter function frames) x = x
     moves_as b (Due.complete purpose object rest below) x = completes b purpose object rest below x

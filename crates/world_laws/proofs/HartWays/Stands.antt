@@ -13,11 +13,11 @@ use Rattle.history_state.specs.Setting.{Setting}
 use Rattle.history_state.specs.Lemmas.Lists.{none_in, only_in}
 use Rattle.history_calls.specs.Laws.{hart_of}
 use Rattle.history_calls.specs.Lemmas.Unique.{both_found}
-use Rattle.hart_moves.specs.Follows.{Follows, HasNone, Turned}
+use Rattle.hart_moves.specs.Follows.{AreOthers, Follows, HasNone, Turned}
 use Rattle.hart_moves.specs.Harts.{HartState, Offered, Resolving}
 use Rattle.hart_moves.specs.Moves.{Did, Moves, events_of, freed, settles}
 use Rattle.hart_moves.specs.Trails.{beside_of}
-use Rattle.hart_moves.specs.Lemmas.Following.{AreOthers, follows_longer, none_longer, none_with, one_turn_more}
+use Rattle.hart_moves.specs.Lemmas.Following.{follows_longer, none_longer, none_with, one_turn_more}
 use Rattle.hart_moves.specs.Lemmas.Freed.{Before, freed_before, freed_twice}
 use Rattle.hart_moves.specs.Lemmas.Legality.{turns_own}
 use Rattle.world_turns.specs.Turn.{Turn}

@@ -261,6 +261,7 @@ module _ (w : Setting) (past : List Event) (h : ℕ) (b : HartState) (number har
   by_due (Due.copy copy start bytes) did c is x there =
       never (events_of did) (copy_none w past h b (copied_item start bytes x.answer ∷ []) copy start bytes x.answer did c x.comes) there
   by_due (Due.serve asked to) did c is x there = by_calls asked to did c is x there
+  by_due (Due.wait for) did c is x there = never (events_of did) (subst DidNone (sym x.is) empty_none) there
   by_due (Due.store text stored word more) did c is x there =
       never (events_of did) (store_none w past h b (Write (text + 8 * stored) 8 word x.answer ∷ []) text stored more x.answer did c x.comes) there
   by_due (Due.enter function frames) did c is x there = never (events_of did) (subst DidNone (sym x.is) empty_none) there

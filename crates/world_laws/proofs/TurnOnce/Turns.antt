@@ -147,6 +147,7 @@ module _ (laws : TurnLaws) (w : Setting) (files : List File) (told : w.files ≡
   did_same Due.instruction x y = instruct_same x y
   did_same (Due.copy copy start bytes) x y = copy_same copy start bytes x y
   did_same (Due.serve call to) x y = serve_same call to x y
+  did_same (Due.wait for) x y = x.is ∙ sym y.is
   did_same (Due.store text stored word more) x y = store_same text stored word more x y
   did_same (Due.enter function frames) x y = x.is ∙ sym y.is
   did_same (Due.complete purpose object rest below) x y = x.passes.is ∙ sym y.passes.is

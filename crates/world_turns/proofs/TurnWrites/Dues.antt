@@ -13,6 +13,7 @@ use Rattle.hart_moves.specs.Due.{Due, all_done, at_service, back, behind, by_fra
 use Rattle.hart_moves.specs.Harts.{Frame, HartState, Naming, Phase, Purpose, Resolving}
 use Rattle.hart_moves.specs.Registers.{a0, a1, a2, ra}
 use Rattle.hart_moves.specs.Services.{Service, service_at}
+use Rattle.hart_moves.specs.Waiting.{is_still}
 
 -- a text that the hart copies to write it, of which so many bytes are taken
 pub record IsText (b : HartState) (count : ℕ) (bytes : List ℕ) : Type 0 where
@@ -49,6 +50,7 @@ IsFrom b Due.fuel_out = Unit {0}
 IsFrom b Due.instruction = b.phase ≡ Phase.at_pc
 IsFrom b (Due.copy copy start bytes) = CopiesFrom b bytes copy
 IsFrom b (Due.serve asked to) = AskedFrom b asked
+IsFrom b (Due.wait for) = Unit {0}
 IsFrom b (Due.store text stored word more) = Unit {0}
 IsFrom b (Due.enter function frames) = Unit {0}
 IsFrom b (Due.complete purpose object rest below) = Unit {0}
@@ -127,6 +129,8 @@ phase_from s b Phase.at_pc is = pc_from s b is (service_at b.registers.pc)
 phase_from s b (Phase.naming n bytes) is = tt
 phase_from s b (Phase.versioning name bytes) is = tt
 phase_from s b (Phase.named n name version) is = named_from s b n name version
+phase_from s b (Phase.waiting n name version for) is =
+    either_from b (is_still s for) (Due.wait for) (Due.serve (call_of s b.registers n name version) (back b)) tt (named_from s b n name version)
 phase_from s b (Phase.pairing bytes) is =
     either_from b (nat_lt (length bytes) 16) (Due.copy Copy.of_pair (a0 b.registers) bytes) (Due.serve (call.locates (number_in bytes 0) (number_in bytes 8)) (back b)) tt tt
 phase_from s b (Phase.writing bytes) is = text_from b bytes is (nat_lt (length bytes) (write_count b.registers)) refl

@@ -4,6 +4,7 @@ use Rattle.std.proofs.Math.Nat.{le-min, min-le_left, min-le_right}
 use Rattle.std.proofs.lemmas.Bool.{eqb-false}
 use Rattle.std.proofs.lemmas.List.{length-take}
 use Rattle.ld_base.specs.declared.fault.DlFault.{DlFault}
+use Rattle.ld_base.specs.declared.fault.Shown.{Shown}
 use Rattle.history_event.specs.declared.event.Event.{Event}
 use Rattle.history_event.specs.declared.handed.Function.{Function}
 use Rattle.history_event.specs.declared.hart_end.HartEnd.{HartEnd}
@@ -28,6 +29,7 @@ use Rattle.hart_moves.specs.Due.{Due, Return, due, write_count}
 use Rattle.hart_moves.specs.Harts.{Frame, HartState, Naming, Phase, Purpose}
 use Rattle.hart_moves.specs.Moves.{Comes, CopiesBy, Did, TurnEnds, EndsObject, Goes, MovesAs, Passes, TurnRefuses, TurnStops, StoresBy, Takes, TellsOf, Trap, Traps, Unread, after_all, copied_item, final_functions, freed, freed_by, own_fini, runs, spent, stack_start, stored_to, telling, trap_of, with_first, write_trap}
 use Rattle.hart_moves.specs.Registers.{a0, a2, a7}
+use Rattle.hart_moves.specs.Waiting.{awaiting, awaiting_phase}
 use Rattle.world_turns.specs.TurnWrites.Laws.{ServedMayBeWritten, TurnsKeepWrites}
 use Rattle.world_turns.specs.TurnWrites.Writing.{HartWrites, IsWriting}
 use Rattle.world_turns.proofs.TurnWrites.Dues.{CopiesFrom, IsCopied, IsFrom, due_from}
@@ -39,6 +41,7 @@ is_writing Phase.at_pc = false
 is_writing (Phase.naming n bytes) = false
 is_writing (Phase.versioning name bytes) = false
 is_writing (Phase.named n name version) = false
+is_writing (Phase.waiting n name version for) = false
 is_writing (Phase.pairing bytes) = false
 is_writing (Phase.writing bytes) = true
 is_writing (Phase.storing text stored word more) = false
@@ -147,6 +150,21 @@ freed_writes : (events : List Event) (b : HartState) → HartWrites b → HartWr
 freed_writes [] b holds = holds
 freed_writes (e ∷ rest) b holds = holds
 
+-- ---- a hart that waits
+
+awaiting_back : (for : Shown) (p : Phase) (bytes : List ℕ) → awaiting_phase for p ≡ Phase.writing bytes → p ≡ Phase.writing bytes
+awaiting_back for (Phase.named n name version) bytes is = absurd (let no : Phase.waiting n name version for ≡ Phase.writing bytes = is in cc)
+awaiting_back for (Phase.waiting n name version before) bytes is = absurd (let no : Phase.waiting n name version for ≡ Phase.writing bytes = is in cc)
+awaiting_back for Phase.at_pc bytes is = is
+awaiting_back for (Phase.naming n some) bytes is = is
+awaiting_back for (Phase.versioning name some) bytes is = is
+awaiting_back for (Phase.pairing some) bytes is = is
+awaiting_back for (Phase.writing some) bytes is = is
+awaiting_back for (Phase.storing text stored word more) bytes is = is
+
+awaiting_writes : (for : Shown) (b : HartState) → HartWrites b → HartWrites (awaiting for b)
+awaiting_writes for b holds = λ bytes is. record { some = (holds bytes (awaiting_back for b.phase bytes is)).some; few = (holds bytes (awaiting_back for b.phase bytes is)).few }
+
 -- ---- a turn
 
 stored_writes : (text stored : ℕ) (more : List ℕ) (b : HartState) → HartWrites (stored_to text stored more b)
@@ -227,7 +245,7 @@ module _ (w : Setting) (past : List Event) (h : ℕ) (b : HartState) (holds : Ha
   by_answer asked to (refused fault) appended did c x = left_none _ c x.leaves refl
   by_answer asked to (granted g) appended did c x = left_as _ c x.leaves holds
   by_answer asked to (told fault) appended did c x = by_telling (stack_start (after past) h) to fault appended did c x
-  by_answer asked to (again for) appended did c x = left_as _ c x.leaves holds
+  by_answer asked to (again for) appended did c x = left_as _ c x.leaves (awaiting_writes for b holds)
   by_answer asked to (over reason) appended did c x = left_as _ c x.leaves holds
 
   by_finals : (code object : ℕ) (did : Did) (c : HartState) → EndsObject w past h b code object did c → HartWrites c
@@ -244,6 +262,7 @@ module _ (w : Setting) (past : List Event) (h : ℕ) (b : HartState) (holds : Ha
   by_due Due.instruction did c from x = by_place x.items x.place did c from x.comes
   by_due (Due.copy copy start bytes) did c from x = by_copy (copied_item start bytes x.answer ∷ []) copy start bytes x.answer did c from x.comes
   by_due (Due.serve asked to) did c from x = by_answer asked to x.answer x.appended did c x.takes
+  by_due (Due.wait for) did c from x = left_as _ c x.leaves (awaiting_writes for b holds)
   by_due (Due.store text stored word more) did c from x = by_store (Write (text + 8 * stored) 8 word x.answer ∷ []) text stored more x.answer did c x.comes
   by_due (Due.enter function frames) did c from x = left_none _ c x.leaves refl
   by_due (Due.complete purpose object rest below) did c from x = by_passing purpose _ rest below did c x.passes

@@ -43,9 +43,9 @@ use Rattle.world_turns.specs.WorldEnds.Lemmas.Places.{each_passes, exited_ends, 
 use Rattle.world_turns.specs.WorldFrames.Belong.{AreFramesOf, FramesFit, Origin}
 use Rattle.world_turns.specs.WorldFrames.Finals.{FinalsBelong, FinalsFit, final_frame}
 use Rattle.world_turns.specs.WorldFrames.Laws.{FinalsBeginBelong, FinalsFinish, FinalsKeepFrames, FinalsPass}
-use Rattle.world_turns.proofs.WorldFrames.Events.{finis, inits}
-use Rattle.world_turns.proofs.WorldFrames.Origins.{found_frames}
-use Rattle.world_turns.proofs.WorldFrames.Turns.{FrameLaws, completes_left, dies_left, enters_left, loads_left, stays_left, unmaps_left}
+use Rattle.world_turns.specs.WorldFrames.Lemmas.Events.{finis, inits}
+use Rattle.world_turns.specs.WorldFrames.Lemmas.Origins.{found_frames}
+use Rattle.world_turns.specs.WorldFrames.Lemmas.Leaving.{FrameLaws, completes_left, dies_left, enters_left, loads_left, stays_left, unmaps_left}
 
 -- ---- the next of all objects
 

@@ -15,7 +15,7 @@ use Rattle.world_turns.specs.WorldFrames.Belong.{FramesBelong, FramesFit}
 use Rattle.world_turns.specs.WorldFrames.Finals.{FinalsBelong, FinalsFit}
 use Rattle.world_turns.specs.WorldFrames.Laws.{SettlingKeepsFinals, SettlingKeepsFrames}
 use Rattle.world_turns.proofs.WorldFrames.Finals.{inits_kept, was_grows}
-use Rattle.world_turns.proofs.WorldFrames.Origins.{all_settled}
+use Rattle.world_turns.specs.WorldFrames.Lemmas.Origins.{all_settled}
 
 fit_settled : (past : List Event) (harts : List HartState) (h : ℕ) (frames : List Frame) → FramesFit (after past) h frames
     → FramesFit (after (past ++ settling harts)) h frames

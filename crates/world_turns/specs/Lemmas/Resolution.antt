@@ -32,11 +32,12 @@ use Rattle.history_calls.specs.Functions.{left, passed}
 use Rattle.history_calls.specs.Gives.{EventAnswers, Gives, Serves, ending}
 use Rattle.history_calls.specs.Served.{answer_text}
 use Rattle.hart_moves.specs.Copying.{Copy, number_in, text_words}
-use Rattle.hart_moves.specs.Due.{Due, Return, all_done, at_service, back, behind, by_frames, by_name, by_phase, by_queue, by_resolving, done, due, within_fuel, write_count}
+use Rattle.hart_moves.specs.Due.{Due, Return, all_done, at_service, back, behind, by_frames, by_name, by_phase, by_queue, by_resolving, call_of, done, due, within_fuel, write_count}
 use Rattle.hart_moves.specs.Harts.{Frame, HartState, Naming, Offered, Phase, Purpose, Resolving}
 use Rattle.hart_moves.specs.Moves.{Did, spent, freed, freed_by, did_by, TurnEnds, Goes, Traps, Trap, trap_of, TurnRefuses, TurnStops, Comes, Unread, CopiesBy, copied_item, StoresBy, stored_to, passing, Passes, runs, own_fini, Finals, final_functions, IsOffer, Takes, TellsOf, telling, MovesAs, Moves, settled_resolving}
 use Rattle.hart_moves.specs.Registers.{a0, a1, a2, ra}
 use Rattle.hart_moves.specs.Services.{Service, service_at}
+use Rattle.hart_moves.specs.Waiting.{is_still}
 use Rattle.world_turns.specs.Lemmas.Offers.{granted_to}
 use Rattle.world_turns.specs.Lemmas.Starting.{runs_idle}
 
@@ -50,6 +51,7 @@ is_plain Due.fuel_out = true
 is_plain Due.instruction = true
 is_plain (Due.copy copy start bytes) = true
 is_plain (Due.serve call back) = true
+is_plain (Due.wait for) = true
 is_plain (Due.store text stored word more) = true
 is_plain (Due.enter function frames) = true
 is_plain (Due.complete purpose object rest below) = true
@@ -115,6 +117,8 @@ phase_plain s b Phase.at_pc = pc_plain s b (service_at b.registers.pc)
 phase_plain s b (Phase.naming n bytes) = refl
 phase_plain s b (Phase.versioning name bytes) = refl
 phase_plain s b (Phase.named n name version) = refl
+phase_plain s b (Phase.waiting n name version for) =
+    either_plain (is_still s for) (Due.wait for) (Due.serve (call_of s b.registers n name version) (back b)) refl refl
 phase_plain s b (Phase.pairing bytes) =
     either_plain (nat_lt (length bytes) 16) (Due.copy Copy.of_pair (a0 b.registers) bytes) (Due.serve (call.locates (number_in bytes 0) (number_in bytes 8)) (back b)) refl refl
 phase_plain s b (Phase.writing bytes) =
@@ -307,6 +311,7 @@ module _ (w : Setting) (past : List Event) (h : ℕ) (b : HartState) where
   by_due Due.instruction did c plain idle x = by_place x.items x.place did c x.comes
   by_due (Due.copy copy start bytes) did c plain idle x = by_copy (copied_item start bytes x.answer ∷ []) copy start bytes x.answer did c x.comes
   by_due (Due.serve asked to) did c plain idle x = by_answer asked to x.answer x.appended did c idle (serves_grant w past h asked x.appended x.answer x.serves) x.takes
+  by_due (Due.wait for) did c plain idle x = Resolution.waiting for x.is (ap (λ (z : HartState). z.resolving) x.leaves)
   by_due (Due.store text stored word more) did c plain idle x = by_store (Write (text + 8 * stored) 8 word x.answer ∷ []) text stored more x.answer did c x.comes
   by_due (Due.enter function frames) did c plain idle x = Resolution.quietly [] x.is (ap (λ (z : HartState). z.resolving) x.leaves)
   by_due (Due.complete purpose object rest below) did c plain idle x = by_passing purpose (passing purpose h object ∷ []) rest below did c (one_of (passing purpose h object) (passing_nothing purpose h object)) x.passes

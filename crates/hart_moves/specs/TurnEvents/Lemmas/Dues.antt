@@ -11,6 +11,7 @@ use Rattle.hart_moves.specs.Due.{Due, Return, all_done, at_service, back, behind
 use Rattle.hart_moves.specs.Harts.{Frame, HartState, Naming, Phase, Purpose}
 use Rattle.hart_moves.specs.Registers.{a0, a1, a2, ra}
 use Rattle.hart_moves.specs.Services.{Service, service_at}
+use Rattle.hart_moves.specs.Waiting.{is_still}
 use Rattle.hart_moves.specs.TurnEvents.Appends.{is_of_end}
 
 -- a call returns to the hart's frames, an unmapping to those behind its closing; an opening and a closing to where they were called
@@ -50,6 +51,7 @@ IsFrom b Due.fuel_out = Unit {0}
 IsFrom b Due.instruction = Unit {0}
 IsFrom b (Due.copy copy start bytes) = Unit {0}
 IsFrom b (Due.serve asked to) = AskedFrom b asked to
+IsFrom b (Due.wait for) = Unit {0}
 IsFrom b (Due.store text stored word more) = Unit {0}
 IsFrom b (Due.enter function frames) = EntersFirst b.frames function frames
 IsFrom b (Due.complete purpose object rest below) = HasRun b.frames purpose object rest below × (is_of_end purpose ≡ false)
@@ -119,6 +121,8 @@ phase_from s b Phase.at_pc = pc_from s b (service_at b.registers.pc)
 phase_from s b (Phase.naming n bytes) = tt
 phase_from s b (Phase.versioning name bytes) = tt
 phase_from s b (Phase.named n name version) = named_from s b n name version
+phase_from s b (Phase.waiting n name version for) =
+    either_from b (is_still s for) (Due.wait for) (Due.serve (call_of s b.registers n name version) (back b)) tt (named_from s b n name version)
 phase_from s b (Phase.pairing bytes) =
     either_from b (nat_lt (length bytes) 16) (Due.copy Copy.of_pair (a0 b.registers) bytes) (Due.serve (call.locates (number_in bytes 0) (number_in bytes 8)) (back b)) tt refl
 phase_from s b (Phase.writing bytes) =

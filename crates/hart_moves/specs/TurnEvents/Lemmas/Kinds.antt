@@ -99,6 +99,7 @@ module _ (w : Setting) (past : List Event) (h : ℕ) (b : HartState) where
   by_due Due.instruction did c from x = by_place x.items x.place did c x.comes
   by_due (Due.copy copy start bytes) did c from x = by_copy (copied_item start bytes x.answer ∷ []) copy start bytes x.answer did c x.comes
   by_due (Due.serve asked to) did c from x = Kind.calls asked to from x
+  by_due (Due.wait for) did c from x = Kind.goes (ap events_of x.is) (ap (λ (z : HartState). z.frames) x.leaves) (ap (λ (z : HartState). z.«end») x.leaves)
   by_due (Due.store text stored word more) did c from x = by_store (Write (text + 8 * stored) 8 word x.answer ∷ []) text stored more x.answer did c x.comes
   by_due (Due.enter function frames) did c from x = Kind.enters function frames from x
   by_due (Due.complete purpose object rest below) did c from x = Kind.completes purpose object rest below from.1 from.0 x

@@ -8,8 +8,8 @@ use Rattle.world_guests.specs.Asking.{IsAsked}
 use Rattle.world_guests.specs.Lemmas.Turns.{counts_nothing, opens_nothing, tells_nothing}
 use Rattle.world_guests.specs.Next.{TurnOpens, TurnTellsOver}
 use Rattle.world_guests.specs.declared.asking.Asked.{Asked}
-use Rattle.world_guests.proofs.Freed.{asks_of_complete, asks_of_service, harts_set, runs_on}
-use Rattle.world_guests.proofs.Worlds.{behind, came_of, complete_no_call, completes, from_next, legal_there, makes_call, may_pass, of_next, over_files, turned}
+use Rattle.world_guests.proofs.Freed.{asks_of_called, asks_of_complete, harts_set, runs_on}
+use Rattle.world_guests.proofs.Worlds.{behind, came_of, complete_no_call, completes, from_next, has_called, legal_there, may_pass, of_next, over_files, turned}
 use Rattle.world_guests.proofs.service.take_service.Goals as goal
 
 pub settle_all-requires : goal.settle_all-requires
@@ -27,7 +27,7 @@ pub serve-requires-clause-may : goal.serve-requires-clause-may
 serve-requires-clause-may g c =
     let x = behind c.args.state.now c.settle_all.new.state c.args.memory.now c.args.harts.now c.settle_all.new.harts c.number-index.result c.args.id c.index-harts-index.result
     c.index-harts-index-2.result c.settle_all.ensures.journal c.settle_all.ensures.harts c.number-index.ensures c.requires.hart in
-    makes_call _ _ _ _ _ _ _ _ x c.freed_harts_move.ensures.due c.args.folders.now c.requires.at.0 c.requires.at.1 c.guests_may_turn.ensures.settles c.guests_may_turn.ensures.calls
+    has_called _ _ _ _ _ _ _ _ x c.freed_harts_move.ensures.due c.args.folders.now c.requires.at.0 c.requires.at.1 c.guests_may_turn.ensures.settles c.guests_may_turn.ensures.calls
     (λ s. subst (λ (a : Asked). IsAsked (due s (get_or c.args.harts.now c.number-index.result c.index-harts-index.result).hart) (Some a)) c.in-Call.is (c.in_ok-asked.ensures s))
 
 pub pass-requires-clause-passes : goal.pass-requires-clause-passes
@@ -57,7 +57,7 @@ returns-in-Call-clause-comes g c =
     came_of _ _ _ _ _ _ _ _ x c.freed_harts_move.ensures.due c.serve.new.state c.serve.new.memory c.serve.new.hart.hart (set c.settle_all.new.harts c.number-index.result c.serve.new.hart) c.args.folders.now (g.L.Library.files c.args.library.now)
     c.serve.ensures.turns (harts_set c.settle_all.new.harts c.number-index.result c.args.id c.serve.new.hart c.number-index.ensures)
     c.serve.result (runs_on (after c.args.state.now.events) (get_or c.args.harts.now c.number-index.result c.index-harts-index.result).hart
-    (asks_of_service (due (after c.args.state.now.events) (get_or c.args.harts.now c.number-index.result c.index-harts-index.result).hart) (subst (λ (a : Asked). IsAsked (due (after c.args.state.now.events) (get_or c.args.harts.now c.number-index.result c.index-harts-index.result).hart) (Some a)) c.in-Call.is (c.in_ok-asked.ensures (after c.args.state.now.events)))))
+    (asks_of_called (due (after c.args.state.now.events) (get_or c.args.harts.now c.number-index.result c.index-harts-index.result).hart) (subst (λ (a : Asked). IsAsked (due (after c.args.state.now.events) (get_or c.args.harts.now c.number-index.result c.index-harts-index.result).hart) (Some a)) c.in-Call.is (c.in_ok-asked.ensures (after c.args.state.now.events)))))
     c.serve.ensures.outcome
 
 pub returns-in-Call-clause-tells : goal.returns-in-Call-clause-tells

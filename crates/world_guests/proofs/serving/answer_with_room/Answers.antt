@@ -1,10 +1,10 @@
-use Rattle.std.proofs.Common.{◌≡◌, ◌<◌, true, sym, subst, ◌∙◌}
+use Rattle.std.proofs.Common.{◌≡◌, ◌<◌, true, sym, ap, subst, ◌∙◌}
 use Rattle.history_state.specs.After.{after}
 use Rattle.history_state.specs.State.{State}
 use Rattle.hart_moves.specs.Due.{due}
 use Rattle.hart_moves.specs.Harts.{HartState}
 use Rattle.world_memory.specs.declared.turn_answers.answered.Answered.{Answered}
-use Rattle.world_answers.specs.Answers.{AnswersDue, HasFinishedFirst, WritesSome}
+use Rattle.world_answers.specs.Answers.{AnswersDue, HasFinishedFirst, WritesSome, is_service}
 use Rattle.world_answers.specs.Openings.{TurnReadsNothing, TurnRefusalIsCounted}
 use Rattle.world_guests.specs.Asking.{may_run_functions}
 use Rattle.world_guests.proofs.Answered.{has_room, lack_is_counted, lacks_room}
@@ -21,12 +21,12 @@ answer-requires-clause-writes g c =
 
 pub returns-then-is_err-clause-answered : goal.returns-then-is_err-clause-answered
 returns-then-is_err-clause-answered g c =
-    let runs : (s : State) → may_run_functions (due s c.args.hart.now.hart) ≡ true =
+    let runs : (s : State) → is_service (due s c.args.hart.now.hart) ≡ true → may_run_functions (due s c.args.hart.now.hart) ≡ true =
     on_err c.make_room.result _ (sym c.is_err.ensures.value ∙ c.if-is_err.true) c.make_room.ensures.err in
     subst (λ (came : Answered). AnswersDue c.args.state.now c.args.folders.now (g.L.Library.files c.args.library.now) c.args.id (due (after c.args.state.now.events) c.args.hart.now.hart) came c.end_for_memory.new.state)
     (sym c.end_for_memory.ensures.over)
     (lacks_room c.args.state.now c.end_for_memory.new.state c.args.folders.now (g.L.Library.files c.args.library.now) c.args.id c.args.hart.now.hart c.requires.may
-    c.end_for_memory.ensures.noted (runs (after c.args.state.now.events)))
+    c.end_for_memory.ensures.noted (runs (after c.args.state.now.events) (ap is_service c.requires.may.is)))
 
 pub returns-then-is_err-clause-counts : goal.returns-then-is_err-clause-counts
 returns-then-is_err-clause-counts g c =

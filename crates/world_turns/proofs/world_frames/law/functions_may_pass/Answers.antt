@@ -1,4 +1,4 @@
-use Rattle.world_turns.proofs.WorldFrames.Passing.{closings_pass, frames_close, frames_finish, frames_pass, openings_pass}
+use Rattle.world_turns.specs.WorldFrames.Lemmas.Passing.{closings_pass, frames_close, frames_finish, frames_pass, openings_pass}
 use Rattle.world_turns.proofs.world_frames.law.functions_may_pass.Goals as goal
 
 pub returns-clause-frames : goal.returns-clause-frames

@@ -31,8 +31,8 @@ use Rattle.hart_moves.specs.Harts.{Purpose}
 use Rattle.hart_moves.specs.Moves.{AreAllowed, passing}
 use Rattle.world_turns.specs.WorldFrames.Belong.{AreFramesOf, IsFrameOf, IsOfClosing, IsOfOpening, Origin}
 use Rattle.world_turns.specs.WorldFrames.Laws.{ClosingsPass, FramesClose, FramesFinish, FramesPass, OpeningsPass}
-use Rattle.world_turns.proofs.WorldFrames.Events.{fini_leaves, finis, inits}
-use Rattle.world_turns.proofs.WorldFrames.Origins.{loading_kept}
+use Rattle.world_turns.specs.WorldFrames.Lemmas.Events.{fini_leaves, finis, inits}
+use Rattle.world_turns.specs.WorldFrames.Lemmas.Origins.{loading_kept}
 
 pub record NextLaws : Type 0 where
   pub starts : NextStarts

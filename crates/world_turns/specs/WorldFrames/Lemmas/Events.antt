@@ -18,7 +18,7 @@ use Rattle.history_state.specs.Lemmas.History.{after_push, lawful_push}
 use Rattle.history_state.specs.Lemmas.Lists.{here, in_filter, later}
 use Rattle.hart_moves.specs.Moves.{AreAllowed}
 use Rattle.world_turns.specs.WorldFrames.Belong.{Origin}
-use Rattle.world_turns.proofs.WorldFrames.Origins.{AllSpare, IsThere, Spares, loading_kept}
+use Rattle.world_turns.specs.WorldFrames.Lemmas.Origins.{AllSpare, IsThere, Spares, loading_kept}
 
 -- what is needed of openings and closings
 pub record ApartLaws (m : Machine) : Type 0 where
