@@ -1,0 +1,5 @@
+mod Fits
+mod Others
+mod Over
+mod Own
+mod Starts

@@ -1,0 +1,4 @@
+pub mod Fits
+pub mod Others
+pub mod Over
+pub mod Own

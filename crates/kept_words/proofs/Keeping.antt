@@ -1,0 +1,317 @@
+-- The keeper's record stays as it has to be.
+use Rattle.std.proofs.Common.{◌≡◌, ◌≢◌, ◌⊎◌, ⊎_elim, inl, inr, ℕ, zero, suc, ◌+◌, ◌-◌, ◌<◌, ◌≤◌, true, false, List, [], ◌∷◌, ◌++◌, length, length-append, length-set, map, drop, append-nil, None, Some, refl, sym, ap, subst, ◌∙◌, append_assoc, arith}
+use mathlib.Core.Logic.{dite}
+use native.Mathlib.Decide.{ℕ_discrete}
+use Rattle.std.specs.List.{Contains, slice_get}
+use Rattle.std.proofs.lemmas.Bool.{false≢true}
+use Rattle.std.proofs.lemmas.List.Elements.{Contains-append_cases, Contains-append_left}
+use Rattle.history_event.specs.declared.event.CloseAnswer.TheVariants as closes
+use Rattle.history_event.specs.declared.event.Event.{Event}
+use Rattle.history_event.specs.declared.event.Event.TheVariants as events
+use Rattle.history_event.specs.declared.event.OpenAnswer.TheVariants as opens
+use Rattle.history_event.specs.declared.event.SymAnswer.TheVariants as syms
+use Rattle.history_event.specs.declared.state.Ending.{Ending}
+use Rattle.word_rule.specs.declared.entry.Entry.{Entry}
+use Rattle.word_rule.specs.declared.entry.Grant.{Grant}
+use Rattle.word_rule.specs.declared.view.Fate.TheVariants.{Lost as LostFate}
+use Rattle.word_rule.specs.declared.view.KeeperView.{KeeperView}
+use Rattle.word_rule.specs.declared.view.Kept.{Kept}
+use Rattle.word_rule.specs.declared.view.Row.{Row}
+use Rattle.word_rule.specs.declared.view.Settled.{Settled}
+use Rattle.word_rule.specs.Allowed.{IsLost, IsOf}
+use Rattle.word_rule.specs.KeeperSteps.{handed, not_found, with_row}
+use Rattle.word_rule.specs.Layout.{harts_at_most, place_of}
+use Rattle.word_rule.specs.Slots.{IsGrant}
+use Rattle.word_rule.specs.Views.{IsLong, kept_at, row_of}
+use Rattle.word_rule.specs.Lemmas.Heeding.{row_else, row_here}
+use Rattle.word_rule.specs.Lemmas.KeeperCalls.{map_long, map_row}
+use Rattle.word_steps.specs.Knowing.{counted}
+use Rattle.slot_bind.specs.Rows.{handed_over, row_with}
+use Rattle.history_state.specs.After.{after}
+use Rattle.history_state.specs.Legal.{Legal}
+use Rattle.history_state.specs.Objects.{is_startup}
+use Rattle.history_state.specs.Setting.{Setting}
+use Rattle.history_state.specs.State.{State}
+use Rattle.history_state.specs.Step.{die, initialise, loaded, lower, step}
+use Rattle.history_state.specs.Lemmas.Calling.{startup_is_past}
+use Rattle.history_state.specs.Lemmas.History.{after_push, legal_push}
+use Rattle.history_state.specs.Lemmas.Lists.{only_in}
+use Rattle.history_calls.specs.Laws.{hart_of}
+use Rattle.hart_trails.specs.Trails.{is_granting}
+use Rattle.word_holds.specs.Shared.{IsOfState}
+use Rattle.kept_words.specs.Handed.{IsIssued, event_numbers, own_numbers}
+use Rattle.kept_words.specs.Keeping.{AlikeKept, AnsweredKept, AwaitedIsAlike, IsAlike, QuietKept}
+use Rattle.kept_words.specs.Kept.{AreKept, AreRows}
+use Rattle.kept_words.specs.Staying.{IsGrantEvent, SameGrants, leaves_memory, number_by, number_in}
+use Rattle.kept_words.proofs.Handed.{answered_stays, handed_stays, issued_stays}
+use Rattle.kept_words.proofs.Staying.{events_stay, stands_back, states_stay}
+
+-- ---- a longer journal
+
+front_at : {X : Type 0} (xs ys : List X) (n : ℕ) (x : X) → slice_get xs n ≡ Some x → slice_get (xs ++ ys) n ≡ Some x
+front_at {X} [] ys n x e = absurd (let no : None ≡ Some x = e in cc)
+front_at {X} (z ∷ xs) ys zero x e = e
+front_at {X} (z ∷ xs) ys (suc n) x e = front_at xs ys n x e
+
+front_same : {X : Type 0} (xs ys : List X) (n : ℕ) → n < length xs → slice_get (xs ++ ys) n ≡ slice_get xs n
+front_same {X} [] ys n low = absurd (omega (arith, low))
+front_same {X} (z ∷ xs) ys zero low = refl
+front_same {X} (z ∷ xs) ys (suc n) low = front_same xs ys n (omega (arith, low))
+
+pub some_in : {X : Type 0} (xs : List X) (x : X) → Contains xs x → 0 < length xs
+some_in {X} [] x there = let low : there.0 < 0 = there.1 in absurd (omega (arith, low))
+some_in {X} (z ∷ xs) x there = omega arith
+
+pub later_event : (journal more : List Event) (m : ℕ) (g : Grant) → IsGrantEvent journal m g → IsGrantEvent (journal ++ more) m g
+later_event journal more m g x = record {
+  number = x.number;
+  owner = x.owner;
+  slot = x.slot;
+  choice = x.choice;
+  at = front_at journal more (g.entry.number - 1) _ x.at;
+  some = x.some;
+}
+
+pub later_number : (journal more : List Event) (m : ℕ) (g : Grant) → IsGrantEvent journal m g → number_in (journal ++ more) m g ≡ number_in journal m g
+later_number journal more m g x = ap number_by (front_at journal more (g.entry.number - 1) _ x.at ∙ sym x.at)
+
+pub counted_number : (journal more : List Event) (m : ℕ) (g : Grant) → 0 < length journal → g.entry.number ≤ length journal → number_in (journal ++ more) m g ≡ number_in journal m g
+counted_number journal more m g some low = ap number_by (front_same journal more (g.entry.number - 1) (omega (arith, some, low)))
+
+-- ---- rows
+
+was_grant : (r s : Row) → s.pending ≡ r.pending → s.settled ≡ r.settled → (g : Grant) → IsGrant s g → IsGrant r g
+was_grant r s pending settled g (inl waits) = inl (sym pending ∙ waits)
+was_grant r s pending settled g (inr done) = inr (done.0, subst (λ (all : List Settled). Contains all (record { grant = g; fate = done.0 })) settled done.1)
+
+was_lost : (r s : Row) → s.settled ≡ r.settled → (g : Grant) → IsLost s g → IsLost r g
+was_lost r s settled g there = subst (λ (all : List Settled). Contains all (record { grant = g; fate = LostFate })) settled there
+
+-- what rows say stays over a longer journal, with the same grants and words
+rows_on : (k l : KeeperView) (more : List Event) → l.events ≡ k.events ++ more → ((d : ℕ) → kept_at l d ≡ kept_at k d)
+    → ((m : ℕ) → (row_of l m).pending ≡ (row_of k m).pending) → ((m : ℕ) → (row_of l m).settled ≡ (row_of k m).settled) → AreRows k → AreRows l
+rows_on k l more longer words pending settled rows = record {
+  counted = λ m g low is. by_count m g low (was_grant (row_of k m) (row_of l m) (pending m) (settled m) g is);
+  lost = λ m g low is of.
+      let was : IsLost (row_of k m) g = was_lost (row_of k m) (row_of l m) (settled m) g is in
+      let x = rows.lost m g low was (subst (λ (y : Kept). IsOf (λ _. y) (place_of g.entry.slot) g) (words (place_of g.entry.slot)) of) in
+      let same : number_in (k.events ++ more) m g ≡ number_in k.events m g =
+      counted_number k.events more m g (some_in k.events (events.Lost (number_in k.events m g) x.0) x.2) (rows.counted m g low (inr (LostFate, was))) in (
+        x.0,
+        ap (λ (y : Kept). y.fixed) (words (place_of g.entry.slot)) ∙ x.1,
+        subst (λ (es : List Event). Contains es (events.Lost (number_in es m g) x.0)) (sym longer)
+            (subst (λ (n : ℕ). Contains (k.events ++ more) (events.Lost n x.0)) (sym same)
+            (Contains-append_left k.events more (events.Lost (number_in k.events m g) x.0) x.2)),
+      );
+}
+  where
+    by_count : (m : ℕ) (g : Grant) → m < harts_at_most → IsGrant (row_of k m) g → g.entry.number ≤ length l.events
+    by_count m g low is =
+        let few : g.entry.number ≤ length k.events = rows.counted m g low is in
+        let long : length l.events ≡ length k.events + length more = ap length longer ∙ length-append k.events more in
+        omega (arith, few, long)
+
+-- a row changes, and a field of it doesn't
+pub row_field : {A : Type 0} (f : Row → A) (k : KeeperView) (m : ℕ) (r : Row) → m < length k.rows → f r ≡ f (row_of k m) → (j : ℕ) → f (row_of (with_row m r k) j) ≡ f (row_of k j)
+row_field {A} f k m r low same j = dite (ℕ_discrete j m)
+    (λ (here : j ≡ m). subst (λ (i : ℕ). f (row_of (with_row m r k) i) ≡ f (row_of k i)) (sym here) (ap f (row_here k m r low) ∙ same))
+    (λ (apart : j ≢ m). ap f (row_else k m r low j apart))
+
+pub inside : (k : KeeperView) (h : ℕ) → IsLong k → h < harts_at_most → h < length k.rows
+inside k h long low = subst (λ (n : ℕ). h < n) (sym long.1) low
+
+-- ---- alike
+
+alike_grants : (k l : KeeperView) → IsAlike k l → SameGrants k l
+alike_grants k l is = record {
+  words = λ d. subst (λ (x : Kept). x ≡ record (kept_at k d) { fixed = x.fixed }) (sym (is.words d)) refl;
+  pending = is.pending;
+  settled = is.settled;
+}
+
+pub alike_kept : AlikeKept
+alike_kept w begun k l is kept = record {
+  few = kept.few;
+  harts = is.harts ∙ kept.harts;
+  long = is.long;
+  legal = subst (Legal w) (sym is.events) kept.legal;
+  started = ap (λ (es : List Event). is_startup (after es)) is.events ∙ kept.started;
+  begins = (kept.begins.0, is.events ∙ kept.begins.1);
+  within = λ e there. kept.within e (subst (λ (es : List Event). Contains (after es).endings e) is.events there);
+  words = subst (λ (es : List Event). IsOfState (after es) l (number_in es)) (sym is.events)
+      (states_stay (after k.events) (after k.events) k l (number_in k.events) (number_in k.events)
+      (record { role = λ a word. refl; word = λ a word roles. refl; images = refl; grants = refl }) (alike_grants k l is) (λ m g low stands. refl) kept.words);
+  generation = is.generation ∙ kept.generation ∙ ap (λ (es : List Event). (after es).generation) (sym is.events);
+  granted = λ m g low stands. subst (λ (es : List Event). IsGrantEvent es m g) (sym is.events) (kept.granted m g low (stands_back k l (alike_grants k l is) m g stands));
+  rows = rows_on k l [] (is.events ∙ sym (append-nil k.events)) is.words is.pending is.settled kept.rows;
+  issued = λ h e low there. subst (λ (es : List Event). IsIssued w es h e) (sym is.events) (kept.issued h e low (subst (λ (es : List Entry). Contains es e) (is.issued h) there));
+  handed = λ h low. ap event_numbers (is.issued h) ∙ kept.handed h low
+      ∙ ap (λ (es : List Event). own_numbers h (length begun + 1) (drop (length begun) es)) (sym is.events);
+}
+
+pub awaited_is_alike : AwaitedIsAlike
+awaited_is_alike k h long low = record {
+  events = refl;
+  generation = refl;
+  harts = refl;
+  long = (long.0, length-set (map not_found k.rows) h since_row ∙ map_long k.rows ∙ long.1);
+  words = λ d. refl;
+  issued = λ m. row_field (λ (y : Row). y.issued) quiet h since_row low_row (ap (λ (y : Row). y.issued) (map_row k.rows h)) m ∙ ap (λ (y : Row). y.issued) (sym (map_row k.rows m));
+  pending = λ m. row_field (λ (y : Row). y.pending) quiet h since_row low_row (ap (λ (y : Row). y.pending) (map_row k.rows h)) m ∙ ap (λ (y : Row). y.pending) (sym (map_row k.rows m));
+  settled = λ m. row_field (λ (y : Row). y.settled) quiet h since_row low_row (ap (λ (y : Row). y.settled) (map_row k.rows h)) m ∙ ap (λ (y : Row). y.settled) (sym (map_row k.rows m));
+}
+  where
+    quiet : KeeperView
+    quiet = record k { rows = map not_found k.rows }
+
+    since_row : Row
+    since_row = record (not_found (row_of k h)) { since = Some (length k.events) }
+
+    low_row : h < length (map not_found k.rows)
+    low_row = subst (λ (n : ℕ). h < n) (sym (map_long k.rows ∙ long.1)) low
+
+-- ---- an entry more
+
+-- the row of an entry, and the views with it: all that is kept but for what was issued stays
+module _ (k : KeeperView) (h : ℕ) (entry : Entry) (long : IsLong k) (low : h < harts_at_most) where
+  abbrev row : Row
+  row = handed entry.mark (row_with entry (row_of k h))
+
+  handed_long : IsLong (handed_over h entry k)
+  handed_long = (long.0, length-set k.rows h row ∙ long.1)
+
+  handed_pending : (m : ℕ) → (row_of (handed_over h entry k) m).pending ≡ (row_of k m).pending
+  handed_pending = row_field (λ (y : Row). y.pending) k h row (inside k h long low) refl
+
+  handed_settled : (m : ℕ) → (row_of (handed_over h entry k) m).settled ≡ (row_of k m).settled
+  handed_settled = row_field (λ (y : Row). y.settled) k h row (inside k h long low) refl
+
+  -- each entry that was issued was before, or is this one of this hart
+  handed_issued : (m : ℕ) (x : Entry) → Contains (row_of (handed_over h entry k) m).issued x → Contains (row_of k m).issued x ⊎ ((m ≡ h) × (entry ≡ x))
+  handed_issued m x there = dite (ℕ_discrete m h)
+      (λ (same : m ≡ h). ⊎_elim
+      (λ (old : Contains (row_of k h).issued x). inl (subst (λ (i : ℕ). Contains (row_of k i).issued x) (sym same) old))
+      (λ (new : Contains (entry ∷ []) x). inr (same, only_in entry x new))
+      (Contains-append_cases (row_of k h).issued (entry ∷ []) x
+      (subst (λ (r : Row). Contains r.issued x) (row_here k h row (inside k h long low)) (subst (λ (i : ℕ). Contains (row_of (handed_over h entry k) i).issued x) same there))))
+      (λ (apart : m ≢ h). inl (subst (λ (r : Row). Contains r.issued x) (row_else k h row (inside k h long low) m apart) there))
+
+pub begun_short : (w : Setting) (begun : List Event) (k : KeeperView) → AreKept w begun k → length begun ≤ length k.events
+begun_short w begun k kept =
+    let whole : length k.events ≡ length begun + length kept.begins.0 = ap length kept.begins.1 ∙ length-append begun kept.begins.0 in
+    omega (arith, whole)
+
+-- ---- an event that leaves memory
+
+no_grant : (e : Event) → leaves_memory e ≡ true → is_granting e ≡ false
+no_grant (events.Open hart ask answer) leaves = refl
+no_grant (events.Close hart handle answer) leaves = refl
+no_grant (events.Unmapped hart set) leaves = refl
+no_grant (events.Grant number hart owner slot choice value) leaves = absurd (false≢true leaves)
+no_grant (events.Bound number) leaves = refl
+no_grant (events.Lost number saw) leaves = refl
+no_grant (events.Unresolved hart owner slot choice) leaves = refl
+no_grant (events.Sym hart ask answer) leaves = refl
+no_grant (events.Tls hart owner address) leaves = refl
+no_grant (events.Init hart object) leaves = refl
+no_grant (events.Fini hart object) leaves = refl
+no_grant (events.Wrote hart bytes) leaves = refl
+no_grant (events.Told hart fault) leaves = refl
+no_grant (events.Ended hart reason) leaves = refl
+
+-- its ends are those before it, and perhaps its own hart's; and it leaves the generation
+record Quiet (s : State) (e : Event) (h n : ℕ) : Type 0 where
+  within : ((x : Ending) → Contains s.endings x → x.hart < n) → (x : Ending) → Contains (step s e).endings x → x.hart < n
+  generation : (step s e).generation ≡ s.generation
+
+quiet : (s : State) (e : Event) (h n : ℕ) → h < n → hart_of e ≡ Some h → leaves_memory e ≡ true → Quiet s e h n
+unfolding loaded die lower initialise
+quiet s (events.Open hart ask (opens.Done id root added ranges)) h n low own leaves = absurd (false≢true leaves)
+quiet s (events.Open hart ask opens.Absent) h n low own leaves = record { within = λ all. all; generation = refl }
+quiet s (events.Open hart ask (opens.Refused fault)) h n low own leaves = record { within = λ all. all; generation = refl }
+quiet s (events.Close hart handle (closes.Done set)) h n low own leaves = record { within = λ all. all; generation = refl }
+quiet s (events.Close hart handle (closes.Refused fault)) h n low own leaves = record { within = λ all. all; generation = refl }
+quiet s (events.Unmapped hart set) h n low own leaves = absurd (false≢true leaves)
+quiet s (events.Grant number hart owner slot choice value) h n low own leaves = absurd (false≢true leaves)
+quiet s (events.Bound number) h n low own leaves = absurd (false≢true leaves)
+quiet s (events.Lost number saw) h n low own leaves = absurd (false≢true leaves)
+quiet s (events.Unresolved hart owner slot choice) h n low own leaves = record { within = λ all. all; generation = refl }
+quiet s (events.Sym hart ask (syms.Found serial index value)) h n low own leaves = record { within = λ all. all; generation = refl }
+quiet s (events.Sym hart ask (syms.Refused fault)) h n low own leaves = record { within = λ all. all; generation = refl }
+quiet s (events.Tls hart owner address) h n low own leaves = absurd (false≢true leaves)
+quiet s (events.Init hart object) h n low own leaves = record { within = λ all. all; generation = refl }
+quiet s (events.Fini hart object) h n low own leaves = record { within = λ all. all; generation = refl }
+quiet s (events.Wrote hart bytes) h n low own leaves = record { within = λ all. all; generation = refl }
+quiet s (events.Told hart fault) h n low own leaves = record { within = λ all. all; generation = refl }
+quiet s (events.Ended hart reason) h n low own leaves = record {
+  within = λ all x there. ⊎_elim
+      (λ (old : Contains s.endings x). all x old)
+      (λ (new : Contains (record { hart = hart; «end» = reason } ∷ []) x). subst (λ (y : Ending). y.hart < n) (only_in (record { hart = hart; «end» = reason }) x new) (subst (λ (i : ℕ). i < n) (sym same) low))
+      (Contains-append_cases s.endings (record { hart = hart; «end» = reason } ∷ []) x there);
+  generation = refl;
+}
+  where
+    same : hart ≡ h
+    same = let is : Some hart ≡ Some h = own in cc
+
+pub quiet_kept : QuietKept
+quiet_kept w begun k h e entry kept own_low own leaves may is = record {
+  few = kept.few;
+  harts = kept.harts;
+  long = handed_long (counted e k) h entry kept.long low;
+  legal = legal_push w k.events e kept.legal may;
+  started = startup_is_past k.events (e ∷ []) kept.started;
+  begins = (kept.begins.0 ++ e ∷ [], ap (λ (es : List Event). es ++ e ∷ []) kept.begins.1 ∙ append_assoc begun kept.begins.0 (e ∷ []));
+  within = λ x there. step_is.within kept.within x (subst (λ (s : State). Contains s.endings x) (after_push k.events e) there);
+  words = subst (λ (s : State). IsOfState s (handed_over h entry (counted e k)) (number_in (k.events ++ e ∷ []))) (sym (after_push k.events e))
+      (states_stay (after k.events) (step (after k.events) e) k (handed_over h entry (counted e k)) (number_in k.events) (number_in (k.events ++ e ∷ []))
+      (events_stay (after k.events) e leaves) same (λ m g few stands. later_number k.events (e ∷ []) m g (kept.granted m g few stands)) kept.words);
+  generation = kept.generation ∙ sym step_is.generation ∙ ap (λ (s : State). s.generation) (sym (after_push k.events e));
+  granted = λ m g few stands. later_event k.events (e ∷ []) m g (kept.granted m g few (stands_back k (handed_over h entry (counted e k)) same m g stands));
+  rows = rows_on k (handed_over h entry (counted e k)) (e ∷ []) refl (λ d. refl) same.pending same.settled kept.rows;
+  issued = λ m x few there. ⊎_elim
+      (λ (old : Contains (row_of k m).issued x). issued_stays w k.events (e ∷ []) m x (kept.issued m x few old))
+      (λ (new : (m ≡ h) × (entry ≡ x)).
+      subst (λ (i : ℕ). IsIssued w (k.events ++ e ∷ []) i x) (sym new.0)
+      (IsIssued.of_event k.events [] e refl own (no_grant e leaves) (sym new.1 ∙ is)))
+      (handed_issued (counted e k) h entry kept.long low m x there);
+  handed = handed_stays begun k h e entry kept.long low (begun_short w begun k kept) own (ap (λ (x : Entry). x.mark) is) (ap (λ (x : Entry). x.number) is) kept.handed;
+}
+  where
+    low : h < harts_at_most
+    low = let few : w.machine.harts ≤ harts_at_most = kept.few in omega (arith, few, own_low)
+
+    step_is : Quiet (after k.events) e h w.machine.harts
+    step_is = quiet (after k.events) e h w.machine.harts own_low own leaves
+
+    same : SameGrants k (handed_over h entry (counted e k))
+    same = record { words = λ d. refl; pending = handed_pending (counted e k) h entry kept.long low; settled = handed_settled (counted e k) h entry kept.long low }
+
+-- ---- an answer without an event
+
+pub answered_kept : AnsweredKept
+answered_kept w begun k h entry kept own_low marks is = record {
+  few = kept.few;
+  harts = kept.harts;
+  long = handed_long k h entry kept.long low;
+  legal = kept.legal;
+  started = kept.started;
+  begins = kept.begins;
+  within = kept.within;
+  words = states_stay (after k.events) (after k.events) k (handed_over h entry k) (number_in k.events) (number_in k.events)
+      (record { role = λ a word. refl; word = λ a word roles. refl; images = refl; grants = refl }) same (λ m g few stands. refl) kept.words;
+  generation = kept.generation;
+  granted = λ m g few stands. kept.granted m g few (stands_back k (handed_over h entry k) same m g stands);
+  rows = rows_on k (handed_over h entry k) [] (sym (append-nil k.events)) (λ d. refl) same.pending same.settled kept.rows;
+  issued = λ m x few there. ⊎_elim
+      (λ (old : Contains (row_of k m).issued x). kept.issued m x few old)
+      (λ (new : (m ≡ h) × (entry ≡ x)). subst (λ (i : ℕ). IsIssued w k.events i x) (sym new.0) (subst (IsIssued w k.events h) new.1 is))
+      (handed_issued k h entry kept.long low m x there);
+  handed = answered_stays begun k h entry kept.long low marks kept.handed;
+}
+  where
+    low : h < harts_at_most
+    low = let few : w.machine.harts ≤ harts_at_most = kept.few in omega (arith, few, own_low)
+
+    same : SameGrants k (handed_over h entry k)
+    same = record { words = λ d. refl; pending = handed_pending k h entry kept.long low; settled = handed_settled k h entry kept.long low }

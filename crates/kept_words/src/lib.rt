@@ -1,0 +1,18 @@
+//! What the linker's keeper keeps of memory that harts share, while harts run on threads.
+//!
+//! The keeper's view of the words (`word_rule`) and its journal go together: roles, first words and lazy
+//! words are those of the journal's state, each grant that stands is one of its grants, and each entry
+//! that a hart was handed is true of the journal. `specs/Kept.antt` has the record that holds whenever the
+//! keeper's lock is free. [`fates_settle`] says how a grant is settled by what was asked, [`states_stay`]
+//! and [`remade_stays`] what each event and what was put into memory leave, [`entries_are_events`] that a
+//! hart's entries are its events, and [`records_stay`] and [`asks_settle`] that the whole record stays while
+//! calls are served that leave memory and grants are settled.
+//!
+//! There is no code but laws: functions without a body, whose contract is the law.
+#![tactic(auto)]
+
+mod law;
+
+pub use law::{
+    asks_settle, entries_are_events, fates_settle, records_stay, remade_stays, states_stay,
+};
