@@ -1,8 +1,6 @@
 -- What may come of the linker's state, by what was worked out of its journal.
-use Rattle.std.proofs.Common.{◌≡◌, ◌||◌, ℕ, Bool, true, false, List, [], ◌∷◌, Option, Some, None, cond, refl, subst, Bor}
-use Rattle.std.specs.Prelude.{IfOk, IsTrue, Result, Ok, Err, find, is_some}
-use Rattle.std.specs.List.{list_any}
-use Rattle.std.specs.Option.{option_copied}
+use Rattle.std.proofs.Common.{◌≡◌, ℕ, Bool, List, [], None, refl, subst}
+use Rattle.std.specs.Prelude.{IfOk, IsTrue, Result, Ok, Err}
 use Rattle.history_journal.specs.Following.{MayFollow, machine_of}
 use Rattle.history_event.specs.declared.event.Event.{Event}
 use Rattle.history_state.specs.Allowed.{Allowed}
@@ -26,17 +24,3 @@ pub may_follow_lawful : {E : Type 0} (harts : ℕ) (past events : List Event) (e
 may_follow_lawful harts past events e (Ok may) same lawful is = λ yes.
     follows harts events e (subst (λ (es : List Event). (m : Machine) → Lawful m es → (w : Setting) → Allowed w es e) same (is yes) (machine_of harts) lawful)
 may_follow_lawful harts past events e (Err fault) same lawful is = tt
-
--- one that is found is there
-pub there_is : {X : Type 0} (p : X → Bool) (xs : List X) → is_some (find p xs) ≡ true → list_any p xs ≡ true
-there_is p [] found = found
-there_is {X} p (x ∷ xs) found = by (λ later. there_is p xs later) (p x) found
-  where
-    by : (is_some (find p xs) ≡ true → list_any p xs ≡ true) → (b : Bool) → is_some (cond b (Some x) (find p xs)) ≡ true → (b || list_any p xs) ≡ true
-    by again true f = refl
-    by again false f = again f
-
--- a reference to one, too
-pub lent_is : {X : Type 0} (found : Option (Bor X)) → is_some found ≡ true → is_some (option_copied found) ≡ true
-lent_is None is = is
-lent_is (Some x) is = refl

@@ -1,7 +1,7 @@
 use Rattle.std.proofs.Common.{◌∙◌}
 use Rattle.history_event.specs.declared.event.Event.TheVariants.{Fini}
 use Rattle.test_calls.proofs.Following.{may_follow}
-use Rattle.test_calls.proofs.checks.may_finalise_in_closing.Goals as goal
+use Rattle.test_calls.proofs.checks.may_finalise.Goals as goal
 
 pub returns : goal.returns
 returns c =
