@@ -58,9 +58,12 @@ def needed_versions():
     return [(0x6FFFFFFE, content)], [(0x6FFFFFFF, 1)]
 
 
-def build(kind, hashes, symbols, needed, slots, size, indexes=None, versions=([], [])):
-    """The indexes are those of the symbols' versions, from the first symbol behind the null symbol on."""
-    strings = bytearray(b"\0f\0liba.so\0V1\0V2\0V3\0")
+STRINGS = b"\0f\0liba.so\0V1\0V2\0V3\0"
+
+
+def build(kind, hashes, symbols, needed, slots, size, indexes=None, versions=([], []), strings=STRINGS):
+    """The indexes are those of the symbols' versions, from the first symbol behind the null symbol on. What is needed is
+    named at 3 in the strings."""
     data = bytearray(64 + 56 * 4)
     tags = [(1, 3)] * needed
     table = b"".join([bytes(24)] + symbols)

@@ -1,0 +1,163 @@
+"""Runs five examples under `ldso turns` with one allocation refused, the Nth, for each N that they make:
+
+    nice python3 bench/refused_allocations.py [EXAMPLE..]
+
+A run has to end with status 123 or with that of the example, and its text has to be a front of the example's, up to
+the first hart that ends for want of memory; a run may not take longer than a minute. What doesn't hold is told, with
+its N. A small library, which cc compiles and LD_PRELOAD puts before the C library's, refuses the allocation. The
+program is that of LDSO, or crates/ldso/out/ldso."""
+
+import os
+import subprocess
+import sys
+import tempfile
+from collections import Counter
+from pathlib import Path
+
+import examples
+
+SECONDS = 60
+CHOSEN = {
+    "first-match": ("turns.txt", "the first definition in load order is called"),
+    "race": ("turns.txt", "two harts race for a slot"),
+    "late-tls": ("turns.txt", "a block goes with its library"),
+    "realistic": ("assembled.txt", "three harts bind the forty slots, a turn each"),
+    "cycle": ("closing.txt", "two libraries that are bound to each other are closed together"),
+}
+REFUSER = r"""
+#define _GNU_SOURCE
+#include <errno.h>
+#include <fcntl.h>
+#include <stdatomic.h>
+#include <stddef.h>
+#include <stdlib.h>
+#include <sys/mman.h>
+#include <sys/syscall.h>
+#include <unistd.h>
+
+extern void *__libc_malloc(size_t), *__libc_calloc(size_t, size_t), *__libc_realloc(void *, size_t);
+extern void *__libc_memalign(size_t, size_t);
+static atomic_ulong made;
+static unsigned long refused;
+
+__attribute__((constructor)) static void begin(void)
+{
+    const char *word = getenv("REFUSED");
+    refused = word ? strtoul(word, NULL, 10) : 0;
+    atomic_store(&made, 0);
+}
+
+/* How many there were, as eight bytes. */
+__attribute__((destructor)) static void finish(void)
+{
+    const char *path = getenv("COUNTED");
+    unsigned long count = atomic_load(&made);
+    int file = path ? open(path, O_WRONLY | O_CREAT | O_TRUNC, 0600) : -1;
+    if (file >= 0 && write(file, &count, sizeof count) == sizeof count)
+        close(file);
+}
+
+static int is_refused(void)
+{
+    if (atomic_fetch_add(&made, 1) + 1 != refused)
+        return 0;
+    errno = ENOMEM;
+    return 1;
+}
+
+void *malloc(size_t size) { return is_refused() ? NULL : __libc_malloc(size); }
+void *calloc(size_t count, size_t size) { return is_refused() ? NULL : __libc_calloc(count, size); }
+void *realloc(void *old, size_t size) { return is_refused() ? NULL : __libc_realloc(old, size); }
+void *memalign(size_t align, size_t size) { return is_refused() ? NULL : __libc_memalign(align, size); }
+void *aligned_alloc(size_t align, size_t size) { return memalign(align, size); }
+
+int posix_memalign(void **place, size_t align, size_t size)
+{
+    if (is_refused())
+        return ENOMEM;
+    *place = __libc_memalign(align, size);
+    return *place ? 0 : ENOMEM;
+}
+
+void *mmap(void *at, size_t size, int may, int flags, int file, off_t offset)
+{
+    if (is_refused())
+        return MAP_FAILED;
+    return (void *)syscall(SYS_mmap, at, size, may, flags, file, offset);
+}
+"""
+
+
+class Runs:
+    """One example's runs."""
+
+    def __init__(self, ldso, refuser, example, root):
+        self.ldso, self.refuser, self.example = ldso, refuser, example
+        self.count = Path(root, "count")
+        self.place = examples.lay_out(root, example.files)
+
+    def run(self, number):
+        """The status and the text with one allocation refused; the status is None after too long a time."""
+        added = {"LD_PRELOAD": str(self.refuser), "REFUSED": str(number), "COUNTED": str(self.count)}
+        words = [str(self.ldso), *self.example.words.split()]
+        try:
+            done = subprocess.run(words, cwd=self.place, env={**os.environ, **added}, stdout=subprocess.PIPE,
+                                  stderr=subprocess.PIPE, timeout=SECONDS)
+        except subprocess.TimeoutExpired:
+            return None, ""
+        return done.returncode, done.stdout.decode(errors="replace")
+
+    def made(self):
+        return int.from_bytes(self.count.read_bytes(), "little")
+
+    def complaint(self, status, text):
+        """What is wrong with an answer, or None."""
+        if status is None:
+            return "hangs"
+        wanted = self.example.text()
+        if status == self.example.ends_with():
+            return None if text == wanted else f"status {status} with another text"
+        if status != 123:
+            return f"status {status}"
+        lines = text.splitlines()
+        harts = [n for n, line in enumerate(lines) if line.startswith("ended ") and line.endswith(" memory")]
+        front = lines[: harts[0]] if harts else [line for line in lines if not line.startswith("end 123 ")]
+        if front != wanted.splitlines()[: len(front)]:
+            return "another text than a front of the right one"
+        return None
+
+
+def tries(runs):
+    """Refuses each allocation in turn; gives how many there are, what statuses there were, and what is wrong."""
+    status, text = runs.run(0)
+    wrong = [] if status == runs.example.ends_with() and text == runs.example.text() else [f"0: status {status} unrefused"]
+    count, seen = runs.made(), Counter()
+    for number in range(1, count + 1):
+        status, text = runs.run(number)
+        seen[status] += 1
+        complaint = runs.complaint(status, text)
+        if complaint:
+            wrong.append(f"{number}: {complaint}")
+    return count, seen, wrong
+
+
+def main(names):
+    ldso, failed = examples.program().resolve(), False
+    with tempfile.TemporaryDirectory() as root:
+        source, refuser = Path(root, "refuser.c"), Path(root, "refuser.so")
+        source.write_text(REFUSER)
+        subprocess.run(["cc", "-O2", "-shared", "-fPIC", "-o", refuser, source], check=True)
+        for name in names or CHOSEN:
+            file, title = CHOSEN[name]
+            example = next(e for e in examples.examples(ldso, [file]) if e.title == title)
+            count, seen, wrong = tries(Runs(ldso, refuser, example, Path(root, name)))
+            statuses = ", ".join(f"{n} with status {s}" for s, n in sorted(seen.items(), key=str))
+            print(f"{name}: {count} allocations; {statuses}; {len(wrong)} wrong", flush=True)
+            for line in wrong:
+                print(f"    {line}", flush=True)
+            failed = failed or bool(wrong) or count == 0
+    return failed
+
+
+if __name__ == "__main__":
+    sys.exit(main(sys.argv[1:]))
