@@ -3,7 +3,7 @@
 //! To add a call, write a function that takes its arguments from [`Words`] and gives the answer as
 //! text, beside those of its topic, and name it here.
 
-use crate::{asm_lines, event_lines, finding, hashes, instructions, pages, turns};
+use crate::{asm_lines, event_lines, finding, hashes, instructions, pages, turns, views};
 use address_space::Regions;
 use std::alloc::Global;
 use test_file::{Calls, Fault, Words};
@@ -47,6 +47,7 @@ impl Calls for PlainCalls {
             "parse" => asm_lines::verdict_of(alloc, rest),
             "event" => event_lines::written(alloc, rest),
             "line" => event_lines::kind_of(alloc, rest),
+            "view" => views::shown(alloc, rest),
             _ => Err(Fault::Unclear),
         }
     }

@@ -14,6 +14,7 @@ mod hashes;
 mod instructions;
 mod pages;
 mod turns;
+mod views;
 
 use calls::PlainCalls;
 use std::{env, io};

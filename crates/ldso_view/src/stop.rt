@@ -1,0 +1,77 @@
+//! Why the program ends without a whole text.
+
+use clap::error::ErrorKind;
+use library_source::WriteError;
+use std::alloc::AllocError;
+use std::io;
+use trace_view::ViewFault;
+
+/// Why it stops.
+#[derive(Clone, Copy)]
+pub enum Stop {
+    /// The words say nothing that it does.
+    Usage,
+    /// The words ask for help, which was printed.
+    Help,
+    /// The line of this number is no event's.
+    NoEvent(usize),
+    ReadFault,
+    WriteFault,
+    Memory,
+}
+
+impl Stop {
+    /// The exit status: that of `ldso` for the like.
+    pub fn status(self) -> u8 {
+        match self {
+            Stop::Help => 0,
+            Stop::NoEvent(_) => 119,
+            Stop::Usage => 120,
+            Stop::ReadFault => 121,
+            Stop::WriteFault => 122,
+            Stop::Memory => 123,
+        }
+    }
+}
+
+impl From<AllocError> for Stop {
+    fn from(_error: AllocError) -> Self {
+        Stop::Memory
+    }
+}
+
+impl From<io::Error> for Stop {
+    fn from(error: io::Error) -> Self {
+        match error.kind() {
+            io::ErrorKind::OutOfMemory => Stop::Memory,
+            _ => Stop::ReadFault,
+        }
+    }
+}
+
+impl From<WriteError> for Stop {
+    fn from(error: WriteError) -> Self {
+        match error {
+            WriteError::Memory => Stop::Memory,
+            WriteError::Failed => Stop::WriteFault,
+        }
+    }
+}
+
+impl From<ViewFault> for Stop {
+    fn from(fault: ViewFault) -> Self {
+        match fault {
+            ViewFault::NoEvent(line) => Stop::NoEvent(line),
+            ViewFault::Memory => Stop::Memory,
+        }
+    }
+}
+
+/// What words that weren't taken mean.
+pub fn usage_stop(kind: ErrorKind) -> Stop {
+    match kind {
+        ErrorKind::OutOfMemory => Stop::Memory,
+        ErrorKind::DisplayHelp => Stop::Help,
+        _ => Stop::Usage,
+    }
+}
