@@ -5,7 +5,7 @@ use std::alloc::{AllocError, Global};
 use trace_view::Form;
 
 /// The forms, as they are asked for.
-const FORMS: [&str; 3] = ["text", "said", "svg"];
+const FORMS: [&str; 5] = ["text", "said", "json", "dot", "svg"];
 
 /// What the words ask for.
 #[derive(Clone, Copy)]

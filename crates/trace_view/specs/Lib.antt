@@ -1,4 +1,6 @@
+pub mod Graph
 pub mod Journal
+pub mod Json
 pub mod Members
 pub mod Names
 pub mod Picture

@@ -8,11 +8,13 @@
 //! `%` and two digits. So but for what the guest wrote all texts are ASCII, whatever bytes the journal
 //! and the files have.
 //!
-//! `words` has events in words, `picture` the picture of a journal.
+//! `words` has events in words, `json`, `graph` and `picture` the other forms.
 #![tactic(auto)]
 
 mod fault;
+mod graph;
 mod journal;
+mod json;
 mod members;
 mod names;
 mod picture;

@@ -56,7 +56,7 @@ fn write_xml(text: &mut String, bytes: &[u8]) -> Result<(), AllocError>
 
 /// The hart of a step: of one that settles a grant the grant's, where it is known.
 #[tactic(auto, unfolding(crate::specs::Picture::hart_of))]
-fn hart_of(step: &Step) -> Option<HartId>
+pub(crate) fn hart_of(step: &Step) -> Option<HartId>
     ensures { result ≡ hart_of step.now }
 {
     match &step.event {

@@ -4,7 +4,9 @@ ghost use Rattle.std.specs.Prelude.{◌≡◌, ◌≢◌, IfNone, IfOk, IfSome};
 ghost use Rattle.trace_view.specs.declared.shown.Form.{Form};
 ghost use Rattle.trace_view.specs.View.{said_text, view_of, word_of};
 
+use crate::graph::graph_text;
 use crate::journal::{Journal, Step};
+use crate::json::json_text;
 use crate::members::Member;
 use crate::picture::picture_text;
 use crate::words::words_text;
@@ -19,6 +21,10 @@ pub enum Form {
     Words,
     /// The bytes that the guest wrote.
     Said,
+    /// An object an event, in lines of JSON.
+    Json,
+    /// Who needs whom and which slot was bound to whom, in DOT.
+    Graph,
     /// A lane a hart and a row an event, in SVG.
     Picture,
 }
@@ -32,6 +38,8 @@ impl Form {
         match word {
             "text" => Some(Form::Words),
             "said" => Some(Form::Said),
+            "json" => Some(Form::Json),
+            "dot" => Some(Form::Graph),
             "svg" => Some(Form::Picture),
             _ => None,
         }
@@ -69,6 +77,8 @@ pub fn view(
     let text = match form {
         Form::Words => words_text(alloc, members, journal)?.into_bytes(),
         Form::Said => said_text(alloc, steps)?,
+        Form::Json => json_text(alloc, members, journal)?.into_bytes(),
+        Form::Graph => graph_text(alloc, members, steps)?.into_bytes(),
         Form::Picture => picture_text(alloc, members, steps)?.into_bytes(),
     };
     Ok(Bytes::from(text))
