@@ -6,7 +6,7 @@ ghost use Rattle.word_rule.specs.Joining.{IsSettled};
 ghost use Rattle.word_rule.specs.KeeperSteps.{KeeperLearns, KeeperLeaves, KeeperReady, keeper_after, keeper_op, keeper_word};
 ghost use Rattle.word_rule.specs.Layout.{IsDoubleword, place_of, table_words};
 ghost use Rattle.word_rule.specs.Operations.{load, store};
-ghost use Rattle.word_rule.specs.Views.{BeginsWith, IsLong, first_hart, kept_at, known_of, row_of};
+ghost use Rattle.word_rule.specs.Views.{BeginsWith, IsLong, NoneAbove, first_hart, kept_at, known_of, readings_of, row_of};
 ghost use Rattle.word_steps.specs.Knowing.{counted, with_joined};
 ghost use Rattle.word_steps.specs.Showing.{IsShown};
 ghost use Rattle.word_steps.specs.Views.{IsResting};
@@ -104,13 +104,14 @@ pub fn join_hart<J: Naming>(memory: &Memory<J>, keeper: &mut KeeperSeat<J>, seat
 }
 
 /// Tells a hart of the keeper's events, and ties what it knows of its entries to what was issued to it.
-/// The hart isn't calling, or has read its row in full.
+/// The hart isn't calling, or has read its row in full. It has read no generation above the keeper's.
 pub fn tell<J: Naming>(memory: &Memory<J>, keeper: &mut KeeperSeat<J>, seat: &mut HartSeat<J>)
     requires { IsSettled seat.old.lane }
     ensures heard { seat.new ≡ record seat.old { heard = keeper.old.events } }
     ensures begun { BeginsWith keeper.old.events seat.old.heard }
     ensures keeper { keeper.new ≡ keeper.old }
     ensures issued { known_of seat.old.lane ≡ (row_of keeper.old seat.old.number).issued }
+    ensures readings { NoneAbove keeper.old.generation (readings_of seat.old.trail) }
 {
     word_access::tell(memory, &mut keeper.desk, &mut seat.hand);
 }

@@ -7,7 +7,7 @@ ghost use Rattle.word_rule.specs.declared.view.TrailItem.TheVariants.{Generation
 ghost use Rattle.word_rule.specs.HartSteps.{HartLearns, HartLeaves, HartReady, entered, hart_after, hart_op, hart_word};
 ghost use Rattle.word_rule.specs.Layout.{table_words};
 ghost use Rattle.word_rule.specs.Operations.{load, store, add};
-ghost use Rattle.word_rule.specs.Views.{IsLane, last_block};
+ghost use Rattle.word_rule.specs.Views.{IsLane, NoneLater, known_of, last_block};
 ghost use Rattle.word_access.specs.Accesses.{Calls};
 ghost use Rattle.word_steps.specs.Views.{IsIdle};
 
@@ -39,9 +39,10 @@ impl<J: Naming> Model for HartSeat<J> {
 }
 
 /// The generation of the TLS modules. The trail gets it with the number of a module, and with the block
-/// of the last answer taken for both.
+/// of the last answer taken for both. No entry that the hart knows of is of a later generation.
 pub fn generation<J: Naming>(memory: &Memory<J>, seat: &mut HartSeat<J>, number: u64) -> u64
-    ensures { seat.new ≡ entered (ReadGeneration result number (last_block result number seat.old.lane.taken)) seat.old }
+    ensures view { seat.new ≡ entered (ReadGeneration result number (last_block result number seat.old.lane.taken)) seat.old }
+    ensures latest { NoneLater result (known_of seat.old.lane) }
 {
     seat.hand
         .load_word(memory, GENERATION, HartKind::Generation(number))

@@ -172,8 +172,9 @@ module _ (word : ℕ → ℕ) (kept : KeeperView) (harts : ℕ → HartView) (p 
     once = λ m few. (p.slots.each_hart m few).rising;
     granted = λ m x few c. (p.slots.each_hart m few).granted x c;
     current = p.generations.current;
-    not_later = λ m e few c. p.generations.issued m few e c;
-    kept_answers = λ m few. p.generations.kept m few;
+    not_later = p.generations.issued;
+    readings = p.generations.read;
+    kept_answers = p.generations.kept;
   }
 
 pub clauses : (words : List ℕ) (views : List View) (g : IsGuest words views) → Clauses words views g.kept g.hart

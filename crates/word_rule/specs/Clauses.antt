@@ -5,7 +5,6 @@ use mathlib.Core.Option.{some}
 use lib.ListN.{get_elem?}
 use Rattle.ld_base.specs.declared.linking.Role.TheVariants.{Ro, Rx, Rw}
 use Rattle.history_event.specs.declared.event.Event.{Event}
-use Rattle.word_rule.specs.declared.entry.Entry.{Entry}
 use Rattle.word_rule.specs.declared.entry.Exchange.{Exchange}
 use Rattle.word_rule.specs.declared.entry.Grant.{Grant}
 use Rattle.word_rule.specs.declared.entry.RowWord.{RowWord}
@@ -17,7 +16,7 @@ use Rattle.word_rule.specs.declared.view.View.{View}
 use Rattle.word_rule.specs.declared.view.View.TheVariants.{Keeper, Hart, Note}
 use Rattle.word_rule.specs.Layout.{control_at, count_at, generation_at, index_of, row_at, state_at, value_at}
 use Rattle.word_rule.specs.Layout.{doublewords, harts_at_most, lock_bit, place_of, role_code}
-use Rattle.word_rule.specs.Views.{BeginsWith, entries_of, entry_of, exchanges_of, field_of, first_hart, grant_in, kept_at, row_of, tried_entry}
+use Rattle.word_rule.specs.Views.{BeginsWith, entries_of, entry_of, exchanges_of, field_of, first_hart, grant_in, kept_at, NoneAbove, NoneLater, readings_of, row_of, tried_entry}
 use Rattle.word_rule.specs.HartSteps.{Awaits, IsMark}
 use Rattle.word_rule.specs.Calls.{IsEvent, Stage}
 use Rattle.word_rule.specs.Generations.{AllKept}
@@ -149,9 +148,11 @@ pub record EntryClauses (word : ℕ → ℕ) (kept : KeeperView) (hart : ℕ →
   -- an exchange stands once in a trail, and is that of a grant of its hart
   pub once : (m : ℕ) → m < harts_at_most → Rising (exchanges_of (hart m).trail)
   pub granted : (m : ℕ) (x : Exchange) → m < harts_at_most → Contains (exchanges_of (hart m).trail) x → IsGrant (row_of kept m) x.grant
-  -- the generation word is the keeper's, no entry is of a later one, and each kept answer stands after its entry
+  -- the generation word is the keeper's, no entry is of a later one, nor is a reading in a trail, and each reading has the block of the
+  -- last TLS answer before it of its generation and module
   pub current : word generation_at ≡ kept.generation
-  pub not_later : (m : ℕ) (e : Entry) → m < harts_at_most → Contains (row_of kept m).issued e → e.generation ≤ kept.generation
+  pub not_later : (m : ℕ) → m < harts_at_most → NoneLater kept.generation (row_of kept m).issued
+  pub readings : (m : ℕ) → m < harts_at_most → NoneAbove kept.generation (readings_of (hart m).trail)
   pub kept_answers : (m : ℕ) → m < harts_at_most → AllKept [] (hart m).trail
 
 pub record Clauses (words : List ℕ) (views : List View) (kept : KeeperView) (hart : ℕ → HartView) : Type 0 where

@@ -30,7 +30,7 @@ use Rattle.word_rule.specs.declared.view.TrailItem.{TrailItem}
 use Rattle.word_rule.specs.declared.view.TrailItem.TheVariants.{Call, Took, Exchanged, Done, Generation as ReadGeneration}
 use Rattle.word_rule.specs.Layout.{control_at, count_at, generation_at, index_of, quiet_at, row_at, state_at, value_at}
 use Rattle.word_rule.specs.Layout.{IsDoubleword, IsInMemory, lock_bit, place_of, role_in, to_lock, version_in}
-use Rattle.word_rule.specs.Views.{BeginsWith, IsRead, IsGranted, offer_found, offered, with_offered, known_of, last_block, nothing_locked}
+use Rattle.word_rule.specs.Views.{BeginsWith, IsRead, IsGranted, offer_found, offered, with_offered, known_of, last_block, NoneLater, nothing_locked}
 use Rattle.word_rule.specs.Operations.{Op, load, store, exchange, add}
 
 -- ---- what is asked of memory
@@ -316,5 +316,6 @@ abbrev pub HartLearns : HartKind → HartView → ℕ → Type 0
 HartLearns kinds.Tally h n = length h.heard ≤ n
 HartLearns (kinds.Arrive m) h n = (Awaits n ⊎ IsMark n) × StateAgain h.lane.offer n
 HartLearns (kinds.Find m i) h n = FindTells i h.lane.offer n × WordAgain i h.lane.offer n
+HartLearns (kinds.Generation number) h n = NoneLater n (known_of h.lane)
 HartLearns kinds.Listen h n = HartHeard h.note h
 HartLearns _ h n = Unit {0}

@@ -10,7 +10,7 @@ use Rattle.word_rule.specs.declared.view.Told.{Told}
 use Rattle.word_rule.specs.declared.view.View.{View}
 use Rattle.word_rule.specs.declared.view.View.TheVariants.{Keeper, Hart, Note, Spent}
 use Rattle.word_rule.specs.Layout.{harts_at_most}
-use Rattle.word_rule.specs.Views.{first_hart, IsRead, known_of, longer, no_row}
+use Rattle.word_rule.specs.Views.{first_hart, IsRead, known_of, longer, no_row, readings_of}
 use Rattle.word_rule.specs.Rule.{IsGuest}
 
 -- ---- a hart's seat is made from the keeper's
@@ -31,7 +31,7 @@ HasRoom v = ⊥
 
 abbrev pub note_of : View → View
 note_of (Keeper k) = Note k.events (OfKeeper k.rows)
-note_of (Hart h) = Note h.heard (OfHart h.number (known_of h.lane))
+note_of (Hart h) = Note h.heard (OfHart h.number (known_of h.lane) (readings_of h.trail))
 note_of v = Spent
 
 abbrev pub HasNote : View → Type 0
@@ -47,16 +47,16 @@ IsSettled l = (l.calling ≡ false) ⊎ ((o : Offer) × (e : Entry) × (l.offer 
 
 abbrev pub takes_in : View → View → View
 takes_in (Keeper k) (Hart h) = Keeper (record k { joined = k.joined ++ h ∷ [] })
-takes_in (Keeper k) (Note events (OfHart m entries)) =
-    Keeper (record k { note = Some (record { had = k.events; told = events; number = m; entries = entries }) })
+takes_in (Keeper k) (Note events (OfHart m entries readings)) =
+    Keeper (record k { note = Some (record { had = k.events; told = events; number = m; entries = entries; readings = readings }) })
 takes_in (Hart h) (Note events (OfKeeper rows)) =
-    let told : Told = record { had = h.heard; told = events; number = h.number; entries = (slice_index_or rows h.number no_row).issued } in
+    let told : Told = record { had = h.heard; told = events; number = h.number; entries = (slice_index_or rows h.number no_row).issued; readings = [] } in
     Hart (record h { heard = longer h.heard events; note = Some told })
 takes_in v w = v
 
 abbrev pub MayTake : View → View → Type 0
 MayTake (Keeper k) (Hart h) = Unit {0}
-MayTake (Keeper k) (Note events (OfHart m entries)) = Unit {0}
+MayTake (Keeper k) (Note events (OfHart m entries readings)) = Unit {0}
 MayTake (Hart h) (Note events (OfKeeper rows)) = IsSettled h.lane
 MayTake _ _ = ⊥
 

@@ -17,8 +17,9 @@ use Rattle.word_rule.specs.declared.view.Sight.{Sight}
 use Rattle.word_rule.specs.declared.view.Told.{Told}
 use Rattle.word_rule.specs.Layout.{control_at, count_at, generation_at, index_of, quiet_at, row_at, state_at, value_at}
 use Rattle.word_rule.specs.Layout.{doublewords, harts_at_most, lock_bit, place_of, role_code, to_lock, to_unlock}
-use Rattle.word_rule.specs.Views.{BeginsWith, entries_of, entry_of, exchanges_of, field_of, grant_in, kept_at, nothing_locked, row_of, with_field}
+use Rattle.word_rule.specs.Views.{BeginsWith, entries_of, entry_of, exchanges_of, field_of, grant_in, kept_at, NoneAbove, nothing_locked, row_of, with_field}
 use Rattle.word_rule.specs.Allowed.{IsAllowed, IsDecided, IsLost, IsOf, IsPostable, IsSlot, IsWon, LeadsTo, NothingEnters}
+use Rattle.word_rule.specs.Generations.{AllKept}
 use Rattle.word_rule.specs.Slots.{HasLost, HasWon, IsGrant, Rising}
 use Rattle.word_rule.specs.Operations.{Op, load, store, exchange, add}
 
@@ -215,13 +216,14 @@ KeeperLeaves _ = Unit {0}
 -- what the keeper keeps of a note is true
 abbrev pub KeeperHeard : Option Told → KeeperView → Type 0
 KeeperHeard None k = Unit {0}
-KeeperHeard (Some t) k = BeginsWith k.events t.told × BeginsWith (row_of k t.number).issued t.entries
+KeeperHeard (Some t) k = BeginsWith k.events t.told × BeginsWith (row_of k t.number).issued t.entries × NoneAbove k.generation t.readings
 
 -- the hart's seat was joined while it wasn't calling, with this view
 abbrev pub HasEnded : KeeperView → ℕ → HartView → Type 0
 HasEnded k m j = ((i : ℕ) × (slice_get k.joined i ≡ Some j)) × (j.number ≡ m) × (j.lane.calling ≡ false)
 
--- it has taken all that was issued to it, and its row has no call; the fates of its grants are those of its exchanges
+-- it has taken all that was issued to it, and its row has no call; the fates of its grants are those of its exchanges; and each of its
+-- readings of the generation has the last block before it
 pub record HasTakenAll (row : Row) (n : ℕ) (j : HartView) : Type 0 where
   pub taken : j.lane.taken ≡ row.issued
   pub entries : entries_of j.trail ≡ j.lane.taken
@@ -230,6 +232,7 @@ pub record HasTakenAll (row : Row) (n : ℕ) (j : HartView) : Type 0 where
   pub lost : (g : Grant) → IsLost row g → HasLost (exchanges_of j.trail) g
   pub granted : (x : Exchange) → Contains (exchanges_of j.trail) x → IsGrant row x.grant
   pub rising : Rising (exchanges_of j.trail)
+  pub kept : AllKept [] j.trail
 
 -- a row with a grant whose fate isn't known is open, won or lost, and has the grant's words
 pub record TellsAsk (k : KeeperView) (m n : ℕ) : Type 0 where

@@ -8,6 +8,7 @@ pub mod Joining
 pub mod KeeperCalls
 pub mod KeeperLocks
 pub mod KeeperSlots
+pub mod Knowing
 pub mod Lanes
 pub mod Locks
 pub mod Marks

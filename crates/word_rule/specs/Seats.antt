@@ -5,26 +5,25 @@ use lib.ListN.{get_elem?}
 use Rattle.history_event.specs.declared.event.Event.{Event}
 use Rattle.word_rule.specs.declared.view.HartView.{HartView}
 use Rattle.word_rule.specs.declared.view.KeeperView.{KeeperView}
-use Rattle.word_rule.specs.declared.view.Row.{Row}
 use Rattle.word_rule.specs.declared.view.Slip.{Slip}
 use Rattle.word_rule.specs.declared.view.Slip.TheVariants.{OfHart, OfKeeper}
 use Rattle.word_rule.specs.declared.view.View.{View}
 use Rattle.word_rule.specs.declared.view.View.TheVariants.{Keeper, Hart, Note, Spent}
 use Rattle.word_rule.specs.Layout.{doublewords, harts_at_most}
-use Rattle.word_rule.specs.Views.{BeginsWith, first_hart, no_row, row_of}
+use Rattle.word_rule.specs.Views.{BeginsWith, first_hart, no_row, NoneAbove, row_of}
 use Rattle.word_rule.specs.HartSteps.{HartHeard}
 use Rattle.word_rule.specs.KeeperSteps.{KeeperHeard}
 
--- a note's entries are issued
-abbrev pub Issued : (ℕ → Row) → Slip → Type 0
-Issued row (OfHart m entries) = BeginsWith (row m).issued entries
-Issued row (OfKeeper rows) = (m : ℕ) → BeginsWith (row m).issued (slice_index_or rows m no_row).issued
+-- a note's entries are issued, and no generation that a hart read is above the keeper's
+abbrev pub Issued : KeeperView → Slip → Type 0
+Issued kept (OfHart m entries readings) = BeginsWith (row_of kept m).issued entries × NoneAbove kept.generation readings
+Issued kept (OfKeeper rows) = (m : ℕ) → BeginsWith (row_of kept m).issued (slice_index_or rows m no_row).issued
 
 -- what is true of one seat's view: there is one keeper's view, and one view of a hart's number
 abbrev pub Fits : KeeperView → ℕ → (ℕ → ℕ) → (ℕ → HartView) → ℕ → View → Type 0
 Fits kept keeper seat_of hart seat (Keeper k) = (k ≡ kept) × (seat ≡ keeper)
 Fits kept keeper seat_of hart seat (Hart h) = (h.number < kept.harts) × (seat_of h.number ≡ seat) × (hart h.number ≡ h)
-Fits kept keeper seat_of hart seat (Note events slip) = BeginsWith kept.events events × Issued (row_of kept) slip
+Fits kept keeper seat_of hart seat (Note events slip) = BeginsWith kept.events events × Issued kept slip
 Fits kept keeper seat_of hart seat Spent = Unit {0}
 
 -- a hart whose seat was joined has no other seat

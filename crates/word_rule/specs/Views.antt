@@ -1,5 +1,5 @@
 -- What is read of views.
-use Rattle.std.specs.Prelude.{◌≡◌, ℕ, Bool, true, false, ◌&&◌, cond, eqb, List, [], ◌∷◌, ◌++◌, length, Option, Some, None, slice_index_or, if◌then◌else◌, ◌==◌}
+use Rattle.std.specs.Prelude.{◌≡◌, ℕ, ◌≤◌, Bool, true, false, ◌&&◌, cond, eqb, List, [], ◌∷◌, ◌++◌, length, Option, Some, None, Contains, slice_index_or, if◌then◌else◌, ◌==◌}
 use Rattle.std.specs.List.{flat_map}
 use Rattle.ld_base.specs.declared.linking.Role.TheVariants.{None as NoRole}
 use Rattle.word_rule.specs.declared.entry.Entry.{Entry}
@@ -122,6 +122,10 @@ read_of (Some o) = read_with o.mark o.number o.slot o.value o.generation
 abbrev pub known_of : Lane → List Entry
 known_of lane = lane.taken ++ read_of lane.offer
 
+-- none of these entries is of a later generation
+abbrev pub NoneLater : ℕ → List Entry → Type 0
+NoneLater generation entries = (e : Entry) → Contains entries e → e.generation ≤ generation
+
 abbrev pub tried_entry : Option Exchange → List Entry
 tried_entry None = []
 tried_entry (Some x) = x.grant.entry ∷ []
@@ -157,6 +161,18 @@ exchanges_by _ = []
 
 abbrev pub exchanges_of : List TrailItem → List Exchange
 exchanges_of trail = flat_map exchanges_by trail
+
+-- the generations that were read
+abbrev pub readings_by : TrailItem → List ℕ
+readings_by (ReadGeneration generation number block) = generation ∷ []
+readings_by _ = []
+
+abbrev pub readings_of : List TrailItem → List ℕ
+readings_of trail = flat_map readings_by trail
+
+-- none of them is above this one
+abbrev pub NoneAbove : ℕ → List ℕ → Type 0
+NoneAbove generation readings = (n : ℕ) → Contains readings n → n ≤ generation
 
 -- an answer on thread-local storage: mark 2, or an event with a module
 abbrev pub is_block : ℕ → ℕ → Entry → Bool

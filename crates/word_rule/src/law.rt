@@ -1,20 +1,24 @@
 //! What holds of the rule.
 
-ghost use Rattle.std.specs.Prelude.{◌≡◌, ℕ, List, [], ◌∷◌};
+ghost use Rattle.std.specs.Prelude.{◌≡◌, ℕ, List, [], ◌∷◌, ◌++◌};
+ghost use Rattle.word_rule.specs.declared.entry.Entry.{Entry};
 ghost use Rattle.word_rule.specs.declared.kind.HartKind.{HartKind};
 ghost use Rattle.word_rule.specs.declared.kind.KeeperKind.{KeeperKind};
 ghost use Rattle.word_rule.specs.declared.view.HartView.{HartView};
 ghost use Rattle.word_rule.specs.declared.view.KeeperView.{KeeperView};
+ghost use Rattle.word_rule.specs.declared.view.TrailItem.{TrailItem};
+ghost use Rattle.word_rule.specs.declared.view.TrailItem.TheVariants.{Took};
 ghost use Rattle.word_rule.specs.declared.view.View.{View};
 ghost use Rattle.word_rule.specs.declared.view.View.TheVariants.{Keeper};
 ghost use Rattle.word_rule.specs.Clauses.{Clauses};
+ghost use Rattle.word_rule.specs.Generations.{IsUnknown, IsUnmarked, LastIsAnswer, MarksOnce, NoneIsAnswer, NoneIsOfLater};
 ghost use Rattle.word_rule.specs.HartSteps.{HartLearns, HartLeaves, HartReady, hart_after};
 ghost use Rattle.word_rule.specs.KeeperSteps.{KeeperLeaves, KeeperReady, keeper_after};
 ghost use Rattle.word_rule.specs.Rule.{HartKeeps, IsGuest, KeeperKeeps};
 ghost use Rattle.word_rule.specs.Joining.{HasNote, HasRoom, JoinKeeps, MayTake, SplitKeeps, new_hart, note_of, takes_in, with_hart};
 ghost use Rattle.word_rule.specs.Start.{first_keeper, first_words, IsFirst};
 ghost use Rattle.word_rule.specs.Owners.{LockedStay, OnlyOwnersChange, OnlyRowsOwnersChange, OnlyTallyCounts, SlotsStay, TrailsGrow, UnlocksRaise};
-ghost use Rattle.word_rule.specs.Views.{IsLane, IsLong, first_lane};
+ghost use Rattle.word_rule.specs.Views.{IsLane, IsLong, entries_of, first_lane};
 ghost use Rattle.word_rule.specs.Worked.{AnotherHasLocked, ConditionalFails, ConditionalIsRefused, LockIsShown, LookKeeps, OneLocks, OneWins};
 ghost use Rattle.word_rule.specs.Worked.{RoleComesAndGoes, RowGoesRound, StoreIsOwed};
 
@@ -59,6 +63,23 @@ pub fn rows_have_owners()
 pub fn exchanges_stay()
     ensures trails { TrailsGrow }
     ensures slots { SlotsStay }
+{}
+
+/// The last block of a module among entries is that of the last TLS answer there, and none exactly where
+/// there is no such answer. Where there is none at a generation that no entry is later than, there is none
+/// at a later one: a hart that found none has none of the generation of the linker's answer, either.
+pub fn last_blocks_are_answers()
+    ensures answer { LastIsAnswer }
+    ensures none { NoneIsAnswer }
+    ensures later { NoneIsOfLater }
+{}
+
+/// The answers of mark 2 in a trail stay the first ones of their generations and modules where the trail
+/// gets one more item, which has no such answer, or is an entry of whose generation and module the trail
+/// has no answer.
+pub fn marks_stay_once()
+    ensures unmarked { (trail : List TrailItem) (item : TrailItem) → MarksOnce [] trail → IsUnmarked item → MarksOnce [] (trail ++ item ∷ []) }
+    ensures first { (trail : List TrailItem) (e : Entry) → MarksOnce [] trail → IsUnknown (entries_of trail) e → MarksOnce [] (trail ++ Took e ∷ []) }
 {}
 
 /// What a hart's own view says of its calls holds after each of its steps.

@@ -25,7 +25,8 @@ pub use entry::{Entry, Exchange, Grant, RowWord};
 pub use kind::{Ask, HartKind, KeeperKind, Kind, LoadAsk, StoreAsk};
 pub use law::{
     exchanges_stay, hart_steps_keep, joined_seats_keep, keeper_steps_keep, lanes_stay,
-    made_seats_keep, owners_change, rows_have_owners, rule_begins, rule_comes_to, worked_steps,
+    last_blocks_are_answers, made_seats_keep, marks_stay_once, owners_change, rows_have_owners,
+    rule_begins, rule_comes_to, worked_steps,
 };
 pub use rule::{Aimed, Does, GuestRule, MakesHart, MakesNote, TakesIn};
 pub use view::{

@@ -76,6 +76,8 @@ pub struct Told {
     pub number: u64,
     /// Entries that were handed to this hart, in order, from the first.
     pub entries: LinkedList<Entry>,
+    /// The generations that this hart read, where it tells of itself.
+    pub readings: LinkedList<u64>,
 }
 
 /// What a hart knows.
@@ -179,7 +181,7 @@ pub struct KeeperView {
     pub access: Access,
     /// The last views of the harts whose seats were joined.
     pub joined: LinkedList<HartView>,
-    /// What a hart told it of the entries that it took, until the next load.
+    /// What a hart told it of the entries that it took and the generations that it read, until the next load.
     pub note: Option<Told>,
     /// Each time that a doubleword was found locked by another seat, in order.
     pub shown: LinkedList<Sight>,
@@ -187,8 +189,8 @@ pub struct KeeperView {
 
 /// What a note carries beside a list of events.
 pub enum Slip {
-    /// A hart's number, and the entries that it knows of.
-    OfHart(u64, LinkedList<Entry>),
+    /// A hart's number, the entries that it knows of, and the generations that it read.
+    OfHart(u64, LinkedList<Entry>, LinkedList<u64>),
     /// The keeper's rows.
     OfKeeper(LinkedList<Row>),
 }

@@ -51,14 +51,14 @@ desk_noted me is = (ap (λ (p : Me Unit View). p.1) is, subst HasNote (sym (desk
 takes_still : (k : KeeperView) (w : View) → takes_in (Keeper k) w ≡ Keeper (keeper_of (takes_in (Keeper k) w))
 takes_still k (Keeper x) = refl
 takes_still k (Hart h) = refl
-takes_still k (Note es (OfHart m entries)) = refl
+takes_still k (Note es (OfHart m entries readings)) = refl
 takes_still k (Note es (OfKeeper rows)) = refl
 takes_still k Spent = refl
 
 takes_long : (k : KeeperView) (w : View) → IsLong k → IsLong (keeper_of (takes_in (Keeper k) w))
 takes_long k (Keeper x) long = long
 takes_long k (Hart h) long = long
-takes_long k (Note es (OfHart m entries)) long = long
+takes_long k (Note es (OfHart m entries readings)) long = long
 takes_long k (Note es (OfKeeper rows)) long = long
 takes_long k Spent long = long
 

@@ -42,7 +42,7 @@ hand_noted me is = (ap (λ (p : Me Unit View). p.1) is, subst HasNote (sym (view
 takes_still : (h : HartView) (w : View) → takes_in (Hart h) w ≡ Hart (hart_of (takes_in (Hart h) w))
 takes_still h (Keeper x) = refl
 takes_still h (Hart g) = refl
-takes_still h (Note es (OfHart m entries)) = refl
+takes_still h (Note es (OfHart m entries readings)) = refl
 takes_still h (Note es (OfKeeper rows)) = refl
 takes_still h Spent = refl
 

@@ -7,7 +7,7 @@ use Rattle.word_rule.specs.declared.view.HartView.{HartView}
 use Rattle.word_rule.specs.declared.view.KeeperView.{KeeperView}
 use Rattle.word_rule.specs.HartSteps.{HartLearns, hart_after}
 use Rattle.word_rule.specs.KeeperSteps.{KeeperLearns, keeper_after}
-use Rattle.word_rule.specs.Views.{BeginsWith, known_of, longer, row_of}
+use Rattle.word_rule.specs.Views.{BeginsWith, known_of, longer, NoneAbove, readings_of, row_of}
 use Rattle.word_steps.specs.Knowing.{told_by, told_of}
 use Rattle.word_steps.specs.Views.{IsIdle, IsResting}
 use Rattle.word_rule.specs.Lemmas.Heeding.{heeds}
@@ -41,7 +41,7 @@ each_other xs ys a b = a.1 ∙ (ap (λ l. ys ++ l) (nothing a.0 short) ∙ appen
 pub told_keeper : (h : HartView) (k k1 k2 : KeeperView) (n : ℕ) → IsResting k → k1 ≡ told_of h k → k2 ≡ keeper_after keepers.Listen k1 n → k2 ≡ k
 told_keeper h k k1 k2 n r taken is = is ∙ (ap (λ k. keeper_after keepers.Listen k n) taken ∙ heeds k r.note)
 
-first : (h : HartView) (k k1 : KeeperView) (n : ℕ) → k1 ≡ told_of h k → KeeperLearns keepers.Listen k1 n → BeginsWith k.events h.heard × BeginsWith (row_of k h.number).issued (known_of h.lane)
+first : (h : HartView) (k k1 : KeeperView) (n : ℕ) → k1 ≡ told_of h k → KeeperLearns keepers.Listen k1 n → BeginsWith k.events h.heard × BeginsWith (row_of k h.number).issued (known_of h.lane) × NoneAbove k.generation (readings_of h.trail)
 first h k k1 n taken learns = subst (λ k. KeeperLearns keepers.Listen k n) taken learns
 
 -- a hart was told of the keeper, and loads
@@ -59,6 +59,7 @@ told_issued h k a b = each_other (known_of h.lane) (row_of k h.number).issued b 
 pub record Telling (h h2 : HartView) (k : KeeperView) : Type 0 where
   pub heard : h2 ≡ record h { heard = k.events }
   pub issued : known_of h.lane ≡ (row_of k h.number).issued
+  pub readings : NoneAbove k.generation (readings_of h.trail)
 
 pub tells : (h h0 h1 h2 : HartView) (k k1 k2 : KeeperView) (n1 n2 : ℕ) → IsResting k → IsIdle h → h0 ≡ h → k1 ≡ told_of h k → k2 ≡ keeper_after keepers.Listen k1 n1 → KeeperLearns keepers.Listen k1 n1
     → h1 ≡ told_by k2 h0 → h2 ≡ hart_after harts.Listen h1 n2 → HartLearns harts.Listen h1 n2 → Telling h h2 k
@@ -67,4 +68,5 @@ tells h h0 h1 h2 k k1 k2 n1 n2 resting idle still taken1 after1 learns1 taken2 a
     let taken : h1 ≡ told_by k h = taken2 ∙ (λ i. told_by (told_keeper h k k1 k2 n1 resting taken1 after1 i) (still i)) in record {
       heard = told_hart h h1 h2 k n2 idle told.0 taken after2;
       issued = told_issued h k told.1 (second h h1 k n2 taken learns2);
+      readings = told.2;
     }

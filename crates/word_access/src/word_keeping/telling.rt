@@ -2,7 +2,7 @@
 
 ghost use Rattle.std.specs.Prelude.{◌≡◌};
 ghost use Rattle.word_rule.specs.Joining.{IsSettled};
-ghost use Rattle.word_rule.specs.Views.{BeginsWith, known_of, row_of};
+ghost use Rattle.word_rule.specs.Views.{BeginsWith, NoneAbove, known_of, readings_of, row_of};
 ghost use Rattle.word_steps.specs.Views.{IsIdle, IsResting};
 
 use word_rule::{HartKind, KeeperKind};
@@ -19,6 +19,7 @@ pub fn tell<J: Naming>(memory: &Memory<J>, desk: &mut Desk<J>, hand: &mut Hand<J
     ensures begun { BeginsWith desk.old.events hand.old.heard }
     ensures keeper { desk.new ≡ desk.old }
     ensures issued { known_of hand.old.lane ≡ (row_of desk.old hand.old.number).issued }
+    ensures readings { NoneAbove desk.old.generation (readings_of hand.old.trail) }
 {
     desk.take_note(memory, hand);
     desk.load_word(memory, QUIET, KeeperKind::Listen);

@@ -21,6 +21,7 @@ use Rattle.word_rule.specs.Slots.{GrantsAre, Slots}
 use Rattle.word_rule.specs.Generations.{Generations}
 use Rattle.word_rule.specs.Rule.{IsGuest, Parts}
 use Rattle.word_rule.specs.Lemmas.Put.{ext}
+use Rattle.word_rule.specs.Lemmas.Trails.{none_read}
 
 all_same : {A : Type 0} (n : ℕ) (a : A) (i : ℕ) → a ≡ get_or (replicate n a) i a
 all_same zero a i = refl
@@ -107,7 +108,7 @@ first_parts = record {
   locks = subst (λ (p : (ℕ → ℕ) × (ℕ → Kept)). Words p.0 p.1 nothing_locked (λ m. nothing_locked)) (λ i. (words i, knowledge i)) first_words_part;
   calls = subst (λ (p : (ℕ → ℕ) × (ℕ → Row)). Calls p.0 0 p.1 (λ m. (first_hart m).lane) (λ m. [])) (λ i. (words i, rows i)) (record { counted = refl; each_row = λ m few. first_row m });
   slots = subst (λ (p : (ℕ → ℕ) × (ℕ → Kept) × (ℕ → Row)). Slots p.0 p.1 None 0 p.2 (λ m. None) (λ m. [])) (λ i. (words i, knowledge i, rows i)) first_slots;
-  generations = subst (λ (p : (ℕ → ℕ) × (ℕ → Row)). Generations p.0 0 p.1 (λ m. [])) (λ i. (words i, rows i)) (record { current = refl; issued = λ m few e c. absurd (nothing e c); kept = λ m few. tt });
+  generations = subst (λ (p : (ℕ → ℕ) × (ℕ → Row)). Generations p.0 0 p.1 (λ m. [])) (λ i. (words i, rows i)) (record { current = refl; issued = λ m few e c. absurd (nothing e c); kept = λ m few. tt; read = λ m few. none_read 0 });
 }
   where
     words : (λ i. 0) ≡ slice_index first_words

@@ -1,5 +1,5 @@
 -- Seats that are made or joined, and notes, keep the rule.
-use Rattle.std.proofs.Common.{◌≡◌, ◌≢◌, ◌⊎◌, ⊎_elim, inl, inr, ℕ, zero, suc, ◌+◌, ◌≤◌, ◌<◌, Bool, true, false, List, [], ◌∷◌, ◌++◌, append-nil, length, length-set, set, Option, Some, None, refl, sym, ap, subst, ◌∙◌, arith, slice_get, slice_index, slice_index_or}
+use Rattle.std.proofs.Common.{◌≡◌, ◌≢◌, ◌⊎◌, ⊎_elim, inl, inr, ℕ, zero, suc, ◌+◌, ◌≤◌, ◌<◌, List, [], ◌∷◌, ◌++◌, length, length-set, set, Option, Some, None, refl, sym, ap, subst, ◌∙◌, arith, slice_get, slice_index, slice_index_or}
 use mathlib.Core.Logic.{dite}
 use mathlib.Core.Option.{some, some-injective, some-ne-none}
 use native.Mathlib.Decide.{ℕ_discrete}
@@ -13,26 +13,24 @@ use Rattle.word_rule.specs.declared.view.Kept.{Kept}
 use Rattle.word_rule.specs.declared.view.HartView.{HartView}
 use Rattle.word_rule.specs.declared.view.KeeperView.{KeeperView}
 use Rattle.word_rule.specs.declared.view.Lane.{Lane}
-use Rattle.word_rule.specs.declared.view.Offer.{Offer}
 use Rattle.word_rule.specs.declared.view.Row.{Row}
 use Rattle.word_rule.specs.declared.view.Slip.{Slip}
 use Rattle.word_rule.specs.declared.view.Slip.TheVariants.{OfHart, OfKeeper}
 use Rattle.word_rule.specs.declared.view.Told.{Told}
 use Rattle.word_rule.specs.declared.view.View.{View}
 use Rattle.word_rule.specs.declared.view.View.TheVariants.{Keeper, Hart, Note, Spent}
-use Rattle.word_rule.specs.Layout.{harts_at_most, state_at}
-use Rattle.word_rule.specs.Views.{after, BeginsWith, entries_of, entry_of, exchanges_of, first_hart, IsRead, kept_at, known_of, longer, no_row, put, read_of, read_with, row_of, unmapped}
+use Rattle.word_rule.specs.Layout.{harts_at_most}
+use Rattle.word_rule.specs.Views.{after, BeginsWith, entries_of, exchanges_of, first_hart, kept_at, known_of, longer, no_row, NoneAbove, put, readings_of, row_of, unmapped}
 use Rattle.word_rule.specs.KeeperSteps.{KeeperHeard}
 use Rattle.word_rule.specs.Seats.{Fits, Heard, HartFits, Issued, Seats}
-use Rattle.word_rule.specs.HartSteps.{Awaits}
-use Rattle.word_rule.specs.Calls.{Answered, Calls, RowIs, Stage, Still}
+use Rattle.word_rule.specs.Calls.{Calls, RowIs}
 use Rattle.word_rule.specs.Words.{Words}
 use Rattle.word_rule.specs.Slots.{Slots}
 use Rattle.word_rule.specs.Generations.{Generations}
 use Rattle.word_rule.specs.Rule.{IsGuest, Parts}
-use Rattle.word_rule.specs.Joining.{HasNote, HasRoom, IsSettled, JoinKeeps, MayTake, new_hart, note_of, SplitKeeps, takes_in, with_hart}
+use Rattle.word_rule.specs.Joining.{HasNote, HasRoom, JoinKeeps, MayTake, new_hart, note_of, SplitKeeps, takes_in, with_hart}
 use Rattle.word_rule.specs.Lemmas.Put.{field_stays, put_else, put_each, put_here}
-use Rattle.word_rule.specs.Lemmas.HartCalls.{answered_if, read_entry}
+use Rattle.word_rule.specs.Lemmas.Knowing.{known_begins, knows_all}
 use Rattle.word_rule.specs.Lemmas.Seating.{begins_itself, hart_seats, no_keeper, set_found}
 
 -- ---- lists
@@ -75,47 +73,10 @@ longer_is xs (x ∷ a) (y ∷ b) p q =
       second = (r.second.0, λ i. head i ∷ r.second.1 i);
     }
 
--- ---- what a hart knows to be issued to it
-
-read_nothing : (mark : ℕ) (n s v g : Option ℕ) (taken issued : List Entry) (e : Entry) → issued ≡ taken ++ e ∷ []
-    → ((n' s' v' g' : ℕ) → n ≡ Some n' → s ≡ Some s' → v ≡ Some v' → g ≡ Some g' → record { mark = mark; number = n'; slot = s'; value = v'; generation = g' } ≡ e)
-    → BeginsWith issued (taken ++ read_with mark n s v g)
-read_nothing mark (Some n) (Some s) (Some v) (Some g) taken issued e is same = ([], is ∙ (ap (λ x. taken ++ x ∷ []) (sym (same n s v g refl refl refl refl)) ∙ sym (append-nil (taken ++ record { mark = mark; number = n; slot = s; value = v; generation = g } ∷ []))))
-read_nothing mark n s v g taken issued e is same = (e ∷ [], is ∙ ap (λ l. l ++ e ∷ []) (sym (append-nil taken)))
-
-known_begins : (word : ℕ → ℕ) (count m : ℕ) (r : Row) (l : Lane) (es : List Entry) → RowIs word count m r l es → BeginsWith r.issued (known_of l)
-known_begins word count m r l es is = go l.calling is.stage
-  where
-    still : Still r l → BeginsWith r.issued (known_of l)
-    still s = subst (λ o. BeginsWith r.issued (l.taken ++ read_of o)) (sym s.no_offer) ([], sym s.all ∙ (sym (append-nil l.taken) ∙ sym (append-nil (l.taken ++ []))))
-
-    answered : (o : Option Offer) → l.offer ≡ o → Answered (word (state_at m)) r l → BeginsWith r.issued (l.taken ++ read_of o)
-    answered None e a = (entry_of (word (state_at m)) r ∷ [], a.last ∙ ap (λ t. t ++ entry_of (word (state_at m)) r ∷ []) (sym (append-nil l.taken)))
-    answered (Some o) e a = read_nothing o.mark o.number o.slot o.value o.generation l.taken r.issued (entry_of (word (state_at m)) r) a.last
-        (λ n s v g p q t u. (read_entry (word (state_at m)) r l o (record { mark = o.mark; number = n; slot = s; value = v; generation = g }) a e
-        (record { mark_is = refl; number_is = p; slot_is = q; value_is = t; generation_is = u })).1)
-
-    go : (b : Bool) → Stage (word (state_at m)) r l b → BeginsWith r.issued (known_of l)
-    go false st = still st.1
-    go true st = ⊎_elim (λ (w : Awaits (word (state_at m)) × Still r l). still w.1) (λ (a : Answered (word (state_at m)) r l). answered l.offer refl a) st
-
--- a hart that doesn't call, or that knows all of its row, knows all that was issued to it
-knows_all : (word : ℕ → ℕ) (count m : ℕ) (r : Row) (l : Lane) (es : List Entry) → RowIs word count m r l es → IsSettled l → known_of l ≡ r.issued
-knows_all word count m r l es is settled = ⊎_elim
-    (λ (idle : l.calling ≡ false). let st = subst (Stage (word (state_at m)) r l) idle is.stage in ap (λ o. l.taken ++ read_of o) st.1.no_offer ∙ (append-nil l.taken ∙ st.1.all))
-    (λ (t : (o : Offer) × (e : Entry) × (l.offer ≡ Some o) × IsRead o e).
-    let a : Answered (word (state_at m)) r l = answered_if (word (state_at m)) r l t.0 t.2 l.calling is.stage in
-    let read = read_entry (word (state_at m)) r l t.0 t.1 a t.2 t.3 in
-    ap (λ o. l.taken ++ read_of o) t.2 ∙ (ap (λ es. l.taken ++ es) (reads t.0 t.1 t.3) ∙ (ap (λ e. l.taken ++ e ∷ []) read.1 ∙ sym a.last)))
-    settled
-  where
-    reads : (o : Offer) (e : Entry) → IsRead o e → read_with o.mark o.number o.slot o.value o.generation ≡ e ∷ []
-    reads o e r = λ i. read_with (r.mark_is i) (r.number_is i) (r.slot_is i) (r.value_is i) (r.generation_is i)
-
 -- ---- the seats
 
 -- a seat more, of a note
-add_note : (views : List View) (kept : KeeperView) (keeper : ℕ) (seat_of : ℕ → ℕ) (hart : ℕ → HartView) (events : List Event) (slip : Slip) → BeginsWith kept.events events → Issued (row_of kept) slip
+add_note : (views : List View) (kept : KeeperView) (keeper : ℕ) (seat_of : ℕ → ℕ) (hart : ℕ → HartView) (events : List Event) (slip : Slip) → BeginsWith kept.events events → Issued kept slip
     → Seats views kept keeper seat_of hart → Seats (views ++ Note events slip ∷ []) kept keeper seat_of hart
 add_note views kept keeper seat_of hart events slip begins issued s = record {
   here = at_longer views (Note events slip ∷ []) keeper (Keeper kept) s.here;
@@ -130,9 +91,9 @@ add_note views kept keeper seat_of hart events slip begins issued s = record {
   told = s.told;
 }
 
-told_on : (k k' : KeeperView) → k.events ≡ k'.events → k.rows ≡ k'.rows → (n : Option Told) → KeeperHeard n k → KeeperHeard n k'
-told_on k k' events rows None h = tt
-told_on k k' events rows (Some t) h = (subst (λ l. BeginsWith l t.told) events h.0, subst (λ l. BeginsWith (slice_index_or l t.number no_row).issued t.entries) rows h.1)
+told_on : (k k' : KeeperView) → k.events ≡ k'.events → k.rows ≡ k'.rows → k.generation ≡ k'.generation → (n : Option Told) → KeeperHeard n k → KeeperHeard n k'
+told_on k k' events rows generation None h = tt
+told_on k k' events rows generation (Some t) h = (subst (λ l. BeginsWith l t.told) events h.0, subst (λ l. BeginsWith (slice_index_or l t.number no_row).issued t.entries) rows h.1, subst (λ n. NoneAbove n t.readings) generation h.2)
 
 -- a seat more, of a hart
 add_hart : (views : List View) (k : KeeperView) (keeper : ℕ) (seat_of : ℕ → ℕ) (hart : ℕ → HartView) → k.harts < harts_at_most → Seats views k keeper seat_of hart
@@ -161,7 +122,7 @@ add_hart views k keeper seat_of hart room s = record {
   few = omega arith;
   words_known = s.words_known;
   rows_known = s.rows_known;
-  told = told_on k (record k { harts = k.harts + 1 }) refl refl k.note s.told;
+  told = told_on k (record k { harts = k.harts + 1 }) refl refl refl k.note s.told;
 }
   where
     k' : KeeperView
@@ -213,7 +174,7 @@ keeps_note views k keeper seat_of hart t told s = record {
     others : (seat : ℕ) (v : View) → seat ≢ keeper → Fits k keeper seat_of hart seat v → Fits (record k { note = Some t }) keeper seat_of hart seat v
     others seat (Keeper x) other f = absurd (other f.1)
     others seat (Hart h) other f = f
-    others seat (Note events (OfHart m entries)) other f = f
+    others seat (Note events (OfHart m entries readings)) other f = f
     others seat (Note events (OfKeeper rows)) other f = f
     others seat Spent other f = tt
 
@@ -266,7 +227,7 @@ take_hart views k keeper seat_of hart other h numbered apart there s = record {
   few = s.few;
   words_known = s.words_known;
   rows_known = s.rows_known;
-  told = told_on k (record k { joined = k.joined ++ h ∷ [] }) refl refl k.note s.told;
+  told = told_on k (record k { joined = k.joined ++ h ∷ [] }) refl refl refl k.note s.told;
 }
   where
     k' : KeeperView
@@ -289,7 +250,7 @@ take_hart views k keeper seat_of hart other h numbered apart there s = record {
     others : (seat : ℕ) (v : View) → seat ≢ keeper → seat ≢ other → Fits k keeper seat_of hart seat v → Fits (record k { joined = k.joined ++ h ∷ [] }) keeper (put seat_of h.number keeper) hart seat v
     others seat (Keeper x) no_keeper no_other f = absurd (no_keeper f.1)
     others seat (Hart g) no_keeper no_other f = (f.0, put_else seat_of h.number keeper g.number (λ q. no_other (sym f.1 ∙ (ap seat_of q ∙ fits.1))) ∙ f.1, f.2)
-    others seat (Note events (OfHart m entries)) no_keeper no_other f = f
+    others seat (Note events (OfHart m entries readings)) no_keeper no_other f = f
     others seat (Note events (OfKeeper rows)) no_keeper no_other f = f
     others seat Spent no_keeper no_other f = tt
 
@@ -355,16 +316,16 @@ note_keeps seat (Keeper k) has words views g at =
 note_keeps seat (Hart h) has words views g at =
     let fits : Fits g.kept g.keeper g.seat_of g.hart seat (Hart h) = g.seats.each seat (Hart h) at in
     let few : h.number < harts_at_most = (let low : h.number < g.kept.harts = fits.0 in let most : g.kept.harts ≤ harts_at_most = g.seats.few in omega arith) in
-    subst (λ l. IsGuest words (l ++ Note h.heard (OfHart h.number (known_of h.lane)) ∷ [])) (sym (set_again views seat (Hart h) at)) (record {
+    subst (λ l. IsGuest words (l ++ Note h.heard (OfHart h.number (known_of h.lane) (readings_of h.trail)) ∷ [])) (sym (set_again views seat (Hart h) at)) (record {
       kept = g.kept;
       keeper = g.keeper;
       seat_of = g.seat_of;
       hart = g.hart;
       wide = g.wide;
-      seats = add_note views g.kept g.keeper g.seat_of g.hart h.heard (OfHart h.number (known_of h.lane))
+      seats = add_note views g.kept g.keeper g.seat_of g.hart h.heard (OfHart h.number (known_of h.lane) (readings_of h.trail))
           (subst (λ (x : HartView). BeginsWith g.kept.events x.heard) fits.2 (g.parts.heard h.number).heard)
-          (subst (λ (x : HartView). BeginsWith (row_of g.kept h.number).issued (known_of x.lane)) fits.2
-          (known_begins (slice_index words) (length g.kept.events) h.number (row_of g.kept h.number) (g.hart h.number).lane (entries_of (g.hart h.number).trail) (g.parts.calls.each_row h.number few)))
+          (subst (λ (x : HartView). BeginsWith (row_of g.kept h.number).issued (known_of x.lane) × NoneAbove g.kept.generation (readings_of x.trail)) fits.2
+          (known_begins (slice_index words) (length g.kept.events) h.number (row_of g.kept h.number) (g.hart h.number).lane (entries_of (g.hart h.number).trail) (g.parts.calls.each_row h.number few), g.parts.generations.read h.number few))
           g.seats;
       parts = g.parts;
     })
@@ -383,13 +344,14 @@ join_keeps seat (Keeper k) other (Hart h) may words views g at apart there =
           (take_hart views k g.keeper g.seat_of g.hart other h (λ m. (g.parts.heard m).numbered) (λ e. apart (e ∙ sym fits.1)) was (subst (λ k. Seats views k g.keeper g.seat_of g.hart) (sym fits.0) g.seats));
       parts = same_parts (slice_index words) k k' g.hart refl refl refl refl refl (subst (λ k. Parts (slice_index words) k g.hart) (sym fits.0) g.parts);
     }
-join_keeps seat (Keeper k) other (Note events (OfHart m entries)) may words views g at apart there =
-    let t : Told = record { had = k.events; told = events; number = m; entries = entries } in
+join_keeps seat (Keeper k) other (Note events (OfHart m entries readings)) may words views g at apart there =
+    let t : Told = record { had = k.events; told = events; number = m; entries = entries; readings = readings } in
     let k' : KeeperView = record k { note = Some t } in
     let fits : Fits g.kept g.keeper g.seat_of g.hart seat (Keeper k) = g.seats.each seat (Keeper k) at in
-    let was : get_elem? views other ≡ some (Note events (OfHart m entries)) = sym (set_else views seat other (Keeper k') apart) ∙ there in
-    let there' : get_elem? (set views g.keeper (Keeper k')) other ≡ some (Note events (OfHart m entries)) = subst (λ i. get_elem? (set views i (Keeper k')) other ≡ some (Note events (OfHart m entries))) fits.1 there in
-    let seats : Seats views k g.keeper g.seat_of g.hart = subst (λ k. Seats views k g.keeper g.seat_of g.hart) (sym fits.0) g.seats in record {
+    let was : get_elem? views other ≡ some (Note events (OfHart m entries readings)) = sym (set_else views seat other (Keeper k') apart) ∙ there in
+    let there' : get_elem? (set views g.keeper (Keeper k')) other ≡ some (Note events (OfHart m entries readings)) = subst (λ i. get_elem? (set views i (Keeper k')) other ≡ some (Note events (OfHart m entries readings))) fits.1 there in
+    let seats : Seats views k g.keeper g.seat_of g.hart = subst (λ k. Seats views k g.keeper g.seat_of g.hart) (sym fits.0) g.seats in
+    let note : BeginsWith k.events events × Issued k (OfHart m entries readings) = seats.each other (Note events (OfHart m entries readings)) was in record {
       kept = k';
       keeper = g.keeper;
       seat_of = g.seat_of;
@@ -397,16 +359,16 @@ join_keeps seat (Keeper k) other (Note events (OfHart m entries)) may words view
       wide = g.wide;
       seats = subst (λ i. Seats (set (set views i (Keeper k')) other Spent) k' g.keeper g.seat_of g.hart) (sym fits.1)
           (spend (set views g.keeper (Keeper k')) k' g.keeper g.seat_of g.hart other (λ e. apart (sym e ∙ sym fits.1))
-          (λ h q. let z : Note events (OfHart m entries) ≡ Hart h = some-injective (Note events (OfHart m entries)) (Hart h) (sym there' ∙ q) in absurd (cc))
-          (keeps_note views k g.keeper g.seat_of g.hart t (seats.each other (Note events (OfHart m entries)) was) seats));
+          (λ h q. let z : Note events (OfHart m entries readings) ≡ Hart h = some-injective (Note events (OfHart m entries readings)) (Hart h) (sym there' ∙ q) in absurd (cc))
+          (keeps_note views k g.keeper g.seat_of g.hart t (note.0, note.1.0, note.1.1) seats));
       parts = same_parts (slice_index words) k k' g.hart refl refl refl refl refl (subst (λ k. Parts (slice_index words) k g.hart) (sym fits.0) g.parts);
     }
 join_keeps seat (Hart h) other (Note events (OfKeeper rows)) may words views g at apart there =
-    let h' : HartView = record h { heard = longer h.heard events; note = Some (record { had = h.heard; told = events; number = h.number; entries = (slice_index_or rows h.number no_row).issued }) } in
+    let h' : HartView = record h { heard = longer h.heard events; note = Some (record { had = h.heard; told = events; number = h.number; entries = (slice_index_or rows h.number no_row).issued; readings = [] }) } in
     let fits : Fits g.kept g.keeper g.seat_of g.hart seat (Hart h) = g.seats.each seat (Hart h) at in
     let few : h.number < harts_at_most = (let low : h.number < g.kept.harts = fits.0 in let most : g.kept.harts ≤ harts_at_most = g.seats.few in omega arith) in
     let was : get_elem? views other ≡ some (Note events (OfKeeper rows)) = sym (set_else views seat other (Hart h') apart) ∙ there in
-    let note : BeginsWith g.kept.events events × Issued (row_of g.kept) (OfKeeper rows) = g.seats.each other (Note events (OfKeeper rows)) was in
+    let note : BeginsWith g.kept.events events × Issued g.kept (OfKeeper rows) = g.seats.each other (Note events (OfKeeper rows)) was in
     let heard : BeginsWith g.kept.events h.heard = subst (λ (x : HartView). BeginsWith g.kept.events x.heard) fits.2 (g.parts.heard h.number).heard in
     let both : Longer Event g.kept.events h.heard events = longer_is g.kept.events h.heard events heard note.0 in
     let row : RowIs (slice_index words) (length g.kept.events) h.number (row_of g.kept h.number) h.lane (entries_of h.trail) =
@@ -435,7 +397,7 @@ join_keeps seat (Keeper k) other (Note events (OfKeeper rows)) may words views g
 join_keeps seat (Keeper k) other Spent may words views g at apart there = absurd may
 join_keeps seat (Hart h) other (Keeper x) may words views g at apart there = absurd may
 join_keeps seat (Hart h) other (Hart x) may words views g at apart there = absurd may
-join_keeps seat (Hart h) other (Note events (OfHart m entries)) may words views g at apart there = absurd may
+join_keeps seat (Hart h) other (Note events (OfHart m entries readings)) may words views g at apart there = absurd may
 join_keeps seat (Hart h) other Spent may words views g at apart there = absurd may
 join_keeps seat (Note events slip) other w may words views g at apart there = absurd may
 join_keeps seat Spent other w may words views g at apart there = absurd may

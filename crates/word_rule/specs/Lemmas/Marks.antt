@@ -1,7 +1,8 @@
 -- The part on the generation, over each kind of step.
 use Rattle.std.proofs.Common.{◌≡◌, ◌≢◌, ◌⊎◌, ⊎_elim, inl, inr, ℕ, ◌+◌, ◌%◌, ◌≤◌, ◌<◌, Bool, true, false, eqb, nat_le, List, [], ◌∷◌, ◌++◌, length, map, Option, Some, None, Contains, refl, sym, ap, subst, ◌∙◌, arith, slice_index_or, slice_set, ◌==◌}
-use Rattle.std.proofs.lemmas.List.Elements.{Contains-append_left, Contains-push_cases}
+use Rattle.std.proofs.lemmas.List.Elements.{Contains-push_cases}
 use Rattle.word_rule.specs.declared.entry.Entry.{Entry}
+use Rattle.word_rule.specs.declared.entry.Exchange.{Exchange}
 use Rattle.word_rule.specs.declared.entry.Grant.{Grant}
 use Rattle.word_rule.specs.declared.kind.Ask.{Ask}
 use Rattle.word_rule.specs.declared.kind.StoreAsk.{StoreAsk}
@@ -17,38 +18,43 @@ use Rattle.word_rule.specs.declared.view.Row.{Row}
 use Rattle.word_rule.specs.declared.view.TrailItem.{TrailItem}
 use Rattle.word_rule.specs.declared.view.TrailItem.TheVariants.{Took, Done, Generation as ReadGeneration}
 use Rattle.word_rule.specs.Layout.{harts_at_most, value_at, control_at, state_at, row_at, index_of, place_of, role_in, lock_bit}
-use Rattle.word_rule.specs.Views.{put, entries_of, entry_of, last_block, no_row, row_of, tried_entry, with_field}
+use Rattle.word_rule.specs.Views.{put, entries_of, entry_of, last_block, no_row, NoneAbove, readings_by, row_of, tried_entry, with_field}
 use Rattle.word_rule.specs.Operations.{becomes}
 use Rattle.word_rule.specs.HartSteps.{hart_word, hart_op, hart_after, glanced, looked, locked_if, heeded, permits, ask_is_fresh, ask_place, load_place, store_place}
 use Rattle.word_rule.specs.KeeperSteps.{KeeperReady, asked, asked_if, awaited_if, handed, heeding, keeper_word, keeper_op, keeper_after, keeps_if, not_found, opened, settled_as}
-use Rattle.word_rule.specs.Generations.{AllKept, Answers, Generations, IsKept}
+use Rattle.word_rule.specs.Generations.{Generations, IsKept}
 use Rattle.word_rule.specs.Lemmas.Put.{put_here, put_else, put_each, set_put}
 use Rattle.word_rule.specs.Lemmas.KeeperCalls.{map_row, map_long}
 use Rattle.word_rule.specs.Lemmas.Rows.{field_issued}
-use Rattle.word_rule.specs.Lemmas.Trails.{kept_push, last_is, rows_grow, trails_grow}
+use Rattle.word_rule.specs.Lemmas.Trails.{AreReadings, last_tried, none_read, one_read, reads_push, rows_grow, trails_grow}
 
 -- ---- harts
 
-glanced_kept : (ask : Ask) (control : ℕ) (a b c : Bool) (h : HartView) → AllKept [] h.trail → AllKept [] (glanced ask control a b c h).trail
-glanced_kept ask control true b c h k = kept_push [] h.trail _ k tt
-glanced_kept ask control false false c h k = kept_push [] h.trail _ k tt
-glanced_kept ask control false true false h k = kept_push [] h.trail _ k tt
-glanced_kept ask control false true true h k = k
+-- an item that is no reading
+pub adds : (generation : ℕ) (trail : List TrailItem) (item : TrailItem) → AreReadings generation trail → IsKept (entries_of trail) item → readings_by item ≡ [] → AreReadings generation (trail ++ item ∷ [])
+adds generation trail item old new quiet = reads_push generation trail item old new (subst (NoneAbove generation) (sym quiet) (none_read generation))
 
-locked_kept : (ask : StoreAsk) (c n : ℕ) (b : Bool) (h : HartView) → AllKept [] h.trail → AllKept [] (locked_if ask c n b h).trail
-locked_kept ask c n true h k = k
-locked_kept ask c n false h k = kept_push [] h.trail _ k tt
+glanced_kept : (generation : ℕ) (ask : Ask) (control : ℕ) (a b c : Bool) (h : HartView) → AreReadings generation h.trail → AreReadings generation (glanced ask control a b c h).trail
+glanced_kept generation ask control true b c h k = adds generation h.trail _ k tt refl
+glanced_kept generation ask control false false c h k = adds generation h.trail _ k tt refl
+glanced_kept generation ask control false true false h k = adds generation h.trail _ k tt refl
+glanced_kept generation ask control false true true h k = k
+
+locked_kept : (generation : ℕ) (ask : StoreAsk) (c n : ℕ) (b : Bool) (h : HartView) → AreReadings generation h.trail → AreReadings generation (locked_if ask c n b h).trail
+locked_kept generation ask c n true h k = k
+locked_kept generation ask c n false h k = adds generation h.trail _ k tt refl
 
 module _ (word : ℕ → ℕ) (generation : ℕ) (row : ℕ → Row) (trail : ℕ → List TrailItem) (g : Generations word generation row trail)
-    (h : HartView) (few : h.number < harts_at_most) (mine : trail h.number ≡ h.trail) (entries : entries_of h.trail ≡ h.lane.taken ++ tried_entry h.lane.tried) where
-  old : AllKept [] h.trail
-  old = subst (AllKept []) mine (g.kept h.number few)
+    (h : HartView) (few : h.number < harts_at_most) (mine : trail h.number ≡ h.trail) (entries : entries_of h.trail ≡ h.lane.taken ++ tried_entry h.lane.tried)
+    (grants : (x : Exchange) → h.lane.tried ≡ Some x → x.grant.entry.mark ≡ 3) where
+  old : AreReadings generation h.trail
+  old = subst (AreReadings generation) mine (g.kept h.number few, g.read h.number few)
 
-  grows : (i x : ℕ) (t : List TrailItem) → i ≢ 1 → AllKept [] t → Generations (put word i x) generation row (put trail h.number t)
+  grows : (i x : ℕ) (t : List TrailItem) → i ≢ 1 → AreReadings generation t → Generations (put word i x) generation row (put trail h.number t)
   grows i x t apart kept = trails_grow word (put word i x) generation row trail h.number t (put_else word i x 1 (λ (e : 1 ≡ i). apart (sym e))) kept g
 
-  item : (i : TrailItem) → Answers (entries_of h.trail) i → AllKept [] (h.trail ++ i ∷ [])
-  item i a = kept_push [] h.trail i old a
+  item : (i : TrailItem) → IsKept (entries_of h.trail) i → readings_by i ≡ [] → AreReadings generation (h.trail ++ i ∷ [])
+  item i = adds generation h.trail i old
 
   value_apart : (d : ℕ) → value_at d ≡ 1 → ⊥
   value_apart d e = omega arith
@@ -59,31 +65,27 @@ module _ (word : ℕ → ℕ) (generation : ℕ) (row : ℕ → Row) (trail : �
   row_apart : (m i : ℕ) → row_at m i ≡ 1 → ⊥
   row_apart m i e = omega arith
 
-  answer : (n number : ℕ) → IsKept (entries_of h.trail) n number (last_block n number h.lane.taken)
-  answer n number = go (last_block n number h.lane.taken) refl
-    where
-      go : (o : Option ℕ) → last_block n number h.lane.taken ≡ o → IsKept (entries_of h.trail) n number o
-      go None e = tt
-      go (Some b) e = let r = last_is n number h.lane.taken b e in (r.0, subst (λ es. Contains es r.0) (sym entries) (Contains-append_left h.lane.taken (tried_entry h.lane.tried) r.0 r.1), r.2, r.3)
+  answer : (n number : ℕ) → last_block n number h.lane.taken ≡ last_block n number (entries_of h.trail)
+  answer n number = sym (last_tried n number h.lane.taken h.lane.tried grants) ∙ ap (last_block n number) (sym entries)
 
   pub hart_marks : (kind : HartKind) → Generations (put word (hart_word kind) (becomes (hart_op kind) (word (hart_word kind)))) generation row (put trail h.number (hart_after kind h (word (hart_word kind))).trail)
   hart_marks (kinds.Look ask) = let n : ℕ = word (control_at (ask_place ask)) in
-      grows (control_at (ask_place ask)) n (looked ask n (heeded h)).trail (control_apart (ask_place ask)) (glanced_kept ask n (lock_bit n == 1) (permits ask (role_in n)) (ask_is_fresh ask n) (heeded h) old)
-  hart_marks (kinds.Load ask) = grows (value_at (load_place ask)) (word (value_at (load_place ask))) (hart_after (kinds.Load ask) h (word (value_at (load_place ask)))).trail (value_apart (load_place ask)) (item _ tt)
+      grows (control_at (ask_place ask)) n (looked ask n (heeded h)).trail (control_apart (ask_place ask)) (glanced_kept generation ask n (lock_bit n == 1) (permits ask (role_in n)) (ask_is_fresh ask n) (heeded h) old)
+  hart_marks (kinds.Load ask) = grows (value_at (load_place ask)) (word (value_at (load_place ask))) (hart_after (kinds.Load ask) h (word (value_at (load_place ask)))).trail (value_apart (load_place ask)) (item _ tt refl)
   hart_marks (kinds.Hold ask) = grows (value_at (store_place ask)) (word (value_at (store_place ask))) h.trail (value_apart (store_place ask)) old
   hart_marks (kinds.Lock ask control) = let n : ℕ = word (control_at (store_place ask)) in
-      grows (control_at (store_place ask)) (becomes (hart_op (kinds.Lock ask control)) n) (locked_if ask control n (eqb n control) (heeded h)).trail (control_apart (store_place ask)) (locked_kept ask control n (eqb n control) (heeded h) old)
-  hart_marks (kinds.Store ask x) = grows (value_at (store_place ask)) x (hart_after (kinds.Store ask x) h (word (value_at (store_place ask)))).trail (value_apart (store_place ask)) (item _ tt)
+      grows (control_at (store_place ask)) (becomes (hart_op (kinds.Lock ask control)) n) (locked_if ask control n (eqb n control) (heeded h)).trail (control_apart (store_place ask)) (locked_kept generation ask control n (eqb n control) (heeded h) old)
+  hart_marks (kinds.Store ask x) = grows (value_at (store_place ask)) x (hart_after (kinds.Store ask x) h (word (value_at (store_place ask)))).trail (value_apart (store_place ask)) (item _ tt refl)
   hart_marks (kinds.Unlock d) = grows (control_at d) (becomes (hart_op (kinds.Unlock d)) (word (control_at d))) h.trail (control_apart d) old
   hart_marks kinds.Tally = grows 2 (word 2) h.trail (λ (e : 2 ≡ 1). omega arith) old
   hart_marks (kinds.Begin m) = grows (state_at m) (becomes (hart_op (kinds.Begin m)) (word (state_at m))) h.trail (row_apart m 0) old
   hart_marks (kinds.Arrive m) = grows (state_at m) (word (state_at m)) h.trail (row_apart m 0) old
   hart_marks (kinds.Find m i) = grows (row_at m (index_of i)) (word (row_at m (index_of i))) h.trail (row_apart m (index_of i)) old
-  hart_marks (kinds.Exchange p) = grows (value_at (place_of p.entry.slot)) (becomes (hart_op (kinds.Exchange p)) (word (value_at (place_of p.entry.slot)))) (hart_after (kinds.Exchange p) h (word (value_at (place_of p.entry.slot)))).trail (value_apart (place_of p.entry.slot)) (item _ tt)
-  hart_marks (kinds.Accept m e) = grows (state_at m) 0 (h.trail ++ Took e ∷ []) (row_apart m 0) (item (Took e) tt)
-  hart_marks (kinds.Finish m won) = grows (state_at m) (becomes (hart_op (kinds.Finish m won)) (word (state_at m))) (h.trail ++ Done ∷ []) (row_apart m 0) (item Done tt)
+  hart_marks (kinds.Exchange p) = grows (value_at (place_of p.entry.slot)) (becomes (hart_op (kinds.Exchange p)) (word (value_at (place_of p.entry.slot)))) (hart_after (kinds.Exchange p) h (word (value_at (place_of p.entry.slot)))).trail (value_apart (place_of p.entry.slot)) (item _ tt refl)
+  hart_marks (kinds.Accept m e) = grows (state_at m) 0 (h.trail ++ Took e ∷ []) (row_apart m 0) (item (Took e) tt refl)
+  hart_marks (kinds.Finish m won) = grows (state_at m) (becomes (hart_op (kinds.Finish m won)) (word (state_at m))) (h.trail ++ Done ∷ []) (row_apart m 0) (item Done tt refl)
   hart_marks (kinds.Generation number) = trails_grow word (put word 1 (word 1)) generation row trail h.number (h.trail ++ ReadGeneration (word 1) number (last_block (word 1) number h.lane.taken) ∷ []) (put_here word 1 (word 1))
-      (item (ReadGeneration (word 1) number (last_block (word 1) number h.lane.taken)) (answer (word 1) number)) g
+      (reads_push generation h.trail (ReadGeneration (word 1) number (last_block (word 1) number h.lane.taken)) old (answer (word 1) number) (one_read generation (word 1) g.current)) g
   hart_marks kinds.Listen = grows 0 (word 0) h.trail (λ (e : 0 ≡ 1). omega arith) old
 
 -- ---- the keeper

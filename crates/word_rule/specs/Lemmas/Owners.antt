@@ -324,14 +324,14 @@ joined_stay keepers.Listen k n = refl
 
 both_trails : (v w : View) → MayTake v w → trails_of (takes_in v w) ≡ trails_of v ++ trails_of w
 both_trails (Keeper k) (Hart h) may = map-append (λ (h : HartView). h.trail) k.joined (h ∷ [])
-both_trails (Keeper k) (Note events (OfHart m entries)) may = sym (append-nil (map (λ (h : HartView). h.trail) k.joined))
+both_trails (Keeper k) (Note events (OfHart m entries readings)) may = sym (append-nil (map (λ (h : HartView). h.trail) k.joined))
 both_trails (Hart h) (Note events (OfKeeper rows)) may = refl
 both_trails (Keeper k) (Keeper x) may = absurd may
 both_trails (Keeper k) (Note events (OfKeeper rows)) may = absurd may
 both_trails (Keeper k) Spent may = absurd may
 both_trails (Hart h) (Keeper x) may = absurd may
 both_trails (Hart h) (Hart x) may = absurd may
-both_trails (Hart h) (Note events (OfHart m entries)) may = absurd may
+both_trails (Hart h) (Note events (OfHart m entries readings)) may = absurd may
 both_trails (Hart h) Spent may = absurd may
 both_trails (Note events slip) w may = absurd may
 both_trails Spent w may = absurd may

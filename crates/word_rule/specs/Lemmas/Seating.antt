@@ -106,6 +106,7 @@ pub record Grows (k k' : KeeperView) : Type 0 where
   pub words : length k'.words ≡ length k.words
   pub rows : length k'.rows ≡ length k.rows
   pub events : BeginsWith k'.events k.events
+  pub generation : k.generation ≤ k'.generation
   pub issued : (m : ℕ) → BeginsWith (row_of k' m).issued (row_of k m).issued
 
 pub keeper_seats : (views : List View) (k k' : KeeperView) (keeper : ℕ) (seat_of : ℕ → ℕ) (hart : ℕ → HartView) → Seats views k keeper seat_of hart → Grows k k' → Seats (set views keeper (Keeper k')) k' keeper seat_of hart
@@ -128,8 +129,11 @@ keeper_seats views k k' keeper seat_of hart s g = record {
   told = subst (λ n. Rattle.word_rule.specs.KeeperSteps.KeeperHeard n k') (sym g.note) tt;
 }
   where
-    issued_on : (slip : Slip) → Issued (row_of k) slip → Issued (row_of k') slip
-    issued_on (OfHart m es) i = begins_on (row_of k' m).issued (row_of k m).issued es (g.issued m) i
+    issued_on : (slip : Slip) → Issued k slip → Issued k' slip
+    issued_on (OfHart m es read) i = (
+      begins_on (row_of k' m).issued (row_of k m).issued es (g.issued m) i.0,
+      λ n c. let low : n ≤ k.generation = i.1 n c in let up : k.generation ≤ k'.generation = g.generation in omega arith,
+    )
     issued_on (OfKeeper rows) i = λ m. begins_on (row_of k' m).issued (row_of k m).issued (slice_index_or rows m no_row).issued (g.issued m) (i m)
 
     others : (seat : ℕ) (v : View) → seat ≢ keeper → Fits k keeper seat_of hart seat v → Fits k' keeper seat_of hart seat v
@@ -143,14 +147,15 @@ heard_more events events' hart more old m = record { numbered = (old m).numbered
 
 -- ---- each kind
 
-plain : (k k' : KeeperView) → k'.harts ≡ k.harts → k'.joined ≡ k.joined → k'.note ≡ None → length k'.words ≡ length k.words → k'.rows ≡ k.rows → k'.events ≡ k.events → Grows k k'
-plain k k' harts joined note words rows events = record {
+plain : (k k' : KeeperView) → k'.harts ≡ k.harts → k'.joined ≡ k.joined → k'.note ≡ None → length k'.words ≡ length k.words → k'.rows ≡ k.rows → k'.events ≡ k.events → k.generation ≤ k'.generation → Grows k k'
+plain k k' harts joined note words rows events generation = record {
   harts = harts;
   joined = joined;
   note = note;
   words = words;
   rows = ap length rows;
   events = subst (λ l. BeginsWith l k.events) (sym events) (begins_itself k.events);
+  generation = generation;
   issued = λ m. subst (λ l. BeginsWith (slice_index_or l m no_row).issued (row_of k m).issued) (sym rows) (begins_itself (row_of k m).issued);
 }
 
@@ -164,41 +169,42 @@ row_grows k rows m r low long same more = record {
   words = refl;
   rows = length-set rows m r ∙ long;
   events = begins_itself k.events;
+  generation = omega arith;
   issued = λ j. subst (λ (f : ℕ → Row). BeginsWith (f j).issued (row_of k j).issued) (set_put rows m r no_row low)
       (put_each (λ j (y : Row). BeginsWith y.issued (row_of k j).issued) (λ j. slice_index_or rows j no_row) m r (λ j _. subst (λ l. BeginsWith l (row_of k j).issued) (same j) (begins_itself (row_of k j).issued)) more j);
 }
 
 kept_grows : (d : ℕ) (b : Bool) (k : KeeperView) → Grows k (keeps_if d b (heeding k))
-kept_grows d true k = plain k (keeps_if d true (heeding k)) refl refl refl refl refl refl
-kept_grows d false k = plain k (keeps_if d false (heeding k)) refl refl refl refl refl refl
+kept_grows d true k = plain k (keeps_if d true (heeding k)) refl refl refl refl refl refl (omega arith)
+kept_grows d false k = plain k (keeps_if d false (heeding k)) refl refl refl refl refl refl (omega arith)
 
 awaited_grows : (m : ℕ) (b : Bool) (k : KeeperView) → m < length k.rows → Grows k (awaited_if m b (heeding k))
-awaited_grows m false k low = plain k (heeding k) refl refl refl refl refl refl
+awaited_grows m false k low = plain k (heeding k) refl refl refl refl refl refl (omega arith)
 awaited_grows m true k low = row_grows k (map not_found k.rows) m (record (not_found (row_of k m)) { since = Some (length k.events) }) (subst (λ n. m < n) (sym (map_long k.rows)) low) (map_long k.rows)
     (λ j. ap (λ (r : Row). r.issued) (map_row k.rows j)) (begins_itself (row_of k m).issued)
 
 pub keeper_grows : (kind : KeeperKind) (k : KeeperView) (n : ℕ) → length k.rows ≡ harts_at_most → KeeperReady kind k → Grows k (keeper_after kind k n)
-keeper_grows (kinds.Look d) k n long ready = plain k (keeper_after (kinds.Look d) k n) refl refl refl refl refl refl
-keeper_grows (kinds.Load d) k n long ready = plain k (keeper_after (kinds.Load d) k n) refl refl refl refl refl refl
-keeper_grows (kinds.Lock d control) k n long ready = let g = kept_grows d (eqb n control) k in record { harts = g.harts; joined = g.joined; note = g.note; words = g.words; rows = g.rows; events = g.events; issued = g.issued }
-keeper_grows (kinds.Store d x) k n long ready = plain k (keeper_after (kinds.Store d x) k n) refl refl refl (length-set k.words d _) refl refl
-keeper_grows (kinds.Unlock d old new lazy) k n long ready = plain k (keeper_after (kinds.Unlock d old new lazy) k n) refl refl refl (length-set k.words d _) refl refl
-keeper_grows (kinds.Count e) k n long ready = record { harts = refl; joined = refl; note = refl; words = refl; rows = refl; events = begins_push k.events e.value; issued = λ m. begins_itself (row_of k m).issued }
+keeper_grows (kinds.Look d) k n long ready = plain k (keeper_after (kinds.Look d) k n) refl refl refl refl refl refl (omega arith)
+keeper_grows (kinds.Load d) k n long ready = plain k (keeper_after (kinds.Load d) k n) refl refl refl refl refl refl (omega arith)
+keeper_grows (kinds.Lock d control) k n long ready = let g = kept_grows d (eqb n control) k in record { harts = g.harts; joined = g.joined; note = g.note; words = g.words; rows = g.rows; events = g.events; generation = g.generation; issued = g.issued }
+keeper_grows (kinds.Store d x) k n long ready = plain k (keeper_after (kinds.Store d x) k n) refl refl refl (length-set k.words d _) refl refl (omega arith)
+keeper_grows (kinds.Unlock d old new lazy) k n long ready = plain k (keeper_after (kinds.Unlock d old new lazy) k n) refl refl refl (length-set k.words d _) refl refl (omega arith)
+keeper_grows (kinds.Count e) k n long ready = record { harts = refl; joined = refl; note = refl; words = refl; rows = refl; events = begins_push k.events e.value; generation = omega arith; issued = λ m. begins_itself (row_of k m).issued }
 keeper_grows (kinds.Await m) k n long ready = awaited_grows m (nat_le 8 n) k (subst (λ x. m < x) (sym long) ready)
 keeper_grows (kinds.Ask m) k n long ready = row_grows k k.rows m (asked n (row_of k m)) (subst (λ x. m < x) (sym long) ready.0) refl (λ j. refl)
     (subst (λ l. BeginsWith l (row_of k m).issued) (sym (asked_issued (eqb (n % 8) 3) (eqb (n % 8) 4) (eqb (n % 8) 5) (row_of k m))) (begins_itself (row_of k m).issued))
-keeper_grows (kinds.Saw d) k n long ready = plain k (keeper_after (kinds.Saw d) k n) refl refl refl (length-set k.words d _) refl refl
+keeper_grows (kinds.Saw d) k n long ready = plain k (keeper_after (kinds.Saw d) k n) refl refl refl (length-set k.words d _) refl refl (omega arith)
 keeper_grows (kinds.Fill m i x) k n long ready = row_grows k k.rows m (with_field i x (row_of k m)) (subst (λ x. m < x) (sym long) ready.1.0) refl (λ j. refl)
     (subst (λ l. BeginsWith l (row_of k m).issued) (sym (field_issued i x (row_of k m))) (begins_itself (row_of k m).issued))
 keeper_grows (kinds.Hand m mark) k n long ready = row_grows k k.rows m (handed mark (row_of k m)) (subst (λ x. m < x) (sym long) ready.1.0) refl (λ j. refl) (begins_push (row_of k m).issued (entry_of mark (row_of k m)))
 keeper_grows (kinds.Open m) k n long ready = row_grows k k.rows m (opened (row_of k m)) (subst (λ x. m < x) (sym long) ready.1.0) refl (λ j. refl) (begins_push (row_of k m).issued (entry_of 3 (row_of k m)))
-keeper_grows (kinds.RetireSlot d) k n long ready = plain k (keeper_after (kinds.RetireSlot d) k n) refl refl refl (length-set k.words d _) refl refl
-keeper_grows (kinds.Retire d old) k n long ready = plain k (keeper_after (kinds.Retire d old) k n) refl refl refl (length-set k.words d _) refl refl
-keeper_grows (kinds.Generation g) k n long ready = plain k (keeper_after (kinds.Generation g) k n) refl refl refl refl refl refl
-keeper_grows (kinds.Recall m i) k n long ready = plain k (keeper_after (kinds.Recall m i) k n) refl refl refl refl refl refl
-keeper_grows kinds.RecallGeneration k n long ready = plain k (keeper_after kinds.RecallGeneration k n) refl refl refl refl refl refl
-keeper_grows (kinds.RecallRole d) k n long ready = plain k (keeper_after (kinds.RecallRole d) k n) refl refl refl refl refl refl
-keeper_grows kinds.Listen k n long ready = plain k (keeper_after kinds.Listen k n) refl refl refl refl refl refl
+keeper_grows (kinds.RetireSlot d) k n long ready = plain k (keeper_after (kinds.RetireSlot d) k n) refl refl refl (length-set k.words d _) refl refl (omega arith)
+keeper_grows (kinds.Retire d old) k n long ready = plain k (keeper_after (kinds.Retire d old) k n) refl refl refl (length-set k.words d _) refl refl (omega arith)
+keeper_grows (kinds.Generation g) k n long ready = let up : k.generation < g = ready in plain k (keeper_after (kinds.Generation g) k n) refl refl refl refl refl refl (omega arith)
+keeper_grows (kinds.Recall m i) k n long ready = plain k (keeper_after (kinds.Recall m i) k n) refl refl refl refl refl refl (omega arith)
+keeper_grows kinds.RecallGeneration k n long ready = plain k (keeper_after kinds.RecallGeneration k n) refl refl refl refl refl refl (omega arith)
+keeper_grows (kinds.RecallRole d) k n long ready = plain k (keeper_after (kinds.RecallRole d) k n) refl refl refl refl refl refl (omega arith)
+keeper_grows kinds.Listen k n long ready = plain k (keeper_after kinds.Listen k n) refl refl refl refl refl refl (omega arith)
 
 pub stays_long : (kind : KeeperKind) (k : KeeperView) (n : ℕ) → KeeperReady kind k → IsLong k → IsLong (keeper_after kind k n)
 stays_long kind k n ready long = let g = keeper_grows kind k n long.1 ready in (g.words ∙ long.0, g.rows ∙ long.1)

@@ -1,8 +1,10 @@
 -- Each kind of step keeps the rule, and what it tells is true.
-use Rattle.std.proofs.Common.{◌≡◌, ◌≢◌, ◌⊎◌, ⊎_elim, inl, inr, ℕ, ◌+◌, ◌*◌, ◌%◌, ◌≤◌, ◌<◌, Bool, true, false, eqb, List, [], ◌∷◌, ◌++◌, length, length-append, length-set, set, get_or, Option, Some, None, refl, sym, ap, subst, ◌∙◌, arith, slice_get, slice_index, slice_set, ◌==◌}
+use Rattle.std.proofs.Common.{◌≡◌, ◌≢◌, ◌⊎◌, ⊎_elim, inl, inr, ℕ, ◌+◌, ◌*◌, ◌%◌, ◌≤◌, ◌<◌, Bool, true, false, eqb, List, [], ◌∷◌, ◌++◌, length, length-append, length-set, set, get_or, Option, Some, None, Contains, refl, sym, ap, subst, ◌∙◌, arith, slice_get, slice_index, slice_set, ◌==◌}
+use Rattle.std.proofs.lemmas.List.Elements.{Contains-append_left}
 use Rattle.history_event.specs.declared.event.Event.{Event}
 use Rattle.word_rule.specs.declared.entry.Entry.{Entry}
 use Rattle.word_rule.specs.declared.entry.Exchange.{Exchange}
+use Rattle.word_rule.specs.declared.entry.Grant.{Grant}
 use Rattle.word_rule.specs.declared.kind.Ask.{Ask}
 use Rattle.word_rule.specs.declared.kind.Ask.TheVariants.{Load as Loads, Store as Stores}
 use Rattle.word_rule.specs.declared.kind.StoreAsk.{StoreAsk}
@@ -17,7 +19,7 @@ use Rattle.word_rule.specs.declared.view.Lane.{Lane}
 use Rattle.word_rule.specs.declared.view.TrailItem.{TrailItem}
 use Rattle.word_rule.specs.declared.view.View.TheVariants.{Keeper, Hart}
 use Rattle.word_rule.specs.Layout.{doublewords, harts_at_most, table_words, value_at, control_at, state_at, row_at, index_of, place_of, role_in, lock_bit}
-use Rattle.word_rule.specs.Views.{BeginsWith, after, put, entries_of, exchanges_of, kept_at, row_of}
+use Rattle.word_rule.specs.Views.{BeginsWith, after, put, entries_of, exchanges_of, kept_at, known_of, row_of}
 use Rattle.word_rule.specs.Operations.{becomes}
 use Rattle.word_rule.specs.HartSteps.{Awaits, HartReady, HartLearns, hart_word, hart_op, hart_after, ask_place, Asked, glanced, looked, locked_if, heeded, permits, ask_is_fresh, store_place}
 use Rattle.word_rule.specs.KeeperSteps.{HasEnded, HasTakenAll, KeeperReady, KeeperLearns, keeper_word, keeper_op, keeper_after}
@@ -31,12 +33,13 @@ use Rattle.word_rule.specs.Lemmas.Put.{put_field, set_put}
 use Rattle.word_rule.specs.Lemmas.Locks.{Aims}
 use Rattle.word_rule.specs.Lemmas.HartLocks.{hart_locks, low_index}
 use Rattle.word_rule.specs.Lemmas.KeeperLocks.{keeper_locks, look_tells, load_tells, lock_tells}
-use Rattle.word_rule.specs.Lemmas.HartCalls.{again_tells, hart_calls, arrive_tells}
+use Rattle.word_rule.specs.Lemmas.HartCalls.{again_tells, hart_calls, arrive_tells, tried_if}
 use Rattle.word_rule.specs.Lemmas.KeeperCalls.{keeper_calls, waiting}
 use Rattle.word_rule.specs.Lemmas.HartSlots.{aims_at, find_tells, hart_slots}
 use Rattle.word_rule.specs.Lemmas.KeeperSlots.{keeper_slots, ask_tells, decides, saw_tells}
 use Rattle.word_rule.specs.Lemmas.Marks.{hart_marks, keeper_marks}
 use Rattle.word_rule.specs.Lemmas.Rows.{low_rest}
+use Rattle.word_rule.specs.Lemmas.Knowing.{known_begins}
 use Rattle.word_rule.specs.Lemmas.Seating.{hart_seats, heard_on, heard_more, keeper_grows, keeper_seats}
 
 -- ---- a hart's view after a step
@@ -113,6 +116,10 @@ module _ (word : ℕ → ℕ) (kept : KeeperView) (harts : ℕ → HartView) (p 
   row_is : RowIs word (length kept.events) h.number (row_of kept h.number) h.lane (entries_of h.trail)
   row_is = subst (λ (x : HartView). RowIs word (length kept.events) h.number (row_of kept h.number) x.lane (entries_of x.trail)) is (p.calls.each_row h.number few)
 
+  -- the grant of an exchange that isn't given back is the row's
+  grants : (x : Exchange) → h.lane.tried ≡ Some x → x.grant.entry.mark ≡ 3
+  grants x e = ap (λ (g : Grant). g.entry.mark) ((tried_if (word (state_at h.number)) (row_of kept h.number) h.lane x e h.lane.calling row_is.stage).tried x e).1
+
   writable : (d : ℕ) → h.access.locked ≡ Some d → (kept_at kept d).role ≡ Rattle.ld_base.specs.declared.linking.Role.TheVariants.Rw
   writable d e = p.locks.only_rw h.number d (ap (λ (x : HartView). x.access.locked) is ∙ e)
 
@@ -156,7 +163,7 @@ module _ (word : ℕ → ℕ) (kept : KeeperView) (harts : ℕ → HartView) (p 
         (hart_slots word (kept_at kept) kept.access.locked (length kept.events) (row_of kept) (after (λ (x : HartView). x.lane.tried) harts) (after (λ (x : HartView). exchanges_of x.trail) harts) p.slots
         h few (ap (λ (x : HartView). x.lane.tried) is) (ap (λ (x : HartView). exchanges_of x.trail) is) (entries_of h.trail) row_is writable kind ready);
     generations = subst (λ (f : ℕ → List TrailItem). Generations word' kept.generation (row_of kept) f) (put_field (λ (x : HartView). x.trail) harts h.number h')
-        (hart_marks word kept.generation (row_of kept) (after (λ (x : HartView). x.trail) harts) p.generations h few (ap (λ (x : HartView). x.trail) is) row_is.trail kind);
+        (hart_marks word kept.generation (row_of kept) (after (λ (x : HartView). x.trail) harts) p.generations h few (ap (λ (x : HartView). x.trail) is) row_is.trail grants kind);
   }
     where
       h' : HartView
@@ -180,6 +187,9 @@ module _ (word : ℕ → ℕ) (kept : KeeperView) (harts : ℕ → HartView) (p 
         h few (ap (λ (x : HartView). x.lane.tried) is) (ap (λ (x : HartView). exchanges_of x.trail) is) (entries_of h.trail) row_is writable i h.lane.offer refl,
     again_tells word (length kept.events) (row_of kept) (after (λ (x : HartView). x.lane) harts) (after (λ (x : HartView). entries_of x.trail) harts) p.calls h few (ap (λ (x : HartView). x.lane) is) (ap (λ (x : HartView). entries_of x.trail) is) i,
   )
+  hart_tells (kinds.Generation number) ready = λ e c.
+      let issued = known_begins word (length kept.events) h.number (row_of kept h.number) h.lane (entries_of h.trail) row_is in
+      subst (λ n. e.generation ≤ n) (sym p.generations.current) (p.generations.issued h.number few e (subst (λ es. Contains es e) (sym issued.1) (Contains-append_left (known_of h.lane) issued.0 e c)))
   hart_tells kinds.Listen ready = subst (λ (x : HartView). Rattle.word_rule.specs.HartSteps.HartHeard x.note x) is (p.heard h.number).told
   hart_tells _ ready = tt
 
@@ -244,6 +254,7 @@ module _ (word : ℕ → ℕ) (k : KeeperView) (harts : ℕ → HartView) (p : P
         lost = g.lost;
         granted = g.granted;
         rising = g.rising;
+        kept = p.generations.kept m few;
       })
 
   closed : (n : ℕ) → Rests n → n % 8 ≢ 3
