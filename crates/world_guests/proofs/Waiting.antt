@@ -1,11 +1,10 @@
 -- The turn of a hart that waits.
-use Rattle.std.proofs.Common.{◌≡◌, ℕ, Bool, true, false, cond, List, [], ◌++◌, Option, Some, None, inr, refl, sym, ap, subst, ◌∙◌, append-nil}
+use Rattle.std.proofs.Common.{◌≡◌, ℕ, Bool, true, false, cond, List, Option, None, inr, refl, sym, ap, subst, ◌∙◌, append-nil}
 use Rattle.std.specs.Prelude.{◌||◌}
 use Rattle.std.proofs.lemmas.Bool.{true≢false}
 use Rattle.ld_base.specs.declared.fault.Shown.{Shown}
 use Rattle.ld_base.specs.declared.linking.File.{File}
 use Rattle.history_event.specs.declared.event.Event.{Event}
-use Rattle.history_event.specs.declared.hart_end.HartEnd.{HartEnd}
 use Rattle.history_state.specs.After.{after}
 use Rattle.history_state.specs.Setting.{Setting}
 use Rattle.history_state.specs.State.{State}

@@ -1,7 +1,6 @@
 -- How a turn leaves its hart.
 use Rattle.std.specs.Prelude.{◌≡◌, ℕ, Option, Some, None}
 use Rattle.std.specs.List.{slice_get}
-use Rattle.ld_base.specs.declared.fault.Shown.{Shown}
 use Rattle.history_event.specs.declared.hart_end.HartEnd.{HartEnd}
 use Rattle.hart_moves.specs.Harts.{HartState}
 use Rattle.world_turns.specs.World.{World}

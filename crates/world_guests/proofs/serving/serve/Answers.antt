@@ -1,8 +1,3 @@
-use Rattle.std.proofs.Common.{◌≡◌, false, List, [], ◌++◌, refl, sym, subst, append-nil}
-use Rattle.history_event.specs.declared.event.Event.{Event}
-use Rattle.history_state.specs.After.{after}
-use Rattle.hart_moves.specs.Due.{due}
-use Rattle.world_answers.specs.Answers.{is_service}
 use Rattle.world_guests.specs.Lemmas.Turns.{counts_nothing, opens_nothing}
 use Rattle.world_guests.proofs.Waiting.{makes_call, wait_is_no_call, waits_again, waits_over, waits_tell}
 use Rattle.world_guests.proofs.serving.serve.Goals as goal
