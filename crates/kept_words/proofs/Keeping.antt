@@ -1,5 +1,5 @@
 -- The keeper's record stays as it has to be.
-use Rattle.std.proofs.Common.{◌≡◌, ◌≢◌, ◌⊎◌, ⊎_elim, inl, inr, ℕ, zero, suc, ◌+◌, ◌-◌, ◌<◌, ◌≤◌, true, false, List, [], ◌∷◌, ◌++◌, length, length-append, length-set, map, drop, append-nil, None, Some, refl, sym, ap, subst, ◌∙◌, append_assoc, arith}
+use Rattle.std.proofs.Common.{◌≡◌, ◌≢◌, ◌⊎◌, ⊎_elim, inl, inr, ℕ, zero, suc, ◌+◌, ◌-◌, ◌<◌, ◌≤◌, Bool, true, false, List, [], ◌∷◌, ◌++◌, length, length-append, length-set, map, drop, append-nil, None, Some, refl, sym, ap, subst, ◌∙◌, append_assoc, arith}
 use mathlib.Core.Logic.{dite}
 use native.Mathlib.Decide.{ℕ_discrete}
 use Rattle.std.specs.List.{Contains, slice_get}
@@ -13,12 +13,13 @@ use Rattle.history_event.specs.declared.event.SymAnswer.TheVariants as syms
 use Rattle.history_event.specs.declared.state.Ending.{Ending}
 use Rattle.word_rule.specs.declared.entry.Entry.{Entry}
 use Rattle.word_rule.specs.declared.entry.Grant.{Grant}
+use Rattle.word_rule.specs.declared.view.Fate.{Fate}
 use Rattle.word_rule.specs.declared.view.Fate.TheVariants.{Lost as LostFate}
 use Rattle.word_rule.specs.declared.view.KeeperView.{KeeperView}
 use Rattle.word_rule.specs.declared.view.Kept.{Kept}
 use Rattle.word_rule.specs.declared.view.Row.{Row}
 use Rattle.word_rule.specs.declared.view.Settled.{Settled}
-use Rattle.word_rule.specs.Allowed.{IsLost, IsOf}
+use Rattle.word_rule.specs.Allowed.{IsLost, IsOf, IsSlot}
 use Rattle.word_rule.specs.KeeperSteps.{handed, not_found, with_row}
 use Rattle.word_rule.specs.Layout.{harts_at_most, place_of}
 use Rattle.word_rule.specs.Slots.{IsGrant}
@@ -35,15 +36,16 @@ use Rattle.history_state.specs.State.{State}
 use Rattle.history_state.specs.Step.{die, initialise, loaded, lower, step}
 use Rattle.history_state.specs.Lemmas.Calling.{startup_is_past}
 use Rattle.history_state.specs.Lemmas.History.{after_push, legal_push}
-use Rattle.history_state.specs.Lemmas.Lists.{only_in}
+use Rattle.history_state.specs.Lemmas.Lists.{none_in, only_in}
 use Rattle.history_calls.specs.Laws.{hart_of}
 use Rattle.hart_trails.specs.Trails.{is_granting}
 use Rattle.word_holds.specs.Shared.{IsOfState}
 use Rattle.kept_words.specs.Handed.{IsIssued, event_numbers, own_numbers}
 use Rattle.kept_words.specs.Keeping.{AlikeKept, AnsweredKept, AwaitedIsAlike, IsAlike, QuietKept}
-use Rattle.kept_words.specs.Kept.{AreKept, AreRows}
+use Rattle.kept_words.specs.Kept.{AreKept, AreRows, HaveFates, IsFateEvent, LostHaveSeen}
 use Rattle.kept_words.specs.Staying.{IsGrantEvent, SameGrants, leaves_memory, number_by, number_in}
 use Rattle.kept_words.proofs.Handed.{answered_stays, handed_stays, issued_stays}
+use Rattle.kept_words.proofs.Seen.{seen_on}
 use Rattle.kept_words.proofs.Staying.{events_stay, stands_back, states_stay}
 
 -- ---- a longer journal
@@ -84,13 +86,53 @@ was_grant : (r s : Row) → s.pending ≡ r.pending → s.settled ≡ r.settled 
 was_grant r s pending settled g (inl waits) = inl (sym pending ∙ waits)
 was_grant r s pending settled g (inr done) = inr (done.0, subst (λ (all : List Settled). Contains all (record { grant = g; fate = done.0 })) settled done.1)
 
-was_lost : (r s : Row) → s.settled ≡ r.settled → (g : Grant) → IsLost s g → IsLost r g
+pub was_lost : (r s : Row) → s.settled ≡ r.settled → (g : Grant) → IsLost s g → IsLost r g
 was_lost r s settled g there = subst (λ (all : List Settled). Contains all (record { grant = g; fate = LostFate })) settled there
 
+-- no event that settles a grant
+abbrev pub SettlesNone : List Event → Type 0
+SettlesNone more = (n : ℕ) (f : Fate) (e : Event) → Contains more e → IsFateEvent n f e → ⊥
+
+-- the fates stay over a longer journal that settles none
+pub fates_on : (k l : KeeperView) (more : List Event) → l.events ≡ k.events ++ more → SettlesNone more → ((m : ℕ) → (row_of l m).pending ≡ (row_of k m).pending)
+    → ((m : ℕ) → (row_of l m).settled ≡ (row_of k m).settled) → HaveFates k → HaveFates l
+fates_on k l more longer none pending settled fates = record {
+  entered = λ m g low is. subst (λ (es : List Event). IsGrantEvent es m g) (sym longer)
+      (later_event k.events more m g (fates.entered m g low (was_grant (row_of k m) (row_of l m) (pending m) (settled m) g is)));
+  fated = λ m g f low there.
+      let was : Contains (row_of k m).settled (record { grant = g; fate = f }) = subst (λ (all : List Settled). Contains all (record { grant = g; fate = f })) (settled m) there in
+      let x = fates.fated m g f low was in (
+        x.0,
+        subst (λ (es : List Event). Contains es x.0) (sym longer) (Contains-append_left k.events more x.0 x.1),
+        subst (λ (n : ℕ). IsFateEvent n f x.0) (sym (same_number m g f low was)) x.2,
+      );
+  known = λ n f e there is. ⊎_elim
+      (λ (old : Contains k.events e).
+      let x = fates.known n f e old is in (
+        x.0,
+        x.1,
+        x.2,
+        subst (λ (all : List Settled). Contains all (record { grant = x.1; fate = f })) (sym (settled x.0)) x.3,
+        same_number x.0 x.1 f x.2 x.3 ∙ x.4,
+      ))
+      (λ (new : Contains more e). absurd (none n f e new is))
+      (Contains-append_cases k.events more e (subst (λ (es : List Event). Contains es e) longer there));
+}
+  where
+    same_number : (m : ℕ) (g : Grant) (f : Fate) → m < harts_at_most → Contains (row_of k m).settled (record { grant = g; fate = f }) → number_in l.events m g ≡ number_in k.events m g
+    same_number m g f low was = ap (λ (es : List Event). number_in es m g) longer ∙ later_number k.events more m g (fates.entered m g low (inr (f, was)))
+
 -- what rows say stays over a longer journal, with the same grants and words
-rows_on : (k l : KeeperView) (more : List Event) → l.events ≡ k.events ++ more → ((d : ℕ) → kept_at l d ≡ kept_at k d)
+pub rows_on : (k l : KeeperView) (more : List Event) → l.events ≡ k.events ++ more → SettlesNone more → ((d : ℕ) → kept_at l d ≡ kept_at k d)
     → ((m : ℕ) → (row_of l m).pending ≡ (row_of k m).pending) → ((m : ℕ) → (row_of l m).settled ≡ (row_of k m).settled) → AreRows k → AreRows l
-rows_on k l more longer words pending settled rows = record {
+rows_on k l more longer none words pending settled rows = record {
+  fates = fates_on k l more longer none pending settled rows.fates;
+  since = λ d slot.
+      let was : (kept_at k d).since ≤ length k.events = rows.since d (subst (λ (y : Kept). IsSlot (λ _. y) d) (words d) slot) in
+      let same : (kept_at l d).since ≡ (kept_at k d).since = ap (λ (y : Kept). y.since) (words d) in
+      let long : length l.events ≡ length k.events + length more = ap length longer ∙ length-append k.events more in
+      omega (arith, was, same, long);
+  pending = λ m g low waits. subst (λ (y : Kept). IsOf (λ _. y) (place_of g.entry.slot) g) (sym (words (place_of g.entry.slot))) (rows.pending m g low (sym (pending m) ∙ waits));
   counted = λ m g low is. by_count m g low (was_grant (row_of k m) (row_of l m) (pending m) (settled m) g is);
   lost = λ m g low is of.
       let was : IsLost (row_of k m) g = was_lost (row_of k m) (row_of l m) (settled m) g is in
@@ -120,6 +162,35 @@ row_field {A} f k m r low same j = dite (ℕ_discrete j m)
 pub inside : (k : KeeperView) (h : ℕ) → IsLong k → h < harts_at_most → h < length k.rows
 inside k h long low = subst (λ (n : ℕ). h < n) (sym long.1) low
 
+-- ---- which events settle a grant
+
+abbrev pub is_settling : Event → Bool
+is_settling e = elim e [ events.Bound number ↦ true | events.Lost number saw ↦ true | _ ↦ false ]
+
+settling_is : (n : ℕ) (f : Fate) (e : Event) → IsFateEvent n f e → is_settling e ≡ true
+settling_is n f e IsFateEvent.as_won = refl
+settling_is n f e (IsFateEvent.as_lost saw) = refl
+
+pub settles_none : (e : Event) → is_settling e ≡ false → SettlesNone (e ∷ [])
+settles_none e not_settling n f x there is =
+    false≢true (sym not_settling ∙ ap is_settling (only_in e x there) ∙ settling_is n f x is)
+
+pub quiet_event : (e : Event) → leaves_memory e ≡ true → is_settling e ≡ false
+quiet_event (events.Open hart ask answer) leaves = refl
+quiet_event (events.Close hart handle answer) leaves = refl
+quiet_event (events.Unmapped hart set) leaves = refl
+quiet_event (events.Grant number hart owner slot choice value) leaves = refl
+quiet_event (events.Bound number) leaves = absurd (false≢true leaves)
+quiet_event (events.Lost number saw) leaves = absurd (false≢true leaves)
+quiet_event (events.Unresolved hart owner slot choice) leaves = refl
+quiet_event (events.Sym hart ask answer) leaves = refl
+quiet_event (events.Tls hart owner address) leaves = refl
+quiet_event (events.Init hart object) leaves = refl
+quiet_event (events.Fini hart object) leaves = refl
+quiet_event (events.Wrote hart bytes) leaves = refl
+quiet_event (events.Told hart fault) leaves = refl
+quiet_event (events.Ended hart reason) leaves = refl
+
 -- ---- alike
 
 alike_grants : (k l : KeeperView) → IsAlike k l → SameGrants k l
@@ -143,7 +214,8 @@ alike_kept w begun k l is kept = record {
       (record { role = λ a word. refl; word = λ a word roles. refl; images = refl; grants = refl }) (alike_grants k l is) (λ m g low stands. refl) kept.words);
   generation = is.generation ∙ kept.generation ∙ ap (λ (es : List Event). (after es).generation) (sym is.events);
   granted = λ m g low stands. subst (λ (es : List Event). IsGrantEvent es m g) (sym is.events) (kept.granted m g low (stands_back k l (alike_grants k l is) m g stands));
-  rows = rows_on k l [] (is.events ∙ sym (append-nil k.events)) is.words is.pending is.settled kept.rows;
+  rows = rows_on k l [] (is.events ∙ sym (append-nil k.events)) (λ n f e there settles. none_in e there) is.words is.pending is.settled kept.rows;
+  seen = subst (λ (es : List Event). LostHaveSeen (after es) l) (sym is.events) (seen_on (after k.events) (after k.events) k l refl refl is.words is.settled kept.seen);
   issued = λ h e low there. subst (λ (es : List Event). IsIssued w es h e) (sym is.events) (kept.issued h e low (subst (λ (es : List Entry). Contains es e) (is.issued h) there));
   handed = λ h low. ap event_numbers (is.issued h) ∙ kept.handed h low
       ∙ ap (λ (es : List Event). own_numbers h (length begun + 1) (drop (length begun) es)) (sym is.events);
@@ -174,20 +246,20 @@ awaited_is_alike k h long low = record {
 
 -- the row of an entry, and the views with it: all that is kept but for what was issued stays
 module _ (k : KeeperView) (h : ℕ) (entry : Entry) (long : IsLong k) (low : h < harts_at_most) where
-  abbrev row : Row
+  abbrev pub row : Row
   row = handed entry.mark (row_with entry (row_of k h))
 
-  handed_long : IsLong (handed_over h entry k)
+  pub handed_long : IsLong (handed_over h entry k)
   handed_long = (long.0, length-set k.rows h row ∙ long.1)
 
-  handed_pending : (m : ℕ) → (row_of (handed_over h entry k) m).pending ≡ (row_of k m).pending
+  pub handed_pending : (m : ℕ) → (row_of (handed_over h entry k) m).pending ≡ (row_of k m).pending
   handed_pending = row_field (λ (y : Row). y.pending) k h row (inside k h long low) refl
 
-  handed_settled : (m : ℕ) → (row_of (handed_over h entry k) m).settled ≡ (row_of k m).settled
+  pub handed_settled : (m : ℕ) → (row_of (handed_over h entry k) m).settled ≡ (row_of k m).settled
   handed_settled = row_field (λ (y : Row). y.settled) k h row (inside k h long low) refl
 
   -- each entry that was issued was before, or is this one of this hart
-  handed_issued : (m : ℕ) (x : Entry) → Contains (row_of (handed_over h entry k) m).issued x → Contains (row_of k m).issued x ⊎ ((m ≡ h) × (entry ≡ x))
+  pub handed_issued : (m : ℕ) (x : Entry) → Contains (row_of (handed_over h entry k) m).issued x → Contains (row_of k m).issued x ⊎ ((m ≡ h) × (entry ≡ x))
   handed_issued m x there = dite (ℕ_discrete m h)
       (λ (same : m ≡ h). ⊎_elim
       (λ (old : Contains (row_of k h).issued x). inl (subst (λ (i : ℕ). Contains (row_of k i).issued x) (sym same) old))
@@ -268,7 +340,10 @@ quiet_kept w begun k h e entry kept own_low own leaves may is = record {
       (events_stay (after k.events) e leaves) same (λ m g few stands. later_number k.events (e ∷ []) m g (kept.granted m g few stands)) kept.words);
   generation = kept.generation ∙ sym step_is.generation ∙ ap (λ (s : State). s.generation) (sym (after_push k.events e));
   granted = λ m g few stands. later_event k.events (e ∷ []) m g (kept.granted m g few (stands_back k (handed_over h entry (counted e k)) same m g stands));
-  rows = rows_on k (handed_over h entry (counted e k)) (e ∷ []) refl (λ d. refl) same.pending same.settled kept.rows;
+  rows = rows_on k (handed_over h entry (counted e k)) (e ∷ []) refl (settles_none e (quiet_event e leaves)) (λ d. refl) same.pending same.settled kept.rows;
+  seen = subst (λ (s : State). LostHaveSeen s (handed_over h entry (counted e k))) (sym (after_push k.events e))
+      (seen_on (after k.events) (step (after k.events) e) k (handed_over h entry (counted e k)) (events_stay (after k.events) e leaves).images (events_stay (after k.events) e leaves).grants
+      (λ d. refl) same.settled kept.seen);
   issued = λ m x few there. ⊎_elim
       (λ (old : Contains (row_of k m).issued x). issued_stays w k.events (e ∷ []) m x (kept.issued m x few old))
       (λ (new : (m ≡ h) × (entry ≡ x)).
@@ -302,7 +377,8 @@ answered_kept w begun k h entry kept own_low marks is = record {
       (record { role = λ a word. refl; word = λ a word roles. refl; images = refl; grants = refl }) same (λ m g few stands. refl) kept.words;
   generation = kept.generation;
   granted = λ m g few stands. kept.granted m g few (stands_back k (handed_over h entry k) same m g stands);
-  rows = rows_on k (handed_over h entry k) [] (sym (append-nil k.events)) (λ d. refl) same.pending same.settled kept.rows;
+  rows = rows_on k (handed_over h entry k) [] (sym (append-nil k.events)) (λ n f e there settles. none_in e there) (λ d. refl) same.pending same.settled kept.rows;
+  seen = seen_on (after k.events) (after k.events) k (handed_over h entry k) refl refl (λ d. refl) same.settled kept.seen;
   issued = λ m x few there. ⊎_elim
       (λ (old : Contains (row_of k m).issued x). kept.issued m x few old)
       (λ (new : (m ≡ h) × (entry ≡ x)). subst (λ (i : ℕ). IsIssued w k.events i x) (sym new.0) (subst (IsIssued w k.events h) new.1 is))

@@ -1,8 +1,13 @@
 mod Asking
 mod Handed
 mod Keeping
+mod Over
 mod Posted
-mod Remade
+mod PostedKept
+mod Posting
+pub mod Remade
+mod RemadeKept
+mod Seen
 mod Settled
-mod Settling
+pub mod Settling
 mod Staying

@@ -26,7 +26,7 @@ use Rattle.word_holds.specs.Shared.{IsGrantOf, IsOfState}
 use Rattle.kept_words.specs.Posted.{Posts}
 use Rattle.kept_words.proofs.Staying.{slot_on}
 
-role_stays : (all : List Granting) (s : State) (a : ℕ) → role_at (record s { grants = all }) a ≡ role_at s a
+pub role_stays : (all : List Granting) (s : State) (a : ℕ) → role_at (record s { grants = all }) a ≡ role_at s a
 unfolding role_at
 role_stays all s a = refl
 

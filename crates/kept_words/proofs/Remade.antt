@@ -37,10 +37,10 @@ use Rattle.kept_words.specs.Remade.{IsRemade}
 use Rattle.kept_words.proofs.Settling.{slot_word}
 
 -- one of these ranges has the address, or none has
-abbrev InOne : List Range → ℕ → Type 0
+abbrev pub InOne : List Range → ℕ → Type 0
 InOne rs a = (r : Range) × Contains rs r × (covers a r ≡ true)
 
-in_one : (rs : List Range) (a : ℕ) → InOne rs a ⊎ ((r : Range) → Contains rs r → covers a r ≡ false)
+pub in_one : (rs : List Range) (a : ℕ) → InOne rs a ⊎ ((r : Range) → Contains rs r → covers a r ≡ false)
 in_one [] a = inr (λ r there. absurd (none_in r there))
 in_one (x ∷ rest) a = by (covers a x) refl (in_one rest a)
   where
@@ -54,7 +54,7 @@ in_one (x ∷ rest) a = by (covers a x) refl (in_one rest a)
         (first_or_later x rest r there))
 
 -- a doubleword is that of its place
-place_slot : (n a : ℕ) → n ≡ address_of (place_of a) → IsDoubleword a → n ≡ a
+pub place_slot : (n a : ℕ) → n ≡ address_of (place_of a) → IsDoubleword a → n ≡ a
 unfolding place_of
 place_slot n a at is = let low = is.low in let whole = is.whole in omega (arith, at, low, whole)
 
@@ -152,9 +152,12 @@ module _ (pages : PageLaws) (s : State) (e : Event) (now : Mapped s) (new : Mapp
 
   granted_by : (m : ℕ) (g : Grant) → m < harts_at_most → Stands (row_of l m) g → (at : IsOf (kept_at l) (place_of g.entry.slot) g) → Was g.entry.slot → (x : Granting) × (x.number ≡ number m g) × IsGrantOf (step s e) l m g x
   granted_by m g low st at (Was.came r there on) =
-      let since = (remade.given r g.entry.slot (slot_word (place_of g.entry.slot) g.entry.slot at.1 at.0.0) there on).since in
-      let before = early m g low (stood m g st) in
-      let newer = at.2 in
+      let is_word : IsDoubleword g.entry.slot = slot_word (place_of g.entry.slot) g.entry.slot at.1 at.0.0 in
+      let given = remade.given r g.entry.slot is_word there on in
+      let some : role_at (step s e) g.entry.slot ≢ NoRole = λ none. (let no : NoRole ≡ Slot = sym none ∙ sym given.role ∙ at.0.1 in cc) in
+      let since : (kept_at l (place_of g.entry.slot)).since ≡ count = given.since some in
+      let before : g.entry.number ≤ count = early m g low (stood m g st) in
+      let newer : (kept_at l (place_of g.entry.slot)).since < g.entry.number = at.2 in
       absurd (omega (arith, since, before, newer))
   granted_by m g low st at (Was.went r there on) =
       absurd (let no : NoRole ≡ Slot = sym (remade.gone r g.entry.slot (slot_word (place_of g.entry.slot) g.entry.slot at.1 at.0.0) there on) ∙ at.0.1 in cc)

@@ -50,7 +50,7 @@ pub slot_word : (known_place n : ℕ) → n ≡ address_of known_place → known
 unfolding doublewords
 slot_word d n at low = record { low = omega (arith, at, low); high = omega (arith, at, low); whole = omega (arith, at, low) }
 
-place_back : (d n : ℕ) → n ≡ address_of d → place_of n ≡ d
+pub place_back : (d n : ℕ) → n ≡ address_of d → place_of n ≡ d
 unfolding place_of
 place_back d n at = omega (arith, at)
 
@@ -69,12 +69,12 @@ module _ (s : State) (laws : StateLaws s) (a owner slot : ℕ) (place : IsDouble
       absurd (laws.lazy.at_load at.namespace at.object slot value at.reloc at.inside (subst (λ (n : ℕ). value_at_load s n slot ≡ Some value) (sym at.serial) got) at.at (same ∙ at.lazy))
 
   -- one whose first word isn't, got that word
-  loaded : first_word_at s a ≢ lazy_at s a → (value : Option ℕ) → value_at_load s owner slot ≡ value → value_at_load s owner slot ≡ Some (first_word_at s a)
+  pub loaded : first_word_at s a ≢ lazy_at s a → (value : Option ℕ) → value_at_load s owner slot ≡ value → value_at_load s owner slot ≡ Some (first_word_at s a)
   loaded other None got = absurd (other (first_lazy s laws.mapped laws.begins a low owner slot of got))
   loaded other (Some value) got = got ∙ ap (λ (v : ℕ). Some v) (sym (first_bound s laws.mapped laws.begins a low owner slot (laws.fits owner slot) of value got))
 
   -- two grants of one address are of one slot
-  same_slot : (other index : ℕ) → IsSlotAt s a other index → (other ≡ owner) × (index ≡ slot)
+  pub same_slot : (other index : ℕ) → IsSlotAt s a other index → (other ≡ owner) × (index ≡ slot)
   same_slot other index at =
       let image : at.image ≡ of.image = one_image_at s a other index owner slot at of in
       let got : slice_get of.image.object.plt_relocs index ≡ Some at.reloc = subst (λ (i : Linked). slice_get i.object.plt_relocs index ≡ Some at.reloc) image at.at in

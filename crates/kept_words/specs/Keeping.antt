@@ -1,12 +1,14 @@
 -- What leaves the keeper's record as it has to be. For the methods of the type behind the lock, one call after another.
-use Rattle.std.specs.Prelude.{◌≡◌, ◌⊎◌, ℕ, ◌<◌, true, List, Some}
+use Rattle.std.specs.Prelude.{◌≡◌, ◌⊎◌, ℕ, ◌<◌, Bool, true, false, not, List, length, Some}
 use Rattle.history_event.specs.declared.event.Event.{Event}
+use Rattle.history_event.specs.declared.event.Event.TheVariants as events
 use Rattle.history_event.specs.declared.event.Event.TheVariants.{Bound, Lost as LostEvent}
 use Rattle.word_rule.specs.declared.entry.Entry.{Entry}
 use Rattle.word_rule.specs.declared.entry.Grant.{Grant}
 use Rattle.word_rule.specs.declared.view.KeeperView.{KeeperView}
 use Rattle.word_rule.specs.KeeperSteps.{TellsAsk, awaited_if}
-use Rattle.word_rule.specs.Layout.{harts_at_most}
+use Rattle.word_rule.specs.Allowed.{IsOf}
+use Rattle.word_rule.specs.Layout.{harts_at_most, place_of}
 use Rattle.word_rule.specs.Views.{IsLong, kept_at, row_of}
 use Rattle.word_steps.specs.Knowing.{counted}
 use Rattle.slot_bind.specs.declared.slot.Asked.{Asked}
@@ -14,13 +16,20 @@ use Rattle.slot_bind.specs.declared.slot.Asked.TheVariants.{Open, Won, Lost}
 use Rattle.slot_bind.specs.Grants.{Saw, Says, asked_view, fated_view}
 use Rattle.slot_bind.specs.Rows.{handed_over}
 use Rattle.history_state.specs.Accepted.{AcceptsOnly}
+use Rattle.history_state.specs.After.{after}
 use Rattle.history_state.specs.Allowed.{Allowed}
+use Rattle.history_state.specs.Changes.{StandsApart}
+use Rattle.history_state.specs.Legal.{Lawful}
 use Rattle.history_state.specs.Setting.{Setting}
+use Rattle.history_state.specs.State.{State}
+use Rattle.history_state.specs.Step.{step}
 use Rattle.history_calls.specs.Laws.{hart_of}
 use Rattle.hart_trails.specs.Entries.{entry_behind}
+use Rattle.word_holds.specs.Shared.{IsOfState}
 use Rattle.kept_words.specs.Handed.{IsIssued}
 use Rattle.kept_words.specs.Kept.{AreKept}
-use Rattle.kept_words.specs.Staying.{leaves_memory, number_in}
+use Rattle.kept_words.specs.Remade.{IsRemade}
+use Rattle.kept_words.specs.Staying.{brings_nothing, leaves_memory, number_in}
 
 -- two views that differ only in what is known of calls under way
 pub record IsAlike (k l : KeeperView) : Type 0 where
@@ -50,6 +59,35 @@ QuietKept = (w : Setting) (begun : List Event) (k : KeeperView) (h : ℕ) (e : E
 abbrev pub AnsweredKept : Type 0
 AnsweredKept = (w : Setting) (begun : List Event) (k : KeeperView) (h : ℕ) (entry : Entry) → AreKept w begun k → h < w.machine.harts
     → (entry.mark ≡ 2) ⊎ (entry.mark ≡ 6) → IsIssued w k.events h entry → AreKept w begun (handed_over h entry k)
+
+-- ---- an event that remakes memory
+
+-- it brings objects or a block, or takes objects away
+abbrev pub remakes_memory : Event → Bool
+remakes_memory e = elim e [
+  | events.Open hart ask answer ↦ not (brings_nothing answer)
+  | events.Unmapped hart set ↦ true
+  | events.Tls hart owner address ↦ true
+  | _ ↦ false
+]
+
+-- the view once memory is remade by the event: but for that, only the generation changed, and what was shown of locked words
+pub record IsRemadeView (s : State) (e : Event) (k l : KeeperView) : Type 0 where
+  pub remade : IsRemade s e (length k.events) k l
+  pub long : IsLong l
+  pub only : l ≡ record k { words = l.words; shown = l.shown; generation = (step s e).generation }
+
+-- a hart's event that may come remade memory; it is counted, and the hart gets its entry
+abbrev pub RemadeKept : Type 0
+RemadeKept = (w : Setting) (begun : List Event) (k l : KeeperView) (h : ℕ) (e : Event) (entry : Entry) → AcceptsOnly w.machine → AreKept w begun k → h < w.machine.harts
+    → hart_of e ≡ Some h → remakes_memory e ≡ true → Allowed w k.events e → IsRemadeView (after k.events) e k l → entry ≡ entry_behind k.events e
+    → AreKept w begun (handed_over h entry (counted e l))
+
+-- the slot of a grant whose fate isn't known isn't among what comes and goes
+abbrev pub PendingStay : Type 0
+PendingStay = (w : Setting) (past : List Event) (e : Event) (k : KeeperView) (number : ℕ → Grant → ℕ) (m : ℕ) (g : Grant) → AcceptsOnly w.machine → Lawful w.machine past
+    → Allowed w past e → IsOfState (after past) k number → m < harts_at_most → (row_of k m).pending ≡ Some g → IsOf (kept_at k) (place_of g.entry.slot) g
+    → StandsApart (after past) e g.entry.slot
 
 -- ---- a grant is asked for, and settled where it is known what came of it
 

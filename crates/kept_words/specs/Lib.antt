@@ -1,7 +1,9 @@
 pub mod Handed
 pub mod Keeping
 pub mod Kept
+pub mod Over
 pub mod Posted
+pub mod Posting
 pub mod Remade
 pub mod Settling
 pub mod Staying

@@ -21,17 +21,17 @@ use Rattle.history_memory.specs.Holds.{lazy_at}
 use Rattle.history_memory.specs.Memory.{IsDoubleword}
 use Rattle.word_holds.specs.Shared.{IsOfState}
 
--- a doubleword was put there: its role, its first word, a slot's lazy word, and the count at which it was put there. One without a role has no
--- word
+-- a doubleword was put there: its role, its first word, a slot's lazy word, and the count at which it was put there. One without a role has
+-- nothing more
 pub record IsGiven (t : State) (count : ℕ) (l : KeeperView) (a : ℕ) : Type 0 where
   pub role : (kept_at l (place_of a)).role ≡ role_at t a
   pub word : role_at t a ≢ NoRole → (kept_at l (place_of a)).value ≡ first_word_at t a
   pub lazy : role_at t a ≡ Slot → (kept_at l (place_of a)).lazy ≡ lazy_at t a
-  pub since : count ≤ (kept_at l (place_of a)).since
+  pub since : role_at t a ≢ NoRole → (kept_at l (place_of a)).since ≡ count
 
 -- a view is remade by an event: what it reserves is given, what it takes away has no role, all other words stay, and so do the grants
 pub record IsRemade (s : State) (e : Event) (count : ℕ) (k l : KeeperView) : Type 0 where
-  pub kept : (a : ℕ) → IsDoubleword a → StandsApart s e a → kept_at l (place_of a) ≡ record (kept_at k (place_of a)) { fixed = (kept_at l (place_of a)).fixed }
+  pub kept : (a : ℕ) → IsDoubleword a → StandsApart s e a → kept_at l (place_of a) ≡ kept_at k (place_of a)
   pub given : (r : Range) (a : ℕ) → IsDoubleword a → Contains (reserved s e) r → covers a r ≡ true → IsGiven (step s e) count l a
   pub gone : (r : Range) (a : ℕ) → IsDoubleword a → Contains (taken s e) r → covers a r ≡ true → (kept_at l (place_of a)).role ≡ NoRole
   pub pending : (m : ℕ) → (row_of l m).pending ≡ (row_of k m).pending

@@ -1,8 +1,10 @@
 //! What holds where the keeper's view is that of a state.
 
 ghost use Rattle.kept_words.specs.Handed.{AnsweredStays, CountedStays, HandedStays, IssuedStays, PostedHandedStays, TailHasNone};
-ghost use Rattle.kept_words.specs.Keeping.{AlikeKept, AnsweredKept, AskedKept, AwaitedIsAlike, QuietKept};
+ghost use Rattle.kept_words.specs.Keeping.{AlikeKept, AnsweredKept, AskedKept, AwaitedIsAlike, PendingStay, QuietKept, RemadeKept};
+ghost use Rattle.kept_words.specs.Over.{FatesAreExchanges, OverIsWhole, TrailsAreTrue};
 ghost use Rattle.kept_words.specs.Posted.{PostedStays};
+ghost use Rattle.kept_words.specs.Posting.{NewMayPost, PostedKept};
 ghost use Rattle.kept_words.specs.Remade.{RemadeStays};
 ghost use Rattle.kept_words.specs.Settling.{LostMayLose, WonMayBind};
 ghost use Rattle.kept_words.specs.Staying.{EventsStay, SettledStays, StatesStay};
@@ -69,4 +71,50 @@ pub fn asks_settle()
     ensures { AskedKept }
 {
     fates_settle();
+}
+
+/// A grant whose event may come may be posted once it is counted, and the record stays so.
+pub fn grants_are_posted()
+    ensures may { NewMayPost }
+    ensures kept { PostedKept }
+{
+    scope_rule::serials_follow();
+    scope_rule::found_stands();
+    scope_rule::reads_candidates();
+    history_state::slots_begin();
+    history_state::images_are_mapped();
+    history_state::none_is_lazy();
+    history_state::slots_lead_to_rx();
+    history_memory::slots_stand();
+    history_memory::code_is_whole();
+}
+
+/// The record stays so where a hart's event remade memory: it is counted, and the hart gets its entry. The
+/// slot of a grant whose fate isn't known isn't among what comes and goes.
+pub fn remade_is_kept()
+    ensures pending { PendingStay }
+    ensures kept { RemadeKept }
+{
+    scope_rule::serials_follow();
+    scope_rule::found_stands();
+    scope_rule::reads_candidates();
+    seg_image::pages_hold_segments();
+    history_state::memory_changes();
+    remade_stays();
+}
+
+/// Once what became of each grant is known, and so is what each slot holds, the journal is a whole history;
+/// and a hart's trail that was joined once it had taken all says what the journal says.
+pub fn run_is_over()
+    ensures whole { OverIsWhole }
+    ensures trails { TrailsAreTrue }
+    ensures fates { FatesAreExchanges }
+{
+    scope_rule::serials_follow();
+    scope_rule::found_stands();
+    scope_rule::reads_candidates();
+    history_state::slots_begin();
+    history_state::images_are_mapped();
+    history_state::none_is_lazy();
+    history_memory::slots_stand();
 }
