@@ -1,0 +1,10 @@
+mod Coming
+mod Going
+mod Leading
+mod Places
+mod Putting
+mod Reserved
+mod Retiring
+mod SlotsOnce
+mod Starting
+mod Together

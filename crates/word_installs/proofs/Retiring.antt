@@ -1,0 +1,242 @@
+-- Words that are taken away: one more leaves what may be, and what is gone.
+use Rattle.std.proofs.Common.{◌≡◌, ◌≢◌, ⊎_elim, inl, inr, ℕ, ◌+◌, ◌-◌, ◌*◌, ◌/◌, ◌%◌, ◌^◌, ◌<◌, ◌≤◌, true, leb, ltb, get_or, List, [], ◌∷◌, length, Some, refl, sym, ap, subst, ◌∙◌, arith, lt_of_not-le}
+use mathlib.Core.Logic.{dite}
+use native.Mathlib.Decide.{ℕ_discrete, dec_le}
+use Rattle.std.specs.List.{Contains, slice_get}
+use Rattle.std.proofs.lemmas.Option.{slice_get_within}
+use Rattle.std.proofs.lemmas.Bool.{and_from, and_parts, le-leb, leb-true, lt-ltb, ltb-true}
+use Rattle.std.proofs.lemmas.List.{get_or-set_other, get_or_past, set_past}
+use Rattle.ld_base.specs.declared.fault.Shown.{Shown}
+use Rattle.ld_base.specs.declared.fault.Shown.TheVariants as shows
+use Rattle.ld_base.specs.declared.linking.Role.TheVariants.{None as NoRole, Slot}
+use Rattle.address_space.specs.Pages.{IsGuestRange}
+use Rattle.history_event.specs.declared.event.Range.{Range}
+use Rattle.word_rule.specs.declared.entry.Grant.{Grant}
+use Rattle.word_rule.specs.declared.view.KeeperView.{KeeperView}
+use Rattle.word_rule.specs.declared.view.Kept.{Kept}
+use Rattle.word_rule.specs.Allowed.{IsOf, IsSlot, NothingEnters, Stands}
+use Rattle.word_rule.specs.Layout.{place_of}
+use Rattle.word_rule.specs.Lemmas.Heeding.{kept_here}
+use Rattle.word_rule.specs.Views.{kept_at, row_of, unmapped}
+use Rattle.word_access.specs.WordKeeping.Keeping.{retired, was_shown}
+use Rattle.word_memory.specs.Roles.{MayRetire}
+use Rattle.history_state.specs.Memory.{covers}
+use Rattle.history_state.specs.Lemmas.Lists.{here, only_in}
+use Rattle.history_state.specs.Lemmas.Tidy.{in_at}
+use Rattle.word_installs.specs.Unmapped.{HasNoRole, HasNoSlot, IsCovered, IsInside, IsUnmapped, MayUnmap, Retires, SlotsGoFirst}
+use Rattle.word_installs.proofs.Places.{word_address}
+
+-- ---- what is retired
+
+pub retires_none : (ranges : List Range) (k : KeeperView) → Retires ranges k k
+retires_none ranges k = record { each = λ d. inl refl; only = refl }
+
+pub retires_then : (ranges : List Range) (k l m : KeeperView) → Retires ranges k l → Retires ranges l m → Retires ranges k m
+retires_then ranges k l m one two = record {
+  each = λ d. ⊎_elim
+      (λ (same : kept_at m d ≡ kept_at l d). ⊎_elim
+      (λ (was : kept_at l d ≡ kept_at k d). inl (same ∙ was))
+      (λ (gone : IsInside ranges d × ((kept_at l d).role ≡ NoRole)). inr (gone.0, ap (λ (x : Kept). x.role) same ∙ gone.1))
+      (one.each d))
+      (λ (gone : IsInside ranges d × ((kept_at m d).role ≡ NoRole)). inr gone)
+      (two.each d);
+  only = two.only ∙ ap (λ (v : KeeperView). record v { words = m.words; shown = m.shown }) one.only;
+}
+
+-- a doubleword without a role stays so
+pub stays_gone : (ranges : List Range) (k l : KeeperView) → Retires ranges k l → (d : ℕ) → (kept_at k d).role ≡ NoRole → (kept_at l d).role ≡ NoRole
+stays_gone ranges k l retires d gone = ⊎_elim
+    (λ (same : kept_at l d ≡ kept_at k d). ap (λ (x : Kept). x.role) same ∙ gone)
+    (λ (new : IsInside ranges d × ((kept_at l d).role ≡ NoRole)). new.1)
+    (retires.each d)
+
+pub stays_no_slot : (ranges : List Range) (k l : KeeperView) → Retires ranges k l → (d : ℕ) → (kept_at k d).role ≢ Slot → (kept_at l d).role ≢ Slot
+stays_no_slot ranges k l retires d none slot = ⊎_elim
+    (λ (same : kept_at l d ≡ kept_at k d). none (ap (λ (x : Kept). x.role) (sym same) ∙ slot))
+    (λ (new : IsInside ranges d × ((kept_at l d).role ≡ NoRole)). let both : NoRole ≡ Slot = sym new.1 ∙ slot in cc)
+    (retires.each d)
+
+pub slotless_on : (ranges : List Range) (k l : KeeperView) → Retires ranges k l → HasNoSlot ranges k → HasNoSlot ranges l
+slotless_on ranges k l retires none a is = stays_no_slot ranges k l retires (place_of a) (none a is)
+
+pub generation_on : (ranges : List Range) (k l : KeeperView) → Retires ranges k l → l.generation ≡ k.generation
+generation_on ranges k l retires = ap (λ (v : KeeperView). v.generation) retires.only
+
+-- ---- what may go still may
+
+pub may_on : (ranges : List Range) (k l : KeeperView) → Retires ranges k l → MayUnmap k ranges → MayUnmap l ranges
+may_on ranges k l retires may = record {
+  guest = may.guest;
+  unposted = λ a is m g pending. may.unposted a is m g (ap (λ (v : KeeperView). (row_of v m).pending) (sym retires.only) ∙ pending);
+  unentered = λ a d value is outside slot allowed. may.unentered a d value is outside
+      (subst (λ (x : Kept). IsSlot (λ _. x) d) (same d outside) slot)
+      (⊎_elim
+      (λ (first : value ≡ (kept_at l d).value). inl (first ∙ ap (λ (x : Kept). x.value) (same d outside)))
+      (λ (grant : (m : ℕ) × (g : Grant) × Stands (row_of l m) g × IsOf (kept_at l) d g × (value ≡ g.entry.value)). inr (
+        grant.0,
+        grant.1,
+        subst (λ (v : KeeperView). Stands (row_of v grant.0) grant.1) retires.only grant.2,
+        subst (λ (x : Kept). IsOf (λ _. x) d grant.1) (same d outside) grant.3,
+        grant.4,
+      ))
+      allowed);
+}
+  where
+    same : (d : ℕ) → (IsInside ranges d → ⊥) → kept_at l d ≡ kept_at k d
+    same d outside = ⊎_elim (λ (x : kept_at l d ≡ kept_at k d). x) (λ x. absurd (outside x.0)) (retires.each d)
+
+-- ---- one doubleword
+
+pub may_retire : (ranges : List Range) (k : KeeperView) (a : ℕ) → MayUnmap k ranges → IsCovered ranges a → SlotsGoFirst ranges k a → MayRetire k a
+may_retire ranges k a may is order = record {
+  at = word_address a is.word;
+  slot = λ slot. may.unposted a is;
+  other = λ none. ⊎_elim (λ (slot : (kept_at k (place_of a)).role ≡ Slot). absurd (none slot)) unentered order;
+}
+  where
+    unentered : HasNoSlot ranges k → NothingEnters (kept_at k) (row_of k) (place_of a)
+    unentered slotless e value slot allowed =
+        may.unentered a e value is (λ inside. slotless inside.0 inside.1 (ap (λ (d : ℕ). (kept_at k d).role) inside.2 ∙ slot.1)) slot allowed
+
+retired_role : (k : KeeperView) (d : ℕ) → (kept_at (retired d k) d).role ≡ NoRole
+retired_role k d = go (dec_le (length k.words) d)
+  where
+    go : Dec (length k.words ≤ d) → (kept_at (retired d k) d).role ≡ NoRole
+    go (yes past) =
+        ap (λ (ws : List Kept). (get_or ws d unmapped).role) (set_past k.words d (record (kept_at k d) { role = NoRole }) past)
+        ∙ ap (λ (x : Kept). x.role) (get_or_past k.words d unmapped past)
+    go (no inside) = ap (λ (x : Kept). x.role) (kept_here k d (record (kept_at k d) { role = NoRole }) (lt_of_not-le inside))
+
+pub gone_now : (k l : KeeperView) (a : ℕ) → l ≡ retired (place_of a) k → (kept_at l (place_of a)).role ≡ NoRole
+gone_now k l a is = ap (λ (v : KeeperView). (kept_at v (place_of a)).role) is ∙ retired_role k (place_of a)
+
+pub retires_one : (ranges : List Range) (k l : KeeperView) (a : ℕ) → IsCovered ranges a → l ≡ retired (place_of a) k → Retires ranges k l
+retires_one ranges k l a covered is = record {
+  each = λ d. dite (ℕ_discrete d (place_of a))
+      (λ (same : d ≡ place_of a). inr ((a, covered, sym same), ap (λ (e : ℕ). (kept_at l e).role) same ∙ gone_now k l a is))
+      (λ (apart : d ≢ place_of a). inl (ap (λ (v : KeeperView). kept_at v d) is
+      ∙ get_or-set_other k.words (place_of a) d (record (kept_at k (place_of a)) { role = NoRole }) unmapped apart));
+  only = is ∙ ap (λ (v : KeeperView). record k { words = v.words; shown = v.shown }) (sym is);
+}
+
+-- one that was found locked
+pub retires_locked : (ranges : List Range) (k l : KeeperView) (d : ℕ) (shown : Shown) → l ≡ was_shown d shown k → Retires ranges k l
+retires_locked ranges k l d shown is = record {
+  each = λ e. inl (ap (λ (v : KeeperView). kept_at v e) is ∙ same e shown);
+  only = is ∙ shows_only shown ∙ ap (λ (v : KeeperView). record k { words = v.words; shown = v.shown }) (sym is);
+}
+  where
+    same : (e : ℕ) (x : Shown) → kept_at (was_shown d x k) e ≡ kept_at k e
+    same e (shows.Locked a b) = refl
+    same e _ = refl
+
+    shows_only : (x : Shown) → was_shown d x k ≡ record k { words = (was_shown d x k).words; shown = (was_shown d x k).shown }
+    shows_only (shows.Locked a b) = refl
+    shows_only _ = refl
+
+-- ---- the doublewords of a range
+
+-- the doubleword of an index
+pub nth_covered : (ranges : List Range) (k : KeeperView) (r : Range) (i : ℕ) → MayUnmap k ranges → Contains ranges r → i < 512 * r.pages → IsCovered ranges (r.address + 8 * i)
+nth_covered ranges k r i may there low =
+    let guest : IsGuestRange r.address r.pages = may.guest r there (omega (arith, low)) in
+    let aligned : r.address % 4096 ≡ 0 = guest.aligned in
+    let from : 0x10000 ≤ r.address = guest.low in
+    let to : r.address + 4096 * r.pages ≤ 0x10000 + 4096 * 2047 = guest.high in
+    record {
+      word = record { low = omega (arith, from); high = omega (arith, to, low); whole = omega (arith, aligned) };
+      range = r;
+      there = there;
+      covers_it = and_from (leb r.address (r.address + 8 * i)) (ltb (r.address + 8 * i) (r.address + 4096 * r.pages))
+          (le-leb r.address (r.address + 8 * i) (omega arith)) (lt-ltb (r.address + 8 * i) (r.address + 4096 * r.pages) (omega (arith, low)));
+    }
+
+pub nth_fits : (ranges : List Range) (k : KeeperView) (r : Range) (i : ℕ) → MayUnmap k ranges → Contains ranges r → i < 512 * r.pages → r.address + 8 * i < 2 ^ 64
+nth_fits ranges k r i may there low =
+    let high = (nth_covered ranges k r i may there low).word.high in omega (arith, high)
+
+pub few_pages : (ranges : List Range) (k : KeeperView) (r : Range) → MayUnmap k ranges → Contains ranges r → 512 * r.pages < 2 ^ 64
+few_pages ranges k r may there = go (dec_le r.pages 0)
+  where
+    go : Dec (r.pages ≤ 0) → 512 * r.pages < 2 ^ 64
+    go (yes none) = omega (arith, none)
+    go (no some) =
+        let guest : IsGuestRange r.address r.pages = may.guest r there (lt_of_not-le some) in
+        let to : r.address + 4096 * r.pages ≤ 0x10000 + 4096 * 2047 = guest.high in omega (arith, to)
+
+-- the index of a doubleword
+nth_of : (ranges : List Range) (k : KeeperView) (r : Range) (a : ℕ) → MayUnmap k ranges → Contains ranges r → IsCovered (r ∷ []) a
+    → (i : ℕ) × (i < 512 * r.pages) × (a ≡ r.address + 8 * i)
+nth_of ranges k r a may there is =
+    let same : r ≡ is.range = only_in r is.range is.there in
+    let at = and_parts (leb r.address a) (ltb a (r.address + 4096 * r.pages)) (subst (λ (q : Range). covers a q ≡ true) (sym same) is.covers_it) in
+    let from : r.address ≤ a = leb-true r.address a at.0 in
+    let to : a < r.address + 4096 * r.pages = ltb-true a (r.address + 4096 * r.pages) at.1 in
+    let guest : IsGuestRange r.address r.pages = may.guest r there (omega (arith, from, to)) in
+    let aligned : r.address % 4096 ≡ 0 = guest.aligned in
+    let whole : a % 8 ≡ 0 = is.word.whole in
+    ((a - r.address) / 8, (omega (arith, from, to)), (omega (arith, from, aligned, whole)))
+
+-- what holds of each index holds of the range
+pub each_gone : (ranges : List Range) (k l : KeeperView) (r : Range) (n : ℕ) → MayUnmap k ranges → Contains ranges r → 512 * r.pages ≤ n
+    → ((i : ℕ) → i < n → (kept_at l (place_of (r.address + 8 * i))).role ≡ NoRole) → HasNoRole (r ∷ []) l
+each_gone ranges k l r n may there past gone a is =
+    let nth = nth_of ranges k r a may there is in
+    let low : nth.0 < 512 * r.pages = nth.1 in
+    ap (λ (b : ℕ). (kept_at l (place_of b)).role) nth.2 ∙ gone nth.0 (omega (arith, low, past))
+
+pub each_no_slot : (ranges : List Range) (k l : KeeperView) (r : Range) (n : ℕ) → MayUnmap k ranges → Contains ranges r → 512 * r.pages ≤ n
+    → ((i : ℕ) → i < n → (kept_at l (place_of (r.address + 8 * i))).role ≢ Slot) → HasNoSlot (r ∷ []) l
+each_no_slot ranges k l r n may there past gone a is slot =
+    let nth = nth_of ranges k r a may there is in
+    let low : nth.0 < 512 * r.pages = nth.1 in
+    gone nth.0 (omega (arith, low, past)) (sym (ap (λ (b : ℕ). (kept_at l (place_of b)).role) nth.2) ∙ slot)
+
+-- ---- one range after another
+
+-- a range more
+pub ranges_more : (which : Range → KeeperView → Type 0) (ranges : List Range) (n : ℕ) (r : Range) (l m : KeeperView) → slice_get ranges n ≡ Some r
+    → ((q : Range) → which q l → which q m) → ((i : ℕ) (q : Range) → i < n → slice_get ranges i ≡ Some q → which q l) → which r m
+    → (i : ℕ) (q : Range) → i < n + 1 → slice_get ranges i ≡ Some q → which q m
+ranges_more which ranges n r l m at stays front new i q low there = dite (ℕ_discrete i n)
+    (λ (same : i ≡ n).
+    let both : Some q ≡ Some r = sym there ∙ ap (slice_get ranges) same ∙ at in
+    let is : r ≡ q = cc in
+    subst (λ (x : Range). which x m) is new)
+    (λ (apart : i ≢ n). stays q (front i q (omega (arith, low, apart)) there))
+
+-- what holds in each of them holds in all
+one_of : (ranges : List Range) (a : ℕ) → IsCovered ranges a → (i : ℕ) × (r : Range) × (i < length ranges) × (slice_get ranges i ≡ Some r) × IsCovered (r ∷ []) a
+one_of ranges a is =
+    let at = in_at ranges is.range is.there in
+    (at.0, is.range, slice_get_within ranges at.0 is.range at.1, at.1, record { word = is.word; range = is.range; there = here is.range []; covers_it = is.covers_it })
+
+pub all_gone : (ranges : List Range) (n : ℕ) (l : KeeperView) → length ranges ≤ n → ((i : ℕ) (r : Range) → i < n → slice_get ranges i ≡ Some r → HasNoRole (r ∷ []) l) → HasNoRole ranges l
+all_gone ranges n l past front a is = let at = one_of ranges a is in let low : at.0 < length ranges = at.2 in front at.0 at.1 (omega (arith, low, past)) at.3 a at.4
+
+pub all_no_slot : (ranges : List Range) (n : ℕ) (l : KeeperView) → length ranges ≤ n → ((i : ℕ) (r : Range) → i < n → slice_get ranges i ≡ Some r → HasNoSlot (r ∷ []) l) → HasNoSlot ranges l
+all_no_slot ranges n l past front a is = let at = one_of ranges a is in let low : at.0 < length ranges = at.2 in front at.0 at.1 (omega (arith, low, past)) at.3 a at.4
+
+pub no_role_on : (ranges : List Range) (k l : KeeperView) → Retires ranges k l → (r : Range) → HasNoRole (r ∷ []) k → HasNoRole (r ∷ []) l
+no_role_on ranges k l retires r gone a is = stays_gone ranges k l retires (place_of a) (gone a is)
+
+pub no_slot_on : (ranges : List Range) (k l : KeeperView) → Retires ranges k l → (r : Range) → HasNoSlot (r ∷ []) k → HasNoSlot (r ∷ []) l
+no_slot_on ranges k l retires r gone a is = stays_no_slot ranges k l retires (place_of a) (gone a is)
+
+-- ---- all of it
+
+pub may_later : (ranges : List Range) (k l : KeeperView) (generation : ℕ) → l ≡ record k { generation = generation } → MayUnmap k ranges → MayUnmap l ranges
+may_later ranges k l generation is may = subst (λ (v : KeeperView). MayUnmap v ranges) (sym is) (record { guest = may.guest; unposted = may.unposted; unentered = may.unentered })
+
+pub is_unmapped : (ranges : List Range) (k l m n : KeeperView) (generation : ℕ) → l ≡ record k { generation = generation } → Retires ranges l m → Retires ranges m n → HasNoRole ranges n
+    → IsUnmapped ranges k n
+is_unmapped ranges k l m n generation is one two gone = record {
+  gone = gone;
+  kept = λ d outside. ⊎_elim (λ (same : kept_at n d ≡ kept_at l d). same ∙ ap (λ (v : KeeperView). kept_at v d) is) (λ x. absurd (outside x.0)) (both.each d);
+  only = both.only ∙ ap (λ (v : KeeperView). record v { words = n.words; shown = n.shown }) is
+      ∙ ap (λ (x : ℕ). record k { words = n.words; shown = n.shown; generation = x })
+      (sym (ap (λ (v : KeeperView). v.generation) both.only ∙ ap (λ (v : KeeperView). v.generation) is));
+}
+  where
+    both : Retires ranges l n
+    both = retires_then ranges l m n one two

@@ -1,0 +1,4 @@
+pub mod Installed
+pub mod Remaking
+pub mod Starting
+pub mod Unmapped
