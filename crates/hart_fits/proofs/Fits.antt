@@ -22,7 +22,7 @@ use Rattle.hart_moves.specs.Follows.{AreOthers}
 use Rattle.hart_fits.specs.Others.{OthersLeaveFrames}
 use Rattle.hart_fits.specs.Over.{RunningIsNotOver, RunsYet}
 use Rattle.hart_fits.specs.Own.{OwnMovesKeepFrames}
-use Rattle.hart_fits.proofs.Over.{Ends, ends}
+use Rattle.hart_fits.specs.Lemmas.Ending.{Ends, ends}
 
 -- ---- ends
 

@@ -1,3 +1,4 @@
+mod Finals
 mod Fits
 mod Others
 mod Over

@@ -3,15 +3,11 @@ use Rattle.std.proofs.Common.{◌≡◌, ◌≢◌, ⊎_elim, inl, inr, ℕ, zer
 use mathlib.Core.Logic.{dite}
 use native.Mathlib.Decide.{ℕ_discrete, dec_le}
 use Rattle.std.specs.Prelude.{filter, ◌==◌}
-use Rattle.std.specs.List.{Contains}
-use Rattle.std.proofs.lemmas.Bool.{and_parts, eqb-true}
+use Rattle.std.specs.List.{Contains, list_all}
+use Rattle.std.proofs.lemmas.Bool.{and_parts, eqb-true, false≢true}
 use Rattle.std.proofs.lemmas.List.{length-take-le, take-append-le, length-map, take_all, map-append}
 use Rattle.std.proofs.lemmas.List.Elements.{Contains-append_cases, Contains-append_left}
-use Rattle.history_event.specs.declared.event.CloseAnswer.TheVariants as closes
 use Rattle.history_event.specs.declared.event.Event.{Event}
-use Rattle.history_event.specs.declared.event.Event.TheVariants as events
-use Rattle.history_event.specs.declared.event.OpenAnswer.TheVariants as opens
-use Rattle.history_event.specs.declared.event.SymAnswer.TheVariants as syms
 use Rattle.history_event.specs.declared.hart_end.HartEnd.{HartEnd}
 use Rattle.history_event.specs.declared.state.Ending.{Ending}
 use Rattle.history_state.specs.After.{after}
@@ -19,10 +15,11 @@ use Rattle.history_state.specs.Allowed.{AllowedIn, MayEnd}
 use Rattle.history_state.specs.Legal.{Lawful}
 use Rattle.history_state.specs.Lemmas.History.{after_push, by_lawful, lawful_take, one_behind}
 use Rattle.history_state.specs.Lemmas.Lists.{first_or_later, from_filter, from_map, has_not, here, in_map, later, none_in, only_in}
-use Rattle.history_state.specs.Setting.{Machine, Setting, have_exited}
+use Rattle.history_state.specs.Setting.{Machine, Setting, exited, have_exited}
 use Rattle.history_state.specs.State.{State, empty_state}
-use Rattle.history_state.specs.Step.{die, initialise, loaded, lower, step, unmap}
-use Rattle.hart_fits.specs.Over.{RunningIsNotOver}
+use Rattle.history_state.specs.Step.{step}
+use Rattle.hart_fits.specs.Lemmas.Ending.{Ends, ends}
+use Rattle.hart_fits.specs.Over.{RunningIsNotOver, UnexitedIsNotOver}
 
 -- ---- distinct numbers
 
@@ -100,31 +97,6 @@ fewer (suc m) xs h are low small none = dite (ℕ_discrete h m)
 abbrev harts_of : List Ending → List ℕ
 harts_of endings = map (λ e. e.hart) endings
 
-pub data Ends (s : State) (e : Event) : Type 0 where
-  none : (step s e).endings ≡ s.endings → Ends s e
-  one : (h : ℕ) (reason : HartEnd) → e ≡ events.Ended h reason → Ends s e
-
-pub ends : (s : State) (e : Event) → Ends s e
-unfolding loaded die lower unmap initialise
-ends s (events.Open hart ask (opens.Done id root added ranges)) = Ends.none refl
-ends s (events.Open hart ask opens.Absent) = Ends.none refl
-ends s (events.Open hart ask (opens.Refused fault)) = Ends.none refl
-ends s (events.Close hart handle (closes.Done set)) = Ends.none refl
-ends s (events.Close hart handle (closes.Refused fault)) = Ends.none refl
-ends s (events.Unmapped hart set) = Ends.none refl
-ends s (events.Grant number hart owner slot choice value) = Ends.none refl
-ends s (events.Bound number) = Ends.none refl
-ends s (events.Lost number saw) = Ends.none refl
-ends s (events.Unresolved hart owner slot choice) = Ends.none refl
-ends s (events.Sym hart ask (syms.Found serial index value)) = Ends.none refl
-ends s (events.Sym hart ask (syms.Refused fault)) = Ends.none refl
-ends s (events.Tls hart owner address) = Ends.none refl
-ends s (events.Init hart object) = Ends.none refl
-ends s (events.Fini hart object) = Ends.none refl
-ends s (events.Wrote hart bytes) = Ends.none refl
-ends s (events.Told hart fault) = Ends.none refl
-ends s (events.Ended hart reason) = Ends.one hart reason refl
-
 -- the first harts to end are distinct
 abbrev AreFirst : ℕ → State → Type 0
 AreFirst n s = Apart (harts_of (take n s.endings))
@@ -192,6 +164,34 @@ take_in {X} (suc n) (y ∷ xs) x there = ⊎_elim
     (λ (e : y ≡ x). subst (λ (z : X). Contains (y ∷ xs) z) e (here y xs))
     (λ (old : Contains (take n xs) x). later y xs x (take_in n xs x old))
     (first_or_later y (take n xs) x there)
+
+-- of harts that have all exited each has an end by exit
+all_exited : (es : List Ending) (e : Ending) → list_all exited es ≡ true → Contains es e → exited e ≡ true
+all_exited [] e all there = absurd (none_in e there)
+all_exited (x ∷ es) e all there =
+    let parts = and_parts (exited x) (list_all exited es) all in
+    ⊎_elim
+    (λ (is : x ≡ e). subst (λ (y : Ending). exited y ≡ true) is parts.0)
+    (λ (old : Contains es e). all_exited es e parts.1 old)
+    (first_or_later x es e there)
+
+pub unexited_is_not_over : UnexitedIsNotOver
+unexited_is_not_over w journal h lawful small within unless = by (have_exited w (after journal)) refl
+  where
+    by : (t : Bool) → have_exited w (after journal) ≡ t → have_exited w (after journal) ≡ false
+    by false is = is
+    by true is =
+        let parts = and_parts (nat_le w.machine.harts (length (after journal).endings)) (list_all exited (take w.machine.harts (after journal).endings)) is in
+        let long : w.machine.harts ≤ length (after journal).endings = leb-true w.machine.harts (length (after journal).endings) parts.0 in
+        let first : List Ending = take w.machine.harts (after journal).endings in
+        let count : length first ≡ w.machine.harts = length-take-le w.machine.harts (after journal).endings long in
+        let mapped : length (harts_of first) ≡ length first = length-map first (λ e. e.hart) in
+        let less = fewer w.machine.harts (harts_of first) h (are_first w.machine journal lawful)
+        (λ i there. let x = from_map (λ e. e.hart) first i there in subst (λ (n : ℕ). n < w.machine.harts) x.2 (within x.0 (take_in w.machine.harts (after journal).endings x.0 x.1)))
+        small
+        (λ there. let x = from_map (λ e. e.hart) first h there in
+        false≢true (sym (unless x.0 (take_in w.machine.harts (after journal).endings x.0 x.1) x.2) ∙ all_exited first x.0 parts.1 x.1)) in
+        absurd (omega (arith, less, mapped, count))
 
 pub running_is_not_over : RunningIsNotOver
 running_is_not_over w journal h lawful small within runs before since are over =

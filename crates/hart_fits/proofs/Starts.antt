@@ -22,7 +22,7 @@ use Rattle.world_turns.specs.TurnWrites.Writing.{HartWrites}
 use Rattle.world_turns.specs.WorldFrames.Lemmas.Starting.{start_state, starting_fit}
 use Rattle.hart_fits.specs.Fits.{StartFits}
 use Rattle.hart_fits.specs.Over.{RunsYet}
-use Rattle.hart_fits.proofs.Over.{Ends, ends}
+use Rattle.hart_fits.specs.Lemmas.Ending.{Ends, ends}
 
 -- ---- a hart that starts copies nothing, and runs no final destructors
 

@@ -1,4 +1,6 @@
+pub mod Finals
 pub mod Fits
+pub mod Lemmas
 pub mod Others
 pub mod Over
 pub mod Own

@@ -1,8 +1,9 @@
 //! What other harts leave of a hart, and its own moves.
 
 ghost use Rattle.hart_fits.specs.Fits.{FitsMayEnd, OthersLeaveHart, OwnMovesLeaveHart, StartFits};
+ghost use Rattle.hart_fits.specs.Finals.{FinalsBeginFit, OwnMovesFit, OwnMovesLeaveFinals};
 ghost use Rattle.hart_fits.specs.Others.{OthersLeaveFrames};
-ghost use Rattle.hart_fits.specs.Over.{RunningIsNotOver};
+ghost use Rattle.hart_fits.specs.Over.{RunningIsNotOver, UnexitedIsNotOver};
 ghost use Rattle.hart_fits.specs.Own.{OwnMovesKeepFrames};
 
 /// The events of other harts leave the functions that a hart has still to run those of its openings and
@@ -18,9 +19,11 @@ pub fn others_leave_frames()
     history_calls::destructors_follow();
 }
 
-/// While a hart runs, there was no moment at which every hart had ended.
+/// While a hart runs, there was no moment at which every hart had ended. Where a hart ended otherwise than
+/// by exit, not every hart has exited.
 pub fn running_is_not_over()
-    ensures { RunningIsNotOver }
+    ensures runs { RunningIsNotOver }
+    ensures ended { UnexitedIsNotOver }
 {}
 
 /// A hart's own move leaves the functions that it has to run those of its openings and closings.
@@ -49,4 +52,29 @@ pub fn harts_fit()
     own_moves_keep();
     hart_moves::turns_append();
     history_calls::constructors_follow();
+}
+
+/// In the final destructors the first hart's own moves leave it fit while it goes on, and it fits where
+/// they begin.
+pub fn finals_fit()
+    ensures own { OwnMovesLeaveFinals }
+    ensures begin { FinalsBeginFit }
+{
+    scope_rule::serials_follow();
+    scope_rule::found_stands();
+    history_state::serials_are_in_order();
+    history_state::each_dies_once();
+    history_state::closed_are_spare();
+    history_calls::constructors_follow();
+    history_calls::destructors_follow();
+    hart_moves::turns_append();
+}
+
+/// A hart's own move, before the final destructors and in them, leaves it fit while it goes on.
+pub fn own_moves_fit()
+    ensures { OwnMovesFit }
+{
+    harts_fit();
+    finals_fit();
+    world_turns::turns_keep_writes();
 }

@@ -23,7 +23,8 @@ use Rattle.world_turns.specs.WorldEnds.Laws as ends
 use Rattle.world_turns.specs.WorldFrames.Belong.{FramesFit}
 use Rattle.world_turns.specs.WorldFrames.Finals.{FinalsFit, final_frame}
 use Rattle.world_turns.specs.WorldFrames.Laws.{FinalsFinish, FramesFinish, FramesPass}
-use Rattle.world_turns.proofs.WorldFrames.Finals.{Top, final_object, first_runs, have_exited_in, none_above, top_of}
+use Rattle.world_turns.specs.WorldFrames.Lemmas.Finals.{Top, none_above, top_of}
+use Rattle.world_turns.proofs.WorldFrames.Finals.{final_object, first_runs, have_exited_in}
 use Rattle.world_turns.specs.RunningWorlds.Laws.{CompletesPass, FinalisesMay, HartsMayEnd, IdleIsFree, MayFinalise, UnmapsFinished}
 use Rattle.world_turns.specs.RunningWorlds.Running.{Moment, before_finals, in_finals}
 

@@ -1,20 +1,15 @@
 -- What is settled leaves the frames of harts as they are.
-use Rattle.std.proofs.Common.{◌≡◌, ℕ, List, ◌++◌, map, Option, Some, None, IsTrue, refl, sym, ap, subst, ◌∙◌}
-use Rattle.std.specs.List.{slice_get}
-use Rattle.ld_base.specs.declared.fault.Shown.{Shown}
+use Rattle.std.proofs.Common.{ℕ, List, ◌++◌, ap, subst, ◌∙◌}
 use Rattle.history_event.specs.declared.event.Event.{Event}
 use Rattle.history_state.specs.After.{after}
-use Rattle.history_state.specs.Objects.{has}
-use Rattle.history_state.specs.Setting.{Setting}
 use Rattle.history_state.specs.Lemmas.Lists.{has_in, in_has}
 use Rattle.hart_moves.specs.Harts.{Frame, HartState}
-use Rattle.hart_moves.specs.Moves.{freed}
-use Rattle.world_turns.specs.World.{World, settling}
+use Rattle.world_turns.specs.World.{settling}
 use Rattle.world_turns.specs.Lemmas.Turning.{freed_at}
-use Rattle.world_turns.specs.WorldFrames.Belong.{FramesBelong, FramesFit}
-use Rattle.world_turns.specs.WorldFrames.Finals.{FinalsBelong, FinalsFit}
+use Rattle.world_turns.specs.WorldFrames.Belong.{FramesFit}
+use Rattle.world_turns.specs.WorldFrames.Finals.{FinalsFit}
 use Rattle.world_turns.specs.WorldFrames.Laws.{SettlingKeepsFinals, SettlingKeepsFrames}
-use Rattle.world_turns.proofs.WorldFrames.Finals.{inits_kept, was_grows}
+use Rattle.world_turns.specs.WorldFrames.Lemmas.Finals.{inits_kept, was_grows}
 use Rattle.world_turns.specs.WorldFrames.Lemmas.Origins.{all_settled}
 
 fit_settled : (past : List Event) (harts : List HartState) (h : ℕ) (frames : List Frame) → FramesFit (after past) h frames

@@ -6,7 +6,7 @@ pub returns-clause-start : goal.returns-clause-start
 returns-clause-start c = start_fits c.constructors_follow.ensures.begins
 
 pub returns-clause-others : goal.returns-clause-others
-returns-clause-others c = others_leave_hart c.others_leave_frames.ensures c.running_is_not_over.ensures
+returns-clause-others c = others_leave_hart c.others_leave_frames.ensures c.running_is_not_over.ensures.runs
 
 pub returns-clause-own : goal.returns-clause-own
 returns-clause-own c = own_moves_leave_hart c.own_moves_keep.ensures c.turns_append.ensures.events c.turns_append.ensures.no_finals
