@@ -1,5 +1,5 @@
 -- What a hart's turns leave in its trail. For whoever shows that a trail is of turns: a hart follows by its trail, from its start to its end.
-use Rattle.std.specs.Prelude.{◌≡◌, ◌≢◌, ℕ, ◌+◌, ◌≤◌, Bool, true, false, if◌then◌else◌, List, [], ◌∷◌, ◌++◌, length, map, take, Some, None}
+use Rattle.std.specs.Prelude.{◌≡◌, ◌≢◌, ℕ, ◌+◌, ◌≤◌, Bool, true, false, if◌then◌else◌, List, [], ◌∷◌, ◌++◌, length, map, take, Option, Some, None}
 use Rattle.history_event.specs.declared.event.Event.{Event}
 use Rattle.history_event.specs.declared.event.Event.TheVariants.{Ended, Grant}
 use Rattle.history_event.specs.declared.hart_end.HartEnd.{HartEnd}
@@ -40,11 +40,12 @@ took_behind past (e ∷ rest) = took_by past e ++ took_behind (past ++ e ∷ [])
 abbrev pub is_located : Due → Bool
 is_located turn = elim turn [ Due.serve call back ↦ elim call [ locates number offset ↦ true | _ ↦ false ] | _ ↦ false ]
 
--- before thread-local storage is asked for, the generation is read for the module, and no block is kept of it
+-- before thread-local storage is asked for, the generation is read for the module; where it is the one at which the linker then answers, no block
+-- is kept of it
 pub data Reads (s : State) (b : HartState) : List TrailItem → Type 0 where
   is_another : is_located (due s b) ≡ false → Reads s b []
-  none_kept : (number offset generation : ℕ) (back : Return) → due s b ≡ Due.serve (locates number offset) back
-      → Reads s b (ReadGeneration generation number None ∷ [])
+  none_kept : (number offset generation : ℕ) (block : Option ℕ) (back : Return) → due s b ≡ Due.serve (locates number offset) back
+      → (generation ≡ s.generation → block ≡ None) → Reads s b (ReadGeneration generation number block ∷ [])
 
 -- what a turn behind these events leaves
 pub data Leaves (past : List Event) (b : HartState) (beside : Beside) : Did → List TrailItem → Type 0 where
@@ -52,8 +53,8 @@ pub data Leaves (past : List Event) (b : HartState) (beside : Beside) : Did → 
   entries : (items : List Item) (e : Event) (rest : List Event) (read : List TrailItem) → Reads (after past) b read
       → Leaves past b beside (Did.serves items (e ∷ rest)) (read ++ map Call (items_left in_memory items) ++ took_behind past (e ∷ rest))
   -- a block that is there is no event: the linker answers it, or the hart kept the linker's answer of this generation
-  answers : (l : Located) (generation : ℕ) → beside.located ≡ Some l
-      → Leaves past b beside (Did.serves [] []) (ReadGeneration generation l.number None ∷ Took (block_entry past l) ∷ [])
+  answers : (l : Located) (read : List TrailItem) → beside.located ≡ Some l → Reads (after past) b read
+      → Leaves past b beside (Did.serves [] []) (read ++ Took (block_entry past l) ∷ [])
   is_kept : (l : Located) → beside.located ≡ Some l
       → Leaves past b beside (Did.serves [] []) (ReadGeneration (after past).generation l.number (Some l.block) ∷ [])
   tries_again : (for : Shown) (read : List TrailItem) → Reads (after past) b read
