@@ -1,0 +1,13 @@
+mod Blocks
+mod Bound
+mod Longer
+mod Rising
+mod Running
+mod Slices
+mod Standing
+mod Stepping
+mod Told
+pub mod Trailing
+mod Turning
+mod Waits
+mod Whole

@@ -1,0 +1,31 @@
+-- Where a hart of a run stands between two turns, and how turns bring it on. For the loop of a hart, and for whoever starts it.
+use Rattle.std.specs.Prelude.{◌≡◌, false, List, Some, IsSome}
+use Rattle.history_event.specs.declared.event.Event.{Event}
+use Rattle.history_event.specs.declared.hart_end.HartEnd.{HartEnd}
+use Rattle.word_rule.specs.declared.view.HartView.{HartView}
+use Rattle.history_state.specs.Setting.{Setting}
+use Rattle.tls_blocks.specs.Blocks.{BlockTable}
+use Rattle.hart_moves.specs.Harts.{HartState}
+use Rattle.hart_linker.specs.Between.{IsBetweenTurns}
+use Rattle.hart_threads.specs.Turns.{Proceeds}
+
+-- a hart that has ended isn't calling
+abbrev pub IsCalm : HartView → HartState → Type 0
+IsCalm seat b = (reason : HartEnd) → b.«end» ≡ Some reason → seat.lane.calling ≡ false
+
+-- it went on, and stands between two turns again
+pub record RunsOn (w : Setting) (begun : List Event) (before now : HartView) (b c : HartState) (kept : BlockTable) : Type 0 where
+  pub proceeds : Proceeds w before now b c
+  pub between : IsBetweenTurns w begun now c kept
+  -- where it has ended it isn't calling
+  pub calm : IsCalm now c
+
+-- it may be run
+pub record IsReady (w : Setting) (begun : List Event) (seat : HartView) (b : HartState) (kept : BlockTable) : Type 0 where
+  pub between : IsBetweenTurns w begun seat b kept
+  pub calm : IsCalm seat b
+
+-- it was, until it ended
+pub record RunsToEnd (w : Setting) (begun : List Event) (before now : HartView) (b c : HartState) (kept : BlockTable) : Type 0 where
+  pub runs : RunsOn w begun before now b c kept
+  pub ended : IsSome c.«end»
