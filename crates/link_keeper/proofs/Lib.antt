@@ -1,0 +1,12 @@
+pub mod Acted
+pub mod Attended
+pub mod Ended
+pub mod Ending
+pub mod Fitting
+pub mod Kept
+pub mod Passed
+pub mod Premises
+pub mod Rest
+pub mod Served
+pub mod Settled
+pub mod Shown
