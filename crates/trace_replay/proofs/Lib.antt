@@ -1,0 +1,10 @@
+mod Begun
+mod HeadsNoted
+mod Mapped
+mod Opened
+mod Pushed
+mod Put
+mod Settled
+mod Starting
+mod Stepped
+mod Taken

@@ -1,0 +1,11 @@
+pub mod Begun
+pub mod Granted
+pub mod Heads
+pub mod Indexed
+pub mod Inside
+pub mod Keeping
+pub mod Lists
+pub mod Opened
+pub mod Shown
+pub mod Steps
+pub mod Taken
