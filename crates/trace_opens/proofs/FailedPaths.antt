@@ -1,0 +1,5 @@
+pub mod Changed
+pub mod Others
+pub mod Stopped
+pub mod Rows
+pub mod Plans

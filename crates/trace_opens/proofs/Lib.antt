@@ -1,0 +1,2 @@
+mod FailedPaths
+mod OpeningRows

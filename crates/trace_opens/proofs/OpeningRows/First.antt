@@ -1,0 +1,103 @@
+-- Startup's opening, over the lists of a history in which nothing was loaded.
+use Rattle.std.proofs.Common.{◌≡◌, ◌⊎◌, inl, inr, ℕ, Bool, true, false, List, [], ◌∷◌, Option, Some, None, refl, sym, ap, subst, ◌∙◌}
+use Rattle.std.specs.Prelude.{IfSome, IsTrue, if◌then◌else◌, ◌==◌}
+use Rattle.elf_object.specs.Verdict.{object_verdict}
+use Rattle.ld_base.specs.declared.linking.Choice.{Choice}
+use Rattle.ld_base.specs.declared.linking.File.{File}
+use Rattle.history_event.specs.declared.event.Event.{Event}
+use Rattle.history_event.specs.declared.event.Event.TheVariants.{Open}
+use Rattle.history_event.specs.declared.event.OpenAnswer.{OpenAnswer}
+use Rattle.history_event.specs.declared.event.OpenAnswer.TheVariants as opens
+use Rattle.history_event.specs.declared.event.OpenAsk.{OpenAsk}
+use Rattle.history_event.specs.declared.event_line.OpenLine.{OpenLine}
+use Rattle.history_event.specs.declared.handed.Opening.{Opening}
+use Rattle.history_state.specs.After.{after, after_from}
+use Rattle.history_state.specs.Allowed.{Allowed}
+use Rattle.history_state.specs.Asking.{IsStartupAsk, MayAsk}
+use Rattle.history_state.specs.Legal.{Lawful}
+use Rattle.history_state.specs.Objects.{is_startup}
+use Rattle.history_state.specs.Read.{IsUntouched}
+use Rattle.history_state.specs.Setting.{Machine, Setting}
+use Rattle.history_state.specs.State.{State, empty_state}
+use Rattle.history_state.specs.Step.{binds, seen_after}
+use Rattle.history_calls.specs.Laws.{OneOpening, is_read_fault}
+use Rattle.history_calls.specs.Startup.{program_ask}
+use Rattle.history_calls.specs.declared.link_served.startup.Setup.{Setup}
+use Rattle.history_journal.specs.Following.{machine_of}
+use Rattle.link_open_images.specs.Relocated.{AreChoices}
+use Rattle.link_open_plan.specs.Planned.{IsUnopened, PlansNew}
+use Rattle.link_open_plan.specs.Startup.{run_of}
+use Rattle.link_open_plan.specs.declared.planning.NewObjects.{NewObjects}
+use Rattle.link_open_plan.specs.declared.planning.Planned.TheVariants as plans
+use Rattle.link_open_plan.specs.declared.planning.Unopened.{Unopened}
+use Rattle.trace_opens.specs.OpeningRows.Expected.{IsCertain, IsExpected, IsFound, MayCome, brought, failed_path, trace_run, unplanned}
+use Rattle.trace_opens.specs.OpeningRows.Startup.{IsExpectedFirst, IsSetupOf, StartupNeedsNoPast}
+use Rattle.trace_opens.proofs.FailedPaths.Plans.{start_ask, start_named}
+use Rattle.trace_opens.proofs.OpeningRows.Answered.{expects_none, expects_plan}
+use Rattle.trace_opens.proofs.OpeningRows.Begun.{begun, begun_is}
+use Rattle.trace_read.specs.Said.{said_of_answer}
+use Rattle.trace_replay.specs.Taken.{ChosenFor, event_of}
+
+-- the run of the setup
+pub run_is : (harts : ℕ) (folders : List (List ℕ)) (files : Option (List File)) (ask : OpenAsk) (setup : Setup) → IsSetupOf harts ask folders setup → trace_run harts folders files ≡ run_of setup files
+run_is harts folders files ask setup s =
+    ap (λ h. trace_run h folders files) s.harts_are
+    ∙ ap (λ x. record (run_of setup files) { folders = x; preload = [] }) (sym s.folders_are)
+    ∙ ap (λ x. record (run_of setup files) { preload = x }) (sym s.preload)
+
+-- what new objects choose, whatever is kept and whichever harts have ended
+chosen_behind : (s : State) → IsTrue (is_startup s) → IsUntouched s → (ask : OpenAsk) (id root : ℕ) (choices : List (List Choice)) (answer : OpenAnswer)
+    → (past : List Event) → after past ≡ s → ChosenFor [] ask choices answer → ChosenFor past ask choices answer
+unfolding after_from
+chosen_behind s is u ask _ _ choices (opens.Done id root added ranges) past are x =
+    subst (λ (t : State). AreChoices (seen_after t ask id root added) (binds t ask) added choices) (sym (are ∙ begun_is s is u)) x
+chosen_behind s is u ask _ _ choices opens.Absent past are x = tt
+chosen_behind s is u ask _ _ choices (opens.Refused fault) past are x = tt
+
+module _ (law : StartupNeedsNoPast) (m : Machine) (w : Setting) (past : List Event) (lawful : Lawful m past) (begins : IsTrue (is_startup (after past)))
+    (untouched : IsUntouched (after past)) where
+  come_behind : (o : Opening) → MayCome w [] o → MayCome w past o
+  come_behind o x = record {
+    may = (law m w past o.hart o.ask o.answer lawful begins).1 x.may;
+    chosen = chosen_behind (after past) begins untouched o.ask 0 0 o.choices o.answer past refl x.chosen;
+  }
+
+  some_behind : (found : Option Opening) → IfSome found (MayCome w []) → IfSome found (MayCome w past)
+  some_behind (Some o) x = come_behind o x
+  some_behind None x = tt
+
+  pub expects_behind : (hart : ℕ) (ask : OpenAsk) (line : OpenLine) (found : Option Opening) → hart ≡ 0 → IsExpected w [] 0 ask line found → IsExpected w past hart ask line found
+  expects_behind hart ask line found first x = record {
+    may = some_behind found x.may;
+    only = λ files answer told said allowed.
+        subst (λ (h : ℕ). IsFound found (Open h ask answer)) (sym first)
+        (x.only files answer told said ((law m w past 0 ask answer lawful begins).0 (subst (λ (h : ℕ). Allowed w past (Open h ask answer)) first allowed)));
+  }
+
+  -- nothing else may be asked for
+  may_ask : (hart : ℕ) (ask : OpenAsk) (answer : OpenAnswer) → Allowed w past (Open hart ask answer) → IsStartupAsk hart ask
+  may_ask hart ask (opens.Done id root added ranges) x = x.may begins
+  may_ask hart ask opens.Absent x = x.may begins
+  may_ask hart ask (opens.Refused fault) x = x.may begins
+
+  pub expects_no_other : (hart : ℕ) (ask : OpenAsk) (line : OpenLine) → (IsStartupAsk hart ask → ⊥) → IsExpected w past hart ask line None
+  expects_no_other hart ask line other = record { may = tt; only = λ files answer told said allowed. absurd (other (may_ask hart ask answer allowed)) }
+
+-- what the program's plan gives
+module _ (one : OneOpening) (w : Setting) (setup : Setup) (line : OpenLine) (read : failed_path line ≡ None) where
+  pub first_plan : (n : NewObjects) → PlansNew w (after []) 0 (program_ask setup) setup.program 0 n → IsExpectedFirst w (program_ask setup) line (Some (brought 0 (program_ask setup) 0 n))
+  first_plan n is = expects_plan w [] 0 (program_ask setup) setup.program 0 (λ begins. start_ask setup) (start_named setup) one line read (plans.New n) is
+
+  pub first_none : (why : Unopened) → IsCertain why → IsUnopened w (after []) 0 (program_ask setup) why → IsExpectedFirst w (program_ask setup) line (unplanned 0 (program_ask setup) why)
+  first_none why certain is = expects_none w [] 0 (program_ask setup) setup.program 0 (λ begins. start_ask setup) (start_named setup) one line read why certain is
+
+-- what startup asks for, by its setup
+pub asks_so : (ask : OpenAsk) (name : List ℕ) (now : Bool) → IsStartupAsk 0 ask → ask.name ≡ Some name → now ≡ (ask.flags == 0x102)
+    → ask ≡ record { ns = Some 0; name = Some name; flags = if now then 0x102 else 0x101 }
+asks_so ask name now x named is =
+    ap (λ n. record ask { ns = n }) x.base ∙ ap (λ n. record ask { ns = Some 0; name = n }) named
+    ∙ ap (λ f. record { ns = Some 0; name = Some name; flags = f }) (by x.flags ∙ ap (λ (b : Bool). if b then 0x102 else 0x101) (sym is))
+  where
+    by : (ask.flags ≡ 0x101) ⊎ (ask.flags ≡ 0x102) → ask.flags ≡ (if ask.flags == 0x102 then 0x102 else 0x101)
+    by (inl f) = f ∙ sym (ap (λ (n : ℕ). if n == 0x102 then 0x102 else 0x101) f)
+    by (inr f) = f ∙ sym (ap (λ (n : ℕ). if n == 0x102 then 0x102 else 0x101) f)

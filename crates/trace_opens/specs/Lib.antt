@@ -1,0 +1,2 @@
+pub mod FailedPaths
+pub mod OpeningRows
