@@ -10,9 +10,9 @@ use Rattle.history_calls.specs.Served.{AreInstalls}
 use Rattle.link_state.specs.Table.{LinkTable, appended}
 use Rattle.history_state.specs.State.{State}
 use Rattle.history_state.specs.Step.{open_done, step}
-use Rattle.link_open_brings.specs.Brought.{IsBrought, OfLists}
-use Rattle.link_open_brings.specs.declared.bringing.Brings.{Brings}
-use Rattle.link_open_brings.specs.declared.bringing.Planned.{Planned}
+use Rattle.link_holds.specs.OpeningBrings.Brought.{IsBrought, OfLists}
+use Rattle.link_holds.specs.declared.opening_brings.bringing.Brings.{Brings}
+use Rattle.link_holds.specs.declared.opening_brings.bringing.Planned.{Planned}
 
 -- ---- what was brought, over plain lists
 

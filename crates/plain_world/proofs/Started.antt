@@ -18,7 +18,7 @@ use Rattle.link_state.specs.Table.{LinkTable}
 use Rattle.link_open_plan.specs.Startup.{run_of}
 use Rattle.hart_moves.specs.Starting.{starting_harts}
 use Rattle.hart_seat.specs.Table.{HartTable}
-use Rattle.world_returns.specs.Settling.{harts_in}
+use Rattle.world_answers.specs.ReturnsPart.Settling.{harts_in}
 use Rattle.world_guests.specs.GuestWorlds.Laws.{StartIsAt}
 use Rattle.world_guests.specs.GuestWorlds.Worlds.{MayBeAt, world_of}
 use Rattle.rv_hart.specs.declared.doubleword.Doubleword.{Doubleword}

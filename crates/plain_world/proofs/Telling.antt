@@ -7,7 +7,7 @@ use Rattle.link_state.specs.Table.{LinkTable}
 use Rattle.rv_hart.specs.declared.doubleword.Doubleword.{Doubleword}
 use Rattle.hart_moves.specs.Due.{due}
 use Rattle.hart_seat.specs.Table.{HartTable}
-use Rattle.world_returns.specs.Settling.{harts_in}
+use Rattle.world_answers.specs.ReturnsPart.Settling.{harts_in}
 use Rattle.world_guests.specs.GuestWorlds.Worlds.{world_of}
 use Rattle.world_guests.specs.declared.guest_worlds.turn.Turn.{Turn}
 use Rattle.world_guests.specs.Lemmas.Turns.{counts_nothing, opens_nothing, tells_nothing}

@@ -20,8 +20,8 @@ use hart_seat::LinkedHart;
 use history_event::HartEntry;
 use link_state::LinkState;
 use std::alloc::Global;
+use world_answers::settle_all;
 use world_guests::{Beginning, begin_finals, guests_may_turn, runs_stay};
-use world_returns::settle_all;
 
 impl World {
     /// The final destructors begin, where each hart has ended by exit, an object is left, and they haven't begun

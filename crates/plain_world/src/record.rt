@@ -3,7 +3,7 @@
 ghost use Rattle.std.specs.Prelude.{◌≡◌, ◌≤◌, [], length, Some, IsTrue};
 ghost use Rattle.std.specs.List.{list_all};
 ghost use Rattle.std.specs.Vec.{vec_capacity};
-ghost use Rattle.world_returns.specs.Settling.{harts_in};
+ghost use Rattle.world_answers.specs.ReturnsPart.Settling.{harts_in};
 ghost use Rattle.plain_world.specs.Ends.{AreEndsOf};
 ghost use Rattle.world_turns.specs.Run.{has_ended, have_ended};
 

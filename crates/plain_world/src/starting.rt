@@ -12,7 +12,7 @@ ghost use Rattle.history_calls.specs.declared.link_served.startup.Setup.{Setup a
 ghost use Rattle.history_calls.specs.Startup.{Starts, harts_of};
 ghost use Rattle.link_startup.specs.Startup.{IsNotStarted, StartsWhole, startup_refusal};
 ghost use Rattle.link_open_plan.specs.Startup.{run_of};
-ghost use Rattle.world_returns.specs.Settling.{harts_in};
+ghost use Rattle.world_answers.specs.ReturnsPart.Settling.{harts_in};
 ghost use Rattle.world_guests.specs.Counting.{counts_at};
 ghost use Rattle.plain_world.specs.Started.{BringsFirst, IsFirstMemory, StartsAt, start_events};
 ghost use Rattle.world_turns.specs.Counts.{ShowInCounts};

@@ -10,3 +10,4 @@ pub mod Plain
 pub mod Quiet
 pub mod Turned
 pub mod Waits
+pub mod ReturnsPart

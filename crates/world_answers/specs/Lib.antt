@@ -2,3 +2,4 @@ pub mod Answers
 pub mod Faults
 pub mod Openings
 pub mod Served
+pub mod ReturnsPart

@@ -1,4 +1,4 @@
-//! What the linker answers the call that a hart's next turn is.
+//! What the linker answers the call that a hart's next turn is, and what the answer makes of its hart.
 //!
 //! [`answer`] asks the hart what its next turn is. An opening that waits for another hart's object is none
 //! while [`awaited`] says that it waits. Where the turn is a service it makes the call over the
@@ -18,6 +18,7 @@ mod law;
 mod locating;
 mod looking;
 mod opening;
+mod returns;
 mod served;
 mod telling;
 mod waiting;
@@ -25,4 +26,7 @@ mod writing;
 
 pub use answering::answer;
 pub use law::ends_are_few;
+pub use returns::{
+    FinalTurn, begin, complete, finals_go_on, settle_all, settling_keeps_finals, take_answer,
+};
 pub use waiting::awaited;

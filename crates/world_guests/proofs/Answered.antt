@@ -31,7 +31,7 @@ use Rattle.world_memory.specs.declared.turn_answers.answered.Answered.TheVariant
 use Rattle.world_memory.specs.declared.turn_answers.answered.MemoryChange.{MemoryChange}
 use Rattle.world_answers.specs.Answers.{AnswersDue}
 use Rattle.world_answers.specs.Openings.{TurnRefusalIsCounted}
-use Rattle.world_returns.specs.Answering.{WasAnswered, runs_functions}
+use Rattle.world_answers.specs.ReturnsPart.Answering.{WasAnswered, runs_functions}
 use Rattle.world_guests.specs.declared.guest_worlds.turn.Turn.{Turn}
 use Rattle.world_guests.specs.declared.guest_worlds.turn.Turn.TheVariants as turn
 use Rattle.world_guests.specs.Asking.{may_run_by, may_run_functions}

@@ -20,15 +20,15 @@ use Rattle.hart_moves.specs.Due.{Due, due}
 use Rattle.hart_moves.specs.Harts.{HartState, Resolving}
 use Rattle.hart_moves.specs.Moves.{Did, Finalises, MovesAs, did_by, events_of, freed, settles}
 use Rattle.hart_seat.specs.Table.{HartTable}
-use Rattle.world_returns.specs.FinalTurns.Laws.{SettlingKeepsPlans}
-use Rattle.world_returns.specs.FinalTurns.Planned.{FinalsMayFollow, FinalsMayFollowIn, IsPlanned}
-use Rattle.world_returns.specs.FinalTurns.Table.{FinalPlan, finis, plan_events}
+use Rattle.world_answers.specs.ReturnsPart.FinalTurns.Laws.{SettlingKeepsPlans}
+use Rattle.world_answers.specs.ReturnsPart.FinalTurns.Planned.{FinalsMayFollow, FinalsMayFollowIn, IsPlanned}
+use Rattle.world_answers.specs.ReturnsPart.FinalTurns.Table.{FinalPlan, finis, plan_events}
 use Rattle.world_guests.specs.GuestWorlds.Coming.{HasEnd, LeavesHart}
 use Rattle.world_guests.specs.GuestWorlds.Laws.{FinalsNow, MayGoOn, SettlesNow}
 use Rattle.world_guests.specs.GuestWorlds.Worlds.{MayBeAt, setting_without, world_of}
 use Rattle.world_guests.specs.declared.guest_worlds.turn.Turn.{Turn as CameTurn}
 use Rattle.world_guests.specs.Lemmas.Places.{freed_are, read_at, written_at}
-use Rattle.world_returns.specs.Settling.{freed_in, harts_in}
+use Rattle.world_answers.specs.ReturnsPart.Settling.{freed_in, harts_in}
 use Rattle.world_memory.specs.TurnAnswers.Changes.{LeaveMemory}
 use Rattle.world_memory.specs.TurnParts.Freed.{FreedIsDue}
 use Rattle.world_memory.specs.TurnParts.Leaving.{AllStay, OthersLeave}

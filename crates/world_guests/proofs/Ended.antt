@@ -16,7 +16,7 @@ use Rattle.world_guests.specs.GuestWorlds.Laws.{EndsNow, ServiceTurns, SettlesNo
 use Rattle.world_guests.specs.GuestWorlds.Worlds.{MayEndNow, setting_without}
 use Rattle.history_journal.specs.Following.{MayFollow}
 use Rattle.link_state.specs.Table.{LinkTable}
-use Rattle.world_returns.specs.Settling.{freed_in, harts_in}
+use Rattle.world_answers.specs.ReturnsPart.Settling.{freed_in, harts_in}
 use Rattle.world_memory.specs.TurnAnswers.Following.{MayFollowAll}
 use Rattle.world_memory.specs.TurnParts.Leaving.{AllStay, OthersLeave}
 use Rattle.world_turns.specs.WorldEnds.Lemmas.Places.{freed_here, set_here}

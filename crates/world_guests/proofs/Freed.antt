@@ -14,8 +14,8 @@ use Rattle.hart_moves.specs.Harts.{HartState, Resolving}
 use Rattle.hart_moves.specs.Moves.{freed, settled_resolving}
 use Rattle.hart_seat.specs.Table.{HartTable}
 use Rattle.world_answers.specs.Answers.{is_service, is_wait}
-use Rattle.world_returns.specs.Completing.{is_complete}
-use Rattle.world_returns.specs.Settling.{freed_in, harts_in}
+use Rattle.world_answers.specs.ReturnsPart.Completing.{is_complete}
+use Rattle.world_answers.specs.ReturnsPart.Settling.{freed_in, harts_in}
 use Rattle.world_guests.specs.Asking.{asks_linker, is_called}
 
 -- ---- as lists

@@ -13,7 +13,7 @@ use Rattle.world_guests.specs.GuestWorlds.Coming.{LeavesHart}
 use Rattle.world_guests.specs.GuestWorlds.Worlds.{IsSomewhere, TurnsOn, world_of}
 use Rattle.world_guests.specs.declared.guest_worlds.turn.Turn.{Turn}
 use Rattle.world_guests.specs.Lemmas.Places.{put_here, read_at, set_same, written_at}
-use Rattle.world_returns.specs.Settling.{harts_in}
+use Rattle.world_answers.specs.ReturnsPart.Settling.{harts_in}
 use Rattle.world_turns.specs.World.{World}
 use Rattle.world_guests.specs.Last.{HasRoom, IsLast, IsSomewhereIn}
 

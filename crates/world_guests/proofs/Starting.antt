@@ -16,7 +16,7 @@ use Rattle.hart_seat.specs.Table.{HartTable}
 use Rattle.link_state.specs.Table.{LinkTable}
 use Rattle.rv_hart.specs.Registers.{Registers}
 use Rattle.world_guests.specs.Lemmas.Places.{read_at, set_same, some_stands, written_at}
-use Rattle.world_returns.specs.Settling.{harts_in}
+use Rattle.world_answers.specs.ReturnsPart.Settling.{harts_in}
 use Rattle.world_guests.specs.declared.beginning.Beginning.{Beginning}
 use Rattle.world_guests.specs.declared.beginning.Beginning.TheVariants as begins_as
 use Rattle.world_guests.specs.Ending.{EndsAmong}

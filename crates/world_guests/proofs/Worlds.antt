@@ -17,8 +17,8 @@ use Rattle.hart_moves.specs.Moves.{events_of, freed}
 use Rattle.hart_seat.specs.Table.{HartTable}
 use Rattle.world_memory.specs.TurnParts.Freed.{FreedIsDue, FreedTakesTurns}
 use Rattle.world_answers.specs.Answers.{is_service}
-use Rattle.world_returns.specs.Completing.{MayPass, is_complete}
-use Rattle.world_returns.specs.Settling.{freed_in, harts_in}
+use Rattle.world_answers.specs.ReturnsPart.Completing.{MayPass, is_complete}
+use Rattle.world_answers.specs.ReturnsPart.Settling.{freed_in, harts_in}
 use Rattle.world_turns.specs.Run.{settled}
 use Rattle.world_turns.specs.Turn.{Turn as one_turn}
 use Rattle.world_turns.specs.World.{settling}

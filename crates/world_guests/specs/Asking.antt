@@ -6,7 +6,7 @@ use Rattle.history_calls.specs.Call.{Call, opens, closes}
 use Rattle.hart_moves.specs.Due.{Due, due}
 use Rattle.hart_moves.specs.Harts.{HartState}
 use Rattle.world_answers.specs.Answers.{is_service, is_wait}
-use Rattle.world_returns.specs.Completing.{is_complete}
+use Rattle.world_answers.specs.ReturnsPart.Completing.{is_complete}
 use Rattle.world_turns.specs.World.{World}
 use Rattle.world_guests.specs.declared.asking.Asked.{Asked}
 use Rattle.world_guests.specs.declared.asking.Asked.TheVariants as asked

@@ -15,7 +15,7 @@ use Rattle.world_guests.specs.GuestWorlds.Worlds.{IsSomewhere, world_of}
 use Rattle.world_guests.specs.declared.guest_worlds.turn.Turn.{Turn}
 use Rattle.world_guests.specs.declared.guest_worlds.turn.Turn.TheVariants as turn
 use Rattle.world_guests.specs.Asking.{is_final}
-use Rattle.world_returns.specs.Settling.{freed_in, harts_in}
+use Rattle.world_answers.specs.ReturnsPart.Settling.{freed_in, harts_in}
 use Rattle.world_turns.specs.World.{settling}
 
 -- the linker's state and the harts are those of a run, with some guest memory

@@ -6,7 +6,7 @@ ghost use Rattle.world_guests.specs.GuestWorlds.Worlds.{world_of};
 ghost use Rattle.hart_moves.specs.Starting.{starting_registers};
 ghost use Rattle.world_guests.specs.Begins.{BeginsWith, IsBeforeFinals, LacksMemoryOn, begun_if};
 ghost use Rattle.rv_hart.specs.declared.doubleword.Doubleword.{Doubleword};
-ghost use Rattle.world_returns.specs.Settling.{harts_in};
+ghost use Rattle.world_answers.specs.ReturnsPart.Settling.{harts_in};
 ghost use Rattle.world_turns.specs.WorldEnds.Ends.{has_exited};
 ghost use Rattle.world_turns.specs.Run.{exit_code};
 
@@ -17,7 +17,7 @@ use history_event::{HartEnd, HartEntry};
 use ld_base::HartId;
 use link_state::LinkState;
 use std::alloc::Global;
-use world_returns::begin;
+use world_answers::begin;
 
 /// How the final destructors of a run begin.
 #[derive(Clone, Copy, PartialEq, Eq)]

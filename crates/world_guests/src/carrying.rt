@@ -1,8 +1,8 @@
 //! A planned turn is carried out.
 
 ghost use Rattle.std.specs.Prelude.{◌≡◌, ℕ, ◌<◌, List, length};
-ghost use Rattle.world_returns.specs.FinalTurns.Planned.{IsPlanned};
-ghost use Rattle.world_returns.specs.FinalTurns.Table.{plan_events};
+ghost use Rattle.world_answers.specs.ReturnsPart.FinalTurns.Planned.{IsPlanned};
+ghost use Rattle.world_answers.specs.ReturnsPart.FinalTurns.Table.{plan_events};
 ghost use Rattle.world_guests.specs.GuestWorlds.Coming.{LeavesHart};
 ghost use Rattle.world_guests.specs.GuestWorlds.Worlds.{TurnsOn, world_of};
 ghost use Rattle.hart_moves.specs.Moves.{did_by};
@@ -10,7 +10,7 @@ ghost use Rattle.world_guests.specs.Last.{HasRoom, IsLast, IsSomewhereIn, Settle
 ghost use Rattle.world_guests.specs.Next.{NeverWaits};
 ghost use Rattle.history_state.specs.After.{after};
 ghost use Rattle.rv_hart.specs.declared.doubleword.Doubleword.{Doubleword};
-ghost use Rattle.world_returns.specs.Settling.{harts_in};
+ghost use Rattle.world_answers.specs.ReturnsPart.Settling.{harts_in};
 ghost use Rattle.world_memory.specs.TurnAnswers.Following.{MayFollowAll};
 ghost use Rattle.world_turns.specs.World.{settling};
 
@@ -18,8 +18,8 @@ use crate::guest_worlds::{Turn, guests_may_turn};
 use hart_seat::LinkedHart;
 use ld_base::HartId;
 use link_state::LinkState;
+use world_answers::{FinalTurn, settle_all, settling_keeps_finals};
 use world_memory::{freed_harts_move, others_leave_memory};
-use world_returns::{FinalTurn, settle_all, settling_keeps_finals};
 
 /// Carries out the turn of a hart that is planned so.
 pub(crate) fn carry_out(

@@ -4,7 +4,7 @@ ghost use Rattle.std.specs.Prelude.{◌≡◌, ◌<◌, ◌++◌, [], ◌∷◌,
 ghost use Rattle.world_guests.specs.GuestWorlds.Worlds.{MayEndNow};
 ghost use Rattle.history_event.specs.declared.event.Event.TheVariants.{Ended};
 ghost use Rattle.world_guests.specs.Ending.{EndsAmong, Stops};
-ghost use Rattle.world_returns.specs.Settling.{harts_in};
+ghost use Rattle.world_answers.specs.ReturnsPart.Settling.{harts_in};
 ghost use Rattle.world_memory.specs.TurnAnswers.Following.{MayFollowAll};
 ghost use Rattle.world_turns.specs.World.{settling};
 
@@ -13,7 +13,7 @@ use hart_seat::LinkedHart;
 use history_event::HartEnd;
 use ld_base::HartId;
 use link_state::LinkState;
-use world_returns::settle_all;
+use world_answers::settle_all;
 
 /// A hart ends: each grant whose hart is done with it is settled first, and then the end is noted.
 pub fn end_hart(

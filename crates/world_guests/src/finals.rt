@@ -1,7 +1,7 @@
 //! Turns in which final destructors have run.
 
 ghost use Rattle.std.specs.Prelude.{◌≡◌, ◌<◌, List, length, IfNone, IfOk, IfSome, OnOk, OnSome, IsTrue};
-ghost use Rattle.world_returns.specs.FinalTurns.Planned.{IsPlanned};
+ghost use Rattle.world_answers.specs.ReturnsPart.FinalTurns.Planned.{IsPlanned};
 ghost use Rattle.world_guests.specs.GuestWorlds.Coming.{LeavesHart};
 ghost use Rattle.world_guests.specs.GuestWorlds.Worlds.{TurnsOn, world_of};
 ghost use Rattle.world_guests.specs.Last.{HasNoFinal, IsLastOfAny, IsSomewhereIn};
@@ -9,7 +9,7 @@ ghost use Rattle.world_guests.specs.Next.{NeverWaits, NextIsNoCall};
 ghost use Rattle.history_state.specs.After.{after};
 ghost use Rattle.history_state.specs.Objects.{has};
 ghost use Rattle.rv_hart.specs.declared.doubleword.Doubleword.{Doubleword};
-ghost use Rattle.world_returns.specs.Settling.{harts_in};
+ghost use Rattle.world_answers.specs.ReturnsPart.Settling.{harts_in};
 
 use crate::carrying::carry_out;
 use crate::ending::end_hart;
@@ -21,7 +21,7 @@ use history_event::HartEnd;
 use ld_base::HartId;
 use link_state::LinkState;
 use std::alloc::{AllocError, Global};
-use world_returns::FinalTurn;
+use world_answers::FinalTurn;
 
 /// Takes the next turn of a hart, if it is the one in which the final destructors of an object have run. Where
 /// there is no memory for it the hart ends. Guest memory stays as it is. If it is another turn, nothing has

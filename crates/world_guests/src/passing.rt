@@ -1,7 +1,7 @@
 //! Objects whose functions have run.
 
 ghost use Rattle.std.specs.Prelude.{◌≡◌, true, List};
-ghost use Rattle.world_returns.specs.Completing.{MayPass, is_complete};
+ghost use Rattle.world_answers.specs.ReturnsPart.Completing.{MayPass, is_complete};
 ghost use Rattle.hart_moves.specs.Due.{due};
 ghost use Rattle.history_state.specs.After.{after};
 ghost use Rattle.rv_hart.specs.declared.doubleword.Doubleword.{Doubleword};
@@ -13,8 +13,8 @@ use crate::outcome::outcome;
 use hart_seat::LinkedHart;
 use ld_base::HartId;
 use link_state::LinkState;
+use world_answers::complete;
 use world_memory::others_leave_memory;
-use world_returns::complete;
 
 /// The turn in which the functions of an object have run. Memory stays as it is.
 pub(crate) fn pass(state: &mut LinkState, hart: &mut LinkedHart, id: HartId) -> Turn

@@ -5,7 +5,7 @@ ghost use Rattle.world_guests.specs.GuestWorlds.Coming.{LeavesHart};
 ghost use Rattle.world_guests.specs.GuestWorlds.Worlds.{IsSomewhere, TakesOn, world_of};
 ghost use Rattle.world_guests.specs.Asking.{NeedsLinker};
 ghost use Rattle.world_guests.specs.Next.{NeverWaits, NextIsNoCall};
-ghost use Rattle.world_returns.specs.Settling.{harts_in};
+ghost use Rattle.world_answers.specs.ReturnsPart.Settling.{harts_in};
 
 use crate::alone::take_alone;
 use crate::ending::end_hart;

@@ -15,8 +15,8 @@ use ld_base::{HartId, Names};
 use library_source::Library;
 use link_state::LinkState;
 use std::alloc::Global;
+use world_answers::settle_all;
 use world_memory::{PlainMemory, freed_harts_move};
-use world_returns::settle_all;
 
 /// Takes the next turn of a hart, if it is a call of the linker, or the one in which the functions of an
 /// object have run, those of the final destructors apart. Each grant that a hart is done with is settled

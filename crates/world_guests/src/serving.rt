@@ -1,7 +1,7 @@
 //! Calls.
 
 ghost use Rattle.std.specs.Prelude.{◌≡◌, ◌<◌, ◌≤◌, true, IsTrue, OnErr, OnOk};
-ghost use Rattle.world_returns.specs.Answering.{runs_functions};
+ghost use Rattle.world_answers.specs.ReturnsPart.Answering.{runs_functions};
 ghost use Rattle.world_answers.specs.Answers.{AnswersDue};
 ghost use Rattle.world_answers.specs.Openings.{TurnReadsNothing, TurnRefusalIsCounted};
 ghost use Rattle.world_guests.specs.GuestWorlds.Worlds.{MayEndNow};
@@ -28,9 +28,8 @@ use ld_base::{HartId, Names, Shown};
 use library_source::Library;
 use link_state::LinkState;
 use std::alloc::{AllocError, Global};
-use world_answers::{answer, awaited};
+use world_answers::{answer, awaited, take_answer};
 use world_memory::{Answered, PlainMemory};
-use world_returns::take_answer;
 
 /// The turn of a hart that has called the linker. While what its opening waits for is so, it waits, and nothing
 /// is asked; else the call is made.

@@ -11,7 +11,7 @@ ghost use Rattle.history_state.specs.Step.{binds, seen_after};
 ghost use Rattle.history_calls.specs.Served.{AreInstalls, InstallsNothing};
 ghost use Rattle.link_state.specs.Opening.{AreChosen, IsPut, event_of};
 ghost use Rattle.link_state.specs.Table.{appended};
-ghost use Rattle.link_open_brings.specs.Brought.{IsBrought, OfLists, done};
+ghost use Rattle.link_holds.specs.OpeningBrings.Brought.{IsBrought, OfLists, done};
 ghost use Rattle.link_open_images.specs.Relocated.{AreChoices};
 
 use crate::LinkState;
@@ -19,9 +19,10 @@ use history_calls::Installs;
 use history_event::{ChoiceLists, Choices, OpenAnswer, OpenAsk, Opening, Ranges};
 use history_state::edges_follow;
 use ld_base::{Added, HartId, NsId, Serial};
-use link_holds::{OpeningCounts, absent_event, nothing, opened_event, room_for_opening};
+use link_holds::{
+    Brings, OpeningCounts, Planned, absent_event, nothing, opened_event, prepare, room_for_opening,
+};
 use link_lists::{Copied, is_global, is_now};
-use link_open_brings::{Brings, Planned, prepare};
 use link_open_images::{hold_all, keep_all, reserve_all};
 use link_open_laws::{closings_take_as_much, new_ranges_are_laid};
 use link_spaces::namespaces_are_numbered_apart;

@@ -22,8 +22,8 @@ use Rattle.world_turns.proofs.WorldEnds.Turns.{finals_are, settled_before}
 use Rattle.world_turns.specs.WorldFrames.Laws.{FinalsPass}
 use Rattle.world_turns.specs.RunningWorlds.Laws.{CompletesPass, FinalisesMay, HartsMayEnd, IdleIsFree, MayFinalise, SettledRuns, UnmapsFinished}
 use Rattle.world_turns.specs.RunningWorlds.Running.{IsRunning}
-use Rattle.world_returns.specs.Completing.{MayPass}
-use Rattle.world_returns.specs.FinalTurns.Laws.{FinalsGoOn}
+use Rattle.world_answers.specs.ReturnsPart.Completing.{MayPass}
+use Rattle.world_answers.specs.ReturnsPart.FinalTurns.Laws.{FinalsGoOn}
 use Rattle.world_guests.specs.GuestWorlds.Laws.{CallsNow, EndsNow, FinalsNow, FirstEndsNow, PassesNow, SettlesNow}
 use Rattle.world_guests.specs.GuestWorlds.Worlds.{MayEndNow, setting_without}
 use Rattle.world_guests.proofs.GuestWorlds.Dues.{HasTurn, has_turn}

@@ -17,8 +17,8 @@ use Rattle.hart_moves.specs.Due.{Due, Return, due}
 use Rattle.hart_moves.specs.Harts.{HartState}
 use Rattle.hart_moves.specs.Moves.{Did, Moves, events_of, freed, settles}
 use Rattle.world_answers.specs.Answers.{HasFinishedFirst, WritesSome}
-use Rattle.world_returns.specs.Completing.{MayPass}
-use Rattle.world_returns.specs.FinalTurns.Planned.{FinalsMayFollow}
+use Rattle.world_answers.specs.ReturnsPart.Completing.{MayPass}
+use Rattle.world_answers.specs.ReturnsPart.FinalTurns.Planned.{FinalsMayFollow}
 use Rattle.world_memory.specs.TurnAnswers.Following.{MayFollowAll}
 use Rattle.world_turns.specs.Memory.{Does}
 use Rattle.world_turns.specs.Run.{RunBegins, IsStarted, LacksMemory, harts_have_exited, settled}

@@ -12,7 +12,7 @@ use Rattle.history_calls.specs.CallLaws.Coming.{IsOn, IsOver}
 use Rattle.hart_seat.specs.Table.{HartTable}
 use Rattle.rv_hart.specs.declared.doubleword.Doubleword.{Doubleword}
 use Rattle.world_turns.specs.RunningWorlds.Running.{IsRunning}
-use Rattle.world_returns.specs.Settling.{harts_in}
+use Rattle.world_answers.specs.ReturnsPart.Settling.{harts_in}
 use Rattle.world_turns.specs.TurnWrites.Writing.{WorldWrites}
 use Rattle.world_turns.specs.WorldEnds.Ends.{BeforeFinals}
 use Rattle.world_turns.specs.Turn.{TakesTurn, Turn}

@@ -7,7 +7,7 @@ use Rattle.history_event.specs.declared.event.Event.{Event}
 use Rattle.hart_moves.specs.Harts.{HartState, Resolving}
 use Rattle.hart_moves.specs.Moves.{freed}
 use Rattle.hart_seat.specs.Table.{HartTable}
-use Rattle.world_returns.specs.Settling.{freed_in, harts_in}
+use Rattle.world_answers.specs.ReturnsPart.Settling.{freed_in, harts_in}
 use Rattle.world_turns.specs.World.{settled_by, settling}
 
 -- ---- harts as whoever keeps them has them

@@ -25,7 +25,7 @@ use Rattle.world_guests.specs.GuestWorlds.Laws.{QuietTurns}
 use Rattle.world_guests.specs.GuestWorlds.Worlds.{IsSomewhere, MayEndNow, world_of}
 use Rattle.world_guests.specs.declared.guest_worlds.turn.Turn.{Turn as CameTurn}
 use Rattle.world_guests.specs.declared.guest_worlds.turn.Turn.TheVariants as came_as
-use Rattle.world_returns.specs.Settling.{harts_in}
+use Rattle.world_answers.specs.ReturnsPart.Settling.{harts_in}
 use Rattle.world_memory.specs.TurnAnswers.Following.{MayFollowAll}
 use Rattle.world_turns.specs.WorldEnds.Lemmas.Places.{freed_here, reason_of, set_here}
 use Rattle.world_turns.specs.Run.{settled}

@@ -27,7 +27,7 @@ pub fn guests_may_turn()
     world_turns::worlds_keep_writes();
     world_turns::finals_may_pass();
     world_answers::ends_are_few();
-    world_returns::finals_go_on();
+    world_answers::finals_go_on();
 }
 
 /// A run is at a moment when it starts, behind each turn, and when its final destructors begin or lack memory.

@@ -1,6 +1,6 @@
 use Rattle.std.proofs.Common.{◌≡◌, take}
 use Rattle.std.specs.Vec.{vec_capacity, vec_len}
-use Rattle.world_returns.specs.Settling.{harts_in}
+use Rattle.world_answers.specs.ReturnsPart.Settling.{harts_in}
 use Rattle.plain_world.specs.Ends.{AreEndsOf}
 use Rattle.plain_world.proofs.record.ends_of.Given as goal
 

@@ -1,6 +1,6 @@
 use Rattle.std.proofs.Common.{◌≡◌, map, take}
 use Rattle.hart_moves.specs.Starting.{starting_hart}
-use Rattle.world_returns.specs.Settling.{harts_in}
+use Rattle.world_answers.specs.ReturnsPart.Settling.{harts_in}
 use Rattle.plain_world.proofs.starting.harts_at.Given as goal
 
 -- those of the entries so far

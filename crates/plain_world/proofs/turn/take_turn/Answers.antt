@@ -3,7 +3,7 @@ use Rattle.world_guests.specs.GuestWorlds.Coming.{LeavesHart}
 use Rattle.world_guests.specs.GuestWorlds.Worlds.{TakesOver, world_of}
 use Rattle.world_guests.specs.Counting.{IsCounted, counts_at}
 use Rattle.world_guests.specs.Next.{NextOpens, NextReadsNothing, NextTells}
-use Rattle.world_returns.specs.Settling.{harts_in}
+use Rattle.world_answers.specs.ReturnsPart.Settling.{harts_in}
 use Rattle.world_turns.specs.Counts.{Counts}
 use Rattle.world_turns.specs.Turn.{TakesTurn}
 use Rattle.world_turns.specs.World.{World}

@@ -1,6 +1,6 @@
 use Rattle.std.proofs.Common.{◌++◌, ◌<◌, ℕ, length, sym, subst}
 use Rattle.world_guests.specs.GuestWorlds.Worlds.{MayEndNow}
-use Rattle.world_returns.specs.Settling.{harts_in}
+use Rattle.world_answers.specs.ReturnsPart.Settling.{harts_in}
 use Rattle.world_turns.specs.World.{settling}
 use Rattle.world_guests.proofs.Starting.{first_may, lacks_now}
 use Rattle.world_guests.proofs.beginning.lack_memory.Goals as goal

@@ -8,7 +8,7 @@ use Rattle.world_guests.specs.declared.guest_worlds.turn.Turn.TheVariants as cam
 use Rattle.world_guests.specs.Alone.{IsToEnd}
 use Rattle.world_guests.specs.Lemmas.Places.{read_at}
 use Rattle.world_guests.specs.Lemmas.Turns.{came_to_end, may_end, took_its_end}
-use Rattle.world_returns.specs.Settling.{harts_in}
+use Rattle.world_answers.specs.ReturnsPart.Settling.{harts_in}
 use Rattle.world_turns.specs.World.{settling}
 use Rattle.world_guests.proofs.Lasting.{is_to_end, runs_last}
 use Rattle.world_guests.proofs.Places.{due_here}

@@ -6,7 +6,7 @@ use Rattle.hart_turns.specs.declared.turned.Turned.{Turned}
 use Rattle.world_answers.specs.Answers.{is_service}
 use Rattle.world_guests.specs.GuestWorlds.Worlds.{world_of}
 use Rattle.world_guests.specs.declared.guest_worlds.turn.Turn.TheVariants as came_as
-use Rattle.world_returns.specs.Settling.{harts_in}
+use Rattle.world_answers.specs.ReturnsPart.Settling.{harts_in}
 use Rattle.world_turns.specs.Run.{settled}
 use Rattle.world_turns.specs.Turn.{TakesTurn}
 use Rattle.world_turns.specs.World.{World, settling}

@@ -21,7 +21,7 @@ use Rattle.link_holds.specs.Holding.{HoldsAll, Lists}
 use Rattle.link_state.specs.Inside.{lists_of}
 use Rattle.link_state.specs.Table.{LinkTable}
 use Rattle.link_holds.specs.Lemmas.Held.{holds_after}
-use Rattle.link_open_brings.specs.Brought.{OfLists}
+use Rattle.link_holds.specs.OpeningBrings.Brought.{OfLists}
 use Rattle.link_holds.specs.Lemmas.Opened.{all_opened, all_with_room, notes_over}
 use Rattle.link_state.proofs.state.LinkState.take_in.Goals as goal
 
