@@ -19,10 +19,10 @@ use Rattle.history_calls.specs.CallLaws.Counts.{ArePathsAtStart, ShowsInCounts}
 use Rattle.history_journal.specs.Following.{machine_of}
 use Rattle.history_calls.specs.CallLaws.Coming.{IsOver}
 use Rattle.rv_hart.specs.Registers.{Registers}
-use Rattle.world_guests.specs.GuestWorlds.Worlds.{TakesOver}
-use Rattle.world_guests.specs.Counting.{IsCounted, RefusesNone, Rise, TurnsAreCounted, counts_at, is_refusal}
-use Rattle.world_guests.specs.Lemmas.Counting.{both_spare, counted_more, none_counted, refusal_shows, same_counts, settling_spares, spare_counts, unmoved}
-use Rattle.world_guests.specs.Next.{NextRefusalIsCounted}
+use Rattle.world_answers.specs.GuestsPart.GuestWorlds.Worlds.{TakesOver}
+use Rattle.world_answers.specs.GuestsPart.Counting.{IsCounted, RefusesNone, Rise, TurnsAreCounted, counts_at, is_refusal}
+use Rattle.world_answers.specs.GuestsPart.Lemmas.Counting.{both_spare, counted_more, none_counted, refusal_shows, same_counts, settling_spares, spare_counts, unmoved}
+use Rattle.world_answers.specs.GuestsPart.Next.{NextRefusalIsCounted}
 use Rattle.world_turns.specs.Counts.{Counts, ShowInCounts, has_candidate}
 use Rattle.world_turns.specs.Run.{RunBegins, LacksMemory, settled}
 use Rattle.world_turns.specs.Turn.{TakesTurn}

@@ -14,7 +14,7 @@ use Rattle.rv_hart.specs.Registers.{Registers}
 use Rattle.hart_moves.specs.Harts.{HartState, is_startup_frame}
 use Rattle.hart_moves.specs.Moves.{freed, settles}
 use Rattle.world_turns.specs.declared.schedules.schedule.TurnItem.{TurnItem}
-use Rattle.world_guests.specs.GuestWorlds.Coming.{HasEnd}
+use Rattle.world_answers.specs.GuestsPart.GuestWorlds.Coming.{HasEnd}
 use Rattle.world_turns.specs.WorldEnds.Ends.{has_exited}
 use Rattle.world_turns.specs.WorldEnds.Lemmas.Places.{exited_ends}
 use Rattle.world_turns.specs.Run.{RunEnds, Finalises, LacksMemory, Repeats, Rounds, TakesItems, all_harts, has_ended, have_ended, is_starting, settled}

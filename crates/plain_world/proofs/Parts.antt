@@ -11,7 +11,7 @@ use Rattle.hart_moves.specs.Harts.{HartState}
 use Rattle.hart_moves.specs.Moves.{freed}
 use Rattle.hart_seat.specs.Table.{HartTable}
 use Rattle.world_answers.specs.ReturnsPart.Settling.{freed_in, harts_in}
-use Rattle.world_guests.specs.GuestWorlds.Worlds.{MayBeAt, TakesOn, TakesOver, world_of}
+use Rattle.world_answers.specs.GuestsPart.GuestWorlds.Worlds.{MayBeAt, TakesOn, TakesOver, world_of}
 use Rattle.world_turns.specs.Run.{has_ended, settled}
 use Rattle.world_turns.specs.World.{World, settling}
 use Rattle.plain_world.specs.Table.{WorldTable, moved}

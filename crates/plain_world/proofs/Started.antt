@@ -19,8 +19,8 @@ use Rattle.link_open_plan.specs.Startup.{run_of}
 use Rattle.hart_moves.specs.Starting.{starting_harts}
 use Rattle.hart_seat.specs.Table.{HartTable}
 use Rattle.world_answers.specs.ReturnsPart.Settling.{harts_in}
-use Rattle.world_guests.specs.GuestWorlds.Laws.{StartIsAt}
-use Rattle.world_guests.specs.GuestWorlds.Worlds.{MayBeAt, world_of}
+use Rattle.world_answers.specs.GuestsPart.GuestWorlds.Laws.{StartIsAt}
+use Rattle.world_answers.specs.GuestsPart.GuestWorlds.Worlds.{MayBeAt, world_of}
 use Rattle.rv_hart.specs.declared.doubleword.Doubleword.{Doubleword}
 use Rattle.world_memory.specs.TurnAnswers.Changes.{LeaveMemory}
 use Rattle.world_turns.specs.Memory.{RemakesAll}

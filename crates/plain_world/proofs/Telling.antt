@@ -8,10 +8,10 @@ use Rattle.rv_hart.specs.declared.doubleword.Doubleword.{Doubleword}
 use Rattle.hart_moves.specs.Due.{due}
 use Rattle.hart_seat.specs.Table.{HartTable}
 use Rattle.world_answers.specs.ReturnsPart.Settling.{harts_in}
-use Rattle.world_guests.specs.GuestWorlds.Worlds.{world_of}
-use Rattle.world_guests.specs.declared.guest_worlds.turn.Turn.{Turn}
-use Rattle.world_guests.specs.Lemmas.Turns.{counts_nothing, opens_nothing, tells_nothing}
-use Rattle.world_guests.specs.Next.{NeverWaits, NextIsNoCall, NextOpens, NextRefusalIsCounted, NextTells}
+use Rattle.world_answers.specs.GuestsPart.GuestWorlds.Worlds.{world_of}
+use Rattle.world_answers.specs.declared.guests.guest_worlds.turn.Turn.{Turn}
+use Rattle.world_answers.specs.GuestsPart.Lemmas.Turns.{counts_nothing, opens_nothing, tells_nothing}
+use Rattle.world_answers.specs.GuestsPart.Next.{NeverWaits, NextIsNoCall, NextOpens, NextRefusalIsCounted, NextTells}
 use Rattle.world_turns.specs.Run.{settled}
 use Rattle.world_turns.specs.World.{World}
 use Rattle.plain_world.specs.Inside.{table_of}

@@ -8,7 +8,7 @@ use Rattle.history_calls.specs.CallLaws.Coming.{IsOn}
 use Rattle.rv_hart.specs.declared.doubleword.Doubleword.{Doubleword}
 use Rattle.hart_moves.specs.Starting.{starting_registers}
 use Rattle.hart_seat.specs.Table.{HartTable}
-use Rattle.world_guests.specs.GuestWorlds.Worlds.{MayBeAt, world_of}
+use Rattle.world_answers.specs.GuestsPart.GuestWorlds.Worlds.{MayBeAt, world_of}
 use Rattle.plain_world.specs.Playing.{BeginsToFinalise, FinalisesOnce}
 
 -- a run has these parts

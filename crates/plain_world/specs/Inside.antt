@@ -1,7 +1,7 @@
 -- A run's parts in the code, as the definition has them.
 use Rattle.std.specs.Prelude.{◌≡◌, ◌≤◌, []}
 use Rattle.std.specs.Vec.{vec_capacity}
-use Rattle.world_guests.specs.GuestWorlds.Worlds.{MayBeAt, world_of}
+use Rattle.world_answers.specs.GuestsPart.GuestWorlds.Worlds.{MayBeAt, world_of}
 use Rattle.world_turns.specs.World.{World}
 use Rattle.plain_world.specs.Table.{WorldTable}
 use Rattle.plain_world.specs.declared.world.World.TheInside.{Inside}

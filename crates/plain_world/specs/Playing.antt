@@ -7,7 +7,7 @@ use Rattle.history_state.specs.Setting.{Setting}
 use Rattle.history_journal.specs.Following.{machine_of}
 use Rattle.history_calls.specs.CallLaws.Coming.{IsOver}
 use Rattle.world_turns.specs.declared.schedules.schedule.TurnItem.{TurnItem}
-use Rattle.world_guests.specs.GuestWorlds.Coming.{HasEnd}
+use Rattle.world_answers.specs.GuestsPart.GuestWorlds.Coming.{HasEnd}
 use Rattle.hart_moves.specs.Harts.{HartState}
 use Rattle.world_turns.specs.Run.{RunBegins, Constructs, Finalises, RunFinishes, TakesItems, has_ended, harts_have_exited, is_starting, settled}
 use Rattle.world_turns.specs.Turn.{TakesTurn}

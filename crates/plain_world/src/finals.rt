@@ -3,8 +3,8 @@
 ghost use Rattle.std.specs.Prelude.{◌≡◌, ◌<◌, Bool, List, length, true};
 ghost use Rattle.std.specs.Bool.{OnFalse, OnTrue};
 ghost use Rattle.history_calls.specs.CallLaws.Coming.{IsOn};
-ghost use Rattle.world_guests.specs.GuestWorlds.Worlds.{MayBeAt, world_of};
-ghost use Rattle.world_guests.specs.Counting.{RefusesNone};
+ghost use Rattle.world_answers.specs.GuestsPart.GuestWorlds.Worlds.{MayBeAt, world_of};
+ghost use Rattle.world_answers.specs.GuestsPart.Counting.{RefusesNone};
 ghost use Rattle.hart_moves.specs.Starting.{starting_registers};
 ghost use Rattle.history_journal.specs.Following.{machine_of};
 ghost use Rattle.history_state.specs.Setting.{Setting};
@@ -20,8 +20,7 @@ use hart_seat::LinkedHart;
 use history_event::HartEntry;
 use link_state::LinkState;
 use std::alloc::Global;
-use world_answers::settle_all;
-use world_guests::{Beginning, begin_finals, guests_may_turn, runs_stay};
+use world_answers::{Beginning, begin_finals, guests_may_turn, runs_stay, settle_all};
 
 impl World {
     /// The final destructors begin, where each hart has ended by exit, an object is left, and they haven't begun

@@ -2,7 +2,7 @@
 
 ghost use Rattle.std.specs.Prelude.{◌≡◌, List};
 ghost use Rattle.std.specs.List.{list_all};
-ghost use Rattle.world_guests.specs.GuestWorlds.Worlds.{world_of};
+ghost use Rattle.world_answers.specs.GuestsPart.GuestWorlds.Worlds.{world_of};
 ghost use Rattle.link_state.specs.Table.{LinkTable};
 ghost use Rattle.rv_hart.specs.declared.doubleword.Doubleword.{Doubleword};
 ghost use Rattle.world_turns.specs.WorldEnds.Ends.{has_exited};

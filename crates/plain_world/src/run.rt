@@ -1,7 +1,7 @@
 //! A whole run by a written schedule.
 
 ghost use Rattle.std.specs.Prelude.{◌≡◌, ◌<◌, ◌≤◌, true, Contains, IsTrue};
-ghost use Rattle.world_guests.specs.Counting.{IsCounted, counts_at};
+ghost use Rattle.world_answers.specs.GuestsPart.Counting.{IsCounted, counts_at};
 ghost use Rattle.hart_moves.specs.Starting.{starting_registers};
 ghost use Rattle.plain_world.specs.Playing.{FinalisesOnce, FirstRuns, InEachRun, OthersHaveEnded, Plays};
 ghost use Rattle.plain_world.specs.Table.{moved};
@@ -13,7 +13,7 @@ use crate::World;
 use ld_base::HartId;
 use library_source::Library;
 use std::alloc::Global;
-use world_guests::Turn;
+use world_answers::Turn;
 use world_turns::{TurnItem, Turns};
 
 /// The number of the hart that runs startup's constructors and the final destructors.

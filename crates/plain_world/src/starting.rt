@@ -13,7 +13,7 @@ ghost use Rattle.history_calls.specs.Startup.{Starts, harts_of};
 ghost use Rattle.link_startup.specs.Startup.{IsNotStarted, StartsWhole, startup_refusal};
 ghost use Rattle.link_open_plan.specs.Startup.{run_of};
 ghost use Rattle.world_answers.specs.ReturnsPart.Settling.{harts_in};
-ghost use Rattle.world_guests.specs.Counting.{counts_at};
+ghost use Rattle.world_answers.specs.GuestsPart.Counting.{counts_at};
 ghost use Rattle.plain_world.specs.Started.{BringsFirst, IsFirstMemory, StartsAt, start_events};
 ghost use Rattle.world_turns.specs.Counts.{ShowInCounts};
 
@@ -26,7 +26,7 @@ use link_lists::Copied;
 use link_startup::startup;
 use link_state::LinkState;
 use std::alloc::{AllocError, Global};
-use world_guests::runs_stay;
+use world_answers::runs_stay;
 use world_memory::{MemoryChange, PlainMemory};
 
 impl World {

@@ -1,17 +1,17 @@
 //! The next turn of a hart.
 
 ghost use Rattle.std.specs.Prelude.{◌≡◌, ◌<◌, ◌≤◌, Bool, length};
-ghost use Rattle.world_guests.specs.GuestWorlds.Coming.{LeavesHart};
-ghost use Rattle.world_guests.specs.GuestWorlds.Worlds.{MayBeAt, TakesOver, world_of};
-ghost use Rattle.world_guests.specs.Counting.{IsCounted, counts_at};
-ghost use Rattle.world_guests.specs.Next.{NextOpens, NextReadsNothing, NextTells};
+ghost use Rattle.world_answers.specs.GuestsPart.GuestWorlds.Coming.{LeavesHart};
+ghost use Rattle.world_answers.specs.GuestsPart.GuestWorlds.Worlds.{MayBeAt, TakesOver, world_of};
+ghost use Rattle.world_answers.specs.GuestsPart.Counting.{IsCounted, counts_at};
+ghost use Rattle.world_answers.specs.GuestsPart.Next.{NextOpens, NextReadsNothing, NextTells};
 
 use hart_seat::LinkedHart;
 use ld_base::{HartId, Names};
 use library_source::Library;
 use link_state::LinkState;
 use std::alloc::Global;
-use world_guests::{Turn, refusals_are_counted, take_final, take_quiet, take_service};
+use world_answers::{Turn, refusals_are_counted, take_final, take_quiet, take_service};
 use world_memory::PlainMemory;
 
 /// Takes the next turn of a hart. One that has ended is passed over.

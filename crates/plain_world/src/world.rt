@@ -1,10 +1,10 @@
 //! A run on one thread at a moment.
 
 ghost use Rattle.std.specs.Prelude.{◌≡◌, ◌<◌, ◌≤◌, length};
-ghost use Rattle.world_guests.specs.GuestWorlds.Coming.{LeavesHart};
-ghost use Rattle.world_guests.specs.GuestWorlds.Worlds.{TakesOver};
-ghost use Rattle.world_guests.specs.Counting.{IsCounted, counts_at};
-ghost use Rattle.world_guests.specs.Next.{NextOpens, NextReadsNothing, NextTells};
+ghost use Rattle.world_answers.specs.GuestsPart.GuestWorlds.Coming.{LeavesHart};
+ghost use Rattle.world_answers.specs.GuestsPart.GuestWorlds.Worlds.{TakesOver};
+ghost use Rattle.world_answers.specs.GuestsPart.Counting.{IsCounted, counts_at};
+ghost use Rattle.world_answers.specs.GuestsPart.Next.{NextOpens, NextReadsNothing, NextTells};
 ghost use Rattle.plain_world.specs.Table.{moved};
 ghost use Rattle.world_turns.specs.Run.{have_ended, is_starting};
 
@@ -17,7 +17,7 @@ use library_source::Library;
 use link_state::LinkState;
 use std::alloc::Global;
 use std::marker::Model;
-use world_guests::{Turn, runs_stay};
+use world_answers::{Turn, runs_stay};
 use world_memory::PlainMemory;
 
 /// A run on one thread at a moment: the linker's state, guest memory, and the harts. Contracts see how many

@@ -11,3 +11,4 @@ pub mod Quiet
 pub mod Turned
 pub mod Waits
 pub mod ReturnsPart
+pub mod GuestsPart

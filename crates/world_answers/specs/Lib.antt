@@ -3,3 +3,4 @@ pub mod Faults
 pub mod Openings
 pub mod Served
 pub mod ReturnsPart
+pub mod GuestsPart

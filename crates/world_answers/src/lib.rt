@@ -5,8 +5,13 @@
 //! linker's state: the call's events, and the end of a hart that the call brings, stand in the journal
 //! then. What came of the call is its answer ([`Answered`](world_memory::Answered)): the value with which
 //! it returns, the functions that are to run first, the slot that is granted, the text that is told, that
-//! it has to be made again, or how the hart has ended; and what memory gets of the events. What the answer
-//! makes of the hart is for whoever keeps harts.
+//! it has to be made again, or how the hart has ended; and what memory gets of the events.
+//! [`answer_with_room`] makes room first for the functions that a call may have the hart run.
+//!
+//! [`take_answer`] is what the answer makes of its hart, [`complete`] the turn in which the functions of an
+//! object have run, and [`FinalTurn`] one of the final destructors: for harts of any world.
+//!
+//! `guests` has the turns of a run on one thread: over the linker's state, plain memory and all its harts.
 #![tactic(auto)]
 
 mod answering;
@@ -14,6 +19,7 @@ mod callers;
 mod closing;
 mod ending;
 mod granting;
+mod guests;
 mod law;
 mod locating;
 mod looking;
@@ -25,6 +31,10 @@ mod waiting;
 mod writing;
 
 pub use answering::answer;
+pub use guests::{
+    Beginning, Turn, answer_with_room, begin_finals, end_hart, ends_are_turns, guests_may_turn,
+    guests_take_turns, refusals_are_counted, runs_stay, take_final, take_quiet, take_service,
+};
 pub use law::ends_are_few;
 pub use returns::{
     FinalTurn, begin, complete, finals_go_on, settle_all, settling_keeps_finals, take_answer,

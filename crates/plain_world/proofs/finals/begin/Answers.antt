@@ -1,7 +1,7 @@
 use Rattle.std.proofs.Common.{ℕ, Bool, true, [], refl, sym, subst, ◌∙◌}
 use Rattle.hart_moves.specs.Starting.{starting_registers}
-use Rattle.world_guests.specs.Lemmas.Counting.{unmoved}
-use Rattle.world_guests.specs.GuestWorlds.Worlds.{MayBeAt, setting_without, world_of}
+use Rattle.world_answers.specs.GuestsPart.Lemmas.Counting.{unmoved}
+use Rattle.world_answers.specs.GuestsPart.GuestWorlds.Worlds.{MayBeAt, setting_without, world_of}
 use Rattle.world_turns.specs.WorldEnds.Ends.{has_exited}
 use Rattle.world_turns.specs.Run.{Finalises}
 use Rattle.world_turns.specs.World.{World}

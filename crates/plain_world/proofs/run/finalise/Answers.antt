@@ -3,7 +3,7 @@ use Rattle.hart_moves.specs.Starting.{starting_registers}
 use Rattle.world_turns.specs.Run.{RunEnds, Finalises}
 use Rattle.plain_world.specs.Playing.{FinalisesOnce}
 use Rattle.plain_world.specs.Table.{WorldTable}
-use Rattle.world_guests.specs.Counting.{counts_at}
+use Rattle.world_answers.specs.GuestsPart.Counting.{counts_at}
 use Rattle.world_turns.specs.Counts.{Counts}
 use Rattle.plain_world.proofs.Counting.{more_counted, no_count}
 use Rattle.plain_world.proofs.Going.{each_finalised_over, in_each_of, others_when_begun}

@@ -1,7 +1,7 @@
 use Rattle.std.proofs.Common.{sym, ◌∙◌, arith, refl}
 use Rattle.world_turns.specs.Run.{RunFinishes, Rounds, all_harts}
-use Rattle.world_guests.specs.Counting.{counts_at}
-use Rattle.world_guests.specs.Lemmas.Counting.{unmoved}
+use Rattle.world_answers.specs.GuestsPart.Counting.{counts_at}
+use Rattle.world_answers.specs.GuestsPart.Lemmas.Counting.{unmoved}
 use Rattle.plain_world.proofs.Counting.{more_counted, no_count, same_folders}
 use Rattle.plain_world.proofs.Going.{each_round_less, in_each, moved_more}
 use Rattle.plain_world.proofs.run.finish.Goals as goal

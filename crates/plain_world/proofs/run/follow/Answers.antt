@@ -1,8 +1,8 @@
 use Rattle.std.proofs.Common.{ℕ, ◌<◌, ◌≤◌, length, sym, ap, subst, ◌∙◌, arith, refl}
 use Rattle.world_turns.specs.Run.{Repeats}
 use Rattle.plain_world.specs.Table.{WorldTable}
-use Rattle.world_guests.specs.Counting.{counts_at}
-use Rattle.world_guests.specs.Lemmas.Counting.{unmoved}
+use Rattle.world_answers.specs.GuestsPart.Counting.{counts_at}
+use Rattle.world_answers.specs.GuestsPart.Lemmas.Counting.{unmoved}
 use Rattle.plain_world.proofs.Counting.{more_counted, no_count, same_folders}
 use Rattle.plain_world.proofs.Going.{in_each, items_more, items_over, moved_more}
 use Rattle.plain_world.proofs.run.follow.Goals as goal

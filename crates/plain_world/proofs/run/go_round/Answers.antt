@@ -2,8 +2,8 @@ use Rattle.std.proofs.Common.{◌≡◌, ℕ, ◌<◌, ◌≤◌, ◌-◌, lengt
 use Rattle.std.specs.List.{range_with_len}
 use Rattle.world_turns.specs.Run.{Rounds}
 use Rattle.world_turns.specs.Turn.{TakesTurn}
-use Rattle.world_guests.specs.Counting.{counts_at}
-use Rattle.world_guests.specs.Lemmas.Counting.{unmoved}
+use Rattle.world_answers.specs.GuestsPart.Counting.{counts_at}
+use Rattle.world_answers.specs.GuestsPart.Lemmas.Counting.{unmoved}
 use Rattle.plain_world.proofs.Counting.{more_counted, no_count, same_folders}
 use Rattle.plain_world.proofs.Going.{in_each, moved_more, rounds_more, rounds_over}
 use Rattle.plain_world.proofs.run.go_round.Goals as goal

@@ -1,6 +1,6 @@
 use Rattle.std.proofs.Common.{◌≡◌, ◌≤◌, ◌-◌, length}
 use Rattle.std.specs.List.{range_with_len}
-use Rattle.world_guests.specs.Counting.{IsCounted, counts_at}
+use Rattle.world_answers.specs.GuestsPart.Counting.{IsCounted, counts_at}
 use Rattle.world_turns.specs.Run.{Rounds, all_harts}
 use Rattle.world_turns.specs.World.{World}
 use Rattle.plain_world.specs.Playing.{InEachRun}

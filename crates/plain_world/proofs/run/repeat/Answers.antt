@@ -1,8 +1,8 @@
 use Rattle.std.proofs.Common.{◌≡◌, ℕ, ◌<◌, ◌≤◌, ◌-◌, refl, subst, ◌∙◌, arith}
 use Rattle.world_turns.specs.Run.{Repeats}
 use Rattle.world_turns.specs.Turn.{TakesTurn}
-use Rattle.world_guests.specs.Counting.{counts_at}
-use Rattle.world_guests.specs.Lemmas.Counting.{unmoved}
+use Rattle.world_answers.specs.GuestsPart.Counting.{counts_at}
+use Rattle.world_answers.specs.GuestsPart.Lemmas.Counting.{unmoved}
 use Rattle.plain_world.proofs.Counting.{more_counted, no_count, same_folders}
 use Rattle.plain_world.proofs.Going.{idle_repeats, in_each, moved_more, repeats_more, repeats_over}
 use Rattle.plain_world.proofs.run.repeat.Goals as goal

@@ -1,8 +1,8 @@
 use Rattle.std.proofs.Common.{sym, ◌∙◌, arith, refl}
 use Rattle.world_turns.specs.Run.{RunEnds}
 use Rattle.world_turns.specs.Turn.{Turn}
-use Rattle.world_guests.specs.Counting.{counts_at}
-use Rattle.world_guests.specs.Lemmas.Counting.{unmoved}
+use Rattle.world_answers.specs.GuestsPart.Counting.{counts_at}
+use Rattle.world_answers.specs.GuestsPart.Lemmas.Counting.{unmoved}
 use Rattle.plain_world.proofs.Counting.{more_counted, no_count, same_folders}
 use Rattle.plain_world.proofs.Going.{each_less, each_others, in_each, moved_more, runs_first}
 use Rattle.plain_world.proofs.run.run_finals.Goals as goal

@@ -1,5 +1,5 @@
 use Rattle.std.proofs.Common.{◌≡◌, ◌≤◌}
-use Rattle.world_guests.specs.Counting.{IsCounted, counts_at}
+use Rattle.world_answers.specs.GuestsPart.Counting.{IsCounted, counts_at}
 use Rattle.world_turns.specs.Run.{RunEnds}
 use Rattle.world_turns.specs.World.{World}
 use Rattle.plain_world.specs.Playing.{InEachRun, OthersHaveEnded}

@@ -1,6 +1,6 @@
 use Rattle.std.proofs.Common.{ℕ, false, List, refl, sym, subst, arith}
 use Rattle.link_open_plan.specs.Startup.{run_of}
-use Rattle.world_guests.specs.GuestWorlds.Worlds.{MayBeAt, world_of}
+use Rattle.world_answers.specs.GuestsPart.GuestWorlds.Worlds.{MayBeAt, world_of}
 use Rattle.plain_world.specs.Started.{StartsAt}
 use Rattle.plain_world.proofs.Started.{at_start, starts_at}
 use Rattle.plain_world.proofs.starting.set_up.Goals as goal

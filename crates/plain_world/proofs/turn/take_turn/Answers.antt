@@ -1,14 +1,14 @@
 use Rattle.std.proofs.Common.{◌≡◌, ℕ, refl, ap}
-use Rattle.world_guests.specs.GuestWorlds.Coming.{LeavesHart}
-use Rattle.world_guests.specs.GuestWorlds.Worlds.{TakesOver, world_of}
-use Rattle.world_guests.specs.Counting.{IsCounted, counts_at}
-use Rattle.world_guests.specs.Next.{NextOpens, NextReadsNothing, NextTells}
+use Rattle.world_answers.specs.GuestsPart.GuestWorlds.Coming.{LeavesHart}
+use Rattle.world_answers.specs.GuestsPart.GuestWorlds.Worlds.{TakesOver, world_of}
+use Rattle.world_answers.specs.GuestsPart.Counting.{IsCounted, counts_at}
+use Rattle.world_answers.specs.GuestsPart.Next.{NextOpens, NextReadsNothing, NextTells}
 use Rattle.world_answers.specs.ReturnsPart.Settling.{harts_in}
 use Rattle.world_turns.specs.Counts.{Counts}
 use Rattle.world_turns.specs.Turn.{TakesTurn}
 use Rattle.world_turns.specs.World.{World}
 use Rattle.plain_world.proofs.Counting.{goes_up, takes_counted}
-use Rattle.world_guests.specs.Lemmas.Counting.{same_counts}
+use Rattle.world_answers.specs.GuestsPart.Lemmas.Counting.{same_counts}
 use Rattle.plain_world.proofs.Parts.{on_takes}
 use Rattle.plain_world.proofs.Telling.{alone_counts, alone_opens, alone_tells, from_same}
 use Rattle.plain_world.proofs.turn.take_turn.Goals as goal

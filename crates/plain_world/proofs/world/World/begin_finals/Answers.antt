@@ -7,13 +7,13 @@ use Rattle.history_journal.specs.Following.{machine_of}
 use Rattle.history_calls.specs.CallLaws.Coming.{IsOn}
 use Rattle.hart_moves.specs.Starting.{starting_registers}
 use Rattle.hart_seat.specs.Table.{HartTable}
-use Rattle.world_guests.specs.GuestWorlds.Worlds.{world_of}
+use Rattle.world_answers.specs.GuestsPart.GuestWorlds.Worlds.{world_of}
 use Rattle.world_turns.specs.World.{World}
 use Rattle.plain_world.specs.Finals.{FinalsBegin, FinalsDont}
 use Rattle.plain_world.specs.Inside.{world_in}
 use Rattle.plain_world.specs.Playing.{BeginsToFinalise, FinalisesOnce}
 use Rattle.plain_world.specs.Table.{WorldTable}
-use Rattle.world_guests.specs.Counting.{RefusesNone}
+use Rattle.world_answers.specs.GuestsPart.Counting.{RefusesNone}
 use Rattle.plain_world.proofs.Parts.{on_false, on_true}
 use Rattle.plain_world.proofs.Telling.{turn_seen}
 use Rattle.plain_world.proofs.world.World.begin_finals.Goals as goal

@@ -1,6 +1,6 @@
 use Rattle.std.proofs.Common.{List, ap, ◌∙◌}
 use Rattle.hart_seat.specs.Table.{HartTable}
-use Rattle.world_guests.specs.GuestWorlds.Worlds.{world_of}
+use Rattle.world_answers.specs.GuestsPart.GuestWorlds.Worlds.{world_of}
 use Rattle.world_turns.specs.Run.{is_starting}
 use Rattle.plain_world.specs.Table.{WorldTable}
 use Rattle.plain_world.proofs.world.World.is_starting.Goals as goal

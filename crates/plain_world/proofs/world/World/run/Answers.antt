@@ -7,8 +7,8 @@ use Rattle.world_turns.specs.Run.{RunFinishes, TakesItems, have_ended}
 use Rattle.world_turns.specs.World.{World}
 use Rattle.plain_world.specs.Playing.{FinalisesOnce}
 use Rattle.plain_world.specs.Table.{WorldTable, moved}
-use Rattle.world_guests.specs.Counting.{IsCounted, RefusesNone, counts_at}
-use Rattle.world_guests.specs.Lemmas.Counting.{counted_more, same_counts}
+use Rattle.world_answers.specs.GuestsPart.Counting.{IsCounted, RefusesNone, counts_at}
+use Rattle.world_answers.specs.GuestsPart.Lemmas.Counting.{counted_more, same_counts}
 use Rattle.plain_world.proofs.Counting.{goes_up, more_counted, no_count, same_folders, settled_refuses}
 use Rattle.plain_world.proofs.Going.{in_each, moved_more, settled_over}
 use Rattle.plain_world.proofs.world.World.run.Goals as goal

@@ -5,7 +5,7 @@ use Rattle.link_state.specs.Table.{LinkTable}
 use Rattle.world_memory.specs.TurnAnswers.Following.{MayFollowAll}
 use Rattle.hart_seat.specs.Table.{HartTable}
 use Rattle.world_answers.specs.ReturnsPart.Settling.{harts_in}
-use Rattle.world_guests.specs.GuestWorlds.Worlds.{MayBeAt, world_of}
+use Rattle.world_answers.specs.GuestsPart.GuestWorlds.Worlds.{MayBeAt, world_of}
 use Rattle.world_turns.specs.Run.{settled}
 use Rattle.world_turns.specs.World.{settling}
 use Rattle.plain_world.specs.Inside.{world_in}

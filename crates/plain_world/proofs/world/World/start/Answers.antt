@@ -1,5 +1,5 @@
 use Rattle.link_open_plan.specs.Startup.{run_of}
-use Rattle.world_guests.specs.Counting.{counts_at}
+use Rattle.world_answers.specs.GuestsPart.Counting.{counts_at}
 use Rattle.plain_world.proofs.Counting.{goes_up, started_shows, unstarted_shows}
 use Rattle.plain_world.proofs.world.World.start.Goals as goal
 

@@ -2,10 +2,10 @@ use Rattle.std.proofs.Common.{◌≡◌, ℕ, ◌≤◌, List, length, sym, ap, 
 use Rattle.std.proofs.lemmas.List.{with_items_is}
 use Rattle.std.specs.Vec.{vec_capacity, with_items}
 use Rattle.hart_seat.specs.Table.{HartTable}
-use Rattle.world_guests.specs.GuestWorlds.Coming.{LeavesHart}
-use Rattle.world_guests.specs.GuestWorlds.Worlds.{MayBeAt, TakesOver, world_of}
-use Rattle.world_guests.specs.Counting.{IsCounted, counts_at}
-use Rattle.world_guests.specs.Next.{NextOpens, NextReadsNothing, NextTells}
+use Rattle.world_answers.specs.GuestsPart.GuestWorlds.Coming.{LeavesHart}
+use Rattle.world_answers.specs.GuestsPart.GuestWorlds.Worlds.{MayBeAt, TakesOver, world_of}
+use Rattle.world_answers.specs.GuestsPart.Counting.{IsCounted, counts_at}
+use Rattle.world_answers.specs.GuestsPart.Next.{NextOpens, NextReadsNothing, NextTells}
 use Rattle.world_turns.specs.World.{World}
 use Rattle.plain_world.specs.Inside.{world_in}
 use Rattle.plain_world.specs.Table.{WorldTable}
