@@ -15,6 +15,7 @@ use Rattle.trace_read.specs.declared.fault.TraceFault.{TraceFault}
 use Rattle.trace_read.specs.declared.fault.TraceFault.TheVariants as faults
 use Rattle.trace_read.specs.Fits.{IsWritable}
 use Rattle.trace_read.specs.Gives.{Misses, Gives}
+use Rattle.trace_read.specs.Laws.{OneSaying}
 use Rattle.trace_read.specs.Lines.{HasLine, words_of, line_of, new_line_text, new_lines_text, open_line_text, open_words}
 use Rattle.trace_read.specs.Read.{read_line}
 use Rattle.trace_read.specs.Said.{said_of, said_of_answer, said_of_new}
@@ -31,6 +32,9 @@ pub only_one : (line : List ℕ) (r : Result EventLine TraceFault) → Gives (re
     → IfOk r (λ event. (other : EventLine) → HasLine line other → other ≡ event)
 only_one line (Ok event) g = λ other h. same_Some _ _ (sym (read_so line other h) ∙ g)
 only_one line (Err fault) g = tt
+
+pub one_saying : OneSaying
+one_saying line one other a b = same_Some one other (sym (read_so line one a) ∙ read_so line other b)
 
 pub no_line : (line : List ℕ) (r : Result EventLine TraceFault) → Gives (read_line line) r
     → IfErr r (λ fault. fault ≡ faults.NotALine → (event : EventLine) → HasLine line event → ⊥)

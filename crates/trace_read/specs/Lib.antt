@@ -4,6 +4,7 @@ pub mod Events
 pub mod Faults
 pub mod Fits
 pub mod Gives
+pub mod Laws
 pub mod Lines
 pub mod Lists
 pub mod Loops

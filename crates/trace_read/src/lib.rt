@@ -12,9 +12,11 @@ mod faults;
 mod lists;
 mod names;
 mod numbers;
+mod once;
 mod pieces;
 mod read;
 mod steps;
 
 pub use fault::TraceFault;
+pub use once::lines_say_once;
 pub use read::read_event;
