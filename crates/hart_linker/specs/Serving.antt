@@ -6,7 +6,7 @@ use Rattle.history_event.specs.declared.hart_end.HartEnd.{HartEnd}
 use Rattle.word_rule.specs.declared.view.HartView.{HartView}
 use Rattle.word_rule.specs.declared.view.TrailItem.{TrailItem}
 use Rattle.word_rule.specs.declared.view.TrailItem.TheVariants.{Took}
-use Rattle.word_rule.specs.Views.{BeginsWith}
+use Rattle.word_rule.specs.Views.{BeginsWith, NoneAbove, readings_of}
 use Rattle.history_state.specs.After.{after}
 use Rattle.history_state.specs.Allowed.{MayEnd}
 use Rattle.history_state.specs.Setting.{Setting}
@@ -51,6 +51,8 @@ pub record ServesTurn (w : Setting) (before now : HartView) (b c : HartState) : 
   pub none : HasNone now.heard before.number (length before.heard) turn.at
   pub turns : TurnsAt w now.heard before.number turn b c
   pub last : length now.heard ≡ turn.at + length (events_of turn.did)
+  -- no generation that it has read is later than the one behind which the turn comes
+  pub read : NoneAbove (after (take turn.at now.heard)).generation (readings_of before.trail)
   pub items : List TrailItem
   pub trail : now.trail ≡ before.trail ++ items
   pub leaves : (read : List TrailItem) → Reads (after (take turn.at now.heard)) b read

@@ -4,15 +4,18 @@ use mathlib.Core.Logic.{dite}
 use native.Mathlib.Decide.{ℕ_discrete}
 use Rattle.std.specs.Prelude.{◌==◌}
 use Rattle.std.proofs.lemmas.Bool.{eqb-true}
+use Rattle.std.specs.List.{Contains}
+use Rattle.std.proofs.lemmas.List.Elements.{Contains-append_right}
 use Rattle.std.proofs.lemmas.Option.{none-some}
 use Rattle.history_event.specs.declared.event.Event.{Event}
 use Rattle.history_event.specs.declared.state.Module.{Module}
 use Rattle.word_rule.specs.declared.view.HartView.{HartView}
 use Rattle.word_rule.specs.declared.view.TrailItem.{TrailItem}
 use Rattle.word_rule.specs.declared.view.TrailItem.TheVariants.{Generation as ReadGeneration}
-use Rattle.word_rule.specs.Views.{known_of, last_block, read_of}
+use Rattle.word_rule.specs.Views.{NoneAbove, known_of, last_block, read_of, readings_by, readings_of}
 use Rattle.tls_blocks.specs.Blocks.{BlockTable, block_at}
 use Rattle.history_state.specs.After.{after}
+use Rattle.history_state.specs.Lemmas.Lists.{here}
 use Rattle.history_state.specs.Setting.{Setting}
 use Rattle.history_state.specs.State.{State}
 use Rattle.history_state.specs.Storage.{tls_block}
@@ -115,13 +118,25 @@ kept_turn w before now blocks number offset b c result idle fit current is x blo
 
 -- ---- what is read before the linker is asked
 
+-- the generation that was read is the last one in the trail
+readings_end : (trail : List TrailItem) (generation number : ℕ) (block : Option ℕ) → Contains (readings_of (trail ++ ReadGeneration generation number block ∷ [])) generation
+readings_end [] generation number block = here generation []
+readings_end (item ∷ trail) generation number block =
+    Contains-append_right (readings_by item) (readings_of (trail ++ ReadGeneration generation number block ∷ [])) generation (readings_end trail generation number block)
+
+pub was_read : (before now : HartView) (blocks : BlockTable) (number offset : ℕ) (b c : HartState) (result : Bool) (generation : ℕ) → (x : ReadsBlock before now blocks number offset b c result)
+    → NoneAbove generation (readings_of now.trail) → x.generation ≤ generation
+was_read before now blocks number offset b c result generation x none =
+    none x.generation (subst (λ (trail : List TrailItem). Contains (readings_of trail) x.generation) (sym (ap (λ (h : HartView). h.trail) x.view))
+    (readings_end before.trail x.generation number (last_block x.generation number before.lane.taken)))
+
 -- behind what the hart has heard, no block of the linker's generation was kept
 pub reads_none : (before now : HartView) (blocks : BlockTable) (number offset : ℕ) (b c : HartState) (result : Bool) (s : State) → before.lane.offer ≡ None
     → BlocksFit blocks before → AreCurrent blocks before → (after before.heard).generation ≤ s.generation
-    → due s b ≡ Due.serve (locates number offset) (back b) → (x : ReadsBlock before now blocks number offset b c result)
+    → due s b ≡ Due.serve (locates number offset) (back b) → (x : ReadsBlock before now blocks number offset b c result) → x.generation ≤ s.generation
     → kept_in blocks x.generation number ≡ None → Reads s b (ReadGeneration x.generation number (last_block x.generation number before.lane.taken) ∷ [])
-reads_none before now blocks number offset b c result s idle fit current rises is x none =
-    Reads.none_kept number offset x.generation (last_block x.generation number before.lane.taken) (back b) is by
+reads_none before now blocks number offset b c result s idle fit current rises is x early none =
+    Reads.none_kept number offset x.generation (last_block x.generation number before.lane.taken) (back b) is early by
   where
     taken : known_of before.lane ≡ before.lane.taken
     taken = known_taken before idle

@@ -1,7 +1,6 @@
 mod Blocks
 mod Bound
 mod Longer
-mod Rising
 mod Running
 mod Slices
 mod Standing

@@ -26,6 +26,7 @@ use Rattle.hart_moves.specs.Moves.{Did, Moves, MovesAs, ended, settled_resolving
 use Rattle.hart_fits.specs.Finals.{OwnMovesFit}
 use Rattle.hart_trails.specs.Entries.{entry_behind}
 use Rattle.hart_trails.specs.Laws.{TrailsStay, TurnsBehind}
+use Rattle.hart_trails.specs.Lemmas.Rising.{generation_rises}
 use Rattle.hart_trails.specs.Trails.{Reads, is_located}
 use Rattle.hart_turns.specs.Turns.{is_own}
 use Rattle.hart_turns.specs.declared.turned.Turned.{Turned}
@@ -39,9 +40,8 @@ use Rattle.hart_threads.specs.Next.{HoldsSlot}
 use Rattle.hart_threads.specs.Quiet.{TakesQuiet, end_of}
 use Rattle.hart_threads.specs.Run.{IsCalm, RunsOn}
 use Rattle.hart_threads.specs.Turns.{Proceeds}
-use Rattle.hart_threads.proofs.Blocks.{kept_moves, kept_turn, reads_none}
+use Rattle.hart_threads.proofs.Blocks.{kept_moves, kept_turn, reads_none, was_read}
 use Rattle.hart_threads.proofs.Bound.{bound_stands, exchange_turn, finish_turn}
-use Rattle.hart_threads.proofs.Rising.{generation_rises}
 use Rattle.hart_threads.proofs.Standing.{at_rest, blocks_stay, due_there, row_settles, stands_on, stands_still}
 use Rattle.hart_threads.proofs.Stepping.{front_longer, goes_further, proceeds, stays_here}
 use Rattle.hart_threads.proofs.Turning.{ending_trail, ending_turn, own_is_not_located, quiet_turn, served_turn}
@@ -246,7 +246,8 @@ module _ (stay : TrailsStay) (behind : TurnsBehind) (w : Setting) (begun : List 
       by : (k : Option ℕ) → kept_in d x.generation number ≡ k → RunsOn w begun before now b c e
       by (Some block) at = absurd (let no = subst (λ o. Answers offset b b o false) at x.answers in let f : false ≡ true = no.0 in cc)
       by None at =
-          let reads : Reads (after past) b (item ∷ []) = reads_none before mid d number offset b b false (after past) idle between.blocks (between.current runs) rises (is (after past)) x at in
+          let reads : Reads (after past) b (item ∷ []) = reads_none before mid d number offset b b false (after past) idle between.blocks (between.current runs) rises (is (after past)) x
+          (was_read before mid d number offset b b false (after past).generation x y.read) at in
           record {
             proceeds = proceeds stay behind w before now b c (item ∷ y.items)
                 (y.trail ∙ ap (λ (h : HartView). h.trail ++ y.items) x.view ∙ append_assoc before.trail (item ∷ []) y.items)

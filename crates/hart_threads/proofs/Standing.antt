@@ -22,7 +22,7 @@ use Rattle.hart_moves.specs.Harts.{HartState, Offered, Resolving}
 use Rattle.hart_moves.specs.Moves.{Did, Moves, events_of, settled_resolving}
 use Rattle.hart_fits.specs.Finals.{OwnMovesFit}
 use Rattle.hart_fits.specs.Fits.{HartFits}
-use Rattle.hart_fits.specs.Over.{EndsWithin}
+use Rattle.hart_trails.specs.Owners.{AreOfHarts}
 use Rattle.hart_linker.specs.Between.{AreCurrent, BlocksFit, HasHeard, IsAtRow, IsBetweenTurns}
 
 -- ---- what a hart knows
@@ -43,7 +43,7 @@ pub heard_stays : (w : Setting) (begun : List Event) (before now : HartView) →
 heard_stays w begun before now same x = record {
   legal = subst (Legal w) (sym same.heard) x.legal;
   begins = (x.begins.0, same.heard ∙ x.begins.1);
-  within = subst (EndsWithin w) (sym same.heard) x.within;
+  own = subst (AreOfHarts w) (sym same.heard) x.own;
   entries = λ e there mark. subst (λ (es : List Event). e.number ≤ length es) (sym same.heard) (x.entries e (subst (λ (es : List Entry). Contains es e) same.known there) mark);
 }
 

@@ -20,6 +20,7 @@ use Rattle.hart_moves.specs.Lemmas.Following.{none_longer}
 use Rattle.hart_moves.specs.Moves.{all_finis}
 use Rattle.hart_moves.specs.Starting.{HartStart}
 use Rattle.hart_moves.specs.TurnEvents.Laws.{FinalsStayAway, TurnsAppend}
+use Rattle.hart_fits.specs.Lemmas.Owners.{owners_end}
 use Rattle.hart_fits.specs.Over.{UnexitedIsNotOver}
 use Rattle.hart_trails.specs.Entries.{entry_behind}
 use Rattle.hart_trails.specs.Laws.{TrailsStay}
@@ -56,7 +57,7 @@ module _ (w : Setting) (start : HartStart) (begun : List TrailItem) (seat : Hart
           (ends_told append away w seat.heard seat.number start.from r.to start.hart b r.turns r.own r.follows new.no_finals new.told)
 
       none : have_exited w (after seat.heard) ≡ false
-      none = not_over w seat.heard seat.number (legal_is_lawful w seat.heard heard.legal) (subst (λ (n : ℕ). n < w.machine.harts) (sym first) some) heard.within
+      none = not_over w seat.heard seat.number (legal_is_lawful w seat.heard heard.legal) (subst (λ (n : ℕ). n < w.machine.harts) (sym first) some) (owners_end w seat.heard heard.own)
           (λ e there own. let same : Some e.«end» ≡ Some reason = sym (told e there own) ∙ over in ap is_exit (some_same e.«end» reason same) ∙ unless)
         where
           some_same : (x y : HartEnd) → Some x ≡ Some y → x ≡ y

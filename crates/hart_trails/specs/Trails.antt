@@ -40,12 +40,12 @@ took_behind past (e ∷ rest) = took_by past e ++ took_behind (past ++ e ∷ [])
 abbrev pub is_located : Due → Bool
 is_located turn = elim turn [ Due.serve call back ↦ elim call [ locates number offset ↦ true | _ ↦ false ] | _ ↦ false ]
 
--- before thread-local storage is asked for, the generation is read for the module; where it is the one at which the linker then answers, no block
--- is kept of it
+-- before thread-local storage is asked for, the generation is read for the module. It is none later than the one at which the linker then answers;
+-- and where it is that one, no block is kept of it
 pub data Reads (s : State) (b : HartState) : List TrailItem → Type 0 where
   is_another : is_located (due s b) ≡ false → Reads s b []
   none_kept : (number offset generation : ℕ) (block : Option ℕ) (back : Return) → due s b ≡ Due.serve (locates number offset) back
-      → (generation ≡ s.generation → block ≡ None) → Reads s b (ReadGeneration generation number block ∷ [])
+      → generation ≤ s.generation → (generation ≡ s.generation → block ≡ None) → Reads s b (ReadGeneration generation number block ∷ [])
 
 -- what a turn behind these events leaves
 pub data Leaves (past : List Event) (b : HartState) (beside : Beside) : Did → List TrailItem → Type 0 where

@@ -1,5 +1,6 @@
 //! What holds of trails.
 
+ghost use Rattle.hart_trails.specs.Ends.{EndIsLast, OneEndOfTrail, StartIsFresh};
 ghost use Rattle.hart_trails.specs.Laws.{EndsFollow, TrailsFollow, TrailsStay, TurnsBehind};
 ghost use Rattle.hart_trails.specs.Worked.{FollowsExchange};
 
@@ -13,6 +14,14 @@ pub fn trails_grow()
 pub fn trails_follow()
     ensures turns { TrailsFollow }
     ensures ends { EndsFollow }
+{}
+
+/// A whole trail leads to the last end that the journal has of its hart, whatever way it is taken for; and
+/// each hart is fresh as startup sets it off.
+pub fn trails_end()
+    ensures last { EndIsLast }
+    ensures one { OneEndOfTrail }
+    ensures start { StartIsFresh }
 {}
 
 /// A worked trail: an exchange that won, and the end of its offer.

@@ -9,10 +9,12 @@ use Rattle.word_rule.specs.declared.view.KeeperView.{KeeperView}
 use Rattle.word_rule.specs.declared.view.Row.{Row}
 use Rattle.word_rule.specs.KeeperSteps.{awaited_if, not_found}
 use Rattle.word_rule.specs.Layout.{harts_at_most}
-use Rattle.word_rule.specs.Views.{BeginsWith, IsLong, known_of, row_of}
+use Rattle.word_rule.specs.Views.{BeginsWith, IsLong, NoneAbove, known_of, readings_of, row_of}
 use Rattle.slot_bind.specs.Rows.{begun}
+use Rattle.history_state.specs.After.{after}
 use Rattle.history_state.specs.Setting.{Setting}
 use Rattle.hart_moves.specs.Follows.{HasNone}
+use Rattle.hart_trails.specs.Lemmas.Rising.{generation_rises}
 use Rattle.link_state.specs.Table.{LinkTable}
 use Rattle.kept_words.specs.Handed.{TailHasNone}
 use Rattle.kept_words.specs.Keeping.{AlikeKept, AwaitedIsAlike, IsAlike}
@@ -45,7 +47,7 @@ awaited_state alike awaits w begun state k k1 id low keeps is = record {
 module _ (tail : TailHasNone) (w : Setting) (given : List Event) (k0 k1 k2 : KeeperView) (before h1 h2 : HartView) (id : ℕ) (view : KeepsView w given k0) (heard : HasHeard w given before)
     (idle : before.lane.offer ≡ None) (same : id ≡ before.number) (low : id < harts_at_most) (found : k1 ≡ awaited_if id true k0) (told : h1 ≡ record before { heard = k0.events })
     (begins : BeginsWith k0.events before.heard) (issued : known_of before.lane ≡ (row_of k0 before.number).issued) (calls : h2 ≡ begun h2.lane.seen h1) (calling : IsCalling h2) (step : InStep k1 h2)
-    (settled : HasSettled 16 k1 k2) where
+    (settled : HasSettled 16 k1 k2) (readings : NoneAbove k0.generation (readings_of before.trail)) where
   long : IsLong k0
   long = view.kept.long
 
@@ -86,6 +88,12 @@ module _ (tail : TailHasNone) (w : Setting) (given : List Event) (k0 k1 k2 : Kee
     longer = (begins.0 ++ settled.more, events_are ∙ ap (λ (es : List Event). es ++ settled.more) begins.1 ∙ append_assoc before.heard begins.0 settled.more);
     none = subst (λ (es : List Event). HasNone es id (length before.heard) (length es)) (sym events_are) (none_more id (length before.heard) k0.events settled.more none_yet settled.nobodys);
     found = settled.found;
+    read = λ n there.
+        let low : n ≤ k0.generation = readings n there in
+        let is : k0.generation ≡ (after k0.events).generation = view.kept.generation in
+        let rises : (after k0.events).generation ≤ (after k2.events).generation =
+        subst (λ (es : List Event). (after k0.events).generation ≤ (after es).generation) (sym events_are) (generation_rises k0.events settled.more) in
+        omega (arith, low, is, rises);
   }
 
 pub nobodys_came : (k0 k1 k2 : KeeperView) (id : ℕ) → k1 ≡ awaited_if id true k0 → HasSettled 16 k1 k2 → NobodysCame k0.events k2.events

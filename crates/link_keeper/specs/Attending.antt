@@ -3,7 +3,8 @@ use Rattle.std.specs.Prelude.{◌≡◌, ℕ, ◌<◌, List, ◌++◌, length, N
 use Rattle.history_event.specs.declared.event.Event.{Event}
 use Rattle.word_rule.specs.declared.view.HartView.{HartView}
 use Rattle.word_rule.specs.declared.view.KeeperView.{KeeperView}
-use Rattle.word_rule.specs.Views.{BeginsWith, row_of}
+use Rattle.word_rule.specs.Views.{BeginsWith, NoneAbove, readings_of, row_of}
+use Rattle.history_state.specs.After.{after}
 use Rattle.history_calls.specs.Laws.{hart_of}
 use Rattle.hart_moves.specs.Follows.{HasNone}
 use Rattle.link_keeper.specs.Passing.{InStep, IsCalling, MayPass}
@@ -26,3 +27,5 @@ pub record Attends (k : KeeperView) (before h : HartView) (id : ℕ) : Type 0 wh
   pub longer : BeginsWith k.events before.heard
   pub none : HasNone k.events id (length before.heard) (length k.events)
   pub found : (m : ℕ) → m < 16 → IsFoundOpen (row_of k m)
+  -- no generation that it has read is later than that of these events
+  pub read : NoneAbove (after k.events).generation (readings_of before.trail)

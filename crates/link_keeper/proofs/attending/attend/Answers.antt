@@ -21,7 +21,7 @@ returns-clause-attends g c = attends c.entries_are_events.ensures.tail g.J.Openi
     c.requires.keeps.view c.requires.heard (c.number.ensures.lane.idle c.requires.calling) c.requires.id
     (subst (λ n. n < 16) (c.number.ensures.number ∙ sym c.requires.id) c.number.ensures.low)
     (c.begin.ensures.keeper ∙ ap (λ (k : KeeperView). awaited_if c.args.id true k) c.tell.ensures.keeper)
-    c.tell.ensures.heard c.tell.ensures.begun c.tell.ensures.issued c.begin.ensures.seat c.begin.ensures.calling c.begin.ensures.step c.settle_all.ensures.settled
+    c.tell.ensures.heard c.tell.ensures.begun c.tell.ensures.issued c.begin.ensures.seat c.begin.ensures.calling c.begin.ensures.step c.settle_all.ensures.settled c.tell.ensures.readings
 
 pub returns-clause-settled : goal.returns-clause-settled
 returns-clause-settled g c = nobodys_came c.args.keeper.now c.begin.new.keeper c.settle_all.new.keeper c.args.id

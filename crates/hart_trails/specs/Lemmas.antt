@@ -1,0 +1,2 @@
+-- Lemmas that proofs of the crates above cite, too. They define nothing that a contract means.
+pub mod Rising
