@@ -24,6 +24,7 @@ use Rattle.world_turns.specs.WorldFrames.Lemmas.Finals.{by_frames, is_next, was_
 use Rattle.world_turns.specs.WorldFrames.Lemmas.Leaving.{FrameLaws}
 use Rattle.hart_fits.specs.Fits.{IsBefore, IsInFinals, OwnMovesLeaveHart}
 use Rattle.hart_fits.specs.Finals.{FinalsBeginFit, OwnMovesFit, OwnMovesLeaveFinals}
+use Rattle.hart_fits.specs.Lemmas.Waits.{is_waiting, own_moves_leave_waits, waits_none}
 
 -- ---- they go on
 
@@ -74,8 +75,8 @@ own_moves_leave_finals laws append stays w past b c did lawful moves on is = rec
 pub finals_begin_fit : FinalsBeginFit
 finals_begin_fit w journal registers from ended at begun x once some = record {
   within = some;
-  writes = λ bytes is. absurd (let at_pc : begun.phase ≡ Phase.at_pc = ap (λ (b : HartState). b.phase) x.is ∙ phase x.code x.object x.addresses in
-      let no : Phase.at_pc ≡ Phase.writing bytes = sym at_pc ∙ is in cc);
+  writes = λ bytes is. absurd (let no : Phase.at_pc ≡ Phase.writing bytes = sym at_pc ∙ is in cc);
+  waits = waits_none w past 0 begun (ap is_waiting at_pc);
   place = inr (record {
     first = refl;
     over = over;
@@ -101,6 +102,9 @@ finals_begin_fit w journal registers from ended at begun x once some = record {
     phase code object [] = refl
     phase code object (a ∷ more) = refl
 
+    at_pc : begun.phase ≡ Phase.at_pc
+    at_pc = ap (λ (b : HartState). b.phase) x.is ∙ phase x.code x.object x.addresses
+
     long : w.machine.harts ≤ length (after past).endings
     long = leb-true w.machine.harts (length (after past).endings) (and_parts (nat_le w.machine.harts (length (after past).endings)) _ x.over).0
 
@@ -120,6 +124,7 @@ pub own_moves_fit : OwnMovesLeaveHart → OwnMovesLeaveFinals → TurnsKeepWrite
 own_moves_fit before finals writes w past h b c did lawful moves runs on fits = record {
   within = fits.within;
   writes = writes w past h b c did moves fits.writes;
+  waits = own_moves_leave_waits w past h b c did moves on fits.waits;
   place = ⊎_elim
       (λ (x : IsBefore past h b). inl (before w past h b c did lawful moves runs x))
       (λ (x : IsInFinals w past h b). inr (in_finals x))

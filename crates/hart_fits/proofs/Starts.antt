@@ -23,6 +23,7 @@ use Rattle.world_turns.specs.WorldFrames.Lemmas.Starting.{start_state, starting_
 use Rattle.hart_fits.specs.Fits.{StartFits}
 use Rattle.hart_fits.specs.Over.{RunsYet}
 use Rattle.hart_fits.specs.Lemmas.Ending.{Ends, ends}
+use Rattle.hart_fits.specs.Lemmas.Waits.{is_waiting, waits_none}
 
 -- ---- a hart that starts copies nothing, and runs no final destructors
 
@@ -69,6 +70,7 @@ pub start_fits : OpeningBegins → StartFits
 start_fits begins w setup past started h b is low at = record {
   within = low;
   writes = writes b new.phase;
+  waits = waits_none w past h b (ap is_waiting new.phase);
   place = inl (record {
     frames = starting_fit begins w setup past started is h b at;
     no_finals = new.none;

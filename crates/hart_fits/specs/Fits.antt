@@ -18,6 +18,7 @@ use Rattle.world_turns.specs.WorldFrames.Belong.{FramesFit}
 use Rattle.world_turns.specs.WorldFrames.Finals.{FinalsFit}
 use Rattle.hart_moves.specs.Follows.{AreOthers}
 use Rattle.hart_fits.specs.Over.{EndsWithin, RunsYet}
+use Rattle.hart_fits.specs.Waits.{HartWaits}
 
 -- before the final destructors: what it has to run is of its openings and closings, and while it runs its end doesn't stand there
 pub record IsBefore (events : List Event) (h : ℕ) (b : HartState) : Type 0 where
@@ -35,6 +36,7 @@ pub record IsInFinals (w : Setting) (events : List Event) (h : ℕ) (b : HartSta
 pub record HartFits (w : Setting) (events : List Event) (h : ℕ) (b : HartState) : Type 0 where
   pub within : h < w.machine.harts
   pub writes : HartWrites b
+  pub waits : HartWaits w events h b
   pub place : IsBefore events h b ⊎ IsInFinals w events h b
 
 -- ---- what leaves it

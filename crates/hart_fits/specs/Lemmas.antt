@@ -1,2 +1,5 @@
 -- Lemmas on this crate's definitions that proofs of the crates above cite, too. They define nothing that a contract means.
 pub mod Ending
+pub mod Owners
+pub mod Settling
+pub mod Waits

@@ -4,3 +4,5 @@ pub mod Lemmas
 pub mod Others
 pub mod Over
 pub mod Own
+pub mod Owners
+pub mod Waits

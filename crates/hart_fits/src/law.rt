@@ -1,10 +1,12 @@
 //! What other harts leave of a hart, and its own moves.
 
 ghost use Rattle.hart_fits.specs.Fits.{FitsMayEnd, OthersLeaveHart, OwnMovesLeaveHart, StartFits};
-ghost use Rattle.hart_fits.specs.Finals.{FinalsBeginFit, OwnMovesFit, OwnMovesLeaveFinals};
+ghost use Rattle.hart_fits.specs.Finals.{FinalsBeginFit, NobodysLeaveFinals, OwnMovesFit, OwnMovesLeaveFinals};
 ghost use Rattle.hart_fits.specs.Others.{OthersLeaveFrames};
 ghost use Rattle.hart_fits.specs.Over.{RunningIsNotOver, UnexitedIsNotOver};
 ghost use Rattle.hart_fits.specs.Own.{OwnMovesKeepFrames};
+ghost use Rattle.hart_fits.specs.Owners.{OwnersEnd, StartHasOwners};
+ghost use Rattle.hart_fits.specs.Waits.{OthersLeaveWaits, OwnMovesLeaveWaits, WaitsAreShown};
 
 /// The events of other harts leave the functions that a hart has still to run those of its openings and
 /// closings, before every hart has ended by exit.
@@ -24,6 +26,20 @@ pub fn others_leave_frames()
 pub fn running_is_not_over()
     ensures runs { RunningIsNotOver }
     ensures ended { UnexitedIsNotOver }
+{}
+
+/// Where all events are of harts of the machine, so are those that ended; and startup's events are.
+pub fn events_have_owners()
+    ensures ends { OwnersEnd }
+    ensures start { StartHasOwners }
+{}
+
+/// A hart that waits knows what its call was shown, and that none of its events came since: other harts'
+/// events leave that so, and its own moves do while it goes on. Where its turn is to wait it is so still.
+pub fn waits_stay()
+    ensures others { OthersLeaveWaits }
+    ensures own { OwnMovesLeaveWaits }
+    ensures shown { WaitsAreShown }
 {}
 
 /// A hart's own move leaves the functions that it has to run those of its openings and closings.
@@ -54,10 +70,11 @@ pub fn harts_fit()
     history_calls::constructors_follow();
 }
 
-/// In the final destructors the first hart's own moves leave it fit while it goes on, and it fits where
-/// they begin.
+/// In the final destructors the first hart's own moves leave it fit while it goes on, and so do events of
+/// nobody; and it fits where they begin.
 pub fn finals_fit()
     ensures own { OwnMovesLeaveFinals }
+    ensures nobodys { NobodysLeaveFinals }
     ensures begin { FinalsBeginFit }
 {
     scope_rule::serials_follow();

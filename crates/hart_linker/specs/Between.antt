@@ -14,8 +14,8 @@ use Rattle.history_calls.specs.Gives.{HasBlock}
 use Rattle.hart_moves.specs.Harts.{HartState, Offered, Resolving}
 use Rattle.hart_moves.specs.Trails.{event_from}
 use Rattle.hart_trails.specs.Entries.{IsExchange}
+use Rattle.hart_trails.specs.Owners.{AreOfHarts}
 use Rattle.hart_fits.specs.Fits.{HartFits}
-use Rattle.hart_fits.specs.Over.{EndsWithin}
 
 abbrev is_event_mark : ℕ → Bool
 is_event_mark mark = mark == 1 || mark == 3
@@ -24,8 +24,8 @@ is_event_mark mark = mark == 1 || mark == 3
 pub record HasHeard (w : Setting) (begun : List Event) (h : HartView) : Type 0 where
   pub legal : Legal w h.heard
   pub begins : BeginsWith h.heard begun
-  -- what ended are harts of the machine
-  pub within : EndsWithin w h.heard
+  -- each of them is that of a hart of the machine, or nobody's
+  pub own : AreOfHarts w h.heard
   pub entries : (e : Entry) → Contains (known_of h.lane) e → is_event_mark e.mark ≡ true → e.number ≤ length h.heard
 
 -- of each module it keeps the block of the last answer at the generation that it kept them at, and no answer of a later one came

@@ -290,7 +290,7 @@ module _ (w : Setting) (begun : List Event) (k : KeeperView) (kept : AreKept w b
     legal = legal_push w k.events e kept.legal may;
     started = startup_is_past k.events (e ∷ []) kept.started;
     begins = (kept.begins.0 ++ e ∷ [], ap (λ (es : List Event). es ++ e ∷ []) kept.begins.1 ∙ append_assoc begun kept.begins.0 (e ∷ []));
-    within = λ x there. kept.within x (subst (λ (s : State). Contains s.endings x) state_is there);
+    own = own_push_none w k.events e kept.own event.nobodys;
     words = subst (λ (s : State). IsOfState s (record (record (fated_in fate h k) { words = words }) { events = k.events ++ e ∷ [] }) (number_in (k.events ++ e ∷ []))) (sym state_is)
         (states_stay (settle (number_in k.events h g) standing (after k.events)) (settle (number_in k.events h g) standing (after k.events)) (fated_in fate h k)
         (record (record (fated_in fate h k) { words = words }) { events = k.events ++ e ∷ [] }) (number_in k.events) (number_in (k.events ++ e ∷ []))

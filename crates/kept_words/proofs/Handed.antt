@@ -217,3 +217,5 @@ issued_stays w journal more h e (IsIssued.of_block past rest l at block is) =
     IsIssued.of_block past (rest ++ more) l (ap (λ (es : List Event). es ++ more) at ∙ append_assoc past rest more) block is
 issued_stays w journal more h e (IsIssued.of_again past rest call for at shows is) =
     IsIssued.of_again past (rest ++ more) call for (ap (λ (es : List Event). es ++ more) at ∙ append_assoc past rest more) shows is
+issued_stays w journal more h e (IsIssued.of_wait past rest for at shown is) =
+    IsIssued.of_wait past (rest ++ more) for (ap (λ (es : List Event). es ++ more) at ∙ append_assoc past rest more) shown is

@@ -10,7 +10,6 @@ use Rattle.history_event.specs.declared.event.Event.{Event}
 use Rattle.history_event.specs.declared.event.Event.TheVariants as events
 use Rattle.history_event.specs.declared.event.OpenAnswer.TheVariants as opens
 use Rattle.history_event.specs.declared.event.SymAnswer.TheVariants as syms
-use Rattle.history_event.specs.declared.state.Ending.{Ending}
 use Rattle.word_rule.specs.declared.entry.Entry.{Entry}
 use Rattle.word_rule.specs.declared.entry.Grant.{Grant}
 use Rattle.word_rule.specs.declared.view.Fate.{Fate}
@@ -38,6 +37,7 @@ use Rattle.history_state.specs.Lemmas.Calling.{startup_is_past}
 use Rattle.history_state.specs.Lemmas.History.{after_push, legal_push}
 use Rattle.history_state.specs.Lemmas.Lists.{none_in, only_in}
 use Rattle.history_calls.specs.Laws.{hart_of}
+use Rattle.hart_trails.specs.Owners.{AreOfHarts}
 use Rattle.hart_trails.specs.Trails.{is_granting}
 use Rattle.word_holds.specs.Shared.{IsOfState}
 use Rattle.kept_words.specs.Handed.{IsIssued, event_numbers, own_numbers}
@@ -208,7 +208,7 @@ alike_kept w begun k l is kept = record {
   legal = subst (Legal w) (sym is.events) kept.legal;
   started = ap (λ (es : List Event). is_startup (after es)) is.events ∙ kept.started;
   begins = (kept.begins.0, is.events ∙ kept.begins.1);
-  within = λ e there. kept.within e (subst (λ (es : List Event). Contains (after es).endings e) is.events there);
+  own = subst (AreOfHarts w) (sym is.events) kept.own;
   words = subst (λ (es : List Event). IsOfState (after es) l (number_in es)) (sym is.events)
       (states_stay (after k.events) (after k.events) k l (number_in k.events) (number_in k.events)
       (record { role = λ a word. refl; word = λ a word roles. refl; images = refl; grants = refl }) (alike_grants k l is) (λ m g low stands. refl) kept.words);
@@ -273,6 +273,23 @@ begun_short w begun k kept =
     let whole : length k.events ≡ length begun + length kept.begins.0 = ap length kept.begins.1 ∙ length-append begun kept.begins.0 in
     omega (arith, whole)
 
+-- an event of a hart of the machine is counted
+pub own_push : (w : Setting) (events : List Event) (e : Event) (h : ℕ) → AreOfHarts w events → hart_of e ≡ Some h → h < w.machine.harts → AreOfHarts w (events ++ e ∷ [])
+own_push w events e h of own low d m there is = ⊎_elim
+    (λ (old : Contains events d). of d m old is)
+    (λ (new : Contains (e ∷ []) d).
+    let same : Some h ≡ Some m = sym own ∙ ap hart_of (only_in e d new) ∙ is in
+    let hart : h ≡ m = cc in
+    subst (λ (n : ℕ). n < w.machine.harts) hart low)
+    (Contains-append_cases events (e ∷ []) d there)
+
+-- one of nobody is
+pub own_push_none : (w : Setting) (events : List Event) (e : Event) → AreOfHarts w events → hart_of e ≡ None → AreOfHarts w (events ++ e ∷ [])
+own_push_none w events e of nobodys d m there is = ⊎_elim
+    (λ (old : Contains events d). of d m old is)
+    (λ (new : Contains (e ∷ []) d). let no : None ≡ Some m = sym nobodys ∙ ap hart_of (only_in e d new) ∙ is in absurd cc)
+    (Contains-append_cases events (e ∷ []) d there)
+
 -- ---- an event that leaves memory
 
 no_grant : (e : Event) → leaves_memory e ≡ true → is_granting e ≡ false
@@ -291,40 +308,27 @@ no_grant (events.Wrote hart bytes) leaves = refl
 no_grant (events.Told hart fault) leaves = refl
 no_grant (events.Ended hart reason) leaves = refl
 
--- its ends are those before it, and perhaps its own hart's; and it leaves the generation
-record Quiet (s : State) (e : Event) (h n : ℕ) : Type 0 where
-  within : ((x : Ending) → Contains s.endings x → x.hart < n) → (x : Ending) → Contains (step s e).endings x → x.hart < n
-  generation : (step s e).generation ≡ s.generation
-
-quiet : (s : State) (e : Event) (h n : ℕ) → h < n → hart_of e ≡ Some h → leaves_memory e ≡ true → Quiet s e h n
+-- it leaves the generation
+same_generation : (s : State) (e : Event) → leaves_memory e ≡ true → (step s e).generation ≡ s.generation
 unfolding loaded die lower initialise
-quiet s (events.Open hart ask (opens.Done id root added ranges)) h n low own leaves = absurd (false≢true leaves)
-quiet s (events.Open hart ask opens.Absent) h n low own leaves = record { within = λ all. all; generation = refl }
-quiet s (events.Open hart ask (opens.Refused fault)) h n low own leaves = record { within = λ all. all; generation = refl }
-quiet s (events.Close hart handle (closes.Done set)) h n low own leaves = record { within = λ all. all; generation = refl }
-quiet s (events.Close hart handle (closes.Refused fault)) h n low own leaves = record { within = λ all. all; generation = refl }
-quiet s (events.Unmapped hart set) h n low own leaves = absurd (false≢true leaves)
-quiet s (events.Grant number hart owner slot choice value) h n low own leaves = absurd (false≢true leaves)
-quiet s (events.Bound number) h n low own leaves = absurd (false≢true leaves)
-quiet s (events.Lost number saw) h n low own leaves = absurd (false≢true leaves)
-quiet s (events.Unresolved hart owner slot choice) h n low own leaves = record { within = λ all. all; generation = refl }
-quiet s (events.Sym hart ask (syms.Found serial index value)) h n low own leaves = record { within = λ all. all; generation = refl }
-quiet s (events.Sym hart ask (syms.Refused fault)) h n low own leaves = record { within = λ all. all; generation = refl }
-quiet s (events.Tls hart owner address) h n low own leaves = absurd (false≢true leaves)
-quiet s (events.Init hart object) h n low own leaves = record { within = λ all. all; generation = refl }
-quiet s (events.Fini hart object) h n low own leaves = record { within = λ all. all; generation = refl }
-quiet s (events.Wrote hart bytes) h n low own leaves = record { within = λ all. all; generation = refl }
-quiet s (events.Told hart fault) h n low own leaves = record { within = λ all. all; generation = refl }
-quiet s (events.Ended hart reason) h n low own leaves = record {
-  within = λ all x there. ⊎_elim
-      (λ (old : Contains s.endings x). all x old)
-      (λ (new : Contains (record { hart = hart; «end» = reason } ∷ []) x). subst (λ (y : Ending). y.hart < n) (only_in (record { hart = hart; «end» = reason }) x new) (subst (λ (i : ℕ). i < n) (sym same) low))
-      (Contains-append_cases s.endings (record { hart = hart; «end» = reason } ∷ []) x there);
-  generation = refl;
-}
-  where
-    same : hart ≡ h
-    same = let is : Some hart ≡ Some h = own in cc
+same_generation s (events.Open hart ask (opens.Done id root added ranges)) leaves = absurd (false≢true leaves)
+same_generation s (events.Open hart ask opens.Absent) leaves = refl
+same_generation s (events.Open hart ask (opens.Refused fault)) leaves = refl
+same_generation s (events.Close hart handle (closes.Done set)) leaves = refl
+same_generation s (events.Close hart handle (closes.Refused fault)) leaves = refl
+same_generation s (events.Unmapped hart set) leaves = absurd (false≢true leaves)
+same_generation s (events.Grant number hart owner slot choice value) leaves = absurd (false≢true leaves)
+same_generation s (events.Bound number) leaves = absurd (false≢true leaves)
+same_generation s (events.Lost number saw) leaves = absurd (false≢true leaves)
+same_generation s (events.Unresolved hart owner slot choice) leaves = refl
+same_generation s (events.Sym hart ask (syms.Found serial index value)) leaves = refl
+same_generation s (events.Sym hart ask (syms.Refused fault)) leaves = refl
+same_generation s (events.Tls hart owner address) leaves = absurd (false≢true leaves)
+same_generation s (events.Init hart object) leaves = refl
+same_generation s (events.Fini hart object) leaves = refl
+same_generation s (events.Wrote hart bytes) leaves = refl
+same_generation s (events.Told hart fault) leaves = refl
+same_generation s (events.Ended hart reason) leaves = refl
 
 pub quiet_kept : QuietKept
 quiet_kept w begun k h e entry kept own_low own leaves may is = record {
@@ -334,11 +338,11 @@ quiet_kept w begun k h e entry kept own_low own leaves may is = record {
   legal = legal_push w k.events e kept.legal may;
   started = startup_is_past k.events (e ∷ []) kept.started;
   begins = (kept.begins.0 ++ e ∷ [], ap (λ (es : List Event). es ++ e ∷ []) kept.begins.1 ∙ append_assoc begun kept.begins.0 (e ∷ []));
-  within = λ x there. step_is.within kept.within x (subst (λ (s : State). Contains s.endings x) (after_push k.events e) there);
+  own = own_push w k.events e h kept.own own own_low;
   words = subst (λ (s : State). IsOfState s (handed_over h entry (counted e k)) (number_in (k.events ++ e ∷ []))) (sym (after_push k.events e))
       (states_stay (after k.events) (step (after k.events) e) k (handed_over h entry (counted e k)) (number_in k.events) (number_in (k.events ++ e ∷ []))
       (events_stay (after k.events) e leaves) same (λ m g few stands. later_number k.events (e ∷ []) m g (kept.granted m g few stands)) kept.words);
-  generation = kept.generation ∙ sym step_is.generation ∙ ap (λ (s : State). s.generation) (sym (after_push k.events e));
+  generation = kept.generation ∙ sym (same_generation (after k.events) e leaves) ∙ ap (λ (s : State). s.generation) (sym (after_push k.events e));
   granted = λ m g few stands. later_event k.events (e ∷ []) m g (kept.granted m g few (stands_back k (handed_over h entry (counted e k)) same m g stands));
   rows = rows_on k (handed_over h entry (counted e k)) (e ∷ []) refl (settles_none e (quiet_event e leaves)) (λ d. refl) same.pending same.settled kept.rows;
   seen = subst (λ (s : State). LostHaveSeen s (handed_over h entry (counted e k))) (sym (after_push k.events e))
@@ -356,9 +360,6 @@ quiet_kept w begun k h e entry kept own_low own leaves may is = record {
     low : h < harts_at_most
     low = let few : w.machine.harts ≤ harts_at_most = kept.few in omega (arith, few, own_low)
 
-    step_is : Quiet (after k.events) e h w.machine.harts
-    step_is = quiet (after k.events) e h w.machine.harts own_low own leaves
-
     same : SameGrants k (handed_over h entry (counted e k))
     same = record { words = λ d. refl; pending = handed_pending (counted e k) h entry kept.long low; settled = handed_settled (counted e k) h entry kept.long low }
 
@@ -372,7 +373,7 @@ answered_kept w begun k h entry kept own_low marks is = record {
   legal = kept.legal;
   started = kept.started;
   begins = kept.begins;
-  within = kept.within;
+  own = kept.own;
   words = states_stay (after k.events) (after k.events) k (handed_over h entry k) (number_in k.events) (number_in k.events)
       (record { role = λ a word. refl; word = λ a word roles. refl; images = refl; grants = refl }) same (λ m g few stands. refl) kept.words;
   generation = kept.generation;

@@ -33,7 +33,7 @@ use Rattle.kept_words.specs.Posted.{Posts}
 use Rattle.kept_words.specs.Posting.{NewGrant, event_of, granting_of}
 use Rattle.kept_words.specs.Staying.{IsGrantEvent, number_in}
 use Rattle.kept_words.proofs.Handed.{issued_stays, posted_handed_stays}
-use Rattle.kept_words.proofs.Keeping.{begun_short, inside, later_event, row_field, rows_on, settles_none, was_lost}
+use Rattle.kept_words.proofs.Keeping.{begun_short, inside, later_event, own_push, row_field, rows_on, settles_none, was_lost}
 use Rattle.kept_words.proofs.Posted.{posted_stays}
 use Rattle.kept_words.proofs.Posting.{at_end}
 use Rattle.kept_words.proofs.Seen.{seen_more, seen_on}
@@ -116,7 +116,7 @@ module _ (w : Setting) (begun : List Event) (k : KeeperView) (g : NewGrant) (x :
     legal = legal_push w k.events e kept.legal may;
     started = startup_is_past k.events (e ∷ []) kept.started;
     begins = (kept.begins.0 ++ e ∷ [], ap (λ (es : List Event). es ++ event_of g ∷ []) kept.begins.1 ∙ append_assoc begun kept.begins.0 (e ∷ []));
-    within = λ y there. kept.within y (subst (λ (s : State). Contains s.endings y) (after_push k.events e) there);
+    own = own_push w k.events e g.hart kept.own refl own_low;
     words = subst (λ (s : State). IsOfState s (posted g.hart x (counted (event_of g) k)) (number_in (k.events ++ event_of g ∷ []))) (sym (after_push k.events e)) stays;
     generation = kept.generation ∙ ap (λ (s : State). s.generation) (sym (after_push k.events e));
     granted = λ m p few stands. ⊎_elim

@@ -10,7 +10,6 @@ use Rattle.history_event.specs.declared.event.OpenAnswer.TheVariants as opens
 use Rattle.history_event.specs.declared.event.Purpose.{Purpose}
 use Rattle.history_event.specs.declared.event.Purpose.TheVariants as purposes
 use Rattle.history_event.specs.declared.event.Range.{Range}
-use Rattle.history_event.specs.declared.state.Ending.{Ending}
 use Rattle.history_event.specs.declared.state.Granting.{Granting}
 use Rattle.word_rule.specs.declared.entry.Entry.{Entry}
 use Rattle.word_rule.specs.declared.entry.Grant.{Grant}
@@ -176,24 +175,23 @@ module _ (pages : PageLaws) (w : Setting) (past : List Event) (s : State) (now :
 -- ---- what an event that remakes memory leaves
 
 record Remaking (s : State) (e : Event) : Type 0 where
-  endings : (step s e).endings ≡ s.endings
   grants : (step s e).grants ≡ s.grants
   granting : is_granting e ≡ false
   settling : is_settling e ≡ false
 
 remaking : (s : State) (e : Event) → remakes_memory e ≡ true → Remaking s e
 unfolding loaded unmap
-remaking s (events.Open hart ask (opens.Done id root added ranges)) is = record { endings = refl; grants = refl; granting = refl; settling = refl }
+remaking s (events.Open hart ask (opens.Done id root added ranges)) is = record { grants = refl; granting = refl; settling = refl }
 remaking s (events.Open hart ask opens.Absent) is = absurd (false≢true is)
 remaking s (events.Open hart ask (opens.Refused fault)) is = absurd (false≢true is)
 remaking s (events.Close hart handle answer) is = absurd (false≢true is)
-remaking s (events.Unmapped hart set) is = record { endings = refl; grants = refl; granting = refl; settling = refl }
+remaking s (events.Unmapped hart set) is = record { grants = refl; granting = refl; settling = refl }
 remaking s (events.Grant number hart owner slot choice value) is = absurd (false≢true is)
 remaking s (events.Bound number) is = absurd (false≢true is)
 remaking s (events.Lost number saw) is = absurd (false≢true is)
 remaking s (events.Unresolved hart owner slot choice) is = absurd (false≢true is)
 remaking s (events.Sym hart ask answer) is = absurd (false≢true is)
-remaking s (events.Tls hart owner address) is = record { endings = refl; grants = refl; granting = refl; settling = refl }
+remaking s (events.Tls hart owner address) is = record { grants = refl; granting = refl; settling = refl }
 remaking s (events.Init hart object) is = absurd (false≢true is)
 remaking s (events.Fini hart object) is = absurd (false≢true is)
 remaking s (events.Wrote hart bytes) is = absurd (false≢true is)
@@ -311,7 +309,7 @@ module _ (w : Setting) (begun : List Event) (k l : KeeperView) (kept : AreKept w
     legal = legal_push w k.events e kept.legal may;
     started = startup_is_past k.events (e ∷ []) kept.started;
     begins = (kept.begins.0 ++ e ∷ [], ap (λ (es : List Event). es ++ e ∷ []) kept.begins.1 ∙ append_assoc begun kept.begins.0 (e ∷ []));
-    within = λ x there. kept.within x (subst (λ (all : List Ending). Contains all x) is.endings (subst (λ (t : State). Contains t.endings x) (after_push k.events e) there));
+    own = own_push w k.events e h kept.own own own_low;
     words = subst (λ (t : State). IsOfState t (handed_over h entry (counted e mid)) (number_in (k.events ++ e ∷ []))) (sym (after_push k.events e))
         (states_stay (step (after k.events) e) (step (after k.events) e) mid (handed_over h entry (counted e mid)) (number_in k.events) (number_in (k.events ++ e ∷ []))
         (record { role = λ a word. refl; word = λ a word roles. refl; images = refl; grants = refl }) same

@@ -23,6 +23,7 @@ use Rattle.hart_moves.specs.Follows.{HasNone}
 use Rattle.hart_moves.specs.Trails.{Located, block_of}
 use Rattle.hart_trails.specs.Entries.{again_entry, block_entry, entry_behind}
 use Rattle.hart_trails.specs.Trails.{is_granting}
+use Rattle.hart_trails.specs.Waits.{IsStillShown}
 
 -- ---- events and entries
 
@@ -35,7 +36,7 @@ pub record IsGrantEntry (past : List Event) (h number owner slot : ℕ) (choice 
   pub generation_is : e.generation ≡ (after (past ++ events.Grant number h owner slot choice value ∷ [])).generation
 
 -- an entry says what stands in the journal at its number: an event of the hart, with what it answers, or a grant of the hart; or what held there:
--- the hart's block of a module, or why its call is to be tried again
+-- the hart's block of a module, or why its call is to be tried again, be it shown there or to its call before, and so still
 pub data IsIssued (w : Setting) (journal : List Event) (h : ℕ) (e : Entry) : Type 0 where
   of_event : (past rest : List Event) (event : Event) → journal ≡ past ++ event ∷ rest → hart_of event ≡ Some h → is_granting event ≡ false
       → e ≡ entry_behind past event → IsIssued w journal h e
@@ -45,6 +46,7 @@ pub data IsIssued (w : Setting) (journal : List Event) (h : ℕ) (e : Entry) : T
       → IsIssued w journal h e
   of_again : (past rest : List Event) (call : Call) (for : Shown) → journal ≡ past ++ rest → Shows w (after past) h call for → e ≡ again_entry past for
       → IsIssued w journal h e
+  of_wait : (past rest : List Event) (for : Shown) → journal ≡ past ++ rest → IsStillShown w past h for → e ≡ again_entry past for → IsIssued w journal h e
 
 -- each entry that a hart was handed
 abbrev pub AreIssued : Setting → KeeperView → Type 0

@@ -2,7 +2,6 @@
 use Rattle.std.specs.Prelude.{◌≡◌, ◌≢◌, ℕ, ◌≤◌, ◌<◌, false, List, length, Some, Contains}
 use Rattle.history_event.specs.declared.event.Event.{Event}
 use Rattle.history_event.specs.declared.event.Event.TheVariants.{Bound, Lost}
-use Rattle.history_event.specs.declared.state.Ending.{Ending}
 use Rattle.history_event.specs.declared.state.Granting.{Granting}
 use Rattle.history_event.specs.declared.state.Standing.TheVariants.{Lost as LostStanding}
 use Rattle.word_rule.specs.declared.entry.Grant.{Grant}
@@ -20,6 +19,7 @@ use Rattle.history_state.specs.Setting.{Setting}
 use Rattle.history_state.specs.State.{Linked, State}
 use Rattle.history_memory.specs.Holds.{IsSlotAt}
 use Rattle.history_memory.specs.Memory.{IsDoubleword}
+use Rattle.hart_trails.specs.Owners.{AreOfHarts}
 use Rattle.word_holds.specs.Shared.{IsOfState}
 use Rattle.kept_words.specs.Handed.{AreHanded, AreIssued}
 use Rattle.kept_words.specs.Staying.{HaveEvents, IsGrantEvent, number_in}
@@ -74,11 +74,11 @@ pub record AreKept (w : Setting) (begun : List Event) (k : KeeperView) : Type 0 
   pub few : w.machine.harts ≤ harts_at_most
   pub harts : k.harts ≡ w.machine.harts
   pub long : IsLong k
-  -- the journal is a legal history, behind startup, whose ends are harts' of the machine
+  -- the journal is a legal history, behind startup, whose events are those of harts of the machine, or nobody's
   pub legal : Legal w k.events
   pub started : is_startup (after k.events) ≡ false
   pub begins : BeginsWith k.events begun
-  pub within : (e : Ending) → Contains (after k.events).endings e → e.hart < w.machine.harts
+  pub own : AreOfHarts w k.events
   -- roles, words and grants are those of its state, and so is the generation
   pub words : IsOfState (after k.events) k (number_in k.events)
   pub generation : k.generation ≡ (after k.events).generation

@@ -17,7 +17,8 @@ use Rattle.tls_blocks.specs.Blocks.{BlockTable}
 use Rattle.hart_fits.specs.Fits.{HartFits, IsBefore, IsInFinals}
 use Rattle.hart_fits.specs.Over.{RunningIsNotOver}
 use Rattle.kept_words.specs.Handed.{is_event_mark}
-use Rattle.hart_fits.specs.Over.{EndsWithin}
+use Rattle.hart_fits.specs.Lemmas.Owners.{owners_end}
+use Rattle.hart_trails.specs.Owners.{AreOfHarts}
 use Rattle.hart_linker.specs.Between.{BlocksFit, HasHeard}
 use Rattle.link_keeper.specs.Keeping.{KeepsView, WasOver}
 
@@ -26,7 +27,7 @@ use Rattle.link_keeper.specs.Keeping.{KeepsView, WasOver}
 pub alone_of : RunningIsNotOver → (w : Setting) (begun : List Event) (k : KeeperView) (h : ℕ) (b : HartState) → KeepsView w begun k → HartFits w k.events h b → b.«end» ≡ None → WasOver w k.events → h ≡ 0
 alone_of not_over w begun k h b view fits runs was = ⊎_elim
     (λ (before : IsBefore k.events h b).
-    absurd (not_over w k.events h (legal_is_lawful w k.events view.kept.legal) fits.within view.kept.within (before.runs runs) was.0 was.1 was.2 was.3))
+    absurd (not_over w k.events h (legal_is_lawful w k.events view.kept.legal) fits.within (owners_end w k.events view.kept.own) (before.runs runs) was.0 was.1 was.2 was.3))
     (λ (last : IsInFinals w k.events h b). last.first)
     fits.place
 
@@ -38,7 +39,7 @@ pub heard_on : (w : Setting) (begun : List Event) (k : KeeperView) (before now :
 heard_on w begun k before now entries view heard are longer known new = record {
   legal = subst (Legal w) (sym are) view.kept.legal;
   begins = (view.kept.begins.0, are ∙ view.kept.begins.1);
-  within = subst (EndsWithin w) (sym are) view.kept.within;
+  own = subst (AreOfHarts w) (sym are) view.kept.own;
   entries = λ e there event.
       let low : e.number ≤ length k.events = ⊎_elim
       (λ (old : Contains (known_of before.lane) e). let had : e.number ≤ length before.heard = heard.entries e old event in omega (arith, had, longer))

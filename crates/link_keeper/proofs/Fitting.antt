@@ -28,6 +28,11 @@ use Rattle.hart_moves.specs.Harts.{Frame, HartState, Purpose}
 use Rattle.hart_moves.specs.Moves.{AreAllowed}
 use Rattle.world_turns.specs.WorldFrames.Belong.{AreFramesOf, FramesFit, IsFrameOf, Origin}
 use Rattle.hart_fits.specs.Fits.{HartFits, IsBefore, IsInFinals, OthersLeaveHart}
+use Rattle.hart_fits.specs.Lemmas.Owners.{owners_end}
+use Rattle.hart_fits.specs.Lemmas.Settling.{all_settled}
+use Rattle.hart_fits.specs.Lemmas.Waits.{others_leave_waits}
+use Rattle.hart_fits.specs.Over.{EndsWithin}
+use Rattle.hart_fits.specs.Waits.{HartWaits}
 use Rattle.link_keeper.specs.Keeping.{KeepsView, WasOver}
 
 -- ---- a legal history, from a moment on
@@ -75,76 +80,6 @@ none_more h from past more none nobodys k e above below at = dite (dec_le (lengt
     front_same {X} (z ∷ xs) ys zero low = refl
     front_same {X} (z ∷ xs) ys (suc n) low = front_same xs ys n (omega (arith, low))
 
--- ---- a grant that is settled leaves the frames
-
-frame_on : (n : ℕ) (z : Standing) (s : State) (h : ℕ) (o : Origin) (purpose : Purpose) (queue : List Function) → IsFrameOf s h o purpose queue → IsFrameOf (settle n z s) h o purpose queue
-frame_on n z s h (Origin.opening l) (Purpose.of_startup registers) queue x = record { there = x.there; by = x.by; left = record { each = x.left.each; all = x.left.all } }
-frame_on n z s h (Origin.opening l) (Purpose.of_opening to root) queue x = record { there = x.there; by = x.by; left = record { each = x.left.each; all = x.left.all } }
-frame_on n z s h (Origin.opening l) (Purpose.of_closing to set) queue x = x
-frame_on n z s h (Origin.opening l) (Purpose.of_end code) queue x = x
-frame_on n z s h (Origin.closing c) (Purpose.of_startup registers) queue x = x
-frame_on n z s h (Origin.closing c) (Purpose.of_opening to root) queue x = x
-frame_on n z s h (Origin.closing c) (Purpose.of_closing to set) queue x = record { there = x.there; by = x.by; whole = x.whole; left = x.left }
-frame_on n z s h (Origin.closing c) (Purpose.of_end code) queue x = x
-
-frames_on : (n : ℕ) (z : Standing) (s : State) (h : ℕ) (origins : List Origin) (frames : List Frame) → AreFramesOf s h origins frames → AreFramesOf (settle n z s) h origins frames
-frames_on n z s h [] [] x = x
-frames_on n z s h [] (f ∷ fs) x = x
-frames_on n z s h (o ∷ os) [] x = x
-frames_on n z s h (o ∷ os) (f ∷ fs) x = (frame_on n z s h o f.purpose f.queue x.0, frames_on n z s h os fs x.1)
-
--- what is nobody's settles a grant
-data IsSettling (s : State) (e : Event) : Type 0 where
-  settles : (n : ℕ) (z : Standing) → step s e ≡ settle n z s → IsSettling s e
-
-is_settling : (s : State) (e : Event) → hart_of e ≡ None → IsSettling s e
-is_settling s (events.Open hart ask answer) none = absurd (let no : Some hart ≡ None = none in cc)
-is_settling s (events.Close hart handle answer) none = absurd (let no : Some hart ≡ None = none in cc)
-is_settling s (events.Unmapped hart set) none = absurd (let no : Some hart ≡ None = none in cc)
-is_settling s (events.Grant number hart owner slot choice value) none = absurd (let no : Some hart ≡ None = none in cc)
-is_settling s (events.Bound number) none = IsSettling.settles number Bound refl
-is_settling s (events.Lost number saw) none = IsSettling.settles number (Lost saw) refl
-is_settling s (events.Unresolved hart owner slot choice) none = absurd (let no : Some hart ≡ None = none in cc)
-is_settling s (events.Sym hart ask answer) none = absurd (let no : Some hart ≡ None = none in cc)
-is_settling s (events.Tls hart owner address) none = absurd (let no : Some hart ≡ None = none in cc)
-is_settling s (events.Init hart object) none = absurd (let no : Some hart ≡ None = none in cc)
-is_settling s (events.Fini hart object) none = absurd (let no : Some hart ≡ None = none in cc)
-is_settling s (events.Wrote hart bytes) none = absurd (let no : Some hart ≡ None = none in cc)
-is_settling s (events.Told hart fault) none = absurd (let no : Some hart ≡ None = none in cc)
-is_settling s (events.Ended hart reason) none = absurd (let no : Some hart ≡ None = none in cc)
-
-one_settled : (w : Setting) (past : List Event) (e : Event) (h : ℕ) (b : HartState) → hart_of e ≡ None → IsInFinals w past h b → IsInFinals w (past ++ e ∷ []) h b
-one_settled w past e h b none x = by (is_settling (after past) e none)
-  where
-    by : IsSettling (after past) e → IsInFinals w (past ++ e ∷ []) h b
-    by (IsSettling.settles n z is) =
-        let state : after (past ++ e ∷ []) ≡ settle n z (after past) = after_push past e ∙ is in
-        record {
-          first = x.first;
-          over = subst (λ (s : State). IsTrue (are_finals w s)) (sym state) x.over;
-          frames = record {
-            code = x.frames.code;
-            function = x.frames.function;
-            above = x.frames.above;
-            are = x.frames.are;
-            fit = subst (λ (s : State). FramesFit s 0 x.frames.above) (sym state)
-                (record { origins = x.frames.fit.origins; are = frames_on n z (after past) 0 x.frames.fit.origins x.frames.above x.frames.fit.are; once = x.frames.fit.once });
-            initialised = subst (λ (s : State). IsTrue (has s.inits x.frames.function.object)) (sym state) x.frames.initialised;
-            was = record {
-              before = x.frames.was.before;
-              since = x.frames.was.since ++ e ∷ [];
-              are = ap (λ (es : List Event). es ++ e ∷ []) x.frames.was.are ∙ append_assoc x.frames.was.before x.frames.was.since (e ∷ []);
-              over = x.frames.was.over;
-              next = x.frames.was.next;
-            };
-          };
-        }
-
-all_settled : (w : Setting) (past more : List Event) (h : ℕ) (b : HartState) → ((e : Event) → Contains more e → hart_of e ≡ None) → IsInFinals w past h b → IsInFinals w (past ++ more) h b
-all_settled w past [] h b none x = subst (λ (es : List Event). IsInFinals w es h b) (sym (append-nil past)) x
-all_settled w past (e ∷ rest) h b none x = subst (λ (es : List Event). IsInFinals w es h b) (one_behind past e rest)
-    (all_settled w (past ++ e ∷ []) rest h b (λ d there. none d (later e rest d there)) (one_settled w past e h b (none e (here e rest)) x))
-
 -- ---- what a hart fits
 
 exits : (w : Setting) (s : State) → IsTrue (are_finals w s) → IsTrue (have_exited w s)
@@ -155,10 +90,11 @@ pub fits_on : OthersLeaveHart → (w : Setting) (begun past more : List Event) (
 fits_on others w begun past more k h b legal view are none runs fits = record {
   within = fits.within;
   writes = fits.writes;
+  waits = subst (λ (es : List Event). HartWaits w es h b) (sym are) (others_leave_waits w past more h b apart fits.waits);
   place = ⊎_elim
       (λ (before : IsBefore past h b). inl (subst (λ (es : List Event). IsBefore es h b) (sym are)
       (others w past more h b (legal_is_lawful w past legal) (legal_is_lawful w (past ++ more) whole) (allowed_from w past more whole) apart
-      (λ x there. view.kept.within x (subst (λ (es : List Event). Contains (after es).endings x) (sym are) there)) fits.within runs before)))
+      (subst (EndsWithin w) are (owners_end w k.events view.kept.own)) fits.within runs before)))
       (λ (last : IsInFinals w past h b). inr (subst (λ (es : List Event). IsInFinals w es h b) (sym are) (all_settled w past more h b (nobodys last) last)))
       fits.place;
 }

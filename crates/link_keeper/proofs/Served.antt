@@ -9,7 +9,7 @@ use Rattle.word_rule.specs.declared.entry.Entry.{Entry}
 use Rattle.word_rule.specs.declared.view.HartView.{HartView}
 use Rattle.word_rule.specs.declared.view.KeeperView.{KeeperView}
 use Rattle.word_rule.specs.declared.view.TrailItem.{TrailItem}
-use Rattle.word_rule.specs.Views.{known_of}
+use Rattle.word_rule.specs.Views.{NoneAbove, known_of, readings_of}
 use Rattle.history_state.specs.After.{after}
 use Rattle.history_state.specs.Legal.{Lawful}
 use Rattle.history_state.specs.Lemmas.History.{legal_is_lawful, legal_push, one_behind}
@@ -29,6 +29,7 @@ use Rattle.world_turns.specs.WorldEnds.Lemmas.Endings.{sparing_events}
 use Rattle.hart_trails.specs.Entries.{entry_behind}
 use Rattle.hart_trails.specs.Trails.{Leaves, Reads, took_behind}
 use Rattle.hart_fits.specs.Fits.{HartFits, IsBefore, IsInFinals}
+use Rattle.hart_fits.specs.Lemmas.Owners.{owners_end}
 use Rattle.hart_fits.specs.Over.{RunningIsNotOver}
 use Rattle.link_state.specs.Table.{LinkTable}
 use Rattle.tls_blocks.specs.Blocks.{BlockTable}
@@ -133,7 +134,7 @@ module _ (not_over : RunningIsNotOver) (append : TurnsAppend) (own_fit : OwnMove
       ⊎_elim
       (λ (yet : IsBefore k.events id b).
       absurd (not_over w (k.events ++ front) id (legal_is_lawful w (k.events ++ front) (legal_on w k.events front keeps.view.kept.legal may)) low
-      (λ x there. keeps.view.kept.within x (subst (λ es. Contains es x) ends there))
+      (λ x there. owners_end w k.events keeps.view.kept.own x (subst (λ es. Contains es x) ends there))
       (λ there. yet.runs runs (subst (λ es. Contains (map (λ x. x.hart) es) id) ends there)) was.0 was.1 was.2 was.3))
       (λ (last : IsInFinals w k.events id b). last.first)
       fits.place
@@ -242,6 +243,8 @@ module _ (not_over : RunningIsNotOver) (append : TurnsAppend) (own_fit : OwnMove
         turns = subst (λ (es : List Event). TurnsAt w es before.number turned b c) (sym heard_is)
             (subst (λ (n : ℕ). TurnsAt w (k.events ++ turn.first ∷ turn.rest) n turned b c) same turns_at);
         last = ap length heard_is ∙ length-append k.events (turn.first ∷ turn.rest) ∙ ap (λ (n : ℕ). length k.events + n) (sym (ap length own_is));
+        read = subst (λ (es : List Event). NoneAbove (after es).generation (readings_of before.trail))
+            (sym (ap (take (length k.events)) heard_is ∙ take-append_seam k.events (turn.first ∷ turn.rest))) at.read;
         items = took_behind k.events (turn.first ∷ turn.rest);
         trail = trail;
         leaves = λ read reads.

@@ -338,7 +338,7 @@ module _ (w : Setting) (begun : List Event) (installs : Installs) (start : IsSta
       legal = subst (Legal w) (sym events_is) start.legal;
       started = ap (λ (es : List Event). is_startup (after es)) events_is ∙ start.started;
       begins = ([], events_is ∙ sym (append-nil begun));
-      within = λ e there. start.within e (subst (λ (es : List Event). Contains (after es).endings e) events_is there);
+      own = subst (AreOfHarts w) (sym events_is) start.own;
       words = subst (λ (es : List Event). IsOfState (after es) l (number_in l.events)) (sym events_is) words;
       generation = generation ∙ ap (λ (es : List Event). (after es).generation) (sym events_is);
       granted = λ m g low stands. absurd (none_stands l rows_are m g stands);

@@ -1,7 +1,6 @@
 -- A run has started: its events are counted and its objects installed, and no hart has done anything. For whoever makes the keeper.
-use Rattle.std.specs.Prelude.{◌≡◌, ℕ, ◌≤◌, ◌<◌, true, false, cond, List, [], ◌∷◌, Contains}
+use Rattle.std.specs.Prelude.{◌≡◌, ℕ, ◌≤◌, true, false, cond, List, [], ◌∷◌, Contains}
 use Rattle.history_event.specs.declared.event.Event.{Event}
-use Rattle.history_event.specs.declared.state.Ending.{Ending}
 use Rattle.word_rule.specs.declared.view.KeeperView.{KeeperView}
 use Rattle.word_rule.specs.Layout.{harts_at_most}
 use Rattle.word_rule.specs.Views.{IsLong, kept_at, no_row, row_of, unmapped}
@@ -14,6 +13,7 @@ use Rattle.history_state.specs.Changes.{reserved}
 use Rattle.history_state.specs.Legal.{Legal}
 use Rattle.history_state.specs.Objects.{is_startup}
 use Rattle.history_state.specs.Setting.{Setting}
+use Rattle.hart_trails.specs.Owners.{AreOfHarts}
 use Rattle.kept_words.specs.Keeping.{remakes_memory}
 use Rattle.kept_words.specs.Kept.{AreKept}
 use Rattle.kept_words.specs.Staying.{leaves_memory}
@@ -26,7 +26,7 @@ pub record IsStartup (w : Setting) (begun : List Event) (installs : Installs) : 
   pub few : w.machine.harts ≤ harts_at_most
   pub legal : Legal w begun
   pub started : is_startup (after begun) ≡ false
-  pub within : (e : Ending) → Contains (after begun).endings e → e.hart < w.machine.harts
+  pub own : AreOfHarts w begun
   pub first : Event
   pub rest : List Event
   pub are : begun ≡ first ∷ rest

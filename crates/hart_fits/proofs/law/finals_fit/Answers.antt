@@ -1,4 +1,5 @@
 use Rattle.hart_fits.proofs.Finals.{finals_begin_fit, own_moves_leave_finals}
+use Rattle.hart_fits.specs.Lemmas.Settling.{all_settled}
 use Rattle.hart_fits.proofs.law.finals_fit.Goals as goal
 
 pub returns-clause-own : goal.returns-clause-own
@@ -16,3 +17,6 @@ returns-clause-own c = own_moves_leave_finals
 
 pub returns-clause-begin : goal.returns-clause-begin
 returns-clause-begin c = finals_begin_fit
+
+pub returns-clause-nobodys : goal.returns-clause-nobodys
+returns-clause-nobodys c = all_settled
