@@ -46,7 +46,7 @@ use Rattle.kept_words.specs.Kept.{AreKept, HasSeen, HaveFates, IsFateEvent, Lost
 use Rattle.kept_words.specs.Settling.{LostMayLose, WonMayBind}
 use Rattle.kept_words.specs.Staying.{IsGrantEvent, SameGrants, Settles, fated_in, number_in}
 use Rattle.kept_words.proofs.Handed.{counted_stays, issued_stays}
-use Rattle.kept_words.proofs.Keeping.{alike_kept, begun_short, counted_number, inside, later_event, later_number, row_field, some_in}
+use Rattle.kept_words.proofs.Keeping.{alike_kept, begun_short, counted_number, inside, later_event, later_number, own_push_none, row_field, some_in}
 use Rattle.kept_words.proofs.Settled.{settled_stays}
 use Rattle.kept_words.proofs.Settling.{slot_word}
 use Rattle.kept_words.proofs.Staying.{slot_on, states_stay}

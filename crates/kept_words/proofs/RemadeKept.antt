@@ -52,7 +52,7 @@ use Rattle.kept_words.specs.Kept.{AreKept, AreRows, LostHaveSeen}
 use Rattle.kept_words.specs.Remade.{IsRemade}
 use Rattle.kept_words.specs.Staying.{SameGrants, number_in}
 use Rattle.kept_words.proofs.Handed.{handed_stays, issued_stays}
-use Rattle.kept_words.proofs.Keeping.{begun_short, counted_number, fates_on, handed_issued, handed_long, handed_pending, handed_settled, later_event, is_settling, later_number, settles_none, some_in}
+use Rattle.kept_words.proofs.Keeping.{begun_short, counted_number, fates_on, handed_issued, handed_long, handed_pending, handed_settled, later_event, is_settling, later_number, own_push, settles_none, some_in}
 use Rattle.kept_words.proofs.Remade.{InOne, in_one}
 use Rattle.kept_words.proofs.Seen.{seen_on, seen_word}
 use Rattle.kept_words.proofs.Settling.{place_back, slot_word}

@@ -40,6 +40,7 @@ use Rattle.history_state.specs.Storage.{tls_block, tp_of}
 use Rattle.history_state.specs.Lemmas.History.{after_push, one_behind}
 use Rattle.history_state.specs.Lemmas.Lists.{first_or_later, here, later, none_in}
 use Rattle.history_memory.specs.Memory.{IsDoubleword}
+use Rattle.hart_trails.specs.Owners.{AreOfHarts}
 use Rattle.word_holds.specs.Shared.{IsOfState}
 use Rattle.kept_words.specs.Handed.{event_numbers, own_numbers}
 use Rattle.kept_words.specs.Keeping.{remakes_memory}
