@@ -11,6 +11,7 @@ use Rattle.history_state.specs.Legal.{Legal}
 use Rattle.history_state.specs.Setting.{Setting}
 use Rattle.tls_blocks.specs.Blocks.{BlockTable, block_at}
 use Rattle.history_calls.specs.Gives.{HasBlock}
+use Rattle.hart_moves.specs.Follows.{HasNone}
 use Rattle.hart_moves.specs.Harts.{HartState, Offered, Resolving}
 use Rattle.hart_moves.specs.Trails.{event_from}
 use Rattle.hart_trails.specs.Entries.{IsExchange}
@@ -27,6 +28,13 @@ pub record HasHeard (w : Setting) (begun : List Event) (h : HartView) : Type 0 w
   -- each of them is that of a hart of the machine, or nobody's
   pub own : AreOfHarts w h.heard
   pub entries : (e : Entry) → Contains (known_of h.lane) e → is_event_mark e.mark ≡ true → e.number ≤ length h.heard
+
+-- it was told of events of which none is its own, and nothing else of it has changed
+pub record Hears (w : Setting) (begun : List Event) (before now : HartView) : Type 0 where
+  pub told : now ≡ record before { heard = now.heard }
+  pub longer : BeginsWith now.heard before.heard
+  pub none : HasNone now.heard before.number (length before.heard) (length now.heard)
+  pub heard : HasHeard w begun now
 
 -- of each module it keeps the block of the last answer at the generation that it kept them at, and no answer of a later one came
 pub record BlocksFit (d : BlockTable) (h : HartView) : Type 0 where
@@ -58,4 +66,6 @@ pub record IsBetweenTurns (w : Setting) (begun : List Event) (h : HartView) (b :
   pub fits : b.«end» ≡ None → HartFits w h.heard h.number b
   pub row : IsAtRow h b.resolving
   pub blocks : BlocksFit d h
+  -- they aren't of a later generation than what it has heard
+  pub early : d.generation ≤ (after h.heard).generation
   pub current : b.«end» ≡ None → AreCurrent d h

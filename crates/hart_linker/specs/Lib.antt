@@ -1,3 +1,4 @@
 pub mod Between
 pub mod Finals
+pub mod Lemmas
 pub mod Serving

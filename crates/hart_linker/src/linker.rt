@@ -1,12 +1,14 @@
 //! The linker, as a hart on a thread asks it.
 
-ghost use Rattle.std.specs.Prelude.{◌≡◌, true, false, Some};
+ghost use Rattle.std.specs.Prelude.{◌≡◌, ◌≤◌, ◌<◌, true, false, Some};
 ghost use Rattle.word_rule.specs.Views.{BeginsWith};
 ghost use Rattle.hart_moves.specs.Due.{due};
 ghost use Rattle.hart_moves.specs.Starting.{starting_registers};
 ghost use Rattle.history_event.specs.declared.hart_end.HartEnd.TheVariants.{Exit};
+ghost use Rattle.history_state.specs.After.{after};
+ghost use Rattle.history_state.specs.Owed.{times_ended};
 ghost use Rattle.history_state.specs.State.{State};
-ghost use Rattle.hart_linker.specs.Between.{BlocksFit, HasHeard, IsBetweenTurns};
+ghost use Rattle.hart_linker.specs.Between.{BlocksFit, HasHeard, Hears, IsBetweenTurns};
 ghost use Rattle.hart_linker.specs.Finals.{BeginsLast};
 ghost use Rattle.hart_linker.specs.Serving.{EndsTurn, HasRun, ServesTurn, is_asking, is_finalising};
 ghost use Rattle.tls_blocks.specs.Blocks.{BlockTable};
@@ -82,8 +84,24 @@ pub trait Linker<J: Opening> {
         ensures calling { seat.new.lane.calling ≡ false }
         ensures blocks { (d : BlockTable) → BlocksFit d seat.old → BlocksFit d seat.new };
 
+    /// Tells two harts of all events: they have heard of the same then.
+    fn tell<R: Wait>(
+        &self,
+        rt: &R,
+        memory: &Memory<J>,
+        one: &mut HartSeat<J>,
+        other: &mut HartSeat<J>,
+    )
+        requires one { HasHeard J.setting J.journal one.old }
+        requires one_calling { one.old.lane.calling ≡ false }
+        requires other { HasHeard J.setting J.journal other.old }
+        requires other_calling { other.old.lane.calling ≡ false }
+        ensures one { Hears J.setting J.journal one.old one.new }
+        ensures other { Hears J.setting J.journal other.old other.new }
+        ensures same { other.new.heard ≡ one.new.heard };
+
     /// The final destructors begin, if every hart has ended by exit and an object is left: the first hart,
-    /// which had ended by exit with a code, gets its starting registers again.
+    /// which had ended once, by exit with a code, gets its starting registers again.
     fn begin_finals<R: Wait>(
         &self,
         rt: &R,
@@ -95,9 +113,11 @@ pub trait Linker<J: Opening> {
         code: u64,
     ) -> Beginning
         requires first { seat.old.number ≡ 0 }
+        requires some { 0 < J.setting.machine.harts }
         requires between { IsBetweenTurns J.setting J.journal seat.old hart.old.hart blocks.old }
         requires calling { seat.old.lane.calling ≡ false }
         requires exited { hart.old.hart.«end» ≡ Some (Exit code) }
+        requires once { times_ended 0 (after seat.old.heard).endings ≤ 1 }
         ensures begins { BeginsLast J.setting (starting_registers entry) seat.old seat.new hart.old.hart hart.new.hart result }
         ensures same { seat.new.number ≡ seat.old.number }
         ensures longer { BeginsWith seat.new.heard seat.old.heard }
