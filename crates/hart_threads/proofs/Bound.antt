@@ -1,5 +1,5 @@
 -- An exchange and the end of its offer, as turns behind all events that their hart knows of.
-use Rattle.std.proofs.Common.{◌≡◌, ℕ, List, [], ◌∷◌, ◌++◌, Some, None, refl, sym, ap, subst, ◌∙◌, append-nil}
+use Rattle.std.proofs.Common.{◌≡◌, ℕ, ◌≤◌, List, [], ◌∷◌, ◌++◌, Some, None, refl, sym, ap, subst, ◌∙◌, append-nil}
 use Rattle.history_event.specs.declared.event.Event.{Event}
 use Rattle.word_rule.specs.declared.entry.Grant.{Grant}
 use Rattle.word_rule.specs.declared.view.HartView.{HartView}
@@ -102,5 +102,6 @@ bound_stands fit w begun o before now b c d between runs is held x =
       fits = λ on. subst (λ (p : HartState × (List Event × ℕ)). HartFits w p.1.0 p.1.1 p.0) (λ i. (sym left i, (sym same.heard i, sym same.number i))) second;
       row = subst (λ (r : Resolving). IsAtRow now r) (ap (λ (z : HartState). z.resolving) (sym left)) (ap (λ (h : HartView). h.lane.calling) x.view);
       blocks = blocks_stay d before now known between.blocks;
+      early = subst (λ (es : List Event). d.generation ≤ (after es).generation) (sym same.heard) between.early;
       current = λ on. current_stays d before now same (between.current runs);
     }

@@ -1,6 +1,9 @@
 mod Blocks
 mod Bound
+mod Hearing
 mod Longer
+mod Nobodys
+mod Once
 mod Running
 mod Slices
 mod Standing

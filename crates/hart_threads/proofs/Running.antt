@@ -42,6 +42,7 @@ use Rattle.hart_threads.specs.Run.{IsCalm, RunsOn}
 use Rattle.hart_threads.specs.Turns.{Proceeds}
 use Rattle.hart_threads.proofs.Blocks.{kept_moves, kept_turn, reads_none, was_read}
 use Rattle.hart_threads.proofs.Bound.{bound_stands, exchange_turn, finish_turn}
+use Rattle.hart_linker.specs.Lemmas.Hearing.{early_on}
 use Rattle.hart_threads.proofs.Standing.{at_rest, blocks_stay, due_there, row_settles, stands_on, stands_still}
 use Rattle.hart_threads.proofs.Stepping.{front_longer, goes_further, proceeds, stays_here}
 use Rattle.hart_threads.proofs.Turning.{ending_trail, ending_turn, own_is_not_located, quiet_turn, served_turn}
@@ -153,15 +154,23 @@ goes_calm seat c on reason over = absurd (let no : None ≡ Some reason = sym on
 -- ---- by the lock
 
 module _ (stay : TrailsStay) (behind : TurnsBehind) (w : Setting) (begun : List Event) where
+  -- its blocks aren't of a later generation
+  end_early : (mid now : HartView) (b c : HartState) (reason : HartEnd) → EndsTurn w mid now reason b c → (d : BlockTable) → d.generation ≤ (after mid.heard).generation
+      → d.generation ≤ (after now.heard).generation
+  end_early mid now b c reason x d =
+      early_on d mid.heard (x.since.0 ++ Ended mid.number reason ∷ []) now.heard
+      (x.heard ∙ ap (λ (es : List Event). es ++ Ended mid.number reason ∷ []) x.since.1 ∙ append_assoc mid.heard x.since.0 (Ended mid.number reason ∷ []))
+
   -- what a hart is that ended
   ended_stands : (before now : HartView) (b c : HartState) (d : BlockTable) (reason : HartEnd) → b.«end» ≡ None → IsAtRow before b.resolving
       → ((o : Offered) → b.resolving ≡ Resolving.to_exchange o → ⊥) → c.resolving ≡ settled_resolving b.resolving → c.«end» ≡ Some reason
-      → HasHeard w begun now → now.lane.calling ≡ false → BlocksFit d now → IsBetweenTurns w begun now c d
-  ended_stands before now b c d reason runs row none place over heard calm blocks = record {
+      → HasHeard w begun now → now.lane.calling ≡ false → BlocksFit d now → d.generation ≤ (after now.heard).generation → IsBetweenTurns w begun now c d
+  ended_stands before now b c d reason runs row none place over heard calm blocks early = record {
     heard = heard;
     fits = λ on. absurd (let no : None ≡ Some reason = sym on ∙ over in cc);
     row = subst (IsAtRow now) (sym place) (by b.resolving refl row);
     blocks = blocks;
+    early = early;
     current = λ on. absurd (let no : None ≡ Some reason = sym on ∙ over in cc);
   }
     where
@@ -191,7 +200,8 @@ module _ (stay : TrailsStay) (behind : TurnsBehind) (w : Setting) (begun : List 
             (ending_turn w before mid now b spent_b c reason items view x (own_is_not_located (due (after x.past) b) (own (after x.past))) moves);
         between = ended_stands before now b c d reason runs between.row none
             (ap (λ (e : HartState). e.resolving) left ∙ ap (λ (e : HartState). settled_resolving e.resolving) spent_is)
-            (ap (λ (e : HartState). e.«end») left) heard calm (blocks (blocks_stay d before mid (ap (λ (h : HartView). known_of h.lane) view) between.blocks));
+            (ap (λ (e : HartState). e.«end») left) heard calm (blocks (blocks_stay d before mid (ap (λ (h : HartView). known_of h.lane) view) between.blocks))
+            (end_early mid now spent_b c reason x d (subst (λ (h : HartView). d.generation ≤ (after h.heard).generation) (sym view) between.early));
         calm = λ over_as over. calm;
       }
 
@@ -207,7 +217,7 @@ module _ (stay : TrailsStay) (behind : TurnsBehind) (w : Setting) (begun : List 
             (ending_trail w before before now b c FuelOut [] view x)
             (ending_turn w before before now b b c FuelOut [] view x (ap is_located (out (after x.past))) moves);
         between = ended_stands before now b c d FuelOut runs between.row none (ap (λ (e : HartState). e.resolving) x.left) (ap (λ (e : HartState). e.«end») x.left) heard calm
-            (blocks between.blocks);
+            (blocks between.blocks) (end_early before now b c FuelOut x d between.early);
         calm = λ over_as over. calm;
       }
 

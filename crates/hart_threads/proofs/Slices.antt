@@ -1,5 +1,5 @@
 -- A slice whose first element was changed.
-use Rattle.std.proofs.Common.{◌≡◌, ℕ, zero, suc, ◌<◌, List, [], ◌∷◌, length, get_or, refl, arith}
+use Rattle.std.proofs.Common.{◌≡◌, ℕ, zero, suc, ◌<◌, List, [], ◌∷◌, length, ◌++◌, get_or, refl, sym, ap, subst, ◌∙◌, arith}
 use lib.ListN.{set}
 
 -- what holds of each element
@@ -18,3 +18,48 @@ first_set (x ∷ xs) y d some = refl
 pub first_is : {X : Type 0} (xs : List X) (d e : X) → 0 < length xs → get_or xs 0 d ≡ get_or xs 0 e
 first_is [] d e some = absurd (let no : 0 < 0 = some in omega (arith, no))
 first_is (x ∷ xs) d e some = refl
+
+-- whatever stands for none, at any place that there is
+pub any_is : {X : Type 0} (xs : List X) (n : ℕ) (d e : X) → n < length xs → get_or xs n d ≡ get_or xs n e
+any_is [] n d e low = absurd (let no : n < 0 = low in omega (arith, no))
+any_is (x ∷ xs) zero d e low = refl
+any_is (x ∷ xs) (suc n) d e low = any_is xs n d e (let more : suc n < suc (length xs) = low in omega (arith, more))
+
+-- an element changed: it is the one at its place, and all others are as they were
+pub set_cases : {X : Type 0} (P : X → Type 0) (xs : List X) (n : ℕ) (y : X) (i : ℕ) (d : X) → n < length xs → (i ≡ n → P y) → ((i ≡ n → ⊥) → P (get_or xs i d)) → P (get_or (set xs n y) i d)
+set_cases P [] n y i d low here other = absurd (let no : n < 0 = low in omega (arith, no))
+set_cases P (x ∷ xs) zero y zero d low here other = here refl
+set_cases P (x ∷ xs) zero y (suc i) d low here other = other (λ same. let no : suc i ≡ 0 = same in omega (arith, no))
+set_cases P (x ∷ xs) (suc n) y zero d low here other = other (λ same. let no : 0 ≡ suc n = same in omega (arith, no))
+set_cases P (x ∷ xs) (suc n) y (suc i) d low here other =
+    set_cases P xs n y i d (let more : suc n < suc (length xs) = low in omega (arith, more)) (λ same. here (ap suc same)) (λ apart. other (λ same. apart (let one : suc i ≡ suc n = same in omega (arith, one))))
+
+-- the first element alone, and all others behind it
+pub one_and : {X : Type 0} (P : X → X → X → Type 0) (xs ys runs zs : List X) (y : X) → length xs ≡ 1 → runs ≡ xs ++ ys
+    → ((d : X) → P y (get_or runs 0 d) y) → ((i : ℕ) (d : X) → i < length ys → P y (get_or ys i d) (get_or zs i d))
+    → (i : ℕ) (d : X) → i < length runs → P (get_or (set xs 0 y ++ zs) 0 d) (get_or runs i d) (get_or (set xs 0 y ++ zs) i d)
+one_and P [] ys runs zs y one are first rest i d low = absurd (let no : 0 ≡ 1 = one in omega (arith, no))
+one_and P (x ∷ x' ∷ xs) ys runs zs y one are first rest i d low = absurd (let no : suc (suc (length xs)) ≡ 1 = one in omega (arith, no))
+one_and {X} P (x ∷ []) ys runs zs y one are first rest zero d low = first d
+one_and {X} P (x ∷ []) ys runs zs y one are first rest (suc i) d low =
+    subst (λ (rs : List X). P y (get_or rs (suc i) d) (get_or zs i d)) (sym are)
+    (rest i d (let whole : length runs ≡ suc (length ys) = ap length are in let l : suc i < length runs = low in omega (arith, whole, l)))
+
+-- and what doesn't change
+pub one_same : {X Y : Type 0} (f : X → Y) (xs ys runs zs : List X) (y : X) → length xs ≡ 1 → runs ≡ xs ++ ys
+    → ((d : X) → f y ≡ f (get_or runs 0 d)) → ((i : ℕ) (d : X) → f (get_or zs i d) ≡ f (get_or ys i d)) → (i : ℕ) (d : X) → f (get_or (set xs 0 y ++ zs) i d) ≡ f (get_or runs i d)
+one_same f [] ys runs zs y one are first rest i d = absurd (let no : 0 ≡ 1 = one in omega (arith, no))
+one_same f (x ∷ x' ∷ xs) ys runs zs y one are first rest i d = absurd (let no : suc (suc (length xs)) ≡ 1 = one in omega (arith, no))
+one_same f (x ∷ []) ys runs zs y one are first rest zero d = first d
+one_same {X} f (x ∷ []) ys runs zs y one are first rest (suc i) d = rest i d ∙ ap (λ (rs : List X). f (get_or rs (suc i) d)) (sym are)
+
+-- the first of both
+pub front_is : {X : Type 0} (xs ys runs : List X) → length xs ≡ 1 → runs ≡ xs ++ ys → (d e : X) → get_or runs 0 d ≡ get_or xs 0 e
+front_is [] ys runs one are d e = absurd (let no : 0 ≡ 1 = one in omega (arith, no))
+front_is {X} (x ∷ xs) ys runs one are d e = ap (λ (rs : List X). get_or rs 0 d) are
+
+-- behind the first one all are as they were
+pub other_set : {X : Type 0} (xs : List X) (y : X) (i : ℕ) (d : X) → 0 < i → get_or (set xs 0 y) i d ≡ get_or xs i d
+other_set [] y i d some = refl
+other_set (x ∷ xs) y zero d some = absurd (let no : 0 < 0 = some in omega (arith, no))
+other_set (x ∷ xs) y (suc i) d some = refl

@@ -105,6 +105,7 @@ stands_on fit w begun before items b c d did x runs moves none row =
           (fit w before.heard before.number b c did (legal_is_lawful w before.heard x.heard.legal) moves runs on (x.fits runs));
       row = row_stays items before c.resolving row;
       blocks = blocks_stay d before (with_items items before) refl x.blocks;
+      early = x.early;
       current = λ on. current_stays d before (with_items items before) same (x.current runs);
     }
 
@@ -118,6 +119,7 @@ stands_still w begun before items b d x =
       fits = x.fits;
       row = row_stays items before b.resolving x.row;
       blocks = blocks_stay d before (with_items items before) refl x.blocks;
+      early = x.early;
       current = λ on. current_stays d before (with_items items before) same (x.current on);
     }
 

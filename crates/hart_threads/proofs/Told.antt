@@ -33,7 +33,7 @@ nil_take : {X : Type 0} (n : ℕ) → take {A = X} n [] ≡ []
 nil_take zero = refl
 nil_take (suc n) = refl
 
-take_more : {X : Type 0} (a n : ℕ) (xs : List X) → take (a + n) xs ≡ take a xs ++ take n (drop a xs)
+pub take_more : {X : Type 0} (a n : ℕ) (xs : List X) → take (a + n) xs ≡ take a xs ++ take n (drop a xs)
 take_more zero n xs = ap (λ m. take m xs) (omega arith)
 take_more (suc a) n [] = nil_take (suc a + n) ∙ sym (nil_take n)
 take_more (suc a) n (x ∷ xs) =
@@ -63,7 +63,7 @@ in_part (suc a) n (x ∷ xs) e there =
     let y = in_part a n xs e there in
     record { at = suc y.at; since = (let s = y.since in omega (arith, s)); before = (let low = y.before in omega (arith, low)); there = y.there }
 
-gap_others : (journal : List Event) (h from n : ℕ) → HasNone journal h from (from + n) → AreOthers h (take n (drop from journal))
+pub gap_others : (journal : List Event) (h from n : ℕ) → HasNone journal h from (from + n) → AreOthers h (take n (drop from journal))
 gap_others journal h from n none e there = let y = in_part from n journal e there in none y.at e y.since y.before y.there
 
 -- ---- ends
@@ -112,7 +112,7 @@ module _ (append : TurnsAppend) (away : FinalsStayAway) where
           (Contains-append_cases (after past).endings (x ∷ []) e (subst (λ (es : List Ending). Contains es e) now there))
       by (Appends.after_finals code spares finals over all) e there own = absurd (false≢true (sym calm ∙ finals))
 
-  running : (w : Setting) (past : List Event) (h : ℕ) (b c : HartState) (did : Did) → Moves w past h b did c → b.«end» ≡ None
+  pub running : (w : Setting) (past : List Event) (h : ℕ) (b c : HartState) (did : Did) → Moves w past h b did c → b.«end» ≡ None
   running w past h b c did moves = by b.«end» refl
     where
       by : (o : Option HartEnd) → b.«end» ≡ o → b.«end» ≡ None

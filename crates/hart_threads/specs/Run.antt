@@ -3,10 +3,11 @@ use Rattle.std.specs.Prelude.{◌≡◌, false, List, Some, IsSome}
 use Rattle.history_event.specs.declared.event.Event.{Event}
 use Rattle.history_event.specs.declared.hart_end.HartEnd.{HartEnd}
 use Rattle.word_rule.specs.declared.view.HartView.{HartView}
+use Rattle.word_rule.specs.Views.{BeginsWith, IsLane}
 use Rattle.history_state.specs.Setting.{Setting}
 use Rattle.tls_blocks.specs.Blocks.{BlockTable}
 use Rattle.hart_moves.specs.Harts.{HartState}
-use Rattle.hart_linker.specs.Between.{IsBetweenTurns}
+use Rattle.hart_linker.specs.Between.{Hears, IsBetweenTurns}
 use Rattle.hart_threads.specs.Turns.{Proceeds}
 
 -- a hart that has ended isn't calling
@@ -29,3 +30,9 @@ pub record IsReady (w : Setting) (begun : List Event) (seat : HartView) (b : Har
 pub record RunsToEnd (w : Setting) (begun : List Event) (before now : HartView) (b c : HartState) (kept : BlockTable) : Type 0 where
   pub runs : RunsOn w begun before now b c kept
   pub ended : IsSome c.«end»
+
+-- it was told of events, of all of which the first hart has heard, too
+pub record IsTold (w : Setting) (begun : List Event) (first before now : HartView) : Type 0 where
+  pub hears : Hears w begun before now
+  pub front : BeginsWith first.heard now.heard
+  pub lane : IsLane before.lane

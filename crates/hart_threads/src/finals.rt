@@ -2,7 +2,9 @@
 
 ghost use Rattle.std.specs.Prelude.{◌≡◌, ◌<◌, ◌≤◌, List, IsSome, Some, length};
 ghost use Rattle.hart_moves.specs.Starting.{HartStart, starting_registers};
-ghost use Rattle.hart_threads.specs.Ends.{IsNewAt, RanWhole};
+ghost use Rattle.history_state.specs.After.{after};
+ghost use Rattle.history_state.specs.Owed.{times_ended};
+ghost use Rattle.hart_threads.specs.Ends.{IsNewAt, IsThrough, RanWhole};
 ghost use Rattle.hart_threads.specs.Run.{IsCalm, RunsOn};
 ghost use Rattle.hart_threads.specs.Turns.{RunsBy};
 ghost use Rattle.hart_linker.specs.Between.{IsBetweenTurns};
@@ -18,7 +20,7 @@ use std::sync::Wait;
 use word_memory::Memory;
 
 impl<J: Opening> HartRun<J> {
-    /// The first hart, which has ended, goes on with the final destructors if every hart has ended by exit
+    /// The first hart, which has ended once, goes on with the final destructors if every hart has ended by exit
     /// and an object is left. Answers the end that counts for it.
     pub fn finish<R: Wait, K: Linker<J>>(
         &mut self,
@@ -32,7 +34,9 @@ impl<J: Opening> HartRun<J> {
         requires first { self.old.seat.number ≡ 0 }
         requires some { 0 < J.setting.machine.harts }
         requires ended { IsSome self.old.hart.hart.«end» }
-        ensures { (start : HartStart) (begun : List TrailItem) → start.registers ≡ starting_registers entry → start.from ≤ length self.old.seat.heard
+        requires once { times_ended 0 (after self.old.seat.heard).endings ≤ 1 }
+        ensures through { IsThrough J.setting J.journal self.old.seat self.new.seat }
+        ensures whole { (start : HartStart) (begun : List TrailItem) → start.registers ≡ starting_registers entry → start.from ≤ length self.old.seat.heard
             → IsNewAt start self.old.seat → RunsBy J.setting start.from start.hart begun self.old.seat self.old.hart.hart
             → RanWhole J.setting start begun self.new.seat result }
     {

@@ -1,18 +1,22 @@
 //! Harts side by side.
 
-ghost use Rattle.std.specs.Prelude.{◌≡◌, ◌<◌, ◌≤◌, ℕ, All, List, length, slice_index_or};
+ghost use Rattle.std.specs.Prelude.{◌≡◌, ◌<◌, ◌≤◌, ℕ, false, All, List, length, slice_index_or};
 ghost use Rattle.hart_moves.specs.Starting.{HartStart, starting_registers};
-ghost use Rattle.hart_threads.specs.Ends.{IsNewAt, RanWhole};
-ghost use Rattle.hart_threads.specs.Run.{IsReady, RunsOn, RunsToEnd};
+ghost use Rattle.hart_linker.specs.Between.{HasHeard, Hears};
+ghost use Rattle.hart_threads.specs.Ends.{IsAtStart, IsNewAt, IsThrough, RanWhole};
+ghost use Rattle.hart_threads.specs.Run.{IsReady, IsTold, RunsOn, RunsToEnd};
 ghost use Rattle.hart_threads.specs.Turns.{RunsBy};
+ghost use Rattle.word_rule.specs.Views.{BeginsWith, IsLane};
 ghost use Rattle.word_rule.specs.declared.view.TrailItem.{TrailItem};
 
 use crate::run::HartRun;
 use hart_linker::{Linker, Opening};
+use hart_moves::turns_append;
+use hart_trails::trails_grow;
 use history_event::{HartEnd, HartEntry};
 use std::sync::Wait;
 use std::thread::{Threads, for_each_mut};
-use word_memory::Memory;
+use word_memory::{HartSeat, Memory};
 
 /// How many harts there are at most.
 const HARTS: usize = 16;
@@ -62,9 +66,72 @@ fn start_first<R: Wait, J: Opening, K: Linker<J>>(
     runs[0].start(rt, linker, memory);
 }
 
+/// Tells two harts of all events: they have heard of the same then.
+fn tell_both<R: Wait, J: Opening, K: Linker<J>>(
+    rt: &R,
+    linker: &K,
+    memory: &Memory<J>,
+    one: &mut HartSeat<J>,
+    other: &mut HartSeat<J>,
+)
+    requires one { HasHeard J.setting J.journal one.old }
+    requires one_calling { one.old.lane.calling ≡ false }
+    requires other { HasHeard J.setting J.journal other.old }
+    requires other_calling { other.old.lane.calling ≡ false }
+    ensures one { Hears J.setting J.journal one.old one.new }
+    ensures other { Hears J.setting J.journal other.old other.new }
+    ensures same { other.new.heard ≡ one.new.heard }
+    ensures lane { IsLane other.old.lane }
+{
+    let _ = other.number();
+    linker.tell(rt, memory, one, other);
+}
+
+/// Tells harts of all events, and the first one with each of them: it has heard of all that they have then.
+fn tell_others<R: Wait, J: Opening, K: Linker<J>>(
+    rt: &R,
+    linker: &K,
+    memory: &Memory<J>,
+    first: &mut HartSeat<J>,
+    others: &mut [HartRun<J>],
+)
+    requires first { HasHeard J.setting J.journal first.old }
+    requires first_calling { first.old.lane.calling ≡ false }
+    requires heard { All (λ run. HasHeard J.setting J.journal run.seat) others.old }
+    requires calling { All (λ run. run.seat.lane.calling ≡ false) others.old }
+    ensures first { Hears J.setting J.journal first.old first.new }
+    ensures told { (i : ℕ) (d : _) → i < length others.old → IsTold J.setting J.journal first.new (slice_index_or others.old i d).seat (slice_index_or others.new i d).seat }
+    ensures harts { (i : ℕ) (d : _) → (slice_index_or others.new i d).hart ≡ (slice_index_or others.old i d).hart }
+    ensures blocks { (i : ℕ) (d : _) → (slice_index_or others.new i d).blocks ≡ (slice_index_or others.old i d).blocks }
+{
+    for other in others.iter_mut() {
+        tell_both(rt, linker, memory, first, &mut other.seat);
+    }
+}
+
+/// Tells all harts of a run of events: the first one has heard of all that each other has then.
+fn tell_all<R: Wait, J: Opening, K: Linker<J>>(
+    rt: &R,
+    linker: &K,
+    memory: &Memory<J>,
+    runs: &mut [HartRun<J>],
+)
+    requires some { 0 < length runs.old }
+    requires heard { All (λ run. HasHeard J.setting J.journal run.seat) runs.old }
+    requires calling { All (λ run. run.seat.lane.calling ≡ false) runs.old }
+    ensures told { (i : ℕ) (d : _) → i < length runs.old
+        → IsTold J.setting J.journal (slice_index_or runs.new 0 d).seat (slice_index_or runs.old i d).seat (slice_index_or runs.new i d).seat }
+    ensures harts { (i : ℕ) (d : _) → (slice_index_or runs.new i d).hart ≡ (slice_index_or runs.old i d).hart }
+    ensures blocks { (i : ℕ) (d : _) → (slice_index_or runs.new i d).blocks ≡ (slice_index_or runs.old i d).blocks }
+{
+    let _ = runs[0].seat.number();
+    let (first, others) = runs.split_at_mut(1);
+    tell_others(rt, linker, memory, &mut first[0].seat, others);
+}
+
 /// Runs the harts of a run: the first alone until startup's constructors are over, then all side by side,
 /// and then the first in the final destructors. Answers the end that counts for the first; each other has
-/// the one that it ended with.
+/// the one that it ended with. The first has heard of all that each other has.
 pub fn run_harts<R: Threads + Wait + Sync, J: Opening + Send + Sync, K: Linker<J> + Sync>(
     rt: &R,
     linker: &K,
@@ -76,15 +143,21 @@ pub fn run_harts<R: Threads + Wait + Sync, J: Opening + Send + Sync, K: Linker<J
     requires harts { 0 < J.setting.machine.harts }
     requires ready { All (λ run. IsReady J.setting J.journal run.seat run.hart.hart run.blocks) runs.old }
     requires zeroth { (d : _) → (slice_index_or runs.old 0 d).seat.number ≡ 0 }
+    requires starts { (d : _) → IsAtStart (slice_index_or runs.old 0 d).hart.hart }
     ensures first { (d : _) (start : HartStart) (begun : List TrailItem) → start.registers ≡ starting_registers entry
         → start.from ≤ length (slice_index_or runs.old 0 d).seat.heard → IsNewAt start (slice_index_or runs.old 0 d).seat
         → RunsBy J.setting start.from start.hart begun (slice_index_or runs.old 0 d).seat (slice_index_or runs.old 0 d).hart.hart
         → RanWhole J.setting start begun (slice_index_or runs.new 0 d).seat result }
+    ensures through { (d : _) → IsThrough J.setting J.journal (slice_index_or runs.old 0 d).seat (slice_index_or runs.new 0 d).seat }
     ensures others { (i : ℕ) (d : _) → 0 < i → i < length runs.old
         → RunsToEnd J.setting J.journal (slice_index_or runs.old i d).seat (slice_index_or runs.new i d).seat (slice_index_or runs.old i d).hart.hart
         (slice_index_or runs.new i d).hart.hart (slice_index_or runs.new i d).blocks }
+    ensures fronts { (i : ℕ) (d : _) → 0 < i → i < length runs.old → BeginsWith (slice_index_or runs.new 0 d).seat.heard (slice_index_or runs.new i d).seat.heard }
 {
+    trails_grow();
+    turns_append();
     start_first(rt, linker, memory, runs);
     run_all(rt, linker, memory, runs);
+    tell_all(rt, linker, memory, runs);
     runs[0].finish(rt, linker, memory, entry)
 }
