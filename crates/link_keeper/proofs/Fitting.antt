@@ -1,5 +1,5 @@
 -- What other harts leave of a hart that is told of their events.
-use Rattle.std.proofs.Common.{◌≡◌, ⊎_elim, inl, inr, ℕ, zero, suc, ◌+◌, ◌-◌, ◌==◌, ◌<◌, ◌≤◌, List, [], ◌∷◌, ◌++◌, length, length-append, None, Some, IsTrue, refl, sym, ap, subst, ◌∙◌, append-nil, append_assoc, arith, lt_of_not-le}
+use Rattle.std.proofs.Common.{◌≡◌, ⊎_elim, inl, inr, ℕ, zero, suc, ◌+◌, ◌-◌, ◌==◌, ◌<◌, ◌≤◌, List, [], ◌∷◌, ◌++◌, length, length-append, None, Some, IsTrue, refl, sym, ap, subst, ◌∙◌, append_assoc, arith, lt_of_not-le}
 use mathlib.Core.Logic.{dite}
 use native.Mathlib.Decide.{dec_le}
 use Rattle.std.proofs.Math.Seq.{take-append_seam}
@@ -7,26 +7,19 @@ use Rattle.std.specs.List.{Contains, slice_get}
 use Rattle.std.proofs.lemmas.Bool.{and_parts}
 use Rattle.std.proofs.lemmas.Option.{slice_get_within}
 use Rattle.history_event.specs.declared.event.Event.{Event}
-use Rattle.history_event.specs.declared.event.Event.TheVariants as events
-use Rattle.history_event.specs.declared.handed.Function.{Function}
-use Rattle.history_event.specs.declared.state.Standing.{Standing}
-use Rattle.history_event.specs.declared.state.Standing.TheVariants.{Bound, Lost}
 use Rattle.word_rule.specs.declared.view.KeeperView.{KeeperView}
 use Rattle.history_state.specs.After.{after}
 use Rattle.history_state.specs.Allowed.{Allowed}
 use Rattle.history_state.specs.Legal.{Legal}
-use Rattle.history_state.specs.Lemmas.History.{after_push, legal_is_lawful, one_behind}
-use Rattle.history_state.specs.Lemmas.Lists.{at_in, first_or_later, here, later, none_in}
+use Rattle.history_state.specs.Lemmas.History.{legal_is_lawful, one_behind}
+use Rattle.history_state.specs.Lemmas.Lists.{at_in, first_or_later, none_in}
 use Rattle.history_state.specs.Lemmas.Tidy.{in_at}
-use Rattle.history_state.specs.Objects.{has}
 use Rattle.history_state.specs.Setting.{Setting, are_finals, have_exited}
 use Rattle.history_state.specs.State.{State}
-use Rattle.history_state.specs.Step.{settle, step}
 use Rattle.history_calls.specs.Laws.{hart_of}
 use Rattle.hart_moves.specs.Follows.{AreOthers, HasNone}
-use Rattle.hart_moves.specs.Harts.{Frame, HartState, Purpose}
+use Rattle.hart_moves.specs.Harts.{HartState}
 use Rattle.hart_moves.specs.Moves.{AreAllowed}
-use Rattle.world_turns.specs.WorldFrames.Belong.{AreFramesOf, FramesFit, IsFrameOf, Origin}
 use Rattle.hart_fits.specs.Fits.{HartFits, IsBefore, IsInFinals, OthersLeaveHart}
 use Rattle.hart_fits.specs.Lemmas.Owners.{owners_end}
 use Rattle.hart_fits.specs.Lemmas.Settling.{all_settled}

@@ -1,11 +1,15 @@
 pub mod Acted
 pub mod Attended
+pub mod BlocksStay
 pub mod Ended
 pub mod Ending
+pub mod Finished
 pub mod Fitting
+pub mod Heard
 pub mod Kept
 pub mod Passed
 pub mod Premises
+pub mod Remade
 pub mod Rest
 pub mod Served
 pub mod Settled

@@ -50,10 +50,10 @@ use Rattle.link_keeper.proofs.Settled.{first_goes_on}
 -- ---- quiet events
 
 -- they leave the generation, modules and pages
-record Same (s t : State) : Type 0 where
-  generation : t.generation ≡ s.generation
-  modules : t.modules ≡ s.modules
-  ranges : t.ranges ≡ s.ranges
+pub record Same (s t : State) : Type 0 where
+  pub generation : t.generation ≡ s.generation
+  pub modules : t.modules ≡ s.modules
+  pub ranges : t.ranges ≡ s.ranges
 
 same : (s : State) → Same s s
 same s = record { generation = refl; modules = refl; ranges = refl }
@@ -79,7 +79,7 @@ one_same s (events.Wrote hart bytes) leaves = record { generation = refl; module
 one_same s (events.Told hart fault) leaves = record { generation = refl; modules = refl; ranges = refl }
 one_same s (events.Ended hart reason) leaves = record { generation = refl; modules = refl; ranges = refl }
 
-all_same : (past rest : List Event) → AreQuiet rest → Same (after past) (after (past ++ rest))
+pub all_same : (past rest : List Event) → AreQuiet rest → Same (after past) (after (past ++ rest))
 all_same past [] quiet = subst (λ (es : List Event). Same (after past) (after es)) (sym (append-nil past)) (same (after past))
 all_same past (e ∷ rest) quiet =
     let one : Same (after past) (after (past ++ e ∷ [])) = subst (Same (after past)) (sym (after_push past e)) (one_same (after past) e quiet.0) in

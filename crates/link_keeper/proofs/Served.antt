@@ -270,13 +270,14 @@ module _ (not_over : RunningIsNotOver) (append : TurnsAppend) (own_fit : OwnMove
           (λ (more : Contains passed.entries e). (passed.plain e more).2)
           (Contains-append_cases (entry_behind k.events turn.first ∷ []) passed.entries e there)
 
-      pub serve_between : (d : BlockTable) → BlocksFit d before → (c.«end» ≡ None → AreCurrent d j) → IsBetweenTurns w given j c d
-      serve_between d blocks current = record {
+      pub serve_between : (d : BlockTable) → BlocksFit d before → d.generation ≤ (after j.heard).generation → (c.«end» ≡ None → AreCurrent d j) → IsBetweenTurns w given j c d
+      serve_between d blocks early current = record {
         heard = heard_on w given m before j (entry_behind k.events turn.first ∷ passed.entries) passing.view heard passing.heard before_least known low_numbers;
         fits = λ on. subst (λ (es : List Event). HartFits w es j.number c) (sym (heard_is ∙ ap (λ (es : List Event). k.events ++ es) (sym own_is)))
             (subst (λ (n : ℕ). HartFits w (k.events ++ events_of turn.did) n c) passing.number
             (own_fit w k.events id b c turn.did (legal_is_lawful w k.events keeps.view.kept.legal) turn.moves runs on fits));
         row = at_row j c.resolving turn.rests passing.idle;
         blocks = blocks_plain d before j (entry_behind k.events turn.first ∷ passed.entries) known plain blocks;
+        early = early;
         current = current;
       }

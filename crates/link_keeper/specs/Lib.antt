@@ -1,6 +1,9 @@
 pub mod Acting
 pub mod Attending
 pub mod Entering
+pub mod Finishing
+pub mod Joining
 pub mod Keeping
 pub mod Passing
+pub mod Remaking
 pub mod Settling

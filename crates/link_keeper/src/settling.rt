@@ -61,7 +61,7 @@ fn settle_hart<J: Opening>(
 }
 
 /// Asks for the open grant of a hart, and settles it if its hart is done with it.
-fn settle_one<J: Opening>(
+pub(crate) fn settle_one<J: Opening>(
     memory: &Memory<J>,
     keeper: &mut KeeperSeat<J>,
     state: &mut LinkState,
