@@ -7,10 +7,13 @@ mod openings;
 ghost use Rattle.std.specs.Prelude.{◌≡◌, ◌↔◌, IsTrue};
 ghost use Rattle.trace_read.specs.Said.{said_of};
 
+pub(crate) use faults::same_fault;
+pub(crate) use fields::{same_closing, same_found};
 use history_event::{Event, EventLine};
+pub use lines::says_open;
 use lines::{
-    says_bound, says_close, says_ended, says_fini, says_grant, says_init, says_lost, says_open,
-    says_sym, says_tls, says_told, says_unmapped, says_unresolved, says_wrote,
+    says_bound, says_close, says_ended, says_fini, says_grant, says_init, says_lost, says_sym,
+    says_tls, says_told, says_unmapped, says_unresolved, says_wrote,
 };
 
 /// Whether the line says what the event is.

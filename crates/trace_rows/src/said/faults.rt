@@ -22,7 +22,7 @@ pub(super) fn same_name(one: &Option<Name>, other: &Option<Name>) -> bool
 }
 
 /// Whether two refusals are the same.
-pub(super) fn same_fault(one: &DlFault, other: &DlFault) -> bool
+pub(crate) fn same_fault(one: &DlFault, other: &DlFault) -> bool
     ensures { IsTrue result ↔ (one.now ≡ other.now) }
 {
     use DlFault::*;

@@ -31,7 +31,7 @@ pub(super) fn same_search(one: &SymAsk, other: &SymAsk) -> bool
 }
 
 /// Whether the same came of two look-ups.
-pub(super) fn same_found(one: &SymAnswer, other: &SymAnswer) -> bool
+pub(crate) fn same_found(one: &SymAnswer, other: &SymAnswer) -> bool
     ensures { IsTrue result ↔ (one.now ≡ other.now) }
 {
     match one {
@@ -45,7 +45,7 @@ pub(super) fn same_found(one: &SymAnswer, other: &SymAnswer) -> bool
 }
 
 /// Whether the same came of two closings.
-pub(super) fn same_closing(one: &CloseAnswer, other: &CloseAnswer) -> bool
+pub(crate) fn same_closing(one: &CloseAnswer, other: &CloseAnswer) -> bool
     ensures { IsTrue result ↔ (one.now ≡ other.now) }
 {
     match one {

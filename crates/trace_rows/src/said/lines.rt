@@ -12,7 +12,7 @@ use history_event::{CloseAnswer, EventLine, HartEnd, OpenAnswer, OpenAsk, SymAns
 use ld_base::{Bytes, Choice, DlFault, GrantNo, HartId, Serial, Serials};
 
 /// Whether the line is that of an opening.
-pub(super) fn says_open(line: &EventLine, hart: HartId, ask: &OpenAsk, answer: &OpenAnswer) -> bool
+pub fn says_open(line: &EventLine, hart: HartId, ask: &OpenAsk, answer: &OpenAnswer) -> bool
     ensures { IsTrue result ↔ (said_of (Open hart ask.now answer.now) ≡ line.now) }
 {
     matches!(line, EventLine::Open { hart: h, ask: a, answer: said } if hart == *h && same_ask(ask, a) && says_answer(said, answer))

@@ -1,7 +1,7 @@
 use Rattle.std.proofs.Common.{sym, ◌∙◌}
 use Rattle.std.proofs.lemmas.Bool.Decides.{Decides-eqb}
 use Rattle.std.proofs.lemmas.Slice.Eq.{slice_eq-Decides}
-use Rattle.trace_check.proofs.said.fields.same_serials.Goals as goal
+use Rattle.trace_rows.proofs.said.fields.same_serials.Goals as goal
 
 pub returns : goal.returns
 returns c =
