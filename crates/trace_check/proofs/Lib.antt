@@ -1,1 +1,7 @@
+mod Counted
+mod Ended
+mod Opened
+mod Splitting
+mod Taken
 mod Unsaid
+mod Verdicts

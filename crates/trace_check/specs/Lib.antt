@@ -1,1 +1,7 @@
+pub mod Harts
+pub mod Judged
 pub mod Laws
+pub mod Lines
+pub mod Parts
+pub mod Rows
+pub mod Split

@@ -1,21 +1,21 @@
 -- What was next of all mapped objects at a moment since every hart exited.
 use Rattle.std.proofs.Common.{◌≡◌, ◌⊎◌, inl, inr, ⊎_elim, ℕ, Bool, true, false, cond, List, [], ◌∷◌, ◌++◌, map, reverse, Option, Some, None, refl, sym, ap, subst, ◌∙◌}
 use Rattle.std.specs.Prelude.{IsTrue}
-use Rattle.std.specs.List.{Contains, filter, find, slice_get}
+use Rattle.std.specs.List.{Contains, find, slice_get}
 use Rattle.std.proofs.lemmas.Bool.{true≢false}
 use Rattle.std.proofs.lemmas.List.{append-nil}
 use Rattle.std.proofs.lemmas.List.Elements.{Contains-append_left, Contains-push, Contains-push_cases}
 use Rattle.history_event.specs.declared.event.Event.{Event}
 use Rattle.history_graph.specs.Initialised.{is_one_of}
-use Rattle.history_journal.specs.Following.{machine_of}
 use Rattle.history_state.specs.After.{after}
 use Rattle.history_state.specs.Allowed.{IsFirst, WasNext}
 use Rattle.history_state.specs.Lemmas.Lists.{has_in}
 use Rattle.history_state.specs.Links.{finis_of, unfinished}
 use Rattle.history_state.specs.Objects.{mapped, serial_of}
-use Rattle.history_state.specs.Setting.{Machine, Setting, have_exited}
+use Rattle.history_state.specs.Setting.{Setting, have_exited}
 use Rattle.history_state.specs.State.{State}
 use Rattle.trace_replay.specs.Heads.{exits_by, head_in, noted, serials_in, with_head}
+use Rattle.trace_replay.specs.Lemmas.Ended.{exits_are, first_found}
 use Rattle.trace_replay.specs.Lists.{Lists}
 use Rattle.trace_replay.specs.Shown.{AreHeads, IsShown}
 
@@ -69,23 +69,12 @@ newer_head w past object x = record { before = past; since = []; are = sym (appe
 
 -- ---- the head of the lists
 
-first_found : {X : Type 0} (p : X → Bool) (xs : List X) (found : Option X) → find p xs ≡ found → slice_get (filter p xs) 0 ≡ found
-first_found {X} p [] found e = e
-first_found {X} p (y ∷ xs) found e = at (first_found p xs found) (p y) e
-  where
-    at : (find p xs ≡ found → slice_get (filter p xs) 0 ≡ found) → (b : Bool) → cond b (Some y) (find p xs) ≡ found → slice_get (cond b (y ∷ filter p xs) (filter p xs)) 0 ≡ found
-    at again true f = f
-    at again false f = again f
-
 -- the head of the lists is the first of all mapped objects' destructors
 head_is : (s : State) (l : Lists) → IsShown s l → slice_get (finis_of s (map serial_of (mapped s))) 0 ≡ head_in l.unfinished l.namespaces
 head_is s l x =
     first_found (is_one_of (map serial_of (mapped s))) (reverse (unfinished s)) (head_in (unfinished s) s.namespaces) refl
     ∙ ap (head_in (unfinished s)) (sym x.namespaces)
     ∙ ap (λ (ds : List ℕ). find (is_one_of (serials_in l.namespaces)) (reverse ds)) (sym x.unfinished)
-
-exits_are : (w : Setting) (s : State) (l : Lists) → w.machine ≡ machine_of l.harts → IsShown s l → have_exited w s ≡ exits_by l.harts l.endings
-exits_are w s l same x = ap (λ (m : Machine). exits_by m.harts s.endings) same ∙ ap (exits_by l.harts) (sym x.endings)
 
 noted_each : (found : Option ℕ) (heads : List ℕ) (object : ℕ) → Contains (noted found heads) object → Contains heads object ⊎ (found ≡ Some object)
 noted_each None heads object inside = inl inside

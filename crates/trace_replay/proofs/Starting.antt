@@ -1,8 +1,7 @@
 -- What is left of each loading after an event.
-use Rattle.std.proofs.Common.{◌≡◌, ⊎_elim, ◌⊎◌, inl, inr, ℕ, ◌<◌, ◌≤◌, Bool, true, false, not, cond, eqb, List, [], ◌∷◌, ◌++◌, length, map, Some, None, refl, sym, ap, subst, ◌∙◌, arith}
+use Rattle.std.proofs.Common.{◌≡◌, ⊎_elim, ◌⊎◌, inl, inr, ℕ, Bool, true, false, not, cond, eqb, List, [], ◌∷◌, ◌++◌, length, map, Some, None, refl, sym, ap, subst, ◌∙◌, arith}
 use Rattle.std.specs.List.{Contains, flat_map, slice_get}
-use Rattle.std.proofs.lemmas.Bool.{cases_lt, eq-eqb, eqb-true, ne_eqb, true≢false}
-use Rattle.std.proofs.lemmas.List.{append-nil}
+use Rattle.std.proofs.lemmas.Bool.{eq-eqb, eqb-true, ne_eqb, true≢false}
 use Rattle.std.proofs.lemmas.List.Elements.{Contains-append_cases, Contains-append_left, Contains-append_right}
 use Rattle.history_calls.specs.CallLaws.Laws.{NewEdgesSuffice}
 use Rattle.history_calls.specs.Functions.{AreLeft}
@@ -15,8 +14,7 @@ use Rattle.history_event.specs.declared.event.OpenAsk.{OpenAsk}
 use Rattle.history_event.specs.declared.event.Range.{Range}
 use Rattle.history_event.specs.declared.event.SymAnswer.TheVariants as syms
 use Rattle.history_event.specs.declared.state.Loading.{Loading}
-use Rattle.history_graph.specs.declared.graph.Edge.{Edge}
-use Rattle.history_graph.specs.Initialised.{InitNext, InitOrder, program_last}
+use Rattle.history_graph.specs.Initialised.{InitOrder, program_last}
 use Rattle.history_state.specs.After.{after}
 use Rattle.history_state.specs.Allowed.{Allowed, MayInitialise}
 use Rattle.history_state.specs.Laws.{SerialsAreInOrder}
@@ -24,39 +22,18 @@ use Rattle.history_state.specs.Legal.{Lawful}
 use Rattle.history_state.specs.Lemmas.History.{after_push}
 use Rattle.history_state.specs.Lemmas.Lists.{at_in, from_filter, from_map, here, in_filter, in_map, none_in, only_in}
 use Rattle.history_state.specs.Links.{IsInitNext, found_edges}
-use Rattle.history_state.specs.Objects.{mapped, serial_of}
+use Rattle.history_state.specs.Objects.{serial_of}
 use Rattle.history_state.specs.Setting.{Machine, Setting}
 use Rattle.history_state.specs.State.{State}
 use Rattle.history_state.specs.Step.{die, initialise, loaded, loading_of, lower, step, unmap}
 use Rattle.ld_base.specs.declared.linking.Loaded.{Loaded}
+use Rattle.trace_replay.specs.Lemmas.Next.{first_is}
 use Rattle.trace_replay.specs.Lists.{Lists}
 use Rattle.trace_replay.specs.Opened.{Starts, starting_of}
 use Rattle.trace_replay.specs.Shown.{AreStarting, IsKeptOf, IsLeftOf, IsListed}
 use Rattle.trace_replay.specs.Steps.{has_some, started, starts, stepped, without_first}
 use Rattle.trace_replay.specs.Taken.{OpensNothing}
 use Rattle.trace_replay.proofs.Begun.{begun, of_loading}
-
--- ---- the first that is left is the next
-
-same_next : (edges : List Edge) (new done : List ℕ) (o p : ℕ) → InitNext edges new done o → InitNext edges new done p → o ≡ p
-same_next edges new done o p x y = ⊎_elim
-    (λ (lt : x.place < y.place). absurd (y.first x.place o lt x.stands x.may))
-    (λ (ge : y.place ≤ x.place). ⊎_elim
-    (λ (lt : y.place < x.place). absurd (x.first y.place p lt y.stands y.may))
-    (λ (le : x.place ≤ y.place).
-    let same : x.place ≡ y.place = omega (arith, ge, le) in
-    let both : Some o ≡ Some p = sym (subst (λ (n : ℕ). slice_get new n ≡ Some o) same x.stands) ∙ y.stands in
-    cc)
-    (cases_lt y.place x.place))
-    (cases_lt x.place y.place)
-
-pub first_is : (s : State) (loading : Loading) (rest : List ℕ) (object : ℕ) → AreLeft s loading rest → IsInitNext s loading object → slice_get rest 0 ≡ Some object
-first_is s loading [] object left next = absurd (⊎_elim
-    (λ (done : Contains s.inits object). next.may.undone done)
-    (λ (none : Contains [] object). none_in object none)
-    (left.all object (at_in _ next.place object next.stands)))
-first_is s loading (d ∷ rest) object left next =
-    ap (λ (n : ℕ). Some n) (same_next (flat_map found_edges (mapped s)) (program_last (Some 1) loading.serials) s.inits d object (subst (λ (done : List ℕ). InitNext (flat_map found_edges (mapped s)) (program_last (Some 1) loading.serials) done d) (append-nil s.inits) (left.each 0 d refl)) next)
 
 -- ---- what an event does to the loadings
 

@@ -1,6 +1,7 @@
 -- An event taken in.
-use Rattle.std.proofs.Common.{◌≡◌, ℕ, ◌+◌, ◌-◌, ◌*◌, ◌^◌, ◌<◌, ◌≤◌, Bool, true, false, cond, List, [], ◌∷◌, ◌++◌, length, Some, Ok, refl, sym, ap, subst, ◌∙◌, arith}
+use Rattle.std.proofs.Common.{◌≡◌, ℕ, ◌+◌, ◌-◌, ◌*◌, ◌^◌, ◌<◌, ◌≤◌, Bool, true, false, cond, eqb, List, [], ◌∷◌, ◌++◌, length, Option, Some, None, Ok, refl, sym, ap, subst, ◌∙◌, arith}
 use Rattle.std.specs.List.{Contains, flat_map}
+use Rattle.std.specs.Prelude.{IfSome}
 use Rattle.std.specs.Option.{option_and_then}
 use Rattle.address_space.specs.Pages.{AllFree}
 use Rattle.history_calls.specs.Laws.{NextStarts, StartsStay}
@@ -28,6 +29,7 @@ use Rattle.ld_base.specs.declared.linking.Loaded.{Loaded}
 use Rattle.ld_base.specs.declared.object.Object.{Object}
 use Rattle.ld_base.specs.declared.object.TlsSeg.{TlsSeg}
 use Rattle.ld_base.specs.declared.parts.HashTable.{HashTable}
+use Rattle.scope_rule.specs.Loading.{with_serial}
 use Rattle.scope_rule.specs.declared.namespace.Namespace.{Namespace}
 use Rattle.tls_blocks.specs.Numbers.{AreNumbered}
 use Rattle.trace_replay.specs.Heads.{exits_by, head_in, noted, with_head}
@@ -161,6 +163,28 @@ stored_is read accepted harts past serial o seg lawful inside is =
     let at = from_flat (λ (ns : Namespace). ns.objects) (after past).namespaces o inside in
     let was = read (machine_of harts) past lawful at.0 o (record { there = at.1; inside = at.2 }) in
     (accepted was.bytes was.program o.object o.table was.is).storage seg is
+
+-- so the segment of one fits
+segment_is : ReadLaw → AcceptedLaw → (l : Lists) → IsHistory l → (serial : ℕ) (seg : TlsSeg) → storage_in l.namespaces serial ≡ Some seg → (o : Loaded) × IsStorage o.object seg
+segment_is read accepted l kept serial seg is =
+    by (with_serial (flat_map (λ (ns : Namespace). ns.objects) l.namespaces) serial) refl is
+  where
+    by : (found : Option Loaded) → with_serial (flat_map (λ (ns : Namespace). ns.objects) l.namespaces) serial ≡ found → option_and_then (λ (o : Loaded). o.object.tls) found ≡ Some seg
+        → (o : Loaded) × IsStorage o.object seg
+    by None e f = absurd (let d : None ≡ Some seg = f in cc)
+    by (Some o) e f = (
+      o,
+      stored_is read accepted l.harts kept.past serial o seg kept.shows.lawful
+          (subst (λ (nss : List Namespace). Contains (flat_map (λ (ns : Namespace). ns.objects) nss) o) kept.shows.state.namespaces (found_in (λ (p : Loaded). eqb p.serial serial) _ o e).0) f,
+    )
+
+pub aligned_so : ReadLaw → AcceptedLaw → (l : Lists) → IsHistory l → (serial : ℕ) (found : Option TlsSeg) → found ≡ storage_in l.namespaces serial → IfSome found (λ seg. seg.align ≤ 2 ^ 20)
+aligned_so read accepted l kept serial None is = tt
+aligned_so read accepted l kept serial (Some seg) is = (segment_is read accepted l kept serial seg (sym is)).1.align
+
+pub sized_so : ReadLaw → AcceptedLaw → (l : Lists) → IsHistory l → (serial : ℕ) (found : Option TlsSeg) → found ≡ storage_in l.namespaces serial → IfSome found (λ seg. seg.memsz ≤ 2 ^ 20)
+sized_so read accepted l kept serial None is = tt
+sized_so read accepted l kept serial (Some seg) is = (segment_is read accepted l kept serial seg (sym is)).1.memory
 
 pub ready : ReadLaw → AcceptedLaw → (past : List Event) (e : Event) (l : Lists) → Shows past l → MayFollow l.harts past e → IsReady e l
 ready read accepted past (events.Grant number hart owner slot choice value) l x may = may.may.numbered ∙ ap (λ (gs : List Granting). length gs + 1) (sym x.state.grants)

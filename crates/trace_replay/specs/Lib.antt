@@ -4,6 +4,7 @@ pub mod Heads
 pub mod Indexed
 pub mod Inside
 pub mod Keeping
+pub mod Lemmas
 pub mod Lists
 pub mod Opened
 pub mod Shown

@@ -1,15 +1,17 @@
 //! The history, event by event.
 
-ghost use Rattle.std.specs.Prelude.{◌≡◌, [], IfOk, OnErr, OnOk};
+ghost use Rattle.std.specs.Prelude.{◌≡◌, ◌≤◌, ◌^◌, [], IfOk, IfSome, OnErr, OnOk};
 ghost use Rattle.std.specs.Option.{option_copied};
+ghost use Rattle.history_graph.specs.Initialised.{is_one_of};
 ghost use Rattle.history_journal.specs.LinkHarts.Kept.{fault_of};
 ghost use Rattle.history_state.specs.Areas.{free_pages};
-ghost use Rattle.link_lists.specs.LateBlocksPart.Blocks.{block_of};
+ghost use Rattle.trace_replay.specs.Heads.{serials_in};
 ghost use Rattle.trace_replay.specs.Shown.{IsHistory, Shows};
+ghost use Rattle.trace_replay.specs.Steps.{storage_in};
 ghost use Rattle.trace_replay.specs.Taken.{AreChosen, Follows, OpensNothing, Takes, event_of};
 
 use crate::grants::GrantTable;
-use crate::steps::{note_head, open, step};
+use crate::steps::{is_mapped, note_head, open, step, storage_in};
 use crate::tables::Tables;
 use address_space::Regions;
 use history_calls::{constructors_follow, own_order_is_the_order};
@@ -19,7 +21,8 @@ use history_state::{
     finalised_once, legal_step_by_step, modules_are_few, modules_are_tidy, objects_are_read,
     serials_are_in_order,
 };
-use ld_base::{DlFault, HartId, Serial};
+use ld_base::{DlFault, HartId, Serial, TlsSeg};
+use link_lists::LateBlocks;
 use link_open_laws::{new_modules_have_places, new_ranges_are_laid};
 use link_spaces::namespaces_are_numbered_apart;
 use scope_rule::Namespace;
@@ -128,11 +131,29 @@ impl Replay {
         &self.tables.modules
     }
 
-    /// The address of the block that a hart got of an object's late module.
-    pub fn block(&self, hart: HartId, serial: Serial) -> Option<u64>
-        ensures { result ≡ block_of hart serial self.now.blocks }
+    /// The blocks of late modules that harts got.
+    pub fn blocks(&self) -> &LateBlocks
+        ensures { result.now.blocks ≡ self.now.blocks }
     {
-        self.tables.blocks.find(hart, serial)
+        &self.tables.blocks
+    }
+
+    /// Whether an object is mapped.
+    pub fn is_mapped(&self, serial: Serial) -> bool
+        ensures { result ≡ is_one_of (serials_in self.now.namespaces) serial }
+    {
+        is_mapped(self.namespaces(), serial)
+    }
+
+    /// The segment of thread-local storage of a mapped object.
+    pub fn segment(&self, serial: Serial) -> Option<TlsSeg>
+        ensures of { result ≡ storage_in self.now.namespaces serial }
+        ensures align { IfSome result (λ seg. seg.align ≤ 2 ^ 20) }
+        ensures memory { IfSome result (λ seg. seg.memsz ≤ 2 ^ 20) }
+    {
+        objects_are_read();
+        accepted_object();
+        storage_in(self.tables.namespaces.as_slice(), serial)
     }
 
     /// All grants.

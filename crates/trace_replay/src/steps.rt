@@ -17,13 +17,14 @@ use crate::grants::GrantTable;
 use crate::tables::Tables;
 use closing::{close, unmap};
 pub use heads::have_exited;
-pub(crate) use heads::note_head;
+pub(crate) use heads::{is_mapped, note_head};
 use history_event::{Ending, Event, Granting, HartEnd, Standing};
 use initialising::{finalise, initialise};
 use ld_base::HartId;
 pub(crate) use opening::open;
 use refusing::{keep_open, keep_sym};
 use std::alloc::{AllocError, Global};
+pub(crate) use storing::storage_in;
 use storing::store;
 
 /// What an event makes of the lists; what an opening brings apart.

@@ -63,7 +63,7 @@ fn head_of(unfinished: &[Serial], namespaces: &[Namespace]) -> Option<Serial>
 }
 
 /// Whether an object of a namespace has a serial.
-fn is_mapped(namespaces: &[Namespace], serial: Serial) -> bool
+pub(crate) fn is_mapped(namespaces: &[Namespace], serial: Serial) -> bool
     ensures { result ≡ is_one_of (serials_in namespaces.now) serial }
 {
     match object_in(namespaces, serial) {

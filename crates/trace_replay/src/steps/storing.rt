@@ -42,7 +42,7 @@ pub(crate) fn store(
 }
 
 /// The segment of thread-local storage of a mapped object.
-fn storage_in(namespaces: &[Namespace], serial: Serial) -> Option<TlsSeg>
+pub(crate) fn storage_in(namespaces: &[Namespace], serial: Serial) -> Option<TlsSeg>
     ensures { result ≡ storage_in namespaces.now serial }
 {
     match object_in(namespaces, serial) {

@@ -1,0 +1,11 @@
+mod Closed
+mod Found
+mod Granted
+mod Running
+mod Settled
+mod Stored
+mod Tests
+mod Told
+mod Unmapped
+mod Unsaid
+mod Valued

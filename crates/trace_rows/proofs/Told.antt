@@ -1,0 +1,41 @@
+-- What harts write and are told, and how they end.
+use Rattle.std.proofs.Common.{◌≡◌, ℕ, ◌&&◌, ◌||◌, Bool, not, eqb, List, [], ◌∷◌, length, map, refl, sym, ap, subst, ◌∙◌}
+use Rattle.std.specs.Bool.{Decides}
+use Rattle.std.specs.List.{list_any}
+use Rattle.std.proofs.lemmas.Bool.{not-true}
+use Rattle.std.proofs.lemmas.Bool.Decides.{Decides-and, Decides-eqb, Decides-like, Decides-or}
+use Rattle.history_event.specs.declared.state.Ending.{Ending}
+use Rattle.history_event.specs.declared.state.Kept.{Kept}
+use Rattle.history_journal.specs.Following.{machine_of}
+use Rattle.history_journal.specs.LinkHarts.Kept.{fault_of}
+use Rattle.history_state.specs.Allowed.{MayEnd, kept_for}
+use Rattle.history_state.specs.Objects.{has}
+use Rattle.history_state.specs.Setting.{Machine, Setting, are_finals}
+use Rattle.history_state.specs.State.{State}
+use Rattle.trace_replay.specs.Heads.{exits_by}
+use Rattle.trace_replay.specs.Lists.{Lists}
+use Rattle.trace_replay.specs.Shown.{IsShown}
+
+-- ---- refusals
+
+pub kept_is : (s : State) (l : Lists) (hart : ℕ) → IsShown s l → fault_of hart l.kept ≡ kept_for s hart
+kept_is s l hart x = ap (λ (ks : List Kept). fault_of hart ks) x.kept
+
+-- ---- ends
+
+pub finals_are : (w : Setting) (s : State) (harts : ℕ) (endings : List Ending) → w.machine ≡ machine_of harts → s.endings ≡ endings
+    → (eqb (length endings) harts && exits_by harts endings) ≡ are_finals w s
+finals_are w s harts endings same are =
+    ap (λ (es : List Ending). eqb (length es) harts && exits_by harts es) (sym are) ∙ ap (λ (m : Machine). eqb (length s.endings) m.harts && exits_by m.harts s.endings) (sym same)
+
+has_map : (endings : List Ending) (hart : ℕ) → list_any (λ (e : Ending). eqb e.hart hart) endings ≡ has (map (λ (e : Ending). e.hart) endings) hart
+has_map [] hart = refl
+has_map (e ∷ rest) hart = ap (λ (b : Bool). eqb e.hart hart || b) (has_map rest hart)
+
+pub ends_so : (w : Setting) (s : State) (l : Lists) (hart : ℕ) (ended first finals : Bool) → IsShown s l → ended ≡ list_any (λ (e : Ending). eqb e.hart hart) l.endings → first ≡ eqb hart 0
+    → finals ≡ are_finals w s → Decides (not ended || (first && finals)) (MayEnd w s hart)
+ends_so w s l hart ended first finals x is zero over =
+    let there : ended ≡ has (map (λ (e : Ending). e.hart) s.endings) hart = is ∙ has_map l.endings hart ∙ ap (λ (es : List Ending). has (map (λ (e : Ending). e.hart) es) hart) x.endings in
+    Decides-or (not ended) (first && finals)
+    ((λ e. sym there ∙ not-true ended e), (λ none. ap not (there ∙ none)))
+    (Decides-and first finals (Decides-like first (λ e. e) (λ e. e) (subst (λ (b : Bool). Decides b (hart ≡ 0)) (sym zero) (Decides-eqb hart 0))) ((λ e. sym over ∙ e), (λ e. over ∙ e)))
