@@ -25,7 +25,7 @@ pub fn expected(
     replay: &Replay,
     line: &EventLine,
 ) -> Result<Option<Event>, AllocError>
-    requires { IsNoOpening line.now }
+    requires no_opening { IsNoOpening line.now }
     ensures may { IfOk result (λ found. IfSome found (IsExpected replay.now line.now)) }
     ensures only { IfOk result (λ found. IfNone found (NoneMayCome replay.now line.now)) }
 {

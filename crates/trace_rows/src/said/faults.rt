@@ -48,13 +48,3 @@ pub(crate) fn same_fault(one: &DlFault, other: &DlFault) -> bool
         BadNamespace(number) => matches!(other, BadNamespace(n) if number == n),
     }
 }
-
-/// Whether two refusals that may be missing are the same.
-pub(super) fn same_kept(one: &Option<DlFault>, other: &Option<DlFault>) -> bool
-    ensures { IsTrue result ↔ (one.now ≡ other.now) }
-{
-    match one {
-        Some(fault) => matches!(other, Some(said) if same_fault(fault, said)),
-        None => other.is_none(),
-    }
-}

@@ -2,32 +2,15 @@
 
 ghost use Rattle.std.specs.Prelude.{◌≡◌, ◌↔◌, IsTrue};
 
-use super::faults::{same, same_fault, same_name};
-use history_event::{CloseAnswer, SymAnswer, SymAsk};
-use ld_base::{Bytes, Serials};
+use super::faults::same_fault;
+use history_event::{CloseAnswer, SymAnswer};
+use ld_base::Serials;
 
 /// Whether two lists of serials are the same.
 pub(super) fn same_serials(one: &Serials, other: &Serials) -> bool
     ensures { IsTrue result ↔ (one.now ≡ other.now) }
 {
     one.as_slice() == other.as_slice()
-}
-
-/// Whether two lists of bytes are the same.
-pub(super) fn same_bytes(one: &Bytes, other: &Bytes) -> bool
-    ensures { IsTrue result ↔ (one.now ≡ other.now) }
-{
-    one.as_slice() == other.as_slice()
-}
-
-/// Whether two look-ups ask for the same.
-pub(super) fn same_search(one: &SymAsk, other: &SymAsk) -> bool
-    ensures { IsTrue result ↔ (one.now ≡ other.now) }
-{
-    one.ns == other.ns
-        && one.handle == other.handle
-        && same(&one.name, &other.name)
-        && same_name(&one.version, &other.version)
 }
 
 /// Whether the same came of two look-ups.
