@@ -1,6 +1,6 @@
 -- What the calls of a bus leave, for whoever keeps a trail of them. A call that its address alone refuses finds nothing in
 -- memory, so nothing is left of it: a step may leave less than its calls.
-use Rattle.std.specs.Prelude.{◌≡◌, ℕ, ◌%◌, Bool, false, not, List, [], ◌∷◌, Result, Ok, Err, flat_map, ◌==◌, if◌then◌else◌}
+use Rattle.std.specs.Prelude.{◌≡◌, ℕ, ◌%◌, Bool, false, not, List, [], ◌∷◌, Result, Ok, Err, flat_map, ◌==◌, ◌&&◌, if◌then◌else◌}
 use Rattle.ld_base.specs.declared.linking.Role.TheVariants.{None as NoRole}
 use Rattle.rv_hart.specs.declared.bus.BusFault.{BusFault}
 use Rattle.rv_hart.specs.declared.bus.BusFault.TheVariants.{Role as RoleFault, Misaligned}
@@ -9,10 +9,11 @@ use Rattle.rv_hart.specs.declared.bus.Item.TheVariants.{Fetch, Read, Write, Amo,
 use Rattle.rv_hart.specs.Registers.{Registers}
 use Rattle.rv_hart.specs.Trail.{Place, IsStep}
 
--- the address alone shows why a call of so many bytes is refused: it is no multiple of them, or memory has no doubleword there
+-- the address alone shows why a call of so many bytes is refused: it is no multiple of them, or it is one and memory has no
+-- doubleword there
 abbrev pub is_shown : {T : Type 0} → (ℕ → Bool) → ℕ → ℕ → Result T BusFault → Bool
 is_shown has_word address size (Err Misaligned) = not (address % size == 0)
-is_shown has_word address size (Err (RoleFault NoRole)) = not (has_word address)
+is_shown has_word address size (Err (RoleFault NoRole)) = (address % size == 0) && not (has_word address)
 is_shown has_word address size _ = false
 
 -- what a call leaves
