@@ -15,7 +15,7 @@ use Rattle.trace_check.specs.declared.verdict.CheckFault.{CheckFault}
 use Rattle.trace_check.specs.declared.verdict.CheckFault.TheVariants as faults
 use Rattle.trace_check.specs.declared.verdict.TraceCause.{TraceCause}
 use Rattle.history_state.specs.Setting.{Setting}
-use Rattle.trace_opens.specs.OpeningRows.Expected.{IsExpected, MayCome, trace_run}
+use Rattle.trace_opens.specs.OpeningRows.Expected.{IsExpectedOpening, MayOpenSo, trace_run}
 use Rattle.trace_opens.specs.declared.failed_paths.judging.Doubt.{Doubt}
 use Rattle.trace_read.specs.Lines.{HasLine}
 use Rattle.trace_read.specs.Said.{said_of}
@@ -35,7 +35,7 @@ same_found a b e = cc
 
 module _ (l new : Lists) (folders : List (List ℕ)) (files : Option (List File)) (hart : ℕ) (ask : OpenAsk) (line : OpenLine) where
   abbrev pub AreExpected : Found → Type 0
-  AreExpected r = IfOk r (λ found. (past : List Event) → Shows past l → IsExpected (trace_run l.harts folders files) past hart ask line found)
+  AreExpected r = IfOk r (λ found. (past : List Event) → Shows past l → IsExpectedOpening (trace_run l.harts folders files) past hart ask line found)
 
   pub may_be_taken : (r : Found) → AreExpected r → IfOk r (λ found. IfSome found (MayBeTaken l))
   may_be_taken (Ok (Some o)) x = record {
@@ -51,7 +51,7 @@ module _ (l new : Lists) (folders : List (List ℕ)) (files : Option (List File)
   opened_comes said (Err doubt) (Ok may) is x sure good bad = absurd (let d : false ≡ true = sure in cc)
   opened_comes said (Ok found) (Ok true) is x sure good bad = λ past shows.
       let t = good refl in
-      let may : MayCome (trace_run l.harts folders files) past t.opening = some_in (MayCome (trace_run l.harts folders files) past) found t.opening (same_found found (Some t.opening) t.is) (x past shows).may in
+      let may : MayOpenSo (trace_run l.harts folders files) past t.opening = some_in (MayOpenSo (trace_run l.harts folders files) past) found t.opening (same_found found (Some t.opening) t.is) (x past shows).may in
       record { event = event_of t.opening; is = t.same; may = may.may; shows = t.takes past shows }
   opened_comes said (Ok found) (Ok false) is x sure good bad = λ past shows told e same allowed.
       let o = opens_so hart ask line e (same ∙ is) in

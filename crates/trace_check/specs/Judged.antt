@@ -39,7 +39,7 @@ pub data Judged (w : Setting) (t : Lines) : Verdict → Type 0 where
   -- or its event may not come
   not_allowed : (before behind : List (List ℕ)) (line : List ℕ) (events : List Event) → t.events ≡ before ++ line ∷ behind → Says w before events
       → IsIllegal w events line → Judged w t (at (length before + 1) causes.Illegal)
-  -- the text ends without a line feed before a last line
+  -- the text ends without a line feed before a last line: a last line has its own (a choice: docs/DECISIONS.md)
   is_cut : (events : List Event) → Says w t.events events → t.last ≡ None → t.rest ≢ [] → Judged w t (at (length t.events + 1) causes.NotALine)
   -- or without a last line
   no_end : (events : List Event) → Says w t.events events → t.last ≡ None → t.rest ≡ [] → Judged w t (at (length t.events + 1) causes.NoEnd)

@@ -2,11 +2,12 @@
 use Rattle.std.specs.Prelude.{◌≡◌, ℕ, Bool, false, ◌==◌, List, [], ◌∷◌, ◌++◌, Option, Some, None, All, Contains, codes, IsTrue}
 use Rattle.std.specs.List.{flat_map, starts_with}
 
--- the lines before the first that begins with `end `, each with its line feed; that line; and what stands behind it, or without one behind
--- the last line feed
 pub record Lines : Type 0 where
+  -- the lines before the first that begins with `end `, each with its line feed
   pub events : List (List ℕ)
+  -- that line
   pub last : Option (List ℕ)
+  -- what stands behind it; where there is none, behind the last line feed
   pub rest : List ℕ
 
 abbrev pub HasNoFeed : List ℕ → Type 0

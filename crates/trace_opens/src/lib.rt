@@ -6,8 +6,5 @@
 mod failed_paths;
 mod opening_rows;
 
-pub use failed_paths::{
-    Doubt, EmptyAt, a_failed_read_is_an_empty_file, empty_is_refused, may_fail_at,
-    may_fail_at_start,
-};
-pub use opening_rows::{expected_open, startup_needs_no_past};
+pub use failed_paths::Doubt;
+pub use opening_rows::expected_open;

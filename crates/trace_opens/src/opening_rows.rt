@@ -12,4 +12,3 @@ mod law;
 mod starting;
 
 pub use expecting::expected_open;
-pub use law::startup_needs_no_past;

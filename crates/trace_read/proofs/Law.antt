@@ -15,7 +15,7 @@ use Rattle.trace_read.specs.declared.fault.TraceFault.{TraceFault}
 use Rattle.trace_read.specs.declared.fault.TraceFault.TheVariants as faults
 use Rattle.trace_read.specs.Fits.{IsWritable}
 use Rattle.trace_read.specs.Gives.{Misses, Gives}
-use Rattle.trace_read.specs.Laws.{OneSaying}
+use Rattle.trace_read.specs.Laws.{EventsHaveLines, OneSaying}
 use Rattle.trace_read.specs.Lines.{HasLine, words_of, line_of, new_line_text, new_lines_text, open_line_text, open_words}
 use Rattle.trace_read.specs.Read.{read_line}
 use Rattle.trace_read.specs.Said.{said_of, said_of_answer, said_of_new}
@@ -76,13 +76,16 @@ same_words (events.Told hart None) = refl
 same_words (events.Told hart (Some fault)) = refl
 same_words (events.Ended hart end) = refl
 
+pub events_have_lines : EventsHaveLines
+events_have_lines event fits = record { fits = fits; text = ap (λ w. w ++ 10 ∷ []) (sym (same_words event)) }
+
 pub inverts : (line : List ℕ) (r : Result EventLine TraceFault) → Gives (read_line line) r
     → (event : Event) → IsWritable (said_of event) → line ≡ line_text event
     → IfOk r (λ read. read ≡ said_of event) × IfErr r (λ fault. fault ≡ faults.Memory)
 inverts line r g event fits text = by r g
   where
     known : read_line line ≡ Some (said_of event)
-    known = read_so line (said_of event) (record { fits = fits; text = text ∙ ap (λ w. w ++ 10 ∷ []) (sym (same_words event)) })
+    known = read_so line (said_of event) (record { fits = fits; text = text ∙ (events_have_lines event fits).text })
 
     by : (r : Result EventLine TraceFault) → Gives (read_line line) r
         → IfOk r (λ read. read ≡ said_of event) × IfErr r (λ fault. fault ≡ faults.Memory)

@@ -6,11 +6,14 @@ use Rattle.std.proofs.lemmas.List.{take_rest}
 use Rattle.std.proofs.lemmas.Option.{none-some, same_Some}
 use Rattle.ld_base.specs.Text.{is_plain}
 use Rattle.trace_read.specs.Lists.{each}
-use Rattle.trace_read.specs.Loops.{onto}
 use Rattle.trace_read.specs.Names.{byte_of, bytes_of, escaped, first_byte, unescape}
 use Rattle.trace_read.specs.Names.Stage.{plain, percent, high}
 use Rattle.trace_read.specs.Numbers.{digit}
 use Rattle.trace_read.specs.Pieces.{◌>>=◌}
+
+-- what is read of the rest, behind what is read already
+abbrev pub onto : {A : Type 0} → List A → Option (List A) → Option (List A)
+onto done rest = option_map (λ more. done ++ more) rest
 
 pub none_yet : {A : Type 0} (rest : Option (List A)) → onto [] rest ≡ rest
 none_yet None = refl

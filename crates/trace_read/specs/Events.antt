@@ -3,7 +3,6 @@ use Rattle.std.specs.Prelude.{ℕ, ◌^◌, ◌==◌, if◌then◌else◌, codes
 use Rattle.std.specs.Str.{bytes_eq}
 use Rattle.ld_base.specs.declared.fault.DlFault.{DlFault}
 use Rattle.history_event.specs.declared.event.OpenAsk.{OpenAsk}
-use Rattle.history_event.specs.declared.event.SymAsk.{SymAsk}
 use Rattle.history_event.specs.declared.event_line.EventLine.{EventLine}
 use Rattle.history_event.specs.declared.event_line.EventLine.TheVariants as lines
 use Rattle.trace_read.specs.declared.events.EventWord.{EventWord}
@@ -40,9 +39,6 @@ close_event text = option_map (λ p. lines.Close p.0 p.1.0 p.1.1) (pair 32 hart 
 
 abbrev pub unmapped_event : List ℕ → Option EventLine
 unmapped_event text = option_map (λ p. lines.Unmapped p.0 p.1) (pair 32 hart (labelled (list_of (numeral 10)) (codes "set=")) text)
-
-abbrev pub sym_ask_of : ℕ × (ℕ × (List ℕ × Option (List ℕ))) → SymAsk
-sym_ask_of p = record { ns = p.0; handle = p.1.0; name = p.1.1.0; version = p.1.1.1 }
 
 abbrev pub sym_event : List ℕ → Option EventLine
 sym_event text = option_map (λ p. lines.Sym p.0 (record { ns = p.1.0; handle = p.1.1.0; name = p.1.1.1.0; version = p.1.1.1.1.0 }) p.1.1.1.1.1)

@@ -7,7 +7,6 @@ pub mod Gives
 pub mod Laws
 pub mod Lines
 pub mod Lists
-pub mod Loops
 pub mod Names
 pub mod Numbers
 pub mod Pieces

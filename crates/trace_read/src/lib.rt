@@ -18,5 +18,5 @@ mod read;
 mod steps;
 
 pub use fault::TraceFault;
-pub use once::lines_say_once;
+pub use once::{events_have_lines, lines_say_once};
 pub use read::read_event;

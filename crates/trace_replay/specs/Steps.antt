@@ -109,7 +109,7 @@ initialised object l = record l {
   starting = started object l.starting;
 }
 
--- ---- all events
+-- ---- events that bring no object
 
 abbrev pub stepped : Event → Lists → Lists
 stepped (events.Open hart ask answer) l = record l { kept = kept_of_open hart answer l.kept }
@@ -142,6 +142,6 @@ IsNumberedNext other grants = Unit {0}
 
 -- a grant has the next number, and a block its pages
 abbrev pub IsReady : Event → Lists → Type 0
-IsReady (events.Grant number hart owner slot choice value) l = number ≡ length l.grants + 1
+IsReady (events.Grant number hart owner slot choice value) l = IsNumberedNext (events.Grant number hart owner slot choice value) l.grants
 IsReady (events.Tls hart owner a) l = (seg : TlsSeg) → storage_in l.namespaces owner ≡ Some seg → HasPages l a seg
 IsReady other l = Unit {0}

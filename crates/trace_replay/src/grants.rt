@@ -86,7 +86,7 @@ impl GrantTable {
         grant_in(self.open.as_slice(), number)
     }
 
-    /// The bound grant of a slot of an object: the latest, if there are several.
+    /// A bound grant of a slot of an object.
     pub fn bound_to(&self, owner: Serial, slot: u32) -> Option<Granting>
         ensures some { IfSome result (IsBoundTo self.now owner slot) }
         ensures none { IfNone result (HasNoBound self.now owner slot) }

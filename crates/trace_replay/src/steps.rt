@@ -4,6 +4,7 @@ ghost use Rattle.std.specs.Prelude.{◌≡◌, ◌+◌, ◌∷◌, ◌++◌, ◌
 ghost use Rattle.tls_blocks.specs.Numbers.{AreNumbered};
 ghost use Rattle.trace_replay.specs.Inside.{lists_of};
 ghost use Rattle.trace_replay.specs.Steps.{IsNumberedNext, IsReady, grants_with, stepped};
+ghost use Rattle.trace_replay.specs.Taken.{OpensNothing};
 
 mod bringing;
 mod closing;
@@ -27,12 +28,13 @@ use std::alloc::{AllocError, Global};
 pub(crate) use storing::storage_in;
 use storing::store;
 
-/// What an event makes of the lists; what an opening brings apart.
+/// What an event makes of the lists that brings no object.
 ///
 /// # Errors
 ///
 /// Want of memory. Nothing has changed then.
 pub(crate) fn step(alloc: Global, tables: &mut Tables, event: &Event) -> Result<(), AllocError>
+    requires opens { OpensNothing event.now }
     requires ready { IsReady event.now (lists_of tables.old) }
     requires numbered { AreNumbered tables.old.modules.modules }
     requires few { tables.old.modules.generation + length tables.old.modules.modules < 2 ^ 64 }

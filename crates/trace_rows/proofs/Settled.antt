@@ -20,7 +20,7 @@ use Rattle.history_state.specs.State.{State}
 use Rattle.trace_replay.specs.Heads.{serials_in}
 use Rattle.trace_replay.specs.Lists.{Lists}
 use Rattle.trace_replay.specs.Shown.{IsShown}
-use Rattle.trace_rows.specs.Grants.{AllSettled, IsFinished, IsSettled, IsValueOf}
+use Rattle.trace_rows.specs.Grants.{IsFinished, IsSettled, IsValueOf}
 use Rattle.trace_rows.proofs.Valued.{open_is, settled_by, settled_has, value_some}
 
 -- ---- no grant is open
@@ -70,6 +70,10 @@ lost_so s l g saw value there holds tidy lost maps is has =
     saw_is other also = let both : standings.Lost saw ≡ standings.Lost other = sym lost ∙ also in cc
 
 -- ---- all grants
+
+-- this holds of each of some grants
+abbrev pub AllSettled : Lists → List Granting → Type 0
+AllSettled l grants = (s : State) (g : Granting) → IsShown s l → GrantsAreTidy s → Contains grants g → IsSettled s g
 
 abbrev pub SettledAs : Lists → Granting → Bool → Type 0
 SettledAs l g b = (s : State) → IsShown s l → GrantsAreTidy s → Decides b (IsSettled s g)

@@ -1,17 +1,16 @@
 -- The values of slots.
-use Rattle.std.specs.Prelude.{◌≡◌, ◌⊎◌, ℕ, Bool, not, ◌&&◌, ◌==◌, List, [], map, Option, Some, None, Contains, IsTrue}
+use Rattle.std.specs.Prelude.{◌≡◌, ◌⊎◌, ℕ, Bool, not, ◌&&◌, ◌==◌, [], map, Option, Some, None, Contains, IsTrue}
 use Rattle.history_event.specs.declared.state.Granting.{Granting}
 use Rattle.history_event.specs.declared.state.Standing.TheVariants.{Bound, Lost}
 use Rattle.history_state.specs.Grants.{is_of}
-use Rattle.history_state.specs.Laws.{GrantsAreTidy}
 use Rattle.history_state.specs.Legal.{Settled}
 use Rattle.history_state.specs.Links.{finis_of}
 use Rattle.history_state.specs.Objects.{IsMapped, mapped, serial_of}
 use Rattle.history_state.specs.Setting.{Setting, are_finals}
 use Rattle.history_state.specs.Slots.{HasBound, value_at_load}
 use Rattle.history_state.specs.State.{State}
-use Rattle.trace_replay.specs.Lists.{Lists}
-use Rattle.trace_replay.specs.Shown.{IsShown}
+
+-- ---- for the code of this crate alone
 
 -- a bound grant of a slot has this value
 pub record IsBound (s : State) (owner slot value : ℕ) : Type 0 where
@@ -42,12 +41,6 @@ IsSettled s g = (saw : ℕ) → g.standing ≡ Lost saw → IsMapped s g.owner �
 -- where every hart has ended once, by exit, each object that was initialised was finalised
 abbrev pub IsFinished : Setting → State → Type 0
 IsFinished w s = IsTrue (are_finals w s) → finis_of s (map serial_of (mapped s)) ≡ []
-
--- ---- for the code of this crate alone
-
--- this holds of each of some grants
-abbrev pub AllSettled : Lists → List Granting → Type 0
-AllSettled l grants = (s : State) (g : Granting) → IsShown s l → GrantsAreTidy s → Contains grants g → IsSettled s g
 
 -- another grant of the slot has this value
 abbrev pub is_other : Granting → ℕ → Granting → Bool

@@ -40,7 +40,7 @@ use Rattle.link_open_plan.specs.declared.planning.Unopened.{Unopened}
 use Rattle.link_open_plan.specs.declared.planning.Unopened.TheVariants as unopened
 use Rattle.scope_rule.specs.Seen.{Seen}
 use Rattle.trace_opens.specs.FailedPaths.Emptied.{reads_badly}
-use Rattle.trace_opens.specs.OpeningRows.Expected.{FailsBy, IsCertain, IsExpected, IsFound, MayCome, brought, failed_path, planned, read_path, refusal, unplanned}
+use Rattle.trace_opens.specs.OpeningRows.Expected.{FailsBy, IsCertain, IsExpectedOpening, IsFound, MayOpenSo, brought, failed_path, planned, read_path, refusal, unplanned}
 use Rattle.trace_opens.specs.declared.failed_paths.judging.Doubt.{Doubt}
 use Rattle.trace_read.specs.Said.{said_of_answer}
 use Rattle.trace_replay.specs.Taken.{event_of}
@@ -100,13 +100,13 @@ module _ (w : Setting) (past : List Event) (hart : ℕ) (ask : OpenAsk) (name : 
   loads_name : (n : NewObjects) → PlansNew w (after past) hart ask name id n → OpensName w (after past) hart ask ask.name id n.root n.added n.ranges
   loads_name n p = subst (λ (x : Option (List ℕ)). OpensName w (after past) hart ask x id n.root n.added n.ranges) (sym named.named) p.loads
 
-  pub brought_may : (n : NewObjects) → PlansNew w (after past) hart ask name id n → MayCome w past (brought hart ask id n)
+  pub brought_may : (n : NewObjects) → PlansNew w (after past) hart ask name id n → MayOpenSo w past (brought hart ask id n)
   brought_may n p = record {
     may = record { may = may; asked = named.asked; name = loads_name n p };
     chosen = are_choices (seen_after (after past) ask id n.root n.added) (binds (after past) ask) n.added n.choices p.choices;
   }
 
-  pub planned_may : (p : Planned) → IsPlanned w (after past) hart ask name id p → MayCome w past (planned hart ask id p)
+  pub planned_may : (p : Planned) → IsPlanned w (after past) hart ask name id p → MayOpenSo w past (planned hart ask id p)
   planned_may plans.Absent is = record { may = record { may = may; id = id; asked = named.asked; name = name; named = named.named; nowhere = is }; chosen = tt }
   planned_may (plans.There root) is = record {
     may = record { may = may; asked = named.asked; name = subst (λ (x : Option (List ℕ)). OpensName w (after past) hart ask x id root [] []) (sym named.named) is };
@@ -129,7 +129,7 @@ module _ (w : Setting) (past : List Event) (hart : ℕ) (ask : OpenAsk) (name : 
   planned_as (plans.New news) = refl
 
   pub expects_plan : OneOpening → (line : OpenLine) → failed_path line ≡ None → (p : Planned) → IsPlanned w (after past) hart ask name id p
-      → IsExpected w past hart ask line (Some (planned hart ask id p))
+      → IsExpectedOpening w past hart ask line (Some (planned hart ask id p))
   expects_plan one line read p is = record {
     may = planned_may p is;
     only = λ files answer told said allowed. record {
@@ -140,7 +140,7 @@ module _ (w : Setting) (past : List Event) (hart : ℕ) (ask : OpenAsk) (name : 
   }
 
   pub expects_none : OneOpening → (line : OpenLine) → failed_path line ≡ None → (why : Unopened) → IsCertain why → IsUnopened w (after past) hart ask why
-      → IsExpected w past hart ask line (unplanned hart ask why)
+      → IsExpectedOpening w past hart ask line (unplanned hart ask why)
   expects_none one line read (unopened.Refused fault) certain is = record {
     may = record { may = record { may = may; refuses = is }; chosen = tt };
     only = λ files answer told said allowed. record {
@@ -175,8 +175,8 @@ read_is (lines.Refused fault) path is = ap lines.Refused (by fault is)
 fails_by : (w : Setting) (past : List Event) (hart : ℕ) (ask : OpenAsk) (line : OpenLine) (path : List ℕ) (may : Bool) (found : Option Opening) → line ≡ lines.Refused (faults.ReadFault path)
     → found ≡ (if may then Some (refusal hart ask (faults.ReadFault path)) else None)
     → (IsTrue may → Allowed w past (reads_badly hart ask path)) → (may ≡ false → (files : List File) → w.files ≡ Some files → ¬ (Allowed w past (reads_badly hart ask path)))
-    → IsExpected w past hart ask line found
-fails_by w past hart ask line path true found read are can cannot = subst (IsExpected w past hart ask line) (sym are) (record {
+    → IsExpectedOpening w past hart ask line found
+fails_by w past hart ask line path true found read are can cannot = subst (IsExpectedOpening w past hart ask line) (sym are) (record {
   may = record { may = can refl; chosen = tt };
   only = λ files answer told said allowed. record {
     opening = refusal hart ask (faults.ReadFault path);
@@ -184,7 +184,7 @@ fails_by w past hart ask line path true found read are can cannot = subst (IsExp
     same = ap (Open hart ask) (sym (unsaid answer path (said ∙ read)));
   };
 })
-fails_by w past hart ask line path false found read are can cannot = subst (IsExpected w past hart ask line) (sym are) (record {
+fails_by w past hart ask line path false found read are can cannot = subst (IsExpectedOpening w past hart ask line) (sym are) (record {
   may = tt;
   only = λ files answer told said allowed. absurd (cannot refl files told (subst (λ a. Allowed w past (Open hart ask a)) (unsaid answer path (said ∙ read)) allowed));
 })
@@ -193,7 +193,7 @@ pub fails : (w : Setting) (past : List Event) (hart : ℕ) (ask : OpenAsk) (line
     → FailsBy hart ask path r found
     → IfOk r (λ may. IsTrue may → Allowed w past (reads_badly hart ask path))
     → IfOk r (λ may. may ≡ false → (files : List File) → w.files ≡ Some files → ¬ (Allowed w past (reads_badly hart ask path)))
-    → IsExpected w past hart ask line found
+    → IsExpectedOpening w past hart ask line found
 fails w past hart ask line path (Ok may) found read are = fails_by w past hart ask line path may found (read_is line path read) are
 fails w past hart ask line path (Err doubt) found read are = absurd are
 

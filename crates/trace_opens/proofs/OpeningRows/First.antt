@@ -30,7 +30,7 @@ use Rattle.link_open_plan.specs.Startup.{run_of}
 use Rattle.link_open_plan.specs.declared.planning.NewObjects.{NewObjects}
 use Rattle.link_open_plan.specs.declared.planning.Planned.TheVariants as plans
 use Rattle.link_open_plan.specs.declared.planning.Unopened.{Unopened}
-use Rattle.trace_opens.specs.OpeningRows.Expected.{IsCertain, IsExpected, IsFound, MayCome, brought, failed_path, trace_run, unplanned}
+use Rattle.trace_opens.specs.OpeningRows.Expected.{IsCertain, IsExpectedOpening, IsFound, MayOpenSo, brought, failed_path, trace_run, unplanned}
 use Rattle.trace_opens.specs.OpeningRows.Startup.{IsExpectedFirst, IsSetupOf, StartupNeedsNoPast}
 use Rattle.trace_opens.proofs.FailedPaths.Plans.{start_ask, start_named}
 use Rattle.trace_opens.proofs.OpeningRows.Answered.{expects_none, expects_plan}
@@ -56,17 +56,17 @@ chosen_behind s is u ask _ _ choices (opens.Refused fault) past are x = tt
 
 module _ (law : StartupNeedsNoPast) (m : Machine) (w : Setting) (past : List Event) (lawful : Lawful m past) (begins : IsTrue (is_startup (after past)))
     (untouched : IsUntouched (after past)) where
-  come_behind : (o : Opening) → MayCome w [] o → MayCome w past o
+  come_behind : (o : Opening) → MayOpenSo w [] o → MayOpenSo w past o
   come_behind o x = record {
     may = (law m w past o.hart o.ask o.answer lawful begins).1 x.may;
     chosen = chosen_behind (after past) begins untouched o.ask 0 0 o.choices o.answer past refl x.chosen;
   }
 
-  some_behind : (found : Option Opening) → IfSome found (MayCome w []) → IfSome found (MayCome w past)
+  some_behind : (found : Option Opening) → IfSome found (MayOpenSo w []) → IfSome found (MayOpenSo w past)
   some_behind (Some o) x = come_behind o x
   some_behind None x = tt
 
-  pub expects_behind : (hart : ℕ) (ask : OpenAsk) (line : OpenLine) (found : Option Opening) → hart ≡ 0 → IsExpected w [] 0 ask line found → IsExpected w past hart ask line found
+  pub expects_behind : (hart : ℕ) (ask : OpenAsk) (line : OpenLine) (found : Option Opening) → hart ≡ 0 → IsExpectedOpening w [] 0 ask line found → IsExpectedOpening w past hart ask line found
   expects_behind hart ask line found first x = record {
     may = some_behind found x.may;
     only = λ files answer told said allowed.
@@ -80,7 +80,7 @@ module _ (law : StartupNeedsNoPast) (m : Machine) (w : Setting) (past : List Eve
   may_ask hart ask opens.Absent x = x.may begins
   may_ask hart ask (opens.Refused fault) x = x.may begins
 
-  pub expects_no_other : (hart : ℕ) (ask : OpenAsk) (line : OpenLine) → (IsStartupAsk hart ask → ⊥) → IsExpected w past hart ask line None
+  pub expects_no_other : (hart : ℕ) (ask : OpenAsk) (line : OpenLine) → (IsStartupAsk hart ask → ⊥) → IsExpectedOpening w past hart ask line None
   expects_no_other hart ask line other = record { may = tt; only = λ files answer told said allowed. absurd (other (may_ask hart ask answer allowed)) }
 
 -- what the program's plan gives

@@ -26,7 +26,7 @@ use Rattle.history_calls.specs.Answer.{Answer, refused}
 use Rattle.history_calls.specs.CallLaws.Laws.{RefusedByAsking}
 use Rattle.history_calls.specs.Laws.{AskFirst, is_want}
 use Rattle.trace_opens.specs.OpeningRows.Asked.{IsKnown, IsOverlong, IsRefusedFor}
-use Rattle.trace_opens.specs.OpeningRows.Expected.{IsExpected, IsFound, MayCome, refusal}
+use Rattle.trace_opens.specs.OpeningRows.Expected.{IsExpectedOpening, IsFound, MayOpenSo, refusal}
 use Rattle.trace_opens.proofs.OpeningRows.Answered.{came, gives}
 use Rattle.link_open_images.specs.Relocated.{AreChoices}
 use Rattle.trace_read.specs.Said.{said_of_answer}
@@ -62,7 +62,7 @@ module _ (w : Setting) (past : List Event) (hart : ℕ) (ask : OpenAsk) (started
   not_allowed opens.Absent long x = true≢false (sym (too_long (after past) ask.name started long) ∙ x.asked.short)
   not_allowed (opens.Refused fault) long x = refused_short fault long x.refuses
 
-  pub expects_no_long : (line : OpenLine) → IsOverlong ask.name → IsExpected w past hart ask line None
+  pub expects_no_long : (line : OpenLine) → IsOverlong ask.name → IsExpectedOpening w past hart ask line None
   expects_no_long line long = record { may = tt; only = λ files answer told said allowed. absurd (not_allowed answer long allowed) }
 
   -- ---- what is refused for what it asks
@@ -82,7 +82,7 @@ module _ (w : Setting) (past : List Event) (hart : ℕ) (ask : OpenAsk) (started
   is_no_want opens.Absent = refl
   is_no_want (opens.Refused fault) = refl
 
-  pub expects_refusal : RefusedByAsking → AskFirst → (line : OpenLine) (fault : DlFault) → IsRefusedFor (after past) ask fault → IsExpected w past hart ask line (Some (refusal hart ask fault))
+  pub expects_refusal : RefusedByAsking → AskFirst → (line : OpenLine) (fault : DlFault) → IsRefusedFor (after past) ask fault → IsExpectedOpening w past hart ask line (Some (refusal hart ask fault))
   expects_refusal by_asking first line fault x = record {
     may = record { may = record { may = not_begun (after past) hart ask started; refuses = by_asking w (after past) hart ask fault x.refuses (known_name ask.name x.known) }; chosen = tt };
     only = λ files answer told said allowed. record {
@@ -130,7 +130,7 @@ module _ (w : Setting) (past : List Event) (hart : ℕ) (ask : OpenAsk) (started
   program_only id (opens.Refused fault) none asked x = absurd (refused_named id fault none asked x.refuses)
 
   pub expects_program : (line : OpenLine) (id : ℕ) → ask.name ≡ None → IsAsked (after past) ask id → HasProgram (after past)
-      → IsExpected w past hart ask line (Some (record { hart = hart; ask = ask; answer = opens.Done id 1 [] []; choices = [] }))
+      → IsExpectedOpening w past hart ask line (Some (record { hart = hart; ask = ask; answer = opens.Done id 1 [] []; choices = [] }))
   expects_program line id none asked program = record {
     may = record {
       may = record {

@@ -1,4 +1,4 @@
--- A failed read, and an empty file in its place.
+-- A failed read, and an empty file in its place. For the code of this crate alone.
 use Rattle.std.specs.Prelude.{◌≡◌, ℕ, Bool, false, List, [], ◌∷◌, Option, Some, Err}
 use Rattle.std.specs.Option.{option_map}
 use Rattle.elf_object.specs.Verdict.{object_verdict}

@@ -1,4 +1,4 @@
--- What a plan over an empty file says of a failed read.
+-- What a plan over an empty file says of a failed read. For the code of this crate alone.
 use Rattle.std.specs.Prelude.{◌≡◌, ◌≢◌, ℕ, false, List, [], ◌∷◌, Result, Ok, Err}
 use Rattle.ld_base.specs.declared.fault.DlFault.TheVariants as faults
 use Rattle.history_event.specs.declared.event.Event.{Event}

@@ -29,7 +29,7 @@ abbrev pub trace_run : ℕ → List (List ℕ) → Option (List File) → Settin
 trace_run harts folders files = record { machine = machine_of harts; folders = folders; preload = []; files = files }
 
 -- the opening may come next, and its choices are those of the state with its new objects
-pub record MayCome (w : Setting) (past : List Event) (o : Opening) : Type 0 where
+pub record MayOpenSo (w : Setting) (past : List Event) (o : Opening) : Type 0 where
   pub may : Allowed w past (event_of o)
   pub chosen : ChosenFor past o.ask o.choices o.answer
 
@@ -40,8 +40,8 @@ pub record IsFound (found : Option Opening) (e : Event) : Type 0 where
   pub same : event_of opening ≡ e
 
 -- what is found may come next; and where files are told, it is whatever may come that has the line
-pub record IsExpected (w : Setting) (past : List Event) (hart : ℕ) (ask : OpenAsk) (line : OpenLine) (found : Option Opening) : Type 0 where
-  pub may : IfSome found (MayCome w past)
+pub record IsExpectedOpening (w : Setting) (past : List Event) (hart : ℕ) (ask : OpenAsk) (line : OpenLine) (found : Option Opening) : Type 0 where
+  pub may : IfSome found (MayOpenSo w past)
   pub only : (files : List File) (answer : OpenAnswer) → w.files ≡ Some files → said_of_answer answer ≡ line
       → Allowed w past (Open hart ask answer) → IsFound found (Open hart ask answer)
 

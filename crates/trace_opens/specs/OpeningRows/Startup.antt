@@ -1,4 +1,4 @@
--- Startup's opening behind other events.
+-- Startup's opening behind other events. For the code of this crate alone.
 use Rattle.std.specs.Prelude.{◌≡◌, ℕ, ◌↔◌, List, [], Option, IsTrue}
 use Rattle.history_event.specs.declared.event.Event.{Event}
 use Rattle.history_event.specs.declared.event.Event.TheVariants.{Open}
@@ -13,14 +13,12 @@ use Rattle.history_state.specs.Objects.{is_startup}
 use Rattle.history_state.specs.Setting.{Machine, Setting}
 use Rattle.history_calls.specs.Startup.{harts_of, program_ask}
 use Rattle.history_calls.specs.declared.link_served.startup.Setup.{Setup}
-use Rattle.trace_opens.specs.OpeningRows.Expected.{IsExpected}
+use Rattle.trace_opens.specs.OpeningRows.Expected.{IsExpectedOpening}
 
 -- while nothing was loaded, an opening may come where it may come first
 abbrev pub StartupNeedsNoPast : Type 0
 StartupNeedsNoPast = (m : Machine) (w : Setting) (past : List Event) (hart : ℕ) (ask : OpenAsk) (answer : OpenAnswer) → Lawful m past
     → IsTrue (is_startup (after past)) → (Allowed w past (Open hart ask answer)) ↔ (Allowed w [] (Open hart ask answer))
-
--- ---- for the code of this crate alone
 
 -- a run of so many harts without preload names, whose startup asks so
 pub record IsSetupOf (harts : ℕ) (ask : OpenAsk) (folders : List (List ℕ)) (setup : Setup) : Type 0 where
@@ -31,4 +29,4 @@ pub record IsSetupOf (harts : ℕ) (ask : OpenAsk) (folders : List (List ℕ)) (
 
 -- the one first event that the line may be
 abbrev pub IsExpectedFirst : Setting → OpenAsk → OpenLine → Option Opening → Type 0
-IsExpectedFirst w ask line found = IsExpected w [] 0 ask line found
+IsExpectedFirst w ask line found = IsExpectedOpening w [] 0 ask line found

@@ -8,7 +8,7 @@ use std::alloc::Global;
 
 /// A library as it is, but that the file at a path is empty.
 #[derive(Drop)]
-pub struct EmptyAt<'a, L: Library> {
+pub(crate) struct EmptyAt<'a, L: Library> {
     alloc: Global,
     library: L,
     path: &'a Name,

@@ -4,7 +4,7 @@ ghost use Rattle.trace_opens.specs.FailedPaths.Emptied.{EmptyIsRefused, OnlyAsEm
 
 /// An opening may be stopped by the failed read of a path exactly where it would be stopped by the file at that
 /// path, were that empty.
-pub fn a_failed_read_is_an_empty_file()
+pub(crate) fn a_failed_read_is_an_empty_file()
     ensures reads { ReadsAsEmptied }
     ensures only { OnlyAsEmptied }
 {
@@ -14,6 +14,6 @@ pub fn a_failed_read_is_an_empty_file()
 }
 
 /// An empty file is no object: it breaks the first rule.
-pub fn empty_is_refused()
+pub(crate) fn empty_is_refused()
     ensures { EmptyIsRefused }
 {}

@@ -29,7 +29,7 @@ use std::alloc::Global;
 /// # Errors
 ///
 /// That the library itself failed to read a path, which its count shows, or want of memory.
-pub fn may_fail_at<L: Library>(
+pub(crate) fn may_fail_at<L: Library>(
     alloc: Global,
     before: &Before,
     hart: HartId,
@@ -85,7 +85,7 @@ fn plan_and_judge<L: Library>(
 /// # Errors
 ///
 /// That the library itself failed to read a path, which its count shows, or want of memory.
-pub fn may_fail_at_start<L: Library>(
+pub(crate) fn may_fail_at_start<L: Library>(
     alloc: Global,
     before: &Before,
     harts: u32,

@@ -3,7 +3,7 @@
 ghost use Rattle.std.specs.Prelude.{◌≡◌, ◌≤◌, ℕ, List, IfErr, IfOk};
 ghost use Rattle.history_event.specs.declared.event.Event.{Event};
 ghost use Rattle.library_source.specs.Count.{Rises};
-ghost use Rattle.trace_opens.specs.OpeningRows.Expected.{IsExpected, trace_run};
+ghost use Rattle.trace_opens.specs.OpeningRows.Expected.{IsExpectedOpening, trace_run};
 ghost use Rattle.trace_opens.specs.declared.failed_paths.judging.Doubt.TheVariants.{ReadFault};
 ghost use Rattle.trace_replay.specs.Shown.{Shows};
 
@@ -34,7 +34,7 @@ pub fn expected_open<L: Library>(
 ) -> (Result<Option<Opening>, Doubt>, L)
     requires { 1 ≤ replay.now.harts }
     ensures expected { IfOk result.0 (λ found. (past : List Event) → Shows past replay.now
-        → IsExpected (trace_run replay.now.harts folders.now (L.files library)) past hart ask.now line.now found) }
+        → IsExpectedOpening (trace_run replay.now.harts folders.now (L.files library)) past hart ask.now line.now found) }
     ensures failed { IfErr result.0 (λ doubt. (failed : List ℕ) → doubt ≡ ReadFault failed → Rises (L.faults library) (L.faults result.1)) }
     ensures files { L.files result.1 ≡ L.files library }
     ensures faults { L.faults library ≤ L.faults result.1 }

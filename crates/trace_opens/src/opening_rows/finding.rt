@@ -9,7 +9,7 @@ ghost use Rattle.history_state.specs.Setting.{Setting};
 ghost use Rattle.history_state.specs.Step.{namespace_before};
 ghost use Rattle.library_source.specs.Count.{Rises};
 ghost use Rattle.link_open_plan.specs.Before.{HasObjects, IsBefore};
-ghost use Rattle.trace_opens.specs.OpeningRows.Expected.{IsExpected, failed_path, trace_run};
+ghost use Rattle.trace_opens.specs.OpeningRows.Expected.{IsExpectedOpening, failed_path, trace_run};
 ghost use Rattle.trace_opens.specs.declared.failed_paths.judging.Doubt.TheVariants.{ReadFault};
 ghost use Rattle.trace_replay.specs.Shown.{Shows};
 
@@ -50,7 +50,7 @@ pub(crate) fn expected_later<L: Library>(
 ) -> (Result<Option<Opening>, Doubt>, L)
     requires begun { replay.now.begins ≡ false }
     ensures expected { IfOk result.0 (λ found. (past : List Event) → Shows past replay.now
-        → IsExpected (trace_run replay.now.harts folders.now (L.files library)) past hart ask.now line.now found) }
+        → IsExpectedOpening (trace_run replay.now.harts folders.now (L.files library)) past hart ask.now line.now found) }
     ensures failed { IfErr result.0 (λ doubt. (failed : List ℕ) → doubt ≡ ReadFault failed → Rises (L.faults library) (L.faults result.1)) }
     ensures files { L.files result.1 ≡ L.files library }
     ensures faults { L.faults library ≤ L.faults result.1 }
@@ -90,7 +90,7 @@ fn expected_named<L: Library>(
     requires begun { replay.now.begins ≡ false }
     requires named { (past : List Event) → Shows past replay.now → IsNamed (after past) ask.now name.now ns }
     ensures expected { IfOk result.0 (λ found. (past : List Event) → Shows past replay.now
-        → IsExpected (trace_run replay.now.harts folders.now (L.files library)) past hart ask.now line.now found) }
+        → IsExpectedOpening (trace_run replay.now.harts folders.now (L.files library)) past hart ask.now line.now found) }
     ensures failed { IfErr result.0 (λ doubt. (failed : List ℕ) → doubt ≡ ReadFault failed → Rises (L.faults library) (L.faults result.1)) }
     ensures files { L.files result.1 ≡ L.files library }
     ensures faults { L.faults library ≤ L.faults result.1 }
@@ -126,7 +126,7 @@ fn expected_among<L: Library>(
     requires named { (past : List Event) → Shows past replay.now → IsNamed (after past) ask.now name.now ns }
     requires before { (past : List Event) → Shows past replay.now → namespace.now ≡ namespace_before (after past) ns }
     ensures expected { IfOk result.0 (λ found. (past : List Event) → Shows past replay.now
-        → IsExpected (trace_run replay.now.harts folders.now (L.files library)) past hart ask.now line.now found) }
+        → IsExpectedOpening (trace_run replay.now.harts folders.now (L.files library)) past hart ask.now line.now found) }
     ensures failed { IfErr result.0 (λ doubt. (failed : List ℕ) → doubt ≡ ReadFault failed → Rises (L.faults library) (L.faults result.1)) }
     ensures files { L.files result.1 ≡ L.files library }
     ensures faults { L.faults library ≤ L.faults result.1 }
@@ -160,7 +160,7 @@ fn expected_before<L: Library>(
 ) -> (Result<Option<Opening>, Doubt>, L)
     requires there { HasObjects before.now }
     ensures expected { IfOk result.0 (λ found. (w : Setting) (past : List Event)
-        → IsBefore w past ask.now name.now ns before.now folders.now (L.files library) → IsExpected w past hart ask.now line.now found) }
+        → IsBefore w past ask.now name.now ns before.now folders.now (L.files library) → IsExpectedOpening w past hart ask.now line.now found) }
     ensures failed { IfErr result.0 (λ doubt. (failed : List ℕ) → doubt ≡ ReadFault failed → Rises (L.faults library) (L.faults result.1)) }
     ensures files { L.files result.1 ≡ L.files library }
     ensures faults { L.faults library ≤ L.faults result.1 }
@@ -194,7 +194,7 @@ fn planned_opening<L: Library>(
 ) -> Result<Option<Opening>, Doubt>
     requires there { HasObjects before.now }
     ensures expected { IfOk result (λ found. (w : Setting) (past : List Event) (line : ALine) → failed_path line ≡ None
-        → IsBefore w past ask.now name.now ns before.now folders.now (L.files library.old) → IsExpected w past hart ask.now line found) }
+        → IsBefore w past ask.now name.now ns before.now folders.now (L.files library.old) → IsExpectedOpening w past hart ask.now line found) }
     ensures failed { IfErr result (λ doubt. (failed : List ℕ) → doubt ≡ ReadFault failed → Rises (L.faults library.old) (L.faults library.new)) }
     ensures files { L.files library.new ≡ L.files library.old }
     ensures faults { L.faults library.old ≤ L.faults library.new }

@@ -7,7 +7,7 @@ ghost use Rattle.history_state.specs.Asking.{IsStartupAsk};
 ghost use Rattle.history_calls.specs.Startup.{harts_of, program_ask};
 ghost use Rattle.library_source.specs.Count.{Rises};
 ghost use Rattle.link_open_plan.specs.Startup.{IsFirst, run_of};
-ghost use Rattle.trace_opens.specs.OpeningRows.Expected.{IsExpected, failed_path, trace_run};
+ghost use Rattle.trace_opens.specs.OpeningRows.Expected.{IsExpectedOpening, failed_path, trace_run};
 ghost use Rattle.trace_opens.specs.OpeningRows.Startup.{IsExpectedFirst, IsSetupOf};
 ghost use Rattle.trace_opens.specs.declared.failed_paths.judging.Doubt.TheVariants.{Memory, ReadFault};
 ghost use Rattle.trace_replay.specs.Shown.{Shows};
@@ -48,7 +48,7 @@ pub(crate) fn expected_first<L: Library>(
     requires harts { 1 ≤ replay.now.harts }
     requires begins { IsTrue replay.now.begins }
     ensures expected { IfOk result.0 (λ found. (past : List Event) → Shows past replay.now
-        → IsExpected (trace_run replay.now.harts folders.now (L.files library)) past hart ask.now line.now found) }
+        → IsExpectedOpening (trace_run replay.now.harts folders.now (L.files library)) past hart ask.now line.now found) }
     ensures failed { IfErr result.0 (λ doubt. (failed : List ℕ) → doubt ≡ ReadFault failed → Rises (L.faults library) (L.faults result.1)) }
     ensures files { L.files result.1 ≡ L.files library }
     ensures faults { L.faults library ≤ L.faults result.1 }

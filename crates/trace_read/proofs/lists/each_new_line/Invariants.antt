@@ -1,6 +1,6 @@
 use Rattle.std.proofs.Common.{◌≡◌, length, map}
 use Rattle.trace_read.specs.Lists.{each, new_line}
-use Rattle.trace_read.specs.Loops.{onto}
+use Rattle.trace_read.proofs.Looped.{onto}
 use Rattle.trace_read.proofs.lists.each_new_line.Given as goal
 
 -- the objects so far stand before those of the texts that are left

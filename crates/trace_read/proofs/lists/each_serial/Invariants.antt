@@ -1,6 +1,6 @@
 use Rattle.std.proofs.Common.{◌≡◌, length, map}
 use Rattle.trace_read.specs.Lists.{each}
-use Rattle.trace_read.specs.Loops.{onto}
+use Rattle.trace_read.proofs.Looped.{onto}
 use Rattle.trace_read.specs.Numbers.{numeral}
 use Rattle.trace_read.proofs.lists.each_serial.Given as goal
 

@@ -1,5 +1,5 @@
 use Rattle.std.proofs.Common.{◌≡◌, length, None}
-use Rattle.trace_read.specs.Loops.{onto}
+use Rattle.trace_read.proofs.Looped.{onto}
 use Rattle.trace_read.specs.Names.{bytes_of}
 use Rattle.trace_read.proofs.names.bytes.Given as goal
 

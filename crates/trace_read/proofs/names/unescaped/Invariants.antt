@@ -1,5 +1,5 @@
 use Rattle.std.proofs.Common.{◌≡◌, length}
-use Rattle.trace_read.specs.Loops.{onto}
+use Rattle.trace_read.proofs.Looped.{onto}
 use Rattle.trace_read.specs.Names.{unescape}
 use Rattle.trace_read.specs.Names.Stage.{plain}
 use Rattle.trace_read.proofs.names.unescaped.Given as goal

@@ -1,5 +1,5 @@
 use Rattle.std.proofs.Common.{take}
-use Rattle.trace_rows.specs.Grants.{AllSettled}
+use Rattle.trace_rows.proofs.Settled.{AllSettled}
 use Rattle.trace_rows.proofs.whole.are_settled.Given as goal
 
 -- those so far are settled

@@ -4,7 +4,7 @@ use Rattle.history_event.specs.declared.handed.Opening.{Opening}
 use Rattle.history_journal.specs.Following.{machine_of}
 use Rattle.history_state.specs.After.{after}
 use Rattle.history_state.specs.Objects.{is_startup}
-use Rattle.trace_opens.specs.OpeningRows.Expected.{IsExpected, trace_run}
+use Rattle.trace_opens.specs.OpeningRows.Expected.{IsExpectedOpening, trace_run}
 use Rattle.trace_opens.proofs.OpeningRows.Answered.{if_ok}
 use Rattle.trace_opens.proofs.OpeningRows.Later.{expects_program, expects_refusal}
 use Rattle.trace_opens.proofs.opening_rows.finding.expected_later.Goals as goal
@@ -13,7 +13,7 @@ pub returns-in-Refused-clause-expected : goal.returns-in-Refused-clause-expected
 returns-in-Refused-clause-expected g c = if_ok c.refused_opening.result (λ found is past shows.
     let w = trace_run c.args.replay.now.harts c.args.folders.now (g.L.Library.files c.args.library) in
     let started : is_startup (after past) ≡ false = sym shows.state.begins ∙ c.requires.begun in
-    subst (IsExpected w past c.args.hart c.args.ask.now c.args.line.now) (sym is)
+    subst (IsExpectedOpening w past c.args.hart c.args.ask.now c.args.line.now) (sym is)
     (expects_refusal w past c.args.hart c.args.ask.now started c.refused_by_asking.ensures c.refusals_come_in_order.ensures.asked c.args.line.now c.in-Refused.fault
     (c.in-Refused.ensures (after past) started (sym shows.state.namespaces ∙ sym c.namespaces.ensures))))
     c.refused_opening.ensures.found
@@ -23,7 +23,7 @@ returns-in-None-clause-expected g c = if_ok c.there_opening.result (λ found is 
     let w = trace_run c.args.replay.now.harts c.args.folders.now (g.L.Library.files c.args.library) in
     let started : is_startup (after past) ≡ false = sym shows.state.begins ∙ c.requires.begun in
     let program : ℕ → Opening = λ root. record { hart = c.args.hart; ask = c.args.ask.now; answer = Done c.in-In.ns root [] []; choices = [] } in
-    subst (IsExpected w past c.args.hart c.args.ask.now c.args.line.now) (sym (is ∙ ap (λ root. Some (program root)) c.new.ensures))
+    subst (IsExpectedOpening w past c.args.hart c.args.ask.now c.args.line.now) (sym (is ∙ ap (λ root. Some (program root)) c.new.ensures))
     (expects_program w past c.args.hart c.args.ask.now started c.args.line.now c.in-In.ns c.in-None.is
     (c.in-In.ensures (after past) started (sym shows.state.namespaces ∙ sym c.namespaces.ensures)) (c.program_stays.ensures (machine_of c.args.replay.now.harts) past shows.lawful started)))
     c.there_opening.ensures.found

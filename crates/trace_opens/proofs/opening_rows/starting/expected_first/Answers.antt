@@ -5,7 +5,7 @@ use Rattle.history_state.specs.After.{after}
 use Rattle.history_state.specs.Asking.{IsStartupAsk}
 use Rattle.history_state.specs.Objects.{is_startup}
 use Rattle.history_state.specs.Setting.{Setting}
-use Rattle.trace_opens.specs.OpeningRows.Expected.{IsExpected, trace_run}
+use Rattle.trace_opens.specs.OpeningRows.Expected.{IsExpectedOpening, trace_run}
 use Rattle.trace_opens.proofs.OpeningRows.Answered.{if_ok}
 use Rattle.trace_opens.proofs.OpeningRows.First.{expects_behind, run_is}
 use Rattle.trace_opens.proofs.opening_rows.starting.expected_first.Goals as goal
@@ -19,5 +19,5 @@ returns-in-Ok-clause-expected g c =
     let same = ap (λ (n : ℕ). trace_run n c.args.folders.now files) (sym c.harts.ensures) ∙ run_is c.harts.result c.args.folders.now files c.args.ask.now c.in-Ok.setup c.in-Ok.ensures in
     expects_behind c.startup_needs_no_past.ensures (machine_of c.args.replay.now.harts) (trace_run c.args.replay.now.harts c.args.folders.now files) past shows.lawful begins
     (c.nothing_comes_before_startup.ensures (machine_of c.args.replay.now.harts) past shows.lawful begins) c.args.hart c.args.ask.now c.args.line.now found asks.by_first
-    (subst (λ (v : Setting). IsExpected v [] 0 c.args.ask.now c.args.line.now found) (sym same) x))
+    (subst (λ (v : Setting). IsExpectedOpening v [] 0 c.args.ask.now c.args.line.now found) (sym same) x))
     c.expected_program.ensures.expected
