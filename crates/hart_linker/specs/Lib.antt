@@ -1,4 +1,5 @@
 pub mod Between
 pub mod Finals
 pub mod Lemmas
+pub mod Naming
 pub mod Serving

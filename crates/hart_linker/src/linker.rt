@@ -16,6 +16,7 @@ ghost use Rattle.tls_blocks.specs.Blocks.{BlockTable};
 use crate::{Beginning, HartBlocks};
 use hart_seat::LinkedHart;
 use history_event::{HartEnd, HartEntry};
+use std::marker::Brand;
 use std::sync::Wait;
 use word_memory::{HartSeat, Memory, Naming};
 
@@ -31,6 +32,17 @@ pub trait Opening: Naming {
     ghost journal: { List Event };
 
     ghost counts: { Counts };
+}
+
+impl Opening for Brand {
+    ghost use Rattle.std.specs.Prelude.{[]};
+    ghost use Rattle.hart_linker.specs.Naming.{no_counts, no_setting};
+
+    ghost setting = { no_setting };
+
+    ghost journal = { [] };
+
+    ghost counts = { no_counts };
 }
 
 /// The linker of a run, which harts on threads share. What a hart brings to a call is a fact about what it
