@@ -33,5 +33,5 @@ pub data BeginsLast (w : Setting) (registers : Registers) (before now : HartView
   begins : BeginsFinals w now.heard registers (length before.heard) b (length now.heard) c → IsTold before now → HartFits w now.heard 0 c
       → BeginsLast w registers before now b c beginnings.Begun
   lacks_memory : (past : List Event) → now.heard ≡ past ++ Ended 0 Memory ∷ [] → LacksList w now.heard (length before.heard) b (length past)
-      → now.trail ≡ before.trail ++ Took (entry_behind past (Ended 0 Memory)) ∷ []
+      → now.trail ≡ before.trail ++ Took (entry_behind past (Ended 0 Memory)) ∷ [] → c ≡ b
       → BeginsLast w registers before now b c beginnings.Memory

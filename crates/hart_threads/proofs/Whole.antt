@@ -186,19 +186,19 @@ module _ (stay : TrailsStay) (w : Setting) (start : HartStart) (begun : List Tra
   by_running _ (BeginsLast.others_run none_over none told same) is = whole_running stay w start begun before now b first_end r over longer number (told_same told) (told_trail told) none_over none
   by_running _ (BeginsLast.none_is_left none_left none told same) is = absurd (let no : beginnings.NoneLeft ≡ beginnings.HartsRun = is in cc)
   by_running _ (BeginsLast.begins begins told fits) is = absurd (let no : beginnings.Begun ≡ beginnings.HartsRun = is in cc)
-  by_running _ (BeginsLast.lacks_memory past heard lacks trail) is = absurd (let no : beginnings.Memory ≡ beginnings.HartsRun = is in cc)
+  by_running _ (BeginsLast.lacks_memory past heard lacks trail same_hart) is = absurd (let no : beginnings.Memory ≡ beginnings.HartsRun = is in cc)
 
   pub by_none_left : (result : Beginning) → BeginsLast w start.registers before now b c result → result ≡ beginnings.NoneLeft → RanWhole w start begun now first_end
   by_none_left _ (BeginsLast.others_run none_over none told same) is = absurd (let no : beginnings.HartsRun ≡ beginnings.NoneLeft = is in cc)
   by_none_left _ (BeginsLast.none_is_left none_left none told same) is = whole_finished stay w start begun before now b first_end r over longer number (told_same told) (told_trail told) none_left none
   by_none_left _ (BeginsLast.begins begins told fits) is = absurd (let no : beginnings.Begun ≡ beginnings.NoneLeft = is in cc)
-  by_none_left _ (BeginsLast.lacks_memory past heard lacks trail) is = absurd (let no : beginnings.Memory ≡ beginnings.NoneLeft = is in cc)
+  by_none_left _ (BeginsLast.lacks_memory past heard lacks trail same_hart) is = absurd (let no : beginnings.Memory ≡ beginnings.NoneLeft = is in cc)
 
   pub by_lacking : (result : Beginning) → now.number ≡ before.number → BeginsLast w start.registers before now b c result → result ≡ beginnings.Memory → RanWhole w start begun now ends.Memory
   by_lacking _ same (BeginsLast.others_run none_over none told same_hart) is = absurd (let no : beginnings.HartsRun ≡ beginnings.Memory = is in cc)
   by_lacking _ same (BeginsLast.none_is_left none_left none told same_hart) is = absurd (let no : beginnings.NoneLeft ≡ beginnings.Memory = is in cc)
   by_lacking _ same (BeginsLast.begins begins told fits) is = absurd (let no : beginnings.Begun ≡ beginnings.Memory = is in cc)
-  by_lacking _ same (BeginsLast.lacks_memory past heard lacks trail) is = whole_lacking stay w start begun before now b first_end r over longer number same past heard lacks trail
+  by_lacking _ same (BeginsLast.lacks_memory past heard lacks trail same_hart) is = whole_lacking stay w start begun before now b first_end r over longer number same past heard lacks trail
 
   -- they began: from there on the hart's way is a new one
   fresh : (trail : List TrailItem) → now.trail ≡ trail → RunsBy w (length now.heard) c trail now c
@@ -219,7 +219,7 @@ module _ (stay : TrailsStay) (w : Setting) (start : HartStart) (begun : List Tra
   by_finals _ (BeginsLast.begins begins told fits) is last d reason on ended =
       whole_finals stay w start begun before now b first_end r over longer number (told_same told) last c d reason begins (told_trail told)
       (on.on (length now.heard) c now.trail (fresh now.trail refl)) on.longer on.same ended
-  by_finals _ (BeginsLast.lacks_memory past heard lacks trail) is last d reason on ended = absurd (let no : beginnings.Memory ≡ beginnings.Begun = is in cc)
+  by_finals _ (BeginsLast.lacks_memory past heard lacks trail same_hart) is last d reason on ended = absurd (let no : beginnings.Memory ≡ beginnings.Begun = is in cc)
 
 -- ---- while it goes on
 
